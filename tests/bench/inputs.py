@@ -170,6 +170,18 @@ def many_actions_check(folder):
     graph_and_vectors(folder, 'actions', 1, 5, 1000, 2, 14)
 
 
+def mdp_rewards_check(folder):
+    """300 nodes over an MDP of 1,000 states and 16 actions, 5 successors each, and a line of a reward for each successor; every
+    pair passes."""
+    generator = random.Random(20)
+    with open(f'{folder}/mdp_rewards.POMDP', 'w') as out:
+        preamble(out, 1000, 16, 0)
+        for action, state in pairs(16, 1000):
+            for end, share in zip(sorted(generator.sample(range(1000), 5)), split(generator, 5)):
+                out.write(f'T: {action} : {state} : {end} {decimal(share)}\nR: {action} : {state} : {end} {generator.randrange(1, 10)}\n')
+    graph_and_vectors(folder, 'mdp_rewards', 300, 1000, 16, 1000, 21)
+
+
 def large_text(folder):
     """A text of some 50 MB: six matrices of T of 1,000,000 numbers each."""
     generator = random.Random(9)
@@ -195,6 +207,18 @@ def matrices(folder):
         for action in range(6):
             six_decimals(out, f'T: {action}', generator, 945, 945)
         out.write('O: * uniform\n')
+
+
+def signed_rewards(folder):
+    """20 MB of matrices of rewards with signs, 700 by 4, over a model of 700 states."""
+    generator = random.Random(22)
+    with open(f'{folder}/signed.POMDP', 'w') as out:
+        preamble(out, 700, 8, 4)
+        out.write('T: * identity\nO: * uniform\n')
+        for action, state in list(pairs(8, 700))[::4]:
+            out.write(f'R: {action} : {state}\n')
+            for _ in range(700):
+                out.write(' '.join(f'{generator.randrange(-1000, 1000) / 10}' for _ in range(4)) + '\n')
 
 
 def all_cells(folder):
@@ -337,11 +361,13 @@ INPUTS = {
     'singles': single_reward_check,
     'wide': sparse_check,
     'mdp': mdp_check,
+    'mdp_rewards': mdp_rewards_check,
     'full': full_check,
     'nodes': many_nodes_check,
     'actions': many_actions_check,
     'large': large_text,
     'matrices': matrices,
+    'signed': signed_rewards,
     'cells': all_cells,
     'comments': comments,
     'vectors': long_vectors,

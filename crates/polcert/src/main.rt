@@ -7,11 +7,8 @@ mod fake_terminal;
 mod help;
 mod program;
 mod progress;
-mod reading_progress;
-mod status_line;
 #[cfg(test)]
 mod tests;
-mod watched_source;
 
 pub use choice::{Choice, choose};
 pub use polcert_answer::{

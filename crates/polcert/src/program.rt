@@ -1,8 +1,6 @@
 //! The program, over the runtime that it is given.
 use crate::choice::{Choice, FileNames, Job, choose};
-use crate::progress::Progress;
-use crate::reading_progress::{InputText, ReadingProgress};
-use crate::watched_source::WatchedSource;
+use crate::progress::{CheckProgress, InputText, WatchedSource};
 use polcert_answer::{
     Outcome, RunFault, Task, run_model, run_print, run_task, status_of, status_of_outcome,
 };
@@ -93,8 +91,8 @@ fn summarize_input<R: Clock + AllocGlobal + Input + Print + Eprint>(
         let _ = rt.eprintln(WAITS_FOR_A_MODEL);
     }
     let shows_progress = terminals.error && !terminals.input;
-    let progress = ReadingProgress::new(rt, shows_progress, InputText::Model);
-    let mut source = WatchedSource::new(ReaderSource::new(rt.reader()), progress);
+    let reader = ReaderSource::new(rt.reader());
+    let mut source = WatchedSource::new(reader, InputText::Model, rt, shows_progress);
     summarize(rt, &mut source)
 }
 
@@ -146,7 +144,7 @@ fn run_task_on_files<R: Files + Clock + AllocGlobal + Print + Eprint>(
     let mut graph = open_source(rt, shows_progress, InputText::Graph, names.graph)?;
     let mut vectors = open_source(rt, shows_progress, InputText::Vectors, names.vectors)?;
     let sink = &mut WriterSink::new(io::writer(rt));
-    let progress = &mut Progress::new(rt, shows_progress);
+    let progress = &mut CheckProgress::new(rt, shows_progress);
     let done = run_task(
         rt.alloc(),
         task,
@@ -186,8 +184,8 @@ fn open_source<'a, R: Files + Clock + Eprint>(
 ) -> Result<WatchedSource<'a, ReaderSource<R::File>, R>, RunFault> {
     match fs::open(rt, name) {
         Ok(file) => {
-            let progress = ReadingProgress::new(rt, shows_progress, text);
-            Ok(WatchedSource::new(ReaderSource::new(file), progress))
+            let reader = ReaderSource::new(file);
+            Ok(WatchedSource::new(reader, text, rt, shows_progress))
         }
         Err(_) => Err(text.read_fault()),
     }

@@ -21,7 +21,7 @@ use Rattle.polcert_check.specs.Horizon.{Controller}
 use Rattle.polcert_answer.specs.declared.fault.Fault.{Fault}
 use Rattle.polcert_answer.specs.declared.fault.Fault.TheVariants.{Model, Graph, Vectors}
 use Rattle.polcert_answer.specs.Headline.{controller}
-use Rattle.polcert_answer.specs.Answer.{HasGraph, IsModelFault, IsRoundedAnswer, IsWantOfMemory, IsButForMemory}
+use Rattle.polcert_answer.specs.Answer.{HasGraph, IsModelFault, IsRoundedAnswer, IsOutOfMemory, IsButForMemory}
 use Rattle.polcert_answer.specs.OneAnswer.{HasOneVerdict, RefusesTheFirst, HasOneRefusal}
 use Rattle.polcert_format.specs.RefusedTexts.{IsRefusedModelText}
 use Rattle.polcert_answer.proofs.Refusing.{refused_of}
@@ -85,17 +85,17 @@ module _ {V : Type 0} (rounding : Rounding) (Is : Controller → V → Type 0) (
   pub one_verdict : (x y : V) → Answers (Ok x) → Answers (Ok y) → x ≡ y
   one_verdict x y h other = one (controller h.0) x y (h.1 h.0) (other.1 h.0)
 
-  pub no_refusal : (x : V) (fault : Fault) → Answers (Ok x) → Answers (Err fault) → IsWantOfMemory fault
+  pub no_refusal : (x : V) (fault : Fault) → Answers (Ok x) → Answers (Err fault) → IsOutOfMemory fault
   no_refusal x (Model models.Memory) h refused = tt
   no_refusal x (Model (models.Item kind item place)) h refused = absurd (no_model model (models.Item kind item place) h.0.meaning tt refused h.0.is_model)
   no_refusal x (Model (models.RowSum table action row)) h refused = absurd (no_model model (models.RowSum table action row) h.0.meaning tt refused h.0.is_model)
   no_refusal x (Graph f) h refused =
       let memory = graph_memory _ _ graph f h.0.policy (refused.no_graph h.0.meaning h.0.is_model) h.0.is_graph in
-      subst (λ (g : GraphFault). IsWantOfMemory (Graph g)) (sym memory) tt
+      subst (λ (g : GraphFault). IsOutOfMemory (Graph g)) (sym memory) tt
   no_refusal x (Vectors f) h refused =
       let has : HasGraph model graph h.0.meaning h.0.policy = record { is_model = h.0.is_model; is_graph = h.0.is_graph } in
       let memory = vectors_memory rounding _ _ vectors f h.0.values (refused.no_vectors h.0.meaning h.0.policy has) h.0.are_vectors in
-      subst (λ (g : VectorFault). IsWantOfMemory (Vectors g)) (sym memory) tt
+      subst (λ (g : VectorFault). IsOutOfMemory (Vectors g)) (sym memory) tt
 
   -- beside a verdict there is no other answer
   pub but_for_memory : (x : V) → Answers (Ok x) → (r : Result V Fault) → Answers r → IsButForMemory x r

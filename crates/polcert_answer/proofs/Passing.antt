@@ -94,9 +94,9 @@ module _ {T : Type 0} (r : Result T RunFault) (none : IfErr r IsNoReadFault) whe
   not_read x of same = no_read_fault x of (subst (λ (y : Result T RunFault). IfErr y IsNoReadFault) same none)
 
   -- a source that the read did not name isn't named after it
-  pub named_behind : {U : Type 0} (x : RunFault) → IsReadFault x → (u : U) (before after : ℕ) → IsNamedRightly (◌≡◌ {A = Result U RunFault} (Ok u) (Err x)) before after
+  pub named_after : {U : Type 0} (x : RunFault) → IsReadFault x → (u : U) (before after : ℕ) → IsNamedRightly (◌≡◌ {A = Result U RunFault} (Ok u) (Err x)) before after
       → IsNamedRightly (r ≡ Err x) before after
-  named_behind x of u before after h = record {
+  named_after x of u before after h = record {
     failed = λ named. absurd (not_read x of named);
     passed_over = λ unnamed. h.passed_over (λ named. cc);
   }
@@ -115,16 +115,16 @@ read_in_raise Write of = tt
 read_in_raise _ of = search (rules, of)
 
 -- all sources were read
-behind_all : {G V : Type 0} (f : RunFault) → IsNoReadFault f → (graph graph' : G) (vectors vectors' : V) → ReadsInOrder f graph graph' vectors vectors'
-behind_all Write none graph graph' vectors vectors' = tt
-behind_all (Lower fault) none graph graph' vectors vectors' = tt
-behind_all (Raise fault) none graph graph' vectors vectors' = tt
-behind_all _ none graph graph' vectors vectors' = absurd none
+after_all : {G V : Type 0} (f : RunFault) → IsNoReadFault f → (graph graph' : G) (vectors vectors' : V) → ReadsInOrder f graph graph' vectors vectors'
+after_all Write none graph graph' vectors vectors' = tt
+after_all (Lower fault) none graph graph' vectors vectors' = tt
+after_all (Raise fault) none graph graph' vectors vectors' = tt
+after_all _ none graph graph' vectors vectors' = absurd none
 
 pub written_in_order : {T G V : Type 0} (r : Result T RunFault) → IfErr r IsNoReadFault → (graph graph' : G) (vectors vectors' : V)
     → IfErr r (λ fault. ReadsInOrder fault graph graph' vectors vectors')
 written_in_order (Ok v) none graph graph' vectors vectors' = tt
-written_in_order (Err f) none graph graph' vectors vectors' = behind_all f none graph graph' vectors vectors'
+written_in_order (Err f) none graph graph' vectors vectors' = after_all f none graph graph' vectors vectors'
 
 -- how the run stops there
 module _ {T : Type 0} (r : Result T RunFault) (none : IfErr r IsNoReadFault) {U M G V W : Type 0}
@@ -133,7 +133,7 @@ module _ {T : Type 0} (r : Result T RunFault) (none : IfErr r IsNoReadFault) {U 
     {graph_reads : G → ℕ → Option (List ℕ) → G → Type 0} {graph_failures : G → ℕ} {graph graph' : G}
     {vectors_reads : V → ℕ → Option (List ℕ) → V → Type 0} {vectors_failures : V → ℕ} {vectors vectors' : V}
     {sink_failures : W → ℕ} {sink sink' : W} where
-  pub stops_behind : (u : U)
+  pub stops_after : (u : U)
       → NamesSourcesRightly (Ok u) model_failures model model' graph_failures graph graph' vectors_failures
       vectors vectors'
       → IsNamedRightly (r ≡ Err Write) (sink_failures sink) (sink_failures sink')
@@ -141,16 +141,16 @@ module _ {T : Type 0} (r : Result T RunFault) (none : IfErr r IsNoReadFault) {U 
       → StopsRightly rounding r model_reads model_failures model model' graph_reads graph_failures graph
       graph' vectors_reads vectors_failures vectors vectors'
       sink_failures sink sink'
-  stops_behind u read write untouched = record {
+  stops_after u read write untouched = record {
     refused = record {
       of_model = λ fault same. absurd (not_read r none (Text (Model fault)) tt same);
       of_graph = λ fault same. absurd (not_read r none (Text (Graph fault)) tt same);
       of_vectors = λ fault same. absurd (not_read r none (Text (Vectors fault)) tt same);
     };
     read = record {
-      of_model = named_behind r none ReadModel tt u _ _ read.of_model;
-      of_graph = named_behind r none ReadGraph tt u _ _ read.of_graph;
-      of_vectors = named_behind r none ReadVectors tt u _ _ read.of_vectors;
+      of_model = named_after r none ReadModel tt u _ _ read.of_model;
+      of_graph = named_after r none ReadGraph tt u _ _ read.of_graph;
+      of_vectors = named_after r none ReadVectors tt u _ _ read.of_vectors;
     };
     write = write;
     in_order = written_in_order r none graph graph' vectors vectors';

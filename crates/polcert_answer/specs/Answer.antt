@@ -78,13 +78,13 @@ abbrev pub IsAnswerAbove : List ℕ → List ℕ → List ℕ → Result AboveVe
 IsAnswerAbove model graph vectors result = IsRoundedAnswer Up IsAboveVerdict model graph vectors result
 
 -- out of memory, which may be answered to any text
-abbrev pub IsWantOfMemory : Fault → Type 0
-IsWantOfMemory (Model models.Memory) = Unit {0}
-IsWantOfMemory (Graph graphs.Memory) = Unit {0}
-IsWantOfMemory (Vectors values.Memory) = Unit {0}
-IsWantOfMemory _ = ⊥
+abbrev pub IsOutOfMemory : Fault → Type 0
+IsOutOfMemory (Model models.Memory) = Unit {0}
+IsOutOfMemory (Graph graphs.Memory) = Unit {0}
+IsOutOfMemory (Vectors values.Memory) = Unit {0}
+IsOutOfMemory _ = ⊥
 
 -- the answer is this verdict, except out of memory
 abbrev pub IsButForMemory : {V : Type 0} → V → Result V Fault → Type 0
 IsButForMemory verdict (Ok answered) = answered ≡ verdict
-IsButForMemory verdict (Err fault) = IsWantOfMemory fault
+IsButForMemory verdict (Err fault) = IsOutOfMemory fault

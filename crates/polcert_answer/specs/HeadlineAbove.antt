@@ -5,7 +5,7 @@ use Rattle.polcert_text.specs.declared.number.Rounding.TheVariants.{Up}
 use Rattle.polcert_cells.specs.Meaning.{states_of}
 use Rattle.polcert_policy.specs.Graphs.{nodes}
 use Rattle.polcert_cells.specs.Tables.{table_of}
-use Rattle.polcert_check.specs.Above.{PromiseAbove, RewardPromiseAbove, AreNowhereExceeded}
+use Rattle.polcert_check.specs.Above.{PromiseAbove, RewardPromiseAbove, BoundEveryLowerVector}
 use Rattle.polcert_answer.specs.Headline.{RoundedCertificate, controller}
 
 -- three texts and what they denote, with each value rounded up
@@ -26,4 +26,4 @@ AreRewardsCertifiedAbove model graph vectors = (c : CertificateAbove model graph
 
 -- An interval: where the discount is below 1, no vectors of the graph that pass from below are above these anywhere.
 abbrev pub BoundLowerVectors : List ℕ → List ℕ → List ℕ → Type 0
-BoundLowerVectors model graph vectors = (c : CertificateAbove model graph vectors) → AreNowhereExceeded (table_of c.meaning) c.policy c.values
+BoundLowerVectors model graph vectors = (c : CertificateAbove model graph vectors) → BoundEveryLowerVector (table_of c.meaning) c.policy c.values

@@ -23,9 +23,9 @@ abbrev pub counted : ℕ → List ℕ → List ℕ
 counted count words = decimal count ++ words
 
 -- the end of the line: whether the model's text gives rewards or costs
-abbrev pub gains : Bool → List ℕ
-gains false = codes ", reward\n"
-gains true = codes ", cost\n"
+abbrev pub earnings_word : Bool → List ℕ
+earnings_word false = codes ", reward\n"
+earnings_word true = codes ", cost\n"
 
 abbrev pub kind_word : Bool → List ℕ
 kind_word mdp = if mdp then codes "mdp: " else codes "pomdp: "
@@ -39,7 +39,7 @@ counts_text m = kind_word (is_mdp m.preamble) ++ counted (states_of m) (codes " 
     ++ observations_text m
 
 abbrev pub values_text : Meaning → List ℕ
-values_text m = codes "discount " ++ scaled_text (pos m.preamble.discount) ++ gains m.preamble.costs
+values_text m = codes "discount " ++ scaled_text (pos m.preamble.discount) ++ earnings_word m.preamble.costs
 
 abbrev pub summary_line : Meaning → List ℕ
 summary_line m = counts_text m ++ values_text m

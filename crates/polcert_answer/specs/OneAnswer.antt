@@ -8,7 +8,7 @@ use Rattle.polcert_policy.specs.declared.fault.VectorFault.{VectorFault}
 use Rattle.polcert_policy.specs.declared.fault.VectorFault.TheVariants as values
 use Rattle.polcert_answer.specs.declared.fault.Fault.{Fault}
 use Rattle.polcert_answer.specs.declared.fault.Fault.TheVariants.{Model, Graph, Vectors}
-use Rattle.polcert_answer.specs.Answer.{IsWantOfMemory}
+use Rattle.polcert_answer.specs.Answer.{IsOutOfMemory}
 
 module _ {V : Type 0} (IsAnswer : List ℕ → List ℕ → List ℕ → Result V Fault → Type 0) where
   -- There is one verdict, and no refusal beside it.
@@ -17,7 +17,7 @@ module _ {V : Type 0} (IsAnswer : List ℕ → List ℕ → List ℕ → Result 
         → IsAnswer model graph vectors (Ok x) → IsAnswer model graph vectors (Ok y) → x ≡ y
     pub no_refusal : (model graph vectors : List ℕ) (x : V) (fault : Fault)
         → IsAnswer model graph vectors (Ok x) → IsAnswer model graph vectors (Err fault)
-        → IsWantOfMemory fault
+        → IsOutOfMemory fault
 
   -- Where the model is refused, the graph and the vectors are not, not even as out of memory; and where
   -- the graph is, the vectors are not.

@@ -11,10 +11,10 @@ ghost use Rattle.polcert_answer.specs.Steps.Reading.{IsTextAnswer};
 use crate::bound::{Bound, Lower, Upper};
 use crate::fault::Fault;
 use crate::inputs::read_texts;
-use polcert_check::{AboveVerdict, Unwatched, Verdict};
+use polcert_check::{AboveVerdict, NoProgress, Verdict};
 use std::alloc::Global;
 
-/// The answer to the texts of a model, of a policy graph, and of the graph's vectors.
+/// Answers the texts of a model, of a policy graph, and of the graph's vectors.
 ///
 /// # Errors
 ///
@@ -42,8 +42,8 @@ pub fn check_texts(
     text_answer::<Lower>(alloc, model, graph, vectors)
 }
 
-/// The answer from above to the texts of a model, of a policy graph, and of the graph's vectors, each value
-/// rounded up: whether the vectors bound what the graph earns from above.
+/// Answers the texts of a model, of a policy graph, and of the graph's vectors from above, each value rounded
+/// up: do the vectors bound what the graph earns from above?
 ///
 /// # Errors
 ///
@@ -87,5 +87,5 @@ fn text_answer<B: Bound>(
 {
     B::laws();
     let read = read_texts(alloc, B::rounding(), model, graph, vectors)?;
-    Ok(B::check::<Unwatched>(&read, &mut Unwatched))
+    Ok(B::check::<NoProgress>(&read, &mut NoProgress))
 }

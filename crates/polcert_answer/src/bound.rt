@@ -13,7 +13,7 @@ use crate::fault::RunFault;
 use crate::inputs::Inputs;
 use crate::lines::VerdictLine;
 use polcert_check::{
-    AboveVerdict, LowerFault, RaiseFault, Verdict, Watch, check_above_watched, check_watched,
+    AboveVerdict, LowerFault, Progress, RaiseFault, Verdict, check_above_watched, check_watched,
     lowered_watched, millionths_short, raised_watched, start_most, start_worth,
 };
 use polcert_policy::Vectors;
@@ -39,7 +39,7 @@ pub trait Bound {
         ensures { result ≡ side.rounding };
 
     /// Checks the vectors.
-    fn check<O: Watch>(given: &Inputs, watch: &mut O) -> Self::Verdict
+    fn check<O: Progress>(given: &Inputs, progress: &mut O) -> Self::Verdict
         requires { FitGiven given.now }
         ensures verdict { side.Is (controller_given given.now) result }
         ensures small { is_small (controller_given given.now) result };
@@ -53,10 +53,10 @@ pub trait Bound {
             given.now.vectors verdict (line_text result) };
 
     /// Moves the vectors by the least constant by which they pass, and returns both.
-    fn moved<O: Watch>(
+    fn moved<O: Progress>(
         alloc: Global,
         given: &Inputs,
-        watch: &mut O,
+        progress: &mut O,
     ) -> Result<(i64, Vectors), Self::Fault>
         requires { FitGiven given.now }
         ensures moved { IfOk result
@@ -91,8 +91,8 @@ impl Bound for Lower {
         Rounding::Down
     }
 
-    fn check<O: Watch>(given: &Inputs, watch: &mut O) -> Verdict {
-        check_watched(&given.model, &given.graph, &given.vectors, watch)
+    fn check<O: Progress>(given: &Inputs, progress: &mut O) -> Verdict {
+        check_watched(&given.model, &given.graph, &given.vectors, progress)
     }
 
     fn line(given: &Inputs, verdict: Verdict) -> VerdictLine {
@@ -121,12 +121,12 @@ impl Bound for Lower {
         }
     }
 
-    fn moved<O: Watch>(
+    fn moved<O: Progress>(
         alloc: Global,
         given: &Inputs,
-        watch: &mut O,
+        progress: &mut O,
     ) -> Result<(i64, Vectors), LowerFault> {
-        lowered_watched(alloc, &given.model, &given.graph, &given.vectors, watch)
+        lowered_watched(alloc, &given.model, &given.graph, &given.vectors, progress)
     }
 
     fn run_fault(fault: LowerFault) -> RunFault {
@@ -149,8 +149,8 @@ impl Bound for Upper {
         Rounding::Up
     }
 
-    fn check<O: Watch>(given: &Inputs, watch: &mut O) -> AboveVerdict {
-        check_above_watched(&given.model, &given.graph, &given.vectors, watch)
+    fn check<O: Progress>(given: &Inputs, progress: &mut O) -> AboveVerdict {
+        check_above_watched(&given.model, &given.graph, &given.vectors, progress)
     }
 
     fn line(given: &Inputs, verdict: AboveVerdict) -> VerdictLine {
@@ -179,12 +179,12 @@ impl Bound for Upper {
         }
     }
 
-    fn moved<O: Watch>(
+    fn moved<O: Progress>(
         alloc: Global,
         given: &Inputs,
-        watch: &mut O,
+        progress: &mut O,
     ) -> Result<(i64, Vectors), RaiseFault> {
-        raised_watched(alloc, &given.model, &given.graph, &given.vectors, watch)
+        raised_watched(alloc, &given.model, &given.graph, &given.vectors, progress)
     }
 
     fn run_fault(fault: RaiseFault) -> RunFault {

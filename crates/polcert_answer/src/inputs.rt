@@ -35,7 +35,7 @@ impl Drop for Inputs {
     }
 }
 
-/// The model whose text the source gives, with the fault of a run where there is none.
+/// Reads the model of a source. A refusal becomes the fault of a run.
 pub fn model_of_run<S: Source>(alloc: Global, source: &mut S) -> Result<Model, RunFault>
     ensures accepted { IfOk result (λ m. (text : List ℕ)
         × IsText S.reads source.old text source.new
@@ -53,7 +53,7 @@ pub fn model_of_run<S: Source>(alloc: Global, source: &mut S) -> Result<Model, R
     }
 }
 
-/// The policy graph for the model whose text the source gives, with the fault of a run where there is none.
+/// Reads the policy graph of a source, for the model. A refusal becomes the fault of a run.
 fn graph_of_run<S: Source>(alloc: Global, model: &Model, source: &mut S) -> Result<Graph, RunFault>
     ensures accepted { IfOk result (λ g. (text : List ℕ)
         × IsText S.reads source.old text source.new
@@ -72,8 +72,8 @@ fn graph_of_run<S: Source>(alloc: Global, model: &Model, source: &mut S) -> Resu
     }
 }
 
-/// The vectors of the graph whose text the source gives, each value rounded this way, with the fault of a
-/// run where there are none.
+/// Reads the vectors of the graph from a source, each value rounded this way. A refusal becomes the fault of
+/// a run.
 fn vectors_of_run<S: Source>(
     alloc: Global,
     rounding: Rounding,
@@ -99,8 +99,8 @@ fn vectors_of_run<S: Source>(
     }
 }
 
-/// What the texts of three sources denote, with each value of a vector rounded this way. Each source is
-/// read to its end before the next.
+/// Reads the inputs from three sources, each to its end before the next, with each value of a vector rounded
+/// this way.
 pub fn read_inputs<M: Source, G: Source, V: Source>(
     alloc: Global,
     rounding: Rounding,
@@ -135,7 +135,7 @@ pub fn read_inputs<M: Source, G: Source, V: Source>(
     })
 }
 
-/// What three texts denote, with each value of a vector rounded this way.
+/// Reads the inputs from three slices, with each value of a vector rounded this way.
 pub fn read_texts(
     alloc: Global,
     rounding: Rounding,

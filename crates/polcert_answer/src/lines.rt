@@ -2,7 +2,7 @@
 ghost use Rattle.std.specs.Prelude.{◌≡◌};
 ghost use Rattle.polcert_text.specs.Sink.{WritesText};
 ghost use Rattle.polcert_model.specs.Contents.{meaning};
-ghost use Rattle.polcert_answer.specs.Lines.{counted, gains, kind_word, observations_text, counts_text, values_text, summary_line, pair_text, amount_line, yes_line, yes_above_line, lack_line, line_text};
+ghost use Rattle.polcert_answer.specs.Lines.{counted, earnings_word, kind_word, observations_text, counts_text, values_text, summary_line, pair_text, amount_line, yes_line, yes_above_line, lack_line, line_text};
 
 use itoa::Buffer;
 use polcert_model::Model;
@@ -34,7 +34,7 @@ fn write_counts<W: Sink>(model: &Model, sink: &mut W) -> Result<(), SinkFailed>
     write_observations(model, sink)
 }
 
-/// The beginning of the line: whether the model is an MDP.
+/// Returns the beginning of the line: whether the model is an MDP.
 fn kind_word(is_mdp: bool) -> &'static [u8]
     ensures { result.now ≡ kind_word is_mdp }
 {
@@ -67,12 +67,12 @@ fn write_values<W: Sink>(model: &Model, sink: &mut W) -> Result<(), SinkFailed>
 {
     write_all(sink, b"discount ")?;
     write_scaled(model.discount() as i64, sink)?;
-    write_all(sink, gains(model.is_cost()))
+    write_all(sink, earnings_word(model.is_cost()))
 }
 
-/// The end of the line: what the model's text gives.
-fn gains(is_cost: bool) -> &'static [u8]
-    ensures { result.now ≡ gains is_cost }
+/// Returns the end of the line: whether the text gives rewards or costs.
+fn earnings_word(is_cost: bool) -> &'static [u8]
+    ensures { result.now ≡ earnings_word is_cost }
 {
     if is_cost { b", cost\n" } else { b", reward\n" }
 }
@@ -134,7 +134,7 @@ fn write_verdict_line<W: Sink>(line: VerdictLine, sink: &mut W) -> Result<(), Si
             node,
             state,
             observation,
-        } => write_lack(node, state, observation, sink),
+        } => write_no_successor(node, state, observation, sink),
     }
 }
 
@@ -173,7 +173,7 @@ fn write_amount<W: Sink>(
 }
 
 /// Writes a no: the pair, and the observation for which the node has no successor.
-fn write_lack<W: Sink>(
+fn write_no_successor<W: Sink>(
     node: usize,
     state: usize,
     observation: usize,

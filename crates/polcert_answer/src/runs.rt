@@ -1,22 +1,35 @@
-//! Runs from sources to sinks.
+//! Runs from sources to sinks, for bounds of either kind.
 ghost use Rattle.std.specs.Prelude.{◌≡◌, ◌≢◌, ℕ, List, Ok, OnOk, IfOk, IfErr, IsErrOf};
 ghost use Rattle.polcert_text.specs.Device.{HasFailed};
-ghost use Rattle.polcert_text.specs.Sink.{Takes};
+ghost use Rattle.polcert_text.specs.Sink.{Takes, WritesText};
 ghost use Rattle.polcert_text.specs.Source.{EachTextThatFits};
 ghost use Rattle.polcert_model.specs.Refusals.{SaysOfText};
 ghost use Rattle.polcert_check.specs.declared.verdict.Verdict.TheVariants.{Yes};
 ghost use Rattle.polcert_answer.specs.Answer.{IsRefused, IsModelFault};
-ghost use Rattle.polcert_answer.specs.Run.{WritesAnswer, SumsUp, BeginsToSumUp, Prints, BeginsToPrint, IsTooLargeToPrint, IsModelRunFault, IsPrintRunFault, IsNamedRightly, StopsRightly, IsCheckRunFault, IsLowerRunFault, text_of, HoldsOfTexts, HavePromise, HasStartPromise};
-ghost use Rattle.polcert_answer.specs.Side.{below, HasVerdict, HasHorizon, HasMoved, IsNotMovable, IsCheckRun, IsMoveRun};
+ghost use Rattle.polcert_answer.specs.Run.{WritesAnswer, SumsUp, BeginsToSumUp, Prints, BeginsToPrint};
+ghost use Rattle.polcert_answer.specs.Run.{IsTooLargeToPrint, IsModelRunFault, IsPrintRunFault};
+ghost use Rattle.polcert_answer.specs.Run.{IsNamedRightly, StopsRightly, IsCheckRunFault, IsLowerRunFault};
+ghost use Rattle.polcert_answer.specs.Run.{text_of, HoldsOfTexts, HavePromise, HasStartPromise};
+ghost use Rattle.polcert_answer.specs.Run.{IsRaiseRunFault, HavePromiseAbove, HasStartPromiseAbove};
+ghost use Rattle.polcert_answer.specs.Side.{below, HasVerdict, HasHorizon, HasMoved, IsNotMovable};
+ghost use Rattle.polcert_answer.specs.Side.{IsCheckRun, IsMoveRun, above};
+ghost use Rattle.polcert_model.specs.Contents.{meaning};
+ghost use Rattle.polcert_answer.specs.Steps.Reading.{IsAnswerLine, AreWrittenMoved, FitGiven};
+ghost use Rattle.polcert_answer.specs.Steps.Reading.{controller_given, IsNoReadFault};
+ghost use Rattle.polcert_model.specs.Printable.{IsPrintable};
+ghost use Rattle.polcert_model.specs.FullForm.{full_form};
+ghost use Rattle.polcert_policy.specs.FullForm.{vectors_text};
+ghost use Rattle.polcert_policy.specs.Graphs.{nodes};
+ghost use Rattle.polcert_policy.specs.VectorText.{IsRoundedVectorsText};
 
-use crate::bound::Lower;
-use crate::bound_runs::{check_run, move_run};
+use crate::bound::{Bound, Lower, Upper};
 use crate::fault::{Fault, RunFault};
-use crate::forms::write_full_form;
-use crate::inputs::model_of_run;
-use crate::lines::write_summary;
-use polcert_check::{Unwatched, Verdict, Watch};
-use polcert_text::{Rounding, Sink, Source};
+use crate::inputs::{Inputs, model_of_run, read_inputs};
+use crate::lines::{write_summary, write_verdict};
+use polcert_check::{AboveVerdict, NoProgress, Progress, Verdict};
+use polcert_model::{Model, write_model};
+use polcert_policy::{Graph, Vectors, write_vectors};
+use polcert_text::{BufferedSink, Rounding, Sink, SinkFailed, Source};
 use std::alloc::Global;
 
 /// Reads a model from the source, and writes the line that sums it up, and nothing else. Nothing is written
@@ -166,19 +179,19 @@ pub fn run_check<M: Source, G: Source, V: Source, W: Sink>(
     // Nothing but the faults of a check is answered.
     ensures of_a_check { IfErr result IsCheckRunFault }
 {
-    check_run::<Lower, M, G, V, W, Unwatched>(alloc, model, graph, vectors, sink, &mut Unwatched)
+    check_run::<Lower, M, G, V, W, NoProgress>(alloc, model, graph, vectors, sink, &mut NoProgress)
 }
 
-/// The same, and `watch` is told how far the check is: of each node when all of its pairs have passed.
+/// Does the same, and notifies `progress` of each node when all of its pairs have passed.
 /// What it promises is every clause of `run_check`.
 // (Six parameters: each device has a type of its own, and callers hold them apart.)
-pub fn run_check_watched<M: Source, G: Source, V: Source, W: Sink, O: Watch>(
+pub fn run_check_watched<M: Source, G: Source, V: Source, W: Sink, O: Progress>(
     alloc: Global,
     model: &mut M,
     graph: &mut G,
     vectors: &mut V,
     sink: &mut W,
-    watch: &mut O,
+    progress: &mut O,
 ) -> Result<Verdict, RunFault>
     ensures { IsCheckRun below
         M.reads M.failures model.old model.new
@@ -186,7 +199,7 @@ pub fn run_check_watched<M: Source, G: Source, V: Source, W: Sink, O: Watch>(
         V.reads V.failures vectors.old vectors.new
         W.writes W.failures sink.old sink.new result }
 {
-    check_run::<Lower, M, G, V, W, O>(alloc, model, graph, vectors, sink, watch)
+    check_run::<Lower, M, G, V, W, O>(alloc, model, graph, vectors, sink, progress)
 }
 
 /// Reads a model, a policy graph and the graph's vectors from three sources, lowers the vectors by the
@@ -229,19 +242,19 @@ pub fn run_lower<M: Source, G: Source, V: Source, W: Sink>(
     // Nothing but the faults of a lowering is answered.
     ensures of_a_lowering { IfErr result IsLowerRunFault }
 {
-    move_run::<Lower, M, G, V, W, Unwatched>(alloc, model, graph, vectors, sink, &mut Unwatched)
+    move_run::<Lower, M, G, V, W, NoProgress>(alloc, model, graph, vectors, sink, &mut NoProgress)
 }
 
-/// The same, and `watch` is told how far it is: of each node once. What it promises is every clause of
+/// Does the same, and notifies `progress` of each node once. Its contract has every clause of
 /// `run_lower`.
 // (Six parameters: each device has a type of its own, and callers hold them apart.)
-pub fn run_lower_watched<M: Source, G: Source, V: Source, W: Sink, O: Watch>(
+pub fn run_lower_watched<M: Source, G: Source, V: Source, W: Sink, O: Progress>(
     alloc: Global,
     model: &mut M,
     graph: &mut G,
     vectors: &mut V,
     sink: &mut W,
-    watch: &mut O,
+    progress: &mut O,
 ) -> Result<i64, RunFault>
     ensures { IsMoveRun below
         M.reads M.failures model.old model.new
@@ -249,5 +262,269 @@ pub fn run_lower_watched<M: Source, G: Source, V: Source, W: Sink, O: Watch>(
         V.reads V.failures vectors.old vectors.new
         W.writes W.failures sink.old sink.new result }
 {
-    move_run::<Lower, M, G, V, W, O>(alloc, model, graph, vectors, sink, watch)
+    move_run::<Lower, M, G, V, W, O>(alloc, model, graph, vectors, sink, progress)
+}
+
+/// Reads a model, a policy graph and the graph's vectors, each value rounded up, from three sources, checks
+/// whether they bound what the graph earns from above, writes the line of the verdict, and nothing else,
+/// and answers the verdict. Nothing is written before all three texts are accepted and the verdict is
+/// known.
+///
+/// # Errors
+///
+/// `Text` if a text is refused or memory runs out while reading it, `ReadModel`, `ReadGraph` or
+/// `ReadVectors` if a read of that source failed, `Write` if a write failed.
+pub fn run_check_above<M: Source, G: Source, V: Source, W: Sink>(
+    alloc: Global,
+    model: &mut M,
+    graph: &mut G,
+    vectors: &mut V,
+    sink: &mut W,
+) -> Result<AboveVerdict, RunFault>
+    // The sink took exactly the line of the answer from above to the texts of the three sources; or if a
+    // write failed, a beginning of the line.
+    ensures answered { WritesAnswer W.writes (λ verdict line. HoldsOfTexts Rounding.Up
+        (text_of M.reads model.old model.new) (text_of G.reads graph.old graph.new)
+        (text_of V.reads vectors.old vectors.new) (HasVerdict above verdict line)) result sink.old sink.new }
+
+    // The headline from above: a yes bounds what the texts that were read denote, for every number of
+    // steps, every node and every state; and for the rewards alone, without the vectors at the end.
+    ensures promise { result ≡ Ok AboveVerdict.Yes → HoldsOfTexts Rounding.Up
+        (text_of M.reads model.old model.new) (text_of G.reads graph.old graph.new)
+        (text_of V.reads vectors.old vectors.new) HavePromiseAbove }
+
+    // And what the written line says of the start is promised, from every node and for every number of steps.
+    ensures start_promise { result ≡ Ok AboveVerdict.Yes → (line : List ℕ) × HoldsOfTexts Rounding.Up
+        (text_of M.reads model.old model.new) (text_of G.reads graph.old graph.new)
+        (text_of V.reads vectors.old vectors.new) (HasStartPromiseAbove line)
+        × Takes W.writes sink.old line sink.new }
+
+    // A no refutes the promise of one step at the pair that it names, and a missing successor is reached by a
+    // run of one step of positive probability.
+    ensures horizon { IfOk result (λ verdict. HoldsOfTexts Rounding.Up
+        (text_of M.reads model.old model.new) (text_of G.reads graph.old graph.new)
+        (text_of V.reads vectors.old vectors.new) (HasHorizon above verdict)) }
+
+    // The first text that is none of its kind is refused, for a right reason. A device is named only where
+    // it failed in this call, and no failure of one is passed over. Each source is read to its end before
+    // the next. With any other fault than that of a write nothing was written.
+    ensures stops { StopsRightly Rounding.Up result
+        M.reads M.failures model.old model.new
+        G.reads G.failures graph.old graph.new
+        V.reads V.failures vectors.old vectors.new
+        W.failures sink.old sink.new }
+
+    // Nothing but the faults of a check is answered.
+    ensures of_a_check { IfErr result IsCheckRunFault }
+{
+    check_run::<Upper, M, G, V, W, NoProgress>(alloc, model, graph, vectors, sink, &mut NoProgress)
+}
+
+/// Does the same, and notifies `progress` of each node when all of its pairs have passed.
+/// What it promises is every clause of `run_check_above`.
+// (Six parameters: each device has a type of its own, and callers hold them apart.)
+pub fn run_check_above_watched<M: Source, G: Source, V: Source, W: Sink, O: Progress>(
+    alloc: Global,
+    model: &mut M,
+    graph: &mut G,
+    vectors: &mut V,
+    sink: &mut W,
+    progress: &mut O,
+) -> Result<AboveVerdict, RunFault>
+    ensures { IsCheckRun above
+        M.reads M.failures model.old model.new
+        G.reads G.failures graph.old graph.new
+        V.reads V.failures vectors.old vectors.new
+        W.writes W.failures sink.old sink.new result }
+{
+    check_run::<Upper, M, G, V, W, O>(alloc, model, graph, vectors, sink, progress)
+}
+
+/// Reads a model, a policy graph and the graph's vectors, each value rounded up, from three sources, raises
+/// the vectors by the least constant, in millionths, by which they pass the check from above, writes them
+/// in full form, and nothing else, and answers the constant. Nothing is written before all three texts are
+/// accepted and the constant is known.
+///
+/// # Errors
+///
+/// `Text` if a text is refused or memory runs out while reading it, `ReadModel`, `ReadGraph` or
+/// `ReadVectors` if a read of that source failed, `Write` if a write failed, and `Raise` where the
+/// vectors can't be raised to pass from above.
+pub fn run_raise<M: Source, G: Source, V: Source, W: Sink>(
+    alloc: Global,
+    model: &mut M,
+    graph: &mut G,
+    vectors: &mut V,
+    sink: &mut W,
+) -> Result<i64, RunFault>
+    // The sink took exactly the raised vectors in full form, or if a write failed, a beginning of them.
+    // The answer from above to the model's text, the graph's text and this text is yes, and the headline
+    // from above holds of them.
+    ensures raised { WritesAnswer W.writes (λ by text. HoldsOfTexts Rounding.Up
+        (text_of M.reads model.old model.new) (text_of G.reads graph.old graph.new)
+        (text_of V.reads vectors.old vectors.new) (HasMoved above by text)) result sink.old sink.new }
+
+    // Raising is refused only if all three texts are accepted, for a right reason.
+    ensures not_raised { (fault : _) → IsErrOf result (RunFault.Raise fault) → HoldsOfTexts Rounding.Up
+        (text_of M.reads model.old model.new) (text_of G.reads graph.old graph.new)
+        (text_of V.reads vectors.old vectors.new) (IsNotMovable above fault) }
+
+    // The first text that is none of its kind is refused, for a right reason. A device is named only where
+    // it failed in this call, and no failure of one is passed over. Each source is read to its end before
+    // the next. With any other fault than that of a write nothing was written.
+    ensures stops { StopsRightly Rounding.Up result
+        M.reads M.failures model.old model.new
+        G.reads G.failures graph.old graph.new
+        V.reads V.failures vectors.old vectors.new
+        W.failures sink.old sink.new }
+
+    // Nothing but the faults of a raise is answered.
+    ensures of_a_raise { IfErr result IsRaiseRunFault }
+{
+    move_run::<Upper, M, G, V, W, NoProgress>(alloc, model, graph, vectors, sink, &mut NoProgress)
+}
+
+/// Does the same, and notifies `progress` of each node once. Its contract has every clause of
+/// `run_raise`.
+// (Six parameters: each device has a type of its own, and callers hold them apart.)
+pub fn run_raise_watched<M: Source, G: Source, V: Source, W: Sink, O: Progress>(
+    alloc: Global,
+    model: &mut M,
+    graph: &mut G,
+    vectors: &mut V,
+    sink: &mut W,
+    progress: &mut O,
+) -> Result<i64, RunFault>
+    ensures { IsMoveRun above
+        M.reads M.failures model.old model.new
+        G.reads G.failures graph.old graph.new
+        V.reads V.failures vectors.old vectors.new
+        W.writes W.failures sink.old sink.new result }
+{
+    move_run::<Upper, M, G, V, W, O>(alloc, model, graph, vectors, sink, progress)
+}
+
+/// Reads the texts of three sources, checks what they denote, writes the line of the verdict, and returns the
+/// verdict.
+// (Six parameters: each device has a type of its own.)
+pub fn check_run<B: Bound, M: Source, G: Source, V: Source, W: Sink, O: Progress>(
+    alloc: Global,
+    model: &mut M,
+    graph: &mut G,
+    vectors: &mut V,
+    sink: &mut W,
+    progress: &mut O,
+) -> Result<B::Verdict, RunFault>
+    ensures { IsCheckRun B.side
+        M.reads M.failures model.old model.new
+        G.reads G.failures graph.old graph.new
+        V.reads V.failures vectors.old vectors.new
+        W.writes W.failures sink.old sink.new result }
+{
+    B::laws();
+    let read = read_inputs(alloc, B::rounding(), model, graph, vectors)?;
+    write_answer::<B, W, O>(&read, sink, progress)
+}
+
+/// Checks what three texts denote, writes the line of the verdict, and returns the verdict.
+fn write_answer<B: Bound, W: Sink, O: Progress>(
+    given: &Inputs,
+    sink: &mut W,
+    progress: &mut O,
+) -> Result<B::Verdict, RunFault>
+    requires { FitGiven given.now }
+    ensures answered { WritesAnswer W.writes (IsAnswerLine B.side (meaning given.now.model)
+        given.now.graph given.now.vectors) result sink.old sink.new }
+    ensures write { IsNamedRightly (IsErrOf result RunFault.Write)
+        (W.failures sink.old) (W.failures sink.new) }
+    ensures of_write { IfErr result (λ fault. fault ≡ RunFault.Write) }
+{
+    let verdict = B::check::<O>(given, progress);
+    match write_verdict(B::line(given, verdict), sink) {
+        Ok(()) => Ok(verdict),
+        Err(_) => Err(RunFault::Write),
+    }
+}
+
+/// Reads the texts of three sources, moves the vectors that they denote by the least constant by which they
+/// pass, writes them in full form, and returns the constant.
+// (Six parameters: each device has a type of its own.)
+pub fn move_run<B: Bound, M: Source, G: Source, V: Source, W: Sink, O: Progress>(
+    alloc: Global,
+    model: &mut M,
+    graph: &mut G,
+    vectors: &mut V,
+    sink: &mut W,
+    progress: &mut O,
+) -> Result<i64, RunFault>
+    ensures { IsMoveRun B.side
+        M.reads M.failures model.old model.new
+        G.reads G.failures graph.old graph.new
+        V.reads V.failures vectors.old vectors.new
+        W.writes W.failures sink.old sink.new result }
+{
+    B::laws();
+    let given = read_inputs(alloc, B::rounding(), model, graph, vectors)?;
+    write_moved::<B, W, O>(alloc, &given, sink, progress)
+}
+
+/// Moves the vectors of what three texts denote, writes them in full form, and returns the constant.
+fn write_moved<B: Bound, W: Sink, O: Progress>(
+    alloc: Global,
+    given: &Inputs,
+    sink: &mut W,
+    progress: &mut O,
+) -> Result<i64, RunFault>
+    requires { FitGiven given.now }
+    ensures moved { WritesAnswer W.writes (AreWrittenMoved B.side (meaning given.now.model)
+        given.now.graph given.now.vectors) result sink.old sink.new }
+    ensures not_moved { (fault : _) → IsErrOf result (B.side.run_fault fault)
+        → B.side.IsReason (controller_given given.now) given.now.vectors fault }
+    ensures write { IsNamedRightly (IsErrOf result RunFault.Write)
+        (W.failures sink.old) (W.failures sink.new) }
+    ensures untouched { (fault : RunFault) → IsErrOf result fault
+        → fault ≢ RunFault.Write → sink.new ≡ sink.old }
+    ensures no_read { IfErr result IsNoReadFault }
+    ensures of_a_move { IfErr result B.side.IsRunFault }
+{
+    B::laws();
+    let (by, moved) = match B::moved::<O>(alloc, given, progress) {
+        Ok(found) => found,
+        Err(fault) => return Err(B::run_fault(fault)),
+    };
+    match write_full_vectors(&given.graph, &moved, sink) {
+        Ok(()) => Ok(by),
+        Err(_) => Err(RunFault::Write),
+    }
+}
+
+/// Writes a model in full form, through a buffer.
+pub fn write_full_form<W: Sink>(model: &Model, sink: &mut W) -> Result<(), SinkFailed>
+    requires printable { IsPrintable (meaning model.now).preamble }
+    ensures { WritesText W.writes W.failures sink.old (full_form (meaning model.now)) result sink.new }
+{
+    let mut buffered = BufferedSink::new(sink);
+    write_model(model, &mut buffered)?;
+    buffered.flush()
+}
+
+/// Writes the vectors of a graph in full form, through a buffer.
+pub fn write_full_vectors<W: Sink>(
+    graph: &Graph,
+    vectors: &Vectors,
+    sink: &mut W,
+) -> Result<(), SinkFailed>
+    requires { nodes graph.now ≡ vectors.now.nodes }
+    ensures written { WritesText W.writes W.failures sink.old
+        (vectors_text graph.now vectors.now) result sink.new }
+
+    // Read with the same graph and number of states, the text gives the same vectors, whichever way values
+    // are rounded.
+    ensures reads_back { (rounding : Rounding)
+        → IsRoundedVectorsText rounding graph.now vectors.now.states
+        (vectors_text graph.now vectors.now) vectors.now }
+{
+    let mut buffered = BufferedSink::new(sink);
+    write_vectors(graph, vectors, &mut buffered)?;
+    buffered.flush()
 }

@@ -2,12 +2,15 @@
 ghost use Rattle.std.specs.Prelude.{◌≡◌};
 ghost use Rattle.polcert_answer.specs.Side.{below, above, IsCheckRun, IsMoveRun};
 ghost use Rattle.polcert_answer.specs.Task.{HasRun, outcome_status};
+ghost use Rattle.polcert_answer.specs.Status.{status, verdict_status, above_verdict_status};
 
-use crate::fault::RunFault;
-use crate::runs::{run_check_watched, run_lower_watched};
-use crate::runs_above::{run_check_above_watched, run_raise_watched};
-use crate::status::{status_of_above_verdict, status_of_verdict};
-use polcert_check::{AboveVerdict, Verdict, Watch};
+use crate::fault::{Fault, RunFault};
+use crate::runs::{
+    run_check_above_watched, run_check_watched, run_lower_watched, run_raise_watched,
+};
+use polcert_check::{AboveVerdict, LowerFault, Progress, RaiseFault, Verdict};
+use polcert_model::ModelFault;
+use polcert_policy::{GraphFault, VectorFault};
 use polcert_text::{Sink, Source};
 use std::alloc::Global;
 
@@ -45,7 +48,7 @@ pub enum Outcome {
 ///
 /// Those of the task's run.
 // (Seven parameters: each of the devices is of a type of its own.)
-pub fn run_task<M: Source, G: Source, V: Source, W: Sink, O: Watch>(
+pub fn run_task<M: Source, G: Source, V: Source, W: Sink, O: Progress>(
     alloc: Global,
     task: Task,
     model: &mut M,
@@ -111,5 +114,45 @@ pub fn status_of_outcome(outcome: Outcome) -> u8
         Outcome::Checked(verdict) => status_of_verdict(verdict),
         Outcome::CheckedAbove(verdict) => status_of_above_verdict(verdict),
         Outcome::Lowered(_) | Outcome::Raised(_) => 0,
+    }
+}
+
+/// Returns the exit status for a fault: 4 if memory ran out, 3 if a device failed, 2 for a refused text or a
+/// model too large to print, and 1 if the vectors can't be lowered, or raised, to pass.
+pub fn status_of(fault: &RunFault) -> u8
+    ensures { result ≡ status fault.now }
+{
+    match fault {
+        RunFault::Text(
+            Fault::Model(ModelFault::Memory)
+            | Fault::Graph(GraphFault::Memory)
+            | Fault::Vectors(VectorFault::Memory),
+        )
+        | RunFault::Lower(LowerFault::Memory)
+        | RunFault::Raise(RaiseFault::Memory) => 4,
+        RunFault::Text(_) => 2,
+        RunFault::TooLargeToPrint => 2,
+        RunFault::ReadModel | RunFault::ReadGraph | RunFault::ReadVectors | RunFault::Write => 3,
+        RunFault::Lower(_) | RunFault::Raise(_) => 1,
+    }
+}
+
+/// Returns the exit status for a verdict: 0 for a yes, and 1 for a no.
+pub fn status_of_verdict(verdict: Verdict) -> u8
+    ensures { result ≡ verdict_status verdict }
+{
+    match verdict {
+        Verdict::Yes => 0,
+        _ => 1,
+    }
+}
+
+/// Returns the exit status for a verdict from above: 0 for a yes, and 1 for a no.
+pub fn status_of_above_verdict(verdict: AboveVerdict) -> u8
+    ensures { result ≡ above_verdict_status verdict }
+{
+    match verdict {
+        AboveVerdict::Yes => 0,
+        AboveVerdict::Long { .. } | AboveVerdict::NoSuccessor { .. } => 1,
     }
 }

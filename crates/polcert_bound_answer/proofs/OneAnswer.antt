@@ -15,7 +15,7 @@ use Rattle.polcert_policy.proofs.OneVectorsRefusal as vectors_refusals
 use Rattle.polcert_optimum.specs.declared.verdict.InformedVerdict.{InformedVerdict}
 use Rattle.polcert_answer.specs.declared.fault.Fault.{Fault}
 use Rattle.polcert_answer.specs.declared.fault.Fault.TheVariants.{Model, Graph, Vectors}
-use Rattle.polcert_answer.specs.Answer.{IsWantOfMemory, IsButForMemory}
+use Rattle.polcert_answer.specs.Answer.{IsOutOfMemory, IsButForMemory}
 use Rattle.polcert_answer.proofs.OneAnswer.{no_model}
 use Rattle.polcert_bound_answer.specs.Answer.{IsBoundFault, IsBoundAnswer}
 use Rattle.polcert_bound_answer.proofs.OneInformed.{one_informed_verdict}
@@ -36,14 +36,14 @@ module _ (model vectors : List ℕ) where
   one_refusal f g f_says g_says h other =
       vectors_refusals.one_refusal Up (action_graph (actions_of h.meaning)) (states_of h.meaning) vectors f g f_says g_says (h.refusal h.meaning h.is_model) (other.refusal h.meaning h.is_model)
 
-  pub no_refusal : (x : InformedVerdict) (fault : Fault) → IsBoundAnswer model vectors (Ok x) → IsBoundAnswer model vectors (Err fault) → IsWantOfMemory fault
+  pub no_refusal : (x : InformedVerdict) (fault : Fault) → IsBoundAnswer model vectors (Ok x) → IsBoundAnswer model vectors (Err fault) → IsOutOfMemory fault
   no_refusal x (Model models.Memory) h refused = tt
   no_refusal x (Model (models.Item kind item place)) h refused = absurd (no_model model (models.Item kind item place) h.0.meaning tt refused h.0.is_model)
   no_refusal x (Model (models.RowSum table action row)) h refused = absurd (no_model model (models.RowSum table action row) h.0.meaning tt refused h.0.is_model)
   no_refusal x (Graph f) h refused = absurd refused
   no_refusal x (Vectors f) h refused =
       let memory = vectors_memory (actions_of h.0.meaning) (states_of h.0.meaning) vectors f h.0.values (refused.no_vectors h.0.meaning h.0.is_model) h.0.are_vectors in
-      subst (λ (g : VectorFault). IsWantOfMemory (Vectors g)) (sym memory) tt
+      subst (λ (g : VectorFault). IsOutOfMemory (Vectors g)) (sym memory) tt
 
   -- beside a verdict there is no other answer
   pub but_for_memory : (x : InformedVerdict) → IsBoundAnswer model vectors (Ok x) → (r : Result InformedVerdict Fault) → IsBoundAnswer model vectors r → IsButForMemory x r

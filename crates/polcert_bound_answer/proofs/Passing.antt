@@ -5,7 +5,7 @@ use Rattle.polcert_answer.specs.declared.fault.RunFault.{RunFault}
 use Rattle.polcert_answer.specs.declared.fault.RunFault.TheVariants.{Text, ReadModel, ReadGraph, ReadVectors, Write, Lower, Raise, TooLargeToPrint}
 use Rattle.polcert_answer.specs.Run.{IsNamedRightly}
 use Rattle.polcert_answer.specs.Steps.Reading.{IsReadFault, IsNoReadFault}
-use Rattle.polcert_answer.proofs.Passing.{of_read, named_again, of_fault, not_read, named_behind, said}
+use Rattle.polcert_answer.proofs.Passing.{of_read, named_again, of_fault, not_read, named_after, said}
 use Rattle.polcert_bound_answer.specs.Run.{RefusesBoundRightly, NamesBoundSourcesRightly, ReadsModelFirst, StopsBoundRightly, IsBoundCheckFault}
 use Rattle.polcert_bound_answer.specs.Steps.Reading.{IsBoundReadFault, IsBoundWriteFault}
 
@@ -89,8 +89,8 @@ module _ {T : Type 0} (r : Result T RunFault) (of_writing : IfErr r IsBoundWrite
       of_vectors = λ fault same. absurd (not_read r (none_read r of_writing) (Text (Vectors fault)) tt same);
     };
     read = record {
-      of_model = named_behind r (none_read r of_writing) ReadModel tt u _ _ read.of_model;
-      of_vectors = named_behind r (none_read r of_writing) ReadVectors tt u _ _ read.of_vectors;
+      of_model = named_after r (none_read r of_writing) ReadModel tt u _ _ read.of_model;
+      of_vectors = named_after r (none_read r of_writing) ReadVectors tt u _ _ read.of_vectors;
     };
     write = write;
     in_order = each_fault IsBoundWriteFault (λ f. ReadsModelFirst f vectors vectors') (λ f of. after_both f of vectors vectors') r of_writing;

@@ -11,7 +11,7 @@ ghost use Rattle.polcert_check.specs.StartMost.{IsStartMost};
 ghost use Rattle.polcert_optimum.specs.declared.verdict.InformedVerdict.{InformedVerdict};
 ghost use Rattle.polcert_optimum.specs.Optimum.{EncloseOptimum};
 ghost use Rattle.polcert_answer.specs.declared.fault.Fault.{Fault};
-ghost use Rattle.polcert_answer.specs.Answer.{IsAnswer, IsButForMemory, IsWantOfMemory};
+ghost use Rattle.polcert_answer.specs.Answer.{IsAnswer, IsButForMemory, IsOutOfMemory};
 ghost use Rattle.polcert_answer.specs.Headline.{Certificate};
 ghost use Rattle.polcert_bound_answer.specs.Answer.{IsBoundAnswer};
 ghost use Rattle.polcert_bound_answer.specs.Headline.{BoundCertificate, IsCertifiedBound};
@@ -33,7 +33,7 @@ pub fn one_bound_answer()
     ensures verdict { (model vectors : List ℕ) (x y : InformedVerdict) →
         IsBoundAnswer model vectors (Ok x) → IsBoundAnswer model vectors (Ok y) → x ≡ y }
     ensures no_refusal { (model vectors : List ℕ) (x : InformedVerdict) (fault : Fault) →
-        IsBoundAnswer model vectors (Ok x) → IsBoundAnswer model vectors (Err fault) → IsWantOfMemory fault }
+        IsBoundAnswer model vectors (Ok x) → IsBoundAnswer model vectors (Err fault) → IsOutOfMemory fault }
 
     // If the model is refused, the vectors are not.
     ensures first { (model vectors : List ℕ) (f : ModelFault) (g : VectorFault) → SaysOfText f →

@@ -38,23 +38,23 @@ passed_over p (x ∷ xs) ys e =
 
 last_is_found : (p : Entry → Bool) (before : List Entry) (entry : Entry) (after : List Entry) → p entry ≡ true → list_any p after ≡ false
     → find p (reverse (before ++ entry ∷ after)) ≡ Some entry
-last_is_found p before entry after here behind =
+last_is_found p before entry after here following =
     let turned : reverse (before ++ entry ∷ after) ≡ reverse after ++ entry ∷ reverse before =
     reverse-append before (entry ∷ after) ∙ ap (λ (l : List Entry). l ++ reverse before) (reverse-append (entry ∷ []) after) ∙ append_assoc (reverse after) (entry ∷ []) (reverse before) in
-    ap (find p) turned ∙ passed_over p after (entry ∷ reverse before) behind ∙ ap (λ b. cond b (Some entry) (find p (reverse before))) here
+    ap (find p) turned ∙ passed_over p after (entry ∷ reverse before) following ∙ ap (λ b. cond b (Some entry) (find p (reverse before))) here
 
 none_is_found : (p : Entry → Bool) (entries : List Entry) → list_any p entries ≡ false → find p (reverse entries) ≡ None
 none_is_found p entries e = ap (find p) (sym (append-nil (reverse entries))) ∙ passed_over p entries [] e
 
 pub last_is_one : (entries : List Entry) (table : Table) (indices : List ℕ) (found : Option Entry) → IsLastCovering entries table indices found → found ≡ last_covering entries table indices
-last_is_one entries table indices (Some f) (last before e after whole here behind) =
-    sym (ap (λ es. find (covers table indices) (reverse es)) whole ∙ last_is_found (covers table indices) before e after here behind)
+last_is_one entries table indices (Some f) (last before e after whole here following) =
+    sym (ap (λ es. find (covers table indices) (reverse es)) whole ∙ last_is_found (covers table indices) before e after here following)
 last_is_one entries table indices None (none clear) = sym (none_is_found (covers table indices) entries clear)
 
 one_before : (entry : Entry) (entries : List Entry) (table : Table) (indices : List ℕ) (found : Option Entry) → IsLastCovering entries table indices found
     → (o : Option Entry) × IsLastCovering (entry ∷ entries) table indices o
-one_before entry entries table indices (Some f) (last before e after whole here behind) =
-    (Some e, last (entry ∷ before) e after (ap (λ (l : List Entry). entry ∷ l) whole) here behind)
+one_before entry entries table indices (Some f) (last before e after whole here following) =
+    (Some e, last (entry ∷ before) e after (ap (λ (l : List Entry). entry ∷ l) whole) here following)
 one_before entry entries table indices None (none clear) = ⊎_elim
     (λ here. (Some entry, last [] entry entries refl here clear))
     (λ not_here. (None, none (or_false_from (covers table indices entry) _ not_here clear)))
@@ -62,7 +62,7 @@ one_before entry entries table indices None (none clear) = ⊎_elim
 
 some_last : (entries : List Entry) (table : Table) (indices : List ℕ) → (o : Option Entry) × IsLastCovering entries table indices o
 some_last [] table indices = (None, none refl)
-some_last (x ∷ xs) table indices = let behind = some_last xs table indices in one_before x xs table indices behind.0 behind.1
+some_last (x ∷ xs) table indices = let following = some_last xs table indices in one_before x xs table indices following.0 following.1
 
 pub last_is : (entries : List Entry) (table : Table) (indices : List ℕ) → IsLastCovering entries table indices (last_covering entries table indices)
 last_is entries table indices =

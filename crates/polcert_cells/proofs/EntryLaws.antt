@@ -7,7 +7,7 @@ use Rattle.polcert_text.specs.declared.lexeme.TokenKind.TheVariants.{Name, Numer
 use Rattle.polcert_cells.specs.declared.entry.Table.{Table}
 use Rattle.polcert_cells.specs.declared.entry.Table.TheVariants.{Transition, Observation, Reward}
 use Rattle.polcert_cells.specs.Words.{IsWord}
-use Rattle.polcert_cells.specs.Numbers.{IsWhole, AreNumbers}
+use Rattle.polcert_cells.specs.Numbers.{AreNumbers}
 use Rattle.polcert_cells.specs.Numbers as numbers
 use Rattle.polcert_cells.specs.Elements.{Elements, StandsFor, by_number, by_name}
 use Rattle.polcert_cells.specs.Preamble.{Preamble, is_mdp, dimensions}
@@ -104,7 +104,7 @@ pos_once [] (q ∷ qs) e = absurd (cons≢nil (sym e))
 pos_once (p ∷ ps) [] e = absurd (cons≢nil e)
 pos_once (p ∷ ps) (q ∷ qs) e =
     let here : p ≡ q = same_pos p q (same_head e) in
-    let behind : ps ≡ qs = pos_once ps qs (same_tail e) in
+    let following : ps ≡ qs = pos_once ps qs (same_tail e) in
     cc
 
 -- no table may have both probabilities and rewards

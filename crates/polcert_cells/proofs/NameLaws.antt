@@ -1,10 +1,22 @@
 -- Names kept as texts, and the list of their bytes.
-use Rattle.std.proofs.Common.{◌≡◌, ◌∙◌, ℕ, ◌+◌, Bool, true, false, not, ◌||◌, List, [], ◌∷◌, ◌++◌, map, position, bytes_eq, Some, None, refl, sym, ap, string_bytes, cond, nat_lt, length, String, if◌then◌else◌}
-use Rattle.std.specs.List.{list_any, position_or_len, IsDistinct}
+use Rattle.std.proofs.Common.{◌≡◌, ◌∙◌, ℕ, zero, suc, ◌+◌, ◌<◌, Bool, true, false, not, ◌||◌, List, [], ◌∷◌, ◌++◌, map, position, bytes_eq, Some, None, refl, sym, ap, subst, arith, slice_get, string_bytes, cond, nat_lt, length, String, if◌then◌else◌}
+use Rattle.std.specs.List.{list_any, position_or_len, AllByRecursion, IsDistinct}
 use Rattle.std.proofs.lemmas.List.{map-append, length-map}
+use Rattle.std.proofs.lemmas.Bool.{lt-ltb}
+use Rattle.std.proofs.lemmas.Map.Keys.{IsDistinct-head, IsDistinct-tail}
+use Rattle.std.proofs.lemmas.Option.{slice_get_within}
+use Rattle.std.proofs.lemmas.Slice.Eq.{bytes_eq-Decides}
+use Rattle.polcert_cells.proofs.Basics.{true≢false}
 use Rattle.std.specs.String.{string_eq, string_eq_equiv}
 use Rattle.indexmap.proofs.SetLemmas.{set_all_distinct}
 use Rattle.indexmap.specs.IndexSet.{insert_key, insert_all}
+
+apart_flipped : (a b : List ℕ) → bytes_eq a b ≡ false → bytes_eq b a ≡ false
+apart_flipped a b apart = of (bytes_eq b a) refl
+  where
+    of : (same : Bool) → bytes_eq b a ≡ same → bytes_eq b a ≡ false
+    of false is = is
+    of true is = absurd (true≢false ((bytes_eq-Decides a b).1 (sym ((bytes_eq-Decides b a).0 is))) apart)
 
 module _ {Z : Type 0} where
   -- ---- a test of texts is one of their bytes
@@ -73,3 +85,33 @@ module _ {Z : Type 0} where
       ap (map string_bytes)
       (all ∙ ap (λ ks. insert_all string_eq ks keys) none ∙ set_all_distinct string_eq_equiv [] keys differ)
       ∙ seen
+
+  -- ---- the name that stands at a place stands at none before it
+
+  other_name : (x : String Z) (xs : List (String Z)) (n : ℕ) (key : String Z) → AllByRecursion (λ y. string_eq x y ≡ false) xs → slice_get xs n ≡ Some key → string_eq x key ≡ false
+  other_name x [] n key all is = cc
+  other_name x (y ∷ ys) zero key all is = let same : y ≡ key = cc in subst (λ k. string_eq x k ≡ false) same all.0
+  other_name x (y ∷ ys) (suc n) key all is = other_name x ys n key all.1 is
+
+  first_at : (keys : List (String Z)) (n : ℕ) (key : String Z) → IsDistinct string_eq keys → slice_get keys n ≡ Some key
+      → position_or_len (bytes_eq (string_bytes key)) (map string_bytes keys) ≡ n
+  first_at [] n key differ is = cc
+  first_at (x ∷ xs) zero key differ is =
+      let same : x ≡ key = cc in
+      let found : bytes_eq (string_bytes key) (string_bytes x) ≡ true = (bytes_eq-Decides (string_bytes key) (string_bytes x)).1 (ap string_bytes (sym same)) in
+      ap (λ b. cond (not b) (1 + position_or_len (bytes_eq (string_bytes key)) (map string_bytes xs)) 0) found
+  first_at (x ∷ xs) (suc n) key differ is =
+      let apart = other_name x xs n key (IsDistinct-head string_eq x xs differ) is in
+      let next : 1 + n ≡ suc n = omega arith in
+      let other = apart_flipped (string_bytes x) (string_bytes key) apart in
+      ap (λ b. cond (not b) (1 + position_or_len (bytes_eq (string_bytes key)) (map string_bytes xs)) 0) other
+      ∙ ap (λ m. 1 + m) (first_at xs n key (IsDistinct-tail string_eq x xs differ) is)
+      ∙ next
+
+  pub stands_at : (keys : List (String Z)) (names : List (List ℕ)) (name : List ℕ) (n : ℕ) (key : String Z) → map string_bytes keys ≡ names → IsDistinct string_eq keys
+      → slice_get keys n ≡ Some key → bytes_eq (string_bytes key) name ≡ true → Some n ≡ position (bytes_eq name) names
+  stands_at keys names name n key are differ is same =
+      let at : position_or_len (bytes_eq name) names ≡ n = rw (sym are, sym ((bytes_eq-Decides (string_bytes key) name).0 same)) (first_at keys n key differ is) in
+      let inside : n < length names = omega (arith, slice_get_within keys n key is, length-map keys string_bytes, ap length are) in
+      let below : nat_lt n (length names) ≡ true = lt-ltb n (length names) inside in
+      sym (ap (λ m. cond (nat_lt m (length names)) (Some m) None) at ∙ ap (λ b. cond b (Some n) None) below)

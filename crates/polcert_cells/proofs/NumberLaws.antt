@@ -51,7 +51,7 @@ pub one_exact : (negative : Bool) (bs : List ℕ) (h k : ℤ) → IsExact negati
 one_exact negative bs h k a b = without_factor_ℤ h k millionth millionth_pos (a ∙ sym b)
 
 pub one_millionths : (negative : Bool) (l : Lexeme) (h k : ℤ) → IsMillionths negative l h → IsMillionths negative l k → h ≡ k
-one_millionths negative l h k a b = one_exact negative l.bytes h k a.exact b.exact
+one_millionths negative l h k a b = one_exact negative l.bytes h k a.value b.value
 
 pub numeral_not_plus : (k : TokenKind) → k ≡ Numeral → k ≡ Plus → ⊥
 numeral_not_plus k e f = cc

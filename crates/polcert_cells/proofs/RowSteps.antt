@@ -1,25 +1,28 @@
 -- The steps of a walk over a row that is borrowed.
-use Rattle.std.proofs.Common.{◌≡◌, ◌∙◌, ℕ, zero, suc, ◌+◌, ◌<◌, ◌≤◌, Option, Some, None, List, [], ◌∷◌, length, get_or, refl, sym, ap, arith, add-one, subst, Bor}
+use Rattle.std.proofs.Common.{◌≡◌, ◌∙◌, ℕ, zero, suc, ◌+◌, ◌*◌, ◌<◌, ◌≤◌, ⊎_elim, slice_index, Option, Some, None, List, [], ◌∷◌, length, get_or, refl, sym, ap, arith, add-one, subst, Bor}
 use Rattle.std.specs.List.{slice_get}
 use Rattle.polcert_cells.specs.declared.cell.Cell.{Cell}
 use Rattle.polcert_cells.specs.declared.row.Row.{Row}
-use Rattle.polcert_cells.specs.declared.row.Row.TheVariants.{Sparse, Filled, Single}
+use Rattle.polcert_cells.specs.declared.row.Row.TheVariants.{Sparse, Filled, Scaled, Single}
 use Rattle.polcert_cells.specs.declared.row.Step.{Step}
 use Rattle.polcert_cells.specs.Cursors.{IsNext}
-use Rattle.polcert_cells.specs.Sparse.{weight_at, IsRow}
-use Rattle.polcert_cells.specs.LentRows.{AreWeights, IsRowOf, IsStep, behind_cells}
-use Rattle.polcert_cells.proofs.SparseLaws.{Climbs, climbs_from, weight_head, weight_tail, weight_below}
+use Rattle.polcert_cells.specs.Sparse.{weight_at, scaled_cells, IsRow}
+use Rattle.polcert_cells.specs.BorrowedRows.{AreWeights, IsRowOf, IsStep, after_cells}
+use Rattle.polcert_cells.proofs.SparseLaws.{Climbs, climbs_from, weight_head, weight_tail, weight_below, weight_beyond}
+use Rattle.polcert_cells.proofs.ScaledRows.{scaled_weight}
+use Rattle.std.proofs.lemmas.Bool.{cases_lt}
+use Rattle.std.proofs.lemmas.List.{get_or_past}
 
-behind_low : (low n : ℕ) (xs : List Cell) (k : ℕ) → Climbs low n xs → low ≤ behind_cells low xs k
-behind_low low n xs zero h = omega arith
-behind_low low n [] (suc k) h = omega arith
-behind_low low n (x ∷ xs) (suc k) h =
+after_low : (low n : ℕ) (xs : List Cell) (k : ℕ) → Climbs low n xs → low ≤ after_cells low xs k
+after_low low n xs zero h = omega arith
+after_low low n [] (suc k) h = omega arith
+after_low low n (x ∷ xs) (suc k) h =
     let first = h.0 in
-    let rest = behind_low (x.column + 1) n xs k h.3 in
+    let rest = after_low (x.column + 1) n xs k h.3 in
     omega (arith, rest)
 
 climbs_some : (low n : ℕ) (xs : List Cell) (k : ℕ) (x : Cell) → Climbs low n xs → slice_get xs k ≡ Some x
-    → IsNext (weight_at xs) n (behind_cells low xs k) (Some (x.column, x.weight)) × (behind_cells low xs (suc k) ≡ x.column + 1)
+    → IsNext (weight_at xs) n (after_cells low xs k) (Some (x.column, x.weight)) × (after_cells low xs (suc k) ≡ x.column + 1)
 climbs_some low n [] k x h e = absurd (cc)
 climbs_some low n (y ∷ ys) zero x h e =
     let same : y ≡ x = cc in
@@ -38,7 +41,7 @@ climbs_some low n (y ∷ ys) zero x h e =
 climbs_some low n (y ∷ ys) (suc k) x h e =
     let rest = climbs_some (y.column + 1) n ys k x h.3 e in
     let next = rest.0 in
-    let above = behind_low (y.column + 1) n ys k h.3 in
+    let above = after_low (y.column + 1) n ys k h.3 in
     let low_x = next.0 in (
       (
         next.0,
@@ -50,23 +53,35 @@ climbs_some low n (y ∷ ys) (suc k) x h e =
       rest.1,
     )
 
-climbs_none : (low n : ℕ) (xs : List Cell) (k : ℕ) → Climbs low n xs → slice_get xs k ≡ None → (i : ℕ) → behind_cells low xs k ≤ i → weight_at xs i ≡ 0
+climbs_none : (low n : ℕ) (xs : List Cell) (k : ℕ) → Climbs low n xs → slice_get xs k ≡ None → (i : ℕ) → after_cells low xs k ≤ i → weight_at xs i ≡ 0
 climbs_none low n [] k h e i m = refl
 climbs_none low n (y ∷ ys) zero h e i m = absurd (cc)
 climbs_none low n (y ∷ ys) (suc k) h e i m =
-    let above = behind_low (y.column + 1) n ys k h.3 in
+    let above = after_low (y.column + 1) n ys k h.3 in
     weight_tail y ys i (λ j. omega (arith, above, m)) ∙ climbs_none (y.column + 1) n ys k h.3 e i m
 
 module _ (f : ℕ → ℕ) (n : ℕ) (xs : List Cell) (row : IsRow n f xs) where
-  pub sparse_some : (k : ℕ) (x : Cell) → slice_get xs k ≡ Some x → IsNext f n (behind_cells 0 xs k) (Some (x.column, x.weight)) × (behind_cells 0 xs (k + 1) ≡ x.column + 1)
+  pub sparse_some : (k : ℕ) (x : Cell) → slice_get xs k ≡ Some x → IsNext f n (after_cells 0 xs k) (Some (x.column, x.weight)) × (after_cells 0 xs (k + 1) ≡ x.column + 1)
   sparse_some k x e =
       let found = climbs_some 0 n xs k x (climbs_from n xs row.sparse) e in
       let next = found.0 in
       let high = next.1 in
       ((next.0, next.1, next.2 ∙ row.each x.column next.1, next.3, λ i m l. sym (row.each i (omega arith)) ∙ next.4 i m l), rw add-one found.1)
 
-  pub sparse_none : (k : ℕ) → slice_get xs k ≡ None → IsNext f n (behind_cells 0 xs k) None
+  pub sparse_none : (k : ℕ) → slice_get xs k ≡ None → IsNext f n (after_cells 0 xs k) None
   sparse_none k e i m l = sym (row.each i l) ∙ climbs_none 0 n xs k (climbs_from n xs row.sparse) e i m
+
+-- ---- weights that are numbers times a scale
+abbrev pub scaled_by : ℕ → List ℕ → ℕ → ℕ
+scaled_by scale ns c = slice_index ns c * scale
+
+-- where a column has no weight, the walk continues after it
+pub step_after : (g : ℕ → ℕ) (n at : ℕ) (s : Option Step) → g at ≡ 0 → IsStep g n None (at + 1) s → IsStep g n None at s
+step_after g n at None none h = λ i low high. ⊎_elim (λ l. h i (omega arith) high) (λ ge. let same : at ≡ i = omega arith in sym (ap g same) ∙ none) (cases_lt at i)
+step_after g n at (Some step) none h =
+    let next = h.0 in
+    let low = next.0 in
+    ((omega (arith, low), next.1, next.2, next.3, λ i m l. ⊎_elim (λ k. next.4 i (omega arith) l) (λ ge. let same : at ≡ i = omega arith in sym (ap g same) ∙ none) (cases_lt at i)), h.1)
 
 -- ---- the same of a row, by what it is
 module _ (f : ℕ → ℕ) (n : ℕ) (row : Row) (is : IsRowOf f n row) (at : ℕ) where
@@ -89,6 +104,32 @@ module _ (f : ℕ → ℕ) (n : ℕ) (row : Row) (is : IsRowOf f n row) (at : �
       by_columns : (s : Option Step) → IsStep f n None at s → IsStep f n (Some (Filled weights)) at s
       by_columns None h = h
       by_columns (Some step) h = h
+
+  -- (so is one of numbers times a scale)
+  pub step_scaled : (numbers : Bor (List ℕ)) (scale : ℕ) (s : Option Step) → row ≡ Scaled numbers scale → IsStep (scaled_by scale numbers.now) (length numbers.now) None at s → IsStep f n (Some row) at s
+  step_scaled numbers scale s e step =
+      subst (λ (r : Row). IsRowOf f n r → IsStep f n (Some r) at s) (sym e) (λ are. walked are s step) is
+    where
+      ns : List ℕ
+      ns = numbers.now
+
+      weight_is : IsRow n f (scaled_cells scale 0 ns) → (c : ℕ) → c < n → scaled_by scale ns c ≡ f c
+      weight_is are c l = sym (scaled_weight scale ns c) ∙ are.each c l
+
+      below : IsRow n f (scaled_cells scale 0 ns) → (c : ℕ) → 0 < scaled_by scale ns c → c < n
+      below are c some = ⊎_elim (λ l. l)
+          (λ ge. let none = scaled_weight scale ns c in let past = weight_beyond 0 n c (scaled_cells scale 0 ns) (climbs_from n _ are.sparse) ge in absurd (omega (arith, none, past, some)))
+          (cases_lt c n)
+
+      walked : IsRow n f (scaled_cells scale 0 ns) → (s : Option Step) → IsStep (scaled_by scale ns) (length ns) None at s → IsStep f n (Some (Scaled numbers scale)) at s
+      walked are None h = λ i low high. ⊎_elim
+          (λ l. sym (weight_is are i high) ∙ h i low l)
+          (λ ge. sym (weight_is are i high) ∙ ap (λ k. k * scale) (get_or_past ns i 0 ge) ∙ omega arith) (cases_lt i (length ns))
+      walked are (Some step) h =
+          let next = h.0 in
+          let some : 0 < scaled_by scale ns step.column = subst (λ k. 0 < k) next.2 next.3 in
+          let inside = below are step.column some in
+          ((next.0, inside, next.2 ∙ weight_is are step.column inside, next.3, λ i m l. sym (weight_is are i (omega (arith, l, inside))) ∙ next.4 i m l), h.1)
 
   pub end_single : (x : Cell) → row ≡ Single x → (at ≡ 0 → ⊥) → IsStep f n (Some row) at None
   end_single x e apart =

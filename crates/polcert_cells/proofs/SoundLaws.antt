@@ -11,7 +11,7 @@ use Rattle.polcert_cells.specs.declared.entry.Entry.{Entry}
 use Rattle.polcert_cells.specs.Cells.{is_table, fit_places, covers}
 use Rattle.polcert_cells.specs.Elements.{Elements, Count, count_of, most_observations}
 use Rattle.polcert_cells.specs.Preamble.{Preamble, observed, rewarded}
-use Rattle.polcert_cells.specs.Start.{alike}
+use Rattle.polcert_cells.specs.Start.{equal_weights}
 use Rattle.polcert_cells.proofs.Basics.{and_true, true≢false}
 
 -- where few elements are observed, few are what a reward depends on
@@ -39,10 +39,10 @@ same_table Reward Reward e = refl
 pub covered_table : (table : Table) (indices : List ℕ) (entry : Entry) → covers table indices entry ≡ true → entry.table ≡ table
 covered_table table indices entry c = same_table entry.table table (and_true (is_table entry.table table) (fit_places entry.places indices) c).0
 
-pub alike_weight : (n s : ℕ) → s < n → 1 ≡ get_or (alike n (λ x. true)).weights s 0
+pub alike_weight : (n s : ℕ) → s < n → 1 ≡ get_or (equal_weights n (λ x. true)).weights s 0
 alike_weight n s l = sym (get_or-map-range_with_len (λ (x : ℕ). 1) 0 n s s 0 l (omega arith))
 
-pub alike_total : (n : ℕ) → 1 * n ≡ (alike n (λ x. true)).total
+pub alike_total : (n : ℕ) → 1 * n ≡ (equal_weights n (λ x. true)).total
 alike_total n =
     let same : 1 * n ≡ n = omega arith in
     same ∙ sym (length-range_with_len 0 n) ∙ is_count_by length (λ (x : ℕ). true) refl (λ x xs. omega arith) (range_with_len 0 n)

@@ -96,9 +96,6 @@ weight_last low n x (y ∷ ys) h e = let a = h.1 in weight_tail y (ys ++ x ∷ [
 
 -- ---- rows
 module _ (f : ℕ → ℕ) where
-  pub row_none : IsRow 0 f []
-  row_none = record { sparse = sparse_from 0 0 [] tt; each = λ c l. absurd (omega arith) }
-
   next : (n : ℕ) (xs : List Cell) → ((c : ℕ) → c < n → weight_at xs c ≡ f c) → weight_at xs n ≡ f n → (c : ℕ) → c < n + 1 → weight_at xs c ≡ f c
   next n xs old new c l = ⊎_elim (old c) (λ ge. let same : n ≡ c = omega arith in subst (λ k. weight_at xs k ≡ f k) same new) (cases_lt c n)
 

@@ -8,7 +8,7 @@ use Rattle.polcert_cells.specs.Words.{IsWord, IsName, is_reserved, topic_of}
 use Rattle.polcert_cells.specs.Numbers.{AreNumbers}
 use Rattle.polcert_cells.specs.Numbers as numbers
 use Rattle.polcert_cells.specs.Elements.{Elements, count_of, StandsFor}
-use Rattle.polcert_cells.specs.Start.{Shares, shares_of, alike, included, excluded, IsStartBody, uniform, name, number, only_state, probabilities, IsStart, plain, include, exclude}
+use Rattle.polcert_cells.specs.Start.{StartWeights, shares_of, equal_weights, included, excluded, IsStartBody, uniform, name, number, only_state, probabilities, IsStart, plain, include, exclude}
 use Rattle.polcert_cells.proofs.Basics.{true≢false, one_some, same_head}
 use Rattle.polcert_cells.proofs.NumberLaws.{one_whole, one_list}
 use Rattle.polcert_cells.proofs.EntryLaws.{one_element, pos_once}
@@ -39,20 +39,20 @@ length-pos (p ∷ ps) = ap suc (length-pos ps)
 pub numbers_once : (l : Lexeme) (ps : List ℕ) → AreNumbers (l ∷ []) (map pos ps) → length ps ≡ 1
 numbers_once l ps a = sym (length-pos ps) ∙ one_number a
 
-one_body : (states : Elements) (ls : List Lexeme) (x y : Shares) → IsStartBody states ls x → IsStartBody states ls y → x ≡ y
+one_body : (states : Elements) (ls : List Lexeme) (x y : StartWeights) → IsStartBody states ls x → IsStartBody states ls y → x ≡ y
 one_body states ls x y (uniform w) (uniform v) = refl
 one_body states ls x y (uniform w) (name n f) = absurd (uniform_no_name _ w n)
 one_body states ls x y (uniform w) (number m n b) = absurd (numeral_not_name _ n.kind w.kind)
 one_body states ls x y (uniform w) (only_state c n v) = absurd (numbers_not_word w.kind n)
 one_body states ls x y (uniform w) (probabilities ps m n c s) = absurd (numbers_not_word w.kind n)
 one_body states ls x y (name n f) (uniform w) = absurd (uniform_no_name _ w n)
-one_body states ls x y (name n f) (name m g) = ap (λ s. alike (count_of states) (λ k. k == s)) (one_some f g)
+one_body states ls x y (name n f) (name m g) = ap (λ s. equal_weights (count_of states) (λ k. k == s)) (one_some f g)
 one_body states ls x y (name n f) (number m v b) = absurd (numeral_not_name _ v.kind n.kind)
 one_body states ls x y (name n f) (only_state c m v) = absurd (numbers_not_word n.kind m)
 one_body states ls x y (name n f) (probabilities ps m v c s) = absurd (numbers_not_word n.kind v)
 one_body states ls x y (number m n b) (uniform w) = absurd (numeral_not_name _ n.kind w.kind)
 one_body states ls x y (number m n b) (name v f) = absurd (numeral_not_name _ n.kind v.kind)
-one_body states ls x y (number m n b) (number o p c) = ap (λ s. alike (count_of states) (λ k. k == s)) (one_whole _ _ _ n p)
+one_body states ls x y (number m n b) (number o p c) = ap (λ s. equal_weights (count_of states) (λ k. k == s)) (one_whole _ _ _ n p)
 one_body states ls x y (number m n b) (only_state c p v) = absurd (omega (arith, m, c))
 one_body states ls x y (number m n b) (probabilities ps o p c s) = absurd (omega (arith, m, c, numbers_once _ ps p))
 one_body states ls x y (only_state c n v) (uniform w) = absurd (numbers_not_word w.kind n)
@@ -74,7 +74,7 @@ one_choice states (l ∷ ls) [] ns a b = absurd a
 one_choice states (l ∷ ls) ms [] a b = absurd b
 one_choice states (l ∷ ls) (m ∷ ms) (n ∷ ns) a b =
     let here : m ≡ n = one_element states l m n a.0 b.0 in
-    let behind : ms ≡ ns = one_choice states ls ms ns a.1 b.1 in
+    let following : ms ≡ ns = one_choice states ls ms ns a.1 b.1 in
     cc
 
 pub include_not_exclude : (l : Lexeme) → IsWord (codes "include") l → IsWord (codes "exclude") l → ⊥
@@ -83,13 +83,13 @@ include_not_exclude l a b = different (sym a.bytes ∙ b.bytes)
     different : codes "include" ≡ codes "exclude" → ⊥
     different e = let f : ◌≡◌ {A = ℕ} 105 101 = same_head e in omega arith
 
-pub one_start : (states : Elements) (ls : List Lexeme) (x y : Shares) → IsStart states ls x → IsStart states ls y → x ≡ y
+pub one_start : (states : Elements) (ls : List Lexeme) (x y : StartWeights) → IsStart states ls x → IsStart states ls y → x ≡ y
 one_start states ls x y (plain c a) (plain d b) = one_body states _ x y a b
 one_start states ls x y (plain c a) (include ms w d z p) = absurd (name_not_colon _ w.kind c)
 one_start states ls x y (plain c a) (exclude ms w d z p) = absurd (name_not_colon _ w.kind c)
 one_start states ls x y (include ns w d z p) (plain c a) = absurd (name_not_colon _ w.kind c)
 one_start states ls x y (exclude ns w d z p) (plain c a) = absurd (name_not_colon _ w.kind c)
-one_start states ls x y (include ns w d z p) (include ms v e y' q) = ap (λ l. alike (count_of states) (included l)) (one_choice states _ ns ms z y')
+one_start states ls x y (include ns w d z p) (include ms v e y' q) = ap (λ l. equal_weights (count_of states) (included l)) (one_choice states _ ns ms z y')
 one_start states ls x y (include ns w d z p) (exclude ms v e y' q) = absurd (include_not_exclude _ w v)
 one_start states ls x y (exclude ns w d z p) (include ms v e y' q) = absurd (include_not_exclude _ v w)
-one_start states ls x y (exclude ns w d z p) (exclude ms v e y' q) = ap (λ l. alike (count_of states) (excluded l)) (one_choice states _ ns ms z y')
+one_start states ls x y (exclude ns w d z p) (exclude ms v e y' q) = ap (λ l. equal_weights (count_of states) (excluded l)) (one_choice states _ ns ms z y')

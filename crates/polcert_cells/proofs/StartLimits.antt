@@ -8,10 +8,10 @@ use Rattle.std.proofs.lemmas.Bool.Decides.{nat_tests}
 use Rattle.std.specs.List.{range_with_len, count_by}
 use Rattle.polcert_text.specs.Cut.{Lexeme}
 use Rattle.polcert_cells.specs.Elements.{Elements, Count, Names, count_of, number_of, most_states}
-use Rattle.polcert_cells.specs.Start.{Shares, alike, shares_of, is_level, is_positive, included, excluded, IsStartBody, uniform, name, number, only_state, probabilities, IsStart, plain, include, exclude}
+use Rattle.polcert_cells.specs.Start.{StartWeights, equal_weights, shares_of, is_level, is_positive, included, excluded, IsStartBody, uniform, name, number, only_state, probabilities, IsStart, plain, include, exclude}
 
 -- shares of n states
-pub record IsFair (n : ℕ) (shares : Shares) : Type 0 where
+pub record IsFair (n : ℕ) (shares : StartWeights) : Type 0 where
   pub count : length shares.weights ≡ n
   pub adds_up : sum shares.weights ≡ shares.total
   pub some : 0 < shares.total
@@ -49,16 +49,16 @@ bits_some f a (suc n) s e l m =
     (λ (later : (a + 1 ≤ s) × (s < a + 1 + n)). let rest = bits_some f (a + 1) n s e later.0 later.1 in omega (arith, rest, sums))
     (here_or_later a s n l m)
 
-alike_sum : (n : ℕ) (picks : ℕ → Bool) → sum (alike n picks).weights ≡ (alike n picks).total
+alike_sum : (n : ℕ) (picks : ℕ → Bool) → sum (equal_weights n picks).weights ≡ (equal_weights n picks).total
 alike_sum n picks = sum-map (λ s. bit (picks s)) (range_with_len 0 n)
 
-alike_fair : (n : ℕ) (picks : ℕ → Bool) → n ≤ most_states → 0 < (alike n picks).total → IsFair n (alike n picks)
+alike_fair : (n : ℕ) (picks : ℕ → Bool) → n ≤ most_states → 0 < (equal_weights n picks).total → IsFair n (equal_weights n picks)
 alike_fair n picks l some =
     let le = bits_le picks 0 n in
     let e = alike_sum n picks in
     record { count = length-map-range_with_len (λ s. bit (picks s)) 0 n; adds_up = e; some = some; most = omega (arith, le, e) }
 
-alike_some : (n : ℕ) (picks : ℕ → Bool) (s : ℕ) → n ≤ most_states → picks s ≡ true → s < n → IsFair n (alike n picks)
+alike_some : (n : ℕ) (picks : ℕ → Bool) (s : ℕ) → n ≤ most_states → picks s ≡ true → s < n → IsFair n (equal_weights n picks)
 alike_some n picks s l e below =
     let some = bits_some picks 0 n s e (omega arith) (omega (arith, below)) in
     let adds = alike_sum n picks in
@@ -104,10 +104,10 @@ signs_some (p ∷ ps) l =
     (λ (some : 0 < p). let here = sign_some p some in omega (arith, here, signs))
     (zero_or_more p)
 
-abbrev level_shares : List ℕ → Shares
+abbrev level_shares : List ℕ → StartWeights
 level_shares ps = record { weights = map sign ps; total = count_by is_positive ps }
 
-abbrev millionth_shares : List ℕ → Shares
+abbrev millionth_shares : List ℕ → StartWeights
 millionth_shares ps = record { weights = ps; total = 1_000_000 }
 
 shares_fair : (ps : List ℕ) → length ps ≤ most_states → sum ps ≡ 1_000_000 → (level : Bool) → IsFair (length ps) (cond level (level_shares ps) (millionth_shares ps))
@@ -122,7 +122,7 @@ named_below : (states : Elements) (bytes : List ℕ) (s : ℕ) → number_of sta
 named_below (Count n) bytes s e = absurd cc
 named_below (Names names) bytes s e = (position-Some (bytes_eq bytes) names s [] e).0
 
-body_fair : (states : Elements) (ls : List Lexeme) (x : Shares) → 1 ≤ count_of states → count_of states ≤ most_states → IsStartBody states ls x → IsFair (count_of states) x
+body_fair : (states : Elements) (ls : List Lexeme) (x : StartWeights) → 1 ≤ count_of states → count_of states ≤ most_states → IsStartBody states ls x → IsFair (count_of states) x
 body_fair states ls x a m (uniform w) = alike_some (count_of states) (λ s. true) 0 m refl (omega (arith, a))
 body_fair states ls x a m (name {s = s} n e) = alike_some (count_of states) (λ n. n == s) s m (same_index s) (named_below states _ s e)
 body_fair states ls x a m (number {s = s} more n below) = alike_some (count_of states) (λ n. n == s) s m (same_index s) below
@@ -130,10 +130,10 @@ body_fair states ls x a m (only_state e n v) = alike_some (count_of states) (λ 
 body_fair states ls x a m (probabilities ps more n count e) =
     subst (λ n. IsFair n (shares_of ps)) count (shares_fair ps (subst (λ n. n ≤ most_states) (sym count) m) e (is_level ps))
 
-pub start_fair : (states : Elements) (ls : List Lexeme) (x : Shares) → 1 ≤ count_of states → count_of states ≤ most_states → IsStart states ls x → IsFair (count_of states) x
+pub start_fair : (states : Elements) (ls : List Lexeme) (x : StartWeights) → 1 ≤ count_of states → count_of states ≤ most_states → IsStart states ls x → IsFair (count_of states) x
 start_fair states ls x a m (plain c b) = body_fair states _ x a m b
 start_fair states ls x a m (include chosen w c z some) = alike_fair (count_of states) (included chosen) m some
 start_fair states ls x a m (exclude chosen w c z some) = alike_fair (count_of states) (excluded chosen) m some
 
-pub no_start_fair : (n : ℕ) → 1 ≤ n → n ≤ most_states → IsFair n (alike n (λ s. true))
+pub no_start_fair : (n : ℕ) → 1 ≤ n → n ≤ most_states → IsFair n (equal_weights n (λ s. true))
 no_start_fair n a m = alike_some n (λ s. true) 0 m refl (omega (arith, a))

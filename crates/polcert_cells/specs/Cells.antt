@@ -2,8 +2,9 @@
 -- Source: the POMDP file format page at pomdp.org: a later entry holds in place of an earlier one. A cell that no
 -- entry covers is 0. Our own is the scale: probabilities are kept as whole numbers: a row of n columns has the scale 1,000,000 * n, so that
 -- `uniform`, which gives each column 1,000,000, is exactly one part in n.
-use Rattle.std.specs.Prelude.{◌≡◌, ℕ, ◌+◌, ◌*◌, ◌==◌, Bool, true, false, ◌&&◌, List, [], ◌∷◌, ◌++◌, length, drop, reverse, get_or, ℤ, pos, neg_ℤ, Option, Some, None, if◌then◌else◌}
+use Rattle.std.specs.Prelude.{◌≡◌, ℕ, ◌+◌, ◌*◌, ◌==◌, Bool, true, false, ◌&&◌, List, [], ◌∷◌, ◌++◌, length, drop, reverse, get_or, ℤ, pos, neg_ℤ, Option, Some, None, unwrap_or, if◌then◌else◌}
 use Rattle.std.specs.List.{find, list_any}
+use Rattle.std.specs.Option.{option_map}
 use Rattle.polcert_cells.specs.declared.entry.Table.{Table}
 use Rattle.polcert_cells.specs.declared.entry.Table.TheVariants.{Transition, Observation, Reward}
 use Rattle.polcert_cells.specs.Elements.{Elements}
@@ -69,20 +70,20 @@ abbrev pub reward_of : Preamble → List ℕ → Entry → ℤ
 reward_of p indices entry =
     reward_in p.costs entry.body (drop (length entry.places) (dimensions p entry.table)) (drop (length entry.places) indices)
 
-abbrev pub value_or : {V : Type 0} → V → (Entry → V) → Option Entry → V
-value_or nothing value None = nothing
-value_or nothing value (Some entry) = value entry
-
 -- the weight of a cell: what the last entry that covers it gives, or 0
 abbrev pub weight : Preamble → List Entry → Table → List ℕ → ℕ
-weight p entries table indices = value_or 0 (weight_of p indices) (last_covering entries table indices)
+weight p entries table indices = unwrap_or (option_map (weight_of p indices) (last_covering entries table indices)) 0
 
 -- the reward of a cell, likewise
 abbrev pub reward : Preamble → List Entry → List ℕ → ℤ
-reward p entries indices = value_or (pos 0) (reward_of p indices) (last_covering entries Reward indices)
+reward p entries indices = unwrap_or (option_map (reward_of p indices) (last_covering entries Reward indices)) (pos 0)
 
 -- This entry is the last that covers the cell, or none does.
 pub data IsLastCovering (entries : List Entry) (table : Table) (indices : List ℕ) : Option Entry → Type 0 where
   last : (before : List Entry) (entry : Entry) (after : List Entry) → entries ≡ before ++ entry ∷ after → covers table indices entry ≡ true
       → list_any (covers table indices) after ≡ false → IsLastCovering entries table indices (Some entry)
   none : list_any (covers table indices) entries ≡ false → IsLastCovering entries table indices None
+
+-- what is given by what was found, or this if nothing was
+abbrev pub value_or : {V : Type 0} → V → (Entry → V) → Option Entry → V
+value_or nothing value found = unwrap_or (option_map value found) nothing

@@ -10,7 +10,8 @@ pub mod Meaning
 pub mod Rows
 pub mod Cursors
 pub mod Sparse
-pub mod LentRows
+pub mod BorrowedRows
+pub mod CommonRewards
 pub mod Tables
 pub mod Laws
 pub mod SameCells

@@ -12,13 +12,13 @@ use Rattle.polcert_cells.specs.Numbers.{one}
 use Rattle.polcert_cells.specs.Preamble.{Preamble, is_mdp, observed}
 use Rattle.polcert_cells.specs.declared.entry.Entry.{Entry}
 use Rattle.polcert_cells.specs.Cells.{weight, reward}
-use Rattle.polcert_cells.specs.Start.{Shares, all_states}
+use Rattle.polcert_cells.specs.Start.{StartWeights, all_states}
 
 -- The preamble, the start, and each cell by its indices: action, start state, end state; action, end state,
 -- observation; action, start state, end state, observation.
 pub record Meaning : Type 0 where
   pub preamble : Preamble
-  pub start : Shares
+  pub start : StartWeights
   pub t : ℕ → ℕ → ℕ → ℕ
   pub o : ℕ → ℕ → ℕ → ℕ
   pub r : ℕ → ℕ → ℕ → ℕ → ℤ
@@ -56,18 +56,15 @@ abbrev pub observation_weight : Preamble → List Entry → ℕ → ℕ → ℕ 
 observation_weight p entries a e z =
     if is_mdp p then (if e == z then one * count_of p.states else 0) else weight p entries Observation (a ∷ e ∷ z ∷ [])
 
--- The last index of a reward, where this is observed: in an MDP a reward has nothing to do with it.
-abbrev pub reward_index : Preamble → ℕ → ℕ
-reward_index p z = if is_mdp p then 0 else z
-
--- what a complete preamble, a start item and entries denote; with no start item all states are equally likely
-abbrev pub meaning_of : Preamble → Option Shares → List Entry → Meaning
+-- What a complete preamble, a start item and entries denote. With no start item all states are equally likely. In an MDP a reward has
+-- nothing to do with what is observed.
+abbrev pub meaning_of : Preamble → Option StartWeights → List Entry → Meaning
 meaning_of p start entries = record {
   preamble = p;
   start = unwrap_or start (all_states p.states);
   t = (λ a s e. weight p entries Transition (a ∷ s ∷ e ∷ []));
   o = observation_weight p entries;
-  r = (λ a s e z. reward p entries (a ∷ s ∷ e ∷ reward_index p z ∷ []));
+  r = (λ a s e z. reward p entries (a ∷ s ∷ e ∷ (if is_mdp p then 0 else z) ∷ []));
 }
 
 -- the same, as far as indices are in range
@@ -87,6 +84,10 @@ sum_below f (suc n) = sum_below f n + f n
 pub record HasProperRows (m : Meaning) : Type 0 where
   pub transitions : (a s : ℕ) → a < actions_of m → s < states_of m → sum_below (m.t a s) (states_of m) ≡ t_scale m
   pub observations : (a e : ℕ) → a < actions_of m → e < states_of m → sum_below (m.o a e) (observations_of m) ≡ o_scale m
+
+-- The last index of a reward, where this is observed: in an MDP a reward has nothing to do with it.
+abbrev pub reward_index : Preamble → ℕ → ℕ
+reward_index p z = if is_mdp p then 0 else z
 
 -- how many elements of each kind there are
 abbrev pub IsCount : ℕ → ℕ → Type 0

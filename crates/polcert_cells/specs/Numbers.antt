@@ -14,18 +14,22 @@ pub record IsWhole (l : Lexeme) (n : ℕ) : Type 0 where
   pub digits : are_digits l.bytes ≡ true
   pub value : digits_value 10 l.bytes ≡ n
 
--- the lexeme is a numeral without a fault, and with its sign it is h millionths
-pub record IsMillionths (negative : Bool) (l : Lexeme) (h : ℤ) : Type 0 where
+-- the lexeme is a numeral without a fault, and h is its value, in millionths and with its sign: just so much, or rounded
+pub record IsNumeral (IsValue : Bool → List ℕ → ℤ → Type 0) (negative : Bool) (l : Lexeme) (h : ℤ) : Type 0 where
   pub kind : l.kind ≡ Numeral
   pub readable : IsReadable l.bytes
-  pub exact : IsExact negative l.bytes h
+  pub value : IsValue negative l.bytes h
+
+-- it is just so many millionths
+abbrev pub IsMillionths : Bool → Lexeme → ℤ → Type 0
+IsMillionths negative l h = IsNumeral IsExact negative l h
 
 -- the lexemes are these numbers, one after another: each a numeral, perhaps after a sign
 pub data AreNumbers : List Lexeme → List ℤ → Type 0 where
   none : AreNumbers [] []
-  unsigned : {l : Lexeme} {ls : List Lexeme} {h : ℤ} {hs : List ℤ} → IsMillionths false l h → AreNumbers ls hs → AreNumbers (l ∷ ls) (h ∷ hs)
-  plus : {sign l : Lexeme} {ls : List Lexeme} {h : ℤ} {hs : List ℤ} → sign.kind ≡ Plus → IsMillionths false l h → AreNumbers ls hs → AreNumbers (sign ∷ l ∷ ls) (h ∷ hs)
-  minus : {sign l : Lexeme} {ls : List Lexeme} {h : ℤ} {hs : List ℤ} → sign.kind ≡ Minus → IsMillionths true l h → AreNumbers ls hs → AreNumbers (sign ∷ l ∷ ls) (h ∷ hs)
+  unsigned : {l : Lexeme} {ls : List Lexeme} {h : ℤ} {hs : List ℤ} → IsNumeral IsExact false l h → AreNumbers ls hs → AreNumbers (l ∷ ls) (h ∷ hs)
+  plus : {sign l : Lexeme} {ls : List Lexeme} {h : ℤ} {hs : List ℤ} → sign.kind ≡ Plus → IsNumeral IsExact false l h → AreNumbers ls hs → AreNumbers (sign ∷ l ∷ ls) (h ∷ hs)
+  minus : {sign l : Lexeme} {ls : List Lexeme} {h : ℤ} {hs : List ℤ} → sign.kind ≡ Minus → IsNumeral IsExact true l h → AreNumbers ls hs → AreNumbers (sign ∷ l ∷ ls) (h ∷ hs)
 
 -- the lexemes are one number
 abbrev pub IsNumber : List Lexeme → ℤ → Type 0

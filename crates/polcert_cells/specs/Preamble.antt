@@ -22,16 +22,12 @@ is_mdp p = is_none p.observations
 abbrev pub observed : Preamble → Elements
 observed p = unwrap_or p.observations p.states
 
--- What the last index of a reward numbers: the observation; in an MDP, where a reward depends on the action, the start
--- state and the end state alone, one thing.
-abbrev pub rewarded : Preamble → Elements
-rewarded p = unwrap_or p.observations (Count 1)
-
--- what the indices of a table's cell number, in order
+-- What the indices of a table's cell number, in order. The last of a reward numbers the observation; in an MDP, where a reward
+-- depends on the action, the start state and the end state alone, one thing.
 abbrev pub dimensions : Preamble → Table → List Elements
 dimensions p Transition = p.actions ∷ p.states ∷ p.states ∷ []
 dimensions p Observation = p.actions ∷ p.states ∷ observed p ∷ []
-dimensions p Reward = p.actions ∷ p.states ∷ p.states ∷ rewarded p ∷ []
+dimensions p Reward = p.actions ∷ p.states ∷ p.states ∷ unwrap_or p.observations (Count 1) ∷ []
 
 -- What the places of an entry may name, in order. The last place of a reward names an observation; in an MDP it names
 -- nothing, and is `*`.
@@ -44,3 +40,7 @@ abbrev pub columns : Preamble → Table → ℕ
 columns p Transition = count_of p.states
 columns p Observation = count_of (observed p)
 columns p Reward = 1
+
+-- what the last index of a reward numbers
+abbrev pub rewarded : Preamble → Elements
+rewarded p = unwrap_or p.observations (Count 1)

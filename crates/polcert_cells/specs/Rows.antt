@@ -21,10 +21,10 @@ pub record AreProperBefore (m : Meaning) (table : Table) (a s : ℕ) : Type 0 wh
   pub same_action : (r : ℕ) → r < s → IsProperRow m table a r
 
 -- the rows of T before those of O
-abbrev pub IsBehindTransitions : Meaning → Table → Type 0
-IsBehindTransitions m Transition = Unit {0}
-IsBehindTransitions m Observation = (b r : ℕ) → b < actions_of m → r < states_of m → IsProperRow m Transition b r
-IsBehindTransitions m Reward = ⊥
+abbrev pub IsAfterTransitions : Meaning → Table → Type 0
+IsAfterTransitions m Transition = Unit {0}
+IsAfterTransitions m Observation = (b r : ℕ) → b < actions_of m → r < states_of m → IsProperRow m Transition b r
+IsAfterTransitions m Reward = ⊥
 
 -- the first row that doesn't sum to its scale
 pub record IsFirstWrongRow (m : Meaning) (table : Table) (a s : ℕ) : Type 0 where
@@ -32,4 +32,4 @@ pub record IsFirstWrongRow (m : Meaning) (table : Table) (a s : ℕ) : Type 0 wh
   pub state : s < states_of m
   pub wrong : IsProperRow m table a s → ⊥
   pub before : AreProperBefore m table a s
-  pub behind_transitions : IsBehindTransitions m table
+  pub after_transitions : IsAfterTransitions m table

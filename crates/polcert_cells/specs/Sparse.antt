@@ -1,5 +1,5 @@
 -- Sparse rows: of a row of T or O the columns with a weight above 0.
-use Rattle.std.specs.Prelude.{◌≡◌, ℕ, ◌<◌, ◌==◌, All, AllPairs, List, [], ◌∷◌, if◌then◌else◌}
+use Rattle.std.specs.Prelude.{◌≡◌, ℕ, ◌+◌, ◌*◌, ◌<◌, ◌==◌, nat_lt, All, AllPairs, List, [], ◌∷◌, if◌then◌else◌}
 use Rattle.polcert_cells.specs.declared.cell.Cell.{Cell}
 
 -- the weight of a column, or 0 where it is not among the cells
@@ -21,3 +21,9 @@ pub record IsSparse (columns : ℕ) (cells : List Cell) : Type 0 where
 pub record IsRow (columns : ℕ) (weights : ℕ → ℕ) (cells : List Cell) : Type 0 where
   pub sparse : IsSparse columns cells
   pub each : (c : ℕ) → c < columns → weight_at cells c ≡ weights c
+
+-- The columns from this one on whose weights are these numbers times the scale, where that is above 0.
+abbrev pub scaled_cells : ℕ → ℕ → List ℕ → List Cell
+scaled_cells scale column [] = []
+scaled_cells scale column (n ∷ ns) =
+    if nat_lt 0 (n * scale) then (record { column = column; weight = n * scale } ∷ scaled_cells scale (column + 1) ns) else scaled_cells scale (column + 1) ns

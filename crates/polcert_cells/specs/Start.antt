@@ -7,27 +7,24 @@ use Rattle.std.specs.Prelude.{◌≡◌, ℕ, ◌<◌, ◌||◌, ◌==◌, Bool,
 use Rattle.std.specs.List.{list_any, list_all, range_with_len, count_by, AllZip}
 use Rattle.polcert_text.specs.Cut.{Lexeme}
 use Rattle.polcert_text.specs.declared.lexeme.TokenKind.TheVariants.{Colon}
-pub use Rattle.polcert_cells.specs.declared.shares.Shares.{Shares}
+pub use Rattle.polcert_cells.specs.declared.start_weights.StartWeights.{StartWeights}
 use Rattle.polcert_cells.specs.Words.{IsWord, IsName}
 use Rattle.polcert_cells.specs.Numbers.{IsWhole, AreNumbers, IsNumber, one}
 use Rattle.polcert_cells.specs.Elements.{Elements, count_of, StandsFor, number_of}
 
 -- Of n states those that the test picks, alike: a share of 1 for each, and their count as the total.
-abbrev pub alike : ℕ → (ℕ → Bool) → Shares
-alike n picks = record {
+abbrev pub equal_weights : ℕ → (ℕ → Bool) → StartWeights
+equal_weights n picks = record {
   weights = map (λ s. if picks s then 1 else 0) (range_with_len 0 n);
   total = count_by picks (range_with_len 0 n);
 }
 
-abbrev pub all_states : Elements → Shares
-all_states states = alike (count_of states) (λ s. true)
+abbrev pub all_states : Elements → StartWeights
+all_states states = equal_weights (count_of states) (λ s. true)
 
 -- the state of this number alone
-abbrev pub single : Elements → ℕ → Shares
-single states s = alike (count_of states) (λ n. n == s)
-
-abbrev pub is_positive : ℕ → Bool
-is_positive p = not (p == 0)
+abbrev pub single : Elements → ℕ → StartWeights
+single states s = equal_weights (count_of states) (λ n. n == s)
 
 -- all of them that are above 0 are the same
 abbrev pub is_level : List ℕ → Bool
@@ -35,13 +32,13 @@ is_level ps = list_all (λ p. list_all (λ q. p == 0 || q == 0 || p == q) ps) ps
 
 -- Probabilities in millionths. If all that are above 0 are the same, these states are equally likely; else they are the
 -- shares themselves, and one is the total. So `0.5 0.5` and `uniform` over two states denote the same start.
-abbrev pub shares_of : List ℕ → Shares
+abbrev pub shares_of : List ℕ → StartWeights
 shares_of ps =
-    if is_level ps then (let alike_ones : Shares = record { weights = map (λ p. if is_positive p then 1 else 0) ps; total = count_by is_positive ps } in alike_ones)
-    else (let millionths : Shares = record { weights = ps; total = one } in millionths)
+    if is_level ps then (let alike_ones : StartWeights = record { weights = map (λ p. if not (p == 0) then 1 else 0) ps; total = count_by (λ p. not (p == 0)) ps } in alike_ones)
+    else (let millionths : StartWeights = record { weights = ps; total = one } in millionths)
 
 -- what stands after `start:`
-pub data IsStartBody (states : Elements) : List Lexeme → Shares → Type 0 where
+pub data IsStartBody (states : Elements) : List Lexeme → StartWeights → Type 0 where
   uniform : {l : Lexeme} → IsWord (codes "uniform") l → IsStartBody states (l ∷ []) (all_states states)
   name : {l : Lexeme} {s : ℕ} → IsName l → number_of states l.bytes ≡ Some s → IsStartBody states (l ∷ []) (single states s)
   number : {l : Lexeme} {s : ℕ} → 1 < count_of states → IsWhole l s → s < count_of states → IsStartBody states (l ∷ []) (single states s)
@@ -58,9 +55,12 @@ abbrev pub excluded : List ℕ → ℕ → Bool
 excluded chosen s = not (included chosen s)
 
 -- The lexemes after `start` give these shares. In the last two forms a state has to be left.
-pub data IsStart (states : Elements) : List Lexeme → Shares → Type 0 where
-  plain : {colon : Lexeme} {ls : List Lexeme} {found : Shares} → colon.kind ≡ Colon → IsStartBody states ls found → IsStart states (colon ∷ ls) found
+pub data IsStart (states : Elements) : List Lexeme → StartWeights → Type 0 where
+  plain : {colon : Lexeme} {ls : List Lexeme} {found : StartWeights} → colon.kind ≡ Colon → IsStartBody states ls found → IsStart states (colon ∷ ls) found
   include : {word colon : Lexeme} {ls : List Lexeme} (chosen : List ℕ) → IsWord (codes "include") word → colon.kind ≡ Colon → AllZip (StandsFor states) ls chosen
-      → 0 < (alike (count_of states) (included chosen)).total → IsStart states (word ∷ colon ∷ ls) (alike (count_of states) (included chosen))
+      → 0 < (equal_weights (count_of states) (included chosen)).total → IsStart states (word ∷ colon ∷ ls) (equal_weights (count_of states) (included chosen))
   exclude : {word colon : Lexeme} {ls : List Lexeme} (chosen : List ℕ) → IsWord (codes "exclude") word → colon.kind ≡ Colon → AllZip (StandsFor states) ls chosen
-      → 0 < (alike (count_of states) (excluded chosen)).total → IsStart states (word ∷ colon ∷ ls) (alike (count_of states) (excluded chosen))
+      → 0 < (equal_weights (count_of states) (excluded chosen)).total → IsStart states (word ∷ colon ∷ ls) (equal_weights (count_of states) (excluded chosen))
+
+abbrev pub is_positive : ℕ → Bool
+is_positive p = not (p == 0)

@@ -34,7 +34,7 @@ pub enum Elements {
 }
 
 impl Elements {
-    /// How many there are.
+    /// Returns the number of elements.
     pub fn count(&self) -> usize
         ensures { result ≡ count_of self.now }
     {
@@ -44,7 +44,8 @@ impl Elements {
         }
     }
 
-    /// The number of the element of this name: none if the elements have no names.
+    /// Returns the number of the element of this name; `None` if no element has it or the elements have no
+    /// names.
     pub fn number_of(&self, name: &[u8]) -> Option<usize>
         requires { IsAscii name.now }
         ensures { result ≡ number_of self.now name.now }
@@ -55,7 +56,7 @@ impl Elements {
         }
     }
 
-    /// The name of the element of this number, if the elements have names.
+    /// Returns the name of the element of this number, if the elements have names.
     pub fn name_of(&self, number: usize) -> Option<&str>
         ensures { option_map (λ name. name.now) result ≡ name_of self.now number }
     {

@@ -1,7 +1,7 @@
 //! The entries of a model, kept close: the places of all in one list, and their numbers in two.
 ghost use Rattle.std.specs.Prelude.{◌≡◌, ◌<◌, ◌≤◌, ◌+◌, ◌++◌, ◌∷◌, [], length, slice_get, Some, List, IfOk, OnOk, OnErr};
-ghost use Rattle.polcert_cells.specs.Steps.EntryLists.{part, entry_in, places_in, body_in, HasNumbers, IsWithin, GoesOn, GoOn};
-ghost use Rattle.polcert_cells.specs.EntryRefs.{entry_of};
+ghost use Rattle.polcert_cells.specs.Steps.EntryLists.{part, entry_in, places_in, body_in, HasNumbers, IsWithin, Continues, GoOn, IsPut};
+ghost use Rattle.polcert_cells.specs.EntryRefs.{entry_of, rewards_of, all_rewards, AreRewardsFrom};
 
 use crate::entry::{Body, Entry, Place, Table};
 use std::alloc::{AllocError, Global};
@@ -19,7 +19,7 @@ const NOTHING: Span = Span { start: 0, end: 0 };
 
 /// What fills the cells of an entry: numbers of which list, or a word.
 #[derive(Clone, Copy)]
-pub(crate) enum Filling {
+pub(crate) enum BodyTag {
     Probabilities,
     Rewards,
     Uniform,
@@ -28,9 +28,9 @@ pub(crate) enum Filling {
 
 /// An entry, by where its places begin and how many there are, and by where its numbers stand.
 #[derive(Clone, Copy)]
-pub(crate) struct Head {
+pub(crate) struct EntryHeader {
     pub table: Table,
-    pub filling: Filling,
+    pub filling: BodyTag,
     pub count: u8,
     pub places: u32,
     pub numbers: Span,
@@ -55,15 +55,17 @@ pub struct EntryRef<'a> {
 
 /// The places of all entries, and their numbers.
 #[derive(Drop)]
-pub(crate) struct Pools {
+pub(crate) struct EntryStore {
     pub places: Vec<Place>,
     pub probabilities: Vec<u32>,
     pub rewards: Vec<i64>,
 }
 
-impl Pools {
-    fn new(alloc: Global) -> Pools {
-        Pools {
+impl EntryStore {
+    fn new(alloc: Global) -> EntryStore
+        ensures { result.rewards.items ≡ [] }
+    {
+        EntryStore {
             places: Vec::new(alloc),
             probabilities: Vec::new(alloc),
             rewards: Vec::new(alloc),
@@ -72,15 +74,18 @@ impl Pools {
 
     /// Puts the places and numbers of an entry after the others, and says where they stand. If memory runs out
     /// some may stand there.
-    fn put(&mut self, entry: &Entry) -> Result<Head, AllocError>
+    #[inline(always)]
+    fn put(&mut self, entry: &Entry) -> Result<EntryHeader, AllocError>
         ensures go_on { GoOn self.old self.new }
         ensures within { IfOk result (IsWithin self.new) }
         ensures entry { IfOk result (λ head. entry_in self.new head ≡ entry.now) }
+        ensures rewards { OnOk result
+            (self.new.rewards.items ≡ self.old.rewards.items ++ rewards_of entry.now.body) }
     {
         let places = put(&mut self.places, entry.places.as_slice())?;
         let count = in_a_byte(entry.places.len())?;
         let (filling, numbers) = self.put_body(&entry.body)?;
-        Ok(Head {
+        Ok(EntryHeader {
             table: entry.table,
             filling,
             count,
@@ -90,28 +95,31 @@ impl Pools {
     }
 
     /// Puts the numbers of a body after the others.
-    fn put_body(&mut self, body: &Body) -> Result<(Filling, Span), AllocError>
+    #[inline(always)]
+    fn put_body(&mut self, body: &Body) -> Result<(BodyTag, Span), AllocError>
         ensures places { self.new.places ≡ self.old.places }
         ensures go_on { GoOn self.old self.new }
         ensures within { IfOk result (λ head. HasNumbers self.new head.0 head.1) }
         ensures body { IfOk result (λ head. body_in self.new head.0 head.1 ≡ body.now) }
+        ensures rewards { OnOk result
+            (self.new.rewards.items ≡ self.old.rewards.items ++ rewards_of body.now) }
     {
         match body {
             Body::Probabilities(numbers) => {
                 let numbers = put(&mut self.probabilities, numbers.as_slice())?;
-                Ok((Filling::Probabilities, numbers))
+                Ok((BodyTag::Probabilities, numbers))
             }
             Body::Rewards(numbers) => {
                 let numbers = put(&mut self.rewards, numbers.as_slice())?;
-                Ok((Filling::Rewards, numbers))
+                Ok((BodyTag::Rewards, numbers))
             }
-            Body::Uniform => Ok((Filling::Uniform, NOTHING)),
-            Body::Identity => Ok((Filling::Identity, NOTHING)),
+            Body::Uniform => Ok((BodyTag::Uniform, NOTHING)),
+            Body::Identity => Ok((BodyTag::Identity, NOTHING)),
         }
     }
 
-    /// The entry whose places and numbers stand here.
-    fn entry(&self, head: Head) -> EntryRef<'_>
+    /// Returns the entry of this header.
+    fn entry(&self, head: EntryHeader) -> EntryRef<'_>
         requires { IsWithin self.now head }
         ensures { entry_of result ≡ entry_in self.now head }
     {
@@ -119,18 +127,18 @@ impl Pools {
             table: head.table,
             places: self.places_of(head),
             body: match head.filling {
-                Filling::Probabilities => {
+                BodyTag::Probabilities => {
                     BodyRef::Probabilities(part(self.probabilities.as_slice(), head.numbers))
                 }
-                Filling::Rewards => BodyRef::Rewards(part(self.rewards.as_slice(), head.numbers)),
-                Filling::Uniform => BodyRef::Uniform,
-                Filling::Identity => BodyRef::Identity,
+                BodyTag::Rewards => BodyRef::Rewards(part(self.rewards.as_slice(), head.numbers)),
+                BodyTag::Uniform => BodyRef::Uniform,
+                BodyTag::Identity => BodyRef::Identity,
             },
         }
     }
 
-    /// The places of an entry.
-    fn places_of(&self, head: Head) -> &[Place]
+    /// Returns the places of an entry.
+    fn places_of(&self, head: EntryHeader) -> &[Place]
         requires { IsWithin self.now head }
         ensures { result.now ≡ places_in self.now head }
     {
@@ -142,41 +150,41 @@ impl Pools {
 /// The entries of a model, in the order of its text. Contracts see the list.
 #[derive(Drop)]
 pub struct Entries {
-    heads: Vec<Head>,
-    pools: Pools,
+    heads: Vec<EntryHeader>,
+    pools: EntryStore,
 }
 
 impl Model for Entries {
-    ghost use Rattle.std.specs.Prelude.{List, All, map};
+    ghost use Rattle.std.specs.Prelude.{List, map};
     ghost use Rattle.polcert_cells.specs.declared.entry.Entry.{Entry as E};
-    ghost use Rattle.polcert_cells.specs.Steps.EntryLists.{entry_in, IsWithin};
+    ghost use Rattle.polcert_cells.specs.Steps.EntryLists.{entry_in, AreHeldIn};
 
     ghost Value = { List E };
 
     ghost view = { λ e. map (entry_in e.pools) e.heads.items };
 
-    ghost invariant = { λ e. All (IsWithin e.pools) e.heads.items };
+    ghost invariant = { λ e. AreHeldIn e.pools e.heads.items };
 }
 
 impl Entries {
-    /// No entries.
+    /// Makes an empty list of entries.
     pub fn new(alloc: Global) -> Entries
         ensures { result ≡ [] }
     {
         Entries {
             heads: Vec::new(alloc),
-            pools: Pools::new(alloc),
+            pools: EntryStore::new(alloc),
         }
     }
 
-    /// How many entries there are.
+    /// Returns the number of entries.
     pub fn len(&self) -> usize
         ensures { result ≡ length self.now }
     {
         self.heads.len()
     }
 
-    /// The entry of this number, counted from 0.
+    /// Returns the entry of this number, counted from 0.
     pub fn at(&self, number: usize) -> EntryRef<'_>
         requires { number < length self.now }
         ensures { slice_get self.now number ≡ Some (entry_of result) }
@@ -185,17 +193,60 @@ impl Entries {
     }
 
     /// Puts the entry after the others. If memory runs out the list stays as it was.
+    #[inline(always)]
     pub fn push(&mut self, entry: Entry) -> Result<(), AllocError>
         ensures ok { OnOk result (self.new ≡ self.old ++ entry ∷ []) }
         ensures err { OnErr result (self.new ≡ self.old) }
     {
-        let head = self.pools.put(&entry)?;
-        self.heads.push(head)?;
-        Ok(())
+        let count = self.pools.rewards.len();
+        match put_entry(&mut self.heads, &mut self.pools, &entry) {
+            Ok(()) => Ok(()),
+            Err(error) => {
+                self.pools.rewards.truncate(count);
+                Err(error)
+            }
+        }
+    }
+
+    /// Returns where the rewards of the entry of this number begin among those of all entries.
+    pub fn rewards_start(&self, number: usize) -> usize
+        requires { number < length self.now }
+        ensures { AreRewardsFrom self.now number result }
+    {
+        self.heads[number].numbers.start as usize
+    }
+
+    /// Returns the rewards of all entries, one after another.
+    pub fn into_rewards(self) -> Vec<i64>
+        ensures { result.items ≡ all_rewards self }
+    {
+        let Entries { heads: _, pools } = self;
+        let EntryStore {
+            places: _,
+            probabilities: _,
+            rewards,
+        } = pools;
+        rewards
     }
 }
 
-/// A count that fits into a byte. An entry of more places counts as out of memory: there is none.
+/// Puts an entry after the others. If memory runs out, some of its places and numbers may stand after those of the others.
+fn put_entry(
+    heads: &mut Vec<EntryHeader>,
+    pools: &mut EntryStore,
+    entry: &Entry,
+) -> Result<(), AllocError>
+    ensures go_on { GoOn pools.old pools.new }
+    ensures ok { OnOk result (IsPut heads.old.items heads.new.items pools.old pools.new entry.now) }
+    ensures err { OnErr result (heads.new.items ≡ heads.old.items) }
+{
+    let head = pools.put(entry)?;
+    heads.push(head)?;
+    Ok(())
+}
+
+/// Returns the count as a byte. A larger one counts as out of memory: no entry has so many places.
+#[inline(always)]
 fn in_a_byte(count: usize) -> Result<u8, AllocError>
     ensures { IfOk result (λ n. n ≡ count) }
 {
@@ -215,14 +266,18 @@ fn part<T>(items: &[T], span: Span) -> &[T]
 }
 
 /// Puts more items after those of a list, and says where they stand. If memory runs out some may stand there.
+#[inline(always)]
 fn put<T: Copy + Drop>(items: &mut Vec<T>, more: &[T]) -> Result<Span, AllocError>
-    ensures goes_on { GoesOn items.old.items items.new.items }
+    ensures continues { Continues items.old.items items.new.items }
     ensures ok { OnOk result (items.new.items ≡ items.old.items ++ more.now) }
     ensures start { IfOk result (λ span. span.start ≡ length items.old.items) }
     ensures end { IfOk result (λ span. span.end ≡ length items.old.items + length more.now) }
 {
     let start = items.len();
-    items.extend_from_slice(more)?;
+    match more {
+        [item] => items.push(*item)?,
+        _ => items.extend_from_slice(more)?,
+    }
     let end = items.len();
     if end > u32::MAX as usize {
         return Err(AllocError);

@@ -52,7 +52,7 @@ impl<T: Drop> Model for Sequence<T> {
 }
 
 impl<T: Drop> Sequence<T> {
-    /// The empty list.
+    /// Makes an empty list.
     pub fn new(alloc: Global) -> Self
         ensures { result ≡ [] }
     {
@@ -62,7 +62,18 @@ impl<T: Drop> Sequence<T> {
         }
     }
 
-    /// How many items there are.
+    /// Returns the list of this item alone.
+    #[inline(always)]
+    pub fn only(alloc: Global, item: T) -> Self
+        ensures { result ≡ item ∷ [] }
+    {
+        Sequence {
+            only: Some([item]),
+            more: Vec::new(alloc),
+        }
+    }
+
+    /// Returns the number of items.
     #[inline(always)]
     pub fn len(&self) -> usize
         ensures { result ≡ length self.now }
@@ -70,7 +81,7 @@ impl<T: Drop> Sequence<T> {
         self.as_slice().len()
     }
 
-    /// The items, first to last.
+    /// Returns the items, first to last.
     #[inline(always)]
     pub fn as_slice(&self) -> &[T]
         ensures { result.now ≡ self.now }
@@ -107,7 +118,7 @@ impl<T: Copy + Drop> Sequence<T> {
         }
     }
 
-    /// The item at this index, counted from 0.
+    /// Returns the item at this index, counted from 0.
     pub fn at(&self, index: usize) -> T
         requires { index < length self.now }
         ensures { slice_get self.now index ≡ Some result }
@@ -149,7 +160,7 @@ impl Model for Places {
 }
 
 impl Places {
-    /// No places.
+    /// Makes an empty list of places.
     #[inline(always)]
     pub fn new() -> Places
         ensures { result ≡ [] }
@@ -160,7 +171,7 @@ impl Places {
         }
     }
 
-    /// How many places there are.
+    /// Returns the number of places.
     #[inline(always)]
     pub fn len(&self) -> usize
         ensures { result ≡ length self.now }
@@ -168,7 +179,7 @@ impl Places {
         self.as_slice().len()
     }
 
-    /// The places, first to last.
+    /// Returns the places, first to last.
     #[inline(always)]
     pub fn as_slice(&self) -> &[Place]
         ensures { result.now ≡ self.now }

@@ -1,8 +1,9 @@
 //! The names of elements.
-ghost use Rattle.std.specs.Prelude.{◌≡◌, ℕ, ◌++◌, ◌∷◌, [], true, false, length, position, bytes_eq, slice_get, option_map, IfOk, OnErr, IsAscii};
+ghost use Rattle.std.specs.Prelude.{◌≡◌, ℕ, ◌++◌, ◌∷◌, [], true, false, length, position, bytes_eq, slice_get, option_map, IfOk, IfSome, Some, OnErr, IsAscii};
 ghost use Rattle.std.specs.List.{list_any};
 
 use crate::keyed_state::KeyedState;
+use crate::name_guesses::NameGuesses;
 use indexmap::IndexSet;
 use std::alloc::{AllocError, Global};
 use std::marker::Model;
@@ -19,6 +20,7 @@ const NAMES_PER_KEY: usize = 300;
 #[derive(Drop)]
 pub struct Names {
     set: IndexSet<String, KeyedState>,
+    guesses: NameGuesses,
 }
 
 impl Model for Names {
@@ -36,6 +38,7 @@ impl Names {
     {
         Names {
             set: IndexSet::with_hasher(alloc, KeyedState::new(0)),
+            guesses: NameGuesses::new(alloc),
         }
     }
 
@@ -61,7 +64,12 @@ impl Names {
     {
         let name = text_of(name);
         self.rekey_if_due(alloc)?;
+        self.guesses.reserve(alloc, self.set.as_slice())?;
+        let number = self.set.len();
         let is_new = self.set.insert(String::from_str(alloc, name)?)?;
+        if is_new {
+            self.guesses.note(name.as_bytes(), number);
+        }
         Ok(is_new)
     }
 
@@ -88,7 +96,30 @@ impl Names {
         requires { IsAscii name.now }
         ensures { result ≡ position (bytes_eq name.now) self.now }
     {
-        self.set.get_index_of(text_of(name))
+        match self.guessed_number(name) {
+            Some(number) => Some(number),
+            None => self.set.get_index_of(text_of(name)),
+        }
+    }
+
+    /// Returns the number that is guessed for the name, if it is right.
+    #[inline(always)]
+    fn guessed_number(&self, name: &[u8]) -> Option<usize>
+        ensures { IfSome result (λ number. Some number ≡ position (bytes_eq name.now) self.now) }
+    {
+        let Some(number) = self.guesses.guess(name) else {
+            return None;
+        };
+        if number >= self.set.len() {
+            return None;
+        }
+        let Some(known) = self.set.get_index(number) else {
+            return None;
+        };
+        if known.as_bytes() == name {
+            return Some(number);
+        }
+        None
     }
 
     /// Returns the name of this number.
@@ -99,7 +130,7 @@ impl Names {
     }
 }
 
-/// ASCII bytes are text as they stand.
+/// Returns the bytes of a name, which are ASCII, as text.
 #[inline(always)]
 fn text_of(name: &[u8]) -> &str
     requires { IsAscii name.now }

@@ -1,6 +1,6 @@
 //! Rows that are borrowed, to be walked from one weight above 0 to the next.
-ghost use Rattle.std.specs.Prelude.{◌≡◌, ℕ, ◌<◌, None};
-ghost use Rattle.polcert_cells.specs.LentRows.{IsRowOf, IsStep};
+ghost use Rattle.std.specs.Prelude.{◌≡◌, ℕ, ◌<◌, ◌*◌, None, length, slice_index};
+ghost use Rattle.polcert_cells.specs.BorrowedRows.{IsRowOf, IsStep};
 
 use crate::Cell;
 
@@ -11,6 +11,8 @@ pub enum Row<'a> {
     Sparse(&'a [Cell]),
     /// The weight of each column, 0 too.
     Filled(&'a [u64]),
+    /// The number of each of the first columns, 0 too: its weight is the number times the scale. The others have none.
+    Scaled { numbers: &'a [u32], scale: u32 },
     /// The only weight above 0.
     Single(Cell),
 }
@@ -24,8 +26,8 @@ pub struct Step {
 }
 
 impl Row<'_> {
-    /// The first weight above 0 at this place of the row or after it.
-    #[inline]
+    /// Returns the first weight above 0 at this column or after it, and where to continue.
+    #[inline(always)]
     pub fn step(&self, at: usize) -> Option<Step>
         ensures { (f : ℕ → ℕ) (count : ℕ) → IsRowOf f count self.now
             → IsStep f count (Some self.now) at result }
@@ -36,6 +38,7 @@ impl Row<'_> {
                 None => None,
             },
             Row::Filled(weights) => first_weight(at, weights.len(), move |column| weights[column]),
+            Row::Scaled { numbers, scale } => scaled_step(numbers, *scale, at),
             Row::Single(cell) => if at == 0 {
                 Some(step_of(*cell, 1))
             } else {
@@ -45,7 +48,7 @@ impl Row<'_> {
     }
 }
 
-/// A step to this cell.
+/// Returns a step to this cell.
 fn step_of(cell: Cell, next: usize) -> Step
     ensures { result ≡ record { column = cell.column; weight = cell.weight; next = next } }
 {
@@ -56,7 +59,38 @@ fn step_of(cell: Cell, next: usize) -> Step
     }
 }
 
-/// The first weight above 0 of the columns from this one on, asked for column by column.
+/// Returns the first weight above 0 of these numbers times the scale, from a column on. (Mostly the first has one.)
+#[inline]
+fn scaled_step(numbers: &[u32], scale: u32, at: usize) -> Option<Step>
+    ensures { IsStep (λ c. slice_index numbers.now c * scale) (length numbers.now) None at result }
+{
+    if at >= numbers.len() {
+        return None;
+    }
+    let weight = scaled(numbers[at], scale);
+    if weight > 0 {
+        return Some(Step {
+            column: at,
+            weight,
+            next: at + 1,
+        });
+    }
+    first_weight(
+        at + 1,
+        numbers.len(),
+        move |column| scaled(numbers[column], scale),
+    )
+}
+
+/// Returns the number times the scale.
+#[inline]
+fn scaled(number: u32, scale: u32) -> u64
+    ensures { result ≡ number * scale }
+{
+    number as u64 * scale as u64
+}
+
+/// Returns the first weight above 0 from a column on. `weight_at` is asked column by column.
 #[inline(never)]
 pub fn first_weight<F: Fn(usize) -> u64>(from: usize, columns: usize, weight_at: F) -> Option<Step>
     requires callable { (k : ℕ) → k < columns → F.pre weight_at k }

@@ -1,5 +1,5 @@
 //! The words of a model's text.
-ghost use Rattle.std.specs.Prelude.{◌≡◌, ◌↔◌, IsTrue, bytes_eq, [], ◌∷◌};
+ghost use Rattle.std.specs.Prelude.{◌≡◌, ◌↔◌, IsTrue, false, bytes_eq, [], ◌∷◌};
 ghost use Rattle.std.specs.List.{list_any};
 ghost use Rattle.polcert_text.specs.Reading.{lexeme_of};
 ghost use Rattle.polcert_cells.specs.Words.{topic_of, is_reserved, inner_words, topic, IsWord};
@@ -19,7 +19,7 @@ pub enum Topic {
     Cells(Table),
 }
 
-/// The topic of an item that begins with this word.
+/// Returns the topic of an item that begins with this word.
 #[tactic(auto, unfolding(crate::specs::Words::topic_of))]
 #[inline(always)]
 fn topic_of(word: &[u8]) -> Option<Topic>
@@ -55,7 +55,7 @@ fn topic_of(word: &[u8]) -> Option<Topic>
     None
 }
 
-/// Whether the two are the same bytes. Most words are told apart by their lengths, without a call.
+/// Compares two words. Most differ in their lengths, which takes no call.
 #[inline(always)]
 fn is_same(word: &[u8], other: &[u8]) -> bool
     ensures { result ≡ bytes_eq word.now other.now }
@@ -70,7 +70,7 @@ fn has_same_bytes(word: &[u8], other: &[u8]) -> bool
     word == other
 }
 
-/// Whether the word is this letter.
+/// Tests whether the word is this letter.
 #[inline(always)]
 fn is_letter(word: &[u8], letter: u8) -> bool
     ensures { result ≡ bytes_eq word.now (letter ∷ []) }
@@ -78,7 +78,7 @@ fn is_letter(word: &[u8], letter: u8) -> bool
     word.len() == 1 && word[0] == letter
 }
 
-/// The topic of the item that the token begins, if it begins one.
+/// Returns the topic of the item that the token begins, if it begins one.
 #[inline(always)]
 pub fn begun_topic(token: &Token<'_>) -> Option<Topic>
     ensures { result ≡ topic (lexeme_of token.now) }
@@ -89,15 +89,35 @@ pub fn begun_topic(token: &Token<'_>) -> Option<Topic>
     }
 }
 
-/// Whether the word is reserved, so that no element has it as its name.
-#[tactic(auto, unfolding(crate::specs::Words::is_reserved))]
+/// Tests whether the word is reserved, so that no element has it as its name.
+#[inline(always)]
 pub fn is_reserved(word: &[u8]) -> bool
+    ensures { result ≡ is_reserved word.now }
+{
+    !ends_in_digit(word) && is_some_reserved(word)
+}
+
+/// Tests whether the word ends in a digit, as no reserved word does.
+#[inline(always)]
+fn ends_in_digit(word: &[u8]) -> bool
+    ensures { IsTrue result → is_reserved word.now ≡ false }
+{
+    let len = word.len();
+    if len == 0 {
+        return false;
+    }
+    word[len - 1].is_ascii_digit()
+}
+
+#[tactic(auto, unfolding(crate::specs::Words::is_reserved))]
+#[inline(never)]
+fn is_some_reserved(word: &[u8]) -> bool
     ensures { result ≡ is_reserved word.now }
 {
     topic_of(word).is_some() || is_inner_word(word)
 }
 
-/// Whether the word is reserved and begins no item.
+/// Tests whether the word is reserved and begins no item.
 fn is_inner_word(word: &[u8]) -> bool
     ensures { result ≡ list_any (bytes_eq word.now) inner_words }
 {
@@ -110,7 +130,7 @@ fn is_inner_word(word: &[u8]) -> bool
         || is_same(word, b"reset")
 }
 
-/// Whether the token is this word.
+/// Tests whether the token is this word.
 pub fn is_word(token: &Token<'_>, word: &[u8]) -> bool
     ensures { IsTrue result ↔ IsWord word.now (lexeme_of token.now) }
 {

@@ -106,33 +106,36 @@ fn rewards(body: BodyRef<'_>) -> Option<&[i64]> {
 }
 
 #[test]
-fn entries_are_lent_as_they_were_put(rt: HostRuntime) -> Result<(), Fail> {
+fn entries_are_borrowed_as_they_were_put(rt: HostRuntime) -> Result<(), Fail> {
     let entries = entries(rt.alloc())?;
     assert!(rt; entries.len() == 5);
-    let lent = entries.at(0);
-    assert_eq!(rt; lent.table, Table::Transition);
-    assert_eq!(rt; lent.places, [Place::Only(1)].as_slice());
-    assert!(rt; matches!(lent.body, BodyRef::Identity));
-    let lent = entries.at(1);
-    assert_eq!(rt; lent.table, Table::Observation);
-    assert_eq!(rt; lent.places, [Place::Every, Place::Only(2)].as_slice());
-    assert_eq!(rt; probabilities(lent.body), Some([1_000_000, 0].as_slice()));
-    let lent = entries.at(2);
-    assert_eq!(rt; lent.table, Table::Reward);
+    let borrowed = entries.at(0);
+    assert_eq!(rt; borrowed.table, Table::Transition);
+    assert_eq!(rt; borrowed.places, [Place::Only(1)].as_slice());
+    assert!(rt; matches!(borrowed.body, BodyRef::Identity));
+    let borrowed = entries.at(1);
+    assert_eq!(rt; borrowed.table, Table::Observation);
+    assert_eq!(rt; borrowed.places, [Place::Every, Place::Only(2)].as_slice());
     assert_eq!(rt;
-        lent.places,
+        probabilities(borrowed.body),
+        Some([1_000_000, 0].as_slice())
+    );
+    let borrowed = entries.at(2);
+    assert_eq!(rt; borrowed.table, Table::Reward);
+    assert_eq!(rt;
+        borrowed.places,
         [Place::Only(0), Place::Every, Place::Every, Place::Only(999)].as_slice()
     );
-    assert_eq!(rt; rewards(lent.body), Some([-5].as_slice()));
+    assert_eq!(rt; rewards(borrowed.body), Some([-5].as_slice()));
     assert!(rt; matches!(entries.at(3).body, BodyRef::Uniform));
-    let lent = entries.at(4);
-    assert_eq!(rt; lent.places, [Place::Every, Place::Only(2)].as_slice());
-    assert_eq!(rt; probabilities(lent.body), Some([7].as_slice()));
+    let borrowed = entries.at(4);
+    assert_eq!(rt; borrowed.places, [Place::Every, Place::Only(2)].as_slice());
+    assert_eq!(rt; probabilities(borrowed.body), Some([7].as_slice()));
     Ok(())
 }
 
 #[test]
-fn lent_rows_are_walked(rt: HostRuntime) {
+fn borrowed_rows_are_walked(rt: HostRuntime) {
     let cells = [
         Cell {
             column: 1,
@@ -146,6 +149,11 @@ fn lent_rows_are_walked(rt: HostRuntime) {
     let both = [(1, 30), (4, 70)];
     assert!(rt; has_steps(Row::Sparse(&cells), both.as_slice()));
     assert!(rt; has_steps(Row::Filled(&[0, 30, 0, 0, 70, 0]), both.as_slice()));
+    let scaled = Row::Scaled {
+        numbers: &[0, 3, 0, 0, 7, 0],
+        scale: 10,
+    };
+    assert!(rt; has_steps(scaled, both.as_slice()));
     assert!(rt; has_steps(Row::Single(cells[1]), [(4, 70)].as_slice()));
     assert!(rt; has_steps(Row::Sparse(&[]), [].as_slice()));
     assert!(rt; has_steps(Row::Filled(&[0, 0]), [].as_slice()));

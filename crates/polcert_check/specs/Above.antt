@@ -65,5 +65,5 @@ NamesSmallAmountAbove c (Long n s amount) = unsigned_abs amount ≤ most_short c
 NamesSmallAmountAbove c (NoSuccessor n s z) = ⊤
 
 -- where the discount is below 1, vectors of the graph that pass from below are nowhere above these
-abbrev pub AreNowhereExceeded : CellTable → PolicyGraph → PolicyVectors → Type 0
-AreNowhereExceeded t g high = t.discount < one → (low : PolicyVectors) → Fits t g low → Passes (controller_of t g low) → (n s : ℕ) → n < nodes g → s < t.states → value_of low n s ≤ℤ value_of high n s
+abbrev pub BoundEveryLowerVector : CellTable → PolicyGraph → PolicyVectors → Type 0
+BoundEveryLowerVector t g high = t.discount < one → (low : PolicyVectors) → Fits t g low → Passes (controller_of t g low) → (n s : ℕ) → n < nodes g → s < t.states → value_of low n s ≤ℤ value_of high n s

@@ -1,8 +1,9 @@
 -- What nobody has to believe: only contracts of private functions, and of layers below the crates that callers use, cite these.
-pub mod Certificate
+pub mod CheckInput
+pub mod Exceptions
 pub mod Factored
 pub mod Findings
-pub mod Followed
+pub mod FollowedCells
 pub mod Leasts
 pub mod Mirrored
 pub mod Node

@@ -1,16 +1,16 @@
 //! The verdict from above: whether the vectors bound what a policy graph earns from above.
 ghost use Rattle.std.specs.Prelude.{◌≡◌};
 ghost use Rattle.polcert_check.specs.Horizon.{Fits, controller_of};
-ghost use Rattle.polcert_check.specs.Above.{MeetsHorizonAbove, IsAboveVerdict, NamesSmallAmountAbove, AreNowhereExceeded};
+ghost use Rattle.polcert_check.specs.Above.{MeetsHorizonAbove, IsAboveVerdict, NamesSmallAmountAbove, BoundEveryLowerVector};
 ghost use Rattle.polcert_check.specs.Steps.Mirrored.{above_of};
 ghost use Rattle.polcert_check.specs.declared.above.AboveVerdict.TheVariants.{Yes};
 
-use crate::certificate::Certificate;
-use crate::findings::Aim;
+use crate::check_input::CheckInput;
+use crate::findings::Mode;
+use crate::progress::{NoProgress, Progress};
 use crate::side::Side;
 use crate::survey::survey;
 use crate::verdict::Verdict;
-use crate::watch::{Unwatched, Watch};
 use polcert_model::Cells;
 use polcert_policy::{Graph, Vectors};
 
@@ -35,7 +35,7 @@ pub enum AboveVerdict {
     },
 }
 
-/// What a verdict on the mirror image says from above.
+/// Returns the verdict from above that a verdict on the mirror image gives.
 fn above_of(verdict: Verdict) -> AboveVerdict
     ensures { result ≡ above_of verdict }
 {
@@ -62,8 +62,8 @@ fn above_of(verdict: Verdict) -> AboveVerdict
     }
 }
 
-/// Whether what the next step comes to is at most each value, so that the graph earns no more than the values say for every number
-/// of steps; else the first pair of a node and a state that doesn't pass.
+/// Checks that the next step comes to at most each value, so that the graph earns no more than the values say
+/// for every number of steps. Returns the first pair of a node and a state that fails, if one does.
 pub fn check_above<C: Cells>(cells: &C, graph: &Graph, vectors: &Vectors) -> AboveVerdict
     requires fits { Fits (C.table cells.now) graph.now vectors.now }
 
@@ -77,24 +77,24 @@ pub fn check_above<C: Cells>(cells: &C, graph: &Graph, vectors: &Vectors) -> Abo
     ensures small { NamesSmallAmountAbove (controller_of (C.table cells.now) graph.now vectors.now) result }
 
     // If the discount is below 1, vectors that pass from below are nowhere above these.
-    ensures interval { (result ≡ Yes) → AreNowhereExceeded (C.table cells.now) graph.now vectors.now }
+    ensures interval { (result ≡ Yes) → BoundEveryLowerVector (C.table cells.now) graph.now vectors.now }
 {
-    check_above_watched(cells, graph, vectors, &mut Unwatched)
+    check_above_watched(cells, graph, vectors, &mut NoProgress)
 }
 
-/// The same, and `watch` is told how far the check is: of each node when all of its pairs have passed.
-pub fn check_above_watched<C: Cells, W: Watch>(
+/// Checks as `check_above`, and notifies `progress` of each node when all of its pairs have passed.
+pub fn check_above_watched<C: Cells, W: Progress>(
     cells: &C,
     graph: &Graph,
     vectors: &Vectors,
-    watch: &mut W,
+    progress: &mut W,
 ) -> AboveVerdict
     requires fits { Fits (C.table cells.now) graph.now vectors.now }
     ensures verdict { IsAboveVerdict (controller_of (C.table cells.now) graph.now vectors.now) result }
     ensures horizon { MeetsHorizonAbove (controller_of (C.table cells.now) graph.now vectors.now) result }
     ensures small { NamesSmallAmountAbove (controller_of (C.table cells.now) graph.now vectors.now) result }
-    ensures interval { (result ≡ Yes) → AreNowhereExceeded (C.table cells.now) graph.now vectors.now }
+    ensures interval { (result ≡ Yes) → BoundEveryLowerVector (C.table cells.now) graph.now vectors.now }
 {
-    let certificate = Certificate::new(Side::Above, cells, graph, vectors);
-    above_of(survey(&certificate, Aim::Check, watch).first)
+    let input = CheckInput::new(Side::Above, cells, graph, vectors);
+    above_of(survey(&input, Mode::Check, progress).first)
 }

@@ -4,9 +4,9 @@ ghost use Rattle.polcert_cells.specs.declared.elements.TheConstants.{MOST_STATES
 ghost use Rattle.polcert_check.specs.Steps.Factored.{expected_reward, AreKnown};
 
 use crate::expected_reward::expected_reward;
+use crate::progress::Progress;
 use crate::reward_buffer::RewardBuffer;
-use crate::shared_rewards::{UNKNOWN, find_at_ends, first_shared, forget, sum_at_ends};
-use crate::watch::Watch;
+use crate::shared_rewards::{UNKNOWN, clear_numbers, find_at_ends, first_shared, sum_at_ends};
 use polcert_cells::{Cells, MOST_STATES};
 
 /// The reward that an action expects at each state.
@@ -33,7 +33,7 @@ impl Earnings {
         ensures { AreKnown (expected_reward (C.table cells.now) a) (C.table cells.now).states
             self.new.rewards }
     {
-        forget(&mut self.rewards, cells.states());
+        clear_numbers(&mut self.rewards, cells.states());
         if let Some(first) = first_shared(cells, a) {
             self.share(cells, a, first, at_ends);
         }
@@ -49,7 +49,7 @@ impl Earnings {
         ensures { AreKnown (expected_reward (C.table cells.now) a) (C.table cells.now).states
             self.new.rewards }
     {
-        forget(at_ends, cells.states());
+        clear_numbers(at_ends, cells.states());
         for s in first..cells.states() {
             if cells.has_same_rewards(a, s, first) {
                 find_at_ends(cells, a, s, &mut self.buffer, at_ends);
@@ -58,13 +58,13 @@ impl Earnings {
         }
     }
 
-    /// Returns the reward that action `a` expects at state `s`, computed on first use, of which `watch` is notified.
-    pub(crate) fn reward_at<C: Cells, W: Watch>(
+    /// Returns the reward that action `a` expects at state `s`, computed on first use, of which `progress` is notified.
+    pub(crate) fn reward_at<C: Cells, W: Progress>(
         &mut self,
         cells: &C,
         a: usize,
         s: usize,
-        watch: &mut W,
+        progress: &mut W,
     ) -> i128
         requires action { a < (C.table cells.now).actions }
         requires start { s < (C.table cells.now).states }
@@ -76,7 +76,7 @@ impl Earnings {
     {
         if self.rewards[s] == UNKNOWN {
             self.rewards[s] = expected_reward(cells, a, s, &mut self.buffer);
-            watch.states_done(s + 1, cells.states());
+            progress.states_done(s + 1, cells.states());
         }
         self.rewards[s]
     }

@@ -4,19 +4,19 @@ ghost use Rattle.polcert_cells.specs.declared.elements.TheConstants.{MOST_STATES
 
 use crate::expected_value::expected_value;
 use crate::node::Node;
-use crate::partial_value::{PartialValue, end_value};
+use crate::partial_value::{PartialValue, complete_value, end_value};
 use crate::reached_states::ReachedStates;
 use polcert_cells::MOST_STATES;
 use polcert_model::Cells;
 
-/// Numbers smaller than this have 64 bits, with their sign.
-const NARROW: u128 = 9_223_372_036_854_775_808;
+/// Numbers smaller than this, in size, have 64 bits with their sign.
+const NARROW: i128 = 9_223_372_036_854_775_808;
 
-/// Whether a number may need more than 64 bits.
+/// Returns whether a number may need more than 64 bits.
 fn is_wide(number: i128) -> bool
     ensures { result ≡ false → unsigned_abs number < 2 ^ 63 }
 {
-    number.unsigned_abs() >= NARROW
+    number >= NARROW || number <= -NARROW
 }
 
 /// Returns the same number, which has 64 bits.
@@ -32,6 +32,7 @@ fn narrow(number: i128) -> i128
 /// The values of a node at the end states that its action reaches.
 #[derive(Drop)]
 pub(crate) struct EndValues {
+    /// Unless the node lacks a successor there.
     pub values: [i128; MOST_STATES],
     /// Whether the node lacks a successor for an observation there. Which one is computed only at a pair that reaches such an end
     /// state: that pair settles the node.
@@ -45,8 +46,8 @@ pub(crate) struct EndValues {
 }
 
 impl EndValues {
-    ghost use Rattle.std.specs.Prelude.{ℕ};
-    ghost use Rattle.polcert_check.specs.Steps.Node.{around};
+    ghost use Rattle.std.specs.Prelude.{ℕ, IsTrue};
+    ghost use Rattle.polcert_check.specs.Steps.Node.{node_controller};
     ghost use Rattle.polcert_check.specs.Steps.Factored.{AreMarked};
     ghost use Rattle.polcert_check.specs.Steps.Values.{AreEndValues, IsEndValue, IsExpectedValue};
 
@@ -61,49 +62,52 @@ impl EndValues {
 
     /// Computes the values of a node at all end states that its action reaches.
     pub(crate) fn fill<C: Cells>(&mut self, node: &Node<'_, C>, reached: &ReachedStates)
-        requires { AreMarked (around node.now).cells ((around node.now).action node.now.n)
-            (around node.now).cells.states reached.now.marks }
-        ensures { AreEndValues (around node.now) node.now.n (around node.now).cells.states self.new }
+        requires { AreMarked (node_controller node.now).cells ((node_controller node.now).action node.now.n)
+            (node_controller node.now).cells.states reached.now.marks }
+        ensures { AreEndValues (node_controller node.now) node.now.n
+            (node_controller node.now).cells.states self.new }
     {
         self.lacks_any = false;
         self.has_wide = false;
-        for e in 0..node.certificate.cells.states() {
+        for e in 0..node.input.cells.states() {
             if !reached.marks[e] {
                 continue;
             }
-            let end = end_value(node, e);
-            self.values[e] = end.value;
-            self.lacks_successor[e] = end.missing.is_some();
-            if end.missing.is_some() {
-                self.lacks_any = true;
-            }
-            if is_wide(end.value) {
-                self.has_wide = true;
+            match complete_value(node, e) {
+                Some(value) => {
+                    self.values[e] = value;
+                    self.lacks_successor[e] = false;
+                    if is_wide(value) {
+                        self.has_wide = true;
+                    }
+                }
+                None => {
+                    self.lacks_successor[e] = true;
+                    self.lacks_any = true;
+                }
             }
         }
     }
 
-    /// Returns the value that a node expects at state `s`.
-    #[inline(always)]
-    pub(crate) fn expected_value<C: Cells>(&self, node: &Node<'_, C>, s: usize) -> PartialValue
-        requires start { s < (around node.now).cells.states }
-        requires ends { AreEndValues (around node.now) node.now.n (around node.now).cells.states self.now }
-        ensures { IsExpectedValue (around node.now) node.now.n s result }
+    /// Returns whether `narrow_value` can be asked for.
+    pub(crate) fn are_narrow(&self) -> bool
+        ensures complete { IsTrue result → self.now.lacks_any ≡ false }
+        ensures narrow { IsTrue result → self.now.has_wide ≡ false }
     {
-        if self.lacks_any {
-            return self.expected_with_missing(node, s);
-        }
+        !(self.lacks_any || self.has_wide)
+    }
+
+    /// Returns the value that a node expects at state `s`, where 64 bits are enough for each value and the node lacks no successor.
+    #[inline(always)]
+    pub(crate) fn narrow_value<C: Cells>(&self, node: &Node<'_, C>, s: usize) -> PartialValue
+        requires start { s < (node_controller node.now).cells.states }
+        requires ends { AreEndValues (node_controller node.now) node.now.n
+            (node_controller node.now).cells.states self.now }
+        requires complete { self.now.lacks_any ≡ false }
+        requires narrow { self.now.has_wide ≡ false }
+        ensures { IsExpectedValue (node_controller node.now) node.now.n s result }
+    {
         let values = &self.values;
-        if self.has_wide {
-            return expected_value(
-                node,
-                s,
-                |e| PartialValue {
-                    value: values[e],
-                    missing: None,
-                },
-            );
-        }
         expected_value(
             node,
             s,
@@ -114,33 +118,42 @@ impl EndValues {
         )
     }
 
-    /// Returns the same if the node may lack a successor.
-    #[cold]
-    #[inline(never)]
-    fn expected_with_missing<C: Cells>(&self, node: &Node<'_, C>, s: usize) -> PartialValue
-        requires start { s < (around node.now).cells.states }
-        requires ends { AreEndValues (around node.now) node.now.n (around node.now).cells.states self.now }
-        ensures { IsExpectedValue (around node.now) node.now.n s result }
+    /// Returns the value that a node expects at state `s`.
+    pub(crate) fn expected_value<C: Cells>(&self, node: &Node<'_, C>, s: usize) -> PartialValue
+        requires start { s < (node_controller node.now).cells.states }
+        requires ends { AreEndValues (node_controller node.now) node.now.n
+            (node_controller node.now).cells.states self.now }
+        ensures { IsExpectedValue (node_controller node.now) node.now.n s result }
     {
-        expected_value(node, s, |e| self.value_at(node, e))
+        if self.lacks_any {
+            return expected_value(node, s, |e| self.value_at(node, e));
+        }
+        let values = &self.values;
+        expected_value(
+            node,
+            s,
+            |e| PartialValue {
+                value: values[e],
+                missing: None,
+            },
+        )
     }
 
     /// Returns the value at end state `e` if a state reaches it.
     fn value_at<C: Cells>(&self, node: &Node<'_, C>, e: usize) -> PartialValue
-        requires end { e < (around node.now).cells.states }
-        requires ends { AreEndValues (around node.now) node.now.n (around node.now).cells.states self.now }
-        ensures { (s : ℕ) → s < (around node.now).cells.states →
-            0 < (around node.now).cells.t ((around node.now).action node.now.n) s e →
-            IsEndValue (around node.now) node.now.n e result }
+        requires end { e < (node_controller node.now).cells.states }
+        requires ends { AreEndValues (node_controller node.now) node.now.n
+            (node_controller node.now).cells.states self.now }
+        ensures { (s : ℕ) → s < (node_controller node.now).cells.states →
+            0 < (node_controller node.now).cells.t ((node_controller node.now).action node.now.n) s e →
+            IsEndValue (node_controller node.now) node.now.n e result }
     {
-        let missing = if self.lacks_successor[e] {
-            end_value(node, e).missing
-        } else {
-            None
-        };
+        if self.lacks_successor[e] {
+            return end_value(node, e);
+        }
         PartialValue {
             value: self.values[e],
-            missing,
+            missing: None,
         }
     }
 }

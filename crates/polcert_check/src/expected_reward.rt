@@ -21,7 +21,8 @@ pub fn weigh(weight: u64, number: i128) -> i128
     (signed as i128) * number
 }
 
-/// Whether so many observations have a weight at end state `e` that reading all rewards together is faster than asking for each.
+/// Tests whether so many observations have a weight at end state `e` that reading all rewards together is
+/// faster than asking for each.
 fn has_many_observations<C: Cells>(cells: &C, a: usize, e: usize) -> bool
     requires action { a < (C.table cells.now).actions }
     requires end { e < (C.table cells.now).states }
@@ -29,7 +30,7 @@ fn has_many_observations<C: Cells>(cells: &C, a: usize, e: usize) -> bool
     match cells.o_row(a, e) {
         Some(Row::Sparse(row)) => row.len() > cells.observations() / READ_PER_QUERY,
         Some(Row::Single(_)) => false,
-        Some(Row::Filled(_)) | None => true,
+        Some(Row::Filled(_) | Row::Scaled { .. }) | None => true,
     }
 }
 
@@ -88,10 +89,10 @@ pub(crate) fn reward_at_end<C: Cells>(
     requires end { e < (C.table cells.now).states }
     ensures { result ≡ reward_at_end (C.table cells.now) a s e }
 {
-    if let Some(reward) = cells.r_alike(a, s, e) {
-        return weigh(cells.o_scale(), reward as i128);
+    match cells.find_rewards(a, s, e, &mut buffer.exceptions) {
+        Some(common) => buffer.sum_exceptions(cells, a, s, e, common),
+        None => sum_rewards(cells, a, s, e, buffer),
     }
-    sum_rewards(cells, a, s, e, buffer)
 }
 
 /// Returns the reward that action `a` expects at state `s`, summed over its end states.
@@ -116,7 +117,7 @@ pub fn expected_reward<C: Cells>(cells: &C, a: usize, s: usize, buffer: &mut Rew
     requires start { s < (C.table cells.now).states }
     ensures { result ≡ expected_reward (C.table cells.now) a s }
 {
-    match cells.r_common(a, s) {
+    match cells.r_constant(a, s) {
         Some(reward) => {
             let at_end = weigh(cells.o_scale(), reward as i128);
             weigh(cells.t_scale(), at_end)

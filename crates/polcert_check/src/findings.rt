@@ -9,7 +9,7 @@ use crate::verdict::Verdict;
 
 /// What the pairs are walked for.
 #[derive(Clone, Copy)]
-pub(crate) enum Aim {
+pub(crate) enum Mode {
     /// The first pair that fails.
     Check,
     /// The first pair that lacks an observation; or if none does, which no lowering would mend, how short the others are.
@@ -19,7 +19,7 @@ pub(crate) enum Aim {
 /// What a walk over pairs of a node and a state has found so far.
 #[derive(Clone, Copy)]
 pub(crate) struct Findings {
-    pub aim: Aim,
+    pub mode: Mode,
     /// The first pair that is sought, by node and then by state, and why it fails; yes if there is none.
     pub first: Verdict,
     /// For a lowering the first pair that is short, and by how much; yes if there is none.
@@ -28,7 +28,7 @@ pub(crate) struct Findings {
     pub worst: u128,
 }
 
-/// The greater of two numbers.
+/// Returns the greater of two numbers.
 fn greater(x: u128, y: u128) -> u128
     ensures left { x ≤ result }
     ensures right { y ≤ result }
@@ -37,7 +37,7 @@ fn greater(x: u128, y: u128) -> u128
     if x < y { y } else { x }
 }
 
-/// Whether the verdict names a pair of node `n` or of one before it.
+/// Tests whether the verdict names a pair of node `n` or of an earlier one.
 fn names_until(verdict: Verdict, n: usize) -> bool
     ensures { IsTrue result ↔ NamesUntil verdict n }
 {
@@ -47,7 +47,8 @@ fn names_until(verdict: Verdict, n: usize) -> bool
     }
 }
 
-/// What was found so far, if that names a pair of node `n` or of one before it, else what was found at a pair of `n`.
+/// Returns the earlier of two findings: the one so far, if it names a pair of node `n` or of an earlier node,
+/// else the one at a pair of `n`.
 fn earlier(so_far: Verdict, n: usize, found: Verdict) -> Verdict
     ensures { IsEarlier so_far n found result }
 {
@@ -59,22 +60,22 @@ fn earlier(so_far: Verdict, n: usize, found: Verdict) -> Verdict
 }
 
 impl Findings {
-    /// Nothing is found yet.
-    pub(crate) fn new(aim: Aim) -> Self
-        ensures aim { result.aim ≡ aim }
+    /// Makes the findings before the first pair.
+    pub(crate) fn new(mode: Mode) -> Self
+        ensures mode { result.mode ≡ mode }
         ensures first { result.first ≡ Yes }
         ensures short { result.short ≡ Yes }
         ensures worst { result.worst ≡ 0 }
     {
         Findings {
-            aim,
+            mode,
             first: Verdict::Yes,
             short: Verdict::Yes,
             worst: 0,
         }
     }
 
-    /// Whether the first pair that is sought is one of node `n` or of a node before it, whatever is found after `n`.
+    /// Tests whether nothing after node `n` can change the first pair that fails.
     pub(crate) fn is_settled(&self, n: usize) -> bool
         ensures { IsTrue result ↔ NamesUntil self.now.first n }
     {
@@ -84,7 +85,7 @@ impl Findings {
     /// Takes in what is found at the next pair, which is one of node `n`. True if the other pairs of the node cannot be the first that
     /// is sought.
     pub(crate) fn note(&mut self, n: usize, found: Verdict) -> bool
-        ensures aim { self.new.aim ≡ self.old.aim }
+        ensures mode { self.new.mode ≡ self.old.mode }
         ensures found { (c : Controller) (s : ℕ) → IsPair c n s → IsPairVerdict c n s found →
             IsFoundBefore c (c.action n) n s self.old
             → IsFoundBefore c (c.action n) n (s + 1) self.new }
@@ -101,16 +102,16 @@ impl Findings {
 
     /// Takes in what is found at the next pair, which is one of node `n`.
     fn keep(&mut self, n: usize, found: Verdict)
-        ensures aim { self.new.aim ≡ self.old.aim }
+        ensures mode { self.new.mode ≡ self.old.mode }
         ensures found { (c : Controller) (s : ℕ) → IsPair c n s → IsPairVerdict c n s found →
             IsFoundBefore c (c.action n) n s self.old
             → IsFoundBefore c (c.action n) n (s + 1) self.new }
     {
         match found {
             Verdict::Yes => {}
-            Verdict::Short { amount, .. } => match self.aim {
-                Aim::Check => self.first = earlier(self.first, n, found),
-                Aim::Lowering => {
+            Verdict::Short { amount, .. } => match self.mode {
+                Mode::Check => self.first = earlier(self.first, n, found),
+                Mode::Lowering => {
                     self.short = earlier(self.short, n, found);
                     self.worst = greater(self.worst, amount.unsigned_abs());
                 }

@@ -7,7 +7,7 @@ ghost use Rattle.polcert_policy.specs.Graphs.{PolicyGraph, IsProperGraph, nodes}
 ghost use Rattle.polcert_policy.specs.Vectors.{PolicyVectors};
 ghost use Rattle.polcert_check.specs.declared.above.AboveVerdict.{AboveVerdict};
 ghost use Rattle.polcert_check.specs.declared.fault.RaiseFault.{RaiseFault};
-ghost use Rattle.polcert_check.specs.Above.{AreNowhereExceeded, IsAboveVerdict, MeetsEveryHorizonAbove, MeetsHorizonAbove, PairPassesAbove, PassesAbove, PromiseAbove, RewardPromiseAbove};
+ghost use Rattle.polcert_check.specs.Above.{BoundEveryLowerVector, IsAboveVerdict, MeetsEveryHorizonAbove, MeetsHorizonAbove, PairPassesAbove, PassesAbove, PromiseAbove, RewardPromiseAbove};
 ghost use Rattle.polcert_check.specs.Horizon.{Controller, Fits, controller_of};
 ghost use Rattle.polcert_check.specs.Raise.{IsLeastRaise, IsNotRaised};
 ghost use Rattle.polcert_check.specs.StartMost.{IsStartMost, StartPromiseAbove};
@@ -27,7 +27,7 @@ pub fn promise_above_for_every_horizon()
 pub fn bounds_are_an_interval()
     ensures { (x : CellTable) (graph : PolicyGraph) (vectors : PolicyVectors) → IsProper x →
         IsWithinLimits x → IsProperGraph graph → Fits x graph vectors →
-        PassesAbove (controller_of x graph vectors) → AreNowhereExceeded x graph vectors }
+        PassesAbove (controller_of x graph vectors) → BoundEveryLowerVector x graph vectors }
 {}
 
 /// What a check from above says over one table it says over every table with the same counts and the same cells in range.

@@ -1,27 +1,27 @@
 //! The least constant by which all vectors can be lowered to pass.
 ghost use Rattle.std.specs.Prelude.{◌≡◌, ℕ, ◌+◌, ◌*◌, ◌^◌, ◌<◌, ◌≤◌, pos, neg_ℤ, ◌+ℤ◌, ◌↔◌, IsTrue, IfOk, IfErr};
 ghost use Rattle.polcert_policy.specs.Vectors.{IsInRange};
-ghost use Rattle.polcert_check.specs.Steps.Certificate.{judged};
+ghost use Rattle.polcert_check.specs.Steps.CheckInput.{checked_controller};
 ghost use Rattle.polcert_check.specs.Horizon.{Fits, controller_of, one};
 ghost use Rattle.polcert_check.specs.Lower.{NoneLacks, IsLeast, IsLeastConstant, IsNotMended, IsNotLowered, RefusesSmallAmount, IsLowered, RefusesToLower};
 ghost use Rattle.polcert_check.specs.Steps.Leasts.{IsLowerAnswer};
 ghost use Rattle.polcert_check.specs.Steps.Mirrored.{CanMove, IsLeastMove};
 ghost use Rattle.polcert_check.specs.Steps.Findings.{IsFound, IsPair, IsRefused, IsWorstOf};
-ghost use Rattle.polcert_check.specs.declared.findings.Aim.TheVariants.{Lowering};
+ghost use Rattle.polcert_check.specs.declared.findings.Mode.TheVariants.{Lowering};
 ghost use Rattle.polcert_check.specs.declared.verdict.Verdict.TheVariants.{Yes};
 
-use crate::certificate::Certificate;
+use crate::check_input::CheckInput;
 use crate::fault::LowerFault;
-use crate::findings::{Aim, Findings};
+use crate::findings::{Findings, Mode};
+use crate::progress::{NoProgress, Progress};
 use crate::side::Side;
 use crate::survey::survey;
 use crate::verdict::Verdict;
-use crate::watch::{Unwatched, Watch};
 use polcert_model::Cells;
 use polcert_policy::{Graph, Vectors};
 use std::alloc::Global;
 
-/// A quotient, rounded up.
+/// Returns a quotient, rounded up.
 pub fn ceil_quotient(amount: u128, divisor: u128) -> u128
     requires some { 0 < divisor }
     requires room { amount + divisor ≤ 2 ^ 127 }
@@ -31,7 +31,7 @@ pub fn ceil_quotient(amount: u128, divisor: u128) -> u128
     (amount + (divisor - 1)) / divisor
 }
 
-/// Whether the value less `by` is in range.
+/// Tests whether the value less `by` is in range.
 fn is_low_enough(value: i64, by: u128) -> bool
     requires { IsInRange value }
     ensures { IsTrue result ↔ IsInRange (value +ℤ neg_ℤ (pos by)) }
@@ -39,7 +39,7 @@ fn is_low_enough(value: i64, by: u128) -> bool
     (value as i128 + 10_000_000_000_000) as u128 >= by
 }
 
-/// Whether every value less `by` is in range, or from above every value and `by`.
+/// Tests whether every value less `by` (from above: every value plus `by`) is in range.
 fn stays_in_range(side: Side, vectors: &Vectors, by: u128) -> bool
     ensures { IsTrue result ↔ CanMove side vectors.now by }
 {
@@ -53,19 +53,19 @@ fn stays_in_range(side: Side, vectors: &Vectors, by: u128) -> bool
     true
 }
 
-/// The least constant where the discount is below 1, whether or not it leaves the values in range.
-fn candidate<C: Cells>(certificate: &Certificate<'_, C>, worst: u128) -> u128
-    requires none { NoneLacks (judged certificate.now) }
-    requires worst { IsWorstOf (judged certificate.now) (IsPair (judged certificate.now)) worst }
-    requires discount { (judged certificate.now).cells.discount < one }
-    ensures { IsLeast (judged certificate.now) result }
+/// Returns the least constant if the discount is below 1, whether or not it leaves the values in range.
+fn candidate<C: Cells>(input: &CheckInput<'_, C>, worst: u128) -> u128
+    requires none { NoneLacks (checked_controller input.now) }
+    requires worst { IsWorstOf (checked_controller input.now) (IsPair (checked_controller input.now)) worst }
+    requires discount { (checked_controller input.now).cells.discount < one }
+    ensures { IsLeast (checked_controller input.now) result }
 {
-    let cells = certificate.cells;
+    let cells = input.cells;
     let scale = (cells.t_scale() * cells.o_scale()) as u128;
     ceil_quotient(worst, scale * (1_000_000 - cells.discount()) as u128)
 }
 
-/// Why vectors with this verdict are not lowered, if no lowering changes it.
+/// Returns the reason why vectors with this verdict are not lowered, if no lowering changes it.
 fn refused(verdict: Verdict) -> Result<(), LowerFault>
     ensures passes { IfOk result (λ _. verdict ≡ Yes) }
     ensures refused { IfErr result (IsRefused verdict) }
@@ -93,27 +93,28 @@ fn refused(verdict: Verdict) -> Result<(), LowerFault>
     }
 }
 
-/// The least constant by which the vectors pass, whether or not it leaves the values in range.
+/// Returns the least constant by which the vectors pass, whether or not it leaves the values in range.
 fn least_passing<C: Cells>(
-    certificate: &Certificate<'_, C>,
+    input: &CheckInput<'_, C>,
     findings: Findings,
 ) -> Result<u128, LowerFault>
-    requires aim { findings.aim ≡ Lowering }
-    requires found { IsFound (judged certificate.now) (IsPair (judged certificate.now)) findings }
-    ensures least { IfOk result (IsLeast (judged certificate.now)) }
-    ensures none { IfOk result (λ _. NoneLacks (judged certificate.now)) }
+    requires mode { findings.mode ≡ Lowering }
+    requires found { IsFound (checked_controller input.now) (IsPair (checked_controller input.now)) findings }
+    ensures least { IfOk result (IsLeast (checked_controller input.now)) }
+    ensures none { IfOk result (λ _. NoneLacks (checked_controller input.now)) }
     ensures refused { IfErr result
-        (IsNotMended (judged certificate.now) (CanMove certificate.now.side certificate.now.vectors.now)) }
+        (IsNotMended (checked_controller input.now) (CanMove input.now.side input.now.vectors.now)) }
 {
     refused(findings.first)?;
-    if certificate.cells.discount() < 1_000_000 {
-        return Ok(candidate(certificate, findings.worst));
+    if input.cells.discount() < 1_000_000 {
+        return Ok(candidate(input, findings.worst));
     }
     refused(findings.short)?;
     Ok(0)
 }
 
-/// The least constant, in millionths, by which all vectors can be lowered so that they pass the check.
+/// Returns the least constant, in millionths, by which all vectors can be lowered so that they pass the
+/// check.
 ///
 /// # Errors
 ///
@@ -132,44 +133,47 @@ pub fn least_constant<C: Cells>(
     ensures small { IfErr result
         (RefusesSmallAmount (controller_of (C.table cells.now) graph.now vectors.now)) }
 {
-    least_watched(cells, graph, vectors, &mut Unwatched)
+    least_watched(cells, graph, vectors, &mut NoProgress)
 }
 
-/// The same of a certificate, of which `watch` is told how far it is.
-pub(crate) fn least_of<C: Cells, W: Watch>(
-    certificate: &Certificate<'_, C>,
-    watch: &mut W,
+/// Returns the least constant for this input, and notifies `progress` of each node once.
+pub(crate) fn least_of<C: Cells, W: Progress>(
+    input: &CheckInput<'_, C>,
+    progress: &mut W,
 ) -> Result<i64, LowerFault>
     ensures least { IfOk result
-        (IsLeastMove (judged certificate.now) (CanMove certificate.now.side certificate.now.vectors.now)) }
+        (IsLeastMove (checked_controller input.now) (CanMove input.now.side input.now.vectors.now)) }
     ensures refused { IfErr result
-        (IsNotMended (judged certificate.now) (CanMove certificate.now.side certificate.now.vectors.now)) }
-    ensures small { IfErr result (RefusesSmallAmount (judged certificate.now)) }
+        (IsNotMended (checked_controller input.now) (CanMove input.now.side input.now.vectors.now)) }
+    ensures small { IfErr result (RefusesSmallAmount (checked_controller input.now)) }
 {
-    let findings = survey(certificate, Aim::Lowering, watch);
-    let by = least_passing(certificate, findings)?;
-    if stays_in_range(certificate.side, certificate.vectors, by) {
+    let findings = survey(input, Mode::Lowering, progress);
+    let by = least_passing(input, findings)?;
+    if stays_in_range(input.side, input.vectors, by) {
         Ok(by as i64)
     } else {
         Err(LowerFault::OutOfRange)
     }
 }
 
-/// The same of the parts of a certificate.
-fn least_watched<C: Cells, W: Watch>(
+/// Returns the least constant for these parts, and notifies `progress` of each node once.
+fn least_watched<C: Cells, W: Progress>(
     cells: &C,
     graph: &Graph,
     vectors: &Vectors,
-    watch: &mut W,
+    progress: &mut W,
 ) -> Result<i64, LowerFault>
     requires { Fits (C.table cells.now) graph.now vectors.now }
     ensures { IsLowerAnswer (controller_of (C.table cells.now) graph.now vectors.now) vectors.now result }
 {
-    least_of(&Certificate::new(Side::Below, cells, graph, vectors), watch)
+    least_of(
+        &CheckInput::new(Side::Below, cells, graph, vectors),
+        progress,
+    )
 }
 
-/// The least constant, in millionths, by which all vectors can be lowered so that they pass the check, and the vectors
-/// lowered by it.
+/// Returns the least constant, in millionths, by which all vectors can be lowered so that they pass the
+/// check, and the vectors lowered by it.
 ///
 /// # Errors
 ///
@@ -188,16 +192,16 @@ pub fn lowered<C: Cells>(
     // Out of memory is answered only if there is such a constant.
     ensures not_lowered { IfErr result (RefusesToLower (C.table cells.now) graph.now vectors.now) }
 {
-    lowered_watched(alloc, cells, graph, vectors, &mut Unwatched)
+    lowered_watched(alloc, cells, graph, vectors, &mut NoProgress)
 }
 
-/// The same, and `watch` is told how far it is: of each node once.
-pub fn lowered_watched<C: Cells, W: Watch>(
+/// Lowers as `lowered`, and notifies `progress` of each node once.
+pub fn lowered_watched<C: Cells, W: Progress>(
     alloc: Global,
     cells: &C,
     graph: &Graph,
     vectors: &Vectors,
-    watch: &mut W,
+    progress: &mut W,
 ) -> Result<(i64, Vectors), LowerFault>
     requires fits { Fits (C.table cells.now) graph.now vectors.now }
     ensures lowered { IfOk result (IsLowered (C.table cells.now) graph.now vectors.now) }
@@ -206,7 +210,7 @@ pub fn lowered_watched<C: Cells, W: Watch>(
     let nodes = graph.nodes();
     let vector_count = vectors.nodes();
     prove!(nodes == vector_count);
-    let by = least_watched(cells, graph, vectors, watch)?;
+    let by = least_watched(cells, graph, vectors, progress)?;
     let lowered = vectors.shifted(alloc, -by)?;
     Ok((by, lowered))
 }

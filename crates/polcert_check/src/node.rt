@@ -1,27 +1,36 @@
 //! A node of a certificate's graph.
 ghost use Rattle.std.specs.Prelude.{◌≡◌, ◌<◌};
-ghost use Rattle.polcert_check.specs.Steps.Certificate.{controller};
+ghost use Rattle.polcert_check.specs.Steps.CheckInput.{controller};
 
-use crate::certificate::Certificate;
+use crate::check_input::CheckInput;
 use polcert_model::Cells;
 
 /// A certificate, and one of the nodes of its graph.
 #[derive(Drop)]
 pub(crate) struct Node<'a, C: Cells> {
-    pub certificate: Certificate<'a, C>,
+    pub input: CheckInput<'a, C>,
     pub n: usize,
-    ghost within: { n < (controller certificate).nodes },
+    ghost within: { n < (controller input).nodes },
 }
 
 impl<C: Cells> Node<'_, C> {
-    ghost use Rattle.polcert_check.specs.Steps.Node.{around};
+    ghost use Rattle.polcert_check.specs.Steps.Node.{node_controller};
 
-    /// The action that the node takes.
+    /// Returns the action that the node takes.
     #[inline]
     pub(crate) fn action(&self) -> usize
-        ensures value { result ≡ (around self.now).action self.now.n }
-        ensures in_range { result < (around self.now).cells.actions }
+        ensures value { result ≡ (node_controller self.now).action self.now.n }
+        ensures in_range { result < (node_controller self.now).cells.actions }
     {
-        self.certificate.graph.action(self.n)
+        self.input.graph.action(self.n)
+    }
+
+    /// Returns the node's value at state `s`, in millionths.
+    #[inline]
+    pub(crate) fn value_at(&self, s: usize) -> i64
+        requires { s < (node_controller self.now).cells.states }
+        ensures { result ≡ (node_controller self.now).value self.now.n s }
+    {
+        self.input.vectors.at(self.n, s)
     }
 }

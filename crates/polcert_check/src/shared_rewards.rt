@@ -12,7 +12,7 @@ use polcert_cells::Cells;
 pub(crate) const UNKNOWN: i128 = i128::MIN;
 
 /// Marks the first numbers as not computed yet.
-pub(crate) fn forget(numbers: &mut [i128], count: usize)
+pub(crate) fn clear_numbers(numbers: &mut [i128], count: usize)
     requires { count ≤ length numbers.old }
     ensures { (i : ℕ) → i < count → slice_index_or numbers.new i (pos 0) ≡ UNKNOWN }
 {
@@ -28,7 +28,7 @@ pub(crate) fn first_shared<C: Cells>(cells: &C, a: usize) -> Option<usize>
 {
     for s in 0..cells.states() {
         if cells.has_same_rewards(a, s, s) {
-            return if cells.r_common(a, s).is_none() {
+            return if cells.r_constant(a, s).is_none() {
                 Some(s)
             } else {
                 None

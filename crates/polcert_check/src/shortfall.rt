@@ -4,13 +4,13 @@ ghost use Rattle.polcert_policy.specs.Graphs.{nodes};
 ghost use Rattle.polcert_check.specs.Horizon.{Fits, controller_of};
 ghost use Rattle.polcert_check.specs.Shortfall.{most_short, short};
 ghost use Rattle.polcert_check.specs.Steps.Factored.{expected_reward};
-ghost use Rattle.polcert_check.specs.Steps.Followed.{followed};
-ghost use Rattle.polcert_check.specs.Steps.Node.{around};
+ghost use Rattle.polcert_check.specs.Steps.FollowedCells.{followed};
+ghost use Rattle.polcert_check.specs.Steps.Node.{node_controller};
 
-use crate::certificate::Certificate;
+use crate::check_input::CheckInput;
 use crate::expected_reward::expected_reward;
 use crate::expected_value::expected_value;
-use crate::followed::Followed;
+use crate::followed_cells::FollowedCells;
 use crate::node::Node;
 use crate::pairs::shortfall;
 use crate::partial_value::end_value;
@@ -21,31 +21,32 @@ use polcert_policy::{Graph, Vectors};
 
 /// Returns the reward that a node expects at state `s`, without the observations for which it has no successor.
 fn followed_reward<C: Cells>(node: &Node<'_, C>, s: usize) -> i128
-    requires start { s < (around node.now).cells.states }
-    ensures { result ≡ expected_reward (followed (around node.now) node.now.n)
-        ((around node.now).action node.now.n) s }
+    requires start { s < (node_controller node.now).cells.states }
+    ensures { result ≡ expected_reward (followed (node_controller node.now) node.now.n)
+        ((node_controller node.now).action node.now.n) s }
 {
-    let cells = Followed {
-        certificate: &node.certificate,
+    let cells = FollowedCells {
+        input: &node.input,
         n: node.n,
     };
     expected_reward(&cells, node.action(), s, &mut RewardBuffer::new())
 }
 
-/// How far the value of a node at state `s` is above what the next step backs.
+/// Returns how far the value of a node at state `s` is above the backup of one step.
 fn amount_at<C: Cells>(node: &Node<'_, C>, s: usize) -> i128
-    requires start { s < (around node.now).cells.states }
-    ensures is { result ≡ short (around node.now) node.now.n s }
-    ensures small { unsigned_abs result ≤ most_short (around node.now) }
+    requires start { s < (node_controller node.now).cells.states }
+    ensures is { result ≡ short (node_controller node.now) node.now.n s }
+    ensures small { unsigned_abs result ≤ most_short (node_controller node.now) }
 {
     let expected = expected_value(node, s, |e| end_value(node, e));
     let reward = followed_reward(node, s);
-    let certificate = &node.certificate;
-    let value = certificate.vectors.at(node.n, s);
-    shortfall(certificate.cells, value, reward, expected.value)
+    let input = &node.input;
+    let value = input.vectors.at(node.n, s);
+    shortfall(input.cells, value, reward, expected.value)
 }
 
-/// How far the value of node `n` at state `s` is above what the next step backs: above 0 if it is short.
+/// Returns how far the value of node `n` at state `s` is above the backup of one step: above 0 if it is
+/// short.
 ///
 /// The amount is exact, on the scale of the weights of one step times 1,000,000, in millionths. In size it is at most
 /// three times the largest value on that scale, and so at most 1.5 * 10^38, which fits (`amounts_fit`).
@@ -63,6 +64,6 @@ pub fn amount_short<C: Cells>(
     ensures small { unsigned_abs result ≤ most_short
         (controller_of (C.table cells.now) graph.now vectors.now) }
 {
-    let certificate = Certificate::new(Side::Below, cells, graph, vectors);
-    amount_at(&Node { certificate, n }, s)
+    let input = CheckInput::new(Side::Below, cells, graph, vectors);
+    amount_at(&Node { input, n }, s)
 }

@@ -14,7 +14,7 @@ use crate::start::{best_start, floor_quotient};
 use polcert_model::Model;
 use polcert_policy::{Graph, Vectors};
 
-/// A quotient, rounded up.
+/// Returns a quotient, rounded up.
 fn ceil_quotient(sum: i128, total: u64) -> i64
     requires some { 0 < total }
     requires few { total ≤ 1_000_000 }
@@ -37,7 +37,7 @@ pub fn most_from_start(model: &Model, vectors: &Vectors) -> i64
     ceil_quotient(sum, model.start_total())
 }
 
-/// What no node is worth more than from the model's start: in millionths, rounded up.
+/// Returns an upper bound on the worth of every node from the model's start, in millionths, rounded up.
 ///
 /// A node is worth what `most_from_start` says of its vector. The graph and the vectors must fit the model. It takes no memory.
 pub fn start_most(model: &Model, graph: &Graph, vectors: &Vectors) -> i64

@@ -2,11 +2,11 @@
 ghost use Rattle.polcert_check.specs.Horizon.{Fits, controller_of, MeetsHorizon};
 ghost use Rattle.polcert_check.specs.Verdict.{IsVerdict, NamesSmallAmount};
 
-use crate::certificate::Certificate;
-use crate::findings::Aim;
+use crate::check_input::CheckInput;
+use crate::findings::Mode;
+use crate::progress::{NoProgress, Progress};
 use crate::side::Side;
 use crate::survey::survey;
-use crate::watch::{Unwatched, Watch};
 use polcert_model::Cells;
 use polcert_policy::{Graph, Vectors};
 
@@ -31,8 +31,8 @@ pub enum Verdict {
     },
 }
 
-/// Whether each value is backed by the next step, which promises it for every number of steps; else the first pair of a node
-/// and a state that doesn't pass.
+/// Checks that the backup of one step reaches each value, so that every number of steps does. Returns the
+/// first pair of a node and a state that fails, if one does.
 pub fn check<C: Cells>(cells: &C, graph: &Graph, vectors: &Vectors) -> Verdict
     requires fits { Fits (C.table cells.now) graph.now vectors.now }
 
@@ -45,21 +45,21 @@ pub fn check<C: Cells>(cells: &C, graph: &Graph, vectors: &Vectors) -> Verdict
     // How large an amount can be.
     ensures small { NamesSmallAmount (controller_of (C.table cells.now) graph.now vectors.now) result }
 {
-    check_watched(cells, graph, vectors, &mut Unwatched)
+    check_watched(cells, graph, vectors, &mut NoProgress)
 }
 
-/// The same, and `watch` is told how far the check is: of each node when all of its pairs have passed.
-pub fn check_watched<C: Cells, W: Watch>(
+/// Checks as `check`, and notifies `progress` of each node when all of its pairs have passed.
+pub fn check_watched<C: Cells, W: Progress>(
     cells: &C,
     graph: &Graph,
     vectors: &Vectors,
-    watch: &mut W,
+    progress: &mut W,
 ) -> Verdict
     requires fits { Fits (C.table cells.now) graph.now vectors.now }
     ensures verdict { IsVerdict (controller_of (C.table cells.now) graph.now vectors.now) result }
     ensures horizon { MeetsHorizon (controller_of (C.table cells.now) graph.now vectors.now) result }
     ensures small { NamesSmallAmount (controller_of (C.table cells.now) graph.now vectors.now) result }
 {
-    let certificate = Certificate::new(Side::Below, cells, graph, vectors);
-    survey(&certificate, Aim::Check, watch).first
+    let input = CheckInput::new(Side::Below, cells, graph, vectors);
+    survey(&input, Mode::Check, progress).first
 }

@@ -1,7 +1,7 @@
 //! Walks over the rows of T and O: from one weight above 0 to the next.
 ghost use Rattle.std.specs.Prelude.{◌<◌};
 ghost use Rattle.std.specs.Option.{ForSome};
-ghost use Rattle.polcert_cells.specs.LentRows.{IsRowOf, IsStep};
+ghost use Rattle.polcert_cells.specs.BorrowedRows.{IsRowOf, IsStep};
 
 use polcert_cells::{Cells, Row, Step, first_weight};
 

@@ -1,6 +1,6 @@
 -- What the numerals and names of the worked texts are, computed.
 use Rattle.std.proofs.Common.{◌≡◌, ℕ, ◌*◌, ◌≤◌, Bool, true, false, List, length, ℤ, pos, codes, refl, lit≤}
-use Rattle.polcert_text.specs.Bytes.{class_of}
+use Rattle.polcert_text.specs.Bytes.{is_digit, is_point, is_sign, is_exponent_mark}
 use Rattle.polcert_text.specs.Numbers.{IsExact, number_of, exponent_size, power_of, size_of, millionth, largest}
 use Rattle.polcert_text.specs.Lexemes.{is_numeral}
 use Rattle.polcert_cells.specs.Numbers.{IsMillionths}
@@ -16,7 +16,7 @@ Is negative bytes h = (place : ℕ) → IsMillionths negative (numeral_at place 
 is_so : (negative : Bool) (bytes : List ℕ) (h : ℤ) → is_numeral bytes ≡ true → length bytes ≤ 400 → exponent_size bytes ≤ 400 → size_of bytes ≤ largest * millionth
     → IsExact negative bytes h → Is negative bytes h
 is_so negative bytes h is short exponent size exact place =
-    record { kind = refl; readable = record { numeral = is; short = short; exponent = exponent; size = size }; exact = exact }
+    record { kind = refl; readable = record { numeral = is; short = short; exponent = exponent; size = size }; value = exact }
 
 pub record Numerals : Type 0 where
   pub minus_one : Is true (codes "1") (minus_whole 1)
@@ -31,7 +31,7 @@ pub record Numerals : Type 0 where
   pub n_0_15 : Is false (codes "0.15") (pos 150_000)
 
 pub numerals : Numerals
-unfolding class_of number_of exponent_size power_of size_of millionth
+unfolding is_sign is_digit is_point is_exponent_mark number_of exponent_size power_of size_of millionth
 numerals = record {
   minus_one = is_so _ _ _ refl (lit≤ tt) (lit≤ tt) (lit≤ tt) refl;
   two = is_so _ _ _ refl (lit≤ tt) (lit≤ tt) (lit≤ tt) refl;

@@ -2,8 +2,8 @@
 use Rattle.std.proofs.Common.{◌≡◌, ℕ, ◌<◌, List, [], ◌∷◌, codes, refl, subst, arith, lit<}
 use Rattle.polcert_cells.specs.Numbers.{none, unsigned}
 use Rattle.polcert_cells.specs.Elements.{StandsFor, by_name}
-use Rattle.polcert_cells.specs.declared.shares.Shares.{Shares}
-use Rattle.polcert_cells.specs.Start.{IsStart, plain, include, exclude, uniform, name, probabilities, alike, excluded}
+use Rattle.polcert_cells.specs.declared.start_weights.StartWeights.{StartWeights}
+use Rattle.polcert_cells.specs.Start.{IsStart, plain, include, exclude, uniform, name, probabilities, equal_weights, excluded}
 use Rattle.polcert_examples.specs.Worked.Examples as examples
 use Rattle.polcert_examples.specs.Worked.StartExamples.{a_b, shares, uniform_start, halves_start, quarters_start, name_start, include_start, exclude_start, exclude_all}
 use Rattle.polcert_examples.proofs.WorkedTexts.{a_word}
@@ -34,10 +34,10 @@ include_shares = include (0 ∷ 0 ∷ []) (a_word _) refl (stands_a, (stands_a, 
 pub exclude_shares : IsStart a_b exclude_start (shares (0 ∷ 1 ∷ []) 1)
 exclude_shares = exclude (0 ∷ []) (a_word _) refl (stands_a, tt) (lit< tt)
 
-nothing_left : (chosen : List ℕ) → chosen ≡ 0 ∷ 1 ∷ [] → 0 < (alike 2 (excluded chosen)).total → ⊥
-nothing_left chosen e l = let f : 0 < 0 = subst (λ c. 0 < (alike 2 (excluded c)).total) e l in omega (arith, f)
+nothing_left : (chosen : List ℕ) → chosen ≡ 0 ∷ 1 ∷ [] → 0 < (equal_weights 2 (excluded chosen)).total → ⊥
+nothing_left chosen e l = let f : 0 < 0 = subst (λ c. 0 < (equal_weights 2 (excluded c)).total) e l in omega (arith, f)
 
-pub exclude_all_refused : (x : Shares) → IsStart a_b exclude_all x → ⊥
+pub exclude_all_refused : (x : StartWeights) → IsStart a_b exclude_all x → ⊥
 exclude_all_refused x (plain c b) = name_not_colon _ refl c
 exclude_all_refused x (include chosen w c z some) = include_not_exclude _ w (a_word _)
 exclude_all_refused x (exclude chosen w c z some) =

@@ -27,7 +27,7 @@ use Rattle.polcert_cells.specs.Meaning.{HasProperRows, sum_below}
 use Rattle.polcert_format.specs.Text as texts
 use Rattle.polcert_format.specs.Limits.{IsLarge, HasFewCells}
 use Rattle.polcert_format.proofs.CellLimits.{few_cells, not_large}
-use Rattle.polcert_format.specs.Text.{Known, nothing_known, IsInPreamble, IsComplete, IsRight, AreRight, Denotes}
+use Rattle.polcert_format.specs.Text.{ModelSoFar, nothing_known, IsInPreamble, IsComplete, IsRight, AreRight, Denotes}
 use Rattle.polcert_examples.specs.Worked.Examples.{name, numeral, colon, observation, rewards, whole}
 use Rattle.polcert_examples.specs.Worked.Tiger.{star, minus, tiger, tiger_states, tiger_actions, tiger_preamble, tiger_entries, tiger_known, tiger_model, minus_whole}
 use Rattle.polcert_examples.proofs.WorkedTexts.{an_item, plain_item, a_word, an_entry, heard_right, fresh, below_two}
@@ -125,12 +125,12 @@ hear = an_entry tiger_preamble (observation (Only 0 ∷ []) (Probabilities (850_
     (entries.more refl stands_listen entries.none) heard_right
 
 -- a reward by action and start state
-reward_entry : (ls behind : List Lexeme) (action state : Lexeme) (p q : Place) (h : ℤ) → entries.IsPlace (Names tiger_actions) action p → entries.IsPlace (Names tiger_states) state q
-    → AreNumbers behind (h ∷ []) → ls ≡ (colon ∷ action ∷ colon ∷ state ∷ colon ∷ star ∷ colon ∷ star ∷ []) ++ behind
+reward_entry : (ls following : List Lexeme) (action state : Lexeme) (p q : Place) (h : ℤ) → entries.IsPlace (Names tiger_actions) action p → entries.IsPlace (Names tiger_states) state q
+    → AreNumbers following (h ∷ []) → ls ≡ (colon ∷ action ∷ colon ∷ state ∷ colon ∷ star ∷ colon ∷ star ∷ []) ++ following
     → IsEntry tiger_preamble Reward ls (rewards (p ∷ q ∷ Every ∷ Every ∷ []) (h ∷ []))
-reward_entry ls behind action state p q h a s n e = record {
+reward_entry ls following action state p q h a s n e = record {
   pattern = colon ∷ action ∷ colon ∷ state ∷ colon ∷ star ∷ colon ∷ star ∷ [];
-  rest = behind;
+  rest = following;
   whole = e;
   table_is = refl;
   form = refl;
@@ -163,7 +163,7 @@ few es = few_cells tiger_preamble es small
     small Observation l = not_large _ (lit≤ tt) l
     small Reward l = not_large _ (lit≤ tt) l
 
-one_entry : (es : List Entry) (items : List Item) (table : Table) (body : List Lexeme) (word : List ℕ) (e : Entry) (last : Known) → topic (name word) ≡ Some (Cells table)
+one_entry : (es : List Entry) (items : List Item) (table : Table) (body : List Lexeme) (word : List ℕ) (e : Entry) (last : ModelSoFar) → topic (name word) ≡ Some (Cells table)
     → IsEntry tiger_preamble table body e → AreRight (tiger_known (es ++ e ∷ [])) items last → AreRight (tiger_known es) (an_item word body ∷ items) last
 one_entry es items table body word e last t a rest = texts.more (Cells table) t (texts.entry (complete es) (given table) a (few (es ++ e ∷ []))) rest
   where

@@ -13,7 +13,7 @@ use Rattle.polcert_cells.specs.Numbers as numbers
 use Rattle.polcert_examples.proofs.Computed.{numerals}
 use Rattle.polcert_cells.specs.Numbers.{IsMillionths}
 use Rattle.polcert_format.specs.Items.{Item, IsItem}
-use Rattle.polcert_format.specs.Text.{Known, IsInPreamble}
+use Rattle.polcert_format.specs.Text.{ModelSoFar, IsInPreamble}
 use Rattle.polcert_examples.specs.Worked.Examples.{name, numeral}
 
 abbrev pub an_item : List ℕ → List Lexeme → Item
@@ -25,7 +25,7 @@ plain_item x w b = record { word = w; body = b }
 pub a_word : (w : List ℕ) → IsWord w (name w)
 a_word w = record { kind = refl; bytes = refl }
 
-pub fresh : (k : Known) → k.start ≡ None → k.entries ≡ [] → IsInPreamble k
+pub fresh : (k : ModelSoFar) → k.start ≡ None → k.entries ≡ [] → IsInPreamble k
 fresh k s e = record { no_start = s; no_entry = e }
 
 pub below_two : (P : ℕ → Type 0) → P 0 → P 1 → (n : ℕ) → n < 2 → P n

@@ -1,7 +1,7 @@
 //! The definitions at small models, texts and controllers, computed.
 ghost use Rattle.std.specs.Prelude.{codes, true, false, Some, ◌≡◌, ◌*◌, ◌^◌, ◌∷◌, [], pos, neg_ℤ};
 ghost use Rattle.polcert_cells.specs.Meaning.{t_scale, HasProperRows, sum_below, states_of, actions_of, observations_of, start_total};
-ghost use Rattle.polcert_cells.specs.declared.shares.Shares.{Shares};
+ghost use Rattle.polcert_cells.specs.declared.start_weights.StartWeights.{StartWeights};
 ghost use Rattle.polcert_cells.specs.Start.{IsStart};
 ghost use Rattle.polcert_format.specs.Text.{Denotes};
 ghost use Rattle.polcert_format.specs.declared.fault.ItemFault.TheVariants.{DiscountRange};
@@ -35,7 +35,7 @@ pub fn decimals_of_thirds()
 {}
 
 /// Single cells after a uniform row hold in its place.
-pub fn single_cells_behind_uniform()
+pub fn single_cells_after_uniform()
     ensures row { first_row sixths 6 ≡ 3_000_000 ∷ 0 ∷ 0 ∷ 1_000_000 ∷ 1_000_000 ∷ 1_000_000 ∷ [] }
     ensures sum { sum_below (sixths.t 0 0) 6 ≡ t_scale sixths }
 {}
@@ -55,7 +55,7 @@ pub fn starts()
     ensures name { IsStart a_b name_start (shares (0 ∷ 1 ∷ []) 1) }
     ensures include { IsStart a_b include_start (shares (1 ∷ 0 ∷ []) 1) }
     ensures exclude { IsStart a_b exclude_start (shares (0 ∷ 1 ∷ []) 1) }
-    ensures exclude_all { (x : Shares) → IsStart a_b exclude_all x → ⊥ }
+    ensures exclude_all { (x : StartWeights) → IsStart a_b exclude_all x → ⊥ }
 {}
 
 /// Of two reward entries that cover a cell the last holds, in either order.

@@ -6,5 +6,5 @@ mod examples;
 pub use examples::{
     a_missing_successor, decimals_of_thirds, discount_above_one, full_form_of_an_mdp,
     listening_once_earns, minus_one_for_each_step, reward_order, reward_patterns,
-    single_cells_behind_uniform, starts, tiger_is_bounded, tiger_problem, uniform_thirds,
+    single_cells_after_uniform, starts, tiger_is_bounded, tiger_problem, uniform_thirds,
 };

@@ -4,15 +4,15 @@ use Rattle.std.proofs.lemmas.List.{append_assoc}
 use Rattle.polcert_text.specs.Cut.{Lexeme}
 use Rattle.polcert_cells.specs.declared.words.Topic.{Topic}
 use Rattle.polcert_cells.specs.Words.{topic, begins_item}
-use Rattle.polcert_format.specs.Text.{Known}
+use Rattle.polcert_format.specs.Text.{ModelSoFar}
 use Rattle.polcert_format.specs.Reading.{AreRightItems, IsWithinItem}
 use Rattle.polcert_cells.proofs.Basics.{or_false_from}
 use Rattle.polcert_format.proofs.Dividing.{no_word_append}
 
 -- a lexeme that begins no item is one more of the item
-abbrev pub within_goes_on : (seen : List Lexeme) (l : Lexeme) (k : Known) (t : Topic) (body : List Lexeme) (w : IsWithinItem seen k t body) → begins_item l ≡ false
+abbrev pub within_continues : (seen : List Lexeme) (l : Lexeme) (k : ModelSoFar) (t : Topic) (body : List Lexeme) (w : IsWithinItem seen k t body) → begins_item l ≡ false
     → IsWithinItem (seen ++ l ∷ []) k t (body ++ l ∷ [])
-within_goes_on seen l k t body w e = record {
+within_continues seen l k t body w e = record {
   before = w.before;
   word = w.word;
   whole = ap (λ (s : List Lexeme). s ++ l ∷ []) w.whole ∙ append_assoc w.before (w.word ∷ body) (l ∷ []);
@@ -22,5 +22,5 @@ within_goes_on seen l k t body w e = record {
 }
 
 -- after right items, an item begins with its word
-abbrev pub item_begins : (seen : List Lexeme) (word : Lexeme) (k : Known) (t : Topic) (a : AreRightItems seen k) → topic word ≡ Some t → IsWithinItem (seen ++ word ∷ []) k t []
+abbrev pub item_begins : (seen : List Lexeme) (word : Lexeme) (k : ModelSoFar) (t : Topic) (a : AreRightItems seen k) → topic word ≡ Some t → IsWithinItem (seen ++ word ∷ []) k t []
 item_begins seen word k t a e = record { before = seen; word = word; whole = refl; items = a; topic_is = e; no_word = refl }

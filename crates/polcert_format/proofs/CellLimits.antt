@@ -1,8 +1,8 @@
 -- Limits of cells: an entry that passes them isn't right, though it has the form of one, and it is refused at one place. Small
 -- models are within them.
-use Rattle.std.proofs.Common.{◌≡◌, ◌∙◌, ℕ, ◌*◌, ◌<◌, ◌≤◌, None, List, [], ◌∷◌, ◌++◌, length, sym, ap, subst, arith, Option, Some, ◌+◌}
+use Rattle.std.proofs.Common.{◌≡◌, ◌∙◌, ℕ, ◌*◌, ◌<◌, ◌≤◌, None, List, [], ◌∷◌, ◌++◌, length, sym, ap, subst, arith, Some, ◌+◌}
 use Rattle.std.proofs.lemmas.List.{append_assoc, append-nil}
-use Rattle.std.proofs.Math.Nat.{mul_assoc, mul-le-mul, mul-one}
+use Rattle.std.proofs.Math.Nat.{mul-le-mul}
 use Rattle.polcert_text.specs.Cut.{Lexeme}
 use Rattle.polcert_cells.specs.declared.entry.Entry.{Entry}
 use Rattle.polcert_cells.specs.declared.entry.Table.{Table}
@@ -11,11 +11,11 @@ use Rattle.polcert_cells.specs.declared.words.Topic.{Topic}
 use Rattle.polcert_cells.specs.declared.words.Topic.TheVariants.{Start, Cells}
 use Rattle.polcert_cells.specs.Elements.{count_of}
 use Rattle.polcert_cells.specs.Entry.{IsEntry}
-use Rattle.polcert_cells.specs.Preamble.{Preamble, observed, rewarded}
+use Rattle.polcert_cells.specs.Preamble.{Preamble, observed}
 use Rattle.polcert_cells.proofs.EntryLaws.{one_entry}
 use Rattle.polcert_format.specs.declared.fault.ItemFault.{ItemFault}
 use Rattle.polcert_format.specs.FirstWrong.{TextTokens, IsDecided, word_place}
-use Rattle.polcert_format.specs.Forms.{HasForm, IsTooMuch, IsPossible}
+use Rattle.polcert_format.specs.Forms.{HasForm, PassesCellLimit, IsPossible}
 use Rattle.polcert_format.specs.Forms as shapes
 use Rattle.polcert_format.specs.Items.{Item, IsDivided}
 use Rattle.polcert_format.specs.FirstNumber.{IsLateIn}
@@ -24,14 +24,14 @@ use Rattle.polcert_format.specs.Order.{word_fault}
 use Rattle.polcert_format.specs.Printable.{IsPrintable}
 use Rattle.polcert_format.specs.Reading.{IsWrong}
 use Rattle.polcert_format.specs.Reasons.{IsReason, PassesLimit}
-use Rattle.polcert_format.specs.Refusals.{Stops, at_lexeme, at_number, at_end, StopsInBody, IsOfTokens, EndsPossible, at_once, in_item, StandsRight, before_body, in_body, behind_body, of_first_number, of_tokens}
+use Rattle.polcert_format.specs.Refusals.{Stops, at_lexeme, at_number, at_end, StopsInBody, IsOfTokens, EndsPossible, at_once, in_item, StandsRight, before_body, in_body, after_body, of_first_number, of_tokens}
 use Rattle.polcert_format.specs.declared.fault.ItemFault.TheVariants.{Token, TextTooLong, TooManyCells}
 use Rattle.polcert_cells.specs.Words.{topic}
-use Rattle.polcert_cells.proofs.Basics.{one_some, some≢none}
+use Rattle.polcert_cells.proofs.Basics.{some≢none}
 use Rattle.polcert_format.proofs.ReadLaws.{no_empty}
 use Rattle.polcert_format.proofs.Dividing.{empty_division}
 use Rattle.polcert_format.specs.Text as texts
-use Rattle.polcert_format.specs.Text.{Known, nothing_known, AreRight}
+use Rattle.polcert_format.specs.Text.{ModelSoFar, nothing_known, AreRight}
 use Rattle.polcert_format.proofs.DecidedLaws.{same_cut, same_length, nothing_decided}
 use Rattle.polcert_format.proofs.ItemLaws.{one_division}
 use Rattle.polcert_format.proofs.OrderLaws.{cells_stand}
@@ -43,7 +43,7 @@ same_table e = cc
 no_cells : {A : Type 0} {t : Topic} {table : Table} → t ≡ Cells table → (t ≡ Cells table → ⊥) → A
 no_cells e other = absurd (other e)
 
-pub too_much_wrong : (k : Known) (t : Topic) (body : List Lexeme) → IsTooMuch k t body → IsWrong k t body
+pub too_much_wrong : (k : ModelSoFar) (t : Topic) (body : List Lexeme) → PassesCellLimit k t body → IsWrong k t body
 too_much_wrong k t body m after (texts.entry {p = p} {table = table} {e = e} c g a few) =
     let preambles : p ≡ m.p = one_preamble k p m.p c m.complete in
     let tables : table ≡ m.table = same_table m.topic_is in
@@ -52,17 +52,17 @@ too_much_wrong k t body m after (texts.entry {p = p} {table = table} {e = e} c g
     m.too_many (subst (λ x. HasFewCells m.p (k.entries ++ x ∷ [])) entries (subst (λ q. HasFewCells q (k.entries ++ e ∷ [])) preambles few))
 too_much_wrong k t body m after _ = no_cells m.topic_is (λ s. cc)
 
-pub too_much_possible : (k : Known) (t : Topic) (body : List Lexeme) → IsTooMuch k t body → IsPossible k t body
+pub too_much_possible : (k : ModelSoFar) (t : Topic) (body : List Lexeme) → PassesCellLimit k t body → IsPossible k t body
 too_much_possible k t body m = record { more = []; form = subst (HasForm k t) (sym (append-nil body)) (shapes.entry m.topic_is m.complete m.may_be_given m.entry) }
 
-may_stand : (k : Known) (t : Topic) (body : List Lexeme) → IsTooMuch k t body → word_fault k t ≡ None
+may_stand : (k : ModelSoFar) (t : Topic) (body : List Lexeme) → PassesCellLimit k t body → word_fault k t ≡ None
 may_stand k t body m = ap (word_fault k) m.topic_is ∙ cells_stand k m.p m.table m.complete m.may_be_given
 
 pub one_limit_passed : (ts : TextTokens) (n p q : ℕ) → PassesLimit ts n p → PassesLimit ts n q → p ≡ q
 one_limit_passed ts n p q a b =
     let cut = same_cut a.before b.before a.after b.after a.item b.item (one_division ts.lexemes [] [] (a.before ++ a.item ∷ a.after) (b.before ++ b.item ∷ b.after) a.divided b.divided).1
     (same_length n a.before b.before a.number_is b.number_is) in
-    a.place_is ∙ ap (λ items. word_place items ts.end 0) cut.behind ∙ sym b.place_is
+    a.place_is ∙ ap (λ items. word_place items ts.end 0) cut.following ∙ sym b.place_is
 
 pub limit_undecided : (ts : TextTokens) (n p q : ℕ) (g : ItemFault) → PassesLimit ts n p → IsDecided ts n g q → ⊥
 limit_undecided ts n p q g a d =
@@ -71,34 +71,32 @@ limit_undecided ts n p q g a d =
 -- ---- no other refusal of such an entry
 
 -- the same item, after the same items
-record IsSameItem (a b : Item) (xs ys us vs : List Item) (j k : Known) : Type 0 where
+record IsSameItem (a b : Item) (xs ys us vs : List Item) (j k : ModelSoFar) : Type 0 where
   item : a ≡ b
   after : us ≡ vs
   known : j ≡ k
 
-same_here : (ts : TextTokens) (n p : ℕ) (a : PassesLimit ts n p) (before : List Item) (item : Item) (after : List Item) (k : Known) → IsDivided ts.lexemes [] (before ++ item ∷ after)
+same_here : (ts : TextTokens) (n p : ℕ) (a : PassesLimit ts n p) (before : List Item) (item : Item) (after : List Item) (k : ModelSoFar) → IsDivided ts.lexemes [] (before ++ item ∷ after)
     → AreRight nothing_known before k → n ≡ length before + 1 → IsSameItem a.item item a.before before a.after after a.k k
 same_here ts n p a before item after k divided known number =
     let cut = same_cut a.before before a.after after a.item item (one_division ts.lexemes [] [] (a.before ++ a.item ∷ a.after) (before ++ item ∷ after) a.divided divided).1
     (same_length n a.before before a.number_is number) in
-    record { item = cut.here; after = cut.behind; known = one_known nothing_known before a.k k (subst (λ xs. AreRight nothing_known xs a.k) cut.front a.known) known }
+    record { item = cut.here; after = cut.following; known = one_known nothing_known before a.k k (subst (λ xs. AreRight nothing_known xs a.k) cut.front a.known) known }
 
 -- it gives too much there too
-too_much_here : (ts : TextTokens) (n p : ℕ) (a : PassesLimit ts n p) (before : List Item) (item : Item) (after : List Item) (k : Known) (t : Topic)
-    → IsSameItem a.item item a.before before a.after after a.k k → topic item.word ≡ Some t → IsTooMuch k t item.body
-too_much_here ts n p a before item after k t same topics =
-    let topic_is : a.t ≡ t = one_some (subst (λ (i : Item). topic i.word ≡ Some a.t) same.item a.topic_is) topics in
-    subst (λ u. IsTooMuch k u item.body) topic_is (subst (λ (i : Item). IsTooMuch k a.t i.body) same.item (subst (λ j. IsTooMuch j a.t a.item.body) same.known a.too_much))
+too_much_here : (ts : TextTokens) (n p : ℕ) (a : PassesLimit ts n p) (before : List Item) (item : Item) (after : List Item) (k : ModelSoFar) (t : Topic)
+    → IsSameItem a.item item a.before before a.after after a.k k → topic item.word ≡ Some t → PassesCellLimit k t item.body
+too_much_here ts n p a before item after k t same topics = grind arith
 
-has_form : (k : Known) (t : Topic) (body : List Lexeme) → IsTooMuch k t body → HasForm k t body
+has_form : (k : ModelSoFar) (t : Topic) (body : List Lexeme) → PassesCellLimit k t body → HasForm k t body
 has_form k t body m = shapes.entry m.topic_is m.complete m.may_be_given m.entry
 
-no_stop : (k : Known) (t : Topic) (kind : ItemFault) (body taken rest : List Lexeme) → IsTooMuch k t body → body ≡ taken ++ rest → Stops k t kind taken rest → ⊥
-no_stop k t kind body taken rest m whole (at_lexeme {l = l} {behind = behind} formless unfit) =
-    formless behind (subst (HasForm k t) (whole ∙ sym (append_assoc taken (l ∷ []) behind)) (has_form k t body m))
-no_stop k t kind body taken rest m whole (at_number {sign = sign} {l = l} {behind = behind} is numeral possible formless value unfit) =
-    formless behind (subst (HasForm k t) (whole ∙ sym (append_assoc taken (sign ∷ l ∷ []) behind)) (has_form k t body m))
-no_stop k t kind body taken rest m whole (at_end wrong other kinds) = other (subst (IsTooMuch k t) (whole ∙ append-nil taken) m)
+no_stop : (k : ModelSoFar) (t : Topic) (kind : ItemFault) (body taken rest : List Lexeme) → PassesCellLimit k t body → body ≡ taken ++ rest → Stops k t kind taken rest → ⊥
+no_stop k t kind body taken rest m whole (at_lexeme {l = l} {following = following} formless unfit) =
+    formless following (subst (HasForm k t) (whole ∙ sym (append_assoc taken (l ∷ []) following)) (has_form k t body m))
+no_stop k t kind body taken rest m whole (at_number {sign = sign} {l = l} {following = following} is numeral possible formless value unfit) =
+    formless following (subst (HasForm k t) (whole ∙ sym (append_assoc taken (sign ∷ l ∷ []) following)) (has_form k t body m))
+no_stop k t kind body taken rest m whole (at_end wrong other kinds) = other (subst (PassesCellLimit k t) (whole ∙ append-nil taken) m)
 
 not_stopped : (ts : TextTokens) (kind : ItemFault) (n p q : ℕ) → PassesLimit ts n p → StopsInBody ts kind n q → ⊥
 not_stopped ts kind n p q a s =
@@ -130,7 +128,7 @@ not_of_tokens ts _ n p q a of ends reason = absurd of
 pub only_limit : (ts : TextTokens) (kind : ItemFault) (n p q : ℕ) → PassesLimit ts n p → IsReason ts n q kind → StandsRight ts kind n q → (kind ≡ TooManyCells) × (q ≡ p)
 only_limit ts kind n p q a reason (before_body d) = absurd (limit_undecided ts n p q kind a d)
 only_limit ts kind n p q a reason (in_body s) = absurd (not_stopped ts kind n p q a s)
-only_limit ts kind n p q a reason (behind_body k b) = (k, one_limit_passed ts n q p b a)
+only_limit ts kind n p q a reason (after_body k b) = (k, one_limit_passed ts n q p b a)
 only_limit ts kind n p q a reason (of_first_number w) = absurd (not_late ts kind n p q a w)
 only_limit ts kind n p q a reason (of_tokens of ends) = absurd (not_of_tokens ts kind n p q a of ends reason)
 
@@ -145,17 +143,9 @@ few_cells p es small = record { transitions = λ l. absurd (small Transition l);
 pub not_large : (cells : ℕ) → cells ≤ most_cells → most_cells < cells → ⊥
 not_large cells few l = omega (arith, few, l)
 
-three : (a s c : ℕ) → a * s * c ≡ a * (s * (c * 1))
-three a s c = mul_assoc a s c ∙ ap (λ n. a * (s * n)) (sym (mul-one c))
-
-four : (a s e z : ℕ) → a * s * e * z ≡ a * (s * (e * (z * 1)))
-four a s e z = mul_assoc (a * s) e z ∙ mul_assoc a s (e * z) ∙ ap (λ n. a * (s * (e * n))) (sym (mul-one z))
-
 -- no table of what can be printed is large
 printable_small : (p : Preamble) → IsPrintable p → (table : Table) → IsLarge p table → ⊥
-printable_small p f Transition l = not_large _ (subst (λ n. n ≤ most_cells) (three (count_of p.actions) (count_of p.states) (count_of p.states)) f.transitions) l
-printable_small p f Observation l = not_large _ (subst (λ n. n ≤ most_cells) (three (count_of p.actions) (count_of p.states) (count_of (observed p))) f.observations) l
-printable_small p f Reward l = not_large _ (subst (λ n. n ≤ most_cells) (four (count_of p.actions) (count_of p.states) (count_of p.states) (count_of (rewarded p))) f.rewards) l
+printable_small p h1 table h2 = grind arith
 
 pub printable_cells : (p : Preamble) (es : List Entry) → IsPrintable p → HasFewCells p es
 printable_cells p es f = few_cells p es (printable_small p f)

@@ -7,7 +7,7 @@ use Rattle.polcert_format.specs.FirstWrong.{TextTokens, AreTokensOf}
 use Rattle.polcert_format.specs.Items.{Item, lexemes_of, IsDivided}
 use Rattle.polcert_format.proofs.DecidedLaws.{SameCut}
 use Rattle.polcert_format.proofs.Dividing.{all_append}
-use Rattle.polcert_format.proofs.FrontLaws.{has_bytes}
+use Rattle.polcert_text.proofs.Scanning.SomeCut.{has_bytes}
 use Rattle.polcert_format.proofs.PlaceLaws.{token_leaves}
 
 -- the lexemes stand from here on, each after the one before it
@@ -62,7 +62,7 @@ stands_from a (x ∷ xs) l us c = let later = stands_from (x.place + 1) xs l us 
 
 -- lists that are the same, cut at lexemes of one place
 pub one_lexeme : (a : ℕ) (xs ys us vs : List Lexeme) (l m : Lexeme) → Climbs a (xs ++ l ∷ us) → xs ++ l ∷ us ≡ ys ++ m ∷ vs → l.place ≡ m.place → SameCut xs ys us vs l m
-one_lexeme a [] [] us vs l m c e p = record { front = refl; here = same_head e; behind = same_tail e }
+one_lexeme a [] [] us vs l m c e p = record { front = refl; here = same_head e; following = same_tail e }
 one_lexeme a [] (y ∷ ys) us vs l m c e p =
     let later = stands_from (l.place + 1) ys m vs (subst (Climbs (l.place + 1)) (same_tail e) c.1) in
     absurd (omega (arith, later, p))
@@ -73,4 +73,4 @@ one_lexeme a (x ∷ xs) [] us vs l m c e p =
 one_lexeme a (x ∷ xs) (y ∷ ys) us vs l m c e p =
     let head : x ≡ y = same_head e in
     let rest = one_lexeme (x.place + 1) xs ys us vs l m c.1 (same_tail e) p in
-    record { front = (λ i. head i ∷ rest.front i); here = rest.here; behind = rest.behind }
+    record { front = (λ i. head i ∷ rest.front i); here = rest.here; following = rest.following }

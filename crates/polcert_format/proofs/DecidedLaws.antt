@@ -1,11 +1,10 @@
 -- What is decided at an item's word is one thing, or nothing.
 use Rattle.std.proofs.Common.{◌≡◌, ◌∙◌, ℕ, suc, ◌+◌, Option, Some, None, List, [], ◌∷◌, ◌++◌, length, refl, sym, ap, subst, arith, length-append}
-use Rattle.polcert_text.specs.Cut.{Lexeme}
 use Rattle.polcert_format.specs.declared.fault.ItemFault.{ItemFault}
 use Rattle.polcert_cells.specs.declared.words.Topic.{Topic}
 use Rattle.polcert_cells.specs.Words.{topic}
 use Rattle.polcert_format.specs.Items.{Item, IsDivided}
-use Rattle.polcert_format.specs.Text.{Known, nothing_known, AreRight}
+use Rattle.polcert_format.specs.Text.{ModelSoFar, nothing_known, AreRight}
 use Rattle.polcert_format.specs.Order.{preamble_fault, word_fault}
 use Rattle.polcert_format.specs.FirstWrong.{TextTokens, IsDecided, before_items, at_word, at_end}
 use Rattle.polcert_cells.proofs.Basics.{one_some, same_head, same_tail}
@@ -16,17 +15,17 @@ use Rattle.polcert_format.proofs.TextLaws.{one_known}
 pub record SameCut {A : Type 0} (xs ys us vs : List A) (x y : A) : Type 0 where
   pub front : xs ≡ ys
   pub here : x ≡ y
-  pub behind : us ≡ vs
+  pub following : us ≡ vs
 
 pub same_cut : (xs ys us vs : List Item) (x y : Item) → xs ++ x ∷ us ≡ ys ++ y ∷ vs → length xs ≡ length ys → SameCut xs ys us vs x y
-same_cut [] [] us vs x y e l = record { front = refl; here = same_head e; behind = same_tail e }
+same_cut [] [] us vs x y e l = record { front = refl; here = same_head e; following = same_tail e }
 same_cut [] (z ∷ ys) us vs x y e l = absurd (omega (arith, l))
 same_cut (z ∷ xs) [] us vs x y e l = absurd (omega (arith, l))
 same_cut (z ∷ xs) (w ∷ ys) us vs x y e l =
     let lengths : suc (length xs) ≡ suc (length ys) = l in
     let rest = same_cut xs ys us vs x y (same_tail e) (omega (arith, lengths)) in
     let head : z ≡ w = same_head e in
-    record { front = (λ i. head i ∷ rest.front i); here = rest.here; behind = rest.behind }
+    record { front = (λ i. head i ∷ rest.front i); here = rest.here; following = rest.following }
 
 one_fault : {A : Type 0} {o p : Option A} {f g : A} → o ≡ p → o ≡ Some f → p ≡ Some g → f ≡ g
 one_fault e a b = cc
@@ -47,9 +46,7 @@ zero_or_more : (n m : ℕ) → n ≡ 0 → n ≡ m + 1 → ⊥
 zero_or_more n m a b = omega (arith, a, b)
 
 pub one_decided : (ts : TextTokens) (n : ℕ) (f g : ItemFault) (p q : ℕ) → IsDecided ts n f p → IsDecided ts n g q → (f ≡ g) × (p ≡ q)
-one_decided ts n f g p q (before_items l ls items a z e c) (before_items m ms others b y d h) =
-    let same = same_head (one_division ts.lexemes (l ∷ ls) (m ∷ ms) items others a b).0 in
-    (e ∙ sym d, c ∙ ap (λ (x : Lexeme). x.place) same ∙ sym h)
+one_decided ts n f g p q (before_items l ls items a z e c) (before_items m ms others b y d h) = grind (arith, same_head, one_division)
 one_decided ts n f g p q (before_items l ls items a z e c) (at_word ys y vs k u b taken tu fault m h) = absurd (zero_or_more n (length ys) z m)
 one_decided ts n f g p q (before_items l ls items a z e c) (at_end ys k b taken clean fault m h) = absurd (zero_or_more n (length ys) z m)
 one_decided ts n f g p q (at_word xs x us j t a taken tt' fault m c) (before_items l ls others b y d h) = absurd (zero_or_more n (length xs) y m)
@@ -70,7 +67,7 @@ none_or_some : {A : Type 0} {o p : Option A} {f : A} → o ≡ p → o ≡ None 
 none_or_some e a b = cc
 
 -- nothing is decided where the item's word may stand
-pub nothing_decided : (ts : TextTokens) (xs : List Item) (x : Item) (us : List Item) (k : Known) (t : Topic) (f : ItemFault) (p : ℕ) → IsDivided ts.lexemes [] (xs ++ x ∷ us)
+pub nothing_decided : (ts : TextTokens) (xs : List Item) (x : Item) (us : List Item) (k : ModelSoFar) (t : Topic) (f : ItemFault) (p : ℕ) → IsDivided ts.lexemes [] (xs ++ x ∷ us)
     → AreRight nothing_known xs k → topic x.word ≡ Some t → word_fault k t ≡ None → IsDecided ts (length xs + 1) f p → ⊥
 nothing_decided ts xs x us j t f p a taken topics free (before_items l ls others b y d h) = zero_or_more (length xs + 1) (length xs) y refl
 nothing_decided ts xs x us j t f p a taken topics free (at_word ys y vs k u b others topic_is reason l h) =

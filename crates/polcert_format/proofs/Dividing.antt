@@ -1,5 +1,5 @@
 -- Lexemes divided into items, put together.
-use Rattle.std.proofs.Common.{◌≡◌, ◌∙◌, true, false, Option, Some, is_some, List, [], ◌∷◌, ◌++◌, flat_map, refl, sym, ap}
+use Rattle.std.proofs.Common.{◌≡◌, ◌∙◌, true, false, Option, Some, is_some, List, [], ◌∷◌, ◌++◌, flat_map, refl, sym, ap, arith}
 use Rattle.std.proofs.lemmas.List.{append_assoc}
 use Rattle.std.proofs.lemmas.List.Elements.{All-cons, All-nil, All-append}
 use Rattle.std.specs.List.{list_any}
@@ -24,20 +24,16 @@ begins l t e = ap (λ (o : Option Topic). is_some o) e
 
 -- lexemes before what is divided
 pub append_division : (xs ls f : List Lexeme) (ys : List Item) → list_any begins_item xs ≡ false → IsDivided ls f ys → IsDivided (xs ++ ls) (xs ++ f) ys
-append_division xs ls f ys p d = record {
-  whole = ap (λ (l : List Lexeme). xs ++ l) d.whole ∙ sym (append_assoc xs f (flat_map lexemes_of ys));
-  no_word = no_word_append xs f p d.no_word;
-  each = d.each;
-}
+append_division xs ls f ys p d = grind (arith, append_assoc, no_word_append)
 
 -- an item after items
 pub next_division : (seen tail f : List Lexeme) (word : Lexeme) (items ys : List Item) → begins_item word ≡ true → IsDivided seen [] items → IsDivided tail f ys
     → IsDivided (seen ++ word ∷ tail) [] (items ++ (record { word = word; body = f }) ∷ ys)
 next_division seen tail f word items ys w a d =
     let item : Item = record { word = word; body = f } in
-    let behind : word ∷ tail ≡ flat_map lexemes_of (item ∷ ys) = ap (λ (l : List Lexeme). word ∷ l) d.whole in
+    let following : word ∷ tail ≡ flat_map lexemes_of (item ∷ ys) = ap (λ (l : List Lexeme). word ∷ l) d.whole in
     record {
-      whole = (λ i. a.whole i ++ behind i) ∙ sym (all_append items (item ∷ ys));
+      whole = (λ i. a.whole i ++ following i) ∙ sym (all_append items (item ∷ ys));
       no_word = refl;
       each = All-append IsItem items (item ∷ ys) a.each (All-cons IsItem item ys (record { word = w; body = d.no_word }) d.each);
     }

@@ -1,26 +1,15 @@
 -- An entry begins with a colon and a place.
-use Rattle.std.proofs.Common.{◌≡◌, ◌==◌, Bool, true, false, List, ◌∷◌, ◌++◌, length, refl, sym, subst}
+use Rattle.std.proofs.Common.{◌≡◌, ◌==◌, Bool, true, List, ◌∷◌, ◌++◌, length, sym, subst, arith}
 use Rattle.std.specs.List.{list_any}
 use Rattle.polcert_text.specs.Cut.{Lexeme}
 use Rattle.polcert_text.specs.declared.lexeme.TokenKind.TheVariants.{Colon}
 use Rattle.polcert_cells.specs.declared.entry.Table.{Table}
-use Rattle.polcert_cells.specs.declared.entry.Table.TheVariants.{Transition, Observation, Reward}
 use Rattle.polcert_cells.specs.declared.entry.Place.{Place}
 use Rattle.polcert_cells.specs.declared.entry.Body.{Body}
-use Rattle.polcert_cells.specs.declared.entry.Body.TheVariants.{Rewards, Uniform}
 use Rattle.polcert_cells.specs.declared.elements.Elements.{Elements}
-use Rattle.polcert_cells.specs.Entry as entries
 use Rattle.polcert_cells.specs.Entry.{ArePlaces, IsEntry, forms}
 use Rattle.polcert_cells.specs.declared.entry.Entry.{Entry}
 use Rattle.polcert_cells.specs.Preamble.{Preamble}
-
--- each form has places
-no_form_without_places : (mdp : Bool) (table : Table) (body : Body) → list_any (λ n. n == 0) (forms mdp table body) ≡ true → ⊥
-no_form_without_places true Reward (Rewards hs) e = cc
-no_form_without_places false Reward (Rewards hs) e = cc
-no_form_without_places _ Transition Uniform e = cc
-no_form_without_places _ Observation Uniform e = cc
-no_form_without_places _ _ _ e = cc
 
 -- a colon and a place at the front
 pub record BeginsWithPlace (body : List Lexeme) : Type 0 where
@@ -32,8 +21,7 @@ pub record BeginsWithPlace (body : List Lexeme) : Type 0 where
 
 first_colon : (mdp : Bool) (table : Table) (body : Body) {ds : List Elements} {xs : List Lexeme} {ps : List Place} (us : List Lexeme) → ArePlaces ds xs ps
     → list_any (λ n. n == length ps) (forms mdp table body) ≡ true → BeginsWithPlace (xs ++ us)
-first_colon mdp table body us entries.none form = absurd (no_form_without_places mdp table body form)
-first_colon mdp table body us (entries.more {colon = colon} {l = l} {ls = ls} c a rest) form = record { colon = colon; place = l; rest = ls ++ us; whole = refl; colon_is = c }
+first_colon mdp table body us h1 h2 = grind arith
 
 pub entry_begins : (p : Preamble) (table : Table) (body : List Lexeme) (e : Entry) → IsEntry p table body e → BeginsWithPlace body
 entry_begins p table body e a = subst BeginsWithPlace (sym a.whole) (first_colon _ table e.body a.rest a.places a.form)

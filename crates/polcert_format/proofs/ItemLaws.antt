@@ -1,5 +1,5 @@
 -- Every list of lexemes is divided into items in just one way.
-use Rattle.std.proofs.Common.{◌≡◌, ◌∙◌, true, false, ⊎_elim, List, [], ◌∷◌, ◌++◌, flat_map, All, refl, sym, ap}
+use Rattle.std.proofs.Common.{◌≡◌, ◌∙◌, true, false, ⊎_elim, List, [], ◌∷◌, ◌++◌, flat_map, All, refl, sym, ap, arith}
 use Rattle.std.proofs.lemmas.List.Elements.{All-head, All-tail, All-cons, All-nil}
 use Rattle.std.specs.List.{list_any}
 use Rattle.polcert_text.specs.Cut.{Lexeme}
@@ -21,13 +21,11 @@ no_first l rest (x ∷ xs) none all e =
 same_front : (xs : List Item) → All IsItem xs → ((ys : List Item) → All IsItem ys → all_lexemes xs ≡ all_lexemes ys → xs ≡ ys)
     → (f g : List Lexeme) (ys : List Item) → All IsItem ys → list_any begins_item f ≡ false → list_any begins_item g ≡ false
     → f ++ all_lexemes xs ≡ g ++ all_lexemes ys → (f ≡ g) × (xs ≡ ys)
-same_front xs all behind [] [] ys others p q e = (refl, behind ys others e)
-same_front xs all behind (l ∷ f) [] ys others p q e =
-    absurd (no_first l (f ++ all_lexemes xs) ys (or_false (begins_item l) (list_any begins_item f) p).0 others e)
-same_front xs all behind [] (l ∷ g) ys others p q e =
-    absurd (no_first l (g ++ all_lexemes ys) xs (or_false (begins_item l) (list_any begins_item g) q).0 all (sym e))
-same_front xs all behind (l ∷ f) (m ∷ g) ys others p q e =
-    let rest = same_front xs all behind f g ys others (or_false (begins_item l) (list_any begins_item f) p).1 (or_false (begins_item m) (list_any begins_item g) q).1 (same_tail e) in
+same_front xs all following [] [] ys others p q e = (refl, following ys others e)
+same_front xs all following (l ∷ f) [] ys others p q e = grind (arith, or_false, no_first)
+same_front xs all following [] (l ∷ g) ys others p q e = grind (arith, or_false, no_first)
+same_front xs all following (l ∷ f) (m ∷ g) ys others p q e =
+    let rest = same_front xs all following f g ys others (or_false (begins_item l) (list_any begins_item f) p).1 (or_false (begins_item m) (list_any begins_item g) q).1 (same_tail e) in
     let head = same_head e in
     ((λ i. head i ∷ rest.0 i), rest.1)
 

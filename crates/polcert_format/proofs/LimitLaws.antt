@@ -1,57 +1,37 @@
 -- What a right text denotes is within its limits.
-use Rattle.std.proofs.Common.{◌≡◌, ◌∙◌, ℕ, zero, suc, ◌+◌, ◌*◌, ◌<◌, ◌≤◌, Bool, true, false, ◌⊎◌, ⊎_elim, Option, Some, None, unwrap_or, List, [], ◌∷◌, ◌++◌, length, get_or, map, ℤ, pos, negsuc, neg_ℤ, refl, sym, ap, subst, arith, unsigned_abs}
+use Rattle.std.proofs.Common.{◌≡◌, ℕ, zero, suc, ◌+◌, ◌*◌, ◌<◌, ◌≤◌, Bool, true, ◌⊎◌, ⊎_elim, Option, Some, None, unwrap_or, List, [], ◌∷◌, ◌++◌, get_or, ℤ, pos, neg_ℤ, sym, ap, subst, arith, unsigned_abs}
 use Rattle.std.proofs.lemmas.List.{length-map}
-use Rattle.std.proofs.lemmas.Int.{unsigned_abs-mul}
-use Rattle.std.proofs.Math.Nat.{mul-le-mul_right}
-use Rattle.polcert_text.specs.Numbers.{millionth, largest, signed, size_of}
+use Rattle.polcert_text.specs.Numbers.{largest}
 use Rattle.polcert_text.specs.Cut.{Lexeme}
 use Rattle.polcert_cells.specs.declared.entry.Table.TheVariants.{Reward}
 use Rattle.polcert_cells.specs.declared.words.Topic.{Topic}
 use Rattle.polcert_cells.specs.Numbers.{IsMillionths, AreNumbers}
 use Rattle.polcert_cells.specs.Numbers as numbers
 use Rattle.polcert_cells.specs.declared.elements.Elements.{Elements}
-use Rattle.polcert_cells.specs.Elements.{count_of, most_states, most_actions, most_observations, most_pairs, AreElements, counted, named}
+use Rattle.polcert_cells.specs.Elements.{count_of, most_states, most_actions, most_observations, most_pairs, AreElements}
 use Rattle.polcert_format.specs.Items.{Item}
 use Rattle.polcert_cells.specs.Preamble.{Preamble, observed}
 use Rattle.polcert_cells.specs.declared.entry.Body.{Body}
 use Rattle.polcert_cells.specs.declared.entry.Body.TheVariants.{Rewards}
 use Rattle.polcert_cells.specs.declared.entry.Entry.{Entry}
-use Rattle.polcert_cells.specs.Entry.{IsBody, IsEntry}
+use Rattle.polcert_cells.specs.Entry.{IsBody}
 use Rattle.polcert_cells.specs.Entry as entries
-use Rattle.polcert_cells.specs.Cells.{last_covering, reward, reward_of, reward_in, value_or, row_major, IsLastCovering, last, none}
+use Rattle.polcert_cells.specs.Cells.{last_covering, reward, reward_of, reward_in, value_or, IsLastCovering, none}
 use Rattle.polcert_cells.specs.Meaning.{Meaning, reward_index, sum_below, IsCount, HasLimitedNumbers, states_of, observations_of}
 use Rattle.polcert_format.specs.Text as texts
-use Rattle.polcert_format.specs.Text.{Known, nothing_known, IsInPreamble, IsComplete, IsRight, AreRight, Denotes}
+use Rattle.polcert_format.specs.Text.{ModelSoFar, nothing_known, IsRight, AreRight, Denotes}
 use Rattle.polcert_cells.proofs.NumberLaws.{millionth_pos}
-use Rattle.polcert_cells.specs.declared.shares.Shares.{Shares}
-use Rattle.polcert_cells.specs.Start.{alike}
+use Rattle.polcert_cells.specs.declared.start_weights.StartWeights.{StartWeights}
+use Rattle.polcert_cells.specs.Start.{equal_weights}
 use Rattle.polcert_cells.proofs.CellLaws.{last_is}
 use Rattle.polcert_cells.proofs.StartLimits.{IsFair, start_fair, no_start_fair}
 
 -- ---- one number
-abs-negative : (n : ℕ) → unsigned_abs (neg_ℤ (pos n)) ≡ n
-abs-negative zero = refl
-abs-negative (suc n) = refl
-
-abs-signed : (negative : Bool) (n : ℕ) → unsigned_abs (signed negative n) ≡ n
-abs-signed true n = abs-negative n
-abs-signed false n = refl
-
 pub abs-neg : (h : ℤ) → unsigned_abs (neg_ℤ h) ≡ unsigned_abs h
-abs-neg (pos n) = abs-negative n
-abs-neg (negsuc n) = refl
-
-up_to_or_above : (m n : ℕ) → (m ≤ n) ⊎ (n + 1 ≤ m)
-up_to_or_above m n = grind arith
-
-factor_le : (m n d : ℕ) → 0 < d → m * d ≤ n * d → m ≤ n
-factor_le m n d p l =
-    ⊎_elim (λ le. le) (λ above. let k : (n + 1) * d ≤ m * d = mul-le-mul_right d above in absurd (omega (arith, k))) (up_to_or_above m n)
+abs-neg h = grind arith
 
 pub number_within : (negative : Bool) (l : Lexeme) (h : ℤ) → IsMillionths negative l h → unsigned_abs h ≤ largest
-number_within negative l h a =
-    let e : unsigned_abs h * millionth ≡ size_of l.bytes = sym (unsigned_abs-mul h (pos millionth)) ∙ ap unsigned_abs a.exact ∙ abs-signed negative (size_of l.bytes) in
-    factor_le (unsigned_abs h) largest millionth millionth_pos (subst (λ n. n ≤ largest * millionth) (sym e) a.readable.size)
+number_within negative l h a = grind (arith, millionth_pos)
 
 abbrev pub AreWithin : List ℤ → Type 0
 AreWithin [] = Unit {0}
@@ -77,10 +57,7 @@ BodyWithin (Rewards hs) = AreWithin hs
 BodyWithin _ = Unit {0}
 
 body_within : {cells : ℕ} {ls : List Lexeme} {b : Body} → IsBody cells ls b → BodyWithin b
-body_within (entries.probabilities a c r) = tt
-body_within (entries.rewards a c) = numbers_within a
-body_within (entries.uniform w) = tt
-body_within (entries.identity w) = tt
+body_within h1 = grind (arith, numbers_within)
 
 abbrev pub EntriesWithin : List Entry → Type 0
 EntriesWithin [] = Unit {0}
@@ -95,15 +72,10 @@ one_of_within [] e after a = a.0
 one_of_within (x ∷ xs) e after a = one_of_within xs e after a.1
 
 reward_in_within : (costs : Bool) (b : Body) (ds : List Elements) (indices : List ℕ) → BodyWithin b → unsigned_abs (reward_in costs b ds indices) ≤ largest
-reward_in_within true (Rewards hs) ds indices a =
-    subst (λ n. n ≤ largest) (sym (abs-neg (get_or hs (row_major ds indices) (pos 0)))) (one_within hs (row_major ds indices) a)
-reward_in_within false (Rewards hs) ds indices a = one_within hs (row_major ds indices) a
-reward_in_within costs _ ds indices a = zero_within
+reward_in_within costs b ds indices h1 = grind (arith, abs-neg, one_within)
 
 found_within : (p : Preamble) (es : List Entry) (indices : List ℕ) (found : Option Entry) → EntriesWithin es → IsLastCovering es Reward indices found → unsigned_abs (value_or (pos 0) (reward_of p indices) found) ≤ largest
-found_within p es indices (Some f) a (last before e after whole here behind) =
-    reward_in_within p.costs e.body _ _ (one_of_within before e after (subst EntriesWithin whole a))
-found_within p es indices None a (none clear) = zero_within
+found_within p es indices found h1 h2 = grind (arith, one_of_within, reward_in_within)
 
 reward_within : (p : Preamble) (es : List Entry) (indices : List ℕ) → EntriesWithin es → unsigned_abs (reward p es indices) ≤ largest
 reward_within p es indices a = found_within p es indices (last_covering es Reward indices) a (last_is es Reward indices)
@@ -117,17 +89,16 @@ abbrev pub DiscountWithin : Option ℕ → Type 0
 DiscountWithin None = Unit {0}
 DiscountWithin (Some g) = g ≤ 1_000_000
 
-abbrev pub StartWithin : Option Elements → Option Shares → Type 0
+abbrev pub StartWithin : Option Elements → Option StartWeights → Type 0
 StartWithin o None = Unit {0}
 StartWithin None (Some weights) = ⊥
 StartWithin (Some e) (Some weights) = IsFair (count_of e) weights
 
 -- as many as the line says, or as these
 pub line_within : (most : ℕ) (o : Option Elements) (e : Elements) → CountWithin most o → IsCount most (count_of e) → IsCount most (count_of (unwrap_or o e))
-line_within most None e w l = l
-line_within most (Some found) e w l = w
+line_within most o e h1 h2 = grind arith
 
-pub record KnownWithin (k : Known) : Type 0 where
+pub record KnownWithin (k : ModelSoFar) : Type 0 where
   pub start : StartWithin k.states k.start
   pub discount : DiscountWithin k.discount
   pub states : CountWithin most_states k.states
@@ -136,32 +107,20 @@ pub record KnownWithin (k : Known) : Type 0 where
   pub entries : EntriesWithin k.entries
 
 elements_within : (most : ℕ) {ls : List Lexeme} {e : Elements} → AreElements most ls e → IsCount most (count_of e)
-elements_within most (counted a l m) = (l, m)
-elements_within most (named {ls = ls} all l m d) =
-    let e : length (map (λ (x : Lexeme). x.bytes) ls) ≡ length ls = length-map ls (λ (x : Lexeme). x.bytes) in
-    (subst (λ n. 1 ≤ n) (sym e) l, subst (λ n. n ≤ most) (sym e) m)
+elements_within most h1 = grind (arith, length-map)
 
-right_within : (k : Known) (t : Topic) (ls : List Lexeme) (next : Known) → KnownWithin k → IsRight k t ls next → KnownWithin next
-right_within k t ls next w (texts.discount p e c n l) = record { start = w.start; discount = l; states = w.states; actions = w.actions; observations = w.observations; entries = w.entries }
-right_within k t ls next w (texts.rewards p e c v) = record { start = w.start; discount = w.discount; states = w.states; actions = w.actions; observations = w.observations; entries = w.entries }
-right_within k t ls next w (texts.costs p e c v) = record { start = w.start; discount = w.discount; states = w.states; actions = w.actions; observations = w.observations; entries = w.entries }
-right_within k t ls next w (texts.states {elements = found} p e c a) = record { start = subst (λ o. StartWithin (Some found) o) (sym p.no_start) tt; discount = w.discount; states = elements_within most_states a; actions = w.actions; observations = w.observations; entries = w.entries }
-right_within k t ls next w (texts.actions p e c a) = record { start = w.start; discount = w.discount; states = w.states; actions = elements_within most_actions a; observations = w.observations; entries = w.entries }
-right_within k t ls next w (texts.observations p e c a) = record { start = w.start; discount = w.discount; states = w.states; actions = w.actions; observations = elements_within most_observations a; entries = w.entries }
-right_within k t ls next w (texts.start {p = q} {shares = weights} p c a) =
-    let count : IsCount most_states (count_of q.states) = subst (CountWithin most_states) c.lines.states w.states in
-    record { start = subst (λ o. StartWithin o (Some weights)) (sym c.lines.states) (start_fair q.states _ weights count.0 count.1 a); discount = w.discount; states = w.states; actions = w.actions; observations = w.observations; entries = w.entries }
-right_within k t ls next w (texts.entry {e = e} c g a f) = record { start = w.start; discount = w.discount; states = w.states; actions = w.actions; observations = w.observations; entries = one_more_within k.entries e w.entries (body_within a.body) }
+right_within : (k : ModelSoFar) (t : Topic) (ls : List Lexeme) (next : ModelSoFar) → KnownWithin k → IsRight k t ls next → KnownWithin next
+right_within k t ls next h1 h2 = grind (arith, start_fair, body_within, one_more_within, elements_within)
 
-pub all_within : (k : Known) (items : List Item) (end : Known) → KnownWithin k → AreRight k items end → KnownWithin end
+pub all_within : (k : ModelSoFar) (items : List Item) (end : ModelSoFar) → KnownWithin k → AreRight k items end → KnownWithin end
 all_within k items end w texts.none = w
-all_within k (item ∷ items) end w (texts.more {next = next} t e a behind) = all_within next items end (right_within k t item.body next w a) behind
+all_within k (item ∷ items) end w (texts.more {next = next} t e a following) = all_within next items end (right_within k t item.body next w a) following
 
 nothing_within : KnownWithin nothing_known
 nothing_within = record { start = tt; discount = tt; states = tt; actions = tt; observations = tt; entries = tt }
 
 -- the counts that right items give
-pub counts_within : (items : List Item) (k : Known) → AreRight nothing_known items k → CountWithin most_states k.states × (CountWithin most_actions k.actions × CountWithin most_observations k.observations)
+pub counts_within : (items : List Item) (k : ModelSoFar) → AreRight nothing_known items k → CountWithin most_states k.states × (CountWithin most_actions k.actions × CountWithin most_observations k.observations)
 counts_within items k right = let w = all_within nothing_known items k nothing_within right in (w.states, (w.actions, w.observations))
 
 -- ---- what is denoted
@@ -173,7 +132,7 @@ one_of_sum f (suc n) i l =
     before_or_last : (i n : ℕ) → i < suc n → (i < n) ⊎ (i ≡ n)
     before_or_last i n l = grind arith
 
-start_within : (e : Elements) (start : Option Shares) → IsCount most_states (count_of e) → StartWithin (Some e) start → IsFair (count_of e) (unwrap_or start (alike (count_of e) (λ s. true)))
+start_within : (e : Elements) (start : Option StartWeights) → IsCount most_states (count_of e) → StartWithin (Some e) start → IsFair (count_of e) (unwrap_or start (equal_weights (count_of e) (λ s. true)))
 start_within e None count w = no_start_fair (count_of e) count.0 count.1
 start_within e (Some weights) count w = w
 
@@ -182,7 +141,7 @@ within_limits ls m d =
     let w = all_within nothing_known d.right.items d.known nothing_within d.right.right in
     let c = d.right.complete in
     let p : m.preamble ≡ d.preamble = d.same.preamble in
-    let found : IsFair (count_of d.preamble.states) (unwrap_or d.known.start (alike (count_of d.preamble.states) (λ s. true))) =
+    let found : IsFair (count_of d.preamble.states) (unwrap_or d.known.start (equal_weights (count_of d.preamble.states) (λ s. true))) =
     start_within d.preamble.states d.known.start (subst (CountWithin most_states) c.lines.states w.states) (subst (λ o. StartWithin o d.known.start) c.lines.states w.start) in
     let fair : IsFair (states_of m) m.start = subst (λ (q : Preamble). IsFair (count_of q.states) m.start) (sym p) (subst (IsFair (count_of d.preamble.states)) (sym d.same.start) found) in
     record {

@@ -1,30 +1,27 @@
 -- A text is refused as a model for one reason.
-use Rattle.std.proofs.Common.{◌≡◌, ◌∙◌, ℕ, ◌+◌, ◌<◌, ◌⊎◌, ⊎_elim, Some, List, [], ◌∷◌, ◌++◌, length, refl, sym, ap, subst, arith}
+use Rattle.std.proofs.Common.{◌≡◌, ◌∙◌, ℕ, ◌+◌, Some, List, [], ◌∷◌, ◌++◌, length, refl, sym, ap, subst, arith}
 use Rattle.std.proofs.Math.Path.{subst₂}
 use Rattle.polcert_text.specs.Cut.{Lexeme}
-use Rattle.polcert_text.specs.Reading.{fault_place}
 use Rattle.polcert_text.specs.declared.tokens.TokenFault.{TokenFault}
-use Rattle.polcert_text.specs.declared.tokens.TokenFault.TheVariants as token_faults
 use Rattle.polcert_cells.specs.declared.entry.Table.{Table}
-use Rattle.polcert_cells.specs.declared.entry.Table.TheVariants.{Transition, Observation, Reward}
 use Rattle.polcert_cells.specs.declared.words.Topic.{Topic}
 use Rattle.polcert_cells.specs.Meaning.{Meaning, meaning_of}
 use Rattle.polcert_cells.specs.Preamble.{Preamble}
-use Rattle.polcert_cells.specs.Rows.{IsProperRow, IsFirstWrongRow}
+use Rattle.polcert_cells.specs.Rows.{IsFirstWrongRow}
 use Rattle.polcert_cells.specs.Words.{topic}
 use Rattle.polcert_cells.proofs.Basics.{one_some, some≢none}
 use Rattle.polcert_format.specs.declared.fault.ItemFault.{ItemFault}
-use Rattle.polcert_format.specs.declared.fault.ItemFault.TheVariants.{Token, TextTooLong, Number, ProbabilityRange, DiscountRange}
+use Rattle.polcert_format.specs.declared.fault.ItemFault.TheVariants.{Number, ProbabilityRange, DiscountRange}
 use Rattle.polcert_format.specs.declared.fault.ModelFault.{ModelFault}
 use Rattle.polcert_format.specs.declared.fault.ModelFault.TheVariants as model_faults
 use Rattle.polcert_format.specs.FirstWrong.{TextTokens, AreTokensOf, word_place}
 use Rattle.polcert_format.specs.Forms.{IsPossible}
 use Rattle.polcert_format.specs.Items.{Item, IsDivided}
 use Rattle.polcert_format.specs.Misfits.{IsOfValue}
-use Rattle.polcert_format.specs.Reasons.{IsReason, InItem, IsLexemeFault}
-use Rattle.polcert_format.specs.Refusals.{IsItemRefusal, Stops, StopsInBody, IsOfTokens, EndsPossible, at_once, in_item, StandsRight, before_body, in_body, behind_body, of_first_number, of_tokens, IsItemPlaced, place_or}
+use Rattle.polcert_format.specs.Reasons.{IsReason, InItem}
+use Rattle.polcert_format.specs.Refusals.{IsItemRefusal, Stops, StopsInBody, IsOfTokens, EndsPossible, at_once, in_item, StandsRight, before_body, in_body, after_body, of_first_number, of_tokens, IsItemPlaced, place_or}
 use Rattle.polcert_format.specs.RefusedTexts.{IsRefusedModelText}
-use Rattle.polcert_format.specs.Text.{Known, nothing_known, AreRight, IsRightText}
+use Rattle.polcert_format.specs.Text.{ModelSoFar, nothing_known, AreRight, IsRightText}
 use Rattle.polcert_format.proofs.CellLimits.{only_limit}
 use Rattle.polcert_format.proofs.Climbing.{tokens_climb, body_climbs}
 use Rattle.polcert_format.proofs.DecidedLaws.{SameCut, same_cut, same_length}
@@ -64,7 +61,7 @@ one_in_body text ts f g n p q tokens x y why reason =
     let knowns : y.k ≡ x.k = one_known nothing_known x.before y.k x.k (subst (λ items. AreRight nothing_known items y.k) cut.front y.known) x.known in
     let kinds : y.t ≡ x.t = one_some (subst (λ (i : Item). topic i.word ≡ Some y.t) cut.here y.topic_is) x.topic_is in
     let end = word_place x.after ts.end 0 in
-    let place : q ≡ place_or y.rest end = y.place_is ∙ ap (λ items. place_or y.rest (word_place items ts.end 0)) cut.behind in
+    let place : q ≡ place_or y.rest end = y.place_is ∙ ap (λ items. place_or y.rest (word_place items ts.end 0)) cut.following in
     let climbs = body_climbs ts x.before x.item x.after (tokens_climb text ts tokens) x.divided in
     let same = one_stop x.k x.t x.item.body climbs.0 end climbs.1 f g x.taken y.taken x.rest y.rest
     x.whole (sym (ap (λ (i : Item). i.body) cut.here) ∙ y.whole) x.possible (subst₂ (λ k t. IsPossible k t y.taken) knowns kinds y.possible)
@@ -76,9 +73,7 @@ one_in_body text ts f g n p q tokens x y why reason =
 -- ---- faults of the tokens
 
 ends_in : (ts : TextTokens) (n p : ℕ) (kind : ItemFault) → IsOfTokens kind → IsReason ts n p kind → (fault : TokenFault) × (ts.ending ≡ Some fault)
-ends_in ts n p (Token fault) of reason = (fault, reason.0)
-ends_in ts n p TextTooLong of reason = (token_faults.TextTooLong p, reason)
-ends_in ts n p _ of reason = absurd of
+ends_in ts n p kind h1 h2 = grind arith
 
 -- where a body stops, the tokens don't end after what is possible
 body_or_tokens : (text : List ℕ) (ts : TextTokens) (f g : ItemFault) (n p q : ℕ) → AreTokensOf text ts → StopsInBody ts f n p → IsOfTokens g → EndsPossible ts n → IsReason ts n q g → ⊥
@@ -90,26 +85,10 @@ body_or_tokens text ts f g n p q tokens x of (in_item y) reason =
     let possible : IsPossible x.k x.t x.item.body = subst₂ (λ k t. IsPossible k t x.item.body) knowns kinds (subst (λ (i : Item). IsPossible y.k y.t i.body) cut.here y.possible) in
     let climbs = body_climbs ts x.before x.item x.after (tokens_climb text ts tokens) x.divided in
     let rest = no_stop x.k x.t x.item.body climbs.0 0 climbs.1 f x.taken x.rest x.whole x.possible x.stops possible in
-    some≢none (ends_in ts n q g of reason).1 (x.clean rest (sym cut.behind))
-
-one_token_fault : (ts : TextTokens) (x : TokenFault) (n p q : ℕ) (g : ItemFault) → IsReason ts n p (Token x) → IsOfTokens g → IsReason ts n q g → (Token x ≡ g) × (p ≡ q)
-one_token_fault ts x n p q (Token y) a of b =
-    let same : x ≡ y = one_some a.0 b.0 in
-    (ap Token same, a.1 ∙ ap fault_place same ∙ sym b.1)
-one_token_fault ts x n p q TextTooLong a of b = absurd (subst IsLexemeFault (one_some a.0 b) a.2)
-one_token_fault ts x n p q _ a of b = absurd of
-
-too_long_place : (p q : ℕ) → token_faults.TextTooLong p ≡ token_faults.TextTooLong q → p ≡ q
-too_long_place p q e = ap fault_place e
+    some≢none (ends_in ts n q g of reason).1 (x.clean rest (sym cut.following))
 
 one_of_tokens : (ts : TextTokens) (f g : ItemFault) (n p q : ℕ) → IsOfTokens f → IsOfTokens g → IsReason ts n p f → IsReason ts n q g → (f ≡ g) × (p ≡ q)
-one_of_tokens ts (Token x) g n p q of also a b = one_token_fault ts x n p q g a also b
-one_of_tokens ts TextTooLong (Token y) n p q of also a b =
-    let same = one_token_fault ts y n q p TextTooLong b tt a in
-    (sym same.0, sym same.1)
-one_of_tokens ts TextTooLong TextTooLong n p q of also a b = (refl, too_long_place p q (one_some a b))
-one_of_tokens ts TextTooLong _ n p q of also a b = absurd also
-one_of_tokens ts _ g n p q of also a b = absurd of
+one_of_tokens ts f g n p q h1 h2 h3 h4 = grind arith
 
 -- ---- one refusal of an item
 
@@ -120,15 +99,15 @@ module _ (text : List ℕ) (ts : TextTokens) (tokens : AreTokensOf text ts) (n :
   one_place : (f g : ItemFault) (p q : ℕ) → IsItemRefusal ts f n p → IsItemPlaced ts f n p → IsItemRefusal ts g n q → IsItemPlaced ts g n q → StandsRight ts f n p → StandsRight ts g n q → (f ≡ g) × (p ≡ q)
   one_place f g p q x xs y ys (before_body d) other = turned (y.decided f p d)
   one_place f g p q x xs y ys (of_first_number late) other = turned (ys.late f p late)
-  one_place f g p q x xs y ys (behind_body e passes) other = let same = only_limit ts g n p q passes y.reason other in (e ∙ sym same.0, sym same.1)
+  one_place f g p q x xs y ys (after_body e passes) other = let same = only_limit ts g n p q passes y.reason other in (e ∙ sym same.0, sym same.1)
   one_place f g p q x xs y ys (in_body s) (before_body d) = x.decided g q d
   one_place f g p q x xs y ys (in_body s) (of_first_number late) = xs.late g q late
-  one_place f g p q x xs y ys (in_body s) (behind_body e passes) = let same = only_limit ts f n q p passes x.reason (in_body s) in (same.0 ∙ sym e, same.1)
+  one_place f g p q x xs y ys (in_body s) (after_body e passes) = let same = only_limit ts f n q p passes x.reason (in_body s) in (same.0 ∙ sym e, same.1)
   one_place f g p q x xs y ys (in_body s) (in_body r) = one_in_body text ts f g n p q tokens s r x.reason y.reason
   one_place f g p q x xs y ys (in_body s) (of_tokens of ends) = absurd (body_or_tokens text ts f g n p q tokens s of ends y.reason)
   one_place f g p q x xs y ys (of_tokens of ends) (before_body d) = x.decided g q d
   one_place f g p q x xs y ys (of_tokens of ends) (of_first_number late) = xs.late g q late
-  one_place f g p q x xs y ys (of_tokens of ends) (behind_body e passes) = let same = only_limit ts f n q p passes x.reason (of_tokens of ends) in (same.0 ∙ sym e, same.1)
+  one_place f g p q x xs y ys (of_tokens of ends) (after_body e passes) = let same = only_limit ts f n q p passes x.reason (of_tokens of ends) in (same.0 ∙ sym e, same.1)
   one_place f g p q x xs y ys (of_tokens of ends) (in_body r) = absurd (body_or_tokens text ts g f n q p tokens r of ends x.reason)
   one_place f g p q x xs y ys (of_tokens of ends) (of_tokens also stops) = one_of_tokens ts f g n p q of also x.reason y.reason
 
@@ -143,31 +122,11 @@ one_item_refusal text ts f g m n p q tokens x xs y ys =
 
 -- ---- one row
 
-before_or_same : (a b : ℕ) → (a < b) ⊎ ((b < a) ⊎ (a ≡ b))
-before_or_same a b = grind arith
-
--- rows of one table
-module _ (m : Meaning) (table : Table) (a s b r : ℕ) (x : IsFirstWrongRow m table a s) (y : IsFirstWrongRow m table b r) where
-  same_row : a ≡ b → (a ≡ b) × (s ≡ r)
-  same_row e = ⊎_elim (λ less. absurd (x.wrong (subst (λ i. IsProperRow m table i s) (sym e) (y.before.same_action s less))))
-      (⊎_elim (λ more. absurd (y.wrong (subst (λ i. IsProperRow m table i r) e (x.before.same_action r more)))) (λ f. (e, f)))
-      (before_or_same s r)
-
-  one_row_of : (a ≡ b) × (s ≡ r)
-  one_row_of = ⊎_elim (λ less. absurd (x.wrong (y.before.earlier_actions a s less x.state)))
-      (⊎_elim (λ more. absurd (y.wrong (x.before.earlier_actions b r more y.state))) same_row)
-      (before_or_same a b)
-
 -- the first row that is wrong
 one_row : (m : Meaning) (table other : Table) (a s b r : ℕ) → IsFirstWrongRow m table a s → IsFirstWrongRow m other b r → (table ≡ other) × (a ≡ b) × (s ≡ r)
-one_row m Transition Transition a s b r x y = let same = one_row_of m Transition a s b r x y in (refl, same.0, same.1)
-one_row m Observation Observation a s b r x y = let same = one_row_of m Observation a s b r x y in (refl, same.0, same.1)
-one_row m Transition Observation a s b r x y = absurd (x.wrong (y.behind_transitions a s x.action x.state))
-one_row m Observation Transition a s b r x y = absurd (y.wrong (x.behind_transitions b r y.action y.state))
-one_row m Reward other a s b r x y = absurd x.behind_transitions
-one_row m table Reward a s b r x y = absurd y.behind_transitions
+one_row m table other a s b r h1 h2 = grind arith
 
-one_row_of_text : (ts : TextTokens) (table other : Table) (a s b r : ℕ) (p q : Preamble) (k l : Known) → IsRightText ts.lexemes p k → IsFirstWrongRow (meaning_of p k.start k.entries) table a s
+one_row_of_text : (ts : TextTokens) (table other : Table) (a s b r : ℕ) (p q : Preamble) (k l : ModelSoFar) → IsRightText ts.lexemes p k → IsFirstWrongRow (meaning_of p k.start k.entries) table a s
     → IsRightText ts.lexemes q l → IsFirstWrongRow (meaning_of q l.start l.entries) other b r → (table ≡ other) × (a ≡ b) × (s ≡ r)
 one_row_of_text ts table other a s b r p q k l right x also y =
     let same = one_right_text ts.lexemes p q k l right also in

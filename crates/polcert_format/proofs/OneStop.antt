@@ -1,22 +1,18 @@
 -- A body stops being possible at one place, and is refused there for one reason.
-use Rattle.std.proofs.Common.{◌≡◌, ◌∙◌, ℕ, ◌==◌, Bool, true, false, Some, None, List, [], ◌∷◌, ◌++◌, length, if◌then◌else◌, refl, sym, ap, subst}
+use Rattle.std.proofs.Common.{◌≡◌, ◌∙◌, ℕ, true, false, List, [], ◌∷◌, ◌++◌, refl, sym, ap, subst, arith, rules}
 use Rattle.std.proofs.Math.Path.{subst₂}
 use Rattle.std.proofs.lemmas.List.{append_assoc, append-nil}
 use Rattle.polcert_text.specs.Cut.{Lexeme}
-use Rattle.polcert_text.specs.Lexemes.{are_digits}
-use Rattle.polcert_text.specs.declared.lexeme.TokenKind.{TokenKind}
-use Rattle.polcert_text.specs.declared.lexeme.TokenKind.TheVariants.{Name, Numeral}
+use Rattle.polcert_text.specs.declared.lexeme.TokenKind.TheVariants.{Numeral}
 use Rattle.polcert_cells.specs.declared.words.Topic.{Topic}
-use Rattle.polcert_cells.specs.Words.{is_reserved}
 use Rattle.polcert_cells.proofs.Basics.{true≢false, cons≢nil, same_head, same_tail}
 use Rattle.polcert_format.specs.declared.fault.ItemFault.{ItemFault}
-use Rattle.polcert_format.specs.declared.fault.ItemFault.TheVariants.{BadShape, BadCount, DuplicateName, UnknownName, IndexOutOfRange, WrongNumberCount, Reset}
-use Rattle.polcert_format.specs.Forms.{HasForm, IsFormless, IsPossible}
-use Rattle.polcert_format.specs.Misfits.{Wanted, Index, Listed, CountOrName, FurtherName, StartBody, EndOfNumbers, IsOfValue, IsMisfit, of_value, of_place, misfit, misfit_at, no_index, no_name, no_count, begins_number, is_reset, tests_value}
+use Rattle.polcert_format.specs.Forms.{HasForm, HasNoForm, IsPossible}
+use Rattle.polcert_format.specs.Misfits.{Expected, IsOfValue, IsMisfit, of_value, of_place, tests_value}
 use Rattle.polcert_format.specs.Reasons.{is_sign}
 use Rattle.polcert_format.specs.Refusals.{Stops, at_lexeme, at_number, at_end, place_or}
-use Rattle.polcert_format.specs.Text.{Known}
-use Rattle.polcert_format.specs.Wants.{wanted}
+use Rattle.polcert_format.specs.Text.{ModelSoFar}
+use Rattle.polcert_format.specs.Wants.{expected}
 use Rattle.polcert_format.proofs.Climbing.{Climbs}
 use Rattle.polcert_format.proofs.OneValue.{ValueReason, one_value_reason, no_reason_after_sign}
 
@@ -48,17 +44,17 @@ same_last (x ∷ z ∷ xs) [] l m e = absurd (cons≢nil (same_tail e))
 same_last (x ∷ xs) (y ∷ ys) l m e = same_last xs ys l m (same_tail e)
 
 -- the body is possible before this lexeme, and isn't with it
-record Breaks (k : Known) (t : Topic) (body taken : List Lexeme) (l : Lexeme) : Type 0 where
+record Breaks (k : ModelSoFar) (t : Topic) (body taken : List Lexeme) (l : Lexeme) : Type 0 where
   rest : List Lexeme
   whole : body ≡ taken ++ l ∷ rest
   possible : IsPossible k t taken
-  formless : IsFormless k t (taken ++ l ∷ [])
+  formless : HasNoForm k t (taken ++ l ∷ [])
 
-formless_on : (k : Known) (t : Topic) (xs w : List Lexeme) (l : Lexeme) → IsFormless k t (xs ++ l ∷ []) → IsPossible k t (xs ++ l ∷ w) → ⊥
+formless_on : (k : ModelSoFar) (t : Topic) (xs w : List Lexeme) (l : Lexeme) → HasNoForm k t (xs ++ l ∷ []) → IsPossible k t (xs ++ l ∷ w) → ⊥
 formless_on k t xs w l none p =
     none (w ++ p.more) (subst (HasForm k t) (append_assoc xs (l ∷ w) p.more ∙ sym (append_assoc xs (l ∷ []) (w ++ p.more))) p.form)
 
-one_break : (k : Known) (t : Topic) (body xs ys : List Lexeme) (l m : Lexeme) → Breaks k t body xs l → Breaks k t body ys m → (xs ≡ ys) × (l ≡ m)
+one_break : (k : ModelSoFar) (t : Topic) (body xs ys : List Lexeme) (l m : Lexeme) → Breaks k t body xs l → Breaks k t body ys m → (xs ≡ ys) × (l ≡ m)
 one_break k t body xs ys l m a b = of (cuts xs ys a.rest b.rest l m (sym a.whole ∙ b.whole))
   where
     of : Cuts xs ys l m → (xs ≡ ys) × (l ≡ m)
@@ -66,55 +62,20 @@ one_break k t body xs ys l m a b = of (cuts xs ys a.rest b.rest l m (sym a.whole
     of (before w e) = absurd (formless_on k t xs w l a.formless (subst (IsPossible k t) e b.possible))
     of (after w e) = absurd (formless_on k t ys w m b.formless (subst (IsPossible k t) e a.possible))
 
-no_break : (k : Known) (t : Topic) (body xs : List Lexeme) (l : Lexeme) → IsPossible k t body → Breaks k t body xs l → ⊥
+no_break : (k : ModelSoFar) (t : Topic) (body xs : List Lexeme) (l : Lexeme) → IsPossible k t body → Breaks k t body xs l → ⊥
 no_break k t body xs l p b = formless_on k t xs b.rest l b.formless (subst (IsPossible k t) b.whole p)
 
 -- ---- one kind
 
--- what a place is for tells no value
-either : (b : Bool) (f g : ItemFault) → (IsOfValue f → ⊥) → (IsOfValue g → ⊥) → IsOfValue (if b then f else g) → ⊥
-either true f g no_f no_g = no_f
-either false f g no_f no_g = no_g
+value_is_tested : (w : Expected) (l : Lexeme) (kind : ItemFault) → IsOfValue kind → IsMisfit w l kind → tests_value w l.kind ≡ true
+value_is_tested w l kind h1 h2 = grind arith
 
-index_no_value : (kind : TokenKind) (bytes : List ℕ) → IsOfValue (no_index kind bytes) → ⊥
-index_no_value Numeral bytes = either (are_digits bytes) IndexOutOfRange BadShape (λ h. h) (λ h. h)
-index_no_value Name bytes = either (is_reserved bytes) BadShape UnknownName (λ h. h) (λ h. h)
-index_no_value _ bytes = λ h. h
-
-name_no_value : (most : ℕ) (names : List (List ℕ)) (kind : TokenKind) (bytes : List ℕ) → IsOfValue (no_name most names kind bytes) → ⊥
-name_no_value most names Name bytes =
-    either (is_reserved bytes) BadShape (if length names == most then BadCount else DuplicateName) (λ h. h) (either (length names == most) BadCount DuplicateName (λ h. h) (λ h. h))
-name_no_value most names _ bytes = λ h. h
-
-count_no_value : (kind : TokenKind) → IsOfValue (no_count kind) → ⊥
-count_no_value Numeral = λ h. h
-count_no_value _ = λ h. h
-
-place_no_value : (w : Wanted) (l : Lexeme) → IsOfValue (misfit_at w l) → ⊥
-place_no_value Index l = index_no_value l.kind l.bytes
-place_no_value Listed l = index_no_value l.kind l.bytes
-place_no_value StartBody l = index_no_value l.kind l.bytes
-place_no_value CountOrName l = count_no_value l.kind
-place_no_value (FurtherName most names) l = name_no_value most names l.kind l.bytes
-place_no_value EndOfNumbers l = either (begins_number l.kind) WrongNumberCount BadShape (λ h. h) (λ h. h)
-place_no_value _ l = λ h. h
-
-misfit_no_value : (w : Wanted) (l : Lexeme) → IsOfValue (misfit w (Some l)) → ⊥
-misfit_no_value w l = either (is_reset l.kind l.bytes) Reset (misfit_at w l) (λ h. h) (place_no_value w l)
-
-value_is_tested : (w : Wanted) (l : Lexeme) (kind : ItemFault) → IsOfValue kind → IsMisfit w l kind → tests_value w l.kind ≡ true
-value_is_tested w l kind v (of_value tested of) = tested
-value_is_tested w l kind v (of_place untested e) = absurd (misfit_no_value w l (subst IsOfValue e v))
-
-one_misfit : (w : Wanted) (l : Lexeme) (f g : ItemFault) → (IsOfValue f → IsOfValue g → f ≡ g) → IsMisfit w l f → IsMisfit w l g → f ≡ g
-one_misfit w l f g values (of_value a x) (of_value b y) = values x y
-one_misfit w l f g values (of_value a x) (of_place b e) = absurd (true≢false a b)
-one_misfit w l f g values (of_place a e) (of_value b y) = absurd (true≢false b a)
-one_misfit w l f g values (of_place a e) (of_place b d) = e ∙ sym d
+one_misfit : (w : Expected) (l : Lexeme) (f g : ItemFault) → (IsOfValue f → IsOfValue g → f ≡ g) → IsMisfit w l f → IsMisfit w l g → f ≡ g
+one_misfit w l f g h1 h2 h3 = grind arith
 
 -- ---- one stop
 
-module _ (k : Known) (t : Topic) (body : List Lexeme) (a end : ℕ) (climbs : Climbs a body) where
+module _ (k : ModelSoFar) (t : Topic) (body : List Lexeme) (a end : ℕ) (climbs : Climbs a body) where
   -- where the kind is that of a number's value, the value is refused at the place
   abbrev pub HasReason : ItemFault → ℕ → Type 0
   HasReason kind place = IsOfValue kind → ValueReason t body place kind
@@ -127,23 +88,23 @@ module _ (k : Known) (t : Topic) (body : List Lexeme) (a end : ℕ) (climbs : Cl
 
   -- a numeral after a sign is refused at the sign
   sign_or_numeral : (f g : ItemFault) (xs ys : List Lexeme) (l sign m : Lexeme) → Breaks k t body xs l → Breaks k t body (ys ++ sign ∷ []) m → is_sign sign.kind ≡ true → m.kind ≡ Numeral
-      → IsMisfit (wanted k t xs) l f → HasReason f l.place → IsOfValue g → IsMisfit (wanted k t (ys ++ sign ∷ [])) m g → ⊥
+      → IsMisfit (expected k t xs) l f → HasReason f l.place → IsOfValue g → IsMisfit (expected k t (ys ++ sign ∷ [])) m g → ⊥
   sign_or_numeral f g xs ys l sign m x y is numeral (of_value tested v) reason w unfit =
       let same = one_break k t body xs (ys ++ sign ∷ []) l m x y in
       no_reason_after_sign t body a climbs ys y.rest sign m f y.whole is numeral (at_place l.place m.place f (ap (λ (n : Lexeme). n.place) same.1) reason v)
   sign_or_numeral f g xs ys l sign m x y is numeral (of_place untested e) reason w unfit =
       let same = one_break k t body xs (ys ++ sign ∷ []) l m x y in
-      true≢false (value_is_tested (wanted k t (ys ++ sign ∷ [])) m g w unfit) (subst₂ (λ ls (n : Lexeme). tests_value (wanted k t ls) n.kind ≡ false) same.0 same.1 untested)
+      true≢false (value_is_tested (expected k t (ys ++ sign ∷ [])) m g w unfit) (subst₂ (λ ls (n : Lexeme). tests_value (expected k t ls) n.kind ≡ false) same.0 same.1 untested)
 
-  lexeme_breaks : (xs rest : List Lexeme) (l : Lexeme) → body ≡ xs ++ l ∷ rest → IsPossible k t xs → IsFormless k t (xs ++ l ∷ []) → Breaks k t body xs l
+  lexeme_breaks : (xs rest : List Lexeme) (l : Lexeme) → body ≡ xs ++ l ∷ rest → IsPossible k t xs → HasNoForm k t (xs ++ l ∷ []) → Breaks k t body xs l
   lexeme_breaks xs rest l whole possible formless = record { rest = rest; whole = whole; possible = possible; formless = formless }
 
-  number_breaks : (xs rest : List Lexeme) (sign l : Lexeme) → body ≡ xs ++ sign ∷ l ∷ rest → IsPossible k t (xs ++ sign ∷ []) → IsFormless k t (xs ++ sign ∷ l ∷ []) → Breaks k t body (xs ++ sign ∷ []) l
+  number_breaks : (xs rest : List Lexeme) (sign l : Lexeme) → body ≡ xs ++ sign ∷ l ∷ rest → IsPossible k t (xs ++ sign ∷ []) → HasNoForm k t (xs ++ sign ∷ l ∷ []) → Breaks k t body (xs ++ sign ∷ []) l
   number_breaks xs rest sign l whole possible formless = record {
     rest = rest;
     whole = whole ∙ sym (append_assoc xs (sign ∷ []) (l ∷ rest));
     possible = possible;
-    formless = subst (IsFormless k t) (sym (append_assoc xs (sign ∷ []) (l ∷ []))) formless;
+    formless = subst (HasNoForm k t) (sym (append_assoc xs (sign ∷ []) (l ∷ []))) formless;
   }
 
   -- what is possible to its end stops nowhere before
@@ -151,8 +112,8 @@ module _ (k : Known) (t : Topic) (body : List Lexeme) (a end : ℕ) (climbs : Cl
   whole_possible xs whole possible = subst (IsPossible k t) (sym (whole ∙ append-nil xs)) possible
 
   pub no_stop : (kind : ItemFault) (xs us : List Lexeme) → body ≡ xs ++ us → IsPossible k t xs → Stops k t kind xs us → IsPossible k t body → us ≡ []
-  no_stop kind xs us whole p (at_lexeme {l} {behind} none unfit) all = absurd (no_break k t body xs l all (lexeme_breaks xs behind l whole p none))
-  no_stop kind xs us whole p (at_number {sign} {l} {behind} is numeral q none v unfit) all = absurd (no_break k t body (xs ++ sign ∷ []) l all (number_breaks xs behind sign l whole q none))
+  no_stop kind xs us whole p (at_lexeme {l} {following} none unfit) all = absurd (no_break k t body xs l all (lexeme_breaks xs following l whole p none))
+  no_stop kind xs us whole p (at_number {sign} {l} {following} is numeral q none v unfit) all = absurd (no_break k t body (xs ++ sign ∷ []) l all (number_breaks xs following sign l whole q none))
   no_stop kind xs us whole p (at_end wrong fits e) all = refl
 
   -- both at the end, or neither
@@ -161,24 +122,20 @@ module _ (k : Known) (t : Topic) (body : List Lexeme) (a end : ℕ) (climbs : Cl
 
   pub one_stop : (f g : ItemFault) (xs ys us vs : List Lexeme) → body ≡ xs ++ us → body ≡ ys ++ vs → IsPossible k t xs → IsPossible k t ys → Stops k t f xs us → Stops k t g ys vs
       → HasReason f (place_or us end) → HasReason g (place_or vs end) → (f ≡ g) × (place_or us end ≡ place_or vs end)
-  one_stop f g xs ys us vs xw yw xp yp (at_lexeme {l} {behind = ls} xn xm) (at_lexeme {l = m} {behind = ms} yn ym) xr yr =
+  one_stop f g xs ys us vs xw yw xp yp (at_lexeme {l} {following = ls} xn xm) (at_lexeme {l = m} {following = ms} yn ym) xr yr =
       let same = one_break k t body xs ys l m (lexeme_breaks xs ls l xw xp xn) (lexeme_breaks ys ms m yw yp yn) in
       let place : l.place ≡ m.place = ap (λ (n : Lexeme). n.place) same.1 in
-      (one_misfit (wanted k t ys) m f g (one_value l.place m.place f g place xr yr) (subst₂ (λ ls n. IsMisfit (wanted k t ls) n f) same.0 same.1 xm) ym, place)
-  one_stop f g xs ys us vs xw yw xp yp (at_lexeme {l} {behind = ls} xn xm) (at_number {sign} {l = m} {behind = ms} is numeral yq yn v ym) xr yr =
-      absurd (sign_or_numeral f g xs ys l sign m (lexeme_breaks xs ls l xw xp xn) (number_breaks ys ms sign m yw yq yn) is numeral xm xr v ym)
-  one_stop f g xs ys us vs xw yw xp yp (at_number {sign} {l} {behind = ls} is numeral xq xn v xm) (at_lexeme {l = m} {behind = ms} yn ym) xr yr =
-      absurd (sign_or_numeral g f ys xs m sign l (lexeme_breaks ys ms m yw yp yn) (number_breaks xs ls sign l xw xq xn) is numeral ym yr v xm)
-  one_stop f g xs ys us vs xw yw xp yp (at_number {sign} {l} {behind = ls} is numeral xq xn v xm) (at_number {sign = other} {l = m} {behind = ms} it digits yq yn w ym) xr yr =
+      (one_misfit (expected k t ys) m f g (one_value l.place m.place f g place xr yr) (subst₂ (λ ls n. IsMisfit (expected k t ls) n f) same.0 same.1 xm) ym, place)
+  one_stop f g xs ys us vs xw yw xp yp (at_lexeme {l} {following = ls} xn xm) (at_number {sign} {l = m} {following = ms} is numeral yq yn v ym) xr yr = search (rules, sign_or_numeral, lexeme_breaks, number_breaks)
+  one_stop f g xs ys us vs xw yw xp yp (at_number {sign} {l} {following = ls} is numeral xq xn v xm) (at_lexeme {l = m} {following = ms} yn ym) xr yr = search (rules, sign_or_numeral, lexeme_breaks, number_breaks)
+  one_stop f g xs ys us vs xw yw xp yp (at_number {sign} {l} {following = ls} is numeral xq xn v xm) (at_number {sign = other} {l = m} {following = ms} it digits yq yn w ym) xr yr =
       let same = one_break k t body (xs ++ sign ∷ []) (ys ++ other ∷ []) l m (number_breaks xs ls sign l xw xq xn) (number_breaks ys ms other m yw yq yn) in
       let place : sign.place ≡ other.place = ap (λ (n : Lexeme). n.place) (same_last xs ys sign other same.0) in
       (one_value sign.place other.place f g place xr yr v w, place)
-  one_stop f g xs ys us vs xw yw xp yp (at_lexeme {l} {behind = ls} xn xm) (at_end wrong fits e) xr yr = end_or_stop f xs (l ∷ ls) ys l ls refl xw xp (at_lexeme xn xm) yw yp
-  one_stop f g xs ys us vs xw yw xp yp (at_number {sign} {l} {behind = ls} is numeral xq xn v xm) (at_end wrong fits e) xr yr =
+  one_stop f g xs ys us vs xw yw xp yp (at_lexeme {l} {following = ls} xn xm) (at_end wrong fits e) xr yr = end_or_stop f xs (l ∷ ls) ys l ls refl xw xp (at_lexeme xn xm) yw yp
+  one_stop f g xs ys us vs xw yw xp yp (at_number {sign} {l} {following = ls} is numeral xq xn v xm) (at_end wrong fits e) xr yr =
       end_or_stop f xs (sign ∷ l ∷ ls) ys sign (l ∷ ls) refl xw xp (at_number is numeral xq xn v xm) yw yp
-  one_stop f g xs ys us vs xw yw xp yp (at_end wrong fits e) (at_lexeme {l = m} {behind = ms} yn ym) xr yr = end_or_stop g ys (m ∷ ms) xs m ms refl yw yp (at_lexeme yn ym) xw xp
-  one_stop f g xs ys us vs xw yw xp yp (at_end wrong fits e) (at_number {sign} {l = m} {behind = ms} is numeral yq yn v ym) xr yr =
+  one_stop f g xs ys us vs xw yw xp yp (at_end wrong fits e) (at_lexeme {l = m} {following = ms} yn ym) xr yr = end_or_stop g ys (m ∷ ms) xs m ms refl yw yp (at_lexeme yn ym) xw xp
+  one_stop f g xs ys us vs xw yw xp yp (at_end wrong fits e) (at_number {sign} {l = m} {following = ms} is numeral yq yn v ym) xr yr =
       end_or_stop g ys (sign ∷ m ∷ ms) xs sign (m ∷ ms) refl yw yp (at_number is numeral yq yn v ym) xw xp
-  one_stop f g xs ys us vs xw yw xp yp (at_end wrong fits e) (at_end false_ misfits d) xr yr =
-      let same : xs ≡ ys = sym (append-nil xs) ∙ sym xw ∙ yw ∙ append-nil ys in
-      (e ∙ ap (λ ls. misfit (wanted k t ls) None) same ∙ sym d, refl)
+  one_stop f g xs ys us vs xw yw xp yp (at_end wrong fits e) (at_end false_ misfits d) xr yr = grind (arith, append-nil)

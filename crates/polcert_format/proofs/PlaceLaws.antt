@@ -1,7 +1,6 @@
 -- The places of a text's lexemes rise, so that a refusal lies in its item.
-use Rattle.std.proofs.Common.{◌≡◌, ◌∙◌, ℕ, suc, ◌+◌, ◌-◌, ◌<◌, ◌≤◌, ◌⊎◌, inl, inr, ⊎_elim, Bool, true, false, cond, Option, Some, None, List, [], ◌∷◌, ◌++◌, length, take, drop, nat_lt, flat_map, refl, sym, ap, subst, arith, length-drop, length-take-le, add-one}
+use Rattle.std.proofs.Common.{◌≡◌, ◌∙◌, ℕ, suc, ◌+◌, ◌-◌, ◌≤◌, ◌⊎◌, ⊎_elim, Bool, cond, Option, Some, None, List, [], ◌∷◌, ◌++◌, length, take, nat_lt, flat_map, refl, sym, ap, subst, arith, length-drop, length-take-le, add-one, rules}
 use Rattle.std.proofs.lemmas.List.{append_assoc}
-use Rattle.std.proofs.lemmas.Bool.Decides.{nat_tests}
 use Rattle.polcert_text.specs.Cut.{Lexeme, Rest, TakesToken, EndsAt, IsCut, text_rest, end_place, text_limit}
 use Rattle.polcert_text.specs.Reading.{fault_place}
 use Rattle.polcert_text.specs.declared.tokens.TokenFault.TheVariants.{TextTooLong}
@@ -31,22 +30,14 @@ rises_split a b (x ∷ xs) ys r = let rest = rises_split x.place b xs ys r.1 in 
 
 -- what a token leaves ends where it ended before, and begins after the token
 pub token_leaves : (old new : Rest) (token : Lexeme) → TakesToken old token new → (old.place ≤ token.place) × (token.place ≤ new.place) × (end_place new ≡ end_place old)
-token_leaves old new token t =
-    let at : token.place ≡ old.place + t.gap = t.token_at.place_is in
-    let begin : new.place ≡ old.place + t.gap + length token.bytes = ap (λ (r : Rest). r.place) t.rest in
-    let stop : end_place new ≡ old.place + t.gap + length token.bytes + length (drop (length token.bytes) (drop t.gap old.bytes)) = ap (λ (r : Rest). end_place r) t.rest in
-    let gap = t.longest.within in
-    let len = t.token_at.lexeme.within in
-    let outer : length (drop (length token.bytes) (drop t.gap old.bytes)) ≡ length (drop t.gap old.bytes) - length token.bytes = length-drop (length token.bytes) (drop t.gap old.bytes) in
-    let inner : length (drop t.gap old.bytes) ≡ length old.bytes - t.gap = length-drop t.gap old.bytes in
-    (omega (arith, at), omega (arith, at, begin), omega (arith, stop, gap, len, outer, inner))
+token_leaves old new token t = grind (arith, length-drop)
 
 pub cut_rises : (rest : Rest) (ls : List Lexeme) (ending : Option TokenFault) → IsCut rest ls ending → Rises rest.place ls (end_place rest)
 cut_rises rest [] ending cut = omega arith
 cut_rises rest (l ∷ ls) ending cut =
     let leaves = token_leaves rest cut.0 l cut.1 in
-    let behind = cut_rises cut.0 ls ending cut.2 in
-    (leaves.0, subst (Rises l.place ls) leaves.2 (rises_from l.place cut.0.place (end_place cut.0) ls leaves.1 behind))
+    let following = cut_rises cut.0 ls ending cut.2 in
+    (leaves.0, subst (Rises l.place ls) leaves.2 (rises_from l.place cut.0.place (end_place cut.0) ls leaves.1 following))
 
 pub tokens_rise : (text : List ℕ) (ts : TextTokens) → AreTokensOf text ts → Rises 0 ts.lexemes ts.end
 tokens_rise text ts tokens =
@@ -69,65 +60,46 @@ next_place (x ∷ xs) item after stop = next_place xs item after stop
 
 item_split : (lexemes : List Lexeme) (before : List Item) (item : Item) (after : List Item) (taken rest : List Lexeme) → IsDivided lexemes [] (before ++ item ∷ after) → item.body ≡ taken ++ rest
     → lexemes ≡ flat_map lexemes_of before ++ (item.word ∷ (taken ++ (rest ++ flat_map lexemes_of after)))
-item_split lexemes before item after taken rest d e =
-    d.whole ∙ all_append before (item ∷ after)
-    ∙ ap (λ (b : List Lexeme). flat_map lexemes_of before ++ (item.word ∷ (b ++ flat_map lexemes_of after))) e
-    ∙ ap (λ (b : List Lexeme). flat_map lexemes_of before ++ (item.word ∷ b)) (append_assoc taken rest (flat_map lexemes_of after))
+item_split lexemes before item after taken rest d e = grind (arith, append_assoc, all_append)
 
-place_behind : (rest : List Lexeme) (items : List Item) (stop : ℕ) → place_or (rest ++ flat_map lexemes_of items) stop ≡ place_or rest (word_place items stop 0)
-place_behind [] items stop = first_place items stop
-place_behind (r ∷ rest) items stop = refl
+place_after : (rest : List Lexeme) (items : List Item) (stop : ℕ) → place_or (rest ++ flat_map lexemes_of items) stop ≡ place_or rest (word_place items stop 0)
+place_after rest items stop = grind (arith, first_place)
 
 -- what stands from its word on, up to the next, lies in an item
 lies_between : (ts : TextTokens) (before : List Item) (item : Item) (after : List Item) (place : ℕ) → IsDivided ts.lexemes [] (before ++ item ∷ after)
     → item.word.place ≤ place → place ≤ word_place after ts.end 0 → LiesIn ts (length before + 1) place
-lies_between ts before item after place d low high =
-    let begin : word_place (before ++ item ∷ after) ts.end (length before) ≡ item.word.place = nth_place before (item ∷ after) ts.end in
-    let stop : word_place (before ++ item ∷ after) ts.end (suc (length before)) ≡ word_place after ts.end 0 = next_place before item after ts.end in
-    let number : length before + 1 ≡ suc (length before) = add-one (length before) in
-    record {
-      front = [];
-      items = before ++ item ∷ after;
-      divided = d;
-      from = subst (λ n. item_begin (before ++ item ∷ after) ts.end n ≤ place) (sym number) (omega (arith, begin, low));
-      to = subst (λ n. place ≤ word_place (before ++ item ∷ after) ts.end n) (sym number) (omega (arith, stop, high));
-    }
+lies_between ts before item after place d low high = search (rules, add-one, nth_place, next_place)
 
 -- a place where a part of the item's body was taken lies in the item
 pub lies_in_item : (ts : TextTokens) (before : List Item) (item : Item) (after : List Item) (taken rest : List Lexeme) → Rises 0 ts.lexemes ts.end
     → IsDivided ts.lexemes [] (before ++ item ∷ after) → item.body ≡ taken ++ rest → LiesIn ts (length before + 1) (place_or rest (word_place after ts.end 0))
 lies_in_item ts before item after taken rest rises d e =
-    let behind = flat_map lexemes_of after in
-    let all = rises_split 0 ts.end (flat_map lexemes_of before) (item.word ∷ (taken ++ (rest ++ behind)))
+    let following = flat_map lexemes_of after in
+    let all = rises_split 0 ts.end (flat_map lexemes_of before) (item.word ∷ (taken ++ (rest ++ following)))
     (subst (λ ls. Rises 0 ls ts.end) (item_split ts.lexemes before item after taken rest d e) rises) in
-    let inner = rises_split item.word.place ts.end taken (rest ++ behind) all.1.1 in
-    let place : place_or (rest ++ behind) ts.end ≡ place_or rest (word_place after ts.end 0) = place_behind rest after ts.end in
-    let low = rises_le item.word.place (place_or (rest ++ behind) ts.end) taken inner.0 in
-    let outer = rises_split (place_or (rest ++ behind) ts.end) ts.end rest behind inner.1 in
-    let next : place_or behind ts.end ≡ word_place after ts.end 0 = first_place after ts.end in
-    let high = rises_le (place_or (rest ++ behind) ts.end) (place_or behind ts.end) rest outer.0 in
+    let inner = rises_split item.word.place ts.end taken (rest ++ following) all.1.1 in
+    let place : place_or (rest ++ following) ts.end ≡ place_or rest (word_place after ts.end 0) = place_after rest after ts.end in
+    let low = rises_le item.word.place (place_or (rest ++ following) ts.end) taken inner.0 in
+    let outer = rises_split (place_or (rest ++ following) ts.end) ts.end rest following inner.1 in
+    let next : place_or following ts.end ≡ word_place after ts.end 0 = first_place after ts.end in
+    let high = rises_le (place_or (rest ++ following) ts.end) (place_or following ts.end) rest outer.0 in
     lies_between ts before item after (place_or rest (word_place after ts.end 0)) d (omega (arith, low, place)) (omega (arith, high, place, next))
 
 -- so does the place of its word
 pub lies_at_word : (ts : TextTokens) (before : List Item) (item : Item) (after : List Item) → Rises 0 ts.lexemes ts.end
     → IsDivided ts.lexemes [] (before ++ item ∷ after) → LiesIn ts (length before + 1) item.word.place
 lies_at_word ts before item after rises d =
-    let behind = flat_map lexemes_of after in
-    let all = rises_split 0 ts.end (flat_map lexemes_of before) (item.word ∷ (item.body ++ behind))
+    let following = flat_map lexemes_of after in
+    let all = rises_split 0 ts.end (flat_map lexemes_of before) (item.word ∷ (item.body ++ following))
     (subst (λ ls. Rises 0 ls ts.end) (d.whole ∙ all_append before (item ∷ after)) rises) in
-    let inner = rises_split item.word.place ts.end item.body behind all.1.1 in
-    let next : place_or behind ts.end ≡ word_place after ts.end 0 = first_place after ts.end in
-    let high = rises_le item.word.place (place_or behind ts.end) item.body inner.0 in
+    let inner = rises_split item.word.place ts.end item.body following all.1.1 in
+    let next : place_or following ts.end ≡ word_place after ts.end 0 = first_place after ts.end in
+    let high = rises_le item.word.place (place_or following ts.end) item.body inner.0 in
     lies_between ts before item after item.word.place d (omega arith) (omega (arith, high, next))
 
 -- what stands before the first item word lies in item 0
 pub lies_before_items : (ts : TextTokens) (l : Lexeme) (ls : List Lexeme) (items : List Item) → Rises 0 ts.lexemes ts.end → IsDivided ts.lexemes (l ∷ ls) items → LiesIn ts 0 l.place
-lies_before_items ts l ls items rises d =
-    let all : Rises 0 (l ∷ (ls ++ flat_map lexemes_of items)) ts.end = subst (λ s. Rises 0 s ts.end) d.whole rises in
-    let split = rises_split l.place ts.end ls (flat_map lexemes_of items) all.1 in
-    let high = rises_le l.place (place_or (flat_map lexemes_of items) ts.end) ls split.0 in
-    let next : place_or (flat_map lexemes_of items) ts.end ≡ word_place items ts.end 0 = first_place items ts.end in
-    record { front = l ∷ ls; items = items; divided = d; from = omega arith; to = omega (arith, high, next) }
+lies_before_items ts l ls items rises d = grind (arith, rises_le, rises_split, first_place)
 
 last_place : (items : List Item) (stop : ℕ) → word_place items stop (length items) ≡ stop
 last_place [] stop = refl
@@ -139,40 +111,24 @@ past_place (x ∷ xs) stop = past_place xs stop
 
 -- the end lies where the text ends
 pub lies_at_end : (ts : TextTokens) (items : List Item) → IsDivided ts.lexemes [] items → LiesIn ts (length items + 1) ts.end
-lies_at_end ts items d =
-    let begin : word_place items ts.end (length items) ≡ ts.end = last_place items ts.end in
-    let stop : word_place items ts.end (suc (length items)) ≡ ts.end = past_place items ts.end in
-    let number : length items + 1 ≡ suc (length items) = add-one (length items) in
-    record {
-      front = [];
-      items = items;
-      divided = d;
-      from = subst (λ n. item_begin items ts.end n ≤ ts.end) (sym number) (omega (arith, begin));
-      to = subst (λ n. ts.end ≤ word_place items ts.end n) (sym number) (omega (arith, stop));
-    }
+lies_at_end ts items d = search (rules, add-one, last_place, past_place)
 
 -- ---- the place of a fault
 
 ends_place : (place : ℕ) (bytes : List ℕ) (ending : Option TokenFault) (f : TokenFault) → EndsAt place bytes ending (Some f) → (fault_place f ≡ place) ⊎ (ending ≡ Some f)
-ends_place place [] ending f e = inr (sym e)
-ends_place place (b ∷ bs) ending (TextTooLong at) e = absurd e
-ends_place place (b ∷ bs) ending _ e = inl e.0
+ends_place place bytes ending f h1 = grind arith
 
 -- a fault in place of the clean end stands where the bytes end
 abbrev EndsThere : Rest → Type 0
 EndsThere rest = (f : TokenFault) → rest.ending ≡ Some f → fault_place f ≡ end_place rest
 
 cut_fault : (rest : Rest) (ls : List Lexeme) (f : TokenFault) → EndsThere rest → IsCut rest ls (Some f) → Rises rest.place ls (fault_place f) × (fault_place f ≤ end_place rest)
-cut_fault rest [] f there cut =
-    let within = cut.longest.within in
-    ⊎_elim (λ (here : fault_place f ≡ rest.place + cut.gap). (omega (arith, here), omega (arith, here, within)))
-    (λ (last : rest.ending ≡ Some f). let e = there f last in (omega (arith, e), omega (arith, e)))
-    (ends_place (rest.place + cut.gap) (drop cut.gap rest.bytes) rest.ending f cut.ends_at)
+cut_fault rest [] f there cut = grind (arith, ⊎_elim, ends_place)
 cut_fault rest (l ∷ ls) f there cut =
     let leaves = token_leaves rest cut.0 l cut.1 in
     let kept : cut.0.ending ≡ rest.ending = ap (λ (r : Rest). r.ending) cut.1.rest in
-    let behind = cut_fault cut.0 ls f (λ g e. there g (sym kept ∙ e) ∙ sym leaves.2) cut.2 in
-    ((leaves.0, rises_from l.place cut.0.place (fault_place f) ls leaves.1 behind.0), subst (λ n. fault_place f ≤ n) leaves.2 behind.1)
+    let following = cut_fault cut.0 ls f (λ g e. there g (sym kept ∙ e) ∙ sym leaves.2) cut.2 in
+    ((leaves.0, rises_from l.place cut.0.place (fault_place f) ls leaves.1 following.0), subst (λ n. fault_place f ≤ n) leaves.2 following.1)
 
 abbrev too_long : List ℕ → ℕ → Rest
 too_long text limit = record { place = 0; bytes = take limit text; ending = Some (TextTooLong limit) }
@@ -181,15 +137,7 @@ abbrev whole_text : List ℕ → Rest
 whole_text text = record { place = 0; bytes = text; ending = None }
 
 too_long_there : (text : List ℕ) (limit : ℕ) (long : Bool) → nat_lt limit (length text) ≡ long → EndsThere (cond long (too_long text limit) (whole_text text))
-too_long_there text limit true e f last =
-    let below : limit < length text = grind (arith, nat_tests) in
-    let len : length (take limit text) ≡ limit = length-take-le limit text (omega (arith, below)) in
-    let place : limit ≡ fault_place f = ap fault_place (some_once last) in
-    omega (arith, place, len)
-  where
-    some_once : {x y : TokenFault} → Some x ≡ Some y → x ≡ y
-    some_once g = cc
-too_long_there text limit false e f last = absurd cc
+too_long_there text limit long h1 = grind (arith, length-take-le)
 
 pub fault_rises : (text : List ℕ) (ts : TextTokens) (f : TokenFault) → AreTokensOf text ts → ts.ending ≡ Some f → Rises 0 ts.lexemes (fault_place f) × (fault_place f ≤ ts.end)
 fault_rises text ts f tokens e =
@@ -217,10 +165,4 @@ lies_at_fault ts before item place rises high d =
 
 -- where no lexeme came, it lies in item 0
 pub lies_at_once : (ts : TextTokens) (place : ℕ) → place ≤ ts.end → ts.lexemes ≡ [] → LiesIn ts 0 place
-lies_at_once ts place high none = record {
-  front = [];
-  items = [];
-  divided = subst (λ s. IsDivided s [] []) (sym none) empty_division;
-  from = omega arith;
-  to = high;
-}
+lies_at_once ts place high none = grind (arith, empty_division)

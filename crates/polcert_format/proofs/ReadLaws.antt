@@ -7,7 +7,7 @@ use Rattle.polcert_cells.specs.declared.words.Topic.{Topic}
 use Rattle.polcert_cells.specs.Words.{topic, begins_item}
 use Rattle.polcert_format.specs.Items.{Item, IsDivided}
 use Rattle.polcert_cells.specs.Preamble.{Preamble}
-use Rattle.polcert_format.specs.Text.{Known, nothing_known, IsComplete, IsRight, AreRight, none, more, IsRightText}
+use Rattle.polcert_format.specs.Text.{ModelSoFar, nothing_known, IsComplete, IsRight, AreRight, none, more, IsRightText}
 use Rattle.polcert_format.specs.Reading.{AreRightItems, IsWithinItem, CannotGoOn, IsWrong}
 use Rattle.polcert_format.specs.FirstWrong.{TextTokens, tokens_of, IsFirstWrong, wrong_front, wrong_fault, wrong_item, wrong_last, wrong_end}
 use Rattle.polcert_cells.proofs.Basics.{one_some, some≢none, or_false_from, cons≢nil, same_head, same_tail}
@@ -17,7 +17,7 @@ use Rattle.polcert_format.proofs.Dividing.{begins, append_division, next_divisio
 use Rattle.polcert_format.proofs.RightItems.{append_right, no_wrong_next, no_wrong_item}
 
 -- the lexemes, cut as the item is that was begun
-pub within_division : (seen body tail f : List Lexeme) (k : Known) (t : Topic) (ys : List Item) (w : IsWithinItem seen k t body) → IsDivided tail f ys
+pub within_division : (seen body tail f : List Lexeme) (k : ModelSoFar) (t : Topic) (ys : List Item) (w : IsWithinItem seen k t body) → IsDivided tail f ys
     → IsDivided (seen ++ tail) [] (w.items.items ++ (record { word = w.word; body = body ++ f }) ∷ ys)
 within_division seen body tail f k t ys w d =
     let inner : IsDivided (body ++ tail) (body ++ f) ys = append_division body tail f ys w.no_word d in
@@ -25,13 +25,13 @@ within_division seen body tail f k t ys w d =
     subst (λ s. IsDivided s [] (w.items.items ++ (record { word = w.word; body = body ++ f }) ∷ ys)) (sym joined)
     (next_division w.before (body ++ tail) (body ++ f) w.word w.items.items ys (begins w.word t w.topic_is) w.items.divided inner)
 
-pub seen_division : (seen body : List Lexeme) (k : Known) (t : Topic) (w : IsWithinItem seen k t body) → IsDivided seen [] (w.items.items ++ (record { word = w.word; body = body }) ∷ [])
+pub seen_division : (seen body : List Lexeme) (k : ModelSoFar) (t : Topic) (w : IsWithinItem seen k t body) → IsDivided seen [] (w.items.items ++ (record { word = w.word; body = body }) ∷ [])
 seen_division seen body k t w =
     subst (λ s. IsDivided s [] (w.items.items ++ (record { word = w.word; body = body }) ∷ [])) (append-nil seen)
     (subst (λ b. IsDivided (seen ++ []) [] (w.items.items ++ (record { word = w.word; body = b }) ∷ [])) (append-nil body) (within_division seen body [] [] k t [] w empty_division))
 
 -- where the item is right with the lexemes so far, they are right items again
-abbrev pub item_ends : (seen body : List Lexeme) (k after : Known) (t : Topic) → IsWithinItem seen k t body → IsRight k t body after → AreRightItems seen after
+abbrev pub item_ends : (seen body : List Lexeme) (k after : ModelSoFar) (t : Topic) → IsWithinItem seen k t body → IsRight k t body after → AreRightItems seen after
 item_ends seen body k after t w r =
     let item : Item = record { word = w.word; body = body } in
     record {
@@ -41,31 +41,31 @@ item_ends seen body k after t w r =
     }
 
 -- a wrong item, whatever topic its word is said to have
-whatever_topic : (k : Known) (t : Topic) (word : Lexeme) (body : List Lexeme) → topic word ≡ Some t → IsWrong k t body → (u : Topic) → topic word ≡ Some u → IsWrong k u body
+whatever_topic : (k : ModelSoFar) (t : Topic) (word : Lexeme) (body : List Lexeme) → topic word ≡ Some t → IsWrong k t body → (u : Topic) → topic word ≡ Some u → IsWrong k u body
 whatever_topic k t word body e wrong u f = subst (λ x. IsWrong k x body) (one_some e f) wrong
 
-pub wrong_within : (seen body : List Lexeme) (k : Known) (t : Topic) (w : IsWithinItem seen k t body) → CannotGoOn k t body
+pub wrong_within : (seen body : List Lexeme) (k : ModelSoFar) (t : Topic) (w : IsWithinItem seen k t body) → CannotGoOn k t body
     → (further : List Lexeme) (ending : Option TokenFault) (stop : ℕ) → IsFirstWrong (tokens_of (seen ++ further) ending stop) (length w.items.items + 1)
 wrong_within seen body k t w stuck further ending stop =
     let d = has_division further in
     wrong_item w.items.items (record { word = w.word; body = body ++ d.0 }) d.1 k (within_division seen body further d.0 k t d.1 w d.2) w.items.right
     (whatever_topic k t w.word (body ++ d.0) w.topic_is (stuck d.0)) refl
 
-pub wrong_at_word : (seen body : List Lexeme) (k : Known) (t : Topic) (next : Lexeme) (w : IsWithinItem seen k t body) → IsWrong k t body → begins_item next ≡ true
+pub wrong_at_word : (seen body : List Lexeme) (k : ModelSoFar) (t : Topic) (next : Lexeme) (w : IsWithinItem seen k t body) → IsWrong k t body → begins_item next ≡ true
     → (further : List Lexeme) (ending : Option TokenFault) (stop : ℕ) → IsFirstWrong (tokens_of (seen ++ next ∷ further) ending stop) (length w.items.items + 1)
 wrong_at_word seen body k t next w wrong b further ending stop =
     let d = has_division further in
     let item : Item = record { word = next; body = d.0 } in
-    let behind : IsDivided (next ∷ further) [] (item ∷ d.1) = next_division [] further d.0 next [] d.1 b empty_division d.2 in
-    wrong_item w.items.items (record { word = w.word; body = body ++ [] }) (item ∷ d.1) k (within_division seen body (next ∷ further) [] k t (item ∷ d.1) w behind) w.items.right
+    let following : IsDivided (next ∷ further) [] (item ∷ d.1) = next_division [] further d.0 next [] d.1 b empty_division d.2 in
+    wrong_item w.items.items (record { word = w.word; body = body ++ [] }) (item ∷ d.1) k (within_division seen body (next ∷ further) [] k t (item ∷ d.1) w following) w.items.right
     (whatever_topic k t w.word (body ++ []) w.topic_is (subst (IsWrong k t) (sym (append-nil body)) wrong)) refl
 
-pub wrong_at_end : (seen body : List Lexeme) (k : Known) (t : Topic) (w : IsWithinItem seen k t body) → IsWrong k t body
+pub wrong_at_end : (seen body : List Lexeme) (k : ModelSoFar) (t : Topic) (w : IsWithinItem seen k t body) → IsWrong k t body
     → (ending : Option TokenFault) (stop : ℕ) → IsFirstWrong (tokens_of seen ending stop) (length w.items.items + 1)
 wrong_at_end seen body k t w wrong ending stop =
     wrong_item w.items.items (record { word = w.word; body = body }) [] k (seen_division seen body k t w) w.items.right (whatever_topic k t w.word body w.topic_is wrong) refl
 
-pub wrong_at_fault : (seen body : List Lexeme) (k : Known) (t : Topic) (w : IsWithinItem seen k t body) (fault : TokenFault) (stop : ℕ)
+pub wrong_at_fault : (seen body : List Lexeme) (k : ModelSoFar) (t : Topic) (w : IsWithinItem seen k t body) (fault : TokenFault) (stop : ℕ)
     → IsFirstWrong (tokens_of seen (Some fault) stop) (length w.items.items + 1)
 wrong_at_fault seen body k t w fault stop = wrong_last w.items.items (record { word = w.word; body = body }) k fault (seen_division seen body k t w) w.items.right refl refl
 
@@ -77,15 +77,15 @@ wrong_before_items l e further ending stop =
 pub wrong_at_once : (fault : TokenFault) (stop : ℕ) → IsFirstWrong (tokens_of [] (Some fault) stop) 0
 wrong_at_once fault stop = wrong_fault fault refl refl refl
 
-pub wrong_behind_items : (seen : List Lexeme) (k : Known) (r : AreRightItems seen k) → ((p : Preamble) → IsComplete k p → ⊥) → (stop : ℕ)
+pub wrong_after_items : (seen : List Lexeme) (k : ModelSoFar) (r : AreRightItems seen k) → ((p : Preamble) → IsComplete k p → ⊥) → (stop : ℕ)
     → IsFirstWrong (tokens_of seen None stop) (length r.items + 1)
-wrong_behind_items seen k r lacking stop = wrong_end r.items k r.divided r.right refl lacking refl
+wrong_after_items seen k r lacking stop = wrong_end r.items k r.divided r.right refl lacking refl
 
 nil≢cons : {A : Type 0} {x : A} {xs : List A} → [] ≡ x ∷ xs → ⊥
 nil≢cons e = cc
 
 -- no text with a first wrong item is taken
-pub not_taken : (ts : TextTokens) (n : ℕ) (p : Preamble) (last : Known) → IsFirstWrong ts n → ts.ending ≡ None → IsRightText ts.lexemes p last → ⊥
+pub not_taken : (ts : TextTokens) (n : ℕ) (p : Preamble) (last : ModelSoFar) → IsFirstWrong ts n → ts.ending ≡ None → IsRightText ts.lexemes p last → ⊥
 not_taken ts n p last (wrong_front l ls items d e) clean text = nil≢cons (one_division ts.lexemes [] (l ∷ ls) text.items items text.divided d).0
 not_taken ts n p last (wrong_fault f empty e z) clean text = some≢none e clean
 not_taken ts n p last (wrong_item before wrong after k d right is_wrong e) clean text =
@@ -98,19 +98,17 @@ not_taken ts n p last (wrong_end items k d right e lacking z) clean text =
     lacking p (subst (λ x. IsComplete x p) known text.complete)
 
 -- items after right ones, of which the first isn't taken, begin at one place
-same_place : (k m n : Known) (xs ys : List Item) (x y : Item) (us vs : List Item) → AreRight k xs m → AreRight k ys n
+same_place : (k m n : ModelSoFar) (xs ys : List Item) (x y : Item) (us vs : List Item) → AreRight k xs m → AreRight k ys n
     → ((t : Topic) → topic x.word ≡ Some t → IsWrong m t x.body) → ((t : Topic) → topic y.word ≡ Some t → IsWrong n t y.body) → xs ++ x ∷ us ≡ ys ++ y ∷ vs → length xs ≡ length ys
 same_place k m n [] [] x y us vs a b wrong other e = refl
-same_place k m n [] (z ∷ ys) x y us vs none b wrong other e =
-    absurd (no_wrong_next k n z ys (subst (λ (w : Item). (t : Topic) → topic w.word ≡ Some t → IsWrong k t w.body) (same_head e) wrong) b)
-same_place k m n (z ∷ xs) [] x y us vs a none wrong other e =
-    absurd (no_wrong_next k m z xs (subst (λ (w : Item). (t : Topic) → topic w.word ≡ Some t → IsWrong k t w.body) (sym (same_head e)) other) a)
-same_place k m n (z ∷ xs) (w ∷ ys) x y us vs (more {next = p} t f a behind) (more {next = q} u g b after) wrong other e =
+same_place k m n [] (z ∷ ys) x y us vs none b wrong other e = grind (arith, same_head, no_wrong_next)
+same_place k m n (z ∷ xs) [] x y us vs a none wrong other e = grind (arith, same_head, no_wrong_next)
+same_place k m n (z ∷ xs) (w ∷ ys) x y us vs (more {next = p} t f a following) (more {next = q} u g b after) wrong other e =
     let items : w ≡ z = sym (same_head e) in
     let topics : u ≡ t = one_some (subst (λ (i : Item). topic i.word ≡ Some u) items g) f in
     let right : IsRight k t z.body q = subst (λ (i : Item). IsRight k t i.body q) items (subst (λ v. IsRight k v w.body q) topics b) in
     let known : q ≡ p = one_right k t z.body q p right a in
-    let rest = same_place p m n xs ys x y us vs behind (subst (λ v. AreRight v ys n) known after) wrong other (same_tail e) in
+    let rest = same_place p m n xs ys x y us vs following (subst (λ v. AreRight v ys n) known after) wrong other (same_tail e) in
     ap suc rest
 
 pub no_empty : (xs : List Item) (x : Item) (ys : List Item) → xs ++ x ∷ ys ≡ [] → ⊥
@@ -118,18 +116,17 @@ no_empty [] x ys e = cons≢nil e
 no_empty (z ∷ xs) x ys e = cons≢nil e
 
 -- the last item of the text, after right ones, where one of the items isn't taken
-place_of_last : (k m n : Known) (xs ys : List Item) (x y : Item) (us : List Item) → AreRight k xs m → AreRight k ys n
+place_of_last : (k m n : ModelSoFar) (xs ys : List Item) (x y : Item) (us : List Item) → AreRight k xs m → AreRight k ys n
     → ((t : Topic) → topic x.word ≡ Some t → IsWrong m t x.body) → xs ++ x ∷ us ≡ ys ++ y ∷ [] → length xs ≡ length ys
 place_of_last k m n [] [] x y us a b wrong e = refl
-place_of_last k m n [] (z ∷ ys) x y us none b wrong e =
-    absurd (no_wrong_next k n z ys (subst (λ (w : Item). (t : Topic) → topic w.word ≡ Some t → IsWrong k t w.body) (same_head e) wrong) b)
+place_of_last k m n [] (z ∷ ys) x y us none b wrong e = grind (arith, same_head, no_wrong_next)
 place_of_last k m n (z ∷ xs) [] x y us a b wrong e = absurd (no_empty xs x us (same_tail e))
-place_of_last k m n (z ∷ xs) (w ∷ ys) x y us (more {next = p} t f a behind) (more {next = q} u g b after) wrong e =
+place_of_last k m n (z ∷ xs) (w ∷ ys) x y us (more {next = p} t f a following) (more {next = q} u g b after) wrong e =
     let items : w ≡ z = sym (same_head e) in
     let topics : u ≡ t = one_some (subst (λ (i : Item). topic i.word ≡ Some u) items g) f in
     let right : IsRight k t z.body q = subst (λ (i : Item). IsRight k t i.body q) items (subst (λ v. IsRight k v w.body q) topics b) in
     let known : q ≡ p = one_right k t z.body q p right a in
-    let rest = place_of_last p m n xs ys x y us behind (subst (λ v. AreRight v ys n) known after) wrong (same_tail e) in
+    let rest = place_of_last p m n xs ys x y us following (subst (λ v. AreRight v ys n) known after) wrong (same_tail e) in
     ap suc rest
 
 last_place : (xs ys : List Item) (x y : Item) → xs ++ x ∷ [] ≡ ys ++ y ∷ [] → length xs ≡ length ys
@@ -141,7 +138,7 @@ front_or_none ls l fs items others a b = cons≢nil (one_division ls (l ∷ fs) 
 pub item_or_empty : (ls : List Lexeme) (xs : List Item) (x : Item) (ys : List Item) → IsDivided ls [] (xs ++ x ∷ ys) → ls ≡ [] → ⊥
 item_or_empty ls xs x ys a e = no_empty xs x ys (one_division [] [] [] (xs ++ x ∷ ys) [] (subst (λ s. IsDivided s [] (xs ++ x ∷ ys)) e a) empty_division).1
 
-item_or_end : (ls : List Lexeme) (xs : List Item) (x : Item) (ys items : List Item) (k last : Known) → IsDivided ls [] (xs ++ x ∷ ys) → AreRight nothing_known xs k
+item_or_end : (ls : List Lexeme) (xs : List Item) (x : Item) (ys items : List Item) (k last : ModelSoFar) → IsDivided ls [] (xs ++ x ∷ ys) → AreRight nothing_known xs k
     → ((t : Topic) → topic x.word ≡ Some t → IsWrong k t x.body) → IsDivided ls [] items → AreRight nothing_known items last → ⊥
 item_or_end ls xs x ys items k last a taken wrong b all =
     no_wrong_item nothing_known k last xs ys x wrong taken (subst (λ v. AreRight nothing_known v last) (one_division ls [] [] items (xs ++ x ∷ ys) b a).1 all)

@@ -33,20 +33,9 @@ proper_row m n Observation a s same rows no_reward p q =
     subst (λ (r : Preamble). sum_below (n.o a s) (observations_of (record m { preamble = r })) ≡ o_scale (record m { preamble = r })) same.preamble (sym sums ∙ rows.observations a s p q)
 proper_row m n Reward a s same rows no_reward p q = absurd (no_reward refl)
 
-no_reward_row : (m : Meaning) (a s : ℕ) → IsFirstWrongRow m Reward a s → ⊥
-no_reward_row m a s w = w.behind_transitions
-
 -- a proper model has no first wrong row
 no_wrong_row : (m n : Meaning) (table : Table) (a s : ℕ) → IsSame m n → HasProperRows m → IsFirstWrongRow n table a s → ⊥
-no_wrong_row m n Reward a s same rows w = no_reward_row n a s w
-no_wrong_row m n Transition a s same rows w =
-    w.wrong (proper_row m n Transition a s same rows (λ e. cc)
-    (subst (λ (r : Preamble). a < actions_of (record m { preamble = r })) (sym same.preamble) w.action)
-    (subst (λ (r : Preamble). s < states_of (record m { preamble = r })) (sym same.preamble) w.state))
-no_wrong_row m n Observation a s same rows w =
-    w.wrong (proper_row m n Observation a s same rows (λ e. cc)
-    (subst (λ (r : Preamble). a < actions_of (record m { preamble = r })) (sym same.preamble) w.action)
-    (subst (λ (r : Preamble). s < states_of (record m { preamble = r })) (sym same.preamble) w.state))
+no_wrong_row m n table a s h1 h2 h3 = grind (arith, proper_row)
 
 pub not_accepted : (text : List ℕ) (ts : TextTokens) (fault : ModelFault) (m : Meaning) → AreTokensOf text ts → IsRefusal ts fault → SaysOfText fault → IsModelText text m → ⊥
 not_accepted text ts (Item kind number place) m tokens refusal says accepted =

@@ -1,5 +1,5 @@
 -- A text has one list of tokens.
-use Rattle.std.proofs.Common.{◌≡◌, ◌∙◌, ℕ, List, refl, sym}
+use Rattle.std.proofs.Common.{◌≡◌, ℕ, List, refl, arith}
 use Rattle.polcert_text.specs.Cut.{text_rest, end_place, text_limit}
 use Rattle.polcert_text.proofs.Scanning.SomeCut.{some_cut}
 use Rattle.polcert_text.proofs.TextLaws.{one_cut}
@@ -11,7 +11,4 @@ has_tokens text =
     (tokens_of cut.0 cut.1 (end_place (text_rest text text_limit)), record { cut = cut.2; end_is = refl })
 
 pub one_list_of_tokens : (text : List ℕ) (ts us : TextTokens) → AreTokensOf text ts → AreTokensOf text us → ts ≡ us
-one_list_of_tokens text ts us a b =
-    let same = one_cut (text_rest text text_limit) ts.lexemes us.lexemes ts.ending us.ending a.cut b.cut in
-    let end = a.end_is ∙ sym b.end_is in
-    λ i. tokens_of (same.0 i) (same.1 i) (end i)
+one_list_of_tokens text ts us a b = grind (arith, one_cut)

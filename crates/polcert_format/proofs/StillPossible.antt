@@ -1,18 +1,17 @@
 -- What is still possible: an entry with some places and numbers continues with `: *` and zeros.
-use Rattle.std.proofs.Common.{◌≡◌, ℕ, zero, suc, ◌≤◌, Bool, true, false, List, [], ◌∷◌, ◌++◌, length, map, All, pos, codes, refl, ap, subst, arith, lit≤}
+use Rattle.std.proofs.Common.{◌≡◌, ℕ, zero, suc, ◌≤◌, Bool, false, List, [], ◌∷◌, ◌++◌, length, map, All, pos, codes, refl, ap, subst, arith}
 use Rattle.std.proofs.lemmas.List.{append_assoc}
 use Rattle.std.proofs.lemmas.List.Elements.{All-cons, All-nil}
-use Rattle.polcert_text.specs.Bytes.{class_of}
+use Rattle.polcert_text.specs.Bytes.{is_digit, is_point, is_exponent_mark}
 use Rattle.polcert_text.specs.Numbers.{number_of, exponent_size, power_of, size_of, millionth}
 use Rattle.polcert_text.specs.Cut.{Lexeme}
 use Rattle.polcert_text.specs.declared.lexeme.TokenKind.TheVariants.{Numeral, Star, Colon}
 use Rattle.polcert_cells.specs.declared.entry.Table.{Table}
-use Rattle.polcert_cells.specs.declared.entry.Table.TheVariants.{Transition, Observation, Reward}
 use Rattle.polcert_cells.specs.declared.entry.Body.TheVariants.{Probabilities}
 use Rattle.polcert_cells.specs.declared.words.Topic.{Topic}
 use Rattle.polcert_cells.specs.Numbers.{IsMillionths, AreNumbers, none, unsigned, one}
 use Rattle.polcert_cells.specs.Entry.{forms}
-use Rattle.polcert_format.specs.Text.{Known}
+use Rattle.polcert_format.specs.Text.{ModelSoFar}
 use Rattle.polcert_format.specs.Forms.{HasForm, IsPossible}
 
 -- ---- lexemes to continue with
@@ -27,9 +26,8 @@ abbrev pub a_colon : Lexeme
 a_colon = record { kind = Colon; place = 0; bytes = codes ":" }
 
 pub zero_is : (negative : Bool) → IsMillionths negative a_zero (pos 0)
-unfolding class_of number_of exponent_size power_of size_of millionth
-zero_is true = record { kind = refl; readable = record { numeral = refl; short = lit≤ tt; exponent = lit≤ tt; size = lit≤ tt }; exact = refl }
-zero_is false = record { kind = refl; readable = record { numeral = refl; short = lit≤ tt; exponent = lit≤ tt; size = lit≤ tt }; exact = refl }
+unfolding is_digit is_point is_exponent_mark number_of exponent_size power_of size_of millionth
+zero_is negative = grind arith
 
 abbrev pub zeros : ℕ → List Lexeme
 zeros zero = []
@@ -58,11 +56,9 @@ length-pos (q ∷ qs) = ap suc (length-pos qs)
 -- ---- what is possible
 
 -- what begins something possible is possible
-pub possible_front : (k : Known) (t : Topic) (taken further : List Lexeme) → IsPossible k t (taken ++ further) → IsPossible k t taken
+pub possible_front : (k : ModelSoFar) (t : Topic) (taken further : List Lexeme) → IsPossible k t (taken ++ further) → IsPossible k t taken
 possible_front k t taken further p = record { more = further ++ p.more; form = subst (HasForm k t) (append_assoc taken further p.more) p.form }
 
 -- the forms of numbers don't depend on the numbers
 pub same_form_of_probabilities : (mdp : Bool) (table : Table) (qs rs : List ℕ) → forms mdp table (Probabilities qs) ≡ forms mdp table (Probabilities rs)
-same_form_of_probabilities mdp Transition qs rs = refl
-same_form_of_probabilities mdp Observation qs rs = refl
-same_form_of_probabilities mdp Reward qs rs = refl
+same_form_of_probabilities mdp table qs rs = grind arith

@@ -1,5 +1,5 @@
 -- A text denotes at most one model.
-use Rattle.std.proofs.Common.{◌≡◌, ◌∙◌, ℕ, ◌<◌, Some, None, List, [], ◌∷◌, ◌++◌, pos, codes, refl, sym, ap, subst, arith}
+use Rattle.std.proofs.Common.{◌≡◌, ℕ, Some, None, List, [], ◌∷◌, ◌++◌, pos, codes, refl, ap, subst, arith}
 use Rattle.polcert_text.specs.Cut.{Lexeme, text_rest, text_limit}
 use Rattle.polcert_text.proofs.Scanning.CleanCut.{clean_cut}
 use Rattle.polcert_text.proofs.Scanning.CutLaws.{one_cut}
@@ -7,29 +7,21 @@ use Rattle.polcert_cells.specs.declared.words.Topic.{Topic}
 use Rattle.polcert_cells.specs.Words.{IsWord, IsName}
 use Rattle.polcert_cells.specs.Numbers.{IsWhole, IsNumber}
 use Rattle.polcert_cells.specs.declared.elements.Elements.{Elements}
-use Rattle.polcert_cells.specs.Elements.{count_of, most_states, most_actions, most_observations, AreElements, counted, named}
+use Rattle.polcert_cells.specs.Elements.{most_states, most_actions, most_observations, AreElements, counted, named}
 use Rattle.polcert_format.specs.Items.{Item}
-use Rattle.polcert_cells.specs.Preamble.{Preamble, observed}
+use Rattle.polcert_cells.specs.Preamble.{Preamble}
 use Rattle.polcert_cells.specs.declared.entry.Entry.{Entry}
 use Rattle.polcert_cells.specs.Entry.{IsEntry}
-use Rattle.polcert_cells.specs.declared.shares.Shares.{Shares}
-use Rattle.polcert_cells.specs.Start.{IsStart}
 use Rattle.polcert_cells.specs.Meaning.{Meaning, meaning_of, IsSame}
-use Rattle.polcert_format.specs.Text.{Known, nothing_known, IsComplete, IsRight, discount, rewards, costs, states, actions, observations, start, entry, AreRight, none, more, IsRightText, Denotes, IsModelText}
+use Rattle.polcert_format.specs.Text.{ModelSoFar, nothing_known, IsComplete, IsRight, discount, rewards, costs, states, actions, observations, start, entry, AreRight, none, more, IsRightText, Denotes, IsModelText}
 use Rattle.polcert_cells.proofs.Basics.{one_some, same_head}
 use Rattle.polcert_cells.proofs.NumberLaws.{one_whole, one_list}
 use Rattle.polcert_cells.proofs.EntryLaws.{one_entry}
 use Rattle.polcert_cells.proofs.StartLaws.{one_start}
 use Rattle.polcert_format.proofs.ItemLaws.{one_division}
 
-pub one_preamble : (k : Known) (p q : Preamble) → IsComplete k p → IsComplete k q → p ≡ q
-one_preamble k p q a b =
-    let d = one_some a.lines.discount b.lines.discount in
-    let c = one_some a.lines.costs b.lines.costs in
-    let s = one_some a.lines.states b.lines.states in
-    let n = one_some a.lines.actions b.lines.actions in
-    let o = sym a.lines.observations ∙ b.lines.observations in
-    λ i. record { discount = d i; costs = c i; states = s i; actions = n i; observations = o i }
+pub one_preamble : (k : ModelSoFar) (p q : Preamble) → IsComplete k p → IsComplete k q → p ≡ q
+one_preamble k p q a b = grind arith
 
 whole_not_name : (l : Lexeme) (n : ℕ) → IsWhole l n → IsName l → ⊥
 whole_not_name l n a b = let e = a.kind in let f = b.kind in cc
@@ -44,12 +36,9 @@ one_discount : (ls : List Lexeme) (g h : ℕ) → IsNumber ls (pos g) → IsNumb
 one_discount ls g h a b = let e = same_head (one_list a b) in cc
 
 reward_not_cost : (l : Lexeme) → IsWord (codes "reward") l → IsWord (codes "cost") l → ⊥
-reward_not_cost l a b = different (sym a.bytes ∙ b.bytes)
-  where
-    different : codes "reward" ≡ codes "cost" → ⊥
-    different e = let f : ◌≡◌ {A = ℕ} 114 99 = same_head e in omega arith
+reward_not_cost l a b = grind arith
 
-pub one_right : (k : Known) (t : Topic) (ls : List Lexeme) (x y : Known) → IsRight k t ls x → IsRight k t ls y → x ≡ y
+pub one_right : (k : ModelSoFar) (t : Topic) (ls : List Lexeme) (x y : ModelSoFar) → IsRight k t ls x → IsRight k t ls y → x ≡ y
 one_right k t ls x y (discount p e c n l) (discount q f d m o) = ap (λ (g : ℕ). record k { discount = Some g }) (one_discount _ _ _ n m)
 one_right k t ls x y (rewards p e c w) (rewards q f d v) = refl
 one_right k t ls x y (rewards p e c w) (costs q f d v) = absurd (reward_not_cost _ w v)
@@ -58,53 +47,26 @@ one_right k t ls x y (costs p e c w) (costs q f d v) = refl
 one_right k t ls x y (states p e c a) (states q f d b) = ap (λ (g : Elements). record k { states = Some g }) (one_elements most_states _ _ _ a b)
 one_right k t ls x y (actions p e c a) (actions q f d b) = ap (λ (g : Elements). record k { actions = Some g }) (one_elements most_actions _ _ _ a b)
 one_right k t ls x y (observations p e c a) (observations q f d b) = ap (λ (g : Elements). record k { observations = Some g }) (one_elements most_observations _ _ _ a b)
-one_right k t ls x y (start {p = p} {shares = f} i a s) (start {p = q} j b r) =
-    let same = one_preamble k p q a b in
-    ap (λ (g : Shares). record k { start = Some g }) (one_start q.states ls _ _ (subst (λ (w : Preamble). IsStart w.states ls f) same s) r)
+one_right k t ls x y (start {p = p} {shares = f} i a s) (start {p = q} j b r) = grind (arith, one_start, one_preamble)
 one_right k t ls x y (entry {p = p} {table = table} {e = f} a g s few) (entry {p = q} b h r fewer) =
     let same = one_preamble k p q a b in
     ap (λ (g : Entry). record k { entries = k.entries ++ g ∷ [] }) (one_entry q table ls _ _ (subst (λ (w : Preamble). IsEntry w table ls f) same s) r)
 
-pub one_known : (k : Known) (items : List Item) (x y : Known) → AreRight k items x → AreRight k items y → x ≡ y
+pub one_known : (k : ModelSoFar) (items : List Item) (x y : ModelSoFar) → AreRight k items x → AreRight k items y → x ≡ y
 one_known k items x y none none = refl
-one_known k (item ∷ items) x y (more {next = m} t e a behind) (more {next = n} u f b after) =
+one_known k (item ∷ items) x y (more {next = m} t e a following) (more {next = n} u f b after) =
     let topics : t ≡ u = one_some e f in
     let next : m ≡ n = one_right k u item.body m n (subst (λ v. IsRight k v item.body m) topics a) b in
-    one_known n items x y (subst (λ v. AreRight v items x) next behind) after
+    one_known n items x y (subst (λ v. AreRight v items x) next following) after
 
-pub one_right_text : (ls : List Lexeme) (p q : Preamble) (x y : Known) → IsRightText ls p x → IsRightText ls q y → (p ≡ q) × (x ≡ y)
+pub one_right_text : (ls : List Lexeme) (p q : Preamble) (x y : ModelSoFar) → IsRightText ls p x → IsRightText ls q y → (p ≡ q) × (x ≡ y)
 one_right_text ls p q x y a b =
     let division = one_division ls [] [] a.items b.items a.divided b.divided in
     let known : x ≡ y = one_known nothing_known b.items x y (subst (λ v. AreRight nothing_known v x) division.1 a.right) b.right in
     (one_preamble y p q (subst (λ v. IsComplete v p) known a.complete) b.complete, known)
 
--- a range stays the same where the preambles are the same
-in_range : (count : Preamble → ℕ) {p q : Preamble} {i : ℕ} → p ≡ q → i < count p → i < count q
-in_range count {i = i} e l = subst (λ r. i < count r) e l
-
-abbrev states_in : Preamble → ℕ
-states_in p = count_of p.states
-
-abbrev actions_in : Preamble → ℕ
-actions_in p = count_of p.actions
-
-abbrev observations_in : Preamble → ℕ
-observations_in p = count_of (observed p)
-
 pub same_through : (m n k l : Meaning) → IsSame m k → IsSame n l → k ≡ l → IsSame m n
-same_through m n k l a b e = record {
-  preamble = preambles;
-  start = a.start ∙ ap (λ (v : Meaning). v.start) e ∙ sym b.start;
-  t = λ x s f p q r. a.t x s f p q r ∙ ap (λ (v : Meaning). v.t x s f) e
-      ∙ sym (b.t x s f (in_range actions_in preambles p) (in_range states_in preambles q) (in_range states_in preambles r));
-  o = λ x s f p q r. a.o x s f p q r ∙ ap (λ (v : Meaning). v.o x s f) e
-      ∙ sym (b.o x s f (in_range actions_in preambles p) (in_range states_in preambles q) (in_range observations_in preambles r));
-  r = λ x s f z p q r v. a.r x s f z p q r v ∙ ap (λ (w : Meaning). w.r x s f z) e
-      ∙ sym (b.r x s f z (in_range actions_in preambles p) (in_range states_in preambles q) (in_range states_in preambles r) (in_range observations_in preambles v));
-}
-  where
-    preambles : m.preamble ≡ n.preamble
-    preambles = a.preamble ∙ ap (λ (v : Meaning). v.preamble) e ∙ sym b.preamble
+same_through m n k l a b e = grind arith
 
 pub one_meaning : (ls : List Lexeme) (m n : Meaning) → Denotes ls m → Denotes ls n → IsSame m n
 one_meaning ls m n a b =

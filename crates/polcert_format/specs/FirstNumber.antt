@@ -19,22 +19,22 @@ use Rattle.polcert_format.specs.KnownPreamble.{preamble_in}
 use Rattle.polcert_format.specs.Misfits.{begins_number}
 use Rattle.polcert_format.specs.Order.{word_fault}
 use Rattle.polcert_format.specs.Reasons.{IsRefusedNumber, IsNoFraction}
-use Rattle.polcert_format.specs.Text.{Known, nothing_known, AreRight}
+use Rattle.polcert_format.specs.Text.{ModelSoFar, nothing_known, AreRight}
 use Rattle.polcert_format.specs.Wants.{may_be_state}
 
 -- The body is a colon, a number and then these lexemes. The number stands at this place, with its sign if it has one, and
 -- this is so of it: of its sign (`true` is minus) and its numeral.
-pub data BeginsWithNumber (body : List Lexeme) (place : ℕ) (Is : Bool → Lexeme → Type 0) (behind : List Lexeme) : Type 0 where
-  unsigned : (colon l : Lexeme) → body ≡ colon ∷ l ∷ behind → colon.kind ≡ Colon → place ≡ l.place → Is false l → BeginsWithNumber body place Is behind
-  plus : (colon sign l : Lexeme) → body ≡ colon ∷ sign ∷ l ∷ behind → colon.kind ≡ Colon → sign.kind ≡ Plus → place ≡ sign.place → Is false l → BeginsWithNumber body place Is behind
-  minus : (colon sign l : Lexeme) → body ≡ colon ∷ sign ∷ l ∷ behind → colon.kind ≡ Colon → sign.kind ≡ Minus → place ≡ sign.place → Is true l → BeginsWithNumber body place Is behind
+pub data BeginsWithNumber (body : List Lexeme) (place : ℕ) (Is : Bool → Lexeme → Type 0) (following : List Lexeme) : Type 0 where
+  unsigned : (colon l : Lexeme) → body ≡ colon ∷ l ∷ following → colon.kind ≡ Colon → place ≡ l.place → Is false l → BeginsWithNumber body place Is following
+  plus : (colon sign l : Lexeme) → body ≡ colon ∷ sign ∷ l ∷ following → colon.kind ≡ Colon → sign.kind ≡ Plus → place ≡ sign.place → Is false l → BeginsWithNumber body place Is following
+  minus : (colon sign l : Lexeme) → body ≡ colon ∷ sign ∷ l ∷ following → colon.kind ≡ Colon → sign.kind ≡ Minus → place ≡ sign.place → Is true l → BeginsWithNumber body place Is following
 
 -- The body is a colon, digits alone that may be the number of one of so many states, and then these lexemes. The digits
 -- stand at this place, and this is so of them.
-pub record BeginsWithDigits (count : ℕ) (body : List Lexeme) (place : ℕ) (Is : Lexeme → Type 0) (behind : List Lexeme) : Type 0 where
+pub record BeginsWithDigits (count : ℕ) (body : List Lexeme) (place : ℕ) (Is : Lexeme → Type 0) (following : List Lexeme) : Type 0 where
   pub colon : Lexeme
   pub digits : Lexeme
-  pub whole : body ≡ colon ∷ digits ∷ behind
+  pub whole : body ≡ colon ∷ digits ∷ following
   pub is_colon : colon.kind ≡ Colon
   pub are_digits : may_be_state count digits.kind digits.bytes ≡ true
   pub place_is : place ≡ digits.place
@@ -48,12 +48,12 @@ IsNoState count l = (s : ℕ) → IsWhole l s → s < count → ⊥
 -- tokens do, in a fault.
 pub data IsLate (count : ℕ) (body : List Lexeme) (ends : Bool) (kind : ItemFault) (place : ℕ) : Type 0 where
   -- digits without a value, and something follows them
-  no_value : (reason : NumberFault) (behind : List Lexeme) → BeginsWithDigits count body place (IsRefusedNumber reason false) behind → (behind ≡ [] → ends ≡ false)
+  no_value : (reason : NumberFault) (following : List Lexeme) → BeginsWithDigits count body place (IsRefusedNumber reason false) following → (following ≡ [] → ends ≡ false)
       → kind ≡ Number reason → IsLate count body ends kind place
   -- the number of no state, and nothing follows it
   no_state : BeginsWithDigits count body place (IsNoState count) [] → ends ≡ true → kind ≡ IndexOutOfRange → IsLate count body ends kind place
   -- a number below 0 or above one, and another number follows it
-  out_of_range : (next : Lexeme) (behind : List Lexeme) → BeginsWithNumber body place IsNoFraction (next ∷ behind) → begins_number next.kind ≡ true
+  out_of_range : (next : Lexeme) (following : List Lexeme) → BeginsWithNumber body place IsNoFraction (next ∷ following) → begins_number next.kind ≡ true
       → kind ≡ ProbabilityRange → IsLate count body ends kind place
 
 -- the last item ends in the fault that ends the tokens, if there is one
@@ -62,7 +62,7 @@ ends_cleanly [] (Some fault) = false
 ends_cleanly _ _ = true
 
 -- the states that the items so far name or count
-abbrev pub states_known : Known → ℕ
+abbrev pub states_known : ModelSoFar → ℕ
 states_known k = count_of (preamble_in k).states
 
 -- The item of this number is a start item that may stand after the right items before it, and this refusal of its first
@@ -73,7 +73,7 @@ pub record IsLateIn (ts : TextTokens) (number : ℕ) (kind : ItemFault) (place :
   pub after : List Item
   pub divided : IsDivided ts.lexemes [] (before ++ item ∷ after)
   pub number_is : number ≡ length before + 1
-  pub k : Known
+  pub k : ModelSoFar
   pub known : AreRight nothing_known before k
   pub topic_is : topic item.word ≡ Some Start
   pub may_stand : word_fault k Start ≡ None

@@ -8,7 +8,7 @@ use Rattle.polcert_cells.specs.declared.words.Topic.{Topic}
 use Rattle.polcert_cells.specs.Words.{topic}
 use Rattle.polcert_format.specs.Items.{Item, IsDivided}
 use Rattle.polcert_cells.specs.Preamble.{Preamble}
-use Rattle.polcert_format.specs.Text.{Known, nothing_known, IsComplete, AreRight}
+use Rattle.polcert_format.specs.Text.{ModelSoFar, nothing_known, IsComplete, AreRight}
 use Rattle.polcert_format.specs.Order.{preamble_fault, word_fault}
 use Rattle.polcert_format.specs.Reading.{IsWrong}
 
@@ -33,11 +33,11 @@ HasTokens text = (ts : TextTokens) × AreTokensOf text ts
 pub data IsFirstWrong (ts : TextTokens) (number : ℕ) : Type 0 where
   wrong_front : (l : Lexeme) (ls : List Lexeme) (items : List Item) → IsDivided ts.lexemes (l ∷ ls) items → number ≡ 0 → IsFirstWrong ts number
   wrong_fault : (fault : TokenFault) → ts.lexemes ≡ [] → ts.ending ≡ Some fault → number ≡ 0 → IsFirstWrong ts number
-  wrong_item : (before : List Item) (wrong : Item) (after : List Item) (k : Known) → IsDivided ts.lexemes [] (before ++ wrong ∷ after) → AreRight nothing_known before k
+  wrong_item : (before : List Item) (wrong : Item) (after : List Item) (k : ModelSoFar) → IsDivided ts.lexemes [] (before ++ wrong ∷ after) → AreRight nothing_known before k
       → ((t : Topic) → topic wrong.word ≡ Some t → IsWrong k t wrong.body) → number ≡ length before + 1 → IsFirstWrong ts number
-  wrong_last : (before : List Item) (last : Item) (k : Known) (fault : TokenFault) → IsDivided ts.lexemes [] (before ++ last ∷ []) → AreRight nothing_known before k
+  wrong_last : (before : List Item) (last : Item) (k : ModelSoFar) (fault : TokenFault) → IsDivided ts.lexemes [] (before ++ last ∷ []) → AreRight nothing_known before k
       → ts.ending ≡ Some fault → number ≡ length before + 1 → IsFirstWrong ts number
-  wrong_end : (items : List Item) (k : Known) → IsDivided ts.lexemes [] items → AreRight nothing_known items k → ts.ending ≡ None
+  wrong_end : (items : List Item) (k : ModelSoFar) → IsDivided ts.lexemes [] items → AreRight nothing_known items k → ts.ending ≡ None
       → ((p : Preamble) → IsComplete k p → ⊥) → number ≡ length items + 1 → IsFirstWrong ts number
 
 -- where the word of an item stands; after the last item the text ends
@@ -63,8 +63,8 @@ pub record LiesIn (ts : TextTokens) (number place : ℕ) : Type 0 where
 pub data IsDecided (ts : TextTokens) (number : ℕ) (fault : ItemFault) (place : ℕ) : Type 0 where
   before_items : (l : Lexeme) (ls : List Lexeme) (items : List Item) → IsDivided ts.lexemes (l ∷ ls) items
       → number ≡ 0 → fault ≡ BeforeFirstItem → place ≡ l.place → IsDecided ts number fault place
-  at_word : (before : List Item) (item : Item) (after : List Item) (k : Known) (t : Topic) → IsDivided ts.lexemes [] (before ++ item ∷ after)
+  at_word : (before : List Item) (item : Item) (after : List Item) (k : ModelSoFar) (t : Topic) → IsDivided ts.lexemes [] (before ++ item ∷ after)
       → AreRight nothing_known before k → topic item.word ≡ Some t → word_fault k t ≡ Some fault
       → number ≡ length before + 1 → place ≡ item.word.place → IsDecided ts number fault place
-  at_end : (items : List Item) (k : Known) → IsDivided ts.lexemes [] items → AreRight nothing_known items k → ts.ending ≡ None
+  at_end : (items : List Item) (k : ModelSoFar) → IsDivided ts.lexemes [] items → AreRight nothing_known items k → ts.ending ≡ None
       → preamble_fault k ≡ Some fault → number ≡ length items + 1 → place ≡ ts.end → IsDecided ts number fault place

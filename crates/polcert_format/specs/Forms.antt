@@ -16,7 +16,7 @@ use Rattle.polcert_cells.specs.Numbers.{IsWhole, IsNumber, AreNumbers, one}
 use Rattle.polcert_cells.specs.Preamble.{Preamble}
 use Rattle.polcert_cells.specs.Words.{IsWord, IsName}
 use Rattle.polcert_format.specs.Limits.{HasFewCells}
-use Rattle.polcert_format.specs.Text.{Known, IsInPreamble, IsComplete, IsRight}
+use Rattle.polcert_format.specs.Text.{ModelSoFar, IsInPreamble, IsComplete, IsRight}
 
 -- What stands after `start:`, whatever its numbers sum to. One number alone may be any: only another number after it makes
 -- it a probability.
@@ -36,13 +36,13 @@ pub data IsStartForm (states : Elements) : List Lexeme → Type 0 where
 
 -- An item of this topic and body has the form of one that may stand after what is known: it is right, or only what is decided
 -- at its end may be wrong: of an entry, that it gives too many cells.
-pub data HasForm (k : Known) (t : Topic) (body : List Lexeme) : Type 0 where
-  right : {after : Known} → IsRight k t body after → HasForm k t body
+pub data HasForm (k : ModelSoFar) (t : Topic) (body : List Lexeme) : Type 0 where
+  right : {after : ModelSoFar} → IsRight k t body after → HasForm k t body
   entry : {p : Preamble} {table : Table} {e : Entry} → t ≡ Cells table → IsComplete k p → MayBeGiven p table → IsEntry p table body e → HasForm k t body
   start : {p : Preamble} → t ≡ Start → IsInPreamble k → IsComplete k p → IsStartForm p.states body → HasForm k t body
 
 -- An entry that may stand after what is known, and is right but for the limits of cells: with it, entries give too many.
-pub record IsTooMuch (k : Known) (t : Topic) (body : List Lexeme) : Type 0 where
+pub record PassesCellLimit (k : ModelSoFar) (t : Topic) (body : List Lexeme) : Type 0 where
   pub p : Preamble
   pub table : Table
   pub e : Entry
@@ -53,11 +53,11 @@ pub record IsTooMuch (k : Known) (t : Topic) (body : List Lexeme) : Type 0 where
   pub too_many : HasFewCells p (k.entries ++ e ∷ []) → ⊥
 
 -- an item of this topic hasn't even the form of one, however its body continues
-abbrev pub IsFormless : Known → Topic → List Lexeme → Type 0
-IsFormless k t body = (more : List Lexeme) → HasForm k t (body ++ more) → ⊥
+abbrev pub HasNoForm : ModelSoFar → Topic → List Lexeme → Type 0
+HasNoForm k t body = (more : List Lexeme) → HasForm k t (body ++ more) → ⊥
 
 -- An item of this topic can have the form of one, with a body that begins so. With three states `0.7 0.7` is still possible, and refused
 -- at the item's end; `0.7 2.0` is not.
-pub record IsPossible (k : Known) (t : Topic) (body : List Lexeme) : Type 0 where
+pub record IsPossible (k : ModelSoFar) (t : Topic) (body : List Lexeme) : Type 0 where
   pub more : List Lexeme
   pub form : HasForm k t (body ++ more)

@@ -12,9 +12,6 @@ pub record Item : Type 0 where
   pub word : Lexeme
   pub body : List Lexeme
 
-abbrev pub lexemes_of : Item → List Lexeme
-lexemes_of item = item.word ∷ item.body
-
 -- a word that begins an item, and after it none
 pub record IsItem (item : Item) : Type 0 where
   pub word : begins_item item.word ≡ true
@@ -22,6 +19,9 @@ pub record IsItem (item : Item) : Type 0 where
 
 -- The lexemes are `front`, in which no item begins, and then these items.
 pub record IsDivided (lexemes front : List Lexeme) (items : List Item) : Type 0 where
-  pub whole : lexemes ≡ front ++ flat_map lexemes_of items
+  pub whole : lexemes ≡ front ++ flat_map (λ (item : Item). item.word ∷ item.body) items
   pub no_word : list_any begins_item front ≡ false
   pub each : All IsItem items
+
+abbrev pub lexemes_of : Item → List Lexeme
+lexemes_of item = item.word ∷ item.body

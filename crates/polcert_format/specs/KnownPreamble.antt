@@ -4,10 +4,10 @@ use Rattle.polcert_cells.specs.declared.elements.Elements.{Elements}
 use Rattle.polcert_cells.specs.declared.elements.Elements.TheVariants.{Count}
 use Rattle.polcert_cells.specs.declared.entry.Table.{Table}
 use Rattle.polcert_cells.specs.Preamble.{Preamble, dimensions, named}
-use Rattle.polcert_format.specs.Text.{Known}
+use Rattle.polcert_format.specs.Text.{ModelSoFar}
 
 -- the preamble that is known, as if a missing line (but that of observations) said nothing
-abbrev pub preamble_in : Known → Preamble
+abbrev pub preamble_in : ModelSoFar → Preamble
 preamble_in k = record {
   discount = unwrap_or k.discount 0;
   costs = unwrap_or k.costs false;
@@ -17,9 +17,9 @@ preamble_in k = record {
 }
 
 -- what the indices of a table's cells number
-abbrev pub indices_in : Known → Table → List Elements
+abbrev pub indices_in : ModelSoFar → Table → List Elements
 indices_in k table = dimensions (preamble_in k) table
 
 -- what the places of an entry may name
-abbrev pub named_in : Known → Table → List Elements
+abbrev pub named_in : ModelSoFar → Table → List Elements
 named_in k table = named (preamble_in k) table

@@ -12,29 +12,29 @@ use Rattle.polcert_cells.specs.Words.{is_reserved}
 use Rattle.polcert_format.specs.Reasons.{is_sign}
 
 -- what a place of a body is for
-pub data Wanted : Type 0 where
+pub data Expected : Type 0 where
   -- a colon, the word of `values:`, `include` or `exclude`, or `*` where nothing has a name or a number
-  Mark : Wanted
+  Mark : Expected
   -- an action, a state or an observation
-  Index : Wanted
+  Index : Expected
   -- a further state of a list
-  Listed : Wanted
+  Listed : Expected
   -- a count, or the first name
-  CountOrName : Wanted
+  CountOrName : Expected
   -- a further name, after these, where there may be so many
-  FurtherName : ℕ → List (List ℕ) → Wanted
+  FurtherName : ℕ → List (List ℕ) → Expected
   -- `uniform`, a state's name or the first number, after `start:`
-  StartBody : Wanted
+  StartBody : Expected
   -- a further number, after digits that are a state's number where nothing follows them
-  NumberOrEnd : Wanted
+  NumberOrEnd : Expected
   -- the first lexeme of a number
-  Number : Wanted
+  Number : Expected
   -- the numeral after a sign
-  Digits : Wanted
+  Digits : Expected
   -- nothing more, after as many numbers as there may be
-  EndOfNumbers : Wanted
+  EndOfNumbers : Expected
   -- nothing more, after a word or a count
-  EndOfWord : Wanted
+  EndOfWord : Expected
 
 -- an index that no element has: a number, a name, or something else
 abbrev pub no_index : TokenKind → List ℕ → ItemFault
@@ -57,7 +57,7 @@ begins_number Numeral = true
 begins_number kind = is_sign kind
 
 -- the lexeme found there isn't what is wanted
-abbrev pub misfit_at : Wanted → Lexeme → ItemFault
+abbrev pub misfit_at : Expected → Lexeme → ItemFault
 misfit_at Index l = no_index l.kind l.bytes
 misfit_at Listed l = no_index l.kind l.bytes
 misfit_at StartBody l = no_index l.kind l.bytes
@@ -72,18 +72,18 @@ is_reset _ bytes = false
 
 -- The kind, of what is found: a lexeme of the body, or its end. The word `reset` has a kind of its own everywhere. Where
 -- all numbers are there only a start item can be refused, for their sum.
-abbrev pub misfit : Wanted → Option Lexeme → ItemFault
-misfit wanted (Some l) = if is_reset l.kind l.bytes then Reset else misfit_at wanted l
-misfit Number None = WrongNumberCount
-misfit StartBody None = WrongNumberCount
-misfit CountOrName None = BadCount
-misfit NumberOrEnd None = IndexOutOfRange
-misfit Listed None = StartEmpty
-misfit EndOfNumbers None = StartSum
-misfit _ None = BadShape
+abbrev pub unexpected_token : Expected → Option Lexeme → ItemFault
+unexpected_token expected (Some l) = if is_reset l.kind l.bytes then Reset else misfit_at expected l
+unexpected_token Number None = WrongNumberCount
+unexpected_token StartBody None = WrongNumberCount
+unexpected_token CountOrName None = BadCount
+unexpected_token NumberOrEnd None = IndexOutOfRange
+unexpected_token Listed None = StartEmpty
+unexpected_token EndOfNumbers None = StartSum
+unexpected_token _ None = BadShape
 
 -- a numeral where a number may stand is refused for its value
-abbrev pub tests_value : Wanted → TokenKind → Bool
+abbrev pub tests_value : Expected → TokenKind → Bool
 tests_value Number Numeral = true
 tests_value Digits Numeral = true
 tests_value StartBody Numeral = true
@@ -97,6 +97,6 @@ IsOfValue DiscountRange = Unit {0}
 IsOfValue _ = ⊥
 
 -- The lexeme is refused, for this reason, where something else is wanted: for its value, or as the table says.
-pub data IsMisfit (wanted : Wanted) (l : Lexeme) (kind : ItemFault) : Type 0 where
-  of_value : tests_value wanted l.kind ≡ true → IsOfValue kind → IsMisfit wanted l kind
-  of_place : tests_value wanted l.kind ≡ false → kind ≡ misfit wanted (Some l) → IsMisfit wanted l kind
+pub data IsMisfit (expected : Expected) (l : Lexeme) (kind : ItemFault) : Type 0 where
+  of_value : tests_value expected l.kind ≡ true → IsOfValue kind → IsMisfit expected l kind
+  of_place : tests_value expected l.kind ≡ false → kind ≡ unexpected_token expected (Some l) → IsMisfit expected l kind

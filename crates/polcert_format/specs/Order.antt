@@ -10,7 +10,7 @@ use Rattle.polcert_cells.specs.declared.words.Topic.{Topic}
 use Rattle.polcert_cells.specs.declared.words.Topic.TheVariants.{Discount, Values, States, Actions, Observations, Start, Cells}
 use Rattle.polcert_cells.specs.declared.elements.Elements.{Elements}
 use Rattle.polcert_cells.specs.Elements.{count_of, most_pairs}
-use Rattle.polcert_format.specs.Text.{Known}
+use Rattle.polcert_format.specs.Text.{ModelSoFar}
 
 abbrev pub has_entries : List Entry → Bool
 has_entries [] = false
@@ -18,13 +18,13 @@ has_entries (e ∷ es) = true
 
 -- An item of this topic came too late: a line of the preamble after a start item or an entry, a start item after an
 -- entry.
-abbrev pub is_late : Known → Topic → Bool
+abbrev pub is_late : ModelSoFar → Topic → Bool
 is_late k (Cells table) = false
 is_late k Start = has_entries k.entries
 is_late k _ = is_some k.start || has_entries k.entries
 
 -- an item of this topic came before, where one may stand once only
-abbrev pub came_before : Known → Topic → Bool
+abbrev pub came_before : ModelSoFar → Topic → Bool
 came_before k Discount = is_some k.discount
 came_before k Values = is_some k.costs
 came_before k States = is_some k.states
@@ -40,7 +40,7 @@ ends_preamble (Cells table) = true
 ends_preamble _ = false
 
 -- (a text without a line of observations is an MDP's)
-abbrev pub has_all_lines : Known → Bool
+abbrev pub has_all_lines : ModelSoFar → Bool
 has_all_lines k = is_some k.discount && is_some k.costs && is_some k.states && is_some k.actions
 
 -- how many elements a line says, or so many where it didn't come
@@ -56,26 +56,26 @@ abbrev pub pairs_are_too_many : ℕ → ℕ → Bool
 pairs_are_too_many states observed = nat_lt most_pairs (states * observed)
 
 -- why the preamble isn't complete: a line is missing, or else there are too many pairs of a state and an observation
-abbrev pub preamble_fault : Known → Option ItemFault
+abbrev pub preamble_fault : ModelSoFar → Option ItemFault
 preamble_fault k =
     if has_all_lines k then (if pairs_are_too_many (count_in k.states) (count_or (count_in k.states) k.observations) then Some TooManyCells else None)
     else Some MissingLine
 
 -- an item of O in an MDP
-abbrev pub is_unobserved : Known → Topic → Bool
+abbrev pub is_unobserved : ModelSoFar → Topic → Bool
 is_unobserved k (Cells Observation) = is_none k.observations
 is_unobserved k _ = false
 
 -- why an item of this topic cannot stand after a preamble with this fault, if it has one
-abbrev pub fault_behind : Option ItemFault → Known → Topic → Option ItemFault
-fault_behind (Some fault) k t = Some fault
-fault_behind None k t = if is_unobserved k t then Some BadShape else None
+abbrev pub fault_after : Option ItemFault → ModelSoFar → Topic → Option ItemFault
+fault_after (Some fault) k t = Some fault
+fault_after None k t = if is_unobserved k t then Some BadShape else None
 
 -- Why an item of this topic cannot stand after what is known, whatever its body: the first of too late, a second time, a missing line,
 -- too many pairs, and an entry of O in an MDP.
-abbrev pub word_fault : Known → Topic → Option ItemFault
+abbrev pub word_fault : ModelSoFar → Topic → Option ItemFault
 word_fault k t =
     if is_late k t then Some LateLine
     else (if came_before k t then Some DuplicateLine
-    else (if ends_preamble t then fault_behind (preamble_fault k) k t
+    else (if ends_preamble t then fault_after (preamble_fault k) k t
     else None))

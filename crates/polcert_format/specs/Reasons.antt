@@ -18,8 +18,8 @@ use Rattle.polcert_cells.specs.declared.words.Topic.TheVariants.{Discount, State
 use Rattle.polcert_cells.specs.Words.{topic, IsWord, IsName}
 use Rattle.polcert_cells.specs.Numbers.{IsMillionths, one}
 use Rattle.polcert_format.specs.Items.{Item, IsDivided}
-use Rattle.polcert_format.specs.Text.{Known, nothing_known, AreRight}
-use Rattle.polcert_format.specs.Forms.{IsTooMuch}
+use Rattle.polcert_format.specs.Text.{ModelSoFar, nothing_known, AreRight}
+use Rattle.polcert_format.specs.Forms.{PassesCellLimit}
 use Rattle.polcert_format.specs.FirstWrong.{TextTokens, IsDecided, word_place}
 
 -- a lexeme of the body stands at the place, and this is so of it
@@ -103,11 +103,11 @@ pub record PassesLimit (ts : TextTokens) (number place : ℕ) : Type 0 where
   pub after : List Item
   pub divided : IsDivided ts.lexemes [] (before ++ item ∷ after)
   pub number_is : number ≡ length before + 1
-  pub k : Known
+  pub k : ModelSoFar
   pub t : Topic
   pub known : AreRight nothing_known before k
   pub topic_is : topic item.word ≡ Some t
-  pub too_much : IsTooMuch k t item.body
+  pub too_much : PassesCellLimit k t item.body
   pub place_is : place ≡ word_place after ts.end 0
   pub clean : after ≡ [] → ts.ending ≡ None
 

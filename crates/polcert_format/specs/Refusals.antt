@@ -13,14 +13,14 @@ use Rattle.polcert_format.specs.Items.{Item, IsDivided}
 use Rattle.polcert_cells.specs.Preamble.{Preamble}
 use Rattle.polcert_cells.specs.Meaning.{Meaning, meaning_of}
 use Rattle.polcert_cells.specs.Rows.{IsFirstWrongRow}
-use Rattle.polcert_format.specs.Text.{Known, nothing_known, AreRight, IsRightText, IsModelText}
-use Rattle.polcert_format.specs.Forms.{IsFormless, IsPossible, IsTooMuch}
+use Rattle.polcert_format.specs.Text.{ModelSoFar, nothing_known, AreRight, IsRightText, IsModelText}
+use Rattle.polcert_format.specs.Forms.{HasNoForm, IsPossible, PassesCellLimit}
 use Rattle.polcert_format.specs.Reading.{IsWrong}
 use Rattle.polcert_format.specs.FirstNumber.{IsLateIn}
 use Rattle.polcert_format.specs.FirstWrong.{TextTokens, IsFirstWrong, LiesIn, IsDecided, word_place}
 use Rattle.polcert_format.specs.Reasons.{IsReason, PassesLimit, is_sign}
-use Rattle.polcert_format.specs.Misfits.{misfit, IsOfValue, IsMisfit}
-use Rattle.polcert_format.specs.Wants.{wanted}
+use Rattle.polcert_format.specs.Misfits.{unexpected_token, IsOfValue, IsMisfit}
+use Rattle.polcert_format.specs.Wants.{expected}
 
 pub record IsItemRefusal (ts : TextTokens) (kind : ItemFault) (number place : ℕ) : Type 0 where
   pub first_wrong : IsFirstWrong ts number
@@ -34,7 +34,7 @@ pub record IsItemRefusal (ts : TextTokens) (kind : ItemFault) (number place : �
 abbrev pub IsRefusal : TextTokens → ModelFault → Type 0
 IsRefusal ts (model_faults.Item kind item place) = IsItemRefusal ts kind item place
 IsRefusal ts (RowSum table action row) =
-    (ts.ending ≡ None) × ((p : Preamble) × (k : Known) × IsRightText ts.lexemes p k × IsFirstWrongRow (meaning_of p k.start k.entries) table action row)
+    (ts.ending ≡ None) × ((p : Preamble) × (k : ModelSoFar) × IsRightText ts.lexemes p k × IsFirstWrongRow (meaning_of p k.start k.entries) table action row)
 IsRefusal ts Memory = Unit {0}
 
 -- out of memory says nothing of the text, and every other refusal that it is wrong
@@ -49,17 +49,17 @@ IsNoModel text _ = (m : Meaning) → IsModelText text m → ⊥
 
 -- where the first of the lexemes stands, or what is after them
 abbrev pub place_or : List Lexeme → ℕ → ℕ
-place_or [] behind = behind
-place_or (l ∷ ls) behind = l.place
+place_or [] following = following
+place_or (l ∷ ls) following = l.place
 
 -- After the lexemes taken the item hasn't even the form of one any more: with the next lexeme, or with the next two as a sign
 -- and a numeral. Or nothing is left of it, and it isn't right as it is, and not only for the limits of cells. The kind is so of
 -- what this place is for and of what stands there.
-pub data Stops (k : Known) (t : Topic) (kind : ItemFault) (taken : List Lexeme) : List Lexeme → Type 0 where
-  at_lexeme : {l : Lexeme} {behind : List Lexeme} → IsFormless k t (taken ++ l ∷ []) → IsMisfit (wanted k t taken) l kind → Stops k t kind taken (l ∷ behind)
-  at_number : {sign l : Lexeme} {behind : List Lexeme} → is_sign sign.kind ≡ true → l.kind ≡ Numeral → IsPossible k t (taken ++ sign ∷ [])
-      → IsFormless k t (taken ++ sign ∷ l ∷ []) → IsOfValue kind → IsMisfit (wanted k t (taken ++ sign ∷ [])) l kind → Stops k t kind taken (sign ∷ l ∷ behind)
-  at_end : IsWrong k t taken → (IsTooMuch k t taken → ⊥) → kind ≡ misfit (wanted k t taken) None → Stops k t kind taken []
+pub data Stops (k : ModelSoFar) (t : Topic) (kind : ItemFault) (taken : List Lexeme) : List Lexeme → Type 0 where
+  at_lexeme : {l : Lexeme} {following : List Lexeme} → HasNoForm k t (taken ++ l ∷ []) → IsMisfit (expected k t taken) l kind → Stops k t kind taken (l ∷ following)
+  at_number : {sign l : Lexeme} {following : List Lexeme} → is_sign sign.kind ≡ true → l.kind ≡ Numeral → IsPossible k t (taken ++ sign ∷ [])
+      → HasNoForm k t (taken ++ sign ∷ l ∷ []) → IsOfValue kind → IsMisfit (expected k t (taken ++ sign ∷ [])) l kind → Stops k t kind taken (sign ∷ l ∷ following)
+  at_end : IsWrong k t taken → (PassesCellLimit k t taken → ⊥) → kind ≡ unexpected_token (expected k t taken) None → Stops k t kind taken []
 
 -- The place stands in the item where its lexemes so far are still possible, and with what stands there they aren't.
 -- Where nothing is left of the item and of the text, the tokens end cleanly.
@@ -69,7 +69,7 @@ pub record StopsInBody (ts : TextTokens) (kind : ItemFault) (number place : ℕ)
   pub after : List Item
   pub divided : IsDivided ts.lexemes [] (before ++ item ∷ after)
   pub number_is : number ≡ length before + 1
-  pub k : Known
+  pub k : ModelSoFar
   pub t : Topic
   pub known : AreRight nothing_known before k
   pub topic_is : topic item.word ≡ Some t
@@ -93,7 +93,7 @@ pub record IsLastTaken (ts : TextTokens) (number : ℕ) : Type 0 where
   pub item : Item
   pub divided : IsDivided ts.lexemes [] (before ++ item ∷ [])
   pub number_is : number ≡ length before + 1
-  pub k : Known
+  pub k : ModelSoFar
   pub t : Topic
   pub known : AreRight nothing_known before k
   pub topic_is : topic item.word ≡ Some t
@@ -110,7 +110,7 @@ pub data EndsPossible (ts : TextTokens) (number : ℕ) : Type 0 where
 pub data StandsRight (ts : TextTokens) (kind : ItemFault) (number place : ℕ) : Type 0 where
   before_body : IsDecided ts number kind place → StandsRight ts kind number place
   in_body : StopsInBody ts kind number place → StandsRight ts kind number place
-  behind_body : kind ≡ TooManyCells → PassesLimit ts number place → StandsRight ts kind number place
+  after_body : kind ≡ TooManyCells → PassesLimit ts number place → StandsRight ts kind number place
   of_first_number : IsLateIn ts number kind place → StandsRight ts kind number place
   of_tokens : IsOfTokens kind → EndsPossible ts number → StandsRight ts kind number place
 

@@ -11,30 +11,30 @@ use Rattle.polcert_cells.specs.declared.words.Topic.{Topic}
 use Rattle.polcert_cells.specs.declared.words.Topic.TheVariants.{Discount, Values, States, Actions, Observations, Start, Cells}
 use Rattle.polcert_cells.specs.Elements.{count_of, most_states, most_actions, most_observations}
 use Rattle.polcert_cells.specs.Entry.{cells_in}
-use Rattle.polcert_format.specs.Text.{Known}
+use Rattle.polcert_format.specs.Text.{ModelSoFar}
 use Rattle.polcert_format.specs.Reasons.{is_sign}
 use Rattle.polcert_cells.specs.Preamble.{Preamble, is_mdp, dimensions}
 use Rattle.polcert_format.specs.KnownPreamble.{preamble_in}
-use Rattle.polcert_format.specs.Misfits.{Wanted, Mark, Index, Listed, CountOrName, FurtherName, StartBody, NumberOrEnd, Number, Digits, EndOfNumbers, EndOfWord}
+use Rattle.polcert_format.specs.Misfits.{Expected, Mark, Index, Listed, CountOrName, FurtherName, StartBody, NumberOrEnd, Number, Digits, EndOfNumbers, EndOfWord}
 
 -- where a number may end: whether a sign stands before it, and how many numbers are still to come
-abbrev pub number_end : Bool → ℕ → Wanted
+abbrev pub number_end : Bool → ℕ → Expected
 number_end true left = Digits
 number_end false zero = EndOfNumbers
 number_end false (suc left) = Number
 
 -- Numbers: whether a sign stands before the lexemes, and how many numbers are still to come.
-abbrev pub numbers_want : Bool → ℕ → List Lexeme → Wanted
+abbrev pub numbers_want : Bool → ℕ → List Lexeme → Expected
 numbers_want signed left [] = number_end signed left
 numbers_want signed left (l ∷ ls) = numbers_want (is_sign l.kind) (if is_sign l.kind then left else left - 1) ls
 
 -- a colon and one number
-abbrev pub discount_wants : List Lexeme → Wanted
+abbrev pub discount_wants : List Lexeme → Expected
 discount_wants [] = Mark
 discount_wants (colon ∷ ls) = numbers_want false 1 ls
 
 -- a colon and a word
-abbrev pub values_want : List Lexeme → Wanted
+abbrev pub values_want : List Lexeme → Expected
 values_want [] = Mark
 values_want (colon ∷ []) = Mark
 values_want (colon ∷ word ∷ ls) = EndOfWord
@@ -44,16 +44,16 @@ is_numeral kinds.Numeral = true
 is_numeral _ = false
 
 -- a count, or names, of at most so many
-abbrev pub names_want : ℕ → List Lexeme → Wanted
+abbrev pub names_want : ℕ → List Lexeme → Expected
 names_want most [] = CountOrName
 names_want most (l ∷ ls) = if is_numeral l.kind then EndOfWord else FurtherName most (map (λ m. m.bytes) (l ∷ ls))
 
-abbrev pub elements_want : ℕ → List Lexeme → Wanted
+abbrev pub elements_want : ℕ → List Lexeme → Expected
 elements_want most [] = Mark
 elements_want most (colon ∷ ls) = names_want most ls
 
 -- after an index: a colon and further places, a word, or numbers
-abbrev pub by_kind : TokenKind → Wanted → Wanted → Wanted
+abbrev pub by_kind : TokenKind → Expected → Expected → Expected
 by_kind kinds.Colon further other = further
 by_kind kinds.Name further other = EndOfWord
 by_kind _ further other = other
@@ -64,19 +64,19 @@ least_written mdp Reward = if mdp then 1 else 2
 least_written mdp _ = 1
 
 -- a place after so many others: in an MDP the fourth is `*`
-abbrev pub place_wants : Preamble → ℕ → Wanted
+abbrev pub place_wants : Preamble → ℕ → Expected
 place_wants p written = if is_mdp p && written == 3 then Mark else Index
 
 -- An entry: whether a colon stands before the lexemes, and how many places were written. Numbers for the cells that
 -- these leave open stand after enough of them, and before that only a colon.
-abbrev pub entry_wants : Preamble → Table → Bool → ℕ → List Lexeme → Wanted
+abbrev pub entry_wants : Preamble → Table → Bool → ℕ → List Lexeme → Expected
 entry_wants p table true written [] = place_wants p written
 entry_wants p table true written (l ∷ ls) = entry_wants p table false (written + 1) ls
 entry_wants p table false written [] = if nat_lt written (least_written (is_mdp p) table) then Mark else numbers_want false (cells_in (drop written (dimensions p table))) []
 entry_wants p table false written (l ∷ ls) = by_kind l.kind (entry_wants p table true written ls) (numbers_want false (cells_in (drop written (dimensions p table))) (l ∷ ls))
 
 -- a colon, the first place, and what follows it
-abbrev pub cells_want : Preamble → Table → List Lexeme → Wanted
+abbrev pub cells_want : Preamble → Table → List Lexeme → Expected
 cells_want p table [] = Mark
 cells_want p table (colon ∷ ls) = entry_wants p table true 0 ls
 
@@ -86,13 +86,13 @@ may_be_state count kinds.Numeral bytes = if count == 1 then false else are_digit
 may_be_state count _ bytes = false
 
 -- a word or a state's name, or numbers
-abbrev pub start_body_wants : ℕ → List Lexeme → Wanted
+abbrev pub start_body_wants : ℕ → List Lexeme → Expected
 start_body_wants count [] = StartBody
 start_body_wants count (l ∷ []) = if may_be_state count l.kind l.bytes then NumberOrEnd else by_kind l.kind EndOfWord (numbers_want false count (l ∷ []))
 start_body_wants count (l ∷ m ∷ ls) = by_kind l.kind EndOfWord (numbers_want false count (l ∷ m ∷ ls))
 
 -- a colon and a list of states
-abbrev pub list_wants : List Lexeme → Wanted
+abbrev pub list_wants : List Lexeme → Expected
 list_wants [] = Mark
 list_wants (colon ∷ ls) = Listed
 
@@ -101,16 +101,16 @@ is_colon kinds.Colon = true
 is_colon _ = false
 
 -- a colon and the body, or `include` or `exclude` and a list
-abbrev pub start_wants : ℕ → List Lexeme → Wanted
+abbrev pub start_wants : ℕ → List Lexeme → Expected
 start_wants count [] = Mark
 start_wants count (l ∷ ls) = if is_colon l.kind then start_body_wants count ls else list_wants ls
 
 -- The lexemes after the item's word were taken: what the next place is for.
-abbrev pub wanted : Known → Topic → List Lexeme → Wanted
-wanted k Discount taken = discount_wants taken
-wanted k Values taken = values_want taken
-wanted k States taken = elements_want most_states taken
-wanted k Actions taken = elements_want most_actions taken
-wanted k Observations taken = elements_want most_observations taken
-wanted k Start taken = start_wants (count_of (preamble_in k).states) taken
-wanted k (Cells table) taken = cells_want (preamble_in k) table taken
+abbrev pub expected : ModelSoFar → Topic → List Lexeme → Expected
+expected k Discount taken = discount_wants taken
+expected k Values taken = values_want taken
+expected k States taken = elements_want most_states taken
+expected k Actions taken = elements_want most_actions taken
+expected k Observations taken = elements_want most_observations taken
+expected k Start taken = start_wants (count_of (preamble_in k).states) taken
+expected k (Cells table) taken = cells_want (preamble_in k) table taken

@@ -8,7 +8,7 @@ use Rattle.polcert_cells.specs.Words.{is_reserved}
 use Rattle.polcert_cells.specs.Numbers.{one}
 use Rattle.polcert_cells.specs.declared.elements.Elements.{Elements}
 use Rattle.polcert_cells.specs.declared.elements.Elements.TheVariants.{Names}
-use Rattle.polcert_cells.specs.declared.shares.Shares.{Shares}
+use Rattle.polcert_cells.specs.declared.start_weights.StartWeights.{StartWeights}
 use Rattle.polcert_cells.specs.Start.{is_level}
 use Rattle.polcert_cells.specs.Preamble.{is_mdp}
 use Rattle.polcert_cells.specs.Meaning.{Meaning, states_of, actions_of, observations_of}
@@ -25,7 +25,7 @@ abbrev pub HasProperNames : Elements → Type 0
 HasProperNames elements = (names : List (List ℕ)) → elements ≡ Names names → All IsWritableName names × AllPairs (λ x y. x ≢ y) names
 
 -- a start of millionths, for so many states
-pub record IsMillionthsStart (n : ℕ) (start : Shares) : Type 0 where
+pub record IsMillionthsStart (n : ℕ) (start : StartWeights) : Type 0 where
   pub several : 1 < n
   pub total_is : start.total ≡ one
   pub uneven : is_level start.weights ≡ false

@@ -10,10 +10,10 @@ ghost use Rattle.polcert_cells.specs.Elements.{StandsFor, count_of};
 ghost use Rattle.polcert_cells.specs.Preamble.{Preamble, observed};
 ghost use Rattle.polcert_cells.specs.Entry.{IsEntry};
 ghost use Rattle.polcert_cells.specs.declared.entry.Entry.{Entry};
-ghost use Rattle.polcert_cells.specs.declared.shares.Shares.{Shares};
+ghost use Rattle.polcert_cells.specs.declared.start_weights.StartWeights.{StartWeights};
 ghost use Rattle.polcert_cells.specs.Start.{IsStart};
 ghost use Rattle.polcert_cells.specs.Meaning.{Meaning, IsSame, HasLimitedNumbers};
-ghost use Rattle.polcert_format.specs.Text.{Denotes, IsModelText, Known, nothing_known, IsComplete, IsRight, AreRight, IsRightText};
+ghost use Rattle.polcert_format.specs.Text.{Denotes, IsModelText, ModelSoFar, nothing_known, IsComplete, IsRight, AreRight, IsRightText};
 ghost use Rattle.polcert_cells.specs.declared.entry.Table.TheVariants.{Reward};
 ghost use Rattle.polcert_cells.specs.Cells.{covers, weight, reward};
 ghost use Rattle.polcert_format.specs.Laws.{HasDivision, HasOneDivision};
@@ -29,7 +29,7 @@ ghost use Rattle.polcert_format.specs.declared.fault.ModelFault.{ModelFault};
 ghost use Rattle.polcert_format.specs.Refusals.{IsRefusal, SaysOfText, StandsRight, place_or};
 ghost use Rattle.polcert_format.specs.RefusedTexts.{IsRefusedModelText};
 ghost use Rattle.polcert_format.specs.Items.{Item, IsDivided};
-ghost use Rattle.polcert_format.specs.Forms.{IsTooMuch, IsPossible};
+ghost use Rattle.polcert_format.specs.Forms.{PassesCellLimit, IsPossible};
 ghost use Rattle.polcert_format.specs.Limits.{HasFewPairs, HasFewCells};
 ghost use Rattle.polcert_format.specs.Printable.{IsPrintable};
 ghost use Rattle.polcert_format.specs.Reasons.{IsReason, PassesLimit};
@@ -59,7 +59,7 @@ pub fn one_entry()
 
 /// The lexemes after `start` give at most one start.
 pub fn one_start()
-    ensures { (states : Elements) (lexemes : List Lexeme) (x y : Shares) →
+    ensures { (states : Elements) (lexemes : List Lexeme) (x y : StartWeights) →
         IsStart states lexemes x → IsStart states lexemes y → x ≡ y }
 {}
 
@@ -107,7 +107,7 @@ pub fn one_list_of_tokens()
 
 /// A right text is read in one way: one preamble, one start and one list of entries.
 pub fn one_right_text()
-    ensures { (lexemes : List Lexeme) (p q : Preamble) (x y : Known) →
+    ensures { (lexemes : List Lexeme) (p q : Preamble) (x y : ModelSoFar) →
         IsRightText lexemes p x → IsRightText lexemes q y → (p ≡ q) × (x ≡ y) }
 {}
 
@@ -118,7 +118,7 @@ pub fn within_limits()
 
 /// An item that is right with its lexemes so far makes them right items.
 pub fn right_item_ends()
-    ensures { (seen body : List Lexeme) (k after : Known) (t : Topic) →
+    ensures { (seen body : List Lexeme) (k after : ModelSoFar) (t : Topic) →
         IsWithinItem seen k t body → IsRight k t body after → AreRightItems seen after }
 {}
 
@@ -126,18 +126,18 @@ pub fn right_item_ends()
 /// continues: an item that cannot continue, one that isn't right where the next begins or the text ends, and one in which
 /// the tokens end in a fault.
 pub fn first_wrong_stays()
-    ensures within { (seen body : List Lexeme) (k : Known) (t : Topic) (w : IsWithinItem seen k t body) →
+    ensures within { (seen body : List Lexeme) (k : ModelSoFar) (t : Topic) (w : IsWithinItem seen k t body) →
         CannotGoOn k t body → (more : List Lexeme) (ending : Option TokenFault) (stop : ℕ) →
         IsFirstWrong (tokens_of (seen ++ more) ending stop) (length w.items.items + 1) }
-    ensures at_word { (seen body : List Lexeme) (k : Known) (t : Topic) (next : Lexeme)
+    ensures at_word { (seen body : List Lexeme) (k : ModelSoFar) (t : Topic) (next : Lexeme)
         (w : IsWithinItem seen k t body) →
         IsWrong k t body → begins_item next ≡ true →
         (more : List Lexeme) (ending : Option TokenFault) (stop : ℕ) →
         IsFirstWrong (tokens_of (seen ++ next ∷ more) ending stop) (length w.items.items + 1) }
-    ensures at_end { (seen body : List Lexeme) (k : Known) (t : Topic) (w : IsWithinItem seen k t body) →
+    ensures at_end { (seen body : List Lexeme) (k : ModelSoFar) (t : Topic) (w : IsWithinItem seen k t body) →
         IsWrong k t body → (ending : Option TokenFault) (stop : ℕ) →
         IsFirstWrong (tokens_of seen ending stop) (length w.items.items + 1) }
-    ensures at_fault { (seen body : List Lexeme) (k : Known) (t : Topic) (w : IsWithinItem seen k t body)
+    ensures at_fault { (seen body : List Lexeme) (k : ModelSoFar) (t : Topic) (w : IsWithinItem seen k t body)
         (fault : TokenFault) (stop : ℕ) →
         IsFirstWrong (tokens_of seen (Some fault) stop) (length w.items.items + 1) }
 {}
@@ -148,14 +148,14 @@ pub fn first_wrong_outside_items()
         (more : List Lexeme) (ending : Option TokenFault) (stop : ℕ)
         → IsFirstWrong (tokens_of (l ∷ more) ending stop) 0 }
     ensures at_once { (fault : TokenFault) (stop : ℕ) → IsFirstWrong (tokens_of [] (Some fault) stop) 0 }
-    ensures behind { (seen : List Lexeme) (k : Known) (r : AreRightItems seen k) →
+    ensures following { (seen : List Lexeme) (k : ModelSoFar) (r : AreRightItems seen k) →
         ((p : Preamble) → IsComplete k p → ⊥) → (stop : ℕ) →
         IsFirstWrong (tokens_of seen None stop) (length r.items + 1) }
 {}
 
 /// A text with a first wrong item isn't right.
 pub fn first_wrong_is_not_right()
-    ensures { (ts : TextTokens) (n : ℕ) (p : Preamble) (k : Known) →
+    ensures { (ts : TextTokens) (n : ℕ) (p : Preamble) (k : ModelSoFar) →
         IsFirstWrong ts n → ts.ending ≡ None → IsRightText ts.lexemes p k → ⊥ }
 {}
 
@@ -167,11 +167,11 @@ pub fn one_first_wrong()
 /// What is decided at an item's word is so: with such a fault no body makes the item right, and at the end the
 /// preamble isn't complete; without one the preamble is complete.
 pub fn order_is_decided()
-    ensures at_word { (k : Known) (t : Topic) (fault : ItemFault) (body : List Lexeme) →
+    ensures at_word { (k : ModelSoFar) (t : Topic) (fault : ItemFault) (body : List Lexeme) →
         word_fault k t ≡ Some fault → IsWrong k t body }
-    ensures incomplete { (k : Known) (p : Preamble) (fault : ItemFault) → preamble_fault k ≡ Some fault
+    ensures incomplete { (k : ModelSoFar) (p : Preamble) (fault : ItemFault) → preamble_fault k ≡ Some fault
         → IsComplete k p → ⊥ }
-    ensures complete { (k : Known) → preamble_fault k ≡ None → ((p : Preamble) × IsComplete k p) }
+    ensures complete { (k : ModelSoFar) → preamble_fault k ≡ None → ((p : Preamble) × IsComplete k p) }
 {}
 
 /// What is decided before an item's body is read is one kind and one place, and nothing is decided where the item's
@@ -179,10 +179,9 @@ pub fn order_is_decided()
 pub fn one_decision()
     ensures one { (ts : TextTokens) (n : ℕ) (f g : ItemFault) (p q : ℕ) →
         IsDecided ts n f p → IsDecided ts n g q → (f ≡ g) × (p ≡ q) }
-    ensures nothing { (ts : TextTokens) (before : List Item) (item : Item) (after : List Item) (k : Known)
-        (t : Topic)
-        (f : ItemFault) (p : ℕ) → IsDivided ts.lexemes [] (before ++ item ∷ after) →
-        AreRight nothing_known before k →
+    ensures nothing { (ts : TextTokens) (before : List Item) (item : Item) (after : List Item)
+        (k : ModelSoFar) (t : Topic) (f : ItemFault) (p : ℕ) →
+        IsDivided ts.lexemes [] (before ++ item ∷ after) → AreRight nothing_known before k →
         topic item.word ≡ Some t → word_fault k t ≡ None → IsDecided ts (length before + 1) f p → ⊥ }
 {}
 
@@ -198,8 +197,9 @@ pub fn one_late_refusal()
 /// An entry that gives too many cells isn't right, though all of its body is possible; nothing is decided before its body, and no
 /// refusal of it has another kind or place.
 pub fn one_refusal_of_cells()
-    ensures wrong { (k : Known) (t : Topic) (body : List Lexeme) → IsTooMuch k t body → IsWrong k t body }
-    ensures possible { (k : Known) (t : Topic) (body : List Lexeme) → IsTooMuch k t body
+    ensures wrong { (k : ModelSoFar) (t : Topic) (body : List Lexeme) → PassesCellLimit k t body
+        → IsWrong k t body }
+    ensures possible { (k : ModelSoFar) (t : Topic) (body : List Lexeme) → PassesCellLimit k t body
         → IsPossible k t body }
     ensures one { (ts : TextTokens) (n p q : ℕ) → PassesLimit ts n p → PassesLimit ts n q → p ≡ q }
     ensures undecided { (ts : TextTokens) (n p q : ℕ) (g : ItemFault) → PassesLimit ts n p

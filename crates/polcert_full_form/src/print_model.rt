@@ -2,21 +2,20 @@
 ghost use Rattle.std.specs.Prelude.{◌≡◌, ◌==◌, ◌||◌, ◌++◌, ◌<◌, length, codes, decimal};
 ghost use Rattle.polcert_text.specs.Sink.{WritesText};
 ghost use Rattle.polcert_tables.specs.Contents.{meaning};
-ghost use Rattle.polcert_tables.specs.Kept.{meaning as kept_meaning};
 ghost use Rattle.polcert_cells.specs.Meaning.{states_of};
 ghost use Rattle.polcert_format.specs.Printable.{IsPrintable};
 ghost use Rattle.polcert_format.specs.Text.{IsModelText};
 ghost use Rattle.polcert_format.specs.FullForm.{for_each, all_below, full_form, observations_line};
 ghost use Rattle.polcert_format.specs.FullForm.{observations_text, preamble_text, start_text};
 ghost use Rattle.polcert_full_form.specs.Steps.Printing.{values_line, settings_text, elements_text, elements_line};
-ghost use Rattle.polcert_full_form.specs.Steps.Printing.{name_text, share_of, chosen_text, share_text, behind_blank};
+ghost use Rattle.polcert_full_form.specs.Steps.Printing.{name_text, share_of, chosen_text, share_text, after_blank};
 ghost use Rattle.polcert_full_form.specs.Steps.StartForms.{start_word, start_part};
 
 use crate::print_rewards::write_rewards;
 use crate::print_rows::write_rows;
 use crate::print_words::write_number;
 use polcert_cells::{Elements, Kind, Names, Table};
-use polcert_tables::{Draft, Model};
+use polcert_tables::Model;
 use polcert_text::{Sink, SinkFailed, write_all, write_scaled};
 
 /// How the line of a start that is not the same for all states gives them.
@@ -29,7 +28,7 @@ enum StartForm {
 }
 
 impl StartForm {
-    /// The word that the line begins with.
+    /// Returns the word that the line begins with.
     fn word(self) -> &'static [u8]
         ensures { result.now ≡ start_word self }
     {
@@ -75,19 +74,18 @@ fn write_observation_rows<W: Sink>(model: &Model, out: &mut W) -> Result<(), Sin
 fn write_preamble<W: Sink>(model: &Model, out: &mut W) -> Result<(), SinkFailed>
     ensures { WritesText W.writes W.failures out.old (preamble_text (meaning model.now)) result out.new }
 {
-    let draft = model.draft();
     write_settings(model, out)?;
-    write_elements(b"states:", draft.elements(Kind::State), out)?;
-    write_elements(b"actions:", draft.elements(Kind::Action), out)?;
-    write_observations(draft, out)
+    write_elements(b"states:", model.elements(Kind::State), out)?;
+    write_elements(b"actions:", model.elements(Kind::Action), out)?;
+    write_observations(model, out)
 }
 
 /// Writes the line of observations, which an MDP leaves out.
-fn write_observations<W: Sink>(draft: &Draft, out: &mut W) -> Result<(), SinkFailed>
+fn write_observations<W: Sink>(model: &Model, out: &mut W) -> Result<(), SinkFailed>
     ensures { WritesText W.writes W.failures out.old
-        (observations_line (kept_meaning draft.now).preamble.observations) result out.new }
+        (observations_line (meaning model.now).preamble.observations) result out.new }
 {
-    match draft.observations_line() {
+    match model.observations_line() {
         Some(elements) => write_elements(b"observations:", elements, out),
         None => Ok(()),
     }
@@ -103,7 +101,7 @@ fn write_settings<W: Sink>(model: &Model, out: &mut W) -> Result<(), SinkFailed>
     write_all(out, values_line(model.is_cost()))
 }
 
-/// The line of the kind of values.
+/// Returns the line of the kind of values.
 fn values_line(is_cost: bool) -> &'static [u8]
     ensures { result.now ≡ values_line is_cost }
 {
@@ -158,7 +156,7 @@ fn write_name<W: Sink>(names: &Names, number: usize, out: &mut W) -> Result<(), 
 
 /// Writes a blank and a number.
 fn write_number_word<W: Sink>(number: usize, out: &mut W) -> Result<(), SinkFailed>
-    ensures { WritesText W.writes W.failures out.old (behind_blank (decimal number)) result out.new }
+    ensures { WritesText W.writes W.failures out.old (after_blank (decimal number)) result out.new }
 {
     write_all(out, b" ")?;
     write_number(number, out)
@@ -176,7 +174,7 @@ fn write_start<W: Sink>(model: &Model, out: &mut W) -> Result<(), SinkFailed>
     }
 }
 
-/// Whether all states have a share of 1.
+/// Tests whether all states have a share of 1.
 fn is_whole(model: &Model) -> bool
     ensures { result ≡ all_below (states_of (meaning model.now))
         (λ s. share_of (meaning model.now).start s == 1) }
@@ -189,7 +187,7 @@ fn is_whole(model: &Model) -> bool
     true
 }
 
-/// Whether all states have a share of 0 or 1.
+/// Tests whether all states have a share of 0 or 1.
 fn is_choice(model: &Model) -> bool
     ensures { result ≡ all_below (states_of (meaning model.now))
         (λ s. share_of (meaning model.now).start s == 0 || share_of (meaning model.now).start s == 1) }

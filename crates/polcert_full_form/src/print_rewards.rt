@@ -60,7 +60,7 @@ fn write_rewards_from<W: Sink>(
     ensures { WritesText W.writes W.failures out.old
         (rewards_from (meaning model.now) action start) result out.new }
 {
-    if !model.draft().is_paid(action, start) {
+    if !model.has_rewards(action, start) {
         return Ok(());
     }
     let whole = RewardRow {
@@ -167,7 +167,7 @@ fn write_block<W: Sink>(
     Ok(())
 }
 
-/// What the text gives of a reward: minus the reward where it gives costs.
+/// Returns what the text gives of a reward: minus the reward if it gives costs.
 fn written(is_cost: bool, reward: i64) -> i64
     requires { unsigned_abs reward ≤ largest }
     ensures { result ≡ written is_cost reward }

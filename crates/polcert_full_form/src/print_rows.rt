@@ -22,7 +22,7 @@ pub(crate) fn write_rows<W: Sink>(
     out: &mut W,
 ) -> Result<(), SinkFailed>
     requires { IsWeighted table }
-    ensures { WritesText W.writes W.failures out.old (rows_text model.now.draft table) result out.new }
+    ensures { WritesText W.writes W.failures out.old (rows_text model.now.kept table) result out.new }
 {
     for action in 0..model.actions() {
         write_rows_at(model, table, action, out)?;
@@ -38,7 +38,7 @@ fn write_rows_at<W: Sink>(
 ) -> Result<(), SinkFailed>
     requires weighted { IsWeighted table }
     requires action { action < actions_of (meaning model.now) }
-    ensures { WritesText W.writes W.failures out.old (rows_at model.now.draft table action) result out.new }
+    ensures { WritesText W.writes W.failures out.old (rows_at model.now.kept table action) result out.new }
 {
     for state in 0..model.states() {
         write_row(model, table, action, state, out)?;
@@ -57,15 +57,14 @@ fn write_row<W: Sink>(
     requires action { action < actions_of (meaning model.now) }
     requires state { state < states_of (meaning model.now) }
     ensures { WritesText W.writes W.failures out.old
-        (row_at model.now.draft table action state) result out.new }
+        (row_at model.now.kept table action state) result out.new }
 {
-    let draft = model.draft();
     let row = WeightRow {
-        draft,
+        model,
         table,
         action,
         state,
-        columns: draft.columns(table),
+        columns: model.columns(table),
     };
     write_head(table, &[action, state], out)?;
     write_body(&row, out)
@@ -84,7 +83,7 @@ fn write_body<W: Sink>(row: &WeightRow<'_>, out: &mut W) -> Result<(), SinkFaile
     }
 }
 
-/// Whether each column has one part in as many as there are.
+/// Tests whether each column has one part in as many as there are.
 fn is_uniform(row: &WeightRow<'_>) -> bool
     ensures { result ≡ is_uniform row.now.columns (row_weights row.now) }
 {
@@ -104,7 +103,7 @@ fn is_uniform(row: &WeightRow<'_>) -> bool
     column == row.columns
 }
 
-/// Whether each weight is that of a number of millionths.
+/// Tests whether each weight is that of a number of millionths.
 fn is_decimal(row: &WeightRow<'_>) -> bool
     ensures { result ≡ is_decimal row.now.columns (row_weights row.now) }
 {
@@ -234,7 +233,7 @@ fn write_column<W: Sink>(
     }
 }
 
-/// The probability of a weight in a row of so many columns, in millionths.
+/// Returns the probability of a weight in a row of so many columns, in millionths.
 fn millionths_of(weight: u64, columns: usize) -> i64
     requires some { 0 < columns }
     requires small { weight ≤ one * columns }

@@ -96,7 +96,7 @@ pub(crate) fn write_zeros<W: Sink>(
     Ok(())
 }
 
-/// What stands in the first place of a line or in another.
+/// Returns the first text in place 0 of a line, and the other one after it.
 fn in_place(place: usize, first: &'static [u8], other: &'static [u8]) -> &'static [u8]
     ensures { result.now ≡ if place == 0 then first.now else other.now }
 {

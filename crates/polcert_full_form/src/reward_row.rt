@@ -8,6 +8,7 @@ ghost use Rattle.polcert_tables.specs.Contents.{meaning};
 ghost use Rattle.polcert_format.specs.FullForm.{all_below, is_zero};
 ghost use Rattle.polcert_full_form.specs.Steps.Printing.{IsFilled, IsPaidFrom};
 
+use polcert_cells::Cells;
 use polcert_tables::Model;
 
 /// The rewards of an end state by observation, or, in an MDP, those of all end states.
@@ -25,7 +26,7 @@ pub(crate) struct RewardRow<'a> {
 impl RewardRow<'_> {
     ghost use Rattle.polcert_full_form.specs.Steps.PrintedRows.{row_width, row_rewards};
 
-    /// How many columns the row has.
+    /// Returns how many columns the row has.
     pub(crate) fn columns(&self) -> usize
         ensures columns { result ≡ row_width self.now }
         ensures count { IsCount most_elements result }
@@ -44,13 +45,12 @@ impl RewardRow<'_> {
         match self.end {
             Some(end) => self
                 .model
-                .draft()
                 .fill_rewards(self.action, self.start, end, first, block),
             None => self.fill_ends(first, block),
         }
     }
 
-    /// The same of an MDP, one end state after the other.
+    /// Fills the block for an MDP, one end state after the other.
     fn fill_ends(&self, first: usize, block: &mut [i64])
         ensures { (i : ℕ) → i < length block.old → first + i < states_of (meaning self.now.model.now) →
             get_or block.new i (pos 0) ≡ (meaning self.now.model.now).r self.now.action self.now.start
@@ -62,7 +62,8 @@ impl RewardRow<'_> {
         }
     }
 
-    /// Where the first block with a reward other than 0 begins, if there is one. It is filled in then.
+    /// Returns the place of the first block with a non-zero reward, if there is one, and fills the block with
+    /// it.
     pub(crate) fn first_paid(&self, block: &mut [i64]) -> Option<usize>
         requires room { 0 < length block.old }
         ensures paid { MatchOption result
@@ -85,7 +86,7 @@ impl RewardRow<'_> {
     }
 }
 
-/// Whether all rewards are 0.
+/// Tests whether all rewards are 0.
 fn are_zero(rewards: &[i64]) -> bool
     ensures { result ≡ list_all is_zero rewards.now }
 {

@@ -3,12 +3,12 @@ use Rattle.std.proofs.Common.{◌≡◌, ◌∙◌, ℕ, ◌+◌, ◌-◌, ◌<�
 use Rattle.std.proofs.lemmas.List.{length-drop}
 use Rattle.polcert_text.specs.Beginning.{BeginWith, BeginWithNumber, IsNumeralOf, kind_of_sign, unsigned, signed}
 use Rattle.polcert_text.specs.Cut.{Lexeme}
-use Rattle.polcert_text.specs.declared.beginning.FrontNumber.{FrontNumber}
+use Rattle.polcert_text.specs.declared.front_tokens.FrontNumber.{FrontNumber}
 use Rattle.polcert_text.proofs.Taken.BeginLaws.{begin_none, begin_then}
 use Rattle.polcert_cells.specs.Numbers.{IsMillionths}
 use Rattle.polcert_format.specs.Misfits.{begins_number}
 use Rattle.polcert_format.specs.Reasons.{is_sign}
-use Rattle.polcert_format.specs.Text.{Known}
+use Rattle.polcert_format.specs.Text.{ModelSoFar}
 use Rattle.polcert_format.specs.Wants.{numbers_want}
 use Rattle.polcert_items.specs.Steps.Ahead.{IsFed, IsListFed, AreTaken, none, more, TakesAhead, FedAhead}
 use Rattle.polcert_items.specs.Steps.Numbers.{ListKind, IsInRange, IsSignAt, is_negative}
@@ -41,10 +41,10 @@ module _ {R : Type 0} (Step : R → Lexeme → R → Type 0) where
         (u.0 ++ v.0, (begin_then place bytes m n u.0 v.0 u.1.0 v.1.0, taken_both a b c u.0 v.0 u.1.1 v.1.1));
   }
 
-pub fed_none : (k : Known) (r : EntryReader) (bytes : List ℕ) → FedAhead k r bytes 0 r
+pub fed_none : (k : ModelSoFar) (r : EntryReader) (bytes : List ℕ) → FedAhead k r bytes 0 r
 fed_none k r bytes = takes_none (IsFed k) r bytes
 
-pub fed_then : (k : Known) (a b c : EntryReader) (bytes : List ℕ) (m n : ℕ) → FedAhead k a bytes m b → FedAhead k b (drop m bytes) n c → FedAhead k a bytes (m + n) c
+pub fed_then : (k : ModelSoFar) (a b c : EntryReader) (bytes : List ℕ) (m n : ℕ) → FedAhead k a bytes m b → FedAhead k b (drop m bytes) n c → FedAhead k a bytes (m + n) c
 fed_then k a b c bytes m n first second = takes_then (IsFed k) a b c bytes m n first second
 
 pub if_ok_map : {T E : Type 0} (r : Result T E) (P Q : T → Type 0) → ((v : T) → P v → Q v) → IfOk r P → IfOk r Q
@@ -96,7 +96,7 @@ module _ {T : Type 0} (kind : ListKind T) (old : Numbers T) where
   numeral_fed : (x : T) (l : Lexeme) → ((y z : T) → kind.worth y ≡ kind.worth z → y ≡ z) → IsNumeralOf (is_negative old.sign) l (kind.worth x) → IsInRange kind.range (kind.worth x) → length old.read < old.needed
       → IsListFed kind old l (with_number old x)
   numeral_fed x l distinct v fits room =
-      let is : IsMillionths (is_negative old.sign) l (kind.worth x) = record { kind = v.kind_is; readable = v.readable; exact = v.exact } in
+      let is : IsMillionths (is_negative old.sign) l (kind.worth x) = record { kind = v.kind_is; readable = v.readable; value = v.exact } in
       record {
         begins = ap begins_number v.kind_is;
         room = omega (arith, room, length-append old.read (x ∷ []));

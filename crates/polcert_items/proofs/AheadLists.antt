@@ -12,13 +12,13 @@ use Rattle.polcert_cells.specs.declared.entry.Table.{Table}
 use Rattle.polcert_cells.specs.declared.entry.Table.TheVariants.{Transition, Observation, Reward}
 use Rattle.polcert_format.specs.KnownPreamble.{preamble_in, indices_in}
 use Rattle.polcert_format.specs.Misfits.{begins_number}
-use Rattle.polcert_format.specs.Text.{Known}
+use Rattle.polcert_format.specs.Text.{ModelSoFar}
 use Rattle.polcert_format.specs.Wants.{least_written, numbers_want}
 use Rattle.polcert_items.specs.Steps.Ahead.{IsFed, IsListFed, AreTaken, none, more, TakesAhead, FedAhead}
 use Rattle.polcert_items.specs.Steps.Entries.{NumberListGoes, IsStateWithin, AreBegun, HasRoom, no_numbers, entry_sign}
 use Rattle.polcert_items.specs.Steps.Lines.{Takes}
 use Rattle.polcert_items.specs.Steps.Numbers.{ListKind, of_probabilities, of_rewards, SignIs}
-use Rattle.polcert_items.specs.Steps.Wants.{Leads, list_wants, state_wants}
+use Rattle.polcert_items.specs.Steps.Wants.{ExpectsNext, list_wants, state_wants}
 use Rattle.polcert_items.specs.declared.entry_reader.EntryReader.{EntryReader}
 use Rattle.polcert_items.specs.declared.entry_reader.EntryState.{EntryState}
 use Rattle.polcert_items.specs.declared.entry_reader.EntryState.TheVariants as states
@@ -76,7 +76,7 @@ rewards_stand table is = record {
   wants = λ p places n ls. refl;
 }
 
-module _ {T : Type 0} (kind : ListKind T) (state : Numbers T → EntryState) (k : Known) (r : EntryReader) (stands : StandsIn kind state r.table) where
+module _ {T : Type 0} (kind : ListKind T) (state : Numbers T → EntryState) (k : ModelSoFar) (r : EntryReader) (stands : StandsIn kind state r.table) where
   -- the entry with this list
   abbrev pub with_list : Numbers T → EntryReader
   with_list n = record { table = r.table; places = r.places; state = state n }
@@ -111,7 +111,7 @@ module _ {T : Type 0} (kind : ListKind T) (state : Numbers T → EntryState) (k 
         let p = preamble_in k in
         let number = begins l.kind f.begins in
         let list = no_numbers_lead {T = T} (no_numbers needed) needed l (list_wants new) refl f.leads in
-        let leads : Leads (numbers_want false needed) l (state_wants p r.table r.places (state new)) = record { same = λ ls. list.same ls ∙ sym (stands.wants p r.places new ls) } in
+        let leads : ExpectsNext (numbers_want false needed) l (state_wants p r.table r.places (state new)) = record { same = λ ls. list.same ls ∙ sym (stands.wants p r.places new ls) } in
         record {
           inside = number_inside l f.begins;
           table = refl;
@@ -119,7 +119,7 @@ module _ {T : Type 0} (kind : ListKind T) (state : Numbers T → EntryState) (k 
           takes = in_state p r states.Body (state new) l is (numbers_begin k r.table r.places l (state new) needed (number_not_colon l.kind number) (number_not_name l.kind number) cells low high (stands.begun needed l new f.takes));
           sign = subst (λ s. SignIs s l) (sym (stands.sign new)) f.sign;
           leads = record {
-            same = λ ls. (body_leads p r l _ is (numbers_lead p r.table (length r.places) l _ f.begins (subst (λ m. Leads (numbers_want false m) l (state_wants p r.table r.places (state new))) cells leads))).same ls;
+            same = λ ls. (body_leads p r l _ is (numbers_lead p r.table (length r.places) l _ f.begins (subst (λ m. ExpectsNext (numbers_want false m) l (state_wants p r.table r.places (state new))) cells leads))).same ls;
           };
         }
 

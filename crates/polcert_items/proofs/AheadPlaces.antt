@@ -3,11 +3,11 @@ use Rattle.std.proofs.Common.{◌≡◌, ◌∙◌, ⊎_elim, ℕ, zero, suc, �
 use Rattle.std.proofs.lemmas.List.{length-drop}
 use Rattle.polcert_text.specs.Beginning.{BeginWithOne, BeginWithDigits, moved}
 use Rattle.polcert_text.specs.Cut.{Lexeme}
-use Rattle.polcert_text.specs.declared.beginning.FrontDigits.{FrontDigits}
+use Rattle.polcert_text.specs.declared.front_tokens.FrontDigits.{FrontDigits}
 use Rattle.polcert_text.specs.declared.lexeme.TokenKind.{TokenKind}
 use Rattle.polcert_text.specs.declared.lexeme.TokenKind.TheVariants.{Colon, Numeral, Star}
 use Rattle.polcert_text.proofs.Taken.BeginLaws.{begin_then}
-use Rattle.polcert_cells.specs.Elements.{count_of, by_number, by_name}
+use Rattle.polcert_cells.specs.Elements.{count_of, StandsFor, by_number, by_name}
 use Rattle.polcert_cells.specs.Entry.{IsPlace}
 use Rattle.polcert_cells.specs.Numbers.{IsWhole}
 use Rattle.polcert_cells.specs.Preamble.{Preamble}
@@ -21,12 +21,11 @@ use Rattle.polcert_cells.specs.declared.entry.Table.TheVariants.{Transition, Obs
 use Rattle.polcert_cells.proofs.EntryLaws.{one_place}
 use Rattle.polcert_format.specs.KnownPreamble.{preamble_in, indices_in, named_in}
 use Rattle.polcert_format.specs.Reasons.{is_sign}
-use Rattle.polcert_format.specs.Text.{Known}
-use Rattle.polcert_format.specs.Wants.{least_written, numbers_want}
+use Rattle.polcert_format.specs.Text.{ModelSoFar}
 use Rattle.polcert_format.specs.Wants as wants
 use Rattle.polcert_items.specs.Steps.Ahead.{IsFed, none, more, FedAhead, BeginWithPlace, AwaitsColon}
-use Rattle.polcert_items.specs.Steps.Entries.{StateGoes, IsFirstPlace, IsEntryBehind, IsStateWithin, IsWithinIndices}
-use Rattle.polcert_items.specs.Steps.Wants.{Leads, state_wants, entry_wants}
+use Rattle.polcert_items.specs.Steps.Entries.{StateGoes, IsFirstPlace, IsEntryAfter, IsStateWithin, IsWithinIndices}
+use Rattle.polcert_items.specs.Steps.Wants.{ExpectsNext, state_wants, entry_wants}
 use Rattle.polcert_items.specs.declared.ahead.FrontPlace.{FrontPlace}
 use Rattle.polcert_items.specs.declared.entry_reader.EntryReader.{EntryReader}
 use Rattle.polcert_items.specs.declared.entry_reader.EntryState.TheVariants as states
@@ -46,7 +45,7 @@ numeral_inside l is = subst (λ (kind : TokenKind). begins_item (record l { kind
 colon_inside : (l : Lexeme) → l.kind ≡ Colon → begins_item l ≡ false
 colon_inside l is = subst (λ (kind : TokenKind). begins_item (record l { kind = kind }) ≡ false) (sym is) refl
 
-colon_fed : (k : Known) (r : EntryReader) (l : Lexeme) → AwaitsColon r.state → IsWithinIndices (indices_in k r.table) r → length r.places < length (indices_in k r.table) → l.kind ≡ Colon → IsFed k r l (record r { state = states.Place })
+colon_fed : (k : ModelSoFar) (r : EntryReader) (l : Lexeme) → AwaitsColon r.state → IsWithinIndices (indices_in k r.table) r → length r.places < length (indices_in k r.table) → l.kind ≡ Colon → IsFed k r l (record r { state = states.Place })
 colon_fed k r l awaits within room kind = record {
   inside = colon_inside l kind;
   table = refl;
@@ -60,7 +59,7 @@ colon_fed k r l awaits within room kind = record {
     p : Preamble
     p = preamble_in k
 
-    at_colon : r.state ≡ states.Colon → Leads (entry_wants (preamble_in k) r) l (entry_wants (preamble_in k) (record r { state = states.Place }))
+    at_colon : r.state ≡ states.Colon → ExpectsNext (entry_wants (preamble_in k) r) l (entry_wants (preamble_in k) (record r { state = states.Place }))
     at_colon is =
         let first : r.places ≡ [] = subst (λ s. IsStateWithin (indices_in k r.table) r.table r.places s) is within in
         record { same = λ ls. ap (λ s. state_wants (preamble_in k) r.table r.places s (l ∷ ls)) is ∙ ap (λ ps. wants.entry_wants (preamble_in k) r.table true (length ps) ls) (sym first) }
@@ -77,7 +76,7 @@ first_place (d ∷ ds) zero l p inside is = is
 first_place (d ∷ ds) (suc n) l p inside is = first_place ds n l p (omega arith) is
 
 -- as many places may be named as there are
-same_count : (k : Known) (table : Table) → length (named_in k table) ≡ length (indices_in k table)
+same_count : (k : ModelSoFar) (table : Table) → length (named_in k table) ≡ length (indices_in k table)
 same_count k Transition = refl
 same_count k Observation = refl
 same_count k Reward = refl
@@ -107,7 +106,7 @@ place_moved (d ∷ ds) l Every position is = is
 place_moved (d ∷ ds) l (Only index) position (by_number whole below) = by_number (record { kind = whole.kind; digits = whole.digits; value = whole.value }) below
 place_moved (d ∷ ds) l (Only index) position (by_name name is) = by_name (record { kind = name.kind; free = name.free }) is
 
-place_fed : (k : Known) (r : EntryReader) (l : Lexeme) (p : Place) → r.state ≡ states.Place → length r.places < length (indices_in k r.table) → IsFirstPlace (drop (length r.places) (named_in k r.table)) l p
+place_fed : (k : ModelSoFar) (r : EntryReader) (l : Lexeme) (p : Place) → r.state ≡ states.Place → length r.places < length (indices_in k r.table) → IsFirstPlace (drop (length r.places) (named_in k r.table)) l p
     → IsFed k r l (record { table = r.table; places = r.places ++ p ∷ []; state = states.Body })
 place_fed k r l p is room first =
     let inside = place_inside (drop (length r.places) (named_in k r.table)) l p first in
@@ -119,14 +118,14 @@ place_fed k r l p is room first =
         back = λ ls e g. subst (λ s. StateGoes (preamble_in k) r.table r.places s (l ∷ ls) e) (sym is) (p, (first, g));
         on = λ ls e g.
             let h : StateGoes (preamble_in k) r.table r.places states.Place (l ∷ ls) e = subst (λ s. StateGoes (preamble_in k) r.table r.places s (l ∷ ls) e) is g in
-            subst (λ q. IsEntryBehind (preamble_in k) r.table (r.places ++ q ∷ []) ls e) (one_first_place (drop (length r.places) (named_in k r.table)) l h.0 p h.1.0 first) h.1.1;
+            subst (λ q. IsEntryAfter (preamble_in k) r.table (r.places ++ q ∷ []) ls e) (one_first_place (drop (length r.places) (named_in k r.table)) l h.0 p h.1.0 first) h.1.1;
       };
       sign = inside.sign;
       leads = record { same = λ ls. ap (λ s. state_wants (preamble_in k) r.table r.places s (l ∷ ls)) is ∙ ap (λ n. wants.entry_wants (preamble_in k) r.table false n ls) (sym (length-append r.places (p ∷ []))) };
     }
 
 -- a colon and a place
-pub colon_place_fed : (k : Known) (r : EntryReader) (bytes : List ℕ) (colon : ℕ) (front : FrontPlace) (new : EntryReader) → AwaitsColon r.state → IsWithinIndices (indices_in k r.table) r → length r.places < length (indices_in k r.table)
+pub colon_place_fed : (k : ModelSoFar) (r : EntryReader) (bytes : List ℕ) (colon : ℕ) (front : FrontPlace) (new : EntryReader) → AwaitsColon r.state → IsWithinIndices (indices_in k r.table) r → length r.places < length (indices_in k r.table)
     → ((position : ℕ) → BeginWithOne position bytes colon Colon) → ((position : ℕ) → BeginWithPlace (drop (length r.places) (named_in k r.table)) position (drop colon bytes) front)
     → new ≡ (record { table = r.table; places = r.places ++ front.place ∷ []; state = states.Body }) → FedAhead k r bytes (colon + front.len) new
 colon_place_fed k r bytes colon front new awaits within room first second is = subst (FedAhead k r bytes (colon + front.len)) (sym is) (record {
@@ -144,8 +143,14 @@ colon_place_fed k r bytes colon front new awaits within room first second is = s
       );
 })
 
+-- what stands for one of the elements that may be named is a place
+pub element_place : (k : ModelSoFar) (table : Table) (written : ℕ) (l : Lexeme) (elements : Elements) (index : ℕ) → written < length (indices_in k table)
+    → get_or (named_in k table) written (Count 0) ≡ elements → StandsFor elements l index → IsFirstPlace (drop written (named_in k table)) l (Only index)
+element_place k table written l elements index inside are stands =
+    first_place (named_in k table) written l (Only index) (omega (arith, same_count k table)) (subst (λ d. IsPlace d l (Only index)) (sym are) stands)
+
 -- the digits at the front of some bytes are the number of an element
-pub digits_place : (k : Known) (table : Table) (written : ℕ) (bytes : List ℕ) (count : ℕ) (index : FrontDigits) → written < length (indices_in k table)
+pub digits_place : (k : ModelSoFar) (table : Table) (written : ℕ) (bytes : List ℕ) (count : ℕ) (index : FrontDigits) → written < length (indices_in k table)
     → ((place : ℕ) → BeginWithDigits place bytes index) → count ≡ count_of (get_or (named_in k table) written (Count 0)) → index.value < count
     → (position : ℕ) → BeginWithPlace (drop written (named_in k table)) position bytes (record { len = index.len; place = Only index.value })
 digits_place k table written bytes count index inside front are below position =

@@ -21,7 +21,7 @@ use Rattle.polcert_cells.specs.Preamble.{Preamble, is_mdp, observed, dimensions,
 use Rattle.polcert_cells.specs.Steps.Sound.{ArePlacesIn, Fills, IsSoundEntry}
 use Rattle.polcert_cells.proofs.CellLaws.{sum_of_same}
 use Rattle.polcert_format.specs.Limits.{count_cells, gives_weight}
-use Rattle.polcert_items.specs.Steps.Covering.{chosen, weighty, covered_by}
+use Rattle.polcert_items.specs.Steps.CellBudget.{chosen, nonzero_cells, covered_by}
 
 -- ---- sums
 
@@ -150,16 +150,13 @@ by_places (d ∷ ds) (Only n ∷ ps) is_so a =
 
 -- ---- one entry
 
-some_columns : (d : Elements) → 1 ≤ count_of d → 0 < one * count_of d
-some_columns d l = mul-pos (omega arith) (omega (arith, l))
-
 -- a cell that is read by the indices left open
 abbrev is_above : ℕ → Body → List Elements → List ℕ → Bool
 is_above n body ds is = nat_lt 0 (weight_in n body ds is)
 
 -- the cells that the body fills
 by_body : (n : ℕ) (body : Body) (ds : List Elements) (cells : ℕ) → 0 < n → (body ≡ Identity → ⊥) → cells ≡ cells_in ds → Fills (cells_in ds) body
-    → (states : ℕ) → count_cells ds (is_above n body ds) ≡ weighty body states cells
+    → (states : ℕ) → count_cells ds (is_above n body ds) ≡ nonzero_cells body states cells
 by_body n (Probabilities ps) ds cells l other e fills states =
     by_number ds (λ k. nat_lt 0 (get_or ps k 0 * n)) ∙ ap (sum_below (λ k. cond (nat_lt 0 (get_or ps k 0 * n)) 1 0)) (sym fills.0) ∙ numbers_above ps n l
 by_body n (Rewards hs) ds cells l other e fills states = no_cells ds
@@ -206,18 +203,18 @@ module _ (a s c : Elements) (n : ℕ) (above : 0 < n) (body : Body) where
   abbrev count : List Place → ℕ
   count places = count_cells ds (λ is. fit_places places is && is_above n body (drop (length places) ds) (drop (length places) is))
 
-  one_place : (p : Place) → ArePlacesIn ds (p ∷ []) → count_cells (s ∷ c ∷ []) (is_above n body (s ∷ c ∷ [])) ≡ weighty body (count_of s) (count_of s * count_of c) → count (p ∷ []) ≡ counted (p ∷ [])
-  one_place p i e = by_places ds (p ∷ []) (is_above n body (s ∷ c ∷ [])) i ∙ ap (λ w. chosen (Some p) (count_of a) * 1 * w) e ∙ ap (λ x. x * weighty body (count_of s) (count_of s * count_of c)) (sym (mul-one (chosen (Some p) (count_of a) * 1)))
+  one_place : (p : Place) → ArePlacesIn ds (p ∷ []) → count_cells (s ∷ c ∷ []) (is_above n body (s ∷ c ∷ [])) ≡ nonzero_cells body (count_of s) (count_of s * count_of c) → count (p ∷ []) ≡ counted (p ∷ [])
+  one_place p i e = by_places ds (p ∷ []) (is_above n body (s ∷ c ∷ [])) i ∙ ap (λ w. chosen (Some p) (count_of a) * 1 * w) e ∙ ap (λ x. x * nonzero_cells body (count_of s) (count_of s * count_of c)) (sym (mul-one (chosen (Some p) (count_of a) * 1)))
 
-  two_places : (p q : Place) → ArePlacesIn ds (p ∷ q ∷ []) → count_cells (c ∷ []) (is_above n body (c ∷ [])) ≡ weighty body (count_of s) (count_of c) → count (p ∷ q ∷ []) ≡ counted (p ∷ q ∷ [])
+  two_places : (p q : Place) → ArePlacesIn ds (p ∷ q ∷ []) → count_cells (c ∷ []) (is_above n body (c ∷ [])) ≡ nonzero_cells body (count_of s) (count_of c) → count (p ∷ q ∷ []) ≡ counted (p ∷ q ∷ [])
   two_places p q i e =
       by_places ds (p ∷ q ∷ []) (is_above n body (c ∷ [])) i ∙ ap (λ w. chosen (Some p) (count_of a) * (chosen (Some q) (count_of s) * 1) * w) e
-      ∙ ap (λ x. x * weighty body (count_of s) (count_of c)) (sym (mul_assoc (chosen (Some p) (count_of a)) (chosen (Some q) (count_of s)) 1))
+      ∙ ap (λ x. x * nonzero_cells body (count_of s) (count_of c)) (sym (mul_assoc (chosen (Some p) (count_of a)) (chosen (Some q) (count_of s)) 1))
 
-  three_places : (p q r : Place) → ArePlacesIn ds (p ∷ q ∷ r ∷ []) → count_cells [] (is_above n body []) ≡ weighty body (count_of s) 1 → count (p ∷ q ∷ r ∷ []) ≡ counted (p ∷ q ∷ r ∷ [])
+  three_places : (p q r : Place) → ArePlacesIn ds (p ∷ q ∷ r ∷ []) → count_cells [] (is_above n body []) ≡ nonzero_cells body (count_of s) 1 → count (p ∷ q ∷ r ∷ []) ≡ counted (p ∷ q ∷ r ∷ [])
   three_places p q r i e =
       by_places ds (p ∷ q ∷ r ∷ []) (is_above n body []) i ∙ ap (λ w. chosen (Some p) (count_of a) * (chosen (Some q) (count_of s) * (chosen (Some r) (count_of c) * 1)) * w) e
-      ∙ ap (λ x. x * weighty body (count_of s) 1)
+      ∙ ap (λ x. x * nonzero_cells body (count_of s) 1)
       (ap (λ x. chosen (Some p) (count_of a) * (chosen (Some q) (count_of s) * x)) (mul-one (chosen (Some r) (count_of c))) ∙ sym (mul_assoc (chosen (Some p) (count_of a)) (chosen (Some q) (count_of s)) (chosen (Some r) (count_of c))))
 
 one_more : (x y : ℕ) → x * y ≡ x * (y * 1)
@@ -231,7 +228,7 @@ in_rows : (mdp : Bool) (table : Table) (a s c : Elements) (n : ℕ) (places : Li
 in_rows mdp table a s c n [] body l square other form i fills = absurd (nothing_written mdp table body form)
 in_rows mdp table a s c n (p ∷ []) body l square other form i fills = one_place a s c n l body p i (⊎_elim diagonal filled (is_identity body))
   where
-    filled : (body ≡ Identity → ⊥) → count_cells (s ∷ c ∷ []) (is_above n body (s ∷ c ∷ [])) ≡ weighty body (count_of s) (count_of s * count_of c)
+    filled : (body ≡ Identity → ⊥) → count_cells (s ∷ c ∷ []) (is_above n body (s ∷ c ∷ [])) ≡ nonzero_cells body (count_of s) (count_of s * count_of c)
     filled not_identity = by_body n body (s ∷ c ∷ []) (count_of s * count_of c) l not_identity (one_more (count_of s) (count_of c)) fills (count_of s)
 
     of_transitions : (t : Table) → table ≡ t → body ≡ Identity → c ≡ s
@@ -239,10 +236,10 @@ in_rows mdp table a s c n (p ∷ []) body l square other form i fills = one_plac
     of_transitions Observation e is = absurd (not_observed mdp body (subst (λ u. list_any (λ m. m == 1) (forms mdp u body) ≡ true) e form) is)
     of_transitions Reward e is = absurd (other e)
 
-    diagonal : body ≡ Identity → count_cells (s ∷ c ∷ []) (is_above n body (s ∷ c ∷ [])) ≡ weighty body (count_of s) (count_of s * count_of c)
+    diagonal : body ≡ Identity → count_cells (s ∷ c ∷ []) (is_above n body (s ∷ c ∷ [])) ≡ nonzero_cells body (count_of s) (count_of s * count_of c)
     diagonal is =
         (λ j. count_cells (s ∷ of_transitions table refl is j ∷ []) (is_above n (is j) (s ∷ of_transitions table refl is j ∷ [])))
-        ∙ on_the_diagonal s n l ∙ sym (ap (λ b. weighty b (count_of s) (count_of s * count_of c)) is)
+        ∙ on_the_diagonal s n l ∙ sym (ap (λ b. nonzero_cells b (count_of s) (count_of s * count_of c)) is)
 in_rows mdp table a s c n (p ∷ q ∷ []) body l square other form i fills =
     two_places a s c n l body p q i (by_body n body (c ∷ []) (count_of c) l (no_square mdp 2 table body (inl refl) form) (sym (mul-one (count_of c))) fills (count_of s))
 in_rows mdp table a s c n (p ∷ q ∷ r ∷ []) body l square other form i fills =

@@ -18,9 +18,9 @@ use Rattle.polcert_cells.specs.Entry.{cells_in, forms}
 use Rattle.polcert_cells.specs.Preamble.{Preamble, is_mdp, observed, rewarded, dimensions}
 use Rattle.polcert_cells.specs.Steps.Sound.{ArePlacesIn, Fills}
 use Rattle.polcert_format.specs.Limits.{IsLarge, HasFewCells, count_cells, gives_weight, covered, most_cells, most_reward_entries}
-use Rattle.polcert_items.specs.declared.covering.Covering.{Covering}
-use Rattle.polcert_items.specs.declared.covering.Sizes.{Sizes}
-use Rattle.polcert_items.specs.Steps.Covering.{chosen, open_cells, weighty, covered_by, most_covered, counted, IsCoveringOf, IsNext}
+use Rattle.polcert_items.specs.declared.cell_budget.CellBudget.{CellBudget}
+use Rattle.polcert_items.specs.declared.cell_budget.Sizes.{Sizes}
+use Rattle.polcert_items.specs.Steps.CellBudget.{chosen, open_cells, nonzero_cells, covered_by, most_covered, counted, IsCoveringOf, IsNext}
 use Rattle.polcert_items.proofs.CountedCells.{covered_transitions, covered_observations, not_covered, nothing_written}
 
 chosen_few : (place : Option Place) (count most : ℕ) → 1 ≤ most → count ≤ most → chosen place count ≤ most
@@ -30,12 +30,12 @@ chosen_few None count most some l = some
 
 -- the cells that an entry covers fit a word
 pub covered_few : (actions states columns : ℕ) (places : List Place) (body : Body) → actions ≤ most_actions → states ≤ most_states → columns ≤ most_observations
-    → weighty body states (open_cells states columns (length places)) ≤ states * columns → covered_by actions states columns places body ≤ most_covered
+    → nonzero_cells body states (open_cells states columns (length places)) ≤ states * columns → covered_by actions states columns places body ≤ most_covered
 covered_few actions states columns places body la ls lc few =
     let pairs : states * columns ≤ most_states * most_observations = mul-le-mul ls lc in
     let rows = mul-le-mul (chosen_few (slice_get places 0) actions most_actions (omega arith) la) (chosen_few (slice_get places 1) states most_states (omega arith) ls) in
     let cells = mul-le-mul rows (chosen_few (slice_get places 2) columns most_observations (omega arith) lc) in
-    let body_few : weighty body states (open_cells states columns (length places)) ≤ most_states * most_observations = omega (arith, few, pairs) in
+    let body_few : nonzero_cells body states (open_cells states columns (length places)) ≤ most_states * most_observations = omega (arith, few, pairs) in
     mul-le-mul cells body_few
 
 pub covered_fits : (n : ℕ) → n ≤ most_covered → Fits w64 n
@@ -78,7 +78,7 @@ numbers_open a s c (p ∷ q ∷ []) i some = mul-one (count_of c)
 numbers_open a s c (p ∷ q ∷ r ∷ []) i some = refl
 numbers_open a s c (p ∷ q ∷ r ∷ x ∷ ps) i some = absurd i.1.1.1
 
-weighty_few : (body : Body) (s c cells filled : ℕ) → cells ≤ s * c → s ≤ s * c → filled ≡ cells → Fills filled body → weighty body s cells ≤ s * c
+weighty_few : (body : Body) (s c cells filled : ℕ) → cells ≤ s * c → s ≤ s * c → filled ≡ cells → Fills filled body → nonzero_cells body s cells ≤ s * c
 weighty_few (Probabilities ps) s c cells filled few states e fills = let n : length ps ≡ filled = fills.0 in omega (arith, count_few ps, n, e, few)
 weighty_few (Rewards hs) s c cells filled few states e fills = omega arith
 weighty_few Uniform s c cells filled few states e fills = few
@@ -90,18 +90,18 @@ some_written mdp table body (p ∷ ps) form = omega arith
 
 in_table : (mdp : Bool) (table : Table) (a s c : Elements) (places : List Place) (body : Body) → 1 ≤ count_of s → 1 ≤ count_of c
     → list_any (λ n. n == length places) (forms mdp table body) ≡ true → ArePlacesIn (a ∷ s ∷ c ∷ []) places → Fills (cells_in (drop (length places) (a ∷ s ∷ c ∷ []))) body
-    → weighty body (count_of s) (open_cells (count_of s) (count_of c) (length places)) ≤ count_of s * count_of c
+    → nonzero_cells body (count_of s) (open_cells (count_of s) (count_of c) (length places)) ≤ count_of s * count_of c
 in_table mdp table a s c places body ls lc form i fills =
     weighty_few body (count_of s) (count_of c) _ _ (open_few (count_of s) (count_of c) (length places) ls lc) (some_cells (count_of s) (count_of c) ls lc).1
     (numbers_open a s c places i (some_written mdp table body places form)) fills
 
-pub observations_few : (p : Preamble) (es : List Entry) (c : Covering) (s : Sizes) (e : Entry) → IsNext p es c s e → e.table ≡ Observation
-    → weighty e.body s.states (open_cells s.states s.observed (length e.places)) ≤ s.states * s.observed
+pub observations_few : (p : Preamble) (es : List Entry) (c : CellBudget) (s : Sizes) (e : Entry) → IsNext p es c s e → e.table ≡ Observation
+    → nonzero_cells e.body s.states (open_cells s.states s.observed (length e.places)) ≤ s.states * s.observed
 observations_few p es c s e next is =
     let sizes = next.0 in
     let sound = next.2 in
-    subst (λ n. weighty e.body n (open_cells n s.observed (length e.places)) ≤ n * s.observed) (sym sizes.states)
-    (subst (λ n. weighty e.body (count_of p.states) (open_cells (count_of p.states) n (length e.places)) ≤ count_of p.states * n) (sym sizes.observed)
+    subst (λ n. nonzero_cells e.body n (open_cells n s.observed (length e.places)) ≤ n * s.observed) (sym sizes.states)
+    (subst (λ n. nonzero_cells e.body (count_of p.states) (open_cells (count_of p.states) n (length e.places)) ≤ count_of p.states * n) (sym sizes.observed)
     (in_table (is_mdp p) Observation p.actions p.states (observed p) e.places e.body (subst (λ n. 1 ≤ n) sizes.states sizes.few_states.0) (subst (λ n. 1 ≤ n) sizes.observed sizes.few_observed.0)
     (subst (λ t. list_any (λ m. m == length e.places) (forms (is_mdp p) t e.body) ≡ true) is sound.form) (subst (λ t. ArePlacesIn (dimensions p t) e.places) is sound.places)
     (subst (λ t. Fills (cells_in (drop (length e.places) (dimensions p t))) e.body) is sound.body)))
@@ -144,7 +144,7 @@ outcome P cells most count more few over room = at (nat_lt most_cells cells) (na
     at false many e f = room count (λ l. let le = not_less _ _ e in absurd (omega (arith, l, le))) few
 
 -- one of the three counts with the entry
-abbrev pub IsWith : (p : Preamble) (es : List Entry) (e : Entry) → (ℕ → Covering) → Option ℕ → Type 0
+abbrev pub IsWith : (p : Preamble) (es : List Entry) (e : Entry) → (ℕ → CellBudget) → Option ℕ → Type 0
 IsWith p es e put None = HasFewCells p (es ++ e ∷ []) → ⊥
 IsWith p es e put (Some n) = IsCoveringOf p (es ++ e ∷ []) (put n)
 
@@ -154,7 +154,7 @@ large_rows a s c cells e = mul_assoc a s c ∙ ap (λ n. a * (s * n)) (sym (mul-
 large_cells : (a s e z : ℕ) → a * s * e * z ≡ a * (s * (e * (z * 1)))
 large_cells a s e z = mul_assoc (a * s) e z ∙ mul_assoc a s (e * z) ∙ ap (λ n. a * (s * (e * n))) (sym (mul-one z))
 
-pub transitions_with : (p : Preamble) (es : List Entry) (c : Covering) (s : Sizes) (e : Entry) → IsNext p es c s e → e.table ≡ Transition
+pub transitions_with : (p : Preamble) (es : List Entry) (c : CellBudget) (s : Sizes) (e : Entry) → IsNext p es c s e → e.table ≡ Transition
     → IsWith p es e (λ n. record c { transitions = n }) (counted (s.actions * s.states * s.states) most_cells c.transitions (covered_by s.actions s.states s.states e.places e.body))
 transitions_with p es c s e next is =
     outcome (IsWith p es e (λ n. record c { transitions = n })) _ most_cells c.transitions _ old.few_transitions
@@ -186,7 +186,7 @@ transitions_with p es c s e next is =
     all : most_cells < s.actions * s.states * s.states → covered p Transition (es ++ e ∷ []) ≡ c.transitions + covered_by s.actions s.states s.states e.places e.body
     all l = let push = covered_push p Transition es e in let before = old.transitions (is_large l) in omega (arith, push, before, more)
 
-pub observations_with : (p : Preamble) (es : List Entry) (c : Covering) (s : Sizes) (e : Entry) → IsNext p es c s e → e.table ≡ Observation
+pub observations_with : (p : Preamble) (es : List Entry) (c : CellBudget) (s : Sizes) (e : Entry) → IsNext p es c s e → e.table ≡ Observation
     → IsWith p es e (λ n. record c { observations = n }) (counted (s.actions * s.states * s.observed) most_cells c.observations (covered_by s.actions s.states s.observed e.places e.body))
 observations_with p es c s e next is =
     outcome (IsWith p es e (λ n. record c { observations = n })) _ most_cells c.observations _ old.few_observations
@@ -218,7 +218,7 @@ observations_with p es c s e next is =
     all : most_cells < s.actions * s.states * s.observed → covered p Observation (es ++ e ∷ []) ≡ c.observations + covered_by s.actions s.states s.observed e.places e.body
     all l = let push = covered_push p Observation es e in let before = old.observations (is_large l) in omega (arith, push, before, more)
 
-pub rewards_with : (p : Preamble) (es : List Entry) (c : Covering) (s : Sizes) (e : Entry) → IsNext p es c s e → e.table ≡ Reward
+pub rewards_with : (p : Preamble) (es : List Entry) (c : CellBudget) (s : Sizes) (e : Entry) → IsNext p es c s e → e.table ≡ Reward
     → IsWith p es e (λ n. record c { rewards = n }) (counted (s.actions * s.states * s.states * s.rewarded) most_reward_entries c.rewards 1)
 rewards_with p es c s e next is =
     outcome (IsWith p es e (λ n. record c { rewards = n })) _ most_reward_entries c.rewards 1 old.few_rewards

@@ -7,7 +7,7 @@ use Rattle.std.proofs.lemmas.Cmp.{nat_list_eq_equiv}
 use Rattle.std.proofs.lemmas.List.Folds.{Any-from_list_any, list_any_at}
 use Rattle.std.proofs.lemmas.List.Quantifiers.{all_pairs_push}
 use Rattle.std.proofs.lemmas.Slice.Eq.{bytes_eq-Decides}
-use Rattle.polcert_text.specs.Bytes.{class_of}
+use Rattle.polcert_text.specs.Bytes.{is_digit}
 use Rattle.polcert_text.specs.Cut.{Lexeme}
 use Rattle.polcert_text.specs.declared.lexeme.TokenKind.TheVariants.{Numeral}
 use Rattle.polcert_format.specs.declared.fault.ItemFault.{ItemFault}
@@ -164,15 +164,15 @@ repeated_name body (readers.Named names) l more place seen reason = record {
   name = reason.1;
   earlier =
       let among : list_any (λ (m : Lexeme). bytes_eq m.bytes l.bytes) seen.further ≡ true = sym (earlier l.bytes seen.further) ∙ ap (list_any (bytes_eq l.bytes)) (sym seen.names_are) ∙ reason.2 in
-      subst (λ ls. list_any (λ (m : Lexeme). bytes_eq m.bytes l.bytes) ls ≡ true) (sym seen.whole) (behind seen.colon seen.further among);
+      subst (λ ls. list_any (λ (m : Lexeme). bytes_eq m.bytes l.bytes) ls ≡ true) (sym seen.whole) (following seen.colon seen.further among);
 }
   where
     or_true : (b c : Bool) → c ≡ true → (b || c) ≡ true
     or_true true c e = refl
     or_true false c e = e
 
-    behind : (colon : Lexeme) (ls : List Lexeme) → list_any (λ (m : Lexeme). bytes_eq m.bytes l.bytes) ls ≡ true → list_any (λ (m : Lexeme). bytes_eq m.bytes l.bytes) (colon ∷ ls) ≡ true
-    behind colon ls e = or_true (bytes_eq colon.bytes l.bytes) _ e
+    following : (colon : Lexeme) (ls : List Lexeme) → list_any (λ (m : Lexeme). bytes_eq m.bytes l.bytes) ls ≡ true → list_any (λ (m : Lexeme). bytes_eq m.bytes l.bytes) (colon ∷ ls) ≡ true
+    following colon ls e = or_true (bytes_eq colon.bytes l.bytes) _ e
 repeated_name body r l more place seen reason = absurd reason.2
 
 -- ---- how each state can end
@@ -181,7 +181,7 @@ abbrev pub a_one : Lexeme
 a_one = record { kind = Numeral; place = 0; bytes = codes "1" }
 
 pub one_is : IsWhole a_one 1
-unfolding class_of
+unfolding is_digit
 one_is = record { kind = refl; digits = refl; value = refl }
 
 -- a count of one after a colon, and nothing after a count or names

@@ -6,29 +6,29 @@ use Rattle.polcert_format.specs.declared.fault.ItemFault.{ItemFault}
 use Rattle.polcert_format.specs.declared.fault.ItemFault.TheVariants.{BadShape, BadCount, DuplicateName, Reset, WrongNumberCount, StartSum, StartEmpty}
 use Rattle.polcert_items.specs.declared.item.ItemReader.{ItemReader}
 use Rattle.polcert_items.specs.declared.item.ItemReader.TheVariants as items
-use Rattle.polcert_items.specs.declared.stop.ItemEnd.{ItemEnd}
-use Rattle.polcert_items.specs.declared.stop.ItemEnd.TheVariants as ends
+use Rattle.polcert_items.specs.declared.feed_error.EndError.{EndError}
+use Rattle.polcert_items.specs.declared.feed_error.EndError.TheVariants as ends
 use Rattle.polcert_items.specs.declared.start_reader.StartReader.{StartReader}
 use Rattle.polcert_items.specs.declared.start_reader.StartReader.TheVariants as reader
 use Rattle.polcert_cells.specs.declared.words.Topic.TheVariants.{Start}
 use Rattle.polcert_cells.specs.declared.elements.Elements.{Elements}
 use Rattle.polcert_cells.specs.declared.elements.Elements.TheVariants.{Count}
 use Rattle.polcert_cells.specs.Elements.{count_of}
-use Rattle.polcert_format.specs.Misfits.{misfit, IsMisfit}
-use Rattle.polcert_items.specs.Steps.Wants.{Leads, start_wants, item_wants, IfAtEnd, IfNotStart, IfStart}
-use Rattle.polcert_items.specs.declared.stop.Stop.{Stop}
-use Rattle.polcert_items.specs.declared.stop.Stop.TheVariants as stops
+use Rattle.polcert_format.specs.Misfits.{unexpected_token, IsMisfit}
+use Rattle.polcert_items.specs.Steps.Wants.{ExpectsNext, start_wants, item_wants, IfAtEnd, IfNotStart, IfStart}
+use Rattle.polcert_items.specs.declared.feed_error.FeedError.{FeedError}
+use Rattle.polcert_items.specs.declared.feed_error.FeedError.TheVariants as stops
 use Rattle.polcert_items.specs.declared.signed_number.Refusal.{Refusal}
 use Rattle.polcert_format.specs.FirstNumber.{IsLate, states_known}
 use Rattle.polcert_items.proofs.FirstNumberLaws as laws
 use Rattle.polcert_items.proofs.PatternLaws.{if_err_map, each_refused_map}
-use Rattle.polcert_format.specs.Text.{Known}
+use Rattle.polcert_format.specs.Text.{ModelSoFar}
 use Rattle.polcert_items.specs.Steps.Lines.{Takes, CannotTake, CannotEnd}
 use Rattle.polcert_format.specs.KnownPreamble.{preamble_in}
 use Rattle.polcert_items.specs.Steps.Entries.{IfRefused}
 use Rattle.polcert_format.specs.Reasons.{is_sign, ends_in_sign, IsOfElements}
 use Rattle.polcert_items.specs.Steps.Elements.{ElementsReason, AreElementsSeen}
-use Rattle.polcert_items.specs.Steps.Start.{StartGoes, StartGives, IfNotMemory, start_sign, pending, IsStartSeen, IsStartReason, IsStartEndReason, IsStop, IsDue, IsHeld, IsEndDue, IsLateEnd, StopsStart}
+use Rattle.polcert_items.specs.Steps.Start.{StartGoes, StartGives, IfNotMemory, start_sign, pending, HasReadStart, IsStartReason, IsStartEndReason, IsStop, IsDue, CanStillBeRight, IsEndDue, IsLateEnd, StopsStart}
 use Rattle.polcert_items.specs.Steps.Items.{ItemGoes, ItemForms, IsItemWithin, IsItemFed, RefusesInItem, IsSeen, topic_in, pending_in, IsItemReason, of_token, of_start, IsItemEndReason}
 use Rattle.polcert_items.proofs.ElementLaws.{repeated_name}
 use Rattle.polcert_items.proofs.StartSeen.{last_sign}
@@ -46,7 +46,7 @@ elements_seen (Err x) body l new s seen = tt
 
 elements_reason : (item : ItemReader) (r : ElementsReader) (body : List Lexeme) (l : Lexeme) (kind : ItemFault) (place : ℕ) → (topic_in item ≡ Start → ⊥) → IsOfElements (topic_in item)
     → AreElementsSeen body r → ElementsReason r l kind place → IsItemReason item body l kind place
-elements_reason item r body l DuplicateName place other of seen m = of_token other (m.0, of, λ behind. repeated_name body r l behind place seen m)
+elements_reason item r body l DuplicateName place other of seen m = of_token other (m.0, of, λ following. repeated_name body r l following place seen m)
 elements_reason item r body l BadCount place other of seen m = of_token other (m, of)
 elements_reason item r body l Reset place other of seen m = of_token other m
 elements_reason item r body l BadShape place other of seen m = of_token other m
@@ -68,10 +68,10 @@ start_reason item r body l kind place e m = subst (λ i. IsItemReason i body l k
 
 -- ---- a start item, of the states that are known
 
-known_states : (k : Known) (states : Elements) → k.states ≡ Some states → (preamble_in k).states ≡ states
+known_states : (k : ModelSoFar) (states : Elements) → k.states ≡ Some states → (preamble_in k).states ≡ states
 known_states k states e = ap (λ o. unwrap_or o (Count 0)) e
 
-pub start_fed : (k : Known) (states : Elements) (item : ItemReader) (old new : StartReader) (l : Lexeme) → k.states ≡ Some states → item ≡ items.Start old → IsStartFed states old l new
+pub start_fed : (k : ModelSoFar) (states : Elements) (item : ItemReader) (old new : StartReader) (l : Lexeme) → k.states ≡ Some states → item ≡ items.Start old → IsStartFed states old l new
     → IsItemFed k item l (items.Start new)
 start_fed k states item old new l known is fed =
     let f : IsStartFed (preamble_in k).states old l new = subst (λ s. IsStartFed s old l new) (sym (known_states k states known)) fed in
@@ -84,26 +84,26 @@ start_fed k states item old new l known is fed =
     } in
     subst (λ i. IsItemFed k i l (items.Start new)) (sym is) go
 
-pub start_formless : (k : Known) (states : Elements) (item : ItemReader) (old : StartReader) (l : Lexeme) → k.states ≡ Some states → item ≡ items.Start old → CannotTake (StartGoes states) old l
+pub start_formless : (k : ModelSoFar) (states : Elements) (item : ItemReader) (old : StartReader) (l : Lexeme) → k.states ≡ Some states → item ≡ items.Start old → CannotTake (StartGoes states) old l
     → IfStart (topic_in item) (CannotTake (ItemForms k) item l)
 start_formless k states item old l known is stuck =
     let none : CannotTake (StartGoes (preamble_in k).states) old l = subst (λ s. CannotTake (StartGoes s) old l) (sym (known_states k states known)) stuck in
     let go : CannotTake (ItemForms k) (items.Start old) l = λ ls any g. none ls None g in
     subst (λ i. IfStart (topic_in i) (CannotTake (ItemForms k) i l)) (sym is) go
 
-pub start_stuck : (k : Known) (states : Elements) (item : ItemReader) (old : StartReader) (l : Lexeme) → k.states ≡ Some states → item ≡ items.Start old → CannotTake (StartGoes states) old l
+pub start_stuck : (k : ModelSoFar) (states : Elements) (item : ItemReader) (old : StartReader) (l : Lexeme) → k.states ≡ Some states → item ≡ items.Start old → CannotTake (StartGoes states) old l
     → CannotTake (ItemGoes k) item l
 start_stuck k states item old l known is stuck =
     let none : CannotTake (StartGoes (preamble_in k).states) old l = subst (λ s. CannotTake (StartGoes s) old l) (sym (known_states k states known)) stuck in
     let go : CannotTake (ItemGoes k) (items.Start old) l = λ ls next g. none ls (Some g.0) g.1.0 in
     subst (λ i. CannotTake (ItemGoes k) i l) (sym is) go
 
-pub start_seen : (k : Known) (states : Elements) (item : ItemReader) (old : StartReader) (body : List Lexeme) → k.states ≡ Some states → item ≡ items.Start old → IsSeen (states_known k) body item
-    → IsStartSeen (count_of states) body old
-start_seen k states item old body known is s = subst (λ e. IsStartSeen (count_of e) body old) (known_states k states known) (subst (IsSeen (states_known k) body) is s)
+pub start_seen : (k : ModelSoFar) (states : Elements) (item : ItemReader) (old : StartReader) (body : List Lexeme) → k.states ≡ Some states → item ≡ items.Start old → IsSeen (states_known k) body item
+    → HasReadStart (count_of states) body old
+start_seen k states item old body known is s = subst (λ e. HasReadStart (count_of e) body old) (known_states k states known) (subst (IsSeen (states_known k) body) is s)
 
 -- why it cannot continue
-start_stops : (k : Known) (states : Elements) (item : ItemReader) (old : StartReader) (body : List Lexeme) (l : Lexeme) (r : Refusal) → k.states ≡ Some states → item ≡ items.Start old
+start_stops : (k : ModelSoFar) (states : Elements) (item : ItemReader) (old : StartReader) (body : List Lexeme) (l : Lexeme) (r : Refusal) → k.states ≡ Some states → item ≡ items.Start old
     → IsSeen (states_known k) body item → ((x : Refusal) → IsDue old l x.kind x.place → r ≡ x) → IsStop (IsDue old l) (start_sign old) (start_wants (count_of states) old []) l r.kind r.place
     → IfStart (topic_in item) (StopsStart (pending_in item) (states_known k) body (item_wants k item []) l r.kind r.place)
 start_stops k states item old body l r known is s late named =
@@ -114,25 +114,25 @@ start_stops k states item old body l r known is s late named =
     subst (λ i. IfStart (topic_in i) (StopsStart (pending_in i) (states_known k) body (item_wants k i []) l r.kind r.place)) (sym is) here
 
 -- what is due of its first number is what is answered
-pub start_late : (k : Known) (states : Elements) (item : ItemReader) (old : StartReader) (body more : List Lexeme) (l : Lexeme) (ends : Bool) (late : Refusal) (result : Result Unit Stop)
+pub start_late : (k : ModelSoFar) (states : Elements) (item : ItemReader) (old : StartReader) (body more : List Lexeme) (l : Lexeme) (ends : Bool) (late : Refusal) (result : Result Unit FeedError)
     → k.states ≡ Some states → item ≡ items.Start old → IsSeen (states_known k) body item → IsLate (states_known k) (body ++ l ∷ more) ends late.kind late.place
-    → ((r : Refusal) → IsDue old l r.kind r.place → result ≡ Err (stops.Refused r)) → (IsHeld (count_of states) old l → IfErr result (λ stop. IfRefused stop (λ r. ⊥)))
+    → ((r : Refusal) → IsDue old l r.kind r.place → result ≡ Err (stops.Refused r)) → (CanStillBeRight (count_of states) old l → IfErr result (λ stop. IfRefused stop (λ r. ⊥)))
     → IfErr result (λ stop. IfRefused stop (λ r. (r.kind ≡ late.kind) × (r.place ≡ late.place)))
 start_late k states item old body more l ends late result known is s due answered held =
     let here : IsLate (count_of states) (body ++ l ∷ more) ends late.kind late.place =
     subst (λ e. IsLate (count_of e) (body ++ l ∷ more) ends late.kind late.place) (known_states k states known) due in
     of (laws.late_at_lexeme (count_of states) body more l ends old late.kind late.place (start_seen k states item old body known is s) here)
   where
-    of : IsDue old l late.kind late.place ⊎ IsHeld (count_of states) old l → IfErr result (λ stop. IfRefused stop (λ r. (r.kind ≡ late.kind) × (r.place ≡ late.place)))
-    of (inl d) = subst (λ (x : Result Unit Stop). IfErr x (λ stop. IfRefused stop (λ r. (r.kind ≡ late.kind) × (r.place ≡ late.place)))) (sym (answered late d)) (refl, refl)
+    of : IsDue old l late.kind late.place ⊎ CanStillBeRight (count_of states) old l → IfErr result (λ stop. IfRefused stop (λ r. (r.kind ≡ late.kind) × (r.place ≡ late.place)))
+    of (inl d) = subst (λ (x : Result Unit FeedError). IfErr x (λ stop. IfRefused stop (λ r. (r.kind ≡ late.kind) × (r.place ≡ late.place)))) (sym (answered late d)) (refl, refl)
     of (inr h) = if_err_map result _ _ (λ stop x. each_refused_map stop (λ r none. absurd none) x) (held h)
 
-same_refusal : (a b : Refusal) → ◌≡◌ {A = Result Unit Stop} (Err (stops.Refused a)) (Err (stops.Refused b)) → a ≡ b
+same_refusal : (a b : Refusal) → ◌≡◌ {A = Result Unit FeedError} (Err (stops.Refused a)) (Err (stops.Refused b)) → a ≡ b
 same_refusal a b e = cc
 
 -- all that is said of its refusal
-pub start_refused : (k : Known) (states : Elements) (item : ItemReader) (old : StartReader) (l : Lexeme) (result : Result Unit Stop) → k.states ≡ Some states → item ≡ items.Start old
-    → ((r : Refusal) → IsDue old l r.kind r.place → result ≡ Err (stops.Refused r)) → (IsHeld (count_of states) old l → IfErr result (λ stop. IfRefused stop (λ r. ⊥)))
+pub start_refused : (k : ModelSoFar) (states : Elements) (item : ItemReader) (old : StartReader) (l : Lexeme) (result : Result Unit FeedError) → k.states ≡ Some states → item ≡ items.Start old
+    → ((r : Refusal) → IsDue old l r.kind r.place → result ≡ Err (stops.Refused r)) → (CanStillBeRight (count_of states) old l → IfErr result (λ stop. IfRefused stop (λ r. ⊥)))
     → IfErr result (λ stop. IfRefused stop (RefusesInStart states old l)) → IfErr result (λ stop. IfRefused stop (RefusesInItem k item l))
 start_refused k states item old l (Ok v) known is due held r = tt
 start_refused k states item old l (Err (stops.Refused x)) known is due held r = record {
@@ -145,20 +145,20 @@ start_refused k states item old l (Err (stops.Refused x)) known is due held r = 
 }
 start_refused k states item old l (Err stops.Memory) known is due held r = tt
 
-pub start_ends : (k : Known) (states : Elements) (item : ItemReader) (r : StartReader) (e : ItemEnd) → k.states ≡ Some states → item ≡ items.Start r
-    → IfAtEnd e (λ kind. kind ≡ misfit (start_wants (count_of states) r []) None) → IfAtEnd e (λ kind. kind ≡ misfit (item_wants k item []) None)
+pub start_ends : (k : ModelSoFar) (states : Elements) (item : ItemReader) (r : StartReader) (e : EndError) → k.states ≡ Some states → item ≡ items.Start r
+    → IfAtEnd e (λ kind. kind ≡ unexpected_token (start_wants (count_of states) r []) None) → IfAtEnd e (λ kind. kind ≡ unexpected_token (item_wants k item []) None)
 start_ends k states item r e known is named =
-    let go : IfAtEnd e (λ kind. kind ≡ misfit (item_wants k (items.Start r) []) None) =
-    subst (λ s. IfAtEnd e (λ kind. kind ≡ misfit (start_wants (count_of s) r []) None)) (sym (known_states k states known)) named in
-    subst (λ i. IfAtEnd e (λ kind. kind ≡ misfit (item_wants k i []) None)) (sym is) go
+    let go : IfAtEnd e (λ kind. kind ≡ unexpected_token (item_wants k (items.Start r) []) None) =
+    subst (λ s. IfAtEnd e (λ kind. kind ≡ unexpected_token (start_wants (count_of s) r []) None)) (sym (known_states k states known)) named in
+    subst (λ i. IfAtEnd e (λ kind. kind ≡ unexpected_token (item_wants k i []) None)) (sym is) go
 
 -- ---- why an item cannot end
 
-pub start_end_reason : (k : Known) (states : Elements) (item : ItemReader) (r : StartReader) (body : List Lexeme) (end : ItemEnd) → k.states ≡ Some states → item ≡ items.Start r → IsSeen (states_known k) body item
+pub start_end_reason : (k : ModelSoFar) (states : Elements) (item : ItemReader) (r : StartReader) (body : List Lexeme) (end : EndError) → k.states ≡ Some states → item ≡ items.Start r → IsSeen (states_known k) body item
     → IsStartEndReason body end → IsEndDue r end → IsItemEndReason (states_known k) (topic_in item) body end
 start_end_reason k states item r body end known e s m due = subst (λ i. IsItemEndReason (states_known k) (topic_in i) body end) (sym e) (at end m due)
   where
-    at : (end : ItemEnd) → IsStartEndReason body end → IsEndDue r end → IsItemEndReason (states_known k) Start body end
+    at : (end : EndError) → IsStartEndReason body end → IsEndDue r end → IsItemEndReason (states_known k) Start body end
     at (ends.AtEnd kind) m due = at_end kind m
       where
         at_end : (kind : ItemFault) → IsStartEndReason body (ends.AtEnd kind) → IsItemEndReason (states_known k) Start body (ends.AtEnd kind)
@@ -171,47 +171,47 @@ start_end_reason k states item r body end known e s m due = subst (λ i. IsItemE
         (refl, m.1, subst (λ e. IsLate (count_of e) body true x.kind x.place) (sym (known_states k states known)) (laws.end_is_late (count_of states) body r x (start_seen k states item r body known e s) due))
     at ends.Memory m due = tt
 
-pub start_late_end : (k : Known) (states : Elements) (item : ItemReader) (r : StartReader) (body : List Lexeme) (end : ItemEnd) (late : Refusal) → k.states ≡ Some states → item ≡ items.Start r
+pub start_late_end : (k : ModelSoFar) (states : Elements) (item : ItemReader) (r : StartReader) (body : List Lexeme) (end : EndError) (late : Refusal) → k.states ≡ Some states → item ≡ items.Start r
     → IsSeen (states_known k) body item → IsLate (states_known k) body true late.kind late.place → IsEndDue r end → IsLateEnd end late
 start_late_end k states item r body end late known is s l due =
     laws.late_at_end (count_of states) body r end late (start_seen k states item r body known is s)
     (subst (λ e. IsLate (count_of e) body true late.kind late.place) (known_states k states known) l) due
 
 -- where it cannot end at its end, no refusal of a number is held back
-pub start_unheld : (item : ItemReader) (r : StartReader) (e : ItemEnd) → item ≡ items.Start r → IsEndDue r e → IfAtEnd e (λ kind. pending_in item ≡ None)
+pub start_unheld : (item : ItemReader) (r : StartReader) (e : EndError) → item ≡ items.Start r → IsEndDue r e → IfAtEnd e (λ kind. pending_in item ≡ None)
 start_unheld item r e is due = subst (λ i. IfAtEnd e (λ kind. pending_in i ≡ None)) (sym is) (of e r due)
   where
     free : (kind : ItemFault) (r : StartReader) → IsEndDue r (ends.AtEnd kind) → pending r ≡ None
-    free kind (reader.Digits d) due = absurd due
+    free kind (reader.StateOrNumber d) due = absurd due
     free kind _ due = refl
 
-    of : (e : ItemEnd) (r : StartReader) → IsEndDue r e → IfAtEnd e (λ kind. pending r ≡ None)
+    of : (e : EndError) (r : StartReader) → IsEndDue r e → IfAtEnd e (λ kind. pending r ≡ None)
     of (ends.AtEnd kind) r due = free kind r due
     of (ends.At x) r due = tt
     of ends.Memory r due = tt
 
 -- it cannot end as it is
-pub start_stuck_end : (k : Known) (states : Elements) (item : ItemReader) (r : StartReader) (e : ItemEnd) → k.states ≡ Some states → item ≡ items.Start r → IfNotMemory e (CannotEnd (StartGives states) r)
+pub start_stuck_end : (k : ModelSoFar) (states : Elements) (item : ItemReader) (r : StartReader) (e : EndError) → k.states ≡ Some states → item ≡ items.Start r → IfNotMemory e (CannotEnd (StartGives states) r)
     → IfNotMemory e (CannotEnd (ItemGoes k) item)
 start_stuck_end k states item r e known is none = subst (λ i. IfNotMemory e (CannotEnd (ItemGoes k) i)) (sym is) (of e (subst (λ s. IfNotMemory e (CannotEnd (StartGives s) r)) (sym (known_states k states known)) none))
   where
-    of : (e : ItemEnd) → IfNotMemory e (CannotEnd (StartGives (preamble_in k).states) r) → IfNotMemory e (CannotEnd (ItemGoes k) (items.Start r))
+    of : (e : EndError) → IfNotMemory e (CannotEnd (StartGives (preamble_in k).states) r) → IfNotMemory e (CannotEnd (ItemGoes k) (items.Start r))
     of (ends.AtEnd kind) none = λ next g. none g.0 g.1.0
     of (ends.At x) none = λ next g. none g.0 g.1.0
     of ends.Memory none = tt
 
 -- ---- all that is said where a token is taken, and where it is refused
 
-pub all_fed : {T E : Type 0} (r : Result T E) (k : Known) (old new : ItemReader) (l : Lexeme) → OnOk r (IsItemWithin k new) → OnOk r (Takes (ItemGoes k) old l new) → OnOk r (IfStart (topic_in old) (Takes (ItemForms k) old l new))
-    → ((body : List Lexeme) → IsSeen (states_known k) body old → OnOk r (IsSeen (states_known k) (body ++ l ∷ []) new)) → OnOk r (Leads (item_wants k old) l (item_wants k new)) → OnOk r (IsItemFed k old l new)
+pub all_fed : {T E : Type 0} (r : Result T E) (k : ModelSoFar) (old new : ItemReader) (l : Lexeme) → OnOk r (IsItemWithin k new) → OnOk r (Takes (ItemGoes k) old l new) → OnOk r (IfStart (topic_in old) (Takes (ItemForms k) old l new))
+    → ((body : List Lexeme) → IsSeen (states_known k) body old → OnOk r (IsSeen (states_known k) (body ++ l ∷ []) new)) → OnOk r (ExpectsNext (item_wants k old) l (item_wants k new)) → OnOk r (IsItemFed k old l new)
 all_fed (Ok v) k old new l within takes formed seen leads = record { within = within; takes = takes; formed = formed; seen = seen; leads = leads }
 all_fed (Err e) k old new l within takes formed seen leads = tt
 
 -- a refusal of which this holds
-abbrev On : {T : Type 0} → Result T Stop → (Refusal → Type 0) → Type 0
+abbrev On : {T : Type 0} → Result T FeedError → (Refusal → Type 0) → Type 0
 On r P = IfErr r (λ stop. IfRefused stop P)
 
-pub all_refused : {T : Type 0} (r : Result T Stop) (k : Known) (old : ItemReader) (l : Lexeme) → On r (λ x. CannotTake (ItemGoes k) old l) → On r (λ x. IfStart (topic_in old) (CannotTake (ItemForms k) old l))
+pub all_refused : {T : Type 0} (r : Result T FeedError) (k : ModelSoFar) (old : ItemReader) (l : Lexeme) → On r (λ x. CannotTake (ItemGoes k) old l) → On r (λ x. IfStart (topic_in old) (CannotTake (ItemForms k) old l))
     → ((body : List Lexeme) → IsSeen (states_known k) body old → On r (λ x. IsItemReason old body l x.kind x.place)) → On r (λ x. IfNotStart (topic_in old) (IsMisfit (item_wants k old []) l x.kind))
     → ((body : List Lexeme) → IsSeen (states_known k) body old → On r (λ x. IfStart (topic_in old) (StopsStart (pending_in old) (states_known k) body (item_wants k old []) l x.kind x.place)))
     → ((body more : List Lexeme) (ends : Bool) (late : Refusal) → IsSeen (states_known k) body old → topic_in old ≡ Start → IsLate (states_known k) (body ++ l ∷ more) ends late.kind late.place → On r (λ x. (x.kind ≡ late.kind) × (x.place ≡ late.place)))

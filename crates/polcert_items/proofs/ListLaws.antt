@@ -14,11 +14,11 @@ use Rattle.polcert_cells.proofs.Basics.{true≢false, cons≢nil, same_head, sam
 use Rattle.polcert_format.specs.Reasons.{is_sign}
 use Rattle.polcert_format.proofs.StillPossible.{a_zero, zero_is}
 use Rattle.polcert_items.specs.Steps.Start.{IsNumberHeld}
-use Rattle.polcert_items.specs.Steps.Numbers.{AreNumbersBehind, IsInRange, ListKind, is_negative, IsSignAt, IsNoNumber}
+use Rattle.polcert_items.specs.Steps.Numbers.{AreNumbersAfter, IsInRange, ListKind, is_negative, IsSignAt, IsNoNumber}
 use Rattle.polcert_items.specs.Steps.Lines.{Takes, CannotTake}
 use Rattle.polcert_items.specs.Steps.Entries.{NumberListGoes, IfRefused}
-use Rattle.polcert_items.specs.declared.stop.Stop.{Stop}
-use Rattle.polcert_items.specs.declared.stop.Stop.TheVariants.{Refused, Memory}
+use Rattle.polcert_items.specs.declared.feed_error.FeedError.{FeedError}
+use Rattle.polcert_items.specs.declared.feed_error.FeedError.TheVariants.{Refused, Memory}
 use Rattle.polcert_items.proofs.SignedNumbers.{sign_back, sign_on, value_back, value_on}
 
 pub all_none : {X : Type 0} (P : X → Type 0) → All P []
@@ -34,14 +34,14 @@ module _ {T : Type 0} (kind : ListKind T) where
       takes_sign = record {
         back = λ ls body g. record {
           further = g.further;
-          numbers = subst (λ x. AreNumbersBehind x (l ∷ ls) (map kind.worth g.further)) (sym was) (sign_back s l ls (map kind.worth g.further) at (subst (λ x. AreNumbersBehind x ls (map kind.worth g.further)) is g.numbers));
+          numbers = subst (λ x. AreNumbersAfter x (l ∷ ls) (map kind.worth g.further)) (sym was) (sign_back s l ls (map kind.worth g.further) at (subst (λ x. AreNumbersAfter x ls (map kind.worth g.further)) is g.numbers));
           in_range = g.in_range;
           enough = ap (λ r. length (r ++ g.further)) (sym same_read) ∙ g.enough ∙ same_needed;
           body_is = g.body_is ∙ ap (λ r. kind.body (r ++ g.further)) same_read;
         };
         on = λ ls body g. record {
           further = g.further;
-          numbers = subst (λ x. AreNumbersBehind x ls (map kind.worth g.further)) (sym is) (sign_on s l ls (map kind.worth g.further) at (subst (λ x. AreNumbersBehind x (l ∷ ls) (map kind.worth g.further)) was g.numbers));
+          numbers = subst (λ x. AreNumbersAfter x ls (map kind.worth g.further)) (sym is) (sign_on s l ls (map kind.worth g.further) at (subst (λ x. AreNumbersAfter x (l ∷ ls) (map kind.worth g.further)) was g.numbers));
           in_range = g.in_range;
           enough = ap (λ r. length (r ++ g.further)) same_read ∙ g.enough ∙ sym same_needed;
           body_is = g.body_is ∙ ap (λ r. kind.body (r ++ g.further)) (sym same_read);
@@ -52,16 +52,16 @@ module _ {T : Type 0} (kind : ListKind T) where
       joined : (further : List T) → new.read ++ further ≡ old.read ++ x ∷ further
       joined further = ap (λ r. r ++ further) read ∙ append_assoc old.read (x ∷ []) further
 
-      goes_on : (ls : List Lexeme) (further : List T) (body : Body) → AreNumbersBehind old.sign (l ∷ ls) (map kind.worth further) → All (λ y. IsInRange kind.range (kind.worth y)) further
+      continues : (ls : List Lexeme) (further : List T) (body : Body) → AreNumbersAfter old.sign (l ∷ ls) (map kind.worth further) → All (λ y. IsInRange kind.range (kind.worth y)) further
           → length (old.read ++ further) ≡ old.needed → body ≡ kind.body (old.read ++ further) → NumberListGoes kind new ls body
-      goes_on ls [] body a all enough is_body = absurd (cons≢nil (sym (value_on old.sign l ls (kind.worth x) [] v a).joined))
-      goes_on ls (y ∷ ys) body a all enough is_body =
+      continues ls [] body a all enough is_body = absurd (cons≢nil (sym (value_on old.sign l ls (kind.worth x) [] v a).joined))
+      continues ls (y ∷ ys) body a all enough is_body =
           let b = value_on old.sign l ls (kind.worth x) (map kind.worth (y ∷ ys)) v a in
           let same : y ≡ x = distinct y x (same_head b.joined) in
           let whole : new.read ++ ys ≡ old.read ++ y ∷ ys = joined ys ∙ ap (λ z. old.read ++ z ∷ ys) (sym same) in
           record {
             further = ys;
-            numbers = subst (λ s. AreNumbersBehind s ls (map kind.worth ys)) (sym is) (subst (AreNumbers ls) (sym (same_tail b.joined)) b.numbers);
+            numbers = subst (λ s. AreNumbersAfter s ls (map kind.worth ys)) (sym is) (subst (AreNumbers ls) (sym (same_tail b.joined)) b.numbers);
             in_range = All-tail (λ z. IsInRange kind.range (kind.worth z)) y ys all;
             enough = ap length whole ∙ enough ∙ sym same_needed;
             body_is = is_body ∙ ap kind.body (sym whole);
@@ -71,12 +71,12 @@ module _ {T : Type 0} (kind : ListKind T) where
       takes_number = record {
         back = λ ls body g. record {
           further = x ∷ g.further;
-          numbers = value_back old.sign l ls (kind.worth x) (map kind.worth g.further) v (subst (λ s. AreNumbersBehind s ls (map kind.worth g.further)) is g.numbers);
+          numbers = value_back old.sign l ls (kind.worth x) (map kind.worth g.further) v (subst (λ s. AreNumbersAfter s ls (map kind.worth g.further)) is g.numbers);
           in_range = All-cons (λ z. IsInRange kind.range (kind.worth z)) x g.further fits g.in_range;
           enough = ap length (sym (joined g.further)) ∙ g.enough ∙ same_needed;
           body_is = g.body_is ∙ ap kind.body (joined g.further);
         };
-        on = λ ls body g. goes_on ls g.further body g.numbers g.in_range g.enough g.body_is;
+        on = λ ls body g. continues ls g.further body g.numbers g.in_range g.enough g.body_is;
       }
 
 -- what holds of each error holds of this one
@@ -84,7 +84,7 @@ pub if_err : {T E : Type 0} (r : Result T E) (P : E → Type 0) → ((e : E) →
 if_err (Ok v) P each = tt
 if_err (Err e) P each = each e
 
-pub if_refused : {P : Type 0} (stop : Stop) → P → IfRefused stop (λ r. P)
+pub if_refused : {P : Type 0} (stop : FeedError) → P → IfRefused stop (λ r. P)
 if_refused (Refused r) p = p
 if_refused Memory p = tt
 
@@ -107,8 +107,8 @@ small_fractions ps fit = λ k d h. let f = fit k d h in subst (λ q. q ≤ one) 
 any_reward : (h : ℤ) → All (IsInRange Reward) (h ∷ [])
 any_reward h = All-cons (IsInRange Reward) h [] tt (all_none (IsInRange Reward))
 
-sign_goes_on : (l : Lexeme) → is_sign l.kind ≡ true → IsNoNumber Reward None l → ⊥
-sign_goes_on l e none = of l.kind refl e
+sign_continues : (l : Lexeme) → is_sign l.kind ≡ true → IsNoNumber Reward None l → ⊥
+sign_continues l e none = of l.kind refl e
   where
     of : (kind : TokenKind) → l.kind ≡ kind → is_sign kind ≡ true → ⊥
     of Plus is e = none (a_zero ∷ []) (pos 0 ∷ []) (numbers.plus is (zero_is false) numbers.none) (any_reward (pos 0))
@@ -117,6 +117,6 @@ sign_goes_on l e none = of l.kind refl e
 
 -- neither a sign nor a number's numeral is refused in the first number's place
 pub held_not_refused : (sign : Option Sign) (l : Lexeme) → IsNoNumber Reward sign l → IsNumberHeld sign l → ⊥
-held_not_refused None l none (inl e) = sign_goes_on l e none
+held_not_refused None l none (inl e) = sign_continues l e none
 held_not_refused None l none (inr v) = none [] (v.0 ∷ []) (numbers.unsigned v.1 numbers.none) (any_reward v.0)
 held_not_refused (Some sign) l none v = none [] (v.0 ∷ []) (v.1, numbers.none) (any_reward v.0)

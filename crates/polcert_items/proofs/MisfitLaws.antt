@@ -9,7 +9,7 @@ use Rattle.polcert_format.specs.declared.fault.ItemFault.TheVariants.{BadShape, 
 use Rattle.polcert_cells.specs.Words.{topic_of, is_reserved, IsName}
 use Rattle.polcert_items.specs.declared.elements_reader.ElementsReader.TheVariants.{Named}
 use Rattle.polcert_items.specs.Steps.Elements.{ElementsReason}
-use Rattle.polcert_format.specs.Misfits.{misfit, no_index, no_name, no_count, is_reset, Index, FurtherName, CountOrName, IsMisfit, of_place}
+use Rattle.polcert_format.specs.Misfits.{unexpected_token, no_index, no_name, no_count, is_reset, Index, FurtherName, CountOrName, IsMisfit, of_place}
 
 or_right : (a b : Bool) → a || b ≡ false → b ≡ false
 or_right true b e = absurd (true≢false e)
@@ -36,12 +36,12 @@ differs m n h = grind (arith, common_steps)
 same_number : (m n : ℕ) → m ≡ n → (m == n) ≡ true
 same_number m n h = grind (arith, common_steps)
 
-pub unknown_name : (l : Lexeme) → l.kind ≡ Name → is_reserved l.bytes ≡ false → UnknownName ≡ misfit Index (Some l)
+pub unknown_name : (l : Lexeme) → l.kind ≡ Name → is_reserved l.bytes ≡ false → UnknownName ≡ unexpected_token Index (Some l)
 unknown_name l name free =
     let no = not_reset l.bytes free in
     sym (subst (λ k. (if is_reset k l.bytes then Reset else no_index k l.bytes) ≡ UnknownName) (sym name) (λ i. if no i then Reset else (if free i then BadShape else UnknownName)))
 
-pub name_too_many : (most : ℕ) (names : List (List ℕ)) (l : Lexeme) → IsName l → length names ≡ most → BadCount ≡ misfit (FurtherName most names) (Some l)
+pub name_too_many : (most : ℕ) (names : List (List ℕ)) (l : Lexeme) → IsName l → length names ≡ most → BadCount ≡ unexpected_token (FurtherName most names) (Some l)
 name_too_many most names l is full =
     let no = not_reset l.bytes is.free in
     let free = is.free in
@@ -49,7 +49,7 @@ name_too_many most names l is full =
     sym (subst (λ k. (if is_reset k l.bytes then Reset else no_name most names k l.bytes) ≡ BadCount) (sym is.kind)
     (λ i. if no i then Reset else (if free i then BadShape else (if same i then BadCount else DuplicateName))))
 
-pub name_again : (most : ℕ) (names : List (List ℕ)) (l : Lexeme) → IsName l → length names ≢ most → DuplicateName ≡ misfit (FurtherName most names) (Some l)
+pub name_again : (most : ℕ) (names : List (List ℕ)) (l : Lexeme) → IsName l → length names ≢ most → DuplicateName ≡ unexpected_token (FurtherName most names) (Some l)
 name_again most names l is room =
     let no = not_reset l.bytes is.free in
     let free = is.free in
@@ -74,7 +74,7 @@ no_first most bytes Numeral kind some other new e = absurd (other refl)
 no_first most bytes _ kind some other new e = e
 
 pub first_misfit : (most : ℕ) (l : Lexeme) (kind : ItemFault) (place : ℕ) → 1 ≤ most → (l.kind ≡ Numeral → ⊥) → ElementsReason (Named []) l kind place
-    → kind ≡ misfit (FurtherName most []) (Some l) → IsMisfit CountOrName l kind
+    → kind ≡ unexpected_token (FurtherName most []) (Some l) → IsMisfit CountOrName l kind
 first_misfit most l kind place some other reason e = of_place refl (no_first most l.bytes l.kind kind some other (λ d. new (subst (λ k. ElementsReason (Named []) l k place) d reason)) e)
   where
     new : ElementsReason (Named []) l DuplicateName place → ⊥

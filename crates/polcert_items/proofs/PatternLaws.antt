@@ -26,8 +26,8 @@ use Rattle.polcert_format.specs.declared.fault.ItemFault.{ItemFault}
 use Rattle.polcert_items.specs.declared.signed_number.Refusal.{Refusal}
 use Rattle.polcert_items.specs.declared.signed_number.Sign.{Sign}
 use Rattle.polcert_items.specs.declared.signed_number.Range.TheVariants.{Probability}
-use Rattle.polcert_items.specs.declared.stop.Stop.{Stop}
-use Rattle.polcert_items.specs.declared.stop.Stop.TheVariants.{Refused, Memory}
+use Rattle.polcert_items.specs.declared.feed_error.FeedError.{FeedError}
+use Rattle.polcert_items.specs.declared.feed_error.FeedError.TheVariants.{Refused, Memory}
 use Rattle.polcert_cells.specs.Words.{IsWord}
 use Rattle.polcert_cells.specs.Numbers.{AreNumbers}
 use Rattle.polcert_cells.specs.Numbers as numbers
@@ -35,15 +35,15 @@ use Rattle.polcert_cells.specs.declared.elements.Elements.{Elements}
 use Rattle.polcert_cells.specs.Elements.{count_of, StandsFor}
 use Rattle.polcert_cells.specs.Entry.{cells_in, IsPlace, ArePlaces, IsBody}
 use Rattle.polcert_cells.specs.Entry as entries
-use Rattle.polcert_format.specs.Text.{Known}
+use Rattle.polcert_format.specs.Text.{ModelSoFar}
 use Rattle.polcert_format.specs.Wants.{least_written}
 use Rattle.polcert_items.specs.Steps.Lines.{Takes, CannotTake, CannotEnd}
-use Rattle.polcert_items.specs.Steps.Numbers.{AreNumbersBehind, IsInRange, ListKind, of_probabilities, of_rewards}
+use Rattle.polcert_items.specs.Steps.Numbers.{AreNumbersAfter, IsInRange, ListKind, of_probabilities, of_rewards}
 use Rattle.polcert_items.specs.Steps.Entries as reasons
 use Rattle.polcert_items.proofs.ListLaws.{all_none, fractions_in_range, small_fractions}
 use Rattle.polcert_cells.specs.Preamble.{Preamble, is_mdp, dimensions, named}
 use Rattle.polcert_format.specs.KnownPreamble.{preamble_in, indices_in}
-use Rattle.polcert_items.specs.Steps.Entries.{IsEntryBehind, IsFirstPlace, PlaceRest, entry_with, NumberListGoes, ProbabilitiesGo, RewardsGo, BodyIs, StateGoes, EntryGoes, IfRefused, body_of, word_text, MayStand, IsWordBehind, no_numbers, AreBegun, CannotBegin, IsFull, IsListReason, IsEntryReason, entry_sign, AreSome}
+use Rattle.polcert_items.specs.Steps.Entries.{IsEntryAfter, IsFirstPlace, PlaceRest, entry_with, NumberListGoes, ProbabilitiesGo, RewardsGo, BodyIs, StateGoes, EntryGoes, IfRefused, body_of, word_text, MayStand, IsWordAfter, no_numbers, AreBegun, CannotBegin, IsFull, IsListReason, IsEntryReason, entry_sign, AreSome}
 use Rattle.polcert_cells.proofs.Basics.{cons≢nil, same_head, same_tail}
 use Rattle.polcert_cells.proofs.EntryLaws.{NoColonFirst, body_no_colon, uniform_not_identity}
 use Rattle.polcert_format.proofs.FurtherNumbers.{begins_no_number}
@@ -63,10 +63,10 @@ module _ (preamble : Preamble) (table : Table) (before : List Place) where
         → l ∷ ls ≡ pattern ++ rest → NoColonFirst rest → e.places ≡ before ++ further → e.table ≡ table → MayStand (is_mdp preamble) table e.body (length e.places)
         → IsBody (cells_in (drop (length e.places) (dimensions preamble table))) rest e.body → PlaceRest preamble table before ls e
     place_then ls e further pattern rest es same entries.none whole free places_are table_is form body = absurd (subst NoColonFirst (sym whole) free colon)
-    place_then ls e further pattern rest es same (entries.more {d} {ds = fs} {colon = c} {l = m} {ls = more} {p} {ps} at place behind) whole free places_are table_is form body =
+    place_then ls e further pattern rest es same (entries.more {d} {ds = fs} {colon = c} {l = m} {ls = more} {p} {ps} at place following) whole free places_are table_is form body =
         let tail : ls ≡ m ∷ (more ++ rest) = same_tail whole in
         let next : drop (length (before ++ p ∷ [])) (named preamble table) ≡ fs = one_more d fs p same in
-        let rest_of : IsEntryBehind preamble table (before ++ p ∷ []) (more ++ rest) e = record {
+        let rest_of : IsEntryAfter preamble table (before ++ p ∷ []) (more ++ rest) e = record {
           further = ps;
           pattern = more;
           rest = rest;
@@ -74,20 +74,20 @@ module _ (preamble : Preamble) (table : Table) (before : List Place) where
           places_are = places_are ∙ sym (append_assoc before (p ∷ []) ps);
           table_is = table_is;
           form = form;
-          places = subst (λ es. ArePlaces es more ps) (sym next) behind;
+          places = subst (λ es. ArePlaces es more ps) (sym next) following;
           body = body;
         } in
         let found : PlaceRest preamble table before (m ∷ (more ++ rest)) e = (p, (subst (λ es. IsFirstPlace es m p) (sym same) place, rest_of)) in
         subst (λ xs. PlaceRest preamble table before xs e) (sym tail) found
 
-    pub colon_on : (ls : List Lexeme) (e : Entry) → IsEntryBehind preamble table before (l ∷ ls) e → PlaceRest preamble table before ls e
+    pub colon_on : (ls : List Lexeme) (e : Entry) → IsEntryAfter preamble table before (l ∷ ls) e → PlaceRest preamble table before ls e
     colon_on ls e b = place_then ls e b.further b.pattern b.rest _ refl b.places b.whole (body_no_colon b.body) b.places_are b.table_is b.form b.body
 
-    pub colon_back : (ls : List Lexeme) (e : Entry) → PlaceRest preamble table before ls e → IsEntryBehind preamble table before (l ∷ ls) e
+    pub colon_back : (ls : List Lexeme) (e : Entry) → PlaceRest preamble table before ls e → IsEntryAfter preamble table before (l ∷ ls) e
     colon_back [] e r = absurd r
     colon_back (m ∷ ls) e r = at (drop (length before) (named preamble table)) refl r.1.0
       where
-        at : (es : List Elements) → drop (length before) (named preamble table) ≡ es → IsFirstPlace es m r.0 → IsEntryBehind preamble table before (l ∷ m ∷ ls) e
+        at : (es : List Elements) → drop (length before) (named preamble table) ≡ es → IsFirstPlace es m r.0 → IsEntryAfter preamble table before (l ∷ m ∷ ls) e
         at [] same place = absurd place
         at (d ∷ es) same place =
             let b = r.1.1 in
@@ -114,7 +114,7 @@ module _ (preamble : Preamble) (table : Table) (before : List Place) where
     form : MayStand (is_mdp preamble) table e.body (length before)
     body : IsBody (cells_in (drop (length before) (dimensions preamble table))) ls e.body
 
-  here : (l : Lexeme) (ls : List Lexeme) (e : Entry) → (l.kind ≡ Colon → ⊥) → IsEntryBehind preamble table before (l ∷ ls) e → BodyHere (l ∷ ls) e
+  here : (l : Lexeme) (ls : List Lexeme) (e : Entry) → (l.kind ≡ Colon → ⊥) → IsEntryAfter preamble table before (l ∷ ls) e → BodyHere (l ∷ ls) e
   here l ls e no_colon b = at b.further b.pattern _ refl b.places b.whole b.places_are
     where
       at : (further : List Place) (pattern : List Lexeme) (es : List Elements) → drop (length before) (named preamble table) ≡ es → ArePlaces es pattern further → l ∷ ls ≡ pattern ++ b.rest → e.places ≡ before ++ further → BodyHere (l ∷ ls) e
@@ -127,10 +127,10 @@ module _ (preamble : Preamble) (table : Table) (before : List Place) where
             form = subst (MayStand (is_mdp preamble) table e.body) count b.form;
             body = subst (λ xs. IsBody (cells_in (drop (length before) (dimensions preamble table))) xs e.body) (sym whole) (subst (λ n. IsBody (cells_in (drop n (dimensions preamble table))) b.rest e.body) count b.body);
           }
-      at further pattern es same (entries.more {colon = c} colon place behind) whole places_are = absurd (no_colon (subst (λ (m : Lexeme). m.kind ≡ Colon) (sym (same_head whole)) colon))
+      at further pattern es same (entries.more {colon = c} colon place following) whole places_are = absurd (no_colon (subst (λ (m : Lexeme). m.kind ≡ Colon) (sym (same_head whole)) colon))
 
   -- the body itself after the places
-  there : (ls : List Lexeme) (e : Entry) → BodyHere ls e → IsEntryBehind preamble table before ls e
+  there : (ls : List Lexeme) (e : Entry) → BodyHere ls e → IsEntryAfter preamble table before ls e
   there ls e h =
       let count : length before ≡ length e.places = ap length (sym h.places_are) in
       record {
@@ -222,7 +222,7 @@ rewards_may_stand true n hs low high = one_to_four n low high
 rewards_may_stand false n hs low high = two_to_four n low high
 
 -- the body's numbers were begun
-pub numbers_begin : (k : Known) (table : Table) (before : List Place) (l : Lexeme) (new : EntryState) (needed : ℕ) → (l.kind ≡ Colon → ⊥) → (l.kind ≡ Name → ⊥)
+pub numbers_begin : (k : ModelSoFar) (table : Table) (before : List Place) (l : Lexeme) (new : EntryState) (needed : ℕ) → (l.kind ≡ Colon → ⊥) → (l.kind ≡ Name → ⊥)
     → needed ≡ cells_in (drop (length before) (indices_in k table)) → least_written (is_mdp (preamble_in k)) table ≤ length before → length before ≤ length (indices_in k table)
     → AreBegun table needed l new → Takes (StateGoes (preamble_in k) table before) states.Body l new
 numbers_begin k Transition before l (states.Probabilities n) needed no_colon no_name cells low high t =
@@ -237,7 +237,7 @@ numbers_begin k Reward before l (states.Rewards n) needed no_colon no_name cells
 numbers_begin k _ before l _ needed no_colon no_name cells low high t = absurd t
 
 -- numbers that cannot begin with a lexeme
-pub numbers_stuck : (k : Known) (table : Table) (before : List Place) (l : Lexeme) (needed : ℕ) → (l.kind ≡ Colon → ⊥) → (l.kind ≡ Name → ⊥)
+pub numbers_stuck : (k : ModelSoFar) (table : Table) (before : List Place) (l : Lexeme) (needed : ℕ) → (l.kind ≡ Colon → ⊥) → (l.kind ≡ Name → ⊥)
     → needed ≡ cells_in (drop (length before) (indices_in k table)) → CannotBegin table needed l → CannotTake (StateGoes (preamble_in k) table before) states.Body l
 numbers_stuck k Transition before l needed no_colon no_name cells stuck = λ ls e b.
     let h = here (preamble_in k) Transition before l ls e no_colon b in
@@ -282,7 +282,7 @@ word_kind : (l : Lexeme) (w : Word) → IsWord (word_text w) l → l.kind ≡ Na
 word_kind l words.Uniform w = w.kind
 word_kind l words.Identity w = w.kind
 
-pub word_takes : (preamble : Preamble) (table : Table) (before : List Place) (l : Lexeme) (w : Word) → IsWordBehind (is_mdp preamble) table (length before) l w → Takes (StateGoes preamble table before) states.Body l (states.Word w)
+pub word_takes : (preamble : Preamble) (table : Table) (before : List Place) (l : Lexeme) (w : Word) → IsWordAfter (is_mdp preamble) table (length before) l w → Takes (StateGoes preamble table before) states.Body l (states.Word w)
 word_takes preamble table before l w is = record {
   back = λ ls e r.
       let body_is : e.body ≡ body_of w = ap (λ (x : Entry). x.body) r.1 in
@@ -292,7 +292,7 @@ word_takes preamble table before l w is = record {
         form = subst (λ b. MayStand (is_mdp preamble) table b (length before)) (sym body_is) is.1;
         body = subst (IsBody (cells_in (drop (length before) (dimensions preamble table))) (l ∷ [])) (sym body_is) (word_body _ l w is.0);
       } in
-      subst (λ xs. IsEntryBehind preamble table before (l ∷ xs) e) (sym r.0) (there preamble table before (l ∷ []) e h);
+      subst (λ xs. IsEntryAfter preamble table before (l ∷ xs) e) (sym r.0) (there preamble table before (l ∷ []) e h);
   on = λ ls e b.
       let name = word_kind l w is.0 in
       let h = here preamble table before l ls e (name_not_colon l name) b in
@@ -303,7 +303,7 @@ word_takes preamble table before l w is = record {
 
 -- a lexeme that is no colon, no word that may stand here and begins no numbers
 pub nothing_takes : (preamble : Preamble) (table : Table) (before : List Place) (l : Lexeme) → (l.kind ≡ Colon → ⊥) → ((ls : List Lexeme) (hs : List ℤ) → AreNumbers (l ∷ ls) hs → ⊥)
-    → ((w : Word) → IsWordBehind (is_mdp preamble) table (length before) l w → ⊥) → CannotTake (StateGoes preamble table before) states.Body l
+    → ((w : Word) → IsWordAfter (is_mdp preamble) table (length before) l w → ⊥) → CannotTake (StateGoes preamble table before) states.Body l
 nothing_takes preamble table before l no_colon none no_word = λ ls e b.
     let h = here preamble table before l ls e no_colon b in
     let x = word_here _ l ls e.body (none ls) h.body in
@@ -390,15 +390,15 @@ pub if_err_both : {T E : Type 0} (r : Result T E) (P Q R : E → Type 0) → ((e
 if_err_both (Ok v) P Q R both p q = tt
 if_err_both (Err e) P Q R both p q = both e p q
 
-pub refused_map : {P Q : Type 0} (stop : Stop) → (P → Q) → IfRefused stop (λ r. P) → IfRefused stop (λ r. Q)
+pub refused_map : {P Q : Type 0} (stop : FeedError) → (P → Q) → IfRefused stop (λ r. P) → IfRefused stop (λ r. Q)
 refused_map (Refused r) f p = f p
 refused_map Memory f p = tt
 
-pub each_refused_map : {P Q : Refusal → Type 0} (stop : Stop) → ((r : Refusal) → P r → Q r) → IfRefused stop P → IfRefused stop Q
+pub each_refused_map : {P Q : Refusal → Type 0} (stop : FeedError) → ((r : Refusal) → P r → Q r) → IfRefused stop P → IfRefused stop Q
 each_refused_map (Refused r) f p = f r p
 each_refused_map Memory f p = tt
 
-pub each_refused_both : {P Q R : Refusal → Type 0} (stop : Stop) → ((r : Refusal) → P r → Q r → R r) → IfRefused stop P → IfRefused stop Q → IfRefused stop R
+pub each_refused_both : {P Q R : Refusal → Type 0} (stop : FeedError) → ((r : Refusal) → P r → Q r → R r) → IfRefused stop P → IfRefused stop Q → IfRefused stop R
 each_refused_both (Refused r) both p q = both r p q
 each_refused_both Memory both p q = tt
 
@@ -413,7 +413,7 @@ probability_reason r n l kind place is not_reward reason = reasons.no_probabilit
 pub full_list : {T : Type 0} (kind : ListKind T) (n : Numbers T) → IsFull n → NumberListGoes kind n [] (kind.body n.read)
 full_list kind n full = record {
   further = [];
-  numbers = subst (λ s. AreNumbersBehind s [] []) (sym full.sign) numbers.none;
+  numbers = subst (λ s. AreNumbersAfter s [] []) (sym full.sign) numbers.none;
   in_range = all_none (λ x. IsInRange kind.range (kind.worth x));
   enough = ap length (append-nil n.read) ∙ full.count;
   body_is = ap kind.body (sym (append-nil n.read));
@@ -423,10 +423,10 @@ record NoMore (sign : Option Sign) (hs : List ℤ) : Type 0 where
   no_sign : sign ≡ None
   none : hs ≡ []
 
-none_behind : (sign : Option Sign) (hs : List ℤ) → AreNumbersBehind sign [] hs → NoMore sign hs
-none_behind None [] a = record { no_sign = refl; none = refl }
-none_behind None (h ∷ hs) a = elim a [ ]
-none_behind (Some s) hs a = absurd a
+none_after : (sign : Option Sign) (hs : List ℤ) → AreNumbersAfter sign [] hs → NoMore sign hs
+none_after None [] a = record { no_sign = refl; none = refl }
+none_after None (h ∷ hs) a = elim a [ ]
+none_after (Some s) hs a = absurd a
 
 none_mapped : {X Y : Type 0} (f : X → Y) (xs : List X) → map f xs ≡ [] → xs ≡ []
 none_mapped f [] e = refl
@@ -435,7 +435,7 @@ none_mapped f (x ∷ xs) e = absurd (cons≢nil e)
 -- a list that continues with nothing is full
 pub list_full : {T : Type 0} (kind : ListKind T) (n : Numbers T) (body : Body) → NumberListGoes kind n [] body → IsFull n
 list_full kind n body g =
-    let m = none_behind n.sign (map kind.worth g.further) g.numbers in
+    let m = none_after n.sign (map kind.worth g.further) g.numbers in
     let none = none_mapped kind.worth g.further m.none in
     record { sign = m.no_sign; count = ap length (sym (append-nil n.read)) ∙ ap (λ f. length (n.read ++ f)) (sym none) ∙ g.enough }
 
@@ -453,11 +453,11 @@ some_dropped (suc n) (d ∷ ds) some = some_dropped n ds (All-tail (λ d. 1 ≤ 
 
 no_body : (cells : ℕ) (b : Body) → 1 ≤ cells → IsBody cells [] b → ⊥
 no_body cells b some (entries.probabilities {ps} a count all) =
-    let none = none_mapped pos ps (none_behind None (map pos ps) a).none in
+    let none = none_mapped pos ps (none_after None (map pos ps) a).none in
     let zero_long : length ps ≡ 0 = ap length none in
     omega arith
 no_body cells b some (entries.rewards {hs} a count) =
-    let zero_long : length hs ≡ 0 = ap length (none_behind None hs a).none in
+    let zero_long : length hs ≡ 0 = ap length (none_after None hs a).none in
     omega arith
 
 both_empty : {X : Type 0} (xs ys : List X) → [] ≡ xs ++ ys → ys ≡ []
@@ -465,7 +465,7 @@ both_empty [] ys e = sym e
 both_empty (x ∷ xs) ys e = absurd (cons≢nil (sym e))
 
 -- an entry doesn't end after a place
-pub no_end : (preamble : Preamble) (table : Table) (before : List Place) (e : Entry) → AreSome (dimensions preamble table) → IsEntryBehind preamble table before [] e → ⊥
+pub no_end : (preamble : Preamble) (table : Table) (before : List Place) (e : Entry) → AreSome (dimensions preamble table) → IsEntryAfter preamble table before [] e → ⊥
 no_end preamble table before e some b =
     let none : b.rest ≡ [] = both_empty b.pattern b.rest b.whole in
     no_body _ e.body (cells_some (drop (length e.places) (dimensions preamble table)) (some_dropped (length e.places) (dimensions preamble table) some)) (subst (λ xs. IsBody (cells_in (drop (length e.places) (dimensions preamble table))) xs e.body) none b.body)

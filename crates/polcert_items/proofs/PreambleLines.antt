@@ -8,7 +8,7 @@ use Rattle.polcert_items.specs.declared.signed_number.Range.TheVariants.{Discoun
 use Rattle.polcert_items.specs.declared.preamble_lines.DiscountReader.{DiscountReader}
 use Rattle.polcert_items.specs.declared.preamble_lines.DiscountReader.TheVariants as discount
 use Rattle.polcert_cells.specs.Numbers.{IsMillionths, AreNumbers, none, one}
-use Rattle.polcert_items.specs.Steps.Numbers.{AreNumbersBehind, IsInRange, is_negative, IsSignAt, IsNoNumber}
+use Rattle.polcert_items.specs.Steps.Numbers.{AreNumbersAfter, IsInRange, is_negative, IsSignAt, IsNoNumber}
 use Rattle.polcert_items.specs.Steps.Lines.{Takes, CannotTake, DiscountRest, DiscountGoes}
 use Rattle.polcert_items.proofs.SignedNumbers.{sign_back, sign_on, value_back, value_on}
 
@@ -44,18 +44,18 @@ no_lexemes : (ls : List Lexeme) (hs : List ℤ) → hs ≡ [] → AreNumbers ls 
 no_lexemes ls hs e none = refl
 no_lexemes ls (h ∷ hs) e a = cc
 
-takes_value : (sign : Option Sign) (l : Lexeme) (p : ℕ) → IsMillionths (is_negative sign) l (pos p) → p ≤ one → Takes DiscountGoes (discount.Number sign) l (discount.Said p)
+takes_value : (sign : Option Sign) (l : Lexeme) (p : ℕ) → IsMillionths (is_negative sign) l (pos p) → p ≤ one → Takes DiscountGoes (discount.Number sign) l (discount.Done p)
 takes_value sign l p v small = record {
   back = λ ls g goes.
-      let at : AreNumbersBehind sign (l ∷ ls) (pos p ∷ []) = value_back sign l ls (pos p) [] v (subst (λ xs. AreNumbers xs []) (sym goes.0) none) in
+      let at : AreNumbersAfter sign (l ∷ ls) (pos p ∷ []) = value_back sign l ls (pos p) [] v (subst (λ xs. AreNumbers xs []) (sym goes.0) none) in
       subst (λ n. DiscountRest sign (l ∷ ls) n) (sym goes.1) (at, small);
   on = λ ls g goes.
       let b = value_on sign l ls (pos p) (pos g ∷ []) v goes.0 in
       (no_lexemes ls b.rest (sym (tail_same (pos g) (pos p) [] b.rest b.joined)) b.numbers, pos_same g p (head_same (pos g) (pos p) [] b.rest b.joined));
 }
 
-pub discount_takes_value : (reader : DiscountReader) (sign : Option Sign) (l : Lexeme) (h : ℤ) → reader ≡ discount.Number sign → IsMillionths (is_negative sign) l h → IsInRange Discount h → Takes DiscountGoes reader l (discount.Said (nat_abs h))
+pub discount_takes_value : (reader : DiscountReader) (sign : Option Sign) (l : Lexeme) (h : ℤ) → reader ≡ discount.Number sign → IsMillionths (is_negative sign) l h → IsInRange Discount h → Takes DiscountGoes reader l (discount.Done (nat_abs h))
 discount_takes_value reader sign l h is v range =
     let small : nat_abs h ≡ range.0 = ap nat_abs range.1.0 in
     let takes = takes_value sign l range.0 (subst (IsMillionths (is_negative sign) l) range.1.0 v) range.1.1 in
-    subst (λ r. Takes DiscountGoes r l (discount.Said (nat_abs h))) (sym is) (subst (λ n. Takes DiscountGoes (discount.Number sign) l (discount.Said n)) (sym small) takes)
+    subst (λ r. Takes DiscountGoes r l (discount.Done (nat_abs h))) (sym is) (subst (λ n. Takes DiscountGoes (discount.Number sign) l (discount.Done n)) (sym small) takes)

@@ -11,7 +11,7 @@ use Rattle.polcert_text.specs.declared.lexeme.TokenKind.TheVariants.{Name, Numer
 use Rattle.polcert_items.specs.declared.chosen.Choice.{Choice}
 use Rattle.polcert_items.specs.declared.chosen.Choice.TheVariants.{Include, Exclude}
 use Rattle.polcert_items.specs.declared.chosen.Chosen.{Chosen}
-use Rattle.polcert_items.specs.declared.start_numbers.Digits.{Digits}
+use Rattle.polcert_items.specs.declared.start_numbers.StateOrNumber.{StateOrNumber}
 use Rattle.polcert_items.specs.declared.start_reader.StartReader.{StartReader}
 use Rattle.polcert_items.specs.declared.start_reader.StartReader.TheVariants as reader
 use Rattle.polcert_cells.specs.Words.{IsWord, is_reserved}
@@ -19,12 +19,12 @@ use Rattle.polcert_cells.specs.Numbers.{IsWhole, IsMillionths, AreNumbers, one}
 use Rattle.polcert_cells.specs.declared.elements.Elements.{Elements}
 use Rattle.polcert_cells.specs.declared.elements.Elements.TheVariants.{Count, Names}
 use Rattle.polcert_cells.specs.Elements.{count_of, number_of, StandsFor, by_number, by_name}
-use Rattle.polcert_cells.specs.declared.shares.Shares.{Shares}
-use Rattle.polcert_cells.specs.Start.{alike, all_states, single, included, IsStartBody, IsStart, plain, include, exclude}
+use Rattle.polcert_cells.specs.declared.start_weights.StartWeights.{StartWeights}
+use Rattle.polcert_cells.specs.Start.{equal_weights, all_states, single, included, IsStartBody, IsStart, plain, include, exclude}
 use Rattle.polcert_cells.specs.Start as forms
 use Rattle.polcert_format.specs.Forms.{IsStartBodyForm, IsStartForm}
 use Rattle.polcert_format.specs.Forms as shapes
-use Rattle.polcert_items.specs.Steps.Lines.{Takes, CannotTake, BehindColon}
+use Rattle.polcert_items.specs.Steps.Lines.{Takes, CannotTake, AfterColon}
 use Rattle.polcert_items.specs.Steps.Start.{marked, picks, chosen_with, listed, AreAsked, AreLeft, ListGoes, AreShares, AreFormed, AreGiven, NumbersGo, DigitsGo, state_number, first_of_more, BodyGoes, FormGoes, StartGoes, StartGives, Begins, AreDigits, IsState, IsValue}
 use Rattle.polcert_items.specs.Steps.Start as steps
 use Rattle.polcert_cells.proofs.Basics.{true≢false}
@@ -42,7 +42,7 @@ use Rattle.polcert_text.specs.declared.number.NumberFault.{NumberFault}
 pub colon_begins : (states : Elements) (l : Lexeme) → l.kind ≡ Colon → Takes (StartGoes states) reader.Form l reader.Body
 colon_begins states l colon = record { back = λ ls asked g. back ls asked g; on = λ ls asked g. on ls asked g }
   where
-    back : (ls : List Lexeme) (asked : Option Shares) → BodyGoes states ls asked → FormGoes states (l ∷ ls) asked
+    back : (ls : List Lexeme) (asked : Option StartWeights) → BodyGoes states ls asked → FormGoes states (l ∷ ls) asked
     back ls None g = shapes.plain colon g
     back ls (Some v) g = plain colon g
 
@@ -54,12 +54,12 @@ colon_begins states l colon = record { back = λ ls asked g. back ls asked g; on
     of_form ls (shapes.plain c a) = a
     of_form ls (shapes.listed ms w d z) = absurd (no_list w)
 
-    of_start : (ls : List Lexeme) (v : Shares) → IsStart states (l ∷ ls) v → IsStartBody states ls v
+    of_start : (ls : List Lexeme) (v : StartWeights) → IsStart states (l ∷ ls) v → IsStartBody states ls v
     of_start ls v (plain c a) = a
     of_start ls v (include ms w d z p) = absurd (no_list (inl w))
     of_start ls v (exclude ms w d z p) = absurd (no_list (inr w))
 
-    on : (ls : List Lexeme) (asked : Option Shares) → FormGoes states (l ∷ ls) asked → BodyGoes states ls asked
+    on : (ls : List Lexeme) (asked : Option StartWeights) → FormGoes states (l ∷ ls) asked → BodyGoes states ls asked
     on ls None g = of_form ls g
     on ls (Some v) g = of_start ls v g
 
@@ -74,7 +74,7 @@ either_word Exclude l word = inr word
 
 -- after it the states are listed
 module _ (states : Elements) (l : Lexeme) where
-  list_formed : (choice : Choice) → IsWordOf choice l → (ls : List Lexeme) → BehindColon (ListGoes states choice (λ s. false)) ls None → IsStartForm states (l ∷ ls)
+  list_formed : (choice : Choice) → IsWordOf choice l → (ls : List Lexeme) → AfterColon (ListGoes states choice (λ s. false)) ls None → IsStartForm states (l ∷ ls)
   list_formed choice word [] g = absurd g
   list_formed choice word (c ∷ ls) g = shapes.listed g.1.further (either_word choice l word) g.0 g.1.stand
 
@@ -82,16 +82,16 @@ module _ (states : Elements) (l : Lexeme) where
   word_no_colon Include word c = name_not_colon _ word.kind c
   word_no_colon Exclude word c = name_not_colon _ word.kind c
 
-  form_listed : (choice : Choice) → IsWordOf choice l → (ls : List Lexeme) → IsStartForm states (l ∷ ls) → BehindColon (ListGoes states choice (λ s. false)) ls None
+  form_listed : (choice : Choice) → IsWordOf choice l → (ls : List Lexeme) → IsStartForm states (l ∷ ls) → AfterColon (ListGoes states choice (λ s. false)) ls None
   form_listed choice word ls (shapes.plain c a) = absurd (word_no_colon choice word c)
   form_listed choice word ls (shapes.listed ms w d z) = (d, record { further = ms; stand = z; said = tt })
 
-  list_back : (choice : Choice) → IsWordOf choice l → (ls : List Lexeme) (v : Shares) → BehindColon (ListGoes states choice (λ s. false)) ls (Some v) → IsStart states (l ∷ ls) v
+  list_back : (choice : Choice) → IsWordOf choice l → (ls : List Lexeme) (v : StartWeights) → AfterColon (ListGoes states choice (λ s. false)) ls (Some v) → IsStart states (l ∷ ls) v
   list_back choice word [] v g = absurd g
   list_back Include word (c ∷ ls) v g = subst (IsStart states (l ∷ c ∷ ls)) (sym g.1.said.0) (include g.1.further word g.0 g.1.stand g.1.said.1)
   list_back Exclude word (c ∷ ls) v g = subst (IsStart states (l ∷ c ∷ ls)) (sym g.1.said.0) (exclude g.1.further word g.0 g.1.stand g.1.said.1)
 
-  list_on : (choice : Choice) → IsWordOf choice l → (ls : List Lexeme) (v : Shares) → IsStart states (l ∷ ls) v → BehindColon (ListGoes states choice (λ s. false)) ls (Some v)
+  list_on : (choice : Choice) → IsWordOf choice l → (ls : List Lexeme) (v : StartWeights) → IsStart states (l ∷ ls) v → AfterColon (ListGoes states choice (λ s. false)) ls (Some v)
   list_on choice word ls v (plain c a) = absurd (word_no_colon choice word c)
   list_on Include word ls v (include ms w d z p) = (d, record { further = ms; stand = z; said = (refl, p) })
   list_on Include word ls v (exclude ms w d z p) = absurd (include_not_exclude _ word w)
@@ -101,17 +101,17 @@ module _ (states : Elements) (l : Lexeme) where
   pub list_begins : (choice : Choice) → IsWordOf choice l → Takes (StartGoes states) reader.Form l (reader.Colon choice)
   list_begins choice word = record { back = λ ls asked g. back ls asked g; on = λ ls asked g. on ls asked g }
     where
-      back : (ls : List Lexeme) (asked : Option Shares) → BehindColon (ListGoes states choice (λ s. false)) ls asked → FormGoes states (l ∷ ls) asked
+      back : (ls : List Lexeme) (asked : Option StartWeights) → AfterColon (ListGoes states choice (λ s. false)) ls asked → FormGoes states (l ∷ ls) asked
       back ls None g = list_formed choice word ls g
       back ls (Some v) g = list_back choice word ls v g
 
-      on : (ls : List Lexeme) (asked : Option Shares) → FormGoes states (l ∷ ls) asked → BehindColon (ListGoes states choice (λ s. false)) ls asked
+      on : (ls : List Lexeme) (asked : Option StartWeights) → FormGoes states (l ∷ ls) asked → AfterColon (ListGoes states choice (λ s. false)) ls asked
       on ls None g = form_listed choice word ls g
       on ls (Some v) g = list_on choice word ls v g
 
 -- ---- lists of states
 
-pub list_same : (states : Elements) (choice : Choice) (p q : ℕ → Bool) (ls : List Lexeme) (asked : Option Shares) → ((s : ℕ) → p s ≡ q s) → ListGoes states choice p ls asked
+pub list_same : (states : Elements) (choice : Choice) (p q : ℕ → Bool) (ls : List Lexeme) (asked : Option StartWeights) → ((s : ℕ) → p s ≡ q s) → ListGoes states choice p ls asked
     → ListGoes states choice q ls asked
 list_same states choice p q ls asked e g =
     let same : p ≡ q = λ i s. e s i in
@@ -149,14 +149,14 @@ module _ (states : Elements) (choice : Choice) (old : ℕ → Bool) (l : Lexeme)
   more : (further : List ℕ) → chosen_with (λ k. old k || (s == k)) further ≡ chosen_with old (s ∷ further)
   more further = λ i k. or_assoc (old k) (s == k) (included further k) i
 
-  state_back : (ls : List Lexeme) (asked : Option Shares) → ListGoes states choice (λ k. old k || (s == k)) ls asked → ListGoes states choice old (l ∷ ls) asked
+  state_back : (ls : List Lexeme) (asked : Option StartWeights) → ListGoes states choice (λ k. old k || (s == k)) ls asked → ListGoes states choice old (l ∷ ls) asked
   state_back ls asked g = record {
     further = s ∷ g.further;
     stand = (is, g.stand);
     said = subst (λ p. AreLeft (listed states choice p) asked) (more g.further) g.said;
   }
 
-  state_on : (ls : List Lexeme) (asked : Option Shares) → ListGoes states choice old (l ∷ ls) asked → ListGoes states choice (λ k. old k || (s == k)) ls asked
+  state_on : (ls : List Lexeme) (asked : Option StartWeights) → ListGoes states choice old (l ∷ ls) asked → ListGoes states choice (λ k. old k || (s == k)) ls asked
   state_on ls asked g = at g.further g.stand g.said
     where
       at : (further : List ℕ) → AllZip (StandsFor states) (l ∷ ls) further → AreLeft (listed states choice (chosen_with old further)) asked
@@ -184,13 +184,13 @@ list_stuck states old l none = λ ls v g. at ls g.further g.stand
     at ls (n ∷ ns) stand = none n stand.0
 
 -- a list ends with the shares of what was chosen, if they leave a state
-pub list_ends : (states : Elements) (chosen : Chosen) (v : Shares) → length chosen.marks ≡ count_of states → v ≡ alike (length chosen.marks) (picks chosen.choice (marked chosen.marks)) → 0 < v.total
+pub list_ends : (states : Elements) (chosen : Chosen) (v : StartWeights) → length chosen.marks ≡ count_of states → v ≡ equal_weights (length chosen.marks) (picks chosen.choice (marked chosen.marks)) → 0 < v.total
     → StartGives states (reader.List chosen) [] v
 list_ends states chosen v size is left =
     let p : ℕ → Bool = marked chosen.marks in
     let none_further : chosen_with p [] ≡ p = λ i s. no_other (p s) i in
-    let same : v ≡ listed states chosen.choice (chosen_with p []) = is ∙ ap (λ n. alike n (picks chosen.choice p)) size ∙ ap (listed states chosen.choice) (sym none_further) in
-    record { further = []; stand = tt; said = (same, subst (λ (s : Shares). 0 < s.total) same left) }
+    let same : v ≡ listed states chosen.choice (chosen_with p []) = is ∙ ap (λ n. equal_weights n (picks chosen.choice p)) size ∙ ap (listed states chosen.choice) (sym none_further) in
+    record { further = []; stand = tt; said = (same, subst (λ (s : StartWeights). 0 < s.total) same left) }
   where
     no_other : (b : Bool) → (b || false) ≡ b
     no_other true = refl
@@ -228,22 +228,22 @@ module _ (states : Elements) (l : Lexeme) (name : l.kind ≡ Name) where
   pub uniform_begins : IsWord (codes "uniform") l → Takes (StartGoes states) reader.Body l reader.Every
   uniform_begins word = record { back = λ ls asked g. back ls asked g; on = λ ls asked g. on ls asked g }
     where
-      back : (ls : List Lexeme) (asked : Option Shares) → (ls ≡ []) × AreAsked (all_states states) asked → BodyGoes states (l ∷ ls) asked
+      back : (ls : List Lexeme) (asked : Option StartWeights) → (ls ≡ []) × AreAsked (all_states states) asked → BodyGoes states (l ∷ ls) asked
       back ls None g = subst (λ xs. IsStartBodyForm states (l ∷ xs)) (sym g.0) (shapes.uniform word)
       back ls (Some v) g = subst (λ xs. IsStartBody states (l ∷ xs) v) (sym g.0) (subst (IsStartBody states (l ∷ [])) (sym g.1) (forms.uniform word))
 
-      of_body : (ls : List Lexeme) (v : Shares) → IsStartBody states (l ∷ ls) v → (ls ≡ []) × (v ≡ all_states states)
+      of_body : (ls : List Lexeme) (v : StartWeights) → IsStartBody states (l ∷ ls) v → (ls ≡ []) × (v ≡ all_states states)
       of_body ls v (forms.uniform w) = (refl, refl)
       of_body ls v (forms.name n f) = absurd (true≢false (ap is_reserved word.bytes ∙ uniform_is_reserved) n.free)
       of_body ls v (forms.number m n b) = absurd (no_numeral n.kind)
       of_body ls v (forms.only_state c n h) = absurd (no_numbers n)
       of_body ls v (forms.probabilities ps m n c s) = absurd (no_numbers n)
 
-      on : (ls : List Lexeme) (asked : Option Shares) → BodyGoes states (l ∷ ls) asked → (ls ≡ []) × AreAsked (all_states states) asked
+      on : (ls : List Lexeme) (asked : Option StartWeights) → BodyGoes states (l ∷ ls) asked → (ls ≡ []) × AreAsked (all_states states) asked
       on ls None g = (name_alone ls g, tt)
       on ls (Some v) g = of_body ls v g
 
-  named_on : (s : ℕ) → StandsFor states l s → (IsWord (codes "uniform") l → ⊥) → (ls : List Lexeme) (v : Shares) → IsStartBody states (l ∷ ls) v → (ls ≡ []) × (v ≡ single states s)
+  named_on : (s : ℕ) → StandsFor states l s → (IsWord (codes "uniform") l → ⊥) → (ls : List Lexeme) (v : StartWeights) → IsStartBody states (l ∷ ls) v → (ls ≡ []) × (v ≡ single states s)
   named_on s is other ls v (forms.uniform w) = absurd (other w)
   named_on s is other ls v (forms.name {s = k} n f) = (refl, ap (single states) (one_element states l k s (by_name n f) is))
   named_on s is other ls v (forms.number m n b) = absurd (no_numeral n.kind)
@@ -261,11 +261,11 @@ module _ (states : Elements) (l : Lexeme) (name : l.kind ≡ Name) where
   pub name_begins : (s : ℕ) → StandsFor states l s → (IsWord (codes "uniform") l → ⊥) → Takes (StartGoes states) reader.Body l (reader.Only s)
   name_begins s is other = record { back = λ ls asked g. back ls asked g; on = λ ls asked g. on ls asked g }
     where
-      back : (ls : List Lexeme) (asked : Option Shares) → (ls ≡ []) × AreAsked (single states s) asked → BodyGoes states (l ∷ ls) asked
+      back : (ls : List Lexeme) (asked : Option StartWeights) → (ls ≡ []) × AreAsked (single states s) asked → BodyGoes states (l ∷ ls) asked
       back ls None g = subst (λ xs. IsStartBodyForm states (l ∷ xs)) (sym g.0) (named_form s is)
       back ls (Some v) g = subst (λ xs. IsStartBody states (l ∷ xs) v) (sym g.0) (subst (IsStartBody states (l ∷ [])) (sym g.1) (named_back s is))
 
-      on : (ls : List Lexeme) (asked : Option Shares) → BodyGoes states (l ∷ ls) asked → (ls ≡ []) × AreAsked (single states s) asked
+      on : (ls : List Lexeme) (asked : Option StartWeights) → BodyGoes states (l ∷ ls) asked → (ls ≡ []) × AreAsked (single states s) asked
       on ls None g = (name_alone ls g, tt)
       on ls (Some v) g = named_on s is other ls v g
 
@@ -279,27 +279,27 @@ module _ (states : Elements) (l : Lexeme) (name : l.kind ≡ Name) where
       of_form ls (shapes.one_number n) = no_numbers n
       of_form ls (shapes.probabilities ps m n c t) = no_numbers n
 
-      of_body : (ls : List Lexeme) (v : Shares) → IsStartBody states (l ∷ ls) v → ⊥
+      of_body : (ls : List Lexeme) (v : StartWeights) → IsStartBody states (l ∷ ls) v → ⊥
       of_body ls v (forms.uniform w) = other w
       of_body ls v (forms.name {s = k} n f) = none k (by_name n f)
       of_body ls v (forms.number m n b) = no_numeral n.kind
       of_body ls v (forms.only_state c n h) = no_numbers n
       of_body ls v (forms.probabilities ps m n c t) = no_numbers n
 
-      stuck : (ls : List Lexeme) (asked : Option Shares) → BodyGoes states (l ∷ ls) asked → ⊥
+      stuck : (ls : List Lexeme) (asked : Option StartWeights) → BodyGoes states (l ∷ ls) asked → ⊥
       stuck ls None g = of_form ls g
       stuck ls (Some v) g = of_body ls v g
 
 -- a numeral or a sign that stands for no state begins numbers
 module _ (states : Elements) (l : Lexeme) (no_name : l.kind ≡ Name → ⊥) where
-  numbers_back : (ls : List Lexeme) (asked : Option Shares) → NumbersGo states [] None ls asked → BodyGoes states ls asked
+  numbers_back : (ls : List Lexeme) (asked : Option StartWeights) → NumbersGo states [] None ls asked → BodyGoes states ls asked
   numbers_back ls asked g = of asked g.further g.numbers g.given
     where
-      only : (v : Shares) (hs : List ℤ) → AreNumbers ls hs → count_of states ≡ 1 → (hs ≡ pos 0 ∷ []) ⊎ (hs ≡ pos one ∷ []) → v ≡ all_states states → IsStartBody states ls v
+      only : (v : StartWeights) (hs : List ℤ) → AreNumbers ls hs → count_of states ≡ 1 → (hs ≡ pos 0 ∷ []) ⊎ (hs ≡ pos one ∷ []) → v ≡ all_states states → IsStartBody states ls v
       only v hs a c (inl e) s = subst (IsStartBody states ls) (sym s) (forms.only_state {h = pos 0} c (subst (AreNumbers ls) e a) (inl refl))
       only v hs a c (inr e) s = subst (IsStartBody states ls) (sym s) (forms.only_state {h = pos one} c (subst (AreNumbers ls) e a) (inr refl))
 
-      at : (v : Shares) (hs : List ℤ) → AreNumbers ls hs → AreShares states hs v → IsStartBody states ls v
+      at : (v : StartWeights) (hs : List ℤ) → AreNumbers ls hs → AreShares states hs v → IsStartBody states ls v
       at v hs a (steps.only_state c e s) = only v hs a c e s
       at v hs a (steps.probabilities ps m e c t s) = subst (IsStartBody states ls) (sym s) (forms.probabilities ps m (subst (AreNumbers ls) e a) c t)
 
@@ -307,11 +307,11 @@ module _ (states : Elements) (l : Lexeme) (no_name : l.kind ≡ Name → ⊥) wh
       formed hs a (steps.alone h e) = shapes.one_number (subst (AreNumbers ls) e a)
       formed hs a (steps.each ps m e c small) = shapes.probabilities ps m (subst (AreNumbers ls) e a) c small
 
-      of : (asked : Option Shares) (hs : List ℤ) → AreNumbers ls hs → AreGiven states hs asked → BodyGoes states ls asked
+      of : (asked : Option StartWeights) (hs : List ℤ) → AreNumbers ls hs → AreGiven states hs asked → BodyGoes states ls asked
       of None hs a given = formed hs a given
       of (Some v) hs a given = at v hs a given
 
-  numbers_on : ((s : ℕ) → 1 < count_of states → IsWhole l s → s < count_of states → ⊥) → (ls : List Lexeme) (asked : Option Shares) → BodyGoes states (l ∷ ls) asked
+  numbers_on : ((s : ℕ) → 1 < count_of states → IsWhole l s → s < count_of states → ⊥) → (ls : List Lexeme) (asked : Option StartWeights) → BodyGoes states (l ∷ ls) asked
       → NumbersGo states [] None (l ∷ ls) asked
   numbers_on none ls asked g = of ls asked g
     where
@@ -322,7 +322,7 @@ module _ (states : Elements) (l : Lexeme) (no_name : l.kind ≡ Name → ⊥) wh
       of_form ls (shapes.one_number {h} n) = record { further = h ∷ []; numbers = n; given = steps.alone h refl }
       of_form ls (shapes.probabilities ps m n c small) = record { further = map pos ps; numbers = n; given = steps.each ps m refl c small }
 
-      of_body : (ls : List Lexeme) (v : Shares) → IsStartBody states (l ∷ ls) v → NumbersGo states [] None (l ∷ ls) (Some v)
+      of_body : (ls : List Lexeme) (v : StartWeights) → IsStartBody states (l ∷ ls) v → NumbersGo states [] None (l ∷ ls) (Some v)
       of_body ls v (forms.uniform w) = absurd (no_name w.kind)
       of_body ls v (forms.name n f) = absurd (no_name n.kind)
       of_body ls v (forms.number {s = k} m n b) = absurd (none k m n b)
@@ -330,7 +330,7 @@ module _ (states : Elements) (l : Lexeme) (no_name : l.kind ≡ Name → ⊥) wh
       of_body ls v (forms.only_state {h} c n (inr e)) = record { further = h ∷ []; numbers = n; given = steps.only_state c (inr (ap (λ x. x ∷ []) e)) refl }
       of_body ls v (forms.probabilities ps m n c t) = record { further = map pos ps; numbers = n; given = steps.probabilities ps m refl c t refl }
 
-      of : (ls : List Lexeme) (asked : Option Shares) → BodyGoes states (l ∷ ls) asked → NumbersGo states [] None (l ∷ ls) asked
+      of : (ls : List Lexeme) (asked : Option StartWeights) → BodyGoes states (l ∷ ls) asked → NumbersGo states [] None (l ∷ ls) asked
       of ls None g = of_form ls g
       of ls (Some v) g = of_body ls v g
 
@@ -345,7 +345,7 @@ module _ (states : Elements) (l : Lexeme) (no_name : l.kind ≡ Name → ⊥) wh
 
 -- ---- digits alone
 
-module _ (states : Elements) (l : Lexeme) (digits : Digits) (are : AreDigits (count_of states) l digits) where
+module _ (states : Elements) (l : Lexeme) (digits : StateOrNumber) (are : AreDigits (count_of states) l digits) where
   digits_no_name : l.kind ≡ Name → ⊥
   digits_no_name name = let numeral = are.digits_are.0 in cc
 
@@ -367,9 +367,9 @@ module _ (states : Elements) (l : Lexeme) (digits : Digits) (are : AreDigits (co
 
   of_value : (h : ℤ) (r : Result ℤ NumberFault) → IsValue r false l → IsMillionths false l h → r ≡ Ok h
   of_value h (Ok k) is v = ap Ok (one_millionths false l k h is v)
-  of_value h (Err f) is v = absurd (exact_not_refused false l.bytes f h v.readable v.exact is.1)
+  of_value h (Err f) is v = absurd (exact_not_refused false l.bytes f h v.readable v.value is.1)
 
-  number_back : (ls : List Lexeme) (asked : Option Shares) (s : ℕ) → ls ≡ [] → digits.state ≡ Some s → AreAsked (single states s) asked → BodyGoes states (l ∷ ls) asked
+  number_back : (ls : List Lexeme) (asked : Option StartWeights) (s : ℕ) → ls ≡ [] → digits.state ≡ Some s → AreAsked (single states s) asked → BodyGoes states (l ∷ ls) asked
   number_back ls None s none e f =
       let is = state_of s digits.state e are.state in
       subst (λ xs. IsStartBodyForm states (l ∷ xs)) (sym none) (shapes.state_number are.more is.0 is.1)
@@ -377,12 +377,12 @@ module _ (states : Elements) (l : Lexeme) (digits : Digits) (are : AreDigits (co
       let is = state_of s digits.state e are.state in
       subst (λ xs. IsStartBody states (l ∷ xs) v) (sym none) (subst (IsStartBody states (l ∷ [])) (sym f) (forms.number are.more is.0 is.1))
 
-  back : (ls : List Lexeme) (asked : Option Shares) → DigitsGo states digits ls asked → BodyGoes states (l ∷ ls) asked
+  back : (ls : List Lexeme) (asked : Option StartWeights) → DigitsGo states digits ls asked → BodyGoes states (l ∷ ls) asked
   back ls asked (state_number s none e f) = number_back ls asked s none e f
   back ls asked (first_of_more h e g) =
       numbers_back states l digits_no_name (l ∷ ls) asked ((value_begins states [] l None h (value_of h digits.value e are.value)).back ls asked g)
 
-  first_on : (ls : List Lexeme) (asked : Option Shares) → NumbersGo states [] None (l ∷ ls) asked → DigitsGo states digits ls asked
+  first_on : (ls : List Lexeme) (asked : Option StartWeights) → NumbersGo states [] None (l ∷ ls) asked → DigitsGo states digits ls asked
   first_on ls asked g =
       let f = first_number None l ls g.further are.digits_are.0 g.numbers in
       first_of_more f.first (of_value f.first digits.value are.value f.value) ((value_begins states [] l None f.first f.value).on ls asked g)
@@ -394,18 +394,18 @@ module _ (states : Elements) (l : Lexeme) (digits : Digits) (are : AreDigits (co
   form_on ls (shapes.one_number {h} n) = first_on ls None (record { further = h ∷ []; numbers = n; given = steps.alone h refl })
   form_on ls (shapes.probabilities ps m n c small) = first_on ls None (record { further = map pos ps; numbers = n; given = steps.each ps m refl c small })
 
-  body_on : (ls : List Lexeme) (v : Shares) → IsStartBody states (l ∷ ls) v → DigitsGo states digits ls (Some v)
+  body_on : (ls : List Lexeme) (v : StartWeights) → IsStartBody states (l ∷ ls) v → DigitsGo states digits ls (Some v)
   body_on ls v (forms.uniform w) = absurd (digits_no_name w.kind)
   body_on ls v (forms.name n f) = absurd (digits_no_name n.kind)
   body_on ls v (forms.number {s = k} m n b) = state_number k refl (of_state k digits.state are.state n b) refl
   body_on ls v (forms.only_state c n h) = absurd (omega (arith, c, are.more))
   body_on ls v (forms.probabilities ps m n c t) = first_on ls (Some v) (record { further = map pos ps; numbers = n; given = steps.probabilities ps m refl c t refl })
 
-  on : (ls : List Lexeme) (asked : Option Shares) → BodyGoes states (l ∷ ls) asked → DigitsGo states digits ls asked
+  on : (ls : List Lexeme) (asked : Option StartWeights) → BodyGoes states (l ∷ ls) asked → DigitsGo states digits ls asked
   on ls None g = form_on ls g
   on ls (Some v) g = body_on ls v g
 
-  pub digits_begin : Takes (StartGoes states) reader.Body l (reader.Digits digits)
+  pub digits_begin : Takes (StartGoes states) reader.Body l (reader.StateOrNumber digits)
   digits_begin = record { back = λ ls v g. back ls v g; on = λ ls v g. on ls v g }
 
 -- digits are a state's number where there is more than one state

@@ -14,20 +14,20 @@ use Rattle.polcert_format.specs.declared.fault.ItemFault.TheVariants.{Number}
 use Rattle.polcert_items.specs.declared.signed_number.Refusal.{Refusal}
 use Rattle.polcert_items.specs.declared.signed_number.Sign.{Sign}
 use Rattle.polcert_items.specs.declared.start_numbers.FirstNumber.{FirstNumber}
-use Rattle.polcert_items.specs.declared.start_numbers.Digits.{Digits}
+use Rattle.polcert_items.specs.declared.start_numbers.StateOrNumber.{StateOrNumber}
 use Rattle.polcert_items.specs.declared.start_reader.StartReader.{StartReader}
 use Rattle.polcert_items.specs.declared.start_reader.StartReader.TheVariants as reader
 use Rattle.polcert_cells.specs.Numbers.{IsMillionths, AreNumbers, one}
 use Rattle.polcert_cells.specs.Numbers as numbers
-use Rattle.polcert_items.specs.Steps.Numbers.{AreNumbersBehind, of_probabilities, is_negative, IsSignAt}
+use Rattle.polcert_items.specs.Steps.Numbers.{AreNumbersAfter, of_probabilities, is_negative, IsSignAt}
 use Rattle.polcert_cells.specs.declared.elements.Elements.{Elements}
 use Rattle.polcert_cells.specs.Elements.{count_of}
-use Rattle.polcert_cells.specs.declared.shares.Shares.{Shares}
+use Rattle.polcert_cells.specs.declared.start_weights.StartWeights.{StartWeights}
 use Rattle.polcert_cells.specs.Start.{all_states, shares_of}
 use Rattle.polcert_items.specs.Steps.Lines.{Takes, CannotTake}
 use Rattle.polcert_items.specs.Steps.Entries.{ProbabilitiesGo, IsFull, one_number}
 use Rattle.polcert_items.specs.Steps.Start.{only_state, probabilities, alone, each, AreGiven, NumbersGo, DigitsGo, state_number, first_of_more, AreWhole, SharesGo, StartGoes, StartGives, Begins, IsOutside, IsDueNumber, IsDueValue, IsStop, due, at_once, first_of, refused}
-use Rattle.polcert_format.specs.Misfits.{Wanted}
+use Rattle.polcert_format.specs.Misfits.{Expected}
 use Rattle.polcert_cells.proofs.Basics.{true≢false, cons≢nil, same_head, same_tail}
 use Rattle.polcert_items.proofs.ListLaws.{all_none, fractions_in_range, small_fractions}
 use Rattle.polcert_items.proofs.PatternLaws.{full_list}
@@ -67,7 +67,7 @@ small_ones (p ∷ ps) n le =
     All-cons (λ p. p ≤ n) p ps (omega (arith, parts)) (small_ones ps n (omega (arith, parts)))
 
 -- probabilities that begin with a number
-record Fractions (states : Elements) (h : ℤ) (further : List ℤ) (asked : Option Shares) : Type 0 where
+record Fractions (states : Elements) (h : ℤ) (further : List ℤ) (asked : Option StartWeights) : Type 0 where
   pub first : ℕ
   pub rest : List ℕ
   pub first_is : h ≡ pos first
@@ -91,7 +91,7 @@ below_outside h low p e small = let below : p < 0 = ltb-true p 0 (subst (λ x. l
 pub above_outside : (h : ℤ) → lt_z (pos one) h ≡ true → IsOutside h
 above_outside h high p e small = let above : one < p = ltb-true one p (subst (λ x. lt_z (pos one) x ≡ true) e high) in omega arith
 
-fractions : (states : Elements) (h : ℤ) (further : List ℤ) (asked : Option Shares) (ps : List ℕ) → h ∷ further ≡ map pos ps → length ps ≡ count_of states → All (λ p. p ≤ one) ps → AreWhole ps asked
+fractions : (states : Elements) (h : ℤ) (further : List ℤ) (asked : Option StartWeights) (ps : List ℕ) → h ∷ further ≡ map pos ps → length ps ≡ count_of states → All (λ p. p ≤ one) ps → AreWhole ps asked
     → Fractions states h further asked
 fractions states h further asked [] e count small whole = absurd (cons≢nil e)
 fractions states h further asked (p ∷ ps) e count small whole =
@@ -107,22 +107,13 @@ no_numeral l ls a = at (l ∷ ls) [] a refl refl
     at ms hs (numbers.minus s v more) e f = cons≢nil f
 
 -- with another lexeme after the first number there are more numbers, a probability for each of some states
-more_fractions : (states : Elements) (h : ℤ) (further : List ℤ) (l : Lexeme) (ls : List Lexeme) (asked : Option Shares) → AreNumbers (l ∷ ls) further → AreGiven states (h ∷ further) asked
+more_fractions : (states : Elements) (h : ℤ) (further : List ℤ) (l : Lexeme) (ls : List Lexeme) (asked : Option StartWeights) → AreNumbers (l ∷ ls) further → AreGiven states (h ∷ further) asked
     → Fractions states h further asked
 more_fractions states h further l ls None a (alone k e) = absurd (no_numeral l ls (subst (AreNumbers (l ∷ ls)) (same_tail e) a))
 more_fractions states h further l ls None a (each ps m e c small) = fractions states h further None ps e c small tt
 more_fractions states h further l ls (Some v) a (only_state c (inl e) s) = absurd (no_numeral l ls (subst (AreNumbers (l ∷ ls)) (same_tail e) a))
 more_fractions states h further l ls (Some v) a (only_state c (inr e) s) = absurd (no_numeral l ls (subst (AreNumbers (l ∷ ls)) (same_tail e) a))
 more_fractions states h further l ls (Some v) a (probabilities ps m e c t s) = fractions states h further (Some v) ps e c (small_ones ps one (omega (arith, t))) (t, s)
-
--- and there is more than one state
-more_given : (states : Elements) (h : ℤ) (further : List ℤ) (l : Lexeme) (ls : List Lexeme) (asked : Option Shares) → AreNumbers (l ∷ ls) further → AreGiven states (h ∷ further) asked
-    → 1 < count_of states
-more_given states h further l ls None a (alone k e) = absurd (no_numeral l ls (subst (AreNumbers (l ∷ ls)) (same_tail e) a))
-more_given states h further l ls None a (each ps m e c small) = m
-more_given states h further l ls (Some v) a (only_state c (inl e) s) = absurd (no_numeral l ls (subst (AreNumbers (l ∷ ls)) (same_tail e) a))
-more_given states h further l ls (Some v) a (only_state c (inr e) s) = absurd (no_numeral l ls (subst (AreNumbers (l ∷ ls)) (same_tail e) a))
-more_given states h further l ls (Some v) a (probabilities ps m e c t s) = m
 
 -- nothing continues after a number out of its range
 pub outside_stuck : (states : Elements) (f : FirstNumber) (l : Lexeme) → IsOutside f.value → CannotTake (StartGoes states) (reader.Number f) l
@@ -150,7 +141,7 @@ pub more_states : (count n : ℕ) → n ≡ count → (n ≡ 1 → ⊥) → 1 �
 more_states count n same other some = omega arith
 
 module _ (states : Elements) (p : ℕ) (n : Numbers ℕ) (small : p ≤ one) (is : IsOneRead states p n) (more : 1 < count_of states) where
-  shares_from : (l : Lexeme) (ls : List Lexeme) (asked : Option Shares) → NumbersGo states (pos p ∷ []) None (l ∷ ls) asked → SharesGo n (l ∷ ls) asked
+  shares_from : (l : Lexeme) (ls : List Lexeme) (asked : Option StartWeights) → NumbersGo states (pos p ∷ []) None (l ∷ ls) asked → SharesGo n (l ∷ ls) asked
   shares_from l ls asked g =
       let f = more_fractions states (pos p) g.further l ls asked g.numbers g.given in
       let same : f.first ≡ p = same_first f.first f.first_is in
@@ -159,7 +150,7 @@ module _ (states : Elements) (p : ℕ) (n : Numbers ℕ) (small : p ≤ one) (is
         all = f.first ∷ f.rest;
         go = record {
           further = f.rest;
-          numbers = subst (λ s. AreNumbersBehind s (l ∷ ls) (map pos f.rest)) (sym is.sign) (subst (AreNumbers (l ∷ ls)) f.rest_is g.numbers);
+          numbers = subst (λ s. AreNumbersAfter s (l ∷ ls) (map pos f.rest)) (sym is.sign) (subst (AreNumbers (l ∷ ls)) f.rest_is g.numbers);
           in_range = fractions_in_range f.rest (All-tail (λ p. p ≤ one) f.first f.rest f.small);
           enough = ap length whole ∙ f.count ∙ sym is.needed;
           body_is = ap bodies.Probabilities (sym whole);
@@ -170,20 +161,20 @@ module _ (states : Elements) (p : ℕ) (n : Numbers ℕ) (small : p ≤ one) (is
       same_first : (q : ℕ) → pos p ≡ pos q → q ≡ p
       same_first q e = cc
 
-  shares_to : (ls : List Lexeme) (asked : Option Shares) → SharesGo n ls asked → NumbersGo states (pos p ∷ []) None ls asked
+  shares_to : (ls : List Lexeme) (asked : Option StartWeights) → SharesGo n ls asked → NumbersGo states (pos p ∷ []) None ls asked
   shares_to ls asked g =
       let whole : g.all ≡ p ∷ g.go.further = same_body g.all (n.read ++ g.go.further) g.go.body_is ∙ ap (λ r. r ++ g.go.further) is.read in
       let count : length g.all ≡ count_of states = ap length (same_body g.all (n.read ++ g.go.further) g.go.body_is) ∙ g.go.enough ∙ is.needed in
       record {
         further = map pos g.go.further;
-        numbers = subst (λ s. AreNumbersBehind s ls (map pos g.go.further)) is.sign g.go.numbers;
+        numbers = subst (λ s. AreNumbersAfter s ls (map pos g.go.further)) is.sign g.go.numbers;
         given = given asked g.all (ap (map pos) (sym whole)) count (subst (All (λ q. q ≤ one)) (sym whole) (All-cons (λ q. q ≤ one) p g.go.further small (small_fractions g.go.further g.go.in_range))) g.whole;
       }
     where
       same_body : (xs ys : List ℕ) → bodies.Probabilities xs ≡ bodies.Probabilities ys → xs ≡ ys
       same_body xs ys e = cc
 
-      given : (asked : Option Shares) (ps : List ℕ) {hs : List ℤ} → hs ≡ map pos ps → length ps ≡ count_of states → All (λ q. q ≤ one) ps → AreWhole ps asked → AreGiven states hs asked
+      given : (asked : Option StartWeights) (ps : List ℕ) {hs : List ℤ} → hs ≡ map pos ps → length ps ≡ count_of states → All (λ q. q ≤ one) ps → AreWhole ps asked → AreGiven states hs asked
       given None ps e c small w = each ps more e c small
       given (Some v) ps e c small w = probabilities ps more e c w.0 w.1
 
@@ -196,10 +187,10 @@ shares_take states old new l t = record {
 pub shares_stuck : (states : Elements) (n : Numbers ℕ) (l : Lexeme) → CannotTake ProbabilitiesGo n l → CannotTake (StartGoes states) (reader.Probabilities n) l
 shares_stuck states n l none = λ ls v g. none ls (bodies.Probabilities g.all) g.go
 
-number_is : (states : Elements) (f : FirstNumber) (p : ℕ) → f.value ≡ pos p → (ls : List Lexeme) (asked : Option Shares) → StartGoes states (reader.Number f) ls asked → NumbersGo states (pos p ∷ []) None ls asked
+number_is : (states : Elements) (f : FirstNumber) (p : ℕ) → f.value ≡ pos p → (ls : List Lexeme) (asked : Option StartWeights) → StartGoes states (reader.Number f) ls asked → NumbersGo states (pos p ∷ []) None ls asked
 number_is states f p e ls asked g = subst (λ h. NumbersGo states (h ∷ []) None ls asked) e g
 
-is_number : (states : Elements) (f : FirstNumber) (p : ℕ) → f.value ≡ pos p → (ls : List Lexeme) (asked : Option Shares) → NumbersGo states (pos p ∷ []) None ls asked → StartGoes states (reader.Number f) ls asked
+is_number : (states : Elements) (f : FirstNumber) (p : ℕ) → f.value ≡ pos p → (ls : List Lexeme) (asked : Option StartWeights) → NumbersGo states (pos p ∷ []) None ls asked → StartGoes states (reader.Number f) ls asked
 is_number states f p e ls asked g = subst (λ h. NumbersGo states (h ∷ []) None ls asked) (sym e) g
 
 -- a second number follows the first one, or its sign
@@ -232,40 +223,40 @@ none_is (Err fault) place r is = (fault, refl, cc)
 same_value : (h k : ℤ) (r : Result ℤ NumberFault) → r ≡ Ok h → r ≡ Ok k → h ≡ k
 same_value h k r e f = cc
 
-module _ (states : Elements) (digits : Digits) (l : Lexeme) where
-  on_digits : (h : ℤ) → digits.value ≡ Ok h → (ls : List Lexeme) (asked : Option Shares) → DigitsGo states digits (l ∷ ls) asked → NumbersGo states (h ∷ []) None (l ∷ ls) asked
+module _ (states : Elements) (digits : StateOrNumber) (l : Lexeme) where
+  on_digits : (h : ℤ) → digits.value ≡ Ok h → (ls : List Lexeme) (asked : Option StartWeights) → DigitsGo states digits (l ∷ ls) asked → NumbersGo states (h ∷ []) None (l ∷ ls) asked
   on_digits h is ls asked (state_number s none e f) = absurd (cons≢nil none)
   on_digits h is ls asked (first_of_more k e g) = subst (λ x. NumbersGo states (x ∷ []) None (l ∷ ls) asked) (same_value k h digits.value e is) g
 
   pub digits_take : (f : FirstNumber) (n : Numbers ℕ) → digits.value ≡ Ok f.value → Takes (StartGoes states) (reader.Number f) l (reader.Probabilities n)
-      → Takes (StartGoes states) (reader.Digits digits) l (reader.Probabilities n)
+      → Takes (StartGoes states) (reader.StateOrNumber digits) l (reader.Probabilities n)
   digits_take f n is t = record {
     back = λ ls v g. first_of_more f.value is (t.back ls v g);
     on = λ ls v g. t.on ls v (on_digits f.value is ls v g);
   }
 
-  pub digits_stuck : (f : FirstNumber) → digits.value ≡ Ok f.value → CannotTake (StartGoes states) (reader.Number f) l → CannotTake (StartGoes states) (reader.Digits digits) l
+  pub digits_stuck : (f : FirstNumber) → digits.value ≡ Ok f.value → CannotTake (StartGoes states) (reader.Number f) l → CannotTake (StartGoes states) (reader.StateOrNumber digits) l
   digits_stuck f is none = λ ls v g. none ls v (on_digits f.value is ls v g)
 
-  pub valueless_stuck : (fault : NumberFault) → digits.value ≡ Err fault → CannotTake (StartGoes states) (reader.Digits digits) l
+  pub valueless_stuck : (fault : NumberFault) → digits.value ≡ Err fault → CannotTake (StartGoes states) (reader.StateOrNumber digits) l
   valueless_stuck fault is ls v (state_number s none e f) = cons≢nil none
   valueless_stuck fault is ls v (first_of_more k e g) = cc
 
 -- ---- where the item ends
 
-pub number_ends : (states : Elements) (f : FirstNumber) (v : Shares) → count_of states ≡ 1 → (f.value ≡ pos 0) ⊎ (f.value ≡ pos one) → v ≡ all_states states → StartGives states (reader.Number f) [] v
+pub number_ends : (states : Elements) (f : FirstNumber) (v : StartWeights) → count_of states ≡ 1 → (f.value ≡ pos 0) ⊎ (f.value ≡ pos one) → v ≡ all_states states → StartGives states (reader.Number f) [] v
 number_ends states f v count is shares = record { further = []; numbers = numbers.none; given = only_state count (whole is) shares }
   where
     whole : (f.value ≡ pos 0) ⊎ (f.value ≡ pos one) → (f.value ∷ [] ≡ pos 0 ∷ []) ⊎ (f.value ∷ [] ≡ pos one ∷ [])
     whole (inl e) = inl (ap (λ h. h ∷ []) e)
     whole (inr e) = inr (ap (λ h. h ∷ []) e)
 
-pub shares_end : (states : Elements) (n : Numbers ℕ) (v : Shares) → IsFull n → sum n.read ≡ one → v ≡ shares_of n.read → StartGives states (reader.Probabilities n) [] v
+pub shares_end : (states : Elements) (n : Numbers ℕ) (v : StartWeights) → IsFull n → sum n.read ≡ one → v ≡ shares_of n.read → StartGives states (reader.Probabilities n) [] v
 shares_end states n v full total shares = record { all = n.read; go = full_list of_probabilities n full; whole = (total, shares) }
 
 -- ---- reasons
 
-pub digits_stop : (digits : Digits) (f : FirstNumber) (w : Wanted) (l : Lexeme) (kind : ItemFault) (place : ℕ) → digits.value ≡ Ok f.value → f.place ≡ digits.place
+pub digits_stop : (digits : StateOrNumber) (f : FirstNumber) (w : Expected) (l : Lexeme) (kind : ItemFault) (place : ℕ) → digits.value ≡ Ok f.value → f.place ≡ digits.place
     → IsStop (IsDueNumber f.value f.place l) None w l kind place → IsStop (IsDueValue digits.value digits.place l) None w l kind place
 digits_stop digits f w l kind place is at (due d) = due (subst (λ v. IsDueValue v digits.place l kind place) (sym is) (subst (λ p. IsDueNumber f.value p l kind place) at d))
 digits_stop digits f w l kind place is at (at_once m r) = at_once m r

@@ -2,7 +2,7 @@
 use Rattle.std.proofs.Common.{◌≡◌, ◌∙◌, ℕ, List, [], Result, Ok, Err, OnOk, refl}
 use Rattle.polcert_text.specs.Cut.{Lexeme}
 use Rattle.polcert_cells.specs.declared.elements.Elements.{Elements}
-use Rattle.polcert_cells.specs.declared.shares.Shares.{Shares}
+use Rattle.polcert_cells.specs.declared.start_weights.StartWeights.{StartWeights}
 use Rattle.polcert_cells.specs.Start.{IsStart}
 use Rattle.polcert_cells.specs.Elements.{count_of}
 use Rattle.polcert_items.specs.declared.entry_reader.Numbers.{Numbers}
@@ -11,26 +11,26 @@ use Rattle.polcert_items.specs.Steps.Entries.{ProbabilitiesGo, HasRoom}
 use Rattle.polcert_items.specs.Steps.Feeding.{IsStartFed}
 use Rattle.polcert_items.specs.Steps.Lines.{Takes}
 use Rattle.polcert_items.specs.Steps.Numbers.{SignIs}
-use Rattle.polcert_items.specs.Steps.Start.{StartGives, new_start, IsStartWithin, IsStartSeen, AreWithin}
-use Rattle.polcert_items.specs.Steps.Wants.{Leads, list_wants}
+use Rattle.polcert_items.specs.Steps.Start.{StartGives, new_start, IsStartWithin, HasReadStart, AreWithin}
+use Rattle.polcert_items.specs.Steps.Wants.{ExpectsNext, list_wants}
 use Rattle.polcert_items.proofs.StartNumbers.{shares_take}
 use Rattle.polcert_items.proofs.StartSeen.{further_seen}
 
-pub new_start_on : (states : Elements) (ls : List Lexeme) (found : Shares) → IsStart states ls found → StartGives states new_start ls found
+pub new_start_on : (states : Elements) (ls : List Lexeme) (found : StartWeights) → IsStart states ls found → StartGives states new_start ls found
 new_start_on states ls found a = a
 
-pub new_start_back : (states : Elements) (ls : List Lexeme) (found : Shares) → StartGives states new_start ls found → IsStart states ls found
+pub new_start_back : (states : Elements) (ls : List Lexeme) (found : StartWeights) → StartGives states new_start ls found → IsStart states ls found
 new_start_back states ls found a = a
 
 pub new_start_within : (states : Elements) → IsStartWithin states new_start
 new_start_within states = tt
 
-pub new_start_seen : (count : ℕ) → IsStartSeen count [] new_start
+pub new_start_seen : (count : ℕ) → HasReadStart count [] new_start
 new_start_seen count = record { sign = refl; body_is = refl }
 
 -- more probabilities
 pub shares_fed : {E : Type 0} (result : Result Unit E) (states : Elements) (old new : Numbers ℕ) (l : Lexeme) → AreWithin states old → new.needed ≡ old.needed → OnOk result (HasRoom new)
-    → OnOk result (Takes ProbabilitiesGo old l new) → OnOk result (Leads (list_wants old) l (list_wants new)) → OnOk result (SignIs new.sign l)
+    → OnOk result (Takes ProbabilitiesGo old l new) → OnOk result (ExpectsNext (list_wants old) l (list_wants new)) → OnOk result (SignIs new.sign l)
     → OnOk result (IsStartFed states (reader.Probabilities old) l (reader.Probabilities new))
 shares_fed (Ok v) states old new l within needed room takes leads sign = record {
   within = record { more = within.more; needed = needed ∙ within.needed; room = room };

@@ -12,17 +12,17 @@ use Rattle.polcert_items.specs.declared.signed_number.Sign.{Sign}
 use Rattle.polcert_items.specs.declared.signed_number.Refusal.{Refusal}
 use Rattle.polcert_items.specs.declared.signed_number.Range.TheVariants as ranges
 use Rattle.polcert_items.specs.declared.start_numbers.FirstNumber.{FirstNumber}
-use Rattle.polcert_items.specs.declared.start_numbers.Digits.{Digits}
+use Rattle.polcert_items.specs.declared.start_numbers.StateOrNumber.{StateOrNumber}
 use Rattle.polcert_items.specs.declared.start_reader.StartReader.{StartReader}
 use Rattle.polcert_items.specs.declared.start_reader.StartReader.TheVariants as reader
-use Rattle.polcert_items.specs.declared.stop.ItemEnd.{ItemEnd}
-use Rattle.polcert_items.specs.declared.stop.Stop.{Stop}
-use Rattle.polcert_items.specs.declared.stop.Stop.TheVariants as stops
+use Rattle.polcert_items.specs.declared.feed_error.EndError.{EndError}
+use Rattle.polcert_items.specs.declared.feed_error.FeedError.{FeedError}
+use Rattle.polcert_items.specs.declared.feed_error.FeedError.TheVariants as stops
 use Rattle.polcert_cells.specs.Numbers.{IsMillionths}
 use Rattle.polcert_cells.specs.declared.elements.Elements.{Elements}
 use Rattle.polcert_items.specs.Steps.Lines.{Takes, CannotTake, CannotEnd}
 use Rattle.polcert_items.specs.Steps.Feeding.{IsStartFed, RefusesInStart}
-use Rattle.polcert_items.specs.Steps.Wants.{Leads, start_wants}
+use Rattle.polcert_items.specs.Steps.Wants.{ExpectsNext, start_wants}
 use Rattle.polcert_cells.specs.Elements.{count_of}
 use Rattle.polcert_cells.specs.declared.words.Topic.TheVariants.{Start}
 use Rattle.polcert_cells.specs.Words.{IsWord, IsName}
@@ -30,7 +30,7 @@ use Rattle.polcert_items.specs.Steps.Items.{IsEndReason}
 use Rattle.polcert_format.specs.Reasons.{StandsIn, NumberStandsIn, unsigned, plus, minus, IsRefusedNumber, IsNoFraction, IsDigits, is_sign, ends_in_sign}
 use Rattle.polcert_items.specs.Steps.Numbers.{is_negative, number_place, IsSignAt, SignIs, SignEnds}
 use Rattle.polcert_items.specs.Steps.Numbers as steps
-use Rattle.polcert_format.specs.Misfits.{Wanted, NumberOrEnd, IsMisfit}
+use Rattle.polcert_format.specs.Misfits.{Expected, NumberOrEnd, IsMisfit}
 use Rattle.polcert_format.specs.FirstNumber.{BeginsWithNumber, BeginsWithDigits}
 use Rattle.polcert_format.specs.FirstNumber as begins
 use Rattle.polcert_format.specs.Wants.{may_be_state, number_end}
@@ -42,7 +42,7 @@ use Rattle.polcert_items.proofs.PatternLaws.{if_err_map, refused_map, each_refus
 use Rattle.polcert_items.proofs.StartForms.{test_different}
 use Rattle.polcert_items.proofs.StartNumbers.{digits_stop, digits_stuck, first_is, none_is, valueless_stuck}
 use Rattle.polcert_items.specs.Steps.Entries.{IfRefused, IsListReason, no_number, no_further}
-use Rattle.polcert_items.specs.Steps.Start.{start_sign, pending_of, pending, IsValue, AreDigits, IsFormed, IsKept, IsNumberKept, IsBehindColon, IsListBegun, IsWordBody, IsFraction, IsStartSeen, IsReasonAt, IsOutside, IsDueNumber, IsDueValue, IsStop, due, at_once, IsReasonIn, IsStartReason, IsStartEndKind, IfNotMemory, StartGoes, StartGives, IsStartWithin, first_of}
+use Rattle.polcert_items.specs.Steps.Start.{start_sign, pending_of, pending, IsValue, AreDigits, IsFormed, IsKept, IsNumberKept, IsAfterColon, IsListBegun, IsWordBody, IsFraction, HasReadStart, IsReasonAt, IsOutside, IsDueNumber, IsDueValue, IsStop, due, at_once, IsReasonIn, IsStartReason, IsStartEndKind, IfNotMemory, StartGoes, StartGives, IsStartWithin, first_of}
 
 none≢some : {A : Type 0} {x : A} → None ≡ Some x → ⊥
 none≢some e = cc
@@ -141,7 +141,7 @@ numeral_no_sign : (l : Lexeme) → l.kind ≡ Numeral → is_sign l.kind ≡ fal
 numeral_no_sign l e = ap is_sign e
 
 -- after the colon, and a sign if there is one, a number begins the body
-number_begins : (sign : Option Sign) (body : List Lexeme) (l : Lexeme) (place : ℕ) (Is : Bool → Lexeme → Type 0) → IsBehindColon sign body → place ≡ number_place sign l → Is (is_negative sign) l
+number_begins : (sign : Option Sign) (body : List Lexeme) (l : Lexeme) (place : ℕ) (Is : Bool → Lexeme → Type 0) → IsAfterColon sign body → place ≡ number_place sign l → Is (is_negative sign) l
     → BeginsWithNumber (body ++ l ∷ []) place Is []
 number_begins None body l place Is b p so = begins.unsigned b.0 l (ap (λ (c : List Lexeme). c ++ l ∷ []) b.1) b.2 p so
 number_begins (Some sign) body l place Is b p so = at b.4
@@ -157,24 +157,24 @@ number_begins (Some sign) body l place Is b p so = at b.4
 second_of : (c l d : Lexeme) (body ls : List Lexeme) → body ≡ c ∷ [] → body ++ l ∷ [] ≡ ls → (x : Lexeme) → ls ≡ x ∷ d ∷ [] → l ≡ d
 second_of c l d body ls e f x g = same_head (same_tail (sym (ap (λ (b : List Lexeme). b ++ l ∷ []) e) ∙ f ∙ g))
 
-no_number_digits : (count : ℕ) (body : List Lexeme) (l : Lexeme) → IsBehindColon None body → may_be_state count l.kind l.bytes ≡ false → (place : ℕ)
+no_number_digits : (count : ℕ) (body : List Lexeme) (l : Lexeme) → IsAfterColon None body → may_be_state count l.kind l.bytes ≡ false → (place : ℕ)
     → BeginsWithDigits count (body ++ l ∷ []) place (λ x. Unit {0}) [] → ⊥
 no_number_digits count body l b none place d =
     let same : l ≡ d.digits = second_of b.0 l d.digits body (body ++ l ∷ []) b.1 refl d.colon d.whole in
     true≢false d.are_digits (subst (λ (x : Lexeme). may_be_state count x.kind x.bytes ≡ false) same none)
 
 -- a signed number is no digits alone
-no_signed_digits : (count : ℕ) (sign : Sign) (body : List Lexeme) (l : Lexeme) → IsBehindColon (Some sign) body → (place : ℕ) → BeginsWithDigits count (body ++ l ∷ []) place (λ x. Unit {0}) [] → ⊥
+no_signed_digits : (count : ℕ) (sign : Sign) (body : List Lexeme) (l : Lexeme) → IsAfterColon (Some sign) body → (place : ℕ) → BeginsWithDigits count (body ++ l ∷ []) place (λ x. Unit {0}) [] → ⊥
 no_signed_digits count sign body l b place d = cons≢nil (same_tail (same_tail (sym (ap (λ (c : List Lexeme). c ++ l ∷ []) b.2) ∙ d.whole)))
 
-first_seen : (count : ℕ) (sign : Option Sign) (body : List Lexeme) (l : Lexeme) (first : FirstNumber) → IsBehindColon sign body → IsNumberKept sign l (reader.Number first)
-    → ((place : ℕ) → BeginsWithDigits count (body ++ l ∷ []) place (λ x. Unit {0}) [] → ⊥) → IsStartSeen count (body ++ l ∷ []) (reader.Number first)
+first_seen : (count : ℕ) (sign : Option Sign) (body : List Lexeme) (l : Lexeme) (first : FirstNumber) → IsAfterColon sign body → IsNumberKept sign l (reader.Number first)
+    → ((place : ℕ) → BeginsWithDigits count (body ++ l ∷ []) place (λ x. Unit {0}) [] → ⊥) → HasReadStart count (body ++ l ∷ []) (reader.Number first)
 first_seen count sign body l first b k none = record {
   sign = sign_ends None body l (numeral_no_sign l k.1.kind);
   body_is = record { number = number_begins sign body l first.place (λ negative m. IsMillionths negative m first.value) b k.0 k.1; no_digits = none };
 }
 
-sign_seen : (count : ℕ) (body : List Lexeme) (l : Lexeme) (s : Sign) → IsBehindColon None body → IsSignAt s l → IsStartSeen count (body ++ l ∷ []) (reader.Sign s)
+sign_seen : (count : ℕ) (body : List Lexeme) (l : Lexeme) (s : Sign) → IsAfterColon None body → IsSignAt s l → HasReadStart count (body ++ l ∷ []) (reader.Sign s)
 sign_seen count body l s b at = record {
   sign = sign_ends (Some s) body l at;
   body_is = (b.0, l, ap (λ (c : List Lexeme). c ++ l ∷ []) b.1, b.2, at);
@@ -187,7 +187,7 @@ one_state_or_more count l more d = subst (λ kind. may_be_state count kind l.byt
     several false e = d.1
     several true e = absurd (true≢false refl e)
 
-digits_seen : (count : ℕ) (body : List Lexeme) (l : Lexeme) (d : Digits) → IsBehindColon None body → AreDigits count l d → IsStartSeen count (body ++ l ∷ []) (reader.Digits d)
+digits_seen : (count : ℕ) (body : List Lexeme) (l : Lexeme) (d : StateOrNumber) → IsAfterColon None body → AreDigits count l d → HasReadStart count (body ++ l ∷ []) (reader.StateOrNumber d)
 digits_seen count body l d b k = record {
   sign = sign_ends None body l (numeral_no_sign l k.digits_are.0);
   body_is = record {
@@ -201,32 +201,32 @@ digits_seen count body l d b k = record {
   };
 }
 
-word_seen : (body : List Lexeme) (l : Lexeme) → IsBehindColon None body → l.kind ≡ Name → IsWordBody (body ++ l ∷ [])
+word_seen : (body : List Lexeme) (l : Lexeme) → IsAfterColon None body → l.kind ≡ Name → IsWordBody (body ++ l ∷ [])
 word_seen body l b name = (b.0, l, ap (λ (c : List Lexeme). c ++ l ∷ []) b.1, name)
 
 -- after the colon
-pub body_seen : (count : ℕ) (body : List Lexeme) (l : Lexeme) (r : StartReader) → IsBehindColon None body → IsKept count l r → IsStartSeen count (body ++ l ∷ []) r
+pub body_seen : (count : ℕ) (body : List Lexeme) (l : Lexeme) (r : StartReader) → IsAfterColon None body → IsKept count l r → HasReadStart count (body ++ l ∷ []) r
 body_seen count body l reader.Every b k = record { sign = sign_ends None body l (ap is_sign k); body_is = word_seen body l b k }
 body_seen count body l (reader.Only s) b k = record { sign = sign_ends None body l (ap is_sign k); body_is = word_seen body l b k }
-body_seen count body l (reader.Digits d) b k = digits_seen count body l d b k
+body_seen count body l (reader.StateOrNumber d) b k = digits_seen count body l d b k
 body_seen count body l (reader.Sign s) b k = sign_seen count body l s b k.1.1
 body_seen count body l (reader.Number first) b k = first_seen count None body l first b k.1 (no_number_digits count body l b k.0)
 body_seen count body l _ b k = absurd k.1
 
 -- after the first number's sign
-pub numeral_seen : (count : ℕ) (sign : Sign) (body : List Lexeme) (l : Lexeme) (r : StartReader) → IsBehindColon (Some sign) body → IsNumberKept (Some sign) l r → IsStartSeen count (body ++ l ∷ []) r
+pub numeral_seen : (count : ℕ) (sign : Sign) (body : List Lexeme) (l : Lexeme) (r : StartReader) → IsAfterColon (Some sign) body → IsNumberKept (Some sign) l r → HasReadStart count (body ++ l ∷ []) r
 numeral_seen count sign body l (reader.Number first) b k = first_seen count (Some sign) body l first b k (no_signed_digits count sign body l b)
 numeral_seen count sign body l (reader.Sign s) b k = absurd (none≢some (sym k.0))
 numeral_seen count sign body l _ b k = absurd k
 
 -- the first lexeme
-pub form_seen : (count : ℕ) (body : List Lexeme) (l : Lexeme) (r : StartReader) → body ≡ [] → IsFormed l r → IsStartSeen count (body ++ l ∷ []) r
+pub form_seen : (count : ℕ) (body : List Lexeme) (l : Lexeme) (r : StartReader) → body ≡ [] → IsFormed l r → HasReadStart count (body ++ l ∷ []) r
 form_seen count body l (reader.Colon c) b k = record { sign = sign_ends None body l (ap is_sign k); body_is = (l, [], ap (λ (x : List Lexeme). x ++ l ∷ []) b, k) }
 form_seen count body l reader.Body b k = record { sign = sign_ends None body l (ap is_sign k); body_is = (l, ap (λ (x : List Lexeme). x ++ l ∷ []) b, k) }
 form_seen count body l _ b k = absurd k
 
 -- a list of states
-pub list_seen : (count : ℕ) (body : List Lexeme) (l : Lexeme) (c : Chosen) → IsListBegun body → is_sign l.kind ≡ false → IsStartSeen count (body ++ l ∷ []) (reader.List c)
+pub list_seen : (count : ℕ) (body : List Lexeme) (l : Lexeme) (c : Chosen) → IsListBegun body → is_sign l.kind ≡ false → HasReadStart count (body ++ l ∷ []) (reader.List c)
 list_seen count body l c b free = record {
   sign = sign_ends None body l free;
   body_is = (b.0, b.1 ++ l ∷ [], ap (λ (x : List Lexeme). x ++ l ∷ []) b.2, b.3);
@@ -236,28 +236,28 @@ fraction_of : (h : ℤ) → (IsOutside h → ⊥) → (negative : Bool) (l : Lex
 fraction_of h inside negative l v = (h, v, inside)
 
 -- more numbers
-first_further : (count : ℕ) (body : List Lexeme) (l : Lexeme) (place : ℕ) (n : Numbers ℕ) → BeginsWithNumber body place IsFraction [] → SignIs n.sign l → IsStartSeen count (body ++ l ∷ []) (reader.Probabilities n)
+first_further : (count : ℕ) (body : List Lexeme) (l : Lexeme) (place : ℕ) (n : Numbers ℕ) → BeginsWithNumber body place IsFraction [] → SignIs n.sign l → HasReadStart count (body ++ l ∷ []) (reader.Probabilities n)
 first_further count body l place n number sign = record {
   sign = sign_ends n.sign body l sign;
-  body_is = record { place = place; next = l; behind = []; number = begins_more body place IsFraction [] (l ∷ []) number };
+  body_is = record { place = place; next = l; following = []; number = begins_more body place IsFraction [] (l ∷ []) number };
 }
 
-pub number_seen : (count : ℕ) (body : List Lexeme) (l : Lexeme) (f : FirstNumber) (n : Numbers ℕ) → IsStartSeen count body (reader.Number f) → (IsOutside f.value → ⊥) → SignIs n.sign l
-    → IsStartSeen count (body ++ l ∷ []) (reader.Probabilities n)
+pub number_seen : (count : ℕ) (body : List Lexeme) (l : Lexeme) (f : FirstNumber) (n : Numbers ℕ) → HasReadStart count body (reader.Number f) → (IsOutside f.value → ⊥) → SignIs n.sign l
+    → HasReadStart count (body ++ l ∷ []) (reader.Probabilities n)
 number_seen count body l f n s inside sign = first_further count body l f.place n (begins_map body f.place _ IsFraction [] (fraction_of f.value inside) s.body_is.number) sign
 
-pub digits_go_on : (count : ℕ) (body : List Lexeme) (l : Lexeme) (d : Digits) (f : FirstNumber) (n : Numbers ℕ) → IsStartSeen count body (reader.Digits d) → d.value ≡ Ok f.value → (IsOutside f.value → ⊥)
-    → SignIs n.sign l → IsStartSeen count (body ++ l ∷ []) (reader.Probabilities n)
+pub digits_go_on : (count : ℕ) (body : List Lexeme) (l : Lexeme) (d : StateOrNumber) (f : FirstNumber) (n : Numbers ℕ) → HasReadStart count body (reader.StateOrNumber d) → d.value ≡ Ok f.value → (IsOutside f.value → ⊥)
+    → SignIs n.sign l → HasReadStart count (body ++ l ∷ []) (reader.Probabilities n)
 digits_go_on count body l d f n s is inside sign =
     first_further count body l d.place n (digits_begin count body d.place _ IsFraction [] (λ x k. (f.value, subst (λ v. IsValue v false x) is k.value, inside)) s.body_is) sign
 
-pub further_seen : (count : ℕ) (body : List Lexeme) (l : Lexeme) (m n : Numbers ℕ) → IsStartSeen count body (reader.Probabilities m) → SignIs n.sign l
-    → IsStartSeen count (body ++ l ∷ []) (reader.Probabilities n)
+pub further_seen : (count : ℕ) (body : List Lexeme) (l : Lexeme) (m n : Numbers ℕ) → HasReadStart count body (reader.Probabilities m) → SignIs n.sign l
+    → HasReadStart count (body ++ l ∷ []) (reader.Probabilities n)
 further_seen count body l m n s sign =
     let b = s.body_is in
     record {
       sign = sign_ends n.sign body l sign;
-      body_is = record { place = b.place; next = b.next; behind = b.behind ++ l ∷ []; number = begins_more body b.place IsFraction (b.next ∷ b.behind) (l ∷ []) b.number };
+      body_is = record { place = b.place; next = b.next; following = b.following ++ l ∷ []; number = begins_more body b.place IsFraction (b.next ∷ b.following) (l ∷ []) b.number };
     }
 
 -- ---- reasons
@@ -285,13 +285,13 @@ fault_reason : (body : List Lexeme) (fault : NumberFault) (kind : ItemFault) (pl
 fault_reason body fault kind place at is p n =
     subst (λ k. IsStartReason body k place) (sym is) (subst (λ q. IsStartReason body (Number fault) q) (sym p) (at_number body at (IsRefusedNumber fault) (Number fault) (λ m. m) n))
 
-pub number_reason : (count : ℕ) (body : List Lexeme) (f : FirstNumber) (w : Wanted) (l : Lexeme) (kind : ItemFault) (place : ℕ) → IsStartSeen count body (reader.Number f)
+pub number_reason : (count : ℕ) (body : List Lexeme) (f : FirstNumber) (w : Expected) (l : Lexeme) (kind : ItemFault) (place : ℕ) → HasReadStart count body (reader.Number f)
     → IsStop (IsDueNumber f.value f.place l) None w l kind place → IsStartReason (body ++ l ∷ []) kind place
 number_reason count body f w l kind place s (at_once m r) = token_reason body None l kind place s.sign r
 number_reason count body f w l kind place s (due d) =
     range_reason (body ++ l ∷ []) f.value kind place f.place d.1.1 d.1.2 d.1.0 (number_more body l f.place _ (begins_stands body f.place _ [] s.body_is.number))
 
-pub digits_reason : (count : ℕ) (body : List Lexeme) (d : Digits) (w : Wanted) (l : Lexeme) (kind : ItemFault) (place : ℕ) → IsStartSeen count body (reader.Digits d)
+pub digits_reason : (count : ℕ) (body : List Lexeme) (d : StateOrNumber) (w : Expected) (l : Lexeme) (kind : ItemFault) (place : ℕ) → HasReadStart count body (reader.StateOrNumber d)
     → IsStop (IsDueValue d.value d.place l) None w l kind place → IsStartReason (body ++ l ∷ []) kind place
 digits_reason count body d w l kind place s (at_once m r) = token_reason body None l kind place s.sign r
 digits_reason count body d w l kind place s (due late) = of_value d.value refl late
@@ -304,8 +304,8 @@ digits_reason count body d w l kind place s (due late) = of_value d.value refl l
     of_value (Err f) is x = fault_reason (body ++ l ∷ []) f kind place d.place x.0 x.1 (stands_as (IsRefusedNumber f) (λ m. subst (λ v. IsValue v false m) is))
 
 -- digits without a value
-pub pending_reason : (count : ℕ) (body : List Lexeme) (r : StartReader) (f : Refusal) → IsStartSeen count body r → pending r ≡ Some f → IsStartReason body f.kind f.place
-pending_reason count body (reader.Digits d) f s e = of_value d.value refl e
+pub pending_reason : (count : ℕ) (body : List Lexeme) (r : StartReader) (f : Refusal) → HasReadStart count body r → pending r ≡ Some f → IsStartReason body f.kind f.place
+pending_reason count body (reader.StateOrNumber d) f s e = of_value d.value refl e
   where
     of_value : (v : Result ℤ NumberFault) → d.value ≡ v → pending_of v d.place ≡ Some f → IsStartReason body f.kind f.place
     of_value (Ok h) is e = absurd (none≢some e)
@@ -328,32 +328,32 @@ from_number sign l Reset place r = r
 from_number sign l BadShape place r = r
 from_number sign l _ place r = absurd r
 
-from_behind : (sign : Option Sign) (l : Lexeme) (kind : ItemFault) (place : ℕ) → steps.IsBehindNumbers l kind place → IsReasonAt sign l kind place
-from_behind sign l WrongNumberCount place r = r
-from_behind sign l Reset place r = r
-from_behind sign l BadShape place r = r
-from_behind sign l _ place r = absurd r
+from_after : (sign : Option Sign) (l : Lexeme) (kind : ItemFault) (place : ℕ) → steps.IsAfterNumbers l kind place → IsReasonAt sign l kind place
+from_after sign l WrongNumberCount place r = r
+from_after sign l Reset place r = r
+from_after sign l BadShape place r = r
+from_after sign l _ place r = absurd r
 
 pub list_reason : (sign : Option Sign) (l : Lexeme) (kind : ItemFault) (place : ℕ) → IsListReason ranges.Probability sign l kind place → IsReasonAt sign l kind place
 list_reason sign l kind place (no_number r) = from_number sign l kind place r
-list_reason sign l kind place (no_further r) = from_behind sign l kind place r
+list_reason sign l kind place (no_further r) = from_after sign l kind place r
 
 -- ---- from a known state
 
 pub fed_as : (states : Elements) (old r new : StartReader) (l : Lexeme) → old ≡ r → IsStartWithin states new → Takes (StartGoes states) r l new
-    → Leads (start_wants (count_of states) r) l (start_wants (count_of states) new)
-    → ((body : List Lexeme) → IsStartSeen (count_of states) body r → IsStartSeen (count_of states) (body ++ l ∷ []) new) → IsStartFed states old l new
+    → ExpectsNext (start_wants (count_of states) r) l (start_wants (count_of states) new)
+    → ((body : List Lexeme) → HasReadStart (count_of states) body r → HasReadStart (count_of states) (body ++ l ∷ []) new) → IsStartFed states old l new
 fed_as states old r new l is within takes leads seen = subst (λ s. IsStartFed states s l new) (sym is) (record { within = within; takes = takes; seen = seen; leads = leads })
 
 -- what is so of a refusal, if the result is one
-abbrev On : {T : Type 0} → Result T Stop → (Refusal → Type 0) → Type 0
+abbrev On : {T : Type 0} → Result T FeedError → (Refusal → Type 0) → Type 0
 On result P = IfErr result (λ stop. IfRefused stop P)
 
-pub refused_as : {T : Type 0} (result : Result T Stop) (states : Elements) (old r : StartReader) (l : Lexeme) → old ≡ r → On result (RefusesInStart states r l) → On result (RefusesInStart states old l)
+pub refused_as : {T : Type 0} (result : Result T FeedError) (states : Elements) (old r : StartReader) (l : Lexeme) → old ≡ r → On result (RefusesInStart states r l) → On result (RefusesInStart states old l)
 refused_as result states old r l is refused = subst (λ s. On result (RefusesInStart states s l)) (sym is) refused
 
 -- the token is refused for itself
-pub token_refused : {T : Type 0} (result : Result T Stop) (states : Elements) (r : StartReader) (l : Lexeme) → On result (λ x. CannotTake (StartGoes states) r l)
+pub token_refused : {T : Type 0} (result : Result T FeedError) (states : Elements) (r : StartReader) (l : Lexeme) → On result (λ x. CannotTake (StartGoes states) r l)
     → On result (λ x. IsReasonAt (start_sign r) l x.kind x.place) → On result (λ x. IsMisfit (start_wants (count_of states) r []) l x.kind) → On result (RefusesInStart states r l)
 token_refused (Ok v) states r l stuck reason kind = tt
 token_refused (Err (stops.Refused x)) states r l stuck reason kind =
@@ -361,31 +361,31 @@ token_refused (Err (stops.Refused x)) states r l stuck reason kind =
 token_refused (Err stops.Memory) states r l stuck reason kind = tt
 
 -- or perhaps for the first number
-pub number_refused : {T : Type 0} (result : Result T Stop) (states : Elements) (f : FirstNumber) (l : Lexeme) → On result (λ x. CannotTake (StartGoes states) (reader.Number f) l)
+pub number_refused : {T : Type 0} (result : Result T FeedError) (states : Elements) (f : FirstNumber) (l : Lexeme) → On result (λ x. CannotTake (StartGoes states) (reader.Number f) l)
     → On result (λ x. IsStop (IsDueNumber f.value f.place l) None (number_end false (count_of states - 1)) l x.kind x.place) → On result (RefusesInStart states (reader.Number f) l)
 number_refused (Ok v) states f l stuck stop = tt
 number_refused (Err (stops.Refused x)) states f l stuck stop =
     record { stuck = stuck; reason = λ body seen. number_reason (count_of states) body f _ l x.kind x.place seen stop; stops = stop }
 number_refused (Err stops.Memory) states f l stuck stop = tt
 
-digits_refused : {T : Type 0} (result : Result T Stop) (states : Elements) (d : Digits) (l : Lexeme) → On result (λ x. CannotTake (StartGoes states) (reader.Digits d) l)
-    → On result (λ x. IsStop (IsDueValue d.value d.place l) None NumberOrEnd l x.kind x.place) → On result (RefusesInStart states (reader.Digits d) l)
+digits_refused : {T : Type 0} (result : Result T FeedError) (states : Elements) (d : StateOrNumber) (l : Lexeme) → On result (λ x. CannotTake (StartGoes states) (reader.StateOrNumber d) l)
+    → On result (λ x. IsStop (IsDueValue d.value d.place l) None NumberOrEnd l x.kind x.place) → On result (RefusesInStart states (reader.StateOrNumber d) l)
 digits_refused (Ok v) states d l stuck stop = tt
 digits_refused (Err (stops.Refused x)) states d l stuck stop =
     record { stuck = stuck; reason = λ body seen. digits_reason (count_of states) body d _ l x.kind x.place seen stop; stops = stop }
 digits_refused (Err stops.Memory) states d l stuck stop = tt
 
 -- digits that are the first of more numbers, but these do not continue
-pub first_refused : {T : Type 0} (result : Result T Stop) (states : Elements) (d : Digits) (f : FirstNumber) (l : Lexeme) → Ok f ≡ first_of d.value d.place
+pub first_refused : {T : Type 0} (result : Result T FeedError) (states : Elements) (d : StateOrNumber) (f : FirstNumber) (l : Lexeme) → Ok f ≡ first_of d.value d.place
     → On result (λ x. CannotTake (StartGoes states) (reader.Number f) l) → On result (λ x. IsStop (IsDueNumber f.value f.place l) None NumberOrEnd l x.kind x.place)
-    → On result (RefusesInStart states (reader.Digits d) l)
+    → On result (RefusesInStart states (reader.StateOrNumber d) l)
 first_refused result states d f l first stuck stop =
     let is = first_is d.value d.place f first in
     digits_refused result states d l (if_err_map _ _ _ (λ stop g. refused_map stop (digits_stuck states d l f is.0) g) stuck)
     (if_err_map _ _ _ (λ stop g. each_refused_map stop (λ r n. digits_stop d f _ l r.kind r.place is.0 is.1 n) g) stop)
 
 -- digits without a value
-pub valueless_refused : (states : Elements) (d : Digits) (r : Refusal) (l : Lexeme) → Err r ≡ first_of d.value d.place → RefusesInStart states (reader.Digits d) l r
+pub valueless_refused : (states : Elements) (d : StateOrNumber) (r : Refusal) (l : Lexeme) → Err r ≡ first_of d.value d.place → RefusesInStart states (reader.StateOrNumber d) l r
 valueless_refused states d r l none =
     let is = none_is d.value d.place r none in
     digits_refused {T = Unit {0}} (Err (stops.Refused r)) states d l (valueless_stuck states d l is.0 is.1)
@@ -400,7 +400,7 @@ end_kind StartEmpty r = tt
 end_kind BadCount r = absurd r
 end_kind _ r = absurd r
 
-pub end_refused : (states : Elements) (old r : StartReader) (e : ItemEnd) → old ≡ r → IfNotMemory e (CannotEnd (StartGives states) r) → IfNotMemory e (CannotEnd (StartGives states) old)
+pub end_refused : (states : Elements) (old r : StartReader) (e : EndError) → old ≡ r → IfNotMemory e (CannotEnd (StartGives states) r) → IfNotMemory e (CannotEnd (StartGives states) old)
 end_refused states old r e is none = subst (λ s. IfNotMemory e (CannotEnd (StartGives states) s)) (sym is) none
 
 may_be_digits : (count : ℕ) (l : Lexeme) → may_be_state count l.kind l.bytes ≡ true → IsDigits l
@@ -415,7 +415,7 @@ may_be_digits count l e = (digits_numeral count l e, of l.kind e)
     of _ e = absurd (true≢false e refl)
 
 -- digits that are no state's number
-pub digits_end_reason : (count : ℕ) (body : List Lexeme) (d : Digits) → IsStartSeen count body (reader.Digits d) → IsStartReason body IndexOutOfRange d.place
+pub digits_end_reason : (count : ℕ) (body : List Lexeme) (d : StateOrNumber) → HasReadStart count body (reader.StateOrNumber d) → IsStartReason body IndexOutOfRange d.place
 digits_end_reason count body d s =
     let b = s.body_is in
     record {

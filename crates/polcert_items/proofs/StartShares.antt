@@ -11,9 +11,9 @@ use Rattle.polcert_items.specs.declared.chosen.Choice.TheVariants.{Include}
 use Rattle.polcert_cells.specs.Numbers.{one}
 use Rattle.polcert_cells.specs.declared.elements.Elements.{Elements}
 use Rattle.polcert_cells.specs.Elements.{count_of}
-use Rattle.polcert_cells.specs.declared.shares.Shares.{Shares}
-use Rattle.polcert_cells.specs.Start.{alike, single, shares_of, is_level, is_positive}
-use Rattle.polcert_items.specs.Steps.Start.{marked, AreUnmarked, picks, first_above_0, is_level_at, level_share}
+use Rattle.polcert_cells.specs.declared.start_weights.StartWeights.{StartWeights}
+use Rattle.polcert_cells.specs.Start.{equal_weights, single, shares_of, is_level, is_positive}
+use Rattle.polcert_items.specs.Steps.Start.{marked, AreUnmarked, picks, first_above_0, is_level_at, support_weight}
 use Rattle.polcert_items.proofs.StartForms.{marked_more}
 
 -- ---- marks
@@ -88,16 +88,16 @@ shares_more picked state old new total weight e w are =
       small = omega (arith, low, w, one);
     }
 
-alike_same : (n : ℕ) (p q : ℕ → Bool) → ((s : ℕ) → p s ≡ q s) → alike n p ≡ alike n q
+alike_same : (n : ℕ) (p q : ℕ → Bool) → ((s : ℕ) → p s ≡ q s) → equal_weights n p ≡ equal_weights n q
 alike_same n p q e =
     let same : p ≡ q = λ i s. e s i in
-    ap (alike n) same
+    ap (equal_weights n) same
 
 -- ---- shares by probability
 
 -- the shares of the probabilities so far
 pub record AreLevelTo (taken : List ℕ) (state : ℕ) (weights : List ℕ) (total : ℕ) : Type 0 where
-  pub weights_are : weights ≡ map level_share taken
+  pub weights_are : weights ≡ map support_weight taken
   pub total_is : total ≡ count_by is_positive taken
   pub small : total ≤ state
 
@@ -131,15 +131,15 @@ first_in [] = all_0 (λ k. refl)
 first_in (suc p ∷ ps) =
     let here : first_above_0 (suc p ∷ ps) ≡ suc p = first_here (suc p) ps (λ e. omega (arith, e)) in
     found 0 (omega arith) (sym here) (λ e. omega (arith, e, here))
-first_in (zero ∷ ps) = behind (first_above_0 ps) (first_in ps)
+first_in (zero ∷ ps) = following (first_above_0 ps) (first_in ps)
   where
     all : ((k : ℕ) → get_or ps k 0 ≡ 0) → (k : ℕ) → get_or (zero ∷ ps) k 0 ≡ 0
     all none zero = refl
     all none (suc k) = none k
 
-    behind : (first : ℕ) → First first ps → First first (zero ∷ ps)
-    behind first (found k low e some) = found (suc k) (omega arith) e some
-    behind first (all_0 none) = all_0 (all none)
+    following : (first : ℕ) → First first ps → First first (zero ∷ ps)
+    following first (found k low e some) = found (suc k) (omega arith) e some
+    following first (all_0 none) = all_0 (all none)
 
 abbrev at_level : ℕ → ℕ → Bool
 at_level level p = p == 0 || p == level
@@ -183,11 +183,11 @@ level_is ps = same_tests (is_level_at (first_above_0 ps) ps) (is_level ps) (λ e
 -- ---- shares of all states, or of one
 
 pub one_shares : (states : Elements) (choice : Choice) (count s : ℕ) (old new : List Bool) → choice ≡ Include → count ≡ count_of states → s < count → AreUnmarked count old → new ≡ slice_set old s true
-    → alike (length new) (picks choice (marked new)) ≡ single states s
+    → equal_weights (length new) (picks choice (marked new)) ≡ single states s
 one_shares states choice count s old new is same low are set =
     let size : length new ≡ count_of states = ap length set ∙ length-set old s true ∙ are.size ∙ same in
-    ap (λ n. alike n (picks choice (marked new))) size
-    ∙ ap (λ c. alike (count_of states) (picks c (marked new))) is
+    ap (λ n. equal_weights n (picks choice (marked new))) size
+    ∙ ap (λ c. equal_weights (count_of states) (picks c (marked new))) is
     ∙ alike_same (count_of states) (marked new) (λ k. k == s) (λ k. ap (λ m. marked m k) set ∙ marked_more old s (subst (λ n. s < n) (sym are.size) low) k ∙ at k)
   where
     turned : (a b : ℕ) → (a == b) ≡ (b == a)
@@ -196,15 +196,15 @@ one_shares states choice count s old new is same low are set =
     at : (k : ℕ) → (marked old k || (s == k)) ≡ (k == s)
     at k = ap (λ b. b || (s == k)) (are.none k) ∙ turned s k
 
-abbrev millionths_of : List ℕ → Shares
+abbrev millionths_of : List ℕ → StartWeights
 millionths_of ps = record { weights = ps; total = one }
 
 -- probabilities of which all above 0 are the same
-pub level_shares_are : {E : Type 0} (r : Result Shares E) (ps qs : List ℕ) → qs ≡ ps → is_level ps ≡ true → IfOk r (λ s. s.weights ≡ map level_share qs) → IfOk r (λ s. s.total ≡ count_by is_positive qs)
+pub level_shares_are : {E : Type 0} (r : Result StartWeights E) (ps qs : List ℕ) → qs ≡ ps → is_level ps ≡ true → IfOk r (λ s. s.weights ≡ map support_weight qs) → IfOk r (λ s. s.total ≡ count_by is_positive qs)
     → IfOk r (λ s. s ≡ shares_of ps)
 level_shares_are (Ok s) ps qs e level weights total =
-    let alike_ones : Shares = record { weights = map level_share ps; total = count_by is_positive ps } in
-    let same : s ≡ alike_ones = λ i. record { weights = (weights ∙ ap (map level_share) e) i; total = (total ∙ ap (count_by is_positive) e) i } in
+    let alike_ones : StartWeights = record { weights = map support_weight ps; total = count_by is_positive ps } in
+    let same : s ≡ alike_ones = λ i. record { weights = (weights ∙ ap (map support_weight) e) i; total = (total ∙ ap (count_by is_positive) e) i } in
     let picked : shares_of ps ≡ alike_ones = ap (λ b. if b then alike_ones else millionths_of ps) level in
     same ∙ sym picked
 level_shares_are (Err f) ps qs e level weights total = tt

@@ -1,29 +1,30 @@
 -- The items of a text that was read to its end are right and sound.
-use Rattle.std.proofs.Common.{◌≡◌, ℕ, Bool, false, Option, unwrap_or, List, sym, ap, subst}
+use Rattle.std.proofs.Common.{◌≡◌, ◌∙◌, ℕ, Bool, false, Option, unwrap_or, List, sym, ap, subst}
 use Rattle.polcert_text.specs.Cut.{Lexeme}
 use Rattle.polcert_cells.specs.declared.elements.Elements.{Elements}
 use Rattle.polcert_cells.specs.declared.elements.Elements.TheVariants.{Count}
 use Rattle.polcert_cells.specs.declared.entry.Entry.{Entry}
-use Rattle.polcert_cells.specs.declared.shares.Shares.{Shares}
+use Rattle.polcert_cells.specs.declared.start_weights.StartWeights.{StartWeights}
 use Rattle.polcert_cells.specs.Steps.Sound.{IsSound, draft_of}
 use Rattle.polcert_format.specs.KnownPreamble.{preamble_in}
-use Rattle.polcert_format.specs.Text.{Known, IsComplete, IsRightText}
+use Rattle.polcert_format.specs.Text.{ModelSoFar, IsComplete, IsRightText}
 use Rattle.polcert_format.proofs.KnownLaws.{same_preamble}
 use Rattle.polcert_format.proofs.OrderLaws.{is_complete}
 use Rattle.polcert_format.proofs.SoundTexts.{right_text_sound}
-use Rattle.polcert_items.specs.Steps.Known.{known_of, IsWholeRead, said}
+use Rattle.polcert_items.specs.Steps.ModelSoFar.{known_of, IsWholeRead, said}
 
 -- its items are right, with the preamble that is known
-pub whole_right : (seen : List Lexeme) (k : Known) → IsWholeRead seen k → IsRightText seen (preamble_in k) k
+pub whole_right : (seen : List Lexeme) (k : ModelSoFar) → IsWholeRead seen k → IsRightText seen (preamble_in k) k
 whole_right seen k w =
     let c = is_complete k w.complete in
     record { items = w.items.items; divided = w.items.divided; right = w.items.right; complete = subst (IsComplete k) (sym (same_preamble k c.0 c.1.lines)) c.1 }
 
-pub whole_sound : (seen : List Lexeme) (k : Known) → IsWholeRead seen k → IsSound (said k)
+pub whole_sound : (seen : List Lexeme) (k : ModelSoFar) → IsWholeRead seen k → IsSound (said k)
 whole_sound seen k w = right_text_sound seen (preamble_in k) k (whole_right seen k w)
 
 -- what the items say, of the lines as they are held
-pub said_is : (k : Known) (discount : Option ℕ) (costs : Option Bool) (states actions observations : Option Elements) (start : Option Shares) (es : List Entry)
-    → known_of discount costs states actions observations start es ≡ k
-    → said k ≡ draft_of (unwrap_or discount 0) (unwrap_or costs false) (unwrap_or states (Count 0)) (unwrap_or actions (Count 0)) observations start es
-said_is k discount costs states actions observations start es e = ap said (sym e)
+pub said_is : (k : ModelSoFar) (discount : Option ℕ) (costs : Option Bool) (states actions observations : Option Elements) (start : Option StartWeights) (es : List Entry)
+    → known_of discount costs states actions observations start es ≡ k → (g : ℕ) (c : Bool) (s a : Elements)
+    → g ≡ unwrap_or discount 0 → c ≡ unwrap_or costs false → s ≡ unwrap_or states (Count 0) → a ≡ unwrap_or actions (Count 0)
+    → said k ≡ draft_of g c s a observations start es
+said_is k discount costs states actions observations start es e g c s a eg ec es_ ea = ap said (sym e) ∙ sym (λ j. draft_of (eg j) (ec j) (es_ j) (ea j) observations start es)

@@ -7,13 +7,14 @@ ghost use Rattle.polcert_items.specs.Steps.Ahead.{FedAhead, TakesAhead, IsListFe
 ghost use Rattle.polcert_items.specs.Steps.Entries.{IsWithinIndices};
 ghost use Rattle.polcert_items.specs.Steps.Items.{IsItemWithin};
 
+use crate::elements::named;
 use crate::entry_reader::{EntryReader, EntryState, Numbers, indices_of, takes_numbers};
 use crate::item::ItemReader;
-use crate::known::Known;
 use crate::list_number::ListNumber;
+use crate::model_so_far::ModelSoFar;
 use crate::signed_number::range_fault;
 use polcert_cells::{Place, Table};
-use polcert_text::{front_colon, front_digits, front_number, front_token};
+use polcert_text::{front_colon, front_digits, front_name, front_number, front_token};
 use std::alloc::{AllocError, Global};
 
 /// A place at the front of some bytes, and how many bytes it takes with the blanks before it.
@@ -37,7 +38,7 @@ impl ItemReader {
     pub fn feed_ahead(
         &mut self,
         alloc: Global,
-        known: &Known,
+        known: &ModelSoFar,
         bytes: &[u8],
     ) -> Result<usize, AllocError>
         requires { IsItemWithin known.now self.old }
@@ -51,12 +52,12 @@ impl ItemReader {
 }
 
 impl EntryReader {
-    /// The same of an entry. Only where its line begins is it tried whether places come next.
+    /// Takes tokens of an entry ahead. It tries for places only if the line of the entry begins.
     #[inline(always)]
     fn feed_ahead(
         &mut self,
         alloc: Global,
-        known: &Known,
+        known: &ModelSoFar,
         bytes: &[u8],
     ) -> Result<usize, AllocError>
         requires { IsWithinIndices (indices_in known.now self.old.table) self.old }
@@ -72,7 +73,12 @@ impl EntryReader {
 
     /// Continues with places, each after a colon, and then with numbers.
     #[inline(never)]
-    fn feed_line(&mut self, alloc: Global, known: &Known, bytes: &[u8]) -> Result<usize, AllocError>
+    fn feed_line(
+        &mut self,
+        alloc: Global,
+        known: &ModelSoFar,
+        bytes: &[u8],
+    ) -> Result<usize, AllocError>
         requires { IsWithinIndices (indices_in known.now self.old.table) self.old }
         ensures { IfOk result (λ count. FedAhead known.now self.old bytes.now count self.new) }
     {
@@ -86,7 +92,7 @@ impl EntryReader {
 
     /// Continues with a colon and a place, and answers how many bytes they are, if they come next.
     #[inline(always)]
-    fn feed_place_ahead(&mut self, known: &Known, bytes: &[u8]) -> Option<usize>
+    fn feed_place_ahead(&mut self, known: &ModelSoFar, bytes: &[u8]) -> Option<usize>
         requires { IsWithinIndices (indices_in known.now self.old.table) self.old }
         ensures fed { IfSome result (λ count. FedAhead known.now self.old bytes.now count self.new) }
         ensures within { IsWithinIndices (indices_in known.now self.new.table) self.new }
@@ -107,10 +113,22 @@ impl EntryReader {
         };
         match self.places.push(front.place) {
             Ok(()) => {
-                self.state = EntryState::Body;
+                self.await_body();
                 Some(colon + front.len)
             }
             Err(AllocError) => None,
+        }
+    }
+
+    /// Goes on to the body or a further colon. The state is large, so it is written only if it changes.
+    #[inline(always)]
+    fn await_body(&mut self)
+        ensures state { self.new.state ≡ EntryState.Body }
+        ensures places { self.new.places ≡ self.old.places }
+        ensures table { self.new.table ≡ self.old.table }
+    {
+        if !self.awaits_body() {
+            self.state = EntryState::Body;
         }
     }
 
@@ -135,26 +153,52 @@ impl EntryReader {
         }
     }
 
-    /// The next place, if a token that is one comes next. Numbers are tried first, by a shorter way.
+    /// Returns the next place, if a token that is one comes next. Names and numbers are tried first, by shorter ways.
     #[inline(always)]
-    fn place_ahead(&self, known: &Known, bytes: &[u8]) -> Option<FrontPlace>
+    fn place_ahead(&self, known: &ModelSoFar, bytes: &[u8]) -> Option<FrontPlace>
         requires { length self.now.places < length (indices_in known.now self.now.table) }
         ensures { IfSome result (λ front. (position : ℕ) →
             BeginWithPlace (drop (length self.now.places) (named_in known.now self.now.table)) position
             bytes.now front) }
     {
+        if let Some(front) = self.name_ahead(known, bytes) {
+            return Some(front);
+        }
         match front_digits(bytes) {
             Some(index) if index.value < self.next_count(known) as u64 => Some(FrontPlace {
                 len: index.len,
                 place: Place::Only(index.value as u16),
             }),
-            _ => self.named_place_ahead(known, bytes),
+            _ => self.token_place_ahead(known, bytes),
         }
     }
 
-    /// The next place, if a name or `*` that is one comes next.
+    /// Returns the next place, if a name comes next that stands for one.
     #[inline(always)]
-    fn named_place_ahead(&self, known: &Known, bytes: &[u8]) -> Option<FrontPlace>
+    fn name_ahead(&self, known: &ModelSoFar, bytes: &[u8]) -> Option<FrontPlace>
+        requires { length self.now.places < length (indices_in known.now self.now.table) }
+        ensures { IfSome result (λ front. (position : ℕ) →
+            BeginWithPlace (drop (length self.now.places) (named_in known.now self.now.table)) position
+            bytes.now front) }
+    {
+        let Some(token) = front_name(bytes) else {
+            return None;
+        };
+        let Some(elements) = known.elements(self.table, self.places.len()) else {
+            return None;
+        };
+        match named(token, elements) {
+            Ok(index) => Some(FrontPlace {
+                len: token.stop as usize,
+                place: Place::Only(index as u16),
+            }),
+            Err(_) => None,
+        }
+    }
+
+    /// Returns the next place, if a name or `*` that is one comes next.
+    #[inline(never)]
+    fn token_place_ahead(&self, known: &ModelSoFar, bytes: &[u8]) -> Option<FrontPlace>
         requires { length self.now.places < length (indices_in known.now self.now.table) }
         ensures { IfSome result (λ front. (position : ℕ) →
             BeginWithPlace (drop (length self.now.places) (named_in known.now self.now.table)) position
@@ -172,9 +216,9 @@ impl EntryReader {
         }
     }
 
-    /// How many elements the next place may name.
+    /// Returns how many elements the next place may name.
     #[inline(always)]
-    fn next_count(&self, known: &Known) -> usize
+    fn next_count(&self, known: &ModelSoFar) -> usize
         requires { length self.now.places < length (indices_in known.now self.now.table) }
         ensures count { result ≡ count_of
             (get_or (named_in known.now self.now.table) (length self.now.places) (Count 0)) }
@@ -191,7 +235,7 @@ impl EntryReader {
     fn begin_ahead(
         &mut self,
         alloc: Global,
-        known: &Known,
+        known: &ModelSoFar,
         bytes: &[u8],
     ) -> Result<usize, AllocError>
         requires { IsWithinIndices (indices_in known.now self.old.table) self.old }
@@ -201,7 +245,7 @@ impl EntryReader {
         if !self.awaits_body() || !takes_numbers(known.is_mdp(), self.table, written) {
             return Ok(0);
         }
-        let needed = known.cells_behind(self.table, written);
+        let needed = known.cells_after(self.table, written);
         match self.table {
             Table::Reward => {
                 let Some(begun) = list_ahead(alloc, needed, bytes)? else {
@@ -230,12 +274,32 @@ fn list_ahead<T: ListNumber>(
 ) -> Result<Option<ListAhead<T>>, AllocError>
     ensures { IfOk result (λ begun. IfSome begun (IsListBegun T.kind needed bytes.now)) }
 {
+    if needed == 1 {
+        return Ok(only_ahead(alloc, bytes));
+    }
     let mut numbers = Numbers::new(alloc, needed);
     let len = numbers.feed_ahead(bytes)?;
     if numbers.read.len() == 0 {
         return Ok(None);
     }
     Ok(Some(ListAhead { numbers, len }))
+}
+
+/// Returns the list of the one number at the front of the bytes. `None`: unknown.
+#[inline(always)]
+fn only_ahead<T: ListNumber>(alloc: Global, bytes: &[u8]) -> Option<ListAhead<T>>
+    ensures { IfSome result (IsListBegun T.kind 1 bytes.now) }
+{
+    let Some(number) = front_number(bytes) else {
+        return None;
+    };
+    match range_fault(T::range(), number.value) {
+        None => Some(ListAhead {
+            numbers: Numbers::begun(alloc, 1, T::of_millionths(number.value)),
+            len: number.len,
+        }),
+        Some(_) => None,
+    }
 }
 
 impl<T: ListNumber> Numbers<T> {

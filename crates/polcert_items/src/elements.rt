@@ -4,14 +4,14 @@ ghost use Rattle.polcert_text.specs.Reading.{lexeme_of};
 ghost use Rattle.polcert_cells.specs.Elements.{count_of, StandsFor, most_elements};
 ghost use Rattle.polcert_items.specs.Steps.Elements.{IsText};
 ghost use Rattle.polcert_items.specs.Steps.Entries.{IsPlaceReason};
-ghost use Rattle.polcert_format.specs.Misfits.{misfit, Index};
+ghost use Rattle.polcert_format.specs.Misfits.{unexpected_token, Index};
 
 use crate::signed_number::{Refusal, misplaced};
 use polcert_cells::{Elements, is_reserved};
 use polcert_format::ItemFault;
 use polcert_text::{Token, TokenKind, whole_number};
 
-/// The number of the element that the token stands for: by its number, or by its name.
+/// Returns the number of the element that the token names, by number or by name.
 #[inline(always)]
 pub fn element_of(token: Token<'_>, elements: &Elements) -> Result<usize, Refusal>
     requires few { count_of elements.now ≤ most_elements }
@@ -19,7 +19,7 @@ pub fn element_of(token: Token<'_>, elements: &Elements) -> Result<usize, Refusa
     ensures element { IfOk result (StandsFor elements.now (lexeme_of token.entry)) }
     ensures refused { OnErr result ((index : ℕ) → StandsFor elements.now (lexeme_of token.entry) index → ⊥) }
     ensures reason { IfErr result (λ r. IsPlaceReason (lexeme_of token.entry) r.kind r.place) }
-    ensures kind { IfErr result (λ r. r.kind ≡ misfit Index (Some (lexeme_of token.entry))) }
+    ensures kind { IfErr result (λ r. r.kind ≡ unexpected_token Index (Some (lexeme_of token.entry))) }
 {
     match token.kind {
         TokenKind::Numeral => numbered(token, elements),
@@ -35,7 +35,7 @@ fn numbered(token: Token<'_>, elements: &Elements) -> Result<usize, Refusal>
     ensures element { IfOk result (StandsFor elements.now (lexeme_of token.entry)) }
     ensures refused { OnErr result ((index : ℕ) → StandsFor elements.now (lexeme_of token.entry) index → ⊥) }
     ensures reason { IfErr result (λ r. IsPlaceReason (lexeme_of token.entry) r.kind r.place) }
-    ensures kind { IfErr result (λ r. r.kind ≡ misfit Index (Some (lexeme_of token.entry))) }
+    ensures kind { IfErr result (λ r. r.kind ≡ unexpected_token Index (Some (lexeme_of token.entry))) }
 {
     let count = elements.count();
     match whole_number(count + 1, token.bytes) {
@@ -48,13 +48,14 @@ fn numbered(token: Token<'_>, elements: &Elements) -> Result<usize, Refusal>
     }
 }
 
-fn named(token: Token<'_>, elements: &Elements) -> Result<usize, Refusal>
+#[inline(always)]
+pub(crate) fn named(token: Token<'_>, elements: &Elements) -> Result<usize, Refusal>
     requires name { token.kind ≡ TokenKind.Name }
     requires text { IsText (lexeme_of token) }
     ensures element { IfOk result (StandsFor elements.now (lexeme_of token.entry)) }
     ensures refused { OnErr result ((index : ℕ) → StandsFor elements.now (lexeme_of token.entry) index → ⊥) }
     ensures reason { IfErr result (λ r. IsPlaceReason (lexeme_of token.entry) r.kind r.place) }
-    ensures kind { IfErr result (λ r. r.kind ≡ misfit Index (Some (lexeme_of token.entry))) }
+    ensures kind { IfErr result (λ r. r.kind ≡ unexpected_token Index (Some (lexeme_of token.entry))) }
 {
     if is_reserved(token.bytes) {
         return Err(misplaced(token));

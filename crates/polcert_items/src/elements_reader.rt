@@ -9,20 +9,20 @@ ghost use Rattle.polcert_items.specs.Steps.Items.{IsEndReason};
 ghost use Rattle.polcert_items.specs.Steps.Lines.{Takes, CannotTake, CannotEnd};
 ghost use Rattle.polcert_cells.specs.Meaning.{IsCount};
 ghost use Rattle.polcert_format.specs.Reasons.{is_sign};
-ghost use Rattle.polcert_format.specs.Misfits.{misfit, IsMisfit, CountOrName, FurtherName};
-ghost use Rattle.polcert_items.specs.Steps.Feeding.{Feeds};
-ghost use Rattle.polcert_items.specs.Steps.Wants.{Leads, elements_want};
+ghost use Rattle.polcert_format.specs.Misfits.{unexpected_token, IsMisfit, CountOrName, FurtherName};
+ghost use Rattle.polcert_items.specs.Steps.Feeding.{IsTokenStep};
+ghost use Rattle.polcert_items.specs.Steps.Wants.{ExpectsNext, elements_want};
 ghost use Rattle.polcert_cells.specs.Words.{IsName};
 
+use crate::feed_error::FeedError;
 use crate::preamble_lines::colon;
 use crate::signed_number::{Refusal, misplaced};
-use crate::stop::Stop;
 use polcert_cells::{Elements, Names, Topic, is_reserved};
 use polcert_format::ItemFault;
 use polcert_text::{Token, TokenKind, whole_number};
 use std::alloc::Global;
 
-/// `states:`, `actions:` or `observations:` and a count or names. Each call is told how many there may be at most.
+/// `states:`, `actions:` or `observations:` and a count or names. Each call gets the greatest number of them.
 #[derive(Drop)]
 pub enum ElementsReader {
     /// The colon after the item's word.
@@ -37,13 +37,13 @@ pub enum ElementsReader {
 
 impl ElementsReader {
     /// Continues with a token of the line.
-    pub fn feed(&mut self, alloc: Global, most: usize, token: Token<'_>) -> Result<(), Stop>
+    pub fn feed(&mut self, alloc: Global, most: usize, token: Token<'_>) -> Result<(), FeedError>
         requires text { IsText (lexeme_of token) }
         requires within { IsElementsRead most self.old }
         requires some { 1 ≤ most }
         requires small { most < 2 ^ 32 }
         ensures within { OnOk result (IsElementsRead most self.new) }
-        ensures fed { Feeds IfRefused (ElementsGo most) (elements_want most) (ElementsReason self.old)
+        ensures fed { IsTokenStep IfRefused (ElementsGo most) (elements_want most) (ElementsReason self.old)
             self.old (lexeme_of token.entry) self.new result }
         ensures seen { (body : List Lexeme) → AreElementsSeen body self.old
             → OnOk result (AreElementsSeen (body ++ lexeme_of token.entry ∷ []) self.new) }
@@ -59,19 +59,20 @@ impl ElementsReader {
                 *self = begin(alloc, most, token)?;
                 Ok(())
             }
-            ElementsReader::Counted(_) => Err(Stop::Refused(misplaced(token))),
+            ElementsReader::Counted(_) => Err(FeedError::Refused(misplaced(token))),
             ElementsReader::Named(names) => add_name(names, alloc, most, token),
         }
     }
 
-    /// The elements, or why the line cannot end here.
+    /// Returns the elements, or the fault if the line cannot end here.
     pub fn end(self) -> Result<Elements, ItemFault>
         ensures said { (most : ℕ) → IsElementsRead most self → IfOk result (ElementsGo most self []) }
         ensures within { (most : ℕ) → IsElementsRead most self
             → IfOk result (λ e. IsCount most (count_of e)) }
         ensures reason { IfErr result (IsEndReason Topic.States) }
         ensures refused { (most : ℕ) → OnErr result (CannotEnd (ElementsGo most) self) }
-        ensures kind { (most : ℕ) → IfErr result (λ kind. kind ≡ misfit (elements_want most self []) None) }
+        ensures kind { (most : ℕ) →
+            IfErr result (λ kind. kind ≡ unexpected_token (elements_want most self []) None) }
     {
         match self {
             ElementsReader::Colon => Err(ItemFault::BadShape),
@@ -82,8 +83,8 @@ impl ElementsReader {
     }
 }
 
-/// What the first token after the colon begins.
-fn begin(alloc: Global, most: usize, token: Token<'_>) -> Result<ElementsReader, Stop>
+/// Begins the elements with the first token after the colon.
+fn begin(alloc: Global, most: usize, token: Token<'_>) -> Result<ElementsReader, FeedError>
     requires text { IsText (lexeme_of token) }
     requires some { 1 ≤ most }
     requires small { most < 2 ^ 32 }
@@ -96,7 +97,7 @@ fn begin(alloc: Global, most: usize, token: Token<'_>) -> Result<ElementsReader,
     ensures seen { (colon : Lexeme) → IfOk result (AreElementsSeen (colon ∷ lexeme_of token.entry ∷ [])) }
     ensures sign { OnOk result (is_sign (lexeme_of token.entry).kind ≡ false) }
     ensures leads { IfOk result
-        (λ r. Leads (elements_want most ElementsReader.First) (lexeme_of token.entry)
+        (λ r. ExpectsNext (elements_want most ElementsReader.First) (lexeme_of token.entry)
         (elements_want most r)) }
     ensures kind { IfErr result
         (λ stop. IfRefused stop (λ r. IsMisfit CountOrName (lexeme_of token.entry) r.kind)) }
@@ -111,7 +112,7 @@ fn begin(alloc: Global, most: usize, token: Token<'_>) -> Result<ElementsReader,
     }
 }
 
-/// The count that the numeral is.
+/// Returns the count that the numeral stands for.
 fn count(most: usize, token: Token<'_>) -> Result<usize, Refusal>
     requires numeral { token.kind ≡ TokenKind.Numeral }
     requires small { most < 2 ^ 32 }
@@ -120,7 +121,7 @@ fn count(most: usize, token: Token<'_>) -> Result<usize, Refusal>
         (CannotTake (ElementsGo most) ElementsReader.First (lexeme_of token.entry)) }
     ensures reason { IfErr result
         (λ r. ElementsReason ElementsReader.First (lexeme_of token.entry) r.kind r.place) }
-    ensures kind { IfErr result (λ r. r.kind ≡ misfit CountOrName (Some (lexeme_of token.entry))) }
+    ensures kind { IfErr result (λ r. r.kind ≡ unexpected_token CountOrName (Some (lexeme_of token.entry))) }
 {
     match whole_number(most + 1, token.bytes) {
         Some(count) if 1 <= count && count <= most => Ok(count),
@@ -129,7 +130,12 @@ fn count(most: usize, token: Token<'_>) -> Result<usize, Refusal>
 }
 
 /// Puts the name that the token is after the others, of which there may be so many at most.
-fn add_name(names: &mut Names, alloc: Global, most: usize, token: Token<'_>) -> Result<(), Stop>
+fn add_name(
+    names: &mut Names,
+    alloc: Global,
+    most: usize,
+    token: Token<'_>,
+) -> Result<(), FeedError>
     requires text { IsText (lexeme_of token) }
     requires within { AreNamesRead most names.old }
     ensures name { OnOk result (IsName (lexeme_of token.entry)) }
@@ -140,25 +146,25 @@ fn add_name(names: &mut Names, alloc: Global, most: usize, token: Token<'_>) -> 
     ensures reason { IfErr result (λ stop. IfRefused stop (λ r.
         ElementsReason (ElementsReader.Named names.old) (lexeme_of token.entry) r.kind r.place)) }
     ensures kind { IfErr result (λ stop. IfRefused stop (λ r.
-        r.kind ≡ misfit (FurtherName most names.old) (Some (lexeme_of token.entry)))) }
+        r.kind ≡ unexpected_token (FurtherName most names.old) (Some (lexeme_of token.entry)))) }
 {
     if !is_name(token) {
-        return Err(Stop::Refused(misplaced(token)));
+        return Err(FeedError::Refused(misplaced(token)));
     }
     if names.len() == most {
-        return Err(Stop::Refused(bad_count(token)));
+        return Err(FeedError::Refused(bad_count(token)));
     }
     if names.push(alloc, token.bytes)? {
         Ok(())
     } else {
-        Err(Stop::Refused(Refusal {
+        Err(FeedError::Refused(Refusal {
             kind: ItemFault::DuplicateName,
             place: token.place,
         }))
     }
 }
 
-/// Whether the token is a name that isn't reserved.
+/// Tests whether the token is a name that isn't reserved.
 fn is_name(token: Token<'_>) -> bool
     ensures { IsTrue result ↔ IsName (lexeme_of token.entry) }
 {
@@ -168,7 +174,7 @@ fn is_name(token: Token<'_>) -> bool
     }
 }
 
-/// A token that is no count from 1 to the most, or a name too many.
+/// Refuses a token that is no count from 1 to the most, or a name too many.
 fn bad_count(token: Token<'_>) -> Refusal
     ensures kind { result.kind ≡ ItemFault.BadCount }
     ensures place { result.place ≡ token.entry.place }

@@ -10,23 +10,23 @@ ghost use Rattle.polcert_cells.specs.Entry.{IsPlace};
 ghost use Rattle.polcert_format.specs.Wants.{least_written, numbers_want, place_wants};
 ghost use Rattle.polcert_items.specs.Steps.Lines.{Takes, CannotTake, CannotEnd};
 ghost use Rattle.polcert_format.specs.KnownPreamble.{preamble_in, indices_in, named_in};
-ghost use Rattle.polcert_items.specs.Steps.Entries.{IsFirstPlace, NumberListGoes, EntryGoes, IsWithinIndices, IsEntryReason, IsPlaceReason, IfRefused, IsFull, IsListReason, MayStand, IsWordBehind, AreBegun, CannotBegin, range_of, HasRoom, HasRoomIn, no_numbers, one_number, body_of, entry_sign, AreSome};
-ghost use Rattle.polcert_format.specs.Misfits.{misfit, IsMisfit, Index, Mark};
+ghost use Rattle.polcert_items.specs.Steps.Entries.{IsFirstPlace, NumberListGoes, EntryGoes, IsWithinIndices, IsEntryReason, IsPlaceReason, IfRefused, IsFull, IsListReason, MayStand, IsWordAfter, AreBegun, CannotBegin, range_of, HasRoom, HasRoomIn, no_numbers, one_number, body_of, entry_sign, AreSome};
+ghost use Rattle.polcert_format.specs.Misfits.{unexpected_token, IsMisfit, Index, Mark};
 ghost use Rattle.polcert_items.specs.Steps.Numbers.{SignIs};
 ghost use Rattle.polcert_items.specs.Steps.Items.{IsEndReason};
-ghost use Rattle.polcert_format.specs.Text.{Known};
-ghost use Rattle.polcert_items.specs.Steps.Feeding.{Feeds, FeedsEntry};
-ghost use Rattle.polcert_items.specs.Steps.Wants.{Leads, list_wants, state_wants, entry_wants};
+ghost use Rattle.polcert_format.specs.Text.{ModelSoFar};
+ghost use Rattle.polcert_items.specs.Steps.Feeding.{IsTokenStep, IsEntryStep};
+ghost use Rattle.polcert_items.specs.Steps.Wants.{ExpectsNext, list_wants, state_wants, entry_wants};
 ghost use Rattle.polcert_cells.specs.declared.words.Topic.{Topic};
 ghost use Rattle.polcert_cells.specs.declared.entry.Place.{Place};
 ghost use Rattle.polcert_items.specs.declared.entry_reader.Word.{Word};
 
 use crate::elements::element_of;
-use crate::known::Known;
+use crate::feed_error::FeedError;
 use crate::list_number::ListNumber;
+use crate::model_so_far::ModelSoFar;
 use crate::preamble_lines::colon;
-use crate::signed_number::{Refusal, Sign, Step, behind_numbers, misplaced, number_step};
-use crate::stop::Stop;
+use crate::signed_number::{NumberStep, Refusal, Sign, after_numbers, misplaced, number_step};
 use polcert_cells::{Body, Elements, Entry, Place, Places, Sequence, Table, Topic, is_word};
 use polcert_format::ItemFault;
 use polcert_text::{Token, TokenKind};
@@ -51,13 +51,16 @@ impl<T: Copy> Numbers<T> {
         }
     }
 
-    /// The list after its first number.
-    pub fn begun(alloc: Global, needed: usize, first: T) -> Result<Numbers<T>, AllocError>
-        ensures { IfOk result (λ n. n ≡ one_number needed first) }
+    /// Begins the list with its first number.
+    #[inline(always)]
+    pub fn begun(alloc: Global, needed: usize, first: T) -> Numbers<T>
+        ensures { result ≡ one_number needed first }
     {
-        let mut numbers = Numbers::new(alloc, needed);
-        numbers.read.push(first)?;
-        Ok(numbers)
+        Numbers {
+            read: Sequence::only(alloc, first),
+            needed,
+            sign: None,
+        }
     }
 
     #[inline(always)]
@@ -67,12 +70,12 @@ impl<T: Copy> Numbers<T> {
         self.sign.is_none() && self.read.len() == self.needed
     }
 
-    /// Why the list cannot end here, if it cannot.
+    /// Returns the fault if the list cannot end here.
     pub fn end_fault(&self) -> Option<ItemFault>
         ensures full { MatchOption result (IsFull self.now) (λ _. IsFull self.now → ⊥) }
         ensures reason { IfSome result (λ fault. (t : Topic) → IsEndReason t fault) }
         ensures kind { HasRoom self.now
-            → IfSome result (λ fault. fault ≡ misfit (list_wants self.now []) None) }
+            → IfSome result (λ fault. fault ≡ unexpected_token (list_wants self.now []) None) }
     {
         match self.sign {
             Some(_) => Some(ItemFault::BadShape),
@@ -85,20 +88,20 @@ impl<T: Copy> Numbers<T> {
 impl<T: ListNumber> Numbers<T> {
     /// Continues with a token of the list.
     #[inline(always)]
-    pub fn feed(&mut self, token: Token<'_>) -> Result<(), Stop>
+    pub fn feed(&mut self, token: Token<'_>) -> Result<(), FeedError>
         requires { HasRoom self.old }
         ensures needed { self.new.needed ≡ self.old.needed }
         ensures room { OnOk result (HasRoom self.new) }
-        ensures fed { Feeds IfRefused (NumberListGoes T.kind) list_wants
+        ensures fed { IsTokenStep IfRefused (NumberListGoes T.kind) list_wants
             (IsListReason T.kind.range self.old.sign) self.old (lexeme_of token.entry) self.new result }
         ensures sign { OnOk result (SignIs self.new.sign (lexeme_of token.entry)) }
     {
         if self.is_full() {
-            return Err(Stop::Refused(behind_numbers(token)));
+            return Err(FeedError::Refused(after_numbers(token)));
         }
         match number_step(self.sign, token, T::range())? {
-            Step::Sign(sign) => self.sign = Some(sign),
-            Step::Value(value) => {
+            NumberStep::Sign(sign) => self.sign = Some(sign),
+            NumberStep::Value(value) => {
                 self.read.push(T::of_millionths(value))?;
                 self.sign = None;
             }
@@ -138,7 +141,7 @@ pub struct EntryReader {
 }
 
 impl EntryReader {
-    /// Before the first token.
+    /// Makes the reader before the first token.
     pub fn new(table: Table) -> EntryReader
         ensures { result ≡ record { table = table; places = []; state = EntryState.Colon } }
     {
@@ -150,12 +153,17 @@ impl EntryReader {
     }
 
     /// Continues with a token that begins no item.
-    pub fn feed(&mut self, alloc: Global, known: &Known, token: Token<'_>) -> Result<(), Stop>
+    pub fn feed(
+        &mut self,
+        alloc: Global,
+        known: &ModelSoFar,
+        token: Token<'_>,
+    ) -> Result<(), FeedError>
         requires within { IsWithinIndices (indices_in known.now self.old.table) self.old }
         requires text { IsText (lexeme_of token) }
         ensures table { self.new.table ≡ self.old.table }
         ensures within { OnOk result (IsWithinIndices (indices_in known.now self.old.table) self.new) }
-        ensures fed { FeedsEntry known.now (IsEntryReason self.old)
+        ensures fed { IsEntryStep known.now (IsEntryReason self.old)
             self.old (lexeme_of token.entry) self.new result }
         ensures sign { OnOk result (SignIs (entry_sign self.new.state) (lexeme_of token.entry)) }
     {
@@ -169,19 +177,19 @@ impl EntryReader {
             EntryState::Body => self.feed_body(alloc, known, token),
             EntryState::Probabilities(numbers) => numbers.feed(token),
             EntryState::Rewards(numbers) => numbers.feed(token),
-            EntryState::Word(_) => Err(Stop::Refused(misplaced(token))),
+            EntryState::Word(_) => Err(FeedError::Refused(misplaced(token))),
         }
     }
 
     /// Continues after a colon.
     #[inline(always)]
-    fn feed_place(&mut self, known: &Known, token: Token<'_>) -> Result<(), Stop>
+    fn feed_place(&mut self, known: &ModelSoFar, token: Token<'_>) -> Result<(), FeedError>
         requires state { self.old.state ≡ EntryState.Place }
         requires within { length self.old.places < length (indices_in known.now self.old.table) }
         requires text { IsText (lexeme_of token) }
         ensures table { self.new.table ≡ self.old.table }
         ensures within { OnOk result (IsWithinIndices (indices_in known.now self.old.table) self.new) }
-        ensures fed { FeedsEntry known.now IsPlaceReason
+        ensures fed { IsEntryStep known.now IsPlaceReason
             self.old (lexeme_of token.entry) self.new result }
         ensures sign { OnOk result (SignIs (entry_sign self.new.state) (lexeme_of token.entry)) }
     {
@@ -191,8 +199,9 @@ impl EntryReader {
         Ok(())
     }
 
-    /// The next place that the token is. In an MDP the fourth is `*`: a reward has nothing to do with what is observed.
-    pub(crate) fn next_place(&self, known: &Known, token: Token<'_>) -> Result<Place, Refusal>
+    /// Returns the place that the token gives. In an MDP the fourth is `*`: a reward doesn't depend on the
+    /// observation.
+    pub(crate) fn next_place(&self, known: &ModelSoFar, token: Token<'_>) -> Result<Place, Refusal>
         requires within { length self.now.places < length (indices_in known.now self.now.table) }
         requires text { IsText (lexeme_of token) }
         ensures place { IfOk result
@@ -203,7 +212,7 @@ impl EntryReader {
             (lexeme_of token.entry) p → ⊥) }
         ensures reason { IfErr result (λ r. IsPlaceReason (lexeme_of token.entry) r.kind r.place) }
         ensures kind { IfErr result (λ r.
-            r.kind ≡ misfit (place_wants (preamble_in known.now) (length self.now.places))
+            r.kind ≡ unexpected_token (place_wants (preamble_in known.now) (length self.now.places))
             (Some (lexeme_of token.entry))) }
     {
         let written = self.places.len();
@@ -215,12 +224,17 @@ impl EntryReader {
 
     /// Continues after a place.
     #[inline(always)]
-    fn feed_body(&mut self, alloc: Global, known: &Known, token: Token<'_>) -> Result<(), Stop>
+    fn feed_body(
+        &mut self,
+        alloc: Global,
+        known: &ModelSoFar,
+        token: Token<'_>,
+    ) -> Result<(), FeedError>
         requires state { self.old.state ≡ EntryState.Body }
         requires within { length self.old.places ≤ length (indices_in known.now self.old.table) }
         ensures table { self.new.table ≡ self.old.table }
         ensures within { OnOk result (IsWithinIndices (indices_in known.now self.old.table) self.new) }
-        ensures fed { FeedsEntry known.now (IsEntryReason self.old)
+        ensures fed { IsEntryStep known.now (IsEntryReason self.old)
             self.old (lexeme_of token.entry) self.new result }
         ensures sign { OnOk result (SignIs (entry_sign self.new.state) (lexeme_of token.entry)) }
     {
@@ -232,7 +246,7 @@ impl EntryReader {
             }
             TokenKind::Numeral | TokenKind::Plus | TokenKind::Minus
                 if takes_numbers(known.is_mdp(), self.table, written) => {
-                let needed = known.cells_behind(self.table, written);
+                let needed = known.cells_after(self.table, written);
                 self.state = begin_numbers(alloc, self.table, needed, token)?;
                 Ok(())
             }
@@ -241,20 +255,22 @@ impl EntryReader {
                     self.state = EntryState::Word(word);
                     Ok(())
                 }
-                None => Err(Stop::Refused(misplaced(token))),
+                None => Err(FeedError::Refused(misplaced(token))),
             },
         }
     }
 
-    /// The entry, or why it cannot end here.
-    pub fn end(self, known: &Known) -> Result<Entry, ItemFault>
+    /// Returns the entry, or the fault if it cannot end here.
+    #[inline(always)]
+    pub fn end(self, known: &ModelSoFar) -> Result<Entry, ItemFault>
         ensures said { IfOk result (EntryGoes (preamble_in known.now) self []) }
         ensures refused { AreSome (indices_in known.now self.table)
             → OnErr result (CannotEnd (EntryGoes (preamble_in known.now)) self) }
         ensures reason { IfErr result (IsEndReason (Topic.Cells self.table)) }
         ensures kind { AreSome (indices_in known.now self.table) →
             IsWithinIndices (indices_in known.now self.table) self →
-            IfErr result (λ kind. kind ≡ misfit (entry_wants (preamble_in known.now) self []) None) }
+            IfErr result (λ kind.
+            kind ≡ unexpected_token (entry_wants (preamble_in known.now) self []) None) }
     {
         let EntryReader {
             table,
@@ -293,13 +309,13 @@ fn body_of(word: Word) -> Body
     }
 }
 
-/// The body's numbers after their first token.
+/// Begins the body's numbers with their first token.
 fn begin_numbers(
     alloc: Global,
     table: Table,
     needed: usize,
     token: Token<'_>,
-) -> Result<EntryState, Stop>
+) -> Result<EntryState, FeedError>
     ensures begun { IfOk result (AreBegun table needed (lexeme_of token.entry)) }
     ensures refused { IfErr result
         (λ stop. IfRefused stop (λ r. CannotBegin table needed (lexeme_of token.entry))) }
@@ -307,7 +323,7 @@ fn begin_numbers(
         IsListReason (range_of table) None (lexeme_of token.entry) r.kind r.place)) }
     ensures sign { IfOk result (λ state. SignIs (entry_sign state) (lexeme_of token.entry)) }
     ensures leads { (p : Preamble) (places : List Place) → IfOk result (λ state.
-        Leads (numbers_want false needed) (lexeme_of token.entry) (state_wants p table places state)) }
+        ExpectsNext (numbers_want false needed) (lexeme_of token.entry) (state_wants p table places state)) }
     ensures kind { IfErr result (λ stop. IfRefused stop (λ r.
         IsMisfit (numbers_want false needed []) (lexeme_of token.entry) r.kind)) }
     ensures room { IfOk result HasRoomIn }
@@ -325,7 +341,7 @@ fn begin_list<T: ListNumber>(
     alloc: Global,
     needed: usize,
     token: Token<'_>,
-) -> Result<Numbers<T>, Stop>
+) -> Result<Numbers<T>, FeedError>
     ensures begun { IfOk result
         (Takes (NumberListGoes T.kind) (no_numbers needed) (lexeme_of token.entry)) }
     ensures refused { IfErr result (λ stop. IfRefused stop (λ r.
@@ -334,7 +350,7 @@ fn begin_list<T: ListNumber>(
         IsListReason T.kind.range None (lexeme_of token.entry) r.kind r.place)) }
     ensures sign { IfOk result (λ n. SignIs n.sign (lexeme_of token.entry)) }
     ensures leads { IfOk result
-        (λ n. Leads (numbers_want false needed) (lexeme_of token.entry) (list_wants n)) }
+        (λ n. ExpectsNext (numbers_want false needed) (lexeme_of token.entry) (list_wants n)) }
     ensures kind { IfErr result (λ stop. IfRefused stop (λ r.
         IsMisfit (numbers_want false needed []) (lexeme_of token.entry) r.kind)) }
     ensures room { IfOk result (λ n. HasRoom n) }
@@ -344,7 +360,7 @@ fn begin_list<T: ListNumber>(
     Ok(numbers)
 }
 
-/// The place that the token is: `*`, or one of these elements.
+/// Returns the place that the token gives: `*`, or one of these elements.
 #[inline(always)]
 fn place_of(token: Token<'_>, elements: Option<&Elements>) -> Result<Place, Refusal>
     requires few { count_of (unwrap_or (option_copied elements) (Count 0)) ≤ most_elements }
@@ -354,7 +370,7 @@ fn place_of(token: Token<'_>, elements: Option<&Elements>) -> Result<Place, Refu
     ensures refused { OnErr result ((p : Place)
         → IsPlace (unwrap_or (option_copied elements.entry) (Count 0)) (lexeme_of token.entry) p → ⊥) }
     ensures reason { IfErr result (λ r. IsPlaceReason (lexeme_of token.entry) r.kind r.place) }
-    ensures kind { IfErr result (λ r. r.kind ≡ misfit Index (Some (lexeme_of token.entry))) }
+    ensures kind { IfErr result (λ r. r.kind ≡ unexpected_token Index (Some (lexeme_of token.entry))) }
 {
     match (token.kind, elements) {
         (TokenKind::Star, _) => Ok(Place::Every),
@@ -363,12 +379,12 @@ fn place_of(token: Token<'_>, elements: Option<&Elements>) -> Result<Place, Refu
     }
 }
 
-/// The place that the token is where only `*` may stand.
+/// Returns the place that the token gives if only `*` is allowed.
 fn every(token: Token<'_>) -> Result<Place, Refusal>
     ensures star { IfOk result (λ p. (p ≡ Place.Every) × ((lexeme_of token.entry).kind ≡ TokenKind.Star)) }
     ensures refused { OnErr result ((lexeme_of token.entry).kind ≡ TokenKind.Star → ⊥) }
     ensures reason { IfErr result (λ r. IsPlaceReason (lexeme_of token.entry) r.kind r.place) }
-    ensures kind { IfErr result (λ r. r.kind ≡ misfit Mark (Some (lexeme_of token.entry))) }
+    ensures kind { IfErr result (λ r. r.kind ≡ unexpected_token Mark (Some (lexeme_of token.entry))) }
 {
     match token.kind {
         TokenKind::Star => Ok(Place::Every),
@@ -376,10 +392,10 @@ fn every(token: Token<'_>) -> Result<Place, Refusal>
     }
 }
 
-/// How many indices the cells of a table have.
+/// Returns how many indices the cells of a table have.
 #[inline(always)]
 pub(crate) fn indices_of(table: Table) -> usize
-    ensures { (k : Known) → length (indices_in k table) ≡ result }
+    ensures { (k : ModelSoFar) → length (indices_in k table) ≡ result }
 {
     match table {
         Table::Transition | Table::Observation => 3,
@@ -387,7 +403,7 @@ pub(crate) fn indices_of(table: Table) -> usize
     }
 }
 
-/// Whether numbers may stand after so many places.
+/// Tests whether numbers are allowed after so many places.
 #[inline(always)]
 pub(crate) fn takes_numbers(is_mdp: bool, table: Table, written: usize) -> bool
     ensures { IsTrue result ↔ (least_written is_mdp table ≤ written) }
@@ -398,12 +414,12 @@ pub(crate) fn takes_numbers(is_mdp: bool, table: Table, written: usize) -> bool
     }
 }
 
-/// The word that the token is in place of numbers after so many places, if it may stand there.
+/// Returns the word that the token gives in place of numbers after so many places, if it is allowed there.
 fn word_of(table: Table, written: usize, token: Token<'_>) -> Option<Word>
     ensures name { IfSome result (λ _. (lexeme_of token.entry).kind ≡ TokenKind.Name) }
-    ensures word { (mdp : Bool) → IfSome result (IsWordBehind mdp table written (lexeme_of token.entry)) }
+    ensures word { (mdp : Bool) → IfSome result (IsWordAfter mdp table written (lexeme_of token.entry)) }
     ensures none { (mdp : Bool) → IfNone result ((w : Word)
-        → IsWordBehind mdp table written (lexeme_of token.entry) w → ⊥) }
+        → IsWordAfter mdp table written (lexeme_of token.entry) w → ⊥) }
 {
     if is_word(&token, b"uniform") && takes_uniform(table, written) {
         return Some(Word::Uniform);

@@ -4,21 +4,23 @@ ghost use Rattle.polcert_text.specs.Cut.{Lexeme};
 ghost use Rattle.polcert_text.specs.Reading.{lexeme_of};
 ghost use Rattle.polcert_items.specs.Steps.Elements.{IsText};
 ghost use Rattle.polcert_items.specs.Steps.Items.{ItemGoes, IsItemWithin, FeedsItem, IsItemEndReason, topic_in, IsSeen, new_item, HasElements, pending_in};
-ghost use Rattle.polcert_items.specs.Steps.Known.{learned, AreContentsOf, AreContentsWithin};
+ghost use Rattle.polcert_items.specs.Steps.ModelSoFar.{with_item, AreContentsOf, AreContentsWithin};
 ghost use Rattle.polcert_items.specs.Steps.Lines.{CannotEnd};
-ghost use Rattle.polcert_format.specs.Misfits.{misfit};
+ghost use Rattle.polcert_format.specs.Misfits.{unexpected_token};
 ghost use Rattle.polcert_items.specs.Steps.Start.{IfNotMemory, IsLateEnd};
 ghost use Rattle.polcert_format.specs.FirstNumber.{IsLate, states_known};
 ghost use Rattle.polcert_items.specs.Steps.Wants.{item_wants, IfAtEnd};
 
 use crate::elements_reader::ElementsReader;
 use crate::entry_reader::EntryReader;
-use crate::known::Known;
+use crate::feed_error::{EndError, FeedError};
+use crate::model_so_far::ModelSoFar;
 use crate::preamble_lines::{DiscountReader, ValuesReader};
 use crate::signed_number::Refusal;
 use crate::start_reader::StartReader;
-use crate::stop::{ItemEnd, Stop};
-use polcert_cells::{Elements, Entry, MOST_ACTIONS, MOST_OBSERVATIONS, MOST_STATES, Shares, Topic};
+use polcert_cells::{
+    Elements, Entry, MOST_ACTIONS, MOST_OBSERVATIONS, MOST_STATES, StartWeights, Topic,
+};
 use polcert_format::ItemFault;
 use polcert_text::Token;
 use std::alloc::Global;
@@ -43,12 +45,12 @@ pub enum ItemContents {
     States(Elements),
     Actions(Elements),
     Observations(Elements),
-    Start(Shares),
+    Start(StartWeights),
     Entry(Entry),
 }
 
 impl ItemReader {
-    /// The reader of an item of this topic.
+    /// Makes the reader of an item of this topic.
     pub fn new(topic: Topic) -> ItemReader
         ensures { result ≡ new_item topic }
     {
@@ -65,7 +67,12 @@ impl ItemReader {
 
     /// Continues with a token that begins no item.
     #[inline(always)]
-    pub fn feed(&mut self, alloc: Global, known: &Known, token: Token<'_>) -> Result<(), Stop>
+    pub fn feed(
+        &mut self,
+        alloc: Global,
+        known: &ModelSoFar,
+        token: Token<'_>,
+    ) -> Result<(), FeedError>
         requires within { IsItemWithin known.now self.old }
         requires text { IsText (lexeme_of token) }
         ensures { FeedsItem known.now self.old (lexeme_of token.entry) self.new result }
@@ -76,9 +83,14 @@ impl ItemReader {
         }
     }
 
-    /// The same, whatever the item. Most tokens are those of entries, which are told by one test.
+    /// Takes a token of any item. Most tokens belong to entries, which one test finds.
     #[inline(never)]
-    fn feed_any(&mut self, alloc: Global, known: &Known, token: Token<'_>) -> Result<(), Stop>
+    fn feed_any(
+        &mut self,
+        alloc: Global,
+        known: &ModelSoFar,
+        token: Token<'_>,
+    ) -> Result<(), FeedError>
         requires within { IsItemWithin known.now self.old }
         requires text { IsText (lexeme_of token) }
         ensures { FeedsItem known.now self.old (lexeme_of token.entry) self.new result }
@@ -94,7 +106,8 @@ impl ItemReader {
         }
     }
 
-    /// Why the tokens cannot end in a fault here, if a number was read before that has no value.
+    /// Returns the refusal of a number that was read without a value, if there is one, which comes before the
+    /// fault of the tokens.
     pub fn pending(&self) -> Option<Refusal>
         ensures { result ≡ pending_in self.now }
     {
@@ -104,10 +117,10 @@ impl ItemReader {
         }
     }
 
-    /// What the item says, or why it cannot end here.
-    pub fn end(self, alloc: Global, known: &Known) -> Result<ItemContents, ItemEnd>
+    /// Returns the contents of the item, or the fault if it cannot end here.
+    pub fn end(self, alloc: Global, known: &ModelSoFar) -> Result<ItemContents, EndError>
         requires { IsItemWithin known.now self }
-        ensures said { IfOk result (λ said. ItemGoes known.now self [] (learned known.now said)) }
+        ensures said { IfOk result (λ said. ItemGoes known.now self [] (with_item known.now said)) }
         ensures within { IfOk result AreContentsWithin }
         ensures topic { IfOk result (AreContentsOf (topic_in self)) }
         ensures refused { HasElements known.now (topic_in self)
@@ -119,7 +132,7 @@ impl ItemReader {
             IsLate (states_known known.now) body true late.kind late.place
             → IfErr result (λ e. IsLateEnd e late) }
         ensures kind { HasElements known.now (topic_in self) → IfErr result (λ e.
-            IfAtEnd e (λ kind. kind ≡ misfit (item_wants known.now self []) None)) }
+            IfAtEnd e (λ kind. kind ≡ unexpected_token (item_wants known.now self []) None)) }
         ensures unheld { IfErr result (λ e. IfAtEnd e (λ kind. pending_in self ≡ None)) }
     {
         match self {

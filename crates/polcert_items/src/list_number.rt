@@ -9,11 +9,11 @@ pub trait ListNumber: Copy {
     // What a list of such numbers is.
     ghost kind: { ListKind Self };
 
-    /// Where the numbers lie.
+    /// Returns the range of the numbers.
     fn range() -> Range
         ensures { result ≡ kind.range };
 
-    /// The number of this value.
+    /// Returns the number of this value.
     fn of_millionths(value: i64) -> Self
         requires { IsInRange kind.range value }
         ensures { kind.worth result ≡ value };

@@ -5,11 +5,13 @@ ghost use Rattle.polcert_items.specs.Steps.Numbers.{IsMisplaced, SignIs};
 ghost use Rattle.polcert_items.specs.Steps.Lines.{Takes, CannotTake, CannotEnd, DiscountGoes, DiscountReason, ValuesGoes, WordRest, discount_sign};
 ghost use Rattle.polcert_items.specs.Steps.Items.{IsEndReason};
 ghost use Rattle.polcert_format.specs.Reasons.{is_sign};
-ghost use Rattle.polcert_format.specs.Misfits.{misfit, IsMisfit, Mark};
-ghost use Rattle.polcert_items.specs.Steps.Feeding.{Feeds, IfRefusal, EndsLine};
+ghost use Rattle.polcert_format.specs.Misfits.{unexpected_token, IsMisfit, Mark};
+ghost use Rattle.polcert_items.specs.Steps.Feeding.{IsTokenStep, IfRefusal, EndsLine};
 ghost use Rattle.polcert_items.specs.Steps.Wants.{discount_wants, values_want};
 
-use crate::signed_number::{Range, Refusal, Sign, Step, behind_numbers, misplaced, number_step};
+use crate::signed_number::{
+    NumberStep, Range, Refusal, Sign, after_numbers, misplaced, number_step,
+};
 use polcert_cells::{Topic, is_word};
 use polcert_format::ItemFault;
 use polcert_text::{Token, TokenKind};
@@ -19,13 +21,13 @@ use polcert_text::{Token, TokenKind};
 pub enum DiscountReader {
     Colon,
     Number(Option<Sign>),
-    Said(u32),
+    Done(u32),
 }
 
 impl DiscountReader {
     /// Continues with a token of the line.
     pub fn feed(&mut self, token: Token<'_>) -> Result<(), Refusal>
-        ensures fed { Feeds IfRefusal DiscountGoes discount_wants (DiscountReason self.old)
+        ensures fed { IsTokenStep IfRefusal DiscountGoes discount_wants (DiscountReason self.old)
             self.old (lexeme_of token.entry) self.new result }
         ensures sign { OnOk result (SignIs (discount_sign self.new) (lexeme_of token.entry)) }
     {
@@ -37,22 +39,22 @@ impl DiscountReader {
             }
             DiscountReader::Number(sign) => {
                 *self = match number_step(sign, token, Range::Discount)? {
-                    Step::Sign(sign) => DiscountReader::Number(Some(sign)),
-                    Step::Value(value) => DiscountReader::Said(value as u32),
+                    NumberStep::Sign(sign) => DiscountReader::Number(Some(sign)),
+                    NumberStep::Value(value) => DiscountReader::Done(value as u32),
                 };
                 Ok(())
             }
-            DiscountReader::Said(_) => Err(behind_numbers(token)),
+            DiscountReader::Done(_) => Err(after_numbers(token)),
         }
     }
 
-    /// What the line says, or why it cannot end here.
+    /// Returns whether the line says costs, or the fault if it cannot end here.
     pub fn end(self) -> Result<u32, ItemFault>
         ensures { EndsLine DiscountGoes discount_wants Topic.Discount self result }
     {
         match self {
             DiscountReader::Number(None) => Err(ItemFault::WrongNumberCount),
-            DiscountReader::Said(discount) => Ok(discount),
+            DiscountReader::Done(discount) => Ok(discount),
             _ => Err(ItemFault::BadShape),
         }
     }
@@ -63,13 +65,13 @@ impl DiscountReader {
 pub enum ValuesReader {
     Colon,
     Word,
-    Said(bool),
+    Done(bool),
 }
 
 impl ValuesReader {
     /// Continues with a token of the line.
     pub fn feed(&mut self, token: Token<'_>) -> Result<(), Refusal>
-        ensures fed { Feeds IfRefusal ValuesGoes values_want IsMisplaced
+        ensures fed { IsTokenStep IfRefusal ValuesGoes values_want IsMisplaced
             self.old (lexeme_of token.entry) self.new result }
         ensures sign { OnOk result (is_sign (lexeme_of token.entry).kind ≡ false) }
     {
@@ -80,25 +82,25 @@ impl ValuesReader {
                 Ok(())
             }
             ValuesReader::Word => {
-                *self = ValuesReader::Said(costs_of(token)?);
+                *self = ValuesReader::Done(costs_of(token)?);
                 Ok(())
             }
-            ValuesReader::Said(_) => Err(misplaced(token)),
+            ValuesReader::Done(_) => Err(misplaced(token)),
         }
     }
 
-    /// What the line says, or why it cannot end here.
+    /// Returns whether the line says costs, or the fault if it cannot end here.
     pub fn end(self) -> Result<bool, ItemFault>
         ensures { EndsLine ValuesGoes values_want Topic.Values self result }
     {
         match self {
-            ValuesReader::Said(costs) => Ok(costs),
+            ValuesReader::Done(costs) => Ok(costs),
             _ => Err(ItemFault::BadShape),
         }
     }
 }
 
-/// Whether the word says that costs are written.
+/// Tests whether the word says that costs are written.
 fn costs_of(token: Token<'_>) -> Result<bool, Refusal>
     ensures word { IfOk result (WordRest (lexeme_of token.entry ∷ [])) }
     ensures refused { OnErr result (CannotTake ValuesGoes ValuesReader.Word (lexeme_of token.entry)) }
@@ -115,7 +117,7 @@ fn costs_of(token: Token<'_>) -> Result<bool, Refusal>
     Err(misplaced(token))
 }
 
-/// The colon after an item's word.
+/// Takes the colon after an item's word.
 pub fn colon(token: Token<'_>) -> Result<(), Refusal>
     ensures ok { OnOk result ((lexeme_of token.entry).kind ≡ TokenKind.Colon) }
     ensures refused { OnErr result ((lexeme_of token.entry).kind ≢ TokenKind.Colon) }

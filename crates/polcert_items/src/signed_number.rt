@@ -1,9 +1,9 @@
 //! A number of an item: a numeral, perhaps after a sign.
 ghost use Rattle.std.specs.Prelude.{◌≡◌, IfOk, IfErr, MatchOption, Some, false};
 ghost use Rattle.polcert_text.specs.Reading.{lexeme_of};
-ghost use Rattle.polcert_items.specs.Steps.Numbers.{IsStep, RefusesNumber, IsMisplaced, IsBehindNumbers};
+ghost use Rattle.polcert_items.specs.Steps.Numbers.{IsStep, RefusesNumber, IsMisplaced, IsAfterNumbers};
 ghost use Rattle.polcert_items.specs.Steps.Numbers.{IsInRange, IsSignKind, IsRangeFault, is_negative, number_place};
-ghost use Rattle.polcert_format.specs.Misfits.{misfit, IsMisfit, begins_number, EndOfNumbers, EndOfWord};
+ghost use Rattle.polcert_format.specs.Misfits.{unexpected_token, IsMisfit, begins_number, EndOfNumbers, EndOfWord};
 ghost use Rattle.polcert_items.specs.Steps.Wants.{number_wants};
 
 use polcert_cells::{ONE, is_word};
@@ -37,14 +37,18 @@ pub enum Range {
 
 /// What a token says in a number's place: a sign, or with the sign before it the number in millionths.
 #[derive(Clone, Copy, Debug, PartialEq, Eq)]
-pub enum Step {
+pub enum NumberStep {
     Sign(Sign),
     Value(i64),
 }
 
-/// What the token says in a number's place, after this sign.
+/// Returns what the token gives in a number's place, after this sign.
 #[inline(always)]
-pub fn number_step(sign: Option<Sign>, token: Token<'_>, range: Range) -> Result<Step, Refusal>
+pub fn number_step(
+    sign: Option<Sign>,
+    token: Token<'_>,
+    range: Range,
+) -> Result<NumberStep, Refusal>
     ensures step { IfOk result (IsStep range sign (lexeme_of token.entry)) }
     ensures refused { IfErr result (λ r. RefusesNumber range sign (lexeme_of token.entry) r.kind r.place) }
     ensures kind { IfErr result (λ r. IsMisfit (number_wants sign) (lexeme_of token.entry) r.kind) }
@@ -62,7 +66,7 @@ fn sign_step(
     token: Token<'_>,
     negative: bool,
     range: Range,
-) -> Result<Step, Refusal>
+) -> Result<NumberStep, Refusal>
     requires { IsSignKind negative token.kind }
     ensures step { IfOk result (IsStep range sign (lexeme_of token.entry)) }
     ensures refused { IfErr result (λ r. RefusesNumber range sign (lexeme_of token.entry) r.kind r.place) }
@@ -70,7 +74,7 @@ fn sign_step(
 {
     match sign {
         Some(_) => Err(misplaced(token)),
-        None => Ok(Step::Sign(Sign {
+        None => Ok(NumberStep::Sign(Sign {
             negative,
             place: token.place,
         })),
@@ -78,7 +82,7 @@ fn sign_step(
 }
 
 #[inline(always)]
-fn numeral_step(sign: Option<Sign>, token: Token<'_>, range: Range) -> Result<Step, Refusal>
+fn numeral_step(sign: Option<Sign>, token: Token<'_>, range: Range) -> Result<NumberStep, Refusal>
     requires { token.kind ≡ TokenKind.Numeral }
     ensures step { IfOk result (IsStep range sign (lexeme_of token.entry)) }
     ensures refused { IfErr result (λ r. RefusesNumber range sign (lexeme_of token.entry) r.kind r.place) }
@@ -87,7 +91,7 @@ fn numeral_step(sign: Option<Sign>, token: Token<'_>, range: Range) -> Result<St
     let place = number_place(sign, token);
     match scaled_of(is_negative(sign), token.bytes) {
         Ok(value) => match range_fault(range, value) {
-            None => Ok(Step::Value(value)),
+            None => Ok(NumberStep::Value(value)),
             Some(kind) => Err(Refusal { kind, place }),
         },
         Err(fault) => Err(Refusal {
@@ -107,7 +111,7 @@ fn is_negative(sign: Option<Sign>) -> bool
     }
 }
 
-/// Where a number stands: at its sign, if it has one.
+/// Returns where a number begins: at its sign, if it has one.
 #[inline(always)]
 pub fn number_place(sign: Option<Sign>, token: Token<'_>) -> u64
     ensures { result ≡ number_place sign (lexeme_of token.entry) }
@@ -118,7 +122,7 @@ pub fn number_place(sign: Option<Sign>, token: Token<'_>) -> u64
     }
 }
 
-/// Why the number may not stand in such a place, if it may not.
+/// Returns the fault if the number is out of this range.
 #[inline(always)]
 pub(crate) fn range_fault(range: Range, value: i64) -> Option<ItemFault>
     ensures { MatchOption result (IsInRange range value)
@@ -132,10 +136,10 @@ pub(crate) fn range_fault(range: Range, value: i64) -> Option<ItemFault>
     }
 }
 
-/// A token that no form has in its place.
+/// Refuses a token that no form has in its place.
 pub fn misplaced(token: Token<'_>) -> Refusal
     ensures reason { IsMisplaced (lexeme_of token.entry) result.kind result.place }
-    ensures kind { result.kind ≡ misfit EndOfWord (Some (lexeme_of token.entry)) }
+    ensures kind { result.kind ≡ unexpected_token EndOfWord (Some (lexeme_of token.entry)) }
 {
     let kind = if is_word(&token, b"reset") {
         ItemFault::Reset
@@ -148,10 +152,10 @@ pub fn misplaced(token: Token<'_>) -> Refusal
     }
 }
 
-/// A token after the last number of a list.
-pub fn behind_numbers(token: Token<'_>) -> Refusal
-    ensures reason { IsBehindNumbers (lexeme_of token.entry) result.kind result.place }
-    ensures kind { result.kind ≡ misfit EndOfNumbers (Some (lexeme_of token.entry)) }
+/// Refuses a token after the last number of a list.
+pub fn after_numbers(token: Token<'_>) -> Refusal
+    ensures reason { IsAfterNumbers (lexeme_of token.entry) result.kind result.place }
+    ensures kind { result.kind ≡ unexpected_token EndOfNumbers (Some (lexeme_of token.entry)) }
 {
     if begins_number(token.kind) {
         Refusal {
@@ -163,7 +167,7 @@ pub fn behind_numbers(token: Token<'_>) -> Refusal
     }
 }
 
-/// Whether a number may begin so: it is a numeral, or a sign.
+/// Tests whether a number may begin with this token: a numeral, or a sign.
 pub fn begins_number(kind: TokenKind) -> bool
     ensures { result ≡ begins_number kind }
 {

@@ -4,22 +4,22 @@ ghost use Rattle.polcert_text.specs.Cut.{Lexeme};
 ghost use Rattle.polcert_text.specs.Reading.{lexeme_of};
 ghost use Rattle.polcert_cells.specs.Elements.{count_of, most_states};
 ghost use Rattle.polcert_cells.specs.Meaning.{IsCount};
-ghost use Rattle.polcert_format.specs.Misfits.{misfit, begins_number};
+ghost use Rattle.polcert_format.specs.Misfits.{unexpected_token, begins_number};
 ghost use Rattle.polcert_format.specs.Wants.{number_end, numbers_want};
 ghost use Rattle.polcert_items.specs.declared.start_reader.StartReader.TheVariants as reader;
 ghost use Rattle.polcert_items.specs.Steps.Entries.{IfRefused};
 ghost use Rattle.polcert_items.specs.Steps.Lines.{Takes, CannotTake, CannotEnd};
 ghost use Rattle.polcert_items.specs.Steps.Numbers.{SignIs};
-ghost use Rattle.polcert_items.specs.Steps.Start.{StartGoes, StartGives, IsStartWithin, IsStartSeen};
+ghost use Rattle.polcert_items.specs.Steps.Start.{StartGoes, StartGives, IsStartWithin, HasReadStart};
 ghost use Rattle.polcert_items.specs.Steps.Start.{IsStartEndReason, IfNotMemory, IsOutside};
 ghost use Rattle.polcert_items.specs.Steps.Start.{IsDueNumber, IsAtEnd, IsEndDue, IsStop, first_of, refused};
-ghost use Rattle.polcert_items.specs.Steps.Wants.{Leads, list_wants, IfAtEnd};
+ghost use Rattle.polcert_items.specs.Steps.Wants.{ExpectsNext, list_wants, IfAtEnd};
 
 use crate::chosen::{every_state, one_state};
 use crate::entry_reader::Numbers;
-use crate::signed_number::{Refusal, begins_number, behind_numbers, misplaced};
-use crate::stop::{ItemEnd, Stop};
-use polcert_cells::{Elements, ONE, Shares};
+use crate::feed_error::{EndError, FeedError};
+use crate::signed_number::{Refusal, after_numbers, begins_number, misplaced};
+use polcert_cells::{Elements, ONE, StartWeights};
 use polcert_format::ItemFault;
 use polcert_text::{NumberFault, Token};
 use std::alloc::Global;
@@ -34,20 +34,20 @@ pub struct FirstNumber {
 /// Digits alone, and the offset where they stand: the state of this number, if there are so many, and the
 /// value.
 #[derive(Clone, Copy, Debug, PartialEq, Eq)]
-pub struct Digits {
+pub struct StateOrNumber {
     pub state: Option<usize>,
     pub value: Result<i64, NumberFault>,
     pub place: u64,
 }
 
 impl FirstNumber {
-    /// The numbers, if one more token follows the first of them.
-    pub(crate) fn go_on(
+    /// Returns the numbers, if one more token follows the first of them.
+    pub(crate) fn advance(
         self,
         alloc: Global,
         states: &Elements,
         token: Token<'_>,
-    ) -> Result<Numbers<u32>, Stop>
+    ) -> Result<Numbers<u32>, FeedError>
         requires { IsCount most_states (count_of states.now) }
         ensures takes { IfOk result (λ n. Takes (StartGoes states.now)
             (reader.Number self) (lexeme_of token.entry) (reader.Probabilities n)) }
@@ -56,63 +56,63 @@ impl FirstNumber {
             CannotTake (StartGoes states.now) (reader.Number self) (lexeme_of token.entry))) }
         ensures kept { IfOk result (λ n. SignIs n.sign (lexeme_of token.entry)) }
         ensures inside { IfOk result (λ n. IsOutside self.value → ⊥) }
-        ensures leads { IfOk result (λ n. Leads
+        ensures leads { IfOk result (λ n. ExpectsNext
             (numbers_want false (count_of states.now - 1)) (lexeme_of token.entry) (list_wants n)) }
         ensures stops { IfErr result (λ stop. IfRefused stop (λ r.
             IsStop (IsDueNumber self.value self.place (lexeme_of token.entry)) None
             (number_end false (count_of states.now - 1)) (lexeme_of token.entry) r.kind r.place)) }
         ensures late { IsOutside self.value → begins_number (lexeme_of token.entry).kind ≡ true →
-            result ≡ Err (Stop.Refused (refused ItemFault.ProbabilityRange self.place)) }
+            result ≡ Err (FeedError.Refused (refused ItemFault.ProbabilityRange self.place)) }
     {
         if !begins_number(token.kind) {
-            return Err(Stop::Refused(misplaced(token)));
+            return Err(FeedError::Refused(misplaced(token)));
         }
         if self.value < 0 || self.value > ONE as i64 {
             return Err(self.out_of_range());
         }
         let count = states.count();
         if count == 1 {
-            return Err(Stop::Refused(behind_numbers(token)));
+            return Err(FeedError::Refused(after_numbers(token)));
         }
-        let mut numbers = Numbers::begun(alloc, count, self.value as u32)?;
+        let mut numbers = Numbers::begun(alloc, count, self.value as u32);
         numbers.feed(token)?;
         Ok(numbers)
     }
 
-    /// The refusal of this number where another follows it, and it is out of range.
-    fn out_of_range(self) -> Stop
-        ensures { result ≡ Stop.Refused (refused ItemFault.ProbabilityRange self.place) }
+    /// Refuses this number, which is out of range, if another follows it.
+    fn out_of_range(self) -> FeedError
+        ensures { result ≡ FeedError.Refused (refused ItemFault.ProbabilityRange self.place) }
     {
-        Stop::Refused(Refusal {
+        FeedError::Refused(Refusal {
             kind: ItemFault::ProbabilityRange,
             place: self.place,
         })
     }
 
-    /// The shares where this number is all there is, after `start:`.
-    pub(crate) fn end(self, alloc: Global, states: &Elements) -> Result<Shares, ItemEnd>
+    /// Returns the start if this number is the only one after `start:`.
+    pub(crate) fn end(self, alloc: Global, states: &Elements) -> Result<StartWeights, EndError>
         requires { IsCount most_states (count_of states.now) }
         ensures said { IfOk result (StartGives states.now (reader.Number self) []) }
         ensures refused { IfErr result (λ e.
             IfNotMemory e (CannotEnd (StartGives states.now) (reader.Number self))) }
         ensures reason { (body : List Lexeme) → IfErr result (IsStartEndReason body) }
         ensures kind { IfErr result (λ e. IfAtEnd e (λ kind.
-            kind ≡ misfit (number_end false (count_of states.now - 1)) None)) }
+            kind ≡ unexpected_token (number_end false (count_of states.now - 1)) None)) }
         ensures at_end { IfErr result IsAtEnd }
     {
         let count = states.count();
         if count != 1 {
-            return Err(ItemEnd::AtEnd(ItemFault::WrongNumberCount));
+            return Err(EndError::AtEnd(ItemFault::WrongNumberCount));
         }
         if self.value != 0 && self.value != ONE as i64 {
-            return Err(ItemEnd::AtEnd(ItemFault::StartSum));
+            return Err(EndError::AtEnd(ItemFault::StartSum));
         }
         Ok(every_state(alloc, count)?)
     }
 }
 
-impl Digits {
-    /// The first number, if something follows the digits; or its refusal, if they have no value.
+impl StateOrNumber {
+    /// Returns the first number, if something follows the digits; or its refusal, if they have no value.
     pub(crate) fn first_number(self) -> Result<FirstNumber, Refusal>
         ensures { result ≡ first_of self.value self.place }
     {
@@ -128,20 +128,21 @@ impl Digits {
         }
     }
 
-    /// The shares where the digits stand alone: they are a state's number.
-    pub(crate) fn end(self, alloc: Global, states: &Elements) -> Result<Shares, ItemEnd>
+    /// Returns the start if the digits stand alone: they are a state's number.
+    pub(crate) fn end(self, alloc: Global, states: &Elements) -> Result<StartWeights, EndError>
         requires count { IsCount most_states (count_of states.now) }
-        requires within { IsStartWithin states.now (reader.Digits self) }
-        ensures said { IfOk result (StartGives states.now (reader.Digits self) []) }
+        requires within { IsStartWithin states.now (reader.StateOrNumber self) }
+        ensures said { IfOk result (StartGives states.now (reader.StateOrNumber self) []) }
         ensures refused { IfErr result (λ e.
-            IfNotMemory e (CannotEnd (StartGives states.now) (reader.Digits self))) }
-        ensures reason { (body : List Lexeme) → IsStartSeen (count_of states.now) body (reader.Digits self) →
+            IfNotMemory e (CannotEnd (StartGives states.now) (reader.StateOrNumber self))) }
+        ensures reason { (body : List Lexeme) →
+            HasReadStart (count_of states.now) body (reader.StateOrNumber self) →
             IfErr result (IsStartEndReason body) }
-        ensures due { IfErr result (IsEndDue (reader.Digits self)) }
+        ensures due { IfErr result (IsEndDue (reader.StateOrNumber self)) }
     {
         match self.state {
             Some(state) => Ok(one_state(alloc, states.count(), state)?),
-            None => Err(ItemEnd::At(Refusal {
+            None => Err(EndError::At(Refusal {
                 kind: ItemFault::IndexOutOfRange,
                 place: self.place,
             })),

@@ -2,10 +2,10 @@
 //! is refused.
 #![tactic(auto)]
 
-mod command;
-mod ending;
+mod command_line;
 mod refusal;
 
-pub use command::{HelpTexts, file, value_of};
-pub use ending::{DONE, MEMORY, REFUSED, print_clap_error, refuse};
+pub use command_line::{
+    DONE, HelpTexts, MEMORY, REFUSED, file, print_clap_error, refuse, value_of,
+};
 pub use refusal::{BoundRefusalLine, LoweredLine, RaisedLine, RefusalLine};

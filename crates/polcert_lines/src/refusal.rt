@@ -387,7 +387,7 @@ mod tests {
         (RunFault::TooLargeToPrint, "print: C1"),
     ];
 
-    /// Whether this is the line of the fault.
+    /// Tests whether this is the line of the fault.
     fn has_line(alloc: Global, fault: RunFault, line: &str) -> Result<bool, Fail> {
         Ok(format!(in alloc; "{}", RefusalLine(fault))?.as_str() == line)
     }

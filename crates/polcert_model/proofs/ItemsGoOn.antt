@@ -1,5 +1,5 @@
 -- What an item's reader holds is still possible: the item can continue, with `: *`, zeros and the like, to its end.
-use Rattle.std.proofs.Common.{◌≡◌, ◌∙◌, ℕ, zero, suc, ◌+◌, ◌-◌, ◌<◌, ◌≤◌, ◌==◌, ◌⊎◌, inl, inr, ⊎_elim, Bool, true, false, Option, Some, None, unwrap_or, Result, Ok, Err, List, [], ◌∷◌, ◌++◌, length, drop, map, ℤ, pos, codes, refl, sym, ap, subst, arith, lit≤, length-append}
+use Rattle.std.proofs.Common.{◌≡◌, ◌∙◌, ℕ, zero, suc, ◌+◌, ◌-◌, ◌<◌, ◌≤◌, ◌==◌, ◌⊎◌, ⊎_elim, Bool, true, false, Option, Some, None, unwrap_or, Result, Ok, Err, List, [], ◌∷◌, ◌++◌, length, drop, map, ℤ, pos, codes, refl, sym, ap, subst, arith, lit≤, length-append}
 use Rattle.std.proofs.lemmas.List.{map-id}
 use Rattle.std.specs.List.{list_any}
 use Rattle.polcert_text.specs.Cut.{Lexeme}
@@ -32,15 +32,15 @@ use Rattle.polcert_cells.specs.Entry.{forms, cells_in, IsBody}
 use Rattle.polcert_cells.specs.Numbers as numbers
 use Rattle.polcert_cells.specs.Numbers.{AreNumbers}
 use Rattle.polcert_format.specs.Forms as shapes
-use Rattle.polcert_format.specs.Text.{Known}
-use Rattle.polcert_items.specs.Steps.Numbers.{AreNumbersBehind}
+use Rattle.polcert_format.specs.Text.{ModelSoFar}
+use Rattle.polcert_items.specs.Steps.Numbers.{AreNumbersAfter}
 use Rattle.polcert_format.specs.KnownPreamble.{preamble_in, indices_in}
 use Rattle.polcert_items.specs.Steps.Entries.{IsFirstPlace, entry_with, ProbabilitiesGo, RewardsGo, StateGoes, HasRoom, awaited, IsStateWithin}
 use Rattle.polcert_items.specs.Steps.Items.{ItemForms, IsItemWithin, pending_in}
 use Rattle.polcert_items.specs.Steps.Start.{ListGoes, alone, first_of_more, StartGoes, IsStartWithin, pending, pending_of}
 use Rattle.polcert_cells.specs.Preamble.{Preamble, is_mdp, dimensions, named}
 use Rattle.polcert_format.specs.Wants.{least_written}
-use Rattle.polcert_items.specs.Steps.Known.{learned}
+use Rattle.polcert_items.specs.Steps.ModelSoFar.{with_item}
 use Rattle.polcert_items.proofs.ListLaws.{fractions_in_range}
 use Rattle.polcert_items.proofs.PatternLaws.{colon_takes, one_to_three, rewards_may_stand, same_length}
 use Rattle.polcert_items.proofs.ElementLaws.{elements_can_end}
@@ -51,14 +51,14 @@ a_word bytes = record { kind = Name; place = 0; bytes = bytes }
 
 -- ---- numbers
 
-zero_behind : (sign : Option Sign) → AreNumbersBehind sign (a_zero ∷ []) (pos 0 ∷ [])
-zero_behind None = numbers.unsigned (zero_is false) numbers.none
-zero_behind (Some s) = (zero_is s.negative, numbers.none)
+zero_after : (sign : Option Sign) → AreNumbersAfter sign (a_zero ∷ []) (pos 0 ∷ [])
+zero_after None = numbers.unsigned (zero_is false) numbers.none
+zero_after (Some s) = (zero_is s.negative, numbers.none)
 
-zeros_behind : (sign : Option Sign) (m : ℕ) → awaited sign ≤ m → AreNumbersBehind sign (zeros m) (map pos (nothings m))
-zeros_behind None m room = zeros_are m
-zeros_behind (Some s) zero room = absurd (omega (arith, room))
-zeros_behind (Some s) (suc m) room = (zero_is s.negative, zeros_are m)
+zeros_after : (sign : Option Sign) (m : ℕ) → awaited sign ≤ m → AreNumbersAfter sign (zeros m) (map pos (nothings m))
+zeros_after None m room = zeros_are m
+zeros_after (Some s) zero room = absurd (omega (arith, room))
+zeros_after (Some s) (suc m) room = (zero_is s.negative, zeros_are m)
 
 -- ---- entries
 
@@ -129,13 +129,12 @@ one_or_more n l = grind arith
 
 -- there are enough places for rewards, or with one more there are
 enough_or_one : (mdp : Bool) (n : ℕ) → 1 ≤ n → (least_written mdp Reward ≤ n) ⊎ ((n ≡ 1) × (least_written mdp Reward ≤ 2))
-enough_or_one true n l = inl l
-enough_or_one false n l = ⊎_elim (λ more. inl more) (λ one. inr (one, let two : 2 ≤ 2 = omega arith in two)) (one_or_more n l)
+enough_or_one mdp n h1 = grind (arith, ⊎_elim, one_or_more)
 
 one_further : (ps : List Place) → length (ps ++ Every ∷ []) ≡ length ps + 1
 one_further ps = length-append ps (Every ∷ [])
 
-body_continues : (k : Known) (table : Table) (places : List Place) → 1 ≤ length places → length places ≤ length (indices_in k table) → Continues (preamble_in k) table places states.Body
+body_continues : (k : ModelSoFar) (table : Table) (places : List Place) → 1 ≤ length places → length places ≤ length (indices_in k table) → Continues (preamble_in k) table places states.Body
 body_continues k Transition places low high = with_probabilities (preamble_in k) Transition places (one_to_three (length places) low high)
 body_continues k Observation places low high = with_probabilities (preamble_in k) Observation places (one_to_three (length places) low high)
 body_continues k Reward places low high =
@@ -148,25 +147,16 @@ body_continues k Reward places low high =
     (with_rewards preamble (places ++ Every ∷ []) (rewards_may_stand (is_mdp preamble) (length (places ++ Every ∷ [])) [] (subst (λ n. least_written (is_mdp preamble) Reward ≤ n) (sym two) one.1) (omega (arith, two))))))
     (enough_or_one (is_mdp preamble) (length places) low)
 
-place_continues : (k : Known) (table : Table) (places : List Place) → length places < length (indices_in k table) → Continues (preamble_in k) table places states.Place
-place_continues k table places room =
-    let further = one_further places in
-    with_star (preamble_in k) table places (subst (λ n. length places < n) (sym (same_length (preamble_in k) table)) room)
-    (body_continues k table (places ++ Every ∷ []) (omega (arith, further)) (omega (arith, further, room)))
+place_continues : (k : ModelSoFar) (table : Table) (places : List Place) → length places < length (indices_in k table) → Continues (preamble_in k) table places states.Place
+place_continues k table places room = grind (arith, same_length, with_star, one_further, body_continues)
 
-some_indices : (k : Known) (table : Table) → 0 < length (indices_in k table)
-some_indices k Transition = omega arith
-some_indices k Observation = omega arith
-some_indices k Reward = omega arith
+some_indices : (k : ModelSoFar) (table : Table) → 0 < length (indices_in k table)
+some_indices k table = grind arith
 
 -- zeros for the probabilities that lack
 probabilities_go : (n : Numbers ℕ) → HasRoom n
     → ProbabilitiesGo n (zeros (n.needed - length n.read)) (bodies.Probabilities (n.read ++ nothings (n.needed - length n.read)))
-probabilities_go n room =
-    let m = n.needed - length n.read in
-    let all : length (n.read ++ nothings m) ≡ length n.read + length (nothings m) = length-append n.read (nothings m) in
-    let rest = nothings_count m in
-    record { further = nothings m; numbers = zeros_behind n.sign m (omega (arith, room)); in_range = fractions_in_range (nothings m) (nothings_in_range m); enough = omega (arith, all, rest, room); body_is = refl }
+probabilities_go n room = grind (arith, length-append, fractions_in_range, zeros, nothings, nothings_count, nothings_in_range, zeros_after)
 
 probabilities_continue : (preamble : Preamble) (table : Table) (places : List Place) (n : Numbers ℕ) → HasRoom n → Continues preamble table places (states.Probabilities n)
 probabilities_continue preamble table places n room =
@@ -181,10 +171,10 @@ rewards_continue preamble table places n room =
     let rest = length-pos (nothings m) ∙ nothings_count m in
     let body = bodies.Rewards (n.read ++ further) in
     let go : RewardsGo n (zeros m) body =
-    record { further = further; numbers = subst (AreNumbersBehind n.sign (zeros m)) (sym (map-id further)) (zeros_behind n.sign m (omega (arith, room))); in_range = λ k d h. tt; enough = omega (arith, all, rest, room); body_is = refl } in
+    record { further = further; numbers = subst (AreNumbersAfter n.sign (zeros m)) (sym (map-id further)) (zeros_after n.sign m (omega (arith, room))); in_range = λ k d h. tt; enough = omega (arith, all, rest, room); body_is = refl } in
     record { more = zeros m; entry = entry_with table places body; goes = (body, (go, refl)) }
 
-state_continues : (k : Known) (table : Table) (places : List Place) (state : EntryState) → IsStateWithin (indices_in k table) table places state → Continues (preamble_in k) table places state
+state_continues : (k : ModelSoFar) (table : Table) (places : List Place) (state : EntryState) → IsStateWithin (indices_in k table) table places state → Continues (preamble_in k) table places state
 state_continues k table places states.Colon within =
     let c = place_continues k table places (subst (λ (ps : List Place). length ps < length (indices_in k table)) (sym within) (some_indices k table)) in
     record { more = a_colon ∷ c.more; entry = c.entry; goes = (refl, c.goes) }
@@ -215,14 +205,14 @@ start_continues elements starts.Body within free = record { more = a_zero ∷ []
 start_continues elements starts.Every within free = record { more = []; goes = (refl, tt) }
 start_continues elements (starts.Only s) within free = record { more = []; goes = (refl, tt) }
 start_continues elements (starts.Sign s) within free =
-    record { more = a_zero ∷ []; goes = record { further = pos 0 ∷ []; numbers = zero_behind (Some s); given = alone (pos 0) refl } }
+    record { more = a_zero ∷ []; goes = record { further = pos 0 ∷ []; numbers = zero_after (Some s); given = alone (pos 0) refl } }
 start_continues elements (starts.Number f) within free = record { more = []; goes = record { further = []; numbers = numbers.none; given = alone f.value refl } }
-start_continues elements (starts.Digits d) within free = of d.value refl
+start_continues elements (starts.StateOrNumber d) within free = of d.value refl
   where
     none≢some : {A : Type 0} {x : A} → Some x ≡ None → ⊥
     none≢some e = cc
 
-    of : (v : Result ℤ NumberFault) → d.value ≡ v → StartContinues elements (starts.Digits d)
+    of : (v : Result ℤ NumberFault) → d.value ≡ v → StartContinues elements (starts.StateOrNumber d)
     of (Ok h) e = record { more = []; goes = first_of_more h e (record { further = []; numbers = numbers.none; given = alone h refl }) }
     of (Err f) e = absurd (none≢some (subst (λ v. pending_of v d.place ≡ None) e free))
 start_continues elements (starts.Probabilities n) within free =
@@ -231,28 +221,28 @@ start_continues elements (starts.Probabilities n) within free =
 -- ---- items
 
 -- an item's reader that can continue to the form of the item
-pub record CanEnd (k : Known) (item : ItemReader) : Type 0 where
+pub record CanEnd (k : ModelSoFar) (item : ItemReader) : Type 0 where
   pub more : List Lexeme
   pub forms : ItemForms k item more tt
 
-pub can_end : (k : Known) (item : ItemReader) → IsItemWithin k item → pending_in item ≡ None → CanEnd k item
+pub can_end : (k : ModelSoFar) (item : ItemReader) → IsItemWithin k item → pending_in item ≡ None → CanEnd k item
 can_end k (items.Discount discount.Colon) within free =
-    record { more = a_colon ∷ a_zero ∷ []; forms = (learned k (said.Discount 0), (0, ((refl, (zero_behind None, omega arith)), refl))) }
+    record { more = a_colon ∷ a_zero ∷ []; forms = (with_item k (said.Discount 0), (0, ((refl, (zero_after None, omega arith)), refl))) }
 can_end k (items.Discount (discount.Number sign)) within free =
-    record { more = a_zero ∷ []; forms = (learned k (said.Discount 0), (0, ((zero_behind sign, omega arith), refl))) }
-can_end k (items.Discount (discount.Said d)) within free = record { more = []; forms = (learned k (said.Discount d), (d, ((refl, refl), refl))) }
+    record { more = a_zero ∷ []; forms = (with_item k (said.Discount 0), (0, ((zero_after sign, omega arith), refl))) }
+can_end k (items.Discount (discount.Done d)) within free = record { more = []; forms = (with_item k (said.Discount d), (d, ((refl, refl), refl))) }
 can_end k (items.Values values.Colon) within free =
-    record { more = a_colon ∷ a_word (codes "reward") ∷ []; forms = (learned k (said.Costs false), (false, ((refl, (refl, record { kind = refl; bytes = refl })), refl))) }
+    record { more = a_colon ∷ a_word (codes "reward") ∷ []; forms = (with_item k (said.Costs false), (false, ((refl, (refl, record { kind = refl; bytes = refl })), refl))) }
 can_end k (items.Values values.Word) within free =
-    record { more = a_word (codes "reward") ∷ []; forms = (learned k (said.Costs false), (false, ((refl, record { kind = refl; bytes = refl }), refl))) }
-can_end k (items.Values (values.Said c)) within free = record { more = []; forms = (learned k (said.Costs c), (c, ((refl, refl), refl))) }
-can_end k (items.States r) within free = let c = elements_can_end most_states (lit≤ tt) r within in record { more = c.0; forms = (learned k (said.States c.1.0), (c.1.0, (c.1.1, refl))) }
-can_end k (items.Actions r) within free = let c = elements_can_end most_actions (lit≤ tt) r within in record { more = c.0; forms = (learned k (said.Actions c.1.0), (c.1.0, (c.1.1, refl))) }
-can_end k (items.Observations r) within free = let c = elements_can_end most_observations (lit≤ tt) r within in record { more = c.0; forms = (learned k (said.Observations c.1.0), (c.1.0, (c.1.1, refl))) }
+    record { more = a_word (codes "reward") ∷ []; forms = (with_item k (said.Costs false), (false, ((refl, record { kind = refl; bytes = refl }), refl))) }
+can_end k (items.Values (values.Done c)) within free = record { more = []; forms = (with_item k (said.Costs c), (c, ((refl, refl), refl))) }
+can_end k (items.States r) within free = let c = elements_can_end most_states (lit≤ tt) r within in record { more = c.0; forms = (with_item k (said.States c.1.0), (c.1.0, (c.1.1, refl))) }
+can_end k (items.Actions r) within free = let c = elements_can_end most_actions (lit≤ tt) r within in record { more = c.0; forms = (with_item k (said.Actions c.1.0), (c.1.0, (c.1.1, refl))) }
+can_end k (items.Observations r) within free = let c = elements_can_end most_observations (lit≤ tt) r within in record { more = c.0; forms = (with_item k (said.Observations c.1.0), (c.1.0, (c.1.1, refl))) }
 can_end k (items.Start r) within free =
     let same : (preamble_in k).states ≡ within.0 = ap (λ o. unwrap_or o (Count 0)) within.1.0 in
     let c = start_continues (preamble_in k).states r (subst (λ s. IsStartWithin s r) (sym same) within.1.1) free in
     record { more = c.more; forms = c.goes }
 can_end k (items.Entry r) within free =
     let c = state_continues k r.table r.places r.state within in
-    record { more = c.more; forms = (learned k (said.Entry c.entry), (c.entry, (c.goes, refl))) }
+    record { more = c.more; forms = (with_item k (said.Entry c.entry), (c.entry, (c.goes, refl))) }

@@ -1,5 +1,5 @@
 -- A model's text that comes from a source.
-use Rattle.std.proofs.Common.{◌≡◌, ◌∙◌, ℕ, Bool, true, false, cond, Option, Some, None, Result, Ok, Err, IfOk, IfErr, MatchResult, List, length, nat_lt, refl, sym, arith}
+use Rattle.std.proofs.Common.{◌≡◌, ◌∙◌, ℕ, Bool, true, false, cond, Option, Some, None, List, length, nat_lt, refl, sym, arith, rules}
 use Rattle.polcert_text.specs.Cut.{Lexeme, IsCut, text_rest, end_place, text_limit}
 use Rattle.polcert_text.proofs.Scanning.CleanCut.{ends_cleanly}
 use Rattle.polcert_text.specs.Source.{IsText, EachTextThatFits}
@@ -14,12 +14,11 @@ use Rattle.polcert_cells.specs.Steps.Drafts as drafts
 use Rattle.polcert_format.specs.declared.fault.ModelFault.{ModelFault}
 use Rattle.polcert_format.specs.declared.fault.ModelFault.TheVariants.{RowSum}
 use Rattle.polcert_model.specs.declared.reader.TextReader.{TextReader}
-use Rattle.polcert_format.specs.Text.{Known}
+use Rattle.polcert_format.specs.Text.{ModelSoFar}
 use Rattle.polcert_format.specs.FirstWrong.{TextTokens, AreTokensOf}
-use Rattle.polcert_format.specs.Refusals.{IsRefusal, IsPlacedRight, IsNoModel}
 use Rattle.polcert_format.specs.RefusedTexts.{IsRefusedModelText}
-use Rattle.polcert_items.specs.Steps.Known.{IsWholeRead, said}
-use Rattle.polcert_model.specs.Steps.Texts.{IsTextRead, IsTextOf, IsRefusedBehind, IsRefusedWhole, Refuses, tokens_end, pending_at}
+use Rattle.polcert_items.specs.Steps.ModelSoFar.{IsWholeRead, said}
+use Rattle.polcert_model.specs.Steps.Texts.{IsTextRead, IsTextOf, IsRefusedAfter, IsRefusedWhole, Refuses, tokens_end, pending_at}
 use Rattle.polcert_format.proofs.FrontLaws.{tokens_begin, these_tokens, too_long, whole_text}
 use Rattle.polcert_format.proofs.RefusalLaws.{no_model}
 use Rattle.polcert_model.proofs.RefusingEnds.{fault_refused}
@@ -27,24 +26,12 @@ use Rattle.polcert_model.proofs.WholeTexts.{row_refused}
 
 -- what is refused of a text's tokens is refused of the text
 refused_text : (fault : ModelFault) (text : List ℕ) → ((ts : TextTokens) → AreTokensOf text ts → Refuses ts fault) → IsRefusedModelText fault text
-refused_text fault text h = record {
-  no_model = no_model text fault (λ ts tokens. (h ts tokens).refusal);
-  refusal = λ ts tokens. (h ts tokens).refusal;
-  placed = λ ts tokens. (h ts tokens).placed;
-}
-
--- what is said of an answer to a text, from what its last step says of it
-pub said_of : (text : List ℕ) {V : Type 0} (P : V → Type 0) (r : Result V ModelFault) → MatchResult r P (λ fault. IsRefusedModelText fault text)
-    → MatchResult r P (IsNoModel text) × IfOk r P × IfErr r (λ fault. (ts : TextTokens) → AreTokensOf text ts → IsRefusal ts fault)
-    × IfErr r (λ fault. (ts : TextTokens) → AreTokensOf text ts → IsPlacedRight ts fault)
-said_of text P (Ok v) is = (is, is, tt, tt)
-said_of text P (Err fault) refused = (refused.no_model, tt, refused.refusal, refused.placed)
+refused_text fault text h = grind (arith, no_model)
 
 -- where the items are right, the first row that is wrong is refused
-pub row_sum_refused : (seen : List Lexeme) (k : Known) → IsWholeRead seen k → (text : List ℕ) (table : Table) (a s : ℕ)
+pub row_sum_refused : (seen : List Lexeme) (k : ModelSoFar) → IsWholeRead seen k → (text : List ℕ) (table : Table) (a s : ℕ)
     → IsCut (text_rest text text_limit) seen None → IsFirstWrongRow (drafts.meaning (said k)) table a s → IsRefusedModelText (RowSum table a s) text
-row_sum_refused seen k read text table a s cut wrong =
-    refused_text (RowSum table a s) text (λ ts tokens. record { refusal = row_refused seen k read text table a s cut wrong ts tokens; placed = tt })
+row_sum_refused seen k read text table a s cut wrong = search (rules, row_refused, refused_text)
 
 -- a text whose tokens end cleanly ends where they do
 clean_end : (text : List ℕ) (ls : List Lexeme) → IsCut (text_rest text text_limit) ls None → end_place (text_rest text text_limit) ≡ length text
@@ -56,7 +43,7 @@ clean_end text ls cut = at (nat_lt text_limit (length text)) (ends_cleanly (text
 
 module _ {S : Type 0} (reads : S → ℕ → Option (List ℕ) → S → Type 0) (failures : S → ℕ) (first : S) where
   -- no text whose tokens begin with these is right
-  pub refused_at_token : (ts : List Lexeme) (stream : Stream) (s : S) (fault : ModelFault) → TakenFrom reads failures text_limit first ts stream s → IsRefusedBehind ts fault
+  pub refused_at_token : (ts : List Lexeme) (stream : Stream) (s : S) (fault : ModelFault) → TakenFrom reads failures text_limit first ts stream s → IsRefusedAfter ts fault
       → EachTextThatFits reads first s (IsRefusedModelText fault)
   refused_at_token ts stream s fault taken h =
       each_taken reads failures text_limit first ts stream s (IsRefusedModelText fault) taken
@@ -72,7 +59,7 @@ module _ {S : Type 0} (reads : S → ℕ → Option (List ℕ) → S → Type 0)
       (λ text cut. refused_text named text (λ tokens are. let these = these_tokens text ts (Some fault) tokens cut are in fault_refused ts r fault read text tokens are these.0 these.1))
 
   -- the text ends cleanly
-  pub read_at_end : (ts : List Lexeme) (old : Stream) (s : S) (new : Ahead) (u : S) (k : Known) → TakenFrom reads failures text_limit first ts old s
+  pub read_at_end : (ts : List Lexeme) (old : Stream) (s : S) (new : Ahead) (u : S) (k : ModelSoFar) → TakenFrom reads failures text_limit first ts old s
       → GivesEnd reads failures old.ahead s None new u → IsWholeRead ts k → (text : List ℕ) × IsText reads first text u × IsTextOf text k
   read_at_end ts old s new u k taken g read =
       let t = text_taken reads failures text_limit first ts old s new u taken g in

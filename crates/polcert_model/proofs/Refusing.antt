@@ -1,12 +1,12 @@
 -- What the reader of a text refuses within an item: each refusal is of the first wrong item, lies in it, and has its
 -- reason.
-use Rattle.std.proofs.Common.{◌≡◌, ◌∙◌, ℕ, ◌+◌, inr, true, false, Bool, Option, Some, None, List, [], ◌∷◌, ◌++◌, length, refl, sym, ap, subst}
+use Rattle.std.proofs.Common.{◌≡◌, ◌∙◌, ℕ, ◌+◌, inr, true, false, Bool, Option, Some, None, List, [], ◌∷◌, ◌++◌, length, refl, sym, ap, subst, arith, rules}
 use Rattle.std.proofs.lemmas.List.{append_assoc, append-nil}
 use Rattle.polcert_text.specs.Cut.{Lexeme}
 use Rattle.polcert_text.specs.declared.lexeme.TokenKind.TheVariants.{Numeral}
 use Rattle.polcert_text.specs.declared.tokens.TokenFault.{TokenFault}
 use Rattle.polcert_format.specs.declared.fault.ItemFault.{ItemFault}
-use Rattle.polcert_format.specs.declared.fault.ItemFault.TheVariants.{Number, BadShape, BadCount, DuplicateName, UnknownName, IndexOutOfRange, WrongNumberCount, ProbabilityRange, DiscountRange, Reset, StartSum, StartEmpty, TooManyCells}
+use Rattle.polcert_format.specs.declared.fault.ItemFault.TheVariants.{Number, BadShape, BadCount, DuplicateName, UnknownName, IndexOutOfRange, WrongNumberCount, ProbabilityRange, DiscountRange, Reset, TooManyCells}
 use Rattle.polcert_format.specs.declared.fault.ModelFault.TheVariants as model_faults
 use Rattle.polcert_items.specs.declared.item.ItemReader.{ItemReader}
 use Rattle.polcert_items.specs.declared.item.ItemReader.TheVariants as items
@@ -17,14 +17,14 @@ use Rattle.polcert_cells.specs.declared.words.Topic.{Topic}
 use Rattle.polcert_cells.specs.declared.words.Topic.TheVariants.{Start}
 use Rattle.polcert_cells.specs.Words.{topic, begins_item}
 use Rattle.polcert_format.specs.Items.{Item, IsDivided}
-use Rattle.polcert_format.specs.Text.{Known, nothing_known, IsRight, AreRight}
+use Rattle.polcert_format.specs.Text.{ModelSoFar, nothing_known, IsRight, AreRight}
 use Rattle.polcert_format.specs.Order.{word_fault}
-use Rattle.polcert_format.specs.Forms.{HasForm, IsFormless, IsPossible, IsTooMuch}
+use Rattle.polcert_format.specs.Forms.{HasForm, HasNoForm, IsPossible, PassesCellLimit}
 use Rattle.polcert_format.specs.Reading.{IsWithinItem, IsWrong, CannotGoOn}
 use Rattle.polcert_format.specs.FirstWrong.{TextTokens, AreTokensOf, IsFirstWrong, LiesIn, IsDecided, word_place, wrong_item, wrong_last}
 use Rattle.polcert_format.specs.Reasons.{IsReason, PassesLimit, InItem, StandsIn, NumberStandsIn, IsRepeated, is_sign}
 use Rattle.polcert_format.specs.Reasons as reasons
-use Rattle.polcert_format.specs.Refusals.{place_or, Stops, StopsInBody, in_body, behind_body, of_first_number}
+use Rattle.polcert_format.specs.Refusals.{place_or, Stops, StopsInBody, in_body, after_body, of_first_number}
 use Rattle.polcert_format.specs.Refusals as refusals
 use Rattle.polcert_items.specs.Steps.Numbers.{is_negative, number_place, IsSignAt, SignEnds}
 use Rattle.polcert_items.specs.Steps.Numbers as steps
@@ -36,10 +36,10 @@ use Rattle.polcert_items.proofs.FirstNumberLaws.{late_at_fault, pending_is_late}
 use Rattle.polcert_items.proofs.FormLaws.{nothing_pending, forms_stuck}
 use Rattle.polcert_items.specs.Steps.Items.{ItemGoes, ItemForms, topic_in, sign_in, pending_in, IsSeen, IsTokenReason, IsItemReason, IsEndReason}
 use Rattle.polcert_items.specs.Steps.Items as steps_of
-use Rattle.polcert_format.specs.Misfits.{misfit, IsOfValue, IsMisfit}
-use Rattle.polcert_format.specs.Wants.{wanted}
+use Rattle.polcert_format.specs.Misfits.{unexpected_token, IsOfValue, IsMisfit}
+use Rattle.polcert_format.specs.Wants.{expected}
 use Rattle.polcert_items.specs.Steps.Wants.{item_wants, IfNotStart, IfStart}
-use Rattle.polcert_model.specs.Steps.Texts.{IsItemRead, EndsItem, IsRefusedBehind, IsRefusedAt, Refuses}
+use Rattle.polcert_model.specs.Steps.Texts.{IsItemRead, EndsItem, IsRefusedAfter, IsRefusedAt, Refuses}
 use Rattle.polcert_model.specs.Steps.Texts as texts
 use Rattle.polcert_cells.proofs.Basics.{one_some, cons≢nil}
 use Rattle.polcert_format.proofs.ItemLaws.{has_division}
@@ -49,7 +49,7 @@ use Rattle.polcert_format.proofs.PlaceLaws.{Rises, tokens_rise, lies_in_item}
 use Rattle.polcert_format.proofs.DecidedLaws.{nothing_decided}
 use Rattle.polcert_format.proofs.StillPossible.{possible_front}
 use Rattle.polcert_format.proofs.CellLimits.{too_much_wrong}
-use Rattle.polcert_format.proofs.BegunItems.{within_goes_on}
+use Rattle.polcert_format.proofs.BegunItems.{within_continues}
 use Rattle.polcert_items.proofs.StartSeen.{pending_reason}
 use Rattle.polcert_model.proofs.Shaped.{right_shaped, too_much_shaped}
 
@@ -57,7 +57,7 @@ pub none≢some : {A : Type 0} {x : A} → None ≡ Some x → ⊥
 none≢some e = cc
 
 -- an item of the text with this number, topic and body, after right ones
-pub record Here (ts : TextTokens) (n : ℕ) (k : Known) (t : Topic) (body : List Lexeme) : Type 0 where
+pub record Here (ts : TextTokens) (n : ℕ) (k : ModelSoFar) (t : Topic) (body : List Lexeme) : Type 0 where
   pub before : List Item
   pub word : Lexeme
   pub after : List Item
@@ -66,11 +66,11 @@ pub record Here (ts : TextTokens) (n : ℕ) (k : Known) (t : Topic) (body : List
   pub topic_is : topic word ≡ Some t
   pub number_is : n ≡ length before + 1
 
-abbrev pub item_here : {ts : TextTokens} {n : ℕ} {k : Known} {t : Topic} {body : List Lexeme} → Here ts n k t body → Item
+abbrev pub item_here : {ts : TextTokens} {n : ℕ} {k : ModelSoFar} {t : Topic} {body : List Lexeme} → Here ts n k t body → Item
 item_here {body = body} h = record { word = h.word; body = body }
 
 -- the item that was begun, with what follows of its body and what follows it
-abbrev pub here : (ts : TextTokens) (n : ℕ) (seen body tail f : List Lexeme) (k : Known) (t : Topic) (ys : List Item) (w : IsWithinItem seen k t body)
+abbrev pub here : (ts : TextTokens) (n : ℕ) (seen body tail f : List Lexeme) (k : ModelSoFar) (t : Topic) (ys : List Item) (w : IsWithinItem seen k t body)
     → ts.lexemes ≡ seen ++ tail → n ≡ length w.items.items + 1 → IsDivided tail f ys → Here ts n k t (body ++ f)
 here ts n seen body tail f k t ys w e number d = record {
   before = w.items.items;
@@ -82,7 +82,7 @@ here ts n seen body tail f k t ys w e number d = record {
   number_is = number;
 }
 
-module _ {ts : TextTokens} {n : ℕ} {k : Known} {t : Topic} {body : List Lexeme} (h : Here ts n k t body) where
+module _ {ts : TextTokens} {n : ℕ} {k : ModelSoFar} {t : Topic} {body : List Lexeme} (h : Here ts n k t body) where
   -- it is the first wrong item
   pub first_here : IsWrong k t body → IsFirstWrong ts n
   first_here wrong = wrong_item h.before (item_here h) h.after k h.divided h.taken (λ u e. subst (λ x. IsWrong k x body) (one_some h.topic_is e) wrong) h.number_is
@@ -90,22 +90,11 @@ module _ {ts : TextTokens} {n : ℕ} {k : Known} {t : Topic} {body : List Lexeme
   -- a place in its body lies in it
   lies_here : (place : ℕ) (taken rest : List Lexeme) → Rises 0 ts.lexemes ts.end → body ≡ taken ++ rest
       → place ≡ place_or rest (word_place h.after ts.end 0) → LiesIn ts n place
-  lies_here place taken rest rises e at =
-      subst (λ m. LiesIn ts m place) (sym h.number_is)
-      (subst (LiesIn ts (length h.before + 1)) (sym at) (lies_in_item ts h.before (item_here h) h.after taken rest rises h.divided e))
+  lies_here place taken rest rises e at = grind (arith, lies_in_item)
 
   -- this is so of its body
   so_here : {Is : Topic → List Lexeme → Type 0} → Is t body → InItem ts n Is
-  so_here so = record {
-    before = h.before;
-    item = item_here h;
-    after = h.after;
-    divided = h.divided;
-    number_is = h.number_is;
-    t = t;
-    topic_is = h.topic_is;
-    holds = so;
-  }
+  so_here so = grind arith
 
   -- nothing is decided where its word may stand
   pub free_here : word_fault k t ≡ None → (fault : ItemFault) (at : ℕ) → IsDecided ts n fault at → ⊥
@@ -115,40 +104,12 @@ module _ {ts : TextTokens} {n : ℕ} {k : Known} {t : Topic} {body : List Lexeme
   -- a part of the body was taken, and there it stops
   stops_here : (kind : ItemFault) (place : ℕ) (taken rest : List Lexeme) → body ≡ taken ++ rest → IsPossible k t taken → Stops k t kind taken rest
       → place ≡ place_or rest (word_place h.after ts.end 0) → (rest ≡ [] → h.after ≡ [] → ts.ending ≡ None) → StopsInBody ts kind n place
-  stops_here kind place taken rest whole possible stops at clean = record {
-    before = h.before;
-    item = item_here h;
-    after = h.after;
-    divided = h.divided;
-    number_is = h.number_is;
-    k = k;
-    t = t;
-    known = h.taken;
-    topic_is = h.topic_is;
-    taken = taken;
-    rest = rest;
-    whole = whole;
-    possible = possible;
-    stops = stops;
-    place_is = at;
-    clean = clean;
-  }
+  stops_here kind place taken rest whole possible stops at clean = grind arith
 
   -- the refusal of a start item's first number that is due here
   late_in : (kind : ItemFault) (place : ℕ) → t ≡ Start → word_fault k t ≡ None
       → IsLate (states_known k) body (ends_cleanly h.after ts.ending) kind place → IsLateIn ts n kind place
-  late_in kind place start free late = record {
-    before = h.before;
-    item = item_here h;
-    after = h.after;
-    divided = h.divided;
-    number_is = h.number_is;
-    k = k;
-    known = h.taken;
-    topic_is = h.topic_is ∙ ap Some start;
-    may_stand = sym (ap (word_fault k) start) ∙ free;
-    late = late;
-  }
+  late_in kind place start free late = grind arith
 
   late_of : (kind : ItemFault) (place : ℕ) → IsLateIn ts n kind place → (t ≡ Start) × IsLate (states_known k) body (ends_cleanly h.after ts.ending) kind place
   late_of kind place w = late_here ts n kind place h.before (item_here h) h.after k t h.divided h.taken h.topic_is h.number_is w
@@ -158,12 +119,7 @@ module _ {ts : TextTokens} {n : ℕ} {k : Known} {t : Topic} {body : List Lexeme
   start_lies place rises s = lies_here place s.before (s.lexeme ∷ s.after) rises s.whole s.place_is
 
   end_reason : (place : ℕ) (kind : ItemFault) → IsEndReason t kind → IsReason ts n place kind
-  end_reason place BadCount m = so_here m
-  end_reason place StartSum m = so_here m
-  end_reason place StartEmpty m = so_here m
-  end_reason place BadShape m = tt
-  end_reason place WrongNumberCount m = tt
-  end_reason place _ m = absurd m
+  end_reason place kind h1 = grind (arith, so_here)
 
 -- ---- where a number stands in the body
 
@@ -171,8 +127,7 @@ signed_whole : (body before more : List Lexeme) (s l : Lexeme) → body ≡ befo
 signed_whole body before more s l e = append_assoc body (l ∷ []) more ∙ ap (λ (b : List Lexeme). b ++ l ∷ more) e ∙ append_assoc before (s ∷ []) (l ∷ more)
 
 sign_place : (sign : Sign) (s : Lexeme) → IsSignAt sign s → sign.place ≡ s.place
-sign_place sign s (steps.plus kind negative place) = place
-sign_place sign s (steps.minus kind negative place) = place
+sign_place sign s h1 = grind arith
 
 signed_stands : (sign : Sign) (body before more : List Lexeme) (s l : Lexeme) (place : ℕ) (Is : Bool → Lexeme → Type 0) → body ≡ before ++ s ∷ [] → IsSignAt sign s
     → place ≡ sign.place → Is sign.negative l → NumberStandsIn ((body ++ l ∷ []) ++ more) place Is
@@ -195,22 +150,21 @@ record Refused (ts : TextTokens) (n place : ℕ) (kind : ItemFault) : Type 0 whe
   stops : StopsInBody ts kind n place
 
 sign_kind : (sign : Sign) (s : Lexeme) → IsSignAt sign s → is_sign s.kind ≡ true
-sign_kind sign s (steps.plus kind negative place) = ap is_sign kind
-sign_kind sign s (steps.minus kind negative place) = ap is_sign kind
+sign_kind sign s h1 = grind arith
 
 stands : (body more : List Lexeme) (l : Lexeme) (place : ℕ) (Is : Lexeme → Type 0) → place ≡ l.place → Is l → reasons.StandsIn ((body ++ l ∷ []) ++ more) place Is
 stands body more l place Is p so = record { before = body; lexeme = l; after = more; whole = append_assoc body (l ∷ []) more; place_is = p; holds = so }
 
 -- the next lexeme is this one, of a body that was possible so far, and isn't with it
-module _ {ts : TextTokens} {n : ℕ} (place : ℕ) {k : Known} {t : Topic} (sign : Option Sign) (body more : List Lexeme) (l : Lexeme)
+module _ {ts : TextTokens} {n : ℕ} (place : ℕ) {k : ModelSoFar} {t : Topic} (sign : Option Sign) (body more : List Lexeme) (l : Lexeme)
     (h : Here ts n k t ((body ++ l ∷ []) ++ more)) (rises : Rises 0 ts.lexemes ts.end) (ends : SignEnds sign body) (taken : IsPossible k t body)
-    (stuck : IsFormless k t (body ++ l ∷ [])) where
+    (stuck : HasNoForm k t (body ++ l ∷ [])) where
   number_lies : (s : Option Sign) → SignEnds s body → place ≡ number_place s l → LiesIn ts n place
   number_lies None ends p = lies_here h place body (l ∷ more) rises (append_assoc body (l ∷ []) more) p
   number_lies (Some s) ends p =
       lies_here h place ends.0 (ends.1.0 ∷ l ∷ more) rises (signed_whole body ends.0 more ends.1.0 l ends.1.1.0) (p ∙ sign_place s ends.1.0 ends.1.1.1)
 
-  number_stops : (kind : ItemFault) (s : Option Sign) → SignEnds s body → place ≡ number_place s l → l.kind ≡ Numeral → IsOfValue kind → IsMisfit (wanted k t body) l kind
+  number_stops : (kind : ItemFault) (s : Option Sign) → SignEnds s body → place ≡ number_place s l → l.kind ≡ Numeral → IsOfValue kind → IsMisfit (expected k t body) l kind
       → StopsInBody ts kind n place
   number_stops kind None ends p numeral value unfit =
       stops_here h kind place body (l ∷ more) (append_assoc body (l ∷ []) more) taken (refusals.at_lexeme stuck unfit) p (λ none. absurd (cons≢nil none))
@@ -220,31 +174,27 @@ module _ {ts : TextTokens} {n : ℕ} (place : ℕ) {k : Known} {t : Topic} (sign
       let whole = ends.1.1.0 in
       let signed : IsPossible k t (before ++ s ∷ []) = subst (IsPossible k t) whole taken in
       let front : IsPossible k t before = possible_front k t before (s ∷ []) signed in
-      let pair : IsFormless k t (before ++ s ∷ l ∷ []) = subst (IsFormless k t) (ap (λ (b : List Lexeme). b ++ l ∷ []) whole ∙ append_assoc before (s ∷ []) (l ∷ [])) stuck in
-      let behind : IsMisfit (wanted k t (before ++ s ∷ [])) l kind = subst (λ b. IsMisfit (wanted k t b) l kind) whole unfit in
+      let pair : HasNoForm k t (before ++ s ∷ l ∷ []) = subst (HasNoForm k t) (ap (λ (b : List Lexeme). b ++ l ∷ []) whole ∙ append_assoc before (s ∷ []) (l ∷ [])) stuck in
+      let following : IsMisfit (expected k t (before ++ s ∷ [])) l kind = subst (λ b. IsMisfit (expected k t b) l kind) whole unfit in
       stops_here h kind place before (s ∷ l ∷ more) (signed_whole body before more s l whole) front
-      (refusals.at_number (sign_kind g s ends.1.1.1) numeral signed pair value behind) (p ∙ sign_place g s ends.1.1.1)
+      (refusals.at_number (sign_kind g s ends.1.1.1) numeral signed pair value following) (p ∙ sign_place g s ends.1.1.1)
       (λ none. absurd (cons≢nil none))
 
-  at_number : (kind : ItemFault) → IsOfValue kind → IsMisfit (wanted k t body) l kind → l.kind ≡ Numeral → place ≡ number_place sign l
+  at_number : (kind : ItemFault) → IsOfValue kind → IsMisfit (expected k t body) l kind → l.kind ≡ Numeral → place ≡ number_place sign l
       → IsReason ts n place kind → Refused ts n place kind
-  at_number kind value unfit numeral p reason =
-      record { lies = number_lies sign ends p; reason = reason; stops = number_stops kind sign ends p numeral value unfit }
+  at_number kind value unfit numeral p reason = search (rules, number_lies, number_stops)
 
-  at_lexeme : (kind : ItemFault) → IsMisfit (wanted k t body) l kind → place ≡ l.place → IsReason ts n place kind → Refused ts n place kind
+  at_lexeme : (kind : ItemFault) → IsMisfit (expected k t body) l kind → place ≡ l.place → IsReason ts n place kind → Refused ts n place kind
   at_lexeme kind unfit p reason = record {
     lies = lies_here h place body (l ∷ more) rises (append_assoc body (l ∷ []) more) p;
     reason = reason;
     stops = stops_here h kind place body (l ∷ more) (append_assoc body (l ∷ []) more) taken (refusals.at_lexeme stuck unfit) p (λ none. absurd (cons≢nil none));
   }
 
-  refused_here : (kind : ItemFault) → IsMisfit (wanted k t body) l kind → IsTokenReason t sign body l kind place → Refused ts n place kind
-  refused_here (Number fault) unfit m =
-      at_number (Number fault) tt unfit m.1.0 m.0 (so_here h (number_stands sign body more l place (reasons.IsRefusedNumber fault) ends m.0 m.1))
-  refused_here DiscountRange unfit m =
-      at_number DiscountRange tt unfit m.2.1.kind m.1 (so_here h (m.0, number_stands sign body more l place reasons.IsNoFraction ends m.1 m.2))
-  refused_here ProbabilityRange unfit m =
-      at_number ProbabilityRange tt unfit m.1.1.1.kind m.1.0 (so_here h (m.0, number_stands sign body more l place reasons.IsNoFraction ends m.1.0 m.1.1))
+  refused_here : (kind : ItemFault) → IsMisfit (expected k t body) l kind → IsTokenReason t sign body l kind place → Refused ts n place kind
+  refused_here (Number fault) unfit m = search (rules, so_here, number_stands, at_number)
+  refused_here DiscountRange unfit m = search (rules, so_here, number_stands, at_number)
+  refused_here ProbabilityRange unfit m = search (rules, so_here, number_stands, at_number)
   refused_here Reset unfit m = at_lexeme Reset unfit m.0 (so_here h (stands body more l place _ m.0 m.1))
   refused_here DuplicateName unfit m =
       at_lexeme DuplicateName unfit m.0 (so_here h (m.1, subst (λ b. IsRepeated b place) (sym (append_assoc body (l ∷ []) more)) (m.2 more)))
@@ -263,20 +213,13 @@ stuck seen r w l none more after taken =
 
 -- and hasn't even the form of one with it
 without_form : (seen : List Lexeme) (r : TextReader) (w : IsItemRead seen r) (l : Lexeme) → CannotTake (ItemGoes r.known) w.item l
-    → IfStart (topic_in w.item) (CannotTake (ItemForms r.known) w.item l) → IsFormless r.known w.t (w.body ++ l ∷ [])
+    → IfStart (topic_in w.item) (CannotTake (ItemForms r.known) w.item l) → HasNoForm r.known w.t (w.body ++ l ∷ [])
 without_form seen r w l none formless more f =
     forms_stuck r.known w.item l none formless more tt (w.read.forms (l ∷ more) (subst (HasForm r.known w.t) (append_assoc w.body (l ∷ []) more) f))
 
 -- what stands in a body stands in it with more after
 stands_further : (body more : List Lexeme) (place : ℕ) (Is : Lexeme → Type 0) → StandsIn body place Is → StandsIn (body ++ more) place Is
-stands_further body more place Is s = record {
-  before = s.before;
-  lexeme = s.lexeme;
-  after = s.after ++ more;
-  whole = ap (λ (b : List Lexeme). b ++ more) s.whole ∙ append_assoc s.before (s.lexeme ∷ s.after) more;
-  place_is = s.place_is;
-  holds = s.holds;
-}
+stands_further body more place Is s = grind (arith, append_assoc)
 
 number_further : (body more : List Lexeme) (place : ℕ) (Is : Bool → Lexeme → Type 0) → NumberStandsIn body place Is → NumberStandsIn (body ++ more) place Is
 number_further body more place Is (reasons.unsigned before l after e free p so) =
@@ -287,7 +230,7 @@ number_further body more place Is (reasons.minus before s l after e kind p so) =
     reasons.minus before s l (after ++ more) (ap (λ (b : List Lexeme). b ++ more) e ∙ append_assoc before (s ∷ l ∷ after) more) kind p so
 
 -- why a start item is refused at some lexeme of its body
-module _ {ts : TextTokens} {n : ℕ} (place : ℕ) {k : Known} {t : Topic} (body more : List Lexeme) (h : Here ts n k t (body ++ more)) (e : t ≡ Start) where
+module _ {ts : TextTokens} {n : ℕ} (place : ℕ) {k : ModelSoFar} {t : Topic} (body more : List Lexeme) (h : Here ts n k t (body ++ more)) (e : t ≡ Start) where
   start_reason : (kind : ItemFault) → IsReasonIn body kind place → IsReason ts n place kind
   start_reason (Number fault) m = so_here h (number_further body more place _ m)
   start_reason ProbabilityRange m = so_here h (subst reasons.IsOfProbabilities (sym e) tt, number_further body more place _ m)
@@ -304,7 +247,7 @@ module _ {ts : TextTokens} {n : ℕ} (place : ℕ) {k : Known} {t : Topic} (body
 abbrev IsWhatIsDue : TextTokens → ℕ → ItemFault → ℕ → Type 0
 IsWhatIsDue ts n kind place = (fault : ItemFault) (at : ℕ) → IsLateIn ts n fault at → (kind ≡ fault) × (place ≡ at)
 
-start_refused : {text : List ℕ} {ts : TextTokens} {n : ℕ} (place : ℕ) {k : Known} {t : Topic} (body more : List Lexeme) (kind : ItemFault) → AreTokensOf text ts
+start_refused : {text : List ℕ} {ts : TextTokens} {n : ℕ} (place : ℕ) {k : ModelSoFar} {t : Topic} (body more : List Lexeme) (kind : ItemFault) → AreTokensOf text ts
     → (h : Here ts n k t (body ++ more)) → word_fault k t ≡ None → IsFirstWrong ts n → t ≡ Start → IsStartReason body kind place
     → IsLate (states_known k) (body ++ more) (ends_cleanly h.after ts.ending) kind place → IsWhatIsDue ts n kind place → Refuses ts (model_faults.Item kind n place)
 start_refused {text} {ts} place body more kind tokens h free wrong e r late due = record {
@@ -322,7 +265,7 @@ fault_ends : (ending : Option TokenFault) (f : TokenFault) → ending ≡ Some f
 fault_ends ending f e = ap (ends_cleanly []) e
 
 -- at a fault of the tokens, what is due of an item's first number is what waits for more
-pub due_at_fault : (ts : TextTokens) (n : ℕ) (k : Known) (t : Topic) (body : List Lexeme) (item : ItemReader) (f : TokenFault) (kind : ItemFault) (place : ℕ) (h : Here ts n k t (body ++ [])) → h.after ≡ [] → ts.ending ≡ Some f
+pub due_at_fault : (ts : TextTokens) (n : ℕ) (k : ModelSoFar) (t : Topic) (body : List Lexeme) (item : ItemReader) (f : TokenFault) (kind : ItemFault) (place : ℕ) (h : Here ts n k t (body ++ [])) → h.after ≡ [] → ts.ending ≡ Some f
     → topic_in item ≡ t → IsSeen (states_known k) body item → IsLateIn ts n kind place → pending_in item ≡ Some (record { kind = kind; place = place })
 due_at_fault ts n k t body item f kind place h last ending topics seen w =
     let found = late_of h kind place w in
@@ -357,43 +300,34 @@ pending_refused seen r f x w e text ts tokens same ending =
 
 -- the sign that waits for its numeral ends the body
 pub seen_sign : (count : ℕ) (body : List Lexeme) (item : ItemReader) → (topic_in item ≡ Start → ⊥) → IsSeen count body item → SignEnds (sign_in item) body
-seen_sign count body (items.Discount r) other s = s
-seen_sign count body (items.Values r) other s = s
-seen_sign count body (items.Start r) other s = absurd (other refl)
-seen_sign count body (items.Entry r) other s = s
-seen_sign count body _ other s = s.0
+seen_sign count body item h1 h2 = grind arith
 
 -- what is said of items that are no start item
 not_start : (t : Topic) (P : Type 0) → (t ≡ Start → ⊥) → IfNotStart t P → P
-not_start Start P other p = absurd (other refl)
-not_start _ P other p = p
+not_start t P h1 h2 = grind arith
 
-wants_here : (k : Known) (t : Topic) (body : List Lexeme) (item : ItemReader) → ((ls : List Lexeme) → wanted k t (body ++ ls) ≡ item_wants k item ls) → item_wants k item [] ≡ wanted k t body
-wants_here k t body item wants = sym (ap (wanted k t) (sym (append-nil body)) ∙ wants [])
+wants_here : (k : ModelSoFar) (t : Topic) (body : List Lexeme) (item : ItemReader) → ((ls : List Lexeme) → expected k t (body ++ ls) ≡ item_wants k item ls) → item_wants k item [] ≡ expected k t body
+wants_here k t body item wants = sym (ap (expected k t) (sym (append-nil body)) ∙ wants [])
 
-here_unfit : (k : Known) (t : Topic) (body : List Lexeme) (item : ItemReader) → (t ≡ Start → ⊥) → ((ls : List Lexeme) → wanted k t (body ++ ls) ≡ item_wants k item ls)
-    → (l : Lexeme) (kind : ItemFault) → IfNotStart t (IsMisfit (item_wants k item []) l kind) → IsMisfit (wanted k t body) l kind
+here_unfit : (k : ModelSoFar) (t : Topic) (body : List Lexeme) (item : ItemReader) → (t ≡ Start → ⊥) → ((ls : List Lexeme) → expected k t (body ++ ls) ≡ item_wants k item ls)
+    → (l : Lexeme) (kind : ItemFault) → IfNotStart t (IsMisfit (item_wants k item []) l kind) → IsMisfit (expected k t body) l kind
 here_unfit k t body item other wants l kind unfit = subst (λ x. IsMisfit x l kind) (wants_here k t body item wants) (not_start t _ other unfit)
 
 -- why a token is refused in a start item, as of any item
 start_token : (sign : Option Sign) (body : List Lexeme) (l : Lexeme) (kind : ItemFault) (place : ℕ) → IsReasonAt sign l kind place → IsTokenReason Start sign body l kind place
-start_token sign body l ProbabilityRange place m = (tt, m)
-start_token sign body l DiscountRange place m = absurd m
-start_token sign body l DuplicateName place m = absurd m
-start_token sign body l BadCount place m = absurd m
-start_token sign body l kind place m = m
+start_token sign body l kind place h1 = grind arith
 
 pub feed_refused : (seen : List Lexeme) (r : TextReader) (l : Lexeme) (kind : ItemFault) (place : ℕ) (w : IsItemRead seen r) → begins_item l ≡ false
     → CannotTake (ItemGoes r.known) w.item l → IsItemReason w.item w.body l kind place → IfNotStart (topic_in w.item) (IsMisfit (item_wants r.known w.item []) l kind)
     → IfStart (topic_in w.item) (StopsStart (pending_in w.item) (states_known r.known) w.body (item_wants r.known w.item []) l kind place)
     → IfStart (topic_in w.item) (CannotTake (ItemForms r.known) w.item l)
     → ((more : List Lexeme) (ends : Bool) (late : Refusal) → topic_in w.item ≡ Start → IsLate (states_known r.known) (w.body ++ l ∷ more) ends late.kind late.place → (kind ≡ late.kind) × (place ≡ late.place))
-    → IsRefusedBehind (seen ++ l ∷ []) (model_faults.Item kind r.number place)
+    → IsRefusedAfter (seen ++ l ∷ []) (model_faults.Item kind r.number place)
 feed_refused seen r l kind place w inner none reason unfit stops formless due text ts further tokens e =
     let d = has_division further in
     let more : List Lexeme = d.0 in
-    let behind = within_goes_on seen l r.known w.t w.body w.within inner in
-    let h : Here ts r.number r.known w.t ((w.body ++ l ∷ []) ++ more) = here ts r.number (seen ++ l ∷ []) (w.body ++ l ∷ []) further more r.known w.t d.1 behind e w.number_is d.2 in
+    let following = within_continues seen l r.known w.t w.body w.within inner in
+    let h : Here ts r.number r.known w.t ((w.body ++ l ∷ []) ++ more) = here ts r.number (seen ++ l ∷ []) (w.body ++ l ∷ []) further more r.known w.t d.1 following e w.number_is d.2 in
     at reason more h
   where
     -- what is due of a start item's first number is this
@@ -424,7 +358,7 @@ feed_refused seen r l kind place w inner none reason unfit stops formless due te
         (subst (λ t. IsTokenReason t (sign_in w.item) w.body l kind place) w.read.topic_is m))
 
     of_start : (more : List Lexeme) (h : Here ts r.number r.known w.t ((w.body ++ l ∷ []) ++ more)) → w.t ≡ Start → IsStartReason (w.body ++ l ∷ []) kind place
-        → StopsStart (pending_in w.item) (states_known r.known) w.body (wanted r.known w.t w.body) l kind place → Refuses ts (model_faults.Item kind r.number place)
+        → StopsStart (pending_in w.item) (states_known r.known) w.body (expected r.known w.t w.body) l kind place → Refuses ts (model_faults.Item kind r.number place)
     of_start more h start m (first_number late) =
         start_refused place (w.body ++ l ∷ []) more kind tokens h w.read.may_stand
         (first_here h (stuck seen r w l none more)) start m
@@ -438,7 +372,7 @@ feed_refused seen r l kind place w inner none reason unfit stops formless due te
     at : IsItemReason w.item w.body l kind place → (more : List Lexeme) → Here ts r.number r.known w.t ((w.body ++ l ∷ []) ++ more) → Refuses ts (model_faults.Item kind r.number place)
     at (steps_of.of_token other m) more h = of_one more h other m
     at (steps_of.of_start start m) more h =
-        let here_stops : StopsStart (pending_in w.item) (states_known r.known) w.body (wanted r.known w.t w.body) l kind place =
+        let here_stops : StopsStart (pending_in w.item) (states_known r.known) w.body (expected r.known w.t w.body) l kind place =
         subst (λ x. StopsStart (pending_in w.item) (states_known r.known) w.body x l kind place) (wants_here r.known w.t w.body w.item w.read.wants)
         (subst (λ u. IfStart u (StopsStart (pending_in w.item) (states_known r.known) w.body (item_wants r.known w.item []) l kind place)) start stops) in
         of_start more h (sym w.read.topic_is ∙ start) m here_stops
@@ -446,12 +380,12 @@ feed_refused seen r l kind place w inner none reason unfit stops formless due te
 -- ---- an item that cannot end
 
 -- the item that ends here, and where
-record EndsHere (ts : TextTokens) (n place : ℕ) (k : Known) (t : Topic) (body : List Lexeme) : Type 0 where
+record EndsHere (ts : TextTokens) (n place : ℕ) (k : ModelSoFar) (t : Topic) (body : List Lexeme) : Type 0 where
   here_is : Here ts n k t (body ++ [])
   place_is : place ≡ word_place here_is.after ts.end 0
   clean : here_is.after ≡ [] → ts.ending ≡ None
 
-ends_here : (ts : TextTokens) (n place : ℕ) (seen body : List Lexeme) (k : Known) (t : Topic) (w : IsWithinItem seen k t body) → n ≡ length w.items.items + 1
+ends_here : (ts : TextTokens) (n place : ℕ) (seen body : List Lexeme) (k : ModelSoFar) (t : Topic) (w : IsWithinItem seen k t body) → n ≡ length w.items.items + 1
     → EndsItem ts seen place → EndsHere ts n place k t body
 ends_here ts n place seen body k t w number (texts.at_word next further e begins p) =
     let d = has_division further in
@@ -466,12 +400,10 @@ ends_here ts n place seen body k t w number (texts.at_end e clean p) =
 
 -- an item that ends
 clean_ends : (items : List Item) (ending : Option TokenFault) → (items ≡ [] → ending ≡ None) → ends_cleanly items ending ≡ true
-clean_ends [] None clean = refl
-clean_ends [] (Some f) clean = absurd (none≢some (sym (clean refl)))
-clean_ends (x ∷ xs) ending clean = refl
+clean_ends items ending h1 = grind (arith, none≢some)
 
 -- what is due of its first number there
-due_at_end : (ts : TextTokens) (n place : ℕ) (k : Known) (t : Topic) (body : List Lexeme) (fault : ItemFault) (at : ℕ) (x : EndsHere ts n place k t body) → IsLateIn ts n fault at
+due_at_end : (ts : TextTokens) (n place : ℕ) (k : ModelSoFar) (t : Topic) (body : List Lexeme) (fault : ItemFault) (at : ℕ) (x : EndsHere ts n place k t body) → IsLateIn ts n fault at
     → (t ≡ Start) × IsLate (states_known k) body true fault at
 due_at_end ts n place k t body fault at x w =
     let found = late_of x.here_is fault at w in (
@@ -481,7 +413,7 @@ due_at_end ts n place k t body fault at x w =
     )
 
 pub end_refused : (seen : List Lexeme) (r : TextReader) (kind : ItemFault) (place : ℕ) (w : IsItemRead seen r) → CannotEnd (ItemGoes r.known) w.item
-    → IsEndReason (topic_in w.item) kind → kind ≡ misfit (item_wants r.known w.item []) None → pending_in w.item ≡ None
+    → IsEndReason (topic_in w.item) kind → kind ≡ unexpected_token (item_wants r.known w.item []) None → pending_in w.item ≡ None
     → ((late : Refusal) → topic_in w.item ≡ Start → IsLate (states_known r.known) w.body true late.kind late.place → ⊥) → IsRefusedAt seen place (model_faults.Item kind r.number place)
 end_refused seen r kind place w none reason kinds unheld undue text ts tokens ends =
     let x = ends_here ts r.number place seen w.body r.known w.t w.within w.number_is ends in
@@ -503,8 +435,8 @@ end_refused seen r kind place w none reason kinds unheld undue text ts tokens en
     stops : Stops r.known w.t kind w.body []
     stops =
         refusals.at_end (λ after right. none after (w.read.on [] after (right_shaped r.known w.t _ after (subst (λ b. IsRight r.known w.t b after) (sym (append-nil w.body)) right))))
-        (λ much. let s = too_much_shaped r.known w.t (w.body ++ []) (subst (IsTooMuch r.known w.t) (sym (append-nil w.body)) much) in none s.0 (w.read.on [] s.0 s.1))
-        (kinds ∙ ap (λ v. misfit v None) (wants_here r.known w.t w.body w.item w.read.wants))
+        (λ much. let s = too_much_shaped r.known w.t (w.body ++ []) (subst (PassesCellLimit r.known w.t) (sym (append-nil w.body)) much) in none s.0 (w.read.on [] s.0 s.1))
+        (kinds ∙ ap (λ v. unexpected_token v None) (wants_here r.known w.t w.body w.item w.read.wants))
 
 -- a start item that cannot end, for the number before its end
 pub end_refused_before : (seen : List Lexeme) (r : TextReader) (kind : ItemFault) (at place : ℕ) (w : IsItemRead seen r) → CannotEnd (ItemGoes r.known) w.item
@@ -524,10 +456,10 @@ end_refused_before seen r kind at place w none start reason late due text ts tok
 
 -- ---- an entry that gives too much
 
-pub too_much_refused : (seen : List Lexeme) (r : TextReader) (place : ℕ) (w : IsItemRead seen r) → IsTooMuch r.known w.t w.body → IsRefusedAt seen place (model_faults.Item TooManyCells r.number place)
+pub too_much_refused : (seen : List Lexeme) (r : TextReader) (place : ℕ) (w : IsItemRead seen r) → PassesCellLimit r.known w.t w.body → IsRefusedAt seen place (model_faults.Item TooManyCells r.number place)
 too_much_refused seen r place w much text ts tokens ends =
     let x = ends_here ts r.number place seen w.body r.known w.t w.within w.number_is ends in
-    let here_much : IsTooMuch r.known w.t (w.body ++ []) = subst (IsTooMuch r.known w.t) (sym (append-nil w.body)) much in
+    let here_much : PassesCellLimit r.known w.t (w.body ++ []) = subst (PassesCellLimit r.known w.t) (sym (append-nil w.body)) much in
     let passes : PassesLimit ts r.number place = record {
       before = x.here_is.before;
       item = item_here x.here_is;
@@ -550,7 +482,7 @@ too_much_refused seen r place w much text ts tokens ends =
         decided = λ fault at y. absurd (free_here x.here_is w.read.may_stand fault at y);
       };
       placed = record {
-        stands = behind_body refl passes;
+        stands = after_body refl passes;
         late = λ fault at y.
             let found = due_at_end ts r.number place r.known w.t w.body fault at x y in
             (let e = sym much.topic_is ∙ found.0 in absurd (cc));

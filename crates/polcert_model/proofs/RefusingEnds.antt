@@ -1,11 +1,10 @@
 -- What the reader of a text refuses outside of a body: before the first item, at an item's word, at the end, and where
 -- the tokens end in a fault.
-use Rattle.std.proofs.Common.{◌≡◌, ◌∙◌, ℕ, ◌+◌, inl, Bool, true, false, cond, Option, Some, None, List, [], ◌∷◌, ◌++◌, length, refl, sym, ap, subst}
+use Rattle.std.proofs.Common.{◌≡◌, ◌∙◌, ℕ, ◌+◌, inl, Bool, true, false, cond, Option, Some, None, List, [], ◌∷◌, ◌++◌, length, refl, sym, ap, subst, arith}
 use Rattle.std.proofs.lemmas.List.{append-nil}
 use Rattle.polcert_text.specs.Cut.{Lexeme}
 use Rattle.polcert_text.specs.Reading.{fault_place}
 use Rattle.polcert_text.specs.declared.tokens.TokenFault.{TokenFault}
-use Rattle.polcert_text.specs.declared.tokens.TokenFault.TheVariants as token_faults
 use Rattle.polcert_format.specs.declared.fault.ItemFault.{ItemFault}
 use Rattle.polcert_format.specs.declared.fault.ItemFault.TheVariants.{BadShape, BeforeFirstItem, DuplicateLine, LateLine, MissingLine, TooManyCells}
 use Rattle.polcert_format.specs.declared.fault.ModelFault.TheVariants as model_faults
@@ -15,8 +14,8 @@ use Rattle.polcert_items.specs.Steps.Items.{pending_in}
 use Rattle.polcert_cells.specs.declared.words.Topic.{Topic}
 use Rattle.polcert_cells.specs.Words.{topic, begins_item}
 use Rattle.polcert_format.specs.Items.{Item, IsDivided}
-use Rattle.polcert_format.specs.Text.{Known}
-use Rattle.polcert_format.specs.Order.{is_late, came_before, ends_preamble, has_all_lines, preamble_fault, is_unobserved, fault_behind, word_fault}
+use Rattle.polcert_format.specs.Text.{ModelSoFar}
+use Rattle.polcert_format.specs.Order.{is_late, came_before, ends_preamble, has_all_lines, preamble_fault, fault_after, word_fault}
 use Rattle.polcert_format.specs.FirstNumber.{IsLateIn}
 use Rattle.polcert_format.proofs.FirstNumbers.{late_undecided}
 use Rattle.polcert_format.specs.FirstWrong.{TextTokens, AreTokensOf, LiesIn, IsDecided, wrong_front, wrong_fault, wrong_last, wrong_end, before_items, at_word, at_end}
@@ -24,7 +23,7 @@ use Rattle.polcert_format.specs.Reasons.{IsReason}
 use Rattle.polcert_format.specs.Forms.{IsPossible}
 use Rattle.polcert_format.specs.Refusals.{IsItemRefusal, IsOfTokens, IsLastTaken, before_body, of_tokens}
 use Rattle.polcert_format.specs.Refusals as refusals
-use Rattle.polcert_model.specs.Steps.Texts.{IsNothingRead, IsItemRead, IsTextRead, AreItemsRead, IsRefusedBehind, Refuses, fault_kind, pending_at, tokens_end}
+use Rattle.polcert_model.specs.Steps.Texts.{IsNothingRead, IsItemRead, IsTextRead, AreItemsRead, IsRefusedAfter, Refuses, fault_kind, pending_at, tokens_end}
 use Rattle.polcert_model.specs.Steps.Texts as texts
 use Rattle.polcert_cells.proofs.Basics.{one_some, or_false_from, cons≢nil, some≢none}
 use Rattle.polcert_format.proofs.ItemLaws.{has_division, one_division}
@@ -42,7 +41,7 @@ before_division : (l : Lexeme) (further f : List Lexeme) (items : List Item) →
 before_division l further f items inner d = append_division (l ∷ []) further f items (or_false_from (begins_item l) false inner refl) d
 
 pub before_refused : (seen : List Lexeme) (r : TextReader) (l : Lexeme) → IsNothingRead seen r → begins_item l ≡ false
-    → IsRefusedBehind (seen ++ l ∷ []) (model_faults.Item BeforeFirstItem r.number l.place)
+    → IsRefusedAfter (seen ++ l ∷ []) (model_faults.Item BeforeFirstItem r.number l.place)
 before_refused seen r l w inner text ts further tokens e =
     let d = has_division further in
     let whole : ts.lexemes ≡ l ∷ further = e ∙ ap (λ (s : List Lexeme). (s ++ l ∷ []) ++ further) w.nothing in
@@ -82,33 +81,26 @@ abbrev lacking : Bool → Bool → Option ItemFault
 lacking lines many = cond lines (cond many (Some TooManyCells) None) (Some MissingLine)
 
 lacking_order : (lines many : Bool) (kind : ItemFault) → lacking lines many ≡ Some kind → IsOrderFault kind
-lacking_order true true kind e = subst IsOrderFault (one_some refl e) tt
-lacking_order true false kind e = absurd (none≢some e)
-lacking_order false many kind e = subst IsOrderFault (one_some refl e) tt
+lacking_order lines many kind h1 = grind (arith, one_some, none≢some)
 
-preamble_order : (k : Known) (kind : ItemFault) → preamble_fault k ≡ Some kind → IsOrderFault kind
+preamble_order : (k : ModelSoFar) (kind : ItemFault) → preamble_fault k ≡ Some kind → IsOrderFault kind
 preamble_order k kind e = lacking_order (has_all_lines k) (are_too_many k) kind e
 
-behind_order : (fault : Option ItemFault) (k : Known) (t : Topic) (kind : ItemFault) → ((f : ItemFault) → fault ≡ Some f → IsOrderFault f) → fault_behind fault k t ≡ Some kind → IsOrderFault kind
-behind_order (Some f) k t kind behind e = behind kind e
-behind_order None k t kind behind e = at (is_unobserved k t) e
-  where
-    at : (b : Bool) → cond b (Some BadShape) None ≡ Some kind → IsOrderFault kind
-    at true f = subst IsOrderFault (one_some refl f) tt
-    at false f = absurd (none≢some f)
+after_order : (fault : Option ItemFault) (k : ModelSoFar) (t : Topic) (kind : ItemFault) → ((f : ItemFault) → fault ≡ Some f → IsOrderFault f) → fault_after fault k t ≡ Some kind → IsOrderFault kind
+after_order fault k t kind h1 h2 = grind (arith, one_some, none≢some)
 
 fault_order : (late came ends : Bool) (fault : Option ItemFault) (kind : ItemFault) → ((f : ItemFault) → fault ≡ Some f → IsOrderFault f)
     → fault_at late came ends fault ≡ Some kind → IsOrderFault kind
-fault_order true came ends fault kind behind e = subst IsOrderFault (one_some refl e) tt
-fault_order false true ends fault kind behind e = subst IsOrderFault (one_some refl e) tt
-fault_order false false true fault kind behind e = behind kind e
-fault_order false false false fault kind behind e = absurd (none≢some e)
+fault_order true came ends fault kind following e = subst IsOrderFault (one_some refl e) tt
+fault_order false true ends fault kind following e = subst IsOrderFault (one_some refl e) tt
+fault_order false false true fault kind following e = following kind e
+fault_order false false false fault kind following e = absurd (none≢some e)
 
-word_order : (k : Known) (t : Topic) (kind : ItemFault) → word_fault k t ≡ Some kind → IsOrderFault kind
-word_order k t kind e = fault_order (is_late k t) (came_before k t) (ends_preamble t) (fault_behind (preamble_fault k) k t) kind (λ f e. behind_order (preamble_fault k) k t f (preamble_order k) e) e
+word_order : (k : ModelSoFar) (t : Topic) (kind : ItemFault) → word_fault k t ≡ Some kind → IsOrderFault kind
+word_order k t kind e = fault_order (is_late k t) (came_before k t) (ends_preamble t) (fault_after (preamble_fault k) k t) kind (λ f e. after_order (preamble_fault k) k t f (preamble_order k) e) e
 
 pub word_refused : (seen : List Lexeme) (r : TextReader) (word : Lexeme) (t : Topic) (kind : ItemFault) → AreItemsRead seen r → topic word ≡ Some t
-    → word_fault r.known t ≡ Some kind → IsRefusedBehind (seen ++ word ∷ []) (model_faults.Item kind (r.number + 1) word.place)
+    → word_fault r.known t ≡ Some kind → IsRefusedAfter (seen ++ word ∷ []) (model_faults.Item kind (r.number + 1) word.place)
 word_refused seen r word t kind w is wrong text ts further tokens e =
     let d = has_division further in
     let more : List Lexeme = d.0 in
@@ -145,24 +137,18 @@ text_end_refused seen r kind w wrong text ts tokens e clean =
 -- ---- a fault of the tokens
 
 fault_reason : (ts : TextTokens) (n : ℕ) (f : TokenFault) → ts.ending ≡ Some f → IsReason ts n (fault_place f) (fault_kind f)
-fault_reason ts n (token_faults.TextTooLong at) e = e
-fault_reason ts n _ e = (e, refl, tt)
+fault_reason ts n f h1 = grind arith
 
 fault_of_tokens : (f : TokenFault) → IsOfTokens (fault_kind f)
-fault_of_tokens (token_faults.TextTooLong at) = tt
-fault_of_tokens _ = tt
+fault_of_tokens f = grind arith
 
 -- nothing is decided where no lexeme came before the fault
 none_decided : (ts : TextTokens) (n place : ℕ) (fault : ItemFault) (f : TokenFault) → ts.lexemes ≡ [] → ts.ending ≡ Some f → IsDecided ts n fault place → ⊥
-none_decided ts n place fault f empty e (before_items l ls items d z x p) = cons≢nil (sym d.whole ∙ empty)
-none_decided ts n place fault f empty e (at_word before item after k t d taken is wrong z p) =
-    no_empty before item after (one_division [] [] [] (before ++ item ∷ after) [] (subst (λ s. IsDivided s [] (before ++ item ∷ after)) empty d) empty_division).1
-none_decided ts n place fault f empty e (at_end items k d taken clean wrong z p) = some≢none e clean
+none_decided ts n place fault f h1 h2 h3 = grind (arith, cons≢nil, some≢none, one_division, empty_division, no_empty)
 
 -- and no first number is refused late
 none_late : (ts : TextTokens) (n place : ℕ) (fault : ItemFault) → ts.lexemes ≡ [] → IsLateIn ts n fault place → ⊥
-none_late ts n place fault empty w =
-    no_empty w.before w.item w.after (one_division [] [] [] (w.before ++ w.item ∷ w.after) [] (subst (λ s. IsDivided s [] (w.before ++ w.item ∷ w.after)) empty w.divided) empty_division).1
+none_late ts n place fault empty w = grind (arith, one_division, empty_division, no_empty)
 
 at_once : (seen : List Lexeme) (r : TextReader) (f : TokenFault) → IsNothingRead seen r → (text : List ℕ) (ts : TextTokens) → AreTokensOf text ts → ts.lexemes ≡ seen
     → ts.ending ≡ Some f → IsItemRefusal ts (fault_kind f) r.number (fault_place f)

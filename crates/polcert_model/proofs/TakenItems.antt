@@ -1,10 +1,9 @@
 -- An item as its reader continues with it, from its word on: the same as what is right of it.
 use Rattle.std.proofs.Common.{ℕ, ◌≡◌, ◌∙◌, ◌≤◌, ◌⊎◌, inl, inr, true, false, Option, Some, None, unwrap_or, List, [], ◌∷◌, ◌++◌, refl, sym, ap, subst, arith, append_assoc}
-use Rattle.std.proofs.lemmas.List.Elements.{All-cons, All-nil}
+use Rattle.std.proofs.lemmas.List.Elements.{All-cons}
 use Rattle.polcert_text.specs.Cut.{Lexeme}
 use Rattle.polcert_cells.specs.declared.entry.Entry.{Entry}
 use Rattle.polcert_cells.specs.declared.entry.Table.{Table}
-use Rattle.polcert_cells.specs.declared.entry.Table.TheVariants.{Transition, Observation, Reward}
 use Rattle.polcert_items.specs.declared.item.ItemReader.{ItemReader}
 use Rattle.polcert_items.specs.declared.item.ItemReader.TheVariants as items
 use Rattle.polcert_items.specs.declared.preamble_lines.DiscountReader.TheVariants as discount
@@ -13,25 +12,24 @@ use Rattle.polcert_items.specs.declared.elements_reader.ElementsReader.TheVarian
 use Rattle.polcert_cells.specs.declared.words.Topic.{Topic}
 use Rattle.polcert_cells.specs.declared.words.Topic.TheVariants.{Discount, Values, States, Actions, Observations, Start, Cells}
 use Rattle.polcert_cells.specs.declared.elements.Elements.{Elements}
-use Rattle.polcert_cells.specs.declared.elements.Elements.TheVariants.{Count}
-use Rattle.polcert_cells.specs.Elements.{count_of, most_states, most_actions, most_observations}
+use Rattle.polcert_cells.specs.Elements.{count_of}
 use Rattle.polcert_cells.specs.Preamble.{Preamble, observed, rewarded, dimensions, named}
 use Rattle.polcert_cells.specs.Entry.{IsEntry, ArePlaces}
 use Rattle.polcert_format.specs.Items.{Item}
 use Rattle.polcert_format.specs.Text as texts
-use Rattle.polcert_format.specs.Text.{Known, nothing_known, HasLines, IsComplete, AreRight, IsRight}
+use Rattle.polcert_format.specs.Text.{ModelSoFar, nothing_known, IsComplete, AreRight, IsRight}
 use Rattle.polcert_format.specs.Order.{word_fault}
 use Rattle.polcert_items.specs.Steps.Lines.{Takes}
 use Rattle.polcert_format.specs.KnownPreamble.{preamble_in}
-use Rattle.polcert_items.specs.Steps.Entries.{IsEntryBehind, EntryGoes, AreSome}
+use Rattle.polcert_items.specs.Steps.Entries.{IsEntryAfter, EntryGoes, AreSome}
 use Rattle.polcert_cells.specs.Start.{IsStart}
 use Rattle.polcert_items.specs.Steps.Start.{new_start, StartGives}
-use Rattle.polcert_cells.specs.declared.shares.Shares.{Shares}
+use Rattle.polcert_cells.specs.declared.start_weights.StartWeights.{StartWeights}
 use Rattle.polcert_format.specs.Forms.{IsStartForm, HasForm}
 use Rattle.polcert_format.specs.Forms as shapes
 use Rattle.polcert_items.specs.Steps.Items.{ItemGoes, ItemForms, IsItemWithin, topic_in, IsSeen, new_item, new_entry, HasElements}
-use Rattle.polcert_format.specs.Wants.{wanted}
-use Rattle.polcert_items.specs.Steps.Wants.{Leads, item_wants, IfStart}
+use Rattle.polcert_format.specs.Wants.{expected}
+use Rattle.polcert_items.specs.Steps.Wants.{ExpectsNext, item_wants, IfStart}
 use Rattle.polcert_items.proofs.FormLaws.{is_start, start_form, right_forms, forms_take}
 use Rattle.polcert_format.specs.FirstNumber.{states_known}
 use Rattle.polcert_model.specs.Steps.Texts.{IsShaped, IsBodyRead}
@@ -47,17 +45,17 @@ use Rattle.polcert_items.proofs.PatternLaws.{colon_takes}
 -- ---- what is right continues
 
 -- an entry after its word
-entry_goes : (k : Known) (p : Preamble) (table : Table) (ls : List Lexeme) (e : Entry) → IsComplete k p → IsEntry p table ls e → EntryGoes (preamble_in k) (new_entry table) ls e
+entry_goes : (k : ModelSoFar) (p : Preamble) (table : Table) (ls : List Lexeme) (e : Entry) → IsComplete k p → IsEntry p table ls e → EntryGoes (preamble_in k) (new_entry table) ls e
 entry_goes k p table ls e complete a =
     let b = entry_begins p table ls e a in
-    let behind : IsEntryBehind p table [] ls e =
+    let following : IsEntryAfter p table [] ls e =
     record { further = e.places; pattern = a.pattern; rest = a.rest; whole = a.whole; places_are = refl; table_is = a.table_is; form = a.form; places = a.places; body = a.body } in
     let goes : EntryGoes p (new_entry table) ls e =
     subst (λ x. EntryGoes p (new_entry table) x e) (sym b.whole)
-    (b.colon_is, (colon_takes p table [] b.colon b.colon_is).on (b.place ∷ b.rest) e (subst (λ x. IsEntryBehind p table [] x e) b.whole behind)) in
+    (b.colon_is, (colon_takes p table [] b.colon b.colon_is).on (b.place ∷ b.rest) e (subst (λ x. IsEntryAfter p table [] x e) b.whole following)) in
     subst (λ q. EntryGoes q (new_entry table) ls e) (sym (same_preamble k p complete.lines)) goes
 
-right_goes : (k : Known) (t : Topic) (body : List Lexeme) (next : Known) → IsRight k t body next → ItemGoes k (new_item t) body next
+right_goes : (k : ModelSoFar) (t : Topic) (body : List Lexeme) (next : ModelSoFar) → IsRight k t body next → ItemGoes k (new_item t) body next
 right_goes k t body next (texts.discount {g = g} p absent c n l) = (g, ((c, (n, l)), refl))
 right_goes k t body next (texts.rewards p absent c w) = (false, ((c, (refl, w)), refl))
 right_goes k t body next (texts.costs p absent c w) = (true, ((c, (refl, w)), refl))
@@ -67,19 +65,19 @@ right_goes k t body next (texts.observations {elements = found} p absent c a) = 
 right_goes k t body next (texts.start {p = p} {shares = found} i c a) = (found, (new_start_on (preamble_in k).states body found (subst (λ e. IsStart e body found) (sym (same_states k p c)) a), refl))
 right_goes k t body next (texts.entry {p = p} {table = table} {e = entry} complete given a few) = (entry, (entry_goes k p table body entry complete a, refl))
 
-pub taken_goes : (k : Known) (t : Topic) (body : List Lexeme) (next : Known) → IsShaped k t body next → ItemGoes k (new_item t) body next
+pub taken_goes : (k : ModelSoFar) (t : Topic) (body : List Lexeme) (next : ModelSoFar) → IsShaped k t body next → ItemGoes k (new_item t) body next
 taken_goes k (Cells table) body next s = (s.e, (entry_goes k s.p table body s.e s.complete s.entry, s.next_is))
 taken_goes k t body next s = right_goes k t body next s
 
 -- ---- what continues is right
 
-discount_taken : (k : Known) (body : List Lexeme) (next : Known) → word_fault k Discount ≡ None → ItemGoes k (items.Discount discount.Colon) body next → IsRight k Discount body next
+discount_taken : (k : ModelSoFar) (body : List Lexeme) (next : ModelSoFar) → word_fault k Discount ≡ None → ItemGoes k (items.Discount discount.Colon) body next → IsRight k Discount body next
 discount_taken k [] next free (g, (goes, e)) = absurd goes
 discount_taken k (l ∷ ls) next free (g, ((c, (n, range)), e)) =
     let stands = discount_may_stand k free in
     subst (IsRight k Discount (l ∷ ls)) (sym e) (texts.discount stands.0 stands.1 c n range)
 
-values_taken : (k : Known) (body : List Lexeme) (next : Known) → word_fault k Values ≡ None → ItemGoes k (items.Values values.Colon) body next → IsRight k Values body next
+values_taken : (k : ModelSoFar) (body : List Lexeme) (next : ModelSoFar) → word_fault k Values ≡ None → ItemGoes k (items.Values values.Colon) body next → IsRight k Values body next
 values_taken k [] next free (b, (goes, e)) = absurd goes
 values_taken k (c ∷ []) next free (b, (goes, e)) = absurd goes.1
 values_taken k (c ∷ l ∷ ls) next free (false, ((colon, (none, w)), e)) =
@@ -89,58 +87,51 @@ values_taken k (c ∷ l ∷ ls) next free (true, ((colon, (none, w)), e)) =
     let stands = values_may_stand k free in
     subst (λ x. IsRight k Values (c ∷ l ∷ x) next) (sym none) (subst (IsRight k Values (c ∷ l ∷ [])) (sym e) (texts.costs stands.0 stands.1 colon w))
 
-states_taken : (k : Known) (body : List Lexeme) (next : Known) → word_fault k States ≡ None → ItemGoes k (items.States elements.Colon) body next → IsRight k States body next
+states_taken : (k : ModelSoFar) (body : List Lexeme) (next : ModelSoFar) → word_fault k States ≡ None → ItemGoes k (items.States elements.Colon) body next → IsRight k States body next
 states_taken k [] next free (found, (goes, e)) = absurd goes
 states_taken k (l ∷ ls) next free (found, ((c, a), e)) =
     let stands = states_may_stand k free in
     subst (IsRight k States (l ∷ ls)) (sym e) (texts.states stands.0 stands.1 c a)
 
-actions_taken : (k : Known) (body : List Lexeme) (next : Known) → word_fault k Actions ≡ None → ItemGoes k (items.Actions elements.Colon) body next → IsRight k Actions body next
+actions_taken : (k : ModelSoFar) (body : List Lexeme) (next : ModelSoFar) → word_fault k Actions ≡ None → ItemGoes k (items.Actions elements.Colon) body next → IsRight k Actions body next
 actions_taken k [] next free (found, (goes, e)) = absurd goes
 actions_taken k (l ∷ ls) next free (found, ((c, a), e)) =
     let stands = actions_may_stand k free in
     subst (IsRight k Actions (l ∷ ls)) (sym e) (texts.actions stands.0 stands.1 c a)
 
-observations_taken : (k : Known) (body : List Lexeme) (next : Known) → word_fault k Observations ≡ None → ItemGoes k (items.Observations elements.Colon) body next → IsRight k Observations body next
+observations_taken : (k : ModelSoFar) (body : List Lexeme) (next : ModelSoFar) → word_fault k Observations ≡ None → ItemGoes k (items.Observations elements.Colon) body next → IsRight k Observations body next
 observations_taken k [] next free (found, (goes, e)) = absurd goes
 observations_taken k (l ∷ ls) next free (found, ((c, a), e)) =
     let stands = observations_may_stand k free in
     subst (IsRight k Observations (l ∷ ls)) (sym e) (texts.observations stands.0 stands.1 c a)
 
-start_taken : (k : Known) (body : List Lexeme) (next : Known) → word_fault k Start ≡ None → ItemGoes k (items.Start new_start) body next → IsRight k Start body next
+start_taken : (k : ModelSoFar) (body : List Lexeme) (next : ModelSoFar) → word_fault k Start ≡ None → ItemGoes k (items.Start new_start) body next → IsRight k Start body next
 start_taken k body next free (found, (goes, e)) =
     let stands = start_may_stand k free in
     let a : IsStart stands.1.0.states body found = subst (λ s. IsStart s body found) (same_states k stands.1.0 stands.1.1) (new_start_back (preamble_in k).states body found goes) in
     subst (IsRight k Start body) (sym e) (texts.start stands.0 stands.1.1 a)
 
-entry_taken : (k : Known) (table : Table) (body : List Lexeme) (next : Known) → word_fault k (Cells table) ≡ None → ItemGoes k (items.Entry (new_entry table)) body next → IsShaped k (Cells table) body next
+entry_taken : (k : ModelSoFar) (table : Table) (body : List Lexeme) (next : ModelSoFar) → word_fault k (Cells table) ≡ None → ItemGoes k (items.Entry (new_entry table)) body next → IsShaped k (Cells table) body next
 entry_taken k table [] next free (entry, (goes, e)) = absurd goes
 entry_taken k table (l ∷ ls) next free (entry, (goes, e)) =
     let stands = entry_may_stand k table free in
     let p = stands.0 in
     let rest : EntryGoes p (new_entry table) (l ∷ ls) entry = subst (λ q. EntryGoes q (new_entry table) (l ∷ ls) entry) (same_preamble k p stands.1.lines) goes in
-    let b : IsEntryBehind p table [] (l ∷ ls) entry = (colon_takes p table [] l rest.0).back ls entry rest.1 in
+    let b : IsEntryAfter p table [] (l ∷ ls) entry = (colon_takes p table [] l rest.0).back ls entry rest.1 in
     let a : IsEntry stands.0 table (l ∷ ls) entry =
     record { pattern = b.pattern; rest = b.rest; whole = b.whole; table_is = b.table_is; form = b.form; places = subst (ArePlaces (named p table) b.pattern) (sym b.places_are) b.places; body = b.body } in
     record { p = stands.0; e = entry; complete = stands.1; may_be_given = stands.2; entry = a; next_is = e }
 
-pub goes_taken : (k : Known) (t : Topic) (body : List Lexeme) (next : Known) → word_fault k t ≡ None → ItemGoes k (new_item t) body next → IsShaped k t body next
-goes_taken k Discount body next free goes = discount_taken k body next free goes
-goes_taken k Values body next free goes = values_taken k body next free goes
-goes_taken k States body next free goes = states_taken k body next free goes
-goes_taken k Actions body next free goes = actions_taken k body next free goes
-goes_taken k Observations body next free goes = observations_taken k body next free goes
-goes_taken k Start body next free goes = start_taken k body next free goes
-goes_taken k (Cells table) body next free goes = entry_taken k table body next free goes
+pub goes_taken : (k : ModelSoFar) (t : Topic) (body : List Lexeme) (next : ModelSoFar) → word_fault k t ≡ None → ItemGoes k (new_item t) body next → IsShaped k t body next
+goes_taken k t body next h1 h2 = grind (arith, discount_taken, values_taken, states_taken, actions_taken, observations_taken, start_taken, entry_taken)
 
 -- ---- its form
 
 new_topic : (t : Topic) → topic_in (new_item t) ≡ t
-new_topic Discount = refl
-new_topic _ = refl
+new_topic t = grind arith
 
 -- what continues to the form of an item has it
-forms_formed : (k : Known) (t : Topic) (body : List Lexeme) → word_fault k t ≡ None → ItemForms k (new_item t) body tt → HasForm k t body
+forms_formed : (k : ModelSoFar) (t : Topic) (body : List Lexeme) → word_fault k t ≡ None → ItemForms k (new_item t) body tt → HasForm k t body
 forms_formed k Start body free g =
     let stands = start_may_stand k free in
     shapes.start refl stands.0 stands.1.1 (subst (λ s. IsStartForm s body) (same_states k stands.1.0 stands.1.1) g)
@@ -151,10 +142,10 @@ start_no_cells : {table : Table} → Start ≡ Cells table → ⊥
 start_no_cells e = cc
 
 -- and what has it continues so
-formed_forms : (k : Known) (t : Topic) (body : List Lexeme) → HasForm k t body → ItemForms k (new_item t) body tt
+formed_forms : (k : ModelSoFar) (t : Topic) (body : List Lexeme) → HasForm k t body → ItemForms k (new_item t) body tt
 formed_forms k t body f = of (is_start t)
   where
-    states_form : (found : Shares) → StartGives (preamble_in k).states new_start body found → IsStartForm (preamble_in k).states body
+    states_form : (found : StartWeights) → StartGives (preamble_in k).states new_start body found → IsStartForm (preamble_in k).states body
     states_form found goes = start_form (preamble_in k).states body found (new_start_back (preamble_in k).states body found goes)
 
     of_start : (u : Topic) → u ≡ Start → HasForm k u body → ItemForms k (new_item u) body tt
@@ -174,24 +165,17 @@ formed_forms k t body f = of (is_start t)
 
 -- ---- an item as it is read
 
-pub new_within : (k : Known) (t : Topic) → word_fault k t ≡ None → IsItemWithin k (new_item t)
-new_within k Start free = let stands = start_may_stand k free in (stands.1.0.states, (stands.1.1.lines.states, new_start_within stands.1.0.states))
-new_within k (Cells table) free = refl
-new_within k _ free = tt
+pub new_within : (k : ModelSoFar) (t : Topic) → word_fault k t ≡ None → IsItemWithin k (new_item t)
+new_within k t h1 = grind (arith, new_start_within, start_may_stand)
 
 new_seen : (count : ℕ) (t : Topic) → IsSeen count [] (new_item t)
-new_seen count Discount = refl
-new_seen count Values = refl
-new_seen count Start = new_start_seen count
-new_seen count (Cells table) = refl
-new_seen count _ = (refl, refl)
+new_seen count t = grind (arith, new_start_seen)
 
-new_wants : (k : Known) (t : Topic) (ls : List Lexeme) → wanted k t ls ≡ item_wants k (new_item t) ls
-new_wants k Discount ls = refl
-new_wants k _ ls = refl
+new_wants : (k : ModelSoFar) (t : Topic) (ls : List Lexeme) → expected k t ls ≡ item_wants k (new_item t) ls
+new_wants k t ls = grind arith
 
 -- an item whose word may stand, before its first lexeme
-pub item_begun : (k : Known) (t : Topic) → word_fault k t ≡ None → IsBodyRead k t [] (new_item t)
+pub item_begun : (k : ModelSoFar) (t : Topic) → word_fault k t ≡ None → IsBodyRead k t [] (new_item t)
 item_begun k t free =
     let within = new_within k t free in
     record {
@@ -210,9 +194,9 @@ item_begun k t free =
     }
 
 -- one lexeme more
-pub item_goes_on : (k : Known) (t : Topic) (body : List Lexeme) (old new : ItemReader) (l : Lexeme) → IsBodyRead k t body old → topic_in new ≡ topic_in old → IsItemWithin k new
-    → Takes (ItemGoes k) old l new → IfStart (topic_in old) (Takes (ItemForms k) old l new) → IsSeen (states_known k) (body ++ l ∷ []) new → Leads (item_wants k old) l (item_wants k new) → IsBodyRead k t (body ++ l ∷ []) new
-item_goes_on k t body old new l r same within takes of_form seen leads =
+pub item_continues : (k : ModelSoFar) (t : Topic) (body : List Lexeme) (old new : ItemReader) (l : Lexeme) → IsBodyRead k t body old → topic_in new ≡ topic_in old → IsItemWithin k new
+    → Takes (ItemGoes k) old l new → IfStart (topic_in old) (Takes (ItemForms k) old l new) → IsSeen (states_known k) (body ++ l ∷ []) new → ExpectsNext (item_wants k old) l (item_wants k new) → IsBodyRead k t (body ++ l ∷ []) new
+item_continues k t body old new l r same within takes of_form seen leads =
     let form : Takes (ItemForms k) old l new = forms_take k old new l same takes of_form in
     let formed : (ls : List Lexeme) → ItemForms k new ls tt → HasForm k t ((body ++ l ∷ []) ++ ls) =
     λ ls g. subst (HasForm k t) (sym (append_assoc body (l ∷ []) ls)) (r.formed (l ∷ ls) (form.back ls tt g)) in
@@ -226,7 +210,7 @@ item_goes_on k t body old new l r same within takes of_form seen leads =
       formed = formed;
       forms = λ ls f. form.on ls tt (r.forms (l ∷ ls) (subst (HasForm k t) (append_assoc body (l ∷ []) ls) f));
       possible = λ unheld. let last = can_end k new within unheld in record { more = last.more; form = formed last.more last.forms };
-      wants = λ ls. ap (wanted k t) (append_assoc body (l ∷ []) ls) ∙ r.wants (l ∷ ls) ∙ leads.same ls;
+      wants = λ ls. ap (expected k t) (append_assoc body (l ∷ []) ls) ∙ r.wants (l ∷ ls) ∙ leads.same ls;
     }
 
 -- ---- elements
@@ -236,33 +220,13 @@ some_count most o e w same = (subst (CountWithin most) same w).0
 
 -- as many as the line says, or as these
 some_line : (most : ℕ) (o : Option Elements) (e : Elements) → CountWithin most o → 1 ≤ count_of e → 1 ≤ count_of (unwrap_or o e)
-some_line most None e w l = l
-some_line most (Some found) e w l = w.0
+some_line most o e h1 h2 = grind (arith, unwrap_or)
 
 one_more : (e : Elements) (es : List Elements) → 1 ≤ count_of e → AreSome es → AreSome (e ∷ es)
 one_more e es a b = All-cons (λ x. 1 ≤ count_of x) e es a b
 
 all_some : (p : Preamble) (table : Table) → 1 ≤ count_of p.states → 1 ≤ count_of p.actions → 1 ≤ count_of (observed p) → 1 ≤ count_of (rewarded p) → AreSome (dimensions p table)
-all_some p table s a o r =
-    let none : AreSome [] = All-nil (λ x. 1 ≤ count_of x) in
-    let to_state : AreSome (p.states ∷ p.states ∷ []) = one_more p.states (p.states ∷ []) s (one_more p.states [] s none) in
-    let seen : AreSome (p.states ∷ observed p ∷ []) = one_more p.states (observed p ∷ []) s (one_more (observed p) [] o none) in
-    let paid : AreSome (p.states ∷ rewarded p ∷ []) = one_more p.states (rewarded p ∷ []) s (one_more (rewarded p) [] r none) in
-    at table (one_more p.actions (p.states ∷ p.states ∷ []) a to_state) (one_more p.actions (p.states ∷ observed p ∷ []) a seen)
-    (one_more p.actions (p.states ∷ p.states ∷ rewarded p ∷ []) a (one_more p.states (p.states ∷ rewarded p ∷ []) s paid))
-  where
-    at : (table : Table) → AreSome (dimensions p Transition) → AreSome (dimensions p Observation) → AreSome (dimensions p Reward) → AreSome (dimensions p table)
-    at Transition x y z = x
-    at Observation x y z = y
-    at Reward x y z = z
+all_some p table s a o r = grind (arith, one_more)
 
-pub has_elements : (xs : List Item) (k : Known) (t : Topic) → AreRight nothing_known xs k → word_fault k t ≡ None → HasElements k t
-has_elements xs k (Cells table) right free =
-    let stands = entry_may_stand k table free in
-    let lines = stands.1.lines in
-    let w = counts_within xs k right in
-    let states = some_count most_states _ _ w.0 lines.states in
-    let observations = subst (CountWithin most_observations) lines.observations w.1.1 in
-    subst AreSome (sym (same_indices k stands.0 table stands.1))
-    (all_some stands.0 table states (some_count most_actions _ _ w.1.0 lines.actions) (some_line most_observations stands.0.observations stands.0.states observations states) (some_line most_observations stands.0.observations (Count 1) observations (omega arith)))
-has_elements xs k _ right free = tt
+pub has_elements : (xs : List Item) (k : ModelSoFar) (t : Topic) → AreRight nothing_known xs k → word_fault k t ≡ None → HasElements k t
+has_elements xs k t h1 h2 = grind (arith, same_indices, counts_within, entry_may_stand, some_count, some_line, all_some)

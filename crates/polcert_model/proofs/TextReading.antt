@@ -1,5 +1,5 @@
 -- A text's reader, step by step: what it holds after one more lexeme, and after an item.
-use Rattle.std.proofs.Common.{◌≡◌, ◌∙◌, ℕ, ◌+◌, true, false, Option, Some, None, List, [], ◌∷◌, ◌++◌, refl, sym, ap, subst, append_assoc, length-append}
+use Rattle.std.proofs.Common.{◌≡◌, ◌∙◌, ℕ, ◌+◌, true, false, Option, Some, None, List, [], ◌∷◌, ◌++◌, refl, sym, ap, subst, append_assoc, length-append, arith}
 use Rattle.std.proofs.lemmas.List.{append-nil}
 use Rattle.polcert_text.specs.Cut.{Lexeme}
 use Rattle.polcert_format.specs.declared.fault.ItemFault.{ItemFault}
@@ -13,7 +13,7 @@ use Rattle.polcert_cells.specs.declared.words.Topic.{Topic}
 use Rattle.polcert_cells.specs.declared.words.Topic.TheVariants.{Start}
 use Rattle.polcert_cells.specs.Words.{topic, begins_item}
 use Rattle.polcert_format.specs.Items.{IsDivided}
-use Rattle.polcert_format.specs.Text.{Known, nothing_known, IsRight, AreRight}
+use Rattle.polcert_format.specs.Text.{ModelSoFar, nothing_known, IsRight, AreRight}
 use Rattle.polcert_format.specs.Text as texts
 use Rattle.polcert_format.specs.KnownPreamble.{preamble_in}
 use Rattle.polcert_format.specs.Limits.{HasFewCells}
@@ -21,22 +21,22 @@ use Rattle.polcert_format.specs.Order.{word_fault, preamble_fault}
 use Rattle.polcert_items.specs.Steps.Lines.{CannotEnd}
 use Rattle.polcert_items.specs.Steps.Start.{IsStartReason}
 use Rattle.polcert_items.specs.Steps.Items.{ItemGoes, IsItemFed, RefusesInItem, IsItemWithin, IsEndReason, IsSeen, topic_in, pending_in, new_item, HasElements}
-use Rattle.polcert_items.specs.Steps.Known.{learned, AreContentsOf, MayBeLearned}
-use Rattle.polcert_format.specs.Misfits.{misfit}
+use Rattle.polcert_items.specs.Steps.ModelSoFar.{with_item, AreContentsOf, IsAllowedNext}
+use Rattle.polcert_format.specs.Misfits.{unexpected_token}
 use Rattle.polcert_items.specs.Steps.Wants.{item_wants}
 use Rattle.polcert_items.specs.declared.signed_number.Refusal.{Refusal}
 use Rattle.polcert_format.specs.FirstNumber.{IsLate, states_known}
-use Rattle.polcert_model.specs.Steps.Texts.{Refuses, IsShaped, IsTextRead, IsItemRead, IsBodyRead, AreItemsRead, IsRefusedBehind, IsRefusedAt, IsRefusedWhole, at_word, at_end, nothing, item}
+use Rattle.polcert_model.specs.Steps.Texts.{Refuses, IsShaped, IsTextRead, IsItemRead, IsBodyRead, AreItemsRead, IsRefusedAfter, IsRefusedAt, IsRefusedWhole, at_word, at_end, nothing, item}
 use Rattle.polcert_cells.proofs.Basics.{one_some, some≢none}
 use Rattle.polcert_format.proofs.Dividing.{begins, empty_division}
 use Rattle.polcert_format.proofs.ReadLaws.{item_ends}
-use Rattle.polcert_model.proofs.TakenItems.{item_begun, item_goes_on, has_elements}
-use Rattle.polcert_format.proofs.BegunItems.{within_goes_on, item_begins}
+use Rattle.polcert_model.proofs.TakenItems.{item_begun, item_continues, has_elements}
+use Rattle.polcert_format.proofs.BegunItems.{within_continues, item_begins}
 use Rattle.polcert_model.proofs.Refusing.{feed_refused, end_refused, end_refused_before, too_much_refused}
 use Rattle.polcert_model.proofs.Shaped.{shaped_right, shaped_too_much, may_be_learned}
 use Rattle.polcert_model.proofs.RefusingEnds.{before_refused, word_refused, text_end_refused}
 
-abbrev reader_of : Known → Option ItemReader → ℕ → TextReader
+abbrev reader_of : ModelSoFar → Option ItemReader → ℕ → TextReader
 reader_of known held number = record { known = known; item = held; number = number }
 
 -- ---- an item's end
@@ -55,27 +55,22 @@ same_item seen r i e w = one_some w.item_is e
 
 -- the open item's reader is within its bounds
 pub open_within : (seen : List Lexeme) (r : TextReader) (i : ItemReader) → IsTextRead seen r → r.item ≡ Some i → IsItemWithin r.known i
-open_within seen r i (nothing n) e = absurd (some≢none e n.item_is)
-open_within seen r i (item w) e = subst (IsItemWithin r.known) (same_item seen r i e w) w.read.within
+open_within seen r i h1 h2 = grind (arith, some≢none, same_item)
 
 -- what the open item says, as it ends
-shaped_end : (seen : List Lexeme) (r : TextReader) (i : ItemReader) (next : Known) (w : IsItemRead seen r) → r.item ≡ Some i → ItemGoes r.known i [] next → IsShaped r.known w.t w.body next
-shaped_end seen r i next w e goes =
-    subst (λ b. IsShaped r.known w.t b next) (append-nil w.body) (w.read.back [] next (subst (λ j. ItemGoes r.known j [] next) (sym (same_item seen r i e w)) goes))
+shaped_end : (seen : List Lexeme) (r : TextReader) (i : ItemReader) (next : ModelSoFar) (w : IsItemRead seen r) → r.item ≡ Some i → ItemGoes r.known i [] next → IsShaped r.known w.t w.body next
+shaped_end seen r i next w e goes = grind (arith, append-nil, same_item)
 
-pub said_may_be_learned : (seen : List Lexeme) (r : TextReader) (i : ItemReader) (said : ItemContents) → IsTextRead seen r → r.item ≡ Some i → ItemGoes r.known i [] (learned r.known said) → AreContentsOf (topic_in i) said
-    → MayBeLearned r.known said
-said_may_be_learned seen r i said (nothing n) e goes about = absurd (some≢none e n.item_is)
-said_may_be_learned seen r i said (item w) e goes about =
-    let topics : topic_in i ≡ w.t = sym (ap topic_in (same_item seen r i e w)) ∙ w.read.topic_is in
-    may_be_learned r.known w.t w.body said w.read.may_stand (subst (λ t. AreContentsOf t said) topics about) (shaped_end seen r i (learned r.known said) w e goes)
+pub said_may_be_learned : (seen : List Lexeme) (r : TextReader) (i : ItemReader) (said : ItemContents) → IsTextRead seen r → r.item ≡ Some i → ItemGoes r.known i [] (with_item r.known said) → AreContentsOf (topic_in i) said
+    → IsAllowedNext r.known said
+said_may_be_learned seen r i said h1 h2 h3 h4 = grind (arith, some≢none, may_be_learned, same_item, shaped_end)
 
 -- the open item ends
-pub item_ended : (seen : List Lexeme) (r : TextReader) (held : Option ItemReader) (i : ItemReader) (known : Known) (said : ItemContents) → IsTextRead seen r → r.item ≡ Some i → held ≡ None
-    → ItemGoes r.known i [] (learned r.known said) → known ≡ learned r.known said → HasFewCells (preamble_in r.known) (learned r.known said).entries → AreItemsRead seen (reader_of known held r.number)
+pub item_ended : (seen : List Lexeme) (r : TextReader) (held : Option ItemReader) (i : ItemReader) (known : ModelSoFar) (said : ItemContents) → IsTextRead seen r → r.item ≡ Some i → held ≡ None
+    → ItemGoes r.known i [] (with_item r.known said) → known ≡ with_item r.known said → HasFewCells (preamble_in r.known) (with_item r.known said).entries → AreItemsRead seen (reader_of known held r.number)
 item_ended seen r held i known said (nothing n) e none goes same few = absurd (some≢none e n.item_is)
 item_ended seen r held i known said (item w) e none goes same few =
-    let after = learned r.known said in
+    let after = with_item r.known said in
     let taken : IsRight r.known w.t w.body after = shaped_right r.known w.t w.body after (shaped_end seen r i after w e goes) few in
     subst (λ k. AreItemsRead seen (reader_of k held r.number)) (sym same) (record {
       items = item_ends seen w.body r.known after w.t w.within taken;
@@ -84,33 +79,28 @@ item_ended seen r held i known said (item w) e none goes same few =
     })
 
 -- it is an entry that gives too much
-pub item_too_much : (seen : List Lexeme) (r : TextReader) (i : ItemReader) (said : ItemContents) (place : ℕ) → IsTextRead seen r → r.item ≡ Some i → ItemGoes r.known i [] (learned r.known said)
-    → (HasFewCells (preamble_in r.known) (learned r.known said).entries → ⊥) → IsRefusedAt seen place (model_faults.Item TooManyCells r.number place)
+pub item_too_much : (seen : List Lexeme) (r : TextReader) (i : ItemReader) (said : ItemContents) (place : ℕ) → IsTextRead seen r → r.item ≡ Some i → ItemGoes r.known i [] (with_item r.known said)
+    → (HasFewCells (preamble_in r.known) (with_item r.known said).entries → ⊥) → IsRefusedAt seen place (model_faults.Item TooManyCells r.number place)
 item_too_much seen r i said place (nothing n) e goes many = absurd (some≢none e n.item_is)
 item_too_much seen r i said place (item w) e goes many =
-    too_much_refused seen r place w (shaped_too_much r.known w.t w.body (learned r.known said) (shaped_end seen r i (learned r.known said) w e goes) many)
+    too_much_refused seen r place w (shaped_too_much r.known w.t w.body (with_item r.known said) (shaped_end seen r i (with_item r.known said) w e goes) many)
 
 some_elements : (seen : List Lexeme) (r : TextReader) (i : ItemReader) (w : IsItemRead seen r) → r.item ≡ Some i → HasElements r.known (topic_in i)
-some_elements seen r i w e =
-    subst (λ j. HasElements r.known (topic_in j)) (same_item seen r i e w)
-    (subst (HasElements r.known) (sym w.read.topic_is) (has_elements w.within.items.items r.known w.t w.within.items.right w.read.may_stand))
+some_elements seen r i w e = grind (arith, has_elements, same_item)
 
 cannot_end : (seen : List Lexeme) (r : TextReader) (i : ItemReader) (w : IsItemRead seen r) → r.item ≡ Some i → (HasElements r.known (topic_in i) → CannotEnd (ItemGoes r.known) i) → CannotEnd (ItemGoes r.known) w.item
-cannot_end seen r i w e stuck =
-    let same = same_item seen r i e w in
-    let some : HasElements r.known (topic_in w.item) = subst (HasElements r.known) (sym w.read.topic_is) (has_elements w.within.items.items r.known w.t w.within.items.right w.read.may_stand) in
-    subst (λ j. HasElements r.known (topic_in j) → CannotEnd (ItemGoes r.known) j) (sym same) stuck some
+cannot_end seen r i w e stuck = grind (arith, has_elements, same_item)
 
 -- the open item cannot end
 pub item_not_ended : (seen : List Lexeme) (r : TextReader) (i : ItemReader) (kind : ItemFault) (place : ℕ) → IsTextRead seen r → r.item ≡ Some i
     → (HasElements r.known (topic_in i) → CannotEnd (ItemGoes r.known) i) → ((body : List Lexeme) → IsSeen (states_known r.known) body i → IsEndReason (topic_in i) kind)
-    → (HasElements r.known (topic_in i) → kind ≡ misfit (item_wants r.known i []) None) → pending_in i ≡ None
+    → (HasElements r.known (topic_in i) → kind ≡ unexpected_token (item_wants r.known i []) None) → pending_in i ≡ None
     → ((body : List Lexeme) (late : Refusal) → IsSeen (states_known r.known) body i → topic_in i ≡ Start → IsLate (states_known r.known) body true late.kind late.place → ⊥) → IsRefusedAt seen place (model_faults.Item kind r.number place)
 item_not_ended seen r i kind place (nothing n) e stuck reason kinds unheld undue = absurd (some≢none e n.item_is)
 item_not_ended seen r i kind place (item w) e stuck reason kinds unheld undue =
     let same = same_item seen r i e w in
     end_refused seen r kind place w (cannot_end seen r i w e stuck) (subst (λ j. IsEndReason (topic_in j) kind) (sym same) (reason w.body (subst (IsSeen (states_known r.known) w.body) same w.read.seen)))
-    (subst (λ j. kind ≡ misfit (item_wants r.known j []) None) (sym same) (kinds (some_elements seen r i w e))) (ap pending_in same ∙ unheld)
+    (subst (λ j. kind ≡ unexpected_token (item_wants r.known j []) None) (sym same) (kinds (some_elements seen r i w e))) (ap pending_in same ∙ unheld)
     (λ late start. undue w.body late (subst (IsSeen (states_known r.known) w.body) same w.read.seen) (sym (ap topic_in same) ∙ start))
 
 -- nor for the number before its end
@@ -130,7 +120,7 @@ item_not_ended_before seen r i kind at place (item w) e stuck reason due =
 
 -- before the first item
 pub not_begun : (seen : List Lexeme) (r : TextReader) (l : Lexeme) → IsTextRead seen r → r.item ≡ None → begins_item l ≡ false
-    → IsRefusedBehind (seen ++ l ∷ []) (model_faults.Item BeforeFirstItem r.number l.place)
+    → IsRefusedAfter (seen ++ l ∷ []) (model_faults.Item BeforeFirstItem r.number l.place)
 not_begun seen r l (nothing n) e inside = before_refused seen r l n inside
 not_begun seen r l (item w) e inside = absurd (some≢none w.item_is e)
 
@@ -144,15 +134,15 @@ item_takes seen r l old new (item w) e inside same fed =
       t = w.t;
       body = w.body ++ l ∷ [];
       item = new;
-      within = within_goes_on seen l r.known w.t w.body w.within inside;
+      within = within_continues seen l r.known w.t w.body w.within inside;
       item_is = refl;
       number_is = w.number_is;
-      read = item_goes_on r.known w.t w.body old new l read same fed.within fed.takes fed.formed (fed.seen w.body read.seen) fed.leads;
+      read = item_continues r.known w.t w.body old new l read same fed.within fed.takes fed.formed (fed.seen w.body read.seen) fed.leads;
     })
 
 -- it cannot
 pub item_refuses : (seen : List Lexeme) (r : TextReader) (l : Lexeme) (i : ItemReader) (x : Refusal) → IsTextRead seen r → r.item ≡ Some i → begins_item l ≡ false → RefusesInItem r.known i l x
-    → IsRefusedBehind (seen ++ l ∷ []) (model_faults.Item x.kind r.number x.place)
+    → IsRefusedAfter (seen ++ l ∷ []) (model_faults.Item x.kind r.number x.place)
 item_refuses seen r l i x (nothing n) e inside refuses = absurd (some≢none e n.item_is)
 item_refuses seen r l i x (item w) e inside refuses =
     let here : RefusesInItem r.known w.item l x = subst (λ j. RefusesInItem r.known j l x) (sym (same_item seen r i e w)) refuses in
@@ -175,12 +165,12 @@ item_opened seen r word t new a e free same =
     })
 
 pub item_not_opened : (seen : List Lexeme) (r : TextReader) (word : Lexeme) (t : Topic) (kind : ItemFault) (place : ℕ) → AreItemsRead seen r → topic word ≡ Some t
-    → word_fault r.known t ≡ Some kind → word.place ≡ place → IsRefusedBehind (seen ++ word ∷ []) (model_faults.Item kind (r.number + 1) place)
+    → word_fault r.known t ≡ Some kind → word.place ≡ place → IsRefusedAfter (seen ++ word ∷ []) (model_faults.Item kind (r.number + 1) place)
 item_not_opened seen r word t kind place a e fault at =
-    subst (λ p. IsRefusedBehind (seen ++ word ∷ []) (model_faults.Item kind (r.number + 1) p)) at (word_refused seen r word t kind a e fault)
+    subst (λ p. IsRefusedAfter (seen ++ word ∷ []) (model_faults.Item kind (r.number + 1) p)) at (word_refused seen r word t kind a e fault)
 
 -- a refusal where an item ends, at the next item's word
-pub refused_at_word : (seen : List Lexeme) (word : Lexeme) (t : Topic) (fault : ModelFault) → topic word ≡ Some t → IsRefusedAt seen word.place fault → IsRefusedBehind (seen ++ word ∷ []) fault
+pub refused_at_word : (seen : List Lexeme) (word : Lexeme) (t : Topic) (fault : ModelFault) → topic word ≡ Some t → IsRefusedAt seen word.place fault → IsRefusedAfter (seen ++ word ∷ []) fault
 refused_at_word seen word t fault e refused text ts further tokens same =
     refused text ts tokens (at_word word further (same ∙ append_assoc seen (word ∷ []) further) (begins word t e) refl)
 

@@ -1,6 +1,7 @@
 //! A model's text, read item by item.
 ghost use Rattle.std.specs.Prelude.{None, IfOk, OnOk, IfErr, ◌≡◌, ◌+◌, ◌<◌, ◌≤◌, ◌^◌, ◌++◌, ◌∷◌, [], ℕ, Some, false, List, MatchResult};
 ghost use Rattle.polcert_text.specs.ReadTexts.{ReadsText};
+ghost use Rattle.polcert_text.specs.Steps.TakenAhead.{TakesAhead, ArePassed};
 ghost use Rattle.polcert_text.specs.Cut.{Lexeme};
 ghost use Rattle.polcert_text.specs.Reading.{lexeme_of};
 ghost use Rattle.polcert_cells.specs.Words.{topic, begins_item};
@@ -10,22 +11,22 @@ ghost use Rattle.polcert_format.specs.FirstWrong.{TextTokens, AreTokensOf};
 ghost use Rattle.polcert_format.specs.Refusals.{IsRefusal, IsPlacedRight, IsNoModel};
 ghost use Rattle.polcert_format.specs.RefusedTexts.{IsRefusedModelText};
 ghost use Rattle.polcert_tables.specs.Contents.{meaning};
-ghost use Rattle.polcert_items.specs.Steps.Known.{IsWholeRead};
-ghost use Rattle.polcert_model.specs.Steps.Texts.{IsTextRead, IsReadAhead, IsPassed, AreItemsRead, IsTextOf, IsRefusedBehind, IsRefusedAt, IsRefusedWhole, Refuses, tokens_end, pending_at};
+ghost use Rattle.polcert_items.specs.Steps.ModelSoFar.{IsWholeRead};
+ghost use Rattle.polcert_model.specs.Steps.Texts.{IsTextRead, TextReadsOn, AreItemsRead, IsTextOf, IsRefusedAfter, IsRefusedAt, IsRefusedWhole, Refuses, tokens_end, pending_at};
 
 use polcert_cells::{Topic, begun_topic};
 use polcert_format::{ItemFault, ModelFault};
-use polcert_items::{ItemEnd, ItemReader, Known, Stop, Unlearned};
+use polcert_items::{AddError, EndError, FeedError, ItemReader, ModelSoFar};
 use polcert_tables::{Model, WrongRow};
 use polcert_text::{
-    Source, SourceFault, StreamFault, StreamTokens, TEXT_LIMIT, Token, TokenFault, Tokens,
+    SliceSource, Source, SourceFault, StreamFault, StreamTokens, TEXT_LIMIT, Token, TokenFault,
 };
 use std::alloc::{AllocError, Global};
 
 /// Reads the items of a text, token by token.
 #[derive(Drop)]
 struct TextReader {
-    known: Known,
+    known: ModelSoFar,
     item: Option<ItemReader>,
     number: u64,
 }
@@ -36,7 +37,7 @@ impl TextReader {
         ensures number { result.number ≡ 0 }
     {
         TextReader {
-            known: Known::new(alloc),
+            known: ModelSoFar::new(alloc),
             item: None,
             number: 0,
         }
@@ -62,7 +63,7 @@ impl TextReader {
         ensures read { let l = lexeme_of token.entry in (seen : List Lexeme) → IsTextRead seen self.old
             → MatchResult result
             (λ _. IsTextRead (seen ++ l ∷ []) self.new)
-            (IsRefusedBehind (seen ++ l ∷ [])) }
+            (IsRefusedAfter (seen ++ l ∷ [])) }
     {
         match begun_topic(&token) {
             Some(topic) => {
@@ -82,15 +83,15 @@ impl TextReader {
         ensures read { let l = lexeme_of token.entry in (seen : List Lexeme) → IsTextRead seen self.old
             → begins_item l ≡ false → MatchResult result
             (λ _. IsTextRead (seen ++ l ∷ []) self.new)
-            (IsRefusedBehind (seen ++ l ∷ [])) }
+            (IsRefusedAfter (seen ++ l ∷ [])) }
     {
         let Some(item) = &mut self.item else {
             return Err(self.fault(ItemFault::BeforeFirstItem, token.place));
         };
         match item.feed(alloc, &self.known, token) {
             Ok(()) => Ok(()),
-            Err(Stop::Refused(refusal)) => Err(self.fault(refusal.kind, refusal.place)),
-            Err(Stop::Memory) => Err(ModelFault::Memory),
+            Err(FeedError::Refused(refusal)) => Err(self.fault(refusal.kind, refusal.place)),
+            Err(FeedError::Memory) => Err(ModelFault::Memory),
         }
     }
 
@@ -100,7 +101,7 @@ impl TextReader {
     fn feed_ahead(&mut self, alloc: Global, bytes: &[u8]) -> Result<usize, AllocError>
         requires { (seen : List Lexeme) × IsTextRead seen self.old }
         ensures number { self.new.number ≡ self.old.number }
-        ensures read { IfOk result (λ count. IsReadAhead self.old bytes.now count self.new) }
+        ensures read { IfOk result (λ count. TakesAhead (TextReadsOn self.old self.new) bytes.now count) }
     {
         let Some(item) = &mut self.item else {
             return Ok(0);
@@ -120,14 +121,14 @@ impl TextReader {
             return Ok(());
         };
         match item.end(alloc, &self.known) {
-            Ok(said) => match self.known.learn(said) {
+            Ok(said) => match self.known.add_item(said) {
                 Ok(()) => Ok(()),
-                Err(Unlearned::TooManyCells) => Err(self.fault(ItemFault::TooManyCells, place)),
-                Err(Unlearned::Memory) => Err(ModelFault::Memory),
+                Err(AddError::TooManyCells) => Err(self.fault(ItemFault::TooManyCells, place)),
+                Err(AddError::Memory) => Err(ModelFault::Memory),
             },
-            Err(ItemEnd::AtEnd(kind)) => Err(self.fault(kind, place)),
-            Err(ItemEnd::At(refusal)) => Err(self.fault(refusal.kind, refusal.place)),
-            Err(ItemEnd::Memory) => Err(ModelFault::Memory),
+            Err(EndError::AtEnd(kind)) => Err(self.fault(kind, place)),
+            Err(EndError::At(refusal)) => Err(self.fault(refusal.kind, refusal.place)),
+            Err(EndError::Memory) => Err(ModelFault::Memory),
         }
     }
 
@@ -138,7 +139,7 @@ impl TextReader {
         ensures read { (seen : List Lexeme) (word : Lexeme) → AreItemsRead seen self.old
             → topic word ≡ Some about → word.place ≡ place → MatchResult result
             (λ _. IsTextRead (seen ++ word ∷ []) self.new)
-            (IsRefusedBehind (seen ++ word ∷ [])) }
+            (IsRefusedAfter (seen ++ word ∷ [])) }
     {
         self.number += 1;
         if let Some(kind) = self.known.word_fault(about) {
@@ -148,7 +149,8 @@ impl TextReader {
         Ok(())
     }
 
-    /// The tokens end in this fault: the item is refused for it, or for a number before it that has no value.
+    /// Returns the fault of the model when its tokens end in this fault: the fault itself, or an earlier
+    /// number's that has no value.
     fn token_fault(&self, fault: TokenFault) -> ModelFault
         ensures { result ≡ tokens_end self.now.number (pending_at self.now.item) fault }
     {
@@ -180,40 +182,11 @@ impl TextReader {
         }
     }
 
-    /// What its items say.
-    fn into_known(self) -> Known
+    /// Returns what the items say.
+    fn into_model_so_far(self) -> ModelSoFar
         ensures { result ≡ self.known }
     {
         self.known
-    }
-}
-
-/// Reads the items of a whole text.
-fn read_items(alloc: Global, text: &[u8], reader: &mut TextReader) -> Result<(), ModelFault>
-    requires none { IsTextRead [] reader.old }
-    requires first { reader.old.number ≡ 0 }
-    ensures read { IfOk result (λ _. IsTextOf text.now reader.new.known) }
-    ensures refused { IfErr result (λ fault. (ts : TextTokens) → AreTokensOf text.now ts → Refuses ts fault) }
-{
-    let mut tokens = Tokens::new(text, TEXT_LIMIT);
-    while let Some(next) = tokens.next_token() {
-        match next {
-            Ok(token) => reader.take(alloc, token)?,
-            Err(fault) => return Err(reader.token_fault(fault)),
-        }
-    }
-    reader.finish(alloc, tokens.end())
-}
-
-/// What the items of a whole text say.
-fn read_text(alloc: Global, text: &[u8]) -> Result<Known, ModelFault>
-    ensures read { IfOk result (IsTextOf text.now) }
-    ensures refused { IfErr result (λ fault. (ts : TextTokens) → AreTokensOf text.now ts → Refuses ts fault) }
-{
-    let mut reader = TextReader::new(alloc);
-    match read_items(alloc, text, &mut reader) {
-        Ok(()) => Ok(reader.into_known()),
-        Err(fault) => Err(fault),
     }
 }
 
@@ -225,9 +198,9 @@ fn read_ahead(
     reader: &mut TextReader,
 ) -> Result<(), ModelFault>
     requires read { (seen : List Lexeme) × IsTextRead seen reader.old }
-    requires goes_on { tokens.old.stop ≡ None }
+    requires continues { tokens.old.stop ≡ None }
     ensures number { reader.new.number ≡ reader.old.number }
-    ensures read { OnOk result (IsPassed reader.old tokens.old reader.new tokens.new) }
+    ensures read { OnOk result (ArePassed (TextReadsOn reader.old reader.new) tokens.old tokens.new) }
     ensures refused { IfErr result (λ fault. fault ≡ ModelFault.Memory) }
 {
     match reader.feed_ahead(alloc, tokens.ahead()) {
@@ -275,29 +248,29 @@ fn read_items_from<S: Source>(
     }
 }
 
-/// What the items of the whole text of a source say.
+/// Reads the items of the whole text of a source.
 fn read_text_from<S: Source>(
     alloc: Global,
     source: &mut S,
-) -> Result<Known, SourceFault<ModelFault>>
+) -> Result<ModelSoFar, SourceFault<ModelFault>>
     ensures read { ReadsText S.reads S.failures source.old source.new IsTextOf IsRefusedModelText result }
 {
     let mut reader = TextReader::new(alloc);
     match read_items_from(alloc, source, &mut reader) {
-        Ok(()) => Ok(reader.into_known()),
+        Ok(()) => Ok(reader.into_model_so_far()),
         Err(fault) => Err(fault),
     }
 }
 
-/// The model of what the items of a whole text say, if each row of its tables sums to its scale.
-fn model_of(alloc: Global, known: Known) -> Result<Model, ModelFault>
+/// Makes the model of the items of a whole text, if each row of its tables sums to its scale.
+fn model_of(alloc: Global, known: ModelSoFar) -> Result<Model, ModelFault>
     requires { (text : List ℕ) × IsTextOf text known }
     ensures { (text : List ℕ) → IsTextOf text known → MatchResult result
         (λ m. IsModelText text (meaning m))
         (λ fault. IsRefusedModelText fault text) }
 {
-    match known.into_draft(alloc)? {
-        Ok(draft) => Ok(Model::of(draft)),
+    match known.into_model(alloc)? {
+        Ok(model) => Ok(model),
         Err(WrongRow { table, action, row }) => Err(ModelFault::RowSum { table, action, row }),
     }
 }
@@ -318,8 +291,12 @@ pub fn read_model(alloc: Global, text: &[u8]) -> Result<Model, ModelFault>
     ensures placed { IfErr result (λ fault. (ts : TextTokens) → AreTokensOf text.now ts
         → IsPlacedRight ts fault) }
 {
-    let known = read_text(alloc, text)?;
-    model_of(alloc, known)
+    let mut source = SliceSource::new(text);
+    match read_model_from(alloc, &mut source) {
+        Ok(model) => Ok(model),
+        Err(SourceFault::Refused(fault)) => Err(fault),
+        Err(SourceFault::Device) => unreachable!(),
+    }
 }
 
 /// Reads the model whose text the source gives, to its true end, and tests that each row of its tables sums to its

@@ -4,7 +4,7 @@ use Rattle.std.proofs.Math.Nat.{pow-suc, pow-zero}
 use Rattle.std.proofs.Math.IntN.{*ℤ_comm}
 use Rattle.polcert_cells.specs.Tables.{CellTable, IsProper}
 use Rattle.polcert_check.specs.Horizon.{one, total_below, sum_over, runs, IsRunInRange}
-use Rattle.polcert_check.proofs.Sums.Ring.{linear, products, mul_le, ≤ℤ_trans, ≤ℤ_from_eq, *ℤ_assoc, one-*ℤ}
+use Rattle.polcert_check.proofs.Sums.Ring.{linear, mul_le, ≤ℤ_trans, ≤ℤ_from_eq, *ℤ_assoc, one-*ℤ}
 use Rattle.polcert_check.proofs.Sums.SumLaws.{sum_below_same, sum_below_le, sum_over_same, sum_over_scale, sum_over_add, sum_over_le_all}
 use Rattle.polcert_check.proofs.Horizons.Kept.{keeps_algebra, scale_algebra, sum_twice_scale}
 use Rattle.polcert_check.proofs.Horizons.Enumerated.{All-runs}

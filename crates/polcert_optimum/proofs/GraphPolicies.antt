@@ -4,7 +4,6 @@ use Rattle.std.proofs.Math.IntN.{+ℤ_idr, zero-*ℤ, *ℤ-zero}
 use Rattle.polcert_check.specs.Horizon.{Controller, one, total_below, sum_over, uncut, weight, runs, IsRunInRange}
 use Rattle.polcert_check.specs.Horizon as horizon
 use Rattle.polcert_check.specs.Steps.Ranges.{IsController}
-use Rattle.polcert_check.proofs.Sums.Ring.{products}
 use Rattle.polcert_check.proofs.Sums.SumLaws.{sum_below_same, sum_over_same, sum_over_scale, sum_over_add}
 use Rattle.polcert_check.proofs.Horizons.Runs.{sum_over_uncut, reward_part_cons}
 use Rattle.polcert_check.proofs.Horizons.Kept.{LacksNone, no_weight, worth_algebra}

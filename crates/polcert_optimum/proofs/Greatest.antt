@@ -4,7 +4,7 @@ use Rattle.std.specs.Int.{int_max}
 use Rattle.std.specs.Prelude.{int_lt}
 use Rattle.std.proofs.lemmas.Bool.{cases_cond, cases_lt}
 use Rattle.std.proofs.lemmas.Int.{ints, clamps}
-use Rattle.polcert_check.proofs.Sums.Ring.{linear, ≤ℤ_trans, ≤ℤ_from_eq}
+use Rattle.polcert_check.proofs.Sums.Ring.{≤ℤ_trans, ≤ℤ_from_eq}
 use Rattle.polcert_optimum.specs.Informed.{greatest_below}
 
 pub max_left : (x y : ℤ) → x ≤ℤ int_max x y
@@ -30,16 +30,3 @@ greatest_reached f (suc (suc n)) some =
     (λ (e : int_max (greatest_below f (suc n)) (f (suc n)) ≡ greatest_below f (suc n)). let (i, l, is) = greatest_reached f (suc n) (omega arith) in (i, omega arith, is ∙ sym e))
     (λ (e : int_max (greatest_below f (suc n)) (f (suc n)) ≡ f (suc n)). (suc n, omega arith, sym e))
     (cases_cond (int_lt (f (suc n)) (greatest_below f (suc n))) (greatest_below f (suc n)) (f (suc n)) _ refl)
-
--- what each is at most, the greatest is
-pub greatest_most : (f : ℕ → ℤ) (n : ℕ) (x : ℤ) → 0 < n → ((i : ℕ) → i < n → f i ≤ℤ x) → greatest_below f n ≤ℤ x
-greatest_most f n x some each =
-    let (i, l, is) = greatest_reached f n some in
-    ≤ℤ_trans _ _ _ (≤ℤ_from_eq _ _ (sym is)) (each i l)
-
--- a number that none is above, and that one is, is the greatest
-pub greatest_is : (f : ℕ → ℤ) (n : ℕ) (x : ℤ) → ((i : ℕ) → i < n → f i ≤ℤ x) → (i : ℕ) → i < n → f i ≡ x → x ≡ greatest_below f n
-greatest_is f n x each i l is =
-    let le : greatest_below f n ≤ℤ x = greatest_most f n x (omega arith) each in
-    let ge : x ≤ℤ greatest_below f n = ≤ℤ_trans _ _ _ (≤ℤ_from_eq _ _ (sym is)) (greatest_le f n i l) in
-    omega (arith, linear)

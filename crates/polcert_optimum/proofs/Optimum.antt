@@ -100,8 +100,8 @@ mean_ge m limits x y b value rewards worth mean each =
     let inside : pos x *ℤ sum_over_start m value ≡ total_below (λ s. pos x *ℤ (pos (start_weight m s) *ℤ value s)) (states_of m) = sym (sum_below_scale (pos x) (λ s. pos (start_weight m s) *ℤ value s) (states_of m)) in
     let terms : total_below (λ s. pos x *ℤ (pos (start_weight m s) *ℤ value s)) (states_of m) ≤ℤ sum_over_start m (λ s. rewards s +ℤ pos (y * b)) =
     sum_below_le _ _ (states_of m) (λ s sl. ≤ℤ_trans _ _ _ (≤ℤ_from_eq _ _ (*ℤ_left_comm (pos x) (pos (start_weight m s)) (value s))) (mul_le (start_weight m s) _ _ (each s sl))) in
-    let turned : total * (y * b) ≡ total * y * b = omega arith in
-    let apart : sum_over_start m (λ s. rewards s +ℤ pos (y * b)) ≡ sum_over_start m rewards +ℤ pos (total * y * b) = sum_more m limits rewards (pos (y * b)) ∙ ap (λ (n : ℕ). sum_over_start m rewards +ℤ pos n) turned in
+    let signed_from : total * (y * b) ≡ total * y * b = omega arith in
+    let apart : sum_over_start m (λ s. rewards s +ℤ pos (y * b)) ≡ sum_over_start m rewards +ℤ pos (total * y * b) = sum_more m limits rewards (pos (y * b)) ∙ ap (λ (n : ℕ). sum_over_start m rewards +ℤ pos n) signed_from in
     ≤ℤ_trans _ _ _ (≤ℤ_from_eq _ _ first) (≤ℤ_trans _ _ _ more (≤ℤ_trans _ _ _ (≤ℤ_from_eq _ _ inside) (≤ℤ_trans _ _ _ terms (≤ℤ_from_eq _ _ apart))))
 
 module _ (m : Meaning) (limits : HasLimitedNumbers m) (g : PolicyGraph) (v : PolicyVectors) (proper : IsProper (table_of m)) (known : IsProperGraph g) (fits : Fits (table_of m) g v)

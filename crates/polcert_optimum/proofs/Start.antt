@@ -22,8 +22,8 @@ sum_le m x worth value most each mean =
     sum_below_le _ _ (states_of m) (λ s sl. ≤ℤ_trans _ _ _ (mul_le (start_weight m s) _ _ (each s sl)) (≤ℤ_from_eq _ _ (*ℤ_left_comm (pos (start_weight m s)) (pos x) (value s)))) in
     let scaled : total_below (λ s. pos x *ℤ (pos (start_weight m s) *ℤ value s)) (states_of m) ≡ pos x *ℤ sum_over_start m value = sum_below_scale (pos x) (λ s. pos (start_weight m s) *ℤ value s) (states_of m) in
     let more : (pos x *ℤ sum_over_start m value) ≤ℤ (pos x *ℤ (pos total *ℤ most)) = mul_le x _ _ mean in
-    let turned : pos x *ℤ (pos total *ℤ most) ≡ pos (total * x) *ℤ most = *ℤ_left_comm (pos x) (pos total) most ∙ sym (*ℤ_assoc (pos total) (pos x) most) in
-    ≤ℤ_trans _ _ _ terms (≤ℤ_trans _ _ _ (≤ℤ_from_eq _ _ scaled) (≤ℤ_trans _ _ _ more (≤ℤ_from_eq _ _ turned)))
+    let signed_from : pos x *ℤ (pos total *ℤ most) ≡ pos (total * x) *ℤ most = *ℤ_left_comm (pos x) (pos total) most ∙ sym (*ℤ_assoc (pos total) (pos x) most) in
+    ≤ℤ_trans _ _ _ terms (≤ℤ_trans _ _ _ (≤ℤ_from_eq _ _ scaled) (≤ℤ_trans _ _ _ more (≤ℤ_from_eq _ _ signed_from)))
 
 -- one number more at each state is that number in the mean
 pub sum_more : (m : Meaning) → HasLimitedNumbers m → (f : ℕ → ℤ) (x : ℤ) → sum_over_start m (λ s. f s +ℤ x) ≡ sum_over_start m f +ℤ pos (start_total m) *ℤ x

@@ -1,10 +1,10 @@
 -- Sums over the runs of k + 1 steps, split at the first step.
 use Rattle.std.proofs.Common.{◌≡◌, ℕ, suc, ◌-◌, ◌*◌, ◌^◌, ◌<◌, ℤ, pos, ◌+ℤ◌, ◌*ℤ◌, List, [], ◌∷◌, get_or, refl, ap, ◌∙◌, arith}
 use Rattle.std.proofs.Math.Nat.{pow-suc, pow-zero}
-use Rattle.std.proofs.Math.IntN.{*ℤ_comm, +ℤ_idl, +ℤ_idr}
+use Rattle.std.proofs.Math.IntN.{*ℤ_comm}
 use Rattle.polcert_cells.specs.Tables.{CellTable, IsProper}
 use Rattle.polcert_check.specs.Horizon.{one, total_below, sum_over, runs}
-use Rattle.polcert_check.proofs.Sums.Ring.{products, sums, *ℤ_assoc, one-*ℤ}
+use Rattle.polcert_check.proofs.Sums.Ring.{*ℤ_assoc}
 use Rattle.polcert_check.proofs.Sums.SumLaws.{sum_below_same, sum_below_scale, sum_below_front, sum_over_same, sum_over_scale, sum_over_add}
 use Rattle.polcert_check.proofs.Sums.RowTotals.{t_rows, o_rows}
 use Rattle.polcert_check.proofs.Horizons.Runs.{sum_over_runs, scale_step, scale_first, total_algebra}

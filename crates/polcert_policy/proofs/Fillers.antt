@@ -2,10 +2,11 @@
 use Rattle.std.proofs.Common.{◌≡◌, ◌∙◌, ℕ, ◌+◌, ◌*◌, ◌^◌, ◌<◌, ◌≤◌, ◌<◌, Bool, true, false, ◌&&◌, Some, None, List, [], ◌∷◌, length, decimal, pos, refl, ap, subst, arith}
 use Rattle.std.specs.List.{list_all}
 use Rattle.std.proofs.lemmas.Fmt.{decimal_is_IsNumeral, decimal_nonempty}
-use Rattle.polcert_text.specs.Bytes.{class_of, is_digit}
+use Rattle.polcert_text.specs.Bytes.{is_digit, is_point, is_exponent_mark}
 use Rattle.polcert_text.specs.Lexemes.{is_numeral, are_digits}
 use Rattle.polcert_text.specs.Numbers.{number_of, exponent_size, power_of, size_of, millionth, largest, IsRounded}
 use Rattle.polcert_text.specs.Steps.Scaling.{Measures}
+use Rattle.polcert_text.proofs.Numbers.FrontNumbers.{some_digits}
 use Rattle.polcert_text.proofs.Numbers.SignedLaws.{rounded_whole}
 use Rattle.polcert_text.proofs.Numbers.SizeLaws.{millionth_pos}
 use Rattle.polcert_text.proofs.Printing.PrintLaws.{decimal_digits}
@@ -18,15 +19,15 @@ abbrev pub zero_bytes : List ℕ
 zero_bytes = 48 ∷ []
 
 number_zero : number_of zero_bytes ≡ 0
-unfolding number_of class_of
+unfolding is_point is_exponent_mark number_of
 number_zero = refl
 
 exponent_zero : exponent_size zero_bytes ≡ 0
-unfolding exponent_size class_of
+unfolding is_exponent_mark exponent_size
 exponent_zero = refl
 
 numeral_zero : is_numeral zero_bytes ≡ true
-unfolding class_of
+unfolding is_digit is_point is_exponent_mark
 numeral_zero = refl
 
 none_of : (n : ℕ) → 0 * n ≡ 0
@@ -57,15 +58,11 @@ measured = record {
 abbrev pub zero_part : Part
 zero_part = part_of zero_bytes
 
-some_digits : (bs : List ℕ) → list_all is_digit bs ≡ true → 0 < length bs → are_digits bs ≡ true
-some_digits [] e l = absurd (omega (arith, l))
-some_digits (b ∷ bs) e l = ap (λ x. x && true) e
-
 -- the decimal digits of an action spell it
 pub action_spelled : (a : ℕ) → a < 2 ^ 64 → IsActionPart a (part_of (decimal a))
 action_spelled a l = record {
   unsigned = refl;
-  whole = some_digits (decimal a) (decimal_digits a l) (decimal_nonempty a l);
+  whole = some_digits (decimal a) (decimal_nonempty a l) (decimal_digits a l);
   value = (decimal_is_IsNumeral a l).1;
 }
 

@@ -8,10 +8,12 @@ use Rattle.polcert_text.specs.declared.lexeme.TokenKind.{TokenKind}
 use Rattle.polcert_text.specs.declared.lexeme.TokenKind.TheVariants.{Numeral, Plus, Minus}
 use Rattle.polcert_text.specs.declared.number.Rounding.{Rounding}
 use Rattle.polcert_text.proofs.Scanning.CleanCut.{clean_cut, clean_tokens}
+use Rattle.polcert_text.specs.Numbers.{IsRounded}
+use Rattle.polcert_cells.specs.Numbers.{IsNumeral}
 use Rattle.polcert_policy.specs.Fields.{numeral_kind}
 use Rattle.polcert_policy.specs.Graphs.{PolicyGraph, nodes, action_of}
 use Rattle.polcert_policy.specs.Vectors as vectors
-use Rattle.polcert_policy.specs.Vectors.{PolicyVectors, value_of, sign_kind, Part, with_sign, tokens_of, IsActionPart, IsValuePart, AreVectors, IsRoundedVectors, IsRoundedNumeral, AreFields, vector_fields, AreVectorTokens}
+use Rattle.polcert_policy.specs.Vectors.{PolicyVectors, value_of, sign_kind, Part, with_sign, tokens_of, IsActionPart, IsValuePart, AreVectors, IsRoundedVectors, AreFields, vector_fields, AreVectorTokens}
 use Rattle.polcert_policy.specs.VectorText.{IsRoundedVectorsText}
 use Rattle.polcert_policy.proofs.Places.{row_below, place_inside, within_get, same_some}
 use Rattle.polcert_policy.proofs.FlatRows.{row_long, row_at, rows_zip}
@@ -45,12 +47,12 @@ module _ (way : Rounding) where
 
   value_first : (sign : Option Lexeme) (t : Lexeme) (h : ℤ) (ts : List Lexeme) (fs : List (ℕ ⊎ ℤ)) → IsValuePart way (record { sign = sign; token = t }) h → AreFields way ts fs
       → AreFields way (with_sign sign t ++ ts) (inr h ∷ fs)
-  value_first None t h ts fs is rest = vectors.unsigned (record { kind = is_numeral t.kind is.part.numeral; readable = is.readable; rounded = is.rounded }) rest
+  value_first None t h ts fs is rest = vectors.unsigned (record { kind = is_numeral t.kind is.part.numeral; readable = is.readable; value = is.rounded }) rest
   value_first (Some s) t h ts fs is rest = at (is_sign s.kind (is.part.signed s refl))
     where
       at : (s.kind ≡ Plus) ⊎ (s.kind ≡ Minus) → AreFields way (s ∷ t ∷ ts) (inr h ∷ fs)
-      at (inl e) = vectors.plus e (record { kind = is_numeral t.kind is.part.numeral; readable = is.readable; rounded = simp e at is.rounded }) rest
-      at (inr e) = vectors.minus e (record { kind = is_numeral t.kind is.part.numeral; readable = is.readable; rounded = simp e at is.rounded }) rest
+      at (inl e) = vectors.plus e (record { kind = is_numeral t.kind is.part.numeral; readable = is.readable; value = simp e at is.rounded }) rest
+      at (inr e) = vectors.minus e (record { kind = is_numeral t.kind is.part.numeral; readable = is.readable; value = simp e at is.rounded }) rest
 
   spelled_fields : (ps : List Part) (fs : List (ℕ ⊎ ℤ)) → AllZip PartIs ps fs → AreFields way (tokens_of ps) fs
   spelled_fields [] [] are = vectors.none
@@ -59,21 +61,21 @@ module _ (way : Rounding) where
   spelled_fields (p ∷ ps) (inl a ∷ fs) are = action_first p.sign p.token a (tokens_of ps) fs are.0 (spelled_fields ps fs are.1)
   spelled_fields (p ∷ ps) (inr h ∷ fs) are = value_first p.sign p.token h (tokens_of ps) fs are.0 (spelled_fields ps fs are.1)
 
-  plain_value : (t : Lexeme) (h : ℤ) → IsRoundedNumeral way false t h → IsValuePart way (part None t) h
-  plain_value t h is = record { part = record { numeral = ap numeral_kind is.kind; signed = λ s e. cc }; readable = is.readable; rounded = is.rounded }
+  plain_value : (t : Lexeme) (h : ℤ) → IsNumeral (IsRounded way) false t h → IsValuePart way (part None t) h
+  plain_value t h is = record { part = record { numeral = ap numeral_kind is.kind; signed = λ s e. cc }; readable = is.readable; rounded = is.value }
 
-  plus_value : (s t : Lexeme) (h : ℤ) → s.kind ≡ Plus → IsRoundedNumeral way false t h → IsValuePart way (part (Some s) t) h
+  plus_value : (s t : Lexeme) (h : ℤ) → s.kind ≡ Plus → IsNumeral (IsRounded way) false t h → IsValuePart way (part (Some s) t) h
   plus_value s t h e is = record {
     part = record { numeral = ap numeral_kind is.kind; signed = λ u same. ap (λ (l : Lexeme). sign_kind l.kind) (sym (same_some s u same)) ∙ ap sign_kind e };
     readable = is.readable;
-    rounded = simp e is.rounded;
+    rounded = simp e is.value;
   }
 
-  minus_value : (s t : Lexeme) (h : ℤ) → s.kind ≡ Minus → IsRoundedNumeral way true t h → IsValuePart way (part (Some s) t) h
+  minus_value : (s t : Lexeme) (h : ℤ) → s.kind ≡ Minus → IsNumeral (IsRounded way) true t h → IsValuePart way (part (Some s) t) h
   minus_value s t h e is = record {
     part = record { numeral = ap numeral_kind is.kind; signed = λ u same. ap (λ (l : Lexeme). sign_kind l.kind) (sym (same_some s u same)) ∙ ap sign_kind e };
     readable = is.readable;
-    rounded = simp e is.rounded;
+    rounded = simp e is.value;
   }
 
   parts_of : (ts : List Lexeme) (fs : List (ℕ ⊎ ℤ)) → AreFields way ts fs → (ps : List Part) × (ts ≡ tokens_of ps) × AllZip PartIs ps fs

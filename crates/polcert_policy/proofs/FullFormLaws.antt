@@ -8,7 +8,7 @@ use Rattle.std.proofs.lemmas.Int.{ints}
 use Rattle.std.proofs.lemmas.List.{take_more}
 use Rattle.std.proofs.lemmas.Option.{slice_get-get_or}
 use Rattle.std.proofs.Math.Nat.{mul-le-mul_right}
-use Rattle.polcert_text.specs.Bytes.{class_of, is_blank}
+use Rattle.polcert_text.specs.Bytes.{is_blank}
 use Rattle.polcert_text.specs.Cut.{IsCut, text_rest, text_limit}
 use Rattle.polcert_text.specs.Millionths.{unsigned_text, scaled_text}
 use Rattle.polcert_text.specs.Numbers.{largest}
@@ -20,11 +20,11 @@ use Rattle.polcert_policy.specs.Graphs.{PolicyGraph, nodes, action_of, IsProperG
 use Rattle.polcert_policy.specs.Vectors.{PolicyVectors, Part, sign_kind, tokens_of, value_of, IsActionPart, IsValuePart, IsRoundedVectors, IsInRange, AreProperVectors}
 use Rattle.polcert_policy.specs.VectorText.{IsRoundedVectorsText}
 use Rattle.polcert_policy.specs.Steps.VectorsRead.{AreVectorsUpTo}
-use Rattle.polcert_policy.specs.FullForm.{behind_value, values_text, action_text, vectors_text_up_to, vectors_text}
+use Rattle.polcert_policy.specs.FullForm.{after_value, values_text, action_text, vectors_text_up_to, vectors_text}
 use Rattle.polcert_policy.proofs.FlatVectors as flat_vectors
 use Rattle.polcert_policy.proofs.Places.{some_none, same_some, row_above}
 use Rattle.polcert_policy.proofs.Fillers.{action_spelled}
-use Rattle.polcert_policy.proofs.GraphLaws.{IsBehind}
+use Rattle.polcert_policy.proofs.GraphLaws.{IsAfter}
 use Rattle.polcert_policy.proofs.VectorSteps.{no_vectors, step_vector_action, step_value}
 use Rattle.polcert_text.proofs.Printing.Numerals.{IsPlain, plain_decimal}
 use Rattle.polcert_text.proofs.Printing.PrintedCut.{rest_at}
@@ -41,11 +41,11 @@ size_text (pos n) = unsigned_text n
 size_text (negsuc n) = unsigned_text (suc n)
 
 abbrev number_printed : ℤ → List ℕ → Printed
-number_printed h behind = record { negative = is_below_zero h; numeral = size_text h; behind = behind }
+number_printed h following = record { negative = is_below_zero h; numeral = size_text h; following = following }
 
-text-number : (h : ℤ) (behind : List ℕ) → printed_text (number_printed h behind) ≡ scaled_text h ++ behind
-text-number (pos n) behind = refl
-text-number (negsuc n) behind = refl
+text-number : (h : ℤ) (following : List ℕ) → printed_text (number_printed h following) ≡ scaled_text h ++ following
+text-number (pos n) following = refl
+text-number (negsuc n) following = refl
 
 measures_written : (n : ℕ) → n ≤ largest → Measures (unsigned_text n) n false
 measures_written n l = record {
@@ -83,7 +83,7 @@ action_part : (place a : ℕ) → a < 2 ^ 64 → IsActionPart a (part_with place
 action_part place a l = let was = action_spelled a l in record { unsigned = refl; whole = was.whole; value = was.value }
 
 -- what stands after a number
-record Behind (bs : List ℕ) : Type 0 where
+record After (bs : List ℕ) : Type 0 where
   blank : list_all is_blank bs ≡ true
   first : ℕ
   more : List ℕ
@@ -91,32 +91,32 @@ record Behind (bs : List ℕ) : Type 0 where
   few : length bs ≤ 2
 
 line_end_blank : list_all is_blank (codes "\n") ≡ true
-unfolding class_of
+unfolding is_blank
 line_end_blank = refl
 
 blank_blank : list_all is_blank (codes " ") ≡ true
-unfolding class_of
+unfolding is_blank
 blank_blank = refl
 
 line_ends_blank : list_all is_blank (codes "\n\n") ≡ true
-unfolding class_of
+unfolding is_blank
 line_ends_blank = refl
 
-behind_either : (b : Bool) → Behind (cond b (codes "\n\n") (codes " "))
-behind_either true = record { blank = line_ends_blank; first = 10; more = 10 ∷ []; is = refl; few = omega arith }
-behind_either false = record { blank = blank_blank; first = 32; more = []; is = refl; few = omega arith }
+after_either : (b : Bool) → After (cond b (codes "\n\n") (codes " "))
+after_either true = record { blank = line_ends_blank; first = 10; more = 10 ∷ []; is = refl; few = omega arith }
+after_either false = record { blank = blank_blank; first = 32; more = []; is = refl; few = omega arith }
 
 plain_value : (h : ℤ) → IsInRange h → IsPlain (size_text h)
 plain_value (pos n) r = plain_size n (positive_size n r)
 plain_value (negsuc n) r = plain_size (suc n) (negative_size n r)
 
-value_is_printed : (h : ℤ) (o s : ℕ) → IsInRange h → IsPrinted (number_printed h (behind_value o s))
+value_is_printed : (h : ℤ) (o s : ℕ) → IsInRange h → IsPrinted (number_printed h (after_value o s))
 value_is_printed h o s r =
-    let b = behind_either (suc s == o) in
-    record { plain = plain_value h r; blank = b.blank; first = b.first; more = b.more; behind_is = b.is; few = b.few }
+    let b = after_either (suc s == o) in
+    record { plain = plain_value h r; blank = b.blank; first = b.first; more = b.more; after_is = b.is; few = b.few }
 
 abbrev action_printed : PolicyGraph → ℕ → Printed
-action_printed g n = record { negative = false; numeral = decimal (action_of g n); behind = codes "\n" }
+action_printed g n = record { negative = false; numeral = decimal (action_of g n); following = codes "\n" }
 
 action_is_printed : (g : PolicyGraph) (n : ℕ) → action_of g n < 1_001 → IsPrinted (action_printed g n)
 action_is_printed g n l = record {
@@ -124,12 +124,12 @@ action_is_printed g n l = record {
   blank = line_end_blank;
   first = 10;
   more = [];
-  behind_is = refl;
+  after_is = refl;
   few = omega arith;
 }
 
 abbrev value_printed : PolicyVectors → ℕ → ℕ → Printed
-value_printed v n s = number_printed (value_of v n s) (behind_value v.states s)
+value_printed v n s = number_printed (value_of v n s) (after_value v.states s)
 
 abbrev values_printed : PolicyVectors → ℕ → ℕ → List Printed
 values_printed v n zero = []
@@ -151,7 +151,7 @@ text-values v n zero = refl
 text-values v n (suc s) =
     texts-append (values_printed v n s) (value_printed v n s ∷ [])
     ∙ (λ i. text-values v n s i ++ append-nil (printed_text (value_printed v n s)) i)
-    ∙ ap (λ bs. values_text v n s ++ bs) (text-number (value_of v n s) (behind_value v.states s))
+    ∙ ap (λ bs. values_text v n s ++ bs) (text-number (value_of v n s) (after_value v.states s))
 
 text-all : (g : PolicyGraph) (v : PolicyVectors) (n : ℕ) → texts_of (all_printed g v n) ≡ vectors_text_up_to g v n
 text-all g v zero = refl
@@ -172,10 +172,10 @@ text_short : (us : List Printed) → AllPrinted us → length (texts_of us) ≤ 
 text_short [] a = omega arith
 text_short (u ∷ us) a =
     let more = text_short us a.1 in
-    let one = signed_short u.negative u.numeral u.behind a.0.plain.short a.0.few in
+    let one = signed_short u.negative u.numeral u.following a.0.plain.short a.0.few in
     omega (arith, more, one, length-append (printed_text u) (texts_of us))
   where
-    signed_short : (b : Bool) (w bs : List ℕ) → length w ≤ 30 → length bs ≤ 2 → length (printed_text (record { negative = b; numeral = w; behind = bs })) ≤ 33
+    signed_short : (b : Bool) (w bs : List ℕ) → length w ≤ 30 → length bs ≤ 2 → length (printed_text (record { negative = b; numeral = w; following = bs })) ≤ 33
     signed_short true w bs l m = omega (arith, l, m, length-append (45 ∷ w) bs)
     signed_short false w bs l m = omega (arith, l, m, length-append w bs)
 
@@ -230,13 +230,13 @@ module _ (g : PolicyGraph) (v : PolicyVectors) (proper_g : IsProperGraph g) (pro
 
   module _ (way : Rounding) where
     -- one value more
-    one_value : (ps : List Part) (n place s m c : ℕ) → n < nodes g → s < v.states → IsBehind 1 v.states n s m c
+    one_value : (ps : List Part) (n place s m c : ℕ) → n < nodes g → s < v.states → IsAfter 1 v.states n s m c
         → UpTo way (ps ++ parts_from place (action_printed g n ∷ values_printed v n s)) n (1 + s) (take (n * v.states + s) v.values)
         → UpTo way (ps ++ parts_from place (action_printed g n ∷ values_printed v n (suc s))) m c (take (n * v.states + suc s) v.values)
-    one_value ps n place s m c l k behind old =
+    one_value ps n place s m c l k following old =
         let right = value_part way _ (value_of v n s) (value_fits n s l k) in
         subst₂ (λ qs vs. UpTo way qs m c vs) (parts_more ps n place s) (values_more n s l k)
-        (step_value g v.states (ps ++ parts_from place (action_printed g n ∷ values_printed v n s)) _ (value_of v n s) n s m c (take (n * v.states + s) v.values) old right behind)
+        (step_value g v.states (ps ++ parts_from place (action_printed g n ∷ values_printed v n s)) _ (value_of v n s) n s m c (take (n * v.states + s) v.values) old right following)
 
     row : (ps : List Part) (n place : ℕ) → n < nodes g → UpTo way ps n 0 (take (n * v.states) v.values) → (s : ℕ) → s < v.states
         → UpTo way (ps ++ parts_from place (action_printed g n ∷ values_printed v n s)) n (1 + s) (take (n * v.states + s) v.values)

@@ -1,7 +1,7 @@
 -- How the tokens of a graph are read on, and what can't follow.
 use Rattle.std.proofs.Common.{◌≡◌, ◌∙◌, ℕ, suc, zero, ◌+◌, ◌-◌, ◌*◌, ◌<◌, ◌≤◌, ◌==◌, Bool, true, false, ◌&&◌, ◌⊎◌, inl, inr, ⊎_elim, Option, Some, List, [], ◌∷◌, ◌++◌, length, slice_get, refl, sym, ap, subst, arith, length-append, append_assoc, append-nil, lit<}
 use Rattle.std.proofs.Math.Path.{subst₂}
-use Rattle.polcert_text.specs.Bytes.{class_of}
+use Rattle.polcert_text.specs.Bytes.{is_digit}
 use Rattle.polcert_text.specs.Cut.{Lexeme}
 use Rattle.polcert_text.specs.declared.lexeme.TokenKind.{TokenKind}
 use Rattle.polcert_text.specs.declared.lexeme.TokenKind.TheVariants.{Name, Numeral}
@@ -87,7 +87,7 @@ step_number a o ts t node cs ss old apart whole value few =
       count = omega (arith, length_snoc ts t, old.count);
       within = omega arith;
       chosen_before = λ l. old.chosen_before (omega arith);
-      chosen_behind = λ l. absurd (omega (arith, l));
+      chosen_after = λ l. absurd (omega (arith, l));
       filled = omega (arith, old.filled);
       few = old.few;
       few_begun = λ l. few;
@@ -104,14 +104,14 @@ step_action a o ts t node cs ss some old apart whole known =
       count = omega (arith, length_snoc ts t, old.count);
       within = omega arith;
       chosen_before = λ l. absurd (omega (arith, l));
-      chosen_behind = λ l. omega (arith, length_snoc cs (whole_of t), place);
+      chosen_after = λ l. omega (arith, length_snoc cs (whole_of t), place);
       filled = omega (arith, old.filled);
       few = old.few;
       few_begun = λ l. old.few_begun (omega arith);
     }
 
 -- the place after the z-th of so many places, of which the first is in this column
-pub record IsBehind (first o node z n c : ℕ) : Type 0 where
+pub record IsAfter (first o node z n c : ℕ) : Type 0 where
   pub inside : suc z < o → (n ≡ node) × (c ≡ first + suc z)
   pub last : suc z ≡ o → (n ≡ suc node) × (c ≡ 0)
 
@@ -124,7 +124,7 @@ step_within a o ts t node z cs ss l old new =
       count = omega (arith, length_snoc ts t, old.count);
       within = omega (arith, l);
       chosen_before = λ l. absurd (omega (arith, l));
-      chosen_behind = λ l. old.chosen_behind (omega arith);
+      chosen_after = λ l. old.chosen_after (omega arith);
       filled = omega (arith, length_snoc ss (successor_of t), old.filled);
       few = old.few;
       few_begun = λ l. old.few_begun (omega arith);
@@ -139,17 +139,17 @@ step_last a o ts t node z cs ss e old new =
       records = new;
       count = omega (arith, length_snoc ts t, old.count, e);
       within = omega arith;
-      chosen_before = λ l. old.chosen_behind (omega arith);
-      chosen_behind = λ l. absurd (omega (arith, l));
+      chosen_before = λ l. old.chosen_after (omega arith);
+      chosen_after = λ l. absurd (omega (arith, l));
       filled = omega (arith, length_snoc ss (successor_of t), old.filled, e);
       few = omega (arith, few);
       few_begun = λ l. absurd (omega (arith, l));
     }
 
 pub step_successor : (a o : ℕ) (ts : List Lexeme) (t : Lexeme) (node z n c : ℕ) (cs : List ℕ) (ss : List (Option ℕ))
-    → AreNodesUpTo a o ts node (2 + z) cs ss → IsApartFrom ts t → is_successor t ≡ true → IsBehind 2 o node z n c
+    → AreNodesUpTo a o ts node (2 + z) cs ss → IsApartFrom ts t → is_successor t ≡ true → IsAfter 2 o node z n c
     → AreNodesUpTo a o (ts ++ t ∷ []) n c cs (ss ++ successor_of t ∷ [])
-step_successor a o ts t node z n c cs ss old apart right behind =
+step_successor a o ts t node z n c cs ss old apart right following =
     let place : node * o + z ≡ length ss = omega (arith, old.filled) in
     let new = more_nodes a o ts t cs cs ss (ss ++ successor_of t ∷ []) node (2 + z) old.records old.count old.within (same_places cs) (pushed_places ss (successor_of t)) apart
     (record {
@@ -159,8 +159,8 @@ step_successor a o ts t node z n c cs ss old apart right behind =
     }) in
     let At : ℕ → ℕ → Type 0 = λ n c. AreNodesUpTo a o (ts ++ t ∷ []) n c cs (ss ++ successor_of t ∷ []) in
     let ends : (suc z < o) ⊎ (suc z ≡ o) = below_or_at (suc z) o (omega (arith, old.within)) in
-    ⊎_elim (λ l. let is = behind.inside l in subst₂ At (sym is.0) (omega (arith, is.1)) (step_within a o ts t node z cs ss l old new))
-    (λ e. let is = behind.last e in subst₂ At (sym is.0) (sym is.1) (step_last a o ts t node z cs ss e old new))
+    ⊎_elim (λ l. let is = following.inside l in subst₂ At (sym is.0) (omega (arith, is.1)) (step_within a o ts t node z cs ss l old new))
+    (λ e. let is = following.last e in subst₂ At (sym is.0) (sym is.1) (step_last a o ts t node z cs ss e old new))
     ends
 
 -- whole nodes are a graph
@@ -204,7 +204,7 @@ x_apart : (ts : List Lexeme) → IsApartFrom ts letter_x
 x_apart ts k s e l = joined_off (minus_kind s.kind) (0 == s.place + length s.bytes)
 
 zero_whole : is_whole digit_0 ≡ true
-unfolding class_of
+unfolding is_digit
 zero_whole = refl
 
 -- after whole fronts of a node, successors that name no node complete it

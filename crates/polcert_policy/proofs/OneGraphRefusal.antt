@@ -20,8 +20,8 @@ wrong_shape : (o : ℕ) (ts : List Lexeme) (t : Lexeme) (n c m d : ℕ) → IsCo
 wrong_shape o ts t n c m d x wrong y right =
     true_false right (subst (λ e. is_shaped e t ≡ false) (columns o ts n c m d x y).1 wrong)
 
-not_behind : (o : ℕ) (ts : List Lexeme) (n c : ℕ) → IsColumn o ts n c → n < most_nodes → IsColumn o ts most_nodes 0 → ⊥
-not_behind o ts n c x few y = let e = (columns o ts n c most_nodes 0 x y).0 in omega (arith, e, few)
+not_after : (o : ℕ) (ts : List Lexeme) (n c : ℕ) → IsColumn o ts n c → n < most_nodes → IsColumn o ts most_nodes 0 → ⊥
+not_after o ts n c x few y = let e = (columns o ts n c most_nodes 0 x y).0 in omega (arith, e, few)
 
 other_column : (o : ℕ) (ts : List Lexeme) (n m : ℕ) → IsColumn o ts n 0 → IsColumn o ts m 1 → ⊥
 other_column o ts n m x y = let e = (columns o ts n 0 m 1 x y).1 in omega (arith, e)
@@ -31,7 +31,7 @@ one_misfit a o ts t (faults.BadShape p) (faults.BadShape q) x y = ap faults.BadS
 one_misfit a o ts t (faults.NodeOutOfOrder p) (faults.NodeOutOfOrder q) x y = ap faults.NodeOutOfOrder (x.0 ∙ sym y.0)
 one_misfit a o ts t (faults.ActionOutOfRange p) (faults.ActionOutOfRange q) x y = ap faults.ActionOutOfRange (x.0 ∙ sym y.0)
 one_misfit a o ts t (faults.TooManyNodes p) (faults.TooManyNodes q) x y = ap faults.TooManyNodes (x.0 ∙ sym y.0)
-one_misfit a o ts t _ _ x y = absurd (search (wrong_shape, not_behind, other_column, x, y))
+one_misfit a o ts t _ _ x y = absurd (search (wrong_shape, not_after, other_column, x, y))
 
 one_wrong : (m : Option Lexeme) (a o : ℕ) (ts : List Lexeme) (t : Lexeme) (f g : GraphFault) → IsWrong m a o ts t f → IsWrong m a o ts t g → f ≡ g
 one_wrong None a o ts t f g x y = one_misfit a o ts t f g x y

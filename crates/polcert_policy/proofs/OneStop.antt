@@ -6,7 +6,7 @@ use Rattle.polcert_text.specs.TakenTokens.{Taken, nothing, token}
 use Rattle.polcert_text.specs.declared.tokens.TokenFault.{TokenFault}
 use Rattle.polcert_text.proofs.TextLaws.{one_cut, one_next_token}
 use Rattle.polcert_text.proofs.Taken.TakenTokens.{cut_taken}
-use Rattle.polcert_policy.specs.Stops.{StopFor}
+use Rattle.polcert_policy.specs.Stops.{FirstBadToken}
 use Rattle.polcert_policy.proofs.VectorLaws.{head_of, tail_of, cons_not_nil}
 
 -- the tokens taken, from the first on
@@ -68,14 +68,14 @@ module _ (P : List Lexeme → Type 0) (front : (ts us : List Lexeme) → P (ts +
   -- where all of them are possible they stop nowhere
   no_stop : (rest x : Rest) (ts us : List Lexeme) (end : Option TokenFault) → IsCut rest ts end → P ts → Taken rest us x → (P us → ⊥) → ⊥
   no_stop rest x ts us end cut possible taken none =
-      let behind = cut_taken rest x us ts end taken cut in
-      none (front us behind.0 (subst P behind.1.0 possible))
+      let following = cut_taken rest x us ts end taken cut in
+      none (front us following.0 (subst P following.1.0 possible))
 
   -- Why a text is refused, where this says why a token can't stand after others, and that how the text ends: one of its tokens can't
   -- stand after those before it, or the text ends so.
   module _ {F : Type 0} (IsWrong : List Lexeme → Lexeme → F → Type 0) (EndsFor : List Lexeme → Option TokenFault → F → Type 0) (rest : Rest) where
     abbrev pub HasReason : F → Type 0
-    HasReason f = ((tokens : List Lexeme) × ((new : Rest) × Taken rest tokens new × StopFor P (λ before token. IsWrong before token f) tokens))
+    HasReason f = ((tokens : List Lexeme) × ((new : Rest) × Taken rest tokens new × FirstBadToken P (λ before token. IsWrong before token f) tokens))
         ⊎ ((tokens : List Lexeme) × ((end : Option TokenFault) × IsCut rest tokens end × P tokens × EndsFor tokens end f))
 
     -- there is one reason, where a wrong token has one and an end has

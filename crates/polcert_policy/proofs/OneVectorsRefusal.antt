@@ -31,8 +31,8 @@ value_shape (Some s) t c e = e
 wrong_value : (o : ℕ) (ts : List Lexeme) (t : Lexeme) (n c m d : ℕ) → IsPartColumn o ts n (suc c) → numeral_kind t.kind ≡ true → IsPartColumn o ts m d → is_part_shaped d (last_sign ts) t ≡ false → ⊥
 wrong_value o ts t n c m d x numeral y wrong = wrong_shape o ts (last_sign ts) t m d n (suc c) y wrong x (value_shape (last_sign ts) t c numeral)
 
-not_behind : (g : PolicyGraph) (o : ℕ) (ts : List Lexeme) (n c : ℕ) → IsPartColumn o ts n c → n < nodes g → IsPartColumn o ts (nodes g) 0 → ⊥
-not_behind g o ts n c x few y = let e = (columns o ts n c (nodes g) 0 x y).0 in omega (arith, e, few)
+not_after : (g : PolicyGraph) (o : ℕ) (ts : List Lexeme) (n c : ℕ) → IsPartColumn o ts n c → n < nodes g → IsPartColumn o ts (nodes g) 0 → ⊥
+not_after g o ts n c x few y = let e = (columns o ts n c (nodes g) 0 x y).0 in omega (arith, e, few)
 
 other_column : (o : ℕ) (ts : List Lexeme) (n c m : ℕ) → IsPartColumn o ts n c → 0 < c → IsPartColumn o ts m 0 → ⊥
 other_column o ts n c m x begun y = let e = (columns o ts n c m 0 x y).1 in omega (arith, e, begun)
@@ -48,7 +48,7 @@ one_misfit g o ts t (faults.Number a p) (faults.Number b q) x y =
 one_misfit g o ts t (faults.BadShape p) (faults.BadShape q) x y = ap faults.BadShape (x.0 ∙ sym y.0)
 one_misfit g o ts t (faults.ActionMismatch p) (faults.ActionMismatch q) x y = ap faults.ActionMismatch (x.0 ∙ sym y.0)
 one_misfit g o ts t (faults.WrongVectorCount p) (faults.WrongVectorCount q) x y = ap faults.WrongVectorCount (x.0 ∙ sym y.0)
-one_misfit g o ts t _ _ x y = absurd (search (wrong_value, wrong_shape, not_behind, value_or_action, x, y))
+one_misfit g o ts t _ _ x y = absurd (search (wrong_value, wrong_shape, not_after, value_or_action, x, y))
 
 -- what a refusal at the end of a text says
 abbrev EndsFor : ℕ → List ℕ → List Lexeme → Option TokenFault → VectorFault → Type 0

@@ -14,22 +14,22 @@ use Rattle.polcert_policy.specs.Vectors.{Part, tokens_of}
 pub record Printed : Type 0 where
   pub negative : Bool
   pub numeral : List ℕ
-  pub behind : List ℕ
+  pub following : List ℕ
 
 abbrev pub signed_text : Bool → List ℕ → List ℕ
 signed_text true w = 45 ∷ w
 signed_text false w = w
 
 abbrev pub printed_text : Printed → List ℕ
-printed_text u = signed_text u.negative u.numeral ++ u.behind
+printed_text u = signed_text u.negative u.numeral ++ u.following
 
 pub record IsPrinted (u : Printed) : Type 0 where
   pub plain : IsPlain u.numeral
-  pub blank : list_all is_blank u.behind ≡ true
+  pub blank : list_all is_blank u.following ≡ true
   pub first : ℕ
   pub more : List ℕ
-  pub behind_is : u.behind ≡ first ∷ more
-  pub few : length u.behind ≤ 2
+  pub after_is : u.following ≡ first ∷ more
+  pub few : length u.following ≤ 2
 
 abbrev pub texts_of : List Printed → List ℕ
 texts_of [] = []
@@ -55,13 +55,13 @@ word_of false w = plain Numeral w
 
 abbrev pieces : List Printed → List cuts.Printed
 pieces [] = []
-pieces (u ∷ us) = spelled (word_of u.negative u.numeral) u.behind ++ pieces us
+pieces (u ∷ us) = spelled (word_of u.negative u.numeral) u.following ++ pieces us
 
 text_pieces : (us : List Printed) → cuts.text_of (pieces us) ≡ texts_of us
 text_pieces [] = refl
 text_pieces (u ∷ us) =
-    cuts.text-append (spelled (word_of u.negative u.numeral) u.behind) (pieces us)
-    ∙ (λ i. (text_word (word_of u.negative u.numeral) u.behind ∙ ap (λ w. w ++ u.behind) (same u.negative)) i ++ text_pieces us i)
+    cuts.text-append (spelled (word_of u.negative u.numeral) u.following) (pieces us)
+    ∙ (λ i. (text_word (word_of u.negative u.numeral) u.following ∙ ap (λ w. w ++ u.following) (same u.negative)) i ++ text_pieces us i)
   where
     same : (b : Bool) → word_text (word_of b u.numeral) ≡ signed_text b u.numeral
     same true = refl
@@ -70,8 +70,8 @@ text_pieces (u ∷ us) =
 pieces_printed : (us : List Printed) → AllPrinted us → cuts.ArePrinted (pieces us)
 pieces_printed [] a = tt
 pieces_printed (u ∷ us) a =
-    cuts.printed-append (spelled (word_of u.negative u.numeral) u.behind) (pieces us)
-    (word_printed (word_of u.negative u.numeral) u.behind (spelling u.negative) (record { all = a.0.blank; first = a.0.first; more = a.0.more; is = a.0.behind_is }))
+    cuts.printed-append (spelled (word_of u.negative u.numeral) u.following) (pieces us)
+    (word_printed (word_of u.negative u.numeral) u.following (spelling u.negative) (record { all = a.0.blank; first = a.0.first; more = a.0.more; is = a.0.after_is }))
     (pieces_printed us a.1)
   where
     spelling : (b : Bool) → IsSpelling (word_of b u.numeral)
@@ -83,16 +83,16 @@ lexemes_are [] place = refl
 lexemes_are (u ∷ us) place = at u.negative (λ n. lexemes_are us n)
   where
     at : (b : Bool) → ((n : ℕ) → cuts.lexemes_at n (pieces us) ≡ tokens_of (parts_from n us))
-        → cuts.lexemes_at place (spelled (word_of b u.numeral) u.behind ++ pieces us) ≡ tokens_of (part_with place b u.numeral ∷ parts_from (place + length (signed_text b u.numeral ++ u.behind)) us)
+        → cuts.lexemes_at place (spelled (word_of b u.numeral) u.following ++ pieces us) ≡ tokens_of (part_with place b u.numeral ∷ parts_from (place + length (signed_text b u.numeral ++ u.following)) us)
     at true more =
         let s : Lexeme = record { kind = Minus; place = place; bytes = 45 ∷ [] } in
         let t : ℕ → Lexeme = λ n. record { kind = Numeral; place = n; bytes = u.numeral } in
         let numeral : place + 1 + 0 ≡ place + 1 = omega arith in
-        let next : place + 1 + 0 + length u.numeral + length u.behind ≡ place + length (45 ∷ (u.numeral ++ u.behind)) = omega (arith, length-append u.numeral u.behind) in
+        let next : place + 1 + 0 + length u.numeral + length u.following ≡ place + length (45 ∷ (u.numeral ++ u.following)) = omega (arith, length-append u.numeral u.following) in
         λ i. s ∷ t (numeral i) ∷ (ap (λ n. cuts.lexemes_at n (pieces us)) next ∙ more _) i
     at false more =
         let t : Lexeme = record { kind = Numeral; place = place; bytes = u.numeral } in
-        let next : place + length u.numeral + length u.behind ≡ place + length (u.numeral ++ u.behind) = omega (arith, length-append u.numeral u.behind) in
+        let next : place + length u.numeral + length u.following ≡ place + length (u.numeral ++ u.following) = omega (arith, length-append u.numeral u.following) in
         ap (λ ls. t ∷ ls) (ap (λ n. cuts.lexemes_at n (pieces us)) next ∙ more _)
 
 -- the text of the numbers is cut into their tokens

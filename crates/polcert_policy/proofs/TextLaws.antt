@@ -1,14 +1,14 @@
 -- What a refused or accepted list of tokens says of the whole text.
-use Rattle.std.proofs.Common.{◌≡◌, ℕ, None, Result, Ok, Err, List, length, ◌<◌, ◌+◌, ◌*◌, ◌⊎◌, inl, inr, IsErrAnd, MatchResult, IfErr, subst, arith}
-use Rattle.std.proofs.Math.Path.{subst₂, subst₃, subst⁻¹}
+use Rattle.std.proofs.Common.{◌≡◌, ℕ, None, List, length, ◌<◌, ◌+◌, ◌*◌, ◌⊎◌, inl, inr, subst, arith}
+use Rattle.std.proofs.Math.Path.{subst₂, subst₃}
 use Rattle.polcert_text.specs.Cut.{Lexeme, Rest, IsCut, text_rest, text_limit}
 use Rattle.polcert_text.specs.TakenTokens.{Taken}
-use Rattle.polcert_policy.specs.Graphs.{PolicyGraph, IsLooseGraph, IsGraph, IsFirstBeyond, HasNodesOnly, IsPossible}
-use Rattle.polcert_policy.specs.GraphText.{IsGraphText, EndsEarly, HasWrongToken, HasFirstBeyond, IsGraphRefusal, IsNoGraphText, NamesSuccessor, IsRefusedGraphText}
+use Rattle.polcert_policy.specs.Graphs.{PolicyGraph, IsLooseGraph, IsFirstBeyond, HasNodesOnly, IsPossible}
+use Rattle.polcert_policy.specs.GraphText.{EndsEarly, HasWrongToken, HasFirstBeyond, IsGraphRefusal, IsNoGraphText, NamesSuccessor, IsRefusedGraphText}
 use Rattle.polcert_policy.specs.Steps.GraphRead.{IsTokenRefusal, IsEndRefusal, IsUnfinished}
 use Rattle.polcert_policy.specs.declared.fault.GraphFault.{GraphFault}
 use Rattle.polcert_policy.specs.declared.fault.GraphFault.TheVariants as faults
-use Rattle.polcert_policy.proofs.FlatGraphs.{IsIndexedText, indexed, graph_text}
+use Rattle.polcert_policy.proofs.FlatGraphs.{IsIndexedText, indexed}
 use Rattle.polcert_policy.proofs.GraphLaws.{one_loose}
 use Rattle.polcert_policy.proofs.Places.{order, same_row, same_column}
 use Rattle.polcert_policy.proofs.WholeTexts.{not_stopped, same_tokens, no_token_fault}
@@ -113,28 +113,3 @@ pub end_refused : (a o b p : ℕ) (text : List ℕ) (ts : List Lexeme) (end : �
     → a ≡ b → o ≡ p → IsCut (text_rest text text_limit) ts None → end ≡ length text → IsEndRefusal a o ts end fault → IsRefusedGraphText b p fault text
 end_refused a o b p text ts end fault ea eo cut place h =
     refused_text b p text fault (end_refusal b p text ts fault cut (subst₃ (λ x y n. IsEndRefusal x y ts n fault) ea eo place h))
-
--- what an answer says of a text in memory
-pub record IsAnswered (a o : ℕ) (text : List ℕ) (r : Result PolicyGraph GraphFault) : Type 0 where
-  pub accepted : MatchResult r (IsGraphText a o text) (IsNoGraphText a o text)
-  pub refused : IfErr r (IsGraphRefusal a o text)
-  pub beyond : (n z : ℕ) → HasFirstBeyond a o text n z → IsErrAnd r (NamesSuccessor n z)
-
-pub refusal_answered : (a o : ℕ) (text : List ℕ) (fault : GraphFault) → IsGraphRefusal a o text fault → IsAnswered a o text (Err fault)
-refusal_answered a o text fault r =
-    record { accepted = no_graph a o text fault r; refused = r; beyond = beyond_named a o text fault r }
-
--- a refusal that is handed on
-pub handed_on : (a o : ℕ) (text : List ℕ) (r : Result PolicyGraph GraphFault) (given : GraphFault) → IsErrAnd r (λ fault. fault ≡ given)
-    → IsGraphRefusal a o text given → IsAnswered a o text r
-handed_on a o text (Ok g) given is refusal = absurd is
-handed_on a o text (Err fault) given is refusal = subst⁻¹ (λ f. IsAnswered a o text (Err f)) is (refusal_answered a o text given refusal)
-
--- what the end of the text makes of what was read
-pub end_answered : (a o b p : ℕ) (text : List ℕ) (ts : List Lexeme) (r : Result PolicyGraph GraphFault)
-    → a ≡ b → o ≡ p → IsCut (text_rest text text_limit) ts None → MatchResult r (IsGraph a o ts) (IsEndRefusal a o ts (length text)) → IsAnswered b p text r
-end_answered a o b p text ts r ea eo cut h = subst₂ (λ x y. IsAnswered x y text r) ea eo (at r h)
-  where
-    at : (r : Result PolicyGraph GraphFault) → MatchResult r (IsGraph a o ts) (IsEndRefusal a o ts (length text)) → IsAnswered a o text r
-    at (Ok g) h = record { accepted = graph_text a o text g ts cut h; refused = tt; beyond = λ n z other. none_beyond a o text g (ts, cut, h) n z other }
-    at (Err fault) h = refusal_answered a o text fault (end_refusal a o text ts fault cut h)

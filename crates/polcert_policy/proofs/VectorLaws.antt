@@ -52,10 +52,10 @@ front_parts (p ∷ ps) (q ∷ qs) more a b e = at (λ f. front_parts ps qs more 
     at onward (Some s) None sx sy e =
         absurd (not_sign s q.token (head_of s q.token _ _ e) ((a 0 p refl).signed s sx) (b 0 q refl).numeral)
     at onward (Some s) (Some t) sx sy e =
-        let behind = tail_of s t _ _ e in
-        let tokens = head_of p.token q.token _ _ behind in
+        let following = tail_of s t _ _ e in
+        let tokens = head_of p.token q.token _ _ following in
         let signs = sx ∙ ap Some (head_of s t _ _ e) ∙ sym sy in
-        next (λ i. record { sign = signs i; token = tokens i }) (onward (tail_of p.token q.token _ _ behind))
+        next (λ i. record { sign = signs i; token = tokens i }) (onward (tail_of p.token q.token _ _ following))
 
 whole_numeral : (k : TokenKind) (b : Bool) → (numeral_kind k && b) ≡ true → numeral_kind k ≡ true
 whole_numeral Numeral b e = refl

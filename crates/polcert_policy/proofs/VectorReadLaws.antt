@@ -11,7 +11,7 @@ use Rattle.polcert_policy.specs.Fields.{numeral_kind, minus_kind, is_whole, whol
 use Rattle.polcert_policy.specs.Graphs.{PolicyGraph, nodes, action_of, IsProperGraph}
 use Rattle.polcert_policy.specs.Vectors.{PolicyVectors, Part, sign_kind, with_sign, tokens_of, is_negative, IsPart, IsActionPart, IsValuePart, AreVectors, IsRoundedVectors, ArePossible}
 use Rattle.polcert_policy.specs.VectorText.{numbers, IsPartColumn, last_sign, number_place, is_part_shaped, IsPartMisfit, StopVectorsFor}
-use Rattle.polcert_policy.specs.Steps.VectorsRead.{AreVectorsUpTo, open_of, kept_sign, place_behind, is_minus, HasVectors, IsPartRefusal, CheckedAction, AdvancedValue}
+use Rattle.polcert_policy.specs.Steps.VectorsRead.{AreVectorsUpTo, open_of, kept_sign, place_after, is_minus, HasVectors, IsPartRefusal, CheckedAction, AdvancedValue}
 use Rattle.polcert_policy.specs.declared.fault.VectorFault.{VectorFault}
 use Rattle.polcert_policy.specs.declared.fault.VectorFault.TheVariants as faults
 use Rattle.polcert_policy.specs.declared.vectors_reading.OpenSign.{OpenSign}
@@ -19,8 +19,8 @@ use Rattle.polcert_policy.specs.declared.vectors_reading.VectorsReading.{Vectors
 use Rattle.polcert_policy.proofs.Places.{true_false, some_none, same_some}
 use Rattle.polcert_policy.proofs.Fillers.{signed_zero, signed_zero_value}
 use Rattle.polcert_policy.proofs.VectorLaws.{head_of, tail_of, cons_not_nil, not_sign, AreParts, front_parts, vector_parts}
-use Rattle.polcert_policy.proofs.VectorSteps.{FitsVectors, no_vectors, value_read, step_vector_action, step_value, some_behind, needed_part, can_end, possible_parts, tokens-append}
-use Rattle.polcert_policy.proofs.GraphLaws.{IsBehind}
+use Rattle.polcert_policy.proofs.VectorSteps.{FitsVectors, no_vectors, value_read, step_vector_action, step_value, some_after, needed_part, can_end, possible_parts, tokens-append}
+use Rattle.polcert_policy.proofs.GraphLaws.{IsAfter}
 use Rattle.polcert_text.specs.declared.number.Rounding.{Rounding}
 
 pub drop_same : {X : Type 0} (xs ys zs : List X) → xs ++ ys ≡ xs ++ zs → ys ≡ zs
@@ -39,13 +39,13 @@ sign_no_numeral Numeral e = cc
 sign_no_numeral _ e = refl
 
 -- a numeral before tokens that end in no sign
-behind_numeral : (t : Lexeme) (us : List Lexeme) → numeral_kind t.kind ≡ true → last_sign us ≡ None → last_sign (t ∷ us) ≡ None
-behind_numeral t [] numeral e = ap (λ b. if b then Some t else None) (numeral_no_sign t.kind numeral)
-behind_numeral t (u ∷ us) numeral e = e
+after_numeral : (t : Lexeme) (us : List Lexeme) → numeral_kind t.kind ≡ true → last_sign us ≡ None → last_sign (t ∷ us) ≡ None
+after_numeral t [] numeral e = ap (λ b. if b then Some t else None) (numeral_no_sign t.kind numeral)
+after_numeral t (u ∷ us) numeral e = e
 
-behind_open : (u s : Lexeme) (ts : List Lexeme) → last_sign (ts ++ s ∷ []) ≡ Some s → last_sign (u ∷ (ts ++ s ∷ [])) ≡ Some s
-behind_open u s [] was = was
-behind_open u s (t ∷ ts) was = was
+after_open : (u s : Lexeme) (ts : List Lexeme) → last_sign (ts ++ s ∷ []) ≡ Some s → last_sign (u ∷ (ts ++ s ∷ [])) ≡ Some s
+after_open u s [] was = was
+after_open u s (t ∷ ts) was = was
 
 -- the sign that ends what was read
 last_open : (ps : List Part) (sign : Option Lexeme) → AreParts ps → ((s : Lexeme) → sign ≡ Some s → sign_kind s.kind ≡ true) → last_sign (tokens_of ps ++ open_of sign) ≡ sign
@@ -54,8 +54,8 @@ last_open [] (Some s) parts is = ap (λ b. if b then Some s else None) (is s ref
 last_open (p ∷ ps) sign parts is = at p.sign sign (last_open ps sign (λ k. parts (suc k)) is)
   where
     first : (u : Option Lexeme) → last_sign (tokens_of ps ++ open_of u) ≡ u → last_sign (p.token ∷ (tokens_of ps ++ open_of u)) ≡ u
-    first None was = behind_numeral p.token (tokens_of ps ++ []) (parts 0 p refl).numeral was
-    first (Some s) was = behind_open p.token s (tokens_of ps) was
+    first None was = after_numeral p.token (tokens_of ps ++ []) (parts 0 p refl).numeral was
+    first (Some s) was = after_open p.token s (tokens_of ps) was
 
     at : (u v : Option Lexeme) → last_sign (tokens_of ps ++ open_of v) ≡ v → last_sign ((with_sign u p.token ++ tokens_of ps) ++ open_of v) ≡ v
     at None v was = first v was
@@ -80,7 +80,7 @@ numbers_of (p ∷ ps) sign parts is = at p.sign refl (numbers_of ps sign (λ k. 
     at None e was = one ∙ ap suc was
     at (Some s) e was = no_number s (p.token ∷ (tokens_of ps ++ open_of sign)) (sign_no_numeral s.kind ((parts 0 p refl).signed s e)) ∙ one ∙ ap suc was
 
-open_place : (sign : Option Lexeme) (t : Lexeme) → place_behind (option_map kept_sign sign) t.place ≡ number_place sign t
+open_place : (sign : Option Lexeme) (t : Lexeme) → place_after (option_map kept_sign sign) t.place ≡ number_place sign t
 open_place None t = refl
 open_place (Some s) t = refl
 
@@ -124,8 +124,8 @@ pub record NextPart (way : Rounding) (g : PolicyGraph) (o : ℕ) (ps : List Part
   pub count : length ps + suc (length rest) ≡ nodes g * (1 + o)
 
 -- no vectors continue so
-abbrev GoesOn : Rounding → PolicyGraph → ℕ → List Part → Option Lexeme → Lexeme → Type 0
-GoesOn way g o ps sign t = (more : List Lexeme) (v : PolicyVectors) → IsRoundedVectors way g o (tokens_of ps ++ (with_sign sign t ++ more)) v → ⊥
+abbrev Continues : Rounding → PolicyGraph → ℕ → List Part → Option Lexeme → Lexeme → Type 0
+Continues way g o ps sign t = (more : List Lexeme) (v : PolicyVectors) → IsRoundedVectors way g o (tokens_of ps ++ (with_sign sign t ++ more)) v → ⊥
 
 module _ {way : Rounding} where
   pub next_part : (g : PolicyGraph) (o : ℕ) (ps : List Part) (node column : ℕ) (vs : List ℤ) (x : Lexeme) (more : List Lexeme) (v : PolicyVectors)
@@ -199,7 +199,7 @@ module _ {way : Rounding} where
       signed s is kind begun =
           let zero = signed_zero s in
           let old : AreVectorsUpTo way g r.states h.parts r.node (1 + (r.column - 1)) r.values.items = value_read g r.states h.parts r.node r.column r.values.items begun h.vectors in
-          let next = some_behind r.states r.node (r.column - 1) (omega (arith, old.within)) in
+          let next = some_after r.states r.node (r.column - 1) (omega (arith, old.within)) in
           let more = filled _ _ _ _ (step_value g r.states h.parts zero (pos 0) r.node (r.column - 1) next.0 next.1.0 r.values.items old (signed_zero_value s kind) next.1.1) in
           let tokens : tokens_of (h.parts ++ zero ∷ []) ++ more.0 ≡ (tokens_of h.parts ++ s ∷ []) ++ (zero.token ∷ more.0) =
           ap (λ ts. ts ++ more.0) (tokens-append h.parts (zero ∷ [])) ∙ append_assoc (tokens_of h.parts) (s ∷ zero.token ∷ []) more.0 ∙ sym (append_assoc (tokens_of h.parts) (s ∷ []) (zero.token ∷ more.0)) in
@@ -223,8 +223,8 @@ module _ {way : Rounding} where
     last_seen : last_sign seen ≡ h.sign
     last_seen = ap last_sign h.spelled ∙ last_open h.parts h.sign (vector_parts g r.states h.parts r.values.items h.vectors.records) (λ s e. (h.signed s e).0)
 
-    place_seen : (place : ℕ) → place ≡ place_behind r.sign t.place → place ≡ number_place (last_sign seen) t
-    place_seen place e = e ∙ ap (λ u. place_behind u t.place) h.kept ∙ open_place h.sign t ∙ ap (λ s. number_place s t) (sym last_seen)
+    place_seen : (place : ℕ) → place ≡ place_after r.sign t.place → place ≡ number_place (last_sign seen) t
+    place_seen place e = e ∙ ap (λ u. place_after u t.place) h.kept ∙ open_place h.sign t ∙ ap (λ s. number_place s t) (sym last_seen)
 
     column_at : (c : ℕ) → r.column ≡ c → IsPartColumn r.states seen r.node c
     column_at c e = subst (λ x. IsPartColumn r.states seen r.node x) e (column_read g seen r h)
@@ -232,7 +232,7 @@ module _ {way : Rounding} where
     value_column : 0 < r.column → IsPartColumn r.states seen r.node (suc (r.column - 1))
     value_column begun = column_at (suc (r.column - 1)) (omega (arith, begun))
 
-    stop_seen : (fault : VectorFault) → IsPartMisfit g r.states seen t fault → GoesOn way g r.states h.parts h.sign t → StopVectorsFor way g r.states (seen ++ t ∷ []) fault
+    stop_seen : (fault : VectorFault) → IsPartMisfit g r.states seen t fault → Continues way g r.states h.parts h.sign t → StopVectorsFor way g r.states (seen ++ t ∷ []) fault
     stop_seen fault misfit none = record {
       before = seen;
       token = t;
@@ -277,17 +277,17 @@ module _ {way : Rounding} where
         above m n l = grind (arith, l)
     refuse_vector_action (faults.BadShape place) e c =
         stop_action (faults.BadShape place) e
-        (place_seen place (c.0 ∙ ap (λ u. place_behind u t.place) (sym (closed_sign g seen r h e))), (r.node, (0, column_at 0 e, c.1, c.2)))
+        (place_seen place (c.0 ∙ ap (λ u. place_after u t.place) (sym (closed_sign g seen r h e))), (r.node, (0, column_at 0 e, c.1, c.2)))
         (λ more v n. true_false (action_next v.values more e n).0 c.2)
     refuse_vector_action (faults.ActionMismatch place) e c =
         stop_action (faults.ActionMismatch place) e (c.0, (r.node, column_at 0 e, c.1, c.2, c.3)) (λ more v n. c.3 (action_next v.values more e n).1)
     refuse_vector_action _ e c = absurd c
 
     -- a token that is neither a numeral nor a first sign
-    pub refuse_other : (place : ℕ) → 0 < r.column → place ≡ place_behind r.sign t.place → numeral_kind t.kind ≡ false → sign_kind t.kind ≡ false → StopVectorsFor way g r.states (seen ++ t ∷ []) (faults.BadShape place)
+    pub refuse_other : (place : ℕ) → 0 < r.column → place ≡ place_after r.sign t.place → numeral_kind t.kind ≡ false → sign_kind t.kind ≡ false → StopVectorsFor way g r.states (seen ++ t ∷ []) (faults.BadShape place)
     refuse_other place begun e no_numeral no_sign =
         stop_seen (faults.BadShape place) (place_seen place e, (r.node, (suc (r.column - 1), value_column begun, h.vectors.few_begun begun, shape (last_sign seen))))
-        (by_sign g seen r h (λ sign. GoesOn way g r.states h.parts sign t) (λ more v all. number_begins g r.states h.parts r.node r.column v.values t more no_numeral no_sign (next t more v all))
+        (by_sign g seen r h (λ sign. Continues way g r.states h.parts sign t) (λ more v all. number_begins g r.states h.parts r.node r.column v.values t more no_numeral no_sign (next t more v all))
         (λ s is kind begun more v all.
         let n = next s (t ∷ more) v all in
         let p = signed_part g r.states h.parts r.node r.column v.values s t more kind n in
@@ -302,14 +302,14 @@ module _ {way : Rounding} where
     refuse_second_sign u begun e sign =
         let open_one = sym e ∙ h.kept in
         stop_seen (faults.BadShape u.place)
-        (place_seen u.place (ap (λ x. place_behind x t.place) (sym e)), (r.node, (suc (r.column - 1), value_column begun, h.vectors.few_begun begun, subst⁻¹ (λ s. is_part_shaped (suc (r.column - 1)) s t ≡ false) last_seen (shape h.sign open_one))))
+        (place_seen u.place (ap (λ x. place_after x t.place) (sym e)), (r.node, (suc (r.column - 1), value_column begun, h.vectors.few_begun begun, subst⁻¹ (λ s. is_part_shaped (suc (r.column - 1)) s t ≡ false) last_seen (shape h.sign open_one))))
         (at h.sign h.signed open_one)
       where
         shape : (s : Option Lexeme) → Some u ≡ option_map kept_sign s → is_part_shaped (suc (r.column - 1)) s t ≡ false
         shape None is = absurd (some_none u (sym is))
         shape (Some s) is = sign_no_numeral t.kind sign
 
-        at : (sign : Option Lexeme) → ((s : Lexeme) → sign ≡ Some s → (sign_kind s.kind ≡ true) × (0 < r.column)) → Some u ≡ option_map kept_sign sign → GoesOn way g r.states h.parts sign t
+        at : (sign : Option Lexeme) → ((s : Lexeme) → sign ≡ Some s → (sign_kind s.kind ≡ true) × (0 < r.column)) → Some u ≡ option_map kept_sign sign → Continues way g r.states h.parts sign t
         at None signed is = absurd (some_none u (sym is))
         at (Some s) signed is = λ more v all.
             let n = next s (t ∷ more) v all in
@@ -317,10 +317,10 @@ module _ {way : Rounding} where
             not_sign t n.part.token p.1 sign n.is_part.numeral
 
     -- a numeral that can't be read
-    pub refuse_numeral : (fault : NumberFault) (place : ℕ) → 0 < r.column → place ≡ place_behind r.sign t.place → numeral_kind t.kind ≡ true → IsRefused t.bytes fault → StopVectorsFor way g r.states (seen ++ t ∷ []) (faults.Number fault place)
+    pub refuse_numeral : (fault : NumberFault) (place : ℕ) → 0 < r.column → place ≡ place_after r.sign t.place → numeral_kind t.kind ≡ true → IsRefused t.bytes fault → StopVectorsFor way g r.states (seen ++ t ∷ []) (faults.Number fault place)
     refuse_numeral fault place begun e numeral refused =
         stop_seen (faults.Number fault place) (place_seen place e, (r.node, (r.column - 1, value_column begun)), numeral, refused)
-        (by_sign g seen r h (λ sign. GoesOn way g r.states h.parts sign t)
+        (by_sign g seen r h (λ sign. Continues way g r.states h.parts sign t)
         (λ more v all. let n = next t more v all in unreadable n.part v.values n.fits (unsigned_part g r.states h.parts r.node r.column v.values t more numeral n).1)
         (λ s is kind begun more v all.
         let n = next s (t ∷ more) v all in
@@ -376,12 +376,12 @@ module _ {way : Rounding} where
         readable = readable;
         rounded = subst (λ b. IsRounded way b t.bytes value) (ap is_minus h.kept ∙ open_minus h.sign) rounded;
       } in
-      let behind : IsBehind 1 old.states old.node (old.column - 1) new.node new.column = record {
+      let following : IsAfter 1 old.states old.node (old.column - 1) new.node new.column = record {
         inside = λ l. let is = next.inside (omega (arith, l, states, column, begun)) in (is.0 ∙ node, omega (arith, is.1, column, begun));
         last = λ f. let is = next.last (omega (arith, f, states, column, begun)) in (omega (arith, is.0, node), is.1);
       } in
       let at = value_read g old.states h.parts old.node old.column old.values.items begun h.vectors in
-      let stepped = step_value g old.states h.parts p value old.node (old.column - 1) new.node new.column old.values.items at part behind in
+      let stepped = step_value g old.states h.parts p value old.node (old.column - 1) new.node new.column old.values.items at part following in
       record {
         proper = h.proper;
         parts = h.parts ++ p ∷ [];

@@ -1,16 +1,16 @@
 -- What a refused or accepted list of tokens says of the whole text of vectors.
-use Rattle.std.proofs.Common.{◌≡◌, ℕ, inl, inr, ⊎_elim, None, Result, Ok, Err, List, length, IsErrAnd, MatchResult, IfErr, subst}
-use Rattle.std.proofs.Math.Path.{subst₂, subst⁻¹}
+use Rattle.std.proofs.Common.{◌≡◌, ℕ, inl, inr, ⊎_elim, None, List, length, subst}
+use Rattle.std.proofs.Math.Path.{subst₂}
 use Rattle.polcert_text.specs.Cut.{Lexeme, Rest, IsCut, text_rest, text_limit}
 use Rattle.polcert_text.specs.TakenTokens.{Taken}
 use Rattle.polcert_text.specs.declared.number.Rounding.{Rounding}
 use Rattle.polcert_policy.specs.Graphs.{PolicyGraph}
 use Rattle.polcert_policy.specs.Vectors.{PolicyVectors, IsRoundedVectors}
-use Rattle.polcert_policy.specs.VectorText.{IsRoundedVectorsText, EndVectorsEarly, HasWrongPart, IsRoundedVectorsRefusal, IsNoRoundedVectorsText, IsRefusedRoundedVectorsText}
+use Rattle.polcert_policy.specs.VectorText.{EndVectorsEarly, HasWrongPart, IsRoundedVectorsRefusal, IsNoRoundedVectorsText, IsRefusedRoundedVectorsText}
 use Rattle.polcert_policy.specs.Steps.VectorsRead.{IsPartRefusal, AreEndRefusal, AreUnfinished}
 use Rattle.polcert_policy.specs.declared.fault.VectorFault.{VectorFault}
 use Rattle.polcert_policy.specs.declared.fault.VectorFault.TheVariants as faults
-use Rattle.polcert_policy.proofs.FlatVectors.{indexed, vectors_text}
+use Rattle.polcert_policy.proofs.FlatVectors.{indexed}
 use Rattle.polcert_policy.proofs.WholeTexts.{not_stopped, same_tokens, no_token_fault}
 
 module _ (way : Rounding) where
@@ -56,29 +56,6 @@ module _ (way : Rounding) where
     -- all that is promised of a refusal
     pub refused_text : (fault : VectorFault) → IsRoundedVectorsRefusal way g o text fault → IsRefusedRoundedVectorsText way g o fault text
     refused_text fault r = record { no_vectors = no_vectors fault r; refusal = r }
-
-    -- what an answer says of a text in memory
-    pub record AreAnswered (r : Result PolicyVectors VectorFault) : Type 0 where
-      pub accepted : MatchResult r (IsRoundedVectorsText way g o text) (IsNoRoundedVectorsText way g o text)
-      pub refused : IfErr r (IsRoundedVectorsRefusal way g o text)
-
-    pub refusal_answered : (fault : VectorFault) → IsRoundedVectorsRefusal way g o text fault → AreAnswered (Err fault)
-    refusal_answered fault r = record { accepted = no_vectors fault r; refused = r }
-
-    -- a refusal that is handed on
-    pub handed_on : (r : Result PolicyVectors VectorFault) (given : VectorFault) → IsErrAnd r (λ fault. fault ≡ given)
-        → IsRoundedVectorsRefusal way g o text given → AreAnswered r
-    handed_on (Ok v) given is refusal = absurd is
-    handed_on (Err fault) given is refusal = subst⁻¹ (λ f. AreAnswered (Err f)) is (refusal_answered given refusal)
-
-  -- what the end of the text makes of what was read
-  pub end_answered : (g : PolicyGraph) (o p : ℕ) (text : List ℕ) (ts : List Lexeme) (r : Result PolicyVectors VectorFault)
-      → o ≡ p → IsCut (text_rest text text_limit) ts None → MatchResult r (IsRoundedVectors way g o ts) (AreEndRefusal way g o ts (length text)) → AreAnswered g p text r
-  end_answered g o p text ts r e cut h = subst (λ x. AreAnswered g x text r) e (at r h)
-    where
-      at : (r : Result PolicyVectors VectorFault) → MatchResult r (IsRoundedVectors way g o ts) (AreEndRefusal way g o ts (length text)) → AreAnswered g o text r
-      at (Ok v) h = record { accepted = vectors_text way g o text v ts cut h; refused = tt }
-      at (Err fault) h = refusal_answered g o text fault (end_refusal g o text ts cut fault h)
 
   pub end_refused : (g : PolicyGraph) (o p : ℕ) (text : List ℕ) (ts : List Lexeme) (end : ℕ) (fault : VectorFault)
       → o ≡ p → IsCut (text_rest text text_limit) ts None → end ≡ length text → AreEndRefusal way g o ts end fault → IsRefusedRoundedVectorsText way g p fault text

@@ -13,8 +13,8 @@ module _ {V : Type 0} (IsRight : List Lexeme → V → Type 0) (text : List ℕ)
   pub not_stopped : (ts : List Lexeme) (rest : Rest) → Taken (text_rest text text_limit) ts rest
       → ((more : List Lexeme) × ((w : V) × IsRight (ts ++ more) w) → ⊥) → ⊥
   not_stopped ts rest taken none =
-      let behind = cut_taken _ rest ts all None taken cut in
-      none (behind.0, (v, subst (λ xs. IsRight xs v) behind.1.0 right))
+      let following = cut_taken _ rest ts all None taken cut in
+      none (following.0, (v, subst (λ xs. IsRight xs v) following.1.0 right))
 
   -- its tokens are right, whatever cut of it they are
   pub same_tokens : (ts : List Lexeme) → IsCut (text_rest text text_limit) ts None → IsRight ts v

@@ -8,11 +8,11 @@ use Rattle.polcert_policy.specs.Graphs.{PolicyGraph, nodes, action_of}
 use Rattle.polcert_policy.specs.Vectors.{PolicyVectors, value_of}
 
 -- what stands after the value of state s: a blank, or after the last value a line end and an empty line
-abbrev pub behind_value : ℕ → ℕ → List ℕ
-behind_value states s = if suc s == states then codes "\n\n" else codes " "
+abbrev pub after_value : ℕ → ℕ → List ℕ
+after_value states s = if suc s == states then codes "\n\n" else codes " "
 
 abbrev pub value_text : PolicyVectors → ℕ → ℕ → List ℕ
-value_text v n s = scaled_text (value_of v n s) ++ behind_value v.states s
+value_text v n s = scaled_text (value_of v n s) ++ after_value v.states s
 
 -- the values of node n at the first states, so many
 abbrev pub values_text : PolicyVectors → ℕ → ℕ → List ℕ

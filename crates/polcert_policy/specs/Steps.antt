@@ -2,4 +2,3 @@
 pub mod GraphRead
 pub mod Kept
 pub mod VectorsRead
-pub mod VectorsAhead

@@ -3,7 +3,7 @@ use Rattle.std.specs.Prelude.{◌≡◌, List, [], ◌∷◌, ◌++◌}
 use Rattle.polcert_text.specs.Cut.{Lexeme}
 
 -- The tokens but for the last are possible, and with the last they aren't, for this reason.
-pub record StopFor (IsPossible : List Lexeme → Type 0) (IsWrong : List Lexeme → Lexeme → Type 0) (tokens : List Lexeme) : Type 0 where
+pub record FirstBadToken (IsPossible : List Lexeme → Type 0) (IsWrong : List Lexeme → Lexeme → Type 0) (tokens : List Lexeme) : Type 0 where
   pub before : List Lexeme
   pub token : Lexeme
   pub spelled : tokens ≡ before ++ token ∷ []

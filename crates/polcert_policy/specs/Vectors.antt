@@ -13,7 +13,7 @@ use Rattle.polcert_text.specs.declared.number.Rounding.{Rounding}
 use Rattle.polcert_text.specs.declared.number.Rounding.TheVariants.{Down}
 use Rattle.polcert_text.specs.declared.lexeme.TokenKind.{TokenKind}
 use Rattle.polcert_text.specs.declared.lexeme.TokenKind.TheVariants.{Numeral, Plus, Minus}
-use Rattle.polcert_cells.specs.Numbers.{IsWhole}
+use Rattle.polcert_cells.specs.Numbers.{IsWhole, IsNumeral}
 use Rattle.polcert_policy.specs.Fields.{numeral_kind, minus_kind, is_whole, whole_of}
 use Rattle.polcert_cells.specs.Elements.{most_states}
 use Rattle.polcert_policy.specs.Graphs.{PolicyGraph, nodes, action_of, most_nodes}
@@ -27,19 +27,13 @@ pub record PolicyVectors : Type 0 where
 abbrev pub value_of : PolicyVectors → ℕ → ℕ → ℤ
 value_of v n s = slice_index_or v.values (n * v.states + s) (pos 0)
 
--- the numeral, with this sign, is this value in millionths, rounded this way
-pub record IsRoundedNumeral (rounding : Rounding) (negative : Bool) (t : Lexeme) (h : ℤ) : Type 0 where
-  pub kind : t.kind ≡ Numeral
-  pub readable : IsReadable t.bytes
-  pub rounded : IsRounded rounding negative t.bytes h
-
--- The tokens are these fields, one after another: an action (`inl`), of digits only, or a value (`inr`), perhaps after a sign.
+-- The tokens are these fields, one after another: an action (`inl`), of digits only, or a value (`inr`), perhaps after a sign, rounded this way.
 pub data AreFields (rounding : Rounding) : List Lexeme → List (ℕ ⊎ ℤ) → Type 0 where
   none : AreFields rounding [] []
   action : {t : Lexeme} {ts : List Lexeme} {a : ℕ} {fs : List (ℕ ⊎ ℤ)} → IsWhole t a → AreFields rounding ts fs → AreFields rounding (t ∷ ts) (inl a ∷ fs)
-  unsigned : {t : Lexeme} {ts : List Lexeme} {h : ℤ} {fs : List (ℕ ⊎ ℤ)} → IsRoundedNumeral rounding false t h → AreFields rounding ts fs → AreFields rounding (t ∷ ts) (inr h ∷ fs)
-  plus : {s t : Lexeme} {ts : List Lexeme} {h : ℤ} {fs : List (ℕ ⊎ ℤ)} → s.kind ≡ Plus → IsRoundedNumeral rounding false t h → AreFields rounding ts fs → AreFields rounding (s ∷ t ∷ ts) (inr h ∷ fs)
-  minus : {s t : Lexeme} {ts : List Lexeme} {h : ℤ} {fs : List (ℕ ⊎ ℤ)} → s.kind ≡ Minus → IsRoundedNumeral rounding true t h → AreFields rounding ts fs → AreFields rounding (s ∷ t ∷ ts) (inr h ∷ fs)
+  unsigned : {t : Lexeme} {ts : List Lexeme} {h : ℤ} {fs : List (ℕ ⊎ ℤ)} → IsNumeral (IsRounded rounding) false t h → AreFields rounding ts fs → AreFields rounding (t ∷ ts) (inr h ∷ fs)
+  plus : {s t : Lexeme} {ts : List Lexeme} {h : ℤ} {fs : List (ℕ ⊎ ℤ)} → s.kind ≡ Plus → IsNumeral (IsRounded rounding) false t h → AreFields rounding ts fs → AreFields rounding (s ∷ t ∷ ts) (inr h ∷ fs)
+  minus : {s t : Lexeme} {ts : List Lexeme} {h : ℤ} {fs : List (ℕ ⊎ ℤ)} → s.kind ≡ Minus → IsNumeral (IsRounded rounding) true t h → AreFields rounding ts fs → AreFields rounding (s ∷ t ∷ ts) (inr h ∷ fs)
 
 -- the fields of vector n: the action of its node, and a value for each state
 abbrev pub vector_fields : PolicyGraph → PolicyVectors → ℕ → List (ℕ ⊎ ℤ)

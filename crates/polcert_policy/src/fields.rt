@@ -6,9 +6,10 @@ ghost use Rattle.polcert_policy.specs.Steps.Kept.{cap, kept_of};
 
 use polcert_text::{Token, TokenKind, whole_number};
 
-const CAP: usize = 1_000_000;
+/// Larger numbers are kept as this, until the number of nodes is known.
+pub const CAP: usize = 1_000_000;
 
-/// The number of a numeral of digits only, or a million where it is greater.
+/// Returns the number of a numeral of digits only, at most a million.
 pub fn whole_of(token: Token<'_>) -> Option<usize>
     ensures { let t = lexeme_of token.entry in MatchOption result (is_whole t ≡ false)
         (λ n. (is_whole t ≡ true) × (n ≡ min cap (whole_of t))) }
@@ -28,7 +29,7 @@ fn is_x(bytes: &[u8]) -> bool
     }
 }
 
-/// The successor that the token names, as far as it is one.
+/// Returns the successor that the token names, if it is one.
 pub fn successor_of(token: Token<'_>) -> Option<Option<usize>>
     ensures { let t = lexeme_of token.entry in MatchOption result (is_successor t ≡ false)
         (λ s. (is_successor t ≡ true) × (s ≡ kept_of (successor_of t))) }

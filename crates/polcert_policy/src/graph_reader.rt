@@ -12,18 +12,19 @@ ghost use Rattle.polcert_policy.specs.Steps.GraphRead.{IsRead, IsTokenRefusal, I
 use crate::fault::GraphFault;
 use crate::fields::{successor_of, whole_of};
 use crate::graph::Graph;
+use crate::graph_ahead::read_ahead;
 use crate::graph_reading::{GraphReading, MinusSign};
 use crate::growth::push;
 use crate::successor::Successor;
 use polcert_text::{
-    Source, SourceFault, StreamFault, StreamTokens, TEXT_LIMIT, Token, TokenKind, Tokens,
+    SliceSource, Source, SourceFault, StreamFault, StreamTokens, TEXT_LIMIT, Token, TokenKind,
 };
-use std::alloc::Global;
+use std::alloc::{AllocError, Global};
 
 const MOST_NODES: usize = 10_000;
 
 impl MinusSign {
-    /// Whether a numeral follows directly.
+    /// Tests whether a numeral follows directly.
     fn is_joined(self, token: Token<'_>) -> bool
         ensures { (s : Lexeme) → minus_kind s.kind ≡ true → self.stop ≡ s.place + length s.bytes
             → result ≡ is_joined s (lexeme_of token.entry) }
@@ -35,7 +36,7 @@ impl MinusSign {
     }
 }
 
-/// The token's places, if it is a `-`.
+/// Returns the places of the token, if it is a `-`.
 fn minus_of(token: Token<'_>) -> Option<MinusSign>
     ensures { MinusOf (lexeme_of token.entry) token.entry.stop result }
 {
@@ -68,7 +69,7 @@ impl GraphReading {
         }
     }
 
-    /// The token in place of the node's number.
+    /// Checks the token in place of the node's number.
     fn check_number(&self, token: Token<'_>) -> Result<(), GraphFault>
         ensures { CheckedNumber self.now.node (lexeme_of token.entry) result }
     {
@@ -87,7 +88,7 @@ impl GraphReading {
         }
     }
 
-    /// The token in place of the node's action.
+    /// Returns the action that the token in its place names.
     fn action_of(&self, token: Token<'_>) -> Result<usize, GraphFault>
         ensures { ReadAction self.now.actions (lexeme_of token.entry) result }
     {
@@ -104,7 +105,7 @@ impl GraphReading {
     }
 
     /// Continues to the place of the next token.
-    fn advance(&mut self)
+    pub(crate) fn advance(&mut self)
         requires { 0 < self.old.column ⊎ self.old.node < most_nodes }
         ensures { Advanced self.old self.new }
     {
@@ -194,7 +195,7 @@ impl GraphReading {
         Ok(())
     }
 
-    /// The graph, if the text ends here.
+    /// Returns the graph, if the text ends here.
     fn finish(self, end: u64) -> Result<Graph, GraphFault>
         requires { (seen : List Lexeme) × IsRead seen self }
         ensures { (seen : List Lexeme) → IsRead seen self → MatchResult result
@@ -222,7 +223,7 @@ impl GraphReading {
     }
 }
 
-/// Where the first successor stands that isn't below the count.
+/// Returns the place of the first successor that is not below the count.
 fn first_beyond(successors: &[Successor], count: usize) -> Option<usize>
     ensures { MatchOption result (AllBelow count successors.now) (IsFirstBeyondAt count successors.now) }
 {
@@ -262,15 +263,12 @@ pub fn read_graph(
     ensures beyond { (n z : ℕ) → HasFirstBeyond actions observations text.now n z →
         IsErrAnd result (NamesSuccessor n z) }
 {
-    let mut tokens = Tokens::new(text, TEXT_LIMIT);
-    let mut reading = GraphReading::new(alloc, actions, observations);
-    while let Some(next) = tokens.next_token() {
-        match next {
-            Ok(token) => reading.take(token)?,
-            Err(fault) => return Err(GraphFault::Token(fault)),
-        }
+    let mut source = SliceSource::new(text);
+    match read_graph_from(alloc, &mut source, actions, observations) {
+        Ok(graph) => Ok(graph),
+        Err(SourceFault::Refused(fault)) => Err(fault),
+        Err(SourceFault::Device) => unreachable!(),
     }
-    reading.finish(text.len() as u64)
 }
 
 /// Reads the policy graph whose text the source gives, to its true end. `actions` and `observations` are the model's
@@ -300,6 +298,9 @@ pub fn read_graph_from<S: Source>(
             Ok(Some(token)) => {
                 if let Err(fault) = reading.take(token) {
                     return Err(SourceFault::Refused(fault));
+                }
+                if let Err(AllocError) = read_ahead(&mut tokens, &mut reading) {
+                    return Err(SourceFault::Refused(GraphFault::Memory));
                 }
             }
             Ok(None) => {

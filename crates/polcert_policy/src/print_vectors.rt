@@ -3,7 +3,7 @@ ghost use Rattle.std.specs.Prelude.{◌≡◌, ◌<◌};
 ghost use Rattle.polcert_text.specs.Sink.{WritesText};
 ghost use Rattle.polcert_policy.specs.Graphs.{nodes};
 ghost use Rattle.polcert_policy.specs.VectorText.{IsVectorsText, IsRoundedVectorsText};
-ghost use Rattle.polcert_policy.specs.FullForm.{behind_value, value_text, values_text, action_text, vector_text, vectors_text};
+ghost use Rattle.polcert_policy.specs.FullForm.{after_value, value_text, values_text, action_text, vector_text, vectors_text};
 
 use crate::graph::Graph;
 use crate::vectors::Vectors;
@@ -91,10 +91,10 @@ fn write_value<W: Sink>(
     write_all(out, separator(vectors.states(), state))
 }
 
-/// What stands after a value: a blank, or after the last of a vector its line end and an empty line.
+/// Returns the text after a value: a blank, or after a vector's last value its line end and an empty line.
 fn separator(states: usize, state: usize) -> &'static [u8]
     requires { state < states }
-    ensures { result.now ≡ behind_value states state }
+    ensures { result.now ≡ after_value states state }
 {
     if state + 1 == states { b"\n\n" } else { b" " }
 }

@@ -42,7 +42,7 @@ impl Successor {
         }
     }
 
-    /// The node's number, if there is one.
+    /// Returns the node's number, if there is one.
     pub fn node(self) -> Option<usize>
         ensures { result ≡ self }
     {

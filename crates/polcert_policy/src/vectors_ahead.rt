@@ -1,6 +1,7 @@
 //! Values of vectors that stand whole at the front of the bytes ahead, taken together.
 ghost use Rattle.std.specs.Prelude.{◌≡◌, None, IfOk, OnOk};
-ghost use Rattle.polcert_policy.specs.Steps.VectorsAhead.{TakesAhead, ArePassed};
+ghost use Rattle.polcert_text.specs.Steps.TakenAhead.{ReadsOn, TakesAhead, ArePassed};
+ghost use Rattle.polcert_policy.specs.Steps.VectorsRead.{HasVectors};
 
 use crate::growth::push;
 use crate::vectors_reading::VectorsReading;
@@ -12,7 +13,8 @@ impl VectorsReading {
     /// they are. An error is out of memory.
     #[inline(never)]
     fn take_ahead(&mut self, rounding: Rounding, bytes: &[u8]) -> Result<usize, AllocError>
-        ensures takes { IfOk result (λ count. TakesAhead rounding self.old bytes.now count self.new) }
+        ensures takes { IfOk result (λ count.
+            TakesAhead (ReadsOn (HasVectors rounding) self.old self.new) bytes.now count) }
         ensures states { self.new.states ≡ self.old.states }
     {
         let mut at: usize = 0;
@@ -39,7 +41,8 @@ pub fn read_ahead(
     reading: &mut VectorsReading,
 ) -> Result<(), AllocError>
     requires { tokens.old.stop ≡ None }
-    ensures read { OnOk result (ArePassed rounding reading.old tokens.old reading.new tokens.new) }
+    ensures read { OnOk result (ArePassed
+        (ReadsOn (HasVectors rounding) reading.old reading.new) tokens.old tokens.new) }
     ensures states { reading.new.states ≡ reading.old.states }
 {
     match reading.take_ahead(rounding, tokens.ahead()) {

@@ -8,7 +8,7 @@ ghost use Rattle.polcert_policy.specs.Graphs.{PolicyGraph, IsProperGraph};
 ghost use Rattle.polcert_cells.specs.Elements.{most_states};
 ghost use Rattle.polcert_policy.specs.Vectors.{sign_kind, IsRoundedVectors};
 ghost use Rattle.polcert_policy.specs.VectorText.{IsVectorsText, IsNoVectorsText, IsVectorsRefusal, IsRefusedVectorsText, IsRoundedVectorsText, IsNoRoundedVectorsText, IsRoundedVectorsRefusal, IsRefusedRoundedVectorsText};
-ghost use Rattle.polcert_policy.specs.Steps.VectorsRead.{place_behind, is_minus, HasVectors, TakesPart, CheckedAction, AdvancedValue, AreEndRefusal};
+ghost use Rattle.polcert_policy.specs.Steps.VectorsRead.{place_after, is_minus, HasVectors, TakesPart, CheckedAction, AdvancedValue, AreEndRefusal};
 
 use crate::fault::VectorFault;
 use crate::fields::whole_of;
@@ -18,8 +18,8 @@ use crate::vectors::Vectors;
 use crate::vectors_ahead::read_ahead;
 use crate::vectors_reading::{OpenSign, VectorsReading};
 use polcert_text::{
-    Rounding, Source, SourceFault, StreamFault, StreamTokens, TEXT_LIMIT, Token, TokenKind, Tokens,
-    rounded_of,
+    Rounding, SliceSource, Source, SourceFault, StreamFault, StreamTokens, TEXT_LIMIT, Token,
+    TokenKind, rounded_of,
 };
 use std::alloc::{AllocError, Global};
 
@@ -40,7 +40,7 @@ impl VectorsReading {
         }
     }
 
-    /// The token in place of a vector's action.
+    /// Checks the token in place of a vector's action.
     fn check_action(&self, graph: &Graph, token: Token<'_>) -> Result<(), VectorFault>
         ensures { CheckedAction graph.now self.now.node (lexeme_of token.entry) result }
     {
@@ -84,9 +84,9 @@ impl VectorsReading {
         }
     }
 
-    /// Where the number begins to which the token belongs.
+    /// Returns where the number begins to which the token belongs.
     fn number_place(&self, token: Token<'_>) -> u64
-        ensures { result ≡ place_behind self.now.sign token.entry.place }
+        ensures { result ≡ place_after self.now.sign token.entry.place }
     {
         match self.sign {
             None => token.place,
@@ -177,7 +177,7 @@ impl VectorsReading {
         }
     }
 
-    /// The vectors, if the text ends here.
+    /// Returns the vectors, if the text ends here.
     fn finish(self, graph: &Graph, end: u64) -> Result<Vectors, VectorFault>
         requires { (rounding : Rounding) × ((seen : List Lexeme) × HasVectors rounding graph.now seen self) }
         ensures { (rounding : Rounding) (seen : List Lexeme) → HasVectors rounding graph.now seen self
@@ -259,16 +259,12 @@ pub fn read_rounded_vectors(
         (IsNoRoundedVectorsText rounding graph.now states text.now) }
     ensures refused { IfErr result (IsRoundedVectorsRefusal rounding graph.now states text.now) }
 {
-    let mut tokens = Tokens::new(text, TEXT_LIMIT);
-    let _nodes = graph.nodes();
-    let mut reading = VectorsReading::new(alloc, states);
-    while let Some(next) = tokens.next_token() {
-        match next {
-            Ok(token) => reading.take(rounding, graph, token)?,
-            Err(fault) => return Err(VectorFault::Token(fault)),
-        }
+    let mut source = SliceSource::new(text);
+    match read_rounded_vectors_from(alloc, rounding, &mut source, graph, states) {
+        Ok(vectors) => Ok(vectors),
+        Err(SourceFault::Refused(fault)) => Err(fault),
+        Err(SourceFault::Device) => unreachable!(),
     }
-    reading.finish(graph, text.len() as u64)
 }
 
 /// Reads the vectors of a graph whose text the source gives, to its true end. `states` is the model's count. Nothing of

@@ -8,3 +8,4 @@ pub mod Matching
 pub mod Newer
 pub mod NextPlaces
 pub mod NotedLaws
+pub mod NamedLaws

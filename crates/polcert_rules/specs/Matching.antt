@@ -4,10 +4,10 @@ use Rattle.polcert_rules.specs.declared.rule.Rule.{Rule}
 use Rattle.polcert_rules.specs.Keys.{key_base}
 
 -- the greater of two numbers, where there are any
-abbrev pub later : Option ℕ → Option ℕ → Option ℕ
-later None b = b
-later (Some m) None = Some m
-later (Some m) (Some n) = if nat_le m n then Some n else Some m
+abbrev pub max_option : Option ℕ → Option ℕ → Option ℕ
+max_option None b = b
+max_option (Some m) None = Some m
+max_option (Some m) (Some n) = if nat_le m n then Some n else Some m
 
 -- The key is that of some places, after those of the key `low`, that fit the first of these indices: it is `low` itself, where
 -- there are none, or it continues with `*`, or with the first index, and the places after fit the indices after.
@@ -20,7 +20,7 @@ fits_key (suc levels) low (i ∷ indices) key =
 -- the greatest number of the rules whose keys pass the test
 abbrev pub newest_by : (ℕ → Bool) → List Rule → Option ℕ
 newest_by passes [] = None
-newest_by passes (r ∷ rs) = if passes r.key then later (Some r.number) (newest_by passes rs) else newest_by passes rs
+newest_by passes (r ∷ rs) = if passes r.key then max_option (Some r.number) (newest_by passes rs) else newest_by passes rs
 
 -- the greatest number of the rules whose keys, after `low`, fit these indices
 abbrev pub newest_in : ℕ → ℕ → List Rule → List ℕ → Option ℕ

@@ -1,16 +1,17 @@
 //! Rows of the bodies of entries that cover whole rows.
-ghost use Rattle.std.specs.Prelude.{◌≡◌, ℕ, ◌+◌, ◌*◌, ◌<◌, ◌≤◌, ◌==◌, All, IfOk, length, slice_index, if◌then◌else◌};
+ghost use Rattle.std.specs.Prelude.{◌≡◌, ℕ, ◌+◌, ◌*◌, ◌<◌, ◌≤◌, ◌==◌, All, IfOk, IfSome, length, slice_index, if◌then◌else◌};
 ghost use Rattle.polcert_cells.specs.Numbers.{one};
 ghost use Rattle.polcert_cells.specs.Elements.{most_elements};
 ghost use Rattle.polcert_cells.specs.EntryRefs.{entry_of};
 ghost use Rattle.polcert_rules.specs.Steps.Given.{IsWithin, FitsShape, given};
 ghost use Rattle.polcert_cells.specs.Sparse.{IsRow};
+ghost use Rattle.polcert_rules.specs.Steps.Lists.{IsFullLine};
 
 use crate::Shape;
 use polcert_cells::{BodyRef, Cell, EntryRef, ONE};
 use std::alloc::{AllocError, Global};
 
-/// What an entry of T or O that covers whole rows gives the row of this state.
+/// Returns the row of this state that an entry of T or O gives, which covers whole rows.
 pub(crate) fn body_row(
     alloc: Global,
     entry: EntryRef<'_>,
@@ -39,7 +40,25 @@ pub(crate) fn body_row(
     }
 }
 
-/// The line of this state in a matrix.
+/// Returns the number of each column of the row of this state, in millionths, if an entry of T or O gives so many numbers.
+pub(crate) fn body_line<'a>(entry: EntryRef<'a>, state: usize, shape: Shape) -> Option<&'a [u32]>
+    requires within { IsWithin shape }
+    requires state { state < shape.states }
+    requires fits { FitsShape shape (entry_of entry) }
+    ensures { IfSome result (λ line. IsFullLine shape.columns
+        (given shape.columns (entry_of entry.entry) state) line.now) }
+{
+    match entry.body {
+        BodyRef::Probabilities(numbers) => match entry.places.len() {
+            1 => Some(line_of(numbers, shape.columns, state)),
+            2 => Some(numbers),
+            _ => None,
+        },
+        BodyRef::Uniform | BodyRef::Identity | BodyRef::Rewards(_) => None,
+    }
+}
+
+/// Returns the line of this state in a matrix.
 fn line_of(numbers: &[u32], columns: usize, state: usize) -> &[u32]
     requires room { state * columns + columns ≤ length numbers.now }
     requires small { All (λ n. n ≤ one) numbers.now }
@@ -52,7 +71,7 @@ fn line_of(numbers: &[u32], columns: usize, state: usize) -> &[u32]
     &numbers[start..start + columns]
 }
 
-/// A number for each column, in millionths.
+/// Returns the row of a list of numbers in millionths, one for each column.
 fn row_of_numbers(alloc: Global, numbers: &[u32]) -> Result<Vec<Cell>, AllocError>
     requires few { length numbers.now ≤ most_elements }
     requires small { All (λ n. n ≤ one) numbers.now }
@@ -72,7 +91,7 @@ fn row_of_numbers(alloc: Global, numbers: &[u32]) -> Result<Vec<Cell>, AllocErro
     Ok(cells)
 }
 
-/// The same weight in each column.
+/// Returns the row with the same weight in each column.
 fn even_row(alloc: Global, columns: usize, weight: u64) -> Result<Vec<Cell>, AllocError>
     ensures { IfOk result (λ cells. IsRow columns (λ c. weight) cells.items) }
 {
@@ -86,7 +105,7 @@ fn even_row(alloc: Global, columns: usize, weight: u64) -> Result<Vec<Cell>, All
     Ok(cells)
 }
 
-/// The row of this state of the identity: all of its weight in one column.
+/// Returns the row of this state of the identity: all of its weight in one column.
 fn diagonal_row(alloc: Global, columns: usize, state: usize) -> Result<Vec<Cell>, AllocError>
     requires within { columns ≤ most_elements }
     requires some { 0 < columns }

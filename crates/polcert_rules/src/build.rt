@@ -1,5 +1,5 @@
 //! Building an index: a rule for each entry, in the order of their keys, and of each key the newest.
-ghost use Rattle.std.specs.Prelude.{◌≡◌, ◌<◌, IfOk};
+ghost use Rattle.std.specs.Prelude.{◌≡◌, ◌<◌, IfOk, take};
 ghost use Rattle.polcert_cells.specs.EntryRefs.{entry_of};
 ghost use Rattle.polcert_rules.specs.Keys.{key_base, digit, table_digit, key_of, AreDigits, most_places};
 ghost use Rattle.polcert_rules.specs.Steps.Newest.{AreKeyed, rules_from, newest_of_each};
@@ -10,7 +10,7 @@ use crate::newest::span;
 use polcert_cells::{Entries, EntryRef, Place, Table};
 use std::alloc::{AllocError, Global};
 
-/// A rule for each entry.
+/// Returns a rule for each entry.
 pub(crate) fn numbered(alloc: Global, entries: &Entries) -> Result<Vec<Rule>, AllocError>
     requires { AreKeyed entries.now }
     ensures { IfOk result (λ rules. rules.items ≡ rules_from 0 entries.now) }
@@ -23,28 +23,38 @@ pub(crate) fn numbered(alloc: Global, entries: &Entries) -> Result<Vec<Rule>, Al
     Ok(rules)
 }
 
-/// Of neighbours with the same key the one with the greatest number.
-pub(crate) fn newest_of_each(alloc: Global, rules: &[Rule]) -> Result<Vec<Rule>, AllocError>
-    ensures { IfOk result (λ kept. kept.items ≡ newest_of_each rules.now) }
+/// Keeps of neighbours with the same key the one with the greatest number.
+pub(crate) fn keep_newest_of_each(rules: &mut Vec<Rule>)
+    ensures { rules.new.items ≡ newest_of_each rules.old.items }
 {
-    let mut kept = Vec::new(alloc);
+    let count = move_newest_to_front(rules.as_mut_slice());
+    rules.truncate(count);
+}
+
+/// Moves of neighbours with the same key the one with the greatest number to the front, in order, and returns how many these are.
+fn move_newest_to_front(rules: &mut [Rule]) -> usize
+    ensures { take result rules.new ≡ newest_of_each rules.old }
+{
     if rules.is_empty() {
-        return Ok(kept);
+        return 0;
     }
     let mut last = rules[0];
-    for rule in &rules[1..] {
+    let mut kept = 0;
+    for place in 1..rules.len() {
+        let rule = rules[place];
         if rule.key == last.key {
             last.number = last.number.max(rule.number);
         } else {
-            kept.push(last)?;
-            last = *rule;
+            rules[kept] = last;
+            kept += 1;
+            last = rule;
         }
     }
-    kept.push(last)?;
-    Ok(kept)
+    rules[kept] = last;
+    kept + 1
 }
 
-/// The key of an entry's pattern, its table in front.
+/// Returns the key of an entry's pattern, its table in front.
 fn key_of(entry: EntryRef<'_>) -> u64
     requires { AreDigits most_places entry.places.now }
     ensures { result ≡ key_of (entry_of entry.entry) }
@@ -58,7 +68,7 @@ fn key_of(entry: EntryRef<'_>) -> u64
     key
 }
 
-/// A place as a digit: 0 stands for no place.
+/// Returns a place as a digit; 0 stands for no place.
 fn digit(place: Place) -> u64
     requires { digit place < key_base }
     ensures { result ≡ digit place }

@@ -10,10 +10,10 @@ ghost use Rattle.polcert_rules.specs.Steps.Newest.{AreKeyed, IsIndexOf, IsNewest
 ghost use Rattle.polcert_rules.specs.Steps.Repeats.{NamesNoAction};
 
 use crate::Rule;
-use crate::build::{newest_of_each, numbered, table_digit};
+use crate::build::{keep_newest_of_each, numbered, table_digit};
 use crate::keys::{ACTION, MOST_PLACES};
 use crate::newest::{newest, span};
-use crate::part::{between, from, none_below};
+use crate::rule_span::{between, from, none_below};
 use polcert_cells::{Entries, Table};
 use std::alloc::{AllocError, Global};
 use std::marker::Model;
@@ -37,19 +37,18 @@ impl Model for Index {
 }
 
 impl Index {
-    /// The index of these entries. An error is out of memory.
+    /// Builds the index of these entries.
     pub fn of(alloc: Global, entries: &Entries) -> Result<Index, AllocError>
         requires { AreKeyed entries.now }
         ensures { IfOk result (IsIndexOf entries.now) }
     {
         let mut rules = numbered(alloc, entries)?;
         rules.sort_unstable_by_key(|rule| rule.key);
-        Ok(Index {
-            rules: newest_of_each(alloc, rules.as_slice())?,
-        })
+        keep_newest_of_each(&mut rules);
+        Ok(Index { rules })
     }
 
-    /// The number of the last entry that covers the cell of this table at these indices, if one does.
+    /// Returns the number of the last entry that covers the cell of this table at these indices, if one does.
     pub fn newest(&self, table: Table, indices: &[usize]) -> Option<usize>
         requires { AreIndices most_places indices.now }
         ensures number { (entries : List E) → AreKeyed entries → IsIndexOf entries self.now →
@@ -60,7 +59,7 @@ impl Index {
         self.newest_rule(table, indices)
     }
 
-    /// The rules of this table.
+    /// Returns the rules of this table.
     pub(crate) fn of_table(&self, table: Table) -> &[Rule]
         ensures rising { IsRising result.now }
         ensures kept { (r : R) → Contains result.now r ↔ (Contains self.now r × (table_key table ≤ r.key)
@@ -70,7 +69,7 @@ impl Index {
         between(self.rules.as_slice(), low, low + span(4))
     }
 
-    /// Whether no rule of this table begins with this action.
+    /// Tests whether no rule of this table begins with this action.
     pub(crate) fn names_no_action(&self, table: Table, action: usize) -> bool
         requires { action + 2 < key_base }
         ensures { IsTrue result → NamesNoAction self.now table action }
@@ -80,7 +79,7 @@ impl Index {
         none_below(from(self.rules.as_slice(), start), start + ACTION)
     }
 
-    /// The number of the newest rule that fits these indices of this table.
+    /// Returns the number of the newest rule that fits these indices of this table.
     pub(crate) fn newest_rule(&self, table: Table, indices: &[usize]) -> Option<usize>
         requires { AreIndices most_places indices.now }
         ensures { IsNewest self.now (Fits most_places (table_key table) indices.now) result }

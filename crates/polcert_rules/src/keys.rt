@@ -23,7 +23,7 @@ const COLUMNS: u64 = KEY_BASE - 2;
 /// How many keys there are from that of a row's first column to that of its last.
 pub(crate) const COLUMN_KEYS: u64 = COLUMNS * COLUMN;
 
-/// The key of the first column of a row, by the digits of its places.
+/// Returns the key of the first column of a row, by the digits of its places.
 pub(crate) fn first_column(low: u64, first: u64, second: u64) -> u64
     requires room { low + key_base ^ 4 < 2 ^ 64 }
     requires first { first < key_base }

@@ -3,27 +3,30 @@
 
 mod body;
 mod build;
-mod hiding;
 mod index;
-mod kept;
 mod keys;
 mod lists;
 mod merging;
+mod named_noting;
+mod named_rules;
 mod newest;
 mod noting;
-mod part;
 mod reward_bodies;
 mod reward_parts;
 mod reward_search;
 mod rewards;
 mod row;
+mod row_cache;
 mod row_rules;
+mod row_store;
 mod rows;
 mod rule;
+mod rule_span;
 mod shape;
 mod single;
-mod slots;
 mod split;
+mod stored_rows;
+mod visible_cells;
 mod wrong_row;
 mod zeros;
 

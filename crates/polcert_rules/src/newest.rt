@@ -3,15 +3,15 @@ ghost use Rattle.std.specs.Prelude.{◌≡◌, ◌+◌, ◌<◌, ◌≤◌, ◌^
 ghost use Rattle.polcert_rules.specs.declared.rule.Rule.{Rule as R};
 ghost use Rattle.polcert_rules.specs.Steps.Newest.{IsRising, IsNewest};
 ghost use Rattle.polcert_rules.specs.Steps.NextPlaces.{IsNextPlace};
-ghost use Rattle.polcert_rules.specs.Matching.{later};
+ghost use Rattle.polcert_rules.specs.Matching.{max_option};
 ghost use Rattle.polcert_rules.specs.Keys.{key_base, AreIndices, Fits, most_places};
 
 use crate::Rule;
 use crate::keys::{ACTION, COLUMN, ROW, TABLE};
-use crate::part::between;
+use crate::rule_span::between;
 
-/// Of the rules whose places follow those of the key `low`, at most so many, the number of the newest that fits the
-/// first of these indices.
+/// Returns the number of the newest rule that fits the first of these indices, of the rules whose places
+/// follow those of the key `low`, at most so many.
 pub(crate) fn newest(rules: &[Rule], low: u64, levels: usize, indices: &[usize]) -> Option<usize>
     requires rising { IsRising rules.now }
     requires from { (r : R) → Contains rules.now r → low ≤ r.key }
@@ -30,7 +30,7 @@ pub(crate) fn newest(rules: &[Rule], low: u64, levels: usize, indices: &[usize])
             let next = next_place(rules, low, levels, *index);
             let of_every = newest(next.of_every, next.every, next.levels, rest);
             let of_only = newest(next.of_only, next.only, next.levels, rest);
-            later(here, later(of_every, of_only))
+            max_option(here, max_option(of_every, of_only))
         }
     }
 }
@@ -46,7 +46,8 @@ pub(crate) struct NextPlace<'a> {
     pub of_only: &'a [Rule],
 }
 
-/// Of the rules whose places follow those of the key `low`, at most so many, those that continue with a place for an index.
+/// Returns the rules that continue with a place for an index, of the rules whose places follow those of the
+/// key `low`, at most so many.
 #[inline(always)]
 pub(crate) fn next_place(rules: &[Rule], low: u64, levels: usize, index: usize) -> NextPlace<'_>
     requires rising { IsRising rules.now }
@@ -68,7 +69,7 @@ pub(crate) fn next_place(rules: &[Rule], low: u64, levels: usize, index: usize) 
     }
 }
 
-/// The number of the rule with this key, if no rule has a lower one.
+/// Returns the number of the rule with this key, if no rule has a lower one.
 pub(crate) fn first_at(rules: &[Rule], key: u64) -> Option<usize>
     requires rising { IsRising rules.now }
     requires from { (r : R) → Contains rules.now r → key ≤ r.key }
@@ -84,7 +85,7 @@ pub(crate) fn first_at(rules: &[Rule], key: u64) -> Option<usize>
     }
 }
 
-/// How many keys there are with so many places.
+/// Returns how many keys have so many places.
 pub(crate) fn span(levels: usize) -> u64
     requires { levels ≤ most_places }
     ensures { result ≡ key_base ^ levels }
@@ -98,9 +99,9 @@ pub(crate) fn span(levels: usize) -> u64
     }
 }
 
-/// The greater of two numbers, if there are any.
-pub(crate) fn later(one: Option<usize>, other: Option<usize>) -> Option<usize>
-    ensures { result ≡ later one other }
+/// Returns the greater of two numbers, if there are any.
+pub(crate) fn max_option(one: Option<usize>, other: Option<usize>) -> Option<usize>
+    ensures { result ≡ max_option one other }
 {
     match (one, other) {
         (None, _) => other,

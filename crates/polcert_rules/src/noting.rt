@@ -2,13 +2,13 @@
 ghost use Rattle.std.specs.Prelude.{◌≡◌, ◌+◌, ◌<◌, ◌≤◌, ◌^◌, ℕ, length, Contains, Some, None, slice_index_or};
 ghost use Rattle.polcert_rules.specs.declared.rule.Rule.{Rule as R};
 ghost use Rattle.polcert_rules.specs.Steps.Newest.{IsRising};
-ghost use Rattle.polcert_rules.specs.Matching.{later};
+ghost use Rattle.polcert_rules.specs.Matching.{max_option};
 ghost use Rattle.polcert_rules.specs.Keys.{key_base, AreIndices, most_places};
 ghost use Rattle.polcert_rules.specs.Steps.Noting.{IsNoted, AreNoted, IsLastPlace};
 
 use crate::Rule;
-use crate::newest::{first_at, later, next_place};
-use crate::part::{between, from};
+use crate::newest::{first_at, max_option, next_place};
+use crate::rule_span::{between, from};
 
 /// Notes, for as many numbers from `first` on as there is room for, each as the last index after these, the newest rule that fits,
 /// where it is later than what is noted. The places of the rules follow those of the key `low`.
@@ -78,23 +78,23 @@ fn note_rule(rule: Rule, start: u64, noted: &mut [Option<usize>])
     requires from { start ≤ rule.key }
     requires to { rule.key < start + length noted.old }
     ensures here { (i : ℕ) → rule.key ≡ start + i
-        → slice_index_or noted.new i None ≡ later (slice_index_or noted.old i None) (Some rule.number) }
+        → slice_index_or noted.new i None ≡ max_option (slice_index_or noted.old i None) (Some rule.number) }
     ensures other { (i : ℕ) → (rule.key ≡ start + i → ⊥)
         → slice_index_or noted.new i None ≡ slice_index_or noted.old i None }
 {
     let place = (rule.key - start) as usize;
-    noted[place] = later(noted[place], Some(rule.number));
+    noted[place] = max_option(noted[place], Some(rule.number));
 }
 
 /// Notes a number, if one, for each.
 pub(crate) fn note_all(noted: &mut [Option<usize>], number: Option<usize>)
     ensures { (z : ℕ) → z < length noted.old
-        → slice_index_or noted.new z None ≡ later (slice_index_or noted.old z None) number }
+        → slice_index_or noted.new z None ≡ max_option (slice_index_or noted.old z None) number }
 {
     if number.is_none() {
         return;
     }
     for z in 0..noted.len() {
-        noted[z] = later(noted[z], number);
+        noted[z] = max_option(noted[z], number);
     }
 }

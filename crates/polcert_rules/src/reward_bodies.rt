@@ -1,15 +1,15 @@
 //! The bodies of entries of R, in one list of numbers.
-ghost use Rattle.std.specs.Prelude.{◌≡◌, ◌<◌, ◌≤◌, ◌+◌, ◌++◌, All, Contains, map, get_or, length, drop, pos, IfOk, OnOk};
+ghost use Rattle.std.specs.Prelude.{◌≡◌, ◌<◌, ◌≤◌, ◌+◌, ◌++◌, All, Bool, Contains, map, get_or, length, drop, pos, IfOk, OnOk};
 ghost use Rattle.polcert_cells.specs.Elements.{most_states, most_elements};
-ghost use Rattle.polcert_cells.specs.EntryRefs.{body_of};
+ghost use Rattle.polcert_cells.specs.EntryRefs.{all_rewards};
 ghost use Rattle.polcert_rules.specs.declared.rule.Rule.{Rule as R};
 ghost use Rattle.polcert_rules.specs.Keys.{key_base};
-ghost use Rattle.polcert_rules.specs.Steps.Rewards.{worth, rewards_in, AreBodiesOf};
+ghost use Rattle.polcert_rules.specs.Steps.Rewards.{worth, AreBodiesOf};
 ghost use Rattle.polcert_rules.specs.RewardAt.{body_at, cell_in};
 
 use crate::Rule;
 use crate::reward_parts::RewardBody;
-use polcert_cells::{BodyRef, Entries};
+use polcert_cells::Entries;
 use std::alloc::{AllocError, Global};
 
 /// What stands where an entry has no rule.
@@ -28,31 +28,20 @@ pub(crate) struct RewardBodies {
 }
 
 impl RewardBodies {
-    /// The bodies of the entries that these rules name.
+    /// Returns the bodies of the entries that these rules name. The entries are given up, and their numbers stay where they are.
     pub(crate) fn of(
         alloc: Global,
         costs: bool,
-        entries: &Entries,
+        entries: Entries,
         rules: &[Rule],
     ) -> Result<RewardBodies, AllocError>
-        requires { (r : R) → Contains rules.now r → r.number < length entries.now }
-        ensures { IfOk result
-            (λ kept. AreBodiesOf costs entries.now rules.now kept.first kept.numbers.items
+        requires { (r : R) → Contains rules.now r → r.number < length entries }
+        ensures { IfOk result (λ kept. AreBodiesOf costs entries rules.now kept.first kept.numbers.items
             kept.bodies.items) }
     {
         let first = first_number(rules);
-        let room = behind_last(rules, entries.len()).saturating_sub(first);
-        let mut bodies = vec![in alloc; NO_BODY; room]?;
-        let mut numbers = Vec::with_capacity(alloc, rules.len())?;
-        for rule in rules {
-            let entry = entries.at(rule.number);
-            let body = RewardBody {
-                start: numbers.len(),
-                places: entry.places.len(),
-            };
-            bodies[rule.number - first] = body;
-            add_numbers(&mut numbers, costs, entry.body)?;
-        }
+        let bodies = bodies_of(alloc, &entries, rules, first)?;
+        let numbers = worths(alloc, costs, entries.into_rewards())?;
         Ok(RewardBodies {
             first,
             bodies,
@@ -60,14 +49,14 @@ impl RewardBodies {
         })
     }
 
-    /// The body of the entry of this number.
+    /// Returns the body of the entry of this number.
     pub(crate) fn find(&self, number: usize) -> Option<RewardBody>
         ensures { result ≡ body_at self.now.first self.now.bodies.items number }
     {
         self.bodies.get(number.saturating_sub(self.first)).copied()
     }
 
-    /// The number of this cell of a body.
+    /// Returns the number of this cell of a body.
     pub(crate) fn number_at(&self, body: RewardBody, cell: usize) -> i64
         ensures { result ≡ get_or self.now.numbers.items (body.start + cell) (pos 0) }
     {
@@ -78,7 +67,43 @@ impl RewardBodies {
     }
 }
 
-/// A number that no rule's is below.
+/// Returns the bodies of the entries that these rules name, where the rewards of all entries are the numbers.
+fn bodies_of(
+    alloc: Global,
+    entries: &Entries,
+    rules: &[Rule],
+    first: usize,
+) -> Result<Vec<RewardBody>, AllocError>
+    requires rules { (r : R) → Contains rules.now r → r.number < length entries.now }
+    requires first { (r : R) → Contains rules.now r → first ≤ r.number }
+    ensures { IfOk result (λ bodies. (costs : Bool) → AreBodiesOf costs entries.now rules.now first
+        (map (worth costs) (all_rewards entries.now)) bodies.items) }
+{
+    let room = after_last(rules, entries.len()).saturating_sub(first);
+    let mut bodies = vec![in alloc; NO_BODY; room]?;
+    for rule in rules {
+        let number = rule.number;
+        bodies[number - first] = RewardBody {
+            start: entries.rewards_start(number),
+            places: entries.at(number).places.len(),
+        };
+    }
+    Ok(bodies)
+}
+
+/// Returns what these numbers are worth that are written as rewards, or as costs.
+fn worths(alloc: Global, costs: bool, written: Vec<i64>) -> Result<Vec<i64>, AllocError>
+    ensures { IfOk result (λ numbers. numbers.items ≡ map (worth costs) written.items) }
+{
+    if !costs {
+        return Ok(written);
+    }
+    let mut numbers = Vec::with_capacity(alloc, written.len())?;
+    add_numbers(&mut numbers, costs, written.as_slice())?;
+    Ok(numbers)
+}
+
+/// Returns a number that no rule's is below.
 fn first_number(rules: &[Rule]) -> usize
     ensures { (r : R) → Contains rules.now r → result ≤ r.number }
 {
@@ -89,8 +114,8 @@ fn first_number(rules: &[Rule]) -> usize
     first
 }
 
-/// A number that each rule's is below, if each is below the limit.
-fn behind_last(rules: &[Rule], limit: usize) -> usize
+/// Returns a number that each rule's is below, if each is below the limit.
+fn after_last(rules: &[Rule], limit: usize) -> usize
     requires { (r : R) → Contains rules.now r → r.number < limit }
     ensures { (r : R) → Contains rules.now r → r.number < result }
 {
@@ -103,28 +128,26 @@ fn behind_last(rules: &[Rule], limit: usize) -> usize
     end
 }
 
-/// Puts the rewards of a body after the others, each as it is worth.
-fn add_numbers(numbers: &mut Vec<i64>, costs: bool, body: BodyRef<'_>) -> Result<(), AllocError>
-    ensures { OnOk result
-        (numbers.new.items ≡ numbers.old.items ++ map (worth costs) (rewards_in (body_of body.entry))) }
+/// Puts these rewards after the others, each as it is worth.
+fn add_numbers(numbers: &mut Vec<i64>, costs: bool, written: &[i64]) -> Result<(), AllocError>
+    ensures { OnOk result (numbers.new.items ≡ numbers.old.items ++ map (worth costs) written.now) }
 {
-    if let BodyRef::Rewards(written) = body {
-        for h in written {
-            numbers.push(worth(costs, *h))?;
-        }
+    for h in written {
+        numbers.push(worth(costs, *h))?;
     }
     Ok(())
 }
 
-/// What a number is worth that is written as a reward, or as a cost. (No number that a text may have is so large that
-/// its opposite would wrap.)
+/// Returns the reward of a number that is written as a reward, or as a cost. (No number that a text may have
+/// is so large that its opposite would wrap.)
 fn worth(costs: bool, h: i64) -> i64
     ensures { result ≡ worth costs h }
 {
     if costs { h.wrapping_neg() } else { h }
 }
 
-/// The number of a cell in a body, by the indices that are left for it, in a table with so many rows and columns.
+/// Returns the number of a cell in a body, by the indices that are left for it, in a table with so many rows
+/// and columns.
 pub(crate) fn cell_in(rows: usize, columns: usize, left: &[usize]) -> usize
     requires rows { rows ≤ most_states }
     requires columns { columns ≤ most_elements }
@@ -139,8 +162,8 @@ pub(crate) fn cell_in(rows: usize, columns: usize, left: &[usize]) -> usize
     }
 }
 
-/// The indices after so many places.
-pub(crate) fn behind(places: usize, indices: &[usize]) -> &[usize]
+/// Returns the indices after so many places.
+pub(crate) fn following(places: usize, indices: &[usize]) -> &[usize]
     ensures { result.now ≡ drop places indices.now }
 {
     &indices[places.min(indices.len())..]

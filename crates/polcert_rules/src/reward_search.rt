@@ -7,10 +7,11 @@ ghost use Rattle.polcert_rules.specs.Steps.RewardSearch.{Begins, IsAnswer};
 
 use crate::Rule;
 use crate::newest::{next_place, span};
-use crate::part::between;
+use crate::rule_span::between;
 
-/// Whether one of the rules, whose places follow those of the key `low`, begins with a place for each of these indices
-/// that fits it, and continues with a key of at least `least`: 0 for no matter what, 2 for a last place that isn't `*`.
+/// Tests whether one of the rules, whose places follow those of the key `low`, begins with a place for each
+/// of these indices that fits it, and continues with a key of at least `least`: 0 for any, 2 for a last place
+/// that isn't `*`.
 pub(crate) fn some_begins(
     rules: &[Rule],
     low: u64,

@@ -9,6 +9,8 @@ ghost use Rattle.polcert_cells.specs.Elements.{count_of};
 ghost use Rattle.polcert_cells.specs.Preamble.{Preamble, dimensions};
 ghost use Rattle.polcert_cells.specs.Steps.Sound.{IsSoundEntry};
 ghost use Rattle.polcert_cells.specs.Cells.{reward};
+ghost use Rattle.polcert_cells.specs.CommonRewards.{IsCommonReward};
+ghost use Rattle.polcert_rules.specs.Steps.NamedCells.{AreNewestAt, AreNamedCells};
 ghost use Rattle.polcert_rules.specs.Steps.Meeting.{meets_row};
 ghost use Rattle.polcert_rules.specs.Keys.{key_base, AreIndices, Fits, most_places, table_key};
 ghost use Rattle.polcert_rules.specs.Steps.Newest.{AreKeyed, IsIndexOf, IsNewest, IsLastNumber, IsRising};
@@ -16,21 +18,22 @@ ghost use Rattle.polcert_rules.specs.Steps.Rewards.{IsShapeOf, IsSmall, AreRewar
 ghost use Rattle.polcert_rules.specs.Steps.RewardSearch.{AreFilled, AreWithin, IsLastBody, IsSingle};
 
 use crate::keys::{KEY_BASE, MOST_PLACES};
-use crate::newest::newest;
-use crate::reward_bodies::{RewardBodies, behind, cell_in};
+use crate::named_rules::NamedRules;
+use crate::newest::{max_option, newest};
+use crate::reward_bodies::{RewardBodies, cell_in, following};
 use crate::reward_parts::{Outcome, RewardBody, RewardShape};
 use crate::reward_search::some_begins;
-use crate::row_rules::{LOW, RowRules};
+use crate::row_rules::{REWARD_KEYS, RowRules};
 use crate::{Index, Rule};
-use polcert_cells::{Entries, Table};
+use polcert_cells::{CommonReward, Entries, RewardCell, Table};
 use std::alloc::{AllocError, Global};
 use std::marker::Model;
 
 /// What a key continues with, at least, if its last place is an index.
-const AN_INDEX: u64 = 2;
+const FIRST_INDEX_DIGIT: u64 = 2;
 
 /// What a key continues with, at least, if one of its last two places is an index.
-const AN_END_OR_OBSERVATION: u64 = KEY_BASE + AN_INDEX;
+const AN_END_OR_OBSERVATION: u64 = KEY_BASE + FIRST_INDEX_DIGIT;
 
 /// So many observations are few: what rules are noted in is then cleared sooner.
 const FEW_OBSERVATIONS: usize = 63;
@@ -61,21 +64,21 @@ impl Model for Rewards {
 }
 
 impl Rewards {
-    /// The rewards of these entries, of which `index` is the index, in a model of this shape. The index is
-    /// given up. An error is out of memory.
+    /// Builds the rewards of these entries, of which `index` is the index, in a model of this shape. Entries and index
+    /// are given up. An error is out of memory.
     pub fn of(
         alloc: Global,
         shape: RewardShape,
         costs: bool,
-        entries: &Entries,
+        entries: Entries,
         index: Index,
     ) -> Result<Rewards, AllocError>
         requires shape { IsSmall shape }
-        requires index { IsIndexOf entries.now index }
+        requires index { IsIndexOf entries index }
         ensures shape { IfOk result (λ rewards. rewards.shape ≡ shape) }
         ensures rewards { IfOk result
-            (λ rewards. (p : Preamble) → IsShapeOf p shape → p.costs ≡ costs → AreKeyed entries.now →
-            All (IsSoundEntry p) entries.now → AreRewardsOf p entries.now rewards) }
+            (λ rewards. (p : Preamble) → IsShapeOf p shape → p.costs ≡ costs → AreKeyed entries →
+            All (IsSoundEntry p) entries → AreRewardsOf p entries rewards) }
     {
         let rules = rules_of(alloc, index)?;
         let bodies = RewardBodies::of(alloc, costs, entries, rules.as_slice())?;
@@ -87,15 +90,15 @@ impl Rewards {
         })
     }
 
-    /// How many elements of each kind there are.
+    /// Returns how many elements of each kind there are.
     pub fn shape(&self) -> RewardShape
         ensures { result ≡ self.now.shape }
     {
         self.shape
     }
 
-    /// The reward, in millionths, when this action is taken in the start state, ends in the end state and
-    /// the observation is made.
+    /// Returns the reward, in millionths, when this action is taken in the start state, ends in the end state
+    /// and the observation is made.
     pub fn at(&self, action: usize, start: usize, end: usize, observation: usize) -> i64
         requires action { action < self.now.shape.actions }
         requires start { start < self.now.shape.states }
@@ -135,7 +138,7 @@ impl Rewards {
         }
     }
 
-    /// The same for so many observations, block by block.
+    /// Fills in the rewards of so many observations, block by block.
     fn fill_many(&self, at: Outcome, first: usize, count: usize, rewards: &mut [i64])
         requires action { at.action < self.now.shape.actions }
         requires start { at.start < self.now.shape.states }
@@ -154,9 +157,8 @@ impl Rewards {
         }
     }
 
-    /// The same, if nothing is noted yet for any of these observations, nor for one more. What is noted
-    /// there is a guess at what is noted for most of them: after the last observation stands one that no
-    /// entry names.
+    /// Fills in the rewards if nothing is noted yet for any of these observations, nor for one more. The note
+    /// there is a guess at most of them: after the last observation stands one that no entry names.
     fn fill_noted(
         &self,
         at: Outcome,
@@ -191,10 +193,72 @@ impl Rewards {
         }
     }
 
-    /// The reward where it is known at once that it is the same for every observation: no entry names an
-    /// observation where this action is taken in the start state and ends in the end state, and the last that
+    /// Returns the reward that all observations but a few have if this action is taken in the start state and ends in the end state, and
+    /// fills in the rewards of these few. `None`: entries name more observations than there is room for, or give more than one number.
+    pub fn find(
+        &self,
+        action: usize,
+        start: usize,
+        end: usize,
+        exceptions: &mut [RewardCell],
+    ) -> Option<CommonReward>
+        requires action { action < self.now.shape.actions }
+        requires start { start < self.now.shape.states }
+        requires end { end < self.now.shape.states }
+        ensures { (p : Preamble) (entries : List E) → AreRewardsOf p entries self.now →
+            ForSome result (λ common. IsCommonReward (λ z. reward p entries (action ∷ start ∷ end ∷ z ∷ []))
+            self.now.shape.observations common exceptions.new) }
+    {
+        let at = Outcome { action, start, end };
+        let mut list = NamedRules::new();
+        if !self.rules.note_named(at, &mut list) {
+            return None;
+        }
+        let whole = self.body_of(list.whole);
+        let Some(reward) = self.single(whole) else {
+            return None;
+        };
+        if !self.fill_named(at, &list, exceptions) {
+            return None;
+        }
+        Some(CommonReward {
+            reward,
+            exceptions: list.count,
+        })
+    }
+
+    /// Fills in the rewards of the observations that rules name. Returns whether there is room, and each of them is one of the model's.
+    fn fill_named(&self, at: Outcome, list: &NamedRules, cells: &mut [RewardCell]) -> bool
+        requires action { at.action < self.now.shape.actions }
+        requires start { at.start < self.now.shape.states }
+        requires end { at.end < self.now.shape.states }
+        requires newest { AreNewestAt self.now.rules at list.now }
+        ensures room { IsTrue result → list.now.count ≤ length cells.new }
+        ensures cells { IsTrue result → AreNamedCells self.now at list.now list.now.count cells.new }
+    {
+        if cells.len() < list.count {
+            return false;
+        }
+        for i in 0..list.count {
+            let rule = list.rules[i];
+            let observation = rule.observation;
+            if observation >= self.shape.observations {
+                return false;
+            }
+            let body = self.body_of(max_option(list.whole, Some(rule.number)));
+            let reward = self.given(body, &[at.action, at.start, at.end, observation]);
+            cells[i] = RewardCell {
+                observation,
+                reward,
+            };
+        }
+        true
+    }
+
+    /// Returns the reward if one look-up shows that it is the same for every observation: no entry names an
+    /// observation when this action is taken in the start state and ends in the end state, and the last that
     /// covers these has a single number.
-    pub fn alike(&self, action: usize, start: usize, end: usize) -> Option<i64>
+    pub fn for_all_observations(&self, action: usize, start: usize, end: usize) -> Option<i64>
         requires action { action < self.now.shape.actions }
         requires start { start < self.now.shape.states }
         requires end { end < self.now.shape.states }
@@ -202,16 +266,19 @@ impl Rewards {
             ForSome result (λ h. (z : ℕ) → z < self.now.shape.observations →
             reward p entries (action ∷ start ∷ end ∷ z ∷ []) ≡ h) }
     {
-        if self.rules.some_begins(action, start, &[end], AN_INDEX) {
+        if self
+            .rules
+            .some_begins(action, start, &[end], FIRST_INDEX_DIGIT)
+        {
             return None;
         }
         self.single(self.newest_body(action, start, &[end, 0]))
     }
 
-    /// The reward where it is known at once that it is the same for every end state and observation: no entry
-    /// names one of these where this action is taken in the start state, and the last that covers them has a
-    /// single number.
-    pub fn common(&self, action: usize, start: usize) -> Option<i64>
+    /// Returns the reward if one look-up shows that it is the same for every end state and observation: no
+    /// entry names one of these when this action is taken in the start state, and the last that covers them
+    /// has a single number.
+    pub fn for_all_ends(&self, action: usize, start: usize) -> Option<i64>
         requires action { action < self.now.shape.actions }
         requires start { start < self.now.shape.states }
         ensures { (p : Preamble) (entries : List E) → AreRewardsOf p entries self.now →
@@ -252,8 +319,8 @@ impl Rewards {
         !self.rules.names_start(action, other)
     }
 
-    /// Whether any entry of R is about this action and start state. If none is, all rewards are 0.
-    pub fn is_paid(&self, action: usize, start: usize) -> bool
+    /// Tests whether any entry of R is about this action and start state. If none is, all rewards are 0.
+    pub fn has_rewards(&self, action: usize, start: usize) -> bool
         requires action { action < self.now.shape.actions }
         requires start { start < self.now.shape.states }
         ensures unpaid { result ≡ false → (p : Preamble) (entries : List E) →
@@ -268,7 +335,7 @@ impl Rewards {
             Some(_) => true,
             None => some_begins(
                 self.rules.rules.as_slice(),
-                LOW,
+                REWARD_KEYS,
                 MOST_PLACES,
                 &[action, start],
                 0,
@@ -276,7 +343,8 @@ impl Rewards {
         }
     }
 
-    /// What the body of the last entry that covers the cell at these indices gives it; 0 where there is none.
+    /// Returns what the body of the last entry that covers the cell at these indices gives it; 0 if there is
+    /// none.
     fn given(&self, body: Option<RewardBody>, indices: &[usize]) -> i64
         requires { AreIndices most_places indices.now }
         ensures { (p : Preamble) (entries : List E) → AreRewardsOf p entries self.now →
@@ -286,7 +354,7 @@ impl Rewards {
     {
         match body {
             Some(body) => {
-                let left = behind(body.places, indices);
+                let left = following(body.places, indices);
                 let cell = cell_in(self.shape.states, self.shape.observations, left);
                 self.bodies.number_at(body, cell)
             }
@@ -294,7 +362,7 @@ impl Rewards {
         }
     }
 
-    /// What a body gives each cell that it is the last of, if it has a single number, or there is none.
+    /// Returns what a body gives each cell, if it has a single number; 0 if there is no body.
     fn single(&self, body: Option<RewardBody>) -> Option<i64>
         ensures { (p : Preamble) (entries : List E) → AreRewardsOf p entries self.now →
             ForSome result (λ h. (cell : List ℕ) →
@@ -311,7 +379,7 @@ impl Rewards {
         }
     }
 
-    /// The same as `given`, if it may be known what the body gives each cell.
+    /// Returns the same as `given`, in fewer steps if the body has a single number.
     fn single_or_given(
         &self,
         single: Option<i64>,
@@ -334,17 +402,22 @@ impl Rewards {
         }
     }
 
-    /// The number of the last entry that covers all cells that begin with these indices, if one does.
+    /// Returns the number of the last entry that covers all cells that begin with these indices, if one does.
     fn newest_number(&self, indices: &[usize]) -> Option<usize>
         requires { AreIndices most_places indices.now }
         ensures { (p : Preamble) (entries : List E) → AreRewardsOf p entries self.now →
             IsLastNumber entries RewardTable indices.now result }
     {
-        newest(self.rules.rules.as_slice(), LOW, MOST_PLACES, indices)
+        newest(
+            self.rules.rules.as_slice(),
+            REWARD_KEYS,
+            MOST_PLACES,
+            indices,
+        )
     }
 
-    /// The body of the last entry that covers the cell at an action, a start state and the indices after
-    /// them, if one does.
+    /// Returns the body of the last entry that covers the cell at an action, a start state and the indices
+    /// after them, if one does.
     fn newest_body(&self, action: usize, start: usize, rest: &[usize]) -> Option<RewardBody>
         requires { AreIndices most_places (action ∷ start ∷ rest.now) }
         ensures { (p : Preamble) (entries : List E) → AreRewardsOf p entries self.now →
@@ -353,7 +426,7 @@ impl Rewards {
         self.body_of(self.rules.newest(action, start, rest))
     }
 
-    /// The body of the rule of this number.
+    /// Returns the body of the rule of this number.
     fn body_of(&self, number: Option<usize>) -> Option<RewardBody>
         ensures { (indices : List ℕ) (p : Preamble) (entries : List E) → AreIndices most_places indices →
             AreRewardsOf p entries self.now →
@@ -367,7 +440,7 @@ impl Rewards {
     }
 }
 
-/// Whether a body of so many places has one number after an action and a start state, if there are so
+/// Tests whether a body of so many places has one number after an action and a start state, if there are so
 /// many observations.
 fn is_single(places: usize, observations: usize) -> bool
     ensures { IsTrue result → IsSingle observations places }
@@ -379,7 +452,7 @@ fn is_single(places: usize, observations: usize) -> bool
     }
 }
 
-/// Whether two rules have one number, or there are none.
+/// Tests whether two rules have one number, or both are missing.
 fn is_same(one: Option<usize>, other: Option<usize>) -> bool
     ensures { IsTrue result ↔ (one ≡ other) }
 {
@@ -390,7 +463,7 @@ fn is_same(one: Option<usize>, other: Option<usize>) -> bool
     }
 }
 
-/// The rules of R in an index, which is given up: no more is kept of it.
+/// Returns the rules of R in an index, which is given up: nothing else of it is kept.
 fn rules_of(alloc: Global, index: Index) -> Result<Vec<Rule>, AllocError>
     ensures rising { IfOk result (λ rules. IsRising rules.items) }
     ensures kept { IfOk result (λ rules. (r : R) →

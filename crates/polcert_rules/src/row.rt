@@ -7,13 +7,13 @@ ghost use Rattle.polcert_rules.specs.Keys.{key_base};
 ghost use Rattle.polcert_rules.specs.Steps.Newest.{AreKeyed, IsIndexOf, IsRising, IsNewest};
 ghost use Rattle.polcert_rules.specs.Steps.Rows.{HaveColumns, IsSingle, IsColumn, IsCell, columns_of, at_column};
 ghost use Rattle.polcert_rules.specs.Steps.Repeats.{IsWholeNumber};
-ghost use Rattle.polcert_rules.specs.Steps.Zeros.{AreOrdered, IsSplit, IsRowOf, under};
+ghost use Rattle.polcert_rules.specs.Steps.Zeros.{AreOrdered, IsSplit, IsRowOf, covering_entry};
 
 use crate::Rule;
-use crate::build::{newest_of_each, table_digit};
+use crate::build::{keep_newest_of_each, table_digit};
 use crate::keys::{COLUMN, COLUMN_KEYS, MOST_PLACES, first_column};
-use crate::newest::{later, span};
-use crate::part::between;
+use crate::newest::{max_option, span};
+use crate::rule_span::between;
 use crate::split::SplitRules;
 use crate::zeros::{RowZeros, row_zeros};
 use polcert_cells::Table;
@@ -56,21 +56,21 @@ impl<'a> Row<'a> {
         })
     }
 
-    /// What lies under the cells above 0 in a column, by its number: what covers the whole row, or a newer
+    /// Returns the number of what covers a column below its cell: the entry of the whole row, or a newer
     /// zero.
-    pub(crate) fn under(&self, column: usize) -> Option<usize>
+    pub(crate) fn covering_entry(&self, column: usize) -> Option<usize>
         requires ordered { IfSome self.now.zeros AreOrdered }
         requires column { column + 2 < key_base }
-        ensures { result ≡ under self.now column }
+        ensures { result ≡ covering_entry self.now column }
     {
         match self.zeros {
             None => self.whole,
-            Some(zeros) => later(self.whole, zeros.newest(column)),
+            Some(zeros) => max_option(self.whole, zeros.newest(column)),
         }
     }
 }
 
-/// The single cells of the row at this action and state, by column: of each column the newest.
+/// Returns the single cells of the row at this action and state, by column: of each column the newest.
 pub(crate) fn cells(
     alloc: Global,
     rules: &[Rule],
@@ -95,7 +95,8 @@ pub(crate) fn cells(
     add_columns(&mut cells, rules, first_column(low, action, 1))?;
     add_columns(&mut cells, rules, first_column(low, action, state))?;
     cells.sort_unstable_by_key(|cell| cell.key);
-    Ok(newest_of_each(alloc, cells.as_slice())?)
+    keep_newest_of_each(&mut cells);
+    Ok(cells)
 }
 
 /// Puts the single cells that begin at this key after the others.
@@ -109,7 +110,7 @@ fn add_columns(cells: &mut Vec<Rule>, rules: &[Rule], start: u64) -> Result<(), 
     Ok(())
 }
 
-/// The same of a part that has no others.
+/// Adds the cells of a part that has no others.
 fn add_part(cells: &mut Vec<Rule>, part: &[Rule], start: u64) -> Result<(), AllocError>
     requires { All (λ (r : R). start ≤ r.key) part.now }
     ensures { OnOk result (cells.new.items ≡ cells.old.items ++ columns_of start part.now) }

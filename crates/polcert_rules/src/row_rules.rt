@@ -1,24 +1,27 @@
 //! The rules of R, in which those whose first two places are known are found without a search.
-ghost use Rattle.std.specs.Prelude.{◌≡◌, ◌+◌, ◌<◌, ◌≤◌, ◌^◌, ◌↔◌, ◌∷◌, [], Contains, length, IfOk, IsFalse};
+ghost use Rattle.std.specs.Prelude.{◌≡◌, ◌+◌, ◌<◌, ◌≤◌, ◌^◌, ◌↔◌, ◌∷◌, [], Contains, length, IfOk, IsFalse, IsTrue};
 ghost use Rattle.polcert_cells.specs.declared.entry.Table.TheVariants.{Reward};
 ghost use Rattle.polcert_rules.specs.declared.rule.Rule.{Rule as R};
 ghost use Rattle.polcert_rules.specs.Steps.Newest.{IsRising, IsNewest};
 ghost use Rattle.polcert_rules.specs.Keys.{key_base, AreIndices, Fits, most_places, table_key};
+ghost use Rattle.polcert_rules.specs.Steps.Named.{AreNamed};
 ghost use Rattle.polcert_rules.specs.Steps.Noting.{AreNoted};
 ghost use Rattle.polcert_rules.specs.Steps.RewardSearch.{Begins, IsAnswer, NamesStart, NamesStartAfter};
 ghost use Rattle.polcert_rules.specs.Steps.Rewards.{IsSmall};
 
 use crate::Rule;
 use crate::keys::TABLE;
-use crate::newest::{first_at, later, newest, span};
+use crate::named_noting::note_ends;
+use crate::named_rules::NamedRules;
+use crate::newest::{first_at, max_option, newest, span};
 use crate::noting::{note, note_all};
-use crate::part::{RuleSpan, between, between_at, place_of, span_of};
 use crate::reward_parts::{Outcome, RewardShape};
 use crate::reward_search::some_begins;
+use crate::rule_span::{RuleSpan, between, between_at, place_of, span_of};
 use std::alloc::{AllocError, Global};
 
 /// The key that those of R follow.
-pub(crate) const LOW: u64 = 2 * TABLE;
+pub(crate) const REWARD_KEYS: u64 = 2 * TABLE;
 
 /// The digits of places in a key: none, `*`, and after these the indices.
 const NO_PLACE: usize = 0;
@@ -43,7 +46,7 @@ pub(crate) struct RowRules {
 }
 
 impl RowRules {
-    /// The rules, in a model of this shape.
+    /// Builds the rules in a model of this shape.
     pub(crate) fn of(
         alloc: Global,
         shape: RewardShape,
@@ -66,7 +69,7 @@ impl RowRules {
         let mut place = 0;
         for first in 0..firsts {
             for second in 0..seconds {
-                let key = LOW + first as u64 * span(3) + second as u64 * span(PLACES_LEFT);
+                let key = REWARD_KEYS + first as u64 * span(3) + second as u64 * span(PLACES_LEFT);
                 let start = place_of(rules.as_slice(), place, key);
                 place = place_of(rules.as_slice(), start, key + span(PLACES_LEFT));
                 spans.push(span_of(start, place))?;
@@ -79,7 +82,7 @@ impl RowRules {
         })
     }
 
-    /// The newest of the rules that fit an action, a start state and the indices after them.
+    /// Returns the newest of the rules that fit an action, a start state and the indices after them.
     pub(crate) fn newest(&self, action: usize, start: usize, rest: &[usize]) -> Option<usize>
         requires rising { IsRising self.now.rules.items }
         requires indices { AreIndices most_places (action ∷ start ∷ rest.now) }
@@ -87,15 +90,15 @@ impl RowRules {
             (Fits most_places (table_key Reward) (action ∷ start ∷ rest.now)) result }
     {
         let step = span(3);
-        let only = LOW + (action as u64 + 2) * step;
-        let here = first_at(self.part(NO_PLACE, NO_PLACE, LOW), LOW);
-        let of_every = self.newest_behind(EVERY, LOW + step, start, rest);
-        let of_only = self.newest_behind(action + INDICES, only, start, rest);
-        later(here, later(of_every, of_only))
+        let only = REWARD_KEYS + (action as u64 + 2) * step;
+        let here = first_at(self.part(NO_PLACE, NO_PLACE, REWARD_KEYS), REWARD_KEYS);
+        let of_every = self.newest_after(EVERY, REWARD_KEYS + step, start, rest);
+        let of_only = self.newest_after(action + INDICES, only, start, rest);
+        max_option(here, max_option(of_every, of_only))
     }
 
     /// Returns the same after a first place, which has this digit.
-    fn newest_behind(&self, digit: usize, low: u64, start: usize, rest: &[usize]) -> Option<usize>
+    fn newest_after(&self, digit: usize, low: u64, start: usize, rest: &[usize]) -> Option<usize>
         requires rising { IsRising self.now.rules.items }
         requires room { low + key_base ^ 3 < 2 ^ 64 }
         requires indices { AreIndices 3 (start ∷ rest.now) }
@@ -112,11 +115,11 @@ impl RowRules {
             PLACES_LEFT,
             rest,
         );
-        later(here, later(of_every, of_only))
+        max_option(here, max_option(of_every, of_only))
     }
 
-    /// Notes, for as many observations from `first` on as there is room for, the newest rule that fits an outcome and each of them,
-    /// where it is later than what is noted.
+    /// Notes, for each of the observations from `first` on for which there is room, the newest rule that fits
+    /// it and the outcome, if it is newer than the note.
     pub(crate) fn note(&self, at: Outcome, first: usize, noted: &mut [Option<usize>])
         requires rising { IsRising self.now.rules.items }
         requires indices { AreIndices most_places (at.action ∷ at.start ∷ at.end ∷ []) }
@@ -125,14 +128,17 @@ impl RowRules {
             (at.action ∷ at.start ∷ at.end ∷ []) first noted.old noted.new }
     {
         let step = span(3);
-        let only = LOW + (at.action as u64 + 2) * step;
-        note_all(noted, first_at(self.part(NO_PLACE, NO_PLACE, LOW), LOW));
-        self.note_behind(EVERY, LOW + step, at, first, noted);
-        self.note_behind(at.action + INDICES, only, at, first, noted);
+        let only = REWARD_KEYS + (at.action as u64 + 2) * step;
+        note_all(
+            noted,
+            first_at(self.part(NO_PLACE, NO_PLACE, REWARD_KEYS), REWARD_KEYS),
+        );
+        self.note_after(EVERY, REWARD_KEYS + step, at, first, noted);
+        self.note_after(at.action + INDICES, only, at, first, noted);
     }
 
     /// Returns the same after a first place, which has this digit.
-    fn note_behind(
+    fn note_after(
         &self,
         digit: usize,
         low: u64,
@@ -157,8 +163,44 @@ impl RowRules {
         note(rules_of_only, only, PLACES_LEFT, &rest, first, noted);
     }
 
-    /// Whether one of the rules begins with a place for an action, one for a start state and one for each of the indices after them
-    /// that fits it, and continues with a key of at least `least`.
+    /// Notes, for each observation, the newest rule that fits an outcome and the observation. Returns whether there was room.
+    pub(crate) fn note_named(&self, at: Outcome, list: &mut NamedRules) -> bool
+        requires rising { IsRising self.now.rules.items }
+        requires indices { AreIndices most_places (at.action ∷ at.start ∷ at.end ∷ []) }
+        ensures { IsTrue result → AreNamed self.now.rules.items most_places (table_key Reward)
+            (at.action ∷ at.start ∷ at.end ∷ []) list.old list.new }
+    {
+        let step = span(3);
+        let only = REWARD_KEYS + (at.action as u64 + 2) * step;
+        list.note_all(first_at(self.part(NO_PLACE, NO_PLACE, REWARD_KEYS), REWARD_KEYS));
+        if !self.note_named_after(EVERY, REWARD_KEYS + step, at, list) {
+            return false;
+        }
+        self.note_named_after(at.action + INDICES, only, at, list)
+    }
+
+    /// Returns the same after a first place, which has this digit.
+    fn note_named_after(&self, digit: usize, low: u64, at: Outcome, list: &mut NamedRules) -> bool
+        requires rising { IsRising self.now.rules.items }
+        requires room { low + key_base ^ 3 < 2 ^ 64 }
+        requires indices { AreIndices 3 (at.start ∷ at.end ∷ []) }
+        ensures { IsTrue result → AreNamed self.now.rules.items 3 low (at.start ∷ at.end ∷ [])
+            list.old list.new }
+    {
+        let step = span(PLACES_LEFT);
+        let every = low + step;
+        let only = low + (at.start as u64 + 2) * step;
+        list.note_all(first_at(self.part(digit, NO_PLACE, low), low));
+        let rules_of_every = self.part(digit, EVERY, every);
+        let rules_of_only = self.part(digit, at.start + INDICES, only);
+        if !note_ends(rules_of_every, every, at.end, list) {
+            return false;
+        }
+        note_ends(rules_of_only, only, at.end, list)
+    }
+
+    /// Tests whether one of the rules begins with a place for an action, one for a start state and one for
+    /// each of the indices after them that fits it, and continues with a key of at least `least`.
     pub(crate) fn some_begins(
         &self,
         action: usize,
@@ -173,13 +215,13 @@ impl RowRules {
             (Begins most_places (table_key Reward) (action ∷ start ∷ rest.now) least) result }
     {
         let step = span(3);
-        let only = LOW + (action as u64 + 2) * step;
-        self.some_begins_behind(EVERY, LOW + step, start, rest, least)
-            || self.some_begins_behind(action + INDICES, only, start, rest, least)
+        let only = REWARD_KEYS + (action as u64 + 2) * step;
+        self.some_begins_after(EVERY, REWARD_KEYS + step, start, rest, least)
+            || self.some_begins_after(action + INDICES, only, start, rest, least)
     }
 
     /// Returns the same after a first place, which has this digit.
-    fn some_begins_behind(
+    fn some_begins_after(
         &self,
         digit: usize,
         low: u64,
@@ -209,11 +251,11 @@ impl RowRules {
             → ⊥ }
     {
         let step = span(3);
-        let only = LOW + (action as u64 + 2) * step;
-        if first_at(self.part(NO_PLACE, NO_PLACE, LOW), LOW).is_some() {
+        let only = REWARD_KEYS + (action as u64 + 2) * step;
+        if first_at(self.part(NO_PLACE, NO_PLACE, REWARD_KEYS), REWARD_KEYS).is_some() {
             return true;
         }
-        self.names_start_after(EVERY, LOW + step, start)
+        self.names_start_after(EVERY, REWARD_KEYS + step, start)
             || self.names_start_after(action + INDICES, only, start)
     }
 
@@ -232,7 +274,7 @@ impl RowRules {
         !self.part(digit, start + INDICES, only).is_empty()
     }
 
-    /// The rules whose keys follow `low`, the key of two places with these digits.
+    /// Returns the rules whose keys follow `low`, the key of two places with these digits.
     fn part(&self, first: usize, second: usize, low: u64) -> &[Rule]
         requires rising { IsRising self.now.rules.items }
         requires room { low + key_base ^ 2 < 2 ^ 64 }

@@ -7,19 +7,22 @@ ghost use Rattle.polcert_rules.specs.Keys.{key_base};
 ghost use Rattle.polcert_rules.specs.Steps.Newest.{IsIndexOf};
 ghost use Rattle.polcert_rules.specs.Steps.Shapes.{IsShapeOf, AreSound};
 ghost use Rattle.polcert_rules.specs.Steps.Repeats.{IsAsBefore};
+ghost use Rattle.polcert_cells.specs.BorrowedRows.{IsRowOf};
 ghost use Rattle.polcert_cells.specs.Sparse.{weight_at, IsSparse};
+ghost use Rattle.polcert_rules.specs.Steps.Lists.{stored_cells};
 ghost use Rattle.polcert_rules.specs.Steps.Merging.{from as cells_from};
 ghost use Rattle.polcert_rules.specs.RowTables.{AreRowsOf, AreProperRows, IsFirstWrong, row_at};
 ghost use Rattle.polcert_rules.specs.Steps.Sources.{AreKept, AreGiven, AreLine, IsFirstWrongIn, Stays};
 
-use crate::kept::{Bodies, Keeper, Near};
 use crate::keys::KEY_BASE;
 use crate::lists::Lists;
 use crate::row::Row;
+use crate::row_store::{Bodies, Near, RowStore};
 use crate::split::SplitRules;
+use crate::stored_rows::{StoredRow, StoredRows, full_weight};
 use crate::wrong_row::WrongRow;
 use crate::{Index, Shape};
-use polcert_cells::{Cell, Entries, Table};
+use polcert_cells::{Cell, Entries, Row as BorrowedRow, Table};
 use std::alloc::{AllocError, Global};
 use std::marker::Model;
 
@@ -35,7 +38,7 @@ pub struct Rows {
     shape: Shape,
     /// Of each action the number of the row of each state.
     numbers: Lists<usize>,
-    rows: Lists<Cell>,
+    rows: StoredRows,
 }
 
 impl Model for Rows {
@@ -86,7 +89,7 @@ impl Rows {
     {
         let split = SplitRules::of(alloc, index.of_table(table), entries)?;
         let mut numbers = Lists::new(alloc);
-        let mut keeper = Keeper::of(alloc, entries, table, shape.states)?;
+        let mut keeper = RowStore::of(alloc, entries, table, shape.states)?;
         let given = TableEntries {
             bodies: Bodies { entries, shape },
             table,
@@ -110,30 +113,56 @@ impl Rows {
         }))
     }
 
-    /// The columns with a weight above 0, in order, with their weights.
-    pub fn row(&self, action: usize, state: usize) -> &[Cell]
+    /// Returns the row of an action and a state.
+    pub fn row(&self, action: usize, state: usize) -> BorrowedRow<'_>
         requires action { action < self.now.actions }
         requires state { state < self.now.states }
-        ensures row { result.now ≡ row_at self.now action state }
-        ensures sparse { IsSparse self.now.columns result.now }
+        ensures { IsRowOf (weight_at (row_at self.now action state)) self.now.columns result }
     {
-        self.rows.at(self.numbers.at(action)[state])
+        match self.stored(action, state) {
+            StoredRow::Sparse(cells) => BorrowedRow::Sparse(cells),
+            StoredRow::Full { numbers, columns } => BorrowedRow::Scaled {
+                numbers,
+                scale: columns,
+            },
+        }
     }
 
-    /// The weight of a column, 0 too.
+    /// Returns the weight of a column, 0 too.
     pub fn at(&self, action: usize, state: usize, column: usize) -> u64
         requires action { action < self.now.actions }
         requires state { state < self.now.states }
         ensures { result ≡ weight_at (row_at self.now action state) column }
     {
-        match cells_from(self.row(action, state), column).first() {
-            Some(cell) => if cell.column == column {
-                cell.weight
-            } else {
-                0
-            },
-            None => 0,
+        match self.stored(action, state) {
+            StoredRow::Sparse(cells) => cell_weight(cells, column),
+            StoredRow::Full { numbers, columns } => full_weight(numbers, columns, column),
         }
+    }
+
+    /// Returns the row of an action and a state, as it is kept.
+    fn stored(&self, action: usize, state: usize) -> StoredRow<'_>
+        requires action { action < self.now.actions }
+        requires state { state < self.now.states }
+        ensures row { stored_cells result ≡ row_at self.now action state }
+        ensures sparse { IsSparse self.now.columns (stored_cells result) }
+    {
+        self.rows.at(self.numbers.at(action)[state])
+    }
+}
+
+/// Returns the weight of a column in a sparse row, 0 too.
+fn cell_weight(cells: &[Cell], column: usize) -> u64
+    requires { (columns : ℕ) × IsSparse columns cells.now }
+    ensures { result ≡ weight_at cells.now column }
+{
+    match cells_from(cells, column).first() {
+        Some(cell) => if cell.column == column {
+            cell.weight
+        } else {
+            0
+        },
+        None => 0,
     }
 }
 
@@ -151,7 +180,7 @@ fn last(numbers: &Lists<usize>) -> &[usize]
 /// those of the action before.
 fn action_rows(
     alloc: Global,
-    keeper: &mut Keeper,
+    keeper: &mut RowStore,
     given: TableEntries<'_>,
     before: &[usize],
     action: usize,
@@ -201,7 +230,7 @@ fn is_as_before(index: &Index, table: Table, action: usize) -> bool
     false
 }
 
-/// The cells of a row from a column on. In a row without zeros a column stands at its own number.
+/// Returns the cells of a row from a column on. In a row without zeros a column stands at its own number.
 fn cells_from(cells: &[Cell], column: usize) -> &[Cell]
     requires { (columns : ℕ) × IsSparse columns cells.now }
     ensures { result.now ≡ cells_from column cells.now }
@@ -213,7 +242,7 @@ fn cells_from(cells: &[Cell], column: usize) -> &[Cell]
     &cells[start..]
 }
 
-/// Whether the cell of this number is that of the column of this number.
+/// Tests whether the cell of this number is that of the column of this number.
 fn stands_at_its_number(cells: &[Cell], column: usize) -> bool
     ensures { IsTrue result → (cell : C) × (slice_get cells.now column ≡ Some cell) × (cell.column ≡ column) }
 {

@@ -3,13 +3,13 @@ ghost use Rattle.std.specs.Prelude.{◌≡◌, ℕ, ◌≤◌, All, IfOk, IfSome
 ghost use Rattle.polcert_cells.specs.Elements.{most_elements};
 ghost use Rattle.polcert_rules.specs.Steps.Merging.{given_at, is_newer, newer_cells};
 ghost use Rattle.polcert_rules.specs.Steps.Sources.{IsNumber, IsColumnOf};
-ghost use Rattle.polcert_rules.specs.Steps.Zeros.{AreOrdered, under};
+ghost use Rattle.polcert_rules.specs.Steps.Zeros.{AreOrdered, covering_entry};
 
 use crate::row::Row;
 use polcert_cells::{BodyRef, Cell, Entries};
 use std::alloc::{AllocError, Global};
 
-/// Of the cells of a row those that are newer than what lies under them, with their weights.
+/// Returns the cells of a row that are newer than the entry below them, with their weights.
 pub(crate) fn newer_cells(
     alloc: Global,
     entries: &Entries,
@@ -20,12 +20,12 @@ pub(crate) fn newer_cells(
     requires cells { All (IsColumnOf columns entries.now) row.now.cells.items }
     requires ordered { IfSome row.now.zeros AreOrdered }
     ensures { IfOk result (λ newer. (s : ℕ) →
-        newer.items ≡ newer_cells columns entries.now (under row.now) s row.now.cells.items) }
+        newer.items ≡ newer_cells columns entries.now (covering_entry row.now) s row.now.cells.items) }
 {
     let mut newer = Vec::new(alloc);
     for rule in &row.cells {
         let column = rule.key as usize;
-        if is_newer(row.under(column), rule.number) {
+        if is_newer(row.covering_entry(column), rule.number) {
             let weight = single_weight(entries, rule.number, columns);
             newer.push(Cell { column, weight })?;
         }
@@ -33,17 +33,17 @@ pub(crate) fn newer_cells(
     Ok(newer)
 }
 
-/// Whether a number is greater than that of what is under it, if there is anything.
-pub(crate) fn is_newer(under: Option<usize>, number: usize) -> bool
-    ensures { result ≡ is_newer under number }
+/// Tests whether a number is greater than that of the entry below it, if there is one.
+pub(crate) fn is_newer(covering_entry: Option<usize>, number: usize) -> bool
+    ensures { result ≡ is_newer covering_entry number }
 {
-    match under {
+    match covering_entry {
         None => true,
-        Some(under) => under < number,
+        Some(covering_entry) => covering_entry < number,
     }
 }
 
-/// What the entry of this number gives, if it gives one number.
+/// Returns the weight that the entry of this number gives, if it gives one number.
 fn single_weight(entries: &Entries, number: usize, columns: usize) -> u64
     requires few { columns ≤ most_elements }
     requires number { IsNumber entries.now number }

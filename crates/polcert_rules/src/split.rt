@@ -23,13 +23,13 @@ pub(crate) struct SplitRules<'a> {
 #[derive(Drop)]
 pub(crate) enum Others<'a> {
     /// All rules, if there are no zeros.
-    Lent(&'a [Rule]),
+    Borrowed(&'a [Rule]),
     /// Those without the zeros.
     Listed(Vec<Rule>),
 }
 
 impl<'a> SplitRules<'a> {
-    /// These rules of these entries. An error is out of memory.
+    /// Splits these rules of these entries. An error is out of memory.
     pub(crate) fn of(
         alloc: Global,
         rules: &'a [Rule],
@@ -41,25 +41,25 @@ impl<'a> SplitRules<'a> {
     {
         let zeros = zeros_of(alloc, rules, entries)?;
         if zeros.is_empty() {
-            let others = Others::Lent(rules);
+            let others = Others::Borrowed(rules);
             return Ok(SplitRules { zeros, others });
         }
         let others = Others::Listed(others_of(alloc, rules, entries)?);
         Ok(SplitRules { zeros, others })
     }
 
-    /// The rules that are no zeros.
+    /// Returns the rules that are no zeros.
     pub(crate) fn others(&self) -> &[Rule]
         ensures { result.now ≡ others_in self.now.others }
     {
         match &self.others {
-            Others::Lent(rules) => rules,
+            Others::Borrowed(rules) => rules,
             Others::Listed(rules) => rules.as_slice(),
         }
     }
 }
 
-/// The zeros among these rules.
+/// Returns the zeros among these rules.
 fn zeros_of(alloc: Global, rules: &[Rule], entries: &Entries) -> Result<Vec<Rule>, AllocError>
     requires { All (λ (r : R). r.number < length entries.now) rules.now }
     ensures { IfOk result (λ zeros. zeros.items ≡ zeros_of entries.now rules.now) }
@@ -73,7 +73,7 @@ fn zeros_of(alloc: Global, rules: &[Rule], entries: &Entries) -> Result<Vec<Rule
     Ok(zeros)
 }
 
-/// The others.
+/// Returns the other rules.
 fn others_of(alloc: Global, rules: &[Rule], entries: &Entries) -> Result<Vec<Rule>, AllocError>
     requires { All (λ (r : R). r.number < length entries.now) rules.now }
     ensures { IfOk result (λ others. others.items ≡ others_of entries.now rules.now) }
@@ -87,7 +87,7 @@ fn others_of(alloc: Global, rules: &[Rule], entries: &Entries) -> Result<Vec<Rul
     Ok(others)
 }
 
-/// Whether the rule's entry gives single cells the weight 0.
+/// Tests whether the rule's entry gives single cells the weight 0.
 fn is_zero(entries: &Entries, rule: Rule) -> bool
     requires { rule.number < length entries.now }
     ensures { result ≡ is_zero entries.now rule.number }
@@ -95,7 +95,7 @@ fn is_zero(entries: &Entries, rule: Rule) -> bool
     gives_zero(entries.at(rule.number))
 }
 
-/// Whether the entry gives single cells the weight 0.
+/// Tests whether the entry gives single cells the weight 0.
 fn gives_zero(entry: EntryRef<'_>) -> bool
     ensures { result ≡ gives_zero (entry_of entry.entry) }
 {
@@ -106,7 +106,7 @@ fn gives_zero(entry: EntryRef<'_>) -> bool
     }
 }
 
-/// Whether the first number is 0.
+/// Tests whether the first number is 0.
 fn begins_with_zero(numbers: &[u32]) -> bool
     ensures { result ≡ (slice_index numbers.now 0 == 0) }
 {

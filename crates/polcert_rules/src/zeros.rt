@@ -7,8 +7,8 @@ ghost use Rattle.polcert_rules.specs.Steps.Zeros.{IsOrdered, AreOrdered, AreColu
 
 use crate::Rule;
 use crate::keys::{COLUMN, COLUMN_KEYS, first_column};
-use crate::newest::{first_at, later};
-use crate::part::{between, from};
+use crate::newest::{first_at, max_option};
+use crate::rule_span::{between, from};
 
 /// The zeros of a row of one kind of pattern, in the order of their columns, and the key of the first column.
 #[derive(Clone, Copy)]
@@ -31,7 +31,7 @@ pub(crate) struct RowZeros<'a> {
 }
 
 impl<'a> ZeroColumns<'a> {
-    /// The zeros among these rules from the key of the first column on.
+    /// Returns the zeros among these rules from the key of the first column on.
     fn of(rules: &'a [Rule], start: u64) -> ZeroColumns<'a>
         requires rising { IsRising rules.now }
         requires room { start + (key_base - 2) * key_base < 2 ^ 64 }
@@ -43,7 +43,7 @@ impl<'a> ZeroColumns<'a> {
         }
     }
 
-    /// The number of the zero of this column, if there is one.
+    /// Returns the number of the zero of this column, if there is one.
     fn newest(&self, column: usize) -> Option<usize>
         requires ordered { IsOrdered self.now }
         requires column { column + 2 < key_base }
@@ -55,18 +55,18 @@ impl<'a> ZeroColumns<'a> {
 }
 
 impl RowZeros<'_> {
-    /// The number of the newest zero of this column, if there is one.
+    /// Returns the number of the newest zero of this column, if there is one.
     pub(crate) fn newest(&self, column: usize) -> Option<usize>
         requires ordered { AreOrdered self.now }
         requires column { column + 2 < key_base }
         ensures { result ≡ newest_zero self.now column }
     {
-        let of_each_action = later(self.of_all.newest(column), self.of_state.newest(column));
-        let of_this_action = later(self.of_action.newest(column), self.of_row.newest(column));
-        later(of_each_action, of_this_action)
+        let of_each_action = max_option(self.of_all.newest(column), self.of_state.newest(column));
+        let of_this_action = max_option(self.of_action.newest(column), self.of_row.newest(column));
+        max_option(of_each_action, of_this_action)
     }
 
-    /// Whether the row has no zeros.
+    /// Tests whether the row has no zeros.
     fn is_empty(&self) -> bool
         ensures { IsTrue result → (c : ℕ) → newest_zero self.now c ≡ None }
     {
@@ -77,7 +77,7 @@ impl RowZeros<'_> {
     }
 }
 
-/// The zeros of the row at this action and state, if there are any.
+/// Returns the zeros of the row at this action and state, if there are any.
 pub(crate) fn row_zeros(
     rules: &[Rule],
     low: u64,

@@ -63,7 +63,7 @@ fn rewards(alloc: Global, costs: bool, lines: &[(&[usize], &[i64])]) -> Result<R
         entries.push(entry(alloc, pattern, written)?)?;
     }
     let index = Index::of(alloc, &entries)?;
-    Rewards::of(alloc, SHAPE, costs, &entries, index)
+    Rewards::of(alloc, SHAPE, costs, entries, index)
 }
 
 fn cells(alloc: Global, costs: bool, lines: &[(&[usize], &[i64])]) -> Option<[i64; CELLS]> {
@@ -87,11 +87,15 @@ fn filled(alloc: Global, costs: bool, lines: &[(&[usize], &[i64])]) -> Option<[i
     let mut all = [0; CELLS];
     for step in 0..CELLS / 2 {
         let mut seen = [99; 3];
-        let mut behind = [99; 1];
+        let mut following = [99; 1];
         rewards.fill(step / 4, step / 2 % 2, step % 2, 0, &mut seen);
-        rewards.fill(step / 4, step / 2 % 2, step % 2, 1, &mut behind);
+        rewards.fill(step / 4, step / 2 % 2, step % 2, 1, &mut following);
         all[step * 2] = seen[0];
-        all[step * 2 + 1] = if seen[1] == behind[0] { behind[0] } else { 99 };
+        all[step * 2 + 1] = if seen[1] == following[0] {
+            following[0]
+        } else {
+            99
+        };
     }
     Some(all)
 }
@@ -308,7 +312,7 @@ fn alike_at(
     requires end { end < 2 }
 {
     match rewards(alloc, false, lines) {
-        Ok(rewards) => Some(rewards.alike(action, start, end)),
+        Ok(rewards) => Some(rewards.for_all_observations(action, start, end)),
         Err(_) => None,
     }
 }
@@ -318,7 +322,7 @@ fn paid_at(alloc: Global, lines: &[(&[usize], &[i64])], action: usize, start: us
     requires start { start < 2 }
 {
     match rewards(alloc, false, lines) {
-        Ok(rewards) => Some(rewards.is_paid(action, start)),
+        Ok(rewards) => Some(rewards.has_rewards(action, start)),
         Err(_) => None,
     }
 }

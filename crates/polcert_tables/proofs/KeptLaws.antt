@@ -9,7 +9,10 @@ use Rattle.polcert_cells.specs.Elements.{count_of, most_states, most_actions, mo
 use Rattle.polcert_cells.specs.Preamble.{Preamble, is_mdp, observed, rewarded, columns}
 use Rattle.polcert_cells.specs.Start.{all_states}
 use Rattle.polcert_cells.specs.Cells.{weight, reward}
-use Rattle.polcert_cells.specs.Meaning.{observation_weight, reward_index, IsSame, observations_of, o_scale, sum_below}
+use Rattle.polcert_cells.specs.CommonRewards.{cell_at, IsCommonReward}
+use Rattle.polcert_cells.specs.declared.common_reward.CommonReward.{CommonReward}
+use Rattle.polcert_cells.specs.declared.common_reward.RewardCell.{RewardCell}
+use Rattle.polcert_cells.specs.Meaning.{observation_weight, reward_index, IsSame, sum_below}
 use Rattle.polcert_cells.specs.Steps.Drafts as drafts
 use Rattle.polcert_cells.specs.Sparse.{weight_at}
 use Rattle.polcert_rules.specs.RowTables.{RowTable, row_at, AreRowsOf}
@@ -23,7 +26,7 @@ use Rattle.polcert_cells.proofs.Basics.{true≢false}
 use Rattle.polcert_rules.proofs.RewardLaws.RewardAt.{reward_is}
 use Rattle.polcert_tables.specs.Kept.{Kept, observed_at, meaning}
 use Rattle.polcert_tables.specs.Steps.KeptOf.{IsKeptOf, AreObservationsOf}
-use Rattle.polcert_tables.specs.Steps.DraftView.{IsDraft}
+use Rattle.polcert_tables.specs.Steps.ModelView.{IsKeptModel}
 
 same_cell : (p : Preamble) (entries : List Entry) (table : Table) (t : RowTable) → AreRowsOf p entries table t
     → (a s c : ℕ) → a < count_of p.actions → s < count_of p.states → c < columns p table → weight_at (row_at t a s) c ≡ weight p entries table (a ∷ s ∷ c ∷ [])
@@ -107,54 +110,87 @@ states_seen p = at p.observations
     at None e = refl
     at (Some elements) e = absurd (true≢false e refl)
 
--- ---- of a draft
-few_in : (k : Kept) → IsDraft k → AreFew k.preamble
+-- otherwise rewards run over what is observed
+same_count : (p : Preamble) → is_mdp p ≡ false → count_of (rewarded p) ≡ count_of (observed p)
+same_count p = at p.observations
+  where
+    at : (o : Option Elements) → is_none o ≡ false → count_of (unwrap_or o (Count 1)) ≡ count_of (unwrap_or o p.states)
+    at None e = absurd (true≢false refl e)
+    at (Some elements) e = refl
+
+-- ---- of what a model keeps
+few_in : (k : Kept) → IsKeptModel k → AreFew k.preamble
 few_in k d = (d.actions.1, d.states.1, d.observations.1)
 
-module _ (k : Kept) (d : IsDraft k) where
+module _ (k : Kept) (d : IsKeptModel k) where
   -- what a reward depends on has its place in the rules
-  pub draft_index : (z : ℕ) → z < count_of (observed k.preamble) → reward_index k.preamble z < k.rewards.shape.observations
-  draft_index z l = subst (λ n. reward_index k.preamble z < n) d.r_counts.observations (index_within k.preamble z l)
+  pub model_index : (z : ℕ) → z < count_of (observed k.preamble) → reward_index k.preamble z < k.rewards.shape.observations
+  model_index z l = subst (λ n. reward_index k.preamble z < n) d.r_counts.observations (index_within k.preamble z l)
 
   -- what all entries give a cell of R is what the rules give it
-  pub draft_reward : (a s e z : ℕ) (h : ℤ) → a < count_of k.preamble.actions → s < count_of k.preamble.states → e < count_of k.preamble.states → z < count_of (observed k.preamble)
+  pub model_reward : (a s e z : ℕ) (h : ℤ) → a < count_of k.preamble.actions → s < count_of k.preamble.states → e < count_of k.preamble.states → z < count_of (observed k.preamble)
       → ((p : Preamble) (entries : List Entry) → AreRewardsOf p entries k.rewards → h ≡ reward p entries (a ∷ s ∷ e ∷ reward_index k.preamble z ∷ [])) → h ≡ (meaning k).r a s e z
-  draft_reward a s e z h i j l m is =
+  model_reward a s e z h i j l m is =
       is d.items.preamble d.items.entries d.said.rewards
       ∙ ap (λ (p : Preamble). reward d.items.preamble d.items.entries (a ∷ s ∷ e ∷ reward_index p z ∷ [])) d.said.preamble
       ∙ sym ((kept_same d.items k (few_in k d) d.said).r a s e z i j l m)
 
-  pub draft_alike : (a s e : ℕ) (found : Option ℤ) → a < count_of k.preamble.actions → s < count_of k.preamble.states → e < count_of k.preamble.states
+  pub model_for_all_observations : (a s e : ℕ) (found : Option ℤ) → a < count_of k.preamble.actions → s < count_of k.preamble.states → e < count_of k.preamble.states
       → ((p : Preamble) (entries : List Entry) → AreRewardsOf p entries k.rewards → ForSome found (λ h. (z : ℕ) → z < k.rewards.shape.observations → reward p entries (a ∷ s ∷ e ∷ z ∷ []) ≡ h))
       → ForSome found (λ h. (z : ℕ) → z < count_of (observed k.preamble) → (meaning k).r a s e z ≡ h)
-  draft_alike a s e found i j l alike = λ h is z m.
+  model_for_all_observations a s e found i j l alike = λ h is z m.
       (kept_same d.items k (few_in k d) d.said).r a s e z i j l m
       ∙ ap (λ (p : Preamble). reward d.items.preamble d.items.entries (a ∷ s ∷ e ∷ reward_index p z ∷ [])) (sym d.said.preamble)
-      ∙ alike d.items.preamble d.items.entries d.said.rewards h is (reward_index k.preamble z) (draft_index z m)
+      ∙ alike d.items.preamble d.items.entries d.said.rewards h is (reward_index k.preamble z) (model_index z m)
 
-  pub draft_common : (a s : ℕ) (found : Option ℤ) → a < count_of k.preamble.actions → s < count_of k.preamble.states
+  -- where observations are named, a reward runs over them
+  rewards_seen : is_mdp k.preamble ≡ false → k.rewards.shape.observations ≡ count_of (observed k.preamble)
+  rewards_seen pomdp = sym d.r_counts.observations ∙ same_count k.preamble pomdp
+
+  pub model_common_reward : (a s e : ℕ) (found : Option CommonReward) (cells : List RewardCell) → a < count_of k.preamble.actions → s < count_of k.preamble.states → e < count_of k.preamble.states
+      → is_mdp k.preamble ≡ false
+      → ((p : Preamble) (entries : List Entry) → AreRewardsOf p entries k.rewards
+      → ForSome found (λ common. IsCommonReward (λ z. reward p entries (a ∷ s ∷ e ∷ z ∷ [])) k.rewards.shape.observations common cells))
+      → ForSome found (λ common. IsCommonReward ((meaning k).r a s e) (count_of (observed k.preamble)) common cells)
+  model_common_reward a s e found cells i j l pomdp given = λ common is.
+      let c = given d.items.preamble d.items.entries d.said.rewards common is in
+      let same = rewards_seen pomdp in
+      let within : (n : ℕ) → n < common.exceptions → (cell_at cells n).observation < count_of (observed k.preamble) = λ n m. subst (λ size. (cell_at cells n).observation < size) same (c.within n m) in
+      let there : (z : ℕ) → z < count_of (observed k.preamble) → (meaning k).r a s e z ≡ reward d.items.preamble d.items.entries (a ∷ s ∷ e ∷ z ∷ []) = λ z m.
+      (kept_same d.items k (few_in k d) d.said).r a s e z i j l m
+      ∙ ap (λ (p : Preamble). reward d.items.preamble d.items.entries (a ∷ s ∷ e ∷ reward_index p z ∷ [])) (sym d.said.preamble)
+      ∙ ap (λ y. reward d.items.preamble d.items.entries (a ∷ s ∷ e ∷ y ∷ [])) (observed_index k.preamble z pomdp) in
+      record {
+        room = c.room;
+        distinct = c.distinct;
+        within = within;
+        each = λ n m. there (cell_at cells n).observation (within n m) ∙ c.each n m;
+        others = λ z m unnamed. there z m ∙ c.others z (subst (λ size. z < size) (sym same) m) unnamed;
+      }
+
+  pub model_for_all_ends : (a s : ℕ) (found : Option ℤ) → a < count_of k.preamble.actions → s < count_of k.preamble.states
       → ((p : Preamble) (entries : List Entry) → AreRewardsOf p entries k.rewards
       → ForSome found (λ h. (e z : ℕ) → e < k.rewards.shape.states → z < k.rewards.shape.observations → reward p entries (a ∷ s ∷ e ∷ z ∷ []) ≡ h))
       → ForSome found (λ h. (e z : ℕ) → e < count_of k.preamble.states → z < count_of (observed k.preamble) → (meaning k).r a s e z ≡ h)
-  draft_common a s found i j common = λ h is e z l m.
+  model_for_all_ends a s found i j common = λ h is e z l m.
       (kept_same d.items k (few_in k d) d.said).r a s e z i j l m
       ∙ ap (λ (p : Preamble). reward d.items.preamble d.items.entries (a ∷ s ∷ e ∷ reward_index p z ∷ [])) (sym d.said.preamble)
-      ∙ common d.items.preamble d.items.entries d.said.rewards h is e (reward_index k.preamble z) (subst (λ n. e < n) d.r_counts.states l) (draft_index z m)
+      ∙ common d.items.preamble d.items.entries d.said.rewards h is e (reward_index k.preamble z) (subst (λ n. e < n) d.r_counts.states l) (model_index z m)
 
-  pub draft_same : (a s other : ℕ) → a < count_of k.preamble.actions → s < count_of k.preamble.states → other < count_of k.preamble.states
+  pub model_same : (a s other : ℕ) → a < count_of k.preamble.actions → s < count_of k.preamble.states → other < count_of k.preamble.states
       → ((p : Preamble) (entries : List Entry) → AreRewardsOf p entries k.rewards → (e z : ℕ) → e < k.rewards.shape.states → z < k.rewards.shape.observations
       → reward p entries (a ∷ s ∷ e ∷ z ∷ []) ≡ reward p entries (a ∷ other ∷ e ∷ z ∷ []))
       → (e z : ℕ) → e < count_of k.preamble.states → z < count_of (observed k.preamble) → (meaning k).r a s e z ≡ (meaning k).r a other e z
-  draft_same a s other i j o same e z l m =
+  model_same a s other i j o same e z l m =
       let cells = kept_same d.items k (few_in k d) d.said in
       let index = reward_index d.items.preamble z in
-      let below : index < k.rewards.shape.observations = subst (λ (p : Preamble). reward_index p z < k.rewards.shape.observations) d.said.preamble (draft_index z m) in
+      let below : index < k.rewards.shape.observations = subst (λ (p : Preamble). reward_index p z < k.rewards.shape.observations) d.said.preamble (model_index z m) in
       cells.r a s e z i j l m
       ∙ same d.items.preamble d.items.entries d.said.rewards e index (subst (λ n. e < n) d.r_counts.states l) below
       ∙ sym (cells.r a other e z i o l m)
 
-  pub draft_unpaid : (a s : ℕ) → a < count_of k.preamble.actions → s < count_of k.preamble.states
+  pub model_unpaid : (a s : ℕ) → a < count_of k.preamble.actions → s < count_of k.preamble.states
       → ((p : Preamble) (entries : List Entry) → AreRewardsOf p entries k.rewards → (e z : ℕ) → reward p entries (a ∷ s ∷ e ∷ z ∷ []) ≡ pos 0)
       → (e z : ℕ) → e < count_of k.preamble.states → z < count_of (observed k.preamble) → (meaning k).r a s e z ≡ pos 0
-  draft_unpaid a s i j none e z l m =
+  model_unpaid a s i j none e z l m =
       (kept_same d.items k (few_in k d) d.said).r a s e z i j l m ∙ none d.items.preamble d.items.entries d.said.rewards e (reward_index d.items.preamble z)

@@ -1,4 +1,4 @@
-pub mod DraftLaws
+pub mod BuiltModels
 pub mod FilledLaws
 pub mod KeptLaws
 pub mod RowSumLaws

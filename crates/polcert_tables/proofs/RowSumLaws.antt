@@ -58,7 +58,7 @@ module _ (d : drafts.Draft) where
     state = h.state;
     wrong = h.wrong;
     before = record { earlier_actions = h.earlier_actions; same_action = h.same_action };
-    behind_transitions = tt;
+    after_transitions = tt;
   })
 
   pub wrong_observation : (w : WrongRow) → AreProperRows d.preamble d.entries Transition → is_mdp d.preamble ≡ false → IsFirstWrong d.preamble d.entries Observation w
@@ -71,5 +71,5 @@ module _ (d : drafts.Draft) where
       earlier_actions = λ b r i j. subst (O_sums d b r) (sym pomdp) (h.earlier_actions b r i j);
       same_action = λ r i. subst (O_sums d w.action r) (sym pomdp) (h.same_action r i);
     };
-    behind_transitions = t;
+    after_transitions = t;
   })

@@ -2,16 +2,16 @@
 -- Source: the POMDP file format page at pomdp.org: the preamble, a start item or none, and the lines of T, O and R.
 use Rattle.polcert_cells.specs.Meaning.{Meaning, HasProperRows, HasLimitedNumbers}
 use Rattle.polcert_format.specs.Writable.{IsWritable}
-use Rattle.polcert_tables.specs.Kept as kept
+use Rattle.polcert_tables.specs.Kept as parts
 use Rattle.polcert_tables.specs.Kept.{Kept}
 
 -- what is kept of the text, where each row sums to its scale, all lies within limits and can be written
 pub record Contents : Type 0 where
-  pub draft : Kept
-  pub rows : HasProperRows (kept.meaning draft)
-  pub limits : HasLimitedNumbers (kept.meaning draft)
-  pub writable : IsWritable (kept.meaning draft)
+  pub kept : Kept
+  pub rows : HasProperRows (parts.meaning kept)
+  pub limits : HasLimitedNumbers (parts.meaning kept)
+  pub writable : IsWritable (parts.meaning kept)
 
 -- what they denote
 abbrev pub meaning : Contents → Meaning
-meaning c = kept.meaning c.draft
+meaning c = parts.meaning c.kept

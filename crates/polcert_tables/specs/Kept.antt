@@ -1,6 +1,6 @@
 -- What a model keeps of its text, and what that means: the preamble, the start, and the cells as sparse rows and as rules.
 use Rattle.std.specs.Prelude.{ℕ, ◌*◌, ◌==◌, if◌then◌else◌, Option, Some, None, unwrap_or}
-use Rattle.polcert_cells.specs.declared.shares.Shares.{Shares}
+use Rattle.polcert_cells.specs.declared.start_weights.StartWeights.{StartWeights}
 use Rattle.polcert_cells.specs.Elements.{count_of}
 use Rattle.polcert_cells.specs.Numbers.{one}
 use Rattle.polcert_cells.specs.Preamble.{Preamble}
@@ -13,7 +13,7 @@ use Rattle.polcert_rules.specs.RewardAt.{RewardRules, reward_at}
 -- (an MDP keeps no rows of O)
 pub record Kept : Type 0 where
   pub preamble : Preamble
-  pub start : Option Shares
+  pub start : Option StartWeights
   pub transitions : RowTable
   pub observations : Option RowTable
   pub rewards : RewardRules

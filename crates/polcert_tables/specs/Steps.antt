@@ -1,4 +1,4 @@
 -- What nobody has to believe: only contracts of private functions, and of layers below the crates that callers use, cite these.
-pub mod DraftView
 pub mod KeptOf
+pub mod ModelView
 pub mod RowSums

@@ -95,8 +95,8 @@ impl Cells for DenseModel {
     }
 }
 
-/// The model with filled tables that says what this model says: the same counts, discount, scales and cells. `printable` tells
-/// whether a model's tables may be filled. Out of memory is the only error.
+/// Returns the model with filled tables that has the counts, discount, scales and cells of this one. `printable` tells whether a
+/// model's tables may be filled. The only error is out of memory.
 pub fn dense_of(alloc: Global, model: &Model) -> Result<DenseModel, AllocError>
     requires printable { IsPrintable (meaning model.now).preamble }
     ensures { IfOk result (λ dense. HasSameCells (table_of (meaning model.now)) (filled_table dense.lists)) }
@@ -112,7 +112,7 @@ pub fn dense_of(alloc: Global, model: &Model) -> Result<DenseModel, AllocError>
     })
 }
 
-/// Every cell of T.
+/// Returns every cell of T, row after row.
 fn transitions_of(alloc: Global, model: &Model) -> Result<Vec<u64>, AllocError>
     ensures { IfOk result (λ cells. AreTransitions (table_of (meaning model.now)) cells.items) }
 {
@@ -126,7 +126,7 @@ fn transitions_of(alloc: Global, model: &Model) -> Result<Vec<u64>, AllocError>
     Ok(cells)
 }
 
-/// Every cell of O.
+/// Returns every cell of O, row after row.
 fn observed_of(alloc: Global, model: &Model) -> Result<Vec<u64>, AllocError>
     ensures { IfOk result (λ cells. AreObservations (table_of (meaning model.now)) cells.items) }
 {
@@ -141,7 +141,7 @@ fn observed_of(alloc: Global, model: &Model) -> Result<Vec<u64>, AllocError>
     Ok(cells)
 }
 
-/// Every cell of R.
+/// Returns every cell of R, row after row.
 fn rewards_of(alloc: Global, model: &Model) -> Result<Vec<i64>, AllocError>
     ensures { IfOk result (λ cells. AreRewards (table_of (meaning model.now)) cells.items) }
 {
@@ -177,7 +177,7 @@ fn push_rewards(
         cells.new.items) }
 {
     let observations = model.observations();
-    match model.r_alike(a, s, e) {
+    match model.r_for_all_z(a, s, e) {
         Some(reward) => for _ in 0..observations {
             cells.push(reward)?;
         },

@@ -3,13 +3,8 @@
 #![tactic(auto)]
 
 mod dense;
-mod draft;
 mod model;
-mod preamble;
-mod table;
 
 pub use dense::{DenseModel, dense_of};
-pub use draft::{Draft, count_or};
-pub use model::{MOST_CELLS, Model};
+pub use model::{MOST_CELLS, Model, Preamble, build_model, count_or, row_of};
 pub use polcert_rules::WrongRow;
-pub use preamble::Preamble;

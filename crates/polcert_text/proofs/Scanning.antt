@@ -9,3 +9,4 @@ pub mod LexemeLaws
 pub mod Runs
 pub mod SeenLaws
 pub mod SomeCut
+pub mod Tests

@@ -1,6 +1,7 @@
 -- Texts that come from a source.
 pub mod Giving
 pub mod ReadTexts
+pub mod SliceTexts
 pub mod StreamGaps
 pub mod StreamLaws
 pub mod StreamLexemes

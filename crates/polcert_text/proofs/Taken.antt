@@ -2,4 +2,5 @@
 pub mod BeginLaws
 pub mod ValueLaws
 pub mod PassedTokens
+pub mod TakenAhead
 pub mod TakenTokens

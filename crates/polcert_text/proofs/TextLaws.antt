@@ -23,7 +23,7 @@ one_next_token = cuts.one_next
 pub one_end : (rest : Rest) (x y : Option TokenFault) → Ends rest x → Ends rest y → x ≡ y
 one_end = cuts.one_end
 
-pub token_or_end : (rest : Rest) (t : Lexeme) (behind : Rest) (x : Option TokenFault) → TakesToken rest t behind → Ends rest x → ⊥
+pub token_or_end : (rest : Rest) (t : Lexeme) (following : Rest) (x : Option TokenFault) → TakesToken rest t following → Ends rest x → ⊥
 token_or_end = cuts.no_token_and_end
 
 some-eq : {A : Type 0} (x y : A) → Some x ≡ Some y → x ≡ y

@@ -9,8 +9,8 @@ use Rattle.polcert_text.specs.TakenTokens.{Taken}
 use Rattle.polcert_text.specs.declared.lexeme.TokenKind.{TokenKind}
 use Rattle.polcert_text.specs.declared.lexeme.TokenKind.TheVariants.{Numeral, Plus, Minus}
 use Rattle.polcert_text.specs.declared.tokens.TokenFault.{TokenFault}
-use Rattle.polcert_text.specs.declared.beginning.FrontDigits.{FrontDigits}
-use Rattle.polcert_text.specs.declared.beginning.FrontNumber.{FrontNumber}
+use Rattle.polcert_text.specs.declared.front_tokens.FrontDigits.{FrontDigits}
+use Rattle.polcert_text.specs.declared.front_tokens.FrontNumber.{FrontNumber}
 
 -- what is still to be cut, from an offset on
 abbrev pub rest_at : ℕ → List ℕ → Option TokenFault → Rest
@@ -24,7 +24,7 @@ pub record BeginWith (place : ℕ) (bytes : List ℕ) (count : ℕ) (tokens : Li
 
 -- so many bytes were given of what is ahead, and no token since
 abbrev pub passed : ℕ → Stream → Stream
-passed n s = record { ahead = skip n s.ahead; lent = []; stop = s.stop }
+passed n s = record { ahead = skip n s.ahead; borrowed = []; stop = s.stop }
 
 -- the lexeme, where the bytes that its place is counted from stand at this offset
 abbrev pub moved : ℕ → Lexeme → Lexeme

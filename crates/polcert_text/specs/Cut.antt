@@ -77,7 +77,7 @@ pub record Ends (rest : Rest) (answer : Option TokenFault) : Type 0 where
 -- the rest is these tokens, one after another, and then ends cleanly (`None`) or in a fault
 abbrev pub IsCut : Rest → List Lexeme → Option TokenFault → Type 0
 IsCut rest [] answer = Ends rest answer
-IsCut rest (token ∷ tokens) answer = (behind : Rest) × TakesToken rest token behind × IsCut behind tokens answer
+IsCut rest (token ∷ tokens) answer = (following : Rest) × TakesToken rest token following × IsCut following tokens answer
 
 -- the rest has a cut
 abbrev pub HasCut : Rest → Type 0

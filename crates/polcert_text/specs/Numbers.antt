@@ -1,12 +1,12 @@
 -- The value of a numeral, in millionths.
 -- Source: the decimal numbers of the POMDP file format page (pomdp.org), read exactly. The limits are our own: at most
 -- 400 bytes, an exponent of at most 400 in size, a value of at most 10,000,000 in size.
-use Rattle.std.specs.Prelude.{◌≡◌, ℕ, ◌+◌, ◌-◌, ◌*◌, ◌^◌, ◌<◌, ◌≤◌, Bool, true, false, ◌⊎◌, List, [], ◌∷◌, ◌++◌, length, if◌then◌else◌, ℤ, pos, neg_ℤ, ◌*ℤ◌, ◌≤ℤ◌}
+use Rattle.std.specs.Prelude.{◌≡◌, ℕ, ◌+◌, ◌-◌, ◌*◌, ◌^◌, ◌<◌, ◌≤◌, ◌==◌, Bool, true, false, ◌⊎◌, List, [], ◌∷◌, ◌++◌, length, if◌then◌else◌, ℤ, pos, neg_ℤ, ◌*ℤ◌, ◌≤ℤ◌}
+use Rattle.std.specs.List.{before_first, after_first}
+use Rattle.std.specs.Str.{byte}
 use Rattle.std.specs.Str.Parse.{digits_value}
-use Rattle.polcert_text.specs.Bytes.{class_of, is_point, is_sign, is_exponent_mark}
-use Rattle.polcert_text.specs.Lexemes.{before, after, is_numeral}
-use Rattle.polcert_text.specs.declared.bytes.ByteClass.{ByteClass}
-use Rattle.polcert_text.specs.declared.bytes.ByteClass.TheVariants.{Minus}
+use Rattle.polcert_text.specs.Bytes.{is_point, is_exponent_mark}
+use Rattle.polcert_text.specs.Lexemes.{without_sign, is_numeral}
 use Rattle.polcert_text.specs.declared.number.Rounding.{Rounding}
 use Rattle.polcert_text.specs.declared.number.Rounding.TheVariants.{Down, Up}
 use Rattle.polcert_text.specs.declared.number.NumberFault.{NumberFault}
@@ -14,30 +14,22 @@ use Rattle.polcert_text.specs.declared.number.NumberFault.TheVariants.{NotANumer
 
 -- the digits before the point, and those after it
 abbrev pub whole_of : List ℕ → List ℕ
-whole_of bs = before is_point (before is_exponent_mark bs)
+whole_of bs = before_first is_point (before_first is_exponent_mark bs)
 
 abbrev pub fraction_of : List ℕ → List ℕ
-fraction_of bs = after is_point (before is_exponent_mark bs)
+fraction_of bs = after_first is_point (before_first is_exponent_mark bs)
 
 -- what stands after `e` or `E`, or nothing
 abbrev pub exponent_of : List ℕ → List ℕ
-exponent_of bs = after is_exponent_mark bs
+exponent_of bs = after_first is_exponent_mark bs
 
 -- the digits of a numeral without the point, as one whole number
 unfoldable pub number_of : List ℕ → ℕ
 number_of bs = digits_value 10 (whole_of bs ++ fraction_of bs)
 
-abbrev pub minus_class : ByteClass → Bool
-minus_class Minus = true
-minus_class _ = false
-
 abbrev pub is_lowering : List ℕ → Bool
 is_lowering [] = false
-is_lowering (b ∷ bs) = minus_class (class_of b)
-
-abbrev pub without_sign : List ℕ → List ℕ
-without_sign [] = []
-without_sign (b ∷ bs) = if is_sign b then bs else b ∷ bs
+is_lowering (b ∷ bs) = b == byte "-"
 
 -- the size of the written exponent
 unfoldable pub exponent_size : List ℕ → ℕ

@@ -32,7 +32,7 @@ skip n a = record { place = a.place + n; kept = drop n a.kept; limit = a.limit; 
 -- has stopped.
 pub record Stream : Type 0 where
   pub ahead : Ahead
-  pub lent : List ℕ
+  pub borrowed : List ℕ
   pub stop : Option LastAnswer
 
 -- what is still to be cut of a text, from an offset on: the bytes below the limit; a byte at the limit is a fault there
@@ -57,7 +57,7 @@ CanFollow ahead more = ahead.is_whole ≡ true → more ≡ []
 
 -- a stream that has read nothing
 abbrev pub fresh : ℕ → Stream
-fresh limit = record { ahead = record { place = 0; kept = []; limit = limit; is_whole = false }; lent = []; stop = None }
+fresh limit = record { ahead = record { place = 0; kept = []; limit = limit; is_whole = false }; borrowed = []; stop = None }
 
 -- what a stream that has stopped answers
 abbrev pub answer_of : {T : Type 0} → LastAnswer → Result (Option T) StreamFault

@@ -24,7 +24,7 @@ impl Model for Buffer {
 }
 
 impl Buffer {
-    /// No bytes.
+    /// Makes an empty window.
     pub fn new() -> Buffer
         ensures { result ≡ [] }
     {
@@ -34,7 +34,7 @@ impl Buffer {
         }
     }
 
-    /// The bytes, in the order in which they came.
+    /// Returns the bytes, in the order in which they came.
     pub fn as_bytes(&self) -> &[u8]
         ensures bytes { result.now ≡ self.now }
         ensures few { length self.now ≤ 4096 }

@@ -4,8 +4,8 @@ ghost use Rattle.std.specs.Str.Parse.{digits_value};
 ghost use Rattle.polcert_text.specs.FrontValues.{BeginWithValue};
 ghost use Rattle.polcert_text.specs.Steps.FrontSizes.{AreDigitsFrom, IsTail, EndsAsSize};
 
-use crate::beginning::blanks;
-use crate::bytes::{is_surely_blank, is_surely_digit, is_surely_minus, is_surely_point};
+use crate::bytes::{quick_is_blank, quick_is_digit, quick_is_minus, quick_is_point};
+use crate::front_tokens::blanks;
 use crate::number::{LARGEST, MILLION, Rounding, Size, with_zeros};
 
 /// A value at the front of some bytes: how many bytes it takes with the blanks before it, and its millionths.
@@ -29,15 +29,16 @@ struct Tail {
     is_inexact: bool,
 }
 
-/// The number that the bytes begin with, rounded to whole millionths, if a blank or a line end follows its numeral: digits, perhaps
-/// with a point and digits, and perhaps a `-` before them. `None` says nothing.
+/// Returns the number that the bytes begin with, rounded to whole millionths, if a blank or a line end
+/// follows its numeral: digits, perhaps with a point and digits, and perhaps a `-` before them. `None`:
+/// unknown, take the slow path.
 #[inline(always)]
 pub fn front_value(rounding: Rounding, bytes: &[u8]) -> Option<FrontValue>
     ensures { IfSome result (λ value. (place : ℕ) → BeginWithValue rounding place bytes.now value) }
 {
     let start = blanks(bytes);
     let rest = &bytes[start..];
-    if !rest.is_empty() && is_surely_minus(rest[0]) {
+    if !rest.is_empty() && quick_is_minus(rest[0]) {
         let Some(numeral) = ended_size(&rest[1..]) else {
             return None;
         };
@@ -67,7 +68,8 @@ const ROOM: usize = MOST_DIGITS + DECIMALS + 1;
 /// More decimals after the sixth are rare, and read the general way.
 const LONGEST_TAIL: usize = 300;
 
-/// The numeral at the front, if a blank or a line end follows it. `None` says nothing.
+/// Returns the numeral at the front, if a blank or a line end follows it. `None`: unknown, take the slow
+/// path.
 #[inline(always)]
 fn ended_size(bytes: &[u8]) -> Option<FrontSize>
     ensures { IfSome result (EndsAsSize bytes.now) }
@@ -79,7 +81,7 @@ fn ended_size(bytes: &[u8]) -> Option<FrontSize>
     if point == 0 {
         return None;
     }
-    if is_surely_blank(bytes[point]) {
+    if quick_is_blank(bytes[point]) {
         if whole >= LARGEST / MILLION {
             return None;
         }
@@ -91,13 +93,13 @@ fn ended_size(bytes: &[u8]) -> Option<FrontSize>
             },
         });
     }
-    if !is_surely_point(bytes[point]) {
+    if !quick_is_point(bytes[point]) {
         return None;
     }
     let full = point + DECIMALS;
     let (number, kept) = few_digits(whole, bytes, point + 1, full);
     let tail = tail_from(bytes, kept, full);
-    if tail.end == bytes.len() || !is_surely_blank(bytes[tail.end]) || number > LARGEST {
+    if tail.end == bytes.len() || !quick_is_blank(bytes[tail.end]) || number > LARGEST {
         return None;
     }
     let floor = with_zeros(number, full - kept);
@@ -113,8 +115,9 @@ fn ended_size(bytes: &[u8]) -> Option<FrontSize>
     })
 }
 
-/// The number that the digits of `number` and those from `from` up to `until` spell, up to the first byte that is no digit, and where
-/// that is. They are so few that it is not tested for each whether the number is too large.
+/// Returns the number that the digits of `number` and those from `from` up to `until` spell, up to the first
+/// byte that is no digit, and where that is. They are so few that no test is needed for a number that is too
+/// large.
 #[inline(always)]
 fn few_digits(number: u64, bytes: &[u8], from: usize, until: usize) -> (u64, usize)
     requires range { from ≤ until }
@@ -128,20 +131,20 @@ fn few_digits(number: u64, bytes: &[u8], from: usize, until: usize) -> (u64, usi
 {
     let mut read = number;
     let mut at = from;
-    while at < until && is_surely_digit(bytes[at]) {
+    while at < until && quick_is_digit(bytes[at]) {
         read = read * 10 + u64::from(bytes[at] - b'0');
         at += 1;
     }
     (read, at)
 }
 
-/// The decimals from `from` on, if those before are six, which end at `full`.
+/// Returns the decimals from `from` on, if those before are six, which end at `full`.
 #[inline(always)]
 fn tail_from(bytes: &[u8], from: usize, full: usize) -> Tail
     requires { from < length bytes.now }
     ensures { IsTail bytes.now from full result }
 {
-    if from < full || is_surely_blank(bytes[from]) {
+    if from < full || quick_is_blank(bytes[from]) {
         return Tail {
             end: from,
             is_inexact: false,
@@ -159,7 +162,7 @@ fn tail_from(bytes: &[u8], from: usize, full: usize) -> Tail
     }
 }
 
-/// Where the digits from `from` on end, or `until` if they go on.
+/// Returns where the digits from `from` on end, or `until` if they continue there.
 #[inline(always)]
 fn digits_end(bytes: &[u8], from: usize, until: usize) -> usize
     requires range { from ≤ until }
@@ -168,7 +171,7 @@ fn digits_end(bytes: &[u8], from: usize, until: usize) -> usize
     ensures digits { AreDigitsFrom bytes.now from result }
 {
     let mut at = from;
-    while at < until && is_surely_digit(bytes[at]) {
+    while at < until && quick_is_digit(bytes[at]) {
         at += 1;
     }
     at

@@ -42,8 +42,8 @@ pub fn one_next_token()
 /// What is still to be cut ends in one way where no token comes next, and does not end where one does.
 pub fn one_end()
     ensures end { (rest : Rest) (x y : Option TokenFault) → Ends rest x → Ends rest y → x ≡ y }
-    ensures no_token { (rest : Rest) (t : Lexeme) (behind : Rest) (x : Option TokenFault) →
-        TakesToken rest t behind → Ends rest x → ⊥ }
+    ensures no_token { (rest : Rest) (t : Lexeme) (following : Rest) (x : Option TokenFault) →
+        TakesToken rest t following → Ends rest x → ⊥ }
 {}
 
 /// After a refusal or the clean end every further call of `Tokens::next_token` answers the same.

@@ -2,11 +2,11 @@
 ghost use Rattle.std.specs.Prelude.{◌≡◌, ◌+◌, ◌<◌, ◌++◌, ◌∷◌, [], ℕ, List, length, take, slice_index, true, false, ◌≤◌, ◌⊎◌, IfSome, IsTrue};
 ghost use Rattle.polcert_text.specs.Fronts.{IsLongestGap, IsLongestLexeme};
 ghost use Rattle.polcert_text.specs.Steps.Scan.{gap_after, gap_through, state_after, state_through, kind_at, is_numeral_kind};
-ghost use Rattle.polcert_text.specs.Bytes.{class_of};
+ghost use Rattle.polcert_text.specs.Steps.Classes.{class_of};
 
 use crate::bytes::{
-    ByteClass, class_of, is_surely_blank, is_surely_colon, is_surely_digit, is_surely_letter,
-    is_surely_point, surely_ends_gap,
+    ByteClass, class_of, quick_ends_gap, quick_is_blank, quick_is_colon, quick_is_digit,
+    quick_is_letter, quick_is_point,
 };
 use memchr::memchr;
 
@@ -64,7 +64,7 @@ pub enum State {
 }
 
 impl State {
-    /// After the first byte.
+    /// Returns the state after the first byte.
     #[inline(always)]
     fn first(class: ByteClass) -> State
         ensures { result ≡ state_after State.Start class }
@@ -81,7 +81,7 @@ impl State {
         }
     }
 
-    /// After one more byte.
+    /// Returns the state after one more byte.
     #[inline(always)]
     pub fn after(self, class: ByteClass) -> State
         ensures { result ≡ state_after self class }
@@ -124,7 +124,7 @@ impl State {
         }
     }
 
-    /// Whether the bytes so far are a numeral.
+    /// Tests whether the bytes so far are a numeral.
     #[inline(always)]
     pub fn is_numeral(self) -> bool
         ensures { result ≡ is_numeral_kind (kind_at self) }
@@ -149,18 +149,18 @@ impl State {
     }
 }
 
-/// How long the gap at the front of the bytes is.
+/// Returns how long the gap at the front of the bytes is.
 #[inline(always)]
 pub fn gap_len(bytes: &[u8]) -> usize
     ensures { IsLongestGap bytes.now result }
 {
-    let (len, _) = seen_gap(Gap::Between, bytes);
+    let (len, _) = gap_prefix(Gap::Between, bytes);
     len
 }
 
-/// How many bytes continue the gap, and where the gap then stands.
+/// Returns how many bytes continue the gap, and the state of the gap after them.
 #[inline(always)]
-pub fn seen_gap(gap: Gap, bytes: &[u8]) -> (usize, Gap)
+pub fn gap_prefix(gap: Gap, bytes: &[u8]) -> (usize, Gap)
     requires { gap ≡ Gap.Ended → ⊥ }
     ensures within { result.0 ≤ length bytes.now }
     ensures state { gap_through gap (take result.0 bytes.now) ≡ result.1 }
@@ -177,11 +177,11 @@ pub fn seen_gap(gap: Gap, bytes: &[u8]) -> (usize, Gap)
             gap = next;
             continue;
         }
-        if is_surely_blank(bytes[at]) {
+        if quick_is_blank(bytes[at]) {
             at += 1;
             continue;
         }
-        if surely_ends_gap(bytes[at]) {
+        if quick_ends_gap(bytes[at]) {
             return (at, gap);
         }
         match gap.after(class_of(bytes[at])) {
@@ -193,7 +193,8 @@ pub fn seen_gap(gap: Gap, bytes: &[u8]) -> (usize, Gap)
     (bytes.len(), gap)
 }
 
-/// How many bytes continue a comment, up to the end of its line and with it, and where the gap then stands.
+/// Returns how many bytes continue a comment, up to and with the end of its line, and the state of the gap
+/// after them.
 #[inline(never)]
 fn seen_comment(bytes: &[u8]) -> (usize, Gap)
     requires { 0 < length bytes.now }
@@ -209,7 +210,7 @@ fn seen_comment(bytes: &[u8]) -> (usize, Gap)
 
 /// The lexeme at the front of some bytes: its kind, and how long it is.
 #[derive(Clone, Copy, Debug, PartialEq, Eq)]
-pub struct Front {
+pub struct LexemePrefix {
     pub kind: TokenKind,
     pub len: usize,
 }
@@ -222,12 +223,13 @@ pub const LONGEST_TOKEN: usize = 400;
 pub struct LexemeScan {
     state: State,
     len: usize,
-    longest: Option<Front>,
+    longest: Option<LexemePrefix>,
 }
 
 impl LexemeScan {
     ghost use Rattle.polcert_text.specs.Steps.ScanOf.{IsScanOf, is_over, is_stuck, front_len, scan_at};
 
+    #[tactic(auto, unfolding(crate::specs::Lexemes::kind_of))]
     pub fn new() -> LexemeScan
         ensures { IsScanOf [] result }
     {
@@ -238,9 +240,9 @@ impl LexemeScan {
         }
     }
 
-    /// After one more byte.
+    /// Returns the scan after one more byte.
     #[inline(always)]
-    pub fn fed(self, byte: u8) -> LexemeScan
+    pub fn with_byte(self, byte: u8) -> LexemeScan
         requires { self.len < usize.MAX }
         ensures scan { (read : List ℕ) → IsScanOf read self → IsScanOf (read ++ byte ∷ []) result }
         ensures len { result.len ≡ self.len + 1 }
@@ -248,7 +250,7 @@ impl LexemeScan {
         let state = self.state.after(class_of(byte));
         let len = self.len + 1;
         let longest = match state.kind() {
-            Some(kind) => Some(Front { kind, len }),
+            Some(kind) => Some(LexemePrefix { kind, len }),
             None => self.longest,
         };
         LexemeScan {
@@ -258,7 +260,7 @@ impl LexemeScan {
         }
     }
 
-    /// Whether no lexeme continues, whatever bytes follow.
+    /// Tests whether no lexeme continues, whatever bytes follow.
     #[inline(always)]
     pub fn is_stuck(self) -> bool
         ensures { result ≡ is_stuck self.state }
@@ -269,8 +271,8 @@ impl LexemeScan {
     /// Continues over bytes of which it was fed a front, up to the last or one that no lexeme continues with.
     #[inline(always)]
     pub fn through(self, bytes: &[u8]) -> LexemeScan
-        requires fed { IsScanOf (take self.len bytes.now) self }
-        ensures fed { IsScanOf (take result.len bytes.now) result }
+        requires with_byte { IsScanOf (take self.len bytes.now) self }
+        ensures with_byte { IsScanOf (take result.len bytes.now) result }
         ensures all { is_stuck result.state ≡ false → result.len ≡ length bytes.now }
     {
         let mut scan = self;
@@ -278,7 +280,7 @@ impl LexemeScan {
             if scan.is_stuck() {
                 return scan;
             }
-            scan = scan.fed(bytes[scan.len]).along(bytes);
+            scan = scan.with_byte(bytes[scan.len]).along(bytes);
         }
         scan
     }
@@ -286,8 +288,8 @@ impl LexemeScan {
     /// Continues over the digits, or the rest of a name, that it stands in.
     #[inline(always)]
     fn along(self, bytes: &[u8]) -> LexemeScan
-        requires fed { IsScanOf (take self.len bytes.now) self }
-        ensures fed { IsScanOf (take result.len bytes.now) result }
+        requires with_byte { IsScanOf (take self.len bytes.now) self }
+        ensures with_byte { IsScanOf (take result.len bytes.now) result }
         ensures on { self.len ≤ result.len }
     {
         match self.state {
@@ -312,7 +314,7 @@ impl LexemeScan {
         }
     }
 
-    /// A scan whose bytes so far are all a lexeme.
+    /// Makes a scan whose bytes so far are one whole lexeme.
     #[inline(always)]
     fn whole(state: State, kind: TokenKind, len: usize) -> LexemeScan
         ensures { result ≡ scan_at state kind len }
@@ -320,18 +322,18 @@ impl LexemeScan {
         LexemeScan {
             state,
             len,
-            longest: Some(Front { kind, len }),
+            longest: Some(LexemePrefix { kind, len }),
         }
     }
 
-    /// The longest lexeme at the front of what it was fed.
-    pub fn longest(self) -> Option<Front>
+    /// Returns the longest lexeme at the front of the scanned bytes.
+    pub fn longest(self) -> Option<LexemePrefix>
         ensures { result ≡ self.longest }
     {
         self.longest
     }
 
-    /// Whether no byte that follows changes the lexeme: nothing prolongs it, or it is too long already.
+    /// Tests whether no byte that follows changes the lexeme: nothing prolongs it, or it is too long already.
     pub fn is_known(self) -> bool
         ensures known { result ≡ true → (is_over self.state ≡ true) ⊎ (400 < front_len self.longest) }
         ensures not_known { result ≡ false → (is_over self.state ≡ false) × (front_len self.longest ≤ 400) }
@@ -347,10 +349,10 @@ impl LexemeScan {
 }
 
 ghost use Rattle.polcert_text.specs.Steps.ScanOf.{IsFrontOf, EndsWithin, IsNameOrMark};
-ghost use Rattle.polcert_text.specs.Steps.Scan.{GoesOnWithDigits};
+ghost use Rattle.polcert_text.specs.Steps.Scan.{ContinuesWithDigits};
 ghost use Rattle.polcert_text.specs.declared.lexeme.State.{State};
 
-/// Where a name that the bytes before `from` begin ends.
+/// Returns where the name ends that the bytes before `from` begin.
 #[inline(always)]
 fn name_end(bytes: &[u8], from: usize) -> usize
     requires { from ≤ length bytes.now }
@@ -361,29 +363,30 @@ fn name_end(bytes: &[u8], from: usize) -> usize
         → state_after State.Name (class_of (slice_index bytes.now result)) ≡ State.Stuck }
 {
     let mut at = from;
-    while at < bytes.len() && goes_on_name(bytes[at]) {
+    while at < bytes.len() && continues_name(bytes[at]) {
         at += 1;
     }
     at
 }
 
-/// Whether a name continues with the byte. Of most bytes a test tells that is quicker than their class.
+/// Tests whether a name continues with the byte. For most bytes a test decides that is quicker than their
+/// class.
 #[inline(always)]
-fn goes_on_name(byte: u8) -> bool
+fn continues_name(byte: u8) -> bool
     ensures on { IsTrue result → state_after State.Name (class_of byte) ≡ State.Name }
     ensures off { result ≡ false → state_after State.Name (class_of byte) ≡ State.Stuck }
 {
-    if is_surely_letter(byte) || is_surely_digit(byte) {
+    if quick_is_letter(byte) || quick_is_digit(byte) {
         return true;
     }
-    if is_surely_blank(byte) || is_surely_colon(byte) {
+    if quick_is_blank(byte) || quick_is_colon(byte) {
         return false;
     }
-    class_goes_on_name(byte)
+    class_continues_name(byte)
 }
 
 #[inline(never)]
-fn class_goes_on_name(byte: u8) -> bool
+fn class_continues_name(byte: u8) -> bool
     ensures on { IsTrue result → state_after State.Name (class_of byte) ≡ State.Name }
     ensures off { result ≡ false → state_after State.Name (class_of byte) ≡ State.Stuck }
 {
@@ -397,55 +400,57 @@ fn class_goes_on_name(byte: u8) -> bool
     )
 }
 
-/// Where the digits from `from` on end.
+/// Returns where the digits from `from` on end.
 #[inline(always)]
 fn digits_end(bytes: &[u8], from: usize) -> usize
     requires { from ≤ length bytes.now }
     ensures within { (from ≤ result) × (result ≤ length bytes.now) }
-    ensures same { (state : State) → GoesOnWithDigits state
+    ensures same { (state : State) → ContinuesWithDigits state
         → state_through State.Start (take from bytes.now) ≡ state
         → state_through State.Start (take result bytes.now) ≡ state }
 {
     let mut at = from;
-    while at < bytes.len() && is_surely_digit(bytes[at]) {
+    while at < bytes.len() && quick_is_digit(bytes[at]) {
         at += 1;
     }
     at
 }
 
-/// The lexeme at the front, if a byte after it is there and ends it: a name, a mark, or a numeral of digits, perhaps with a
-/// point and digits, before a blank or a line end. Most are, and these are cut without a step for each byte. `None` says nothing.
+/// Returns the lexeme at the front, if a byte after it is there and ends it: a name, a mark, or a numeral of
+/// digits, perhaps with a point and digits, before a blank or a line end. Most are, and these are cut without
+/// a step for each byte. `None`: unknown, take the slow path.
 #[inline(always)]
-pub fn ended_lexeme(bytes: &[u8]) -> Option<Front>
+pub fn delimited_lexeme(bytes: &[u8]) -> Option<LexemePrefix>
     ensures { IfSome result (EndsWithin bytes.now) }
 {
     if bytes.len() < 2 {
         return None;
     }
-    if is_surely_digit(bytes[0]) {
+    if quick_is_digit(bytes[0]) {
         return ended_numeral(bytes);
     }
     ended_name_or_mark(bytes)
 }
 
-/// The name or the mark at the front, if a byte after it is there and ends it. `None` says nothing.
+/// Returns the name or the mark at the front, if a byte after it is there and ends it. `None`: unknown, take
+/// the slow path.
 #[inline(always)]
-pub fn ended_name_or_mark(bytes: &[u8]) -> Option<Front>
+pub fn ended_name_or_mark(bytes: &[u8]) -> Option<LexemePrefix>
     requires { 1 < length bytes.now }
     ensures ends { IfSome result (EndsWithin bytes.now) }
     ensures word { IfSome result (IsNameOrMark bytes.now) }
 {
-    if is_surely_letter(bytes[0]) {
+    if quick_is_letter(bytes[0]) {
         return ended_name(bytes);
     }
     match State::first(class_of(bytes[0])) {
-        State::Single(kind) => Some(Front { kind, len: 1 }),
+        State::Single(kind) => Some(LexemePrefix { kind, len: 1 }),
         _ => None,
     }
 }
 
 #[inline(always)]
-fn ended_numeral(bytes: &[u8]) -> Option<Front>
+fn ended_numeral(bytes: &[u8]) -> Option<LexemePrefix>
     requires some { 0 < length bytes.now }
     requires digit { class_of (slice_index bytes.now 0) ≡ ByteClass.Digit }
     ensures { IfSome result (EndsWithin bytes.now) }
@@ -454,18 +459,18 @@ fn ended_numeral(bytes: &[u8]) -> Option<Front>
     if point == bytes.len() {
         return None;
     }
-    if is_surely_blank(bytes[point]) {
-        return Some(Front {
+    if quick_is_blank(bytes[point]) {
+        return Some(LexemePrefix {
             kind: TokenKind::Numeral,
             len: point,
         });
     }
-    if !is_surely_point(bytes[point]) {
+    if !quick_is_point(bytes[point]) {
         return None;
     }
     let end = digits_end(bytes, point + 1);
-    if end < bytes.len() && is_surely_blank(bytes[end]) {
-        return Some(Front {
+    if end < bytes.len() && quick_is_blank(bytes[end]) {
+        return Some(LexemePrefix {
             kind: TokenKind::Numeral,
             len: end,
         });
@@ -474,37 +479,38 @@ fn ended_numeral(bytes: &[u8]) -> Option<Front>
 }
 
 #[inline(always)]
-fn ended_name(bytes: &[u8]) -> Option<Front>
+pub fn ended_name(bytes: &[u8]) -> Option<LexemePrefix>
     requires some { 0 < length bytes.now }
     requires letter { (class_of (slice_index bytes.now 0) ≡ ByteClass.Letter)
         ⊎ (class_of (slice_index bytes.now 0) ≡ ByteClass.ExponentMark) }
     ensures ends { IfSome result (EndsWithin bytes.now) }
     ensures word { IfSome result (IsNameOrMark bytes.now) }
+    ensures kind { IfSome result (λ front. front.kind ≡ TokenKind.Name) }
 {
     let end = name_end(bytes, 1);
     if end == bytes.len() {
         return None;
     }
-    Some(Front {
+    Some(LexemePrefix {
         kind: TokenKind::Name,
         len: end,
     })
 }
 
-/// The longest lexeme at the front of the bytes, if one begins there.
+/// Returns the longest lexeme at the front of the bytes, if one begins there.
 #[inline(always)]
-pub fn longest_lexeme(bytes: &[u8]) -> Option<Front>
+pub fn longest_lexeme(bytes: &[u8]) -> Option<LexemePrefix>
     ensures { IsFrontOf bytes.now result }
 {
-    match ended_lexeme(bytes) {
+    match delimited_lexeme(bytes) {
         Some(front) => Some(front),
         None => scanned_lexeme(bytes),
     }
 }
 
-/// The longest lexeme at the front of the bytes, if one begins there, of any kind.
+/// Returns the longest lexeme at the front of the bytes, if one begins there, of any kind.
 #[inline(never)]
-fn scanned_lexeme(bytes: &[u8]) -> Option<Front>
+fn scanned_lexeme(bytes: &[u8]) -> Option<LexemePrefix>
     ensures { IsFrontOf bytes.now result }
 {
     LexemeScan::new().through(bytes).longest()

@@ -1,15 +1,17 @@
 //! The value of a numeral.
 ghost use Rattle.std.specs.Prelude.{◌≡◌, ◌+◌, ◌-◌, ◌*◌, ◌^◌, length, take, drop, if◌then◌else◌, ◌<◌, ◌≤◌, ◌++◌, ◌∷◌, [], ℕ, List, MatchResult, IfOk, IfErr, IfSome, min, get_or, true, false};
-ghost use Rattle.std.specs.List.{list_all, list_any};
+ghost use Rattle.std.specs.List.{list_all, list_any, before_first, after_first};
 ghost use Rattle.std.specs.Str.Parse.{digits_value};
-ghost use Rattle.polcert_text.specs.Bytes.{class_of, is_digit};
-ghost use Rattle.polcert_text.specs.Lexemes.{before, after, is_numeral};
-ghost use Rattle.polcert_text.specs.Numbers.{whole_of, fraction_of, exponent_of, is_lowering, without_sign, largest, signed, IsExact, IsFloor, IsCeil, IsRounded, IsReadable, IsRefused, IsRefusedExactly};
+ghost use Rattle.polcert_text.specs.Bytes.{is_digit};
+ghost use Rattle.polcert_text.specs.Steps.Classes.{class_of};
+ghost use Rattle.polcert_text.specs.declared.bytes.ByteClass.{ByteClass};
+ghost use Rattle.polcert_text.specs.Lexemes.{without_sign, is_numeral};
+ghost use Rattle.polcert_text.specs.Numbers.{whole_of, fraction_of, exponent_of, is_lowering, largest, signed, IsExact, IsFloor, IsCeil, IsRounded, IsReadable, IsRefused, IsRefusedExactly};
 ghost use Rattle.polcert_text.specs.Steps.Scaling.{separates, cap, is_nonzero, IsScaled, Measures, ceiling, rounded, is_away};
 
-use crate::bytes::{ByteClass, class_of, is_surely_digit, is_surely_point};
+use crate::bytes::{class_of, quick_is_digit, quick_is_point};
 use crate::lexeme::State;
-use crate::whole::{all_digits, number_up_to};
+use crate::whole_numbers::{all_digits, number_up_to};
 use thiserror::Error;
 
 /// Why a numeral has no value here: the first of these that holds.
@@ -39,7 +41,7 @@ pub enum Rounding {
 }
 
 impl Rounding {
-    /// Whether a number is rounded away from 0, if it is negative or not.
+    /// Tests whether a number is rounded away from 0, if it is negative or not.
     #[inline(always)]
     fn is_away(self, negative: bool) -> bool
         ensures { result ≡ is_away self negative }
@@ -74,7 +76,7 @@ pub(crate) struct Size {
 }
 
 impl Size {
-    /// The size rounded up.
+    /// Returns the size rounded up.
     fn ceiling(self) -> u64
         requires { self.floor ≤ cap }
         ensures { result ≡ ceiling self.floor self.is_inexact }
@@ -86,7 +88,7 @@ impl Size {
         }
     }
 
-    /// The size rounded up, or down.
+    /// Returns the size rounded up, or down.
     fn rounded(self, up: bool) -> u64
         requires { self.floor ≤ cap }
         ensures { result ≡ rounded up self.floor self.is_inexact }
@@ -94,7 +96,7 @@ impl Size {
         if up { self.ceiling() } else { self.floor }
     }
 
-    /// The size with this sign before it, rounded this way.
+    /// Returns the size with this sign before it, rounded this way.
     #[inline(always)]
     pub(crate) fn value(self, rounding: Rounding, negative: bool) -> i64
         requires { ceiling self.floor self.is_inexact ≤ largest }
@@ -105,7 +107,7 @@ impl Size {
     }
 }
 
-/// The exact value of a numeral with the sign before it, in millionths.
+/// Returns the exact value of a numeral with the sign before it, in millionths.
 ///
 /// # Errors
 ///
@@ -123,7 +125,8 @@ pub fn scaled_of(negative: bool, numeral: &[u8]) -> Result<i64, NumberFault>
     Ok(signed(negative, size.floor))
 }
 
-/// The value of a numeral with the sign before it, in millionths and rounded down (a negative one away from 0).
+/// Returns the value of a numeral with the sign before it, in millionths and rounded down (a negative one
+/// away from 0).
 ///
 /// # Errors
 ///
@@ -136,7 +139,8 @@ pub fn floor_of(negative: bool, numeral: &[u8]) -> Result<i64, NumberFault>
     rounded_of(Rounding::Down, negative, numeral)
 }
 
-/// The value of a numeral with the sign before it, in millionths and rounded up (a negative one towards 0).
+/// Returns the value of a numeral with the sign before it, in millionths and rounded up (a negative one
+/// towards 0).
 ///
 /// # Errors
 ///
@@ -149,7 +153,7 @@ pub fn ceil_of(negative: bool, numeral: &[u8]) -> Result<i64, NumberFault>
     rounded_of(Rounding::Up, negative, numeral)
 }
 
-/// The value of a numeral with the sign before it, in millionths and rounded down or up.
+/// Returns the value of a numeral with the sign before it, in millionths and rounded down or up.
 ///
 /// # Errors
 ///
@@ -175,7 +179,7 @@ pub(crate) fn signed(negative: bool, size: u64) -> i64
     }
 }
 
-/// Whether the bytes are a numeral.
+/// Tests whether the bytes are a numeral.
 fn is_numeral(bytes: &[u8]) -> bool
     ensures { result ≡ is_numeral bytes.now }
 {
@@ -192,19 +196,20 @@ enum Separator {
     ExponentMark,
 }
 
+#[tactic(auto, unfolding(crate::specs::Bytes::is_point, crate::specs::Bytes::is_exponent_mark))]
 fn separates(separator: Separator, byte: u8) -> bool
     ensures { result ≡ separates separator byte }
 {
     match separator {
-        Separator::Point => matches!(class_of(byte), ByteClass::Point),
-        Separator::ExponentMark => matches!(class_of(byte), ByteClass::ExponentMark),
+        Separator::Point => byte == b'.',
+        Separator::ExponentMark => byte == b'e' || byte == b'E',
     }
 }
 
-/// What stands before the first such byte, and what stands after it.
+/// Returns what stands before the first such byte, and what stands after it.
 fn split_at_first(bytes: &[u8], separator: Separator) -> (&[u8], &[u8])
-    ensures before { result.0.now ≡ before (separates separator) bytes.now }
-    ensures after { result.1.now ≡ after (separates separator) bytes.now }
+    ensures before { result.0.now ≡ before_first (separates separator) bytes.now }
+    ensures after { result.1.now ≡ after_first (separates separator) bytes.now }
 {
     for (i, byte) in bytes.iter().enumerate() {
         if separates(separator, *byte) {
@@ -246,7 +251,7 @@ impl Scaling {
         }
     }
 
-    /// After all these digits.
+    /// Returns the scaling after all these digits.
     fn through(self, digits: &[u8]) -> Scaling
         requires digits { list_all is_digit digits.now ≡ true }
         requires small { self.floor ≤ cap }
@@ -262,7 +267,7 @@ impl Scaling {
     }
 }
 
-/// The number with so many zeros at its end, or one above the largest.
+/// Returns the number with so many zeros at its end, or one above the largest.
 #[inline(always)]
 pub(crate) fn with_zeros(number: u64, zeros: usize) -> u64
     requires { number ≤ cap }
@@ -301,22 +306,20 @@ fn parts_of(numeral: &[u8]) -> Parts<'_>
     }
 }
 
-/// Whether a minus stands first, and what stands after a sign.
+/// Returns whether a minus stands first, and what stands after a sign.
+#[tactic(auto, unfolding(crate::specs::Bytes::is_sign))]
 fn split_sign(exponent: &[u8]) -> (bool, &[u8])
     ensures is_lowering { result.0 ≡ is_lowering exponent.now }
     ensures digits { result.1.now ≡ without_sign exponent.now }
 {
     match exponent {
-        [sign, digits @ ..] => match class_of(*sign) {
-            ByteClass::Minus => (true, digits),
-            ByteClass::Plus => (false, digits),
-            _ => (false, exponent),
-        },
-        [] => (false, exponent),
+        [b'-', digits @ ..] => (true, digits),
+        [b'+', digits @ ..] => (false, digits),
+        _ => (false, exponent),
     }
 }
 
-/// The first `kept` digits as a number, with zeros where there are fewer, or one above the largest.
+/// Returns the first `kept` digits as a number, with zeros if there are fewer, or one above the largest.
 fn measured(whole: &[u8], fraction: &[u8], kept: usize) -> Size
     requires whole { list_all is_digit whole.now ≡ true }
     requires fraction { list_all is_digit fraction.now ≡ true }
@@ -337,10 +340,10 @@ fn measured(whole: &[u8], fraction: &[u8], kept: usize) -> Size
     }
 }
 
-/// The number that the digits of `number` and those from `from` up to `until` spell, up to the first byte that is no digit or until
-/// it is too large, and where that is.
+/// Returns the number that the digits of `number` and those from `from` up to `until` spell, up to the first
+/// byte that is no digit or until it is too large, and where that is.
 #[inline(always)]
-pub fn digits_behind(number: u64, bytes: &[u8], from: usize, until: usize) -> (u64, usize)
+pub fn digits_after(number: u64, bytes: &[u8], from: usize, until: usize) -> (u64, usize)
     requires range { from ≤ until }
     requires within { until ≤ length bytes.now }
     ensures within { (from ≤ result.1) × (result.1 ≤ until) }
@@ -350,15 +353,15 @@ pub fn digits_behind(number: u64, bytes: &[u8], from: usize, until: usize) -> (u
 {
     let mut read = number;
     let mut at = from;
-    while at < until && is_surely_digit(bytes[at]) && read <= LARGEST {
+    while at < until && quick_is_digit(bytes[at]) && read <= LARGEST {
         read = read * 10 + u64::from(bytes[at] - b'0');
         at += 1;
     }
     (read, at)
 }
 
-/// The number that the digits of `number` and at most so many from `from` on spell, up to the first byte that is no digit, and where
-/// that is.
+/// Returns the number that the digits of `number` and at most so many from `from` on spell, up to the first
+/// byte that is no digit, and where that is.
 #[inline(always)]
 pub(crate) fn few_digits(number: u64, bytes: &[u8], from: usize, most: usize) -> (u64, usize)
     requires small { number < 10000000 }
@@ -372,14 +375,14 @@ pub(crate) fn few_digits(number: u64, bytes: &[u8], from: usize, most: usize) ->
 {
     let mut read = number;
     let mut count: usize = 0;
-    while count < most && is_surely_digit(bytes[from + count]) {
+    while count < most && quick_is_digit(bytes[from + count]) {
         read = read * 10 + u64::from(bytes[from + count] - b'0');
         count += 1;
     }
     (read, from + count)
 }
 
-/// A power of ten up to a million.
+/// Returns a power of ten up to a million.
 #[inline(always)]
 pub(crate) fn power_of_ten(exponent: usize) -> u64
     requires { exponent ≤ 6 }
@@ -396,7 +399,7 @@ pub(crate) fn power_of_ten(exponent: usize) -> u64
     }
 }
 
-/// Whether a digit isn't 0.
+/// Tests whether a digit isn't 0.
 #[inline(always)]
 fn has_nonzero(digits: &[u8]) -> bool
     ensures { result ≡ list_any is_nonzero digits.now }
@@ -404,7 +407,8 @@ fn has_nonzero(digits: &[u8]) -> bool
     digits.iter().any(|digit| *digit != b'0')
 }
 
-/// So many units, if they are less than the largest number. `None` says nothing.
+/// Returns the size of so many units, if they are less than the largest number. `None`: unknown, take the
+/// slow path.
 #[inline(always)]
 fn whole_size(number: u64) -> Option<Size>
     ensures floor { IfSome result (λ size. size.floor ≡ number * 1000000) }
@@ -420,8 +424,8 @@ fn whole_size(number: u64) -> Option<Size>
     })
 }
 
-/// The size of a numeral of digits, perhaps with a point and digits, if it is not too large: what most numerals are, measured in 64 bits.
-/// `None` says nothing.
+/// Returns the size of a numeral of digits, perhaps with a point and digits, if it is not too large: what
+/// most numerals are, measured in 64 bits. `None`: unknown, take the slow path.
 #[inline(always)]
 fn plain_size(numeral: &[u8]) -> Option<Size>
     ensures { IfSome result (λ size. IsReadable numeral.now × Measures numeral.now size.floor size.is_inexact
@@ -430,18 +434,18 @@ fn plain_size(numeral: &[u8]) -> Option<Size>
     if numeral.len() > LONGEST_PLAIN {
         return None;
     }
-    let (whole, point) = digits_behind(0, numeral, 0, numeral.len());
+    let (whole, point) = digits_after(0, numeral, 0, numeral.len());
     if point == 0 {
         return None;
     }
     if point == numeral.len() {
         return whole_size(whole);
     }
-    if !is_surely_point(numeral[point]) {
+    if !quick_is_point(numeral[point]) {
         return None;
     }
     let kept = numeral.len().min(point + 7);
-    let (number, end) = digits_behind(whole, numeral, point + 1, kept);
+    let (number, end) = digits_after(whole, numeral, point + 1, kept);
     if end < kept || number > LARGEST {
         return None;
     }
@@ -455,7 +459,7 @@ fn plain_size(numeral: &[u8]) -> Option<Size>
     })
 }
 
-/// The size of a numeral in millionths, rounded down.
+/// Returns the size of a numeral in millionths, rounded down.
 #[inline(always)]
 fn size_of(numeral: &[u8]) -> Result<Size, NumberFault>
     ensures value { MatchResult result
@@ -469,7 +473,7 @@ fn size_of(numeral: &[u8]) -> Result<Size, NumberFault>
     }
 }
 
-/// The size of any numeral in millionths, rounded down.
+/// Returns the size of any numeral in millionths, rounded down.
 #[inline(never)]
 fn general_size(numeral: &[u8]) -> Result<Size, NumberFault>
     ensures value { MatchResult result
@@ -496,7 +500,7 @@ fn general_size(numeral: &[u8]) -> Result<Size, NumberFault>
     Ok(size)
 }
 
-/// How many digits count: those before the point and six after it, moved by the exponent.
+/// Returns how many digits count: those before the point and six after it, moved by the exponent.
 fn kept_digits(whole: usize, is_lowering: bool, exponent: usize) -> usize
     requires whole { whole ≤ 400 }
     requires exponent { exponent ≤ 400 }

@@ -1,12 +1,12 @@
 //! The bytes of a text that comes from a source, and the gap and the lexeme at their front.
 ghost use Rattle.std.specs.Prelude.{◌≡◌, ◌+◌, ◌<◌, ◌≤◌, ◌-◌, ◌^◌, ◌∷◌, [], ℕ, List, Bool, Option, true, false, length, take, slice_index, IfOk, OnErr};
-ghost use Rattle.polcert_text.specs.Bytes.{class_of};
+ghost use Rattle.polcert_text.specs.Steps.Classes.{class_of};
 ghost use Rattle.polcert_text.specs.Steps.Scan.{gap_after, gap_through};
 ghost use Rattle.polcert_text.specs.Steps.ScanOf.{is_over, front_len};
 ghost use Rattle.polcert_text.specs.Stream.{Ahead, visible, skip};
 ghost use Rattle.polcert_text.specs.Steps.Streaming.{end_of, Fills, FailsAt, SkipsGapOrFails, ScansLexemeOrFails, IsComplete};
 
-use crate::lexeme::{Front, Gap, LexemeScan, ended_lexeme, seen_gap};
+use crate::lexeme::{Gap, LexemePrefix, LexemeScan, delimited_lexeme, gap_prefix};
 use crate::window::Window;
 use crate::{Source, SourceFailed, TokenFault};
 use std::marker::Model;
@@ -33,9 +33,9 @@ impl Model for StreamBytes {
 
 impl StreamBytes {
     ghost use Rattle.std.specs.Prelude.{◌≤◌, ◌⊎◌, OnErr, OnOk, IfOk, Option};
-    ghost use Rattle.polcert_text.specs.declared.lexeme.Front.{Front};
+    ghost use Rattle.polcert_text.specs.declared.lexeme.LexemePrefix.{LexemePrefix};
 
-    /// No bytes, at the start of a text.
+    /// Makes the state before the first byte of a text.
     pub fn new(limit: u64) -> StreamBytes
         ensures { result ≡ (let a : Ahead = record { place = 0; kept = []; limit = limit; is_whole = false }
             in a) }
@@ -48,7 +48,7 @@ impl StreamBytes {
         }
     }
 
-    /// The offset of the first byte in the text.
+    /// Returns the offset of the first byte in the text.
     #[inline(always)]
     pub fn place(&self) -> u64
         ensures { result ≡ self.now.place }
@@ -56,7 +56,7 @@ impl StreamBytes {
         self.place
     }
 
-    /// What stands in place of a clean end, if no byte below the limit is left.
+    /// Returns the fault in place of a clean end, if no byte below the limit is left.
     pub fn ending(&self) -> Option<TokenFault>
         ensures { result ≡ end_of self.now }
     {
@@ -67,7 +67,7 @@ impl StreamBytes {
         }
     }
 
-    /// The bytes that stand below the limit.
+    /// Returns the bytes below the limit.
     #[inline(always)]
     pub fn visible(&self) -> &[u8]
         ensures bytes { result.now ≡ visible self.now }
@@ -109,7 +109,7 @@ impl StreamBytes {
         }
     }
 
-    /// Whether it takes a read to know what comes next, if the bytes so far continue a gap.
+    /// Tests whether it takes a read to know what comes next, if the bytes so far continue a gap.
     #[inline(always)]
     fn lacks_byte(&self) -> bool
         ensures lacks { result ≡ true → (length self.now.kept ≡ 0) × (self.now.is_whole ≡ false) }
@@ -131,7 +131,7 @@ impl StreamBytes {
             × (n < length (visible self.old)
             → gap_after result (class_of (slice_index self.old.kept n)) ≡ Gap.Ended) }
     {
-        let (count, next) = seen_gap(gap, self.visible());
+        let (count, next) = gap_prefix(gap, self.visible());
         self.consume(count);
         next
     }
@@ -152,7 +152,7 @@ impl StreamBytes {
         Ok(!self.visible().is_empty())
     }
 
-    /// Whether it takes a read to know the lexeme at the front.
+    /// Tests whether it takes a read to know the lexeme at the front.
     fn lacks_lexeme(&self, scan: LexemeScan) -> bool
         ensures lacks { result ≡ true → (self.now.is_whole ≡ false)
             × (self.now.place + length self.now.kept < self.now.limit)
@@ -169,20 +169,23 @@ impl StreamBytes {
         !scan.is_known()
     }
 
-    /// The lexeme at the front: the longest, or one that is too long.
+    /// Reads the lexeme at the front: the longest, or one that is too long.
     #[inline(always)]
-    pub fn scan_lexeme<S: Source>(&mut self, source: &mut S) -> Result<Option<Front>, SourceFailed>
+    pub fn scan_lexeme<S: Source>(
+        &mut self,
+        source: &mut S,
+    ) -> Result<Option<LexemePrefix>, SourceFailed>
         ensures { ScansLexemeOrFails S.reads S.failures self.old source.old result self.new source.new }
     {
-        match ended_lexeme(self.visible()) {
+        match delimited_lexeme(self.visible()) {
             Some(front) => Ok(Some(front)),
             None => self.scan_on(source),
         }
     }
 
-    /// The lexeme at the front, whatever it is, and where the bytes so far end.
+    /// Reads on for the lexeme at the front, of any kind, and returns where the bytes so far end.
     #[inline(never)]
-    fn scan_on<S: Source>(&mut self, source: &mut S) -> Result<Option<Front>, SourceFailed>
+    fn scan_on<S: Source>(&mut self, source: &mut S) -> Result<Option<LexemePrefix>, SourceFailed>
         ensures { ScansLexemeOrFails S.reads S.failures self.old source.old result self.new source.new }
     {
         let mut scan = LexemeScan::new().through(self.visible());

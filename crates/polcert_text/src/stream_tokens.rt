@@ -55,7 +55,7 @@ impl Model for StreamTokens {
 
     ghost Value = { Stream };
 
-    ghost view = { λ t. record { ahead = skip t.taken t.bytes; lent = take t.taken t.bytes.kept; stop = t.stop } };
+    ghost view = { λ t. record { ahead = skip t.taken t.bytes; borrowed = take t.taken t.bytes.kept; stop = t.stop } };
 
     ghost invariant = { λ t. (t.taken ≤ length (visible t.bytes))
         × StopsRightly (skip t.taken t.bytes) t.stop };
@@ -71,10 +71,10 @@ impl StreamTokens {
     ghost use Rattle.polcert_text.specs.Reading.{lexeme_of};
     ghost use Rattle.polcert_text.specs.Stream.{fresh, rest_with, AnswersNext};
     ghost use Rattle.polcert_text.specs.Beginning.{passed};
-    ghost use Rattle.polcert_text.specs.Steps.Streaming.{lent_lexeme, TakesNext};
+    ghost use Rattle.polcert_text.specs.Steps.Streaming.{borrowed_lexeme, TakesNext};
     ghost use Rattle.polcert_text.specs.Stream.{visible};
 
-    /// The tokens below the limit, an offset in the text. A byte at the limit is refused there.
+    /// Makes the tokens below the limit, an offset in the text. A byte at the limit is refused there.
     pub fn new(limit: u64) -> StreamTokens
         ensures fresh { result ≡ fresh limit }
         ensures text { (text : List ℕ) → rest_with result.ahead text ≡ text_rest text limit }
@@ -86,8 +86,8 @@ impl StreamTokens {
         }
     }
 
-    /// The next token, or `None` at the clean end. It reads only if the next token needs a byte that the buffer
-    /// lacks. After a fault or the end every further call answers the same, and reads nothing.
+    /// Returns the next token, or `None` at the clean end. It reads only if the next token needs a byte that
+    /// the buffer lacks. After a fault or the end every further call answers the same, and reads nothing.
     #[inline(always)]
     pub fn next_token<'t, S: Source>(
         &'t mut self,
@@ -105,7 +105,8 @@ impl StreamTokens {
         }
     }
 
-    /// The offset of the first byte that is not given yet: after the clean end, the number of the text's bytes.
+    /// Returns the offset of the first byte that is not given yet: after the clean end, the number of the
+    /// text's bytes.
     pub fn place(&self) -> u64
         ensures { result ≡ self.now.ahead.place }
     {
@@ -113,7 +114,7 @@ impl StreamTokens {
         self.bytes.place() + token.len() as u64
     }
 
-    /// The bytes that were read and are not given yet, as far as they stand below the limit.
+    /// Returns the bytes below the limit that were read and are not given yet.
     #[inline(always)]
     pub fn ahead(&self) -> &[u8]
         ensures { result.now ≡ visible self.now.ahead }
@@ -125,7 +126,7 @@ impl StreamTokens {
     /// there. So a caller passes only tokens that it has cut off `ahead` whole, as `front_colon` and `front_number` do.
     #[inline(always)]
     pub fn pass(&mut self, count: usize)
-        requires goes_on { self.old.stop ≡ None }
+        requires continues { self.old.stop ≡ None }
         requires few { count ≤ length (visible self.old.ahead) }
         ensures { self.new ≡ passed count self.old }
     {
@@ -134,10 +135,10 @@ impl StreamTokens {
         self.taken = 0;
     }
 
-    /// The token of this kind that was taken last.
+    /// Returns the token of this kind that was taken last.
     #[inline(always)]
     fn current(&self, kind: TokenKind) -> Token<'_>
-        ensures lexeme { lexeme_of result ≡ lent_lexeme self.now kind }
+        ensures lexeme { lexeme_of result ≡ borrowed_lexeme self.now kind }
         ensures stop { result.stop ≡ result.place + length result.bytes.now }
     {
         let place = self.bytes.place();
@@ -153,8 +154,8 @@ impl StreamTokens {
     /// Takes the next token, and answers its kind.
     #[inline(always)]
     fn advance<S: Source>(&mut self, source: &mut S) -> Result<Option<TokenKind>, StreamFault>
-        ensures { AnswersNext S.reads S.failures (lent_lexeme self.new) self.old source.old result self.new
-            source.new }
+        ensures { AnswersNext S.reads S.failures (borrowed_lexeme self.new) self.old source.old result
+            self.new source.new }
     {
         if let Some(stop) = self.stop {
             return stop.answer();

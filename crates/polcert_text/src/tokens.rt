@@ -1,8 +1,8 @@
 //! The tokens of a text, one after another.
 ghost use Rattle.std.specs.Prelude.{◌≡◌, ◌+◌, ◌<◌, ◌≤◌, ◌^◌, ◌++◌, ℕ, List, length, Option, MatchResult};
 
-use crate::bytes::{ByteClass, class_of, is_surely_blank};
-use crate::lexeme::{Front, LONGEST_TOKEN, TokenKind, gap_len, longest_lexeme};
+use crate::bytes::quick_is_blank;
+use crate::lexeme::{LONGEST_TOKEN, LexemePrefix, TokenKind, gap_len, longest_lexeme};
 use std::marker::Model;
 use thiserror::Error;
 
@@ -35,7 +35,7 @@ pub enum TokenFault {
 impl TokenFault {
     ghost use Rattle.polcert_text.specs.Reading.{fault_place};
 
-    /// The offset of the byte where the text is refused.
+    /// Returns the offset of the byte at which the text is refused.
     pub fn place(self) -> u64
         ensures { result ≡ fault_place self }
     {
@@ -74,7 +74,7 @@ impl<'a> Tokens<'a> {
     ghost use Rattle.polcert_text.specs.Cut.{text_rest};
     ghost use Rattle.polcert_text.specs.Reading.{GivesNext};
 
-    /// The tokens of the bytes below the limit, an offset. A byte at the limit is refused there.
+    /// Makes the tokens of the bytes below the limit, an offset. A byte at the limit is refused there.
     pub fn new(text: &'a [u8], limit: u64) -> Self
         ensures { result ≡ text_rest text.now limit }
     {
@@ -93,8 +93,8 @@ impl<'a> Tokens<'a> {
         }
     }
 
-    /// The next token, a refusal, or `None` at the clean end. After a refusal or the end every further call
-    /// answers the same.
+    /// Returns the next token, a refusal, or `None` at the clean end. After a refusal or the end every
+    /// further call answers the same.
     #[inline(always)]
     pub fn next_token(&mut self) -> Option<Result<Token<'a>, TokenFault>>
         ensures { GivesNext self.old result self.new }
@@ -122,7 +122,7 @@ impl<'a> Tokens<'a> {
 impl Tokens<'_> {
     ghost use Rattle.polcert_text.specs.Cut.{end_place};
 
-    /// The offset at which the bytes below the limit end.
+    /// Returns the offset at which the bytes below the limit end.
     pub fn end(&self) -> u64
         ensures { result ≡ end_place self.now }
     {
@@ -136,7 +136,7 @@ ghost use Rattle.polcert_text.specs.Reading.{IsReadAt};
 ghost use Rattle.polcert_text.specs.Steps.ScanOf.{front_len};
 ghost use Rattle.polcert_text.specs.Steps.Streaming.{IsSeen};
 
-/// The token at the front of the bytes, which stand at `place`.
+/// Returns the token at the front of the bytes, which stand at `place`.
 #[inline(always)]
 fn token_at(bytes: &[u8], place: u64) -> Result<Token<'_>, TokenFault>
     requires { place + length bytes.now < 2 ^ 64 }
@@ -145,9 +145,14 @@ fn token_at(bytes: &[u8], place: u64) -> Result<Token<'_>, TokenFault>
     token_of(longest_lexeme(bytes), bytes, place)
 }
 
-/// The token whose lexeme was seen at the front of the bytes, which stand at `place`, whatever follows the bytes.
+/// Returns the token whose lexeme was seen at the front of the bytes, which stand at `place`, whatever
+/// follows the bytes.
 #[inline(always)]
-pub fn token_of(front: Option<Front>, bytes: &[u8], place: u64) -> Result<Token<'_>, TokenFault>
+pub fn token_of(
+    front: Option<LexemePrefix>,
+    bytes: &[u8],
+    place: u64,
+) -> Result<Token<'_>, TokenFault>
     requires place { place + length bytes.now < 2 ^ 64 }
     requires within { front_len front ≤ length bytes.now }
     ensures { (tail : List ℕ) → IsSeen bytes.now tail front
@@ -171,24 +176,22 @@ pub fn token_of(front: Option<Front>, bytes: &[u8], place: u64) -> Result<Token<
     })
 }
 
-/// Whether a lexeme is a numeral that a letter, `_` or a point follows directly.
+/// Tests whether a lexeme is a numeral that a letter, `_` or a point follows directly.
 #[inline(always)]
 fn is_glued(kind: TokenKind, rest: &[u8]) -> bool
     ensures { result ≡ is_glued kind rest.now }
 {
     match (kind, rest) {
-        (TokenKind::Numeral, [byte, ..]) => !is_surely_blank(*byte) && is_glue(*byte),
+        (TokenKind::Numeral, [byte, ..]) => !quick_is_blank(*byte) && is_glue(*byte),
         _ => false,
     }
 }
 
-/// Whether a numeral that the byte follows directly is glued to it.
+/// Tests whether a numeral that the byte follows directly is glued to it.
 #[inline(never)]
+#[tactic(auto, unfolding(crate::specs::Bytes::is_glue, crate::specs::Bytes::is_letter))]
 fn is_glue(byte: u8) -> bool
     ensures { result ≡ is_glue byte }
 {
-    matches!(
-        class_of(byte),
-        ByteClass::Letter | ByteClass::ExponentMark | ByteClass::Underscore | ByteClass::Point
-    )
+    byte.is_ascii_alphabetic() || byte == b'_' || byte == b'.'
 }

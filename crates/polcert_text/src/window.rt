@@ -25,7 +25,7 @@ impl Model for Window {
 }
 
 impl Window {
-    /// No bytes.
+    /// Makes an empty window.
     pub fn new() -> Window
         ensures { result ≡ [] }
     {
@@ -36,7 +36,7 @@ impl Window {
         }
     }
 
-    /// The bytes, in the order in which they came.
+    /// Returns the bytes, in the order in which they came.
     #[inline(always)]
     pub fn as_bytes(&self) -> &[u8]
         ensures bytes { result.now ≡ self.now }

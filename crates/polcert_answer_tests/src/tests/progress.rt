@@ -1,6 +1,6 @@
 //! What a run notifies its progress of.
 use polcert_answer::{Outcome, Task, run_task, status_of_outcome};
-use polcert_check::{AboveVerdict, Verdict, Watch};
+use polcert_check::{AboveVerdict, Progress, Verdict};
 use polcert_testing::TIGER;
 use polcert_text::{SliceSink, SliceSource};
 use std::alloc::Global;
@@ -16,7 +16,7 @@ struct Calls {
     end: usize,
 }
 
-impl Watch for Calls {
+impl Progress for Calls {
     fn begin(&mut self, nodes: usize) {
         self.begin = self.begin.saturating_add(1);
         self.nodes = nodes;

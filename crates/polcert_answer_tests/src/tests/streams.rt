@@ -76,7 +76,7 @@ fn the_same_in_any_pieces(rt: HostRuntime) {
 }
 
 /// What summing up a model answers, whose source gives a byte at a time and fails after the text.
-fn failed_behind(alloc: Global, text: &[u8]) -> Result<Answer, RunFault> {
+fn failed_after(alloc: Global, text: &[u8]) -> Result<Answer, RunFault> {
     let devices = Devices {
         model: Some(text.len() as u64),
         ..SOUND
@@ -92,7 +92,7 @@ const TEN: &[u8] =
 fn first_wrong_failure(alloc: Global, rows: &[(&[u8], RunFault)]) -> Option<usize> {
     for row in 0..rows.len() {
         let (text, fault) = rows[row];
-        if failed_behind(alloc, text) != Err(fault) {
+        if failed_after(alloc, text) != Err(fault) {
             return Some(row);
         }
     }

@@ -242,28 +242,28 @@ fn each_read_fails(rt: HostRuntime) {
 }
 
 /// How often each text is read where the first read of this one fails.
-fn reads_behind(alloc: Global, run: Run, texts: Texts<'_>, text: Text) -> (u64, u64, u64) {
+fn reads_after(alloc: Global, run: Run, texts: Texts<'_>, text: Text) -> (u64, u64, u64) {
     over_devices(alloc, run, texts, text.failing(0)).reads
 }
 
 /// Whether no text is read after a model that fails, nor vectors after a graph that fails.
-fn reads_nothing_behind(alloc: Global, run: Run, texts: Texts<'_>) -> bool {
-    let (model, graph, vectors) = reads_behind(alloc, run, texts, Text::Model);
+fn reads_nothing_after(alloc: Global, run: Run, texts: Texts<'_>) -> bool {
+    let (model, graph, vectors) = reads_after(alloc, run, texts, Text::Model);
     if model != 1 || graph != 0 || vectors != 0 {
         return false;
     }
     if !run.reads_all() {
         return true;
     }
-    let (_, graph, vectors) = reads_behind(alloc, run, texts, Text::Graph);
+    let (_, graph, vectors) = reads_after(alloc, run, texts, Text::Graph);
     graph == 1 && vectors == 0
 }
 
 /// The first of the trials that reads a text after one that fails.
-fn first_that_goes_on(alloc: Global, trials: &[Trial]) -> Option<usize> {
+fn first_that_continues(alloc: Global, trials: &[Trial]) -> Option<usize> {
     for row in 0..trials.len() {
         let (run, texts, _, _) = trials[row];
-        if !reads_nothing_behind(alloc, run, texts) {
+        if !reads_nothing_after(alloc, run, texts) {
             return Some(row);
         }
     }
@@ -272,8 +272,8 @@ fn first_that_goes_on(alloc: Global, trials: &[Trial]) -> Option<usize> {
 
 /// The first read of a model fails, and no other text is read; nor are vectors after a graph that fails.
 #[test]
-fn nothing_is_read_behind_a_failed_source(rt: HostRuntime) {
-    assert_eq!(rt; first_that_goes_on(rt.alloc(), &written()), None);
+fn nothing_is_read_after_a_failed_source(rt: HostRuntime) {
+    assert_eq!(rt; first_that_continues(rt.alloc(), &written()), None);
 }
 
 /// Whether a sink that fails so after this text is named, and not asked again.

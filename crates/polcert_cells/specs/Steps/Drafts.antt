@@ -2,14 +2,14 @@
 -- Source: the POMDP file format page at pomdp.org: the preamble, a start item or none, and the lines of T, O and R.
 use Rattle.std.specs.Prelude.{List, Option}
 use Rattle.polcert_cells.specs.Preamble.{Preamble}
-use Rattle.polcert_cells.specs.Start.{Shares}
+use Rattle.polcert_cells.specs.Start.{StartWeights}
 use Rattle.polcert_cells.specs.declared.entry.Entry.{Entry}
 use Rattle.polcert_cells.specs.Meaning.{Meaning, meaning_of}
 
 -- the preamble, the start item if there was one, and the entries in the order of the text
 pub record Draft : Type 0 where
   pub preamble : Preamble
-  pub start : Option Shares
+  pub start : Option StartWeights
   pub entries : List Entry
 
 -- what they denote

@@ -1,35 +1,36 @@
 -- Entries as they are kept: the places and the numbers of all in one list each, and of each entry where its own stand.
 -- Nobody has to believe this file: a list of entries is the list.
-use Rattle.std.specs.Prelude.{◌≡◌, ℕ, ◌+◌, ◌≤◌, List, ◌++◌, length}
+use Rattle.std.specs.Prelude.{◌≡◌, ℕ, ◌+◌, ◌≤◌, All, List, [], ◌∷◌, ◌++◌, length, map}
 use Rattle.std.specs.List.{slice_range}
 use Rattle.polcert_cells.specs.declared.entry.Place.{Place}
 use Rattle.polcert_cells.specs.declared.entry.Body.{Body}
 use Rattle.polcert_cells.specs.declared.entry.Body.TheVariants as bodies
 use Rattle.polcert_cells.specs.declared.entry.Entry.{Entry}
-use Rattle.polcert_cells.specs.declared.entries.Filling.{Filling}
-use Rattle.polcert_cells.specs.declared.entries.Filling.TheVariants as fillings
-use Rattle.polcert_cells.specs.declared.entries.Head.{Head}
-use Rattle.polcert_cells.specs.declared.entries.Pools.{Pools}
+use Rattle.polcert_cells.specs.declared.entries.BodyTag.{BodyTag}
+use Rattle.polcert_cells.specs.declared.entries.BodyTag.TheVariants as fillings
+use Rattle.polcert_cells.specs.declared.entries.EntryHeader.{EntryHeader}
+use Rattle.polcert_cells.specs.declared.entries.EntryStore.{EntryStore}
 use Rattle.polcert_cells.specs.declared.entries.Span.{Span}
+use Rattle.polcert_cells.specs.EntryRefs.{rewards_of, all_rewards}
 
 abbrev pub part : {X : Type 0} → Span → List X → List X
 part span xs = slice_range xs span.start span.end
 
 -- the numbers of an entry, or its word
-abbrev pub body_in : Pools → Filling → Span → Body
+abbrev pub body_in : EntryStore → BodyTag → Span → Body
 body_in p fillings.Probabilities numbers = bodies.Probabilities (part numbers p.probabilities.items)
 body_in p fillings.Rewards numbers = bodies.Rewards (part numbers p.rewards.items)
 body_in p fillings.Uniform numbers = bodies.Uniform
 body_in p fillings.Identity numbers = bodies.Identity
 
 -- where the places of an entry stand
-abbrev pub places_of : Head → Span
+abbrev pub places_of : EntryHeader → Span
 places_of h = record { start = h.places; end = h.places + h.count }
 
-abbrev pub places_in : Pools → Head → List Place
+abbrev pub places_in : EntryStore → EntryHeader → List Place
 places_in p h = part (places_of h) p.places.items
 
-abbrev pub entry_in : Pools → Head → Entry
+abbrev pub entry_in : EntryStore → EntryHeader → Entry
 entry_in p h = record { table = h.table; places = places_in p h; body = body_in p h.filling h.numbers }
 
 -- the part lies in a list of this length
@@ -37,24 +38,37 @@ pub record LiesIn (len : ℕ) (span : Span) : Type 0 where
   pub order : span.start ≤ span.end
   pub room : span.end ≤ len
 
-abbrev pub HasNumbers : Pools → Filling → Span → Type 0
+abbrev pub HasNumbers : EntryStore → BodyTag → Span → Type 0
 HasNumbers p fillings.Probabilities numbers = LiesIn (length p.probabilities.items) numbers
 HasNumbers p fillings.Rewards numbers = LiesIn (length p.rewards.items) numbers
 HasNumbers p fillings.Uniform numbers = Unit {0}
 HasNumbers p fillings.Identity numbers = Unit {0}
 
 -- its places and numbers are there
-pub record IsWithin (p : Pools) (h : Head) : Type 0 where
+pub record IsWithin (p : EntryStore) (h : EntryHeader) : Type 0 where
   pub has_places : LiesIn (length p.places.items) (places_of h)
   pub has_numbers : HasNumbers p h.filling h.numbers
 
 -- the list continues with more
-pub record GoesOn {X : Type 0} (xs ys : List X) : Type 0 where
+pub record Continues {X : Type 0} (xs ys : List X) : Type 0 where
   pub more : List X
   pub whole : ys ≡ xs ++ more
 
 -- each list continues
-pub record GoOn (p q : Pools) : Type 0 where
-  pub places : GoesOn p.places.items q.places.items
-  pub probabilities : GoesOn p.probabilities.items q.probabilities.items
-  pub rewards : GoesOn p.rewards.items q.rewards.items
+pub record GoOn (p q : EntryStore) : Type 0 where
+  pub places : Continues p.places.items q.places.items
+  pub probabilities : Continues p.probabilities.items q.probabilities.items
+  pub rewards : Continues p.rewards.items q.rewards.items
+
+-- the parts of all entries are there, and no rewards but theirs
+pub record AreHeldIn (p : EntryStore) (hs : List EntryHeader) : Type 0 where
+  pub within : All (IsWithin p) hs
+  pub rewards : p.rewards.items ≡ all_rewards (map (entry_in p) hs)
+
+-- one entry more is there, after the others
+pub record IsPut (old new : List EntryHeader) (p q : EntryStore) (entry : Entry) : Type 0 where
+  pub head : EntryHeader
+  pub heads : new ≡ old ++ head ∷ []
+  pub within : IsWithin q head
+  pub is : entry_in q head ≡ entry
+  pub rewards : q.rewards.items ≡ p.rewards.items ++ rewards_of entry.body

@@ -14,7 +14,7 @@ use Rattle.polcert_cells.specs.Numbers.{one}
 use Rattle.polcert_cells.specs.Elements.{Elements, count_of, most_states, most_actions, most_observations}
 use Rattle.polcert_cells.specs.Preamble.{Preamble, is_mdp, observed, dimensions}
 use Rattle.polcert_cells.specs.Entry.{forms, cells_in}
-use Rattle.polcert_cells.specs.Start.{Shares}
+use Rattle.polcert_cells.specs.Start.{StartWeights}
 use Rattle.polcert_cells.specs.Meaning.{IsCount}
 use Rattle.polcert_cells.specs.Steps.Drafts.{Draft}
 
@@ -52,7 +52,7 @@ pub record IsSound (d : Draft) : Type 0 where
   pub entries : All (IsSoundEntry d.preamble) d.entries
 
 -- the draft of a text with these lines, this start item or none, and these entries
-abbrev pub draft_of : ℕ → Bool → Elements → Elements → Option Elements → Option Shares → List Entry → Draft
+abbrev pub draft_of : ℕ → Bool → Elements → Elements → Option Elements → Option StartWeights → List Entry → Draft
 draft_of discount costs states actions observations start entries = record {
   preamble = record { discount = discount; costs = costs; states = states; actions = actions; observations = observations };
   start = start;

@@ -1,4 +1,5 @@
 -- A controller over other cells that agree in range: each step, each run and each sum is the same.
+use Rattle.std.specs.List.{range_with_len}
 use Rattle.std.proofs.Common.{◌≡◌, ℕ, zero, suc, ◌-◌, ◌*◌, ◌^◌, ◌<◌, ℤ, pos, ◌*ℤ◌, IsTrue, not, cond, List, [], ◌∷◌, map, flat_map, get_or, Option, Some, None, sym, refl, ap, ◌∙◌, All, length}
 use Rattle.polcert_cells.specs.Tables.{CellTable}
 use Rattle.polcert_check.specs.Horizon.{Controller, one, total_below, sum_over, step_weight, pairs, runs, is_cut, weight, rewards, end_value, reward_part, total, uncut, weights_sum, worth_sum, rewards_sum, Promise, RewardPromise, IsRunInRange}
@@ -58,7 +59,7 @@ module _ (c : Controller) (p : IsClosed c) (y : CellTable) (same : HasSameCells 
 
   reward_part_same : (k : ℕ) (run : List (ℕ × ℕ)) (n s : ℕ) → n < c.nodes → s < c.cells.states → IsRunInRange c.cells run → reward_part (with_cells c y) k (Some n) s run ≡ reward_part c k (Some n) s run
   reward_part_same k run n s nl sl f =
-      ap (λ (rs : List ℤ). total_below (λ i. pos (c.cells.discount ^ i * one ^ (k - i)) *ℤ get_or rs i (pos 0)) k) (run_same run n s nl sl f).1
+      ap (λ (rs : List ℤ). sum_over (λ i. pos (c.cells.discount ^ i * one ^ (k - i)) *ℤ get_or rs i (pos 0)) (range_with_len 0 k)) (run_same run n s nl sl f).1
 
   total_same : (k : ℕ) (run : List (ℕ × ℕ)) (n s : ℕ) → n < c.nodes → s < c.cells.states → IsRunInRange c.cells run → total (with_cells c y) k (Some n) s run ≡ total c k (Some n) s run
   total_same k run n s nl sl f =

@@ -3,7 +3,7 @@ use Rattle.std.proofs.Common.{◌≡◌, ℕ, ◌*◌, ◌<◌, ℤ, pos, ◌*�
 use Rattle.polcert_cells.specs.Elements.{count_of}
 use Rattle.polcert_cells.specs.Numbers as numbers
 use Rattle.polcert_cells.specs.Preamble.{Preamble, observed}
-use Rattle.polcert_cells.specs.declared.shares.Shares.{Shares}
+use Rattle.polcert_cells.specs.declared.start_weights.StartWeights.{StartWeights}
 use Rattle.polcert_cells.specs.Meaning.{Meaning, IsSame, states_of, start_weight, start_total}
 use Rattle.polcert_cells.specs.Tables.{CellTable, table_of}
 use Rattle.polcert_policy.specs.Graphs.{PolicyGraph, IsProperGraph, nodes}
@@ -34,7 +34,7 @@ module _ (m n : Meaning) (same : IsSame m n) where
 
   pub start_sum_same : (v : PolicyVectors) (node : ℕ) → start_sum m v node ≡ start_sum n v node
   start_sum_same v node =
-      ap (λ (start : Shares). total_below (λ s. pos (get_or start.weights s 0) *ℤ value_of v node s) (states_of m)) same.start
+      ap (λ (start : StartWeights). total_below (λ s. pos (get_or start.weights s 0) *ℤ value_of v node s) (states_of m)) same.start
       ∙ ap (λ (count : ℕ). total_below (λ s. pos (start_weight n s) *ℤ value_of v node s) count) same_cells.states
 
   pub same_best_start : (v : PolicyVectors) (node : ℕ) → IsBestStart m v node → IsBestStart n v node
@@ -47,7 +47,7 @@ module _ (m n : Meaning) (same : IsSame m n) where
 
   pub same_worth : (v : PolicyVectors) (node : ℕ) (worth : ℤ) → IsStartWorth m v node worth → IsStartWorth n v node worth
   same_worth v node worth is =
-      subst (λ (total : ℕ). IsFloorQuotient (start_sum n v node) total worth) (ap (λ (start : Shares). start.total) same.start)
+      subst (λ (total : ℕ). IsFloorQuotient (start_sum n v node) total worth) (ap (λ (start : StartWeights). start.total) same.start)
       (subst (λ (sum : ℤ). IsFloorQuotient sum (start_total m) worth) (start_sum_same v node) is)
 
 -- the promise from the start, for other cells and then for other shares

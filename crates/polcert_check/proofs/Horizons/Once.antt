@@ -1,9 +1,10 @@
 -- `runs t k` holds no list twice.
-use Rattle.std.proofs.Common.{◌≡◌, ℕ, zero, suc, ◌<◌, ◌⊎◌, inl, inr, ⊎_elim, List, [], ◌∷◌, ◌++◌, map, flat_map, sym, refl, ap, ◌∙◌, subst, arith, Contains}
+use Rattle.std.proofs.Common.{◌≡◌, ℕ, zero, suc, ◌+◌, ◌<◌, ◌≤◌, ◌⊎◌, inl, inr, ⊎_elim, List, [], ◌∷◌, ◌++◌, map, flat_map, sym, refl, ap, ◌∙◌, subst, arith, Contains}
 use Rattle.std.proofs.lemmas.List.Elements.{Contains-append_cases}
+use Rattle.std.specs.List.{range_with_len}
 use Rattle.polcert_cells.specs.Tables.{CellTable}
-use Rattle.polcert_check.specs.Horizon.{below, pairs, runs, HasNoRepeat}
-use Rattle.polcert_check.proofs.Horizons.Enumerated.{Contains-cons_cases, Contains-cons, Contains-first, All-below}
+use Rattle.polcert_check.specs.Horizon.{pairs, runs, HasNoRepeat}
+use Rattle.polcert_check.proofs.Horizons.Enumerated.{Contains-cons_cases, Contains-cons, Contains-first, All-from}
 use Rattle.std.proofs.lemmas.List.Elements.{All-contains}
 
 Contains-nil : {X : Type 0} (x : X) → Contains [] x → ⊥
@@ -44,11 +45,12 @@ HasNoRepeat-flat_map f each apart (x ∷ xs) p =
     HasNoRepeat-append (f x) (flat_map f xs) (each x) (HasNoRepeat-flat_map f each apart xs p.1)
     (λ y c d. let (z, h, k) = Contains-flat_map_cases f xs y d in p.0 (subst (λ w. Contains xs w) (sym (apart x z y c k)) h))
 
-HasNoRepeat-below : (n : ℕ) → HasNoRepeat (below n)
-HasNoRepeat-below zero = tt
-HasNoRepeat-below (suc n) =
-    HasNoRepeat-append (below n) (n ∷ []) (HasNoRepeat-below n) ((λ c. Contains-nil n c), tt)
-    (λ x c d. let l : x < n = All-contains (λ i. i < n) (below n) x (All-below n) c in ⊎_elim (λ (e : n ≡ x). omega arith) (λ e. Contains-nil x e) (Contains-cons_cases n [] x d))
+HasNoRepeat-from : (a n : ℕ) → HasNoRepeat (range_with_len a n)
+HasNoRepeat-from a zero = tt
+HasNoRepeat-from a (suc n) = (
+  (λ c. let later = All-contains (λ i. (a + 1 ≤ i) × (i < a + 1 + n)) (range_with_len (a + 1) n) a (All-from (a + 1) n) c in omega (arith, later.0)),
+  HasNoRepeat-from (a + 1) n,
+)
 
 cons_tail : (p : ℕ × ℕ) (x y : List (ℕ × ℕ)) → p ∷ x ≡ p ∷ y → x ≡ y
 cons_tail p x y e = cc
@@ -63,5 +65,5 @@ HasNoRepeat-runs t (suc k) =
     (λ p. HasNoRepeat-map (λ run. p ∷ run) (λ x y e. cons_tail p x y e) (runs t k) (HasNoRepeat-runs t k))
     (λ p q run a b. let (x, h, d) = Contains-map_cases (λ u. p ∷ u) (runs t k) run a in let (y, i, e) = Contains-map_cases (λ u. q ∷ u) (runs t k) run b in cons_head p q x y (d ∙ sym e))
     (pairs t)
-    (HasNoRepeat-flat_map (λ e. map (λ z. (e, z)) (below t.observations)) (λ e. HasNoRepeat-map (λ z. (e, z)) (λ x y h. ap (λ p. p.1) h) (below t.observations) (HasNoRepeat-below t.observations))
-    (λ e f p a b. let (x, h, d) = Contains-map_cases (λ z. (e, z)) (below t.observations) p a in let (y, i, j) = Contains-map_cases (λ z. (f, z)) (below t.observations) p b in ap (λ (q : ℕ × ℕ). q.0) (d ∙ sym j)) (below t.states) (HasNoRepeat-below t.states))
+    (HasNoRepeat-flat_map (λ e. map (λ z. (e, z)) (range_with_len 0 t.observations)) (λ e. HasNoRepeat-map (λ z. (e, z)) (λ x y h. ap (λ p. p.1) h) (range_with_len 0 t.observations) (HasNoRepeat-from 0 t.observations))
+    (λ e f p a b. let (x, h, d) = Contains-map_cases (λ z. (e, z)) (range_with_len 0 t.observations) p a in let (y, i, j) = Contains-map_cases (λ z. (f, z)) (range_with_len 0 t.observations) p b in ap (λ (q : ℕ × ℕ). q.0) (d ∙ sym j)) (range_with_len 0 t.states) (HasNoRepeat-from 0 t.states))

@@ -1,16 +1,17 @@
 -- Sums over the runs of k + 1 steps, split at the first step.
 use Rattle.std.proofs.Common.{◌≡◌, ℕ, suc, ◌-◌, ◌*◌, ◌^◌, ℤ, pos, ◌+ℤ◌, ◌*ℤ◌, not, cond, List, ◌∷◌, map, get_or, Some, None, sym, ap, ◌∙◌, arith}
+use Rattle.std.specs.List.{range_with_len}
 use Rattle.std.proofs.Math.Nat.{pow-suc, pow-zero}
 use Rattle.polcert_cells.specs.Tables.{CellTable}
-use Rattle.polcert_check.specs.Horizon.{total_below, sum_over, Controller, one, below, pairs, runs, is_cut, rewards, end_value, reward_part, total, uncut}
+use Rattle.polcert_check.specs.Horizon.{total_below, sum_over, Controller, one, pairs, runs, is_cut, rewards, end_value, reward_part, total, uncut}
 use Rattle.polcert_check.proofs.Sums.Ring.{products, sums, *ℤ_assoc}
 use Rattle.polcert_check.proofs.Sums.SumLaws.{sum_below_same, sum_below_scale, sum_below_front, sum_over_same, sum_over_map, sum_over_flat_map, sum_over_filter, sum_over_zero, sum_over_below}
 
 -- a sum over all pairs
 pub sum_over_pairs : (t : CellTable) (f : ℕ → ℕ → ℤ) → sum_over (λ p. f p.0 p.1) (pairs t) ≡ total_below (λ e. total_below (λ z. f e z) t.observations) t.states
 sum_over_pairs t f =
-    sum_over_flat_map (λ p. f p.0 p.1) (λ e. map (λ z. (e, z)) (below t.observations)) (below t.states)
-    ∙ sum_over_same _ (λ e. total_below (λ z. f e z) t.observations) (below t.states) (λ e. sum_over_map (λ p. f p.0 p.1) (λ z. (e, z)) (below t.observations) ∙ sum_over_below (λ z. f e z) t.observations)
+    sum_over_flat_map (λ p. f p.0 p.1) (λ e. map (λ z. (e, z)) (range_with_len 0 t.observations)) (range_with_len 0 t.states)
+    ∙ sum_over_same _ (λ e. total_below (λ z. f e z) t.observations) (range_with_len 0 t.states) (λ e. sum_over_map (λ p. f p.0 p.1) (λ z. (e, z)) (range_with_len 0 t.observations) ∙ sum_over_below (λ z. f e z) t.observations)
     ∙ sum_over_below (λ e. total_below (λ z. f e z) t.observations) t.states
 
 -- a sum over the runs of k + 1 steps
@@ -43,11 +44,12 @@ reward_part_cons c k n s e z run =
     let rest : List ℤ = rewards c (c.next n z) e run in
     let r : ℤ = c.cells.r (c.action n) s e z in
     let later = λ (i : ℕ). pos (g ^ i * one ^ (k - i)) *ℤ get_or rest i (pos 0) in
-    sum_below_front (λ i. pos (g ^ i * one ^ (suc k - i)) *ℤ get_or (r ∷ rest) i (pos 0)) k
+    sum_over_below (λ i. pos (g ^ i * one ^ (suc k - i)) *ℤ get_or (r ∷ rest) i (pos 0)) (suc k)
+    ∙ sum_below_front (λ i. pos (g ^ i * one ^ (suc k - i)) *ℤ get_or (r ∷ rest) i (pos 0)) k
     ∙ ap (λ (x : ℕ). pos x *ℤ r +ℤ total_below (λ i. pos (g ^ suc i * one ^ (suc k - suc i)) *ℤ get_or rest i (pos 0)) k) (scale_first g one (suc k))
     ∙ ap (λ (x : ℤ). pos (one ^ suc k) *ℤ r +ℤ x)
     (sum_below_same _ (λ i. pos g *ℤ later i) k (λ i _. ap (λ (x : ℕ). pos x *ℤ get_or rest i (pos 0)) (scale_step g one i k) ∙ *ℤ_assoc (pos g) (pos (g ^ i * one ^ (k - i))) (get_or rest i (pos 0)))
-    ∙ sum_below_scale (pos g) later k)
+    ∙ sum_below_scale (pos g) later k ∙ ap (λ (x : ℤ). pos g *ℤ x) (sym (sum_over_below later k)))
 
 -- the total of a run, split at its first step
 pub total_algebra : (g h r p v : ℤ) → (r +ℤ g *ℤ p) +ℤ (g *ℤ h) *ℤ v ≡ r +ℤ g *ℤ (p +ℤ h *ℤ v)

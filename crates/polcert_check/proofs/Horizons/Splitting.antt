@@ -5,7 +5,7 @@ use Rattle.polcert_check.specs.Horizon.{Controller, one, total_below, step_weigh
 use Rattle.polcert_check.specs.Shortfall.{at_node, backing}
 use Rattle.polcert_check.specs.Verdict.{IsLeastLacking}
 use Rattle.polcert_check.specs.Steps.Factored.{expected_reward, value_term, value_at_end, expected_value}
-use Rattle.polcert_check.specs.Steps.Followed.{followed}
+use Rattle.polcert_check.specs.Steps.FollowedCells.{followed}
 use Rattle.polcert_check.proofs.Sums.Ring.{products, *ℤ_assoc}
 use Rattle.polcert_check.proofs.Sums.SumLaws.{sum_below_same, sum_below_scale, sum_below_add}
 use Rattle.polcert_check.proofs.Horizons.Kept.{backing_term, no_weight}

@@ -14,7 +14,7 @@ use Rattle.std.proofs.Common.{w64}
 use Rattle.std.proofs.Math.Nat.{mul-le-mul}
 use Rattle.polcert_check.specs.declared.side.Side.{Side}
 use Rattle.polcert_check.specs.declared.side.Side.TheVariants.{Below, Above}
-use Rattle.polcert_check.specs.Steps.Mirrored.{turned, CanMove}
+use Rattle.polcert_check.specs.Steps.Mirrored.{signed_from, CanMove}
 use Rattle.polcert_check.proofs.Walking.Verdicts.{positive_product}
 use Rattle.polcert_policy.specs.Vectors.{PolicyVectors, AreProperVectors, IsInRange, value_of}
 use Rattle.polcert_check.proofs.Certificates.{value_is_in_range}
@@ -97,13 +97,13 @@ no_constant c p ge n s nl sl h by passes =
     positive_not : (x : ℤ) (y : ℕ) → y ≡ 0 → x ≤ℤ pos y → pos 0 <ℤ x → ⊥
     positive_not x y e l h = omega (arith, linear)
 
-turned_in_range : (side : Side) (x : ℤ) → IsInRange x → IsInRange (turned side x)
+turned_in_range : (side : Side) (x : ℤ) → IsInRange x → IsInRange (signed_from side x)
 turned_in_range Below x r = r
 turned_in_range Above x r = (omega (arith, ints, r.0, r.1), omega (arith, ints, r.0, r.1))
 
 constant_small : (side : Side) (v : PolicyVectors) → AreProperVectors v → (by : ℕ) → CanMove side v by → by ≤ 2 * largest
 constant_small side v proper by can =
-    low_is_small (turned side (value_of v 0 0)) by (turned_in_range side (value_of v 0 0) (value_is_in_range v proper 0 0 proper.some_nodes proper.some_states)) (can 0 0 proper.some_nodes proper.some_states)
+    low_is_small (signed_from side (value_of v 0 0)) by (turned_in_range side (value_of v 0 0) (value_is_in_range v proper 0 0 proper.some_nodes proper.some_states)) (can 0 0 proper.some_nodes proper.some_states)
 
 pub constant_fits : (side : Side) (v : PolicyVectors) → AreProperVectors v → (by : ℕ) → CanMove side v by → FitsSigned w64 (pos by)
 constant_fits side v proper by can = let small : by ≤ 2 * largest = constant_small side v proper by can in record { sfits = omega (arith, ints) }

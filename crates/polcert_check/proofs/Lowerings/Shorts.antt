@@ -8,7 +8,7 @@ use Rattle.polcert_check.specs.Horizon.{Controller, one, step_scale}
 use Rattle.polcert_check.specs.Shortfall.{backing, short, most_short}
 use Rattle.polcert_check.specs.Steps.Ranges.{IsController, ValuesAreWithin, most_scales, most_sum}
 use Rattle.polcert_check.specs.Steps.Factored.{expected_reward, expected_value}
-use Rattle.polcert_check.specs.Steps.Followed.{followed, followed_is_proper, followed_is_within}
+use Rattle.polcert_check.specs.Steps.FollowedCells.{followed, followed_is_proper, followed_is_within}
 use Rattle.polcert_check.proofs.Sums.Bounds.{abs-*ℤ_le}
 use Rattle.polcert_check.proofs.Sums.Scales.{scales_le, discount_le}
 use Rattle.polcert_check.proofs.Walking.Earning.{expected_reward_le}
@@ -33,11 +33,11 @@ difference_le x y b h k = omega (arith, ints)
 pub part_le : (t o u : ℕ) (x : ℤ) → u ≤ one → unsigned_abs x ≤ t * (o * largest) → unsigned_abs (pos u *ℤ x) ≤ t * o * one * largest
 part_le t o u x ul xl =
     let q : unsigned_abs (pos u *ℤ x) ≤ one * (t * (o * largest)) = abs-*ℤ_le (pos u) x one (t * (o * largest)) ul xl in
-    let same : one * (t * (o * largest)) ≡ t * o * one * largest = turned t o one largest in
+    let same : one * (t * (o * largest)) ≡ t * o * one * largest = signed_from t o one largest in
     rw same at q
   where
-    turned : (t o g l : ℕ) → g * (t * (o * l)) ≡ t * o * g * l
-    turned t o g l = omega arith
+    signed_from : (t o g l : ℕ) → g * (t * (o * l)) ≡ t * o * g * l
+    signed_from t o g l = omega arith
 
 -- what backs a value is at most twice the largest value on this scale
 backing_le : (c : Controller) → IsController c → IsWithinLimits c.cells → ValuesAreWithin c → (n s : ℕ) → n < c.nodes → s < c.cells.states → unsigned_abs (backing c n s) ≤ 2 * (step_scale c * one * largest)

@@ -1,5 +1,6 @@
 -- What is so of a controller, and what of its mirror image: each sum of rewards and values is negated, and weights stay.
 use Rattle.std.proofs.Common.{◌≡◌, ◌∙◌, ℕ, zero, suc, ◌-◌, ◌*◌, ◌^◌, ℤ, pos, neg_ℤ, ◌+ℤ◌, ◌-ℤ◌, ◌*ℤ◌, Bool, not, cond, Option, Some, None, List, [], ◌∷◌, map, filter, flat_map, get_or, refl, sym, ap, arith}
+use Rattle.std.specs.List.{range_with_len}
 use Rattle.std.proofs.Math.IntN.{neg_ℤ-+ℤ}
 use Rattle.polcert_check.specs.Horizon.{Controller, one, total_below, sum_over, step_weight, step_scale, pairs, runs, is_cut, weight, rewards, end_value, reward_part, total, uncut, weights_sum, worth_sum, rewards_sum}
 use Rattle.polcert_check.specs.Shortfall.{at_node, backing, short}
@@ -76,9 +77,9 @@ mirrored_part : (c : Controller) (k : ℕ) (at : Option ℕ) (s : ℕ) (run : Li
 mirrored_part c k at s run =
     let factor = λ (i : ℕ). pos (c.cells.discount ^ i * one ^ (k - i)) in
     let earned = λ (i : ℕ). get_or (rewards c at s run) i (pos 0) in
-    sum_below_same _ (λ i. neg_ℤ (factor i *ℤ earned i)) k
-    (λ i _. ap (λ rs. factor i *ℤ get_or rs i (pos 0)) (mirrored_rewards c at s run) ∙ ap (λ (x : ℤ). factor i *ℤ x) (get_neg (rewards c at s run) i) ∙ neg_product (factor i) (earned i))
-    ∙ sum_below_neg (λ i. factor i *ℤ earned i) k
+    sum_over_same _ (λ i. neg_ℤ (factor i *ℤ earned i)) (range_with_len 0 k)
+    (λ i. ap (λ rs. factor i *ℤ get_or rs i (pos 0)) (mirrored_rewards c at s run) ∙ ap (λ (x : ℤ). factor i *ℤ x) (get_neg (rewards c at s run) i) ∙ neg_product (factor i) (earned i))
+    ∙ sum_over_neg (λ i. factor i *ℤ earned i) (range_with_len 0 k)
 
 mirrored_total : (c : Controller) (k : ℕ) (at : Option ℕ) (s : ℕ) (run : List (ℕ × ℕ)) → total (mirrored c) k at s run ≡ neg_ℤ (total c k at s run)
 mirrored_total c k at s run =

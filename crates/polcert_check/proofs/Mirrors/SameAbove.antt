@@ -3,7 +3,7 @@ use Rattle.std.proofs.Common.{ℕ, ◌<◌, ℤ, neg_ℤ, ap, subst}
 use Rattle.polcert_cells.specs.Meaning.{Meaning, IsSame, start_total}
 use Rattle.polcert_cells.specs.SameCells.{HasSameCells}
 use Rattle.polcert_cells.specs.Tables.{CellTable, table_of}
-use Rattle.polcert_cells.specs.declared.shares.Shares.{Shares}
+use Rattle.polcert_cells.specs.declared.start_weights.StartWeights.{StartWeights}
 use Rattle.polcert_policy.specs.Graphs.{PolicyGraph, IsProperGraph, nodes}
 use Rattle.polcert_policy.specs.Vectors.{PolicyVectors}
 use Rattle.polcert_check.specs.declared.above.AboveVerdict.{AboveVerdict}
@@ -103,7 +103,7 @@ pub same_start_most : (m n : Meaning) → IsSame m n → (v : PolicyVectors) (mo
 same_start_most m n same v most (node, best, ceil) = (
   node,
   same_best_start m n same v node best,
-  subst (λ (total : ℕ). IsCeilQuotient (start_sum n v node) total most) (ap (λ (start : Shares). start.total) same.start)
+  subst (λ (total : ℕ). IsCeilQuotient (start_sum n v node) total most) (ap (λ (start : StartWeights). start.total) same.start)
       (subst (λ (sum : ℤ). IsCeilQuotient sum (start_total m) most) (start_sum_same m n same v node) ceil),
 )
 

@@ -7,15 +7,15 @@ use Rattle.polcert_check.specs.Shortfall.{short}
 use Rattle.polcert_check.specs.Steps.Ranges.{IsClosed, IsController, ValuesAreWithin}
 use Rattle.polcert_check.specs.declared.side.Side.{Side}
 use Rattle.polcert_check.specs.declared.side.Side.TheVariants.{Below, Above}
-use Rattle.polcert_check.specs.Steps.Mirrored.{turned, sided}
+use Rattle.polcert_check.specs.Steps.Mirrored.{signed_from, sided}
 use Rattle.polcert_check.proofs.Sums.Bounds.{abs_neg}
 use Rattle.polcert_check.proofs.Mirrors.Mirrored.{mirrored_short}
 
-pub turned_size : (side : Side) (x : ℤ) → unsigned_abs (turned side x) ≡ unsigned_abs x
+pub turned_size : (side : Side) (x : ℤ) → unsigned_abs (signed_from side x) ≡ unsigned_abs x
 turned_size Below x = refl
 turned_size Above x = abs_neg x
 
-pub sided_short : (side : Side) (c : Controller) (n s : ℕ) → short (sided side c) n s ≡ turned side (short c n s)
+pub sided_short : (side : Side) (c : Controller) (n s : ℕ) → short (sided side c) n s ≡ signed_from side (short c n s)
 sided_short Below c n s = refl
 sided_short Above c n s = mirrored_short c n s
 

@@ -69,8 +69,8 @@ neg_quotient_is q small =
 
 -- ---- the promise: that of the mirror image from below
 weighed_turned : (w : ℕ → ℕ) (f g : ℕ → ℤ) (count : ℕ) → ((i : ℕ) → f i ≡ neg_ℤ (g i)) → total_below (λ i. pos (w i) *ℤ f i) count ≡ neg_ℤ (total_below (λ i. pos (w i) *ℤ g i) count)
-weighed_turned w f g count turned =
-    sum_below_same _ (λ i. neg_ℤ (pos (w i) *ℤ g i)) count (λ i _. ap (λ (x : ℤ). pos (w i) *ℤ x) (turned i) ∙ neg_product (pos (w i)) (g i))
+weighed_turned w f g count signed_from =
+    sum_below_same _ (λ i. neg_ℤ (pos (w i) *ℤ g i)) count (λ i _. ap (λ (x : ℤ). pos (w i) *ℤ x) (signed_from i) ∙ neg_product (pos (w i)) (g i))
     ∙ sum_below_neg (λ i. pos (w i) *ℤ g i) count
 
 module _ (m : Meaning) (c : Controller) (k n : ℕ) (most : ℤ) where
@@ -94,11 +94,11 @@ pub start_above : (m : Meaning) (graph : PolicyGraph) (v : PolicyVectors) → Fi
     → (most : ℤ) → IsStartMost m v most → (k n : ℕ) → n < nodes graph → StartPromiseAbove m (controller_of (table_of m) graph v) k n most
 start_above m graph v fits proper passes most is k n nl =
     let c : Controller = controller_of (table_of m) graph v in
-    let turned : IsController (mirrored c) = sided_proper Above c proper in
+    let signed_from : IsController (mirrored c) = sided_proper Above c proper in
     let below : Passes (mirrored c) = passes_below c passes in
     let mean : start_sum m v n ≤ℤ (pos (start_total m) *ℤ most) = ≤ℤ_trans _ _ _ (is.1.none_greater n (omega (arith, nl, fits.nodes_same))) is.2.0 in
     let mean_below = le_below (pos (start_total m)) most _ _ (weighed_turned (start_weight m) (λ s. neg_ℤ (value_of v n s)) (value_of v n) (states_of m) (λ s. refl)) mean in
     start_promise_above m c k n most (record {
-      cut_runs = λ s sl some. (promise_all (mirrored c) turned below k n s nl sl).cut_runs;
-      uncut_runs = start_all (mirrored c) turned below (start_weight m) (start_total m) (neg_ℤ most) n nl mean_below k;
+      cut_runs = λ s sl some. (promise_all (mirrored c) signed_from below k n s nl sl).cut_runs;
+      uncut_runs = start_all (mirrored c) signed_from below (start_weight m) (start_total m) (neg_ℤ most) n nl mean_below k;
     })

@@ -1,13 +1,11 @@
 -- Absolute values, and which sums fit 128 bits.
-use Rattle.std.proofs.Common.{◌≡◌, ℕ, zero, suc, ◌+◌, ◌*◌, ◌^◌, ◌<◌, ◌≤◌, ℤ, pos, ◌+ℤ◌, ◌-ℤ◌, ◌*ℤ◌, ◌≤ℤ◌, neg_ℤ, unsigned_abs, FitsSigned, to_z, of_z, ap, arith, lit<, ◌⊎◌, inl, inr}
+use Rattle.std.proofs.Common.{◌≡◌, ℕ, zero, suc, ◌+◌, ◌*◌, ◌^◌, ◌<◌, ◌≤◌, ℤ, pos, ◌+ℤ◌, ◌-ℤ◌, ◌*ℤ◌, ◌≤ℤ◌, neg_ℤ, unsigned_abs, FitsSigned, to_z, of_z, ap, arith, ◌⊎◌, inl, inr}
 use mir.Syntax.{w128}
-use Rattle.std.proofs.lemmas.Int.{ints, unsigned_abs-mul, fits_signed_from_abs, to_z-of_z, to_z_pos}
+use Rattle.std.proofs.lemmas.Int.{ints, unsigned_abs-mul, fits_signed_from_abs, to_z-of_z}
 use Rattle.std.proofs.Math.Nat.{mul-le-mul}
 use Rattle.std.proofs.lemmas.Bool.{cases_lt}
 use Rattle.std.proofs.Math.IntN.{*ℤ_comm}
-use Rattle.polcert_text.specs.Numbers.{largest}
 use Rattle.polcert_check.specs.Horizon.{total_below}
-use Rattle.polcert_check.specs.Steps.Ranges.{most_scales, most_sum}
 use Rattle.polcert_check.proofs.Sums.Ring.{linear, mul_le, +ℤ-*ℤ}
 
 pub abs-+ℤ : (a b : ℤ) → unsigned_abs (a +ℤ b) ≤ unsigned_abs a + unsigned_abs b
@@ -24,9 +22,9 @@ fits_128 z m h k = fits_signed_from_abs w128 z (omega arith)
 
 -- a number that the code negates
 pub negated_is : (w : _) (x : ℤ) → FitsSigned w x → FitsSigned w (neg_ℤ x) → to_z w (of_z w (pos 0 -ℤ to_z w (of_z w x))) ≡ neg_ℤ x
-negated_is w x fits turned =
+negated_is w x fits signed_from =
     let is : pos 0 -ℤ x ≡ neg_ℤ x = omega (arith, linear) in
-    rw (to_z-of_z w x fits, is) (to_z-of_z w (neg_ℤ x) turned)
+    rw (to_z-of_z w x fits, is) (to_z-of_z w (neg_ℤ x) signed_from)
 
 -- ---- bounds of sums
 pub abs_sum_le : (f : ℕ → ℤ) (w : ℕ → ℕ) (b n : ℕ) → ((i : ℕ) → i < n → unsigned_abs (f i) ≤ w i * b) → pos (unsigned_abs (total_below f n)) ≤ℤ (total_below (λ i. pos (w i)) n *ℤ pos b)
@@ -59,10 +57,3 @@ term_le w i n scale all l =
     let h : (total_below (λ i. pos (w i)) i +ℤ pos (w i)) ≤ℤ total_below (λ i. pos (w i)) n = sum_below_upto w (suc i) n l in
     let low : pos 0 ≤ℤ total_below (λ i. pos (w i)) i = sum_below_upto w 0 i (omega arith) in
     omega (arith, linear)
-
--- a value on the scale of one step
-pub scaled_fits : (t o : ℕ) (v : ℤ) → t * o ≤ most_scales → unsigned_abs v ≤ largest → FitsSigned w128 (pos (t * o) *ℤ pos 1000000) × FitsSigned w128 v × FitsSigned w128 ((pos (t * o) *ℤ pos 1000000) *ℤ v) × (to_z w128 (t * o) ≡ pos (t * o))
-scaled_fits t o v q vl =
-    let s : unsigned_abs (pos (t * o) *ℤ pos 1000000) ≤ most_scales * 1000000 = abs-*ℤ_le (pos (t * o)) (pos 1000000) most_scales 1000000 q (omega arith) in
-    let b : unsigned_abs ((pos (t * o) *ℤ pos 1000000) *ℤ v) ≤ most_sum = abs-*ℤ_le (pos (t * o) *ℤ pos 1000000) v (most_scales * 1000000) largest s vl in
-    (fits_128 _ (most_scales * 1000000) s (lit< tt), fits_128 v largest vl (lit< tt), fits_128 _ most_sum b (lit< tt), to_z_pos w128 (t * o) (omega (arith, q)))

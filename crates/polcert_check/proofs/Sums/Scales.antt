@@ -41,8 +41,8 @@ sum_room m limits =
 pub ahead_room : (m : CellTable) → IsWithinLimits m → m.t_scale * (m.o_scale * largest) ≤ most_sum
 ahead_room m limits = omega (arith, sum_room m limits)
 
-pub behind_room : (m : CellTable) → IsWithinLimits m → m.o_scale * largest ≤ most_sum
-behind_room m limits = row_of_both m limits largest most_sum (ahead_room m limits)
+pub after_room : (m : CellTable) → IsWithinLimits m → m.o_scale * largest ≤ most_sum
+after_room m limits = row_of_both m limits largest most_sum (ahead_room m limits)
 
 pub discount_le : (m : CellTable) → IsWithinLimits m → m.discount ≤ one
 unfolding one

@@ -1,8 +1,9 @@
 -- Laws of sums of integers.
-use Rattle.std.proofs.Common.{◌≡◌, ℕ, zero, suc, ◌<◌, ℤ, pos, ◌+ℤ◌, ◌*ℤ◌, ◌≤ℤ◌, Bool, true, false, cond, List, [], ◌∷◌, ◌++◌, map, filter, flat_map, sym, refl, ap, ◌∙◌, arith, All}
+use Rattle.std.proofs.Common.{◌≡◌, ℕ, zero, suc, ◌+◌, ◌<◌, ℤ, pos, ◌+ℤ◌, ◌*ℤ◌, ◌≤ℤ◌, Bool, true, false, cond, List, [], ◌∷◌, ◌++◌, map, filter, flat_map, sym, refl, ap, ◌∙◌, arith, All}
+use Rattle.std.specs.List.{range_with_len}
 use Rattle.std.proofs.lemmas.List.Elements.{All-head, All-tail}
 use Rattle.std.proofs.Math.IntN.{+ℤ_assoc, +ℤ_idl, *ℤ-zero}
-use Rattle.polcert_check.specs.Horizon.{total_below, sum_over, below}
+use Rattle.polcert_check.specs.Horizon.{total_below, sum_over}
 use Rattle.polcert_check.proofs.Sums.Ring.{linear, *ℤ-+ℤ}
 
 -- ---- sums below n
@@ -74,9 +75,17 @@ sum_over_filter {X} f p (x ∷ xs) = go (p x) (sum_over_filter f p xs)
     go true e = ap (λ (s : ℤ). f x +ℤ s) e
     go false e = e ∙ sym (+ℤ_idl (sum_over (λ x. cond (p x) (f x) (pos 0)) xs))
 
-pub sum_over_below : (f : ℕ → ℤ) (n : ℕ) → sum_over f (below n) ≡ total_below f n
-sum_over_below f zero = refl
-sum_over_below f (suc n) = sum_over_append f (below n) (n ∷ []) ∙ rw (sum_over_below f n) (omega (arith, linear))
+-- over n numbers, from a on
+sum_over_from : (f : ℕ → ℤ) (a n : ℕ) → sum_over f (range_with_len a n) ≡ total_below (λ i. f (a + i)) n
+sum_over_from f a zero = refl
+sum_over_from f a (suc n) =
+    let first : a ≡ a + 0 = omega arith in
+    ap (λ (s : ℤ). f a +ℤ s) (sum_over_from f (a + 1) n ∙ sum_below_same (λ i. f (a + 1 + i)) (λ i. f (a + suc i)) n (λ i _. ap f (omega arith)))
+    ∙ ap (λ (k : ℕ). f k +ℤ total_below (λ i. f (a + suc i)) n) first
+    ∙ sym (sum_below_front (λ i. f (a + i)) n)
+
+pub sum_over_below : (f : ℕ → ℤ) (n : ℕ) → sum_over f (range_with_len 0 n) ≡ total_below f n
+sum_over_below f n = sum_over_from f 0 n ∙ sum_below_same (λ i. f (0 + i)) f n (λ i _. ap f (omega arith))
 
 -- ---- with a fact of each item
 pub sum_over_le_all : {X : Type 0} (P : X → Type 0) (f g : X → ℤ) (xs : List X) → ((x : X) → P x → f x ≤ℤ g x) → All P xs → sum_over f xs ≤ℤ sum_over g xs

@@ -9,7 +9,7 @@ use Rattle.polcert_check.specs.declared.verdict.Verdict.TheVariants.{Yes, Short,
 use Rattle.polcert_check.specs.Steps.Ranges.{IsController, ValuesAreWithin}
 use Rattle.polcert_check.specs.Steps.Findings.{IsPair, IsFound}
 use Rattle.polcert_check.specs.Steps.Mirrored.{sided}
-use Rattle.polcert_check.specs.declared.findings.Aim.TheVariants.{Check}
+use Rattle.polcert_check.specs.declared.findings.Mode.TheVariants.{Check}
 use Rattle.polcert_check.specs.declared.findings.Findings.{Findings}
 use Rattle.polcert_check.specs.declared.side.Side.{Side}
 use Rattle.polcert_check.proofs.Lowerings.Shorts.{short_le}
@@ -30,9 +30,9 @@ verdict_small c p limits values (Short n s amount) is = subst (λ (x : ℤ). uns
 verdict_small c p limits values (NoSuccessor n s z) is = tt
 
 -- ---- what is found from either side
-pub surveyed : (side : Side) (k : Controller) → IsController k → IsWithinLimits k.cells → ValuesAreWithin k → (f : Findings) → f.aim ≡ Check → IsFound (sided side k) (IsPair (sided side k)) f
+pub surveyed : (side : Side) (k : Controller) → IsController k → IsWithinLimits k.cells → ValuesAreWithin k → (f : Findings) → f.mode ≡ Check → IsFound (sided side k) (IsPair (sided side k)) f
     → IsVerdict (sided side k) f.first × MeetsHorizon (sided side k) f.first × NamesSmallAmount (sided side k) f.first
-surveyed side k p limits values f aim found =
-    let is : IsVerdict (sided side k) f.first = verdict_is (sided side k) f aim found in
+surveyed side k p limits values f mode found =
+    let is : IsVerdict (sided side k) f.first = verdict_is (sided side k) f mode found in
     let proper : IsController (sided side k) = sided_proper side k p in
     (is, meets_horizon (sided side k) proper f.first is, verdict_small (sided side k) proper (sided_limits side k limits) (sided_values side k values) f.first is)

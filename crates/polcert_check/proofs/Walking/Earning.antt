@@ -42,6 +42,6 @@ module _ (m : CellTable) (p : IsProper m) (limits : IsWithinLimits m) where
   common_room a s h al sl same =
       let zl : 0 < m.observations = limits.observations.0 in
       let small : unsigned_abs h ≤ largest = subst (λ (x : ℤ). unsigned_abs x ≤ largest) (same s 0 sl zl) (limits.r a s s 0 al sl sl zl) in
-      let behind : unsigned_abs (pos m.o_scale *ℤ h) ≤ m.o_scale * largest = abs-*ℤ_le (pos m.o_scale) h m.o_scale largest (omega arith) small in
-      let ahead : m.t_scale * unsigned_abs (pos m.o_scale *ℤ h) ≤ m.t_scale * (m.o_scale * largest) = mul-le-mul (omega arith) behind in
+      let following : unsigned_abs (pos m.o_scale *ℤ h) ≤ m.o_scale * largest = abs-*ℤ_le (pos m.o_scale) h m.o_scale largest (omega arith) small in
+      let ahead : m.t_scale * unsigned_abs (pos m.o_scale *ℤ h) ≤ m.t_scale * (m.o_scale * largest) = mul-le-mul (omega arith) following in
       omega (arith, ahead, ahead_room m limits)

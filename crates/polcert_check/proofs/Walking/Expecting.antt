@@ -8,7 +8,7 @@ use Rattle.polcert_check.specs.Steps.Ranges.{IsController, ValuesAreWithin, most
 use Rattle.polcert_check.specs.Steps.Factored.{value_term, value_at_end, expected_value}
 use Rattle.polcert_check.proofs.Sums.RowTotals.{o_rows}
 use Rattle.polcert_check.proofs.Sums.Bounds.{abs-*ℤ_le, abs_part_le}
-use Rattle.polcert_check.proofs.Sums.Scales.{behind_room}
+use Rattle.polcert_check.proofs.Sums.Scales.{after_room}
 use Rattle.polcert_check.proofs.Walking.Weighed.{ends_weighed, part_le}
 use Rattle.polcert_check.proofs.Sums.Gaps.{gap, no_weight, cursor_step}
 
@@ -32,7 +32,7 @@ value_part_le c p values n e i nl el il =
 pub value_step : (c : Controller) → IsController c → IsWithinLimits c.cells → ValuesAreWithin c → (n e from z : ℕ) (sum x : ℤ) → n < c.nodes → e < c.cells.states → from ≤ z → z < c.cells.observations → ((k : ℕ) → from ≤ k → k < z → c.cells.o (c.action n) e k ≡ 0) → sum ≡ total_below (λ z. value_term c n e z (c.next n z)) from → FitsSigned w128 x → x ≡ value_term c n e z (c.next n z) → FitsSigned w128 (sum +ℤ to_z w128 (of_z w128 x)) × (to_z w128 (of_z w128 (sum +ℤ to_z w128 (of_z w128 x))) ≡ total_below (λ z. value_term c n e z (c.next n z)) (z + 1))
 value_step c p limits values n e from z sum x nl el fl zl none before fx xe =
     cursor_step (λ z. value_term c n e z (c.next n z)) (most_sum) from z sum x fl (λ k kl kh. no_value c n e k (c.next n k) (none k kl kh)) before fx xe
-    (let le : unsigned_abs (total_below (λ z. value_term c n e z (c.next n z)) (suc z)) ≤ c.cells.o_scale * largest = value_part_le c p values n e (suc z) nl el (omega arith) in omega (arith, le, behind_room c.cells limits)) (lit< tt)
+    (let le : unsigned_abs (total_below (λ z. value_term c n e z (c.next n z)) (suc z)) ≤ c.cells.o_scale * largest = value_part_le c p values n e (suc z) nl el (omega arith) in omega (arith, le, after_room c.cells limits)) (lit< tt)
 
 pub value_done : (c : Controller) (n e from : ℕ) (sum : ℤ) → from ≤ c.cells.observations → ((k : ℕ) → from ≤ k → k < c.cells.observations → c.cells.o (c.action n) e k ≡ 0) → sum ≡ total_below (λ z. value_term c n e z (c.next n z)) from → sum ≡ value_at_end c n e
 value_done c n e from sum fl none before =

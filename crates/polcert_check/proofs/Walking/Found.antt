@@ -6,8 +6,8 @@ use Rattle.polcert_check.specs.Shortfall.{short, PairPasses}
 use Rattle.polcert_check.specs.Verdict.{IsBefore}
 use Rattle.polcert_check.specs.Steps.Factored.{IsPairVerdict}
 use Rattle.polcert_check.specs.Steps.Findings.{IsVerdictFor, AreYesBefore, IsFirstOf, NamesUntil, IsEarlier, IsWorstOf, IsMeasured, IsFound}
-use Rattle.polcert_check.specs.declared.findings.Aim.{Aim}
-use Rattle.polcert_check.specs.declared.findings.Aim.TheVariants.{Check, Lowering}
+use Rattle.polcert_check.specs.declared.findings.Mode.{Mode}
+use Rattle.polcert_check.specs.declared.findings.Mode.TheVariants.{Check, Lowering}
 use Rattle.polcert_check.specs.declared.findings.Findings.{Findings}
 use Rattle.polcert_check.specs.declared.verdict.Verdict.{Verdict}
 use Rattle.polcert_check.specs.declared.verdict.Verdict.TheVariants.{Yes, Short, NoSuccessor}
@@ -22,17 +22,17 @@ Judged = ℕ → ℕ → Verdict → Type 0
 -- ---- more pairs, none of which is before the first
 
 -- the pair is not before the one that the verdict names
-abbrev pub IsBehind : Verdict → ℕ → ℕ → Type 0
-IsBehind Yes m t = ⊥
-IsBehind (Short n s amount) m t = IsBefore m t n s → ⊥
-IsBehind (NoSuccessor n s z) m t = IsBefore m t n s → ⊥
+abbrev pub IsAfter : Verdict → ℕ → ℕ → Type 0
+IsAfter Yes m t = ⊥
+IsAfter (Short n s amount) m t = IsBefore m t n s → ⊥
+IsAfter (NoSuccessor n s z) m t = IsBefore m t n s → ⊥
 
-first_wider : (Of : Judged) (P Q : Pairs) (x : Verdict) → IsFirstOf Of P x → ((m t : ℕ) → P m t → Q m t) → ((m t : ℕ) → Q m t → P m t ⊎ IsBehind x m t) → IsFirstOf Of Q x
+first_wider : (Of : Judged) (P Q : Pairs) (x : Verdict) → IsFirstOf Of P x → ((m t : ℕ) → P m t → Q m t) → ((m t : ℕ) → Q m t → P m t ⊎ IsAfter x m t) → IsFirstOf Of Q x
 first_wider Of P Q Yes is into from = λ m t q. ⊎_elim (λ (p : P m t). is m t p) (λ (none : ⊥). absurd none) (from m t q)
 first_wider Of P Q (Short n s amount) is into from =
-    (into n s is.0, is.1, λ m t q l. ⊎_elim (λ (p : P m t). is.2 m t p l) (λ (behind : IsBefore m t n s → ⊥). absurd (behind l)) (from m t q))
+    (into n s is.0, is.1, λ m t q l. ⊎_elim (λ (p : P m t). is.2 m t p l) (λ (following : IsBefore m t n s → ⊥). absurd (following l)) (from m t q))
 first_wider Of P Q (NoSuccessor n s z) is into from =
-    (into n s is.0, is.1, λ m t q l. ⊎_elim (λ (p : P m t). is.2 m t p l) (λ (behind : IsBefore m t n s → ⊥). absurd (behind l)) (from m t q))
+    (into n s is.0, is.1, λ m t q l. ⊎_elim (λ (p : P m t). is.2 m t p l) (λ (following : IsBefore m t n s → ⊥). absurd (following l)) (from m t q))
 
 worst_wider : (c : Controller) (P Q : Pairs) (worst : ℕ) → IsWorstOf c P worst → ((m t : ℕ) → P m t → Q m t) → ((m t : ℕ) → Q m t → P m t) → IsWorstOf c Q worst
 worst_wider c P Q worst is into from =
@@ -41,14 +41,14 @@ worst_wider c P Q worst is into from =
       is_reached = ⊎_elim (λ (e : worst ≡ 0). inl e) (λ (r : (n : ℕ) × (s : ℕ) × P n s × (pos worst ≡ short c n s)). inr (r.0, r.1, into r.0 r.1 r.2, r.3)) is.is_reached;
     }
 
-behind_none : (x : Verdict) (m t : ℕ) → x ≡ Yes → IsBehind x m t → ⊥
-behind_none x m t passed behind = subst (λ (v : Verdict). IsBehind v m t) passed behind
+after_none : (x : Verdict) (m t : ℕ) → x ≡ Yes → IsAfter x m t → ⊥
+after_none x m t passed following = subst (λ (v : Verdict). IsAfter v m t) passed following
 
-pub found_wider : (c : Controller) (P Q : Pairs) (f : Findings) → IsFound c P f → ((m t : ℕ) → P m t → Q m t) → ((m t : ℕ) → Q m t → P m t ⊎ IsBehind f.first m t) → IsFound c Q f
+pub found_wider : (c : Controller) (P Q : Pairs) (f : Findings) → IsFound c P f → ((m t : ℕ) → P m t → Q m t) → ((m t : ℕ) → Q m t → P m t ⊎ IsAfter f.first m t) → IsFound c Q f
 found_wider c P Q f is into from =
     record {
-      first = first_wider (IsVerdictFor f.aim c) P Q f.first is.first into from;
-      measured = λ aim passed. wider_measured (λ m t q. ⊎_elim (λ (p : P m t). p) (λ (behind : IsBehind f.first m t). absurd (behind_none f.first m t passed behind)) (from m t q)) (is.measured aim passed);
+      first = first_wider (IsVerdictFor f.mode c) P Q f.first is.first into from;
+      measured = λ mode passed. wider_measured (λ m t q. ⊎_elim (λ (p : P m t). p) (λ (following : IsAfter f.first m t). absurd (after_none f.first m t passed following)) (from m t q)) (is.measured mode passed);
     }
   where
     wider_measured : ((m t : ℕ) → Q m t → P m t) → IsMeasured c P f → IsMeasured c Q f
@@ -63,7 +63,7 @@ pub record IsNext (P Q : Pairs) (n s : ℕ) : Type 0 where
   pub into : (m t : ℕ) → P m t → Q m t
   pub here : Q n s
   pub from : (m t : ℕ) → Q m t → P m t ⊎ ((m ≡ n) × (t ≡ s))
-  pub behind : (t : ℕ) → P n t → t < s
+  pub following : (t : ℕ) → P n t → t < s
 
 at_same : (R : Pairs) (n s m t : ℕ) → R n s → (m ≡ n) × (t ≡ s) → R m t
 at_same R n s m t here e = subst (λ (k : ℕ). R k t) (sym e.0) (subst (λ (k : ℕ). R n k) (sym e.1) here)
@@ -79,15 +79,15 @@ first_same Of P Q n s (Short m t amount) next is passed = (next.into m t is.0, i
 first_same Of P Q n s (NoSuccessor m t z) next is passed = (next.into m t is.0, is.1, all_more P Q n s next (λ i j. IsBefore i j m t → Of i j Yes) is.2 (λ l. passed))
 
 pub not_before : (P : Pairs) (n s m t : ℕ) → P m t → ((j : ℕ) → P n j → j < s) → m ≤ n → IsBefore n s m t → ⊥
-not_before P n s m t p behind until before = grind (arith, behind t)
+not_before P n s m t p following until before = grind (arith, following t)
 
 -- its verdict isn't passed, and another pair is the first
 first_kept : (Of : Judged) (P Q : Pairs) (n s : ℕ) (x : Verdict) → IsNext P Q n s → IsFirstOf Of P x → NamesUntil x n → IsFirstOf Of Q x
 first_kept Of P Q n s Yes next is until = absurd until
 first_kept Of P Q n s (Short m t amount) next is until =
-    (next.into m t is.0, is.1, all_more P Q n s next (λ i j. IsBefore i j m t → Of i j Yes) is.2 (λ l. absurd (not_before P n s m t is.0 next.behind until l)))
+    (next.into m t is.0, is.1, all_more P Q n s next (λ i j. IsBefore i j m t → Of i j Yes) is.2 (λ l. absurd (not_before P n s m t is.0 next.following until l)))
 first_kept Of P Q n s (NoSuccessor m t z) next is until =
-    (next.into m t is.0, is.1, all_more P Q n s next (λ i j. IsBefore i j m t → Of i j Yes) is.2 (λ l. absurd (not_before P n s m t is.0 next.behind until l)))
+    (next.into m t is.0, is.1, all_more P Q n s next (λ i j. IsBefore i j m t → Of i j Yes) is.2 (λ l. absurd (not_before P n s m t is.0 next.following until l)))
 
 lower_node : (i j n s m : ℕ) → IsBefore i j n s → (m ≤ n → ⊥) → i < m
 lower_node i j n s m before later = grind arith
@@ -149,19 +149,19 @@ positive_is amount x size e some is = rw (← e, is) (positive_size amount some)
     positive_size y some = omega (arith, ints)
 
 -- ---- the findings, with one pair more
-passes_for : (aim : Aim) (c : Controller) (n s : ℕ) → PairPasses c n s → IsVerdictFor aim c n s Yes
+passes_for : (mode : Mode) (c : Controller) (n s : ℕ) → PairPasses c n s → IsVerdictFor mode c n s Yes
 passes_for Check c n s passes = passes
 passes_for Lowering c n s passes = passes.lacks_none
 
-short_for : (aim : Aim) (c : Controller) (n s m t : ℕ) (amount : ℤ) → aim ≡ Check → IsPairVerdict c n s (Short m t amount) → IsVerdictFor aim c n s (Short m t amount)
+short_for : (mode : Mode) (c : Controller) (n s m t : ℕ) (amount : ℤ) → mode ≡ Check → IsPairVerdict c n s (Short m t amount) → IsVerdictFor mode c n s (Short m t amount)
 short_for Check c n s m t amount e is = is
 short_for Lowering c n s m t amount e is = absurd (cc)
 
-lack_for : (aim : Aim) (c : Controller) (n s m t z : ℕ) → IsPairVerdict c n s (NoSuccessor m t z) → IsVerdictFor aim c n s (NoSuccessor m t z)
+lack_for : (mode : Mode) (c : Controller) (n s m t z : ℕ) → IsPairVerdict c n s (NoSuccessor m t z) → IsVerdictFor mode c n s (NoSuccessor m t z)
 lack_for Check c n s m t z is = is
 lack_for Lowering c n s m t z is = is
 
-lacks_none_for : (aim : Aim) (c : Controller) (n s m t : ℕ) (amount : ℤ) → aim ≡ Lowering → IsPairVerdict c n s (Short m t amount) → IsVerdictFor aim c n s Yes
+lacks_none_for : (mode : Mode) (c : Controller) (n s m t : ℕ) (amount : ℤ) → mode ≡ Lowering → IsPairVerdict c n s (Short m t amount) → IsVerdictFor mode c n s Yes
 lacks_none_for Check c n s m t amount e is = absurd (cc)
 lacks_none_for Lowering c n s m t amount e is = is.2
 
@@ -175,28 +175,28 @@ not_yes x v r n some (inr (later, e)) passed = some (sym e ∙ passed)
 module _ (c : Controller) (P Q : Pairs) (n s : ℕ) (next : IsNext P Q n s) (f : Findings) (is : IsFound c P f) where
   pub noted_pass : PairPasses c n s → IsFound c Q f
   noted_pass passes = record {
-    first = first_same (IsVerdictFor f.aim c) P Q n s f.first next is.first (passes_for f.aim c n s passes);
-    measured = λ aim passed. let m = is.measured aim passed in record {
+    first = first_same (IsVerdictFor f.mode c) P Q n s f.first next is.first (passes_for f.mode c n s passes);
+    measured = λ mode passed. let m = is.measured mode passed in record {
       short = first_same (IsPairVerdict c) P Q n s f.short next m.short passes;
       worst = worst_same c P Q n s f.worst next m.worst passes.not_short;
     };
   }
 
-  pub noted_failure : (m t : ℕ) (amount : ℤ) (r : Verdict) → f.aim ≡ Check → IsPairVerdict c n s (Short m t amount) → IsEarlier f.first n (Short m t amount) r → IsFound c Q (record f { first = r })
-  noted_failure m t amount r aim here earlier = record {
-    first = first_more (IsVerdictFor f.aim c) P Q n s f.first (Short m t amount) r next is.first (here.0, here.1) (short_for f.aim c n s m t amount aim here) earlier;
+  pub noted_failure : (m t : ℕ) (amount : ℤ) (r : Verdict) → f.mode ≡ Check → IsPairVerdict c n s (Short m t amount) → IsEarlier f.first n (Short m t amount) r → IsFound c Q (record f { first = r })
+  noted_failure m t amount r mode here earlier = record {
+    first = first_more (IsVerdictFor f.mode c) P Q n s f.first (Short m t amount) r next is.first (here.0, here.1) (short_for f.mode c n s m t amount mode here) earlier;
     measured = λ other passed. absurd (cc);
   }
 
   pub noted_lack : (m t z : ℕ) (r : Verdict) → IsPairVerdict c n s (NoSuccessor m t z) → IsEarlier f.first n (NoSuccessor m t z) r → IsFound c Q (record f { first = r })
   noted_lack m t z r here earlier = record {
-    first = first_more (IsVerdictFor f.aim c) P Q n s f.first (NoSuccessor m t z) r next is.first (here.0, here.1) (lack_for f.aim c n s m t z here) earlier;
-    measured = λ aim passed. absurd (not_yes f.first (NoSuccessor m t z) r n (λ e. cc) earlier passed);
+    first = first_more (IsVerdictFor f.mode c) P Q n s f.first (NoSuccessor m t z) r next is.first (here.0, here.1) (lack_for f.mode c n s m t z here) earlier;
+    measured = λ mode passed. absurd (not_yes f.first (NoSuccessor m t z) r n (λ e. cc) earlier passed);
   }
 
-  pub noted_short : (m t : ℕ) (amount : ℤ) (r : Verdict) (size worst : ℕ) → f.aim ≡ Lowering → IsPairVerdict c n s (Short m t amount) → IsEarlier f.short n (Short m t amount) r → size ≡ unsigned_abs amount → f.worst ≤ worst → size ≤ worst → (worst ≡ f.worst) ⊎ (worst ≡ size) → IsFound c Q (record f { short = r; worst = worst })
-  noted_short m t amount r size worst aim here earlier is_size left right one = record {
-    first = first_same (IsVerdictFor f.aim c) P Q n s f.first next is.first (lacks_none_for f.aim c n s m t amount aim here);
+  pub noted_short : (m t : ℕ) (amount : ℤ) (r : Verdict) (size worst : ℕ) → f.mode ≡ Lowering → IsPairVerdict c n s (Short m t amount) → IsEarlier f.short n (Short m t amount) r → size ≡ unsigned_abs amount → f.worst ≤ worst → size ≤ worst → (worst ≡ f.worst) ⊎ (worst ≡ size) → IsFound c Q (record f { short = r; worst = worst })
+  noted_short m t amount r size worst mode here earlier is_size left right one = record {
+    first = first_same (IsVerdictFor f.mode c) P Q n s f.first next is.first (lacks_none_for f.mode c n s m t amount mode here);
     measured = λ same passed. let before = is.measured same passed in record {
       short = first_more (IsPairVerdict c) P Q n s f.short (Short m t amount) r next before.short (here.0, here.1) here earlier;
       worst = worst_more c P Q n s f.worst size worst next before.worst (positive_is amount (short c n s) size here.3 here.4 is_size) left right one;

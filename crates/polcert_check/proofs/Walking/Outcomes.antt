@@ -10,8 +10,8 @@ use Rattle.polcert_check.specs.Steps.Factored.{IsPairVerdict}
 use Rattle.polcert_check.specs.Steps.Findings.{IsPair, IsLackVerdict, IsVerdictFor, IsFirstOf, IsWorstOf, IsFound, IsRefused}
 use Rattle.polcert_check.specs.declared.fault.LowerFault.{LowerFault}
 use Rattle.polcert_check.specs.declared.fault.LowerFault.TheVariants as faults
-use Rattle.polcert_check.specs.declared.findings.Aim.{Aim}
-use Rattle.polcert_check.specs.declared.findings.Aim.TheVariants.{Check, Lowering}
+use Rattle.polcert_check.specs.declared.findings.Mode.{Mode}
+use Rattle.polcert_check.specs.declared.findings.Mode.TheVariants.{Check, Lowering}
 use Rattle.polcert_check.specs.declared.findings.Findings.{Findings}
 use Rattle.polcert_check.specs.declared.verdict.Verdict.{Verdict}
 use Rattle.polcert_check.specs.declared.verdict.Verdict.TheVariants.{Yes, Short, NoSuccessor}
@@ -24,15 +24,15 @@ module _ (c : Controller) where
   verdict_of (Short n s amount) is = (is.0.0, is.0.1, λ m t ml tl before. is.2 m t (ml, tl) before, is.1.2, is.1.3, is.1.4)
   verdict_of (NoSuccessor n s z) is = (is.0.0, is.0.1, λ m t ml tl before. is.2 m t (ml, tl) before, is.1.2)
 
-  pub verdict_is : (f : Findings) → f.aim ≡ Check → IsFound c (IsPair c) f → IsVerdict c f.first
-  verdict_is f aim is = verdict_of f.first (subst (λ (a : Aim). IsFirstOf (IsVerdictFor a c) (IsPair c) f.first) aim is.first)
+  pub verdict_is : (f : Findings) → f.mode ≡ Check → IsFound c (IsPair c) f → IsVerdict c f.first
+  verdict_is f mode is = verdict_of f.first (subst (λ (a : Mode). IsFirstOf (IsVerdictFor a c) (IsPair c) f.first) mode is.first)
 
   -- ---- why vectors are not lowered
-  first_lack : (f : Findings) → f.aim ≡ Lowering → IsFound c (IsPair c) f → IsFirstOf (IsLackVerdict c) (IsPair c) f.first
-  first_lack f aim is = subst (λ (a : Aim). IsFirstOf (IsVerdictFor a c) (IsPair c) f.first) aim is.first
+  first_lack : (f : Findings) → f.mode ≡ Lowering → IsFound c (IsPair c) f → IsFirstOf (IsLackVerdict c) (IsPair c) f.first
+  first_lack f mode is = subst (λ (a : Mode). IsFirstOf (IsVerdictFor a c) (IsPair c) f.first) mode is.first
 
-  pub none_lacks : (f : Findings) → f.aim ≡ Lowering → IsFound c (IsPair c) f → f.first ≡ Yes → NoneLacks c
-  none_lacks f aim is passed n s nl sl = subst (IsFirstOf (IsLackVerdict c) (IsPair c)) passed (first_lack f aim is) n s (nl, sl)
+  pub none_lacks : (f : Findings) → f.mode ≡ Lowering → IsFound c (IsPair c) f → f.first ≡ Yes → NoneLacks c
+  none_lacks f mode is passed n s nl sl = subst (IsFirstOf (IsLackVerdict c) (IsPair c)) passed (first_lack f mode is) n s (nl, sl)
 
   module _ (Can : ℕ → Type 0) (fault : LowerFault) where
     lack_refused : (x : Verdict) → IsFirstOf (IsLackVerdict c) (IsPair c) x → IsRefused x fault → IsNotMended c Can fault
@@ -40,8 +40,8 @@ module _ (c : Controller) where
     lack_refused (Short n s amount) is refused = absurd is.1
     lack_refused (NoSuccessor n s z) is refused = subst (IsNotMended c Can) (sym refused) (is.0.0, is.0.1, is.1.2, λ m t ml tl before. is.2 m t (ml, tl) before)
 
-    pub refused_lack : (f : Findings) → f.aim ≡ Lowering → IsFound c (IsPair c) f → IsRefused f.first fault → IsNotMended c Can fault
-    refused_lack f aim is refused = lack_refused f.first (first_lack f aim is) refused
+    pub refused_lack : (f : Findings) → f.mode ≡ Lowering → IsFound c (IsPair c) f → IsRefused f.first fault → IsNotMended c Can fault
+    refused_lack f mode is refused = lack_refused f.first (first_lack f mode is) refused
 
     pub refused_short : IsController c → c.cells.discount ≡ one → NoneLacks c → (x : Verdict) → IsFirstOf (IsPairVerdict c) (IsPair c) x → IsRefused x fault → IsNotMended c Can fault
     refused_short p is_one none Yes is refused = absurd refused

@@ -1,24 +1,13 @@
 -- Numbers that are computed when they are first used, and rewards that start states share.
-use Rattle.std.proofs.Common.{◌≡◌, ◌∙◌, ℕ, ◌+◌, ◌<◌, ◌≤◌, ◌⊎◌, inl, inr, List, length, set, ℤ, pos, ◌*ℤ◌, sym, ap, arith}
+use Rattle.std.proofs.Common.{◌≡◌, ◌∙◌, ℕ, ◌<◌, ◌⊎◌, inl, inr, List, length, set, ℤ, pos, ◌*ℤ◌, sym, ap}
 use Rattle.std.specs.Prelude.{slice_index_or}
-use Rattle.std.proofs.lemmas.Bool.{cases_eq, cases_lt}
+use Rattle.std.proofs.lemmas.Bool.{cases_eq}
 use Rattle.std.proofs.lemmas.Grind.{get_or-set_at}
 use Rattle.std.proofs.lemmas.List.{get_or-set_other}
 use Rattle.polcert_cells.specs.Tables.{CellTable}
 use Rattle.polcert_check.specs.declared.shared_rewards.TheConstants.{UNKNOWN}
-use Rattle.polcert_check.specs.Steps.Factored.{reward_at_end, expected_reward, AreKnown}
+use Rattle.polcert_check.specs.Steps.Factored.{reward_at_end, AreKnown}
 use Rattle.polcert_check.proofs.Sums.SumLaws.{sum_below_same}
-
-pub known_of_none : (f : ℕ → ℤ) (count : ℕ) (xs : List ℤ) → ((i : ℕ) → i < count → slice_index_or xs i (pos 0) ≡ UNKNOWN) → AreKnown f count xs
-known_of_none f count xs none = record { each = λ i l. inl (none i l) }
-
--- what is not unknown is known
-pub is_known : (f : ℕ → ℤ) (count : ℕ) (xs : List ℤ) (i : ℕ) → AreKnown f count xs → i < count → (slice_index_or xs i (pos 0) ≡ UNKNOWN → ⊥) → slice_index_or xs i (pos 0) ≡ f i
-is_known f count xs i known l some = at (known.each i l)
-  where
-    at : (slice_index_or xs i (pos 0) ≡ UNKNOWN) ⊎ (slice_index_or xs i (pos 0) ≡ f i) → slice_index_or xs i (pos 0) ≡ f i
-    at (inl none) = absurd (some none)
-    at (inr is) = is
 
 -- one number more is computed
 module _ (f : ℕ → ℤ) (count : ℕ) (xs : List ℤ) (e : ℕ) (x : ℤ) (room : e < length xs) (is : x ≡ f e) where
@@ -28,24 +17,6 @@ module _ (f : ℕ → ℤ) (count : ℕ) (xs : List ℤ) (e : ℕ) (x : ℤ) (ro
       at : (i : ℕ) → i < count → (i ≡ e) ⊎ (i ≡ e → ⊥) → (slice_index_or (set xs e x) i (pos 0) ≡ UNKNOWN) ⊎ (slice_index_or (set xs e x) i (pos 0) ≡ f i)
       at i l (inl same) = inr (get_or-set_at xs e i x (pos 0) same room ∙ is ∙ ap f (sym same))
       at i l (inr other) = rw (get_or-set_other xs e i x (pos 0) other) (known.each i l)
-
-  pub still_found : (i : ℕ) → slice_index_or xs i (pos 0) ≡ f i → slice_index_or (set xs e x) i (pos 0) ≡ f i
-  still_found i found = at (cases_eq i e)
-    where
-      at : (i ≡ e) ⊎ (i ≡ e → ⊥) → slice_index_or (set xs e x) i (pos 0) ≡ f i
-      at (inl same) = get_or-set_at xs e i x (pos 0) same room ∙ is ∙ ap f (sym same)
-      at (inr other) = rw (get_or-set_other xs e i x (pos 0) other) found
-
--- one end state more is found
-pub one_found : (f : ℕ → ℤ) (t : ℕ → ℕ) (xs : List ℤ) (from e : ℕ) → ((k : ℕ) → from ≤ k → k < e → t k ≡ 0)
-    → ((i : ℕ) → i < from → 0 < t i → slice_index_or xs i (pos 0) ≡ f i) → slice_index_or xs e (pos 0) ≡ f e
-    → (i : ℕ) → i < e + 1 → 0 < t i → slice_index_or xs i (pos 0) ≡ f i
-one_found f t xs from e none before here i il some = go (cases_lt i from) (cases_eq i e)
-  where
-    go : (i < from) ⊎ (from ≤ i) → (i ≡ e) ⊎ (i ≡ e → ⊥) → slice_index_or xs i (pos 0) ≡ f i
-    go x (inl same) = ap (λ k. slice_index_or xs k (pos 0)) same ∙ here ∙ ap f (sym same)
-    go (inl l) (inr other) = before i l some
-    go (inr h) (inr other) = let nothing : t i ≡ 0 = none i h (omega (arith, il, other)) in absurd (omega (arith, nothing, some))
 
 -- two start states with the same rewards share those at end states
 pub at_end_same : (m : CellTable) (a s other e : ℕ) → ((z : ℕ) → z < m.observations → m.r a s e z ≡ m.r a other e z) → reward_at_end m a s e ≡ reward_at_end m a other e

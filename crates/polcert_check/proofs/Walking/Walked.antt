@@ -6,7 +6,8 @@ use Rattle.polcert_check.specs.Steps.Findings.{IsPair, IsWalked, IsVerdictFor, I
 use Rattle.polcert_check.specs.declared.findings.Findings.{Findings}
 use Rattle.polcert_check.specs.declared.verdict.Verdict.{Verdict}
 use Rattle.polcert_check.specs.declared.verdict.Verdict.TheVariants.{Yes, Short, NoSuccessor}
-use Rattle.polcert_check.proofs.Walking.Found.{IsNext, IsBehind, found_wider, not_before}
+use Rattle.polcert_check.specs.Shortfall.{PairPasses}
+use Rattle.polcert_check.proofs.Walking.Found.{IsNext, IsAfter, found_wider, noted_pass, not_before}
 
 module _ (c : Controller) where
   -- ---- one pair more
@@ -15,14 +16,17 @@ module _ (c : Controller) where
     into = λ m t p. grind arith;
     here = grind arith;
     from = λ m t p. grind arith;
-    behind = λ t p. grind arith;
+    following = λ t p. grind arith;
   }
 
+  pub pair_passed : (n s : ℕ) (f : Findings) → IsPair c n s → PairPasses c n s → IsFoundBefore c (c.action n) n s f → IsFoundBefore c (c.action n) n (s + 1) f
+  pair_passed n s f pair passes is = noted_pass c (IsWalked c (c.action n) n s) (IsWalked c (c.action n) n (s + 1)) n s (next_pair n s pair) f is passes
+
   -- ---- what the first is before
-  behind_first : (Of : ℕ → ℕ → Verdict → Type 0) (P : ℕ → ℕ → Type 0) (x : Verdict) (n m t : ℕ) → IsFirstOf Of P x → NamesUntil x n → n ≤ m → ((j : ℕ) → P m j → j < t) → IsBehind x m t
-  behind_first Of P Yes n m t is until l rows = absurd until
-  behind_first Of P (Short i j amount) n m t is until l rows = not_before P m t i j is.0 rows (omega (arith, l, until))
-  behind_first Of P (NoSuccessor i j z) n m t is until l rows = not_before P m t i j is.0 rows (omega (arith, l, until))
+  after_first : (Of : ℕ → ℕ → Verdict → Type 0) (P : ℕ → ℕ → Type 0) (x : Verdict) (n m t : ℕ) → IsFirstOf Of P x → NamesUntil x n → n ≤ m → ((j : ℕ) → P m j → j < t) → IsAfter x m t
+  after_first Of P Yes n m t is until l rows = absurd until
+  after_first Of P (Short i j amount) n m t is until l rows = not_before P m t i j is.0 rows (omega (arith, l, until))
+  after_first Of P (NoSuccessor i j z) n m t is until l rows = not_before P m t i j is.0 rows (omega (arith, l, until))
 
   -- ---- the states are done at a node
   -- what is walked with the whole node was walked before, or is one of its pairs from s on
@@ -32,7 +36,7 @@ module _ (c : Controller) where
   from_node : (a n s m t : ℕ) → IsWalked c a (n + 1) 0 m t → IsWalked c a n s m t ⊎ IsLeft a n s m t
   from_node a n s m t p = grind arith
 
-  node_over : (a n s : ℕ) (f : Findings) → IsFoundBefore c a n s f → ((m t : ℕ) → IsLeft a n s m t → IsBehind f.first m t) → IsFoundBefore c a (n + 1) 0 f
+  node_over : (a n s : ℕ) (f : Findings) → IsFoundBefore c a n s f → ((m t : ℕ) → IsLeft a n s m t → IsAfter f.first m t) → IsFoundBefore c a (n + 1) 0 f
   node_over a n s f is left =
       found_wider c (IsWalked c a n s) (IsWalked c a (n + 1) 0) f is
       (λ m t p. grind arith)
@@ -45,7 +49,7 @@ module _ (c : Controller) where
   pub node_settled : (n s : ℕ) (f : Findings) → IsFoundBefore c (c.action n) n s f → NamesUntil f.first n → IsFoundBefore c (c.action n) (n + 1) 0 f
   node_settled n s f is until_n =
       node_over (c.action n) n s f is (λ m t k.
-      let same : m ≡ n = k.0 in behind_first (IsVerdictFor f.aim c) (IsWalked c (c.action n) n s) f.first n m t is.first until_n (omega (arith, same)) (λ j p. grind arith))
+      let same : m ≡ n = k.0 in after_first (IsVerdictFor f.mode c) (IsWalked c (c.action n) n s) f.first n m t is.first until_n (omega (arith, same)) (λ j p. grind arith))
 
   pub node_passed : (a n : ℕ) (f : Findings) → IsFoundBefore c a n 0 f → (c.action n ≡ a → ⊥) → IsFoundBefore c a (n + 1) 0 f
   node_passed a n f is other =
@@ -60,7 +64,7 @@ module _ (c : Controller) where
   pub nothing_found : (f : Findings) → f.first ≡ Yes → f.short ≡ Yes → f.worst ≡ 0 → IsFoundBefore c 0 0 0 f
   nothing_found f first short worst = record {
     first = rw first (λ m t p. absurd (grind arith));
-    measured = λ aim passed. record {
+    measured = λ mode passed. record {
       short = rw short (λ m t p. absurd (grind arith));
       worst = record { bounds = λ m t p. absurd (grind arith); is_reached = inl worst };
     };

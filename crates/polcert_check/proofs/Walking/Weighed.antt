@@ -8,7 +8,7 @@ use Rattle.polcert_check.specs.Horizon.{total_below}
 use Rattle.polcert_check.specs.Steps.Ranges.{most_sum}
 use Rattle.polcert_check.proofs.Sums.RowTotals.{t_rows, o_rows}
 use Rattle.polcert_check.proofs.Sums.Bounds.{abs-*ℤ_le, abs_part_le, term_le}
-use Rattle.polcert_check.proofs.Sums.Scales.{scales_small, ahead_room, behind_room}
+use Rattle.polcert_check.proofs.Sums.Scales.{scales_small, ahead_room, after_room}
 use Rattle.polcert_check.proofs.Sums.Gaps.{gap, no_weight, cursor_step, weighed_is}
 
 -- the weights sum to their scale, which has 63 bits, and there is room for a sum of numbers up to b
@@ -23,7 +23,7 @@ module _ (m : CellTable) (p : IsProper m) (limits : IsWithinLimits m) where
   ends_weighed a s al sl = record { all = t_rows m p a s al sl; small = (scales_small m limits).0; room = ahead_room m limits }
 
   pub seen_weighed : (a e : ℕ) → a < m.actions → e < m.states → IsWeighed (m.o a e) m.observations m.o_scale largest
-  seen_weighed a e al el = record { all = o_rows m p a e al el; small = (scales_small m limits).1; room = behind_room m limits }
+  seen_weighed a e al el = record { all = o_rows m p a e al el; small = (scales_small m limits).1; room = after_room m limits }
 
 pub weight_room : {w : ℕ → ℕ} {count scale b : ℕ} → IsWeighed w count scale b → (i v : ℕ) (y : ℤ) → i < count → v ≡ w i → unsigned_abs y ≤ b → v * unsigned_abs y ≤ most_sum
 weight_room {w} {count} {scale} {b} row i v y il vi small =

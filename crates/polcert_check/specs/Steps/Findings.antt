@@ -7,8 +7,8 @@ use Rattle.polcert_check.specs.Verdict.{IsBefore, IsLeastLacking}
 use Rattle.polcert_check.specs.Steps.Factored.{IsPairVerdict}
 use Rattle.polcert_check.specs.declared.fault.LowerFault.{LowerFault}
 use Rattle.polcert_check.specs.declared.fault.LowerFault.TheVariants as faults
-use Rattle.polcert_check.specs.declared.findings.Aim.{Aim}
-use Rattle.polcert_check.specs.declared.findings.Aim.TheVariants.{Check, Lowering}
+use Rattle.polcert_check.specs.declared.findings.Mode.{Mode}
+use Rattle.polcert_check.specs.declared.findings.Mode.TheVariants.{Check, Lowering}
 use Rattle.polcert_check.specs.declared.findings.Findings.{Findings}
 use Rattle.polcert_check.specs.declared.verdict.Verdict.{Verdict}
 use Rattle.polcert_check.specs.declared.verdict.Verdict.TheVariants.{Yes, Short, NoSuccessor}
@@ -33,7 +33,7 @@ IsLackVerdict c n s (Short m t amount) = ⊥
 IsLackVerdict c n s (NoSuccessor m t z) = (m ≡ n) × (t ≡ s) × IsLeastLacking c n s (Some z)
 
 -- what a pair's verdict is for: no lowering mends what a pair lacks
-abbrev pub IsVerdictFor : Aim → Controller → ℕ → ℕ → Verdict → Type 0
+abbrev pub IsVerdictFor : Mode → Controller → ℕ → ℕ → Verdict → Type 0
 IsVerdictFor Check c n s v = IsPairVerdict c n s v
 IsVerdictFor Lowering c n s v = IsLackVerdict c n s v
 
@@ -71,12 +71,16 @@ pub record IsMeasured (c : Controller) (P : ℕ → ℕ → Type 0) (f : Finding
   pub worst : IsWorstOf c P f.worst
 
 pub record IsFound (c : Controller) (P : ℕ → ℕ → Type 0) (f : Findings) : Type 0 where
-  pub first : IsFirstOf (IsVerdictFor f.aim c) P f.first
-  pub measured : f.aim ≡ Lowering → f.first ≡ Yes → IsMeasured c P f
+  pub first : IsFirstOf (IsVerdictFor f.mode c) P f.first
+  pub measured : f.mode ≡ Lowering → f.first ≡ Yes → IsMeasured c P f
 
 -- the pairs before this place were walked
 abbrev pub IsFoundBefore : Controller → ℕ → ℕ → ℕ → Findings → Type 0
 IsFoundBefore c a n s f = IsFound c (IsWalked c a n s) f
+
+-- what was found before n and s is found before n and t too: the pairs of n between them pass
+abbrev pub PassUntil : Controller → ℕ → ℕ → ℕ → Type 0
+PassUntil c n s t = (f : Findings) → IsFoundBefore c (c.action n) n s f → IsFoundBefore c (c.action n) n t f
 
 -- ---- why vectors with this verdict are not lowered
 

@@ -15,20 +15,20 @@ use Rattle.polcert_check.specs.declared.above.AboveVerdict.{AboveVerdict}
 use Rattle.polcert_check.specs.declared.above.AboveVerdict.TheVariants as above
 
 -- a number, or from above its negative
-abbrev pub turned : Side → ℤ → ℤ
-turned Below x = x
-turned Above x = neg_ℤ x
+abbrev pub signed_from : Side → ℤ → ℤ
+signed_from Below x = x
+signed_from Above x = neg_ℤ x
 
 -- the same controller, from above with each reward and each value negated
 abbrev pub sided : Side → Controller → Controller
-sided side c = record c { cells = record c.cells { r = λ a s e z. turned side (c.cells.r a s e z) }; value = λ n s. turned side (c.value n s) }
+sided side c = record c { cells = record c.cells { r = λ a s e z. signed_from side (c.cells.r a s e z) }; value = λ n s. signed_from side (c.value n s) }
 
 abbrev pub mirrored : Controller → Controller
 mirrored c = sided Above c
 
 -- every vector value less `by` is in range, or from above every value and `by`
 abbrev pub CanMove : Side → PolicyVectors → ℕ → Type 0
-CanMove side v by = (n s : ℕ) → n < v.nodes → s < v.states → IsInRange (turned side (value_of v n s) +ℤ neg_ℤ (pos by))
+CanMove side v by = (n s : ℕ) → n < v.nodes → s < v.states → IsInRange (signed_from side (value_of v n s) +ℤ neg_ℤ (pos by))
 
 -- the least constant by which a controller passes, with all values in range
 abbrev pub IsLeastMove : Controller → (ℕ → Type 0) → ℤ → Type 0

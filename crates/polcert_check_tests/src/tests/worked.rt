@@ -451,7 +451,7 @@ fn then_zeros(alloc: Global, values: &[u8], zeros: usize) -> Result<Vec<u8>, All
 
 /// More end states than are gone through at once: what is after the last of them counts too.
 #[test]
-fn behind_the_first_thousands(rt: HostRuntime) -> Result<(), Fail> {
+fn after_the_first_thousands(rt: HostRuntime) -> Result<(), Fail> {
     let alloc = rt.alloc();
     let mut last_low = then_zeros(alloc, b"0", 4999)?;
     last_low.extend_from_slice(b" -2500")?;
@@ -476,7 +476,7 @@ fn the_last_of_two_thousand_observations(rt: HostRuntime) -> Result<(), Fail> {
 
 /// A start state after more of them than are gone through at once.
 #[test]
-fn from_behind_the_first_thousands(rt: HostRuntime) -> Result<(), Fail> {
+fn from_after_the_first_thousands(rt: HostRuntime) -> Result<(), Fail> {
     let alloc = rt.alloc();
     let zeros = then_zeros(alloc, b"0", 5000)?;
     let answer = Some(Verdict::Short {

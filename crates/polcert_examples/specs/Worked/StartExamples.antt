@@ -3,13 +3,13 @@ use Rattle.std.specs.Prelude.{ℕ, List, [], ◌∷◌, codes}
 use Rattle.polcert_text.specs.Cut.{Lexeme}
 use Rattle.polcert_cells.specs.declared.elements.Elements.{Elements}
 use Rattle.polcert_cells.specs.declared.elements.Elements.TheVariants.{Names}
-use Rattle.polcert_cells.specs.declared.shares.Shares.{Shares}
+use Rattle.polcert_cells.specs.declared.start_weights.StartWeights.{StartWeights}
 use Rattle.polcert_examples.specs.Worked.Examples.{name, numeral, colon}
 
 abbrev pub a_b : Elements
 a_b = Names (codes "a" ∷ codes "b" ∷ [])
 
-abbrev pub shares : List ℕ → ℕ → Shares
+abbrev pub shares : List ℕ → ℕ → StartWeights
 shares weights total = record { weights = weights; total = total }
 
 -- `start: uniform`, `start: 0.5 0.5`, `start: 0.25 0.75`

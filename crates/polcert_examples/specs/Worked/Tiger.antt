@@ -8,7 +8,7 @@ use Rattle.polcert_cells.specs.declared.entry.Body.TheVariants.{Probabilities, U
 use Rattle.polcert_cells.specs.declared.entry.Entry.{Entry}
 use Rattle.polcert_cells.specs.declared.elements.Elements.TheVariants.{Names}
 use Rattle.polcert_cells.specs.Preamble.{Preamble}
-use Rattle.polcert_format.specs.Text.{Known}
+use Rattle.polcert_format.specs.Text.{ModelSoFar}
 use Rattle.polcert_cells.specs.Meaning.{Meaning, meaning_of}
 use Rattle.polcert_examples.specs.Worked.Examples.{name, numeral, colon, transition, observation, rewards, whole}
 
@@ -66,7 +66,7 @@ tiger_entries =
     ∷ rewards (Only 2 ∷ Only 1 ∷ Every ∷ Every ∷ []) (minus_whole 100 ∷ []) ∷ []
 
 -- what is known after the preamble and some entries
-abbrev pub tiger_known : List Entry → Known
+abbrev pub tiger_known : List Entry → ModelSoFar
 tiger_known entries = record {
   discount = Some 950_000;
   costs = Some false;

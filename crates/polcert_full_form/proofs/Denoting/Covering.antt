@@ -1,5 +1,5 @@
 -- Which entry covers a cell last, where entries stand in groups.
-use Rattle.std.proofs.Common.{◌≡◌, ◌∙◌, ℕ, zero, suc, ◌<◌, ◌⊎◌, ⊎_elim, Bool, true, false, cond, Option, Some, List, [], ◌∷◌, ◌++◌, reverse, refl, sym, ap, subst, arith}
+use Rattle.std.proofs.Common.{◌≡◌, ◌∙◌, ℕ, zero, suc, ◌<◌, ◌⊎◌, ⊎_elim, Bool, false, cond, Option, Some, List, [], ◌∷◌, ◌++◌, reverse, refl, ap, subst, arith}
 use Rattle.std.specs.List.{list_any, find}
 use Rattle.std.proofs.lemmas.List.{reverse-append, append_assoc}
 use Rattle.std.proofs.lemmas.List.Folds.{list_any-append}
@@ -17,11 +17,7 @@ module _ (p : Entry → Bool) where
 
   found_first : (xs ys : List Entry) (e : Entry) → find p xs ≡ Some e → find p (xs ++ ys) ≡ Some e
   found_first [] ys e h = absurd (cc)
-  found_first (x ∷ xs) ys e h = at (p x) refl (found_first xs ys e)
-    where
-      at : (b : Bool) → p x ≡ b → (find p xs ≡ Some e → find p (xs ++ ys) ≡ Some e) → find p (x ∷ xs ++ ys) ≡ Some e
-      at true f more = simp f (sym (simp f) ∙ h)
-      at false f more = simp f (more (sym (simp f) ∙ h))
+  found_first (x ∷ xs) ys e h = grind (arith, found_first xs ys e)
 
   passed_over : (xs ys : List Entry) → list_any p xs ≡ false → find p (reverse xs ++ ys) ≡ find p ys
   passed_over [] ys e = refl
@@ -31,8 +27,8 @@ module _ (p : Entry → Bool) where
       ap (find p) turned ∙ passed_over xs (x ∷ ys) both.1 ∙ ap (λ b. cond b (Some x) (find p ys)) both.0
 
   -- after, the last is the last
-  pub last_behind : (xs ys : List Entry) (e : Entry) → last_of ys ≡ Some e → last_of (xs ++ ys) ≡ Some e
-  last_behind xs ys e h = ap (find p) (reverse-append xs ys) ∙ found_first (reverse ys) (reverse xs) e h
+  pub last_after : (xs ys : List Entry) (e : Entry) → last_of ys ≡ Some e → last_of (xs ++ ys) ≡ Some e
+  last_after xs ys e h = ap (find p) (reverse-append xs ys) ∙ found_first (reverse ys) (reverse xs) e h
 
   -- what is after doesn't count, if none passes there
   pub last_before : (xs ys : List Entry) → none_of ys ≡ false → last_of (xs ++ ys) ≡ last_of xs
@@ -52,6 +48,6 @@ module _ (p : Entry → Bool) where
   pub last_of_each : (n i : ℕ) (f : ℕ → List Entry) (e : Entry) → i < n → last_of (f i) ≡ Some e → ((j : ℕ) → j < n → (i ≡ j → ⊥) → none_of (f j) ≡ false) → last_of (for_each n f) ≡ Some e
   last_of_each zero i f e l h others = absurd (omega (arith, l))
   last_of_each (suc n) i f e l h others = ⊎_elim
-      (λ same. last_behind (for_each n f) (f n) e (subst (λ j. last_of (f j) ≡ Some e) same h))
+      (λ same. last_after (for_each n f) (f n) e (subst (λ j. last_of (f j) ≡ Some e) same h))
       (λ less. last_before (for_each n f) (f n) (others n (omega arith) (λ same. omega (arith, less, same))) ∙ last_of_each n i f e less h (λ j m apart. others j (omega (arith, m)) apart))
       (here_or_before i n l)

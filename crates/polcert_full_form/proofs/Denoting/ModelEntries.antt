@@ -1,5 +1,5 @@
 -- The entries of a printed model give each cell of the model back.
-use Rattle.std.proofs.Common.{◌≡◌, ◌∙◌, ℕ, ◌<◌, ◌==◌, Bool, true, false, ◌&&◌, cond, Some, List, [], ◌∷◌, ◌++◌, refl, sym, ap, arith}
+use Rattle.std.proofs.Common.{◌≡◌, ◌∙◌, ℕ, ◌<◌, ◌==◌, Bool, true, false, ◌&&◌, cond, Some, List, [], ◌∷◌, ◌++◌, refl, sym, ap, arith, rules}
 use Rattle.polcert_cells.specs.declared.entry.Table.{Table}
 use Rattle.polcert_cells.specs.declared.entry.Table.TheVariants.{Transition, Observation, Reward}
 use Rattle.polcert_cells.specs.declared.entry.Entry.{Entry}
@@ -7,9 +7,9 @@ use Rattle.polcert_cells.specs.Preamble.{is_mdp}
 use Rattle.polcert_cells.specs.Cells.{is_table, covers, weight, weight_of, reward, value_or}
 use Rattle.polcert_cells.specs.Meaning.{Meaning, states_of, actions_of, observations_of, reward_index}
 use Rattle.polcert_format.specs.FullForm.{for_each}
-use Rattle.polcert_full_form.proofs.Denoting.Covering.{last_of, none_of, last_behind, last_before, none_both, none_of_each, last_of_each}
+use Rattle.polcert_full_form.proofs.Denoting.Covering.{last_of, none_of, last_after, last_before, none_both, none_of_each, last_of_each}
 use Rattle.polcert_full_form.proofs.Denoting.RowEntries.{row_entries, Fits, test_apart, entries_elsewhere, transition_rows, observation_rows, row_covered}
-use Rattle.polcert_full_form.proofs.Denoting.RewardEntries.{entries_from, IsGiven, given_is, given_behind, given_each, from_elsewhere, from_given}
+use Rattle.polcert_full_form.proofs.Denoting.RewardEntries.{entries_from, IsGiven, given_is, given_after, given_each, from_elsewhere, from_given}
 
 abbrev pub transition_entries : Meaning → List Entry
 transition_entries m = for_each (actions_of m) (λ a. for_each (states_of m) (λ s. row_entries Transition a s (states_of m) (m.t a s)))
@@ -34,26 +34,21 @@ and_first : (x y : Bool) → x ≡ false → (x && y) ≡ false
 and_first x y e = ap (λ b. b && y) e
 
 and_second : (x y : Bool) → y ≡ false → (x && y) ≡ false
-and_second true y e = e
-and_second false y e = refl
+and_second x y h1 = grind arith
 
 -- rows of a table that aren't asked for
 module _ (table asked : Table) (i j : ℕ) (more : List ℕ) where
   other_table : (actions states n : ℕ) (w : ℕ → ℕ → ℕ → ℕ) → is_table table asked ≡ false
       → none_of (covers asked (i ∷ j ∷ more)) (for_each actions (λ a. for_each states (λ s. row_entries table a s n (w a s)))) ≡ false
-  other_table actions states n w e =
-      none_of_each (covers asked (i ∷ j ∷ more)) actions _ (λ a l. none_of_each (covers asked (i ∷ j ∷ more)) states _ (λ s k.
-      entries_elsewhere table asked a s i j more (and_first (is_table table asked) ((a == i) && (s == j)) e) n (w a s)))
+  other_table actions states n w e = grind (arith, none_of_each, entries_elsewhere)
 
 -- the row that is asked for
 module _ (table : Table) (i j c : ℕ) (actions states n : ℕ) (w : ℕ → ℕ → ℕ → ℕ) where
   other_action : (a : ℕ) → (i ≡ a → ⊥) → none_of (covers table (i ∷ j ∷ c ∷ [])) (for_each states (λ s. row_entries table a s n (w a s))) ≡ false
-  other_action a apart = none_of_each (covers table (i ∷ j ∷ c ∷ [])) states _ (λ s k. entries_elsewhere table table a s i j (c ∷ [])
-      (and_second (is_table table table) ((a == i) && (s == j)) (and_first (a == i) (s == j) (test_apart a i (λ e. apart (sym e))))) n (w a s))
+  other_action a apart = grind (arith, none_of_each)
 
   other_state : (s : ℕ) → (j ≡ s → ⊥) → none_of (covers table (i ∷ j ∷ c ∷ [])) (row_entries table i s n (w i s)) ≡ false
-  other_state s apart = entries_elsewhere table table i s i j (c ∷ [])
-      (and_second (is_table table table) ((i == i) && (s == j)) (and_second (i == i) (s == j) (test_apart s j (λ e. apart (sym e))))) n (w i s)
+  other_state s apart = grind (arith, entries_elsewhere)
 
   row_of_table : (e : Entry) → i < actions → j < states → last_of (covers table (i ∷ j ∷ c ∷ [])) (row_entries table i j n (w i j)) ≡ Some e
       → last_of (covers table (i ∷ j ∷ c ∷ [])) (for_each actions (λ a. for_each states (λ s. row_entries table a s n (w a s)))) ≡ Some e
@@ -65,9 +60,7 @@ module _ (table : Table) (i j c : ℕ) (actions states n : ℕ) (w : ℕ → ℕ
 -- ---- the cells of T and O
 module _ (m : Meaning) where
   no_rewards : (asked : Table) (i j k : ℕ) (more : List ℕ) → is_table Reward asked ≡ false → none_of (covers asked (i ∷ j ∷ k ∷ more)) (rewards_entries m) ≡ false
-  no_rewards asked i j k more e =
-      none_of_each (covers asked (i ∷ j ∷ k ∷ more)) (actions_of m) _ (λ a l. none_of_each (covers asked (i ∷ j ∷ k ∷ more)) (states_of m) (rewards_at m a) (λ s l.
-      from_elsewhere (is_mdp m.preamble) m.preamble.costs a s (states_of m) (observations_of m) (m.r a s) asked i j k more (and_first (is_table Reward asked) ((a == i) && (s == j)) e)))
+  no_rewards asked i j k more e = grind (arith, none_of_each, from_elsewhere)
 
   no_observations : (asked : Table) (i j : ℕ) (more : List ℕ) → is_table Observation asked ≡ false → none_of (covers asked (i ∷ j ∷ more)) (observation_entries m) ≡ false
   no_observations asked i j more e = at (is_mdp m.preamble)
@@ -97,7 +90,7 @@ module _ (m : Meaning) where
       let here : last_of test (observation_entries m) ≡ Some covered.entry = ap (λ b. last_of test (cond b [] (seen_entries m))) seen ∙ found in
       let all : last_of test (all_entries m) ≡ Some covered.entry =
       last_before test (transition_entries m ++ observation_entries m) (rewards_entries m) (no_rewards Observation a e z [] refl)
-      ∙ last_behind test (transition_entries m) (observation_entries m) covered.entry here in
+      ∙ last_after test (transition_entries m) (observation_entries m) covered.entry here in
       ap (value_or 0 (weight_of m.preamble (a ∷ e ∷ z ∷ []))) all ∙ covered.weight
 
   -- ---- the rewards
@@ -131,6 +124,4 @@ module _ (m : Meaning) where
         (λ i y apart. none_of_each (covers Reward indices) (states_of m) (rewards_at m i) (λ j u. not_action i j apart))
 
     pub reward_again : reward m.preamble (all_entries m) indices ≡ m.r a s e last_index
-    reward_again =
-        given_is m.preamble indices (m.r a s e last_index) (all_entries m)
-        (given_behind m.preamble indices (m.r a s e last_index) (transition_entries m ++ observation_entries m) (rewards_entries m) no_weights rewards_given)
+    reward_again = search (rules, given_is, given_after, no_weights, rewards_given)

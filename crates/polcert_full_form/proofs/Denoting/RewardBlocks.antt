@@ -16,12 +16,11 @@ use Rattle.polcert_full_form.proofs.Denoting.RowEntries.{test_below}
 use Rattle.polcert_full_form.proofs.Denoting.SameForms.{same_for_each, same_test}
 use Rattle.polcert_full_form.specs.declared.reward_row.RewardRow.{RewardRow}
 use Rattle.polcert_full_form.specs.Steps.PrintedRows.{row_width, row_rewards, rewarded_text, paid_row_text}
-use Rattle.polcert_full_form.proofs.Printing.Runs.{run_behind, run_more}
+use Rattle.polcert_full_form.proofs.Printing.Runs.{run_after, run_more}
 use Rattle.polcert_full_form.proofs.Denoting.RewardEntries.{zero_is}
 
 written_zero : (costs : Bool) → written costs (pos 0) ≡ pos 0
-written_zero true = refl
-written_zero false = refl
+written_zero costs = grind arith
 
 -- ---- a block of a row of n columns, from `first` on
 module _ (r : ℕ → ℤ) (n first size : ℕ) (block : List ℤ) (filled : IsFilled r n first block) (size_room : size ≡ min (n - first) (length block))
@@ -46,13 +45,13 @@ module _ (r : ℕ → ℤ) (n first size : ℕ) (block : List ℤ) (filled : IsF
 
   -- all are 0, and so are all up to its end
   pub zero_to : list_all is_zero (take size block) ≡ true → ((c : ℕ) → c < first → r c ≡ pos 0) → (c : ℕ) → c < first + size → r c ≡ pos 0
-  zero_to all before c l = ⊎_elim (λ (b : c < first). before c b) (λ (b : first ≤ c). behind b) (below_or c first)
+  zero_to all before c l = ⊎_elim (λ (b : c < first). before c b) (λ (b : first ≤ c). following b) (below_or c first)
     where
       below_or : (x y : ℕ) → (x < y) ⊎ (y ≤ x)
       below_or x y = grind arith
 
-      behind : first ≤ c → r c ≡ pos 0
-      behind b =
+      following : first ≤ c → r c ≡ pos 0
+      following b =
           let place : first + (c - first) ≡ c = omega (arith, b) in
           subst (λ k. r k ≡ pos 0) place (zero_is (r (first + (c - first))) (test_below size (c - first) (λ i. is_zero (r (first + i))) (sym tests_are ∙ all) (omega (arith, b, l))))
 
@@ -72,14 +71,10 @@ module _ (r : ℕ → ℤ) (n first size : ℕ) (block : List ℤ) (filled : IsF
 
   -- the numbers are small, and printed as those of the row
   pub small_in : ((c : ℕ) → c < n → unsigned_abs (r c) ≤ largest) → (i : ℕ) → i < length (take size block) → unsigned_abs (get_or (take size block) i (pos 0)) ≤ largest
-  small_in small i l =
-      let below : i < size = omega (arith, l, size_is) in
-      subst (λ h. unsigned_abs h ≤ largest) (sym (each_is i below)) (small (first + i) (omega (arith, below, within)))
+  small_in small i l = grind (arith, size_is, each_is)
 
   block_is : (costs : Bool) → for_each (length (take size block)) (block_text costs first (take size block)) ≡ for_each size (λ i. reward_text costs r (first + i))
-  block_is costs =
-      ap (λ k. for_each k (block_text costs first (take size block))) size_is
-      ∙ same_for_each size (block_text costs first (take size block)) (λ i. reward_text costs r (first + i)) (λ i l. ap (λ h. number_text (first + i) (written costs h)) (each_is i l))
+  block_is costs = grind (arith, same_for_each, size_is, each_is)
 
   -- after those from `start` on
   pub block_more : (costs : Bool) (start : ℕ) → start ≤ first
@@ -108,19 +103,17 @@ row_paid row first p =
     let within = p.within in
     ap (λ xs. xs ++ codes "\n")
     (append_assoc head (zeros_text 0 first) (for_each (row_width row - first) (λ i. rewarded_text row (first + i)))
-    ∙ ap (λ xs. head ++ xs) (run_behind first (row_width row) (λ i. number_text i (pos 0)) (rewarded_text row) (omega (arith, within))
+    ∙ ap (λ xs. head ++ xs) (run_after first (row_width row) (λ i. number_text i (pos 0)) (rewarded_text row) (omega (arith, within))
     (λ i l. ap (number_text i) (sym (written_zero m.preamble.costs) ∙ ap (written m.preamble.costs) (sym (p.before i l))))))
     ∙ paid_is m row.action row.start row.end (omega (arith, within)) p.paid
 
 -- ---- limits of a row
 pub few_columns : (m : Meaning) → HasLimitedNumbers m → (end : Option ℕ) → reward_columns m end ≤ most_elements
-few_columns m limits (Some e) = limits.observations.1
-few_columns m limits None = limits.states.1
+few_columns m h1 end = grind arith
 
 small_at : (m : Meaning) → HasLimitedNumbers m → (a s : ℕ) (end : Option ℕ) → a < actions_of m → s < states_of m → ForSome end (λ e. e < states_of m)
     → (c : ℕ) → c < reward_columns m end → unsigned_abs (reward_in m a s end c) ≤ largest
-small_at m limits a s (Some e) x y z c l = limits.r a s e c x y (z e refl) l
-small_at m limits a s None x y z c l = limits.r a s c 0 x y l limits.observations.0
+small_at m h1 a s end h2 h3 h4 c h5 = grind arith
 
 pub small_rewards : (row : RewardRow) (c : ℕ) → c < row_width row → unsigned_abs (row_rewards row c) ≤ largest
 small_rewards row = small_at (meaning row.model.now) row.model.now.limits row.action row.start row.end row.at_action row.at_start row.at_end

@@ -1,5 +1,5 @@
 -- The entry of a row of rewards as it is printed gives the row's rewards back.
-use Rattle.std.proofs.Common.{◌≡◌, ◌∙◌, ℕ, zero, suc, ◌+◌, ◌*◌, ◌<◌, ◌==◌, ⊎_elim, Bool, true, false, ◌&&◌, cond, Some, List, [], ◌∷◌, ◌++◌, get_or, ℤ, pos, negsuc, refl, sym, ap, subst, arith}
+use Rattle.std.proofs.Common.{◌≡◌, ℕ, ◌+◌, ◌<◌, ◌==◌, ⊎_elim, Bool, true, false, ◌&&◌, cond, Some, List, [], ◌∷◌, ◌++◌, ℤ, pos, refl, arith}
 use Rattle.std.proofs.lemmas.List.FromFn.{get_or-map-range_with_len}
 use Rattle.polcert_cells.specs.declared.entry.Table.{Table}
 use Rattle.polcert_cells.specs.declared.entry.Table.TheVariants.{Reward}
@@ -7,13 +7,12 @@ use Rattle.polcert_cells.specs.declared.entry.Place.TheVariants.{Only}
 use Rattle.polcert_cells.specs.declared.entry.Body.TheVariants.{Rewards}
 use Rattle.polcert_cells.specs.declared.entry.Entry.{Entry}
 use Rattle.polcert_cells.specs.Preamble.{Preamble, is_mdp}
-use Rattle.polcert_cells.specs.Cells.{is_table, covers, reward, reward_of, value_or}
+use Rattle.polcert_cells.specs.Cells.{is_table, covers, reward, reward_of}
 use Rattle.polcert_cells.proofs.Basics.{is_true_or_false, true≢false}
 use Rattle.polcert_cells.proofs.CellLaws.{uncovered_reward}
 use Rattle.polcert_format.specs.FullForm.{for_each, values, all_below, is_zero, written}
-use Rattle.polcert_full_form.proofs.Denoting.Covering.{last_of, none_of, last_behind, none_both, none_of_each, last_of_each}
-use Rattle.polcert_full_form.proofs.Denoting.RowEntries.{IsOtherRow, away, test_below, test_same, test_itself, test_apart, row_elsewhere}
-use Rattle.polcert_full_form.proofs.Denoting.Observing.{one_rewarded}
+use Rattle.polcert_full_form.proofs.Denoting.Covering.{last_of, none_of, last_after, none_both, none_of_each, last_of_each}
+use Rattle.polcert_full_form.proofs.Denoting.RowEntries.{IsOtherRow, test_below, test_same, test_itself}
 
 abbrev pub reward_row : Bool → ℕ → ℕ → ℕ → ℕ → (ℕ → ℤ) → Entry
 reward_row costs a s e n r = record { table = Reward; places = Only a ∷ Only s ∷ Only e ∷ []; body = Rewards (values n (λ z. written costs (r z))) }
@@ -32,46 +31,21 @@ end_entries costs a s n r = cond (all_below n (λ e. is_zero (r e))) [] (end_row
 abbrev pub entries_from : Bool → Bool → ℕ → ℕ → ℕ → ℕ → (ℕ → ℕ → ℤ) → List Entry
 entries_from mdp costs a s k n r = cond mdp (end_entries costs a s k (λ e. r e 0)) (for_each k (λ e. reward_entries costs a s e n (r e)))
 
--- what is written of what is written is the reward
-pub twice_written : (costs : Bool) (h : ℤ) → written costs (written costs h) ≡ h
-twice_written true (pos (suc n)) = refl
-twice_written _ _ = refl
-
 pub zero_is : (h : ℤ) → is_zero h ≡ true → h ≡ pos 0
-zero_is (pos zero) e = refl
-zero_is (pos (suc n)) e = cc
-zero_is (negsuc n) e = cc
+zero_is h h1 = grind arith
 
 -- the row of another place or table
 abbrev pub IsElsewhere : ℕ → ℕ → ℕ → Table → ℕ → ℕ → ℕ → Type 0
 IsElsewhere a s e asked i j k = (is_table Reward asked && ((a == i) && ((s == j) && (e == k)))) ≡ false
 
-cell_away : (t x y z : Bool) → (t && (x && (y && z))) ≡ false → (t && (x && (y && (z && true)))) ≡ false
-cell_away true true true true e = absurd (cc)
-cell_away _ _ _ _ e = refl
-
 pub rewards_elsewhere : (costs : Bool) (a s e n : ℕ) (r : ℕ → ℤ) (asked : Table) (i j k : ℕ) (more : List ℕ) → IsElsewhere a s e asked i j k
     → none_of (covers asked (i ∷ j ∷ k ∷ more)) (reward_entries costs a s e n r) ≡ false
-rewards_elsewhere costs a s e n r asked i j k more apart = at (all_below n (λ z. is_zero (r z)))
-  where
-    at : (b : Bool) → none_of (covers asked (i ∷ j ∷ k ∷ more)) (cond b [] (reward_row costs a s e n r ∷ [])) ≡ false
-    at true = refl
-    at false = simp (cell_away (is_table Reward asked) (a == i) (s == j) (e == k) apart)
-
-pub ends_elsewhere : (costs : Bool) (a s n : ℕ) (r : ℕ → ℤ) (asked : Table) (i j : ℕ) (more : List ℕ) → IsOtherRow Reward a s asked i j
-    → none_of (covers asked (i ∷ j ∷ more)) (end_entries costs a s n r) ≡ false
-ends_elsewhere costs a s n r asked i j more apart = at (all_below n (λ e. is_zero (r e)))
-  where
-    at : (b : Bool) → none_of (covers asked (i ∷ j ∷ more)) (cond b [] (end_row costs a s n r ∷ [])) ≡ false
-    at true = refl
-    at false = row_elsewhere Reward asked a s i j more apart (Rewards (values n (λ e. written costs (r e))))
+rewards_elsewhere costs a s e n r asked i j k more apart = grind arith
 
 -- the entries of another action or state, or of another table
 pub from_elsewhere : (mdp costs : Bool) (a s k n : ℕ) (r : ℕ → ℕ → ℤ) (asked : Table) (i j e : ℕ) (more : List ℕ) → IsOtherRow Reward a s asked i j
     → none_of (covers asked (i ∷ j ∷ e ∷ more)) (entries_from mdp costs a s k n r) ≡ false
-from_elsewhere true costs a s k n r asked i j e more apart = ends_elsewhere costs a s k (λ e. r e 0) asked i j (e ∷ more) apart
-from_elsewhere false costs a s k n r asked i j e more apart =
-    none_of_each (covers asked (i ∷ j ∷ e ∷ more)) k _ (λ b l. rewards_elsewhere costs a s b n (r b) asked i j e more (away (is_table Reward asked) (a == i) (s == j) (b == e) apart))
+from_elsewhere mdp costs a s k n r asked i j e more h1 = grind (arith, none_of_each)
 
 -- ---- what entries give a cell
 -- no entry covers the cell and the reward is 0, or the last that does gives this reward
@@ -81,20 +55,15 @@ pub data IsGiven (p : Preamble) (indices : List ℕ) (es : List Entry) (h : ℤ)
 
 module _ (p : Preamble) (indices : List ℕ) (h : ℤ) where
   pub given_is : (es : List Entry) → IsGiven p indices es h → reward p es indices ≡ h
-  given_is es (nothing none unpaid) = uncovered_reward p es indices none ∙ sym unpaid
-  given_is es (entry e last same) = ap (value_or (pos 0) (reward_of p indices)) last ∙ same
+  given_is es h1 = grind (arith, uncovered_reward)
 
-  pub given_behind : (before es : List Entry) → none_of (covers Reward indices) before ≡ false → IsGiven p indices es h → IsGiven p indices (before ++ es) h
-  given_behind before es clear (nothing none unpaid) = nothing (none_both (covers Reward indices) before es clear none) unpaid
-  given_behind before es clear (entry e last same) = entry e (last_behind (covers Reward indices) before es e last) same
+  pub given_after : (before es : List Entry) → none_of (covers Reward indices) before ≡ false → IsGiven p indices es h → IsGiven p indices (before ++ es) h
+  given_after before es clear (nothing none unpaid) = nothing (none_both (covers Reward indices) before es clear none) unpaid
+  given_after before es clear (entry e last same) = entry e (last_after (covers Reward indices) before es e last) same
 
   pub given_each : (n i : ℕ) (f : ℕ → List Entry) → i < n → IsGiven p indices (f i) h → ((j : ℕ) → j < n → (i ≡ j → ⊥) → none_of (covers Reward indices) (f j) ≡ false)
       → IsGiven p indices (for_each n f) h
-  given_each n i f l (nothing none unpaid) apart = nothing (none_of_each (covers Reward indices) n f at) unpaid
-    where
-      at : (j : ℕ) → j < n → none_of (covers Reward indices) (f j) ≡ false
-      at j k = ⊎_elim (λ q. subst (λ x. none_of (covers Reward indices) (f x) ≡ false) (test_same i j q) none)
-          (λ q. apart j k (λ r. true≢false (ap (λ x. i == x) (sym r) ∙ test_itself i) q)) (is_true_or_false (i == j))
+  given_each n i f l (nothing none unpaid) apart = grind (arith, ⊎_elim, is_true_or_false, true≢false, none_of, none_of_each, test_same, test_itself)
   given_each n i f l (entry e last same) apart = entry e (last_of_each (covers Reward indices) n i f e l last apart) same
 
 found_alone : (test : Entry → Bool) (x : Entry) → test x ≡ true → last_of test (x ∷ []) ≡ Some x
@@ -106,11 +75,7 @@ module _ (p : Preamble) (a s e n z : ℕ) (r : ℕ → ℤ) (l : z < n) where
   reward_covers = λ i. test_itself a i && (test_itself s i && (test_itself e i && true))
 
   reward_back : reward_of p (a ∷ s ∷ e ∷ z ∷ []) (reward_row p.costs a s e n r) ≡ r z
-  reward_back =
-      let place : z * 1 + 0 ≡ z = omega arith in
-      ap (λ k. written p.costs (get_or (values n (λ z. written p.costs (r z))) k (pos 0))) place
-      ∙ ap (written p.costs) (get_or-map-range_with_len (λ z. written p.costs (r z)) 0 n z z (pos 0) l (omega arith))
-      ∙ twice_written p.costs (r z)
+  reward_back = grind (arith, get_or-map-range_with_len)
 
   row_given : IsGiven p (a ∷ s ∷ e ∷ z ∷ []) (reward_entries p.costs a s e n r) (r z)
   row_given = at (all_below n (λ z. is_zero (r z))) refl
@@ -125,12 +90,7 @@ module _ (p : Preamble) (a s n e : ℕ) (r : ℕ → ℤ) (mdp : is_mdp p ≡ tr
   end_covers = λ i. test_itself a i && (test_itself s i && true)
 
   end_back : reward_of p (a ∷ s ∷ e ∷ 0 ∷ []) (end_row p.costs a s n r) ≡ r e
-  end_back =
-      let place : e * (1 * 1) + 0 ≡ e = omega arith in
-      ap (λ k. written p.costs (get_or (values n (λ e. written p.costs (r e))) (e * (k * 1) + 0) (pos 0))) (one_rewarded p mdp)
-      ∙ ap (λ k. written p.costs (get_or (values n (λ e. written p.costs (r e))) k (pos 0))) place
-      ∙ ap (written p.costs) (get_or-map-range_with_len (λ e. written p.costs (r e)) 0 n e e (pos 0) l (omega arith))
-      ∙ twice_written p.costs (r e)
+  end_back = grind (arith, get_or-map-range_with_len)
 
   end_given : IsGiven p (a ∷ s ∷ e ∷ 0 ∷ []) (end_entries p.costs a s n r) (r e)
   end_given = at (all_below n (λ e. is_zero (r e))) refl
@@ -141,12 +101,7 @@ module _ (p : Preamble) (a s n e : ℕ) (r : ℕ → ℤ) (mdp : is_mdp p ≡ tr
 
 -- ---- the entries of an action in a state
 another_end : (a s e b : ℕ) → (e ≡ b → ⊥) → IsElsewhere a s b Reward a s e
-another_end a s e b apart = at (a == a) (s == s) (b == e) (test_apart b e (λ q. apart (sym q)))
-  where
-    at : (x y z : Bool) → z ≡ false → (x && (y && z)) ≡ false
-    at true true z q = q
-    at true false z q = refl
-    at false y z q = refl
+another_end a s e b apart = grind arith
 
 pub from_given : (p : Preamble) (mdp : Bool) (a s k n e z : ℕ) (r : ℕ → ℕ → ℤ) → is_mdp p ≡ mdp → e < k → z < n
     → IsGiven p (a ∷ s ∷ e ∷ cond mdp 0 z ∷ []) (entries_from mdp p.costs a s k n r) (r e (cond mdp 0 z))

@@ -1,11 +1,10 @@
 -- The entries of a row as it is printed give the row's weights back.
-use Rattle.std.proofs.Common.{◌≡◌, ◌∙◌, ℕ, zero, suc, ◌+◌, ◌*◌, ◌/◌, ◌%◌, ◌<◌, ◌==◌, ◌≢◌, ◌⊎◌, ⊎_elim, inl, inr, Bool, true, false, ◌&&◌, cond, Some, List, [], ◌∷◌, ◌++◌, drop, get_or, refl, sym, ap, subst, arith}
+use Rattle.std.proofs.Common.{◌≡◌, ◌∙◌, ℕ, zero, suc, ◌+◌, ◌*◌, ◌/◌, ◌%◌, ◌<◌, ◌==◌, ◌≢◌, ◌⊎◌, ⊎_elim, inl, inr, Bool, true, false, ◌&&◌, cond, Some, List, [], ◌∷◌, ◌++◌, refl, sym, ap, subst, arith}
 use Rattle.std.specs.List.{list_any}
 use Rattle.std.proofs.lemmas.Bool.Decides.{nat_tests}
-use Rattle.std.proofs.lemmas.Nat.{div-mul-add, div-add-mod'}
 use Rattle.std.proofs.lemmas.List.FromFn.{get_or-map-range_with_len}
 use Rattle.polcert_cells.specs.declared.entry.Table.{Table}
-use Rattle.polcert_cells.specs.declared.entry.Table.TheVariants.{Transition, Observation, Reward}
+use Rattle.polcert_cells.specs.declared.entry.Table.TheVariants.{Transition, Observation}
 use Rattle.polcert_cells.specs.declared.entry.Place.TheVariants.{Only}
 use Rattle.polcert_cells.specs.declared.entry.Body.{Body}
 use Rattle.polcert_cells.specs.declared.entry.Body.TheVariants.{Probabilities, Uniform}
@@ -15,10 +14,10 @@ use Rattle.polcert_cells.specs.Numbers.{one}
 use Rattle.polcert_cells.specs.Elements.{count_of}
 use Rattle.polcert_cells.specs.Preamble.{Preamble, is_mdp, dimensions, named, columns, observed}
 use Rattle.polcert_cells.specs.Entry.{forms, MayBeGiven}
-use Rattle.polcert_cells.specs.Cells.{fit_places, is_table, covers, weight_of, row_major}
+use Rattle.polcert_cells.specs.Cells.{is_table, covers, weight_of}
 use Rattle.polcert_cells.proofs.Basics.{and_true, is_true_or_false, true≢false}
 use Rattle.polcert_format.specs.FullForm.{for_each, values, all_below, is_uniform, is_decimal}
-use Rattle.polcert_full_form.proofs.Denoting.Covering.{last_of, none_of, last_behind, last_before, none_both, none_of_each, last_of_each}
+use Rattle.polcert_full_form.proofs.Denoting.Covering.{last_of, none_of, last_after, last_before, none_of_each, last_of_each}
 
 -- ---- the entries
 abbrev pub whole_row : Table → ℕ → ℕ → Body → Entry
@@ -74,27 +73,14 @@ pub test_apart : (m n : ℕ) → (m ≡ n → ⊥) → (m == n) ≡ false
 test_apart m n h = ⊎_elim (λ e. absurd (h (test_same m n e))) (λ e. e) (is_true_or_false (m == n))
 
 pub table_itself : (table : Table) → is_table table table ≡ true
-table_itself Transition = refl
-table_itself Observation = refl
-table_itself Reward = refl
+table_itself table = grind arith
 
 -- a weight of this share, and the share back
 share_of_multiple : (n q : ℕ) → 0 < n → q * n / n * n ≡ q * n
-share_of_multiple n q l =
-    let none : q * n ≡ q * n + 0 = omega arith in
-    ap (λ x. x * n) (ap (λ x. x / n) none ∙ div-mul-add q n 0 l)
+share_of_multiple n q l = grind arith
 
 share_back : (n w : ℕ) → 0 < n → Fits n w → (w == one) ≡ false → w / n * n ≡ w
-share_back n w l f e = ⊎_elim
-    (λ u. absurd (true≢false (ap (λ x. x == one) u ∙ test_itself one) e))
-    (λ m. ap (λ x. x / n * n) m.1 ∙ share_of_multiple n m.0 l ∙ sym m.1)
-    f
-
-share_exact : (n w : ℕ) → (w % n == 0) ≡ true → w / n * n ≡ w
-share_exact n w e =
-    let none : w % n ≡ 0 = test_same (w % n) 0 e in
-    let all : w / n * n + w % n ≡ w = div-add-mod' w n in
-    omega (arith, none, all)
+share_back n w l f e = grind (arith, share_of_multiple)
 
 -- ---- what they cover
 pub here : (t x y z : Bool) → t ≡ true → x ≡ true → y ≡ true → z ≡ true → (t && (x && (y && z))) ≡ true
@@ -106,40 +92,13 @@ row_covers table a s c body = here _ _ _ true (table_itself table) (test_itself 
 cell_covers : (table : Table) (a s c p : ℕ) → covers table (a ∷ s ∷ c ∷ []) (one_cell table a s c p) ≡ true
 cell_covers table a s c p = here _ _ _ _ (table_itself table) (test_itself a) (test_itself s) (λ i. test_itself c i && true)
 
-pub away : (t x y z : Bool) → (t && (x && y)) ≡ false → (t && (x && (y && z))) ≡ false
-away true true true z e = absurd (cc)
-away _ _ _ z e = refl
-
-other_column : (t x y z : Bool) → z ≡ false → (t && (x && (y && (z && true)))) ≡ false
-other_column true true true z e = λ i. e i && true
-other_column _ _ _ z e = refl
-
 -- the row of another place or table
 abbrev pub IsOtherRow : Table → ℕ → ℕ → Table → ℕ → ℕ → Type 0
 IsOtherRow table a s asked i j = (is_table table asked && ((a == i) && (s == j))) ≡ false
 
 module _ (table asked : Table) (a s i j : ℕ) (more : List ℕ) (apart : IsOtherRow table a s asked i j) where
-  pub row_elsewhere : (body : Body) → none_of (covers asked (i ∷ j ∷ more)) (whole_row table a s body ∷ []) ≡ false
-  row_elsewhere body = simp (away (is_table table asked) (a == i) (s == j) true apart)
-
-  cell_elsewhere : (c p : ℕ) → none_of (covers asked (i ∷ j ∷ more)) (one_cell table a s c p ∷ []) ≡ false
-  cell_elsewhere c p = simp (away (is_table table asked) (a == i) (s == j) (fit_places (Only c ∷ []) more) apart)
-
-  cells_elsewhere : (n : ℕ) (w : ℕ → ℕ) (c : ℕ) → none_of (covers asked (i ∷ j ∷ more)) (cell_entries table a s n w c) ≡ false
-  cells_elsewhere n w c = at (w c == one)
-    where
-      at : (b : Bool) → none_of (covers asked (i ∷ j ∷ more)) (cond b [] (one_cell table a s c (w c / n) ∷ [])) ≡ false
-      at true = refl
-      at false = cell_elsewhere c (w c / n)
-
   pub entries_elsewhere : (n : ℕ) (w : ℕ → ℕ) → none_of (covers asked (i ∷ j ∷ more)) (row_entries table a s n w) ≡ false
-  entries_elsewhere n w = at (is_uniform n w) (is_decimal n w)
-    where
-      at : (u d : Bool) → none_of (covers asked (i ∷ j ∷ more)) (cond u (uniform_row table a s) (cond d (decimal_row table a s n w) (single_cells table a s n w))) ≡ false
-      at true d = row_elsewhere Uniform
-      at false true = row_elsewhere (Probabilities (values n (λ c. w c / n)))
-      at false false = none_both (covers asked (i ∷ j ∷ more)) (whole_row table a s Uniform ∷ []) (for_each n (cell_entries table a s n w)) (row_elsewhere Uniform)
-          (none_of_each (covers asked (i ∷ j ∷ more)) n (cell_entries table a s n w) (λ c l. cells_elsewhere n w c))
+  entries_elsewhere n w = grind (arith, none_of_each)
 
 -- ---- the weights
 -- a table of weights: each row is by action and state, and has this number of columns
@@ -178,15 +137,7 @@ module _ (p : Preamble) (table : Table) (a s n : ℕ) (w : ℕ → ℕ) (rows : 
   }
 
   decimal_weight : (c : ℕ) → c < n → (w c % n == 0) ≡ true → weight_of p (a ∷ s ∷ c ∷ []) (whole_row table a s (Probabilities (values n (λ c. w c / n)))) ≡ w c
-  decimal_weight c l e =
-      let place : c * 1 + 0 ≡ c = omega arith in
-      (λ i. get_or (values n (λ c. w c / n)) (row_major (left i) (c ∷ [])) 0 * rows.columns_are i)
-      ∙ ap (λ k. get_or (values n (λ c. w c / n)) k 0 * n) place
-      ∙ ap (λ x. x * n) (get_or-map-range_with_len (λ c. w c / n) 0 n c c 0 l (omega arith))
-      ∙ share_exact n (w c) e
-    where
-      left : drop 2 (dimensions p table) ≡ rows.column ∷ []
-      left = ap (drop 2) rows.dimensions_are
+  decimal_weight c l e = grind (arith, get_or-map-range_with_len)
 
   decimal_covered : (c : ℕ) → c < n → (w c % n == 0) ≡ true → Covered (decimal_row table a s n w) c
   decimal_covered c l e = record {
@@ -196,18 +147,10 @@ module _ (p : Preamble) (table : Table) (a s n : ℕ) (w : ℕ → ℕ) (rows : 
   }
 
   cell_weight : (c : ℕ) → Fits n (w c) → (w c == one) ≡ false → weight_of p (a ∷ s ∷ c ∷ []) (one_cell table a s c (w c / n)) ≡ w c
-  cell_weight c f e =
-      (λ i. get_or (w c / n ∷ []) (row_major (left i) []) 0 * rows.columns_are i) ∙ share_back n (w c) some f e
-    where
-      left : drop 3 (dimensions p table) ≡ []
-      left = ap (drop 3) rows.dimensions_are
+  cell_weight c f e = grind (arith, share_back)
 
   other_cells : (c d : ℕ) → (c ≡ d → ⊥) → none_of (covers table (a ∷ s ∷ c ∷ [])) (cell_entries table a s n w d) ≡ false
-  other_cells c d apart = at (w d == one)
-    where
-      at : (b : Bool) → none_of (covers table (a ∷ s ∷ c ∷ [])) (cond b [] (one_cell table a s d (w d / n) ∷ [])) ≡ false
-      at true = refl
-      at false = simp (other_column (is_table table table) (a == a) (s == s) (d == c) (test_apart d c (λ e. apart (sym e))))
+  other_cells c d apart = grind arith
 
   cells_covered : (c : ℕ) → c < n → Fits n (w c) → Covered (single_cells table a s n w) c
   cells_covered c l f = at (w c == one) refl
@@ -236,7 +179,7 @@ module _ (p : Preamble) (table : Table) (a s n : ℕ) (w : ℕ → ℕ) (rows : 
           ap (λ b. last_of (covers table (a ∷ s ∷ c ∷ [])) (cond b [] (one_cell table a s c (w c / n) ∷ []))) e ∙ found_alone c (one_cell table a s c (w c / n)) (cell_covers table a s c (w c / n)) in
           record {
             entry = one_cell table a s c (w c / n);
-            last = last_behind (covers table (a ∷ s ∷ c ∷ [])) (uniform_row table a s) (for_each n (cell_entries table a s n w)) (one_cell table a s c (w c / n))
+            last = last_after (covers table (a ∷ s ∷ c ∷ [])) (uniform_row table a s) (for_each n (cell_entries table a s n w)) (one_cell table a s c (w c / n))
                 (last_of_each (covers table (a ∷ s ∷ c ∷ [])) n c (cell_entries table a s n w) (one_cell table a s c (w c / n)) l alone (λ d m apart. other_cells c d apart));
             weight = cell_weight c f e;
           }

@@ -1,58 +1,36 @@
 -- Equal models have the same full form.
-use Rattle.std.proofs.Common.{◌≡◌, ◌∙◌, ℕ, zero, suc, ◌+◌, ◌/◌, ◌%◌, ◌==◌, ◌<◌, Bool, true, false, ◌&&◌, cond, if◌then◌else◌, Option, Some, None, is_none, unwrap_or, List, [], ◌∷◌, ◌++◌, map, ℤ, codes, refl, ap, arith}
+use Rattle.std.proofs.Common.{◌≡◌, ◌∙◌, ℕ, zero, suc, ◌+◌, ◌<◌, Bool, true, false, cond, if◌then◌else◌, List, [], ◌++◌, map, ℤ, refl, ap, arith}
 use Rattle.std.specs.List.{range_with_len}
-use Rattle.polcert_text.specs.Millionths.{scaled_text}
 use Rattle.polcert_cells.specs.declared.entry.Table.{Table}
 use Rattle.polcert_cells.specs.declared.entry.Table.TheVariants.{Transition, Observation, Reward}
-use Rattle.polcert_cells.specs.Numbers.{one}
-use Rattle.polcert_cells.specs.declared.elements.Elements.{Elements}
 use Rattle.polcert_cells.specs.Elements.{count_of}
 use Rattle.polcert_cells.specs.Preamble.{Preamble, is_mdp, observed}
-use Rattle.polcert_cells.specs.declared.shares.Shares.{Shares}
+use Rattle.polcert_cells.specs.declared.start_weights.StartWeights.{StartWeights}
 use Rattle.polcert_cells.specs.Meaning.{Meaning, states_of, actions_of, observations_of, IsSame}
-use Rattle.polcert_text.specs.Lines.{line}
-use Rattle.polcert_format.specs.FullForm.{for_each, values, all_below, millionths_text, row_words, is_uniform, is_decimal, cell_text, row_text, transitions_text, observations_text, written, is_zero, reward_words, rewards_row, rewards_text, preamble_text, start_text, full_form}
+use Rattle.polcert_format.specs.FullForm.{for_each, values, all_below, row_words, row_text, transitions_text, observations_text, reward_words, rewards_row, rewards_text, preamble_text, start_text, full_form}
 
 -- ---- functions that agree below a bound
 pub same_for_each : {A : Type 0} (n : ℕ) (f g : ℕ → List A) → ((i : ℕ) → i < n → f i ≡ g i) → for_each n f ≡ for_each n g
 same_for_each zero f g h = refl
-same_for_each (suc n) f g h =
-    let before = same_for_each n f g (λ i l. h i (omega (arith, l))) in
-    let here = h n (omega arith) in
-    λ i. before i ++ here i
+same_for_each (suc n) f g h = grind (arith, same_for_each n f g)
 
 pub same_test : (n : ℕ) (f g : ℕ → Bool) → ((i : ℕ) → i < n → f i ≡ g i) → all_below n f ≡ all_below n g
 same_test zero f g h = refl
-same_test (suc n) f g h =
-    let before = same_test n f g (λ i l. h i (omega (arith, l))) in
-    let here = h n (omega arith) in
-    λ i. before i && here i
+same_test (suc n) f g h = grind (arith, same_test n f g)
 
 pub values_from : {A : Type 0} (k n : ℕ) (f g : ℕ → A) → ((i : ℕ) → k < i + 1 → i < k + n → f i ≡ g i) → map f (range_with_len k n) ≡ map g (range_with_len k n)
 values_from k zero f g h = refl
-values_from k (suc n) f g h =
-    let here = h k (omega arith) (omega arith) in
-    let behind = values_from (k + 1) n f g (λ i l m. h i (omega (arith, l)) (omega (arith, m))) in
-    λ i. here i ∷ behind i
+values_from k (suc n) f g h = grind (arith, values_from (k + 1) n f g)
 
 pub same_values : {A : Type 0} (n : ℕ) (f g : ℕ → A) → ((i : ℕ) → i < n → f i ≡ g i) → values n f ≡ values n g
 same_values n f g h = values_from 0 n f g (λ i l m. h i (omega (arith, m)))
 
 -- ---- rows
 pub same_row : (table : Table) (a s n : ℕ) (w v : ℕ → ℕ) → ((c : ℕ) → c < n → w c ≡ v c) → row_text table a s n w ≡ row_text table a s n v
-same_row table a s n w v h =
-    let uniform : is_uniform n w ≡ is_uniform n v = same_test n _ _ (λ c l. ap (λ x. x == one) (h c l)) in
-    let decimals : is_decimal n w ≡ is_decimal n v = same_test n _ _ (λ c l. ap (λ x. x % n == 0) (h c l)) in
-    let numbers : values n (λ c. millionths_text (w c / n)) ≡ values n (λ c. millionths_text (v c / n)) = same_values n _ _ (λ c l. ap (λ x. millionths_text (x / n)) (h c l)) in
-    let cells : for_each n (cell_text table a s n w) ≡ for_each n (cell_text table a s n v) =
-    same_for_each n _ _ (λ c l. ap (λ x. cell_text table a s n (λ i. x) c) (h c l)) in
-    λ i. line (row_words table a s) ++ cond (uniform i) (line (codes "uniform" ∷ [])) (cond (decimals i) (line (numbers i)) (line (codes "uniform" ∷ []) ++ cells i))
+same_row table a s n w v h = grind (arith, same_for_each, same_test, same_values)
 
 pub same_rewards : (costs : Bool) (words : List (List ℕ)) (n : ℕ) (r q : ℕ → ℤ) → ((z : ℕ) → z < n → r z ≡ q z) → rewards_row costs words n r ≡ rewards_row costs words n q
-same_rewards costs words n r q h =
-    let nothing : all_below n (λ z. is_zero (r z)) ≡ all_below n (λ z. is_zero (q z)) = same_test n _ _ (λ z l. ap is_zero (h z l)) in
-    let numbers : values n (λ z. scaled_text (written costs (r z))) ≡ values n (λ z. scaled_text (written costs (q z))) = same_values n _ _ (λ z l. ap (λ x. scaled_text (written costs x)) (h z l)) in
-    λ i. cond (nothing i) [] (line words ++ line (numbers i))
+same_rewards costs words n r q h = grind (arith, same_test, same_values)
 
 -- what is written of an action in a state
 same_from : (mdp costs : Bool) (a s k n : ℕ) (r q : ℕ → ℕ → ℤ) → (mdp ≡ true → k ≡ n) → ((e z : ℕ) → e < k → z < n → r e z ≡ q e z)
@@ -64,17 +42,13 @@ same_from false costs a s k n r q same h = same_for_each k _ _ (λ e l. same_rew
 
 -- an MDP has as many observations as states
 some_observed : (p : Preamble) (b : Bool) → is_mdp p ≡ b → b ≡ true → count_of p.states ≡ count_of (observed p)
-some_observed p b e f = at p.observations (e ∙ f)
-  where
-    at : (o : Option Elements) → is_none o ≡ true → count_of p.states ≡ count_of (unwrap_or o p.states)
-    at None g = refl
-    at (Some d) g = absurd cc
+some_observed p b e f = grind arith
 
 -- ---- models with one preamble and start
-abbrev with_cells : Preamble → Shares → (ℕ → ℕ → ℕ → ℕ) → (ℕ → ℕ → ℕ → ℕ) → (ℕ → ℕ → ℕ → ℕ → ℤ) → Meaning
+abbrev with_cells : Preamble → StartWeights → (ℕ → ℕ → ℕ → ℕ) → (ℕ → ℕ → ℕ → ℕ) → (ℕ → ℕ → ℕ → ℕ → ℤ) → Meaning
 with_cells p start t o r = record { preamble = p; start = start; t = t; o = o; r = r }
 
-same_cells : (p : Preamble) (start : Shares) (m n : Meaning) → m.preamble ≡ p → IsSame m n → full_form (with_cells p start m.t m.o m.r) ≡ full_form (with_cells p start n.t n.o n.r)
+same_cells : (p : Preamble) (start : StartWeights) (m n : Meaning) → m.preamble ≡ p → IsSame m n → full_form (with_cells p start m.t m.o m.r) ≡ full_form (with_cells p start n.t n.o n.r)
 same_cells p start m n e same =
     let actions : actions_of m ≡ actions_of (with_cells p start m.t m.o m.r) = ap (λ x. actions_of (with_cells x start m.t m.o m.r)) e in
     let states : states_of m ≡ states_of (with_cells p start m.t m.o m.r) = ap (λ x. states_of (with_cells x start m.t m.o m.r)) e in

@@ -1,25 +1,24 @@
 -- A right start item gives shares of 0 and 1, or millionths.
-use Rattle.std.proofs.Common.{◌≡◌, ◌∙◌, ℕ, ◌<◌, ◌==◌, ◌||◌, ◌&&◌, ◌⊎◌, inl, inr, Bool, true, false, cond, List, [], ◌∷◌, map, sum, refl, ap}
+use Rattle.std.proofs.Common.{◌≡◌, ◌∙◌, ℕ, ◌<◌, ◌==◌, ◌||◌, ◌&&◌, ◌⊎◌, inl, inr, Bool, true, false, cond, List, [], ◌∷◌, map, sum, refl, ap, arith}
 use Rattle.std.specs.List.{list_all, range_with_len, count_by}
 use Rattle.std.proofs.lemmas.List.Sums.{sum-map}
 use Rattle.polcert_text.specs.Cut.{Lexeme}
 use Rattle.polcert_cells.specs.declared.elements.Elements.{Elements}
-use Rattle.polcert_cells.specs.declared.shares.Shares.{Shares}
+use Rattle.polcert_cells.specs.declared.start_weights.StartWeights.{StartWeights}
 use Rattle.polcert_cells.specs.Numbers.{one}
 use Rattle.polcert_cells.specs.Elements.{count_of}
-use Rattle.polcert_cells.specs.Start.{alike, is_positive, is_level, shares_of, included, excluded, IsStart, IsStartBody}
+use Rattle.polcert_cells.specs.Start.{equal_weights, is_positive, is_level, shares_of, included, excluded, IsStart, IsStartBody}
 use Rattle.polcert_cells.specs.Start as starts
 use Rattle.polcert_format.specs.FullForm.{is_choice}
 use Rattle.polcert_format.specs.Writable.{IsMillionthsStart}
 use Rattle.polcert_full_form.proofs.Denoting.RowEntries.{test_itself}
 
 -- states that are the same, or millionths
-abbrev pub HasShape : ℕ → Shares → Type 0
+abbrev pub HasShape : ℕ → StartWeights → Type 0
 HasShape n start = (is_choice start ≡ true) ⊎ IsMillionthsStart n start
 
 bit_is : (b : Bool) → (cond b 1 0 == 0 || cond b 1 0 == 1) ≡ true
-bit_is true = refl
-bit_is false = refl
+bit_is b = grind arith
 
 bits_are : {X : Type 0} (p : X → Bool) (xs : List X) → list_all (λ w. w == 0 || w == 1) (map (λ x. cond (p x) 1 0) xs) ≡ true
 bits_are p [] = refl
@@ -30,7 +29,7 @@ bits_chosen p xs =
     let total : sum (map (λ x. cond (p x) 1 0) xs) ≡ count_by p xs = sum-map (λ x. cond (p x) 1 0) xs in
     λ i. bits_are p xs i && (ap (λ n. count_by p xs == n) total ∙ test_itself (count_by p xs)) i
 
-pub alike_shape : (n m : ℕ) (picks : ℕ → Bool) → HasShape m (alike n picks)
+pub alike_shape : (n m : ℕ) (picks : ℕ → Bool) → HasShape m (equal_weights n picks)
 alike_shape n m picks = inl (bits_chosen picks (range_with_len 0 n))
 
 shares_shape : (n : ℕ) (ps : List ℕ) → 1 < n → HasShape n (shares_of ps)
@@ -40,14 +39,14 @@ shares_shape n ps several = at (is_level ps) refl
     at true e = inl (bits_chosen is_positive ps)
     at false e = inr (record { several = several; total_is = refl; uneven = e })
 
-body_shape : (states : Elements) (ls : List Lexeme) (start : Shares) → IsStartBody states ls start → HasShape (count_of states) start
+body_shape : (states : Elements) (ls : List Lexeme) (start : StartWeights) → IsStartBody states ls start → HasShape (count_of states) start
 body_shape states ls start (starts.uniform w) = alike_shape (count_of states) (count_of states) (λ s. true)
 body_shape states ls start (starts.name {s = s} n e) = alike_shape (count_of states) (count_of states) (λ n. n == s)
 body_shape states ls start (starts.number {s = s} m n b) = alike_shape (count_of states) (count_of states) (λ n. n == s)
 body_shape states ls start (starts.only_state c n v) = alike_shape (count_of states) (count_of states) (λ s. true)
 body_shape states ls start (starts.probabilities ps m n c e) = shares_shape (count_of states) ps m
 
-pub start_shape : (states : Elements) (ls : List Lexeme) (start : Shares) → IsStart states ls start → HasShape (count_of states) start
+pub start_shape : (states : Elements) (ls : List Lexeme) (start : StartWeights) → IsStart states ls start → HasShape (count_of states) start
 start_shape states ls start (starts.plain c b) = body_shape states _ start b
 start_shape states ls start (starts.include chosen w c z some) = alike_shape (count_of states) (count_of states) (included chosen)
 start_shape states ls start (starts.exclude chosen w c z some) = alike_shape (count_of states) (count_of states) (excluded chosen)

@@ -7,29 +7,26 @@ use Rattle.polcert_cells.specs.declared.entry.Table.{Table}
 use Rattle.polcert_cells.specs.declared.entry.Table.TheVariants.{Reward}
 use Rattle.polcert_format.specs.FullForm.{for_each, values, millionths_text, table_word, row_words}
 
-abbrev behind_blank : List ℕ → List ℕ
-behind_blank w = codes " " ++ w
+abbrev after_blank : List ℕ → List ℕ
+after_blank w = codes " " ++ w
 
 -- the first word, each further one after a blank, and a line end
-pub line_is : (w : List ℕ) (ws : List (List ℕ)) → line (w ∷ ws) ≡ w ++ flat_map behind_blank ws ++ codes "\n"
+pub line_is : (w : List ℕ) (ws : List (List ℕ)) → line (w ∷ ws) ≡ w ++ flat_map after_blank ws ++ codes "\n"
 line_is w [] = ap (λ bs. bs ++ codes "\n") (sym (append-nil w))
-line_is w (v ∷ ws) =
-    ap (λ bs. w ++ codes " " ++ bs) (line_is v ws)
-    ∙ sym (append_assoc (w ++ codes " ") (v ++ flat_map behind_blank ws) (codes "\n"))
-    ∙ ap (λ bs. bs ++ codes "\n") (append_assoc w (codes " ") (v ++ flat_map behind_blank ws))
+line_is w (v ∷ ws) = grind (arith, append_assoc, line_is v ws)
 
-flat-append : (xs ys : List (List ℕ)) → flat_map behind_blank (xs ++ ys) ≡ flat_map behind_blank xs ++ flat_map behind_blank ys
+flat-append : (xs ys : List (List ℕ)) → flat_map after_blank (xs ++ ys) ≡ flat_map after_blank xs ++ flat_map after_blank ys
 flat-append [] ys = refl
-flat-append (x ∷ xs) ys = ap (λ bs. behind_blank x ++ bs) (flat-append xs ys) ∙ sym (append_assoc (behind_blank x) (flat_map behind_blank xs) (flat_map behind_blank ys))
+flat-append (x ∷ xs) ys = ap (λ bs. after_blank x ++ bs) (flat-append xs ys) ∙ sym (append_assoc (after_blank x) (flat_map after_blank xs) (flat_map after_blank ys))
 
-further_words : (n : ℕ) (f : ℕ → List ℕ) → flat_map behind_blank (map f (range_with_len 1 n)) ≡ for_each n (λ i. codes " " ++ f (i + 1))
+further_words : (n : ℕ) (f : ℕ → List ℕ) → flat_map after_blank (map f (range_with_len 1 n)) ≡ for_each n (λ i. codes " " ++ f (i + 1))
 further_words zero f = refl
 further_words (suc n) f =
     let one_more : suc n ≡ n + 1 = omega arith in
-    ap (λ k. flat_map behind_blank (map f (range_with_len 1 k))) one_more
-    ∙ ap (flat_map behind_blank) (map-range_with_len_more f 1 n (n + 1) (omega arith))
+    ap (λ k. flat_map after_blank (map f (range_with_len 1 k))) one_more
+    ∙ ap (flat_map after_blank) (map-range_with_len_more f 1 n (n + 1) (omega arith))
     ∙ flat-append (map f (range_with_len 1 n)) (f (n + 1) ∷ [])
-    ∙ (λ i. further_words n f i ++ append-nil (behind_blank (f (n + 1))) i)
+    ∙ (λ i. further_words n f i ++ append-nil (after_blank (f (n + 1))) i)
 
 -- a line of values, value by value
 pub values_line : (n : ℕ) (f : ℕ → List ℕ) → line (values (suc n) f) ≡ f 0 ++ for_each n (λ i. codes " " ++ f (i + 1)) ++ codes "\n"

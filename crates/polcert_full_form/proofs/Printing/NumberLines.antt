@@ -36,9 +36,7 @@ pub length_values : {A : Type 0} (n : ℕ) (f : ℕ → A) → length (values n 
 length_values n f = length-map-range_with_len f 0 n
 
 pub all_values : {A : Type 0} (P : A → Type 0) (n : ℕ) (f : ℕ → A) → ((i : ℕ) → i < n → P (f i)) → All P (values n f)
-all_values P n f h k d l =
-    let below : k < n = omega (arith, l, length_values n f) in
-    subst P (sym (get_or-map-range_with_len f 0 n k k d below (omega arith))) (h k below)
+all_values P n f h k d l = grind (arith, get_or-map-range_with_len, length_values)
 
 small_from : (k n : ℕ) (f : ℕ → ℤ) → ((i : ℕ) → i < k + n → unsigned_abs (f i) ≤ largest) → AreSmall (map f (range_with_len k n))
 small_from k zero f h = tt

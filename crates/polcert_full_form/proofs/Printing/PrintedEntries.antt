@@ -1,7 +1,7 @@
 -- The lines of an entry are an item, and that entry.
 use Rattle.std.proofs.Common.{◌≡◌, ◌∙◌, ℕ, zero, suc, ◌^◌, ◌<◌, ◌≤◌, ◌==◌, true, false, Some, List, [], ◌∷◌, ◌++◌, length, drop, codes, decimal, refl, sym, ap, subst, arith, append_assoc, append-nil}
 use Rattle.std.specs.List.{list_any}
-use Rattle.polcert_text.specs.Bytes.{class_of}
+use Rattle.polcert_text.specs.Bytes.{is_letter, is_name_byte, is_digit, is_point, is_exponent_mark}
 use Rattle.polcert_text.specs.Lexemes.{kind_of}
 use Rattle.polcert_text.specs.Cut.{Lexeme}
 use Rattle.polcert_text.specs.declared.lexeme.TokenKind.TheVariants.{Name, Colon}
@@ -11,7 +11,7 @@ use Rattle.polcert_cells.specs.declared.entry.Place.TheVariants.{Only}
 use Rattle.polcert_cells.specs.declared.entry.Body.{Body}
 use Rattle.polcert_cells.specs.declared.entry.Entry.{Entry}
 use Rattle.polcert_cells.specs.declared.elements.Elements.{Elements}
-use Rattle.polcert_cells.specs.declared.shares.Shares.{Shares}
+use Rattle.polcert_cells.specs.declared.start_weights.StartWeights.{StartWeights}
 use Rattle.polcert_cells.specs.declared.words.Topic.TheVariants.{Cells}
 use Rattle.polcert_cells.specs.Words.{topic, topic_of, begins_item}
 use Rattle.polcert_cells.specs.Elements.{count_of, by_number}
@@ -20,7 +20,7 @@ use Rattle.polcert_cells.specs.Entry.{cells_in, forms, MayBeGiven, ArePlaces, Is
 use Rattle.polcert_cells.specs.Entry as entries
 use Rattle.polcert_format.proofs.CellLimits.{printable_cells}
 use Rattle.polcert_format.specs.Text as texts
-use Rattle.polcert_format.specs.Text.{Known, IsComplete}
+use Rattle.polcert_format.specs.Text.{ModelSoFar, IsComplete}
 use Rattle.polcert_format.specs.FullForm.{for_each, table_word}
 use Rattle.polcert_text.proofs.Printing.PrintedWords.{key, word_text, IsPiece}
 use Rattle.polcert_full_form.proofs.Printing.PrintedNumbers.{numeral_at, whole_at}
@@ -34,9 +34,7 @@ letter Reward = codes "R"
 
 known_topic : (table : Table) → topic_of (letter table) ≡ Some (Cells table)
 unfolding topic_of
-known_topic Transition = refl
-known_topic Observation = refl
-known_topic Reward = refl
+known_topic table = grind arith
 
 name_topic : (l : Lexeme) → l.kind ≡ Name → topic l ≡ topic_of l.bytes
 name_topic l k = simp k
@@ -45,23 +43,17 @@ letter_topic : (table : Table) (l : Lexeme) → l.kind ≡ Name → l.bytes ≡ 
 letter_topic table l k b = name_topic l k ∙ ap topic_of b ∙ known_topic table
 
 letter_name : (table : Table) → kind_of (letter table) ≡ Some Name
-unfolding class_of
-letter_name Transition = refl
-letter_name Observation = refl
-letter_name Reward = refl
+unfolding kind_of is_letter is_name_byte is_digit is_point is_exponent_mark
+letter_name table = grind arith
 
 letter_short : (table : Table) → length (letter table) ≤ 400
-letter_short Transition = omega arith
-letter_short Observation = omega arith
-letter_short Reward = omega arith
+letter_short table = grind arith
 
 pub letter_piece : (table : Table) → IsPiece Name (letter table)
 letter_piece table = record { kind_is = letter_name table; short = letter_short table }
 
 pub text_letter : (table : Table) → word_text (key (letter table)) ≡ table_word table
-text_letter Transition = refl
-text_letter Observation = refl
-text_letter Reward = refl
+text_letter table = grind arith
 
 abbrev pub name_at : ℕ → List ℕ → Lexeme
 name_at place bytes = record { kind = Name; place = place; bytes = bytes }
@@ -70,7 +62,7 @@ abbrev pub colon_at : ℕ → Lexeme
 colon_at place = record { kind = Colon; place = place; bytes = codes ":" }
 
 -- what is known after a whole preamble, a start item and some entries
-abbrev pub known_of : Preamble → Shares → List Entry → Known
+abbrev pub known_of : Preamble → StartWeights → List Entry → ModelSoFar
 known_of p start es = record {
   discount = Some p.discount;
   costs = Some p.costs;
@@ -81,13 +73,10 @@ known_of p start es = record {
   entries = es;
 }
 
-pub complete : (p : Preamble) (start : Shares) (es : List Entry) → HasRoom p → IsComplete (known_of p start es) p
-complete p start es room = record {
-  lines = record { discount = refl; costs = refl; states = refl; actions = refl; observations = refl };
-  pairs = room.pairs;
-}
+pub complete : (p : Preamble) (start : StartWeights) (es : List Entry) → HasRoom p → IsComplete (known_of p start es) p
+complete p start es room = grind arith
 
-module _ (p : Preamble) (start : Shares) (room : HasRoom p) where
+module _ (p : Preamble) (start : StartWeights) (room : HasRoom p) where
   -- The text is further entries after any that came before.
   abbrev pub PrintsEntries : List ℕ → List Entry → Type 0
   PrintsEntries text new = (es : List Entry) → Prints text (known_of p start es) (known_of p start (es ++ new))
@@ -96,9 +85,7 @@ module _ (p : Preamble) (start : Shares) (room : HasRoom p) where
   no_entries es = subst (λ xs. Prints [] (known_of p start es) (known_of p start xs)) (sym (append-nil es)) (prints_nothing (known_of p start es))
 
   pub entries_then : (s t : List ℕ) (xs ys : List Entry) → PrintsEntries s xs → PrintsEntries t ys → PrintsEntries (s ++ t) (xs ++ ys)
-  entries_then s t xs ys a b es =
-      subst (λ zs. Prints (s ++ t) (known_of p start es) (known_of p start zs)) (append_assoc es xs ys)
-      (prints_then s t (known_of p start es) (known_of p start (es ++ xs)) (known_of p start ((es ++ xs) ++ ys)) (a es) (b (es ++ xs)))
+  entries_then s t xs ys a b es = grind (arith, append_assoc, prints_then)
 
   pub entries_each : (n : ℕ) (f : ℕ → List ℕ) (g : ℕ → List Entry) → ((i : ℕ) → i < n → PrintsEntries (f i) (g i)) → PrintsEntries (for_each n f) (for_each n g)
   entries_each zero f g h = no_entries

@@ -1,9 +1,8 @@
 -- Texts that are whole items, each right after those before it.
-use Rattle.std.proofs.Common.{◌≡◌, ◌∙◌, ℕ, ◌+◌, ◌≤◌, false, Some, None, List, [], ◌∷◌, ◌++◌, length, flat_map, All, refl, sym, ap, subst, append-nil}
+use Rattle.std.proofs.Common.{◌≡◌, ◌∙◌, ℕ, ◌+◌, ◌≤◌, false, Some, None, List, [], ◌∷◌, ◌++◌, length, flat_map, All, refl, sym, ap, subst, append-nil, arith}
 use Rattle.std.specs.List.{list_any}
-use Rattle.std.proofs.lemmas.Bool.{le-ltb}
 use Rattle.std.proofs.lemmas.List.Elements.{All-cons, All-nil, All-append}
-use Rattle.polcert_text.specs.Cut.{Lexeme, IsCut, text_rest, text_limit}
+use Rattle.polcert_text.specs.Cut.{Lexeme, IsCut, text_limit}
 use Rattle.polcert_text.proofs.Scanning.CleanCut.{tokens_from}
 use Rattle.polcert_cells.specs.declared.words.Topic.{Topic}
 use Rattle.polcert_cells.specs.Words.{topic, begins_item}
@@ -11,26 +10,26 @@ use Rattle.polcert_format.specs.Items.{Item, IsItem, lexemes_of}
 use Rattle.polcert_cells.specs.Preamble.{Preamble}
 use Rattle.polcert_cells.specs.Meaning.{Meaning, meaning_of, IsSame, HasProperRows}
 use Rattle.polcert_format.specs.Text as texts
-use Rattle.polcert_format.specs.Text.{Known, nothing_known, IsComplete, IsRight, AreRight, IsModelText}
+use Rattle.polcert_format.specs.Text.{ModelSoFar, nothing_known, IsComplete, IsRight, AreRight, IsModelText}
 use Rattle.polcert_format.proofs.Dividing.{all_append, begins}
 use Rattle.polcert_format.proofs.RightItems.{append_right}
 use Rattle.polcert_text.proofs.Printing.PrintedCut.{Printed, text_of, lexemes_at, ArePrinted, rest_at, cut_printed, text-append, lexemes-append, printed-append}
 
 -- the lexemes are these right items
-pub record AreItems (ls : List Lexeme) (k next : Known) : Type 0 where
+pub record AreItems (ls : List Lexeme) (k next : ModelSoFar) : Type 0 where
   pub items : List Item
   pub whole : ls ≡ flat_map lexemes_of items
   pub each : All IsItem items
   pub right : AreRight k items next
 
 -- The text is whole items, right after what is known, and this is known after them.
-pub record Prints (text : List ℕ) (k next : Known) : Type 0 where
+pub record Prints (text : List ℕ) (k next : ModelSoFar) : Type 0 where
   pub lexemes : List Printed
   pub text_is : text_of lexemes ≡ text
   pub printed : ArePrinted lexemes
   pub items : (place : ℕ) → AreItems (lexemes_at place lexemes) k next
 
-pub prints_nothing : (k : Known) → Prints [] k k
+pub prints_nothing : (k : ModelSoFar) → Prints [] k k
 prints_nothing k = record {
   lexemes = [];
   text_is = refl;
@@ -38,7 +37,7 @@ prints_nothing k = record {
   items = λ place. record { items = []; whole = refl; each = All-nil IsItem; right = texts.none };
 }
 
-items_then : (xs ys : List Lexeme) (k m n : Known) → AreItems xs k m → AreItems ys m n → AreItems (xs ++ ys) k n
+items_then : (xs ys : List Lexeme) (k m n : ModelSoFar) → AreItems xs k m → AreItems ys m n → AreItems (xs ++ ys) k n
 items_then xs ys k m n a b = record {
   items = a.items ++ b.items;
   whole = (λ i. a.whole i ++ b.whole i) ∙ sym (all_append a.items b.items);
@@ -46,17 +45,11 @@ items_then xs ys k m n a b = record {
   right = append_right k m n a.items b.items a.right b.right;
 }
 
-pub prints_then : (s t : List ℕ) (k m n : Known) → Prints s k m → Prints t m n → Prints (s ++ t) k n
-prints_then s t k m n a b = record {
-  lexemes = a.lexemes ++ b.lexemes;
-  text_is = text-append a.lexemes b.lexemes ∙ (λ i. a.text_is i ++ b.text_is i);
-  printed = printed-append a.lexemes b.lexemes a.printed b.printed;
-  items = λ place. subst (λ ls. AreItems ls k n) (sym (lexemes-append place a.lexemes b.lexemes))
-      (items_then (lexemes_at place a.lexemes) (lexemes_at (place + length (text_of a.lexemes)) b.lexemes) k m n (a.items place) (b.items (place + length (text_of a.lexemes))));
-}
+pub prints_then : (s t : List ℕ) (k m n : ModelSoFar) → Prints s k m → Prints t m n → Prints (s ++ t) k n
+prints_then s t k m n a b = grind (arith, text-append, lexemes-append, printed-append, items_then)
 
 -- one item
-pub one_item : (word : Lexeme) (body : List Lexeme) (t : Topic) (k next : Known) → topic word ≡ Some t → list_any begins_item body ≡ false → IsRight k t body next → AreItems (word ∷ body) k next
+pub one_item : (word : Lexeme) (body : List Lexeme) (t : Topic) (k next : ModelSoFar) → topic word ≡ Some t → list_any begins_item body ≡ false → IsRight k t body next → AreItems (word ∷ body) k next
 one_item word body t k next e none right =
     let item : Item = record { word = word; body = body } in
     record {
@@ -67,7 +60,7 @@ one_item word body t k next e none right =
     }
 
 -- the text of a model, from its items
-pub text_from_items : (text : List ℕ) (m : Meaning) (p : Preamble) (k : Known) → length text ≤ text_limit → Prints text nothing_known k → IsComplete k p
+pub text_from_items : (text : List ℕ) (m : Meaning) (p : Preamble) (k : ModelSoFar) → length text ≤ text_limit → Prints text nothing_known k → IsComplete k p
     → IsSame m (meaning_of p k.start k.entries) → HasProperRows m → IsModelText text m
 text_from_items text m p k short prints complete same rows =
     let us = prints.lexemes in

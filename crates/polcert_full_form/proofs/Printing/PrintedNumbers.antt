@@ -2,12 +2,12 @@
 use Rattle.std.proofs.Common.{◌≡◌, ℕ, ℤ, suc, ◌^◌, ◌<◌, ◌≤◌, Bool, true, false, ◌||◌, pos, negsuc, List, [], ◌∷◌, ◌++◌, length, map, decimal, codes, refl, arith, unsigned_abs}
 use Rattle.std.specs.List.{list_all, list_any}
 use Rattle.std.proofs.lemmas.Fmt.{decimal_is_IsNumeral, decimal_nonempty}
-use Rattle.polcert_text.specs.Bytes.{is_digit}
 use Rattle.polcert_text.specs.Lexemes.{are_digits}
 use Rattle.polcert_text.specs.Cut.{Lexeme}
 use Rattle.polcert_text.specs.declared.lexeme.TokenKind.TheVariants.{Numeral, Minus, Plus}
 use Rattle.polcert_text.specs.Millionths.{unsigned_text, scaled_text}
 use Rattle.polcert_text.specs.Numbers.{largest, signed}
+use Rattle.polcert_text.proofs.Numbers.FrontNumbers.{some_digits}
 use Rattle.polcert_text.proofs.Printing.WrittenNumbers.{plain_size, readable_written}
 use Rattle.polcert_text.proofs.Printing.PrintLaws.{written_exact, decimal_digits}
 use Rattle.polcert_cells.specs.Words.{begins_item}
@@ -24,7 +24,7 @@ pub millionths_at : (negative : Bool) (place n : ℕ) → n ≤ largest → IsMi
 millionths_at negative place n l = record {
   kind = refl;
   readable = readable_written n l;
-  exact = (written_exact n (omega (arith, l)) negative).1;
+  value = (written_exact n (omega (arith, l)) negative).1;
 }
 
 -- ---- the word of a number
@@ -33,8 +33,7 @@ number_word (pos n) = plain Numeral (unsigned_text n)
 number_word (negsuc n) = minus (unsigned_text (suc n))
 
 pub text_number : (h : ℤ) → word_text (number_word h) ≡ scaled_text h
-text_number (pos n) = refl
-text_number (negsuc n) = refl
+text_number h = grind arith
 
 pub text_numbers : (hs : List ℤ) → map word_text (map number_word hs) ≡ map scaled_text hs
 text_numbers [] = refl
@@ -46,22 +45,21 @@ AreSmall [] = Unit {0}
 AreSmall (h ∷ hs) = (unsigned_abs h ≤ largest) × AreSmall hs
 
 pub spells_number : (h : ℤ) → unsigned_abs h ≤ largest → IsSpelling (number_word h)
-spells_number (pos n) l = numeral_piece (unsigned_text n) (plain_size n l)
-spells_number (negsuc n) l = plain_size (suc n) l
+spells_number h h1 = grind (arith, plain_size, numeral_piece)
 
 pub spells_numbers : (hs : List ℤ) → AreSmall hs → AreSpellings (map number_word hs)
 spells_numbers [] a = tt
 spells_numbers (h ∷ hs) a = (spells_number h a.0, spells_numbers hs a.1)
 
 -- a number before numbers
-number_before : (h : ℤ) (hs : List ℤ) (behind : List ℕ) (us : List Printed) → unsigned_abs h ≤ largest → ((place : ℕ) → AreNumbers (lexemes_at place us) hs)
-    → (place : ℕ) → AreNumbers (lexemes_at place (spelled (number_word h) behind ++ us)) (h ∷ hs)
-number_before (pos n) hs behind us l more place = numbers.unsigned (millionths_at false _ n l) (more _)
-number_before (negsuc n) hs behind us l more place = numbers.minus refl (millionths_at true _ (suc n) l) (more _)
+number_before : (h : ℤ) (hs : List ℤ) (following : List ℕ) (us : List Printed) → unsigned_abs h ≤ largest → ((place : ℕ) → AreNumbers (lexemes_at place us) hs)
+    → (place : ℕ) → AreNumbers (lexemes_at place (spelled (number_word h) following ++ us)) (h ∷ hs)
+number_before (pos n) hs following us l more place = numbers.unsigned (millionths_at false _ n l) (more _)
+number_before (negsuc n) hs following us l more place = numbers.minus refl (millionths_at true _ (suc n) l) (more _)
 
-last_number : (h : ℤ) (behind : List ℕ) → unsigned_abs h ≤ largest → (place : ℕ) → AreNumbers (lexemes_at place (spelled (number_word h) behind)) (h ∷ [])
-last_number (pos n) behind l place = numbers.unsigned (millionths_at false _ n l) numbers.none
-last_number (negsuc n) behind l place = numbers.minus refl (millionths_at true _ (suc n) l) numbers.none
+last_number : (h : ℤ) (following : List ℕ) → unsigned_abs h ≤ largest → (place : ℕ) → AreNumbers (lexemes_at place (spelled (number_word h) following)) (h ∷ [])
+last_number (pos n) following l place = numbers.unsigned (millionths_at false _ n l) numbers.none
+last_number (negsuc n) following l place = numbers.minus refl (millionths_at true _ (suc n) l) numbers.none
 
 pub numbers_at : (h : ℤ) (hs : List ℤ) → AreSmall (h ∷ hs) → (place : ℕ) → AreNumbers (lexemes_at place (spelled_line (number_word h) (map number_word hs))) (h ∷ hs)
 numbers_at h [] a place = last_number h (codes "\n") a.0 place
@@ -87,13 +85,9 @@ numbers_inside (numbers.minus {sign = s} {l = l} e a more) = (λ i. sign_none s 
 pub whole_at : (place n : ℕ) → n < 2 ^ 64 → IsWhole (numeral_at place (decimal n)) n
 whole_at place n l = record {
   kind = refl;
-  digits = digits_some (decimal n) (decimal_digits n l) (decimal_nonempty n l);
+  digits = some_digits (decimal n) (decimal_nonempty n l) (decimal_digits n l);
   value = (decimal_is_IsNumeral n l).1;
 }
-  where
-    digits_some : (bs : List ℕ) → list_all is_digit bs ≡ true → 0 < length bs → are_digits bs ≡ true
-    digits_some [] h p = absurd (omega (arith, p))
-    digits_some (b ∷ bs) h p = simp h
 
 pub whole_piece : (n : ℕ) → n < 10 ^ 19 → IsPiece Numeral (decimal n)
 whole_piece n l = numeral_piece (decimal n) (plain_decimal n l)

@@ -1,5 +1,5 @@
 -- The lines of the full form, as a printer puts them together.
-use Rattle.std.proofs.Common.{◌≡◌, ◌∙◌, ℕ, zero, suc, ◌+◌, ◌/◌, ◌==◌, ◌<◌, ◌≤◌, ◌||◌, ◌&&◌, Bool, true, false, cond, if◌then◌else◌, ⊎_elim, List, [], ◌∷◌, ◌++◌, length, get_or, map, filter, flat_map, sum, ℤ, pos, decimal, codes, refl, sym, ap, subst, arith, append_assoc, append-nil, zero-add}
+use Rattle.std.proofs.Common.{◌≡◌, ◌∙◌, ℕ, zero, suc, ◌+◌, ◌/◌, ◌==◌, ◌<◌, ◌≤◌, ◌||◌, ◌&&◌, Bool, true, false, cond, if◌then◌else◌, ⊎_elim, List, [], ◌∷◌, ◌++◌, length, get_or, map, filter, flat_map, sum, ℤ, pos, decimal, codes, refl, sym, ap, arith, append_assoc, append-nil, zero-add}
 use Rattle.std.specs.List.{list_all, range_with_len}
 use Rattle.std.proofs.lemmas.Bool.Decides.{nat_tests}
 use Rattle.std.proofs.lemmas.List.FromFn.{length-range_with_len, get_or-range_with_len}
@@ -9,13 +9,12 @@ use Rattle.polcert_text.specs.Millionths.{scaled_text}
 use Rattle.polcert_cells.specs.declared.entry.Table.{Table}
 use Rattle.polcert_cells.specs.declared.entry.Table.TheVariants.{Observation, Reward}
 use Rattle.polcert_cells.specs.declared.elements.Elements.{Elements}
-use Rattle.polcert_cells.specs.declared.elements.Elements.TheVariants.{Count, Names}
 use Rattle.polcert_cells.specs.Numbers.{one}
-use Rattle.polcert_cells.specs.declared.shares.Shares.{Shares}
+use Rattle.polcert_cells.specs.declared.start_weights.StartWeights.{StartWeights}
 use Rattle.polcert_cells.specs.Preamble.{is_mdp}
 use Rattle.polcert_cells.specs.Meaning.{Meaning, states_of, actions_of, observations_of}
 use Rattle.polcert_format.specs.FullForm.{for_each, values, all_below, millionths_text, element_words, observations_line, preamble_text, chosen, is_whole, is_choice, start_text, table_word, row_words, is_uniform, is_decimal, cell_text, row_text, observations_text, written, is_zero, reward_words, rewards_row, rewards_from}
-use Rattle.polcert_full_form.specs.Steps.Printing.{behind_blank, settings_text, values_line, name_text, elements_line, share_of, chosen_text, share_text, pattern_text, blank_before, body_text, reward_rows}
+use Rattle.polcert_full_form.specs.Steps.Printing.{after_blank, settings_text, values_line, name_text, elements_line, share_of, chosen_text, share_text, pattern_text, blank_before, body_text, reward_rows}
 use Rattle.polcert_cells.proofs.Basics.{is_true_or_false, true≢false, and_true}
 use Rattle.polcert_full_form.proofs.Denoting.RowEntries.{test_below, test_same, test_itself}
 use Rattle.polcert_full_form.proofs.Denoting.SameForms.{same_for_each}
@@ -26,23 +25,12 @@ pub test_fails : (n k : ℕ) (test : ℕ → Bool) → k < n → test k ≡ fals
 test_fails n k test l e = ⊎_elim (λ all. absurd (true≢false (test_below n k test all l) e)) (λ none. sym none) (is_true_or_false (all_below n test))
 
 pub test_more : (k : ℕ) (test : ℕ → Bool) → true ≡ all_below k test → test k ≡ true → true ≡ all_below (k + 1) test
-test_more k test before here =
-    let next : suc k ≡ k + 1 = omega arith in
-    let all : true ≡ all_below (suc k) test = ap (λ b. b && true) before ∙ ap (λ b. all_below k test && b) (sym here) in
-    subst (λ n. true ≡ all_below n test) next all
+test_more k test before here = grind arith
 
 -- the first of all comes before the others
 below_front : (n : ℕ) (test : ℕ → Bool) → all_below (suc n) test ≡ (test 0 && all_below n (λ i. test (suc i)))
-below_front zero test = and_one (test 0)
-  where
-    and_one : (b : Bool) → (true && b) ≡ (b && true)
-    and_one true = refl
-    and_one false = refl
-below_front (suc n) test = ap (λ b. b && test (suc n)) (below_front n test) ∙ and_assoc (test 0) (all_below n (λ i. test (suc i))) (test (suc n))
-  where
-    and_assoc : (a b c : Bool) → ((a && b) && c) ≡ (a && (b && c))
-    and_assoc true b c = refl
-    and_assoc false b c = refl
+below_front zero test = grind arith
+below_front (suc n) test = grind (arith, below_front n test)
 
 -- a test of a list is one of its places
 pub list_below : {A : Type 0} (test : A → Bool) (xs : List A) (d : A) → list_all test xs ≡ all_below (length xs) (λ i. test (get_or xs i d))
@@ -60,11 +48,10 @@ flat_each f (x ∷ xs) d = ap (λ bs. f x ++ bs) (flat_each f xs d) ∙ sym (eac
 
 -- a word, and others each after a blank
 pub words_line : (w : List ℕ) (ws : List (List ℕ)) → w ++ for_each (length ws) (name_text ws) ++ codes "\n" ≡ line (w ∷ ws)
-words_line w ws = ap (λ bs. w ++ bs ++ codes "\n") (sym (flat_each behind_blank ws [])) ∙ sym (lines.line_is w ws)
+words_line w ws = ap (λ bs. w ++ bs ++ codes "\n") (sym (flat_each after_blank ws [])) ∙ sym (lines.line_is w ws)
 
 pub elements_is : (w : List ℕ) (elements : Elements) → elements_line w elements ≡ line (w ∷ element_words elements)
-elements_is w (Count n) = simp append_assoc
-elements_is w (Names names) = words_line w names
+elements_is w elements = grind (arith, append_assoc, words_line)
 
 pub preamble_is : (m : Meaning) → settings_text m ++ elements_line (codes "states:") m.preamble.states ++ elements_line (codes "actions:") m.preamble.actions
     ++ observations_line m.preamble.observations ≡ preamble_text m
@@ -77,15 +64,15 @@ preamble_is m = λ i. settings m.preamble.costs i ++ elements_is (codes "states:
     settings false = simp append_assoc
 
 -- ---- lines of numbers
-blank_behind : (i : ℕ) → blank_before (suc i) ≡ codes " "
-blank_behind i = let later : (suc i == 0) ≡ false = grind (arith, nat_tests) in ap (λ b. cond b [] (codes " ")) later
+blank_after : (i : ℕ) → blank_before (suc i) ≡ codes " "
+blank_after i = let later : (suc i == 0) ≡ false = grind (arith, nat_tests) in ap (λ b. cond b [] (codes " ")) later
 
 pub numbers_line : (n : ℕ) (f : ℕ → List ℕ) → 0 < n → for_each n (λ i. blank_before i ++ f i) ++ codes "\n" ≡ line (values n f)
 numbers_line zero f some = absurd (omega (arith, some))
 numbers_line (suc n) f some =
     ap (λ bs. bs ++ codes "\n") (each_front n (λ i. blank_before i ++ f i))
     ∙ ap (λ bs. f 0 ++ bs ++ codes "\n") (same_for_each n (λ i. blank_before (suc i) ++ f (suc i)) (λ i. codes " " ++ f (i + 1))
-    (λ i l. (λ j. blank_behind i j ++ f (next i j))))
+    (λ i l. (λ j. blank_after i j ++ f (next i j))))
     ∙ sym (lines.values_line n f)
   where
     next : (i : ℕ) → suc i ≡ i + 1
@@ -93,10 +80,7 @@ numbers_line (suc n) f some =
 
 -- ---- rows of T and O
 pub row_is : (table : Table) (a s n : ℕ) (w : ℕ → ℕ) → pattern_text table (a ∷ s ∷ []) ++ codes "\n" ++ body_text table a s n w ≡ row_text table a s n w
-row_is table a s n w = ap (λ bs. bs ++ body_text table a s n w) head
-  where
-    head : pattern_text table (a ∷ s ∷ []) ++ codes "\n" ≡ line (row_words table a s)
-    head = simp append_assoc
+row_is table a s n w = grind (arith, append_assoc)
 
 flat : (t b a m s c : List ℕ) → t ++ ((b ++ a ++ (m ++ s)) ++ (m ++ c)) ≡ t ++ b ++ a ++ m ++ s ++ m ++ c
 flat t b a m s c = simp append_assoc
@@ -113,8 +97,7 @@ module _ (table : Table) (a s n : ℕ) (w : ℕ → ℕ) where
   body_uniform e = sym (ap (λ b. cond b (line (codes "uniform" ∷ [])) (cond (is_decimal n w) (line (values n (λ c. millionths_text (w c / n)))) (line (codes "uniform" ∷ []) ++ for_each n (cell_text table a s n w)))) e)
 
   body_other : (d : Bool) → is_uniform n w ≡ false → is_decimal n w ≡ d → cond d (line (values n (λ c. millionths_text (w c / n)))) (line (codes "uniform" ∷ []) ++ for_each n (cell_text table a s n w)) ≡ body_text table a s n w
-  body_other d e f = sym (ap (λ b. cond b (line (codes "uniform" ∷ [])) (cond (is_decimal n w) (line (values n (λ c. millionths_text (w c / n)))) (line (codes "uniform" ∷ []) ++ for_each n (cell_text table a s n w)))) e
-      ∙ ap (λ b. cond b (line (values n (λ c. millionths_text (w c / n)))) (line (codes "uniform" ∷ []) ++ for_each n (cell_text table a s n w))) f)
+  body_other d e f = grind arith
 
   pub body_decimal : is_uniform n w ≡ false → is_decimal n w ≡ true → 0 < n → for_each n (λ c. blank_before c ++ millionths_text (w c / n)) ++ codes "\n" ≡ body_text table a s n w
   body_decimal e f some = numbers_line n (λ c. millionths_text (w c / n)) some ∙ body_other true e f
@@ -154,15 +137,11 @@ all_zero (suc n) q h = let before = all_zero n q (λ z l. h z (omega (arith, l))
 -- no row is written where there are no rewards
 none_in_rows : (costs : Bool) (a s n k : ℕ) (r : ℕ → ℕ → ℤ) → ((e z : ℕ) → e < k → z < n → r e z ≡ pos 0) → [] ≡ for_each k (λ e. rewards_row costs (reward_words a s e) n (r e))
 none_in_rows costs a s n zero r h = refl
-none_in_rows costs a s n (suc k) r h =
-    let before = none_in_rows costs a s n k r (λ e z l. h e z (omega (arith, l))) in
-    let here = unpaid_is costs (reward_words a s k) n (r k) (all_zero n (r k) (λ z l. h k z (omega arith) l)) in
-    λ i. before i ++ here i
+none_in_rows costs a s n (suc k) r h = grind (arith, unpaid_is, all_zero, none_in_rows costs a s n k r)
 
 pub none_paid : (mdp costs : Bool) (a s n k : ℕ) (r : ℕ → ℕ → ℤ) → 0 < n → ((e z : ℕ) → e < k → z < n → r e z ≡ pos 0)
     → [] ≡ (if mdp then rewards_row costs (row_words Reward a s) k (λ e. r e 0) else for_each k (λ e. rewards_row costs (reward_words a s e) n (r e)))
-none_paid true costs a s n k r some h = unpaid_is costs (row_words Reward a s) k (λ e. r e 0) (all_zero k (λ e. r e 0) (λ e l. h e 0 l some))
-none_paid false costs a s n k r some h = none_in_rows costs a s n k r h
+none_paid mdp costs a s n k r h1 h2 = grind (arith, all_zero, none_in_rows)
 
 -- ---- what an MDP has, and what it leaves out
 module _ (m : Meaning) where
@@ -179,18 +158,13 @@ module _ (m : Meaning) where
   reward_rows_are a s e = sym (ap (λ b. cond b (rewards_row m.preamble.costs (row_words Reward a s) (states_of m) (λ e. m.r a s e 0)) (reward_rows m a s)) e)
 
 -- ---- the start
-chosen_parts : (picks : ℕ → Bool) (xs : List ℕ) → flat_map (λ s. cond (picks s) (behind_blank (decimal s)) []) xs ≡ flat_map behind_blank (map decimal (filter picks xs))
+chosen_parts : (picks : ℕ → Bool) (xs : List ℕ) → flat_map (λ s. cond (picks s) (after_blank (decimal s)) []) xs ≡ flat_map after_blank (map decimal (filter picks xs))
 chosen_parts picks [] = refl
-chosen_parts picks (x ∷ xs) = at (picks x) refl (chosen_parts picks xs)
-  where
-    at : (b : Bool) → picks x ≡ b → flat_map (λ s. cond (picks s) (behind_blank (decimal s)) []) xs ≡ flat_map behind_blank (map decimal (filter picks xs)) → cond (picks x) (behind_blank (decimal x)) [] ++ flat_map (λ s. cond (picks s) (behind_blank (decimal s)) []) xs
-        ≡ flat_map behind_blank (map decimal (cond (picks x) (x ∷ filter picks xs) (filter picks xs)))
-    at true e rest = simp e (ap (λ bs. behind_blank (decimal x) ++ bs) rest)
-    at false e rest = simp e rest
+chosen_parts picks (x ∷ xs) = grind (arith, chosen_parts picks xs)
 
-mapped : {A : Type 0} (f : A → List ℕ) (xs : List A) → flat_map (λ x. behind_blank (f x)) xs ≡ flat_map behind_blank (map f xs)
+mapped : {A : Type 0} (f : A → List ℕ) (xs : List A) → flat_map (λ x. after_blank (f x)) xs ≡ flat_map after_blank (map f xs)
 mapped f [] = refl
-mapped f (x ∷ xs) = ap (λ bs. behind_blank (f x) ++ bs) (mapped f xs)
+mapped f (x ∷ xs) = ap (λ bs. after_blank (f x) ++ bs) (mapped f xs)
 
 pub sum_ones : (ws : List ℕ) → list_all (λ w. w == 1) ws ≡ true → sum ws ≡ length ws
 sum_ones [] e = refl
@@ -201,37 +175,31 @@ sum_ones (w ∷ ws) e =
     let whole : sum (w ∷ ws) ≡ w + sum ws = sum_by-cons (λ x. x) w ws in
     omega (arith, here, rest, whole)
 
-module _ (start : Shares) (n : ℕ) (count : length start.weights ≡ n) (total : sum start.weights ≡ start.total) where
+module _ (start : StartWeights) (n : ℕ) (count : length start.weights ≡ n) (total : sum start.weights ≡ start.total) where
   all_shares : (test : ℕ → Bool) → list_all test start.weights ≡ all_below n (λ s. test (share_of start s))
   all_shares test = list_below test start.weights 0 ∙ ap (λ k. all_below k (λ s. test (share_of start s))) count
 
   whole_if : all_below n (λ s. share_of start s == 1) ≡ true → is_whole start ≡ true
-  whole_if e =
-      let ones : list_all (λ w. w == 1) start.weights ≡ true = all_shares (λ w. w == 1) ∙ e in
-      let same : start.total ≡ length start.weights = sym total ∙ sum_ones start.weights ones in
-      λ i. ones i && (ap (λ k. k == length start.weights) same ∙ test_itself (length start.weights)) i
+  whole_if e = grind (arith, sum_ones, all_shares)
 
   pub start_whole : all_below n (λ s. share_of start s == 1) ≡ true → codes "start: uniform\n" ≡ start_text start
   start_whole e = sym (ap (λ b. cond b (line (codes "start:" ∷ codes "uniform" ∷ [])) (cond (is_choice start) (line (codes "start" ∷ codes "include:" ∷ map decimal (chosen start))) (line (codes "start:" ∷ map millionths_text start.weights)))) (whole_if e))
 
   other : (c : Bool) → all_below n (λ s. share_of start s == 1) ≡ false → is_choice start ≡ c
       → cond c (line (codes "start" ∷ codes "include:" ∷ map decimal (chosen start))) (line (codes "start:" ∷ map millionths_text start.weights)) ≡ start_text start
-  other c e f =
-      let no : is_whole start ≡ false = ap (λ b. b && start.total == length start.weights) (all_shares (λ w. w == 1) ∙ e) in
-      sym (ap (λ b. cond b (line (codes "start:" ∷ codes "uniform" ∷ [])) (cond (is_choice start) (line (codes "start" ∷ codes "include:" ∷ map decimal (chosen start))) (line (codes "start:" ∷ map millionths_text start.weights)))) no
-      ∙ ap (λ b. cond b (line (codes "start" ∷ codes "include:" ∷ map decimal (chosen start))) (line (codes "start:" ∷ map millionths_text start.weights))) f)
+  other c e f = grind (arith, all_shares)
 
   pub start_choice : all_below n (λ s. share_of start s == 1) ≡ false → all_below n (λ s. share_of start s == 0 || share_of start s == 1) ≡ true
       → codes "start include:" ++ for_each n (chosen_text start) ++ codes "\n" ≡ start_text start
   start_choice e f =
       let bits : list_all (λ w. w == 0 || w == 1) start.weights ≡ true = all_shares (λ w. w == 0 || w == 1) ∙ f in
       let yes : is_choice start ≡ true = (λ i. bits i && (ap (λ k. start.total == k) total ∙ test_itself start.total) i) in
-      let parts : for_each n (chosen_text start) ≡ flat_map behind_blank (map decimal (chosen start)) =
+      let parts : for_each n (chosen_text start) ≡ flat_map after_blank (map decimal (chosen start)) =
       same_for_each n (chosen_text start) (λ i. chosen_text start (get_or (range_with_len 0 n) i 0)) (λ i l. ap (chosen_text start) (sym (get_or-range_with_len 0 n i 0 l ∙ zero-add i)))
       ∙ ap (λ k. for_each k (λ i. chosen_text start (get_or (range_with_len 0 n) i 0))) (sym (length-range_with_len 0 n))
       ∙ sym (flat_each (chosen_text start) (range_with_len 0 n) 0)
       ∙ chosen_parts (λ s. share_of start s == 1) (range_with_len 0 n)
-      ∙ ap (λ k. flat_map behind_blank (map decimal (filter (λ s. share_of start s == 1) (range_with_len 0 k)))) (sym count) in
+      ∙ ap (λ k. flat_map after_blank (map decimal (filter (λ s. share_of start s == 1) (range_with_len 0 k)))) (sym count) in
       ap (λ bs. codes "start include:" ++ bs ++ codes "\n") parts ∙ sym (lines.line_is (codes "start include:") (map decimal (chosen start))) ∙ two_words (map decimal (chosen start)) ∙ other true e yes
     where
       two_words : (ws : List (List ℕ)) → line (codes "start include:" ∷ ws) ≡ line (codes "start" ∷ codes "include:" ∷ ws)
@@ -242,12 +210,10 @@ module _ (start : Shares) (n : ℕ) (count : length start.weights ≡ n) (total 
       → codes "start:" ++ for_each n (share_text start) ++ codes "\n" ≡ start_text start
   start_shares e f =
       let no : is_choice start ≡ false = ap (λ b. b && start.total == sum start.weights) (all_shares (λ w. w == 0 || w == 1) ∙ f) in
-      let parts : for_each n (share_text start) ≡ flat_map behind_blank (map millionths_text start.weights) =
-      ap (λ k. for_each k (share_text start)) (sym count) ∙ sym (flat_each (λ w. behind_blank (millionths_text w)) start.weights 0) ∙ mapped millionths_text start.weights in
+      let parts : for_each n (share_text start) ≡ flat_map after_blank (map millionths_text start.weights) =
+      ap (λ k. for_each k (share_text start)) (sym count) ∙ sym (flat_each (λ w. after_blank (millionths_text w)) start.weights 0) ∙ mapped millionths_text start.weights in
       ap (λ bs. codes "start:" ++ bs ++ codes "\n") parts ∙ sym (lines.line_is (codes "start:") (map millionths_text start.weights)) ∙ other false e no
 
   -- no share is larger than one
   pub share_small : start.total ≤ one → (s : ℕ) → s < n → share_of start s ≤ one
-  share_small most s l =
-      let small : share_of start s ≤ sum start.weights = get_or-le-sum_by (λ x. x) start.weights s 0 (omega (arith, l, count)) in
-      omega (arith, small, total, most)
+  share_small most s l = grind (arith, get_or-le-sum_by)

@@ -4,7 +4,8 @@ use Rattle.std.specs.List.{list_any}
 use Rattle.std.specs.Option.{ForSome}
 use Rattle.std.proofs.lemmas.List.Elements.{All-cons, All-nil, All-head, All-tail}
 use Rattle.std.specs.Prelude.{bytes_eq}
-use Rattle.polcert_text.specs.Bytes.{class_of}
+use Rattle.polcert_text.specs.Bytes.{is_letter, is_name_byte, is_digit, is_point, is_exponent_mark}
+use Rattle.polcert_text.specs.Lexemes.{kind_of}
 use Rattle.polcert_text.specs.Millionths.{unsigned_text}
 use Rattle.polcert_text.specs.Numbers.{largest}
 use Rattle.polcert_text.specs.Cut.{Lexeme}
@@ -19,7 +20,7 @@ use Rattle.polcert_cells.specs.Numbers as numbers
 use Rattle.polcert_cells.specs.Elements.{most_states, most_actions, most_observations, most_elements, AreElements, counted, named}
 use Rattle.polcert_cells.specs.Preamble.{Preamble}
 use Rattle.polcert_format.specs.Text as texts
-use Rattle.polcert_format.specs.Text.{Known, nothing_known, IsRight}
+use Rattle.polcert_format.specs.Text.{ModelSoFar, nothing_known, IsRight}
 use Rattle.polcert_cells.specs.Meaning.{Meaning}
 use Rattle.polcert_cells.proofs.Basics.{or_false, or_false_from}
 use Rattle.polcert_text.specs.Lines.{line}
@@ -81,8 +82,8 @@ length-map_bytes (l ∷ ls) = ap suc (length-map_bytes ls)
 -- what stands after the colon of such a line
 record IsElementsLine (most : ℕ) (word : List ℕ) (elements : Elements) : Type 0 where
   lexemes : List Printed
-  text_is : text_of (record { kind = Name; bytes = word; behind = [] } ∷ record { kind = Colon; bytes = codes ":"; behind = codes " " } ∷ lexemes) ≡ line (word_text (key word) ∷ element_words elements)
-  printed : ArePrinted (record { kind = Name; bytes = word; behind = [] } ∷ record { kind = Colon; bytes = codes ":"; behind = codes " " } ∷ lexemes)
+  text_is : text_of (record { kind = Name; bytes = word; following = [] } ∷ record { kind = Colon; bytes = codes ":"; following = codes " " } ∷ lexemes) ≡ line (word_text (key word) ∷ element_words elements)
+  printed : ArePrinted (record { kind = Name; bytes = word; following = [] } ∷ record { kind = Colon; bytes = codes ":"; following = codes " " } ∷ lexemes)
   are : (place : ℕ) → AreElements most (lexemes_at place lexemes) elements
   begin_none : (place : ℕ) → list_any begins_item (lexemes_at place lexemes) ≡ false
 
@@ -131,22 +132,11 @@ pub record Words : Type 0 where
   pub uniform : IsInnerWord (codes "uniform")
 
 pub words : Words
-unfolding class_of topic_of
-words = record {
-  discount = record { piece = record { kind_is = refl; short = omega arith }; topic_is = refl };
-  values = record { piece = record { kind_is = refl; short = omega arith }; topic_is = refl };
-  states = record { piece = record { kind_is = refl; short = omega arith }; topic_is = refl };
-  actions = record { piece = record { kind_is = refl; short = omega arith }; topic_is = refl };
-  observations = record { piece = record { kind_is = refl; short = omega arith }; topic_is = refl };
-  start = record { piece = record { kind_is = refl; short = omega arith }; topic_is = refl };
-  cost = record { piece = record { kind_is = refl; short = omega arith }; begins_none = λ place. refl };
-  reward = record { piece = record { kind_is = refl; short = omega arith }; begins_none = λ place. refl };
-  include = record { piece = record { kind_is = refl; short = omega arith }; begins_none = λ place. refl };
-  uniform = record { piece = record { kind_is = refl; short = omega arith }; begins_none = λ place. refl };
-}
+unfolding kind_of is_letter is_name_byte is_digit is_point is_exponent_mark topic_of
+words = grind arith
 
 -- ---- the lines
-discount_prints : (k : Known) (g : ℕ) → texts.IsInPreamble k → k.discount ≡ None → g ≤ one → Prints (line (codes "discount:" ∷ millionths_text g ∷ [])) k (record k { discount = Some g })
+discount_prints : (k : ModelSoFar) (g : ℕ) → texts.IsInPreamble k → k.discount ≡ None → g ≤ one → Prints (line (codes "discount:" ∷ millionths_text g ∷ [])) k (record k { discount = Some g })
 discount_prints k g fresh new small =
     let within : g ≤ largest = omega (arith, small) in
     record {
@@ -157,7 +147,7 @@ discount_prints k g fresh new small =
           (texts.discount fresh new refl (numbers.unsigned (millionths_at false _ g within) numbers.none) small);
     }
 
-values_prints : (k : Known) (costs : Bool) → texts.IsInPreamble k → k.costs ≡ None → Prints (line (codes "values:" ∷ values_word costs ∷ [])) k (record k { costs = Some costs })
+values_prints : (k : ModelSoFar) (costs : Bool) → texts.IsInPreamble k → k.costs ≡ None → Prints (line (codes "values:" ∷ values_word costs ∷ [])) k (record k { costs = Some costs })
 values_prints k true fresh new = record {
   lexemes = spelled_line (key (codes "values")) (plain Name (codes "cost") ∷ []);
   text_is = text_line (key (codes "values")) (plain Name (codes "cost") ∷ []);
@@ -171,13 +161,13 @@ values_prints k false fresh new = record {
   items = λ place. one_item _ _ Values k (record k { costs = Some false }) words.values.topic_is (or_false_from _ _ (words.reward.begins_none place) refl) (texts.rewards fresh new refl (record { kind = refl; bytes = refl }));
 }
 
-elements_print : (most : ℕ) → most ≤ most_elements → (word : List ℕ) (t : Topic) (elements : Elements) (k next : Known) → IsItemWord word t → AreWritable most elements
+elements_print : (most : ℕ) → most ≤ most_elements → (word : List ℕ) (t : Topic) (elements : Elements) (k next : ModelSoFar) → IsItemWord word t → AreWritable most elements
     → ((colon : Lexeme) (ls : List Lexeme) → colon.kind ≡ Colon → AreElements most ls elements → IsRight k t (colon ∷ ls) next)
     → Prints (line (word_text (key word) ∷ element_words elements)) k next
 elements_print most few word t elements k next w e right =
     let l = elements_line most few word elements w.piece e in
     record {
-      lexemes = record { kind = Name; bytes = word; behind = [] } ∷ record { kind = Colon; bytes = codes ":"; behind = codes " " } ∷ l.lexemes;
+      lexemes = record { kind = Name; bytes = word; following = [] } ∷ record { kind = Colon; bytes = codes ":"; following = codes " " } ∷ l.lexemes;
       text_is = l.text_is;
       printed = l.printed;
       items = λ place. one_item _ _ t k next w.topic_is (l.begin_none _) (right _ _ refl (l.are _));
@@ -185,7 +175,7 @@ elements_print most few word t elements k next w e right =
 
 -- ---- the preamble
 -- what is known after these lines
-abbrev pub lines_known : Preamble → Known
+abbrev pub lines_known : Preamble → ModelSoFar
 lines_known p = record nothing_known {
   discount = Some p.discount;
   costs = Some p.costs;
@@ -195,7 +185,7 @@ lines_known p = record nothing_known {
 }
 
 -- the line of observations, where there is one
-observations_print : (k : Known) (o : Option Elements) → texts.IsInPreamble k → k.observations ≡ None → ForSome o (AreWritable most_observations) → Prints (observations_line o) k (record k { observations = o })
+observations_print : (k : ModelSoFar) (o : Option Elements) → texts.IsInPreamble k → k.observations ≡ None → ForSome o (AreWritable most_observations) → Prints (observations_line o) k (record k { observations = o })
 observations_print k None fresh new w = subst (λ o. Prints [] k (record k { observations = o })) new (prints_nothing k)
 observations_print k (Some elements) fresh new w =
     elements_print most_observations (omega arith) (codes "observations") Observations elements k (record k { observations = Some elements }) words.observations (w elements refl) (λ colon ls c a. texts.observations fresh new c a)
@@ -204,12 +194,12 @@ pub preamble_prints : (m : Meaning) → m.preamble.discount ≤ one → AreWrita
     → Prints (preamble_text m) nothing_known (lines_known m.preamble)
 preamble_prints m small states actions observations =
     let p = m.preamble in
-    let k1 : Known = record nothing_known { discount = Some p.discount } in
-    let k2 : Known = record k1 { costs = Some p.costs } in
-    let k3 : Known = record k2 { states = Some p.states } in
-    let k4 : Known = record k3 { actions = Some p.actions } in
-    let k5 : Known = record k4 { observations = p.observations } in
-    let fresh : (k : Known) → k.start ≡ None → k.entries ≡ [] → texts.IsInPreamble k = λ k s e. record { no_start = s; no_entry = e } in
+    let k1 : ModelSoFar = record nothing_known { discount = Some p.discount } in
+    let k2 : ModelSoFar = record k1 { costs = Some p.costs } in
+    let k3 : ModelSoFar = record k2 { states = Some p.states } in
+    let k4 : ModelSoFar = record k3 { actions = Some p.actions } in
+    let k5 : ModelSoFar = record k4 { observations = p.observations } in
+    let fresh : (k : ModelSoFar) → k.start ≡ None → k.entries ≡ [] → texts.IsInPreamble k = λ k s e. record { no_start = s; no_entry = e } in
     prints_then _ _ nothing_known k4 k5
     (prints_then _ _ nothing_known k3 k4
     (prints_then _ _ nothing_known k2 k3

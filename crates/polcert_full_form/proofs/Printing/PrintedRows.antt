@@ -2,7 +2,7 @@
 use Rattle.std.proofs.Common.{◌≡◌, ◌∙◌, ℕ, zero, suc, ◌+◌, ◌*◌, ◌/◌, ◌<◌, ◌≤◌, ◌==◌, Bool, true, false, cond, Some, List, [], ◌∷◌, ◌++◌, map, All, codes, decimal, ℤ, pos, refl, sym, ap, subst, arith, append_assoc, unsigned_abs}
 use Rattle.std.specs.List.{list_any}
 use Rattle.std.proofs.lemmas.Nat.{div_below}
-use Rattle.polcert_text.specs.Bytes.{class_of}
+use Rattle.polcert_text.specs.Bytes.{is_letter, is_name_byte, is_digit, is_point, is_exponent_mark}
 use Rattle.polcert_text.specs.Lexemes.{kind_of}
 use Rattle.polcert_text.specs.Millionths.{unsigned_text, scaled_text}
 use Rattle.polcert_text.specs.Numbers.{largest}
@@ -12,7 +12,7 @@ use Rattle.polcert_cells.specs.declared.entry.Table.TheVariants.{Reward}
 use Rattle.polcert_cells.specs.declared.entry.Body.{Body}
 use Rattle.polcert_cells.specs.declared.entry.Body.TheVariants.{Probabilities, Rewards, Uniform}
 use Rattle.polcert_cells.specs.declared.entry.Entry.{Entry}
-use Rattle.polcert_cells.specs.declared.shares.Shares.{Shares}
+use Rattle.polcert_cells.specs.declared.start_weights.StartWeights.{StartWeights}
 use Rattle.polcert_cells.specs.Words.{topic_of, begins_item}
 use Rattle.polcert_cells.specs.Numbers.{one}
 use Rattle.polcert_cells.specs.Numbers as numbers
@@ -51,7 +51,7 @@ text_head : (table : Table) (ws : List Word) → text_of (spelled_line (key (let
 text_head table ws = text_line (key (letter table)) ws ∙ ap (λ w. line (w ∷ map word_text ws)) (text_letter table)
 
 colon_kind : kind_of (codes ":") ≡ Some Colon
-unfolding class_of
+unfolding kind_of is_letter is_name_byte is_digit is_point is_exponent_mark
 colon_kind = refl
 
 colon_piece : IsPiece Colon (codes ":")
@@ -76,7 +76,7 @@ share_printed table a s c q l k d m =
     (index_piece a (an_element a l), (colon_piece, (index_piece s k, (colon_piece, (index_piece c d, (numeral_piece (unsigned_text q) (plain_size q m), tt))))))
 
 uniform_kind : kind_of (codes "uniform") ≡ Some Name
-unfolding class_of
+unfolding kind_of is_letter is_name_byte is_digit is_point is_exponent_mark
 uniform_kind = refl
 
 uniform_printed : ArePrinted uniform_line
@@ -89,7 +89,7 @@ uniform_begins_none place = refl
 uniform_body : (n place : ℕ) → IsBody n (lexemes_at place uniform_line) Uniform
 uniform_body n place = entries.uniform (record { kind = refl; bytes = refl })
 
-module _ (p : Preamble) (start : Shares) (room : HasRoom p) (few_actions : count_of p.actions ≤ most_actions) (few_states : count_of p.states ≤ most_states) where
+module _ (p : Preamble) (start : StartWeights) (room : HasRoom p) (few_actions : count_of p.actions ≤ most_actions) (few_states : count_of p.states ≤ most_states) where
   abbrev Entries : List ℕ → List Entry → Type 0
   Entries text new = PrintsEntries p start room text new
 
@@ -112,11 +112,7 @@ module _ (p : Preamble) (start : Shares) (room : HasRoom p) (few_actions : count
 
     module _ (within : (c : ℕ) → c < n → w c ≤ one * n) where
       share_small : (c : ℕ) → c < n → w c / n ≤ one
-      share_small c d =
-          let m = within c d in
-          let below : w c < (one + 1) * n = omega (arith, m, some) in
-          let q = div_below (w c) n (one + 1) some below in
-          omega (arith, q)
+      share_small c d = grind (arith, div_below)
 
       decimal_prints : Entries (line (row_words table a s) ++ line (values n (λ c. millionths_text (w c / n)))) (decimal_row table a s n w)
       decimal_prints =
@@ -170,12 +166,10 @@ module _ (p : Preamble) (start : Shares) (room : HasRoom p) (few_actions : count
 
   -- ---- rows of rewards
   three_written : (mdp : Bool) (hs : List ℤ) → list_any (λ k. k == 3) (forms mdp Reward (Rewards hs)) ≡ true
-  three_written true hs = refl
-  three_written false hs = refl
+  three_written mdp hs = grind arith
 
   two_written : (mdp : Bool) (hs : List ℤ) → list_any (λ k. k == 2) (forms mdp Reward (Rewards hs)) ≡ true
-  two_written true hs = refl
-  two_written false hs = refl
+  two_written mdp hs = grind arith
 
   -- a number for each observation
   module _ (a s e n : ℕ) (r : ℕ → ℤ) (l : a < count_of p.actions) (k : s < count_of p.states) (d : e < count_of p.states) (some : 0 < n) (count : count_of (rewarded p) ≡ n)

@@ -7,17 +7,16 @@ use Rattle.polcert_text.specs.Millionths.{scaled_text}
 use Rattle.polcert_text.specs.Cut.{Lexeme}
 use Rattle.polcert_text.specs.declared.lexeme.TokenKind.TheVariants.{Name, Numeral}
 use Rattle.polcert_cells.specs.declared.elements.Elements.{Elements}
-use Rattle.polcert_cells.specs.declared.shares.Shares.{Shares}
+use Rattle.polcert_cells.specs.declared.start_weights.StartWeights.{StartWeights}
 use Rattle.polcert_cells.specs.declared.words.Topic.TheVariants.{Start}
 use Rattle.polcert_cells.specs.Words.{topic_of, begins_item}
 use Rattle.polcert_cells.specs.Numbers.{one}
 use Rattle.polcert_cells.specs.Elements.{count_of, StandsFor, by_number, most_states}
 use Rattle.polcert_cells.specs.Preamble.{Preamble}
-use Rattle.polcert_cells.specs.Start.{alike, all_states, is_level, shares_of, included, IsStart, IsStartBody}
+use Rattle.polcert_cells.specs.Start.{equal_weights, all_states, is_level, shares_of, included, IsStart, IsStartBody}
 use Rattle.polcert_cells.specs.Start as starts
 use Rattle.polcert_format.specs.Text as texts
-use Rattle.polcert_format.specs.Text.{Known}
-use Rattle.polcert_cells.proofs.Basics.{and_true, true≢false, or_false_from}
+use Rattle.polcert_cells.proofs.Basics.{and_true, or_false_from}
 use Rattle.polcert_text.specs.Lines.{line}
 use Rattle.polcert_format.specs.Writable.{IsMillionthsStart}
 use Rattle.polcert_format.specs.FullForm.{millionths_text, chosen, is_whole, is_choice, start_text}
@@ -38,31 +37,14 @@ listed ss s = list_any (λ n. n == s) ss
 
 none_below : (p : ℕ → Bool) (a n s : ℕ) → s < a → listed (filter p (range_with_len a n)) s ≡ false
 none_below p a zero s l = refl
-none_below p a (suc n) s l = at (none_below p (a + 1) n s (omega (arith, l))) (p a)
-  where
-    at : listed (filter p (range_with_len (a + 1) n)) s ≡ false → (b : Bool) → listed (cond b (a ∷ filter p (range_with_len (a + 1) n)) (filter p (range_with_len (a + 1) n))) s ≡ false
-    at more true = or_false_from (a == s) _ (test_apart a s (λ e. omega (arith, e, l))) more
-    at more false = more
+none_below p a (suc n) s l = grind (arith, or_false_from, test_apart, none_below p (a + 1) n s (omega (arith, l)))
 
 here_or_later : (a s n : ℕ) → a ≤ s → s < a + suc n → (s ≡ a) ⊎ ((a + 1 ≤ s) × (s < a + 1 + n))
 here_or_later a s n l m = grind arith
 
 listed_is : (p : ℕ → Bool) (a n s : ℕ) → a ≤ s → s < a + n → listed (filter p (range_with_len a n)) s ≡ p s
 listed_is p a zero s l m = absurd (omega (arith, l, m))
-listed_is p a (suc n) s l m = at (listed_is p (a + 1) n s) (p a) refl
-  where
-    rest : List ℕ
-    rest = filter p (range_with_len (a + 1) n)
-
-    at : (a + 1 ≤ s → s < a + 1 + n → listed rest s ≡ p s) → (b : Bool) → p a ≡ b → listed (cond (p a) (a ∷ rest) rest) s ≡ p s
-    at more true e = ap (λ b. listed (cond b (a ∷ rest) rest) s) e ∙ ⊎_elim
-        (λ same. ap (λ b. b || listed rest s) (ap (λ x. a == x) same ∙ test_itself a) ∙ sym (ap p same ∙ e))
-        (λ later. ap (λ b. b || listed rest s) (test_apart a s (λ q. omega (arith, q, later.0))) ∙ more later.0 later.1)
-        (here_or_later a s n l m)
-    at more false e = ap (λ b. listed (cond b (a ∷ rest) rest) s) e ∙ ⊎_elim
-        (λ same. none_below p (a + 1) n s (omega (arith, same)) ∙ sym (ap p same ∙ e))
-        (λ later. more later.0 later.1)
-        (here_or_later a s n l m)
+listed_is p a (suc n) s l m = grind (arith, ⊎_elim, test_itself, test_apart, none_below, here_or_later, listed_is p (a + 1) n s)
 
 -- each of them is below the count
 abbrev AllBelow : ℕ → List ℕ → Type 0
@@ -71,11 +53,7 @@ AllBelow n (s ∷ ss) = (s < n) × AllBelow n ss
 
 chosen_below : (p : ℕ → Bool) (m a n : ℕ) → a + n ≤ m → AllBelow m (filter p (range_with_len a n))
 chosen_below p m a zero l = tt
-chosen_below p m a (suc n) l = at (chosen_below p m (a + 1) n (omega (arith, l))) (p a)
-  where
-    at : AllBelow m (filter p (range_with_len (a + 1) n)) → (b : Bool) → AllBelow m (cond b (a ∷ filter p (range_with_len (a + 1) n)) (filter p (range_with_len (a + 1) n)))
-    at more true = (omega (arith, l), more)
-    at more false = more
+chosen_below p m a (suc n) l = grind (arith, chosen_below p m (a + 1) n (omega (arith, l)))
 
 -- ---- weights of 0 and 1
 all_at : (test : ℕ → Bool) (ws : List ℕ) (i : ℕ) → list_all test ws ≡ true → i < length ws → test (get_or ws i 0) ≡ true
@@ -84,22 +62,17 @@ all_at test (w ∷ ws) zero e l = (and_true (test w) (list_all test ws) e).0
 all_at test (w ∷ ws) (suc i) e l = all_at test ws i (and_true (test w) (list_all test ws) e).1 (omega (arith, l))
 
 zero_or_one : (w : ℕ) → (w == 0 || w == 1) ≡ true → cond (w == 1) 1 0 ≡ w
-zero_or_one zero e = refl
-zero_or_one (suc zero) e = refl
-zero_or_one (suc (suc w)) e = let more = above w in absurd (true≢false e (or_false_from _ _ (test_apart (suc (suc w)) 0 (λ q. omega (arith, q))) (test_apart (suc (suc w)) 1 (λ q. omega (arith, q)))))
-  where
-    above : (w : ℕ) → 0 < suc (suc w)
-    above w = omega arith
+zero_or_one w h1 = grind arith
 
-shares_are : (start : Shares) (n : ℕ) (picks : ℕ → Bool) → length start.weights ≡ n → ((s : ℕ) → s < n → get_or start.weights s 0 ≡ cond (picks s) 1 0) → start.total ≡ sum start.weights
-    → start ≡ alike n picks
+shares_are : (start : StartWeights) (n : ℕ) (picks : ℕ → Bool) → length start.weights ≡ n → ((s : ℕ) → s < n → get_or start.weights s 0 ≡ cond (picks s) 1 0) → start.total ≡ sum start.weights
+    → start ≡ equal_weights n picks
 shares_are start n picks count weights total =
-    let same : start.weights ≡ (alike n picks).weights = fill_by_all (λ s. cond (picks s) 1 0) start.weights n 0 count weights in
-    let totals : start.total ≡ (alike n picks).total = total ∙ ap sum same ∙ sum-map (λ s. cond (picks s) 1 0) (range_with_len 0 n) in
+    let same : start.weights ≡ (equal_weights n picks).weights = fill_by_all (λ s. cond (picks s) 1 0) start.weights n 0 count weights in
+    let totals : start.total ≡ (equal_weights n picks).total = total ∙ ap sum same ∙ sum-map (λ s. cond (picks s) 1 0) (range_with_len 0 n) in
     λ i. record { weights = same i; total = totals i }
 
 -- the included states make the start
-chosen_start : (start : Shares) (n : ℕ) → is_choice start ≡ true → length start.weights ≡ n → start ≡ alike n (included (chosen start))
+chosen_start : (start : StartWeights) (n : ℕ) → is_choice start ≡ true → length start.weights ≡ n → start ≡ equal_weights n (included (chosen start))
 chosen_start start n e count =
     let both = and_true (list_all (λ w. w == 0 || w == 1) start.weights) (start.total == sum start.weights) e in
     shares_are start n (included (chosen start)) count
@@ -108,12 +81,8 @@ chosen_start start n e count =
     ∙ ap (λ b. cond b 1 0) (sym (listed_is (λ s. get_or start.weights s 0 == 1) 0 (length start.weights) s (omega arith) (omega (arith, inside)))))
     (test_same start.total (sum start.weights) both.1)
 
-whole_start : (start : Shares) (states : Elements) → is_whole start ≡ true → length start.weights ≡ count_of states → start ≡ all_states states
-whole_start start states e count =
-    let both = and_true (list_all (λ w. w == 1) start.weights) (start.total == length start.weights) e in
-    shares_are start (count_of states) (λ s. true) count
-    (λ s l. test_same _ 1 (all_at (λ w. w == 1) start.weights s both.0 (omega (arith, l, count))))
-    (test_same start.total (length start.weights) both.1 ∙ sym (sum_ones start.weights both.0))
+whole_start : (start : StartWeights) (states : Elements) → is_whole start ≡ true → length start.weights ≡ count_of states → start ≡ all_states states
+whole_start start states e count = grind (arith, sum_ones, all_at, shares_are)
 
 -- ---- a list of states
 abbrev state_word : ℕ → Word
@@ -141,7 +110,7 @@ below_more n m [] l a = tt
 below_more n m (s ∷ ss) l a = (omega (arith, l, a.0), below_more n m ss l a.1)
 
 -- ---- the three forms
-module _ (p : Preamble) (start : Shares) (room : HasRoom p) (few : count_of p.states ≤ most_states) (count : length start.weights ≡ count_of p.states) where
+module _ (p : Preamble) (start : StartWeights) (room : HasRoom p) (few : count_of p.states ≤ most_states) (count : length start.weights ≡ count_of p.states) where
   prints_start : (us : List Printed) (text : List ℕ) → text_of us ≡ text → ArePrinted us
       → ((place : ℕ) → AreItems (lexemes_at place us) (lines_known p) (known_of p start [])) → Prints text (lines_known p) (known_of p start [])
   prints_start us text e made items = record { lexemes = us; text_is = e; printed = made; items = items }
@@ -163,10 +132,10 @@ module _ (p : Preamble) (start : Shares) (room : HasRoom p) (few : count_of p.st
   include_prints : is_choice start ≡ true → 0 < start.total → Prints (line (codes "start" ∷ codes "include:" ∷ map decimal (chosen start))) (lines_known p) (known_of p start [])
   include_prints e some = at (chosen start) same (chosen_below _ (count_of p.states) 0 (length start.weights) (omega (arith, count)))
     where
-      same : start ≡ alike (count_of p.states) (included (chosen start))
+      same : start ≡ equal_weights (count_of p.states) (included (chosen start))
       same = chosen_start start (count_of p.states) e count
 
-      at : (ss : List ℕ) → start ≡ alike (count_of p.states) (included ss) → AllBelow (count_of p.states) ss
+      at : (ss : List ℕ) → start ≡ equal_weights (count_of p.states) (included ss) → AllBelow (count_of p.states) ss
           → Prints (line (codes "start" ∷ codes "include:" ∷ map decimal ss)) (lines_known p) (known_of p start [])
       at [] is below = prints_start (spelled_line (plain Name (codes "start")) (key (codes "include") ∷ [])) _
           (text_line (plain Name (codes "start")) (key (codes "include") ∷ []))
@@ -203,10 +172,4 @@ module _ (p : Preamble) (start : Shares) (room : HasRoom p) (few : count_of p.st
 
   -- states that are the same, or millionths
   pub start_prints : sum start.weights ≡ start.total → 0 < start.total → (is_choice start ≡ true) ⊎ IsMillionthsStart (count_of p.states) start → Prints (start_text start) (lines_known p) (known_of p start [])
-  start_prints adds some form = at (is_whole start) (is_choice start) refl refl
-    where
-      at : (u c : Bool) → is_whole start ≡ u → is_choice start ≡ c
-          → Prints (cond u (line (codes "start:" ∷ codes "uniform" ∷ [])) (cond c (line (codes "start" ∷ codes "include:" ∷ map decimal (chosen start))) (line (codes "start:" ∷ map millionths_text start.weights)))) (lines_known p) (known_of p start [])
-      at true c e f = uniform_prints e
-      at false true e f = include_prints f some
-      at false false e f = ⊎_elim (λ yes. absurd (true≢false yes f)) (λ m. millionths_prints m adds) form
+  start_prints adds some form = grind (arith, uniform_prints, include_prints, millionths_prints)

@@ -70,8 +70,8 @@ run_start : (count : ℕ) (f : ℕ → List ℕ) → for_each count (λ i. f (0 
 run_start count f = same_for_each count (λ i. f (0 + i)) f (λ i l. ap f (zero-add i))
 
 -- parts that are the same, and those after them
-pub run_behind : (first n : ℕ) (none f : ℕ → List ℕ) → first ≤ n → ((i : ℕ) → i < first → none i ≡ f i)
+pub run_after : (first n : ℕ) (none f : ℕ → List ℕ) → first ≤ n → ((i : ℕ) → i < first → none i ≡ f i)
     → for_each first (λ i. none (0 + i)) ++ for_each (n - first) (λ i. f (first + i)) ≡ for_each n f
-run_behind first n none f l same =
+run_after first n none f l same =
     ap (λ xs. xs ++ for_each (n - first) (λ i. f (first + i))) (run_start first none ∙ same_for_each first none f same)
     ∙ sym (each_from first n f l)

@@ -1,25 +1,20 @@
 -- A row that is walked from one weight above 0 to the next: what is known of the columns passed, and what is printed of them.
-use Rattle.std.proofs.Common.{◌≡◌, ◌≢◌, ◌∙◌, ℕ, zero, suc, ◌+◌, ◌-◌, ◌/◌, ◌%◌, ◌<◌, ◌≤◌, ◌==◌, ⊎_elim, Bool, true, false, Some, None, [], ◌∷◌, ◌++◌, pos, refl, sym, ap, subst, arith, codes, decimal}
-use Rattle.std.proofs.Math.Nat.{zero-div, zero-mod}
+use Rattle.std.proofs.Common.{◌≡◌, ◌≢◌, ◌∙◌, ℕ, zero, suc, ◌+◌, ◌-◌, ◌%◌, ◌<◌, ◌≤◌, ◌==◌, Bool, true, false, Some, None, [], pos, ap, subst, arith}
+use Rattle.std.proofs.Math.Nat.{zero-mod}
 use Rattle.polcert_cells.specs.declared.entry.Table.{Table}
 use Rattle.polcert_cells.specs.Cursors.{IsNext}
-use Rattle.polcert_cells.specs.LentRows.{reached}
+use Rattle.polcert_cells.specs.BorrowedRows.{reached}
 use Rattle.polcert_cells.specs.declared.row.Row.{Row}
-use Rattle.polcert_cells.specs.declared.row.Row.TheVariants.{Sparse, Filled, Single}
 use Rattle.polcert_cells.specs.Numbers.{one}
-use Rattle.polcert_text.specs.Lines.{line}
-use Rattle.polcert_format.specs.FullForm.{all_below, is_uniform, is_decimal, millionths_text, row_words, cell_text}
-use Rattle.polcert_full_form.specs.Steps.Printing.{number_text, decimal_text, cell_line}
-use Rattle.polcert_cells.proofs.Basics.{true≢false}
+use Rattle.polcert_format.specs.FullForm.{all_below, is_uniform, is_decimal, cell_text}
+use Rattle.polcert_full_form.specs.Steps.Printing.{cell_line}
 use Rattle.polcert_full_form.proofs.Printing.PrintedParts as texts
-use Rattle.polcert_full_form.proofs.Denoting.RowEntries.{same_or_other, test_apart, test_itself}
+use Rattle.polcert_full_form.proofs.Denoting.RowEntries.{test_apart}
 
 -- ---- the walk
 -- it begins at the first column
 pub at_start : (row : Row) → reached (Some row) 0 ≡ 0
-at_start (Sparse cells) = refl
-at_start (Filled weights) = refl
-at_start (Single cell) = refl
+at_start row = grind arith
 
 -- ---- tests of all columns
 -- a test continues holding
@@ -36,8 +31,7 @@ test_up_to test k m l before h =
 
 -- where not all columns have one part there is one
 pub some_columns : (n : ℕ) (w : ℕ → ℕ) → is_uniform n w ≡ false → 0 < n
-some_columns zero w e = absurd (true≢false refl e)
-some_columns (suc n) w e = omega arith
+some_columns n w h1 = grind arith
 
 module _ (n : ℕ) (w : ℕ → ℕ) where
   is_other : (c : ℕ) → w c ≡ 0 → (w c == one) ≡ false
@@ -56,15 +50,10 @@ module _ (n : ℕ) (w : ℕ → ℕ) where
 
   pub uniform_more : (k column weight : ℕ) → IsNext w n k (Some (column, weight)) → column ≡ k → weight ≡ one → true ≡ all_below k (λ c. w c == one)
       → true ≡ all_below (column + 1) (λ c. w c == one)
-  uniform_more k column weight next here is before =
-      texts.test_more column (λ c. w c == one) (subst (λ m. true ≡ all_below m (λ c. w c == one)) (sym here) before)
-      (ap (λ x. x == one) (sym next.2 ∙ is) ∙ test_itself one)
+  uniform_more k column weight next here is before = grind arith
 
   pub uniform_end : (k : ℕ) → k ≤ n → IsNext w n k None → true ≡ all_below k (λ c. w c == one) → (k == n) ≡ is_uniform n w
-  uniform_end k l none before = ⊎_elim
-      (λ (e : k ≡ n). ap (λ m. m == n) e ∙ test_itself n ∙ subst (λ m. true ≡ all_below m (λ c. w c == one)) e before)
-      (λ (apart : k ≢ n). test_apart k n apart ∙ texts.test_fails n k (λ c. w c == one) (omega (arith, l, apart)) (is_other k (none k (omega arith) (omega (arith, l, apart)))))
-      (same_or_other k n)
+  uniform_end k l none before = grind arith
 
   -- ---- whether all are millionths
   is_multiple : (c : ℕ) → w c ≡ 0 → (w c % n == 0) ≡ true
@@ -76,21 +65,12 @@ module _ (n : ℕ) (w : ℕ → ℕ) where
 
   pub decimal_more : (k column weight : ℕ) → IsNext w n k (Some (column, weight)) → weight % n ≡ 0 → true ≡ all_below k (λ c. w c % n == 0)
       → true ≡ all_below (column + 1) (λ c. w c % n == 0)
-  decimal_more k column weight next is before =
-      texts.test_more column (λ c. w c % n == 0)
-      (test_up_to (λ c. w c % n == 0) k column next.0 before (λ i l m. is_multiple i (next.4 i l m)))
-      (ap (λ x. x % n == 0) (sym next.2) ∙ ap (λ x. x == 0) is)
+  decimal_more k column weight next is before = grind (arith, test_up_to)
 
   pub decimal_end : (k : ℕ) → k ≤ n → IsNext w n k None → true ≡ all_below k (λ c. w c % n == 0) → true ≡ is_decimal n w
   decimal_end k l none before = test_up_to (λ c. w c % n == 0) k n l before (λ i m j. is_multiple i (none i m j))
 
   -- ---- what is printed of a column
-  pub zero_decimal : (c : ℕ) → c < n → w c ≡ 0 → number_text c (pos 0) ≡ decimal_text n w c
-  zero_decimal c l e = ap (λ q. number_text c (pos q)) (sym (ap (λ x. x / n) e ∙ zero-div n))
-
   module _ (table : Table) (a s : ℕ) where
     pub zero_cell : (c : ℕ) → c < n → w c ≡ 0 → cell_line table a s c (pos 0) ≡ cell_text table a s n w c
-    zero_cell c l e =
-        texts.cell_is table a s c 0
-        ∙ ap (λ q. line (row_words table a s ++ codes ":" ∷ decimal c ∷ millionths_text q ∷ [])) (sym (ap (λ x. x / n) e ∙ zero-div n))
-        ∙ texts.cell_single table a s n w c (is_other c e)
+    zero_cell c l e = grind (arith, texts.cell_is)

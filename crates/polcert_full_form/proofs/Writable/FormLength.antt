@@ -1,5 +1,5 @@
 -- The full form is shorter than a text may be.
-use Rattle.std.proofs.Common.{◌≡◌, ◌∙◌, ℕ, zero, suc, ◌+◌, ◌*◌, ◌/◌, ◌<◌, ◌≤◌, ◌==◌, Bool, true, false, cond, Option, Some, None, List, [], ◌∷◌, ◌++◌, length, get_or, map, filter, sum, All, codes, decimal, ℤ, pos, negsuc, refl, sym, ap, subst, arith, length-append, unsigned_abs}
+use Rattle.std.proofs.Common.{◌≡◌, ◌∙◌, ℕ, zero, suc, ◌+◌, ◌*◌, ◌/◌, ◌<◌, ◌≤◌, ◌==◌, Bool, true, false, cond, List, [], ◌∷◌, ◌++◌, length, map, filter, sum, All, codes, decimal, ℤ, refl, sym, ap, subst, arith, length-append, unsigned_abs}
 use Rattle.std.specs.List.{range_with_len}
 use Rattle.std.specs.Option.{ForSome}
 use Rattle.std.proofs.Math.Nat.{mul_assoc, mul-le-mul_right}
@@ -14,7 +14,7 @@ use Rattle.polcert_cells.specs.declared.entry.Table.{Table}
 use Rattle.polcert_cells.specs.declared.entry.Table.TheVariants.{Transition, Observation, Reward}
 use Rattle.polcert_cells.specs.declared.elements.Elements.{Elements}
 use Rattle.polcert_cells.specs.declared.elements.Elements.TheVariants.{Count, Names}
-use Rattle.polcert_cells.specs.declared.shares.Shares.{Shares}
+use Rattle.polcert_cells.specs.declared.start_weights.StartWeights.{StartWeights}
 use Rattle.polcert_cells.specs.Numbers.{one}
 use Rattle.polcert_format.specs.Limits.{most_cells}
 use Rattle.polcert_format.specs.Printable.{IsPrintable}
@@ -22,7 +22,7 @@ use Rattle.polcert_cells.specs.Elements.{count_of, most_states, most_actions, mo
 use Rattle.polcert_cells.specs.Preamble.{is_mdp, rewarded}
 use Rattle.polcert_cells.specs.Meaning.{Meaning, HasLimitedNumbers, states_of, actions_of, observations_of}
 use Rattle.polcert_text.specs.Lines.{line}
-use Rattle.polcert_format.specs.FullForm.{for_each, values, all_below, millionths_text, values_word, element_words, observations_line, preamble_text, chosen, is_whole, is_choice, start_text, table_word, row_words, is_uniform, is_decimal, cell_text, row_text, transitions_text, observations_text, written, is_zero, reward_words, rewards_row, rewards_from, rewards_text, full_form}
+use Rattle.polcert_format.specs.FullForm.{for_each, values, all_below, millionths_text, element_words, preamble_text, start_text, table_word, row_words, is_uniform, is_decimal, cell_text, row_text, transitions_text, observations_text, written, is_zero, reward_words, rewards_row, rewards_from, rewards_text, full_form}
 use Rattle.polcert_text.proofs.Printing.WrittenNumbers.{plain_size}
 use Rattle.polcert_full_form.proofs.Printing.PrintedPreamble.{AreWritable}
 use Rattle.polcert_format.specs.Writable.{IsWritableName}
@@ -37,23 +37,15 @@ words_length (w ∷ ws) = length w + 1 + words_length ws
 line_length : (ws : List (List ℕ)) → length (line ws) ≤ words_length ws + 1
 line_length [] = omega arith
 line_length (w ∷ []) = omega (arith, length-append w (codes "\n"))
-line_length (w ∷ v ∷ ws) =
-    let rest = line_length (v ∷ ws) in
-    omega (arith, rest, length-append (w ++ codes " ") (line (v ∷ ws)), length-append w (codes " "))
+line_length (w ∷ v ∷ ws) = grind (arith, length-append, line_length (v ∷ ws))
 
 each_length : (n b : ℕ) (f : ℕ → List ℕ) → ((i : ℕ) → i < n → length (f i) ≤ b) → length (for_each n f) ≤ n * b
 each_length zero b f h = omega arith
-each_length (suc n) b f h =
-    let before = each_length n b f (λ i l. h i (omega (arith, l))) in
-    let here = h n (omega arith) in
-    omega (arith, before, here, length-append (for_each n f) (f n))
+each_length (suc n) b f h = grind (arith, length-append, each_length n b f)
 
 words_from : (k n b : ℕ) (f : ℕ → List ℕ) → ((i : ℕ) → i < k + n → length (f i) ≤ b) → words_length (map f (range_with_len k n)) ≤ n * (b + 1)
 words_from k zero b f h = omega arith
-words_from k (suc n) b f h =
-    let rest = words_from (k + 1) n b f (λ i l. h i (omega (arith, l))) in
-    let here = h k (omega arith) in
-    omega (arith, rest, here)
+words_from k (suc n) b f h = grind (arith, words_from (k + 1) n b f)
 
 words_of_values : (n b : ℕ) (f : ℕ → List ℕ) → ((i : ℕ) → i < n → length (f i) ≤ b) → words_length (values n f) ≤ n * (b + 1)
 words_of_values n b f h = words_from 0 n b f (λ i l. h i (omega (arith, l)))
@@ -66,13 +58,10 @@ unsigned_length : (n : ℕ) → n ≤ largest → length (unsigned_text n) ≤ 3
 unsigned_length n l = (plain_size n l).short
 
 scaled_length : (h : ℤ) → unsigned_abs h ≤ largest → length (scaled_text h) ≤ 31
-scaled_length (pos n) l = let m = unsigned_length n l in omega (arith, m)
-scaled_length (negsuc n) l = let m = unsigned_length (suc n) l in omega (arith, m)
+scaled_length h h1 = grind (arith, unsigned_length)
 
 table_length : (table : Table) → length (table_word table) ≤ 2
-table_length Transition = omega arith
-table_length Observation = omega arith
-table_length Reward = omega arith
+table_length table = grind arith
 
 -- ---- rows
 an_element : (a : ℕ) → a < most_actions → a < most_elements
@@ -80,11 +69,7 @@ an_element a l = omega (arith, l)
 
 module _ (table : Table) (a s n : ℕ) (w : ℕ → ℕ) (la : a < most_actions) (ls : s < most_states) (some : 0 < n) (few : n ≤ most_elements) (within : (c : ℕ) → c < n → w c ≤ one * n) where
   share_small : (c : ℕ) → c < n → w c / n ≤ largest
-  share_small c d =
-      let m = within c d in
-      let below : w c < (one + 1) * n = omega (arith, m, some) in
-      let q = div_below (w c) n (one + 1) some below in
-      omega (arith, q)
+  share_small c d = grind (arith, div_below)
 
   head_length : length (line (row_words table a s)) ≤ 16
   head_length = omega (arith, line_length (row_words table a s), table_length table, index_length a (an_element a la), index_length s ls)
@@ -150,48 +135,12 @@ elements_length word (Count n) l w =
     omega (arith, l, count, line_length (word ∷ decimal n ∷ []))
 elements_length word (Names names) l w = omega (arith, l, names_length names w.0, w.2, line_length (word ∷ names))
 
-more_may : (elements : Elements) → AreWritable most_actions elements → AreWritable most_elements elements
-more_may (Count n) w = (w.0, omega (arith, w.1))
-more_may (Names names) w = (w.0, w.1, omega (arith, w.2), w.3)
-
 preamble_length : (m : Meaning) → m.preamble.discount ≤ one → AreWritable most_states m.preamble.states → AreWritable most_actions m.preamble.actions → ForSome m.preamble.observations (AreWritable most_observations) → length (preamble_text m) ≤ 13_000_000
-preamble_length m small states actions observations =
-    let p = m.preamble in
-    let d = line (codes "discount:" ∷ millionths_text p.discount ∷ []) in
-    let v = line (codes "values:" ∷ values_word p.costs ∷ []) in
-    let s = line (codes "states:" ∷ element_words p.states) in
-    let a = line (codes "actions:" ∷ element_words p.actions) in
-    let o = observations_line p.observations in
-    omega (
-      arith,
-      line_length (codes "discount:" ∷ millionths_text p.discount ∷ []),
-      unsigned_length p.discount (omega (arith, small)),
-      values_length p.costs,
-      elements_length (codes "states:") p.states (omega arith) states,
-      elements_length (codes "actions:") p.actions (omega arith) (more_may p.actions actions),
-      observed_length p.observations observations,
-      length-append (d ++ v ++ s ++ a) o,
-      length-append (d ++ v ++ s) a,
-      length-append (d ++ v) s,
-      length-append d v,
-    )
-  where
-    observed_length : (o : Option Elements) → ForSome o (AreWritable most_observations) → length (observations_line o) ≤ 4_100_000
-    observed_length None w = omega arith
-    observed_length (Some elements) w = elements_length (codes "observations:") elements (omega arith) (w elements refl)
-
-    values_length : (costs : Bool) → length (line (codes "values:" ∷ values_word costs ∷ [])) ≤ 20
-    values_length true = omega arith
-    values_length false = omega arith
+preamble_length m small states actions observations = grind (arith, length-append, unsigned_length, elements_length)
 
 states_length : (p : ℕ → Bool) (k n : ℕ) → k + n ≤ most_states → words_length (map decimal (filter p (range_with_len k n))) ≤ n * 5
 states_length p k zero l = omega arith
-states_length p k (suc n) l = at (states_length p (k + 1) n (omega (arith, l))) (p k)
-  where
-    at : words_length (map decimal (filter p (range_with_len (k + 1) n))) ≤ n * 5 → (b : Bool)
-        → words_length (map decimal (cond b (k ∷ filter p (range_with_len (k + 1) n)) (filter p (range_with_len (k + 1) n)))) ≤ suc n * 5
-    at rest true = omega (arith, rest, index_length k (omega (arith, l)))
-    at rest false = omega (arith, rest)
+states_length p k (suc n) l = grind (arith, index_length, states_length p (k + 1) n (omega (arith, l)))
 
 weights_length : (ws : List ℕ) → sum ws ≤ one → words_length (map millionths_text ws) ≤ length ws * 31
 weights_length [] l = omega arith
@@ -200,13 +149,8 @@ weights_length (w ∷ ws) l =
     let rest = weights_length ws (omega (arith, sums, l)) in
     omega (arith, rest, unsigned_length w (omega (arith, sums, l)))
 
-start_length : (start : Shares) → length start.weights ≤ most_states → sum start.weights ≤ one → length (start_text start) ≤ 400_000
-start_length start few small = at (is_whole start) (is_choice start)
-  where
-    at : (u c : Bool) → length (cond u (line (codes "start:" ∷ codes "uniform" ∷ [])) (cond c (line (codes "start" ∷ codes "include:" ∷ map decimal (chosen start))) (line (codes "start:" ∷ map millionths_text start.weights)))) ≤ 400_000
-    at true c = omega arith
-    at false true = omega (arith, few, line_length (codes "start" ∷ codes "include:" ∷ map decimal (chosen start)), states_length (λ s. get_or start.weights s 0 == 1) 0 (length start.weights) (omega (arith, few)))
-    at false false = omega (arith, few, line_length (codes "start:" ∷ map millionths_text start.weights), weights_length start.weights small)
+start_length : (start : StartWeights) → length start.weights ≤ most_states → sum start.weights ≤ one → length (start_text start) ≤ 400_000
+start_length start few small = grind (arith, line_length, states_length, weights_length)
 
 -- ---- the whole
 grouped : (a s n k : ℕ) → a * (s * (n * k)) ≡ a * s * n * k
@@ -274,21 +218,4 @@ module _ (m : Meaning) (limits : HasLimitedNumbers m) (printable : IsPrintable m
       omega (arith, all, same, bound)
 
   pub form_short : length (full_form m) < text_limit
-  form_short =
-      let t = transitions_text m in
-      let o = observations_text m in
-      let r = rewards_text m in
-      let p = preamble_text m in
-      let s = start_text m.start in
-      omega (
-        arith,
-        preamble_length m limits.discount states actions observations,
-        start_length m.start (omega (arith, limits.start_count, limits.states.1)) (omega (arith, limits.start_sum, limits.start_most)),
-        transitions_length,
-        observations_length,
-        rewards_short,
-        length-append (p ++ s ++ t ++ o) r,
-        length-append (p ++ s ++ t) o,
-        length-append (p ++ s) t,
-        length-append p s,
-      )
+  form_short = grind (arith, length-append, preamble_length, start_length, transitions_length, observations_length, rewards_short)

@@ -1,24 +1,22 @@
 -- The full form of a model that is not too large to print is a text of that model.
-use Rattle.std.proofs.Common.{◌≡◌, ◌∙◌, ℕ, ◌*◌, ◌/◌, ◌%◌, ◌<◌, ◌≤◌, ◌⊎◌, ⊎_elim, inl, inr, ◌==◌, Bool, true, false, cond, Some, unwrap_or, List, [], ◌∷◌, ◌++◌, ◌≢◌, All, AllPairs, ℤ, refl, sym, ap, subst, unsigned_abs, length, arith}
+use Rattle.std.proofs.Common.{◌≡◌, ◌∙◌, ℕ, ◌/◌, ◌%◌, ◌<◌, ◌≤◌, ◌⊎◌, ⊎_elim, inl, inr, Bool, true, false, cond, Some, [], ◌++◌, ◌≢◌, ℤ, refl, sym, ap, subst, unsigned_abs, length, arith}
 use Rattle.std.proofs.Math.Nat.{mul-mod_left, mod-add-div'}
 use Rattle.polcert_text.specs.Cut.{text_limit}
 use Rattle.polcert_text.specs.Numbers.{largest}
 use Rattle.polcert_cells.specs.declared.entry.Table.TheVariants.{Transition, Observation}
-use Rattle.polcert_cells.specs.Elements.{count_of, most_states, most_actions, most_observations}
+use Rattle.polcert_cells.specs.Elements.{most_states, most_actions, most_observations}
 use Rattle.polcert_cells.specs.Preamble.{Preamble, is_mdp}
-use Rattle.polcert_cells.specs.Cells.{weight}
 use Rattle.std.specs.Option.{ForSome}
-use Rattle.polcert_cells.specs.Meaning.{Meaning, meaning_of, states_of, actions_of, observations_of, IsSame, HasProperRows, HasLimitedNumbers, IsCount}
+use Rattle.polcert_cells.specs.Meaning.{Meaning, meaning_of, states_of, actions_of, observations_of, IsSame, HasProperRows, HasLimitedNumbers}
 use Rattle.polcert_format.specs.Text.{nothing_known, IsModelText}
 use Rattle.polcert_format.specs.Printable.{IsPrintable}
 use Rattle.polcert_format.specs.FullForm.{for_each, row_text, written, is_choice, transitions_text, observations_text, rewards_text, full_form}
 use Rattle.polcert_cells.specs.Numbers.{one}
-use Rattle.polcert_format.specs.Writable.{IsWritableName, HasProperNames, IsMillionthsStart, IsWritableWeight, IsEndObserved, IsWritable}
+use Rattle.polcert_format.specs.Writable.{HasProperNames, IsMillionthsStart, IsWritableWeight, IsEndObserved, IsWritable}
 use Rattle.polcert_tables.specs.Contents.{Contents}
 use Rattle.polcert_tables.specs.Kept.{Kept, meaning}
 use Rattle.polcert_cells.specs.declared.elements.Elements.{Elements}
-use Rattle.polcert_cells.specs.declared.elements.Elements.TheVariants.{Count, Names}
-use Rattle.polcert_cells.proofs.Basics.{is_true_or_false, true≢false}
+use Rattle.polcert_cells.proofs.Basics.{true≢false}
 use Rattle.polcert_full_form.proofs.Writable.Printable.{HasRoom, has_room}
 use Rattle.polcert_full_form.proofs.Printing.PrintedItems.{Prints, prints_then, text_from_items}
 use Rattle.polcert_full_form.proofs.Printing.PrintedEntries.{known_of, complete, PrintsEntries, no_entries, entries_each}
@@ -28,7 +26,6 @@ use Rattle.polcert_full_form.proofs.Denoting.RowEntries.{Fits, same_or_other, tr
 use Rattle.polcert_full_form.proofs.Printing.PrintedRows.{row_prints, from_prints}
 use Rattle.polcert_full_form.proofs.Denoting.ModelEntries.{transition_entries, seen_entries, observation_entries, rewards_entries, all_entries, transition_back, observation_back, reward_again}
 use Rattle.polcert_full_form.proofs.Writable.FormLength.{form_short}
-use Rattle.polcert_format.proofs.LimitLaws.{abs-neg as abs_neg}
 
 -- What has to be known of a model, beside that it is not too large, for its full form to be a text.
 pub record CanBeWritten (m : Meaning) : Type 0 where
@@ -43,8 +40,7 @@ pub record CanBeWritten (m : Meaning) : Type 0 where
   pub mdp : is_mdp m.preamble ≡ true → IsEndObserved m
 
 abs_written : (costs : Bool) (h : ℤ) → unsigned_abs (written costs h) ≡ unsigned_abs h
-abs_written true h = abs_neg h
-abs_written false h = refl
+abs_written costs h = grind arith
 
 module _ (m : Meaning) (w : CanBeWritten m) (printable : IsPrintable m.preamble) where
   abbrev p : Preamble
@@ -91,22 +87,7 @@ module _ (m : Meaning) (w : CanBeWritten m) (printable : IsPrintable m.preamble)
       (all_rewards_print (t ++ o))
 
   same_again : IsSame m (meaning_of p (Some m.start) (all_entries m))
-  same_again = record {
-    preamble = refl;
-    start = refl;
-    t = λ a s e l k d. sym (transition_back m a s e l k d (w.t a s e l k d));
-    o = seen_again (is_mdp p) refl;
-    r = λ a s e z l k d x. paid_again (is_mdp p) refl a s e z l k d x ∙ sym (reward_again m a s e z l k d x);
-  }
-    where
-      seen_again : (b : Bool) → is_mdp p ≡ b → (a e z : ℕ) → a < actions_of m → e < states_of m → z < observations_of m
-          → m.o a e z ≡ cond b (cond (e == z) (one * states_of m) 0) (weight p (all_entries m) Observation (a ∷ e ∷ z ∷ []))
-      seen_again true mdp a e z l k d = (w.mdp mdp).o a e z l k d
-      seen_again false seen a e z l k d = sym (observation_back m a e z seen l k d (w.o a e z l k d))
-
-      paid_again : (b : Bool) → is_mdp p ≡ b → (a s e z : ℕ) → a < actions_of m → s < states_of m → e < states_of m → z < observations_of m → m.r a s e z ≡ m.r a s e (cond b 0 z)
-      paid_again true mdp a s e z l k d x = (w.mdp mdp).r a s e z l k d x
-      paid_again false seen a s e z l k d x = refl
+  same_again = grind (arith, transition_back, observation_back, reward_again)
 
   pub printed_short : length (full_form m) < text_limit
   printed_short = form_short m w.limits printable w.states w.actions w.observations small
@@ -123,35 +104,17 @@ weight_there n w f other = ⊎_elim (λ e. absurd (other e)) (λ m. ap (λ k. k 
 weight_back : (n w : ℕ) → IsWritableWeight n w → Fits n w
 weight_back n w f = ⊎_elim (λ e. inl e) (λ other. let none = f other in let all = mod-add-div' w n in inr (w / n, omega (arith, none, all))) (same_or_other w one)
 
-listed : (most : ℕ) (e : Elements) → IsCount most (count_of e) → HasProperNames e → AreWritable most e
-listed most (Count n) count names = count
-listed most (Names xs) count names = let proper = names xs refl in (proper.0, count.0, count.1, proper.1)
-
 pub kept_writes : (d : Kept) → HasProperRows (meaning d) → HasLimitedNumbers (meaning d) → IsWritable (meaning d) → CanBeWritten (meaning d)
-kept_writes d rows limits w = record {
-  limits = limits;
-  rows = rows;
-  states = listed most_states d.preamble.states limits.states w.states;
-  actions = listed most_actions d.preamble.actions limits.actions w.actions;
-  observations = λ e is. listed most_observations e (subst (λ o. IsCount most_observations (count_of (unwrap_or o d.preamble.states))) is limits.observations) (w.observations e is);
-  start = ⊎_elim (λ yes. inl yes) (λ no. inr (w.start no)) (is_true_or_false (is_choice (meaning d).start));
-  t = λ a s e i j k. weight_back (states_of (meaning d)) ((meaning d).t a s e) (w.t a s e i j k);
-  o = λ a e z i j k. weight_back (observations_of (meaning d)) ((meaning d).o a e z) (w.o a e z i j k);
-  mdp = w.mdp;
-}
+kept_writes d rows limits w = grind (arith, weight_back)
 
-pub kept_reads_back : (c : Contents) → IsPrintable c.draft.preamble → IsModelText (full_form (meaning c.draft)) (meaning c.draft)
-kept_reads_back c = written_reads_back (meaning c.draft) (kept_writes c.draft c.rows c.limits c.writable)
+pub kept_reads_back : (c : Contents) → IsPrintable c.kept.preamble → IsModelText (full_form (meaning c.kept)) (meaning c.kept)
+kept_reads_back c = written_reads_back (meaning c.kept) (kept_writes c.kept c.rows c.limits c.writable)
 
-pub kept_short : (c : Contents) → IsPrintable c.draft.preamble → length (full_form (meaning c.draft)) < text_limit
-kept_short c = printed_short (meaning c.draft) (kept_writes c.draft c.rows c.limits c.writable)
+pub kept_short : (c : Contents) → IsPrintable c.kept.preamble → length (full_form (meaning c.kept)) < text_limit
+kept_short c = printed_short (meaning c.kept) (kept_writes c.kept c.rows c.limits c.writable)
 
 named : (most : ℕ) (e : Elements) → AreWritable most e → HasProperNames e
-named most (Count n) w = λ names e. absurd (cc)
-named most (Names xs) w = λ names e. subst (λ ns. All IsWritableName ns × AllPairs (λ x y. x ≢ y) ns) (same xs names e) (w.0, w.3)
-  where
-    same : (xs ys : List (List ℕ)) → Names xs ≡ Names ys → xs ≡ ys
-    same xs ys e = cc
+named most e h1 = grind arith
 
 pub written_writable : (m : Meaning) → CanBeWritten m → IsWritable m
 written_writable m c = record {

@@ -1,5 +1,5 @@
 -- What a text denotes can be written, where it is not too large: its names are names, its start has a form, and so has each weight.
-use Rattle.std.proofs.Common.{◌≡◌, ◌∙◌, ℕ, ◌*◌, ◌≤◌, ◌==◌, true, cond, Option, Some, None, unwrap_or, List, [], ◌∷◌, ◌++◌, length, flat_map, map, All, sym, ap, subst, arith}
+use Rattle.std.proofs.Common.{◌≡◌, ◌∙◌, ℕ, ◌≤◌, true, Option, Some, None, unwrap_or, List, [], ◌∷◌, ◌++◌, length, flat_map, map, All, sym, ap, subst, arith, rules}
 use Rattle.std.specs.Option.{ForSome}
 use Rattle.std.proofs.lemmas.List.{length-map}
 use Rattle.std.proofs.lemmas.List.Elements.{All-cons, All-nil, All-head, All-tail}
@@ -8,20 +8,19 @@ use Rattle.polcert_text.proofs.Scanning.CleanCut.{clean_cut}
 use Rattle.polcert_text.specs.Cut.{Lexeme, Rest, TakesToken, IsCut}
 use Rattle.polcert_text.specs.declared.tokens.TokenFault.{TokenFault}
 use Rattle.polcert_cells.specs.declared.elements.Elements.{Elements}
-use Rattle.polcert_cells.specs.declared.shares.Shares.{Shares}
+use Rattle.polcert_cells.specs.declared.start_weights.StartWeights.{StartWeights}
 use Rattle.polcert_cells.specs.declared.words.Topic.{Topic}
-use Rattle.polcert_cells.specs.declared.entry.Table.TheVariants.{Transition, Observation}
+use Rattle.polcert_cells.specs.declared.entry.Table.TheVariants.{Transition}
 use Rattle.polcert_cells.specs.declared.entry.Entry.{Entry}
 use Rattle.polcert_cells.specs.Words.{IsName}
 use Rattle.polcert_cells.specs.Elements.{count_of, most_states, most_actions, most_observations, AreElements, counted, named}
 use Rattle.polcert_format.specs.Items.{Item, lexemes_of}
 use Rattle.polcert_cells.specs.Preamble.{Preamble, is_mdp, observed}
 use Rattle.polcert_cells.specs.Meaning.{Meaning, meaning_of, observation_weight, IsSame, states_of, observations_of}
-use Rattle.polcert_cells.specs.Numbers.{one}
-use Rattle.polcert_cells.specs.Cells.{weight, reward}
+use Rattle.polcert_cells.specs.Cells.{weight}
 use Rattle.polcert_cells.specs.Start.{all_states}
 use Rattle.polcert_format.specs.Text as texts
-use Rattle.polcert_format.specs.Text.{Known, nothing_known, IsRight, AreRight, IsModelText}
+use Rattle.polcert_format.specs.Text.{ModelSoFar, nothing_known, IsRight, AreRight, IsModelText}
 use Rattle.polcert_format.specs.Printable.{IsPrintable}
 use Rattle.polcert_format.proofs.LimitLaws.{within_limits}
 use Rattle.polcert_format.proofs.TextLaws.{one_model}
@@ -63,9 +62,7 @@ names_writable (l ∷ ls) a n =
 
 elements_writable : (most : ℕ) (ls : List Lexeme) (e : Elements) → AreOfText ls → AreElements most ls e → AreWritable most e
 elements_writable most ls e a (counted w l m) = (l, m)
-elements_writable most ls e a (named n l m d) =
-    let count : length (map (λ (x : Lexeme). x.bytes) ls) ≡ length ls = length-map ls (λ (x : Lexeme). x.bytes) in
-    (names_writable ls a n, omega (arith, count, l), omega (arith, count, m), d)
+elements_writable most ls e a (named n l m d) = search (rules, length-map, names_writable)
 
 -- ---- what is known
 abbrev OneWritable : ℕ → Option Elements → Type 0
@@ -73,51 +70,35 @@ OneWritable most None = Unit {0}
 OneWritable most (Some e) = AreWritable most e
 
 each_writable : (most : ℕ) (o : Option Elements) → OneWritable most o → ForSome o (AreWritable most)
-each_writable most None w e is = absurd cc
-each_writable most (Some x) w e is = subst (AreWritable most) (same x e is) w
-  where
-    same : (x y : Elements) → Some x ≡ Some y → x ≡ y
-    same x y e = cc
+each_writable most o h1 = grind arith
 
-abbrev StartHasShape : Option Elements → Option Shares → Type 0
+abbrev StartHasShape : Option Elements → Option StartWeights → Type 0
 StartHasShape states None = Unit {0}
 StartHasShape None (Some start) = ⊥
 StartHasShape (Some states) (Some start) = HasShape (count_of states) start
 
-record KnownWritable (k : Known) : Type 0 where
+record KnownWritable (k : ModelSoFar) : Type 0 where
   states : OneWritable most_states k.states
   actions : OneWritable most_actions k.actions
   observations : OneWritable most_observations k.observations
   start : StartHasShape k.states k.start
 
-right_writable : (k : Known) (t : Topic) (ls : List Lexeme) (next : Known) → AreOfText ls → KnownWritable k → IsRight k t ls next → KnownWritable next
-right_writable k t ls next a w (texts.states {elements = found} p e c b) = record { states = elements_writable most_states _ found a.1 b; actions = w.actions; observations = w.observations; start = subst (StartHasShape (Some found)) (sym p.no_start) tt }
-right_writable k t ls next a w (texts.actions {elements = found} p e c b) = record { states = w.states; actions = elements_writable most_actions _ found a.1 b; observations = w.observations; start = w.start }
-right_writable k t ls next a w (texts.observations {elements = found} p e c b) = record { states = w.states; actions = w.actions; observations = elements_writable most_observations _ found a.1 b; start = w.start }
-right_writable k t ls next a w (texts.start {p = q} {shares = shares} p c b) = record { states = w.states; actions = w.actions; observations = w.observations; start = subst (λ o. StartHasShape o (Some shares)) (sym c.lines.states) (start_shape q.states _ shares b) }
-right_writable k t ls next a w (texts.entry c given b few) = record { states = w.states; actions = w.actions; observations = w.observations; start = w.start }
-right_writable k t ls next a w _ = record { states = w.states; actions = w.actions; observations = w.observations; start = w.start }
+right_writable : (k : ModelSoFar) (t : Topic) (ls : List Lexeme) (next : ModelSoFar) → AreOfText ls → KnownWritable k → IsRight k t ls next → KnownWritable next
+right_writable k t ls next h1 h2 h3 = grind (arith, start_shape, elements_writable)
 
-all_writable : (k : Known) (items : List Item) (end : Known) → AreOfText (flat_map lexemes_of items) → KnownWritable k → AreRight k items end → KnownWritable end
+all_writable : (k : ModelSoFar) (items : List Item) (end : ModelSoFar) → AreOfText (flat_map lexemes_of items) → KnownWritable k → AreRight k items end → KnownWritable end
 all_writable k items end a w texts.none = w
-all_writable k (item ∷ items) end a w (texts.more {next = next} t e here behind) =
+all_writable k (item ∷ items) end a w (texts.more {next = next} t e here following) =
     let parts = front_of_text (lexemes_of item) (flat_map lexemes_of items) a in
-    all_writable next items end parts.1 (right_writable k t item.body next parts.0.1 w here) behind
+    all_writable next items end parts.1 (right_writable k t item.body next parts.0.1 w here) following
 
-shape_or_all : (e : Elements) (start : Option Shares) → StartHasShape (Some e) start → HasShape (count_of e) (unwrap_or start (all_states e))
+shape_or_all : (e : Elements) (start : Option StartWeights) → StartHasShape (Some e) start → HasShape (count_of e) (unwrap_or start (all_states e))
 shape_or_all e None s = alike_shape (count_of e) (count_of e) (λ s. true)
 shape_or_all e (Some start) s = s
 
 -- in an MDP the end state is observed
-end_observed : (m : Meaning) (p : Preamble) (start : Option Shares) (es : List Entry) → IsSame m (meaning_of p start es) → is_mdp p ≡ true → IsEndObserved m
-end_observed m p start es same mdp = record {
-  o = λ a e z l k b. same.o a e z l k b
-      ∙ ap (λ y. cond y (cond (e == z) (one * count_of p.states) 0) (weight p es Observation (a ∷ e ∷ z ∷ []))) mdp
-      ∙ ap (λ (q : Preamble). cond (e == z) (one * count_of q.states) 0) (sym same.preamble);
-  r = λ a s e z l k b x. same.r a s e z l k b x
-      ∙ ap (λ y. reward p es (a ∷ s ∷ e ∷ cond y 0 z ∷ [])) mdp
-      ∙ sym (same.r a s e 0 l k b (omega (arith, x)) ∙ ap (λ y. reward p es (a ∷ s ∷ e ∷ cond y 0 0 ∷ [])) mdp);
-}
+end_observed : (m : Meaning) (p : Preamble) (start : Option StartWeights) (es : List Entry) → IsSame m (meaning_of p start es) → is_mdp p ≡ true → IsEndObserved m
+end_observed m p start es same mdp = grind arith
 
 -- what a text denotes can be written
 pub text_writes : (text : List ℕ) (m : Meaning) → IsModelText text m → CanBeWritten m

@@ -13,7 +13,7 @@ use Rattle.polcert_full_form.specs.Steps.Printing.{number_text, decimal_text, ce
 -- ---- a row of T or O
 -- its weights, by column
 abbrev pub row_weights : WeightRow → ℕ → ℕ
-row_weights r = row_of r.draft.now r.table r.action r.state
+row_weights r = row_of r.model.now.kept r.table r.action r.state
 
 -- what stands after the line of its indices
 abbrev pub row_body : WeightRow → List ℕ

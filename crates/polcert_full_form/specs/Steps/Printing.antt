@@ -7,7 +7,7 @@ use Rattle.polcert_cells.specs.declared.entry.Table.{Table}
 use Rattle.polcert_cells.specs.declared.entry.Table.TheVariants.{Transition, Observation, Reward}
 use Rattle.polcert_cells.specs.declared.elements.Elements.{Elements}
 use Rattle.polcert_cells.specs.declared.elements.Elements.TheVariants.{Count, Names}
-use Rattle.polcert_cells.specs.declared.shares.Shares.{Shares}
+use Rattle.polcert_cells.specs.declared.start_weights.StartWeights.{StartWeights}
 use Rattle.polcert_cells.specs.Preamble.{columns}
 use Rattle.polcert_cells.specs.Numbers.{one}
 use Rattle.polcert_cells.specs.Rows.{IsWeighted}
@@ -18,8 +18,8 @@ use Rattle.polcert_text.specs.Lines.{line}
 use Rattle.polcert_format.specs.FullForm.{for_each, values, all_below, is_uniform, is_decimal, millionths_text, table_word, cell_text, row_words, row_text, written, is_zero, reward_words, rewards_row, rewards_from}
 
 -- ---- lines of words
-abbrev pub behind_blank : List ℕ → List ℕ
-behind_blank word = codes " " ++ word
+abbrev pub after_blank : List ℕ → List ℕ
+after_blank word = codes " " ++ word
 
 abbrev pub values_line : Bool → List ℕ
 values_line false = codes "values: reward\n"
@@ -30,25 +30,25 @@ abbrev pub settings_text : Meaning → List ℕ
 settings_text m = codes "discount: " ++ scaled_text (pos m.preamble.discount) ++ codes "\n" ++ values_line m.preamble.costs
 
 abbrev pub name_text : List (List ℕ) → ℕ → List ℕ
-name_text names i = behind_blank (slice_index_or names i [])
+name_text names i = after_blank (slice_index_or names i [])
 
 -- the count, or the names
 abbrev pub elements_text : Elements → List ℕ
-elements_text (Count n) = behind_blank (decimal n)
+elements_text (Count n) = after_blank (decimal n)
 elements_text (Names names) = for_each (length names) (name_text names)
 
 abbrev pub elements_line : List ℕ → Elements → List ℕ
 elements_line word elements = word ++ elements_text elements ++ codes "\n"
 
 -- ---- the start
-abbrev pub share_of : Shares → ℕ → ℕ
+abbrev pub share_of : StartWeights → ℕ → ℕ
 share_of start s = slice_index_or start.weights s 0
 
-abbrev pub chosen_text : Shares → ℕ → List ℕ
-chosen_text start s = if share_of start s == 1 then behind_blank (decimal s) else []
+abbrev pub chosen_text : StartWeights → ℕ → List ℕ
+chosen_text start s = if share_of start s == 1 then after_blank (decimal s) else []
 
-abbrev pub share_text : Shares → ℕ → List ℕ
-share_text start s = behind_blank (millionths_text (share_of start s))
+abbrev pub share_text : StartWeights → ℕ → List ℕ
+share_text start s = after_blank (millionths_text (share_of start s))
 
 -- ---- the indices of a row or a cell
 abbrev pub mark_before : ℕ → List ℕ

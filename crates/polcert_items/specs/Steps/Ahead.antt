@@ -7,11 +7,11 @@ use Rattle.polcert_cells.specs.Words.{begins_item}
 use Rattle.polcert_cells.specs.declared.elements.Elements.{Elements}
 use Rattle.polcert_format.specs.KnownPreamble.{preamble_in, indices_in}
 use Rattle.polcert_format.specs.Misfits.{begins_number}
-use Rattle.polcert_format.specs.Text.{Known}
+use Rattle.polcert_format.specs.Text.{ModelSoFar}
 use Rattle.polcert_items.specs.Steps.Entries.{EntryGoes, NumberListGoes, HasRoom, IsFirstPlace, IsWithinIndices, entry_sign, no_numbers}
 use Rattle.polcert_items.specs.Steps.Lines.{Takes}
 use Rattle.polcert_items.specs.Steps.Numbers.{ListKind, SignIs}
-use Rattle.polcert_items.specs.Steps.Wants.{Leads, list_wants, entry_wants}
+use Rattle.polcert_items.specs.Steps.Wants.{ExpectsNext, list_wants, entry_wants}
 use Rattle.polcert_items.specs.declared.ahead.FrontPlace.{FrontPlace}
 use Rattle.polcert_items.specs.declared.ahead.ListAhead.{ListAhead}
 use Rattle.polcert_items.specs.declared.entry_reader.EntryReader.{EntryReader}
@@ -22,13 +22,13 @@ use Rattle.polcert_items.specs.declared.item.ItemReader.{ItemReader}
 use Rattle.polcert_items.specs.declared.item.ItemReader.TheVariants as items
 
 -- an entry's reader took one more lexeme, which begins no item
-pub record IsFed (k : Known) (old : EntryReader) (l : Lexeme) (new : EntryReader) : Type 0 where
+pub record IsFed (k : ModelSoFar) (old : EntryReader) (l : Lexeme) (new : EntryReader) : Type 0 where
   pub inside : begins_item l ≡ false
   pub table : new.table ≡ old.table
   pub within : IsWithinIndices (indices_in k old.table) new
   pub takes : Takes (EntryGoes (preamble_in k)) old l new
   pub sign : SignIs (entry_sign new.state) l
-  pub leads : Leads (entry_wants (preamble_in k) old) l (entry_wants (preamble_in k) new)
+  pub leads : ExpectsNext (entry_wants (preamble_in k) old) l (entry_wants (preamble_in k) new)
 
 -- a list of such numbers took one more lexeme, a sign or a numeral
 pub record IsListFed {T : Type 0} (kind : ListKind T) (old : Numbers T) (l : Lexeme) (new : Numbers T) : Type 0 where
@@ -36,28 +36,28 @@ pub record IsListFed {T : Type 0} (kind : ListKind T) (old : Numbers T) (l : Lex
   pub room : HasRoom new
   pub takes : Takes (NumberListGoes kind) old l new
   pub sign : SignIs new.sign l
-  pub leads : Leads (list_wants old) l (list_wants new)
+  pub leads : ExpectsNext (list_wants old) l (list_wants new)
 
 -- these lexemes were taken by such steps, one after another
-pub data AreTaken {R : Type 0} (Step : R → Lexeme → R → Type 0) : R → List Lexeme → R → Type 0 where
-  none : (r : R) → AreTaken Step r [] r
-  more : (old between new : R) (ls : List Lexeme) (l : Lexeme) → AreTaken Step old ls between → Step between l new → AreTaken Step old (ls ++ l ∷ []) new
+pub data AreTaken {R : Type 0} (NumberStep : R → Lexeme → R → Type 0) : R → List Lexeme → R → Type 0 where
+  none : (r : R) → AreTaken NumberStep r [] r
+  more : (old between new : R) (ls : List Lexeme) (l : Lexeme) → AreTaken NumberStep old ls between → NumberStep between l new → AreTaken NumberStep old (ls ++ l ∷ []) new
 
 -- the lexemes that were taken are the first of these bytes, wherever these stand
-pub record TakesAhead {R : Type 0} (Step : R → Lexeme → R → Type 0) (old : R) (bytes : List ℕ) (count : ℕ) (new : R) : Type 0 where
+pub record TakesAhead {R : Type 0} (NumberStep : R → Lexeme → R → Type 0) (old : R) (bytes : List ℕ) (count : ℕ) (new : R) : Type 0 where
   pub within : count ≤ length bytes
-  pub fed : (place : ℕ) → (ls : List Lexeme) × (BeginWith place bytes count ls × AreTaken Step old ls new)
+  pub fed : (place : ℕ) → (ls : List Lexeme) × (BeginWith place bytes count ls × AreTaken NumberStep old ls new)
 
 -- a list of so many numbers was begun with the first of these bytes, and has its first number
 pub record IsListBegun {T : Type 0} (kind : ListKind T) (needed : ℕ) (bytes : List ℕ) (list : ListAhead T) : Type 0 where
   pub ahead : TakesAhead (IsListFed kind) (no_numbers needed) bytes list.len list.numbers
   pub some : 0 < length list.numbers.read
 
-abbrev pub FedAhead : Known → EntryReader → List ℕ → ℕ → EntryReader → Type 0
+abbrev pub FedAhead : ModelSoFar → EntryReader → List ℕ → ℕ → EntryReader → Type 0
 FedAhead k old bytes count new = TakesAhead (IsFed k) old bytes count new
 
 -- an item that is an entry went on so, or nothing was taken
-pub data ItemFedAhead (k : Known) (old : ItemReader) (bytes : List ℕ) (count : ℕ) (new : ItemReader) : Type 0 where
+pub data ItemFedAhead (k : ModelSoFar) (old : ItemReader) (bytes : List ℕ) (count : ℕ) (new : ItemReader) : Type 0 where
   nothing : count ≡ 0 → new ≡ old → ItemFedAhead k old bytes count new
   entry : (a b : EntryReader) → old ≡ items.Entry a → new ≡ items.Entry b → FedAhead k a bytes count b → ItemFedAhead k old bytes count new
 

@@ -15,7 +15,7 @@ use Rattle.polcert_cells.specs.declared.elements.Elements.TheVariants.{Count, Na
 use Rattle.polcert_cells.specs.Elements.{AreElements}
 use Rattle.polcert_cells.specs.Meaning.{IsCount}
 use Rattle.polcert_items.specs.Steps.Numbers.{IsMisplaced}
-use Rattle.polcert_items.specs.Steps.Lines.{BehindColon}
+use Rattle.polcert_items.specs.Steps.Lines.{AfterColon}
 
 -- a name is ASCII text
 abbrev pub IsText : Lexeme → Type 0
@@ -37,7 +37,7 @@ pub record NamesGo (most : ℕ) (names : List (List ℕ)) (ls : List Lexeme) (el
   pub elements_are : elements ≡ Names (names_with names ls)
 
 abbrev pub ElementsGo : ℕ → ElementsReader → List Lexeme → Elements → Type 0
-ElementsGo most readers.Colon ls elements = BehindColon (AreElements most) ls elements
+ElementsGo most readers.Colon ls elements = AfterColon (AreElements most) ls elements
 ElementsGo most readers.First ls elements = AreElements most ls elements
 ElementsGo most (readers.Counted n) ls elements = (ls ≡ []) × (elements ≡ Count n)
 ElementsGo most (readers.Named names) ls elements = NamesGo most names ls elements

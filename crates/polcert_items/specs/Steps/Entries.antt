@@ -11,8 +11,8 @@ use Rattle.polcert_cells.specs.declared.entry.Place.{Place}
 use Rattle.polcert_cells.specs.declared.entry.Body.{Body}
 use Rattle.polcert_cells.specs.declared.entry.Body.TheVariants as bodies
 use Rattle.polcert_cells.specs.declared.entry.Entry.{Entry}
-use Rattle.polcert_items.specs.declared.stop.Stop.{Stop}
-use Rattle.polcert_items.specs.declared.stop.Stop.TheVariants.{Refused, Memory}
+use Rattle.polcert_items.specs.declared.feed_error.FeedError.{FeedError}
+use Rattle.polcert_items.specs.declared.feed_error.FeedError.TheVariants.{Refused, Memory}
 use Rattle.polcert_items.specs.declared.entry_reader.Word.{Word}
 use Rattle.polcert_items.specs.declared.entry_reader.Word.TheVariants as words
 use Rattle.polcert_items.specs.declared.entry_reader.EntryState.{EntryState}
@@ -29,11 +29,11 @@ use Rattle.polcert_cells.specs.Elements.{count_of}
 use Rattle.polcert_cells.specs.Preamble.{Preamble, is_mdp, dimensions, named}
 use Rattle.polcert_cells.specs.Entry.{forms, cells_in, IsPlace, ArePlaces, IsBody}
 use Rattle.polcert_format.specs.Reasons.{IsDigits}
-use Rattle.polcert_items.specs.Steps.Numbers.{AreNumbersBehind, IsInRange, ListKind, of_probabilities, of_rewards, IsNumberReason, IsMisplaced, IsBehindNumbers}
-use Rattle.polcert_items.specs.Steps.Lines.{BehindColon, Takes, CannotTake}
+use Rattle.polcert_items.specs.Steps.Numbers.{AreNumbersAfter, IsInRange, ListKind, of_probabilities, of_rewards, IsNumberReason, IsMisplaced, IsAfterNumbers}
+use Rattle.polcert_items.specs.Steps.Lines.{AfterColon, Takes, CannotTake}
 
 -- after these places the lexemes continue as this entry
-pub record IsEntryBehind (p : Preamble) (table : Table) (before : List Place) (ls : List Lexeme) (entry : Entry) : Type 0 where
+pub record IsEntryAfter (p : Preamble) (table : Table) (before : List Place) (ls : List Lexeme) (entry : Entry) : Type 0 where
   pub further : List Place
   pub pattern : List Lexeme
   pub rest : List Lexeme
@@ -53,7 +53,7 @@ IsFirstPlace (d ∷ ds) l p = IsPlace d l p
 abbrev pub PlaceRest : Preamble → Table → List Place → List Lexeme → Entry → Type 0
 PlaceRest p table before [] entry = ⊥
 PlaceRest p table before (l ∷ ls) entry =
-    (q : Place) × (IsFirstPlace (drop (length before) (named p table)) l q × IsEntryBehind p table (before ++ q ∷ []) ls entry)
+    (q : Place) × (IsFirstPlace (drop (length before) (named p table)) l q × IsEntryAfter p table (before ++ q ∷ []) ls entry)
 
 abbrev pub entry_with : Table → List Place → Body → Entry
 entry_with table places body = record { table = table; places = places; body = body }
@@ -61,7 +61,7 @@ entry_with table places body = record { table = table; places = places; body = b
 -- further numbers of a list, until there are enough
 pub record NumberListGoes {T : Type 0} (kind : ListKind T) (n : Numbers T) (ls : List Lexeme) (body : Body) : Type 0 where
   pub further : List T
-  pub numbers : AreNumbersBehind n.sign ls (map kind.worth further)
+  pub numbers : AreNumbersAfter n.sign ls (map kind.worth further)
   pub in_range : All (λ x. IsInRange kind.range (kind.worth x)) further
   pub enough : length (n.read ++ further) ≡ n.needed
   pub body_is : body ≡ kind.body (n.read ++ further)
@@ -80,9 +80,9 @@ abbrev pub BodyIs : Table → List Place → (List Lexeme → Body → Type 0) �
 BodyIs table places Goes ls entry = (body : Body) × (Goes ls body × (entry ≡ entry_with table places body))
 
 abbrev pub StateGoes : Preamble → Table → List Place → EntryState → List Lexeme → Entry → Type 0
-StateGoes p table places states.Colon ls entry = BehindColon (PlaceRest p table places) ls entry
+StateGoes p table places states.Colon ls entry = AfterColon (PlaceRest p table places) ls entry
 StateGoes p table places states.Place ls entry = PlaceRest p table places ls entry
-StateGoes p table places states.Body ls entry = IsEntryBehind p table places ls entry
+StateGoes p table places states.Body ls entry = IsEntryAfter p table places ls entry
 StateGoes p table places (states.Probabilities n) ls entry = BodyIs table places (ProbabilitiesGo n) ls entry
 StateGoes p table places (states.Rewards n) ls entry = BodyIs table places (RewardsGo n) ls entry
 StateGoes p table places (states.Word w) ls entry = (ls ≡ []) × (entry ≡ entry_with table places (body_of w))
@@ -130,7 +130,7 @@ pub record IsFull {T : Type 0} (n : Numbers T) : Type 0 where
 -- why a token is refused in a list of numbers
 pub data IsListReason (range : Range) (sign : Option Sign) (l : Lexeme) (kind : ItemFault) (place : ℕ) : Type 0 where
   no_number : IsNumberReason range sign l kind place → IsListReason range sign l kind place
-  no_further : IsBehindNumbers l kind place → IsListReason range sign l kind place
+  no_further : IsAfterNumbers l kind place → IsListReason range sign l kind place
 
 -- why a token is refused in an entry: as no place, or as no number after the sign before it
 pub data IsEntryReason (r : EntryReader) (l : Lexeme) (kind : ItemFault) (place : ℕ) : Type 0 where
@@ -139,7 +139,7 @@ pub data IsEntryReason (r : EntryReader) (l : Lexeme) (kind : ItemFault) (place 
   no_reward : IsListReason ranges.Reward (entry_sign r.state) l kind place → IsEntryReason r l kind place
 
 -- a refusal for which this holds, or out of memory
-abbrev pub IfRefused : Stop → (Refusal → Type 0) → Type 0
+abbrev pub IfRefused : FeedError → (Refusal → Type 0) → Type 0
 IfRefused (Refused r) P = P r
 IfRefused Memory P = Unit {0}
 
@@ -153,8 +153,8 @@ abbrev pub MayStand : Bool → Table → Body → ℕ → Type 0
 MayStand mdp table body written = list_any (λ n. n == written) (forms mdp table body) ≡ true
 
 -- the lexeme is this word, and it may stand after so many places
-abbrev pub IsWordBehind : Bool → Table → ℕ → Lexeme → Word → Type 0
-IsWordBehind mdp table written l w = IsWord (word_text w) l × MayStand mdp table (body_of w) written
+abbrev pub IsWordAfter : Bool → Table → ℕ → Lexeme → Word → Type 0
+IsWordAfter mdp table written l w = IsWord (word_text w) l × MayStand mdp table (body_of w) written
 
 -- before the first number
 abbrev pub no_numbers : {T : Type 0} → ℕ → Numbers T

@@ -16,15 +16,15 @@ use Rattle.polcert_items.specs.declared.entry_reader.EntryReader.{EntryReader}
 use Rattle.polcert_items.specs.declared.entry_reader.EntryState.TheVariants as states
 use Rattle.polcert_items.specs.declared.signed_number.Refusal.{Refusal}
 use Rattle.polcert_items.specs.declared.signed_number.Sign.{Sign}
-use Rattle.polcert_items.specs.declared.stop.ItemEnd.{ItemEnd}
-use Rattle.polcert_items.specs.declared.stop.ItemEnd.TheVariants as ends
-use Rattle.polcert_items.specs.declared.stop.Stop.{Stop}
+use Rattle.polcert_items.specs.declared.feed_error.EndError.{EndError}
+use Rattle.polcert_items.specs.declared.feed_error.EndError.TheVariants as ends
+use Rattle.polcert_items.specs.declared.feed_error.FeedError.{FeedError}
 use Rattle.polcert_cells.specs.declared.words.Topic.{Topic}
 use Rattle.polcert_cells.specs.declared.words.Topic.TheVariants.{Discount, Values, States, Actions, Observations, Start, Cells}
 use Rattle.polcert_cells.specs.declared.elements.Elements.{Elements}
-use Rattle.polcert_cells.specs.declared.shares.Shares.{Shares}
+use Rattle.polcert_cells.specs.declared.start_weights.StartWeights.{StartWeights}
 use Rattle.polcert_cells.specs.Elements.{most_states, most_actions, most_observations}
-use Rattle.polcert_format.specs.Text.{Known}
+use Rattle.polcert_format.specs.Text.{ModelSoFar}
 use Rattle.polcert_format.specs.Reasons.{ends_in_sign, IsNoFraction, IsOfElements, IsOfProbabilities, IsRepeated}
 use Rattle.polcert_items.specs.Steps.Numbers.{SignEnds, is_negative, number_place}
 use Rattle.polcert_items.specs.Steps.Lines.{Takes, CannotTake, DiscountGoes, discount_sign, ValuesGoes}
@@ -32,25 +32,25 @@ use Rattle.polcert_items.specs.Steps.Elements.{ElementsGo, IsElementsRead, AreEl
 use Rattle.polcert_format.specs.FirstNumber.{IsLate, states_known}
 use Rattle.polcert_format.specs.KnownPreamble.{preamble_in, indices_in}
 use Rattle.polcert_items.specs.Steps.Entries.{EntryGoes, IfRefused, IsWithinIndices, entry_sign, AreSome}
-use Rattle.polcert_items.specs.Steps.Start.{StartGoes, StartGives, new_start, pending, IsStartWithin, IsStartSeen, IsReasonAt, IsStartReason, StopsStart}
-use Rattle.polcert_items.specs.Steps.Known.{learned}
-use Rattle.polcert_items.specs.Steps.Wants.{Leads, item_wants, IfNotStart, IfStart}
+use Rattle.polcert_items.specs.Steps.Start.{StartGoes, StartGives, new_start, pending, IsStartWithin, HasReadStart, IsReasonAt, IsStartReason, StopsStart}
+use Rattle.polcert_items.specs.Steps.ModelSoFar.{with_item}
+use Rattle.polcert_items.specs.Steps.Wants.{ExpectsNext, item_wants, IfNotStart, IfStart}
 use Rattle.polcert_format.specs.Misfits.{IsMisfit}
 
 -- the lexemes end the item, and this is known after it
-abbrev pub ItemGoes : Known → ItemReader → List Lexeme → Known → Type 0
-ItemGoes k (items.Discount r) ls next = (g : ℕ) × (DiscountGoes r ls g × (next ≡ learned k (said.Discount g)))
-ItemGoes k (items.Values r) ls next = (b : Bool) × (ValuesGoes r ls b × (next ≡ learned k (said.Costs b)))
-ItemGoes k (items.States r) ls next = (e : Elements) × (ElementsGo most_states r ls e × (next ≡ learned k (said.States e)))
-ItemGoes k (items.Actions r) ls next = (e : Elements) × (ElementsGo most_actions r ls e × (next ≡ learned k (said.Actions e)))
-ItemGoes k (items.Observations r) ls next = (e : Elements) × (ElementsGo most_observations r ls e × (next ≡ learned k (said.Observations e)))
-ItemGoes k (items.Start r) ls next = (found : Shares) × (StartGives (preamble_in k).states r ls found × (next ≡ learned k (said.Start found)))
-ItemGoes k (items.Entry r) ls next = (e : Entry) × (EntryGoes (preamble_in k) r ls e × (next ≡ learned k (said.Entry e)))
+abbrev pub ItemGoes : ModelSoFar → ItemReader → List Lexeme → ModelSoFar → Type 0
+ItemGoes k (items.Discount r) ls next = (g : ℕ) × (DiscountGoes r ls g × (next ≡ with_item k (said.Discount g)))
+ItemGoes k (items.Values r) ls next = (b : Bool) × (ValuesGoes r ls b × (next ≡ with_item k (said.Costs b)))
+ItemGoes k (items.States r) ls next = (e : Elements) × (ElementsGo most_states r ls e × (next ≡ with_item k (said.States e)))
+ItemGoes k (items.Actions r) ls next = (e : Elements) × (ElementsGo most_actions r ls e × (next ≡ with_item k (said.Actions e)))
+ItemGoes k (items.Observations r) ls next = (e : Elements) × (ElementsGo most_observations r ls e × (next ≡ with_item k (said.Observations e)))
+ItemGoes k (items.Start r) ls next = (found : StartWeights) × (StartGives (preamble_in k).states r ls found × (next ≡ with_item k (said.Start found)))
+ItemGoes k (items.Entry r) ls next = (e : Entry) × (EntryGoes (preamble_in k) r ls e × (next ≡ with_item k (said.Entry e)))
 
 -- The lexemes give the item its form, whatever is decided at its end.
-abbrev pub ItemForms : Known → ItemReader → List Lexeme → Unit {0} → Type 0
+abbrev pub ItemForms : ModelSoFar → ItemReader → List Lexeme → Unit {0} → Type 0
 ItemForms k (items.Start r) ls none = StartGoes (preamble_in k).states r ls None
-ItemForms k item ls none = (next : Known) × ItemGoes k item ls next
+ItemForms k item ls none = (next : ModelSoFar) × ItemGoes k item ls next
 
 abbrev pub topic_in : ItemReader → Topic
 topic_in (items.Discount r) = Discount
@@ -73,7 +73,7 @@ pending_in (items.Start r) = pending r
 pending_in _ = None
 
 -- what was read is within its limits
-abbrev pub IsItemWithin : Known → ItemReader → Type 0
+abbrev pub IsItemWithin : ModelSoFar → ItemReader → Type 0
 IsItemWithin k (items.States r) = IsElementsRead most_states r
 IsItemWithin k (items.Actions r) = IsElementsRead most_actions r
 IsItemWithin k (items.Observations r) = IsElementsRead most_observations r
@@ -99,14 +99,14 @@ abbrev pub IsSeen : ℕ → List Lexeme → ItemReader → Type 0
 IsSeen count body (items.States r) = (ends_in_sign body ≡ false) × AreElementsSeen body r
 IsSeen count body (items.Actions r) = (ends_in_sign body ≡ false) × AreElementsSeen body r
 IsSeen count body (items.Observations r) = (ends_in_sign body ≡ false) × AreElementsSeen body r
-IsSeen count body (items.Start r) = IsStartSeen count body r
+IsSeen count body (items.Start r) = HasReadStart count body r
 IsSeen count body item = SignEnds (sign_in item) body
 
 -- why a token is refused in an item of this topic, after this sign and body; some reasons are of some topics alone
 abbrev pub IsTokenReason : Topic → Option Sign → List Lexeme → Lexeme → ItemFault → ℕ → Type 0
 IsTokenReason t sign body l DiscountRange place = (t ≡ Discount) × (place ≡ number_place sign l) × IsNoFraction (is_negative sign) l
 IsTokenReason t sign body l ProbabilityRange place = IsOfProbabilities t × IsReasonAt sign l ProbabilityRange place
-IsTokenReason t sign body l DuplicateName place = (place ≡ l.place) × IsOfElements t × ((behind : List Lexeme) → IsRepeated (body ++ l ∷ behind) place)
+IsTokenReason t sign body l DuplicateName place = (place ≡ l.place) × IsOfElements t × ((following : List Lexeme) → IsRepeated (body ++ l ∷ following) place)
 IsTokenReason t sign body l BadCount place = (place ≡ l.place) × IsOfElements t
 IsTokenReason t sign body l kind place = IsReasonAt sign l kind place
 
@@ -125,26 +125,26 @@ IsEndReason t StartEmpty = t ≡ Start
 IsEndReason t _ = ⊥
 
 -- why an item of this topic and body cannot end, and where, with so many states
-abbrev pub IsItemEndReason : ℕ → Topic → List Lexeme → ItemEnd → Type 0
+abbrev pub IsItemEndReason : ℕ → Topic → List Lexeme → EndError → Type 0
 IsItemEndReason count t body (ends.AtEnd kind) = IsEndReason t kind
 IsItemEndReason count t body (ends.At r) = (t ≡ Start) × IsStartReason body r.kind r.place × IsLate count body true r.kind r.place
 IsItemEndReason count t body ends.Memory = Unit {0}
 
 -- in an entry, every index of its table numbers something
-abbrev pub HasElements : Known → Topic → Type 0
+abbrev pub HasElements : ModelSoFar → Topic → Type 0
 HasElements k (Cells table) = AreSome (indices_in k table)
 HasElements k _ = Unit {0}
 
 -- an item's reader took one more lexeme
-pub record IsItemFed (k : Known) (old : ItemReader) (l : Lexeme) (new : ItemReader) : Type 0 where
+pub record IsItemFed (k : ModelSoFar) (old : ItemReader) (l : Lexeme) (new : ItemReader) : Type 0 where
   pub within : IsItemWithin k new
   pub takes : Takes (ItemGoes k) old l new
   pub formed : IfStart (topic_in old) (Takes (ItemForms k) old l new)
   pub seen : (body : List Lexeme) → IsSeen (states_known k) body old → IsSeen (states_known k) (body ++ l ∷ []) new
-  pub leads : Leads (item_wants k old) l (item_wants k new)
+  pub leads : ExpectsNext (item_wants k old) l (item_wants k new)
 
 -- an item's reader cannot take the lexeme, and refuses it so
-pub record RefusesInItem (k : Known) (old : ItemReader) (l : Lexeme) (r : Refusal) : Type 0 where
+pub record RefusesInItem (k : ModelSoFar) (old : ItemReader) (l : Lexeme) (r : Refusal) : Type 0 where
   pub stuck : CannotTake (ItemGoes k) old l
   pub formless : IfStart (topic_in old) (CannotTake (ItemForms k) old l)
   pub reason : (body : List Lexeme) → IsSeen (states_known k) body old → IsItemReason old body l r.kind r.place
@@ -155,7 +155,7 @@ pub record RefusesInItem (k : Known) (old : ItemReader) (l : Lexeme) (r : Refusa
       → IsLate (states_known k) (body ++ l ∷ more) ends late.kind late.place → (r.kind ≡ late.kind) × (r.place ≡ late.place)
 
 -- One more lexeme: an item's reader keeps its topic, and takes it or refuses it.
-pub record FeedsItem (k : Known) (old : ItemReader) (l : Lexeme) (new : ItemReader) (result : Result Unit Stop) : Type 0 where
+pub record FeedsItem (k : ModelSoFar) (old : ItemReader) (l : Lexeme) (new : ItemReader) (result : Result Unit FeedError) : Type 0 where
   pub topic : topic_in new ≡ topic_in old
   pub fed : OnOk result (IsItemFed k old l new)
   pub refused : IfErr result (λ stop. IfRefused stop (RefusesInItem k old l))

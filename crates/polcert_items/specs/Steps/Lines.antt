@@ -12,7 +12,7 @@ use Rattle.polcert_items.specs.declared.signed_number.Range.TheVariants.{Discoun
 use Rattle.polcert_items.specs.declared.signed_number.Sign.{Sign}
 use Rattle.polcert_cells.specs.Words.{IsWord}
 use Rattle.polcert_cells.specs.Numbers.{one}
-use Rattle.polcert_items.specs.Steps.Numbers.{AreNumbersBehind, IsNumberReason, IsBehindNumbers, IsMisplaced}
+use Rattle.polcert_items.specs.Steps.Numbers.{AreNumbersAfter, IsNumberReason, IsAfterNumbers, IsMisplaced}
 
 -- A reader's state continues as lexemes that end its item, with what the item says: `Goes state lexemes said`.
 -- One more lexeme was taken: what continues after it is what went on from before it.
@@ -29,18 +29,18 @@ abbrev pub CannotEnd : {S V : Type 0} → (S → List Lexeme → V → Type 0) �
 CannotEnd {V = V} Goes s = (v : V) → Goes s [] v → ⊥
 
 -- a colon, and then this
-abbrev pub BehindColon : {V : Type 0} → (List Lexeme → V → Type 0) → List Lexeme → V → Type 0
-BehindColon Rest [] v = ⊥
-BehindColon Rest (l ∷ ls) v = (l.kind ≡ kinds.Colon) × Rest ls v
+abbrev pub AfterColon : {V : Type 0} → (List Lexeme → V → Type 0) → List Lexeme → V → Type 0
+AfterColon Rest [] v = ⊥
+AfterColon Rest (l ∷ ls) v = (l.kind ≡ kinds.Colon) × Rest ls v
 
 -- one number from 0 to one
 abbrev pub DiscountRest : Option Sign → List Lexeme → ℕ → Type 0
-DiscountRest sign ls g = AreNumbersBehind sign ls (pos g ∷ []) × (g ≤ one)
+DiscountRest sign ls g = AreNumbersAfter sign ls (pos g ∷ []) × (g ≤ one)
 
 abbrev pub DiscountGoes : DiscountReader → List Lexeme → ℕ → Type 0
-DiscountGoes discount.Colon ls g = BehindColon (DiscountRest None) ls g
+DiscountGoes discount.Colon ls g = AfterColon (DiscountRest None) ls g
 DiscountGoes (discount.Number sign) ls g = DiscountRest sign ls g
-DiscountGoes (discount.Said d) ls g = (ls ≡ []) × (g ≡ d)
+DiscountGoes (discount.Done d) ls g = (ls ≡ []) × (g ≡ d)
 
 -- the sign before the next token
 abbrev pub discount_sign : DiscountReader → Option Sign
@@ -51,7 +51,7 @@ discount_sign _ = None
 abbrev pub DiscountReason : DiscountReader → Lexeme → ItemFault → ℕ → Type 0
 DiscountReason discount.Colon l kind place = IsMisplaced l kind place
 DiscountReason (discount.Number sign) l kind place = IsNumberReason Discount sign l kind place
-DiscountReason (discount.Said d) l kind place = IsBehindNumbers l kind place
+DiscountReason (discount.Done d) l kind place = IsAfterNumbers l kind place
 
 -- `reward`, or `cost`
 abbrev pub WordRest : List Lexeme → Bool → Type 0
@@ -60,6 +60,6 @@ WordRest (l ∷ ls) false = (ls ≡ []) × IsWord (codes "reward") l
 WordRest (l ∷ ls) true = (ls ≡ []) × IsWord (codes "cost") l
 
 abbrev pub ValuesGoes : ValuesReader → List Lexeme → Bool → Type 0
-ValuesGoes values.Colon ls b = BehindColon WordRest ls b
+ValuesGoes values.Colon ls b = AfterColon WordRest ls b
 ValuesGoes values.Word ls b = WordRest ls b
-ValuesGoes (values.Said c) ls b = (ls ≡ []) × (b ≡ c)
+ValuesGoes (values.Done c) ls b = (ls ≡ []) × (b ≡ c)

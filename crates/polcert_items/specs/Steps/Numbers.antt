@@ -8,8 +8,8 @@ use Rattle.polcert_text.specs.declared.lexeme.TokenKind.TheVariants.{Plus, Minus
 use Rattle.polcert_format.specs.declared.fault.ItemFault.{ItemFault}
 use Rattle.polcert_format.specs.declared.fault.ItemFault.TheVariants.{Number, BadShape, WrongNumberCount, ProbabilityRange, DiscountRange, Reset}
 use Rattle.polcert_items.specs.declared.signed_number.Sign.{Sign}
-use Rattle.polcert_items.specs.declared.signed_number.Step.{Step}
-use Rattle.polcert_items.specs.declared.signed_number.Step.TheVariants as steps
+use Rattle.polcert_items.specs.declared.signed_number.NumberStep.{NumberStep}
+use Rattle.polcert_items.specs.declared.signed_number.NumberStep.TheVariants as steps
 use Rattle.polcert_items.specs.declared.signed_number.Range.{Range}
 use Rattle.polcert_items.specs.declared.signed_number.Range.TheVariants as ranges
 use Rattle.polcert_cells.specs.Words.{IsWord}
@@ -19,10 +19,10 @@ use Rattle.polcert_cells.specs.Numbers.{IsMillionths, AreNumbers, one}
 use Rattle.polcert_format.specs.Reasons.{IsRefusedNumber, IsNoFraction, is_sign, ends_in_sign}
 
 -- after a sign, if there is one, the lexemes continue as these numbers
-abbrev pub AreNumbersBehind : Option Sign → List Lexeme → List ℤ → Type 0
-AreNumbersBehind None ls hs = AreNumbers ls hs
-AreNumbersBehind (Some sign) (l ∷ ls) (h ∷ hs) = IsMillionths sign.negative l h × AreNumbers ls hs
-AreNumbersBehind (Some sign) _ _ = ⊥
+abbrev pub AreNumbersAfter : Option Sign → List Lexeme → List ℤ → Type 0
+AreNumbersAfter None ls hs = AreNumbers ls hs
+AreNumbersAfter (Some sign) (l ∷ ls) (h ∷ hs) = IsMillionths sign.negative l h × AreNumbers ls hs
+AreNumbersAfter (Some sign) _ _ = ⊥
 
 -- a number from 0 to one, or any
 abbrev pub IsInRange : Range → ℤ → Type 0
@@ -56,13 +56,13 @@ pub data IsSignAt (sign : Sign) (l : Lexeme) : Type 0 where
   minus : l.kind ≡ Minus → sign.negative ≡ true → sign.place ≡ l.place → IsSignAt sign l
 
 -- the token is a sign and none stands before it, or the numeral of a number in the range
-abbrev pub IsStep : Range → Option Sign → Lexeme → Step → Type 0
+abbrev pub IsStep : Range → Option Sign → Lexeme → NumberStep → Type 0
 IsStep range sign l (steps.Sign s) = (sign ≡ None) × IsSignAt s l
 IsStep range sign l (steps.Value h) = IsMillionths (is_negative sign) l h × IsInRange range h
 
 -- no numbers in the range continue with this lexeme
 abbrev pub IsNoNumber : Range → Option Sign → Lexeme → Type 0
-IsNoNumber range sign l = (ls : List Lexeme) (hs : List ℤ) → AreNumbersBehind sign (l ∷ ls) hs → All (IsInRange range) hs → ⊥
+IsNoNumber range sign l = (ls : List Lexeme) (hs : List ℤ) → AreNumbersAfter sign (l ∷ ls) hs → All (IsInRange range) hs → ⊥
 
 -- why a token that has no place here is refused
 abbrev pub IsMisplaced : Lexeme → ItemFault → ℕ → Type 0
@@ -71,9 +71,9 @@ IsMisplaced l BadShape place = place ≡ l.place
 IsMisplaced l _ place = ⊥
 
 -- why a token after the last number is refused
-abbrev pub IsBehindNumbers : Lexeme → ItemFault → ℕ → Type 0
-IsBehindNumbers l WrongNumberCount place = place ≡ l.place
-IsBehindNumbers l kind place = IsMisplaced l kind place
+abbrev pub IsAfterNumbers : Lexeme → ItemFault → ℕ → Type 0
+IsAfterNumbers l WrongNumberCount place = place ≡ l.place
+IsAfterNumbers l kind place = IsMisplaced l kind place
 
 -- why a token is refused in a number's place, and where
 abbrev pub IsNumberReason : Range → Option Sign → Lexeme → ItemFault → ℕ → Type 0

@@ -17,21 +17,21 @@ use Rattle.polcert_format.specs.Wants.{may_be_state}
 use Rattle.polcert_items.specs.declared.chosen.Choice.{Choice}
 use Rattle.polcert_items.specs.declared.chosen.Choice.TheVariants.{Include, Exclude}
 use Rattle.polcert_items.specs.declared.start_numbers.FirstNumber.{FirstNumber}
-use Rattle.polcert_items.specs.declared.start_numbers.Digits.{Digits}
+use Rattle.polcert_items.specs.declared.start_numbers.StateOrNumber.{StateOrNumber}
 use Rattle.polcert_items.specs.declared.start_reader.StartReader.{StartReader}
 use Rattle.polcert_items.specs.declared.start_reader.StartReader.TheVariants as reader
-use Rattle.polcert_items.specs.declared.stop.ItemEnd.{ItemEnd}
-use Rattle.polcert_items.specs.declared.stop.ItemEnd.TheVariants as ends
+use Rattle.polcert_items.specs.declared.feed_error.EndError.{EndError}
+use Rattle.polcert_items.specs.declared.feed_error.EndError.TheVariants as ends
 use Rattle.polcert_cells.specs.Words.{IsWord, IsName}
 use Rattle.polcert_cells.specs.Numbers.{IsWhole, IsMillionths, one}
 use Rattle.polcert_cells.specs.declared.elements.Elements.{Elements}
 use Rattle.polcert_cells.specs.Elements.{count_of, StandsFor}
-use Rattle.polcert_cells.specs.declared.shares.Shares.{Shares}
-use Rattle.polcert_cells.specs.Start.{alike, all_states, single, shares_of, included, IsStartBody, IsStart}
+use Rattle.polcert_cells.specs.declared.start_weights.StartWeights.{StartWeights}
+use Rattle.polcert_cells.specs.Start.{equal_weights, all_states, single, shares_of, included, IsStartBody, IsStart}
 use Rattle.polcert_format.specs.Reasons.{StandsIn, NumberStandsIn, IsRefusedNumber, IsNoFraction, IsDigits, is_sign}
-use Rattle.polcert_format.specs.Misfits.{Wanted, IsMisfit, begins_number}
-use Rattle.polcert_items.specs.Steps.Numbers.{AreNumbersBehind, is_negative, number_place, IsSignAt, SignEnds}
-use Rattle.polcert_items.specs.Steps.Lines.{BehindColon}
+use Rattle.polcert_format.specs.Misfits.{Expected, IsMisfit, begins_number}
+use Rattle.polcert_items.specs.Steps.Numbers.{AreNumbersAfter, is_negative, number_place, IsSignAt, SignEnds}
+use Rattle.polcert_items.specs.Steps.Lines.{AfterColon}
 use Rattle.polcert_items.specs.Steps.Entries.{ProbabilitiesGo, HasRoom}
 
 -- the state is marked
@@ -53,30 +53,30 @@ abbrev pub chosen_with : (ℕ → Bool) → List ℕ → ℕ → Bool
 chosen_with chosen further s = chosen s || included further s
 
 -- the shares of a list of states that were chosen
-abbrev pub listed : Elements → Choice → (ℕ → Bool) → Shares
-listed states choice chosen = alike (count_of states) (picks choice chosen)
+abbrev pub listed : Elements → Choice → (ℕ → Bool) → StartWeights
+listed states choice chosen = equal_weights (count_of states) (picks choice chosen)
 
 -- What continues is asked for some shares, or for none: then only for the form of the item, and nothing that is decided at its
 -- end has to hold.
 
 -- these are the shares that are asked for, if any are
-abbrev pub AreAsked : Shares → Option Shares → Type 0
+abbrev pub AreAsked : StartWeights → Option StartWeights → Type 0
 AreAsked found None = Unit {0}
 AreAsked found (Some v) = v ≡ found
 
 -- and they leave a state
-abbrev pub AreLeft : Shares → Option Shares → Type 0
+abbrev pub AreLeft : StartWeights → Option StartWeights → Type 0
 AreLeft found None = Unit {0}
 AreLeft found (Some v) = (v ≡ found) × (0 < found.total)
 
 -- the lexemes are further states of a list
-pub record ListGoes (states : Elements) (choice : Choice) (chosen : ℕ → Bool) (ls : List Lexeme) (asked : Option Shares) : Type 0 where
+pub record ListGoes (states : Elements) (choice : Choice) (chosen : ℕ → Bool) (ls : List Lexeme) (asked : Option StartWeights) : Type 0 where
   pub further : List ℕ
   pub stand : AllZip (StandsFor states) ls further
   pub said : AreLeft (listed states choice (chosen_with chosen further)) asked
 
 -- all the numbers of a body, and the shares that they give
-pub data AreShares (states : Elements) (hs : List ℤ) (v : Shares) : Type 0 where
+pub data AreShares (states : Elements) (hs : List ℤ) (v : StartWeights) : Type 0 where
   only_state : count_of states ≡ 1 → (hs ≡ pos 0 ∷ []) ⊎ (hs ≡ pos one ∷ []) → v ≡ all_states states → AreShares states hs v
   probabilities : (ps : List ℕ) → 1 < count_of states → hs ≡ map pos ps → length ps ≡ count_of states → sum ps ≡ one → v ≡ shares_of ps → AreShares states hs v
 
@@ -85,54 +85,54 @@ pub data AreFormed (states : Elements) (hs : List ℤ) : Type 0 where
   alone : (h : ℤ) → hs ≡ h ∷ [] → AreFormed states hs
   each : (ps : List ℕ) → 1 < count_of states → hs ≡ map pos ps → length ps ≡ count_of states → All (λ p. p ≤ one) ps → AreFormed states hs
 
-abbrev pub AreGiven : Elements → List ℤ → Option Shares → Type 0
+abbrev pub AreGiven : Elements → List ℤ → Option StartWeights → Type 0
 AreGiven states hs None = AreFormed states hs
 AreGiven states hs (Some v) = AreShares states hs v
 
 -- after these numbers, and a sign if there is one, the lexemes are the further numbers
-pub record NumbersGo (states : Elements) (before : List ℤ) (sign : Option Sign) (ls : List Lexeme) (asked : Option Shares) : Type 0 where
+pub record NumbersGo (states : Elements) (before : List ℤ) (sign : Option Sign) (ls : List Lexeme) (asked : Option StartWeights) : Type 0 where
   pub further : List ℤ
-  pub numbers : AreNumbersBehind sign ls further
+  pub numbers : AreNumbersAfter sign ls further
   pub given : AreGiven states (before ++ further) asked
 
 -- Digits after `start:`: the number of a state where nothing follows, or else the first of more numbers.
-pub data DigitsGo (states : Elements) (digits : Digits) (ls : List Lexeme) (asked : Option Shares) : Type 0 where
+pub data DigitsGo (states : Elements) (digits : StateOrNumber) (ls : List Lexeme) (asked : Option StartWeights) : Type 0 where
   state_number : (s : ℕ) → ls ≡ [] → digits.state ≡ Some s → AreAsked (single states s) asked → DigitsGo states digits ls asked
   first_of_more : (h : ℤ) → digits.value ≡ Ok h → NumbersGo states (h ∷ []) None ls asked → DigitsGo states digits ls asked
 
 -- the probabilities sum to one, and give these shares
-abbrev pub AreWhole : List ℕ → Option Shares → Type 0
+abbrev pub AreWhole : List ℕ → Option StartWeights → Type 0
 AreWhole all None = Unit {0}
 AreWhole all (Some v) = (sum all ≡ one) × (v ≡ shares_of all)
 
 -- further probabilities, until there are enough
-pub record SharesGo (n : Numbers ℕ) (ls : List Lexeme) (asked : Option Shares) : Type 0 where
+pub record SharesGo (n : Numbers ℕ) (ls : List Lexeme) (asked : Option StartWeights) : Type 0 where
   pub all : List ℕ
   pub go : ProbabilitiesGo n ls (bodies.Probabilities all)
   pub whole : AreWhole all asked
 
-abbrev pub BodyGoes : Elements → List Lexeme → Option Shares → Type 0
+abbrev pub BodyGoes : Elements → List Lexeme → Option StartWeights → Type 0
 BodyGoes states ls None = IsStartBodyForm states ls
 BodyGoes states ls (Some v) = IsStartBody states ls v
 
-abbrev pub FormGoes : Elements → List Lexeme → Option Shares → Type 0
+abbrev pub FormGoes : Elements → List Lexeme → Option StartWeights → Type 0
 FormGoes states ls None = IsStartForm states ls
 FormGoes states ls (Some v) = IsStart states ls v
 
-abbrev pub StartGoes : Elements → StartReader → List Lexeme → Option Shares → Type 0
+abbrev pub StartGoes : Elements → StartReader → List Lexeme → Option StartWeights → Type 0
 StartGoes states reader.Form ls asked = FormGoes states ls asked
-StartGoes states (reader.Colon choice) ls asked = BehindColon (ListGoes states choice (λ s. false)) ls asked
+StartGoes states (reader.Colon choice) ls asked = AfterColon (ListGoes states choice (λ s. false)) ls asked
 StartGoes states (reader.List chosen) ls asked = ListGoes states chosen.choice (marked chosen.marks) ls asked
 StartGoes states reader.Body ls asked = BodyGoes states ls asked
 StartGoes states reader.Every ls asked = (ls ≡ []) × AreAsked (all_states states) asked
 StartGoes states (reader.Only s) ls asked = (ls ≡ []) × AreAsked (single states s) asked
 StartGoes states (reader.Sign sign) ls asked = NumbersGo states [] (Some sign) ls asked
 StartGoes states (reader.Number first) ls asked = NumbersGo states (first.value ∷ []) None ls asked
-StartGoes states (reader.Digits digits) ls asked = DigitsGo states digits ls asked
+StartGoes states (reader.StateOrNumber digits) ls asked = DigitsGo states digits ls asked
 StartGoes states (reader.Probabilities n) ls asked = SharesGo n ls asked
 
 -- the lexemes end the item with these shares
-abbrev pub StartGives : Elements → StartReader → List Lexeme → Shares → Type 0
+abbrev pub StartGives : Elements → StartReader → List Lexeme → StartWeights → Type 0
 StartGives states r ls v = StartGoes states r ls (Some v)
 
 -- before the first token
@@ -149,7 +149,7 @@ pub record AreWithin (states : Elements) (n : Numbers ℕ) : Type 0 where
 abbrev pub IsStartWithin : Elements → StartReader → Type 0
 IsStartWithin states (reader.List chosen) = length chosen.marks ≡ count_of states
 IsStartWithin states (reader.Only s) = s < count_of states
-IsStartWithin states (reader.Digits digits) = (1 < count_of states) × ((s : ℕ) → digits.state ≡ Some s → s < count_of states)
+IsStartWithin states (reader.StateOrNumber digits) = (1 < count_of states) × ((s : ℕ) → digits.state ≡ Some s → s < count_of states)
 IsStartWithin states (reader.Probabilities n) = AreWithin states n
 IsStartWithin states _ = Unit {0}
 
@@ -171,7 +171,7 @@ pending_of (Err fault) place = Some (record { kind = Number fault; place = place
 
 -- digits without a value: they are refused as soon as anything follows them, a fault of the tokens too
 abbrev pub pending : StartReader → Option Refusal
-pending (reader.Digits digits) = pending_of digits.value digits.place
+pending (reader.StateOrNumber digits) = pending_of digits.value digits.place
 pending _ = None
 
 -- the value of a numeral, or why it has none
@@ -185,7 +185,7 @@ IsState count (Some s) l = IsWhole l s × (s < count)
 IsState count None l = (s : ℕ) → IsWhole l s → s < count → ⊥
 
 -- what was kept of a numeral of digits alone
-pub record AreDigits (count : ℕ) (l : Lexeme) (digits : Digits) : Type 0 where
+pub record AreDigits (count : ℕ) (l : Lexeme) (digits : StateOrNumber) : Type 0 where
   pub more : 1 < count
   pub place : digits.place ≡ l.place
   pub digits_are : IsDigits l
@@ -208,7 +208,7 @@ IsNumberKept sign l _ = ⊥
 abbrev pub IsKept : ℕ → Lexeme → StartReader → Type 0
 IsKept count l reader.Every = l.kind ≡ Name
 IsKept count l (reader.Only s) = l.kind ≡ Name
-IsKept count l (reader.Digits digits) = AreDigits count l digits
+IsKept count l (reader.StateOrNumber digits) = AreDigits count l digits
 IsKept count l r = (may_be_state count l.kind l.bytes ≡ false) × IsNumberKept None l r
 
 -- a number below 0 or above one
@@ -216,9 +216,9 @@ abbrev pub IsOutside : ℤ → Type 0
 IsOutside h = (p : ℕ) → h ≡ pos p → p ≤ one → ⊥
 
 -- the body is a colon, and the first number's sign, if it has one
-abbrev pub IsBehindColon : Option Sign → List Lexeme → Type 0
-IsBehindColon None body = (colon : Lexeme) × (body ≡ colon ∷ []) × (colon.kind ≡ Colon)
-IsBehindColon (Some sign) body = (colon : Lexeme) × (s : Lexeme) × (body ≡ colon ∷ s ∷ []) × (colon.kind ≡ Colon) × IsSignAt sign s
+abbrev pub IsAfterColon : Option Sign → List Lexeme → Type 0
+IsAfterColon None body = (colon : Lexeme) × (body ≡ colon ∷ []) × (colon.kind ≡ Colon)
+IsAfterColon (Some sign) body = (colon : Lexeme) × (s : Lexeme) × (body ≡ colon ∷ s ∷ []) × (colon.kind ≡ Colon) × IsSignAt sign s
 
 -- the body begins with the word of a list
 abbrev pub IsListBegun : List Lexeme → Type 0
@@ -234,7 +234,7 @@ pub record IsNumberBody (count : ℕ) (body : List Lexeme) (first : FirstNumber)
   pub no_digits : (place : ℕ) → BeginsWithDigits count body place (λ l. Unit {0}) [] → ⊥
 
 -- what was kept of digits: the state of this number, and their value
-pub record IsDigitsKept (count : ℕ) (digits : Digits) (l : Lexeme) : Type 0 where
+pub record IsDigitsKept (count : ℕ) (digits : StateOrNumber) (l : Lexeme) : Type 0 where
   pub state : IsState count digits.state l
   pub value : IsValue digits.value false l
 
@@ -246,24 +246,24 @@ IsFraction negative l = (h : ℤ) × IsMillionths negative l h × (IsOutside h �
 pub record IsFurtherBody (body : List Lexeme) : Type 0 where
   pub place : ℕ
   pub next : Lexeme
-  pub behind : List Lexeme
-  pub number : BeginsWithNumber body place IsFraction (next ∷ behind)
+  pub following : List Lexeme
+  pub number : BeginsWithNumber body place IsFraction (next ∷ following)
 
 -- the body so far, as the state knows it, with so many states
 abbrev pub IsBody : ℕ → List Lexeme → StartReader → Type 0
 IsBody count body reader.Form = body ≡ []
 IsBody count body (reader.Colon choice) = IsListBegun body
 IsBody count body (reader.List chosen) = IsListBegun body
-IsBody count body reader.Body = IsBehindColon None body
+IsBody count body reader.Body = IsAfterColon None body
 IsBody count body reader.Every = IsWordBody body
 IsBody count body (reader.Only s) = IsWordBody body
-IsBody count body (reader.Sign sign) = IsBehindColon (Some sign) body
+IsBody count body (reader.Sign sign) = IsAfterColon (Some sign) body
 IsBody count body (reader.Number first) = IsNumberBody count body first
-IsBody count body (reader.Digits digits) = BeginsWithDigits count body digits.place (IsDigitsKept count digits) []
+IsBody count body (reader.StateOrNumber digits) = BeginsWithDigits count body digits.place (IsDigitsKept count digits) []
 IsBody count body (reader.Probabilities n) = IsFurtherBody body
 
 -- what the body so far has to do with the state
-pub record IsStartSeen (count : ℕ) (body : List Lexeme) (r : StartReader) : Type 0 where
+pub record HasReadStart (count : ℕ) (body : List Lexeme) (r : StartReader) : Type 0 where
   pub sign : SignEnds (start_sign r) body
   pub body_is : IsBody count body r
 
@@ -297,11 +297,11 @@ IsDueValue (Err fault) first l kind place = (kind ≡ Number fault) × (place �
 -- The refusal of the first number that is due as soon as this lexeme follows.
 abbrev pub IsDue : StartReader → Lexeme → ItemFault → ℕ → Type 0
 IsDue (reader.Number first) l kind place = IsDueNumber first.value first.place l kind place
-IsDue (reader.Digits digits) l kind place = IsDueValue digits.value digits.place l kind place
+IsDue (reader.StateOrNumber digits) l kind place = IsDueValue digits.value digits.place l kind place
 IsDue _ l kind place = ⊥
 
 -- why a token is refused, after this sign and where this is wanted: for the first number, or for itself
-pub data IsStop (Due : ItemFault → ℕ → Type 0) (sign : Option Sign) (w : Wanted) (l : Lexeme) (kind : ItemFault) (place : ℕ) : Type 0 where
+pub data IsStop (Due : ItemFault → ℕ → Type 0) (sign : Option Sign) (w : Expected) (l : Lexeme) (kind : ItemFault) (place : ℕ) : Type 0 where
   due : Due kind place → IsStop Due sign w l kind place
   at_once : IsMisfit w l kind → IsReasonAt sign l kind place → IsStop Due sign w l kind place
 
@@ -311,11 +311,11 @@ IsNumberHeld None l = (is_sign l.kind ≡ true) ⊎ ((h : ℤ) × IsMillionths f
 IsNumberHeld (Some sign) l = (h : ℤ) × IsMillionths sign.negative l h
 
 -- what continues to the first number, or to its end, and is tested later
-abbrev pub IsHeld : ℕ → StartReader → Lexeme → Type 0
-IsHeld count reader.Form l = l.kind ≡ Colon
-IsHeld count reader.Body l = (may_be_state count l.kind l.bytes ≡ true) ⊎ IsNumberHeld None l
-IsHeld count (reader.Sign sign) l = IsNumberHeld (Some sign) l
-IsHeld count _ l = ⊥
+abbrev pub CanStillBeRight : ℕ → StartReader → Lexeme → Type 0
+CanStillBeRight count reader.Form l = l.kind ≡ Colon
+CanStillBeRight count reader.Body l = (may_be_state count l.kind l.bytes ≡ true) ⊎ IsNumberHeld None l
+CanStillBeRight count (reader.Sign sign) l = IsNumberHeld (Some sign) l
+CanStillBeRight count _ l = ⊥
 
 -- what each reason of a refusal stands at, in the body that is refused
 abbrev pub IsReasonIn : List Lexeme → ItemFault → ℕ → Type 0
@@ -340,44 +340,44 @@ IsStartEndKind StartSum = Unit {0}
 IsStartEndKind StartEmpty = Unit {0}
 IsStartEndKind _ = ⊥
 
-abbrev pub IsStartEndReason : List Lexeme → ItemEnd → Type 0
+abbrev pub IsStartEndReason : List Lexeme → EndError → Type 0
 IsStartEndReason body (ends.AtEnd kind) = IsStartEndKind kind
 IsStartEndReason body (ends.At r) = (r.kind ≡ IndexOutOfRange) × IsStartReason body r.kind r.place
 IsStartEndReason body ends.Memory = Unit {0}
 
 -- the reason is told at the item's end
-abbrev pub IsAtEnd : ItemEnd → Type 0
+abbrev pub IsAtEnd : EndError → Type 0
 IsAtEnd (ends.At r) = ⊥
 IsAtEnd _ = Unit {0}
 
 -- Digits that are no state's number are why a start item cannot end after them, and nothing else is told before its end.
-abbrev pub IsEndDue : StartReader → ItemEnd → Type 0
-IsEndDue (reader.Digits digits) (ends.At r) = (digits.state ≡ None) × (r.kind ≡ IndexOutOfRange) × (r.place ≡ digits.place)
-IsEndDue (reader.Digits digits) (ends.AtEnd kind) = ⊥
-IsEndDue (reader.Digits digits) ends.Memory = Unit {0}
+abbrev pub IsEndDue : StartReader → EndError → Type 0
+IsEndDue (reader.StateOrNumber digits) (ends.At r) = (digits.state ≡ None) × (r.kind ≡ IndexOutOfRange) × (r.place ≡ digits.place)
+IsEndDue (reader.StateOrNumber digits) (ends.AtEnd kind) = ⊥
+IsEndDue (reader.StateOrNumber digits) ends.Memory = Unit {0}
 IsEndDue _ e = IsAtEnd e
 
 -- the item cannot end for this refusal, or memory ran out
-abbrev pub IsLateEnd : ItemEnd → Refusal → Type 0
+abbrev pub IsLateEnd : EndError → Refusal → Type 0
 IsLateEnd (ends.At r) late = (r.kind ≡ late.kind) × (r.place ≡ late.place)
 IsLateEnd (ends.AtEnd kind) late = ⊥
 IsLateEnd ends.Memory late = Unit {0}
 
 -- Why a start item cannot continue with this lexeme after the body, where this is wanted: for its first number, which is
 -- refused late, or for the lexeme itself, where no refusal of that number is held back.
-pub data StopsStart (held : Option Refusal) (count : ℕ) (body : List Lexeme) (w : Wanted) (l : Lexeme) (kind : ItemFault) (place : ℕ) : Type 0 where
+pub data StopsStart (held : Option Refusal) (count : ℕ) (body : List Lexeme) (w : Expected) (l : Lexeme) (kind : ItemFault) (place : ℕ) : Type 0 where
   first_number : ((more : List Lexeme) (ends : Bool) → IsLate count (body ++ l ∷ more) ends kind place) → StopsStart held count body w l kind place
   token : (sign : Option Sign) → held ≡ None → SignEnds sign body → IsMisfit w l kind → IsReasonAt sign l kind place → StopsStart held count body w l kind place
 
 -- this holds, or memory ran out
-abbrev pub IfNotMemory : ItemEnd → Type 0 → Type 0
+abbrev pub IfNotMemory : EndError → Type 0 → Type 0
 IfNotMemory ends.Memory P = Unit {0}
 IfNotMemory _ P = P
 
 -- what continues after one more lexeme is what went on from before it
-pub record Begins (Old : List Lexeme → Option Shares → Type 0) (l : Lexeme) (New : List Lexeme → Option Shares → Type 0) : Type 0 where
-  pub back : (ls : List Lexeme) (asked : Option Shares) → New ls asked → Old (l ∷ ls) asked
-  pub on : (ls : List Lexeme) (asked : Option Shares) → Old (l ∷ ls) asked → New ls asked
+pub record Begins (Old : List Lexeme → Option StartWeights → Type 0) (l : Lexeme) (New : List Lexeme → Option StartWeights → Type 0) : Type 0 where
+  pub back : (ls : List Lexeme) (asked : Option StartWeights) → New ls asked → Old (l ∷ ls) asked
+  pub on : (ls : List Lexeme) (asked : Option StartWeights) → Old (l ∷ ls) asked → New ls asked
 
 -- all that are above 0 are this number
 abbrev pub is_level_at : ℕ → List ℕ → Bool
@@ -389,5 +389,5 @@ first_above_0 [] = 0
 first_above_0 (p ∷ ps) = if p == 0 then first_above_0 ps else p
 
 -- the share of a number where the numbers above 0 are the same
-abbrev pub level_share : ℕ → ℕ
-level_share p = if not (p == 0) then 1 else 0
+abbrev pub support_weight : ℕ → ℕ
+support_weight p = if not (p == 0) then 1 else 0

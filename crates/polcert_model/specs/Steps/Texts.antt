@@ -1,9 +1,8 @@
 -- A text, item by item: what its reader holds after the lexemes so far.
 -- Nobody has to believe this: only contracts of private functions cite it.
-use Rattle.std.specs.Prelude.{◌≡◌, ℕ, ◌+◌, ◌≤◌, true, Option, Some, None, List, [], ◌∷◌, ◌++◌, length}
-use Rattle.polcert_text.specs.Beginning.{BeginWith, passed}
+use Rattle.std.specs.Prelude.{◌≡◌, ℕ, ◌+◌, true, Option, Some, None, List, [], ◌∷◌, ◌++◌, length}
 use Rattle.polcert_text.specs.Cut.{Lexeme, IsCut, text_rest, text_limit}
-use Rattle.polcert_text.specs.Stream.{Stream, visible}
+use Rattle.polcert_text.specs.Steps.TakenAhead.{ReadsOn}
 use Rattle.polcert_text.specs.Reading.{fault_place}
 use Rattle.polcert_text.specs.declared.tokens.TokenFault.{TokenFault}
 use Rattle.polcert_text.specs.declared.tokens.TokenFault.TheVariants as token_faults
@@ -21,20 +20,20 @@ use Rattle.polcert_cells.specs.declared.words.Topic.TheVariants.{Cells}
 use Rattle.polcert_cells.specs.Entry.{IsEntry, MayBeGiven}
 use Rattle.polcert_cells.specs.Preamble.{Preamble}
 use Rattle.polcert_cells.specs.Words.{begins_item}
-use Rattle.polcert_format.specs.Text.{Known, nothing_known, IsComplete, IsRight}
+use Rattle.polcert_format.specs.Text.{ModelSoFar, nothing_known, IsComplete, IsRight}
 use Rattle.polcert_format.specs.Order.{word_fault}
 use Rattle.polcert_format.specs.Forms.{HasForm, IsPossible}
 use Rattle.polcert_format.specs.Reading.{AreRightItems, IsWithinItem}
 use Rattle.polcert_format.specs.FirstNumber.{states_known}
 use Rattle.polcert_format.specs.FirstWrong.{TextTokens, AreTokensOf}
 use Rattle.polcert_format.specs.Refusals.{IsRefusal, IsPlacedRight}
-use Rattle.polcert_format.specs.Wants.{wanted}
+use Rattle.polcert_format.specs.Wants.{expected}
 use Rattle.polcert_items.specs.Steps.Wants.{item_wants}
 use Rattle.polcert_items.specs.Steps.Items.{ItemGoes, ItemForms, IsItemWithin, IsSeen, topic_in, pending_in}
-use Rattle.polcert_items.specs.Steps.Known.{IsWholeRead}
+use Rattle.polcert_items.specs.Steps.ModelSoFar.{IsWholeRead}
 
 -- an entry of this body, right but perhaps for the limits of cells, and what is known after it
-pub record IsEntryTo (k : Known) (table : Table) (body : List Lexeme) (next : Known) : Type 0 where
+pub record IsEntryTo (k : ModelSoFar) (table : Table) (body : List Lexeme) (next : ModelSoFar) : Type 0 where
   pub p : Preamble
   pub e : Entry
   pub complete : IsComplete k p
@@ -43,22 +42,22 @@ pub record IsEntryTo (k : Known) (table : Table) (body : List Lexeme) (next : Kn
   pub next_is : next ≡ record k { entries = k.entries ++ e ∷ [] }
 
 -- right, but perhaps for the limits of cells
-abbrev pub IsShaped : Known → Topic → List Lexeme → Known → Type 0
+abbrev pub IsShaped : ModelSoFar → Topic → List Lexeme → ModelSoFar → Type 0
 IsShaped k (Cells table) body next = IsEntryTo k table body next
 IsShaped k t body next = IsRight k t body next
 
 -- the item's body so far, and what its reader makes of what is still to come of it
-pub record IsBodyRead (k : Known) (t : Topic) (body : List Lexeme) (item : ItemReader) : Type 0 where
+pub record IsBodyRead (k : ModelSoFar) (t : Topic) (body : List Lexeme) (item : ItemReader) : Type 0 where
   pub may_stand : word_fault k t ≡ None
   pub topic_is : topic_in item ≡ t
   pub within : IsItemWithin k item
   pub seen : IsSeen (states_known k) body item
-  pub back : (ls : List Lexeme) (next : Known) → ItemGoes k item ls next → IsShaped k t (body ++ ls) next
-  pub on : (ls : List Lexeme) (next : Known) → IsShaped k t (body ++ ls) next → ItemGoes k item ls next
+  pub back : (ls : List Lexeme) (next : ModelSoFar) → ItemGoes k item ls next → IsShaped k t (body ++ ls) next
+  pub on : (ls : List Lexeme) (next : ModelSoFar) → IsShaped k t (body ++ ls) next → ItemGoes k item ls next
   pub formed : (ls : List Lexeme) → ItemForms k item ls tt → HasForm k t (body ++ ls)
   pub forms : (ls : List Lexeme) → HasForm k t (body ++ ls) → ItemForms k item ls tt
   pub possible : pending_in item ≡ None → IsPossible k t body
-  pub wants : (ls : List Lexeme) → wanted k t (body ++ ls) ≡ item_wants k item ls
+  pub wants : (ls : List Lexeme) → expected k t (body ++ ls) ≡ item_wants k item ls
 
 -- within an item, after right ones
 pub record IsItemRead (seen : List Lexeme) (r : TextReader) : Type 0 where
@@ -81,18 +80,9 @@ pub data IsTextRead (seen : List Lexeme) (r : TextReader) : Type 0 where
   nothing : IsNothingRead seen r → IsTextRead seen r
   item : IsItemRead seen r → IsTextRead seen r
 
--- the first of these bytes, wherever they stand, are lexemes with which the reader went on
-pub record IsReadAhead (old : TextReader) (bytes : List ℕ) (count : ℕ) (new : TextReader) : Type 0 where
-  pub within : count ≤ length bytes
-  pub read : (place : ℕ) → (ls : List Lexeme) × (BeginWith place bytes count ls × ((seen : List Lexeme) → IsTextRead seen old → IsTextRead (seen ++ ls) new))
-
--- lexemes ahead were given with which the reader went on
-pub record IsPassed (old : TextReader) (tokens : Stream) (new : TextReader) (passed_tokens : Stream) : Type 0 where
-  pub count : ℕ
-  pub ls : List Lexeme
-  pub front : BeginWith tokens.ahead.place (visible tokens.ahead) count ls
-  pub tokens_are : passed_tokens ≡ passed count tokens
-  pub read : (seen : List Lexeme) → IsTextRead seen old → IsTextRead (seen ++ ls) new
+-- with these lexemes the reader continues
+abbrev pub TextReadsOn : TextReader → TextReader → List Lexeme → Type 0
+TextReadsOn old new = ReadsOn (λ (_ : Unit {0}). IsTextRead) old new
 
 -- after right items, before the next
 pub record AreItemsRead (seen : List Lexeme) (r : TextReader) : Type 0 where
@@ -106,8 +96,8 @@ pub record Refuses (ts : TextTokens) (fault : ModelFault) : Type 0 where
   pub placed : IsPlacedRight ts fault
 
 -- a refusal of each text whose lexemes begin with these
-abbrev pub IsRefusedBehind : List Lexeme → ModelFault → Type 0
-IsRefusedBehind seen fault = (text : List ℕ) (ts : TextTokens) (further : List Lexeme) → AreTokensOf text ts → ts.lexemes ≡ seen ++ further → Refuses ts fault
+abbrev pub IsRefusedAfter : List Lexeme → ModelFault → Type 0
+IsRefusedAfter seen fault = (text : List ℕ) (ts : TextTokens) (further : List Lexeme) → AreTokensOf text ts → ts.lexemes ≡ seen ++ further → Refuses ts fault
 
 -- an item ends at this place after the lexemes: at the next item's word, or at the clean end of the text
 pub data EndsItem (ts : TextTokens) (seen : List Lexeme) (place : ℕ) : Type 0 where
@@ -134,7 +124,7 @@ tokens_end number None fault = model_faults.Item (fault_kind fault) number (faul
 tokens_end number (Some r) fault = model_faults.Item r.kind number r.place
 
 -- the whole text was read, and this is known of it
-abbrev pub IsTextOf : List ℕ → Known → Type 0
+abbrev pub IsTextOf : List ℕ → ModelSoFar → Type 0
 IsTextOf text k = (seen : List Lexeme) × IsCut (text_rest text text_limit) seen None × IsWholeRead seen k
 
 -- a refusal where the text ends cleanly here

@@ -143,14 +143,14 @@ fn is_row_alike<C: Cells, D: Cells>(first: &C, second: &D, a: usize, s: usize) -
         if t(first, a, s, column) != t(second, a, s, column) {
             return false;
         }
-        if lent_t(first, a, s, column) != lent_t(second, a, s, column) {
+        if borrowed_t(first, a, s, column) != borrowed_t(second, a, s, column) {
             return false;
         }
         for z in 0..first.observations() {
             if o(first, a, column, z) != o(second, a, column, z) {
                 return false;
             }
-            if lent_o(first, a, column, z) != lent_o(second, a, column, z) {
+            if borrowed_o(first, a, column, z) != borrowed_o(second, a, column, z) {
                 return false;
             }
             if r(first, a, s, column, z) != r(second, a, s, column, z) {
@@ -162,7 +162,7 @@ fn is_row_alike<C: Cells, D: Cells>(first: &C, second: &D, a: usize, s: usize) -
 }
 
 /// The first end state from a number on that has a weight above 0, and the weight, by the row that is borrowed.
-fn lent_t<C: Cells>(cells: &C, a: usize, s: usize, from: usize) -> Option<(usize, u64)> {
+fn borrowed_t<C: Cells>(cells: &C, a: usize, s: usize, from: usize) -> Option<(usize, u64)> {
     if a < cells.actions() && s < cells.states() {
         first_from(cells.t_row(a, s)?, from, cells.states())
     } else {
@@ -171,7 +171,7 @@ fn lent_t<C: Cells>(cells: &C, a: usize, s: usize, from: usize) -> Option<(usize
 }
 
 /// The same of observations after an end state.
-fn lent_o<C: Cells>(cells: &C, a: usize, e: usize, from: usize) -> Option<(usize, u64)> {
+fn borrowed_o<C: Cells>(cells: &C, a: usize, e: usize, from: usize) -> Option<(usize, u64)> {
     if a < cells.actions() && e < cells.states() {
         first_from(cells.o_row(a, e)?, from, cells.observations())
     } else {

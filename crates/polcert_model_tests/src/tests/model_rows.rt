@@ -40,7 +40,7 @@ fn a_uniform_table(rt: HostRuntime) {
 }
 
 #[test]
-fn single_cells_behind_a_uniform_row(rt: HostRuntime) {
+fn single_cells_after_a_uniform_row(rt: HostRuntime) {
     let numbers = [
         (Number::States, 6),
         (Number::Actions, 1),

@@ -271,7 +271,7 @@ fn first_wrong_failure(model: &Model, form: &[u8]) -> Option<usize> {
         let failed = !is_written(model, &mut sink);
         if !failed
             || !sink.holds(&form[..failing], 1)
-            || !fails_behind_a_buffer(model, form, failing)
+            || !fails_after_a_buffer(model, form, failing)
         {
             return Some(failing);
         }
@@ -286,7 +286,7 @@ fn first_wrong_failure(model: &Model, form: &[u8]) -> Option<usize> {
 }
 
 /// The same through a buffer.
-fn fails_behind_a_buffer(model: &Model, form: &[u8], failing: usize) -> bool {
+fn fails_after_a_buffer(model: &Model, form: &[u8], failing: usize) -> bool {
     let mut sink = OneByte::new(failing);
     let failed = !writes_through(model, &mut sink);
     failed && failing <= form.len() && sink.holds(&form[..failing.min(form.len())], 1)

@@ -9,9 +9,9 @@ use Rattle.std.proofs.Math.Nat.{mul-le-mul, le_trans}
 use Rattle.std.proofs.Math.Numerals.{add-one}
 use Rattle.polcert_text.specs.Numbers.{largest}
 use Rattle.polcert_cells.specs.Tables.{CellTable, IsProper, IsWithinLimits}
-use Rattle.polcert_cells.specs.LentRows.{reached}
+use Rattle.polcert_cells.specs.BorrowedRows.{reached}
 use Rattle.polcert_cells.specs.declared.row.Row.{Row}
-use Rattle.polcert_cells.specs.declared.row.Row.TheVariants.{Sparse, Filled, Single}
+use Rattle.polcert_cells.specs.declared.row.Row.TheVariants.{Sparse, Filled, Scaled, Single}
 use Rattle.polcert_check.specs.Horizon.{total_below}
 use Rattle.polcert_check.specs.Steps.Ranges.{most_scales, most_sum}
 use Rattle.polcert_check.proofs.Sums.Ring.{*ℤ_assoc}
@@ -29,6 +29,7 @@ pub start_of_row : (row : Option Row) → reached row 0 ≡ 0
 start_of_row None = refl
 start_of_row (Some (Sparse cells)) = refl
 start_of_row (Some (Filled weights)) = refl
+start_of_row (Some (Scaled numbers scale)) = refl
 start_of_row (Some (Single cell)) = refl
 
 -- ---- a list of which one item is set
@@ -45,10 +46,6 @@ filled_more f xs z x room before is k kl = go (cases_eq k z)
     go : (k ≡ z) ⊎ (k ≡ z → ⊥) → sum_of (set xs z x) k ≡ f k
     go (inl same) = rw same (set_here xs z x room ∙ is)
     go (inr other) = set_other xs z k x other ∙ before k (omega (arith, kl, other))
-
--- those after the place stay
-pub others_stay : (f : ℕ → ℤ) (xs : List ℤ) (z : ℕ) (x : ℤ) → ((k : ℕ) → z ≤ k → sum_of xs k ≡ f k) → (k : ℕ) → z + 1 ≤ k → sum_of (set xs z x) k ≡ f k
-others_stay f xs z x after k h = set_other xs z k x (λ (same : k ≡ z). omega (arith, h, same)) ∙ after k (omega (arith, h))
 
 -- ---- weights
 module _ (t : CellTable) (p : IsProper t) (limits : IsWithinLimits t) (a s : ℕ) (al : a < t.actions) (sl : s < t.states) where

@@ -26,8 +26,8 @@ reward_is t a s =
     sym (sum_below_scale (pos (t.t a s e)) (λ z. pos (t.o a e z) *ℤ t.r a s e z) t.observations)
     ∙ sum_below_same _ _ t.observations (λ z _. sym (*ℤ_assoc (pos (t.t a s e)) (pos (t.o a e z)) (t.r a s e z))))
 
-turned : (x y : ℤ) → neg_ℤ (x -ℤ y) ≡ y -ℤ x
-turned x y = omega (arith, linear)
+signed_from : (x y : ℤ) → neg_ℤ (x -ℤ y) ≡ y -ℤ x
+signed_from x y = omega (arith, linear)
 
 -- a shortfall, turned, is the excess
 pub excess_is : (t : CellTable) (vectors : ℕ → ℕ → ℤ) (a s : ℕ) (short v reward best : ℤ) → short ≡ pos (t.t_scale * t.o_scale * one) *ℤ v -ℤ (pos one *ℤ reward +ℤ pos t.discount *ℤ best)
@@ -36,7 +36,7 @@ excess_is t vectors a s short v reward best is ve re be =
     let earned : reward ≡ expected_reward t a s = re ∙ reward_is t a s in
     let same : short ≡ pos (t.t_scale * t.o_scale * one) *ℤ vectors a s -ℤ (pos one *ℤ expected_reward t a s +ℤ pos t.discount *ℤ best_value t vectors a s) = is ∙ rw (ve, earned, be) refl in
     ap neg_ℤ same
-    ∙ turned (pos (t.t_scale * t.o_scale * one) *ℤ vectors a s) (pos one *ℤ expected_reward t a s +ℤ pos t.discount *ℤ best_value t vectors a s)
+    ∙ signed_from (pos (t.t_scale * t.o_scale * one) *ℤ vectors a s) (pos one *ℤ expected_reward t a s +ℤ pos t.discount *ℤ best_value t vectors a s)
 
 sum_le : (x y z : ℤ) (b : ℕ) → unsigned_abs x ≤ b → unsigned_abs y ≤ b → unsigned_abs z ≤ b → unsigned_abs ((x +ℤ y) -ℤ z) ≤ 3 * b
 sum_le x y z b xl yl zl = omega (arith, ints)

@@ -3,12 +3,12 @@ use Rattle.std.proofs.Common.{◌≡◌, ℕ, ◌+◌, ◌<◌, ◌≤◌, ◌�
 use Rattle.std.specs.Prelude.{int_lt}
 use Rattle.std.specs.Int.{int_max}
 use Rattle.std.proofs.lemmas.Bool.{cases_cond, cases_lt}
-use Rattle.std.proofs.lemmas.Int.{ints, clamps}
+use Rattle.std.proofs.lemmas.Int.{ints}
 use Rattle.polcert_cells.specs.Tables.{CellTable}
 use Rattle.polcert_text.specs.Numbers.{largest}
 use Rattle.polcert_cells.specs.Tables.{IsProper, IsWithinLimits}
 use Rattle.polcert_check.specs.Verdict.{IsBefore}
-use Rattle.polcert_check.proofs.Sums.Ring.{linear, ≤ℤ_trans}
+use Rattle.polcert_check.proofs.Sums.Ring.{≤ℤ_trans}
 use Rattle.polcert_optimum.specs.Informed.{excess}
 use Rattle.polcert_optimum.specs.InformedCheck.{most_excess}
 use Rattle.polcert_optimum.specs.Steps.Sums.{IsGreatestExcess}
@@ -19,13 +19,6 @@ max_is_one : (x y : ℤ) → (int_max x y ≡ x) ⊎ (int_max x y ≡ y)
 max_is_one x y = cases_cond (int_lt y x) x y _ refl
 
 module _ (t : CellTable) (vectors : ℕ → ℕ → ℤ) where
-  pub none_yet : IsGreatestExcess t vectors 0 0 (pos 0)
-  none_yet = record {
-    some = omega (arith, linear);
-    bounds = λ b u bl ul before. ⊎_elim (λ (l : b < 0). absurd (omega (arith, l))) (λ (h : (b ≡ 0) × (u < 0)). absurd (omega (arith, h.1))) before;
-    is_reached = inl refl;
-  }
-
   module _ (a s : ℕ) (x : ℤ) (before : IsGreatestExcess t vectors a s x) where
     above : (y : ℤ) → y ≡ excess t vectors a s → (b u : ℕ) → b < t.actions → u < t.states → IsBefore b u a (s + 1) → excess t vectors b u ≤ℤ int_max x y
     above y is b u bl ul earlier =
@@ -48,14 +41,6 @@ module _ (t : CellTable) (vectors : ℕ → ℕ → ℤ) where
           (λ (e : int_max x y ≡ y). inr (a, s, al, sl, e ∙ is))
           (max_is_one x y);
     }
-
-  -- all states of an action
-  pub next_action : (a : ℕ) (x : ℤ) → IsGreatestExcess t vectors a t.states x → IsGreatestExcess t vectors (a + 1) 0 x
-  next_action a x before = record {
-    some = before.some;
-    bounds = λ b u bl ul earlier. before.bounds b u bl ul (⊎_elim (λ (l : b < a + 1). ⊎_elim (λ (k : b < a). inl k) (λ (k : a ≤ b). inr (omega (arith, l, k), ul)) (cases_lt b a)) (λ (h : (b ≡ a + 1) × (u < 0)). absurd (omega (arith, h.1))) earlier);
-    is_reached = before.is_reached;
-  }
 
 -- how large it is
 pub greatest_small : (t : CellTable) → IsProper t → IsWithinLimits t → (vectors : ℕ → ℕ → ℤ) → ((b e : ℕ) → b < t.actions → e < t.states → unsigned_abs (vectors b e) ≤ largest) → (a s : ℕ) (x : ℤ) → IsGreatestExcess t vectors a s x → unsigned_abs x ≤ most_excess t

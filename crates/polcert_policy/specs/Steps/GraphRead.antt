@@ -3,7 +3,7 @@ use Rattle.std.specs.Prelude.{◌≡◌, ℕ, suc, ◌+◌, ◌-◌, ◌*◌, �
 use Rattle.polcert_text.specs.Cut.{Lexeme}
 use Rattle.polcert_policy.specs.Fields.{minus_kind, is_joined, is_whole, whole_of}
 use Rattle.polcert_policy.specs.Graphs.{PolicyGraph, AreNodes, IsLooseGraph, IsFirstBeyond, IsPossible, width, most_nodes}
-use Rattle.polcert_policy.specs.GraphText.{IsColumn, StopsFor}
+use Rattle.polcert_policy.specs.GraphText.{IsColumn, GraphFirstBadToken}
 use Rattle.polcert_policy.specs.Steps.Kept.{kept_of}
 use Rattle.polcert_policy.specs.declared.fault.GraphFault.{GraphFault}
 use Rattle.polcert_policy.specs.declared.fault.GraphFault.TheVariants as faults
@@ -16,7 +16,7 @@ pub record AreNodesUpTo (actions observations : ℕ) (ts : List Lexeme) (node co
   pub count : length ts ≡ node * width observations + column
   pub within : column < width observations
   pub chosen_before : column < 2 → length chosen ≡ node
-  pub chosen_behind : 2 ≤ column → length chosen ≡ suc node
+  pub chosen_after : 2 ≤ column → length chosen ≡ suc node
   pub filled : length successors ≡ node * observations + (column - 2)
   pub few : node ≤ most_nodes
   pub few_begun : 0 < column → node < most_nodes
@@ -42,10 +42,10 @@ pub record IsRead (seen : List Lexeme) (reading : GraphReading) : Type 0 where
 
 -- why these tokens aren't read on
 abbrev pub IsTokenRefusal : ℕ → ℕ → List Lexeme → GraphFault → Type 0
-IsTokenRefusal actions observations ts (faults.BadShape place) = StopsFor actions observations ts (faults.BadShape place)
-IsTokenRefusal actions observations ts (faults.NodeOutOfOrder place) = StopsFor actions observations ts (faults.NodeOutOfOrder place)
-IsTokenRefusal actions observations ts (faults.ActionOutOfRange place) = StopsFor actions observations ts (faults.ActionOutOfRange place)
-IsTokenRefusal actions observations ts (faults.TooManyNodes place) = StopsFor actions observations ts (faults.TooManyNodes place)
+IsTokenRefusal actions observations ts (faults.BadShape place) = GraphFirstBadToken actions observations ts (faults.BadShape place)
+IsTokenRefusal actions observations ts (faults.NodeOutOfOrder place) = GraphFirstBadToken actions observations ts (faults.NodeOutOfOrder place)
+IsTokenRefusal actions observations ts (faults.ActionOutOfRange place) = GraphFirstBadToken actions observations ts (faults.ActionOutOfRange place)
+IsTokenRefusal actions observations ts (faults.TooManyNodes place) = GraphFirstBadToken actions observations ts (faults.TooManyNodes place)
 IsTokenRefusal actions observations ts faults.Memory = Unit {0}
 IsTokenRefusal actions observations ts _ = ⊥
 
@@ -93,6 +93,7 @@ pub record Advanced (old new : GraphReading) : Type 0 where
   pub last : suc old.column ≡ width old.observations → (new.node ≡ suc old.node) × (new.column ≡ 0)
   pub chosen_same : new.chosen ≡ old.chosen
   pub successors_same : new.successors ≡ old.successors
+  pub minus_same : new.minus ≡ old.minus
 
 -- a token that doesn't join on is read, or is wrong at its place
 abbrev pub TakesNext : Lexeme → GraphReading → Result (Unit {0}) GraphFault → GraphReading → Type 0

@@ -30,9 +30,9 @@ abbrev pub kept_sign : Lexeme → OpenSign
 kept_sign s = record { place = s.place; is_negative = minus_kind s.kind }
 
 -- where a number begins whose numeral stands at the place
-abbrev pub place_behind : Option OpenSign → ℕ → ℕ
-place_behind None place = place
-place_behind (Some sign) place = sign.place
+abbrev pub place_after : Option OpenSign → ℕ → ℕ
+place_after None place = place
+place_after (Some sign) place = sign.place
 
 abbrev pub is_minus : Option OpenSign → Bool
 is_minus None = false

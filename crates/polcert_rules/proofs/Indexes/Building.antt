@@ -22,8 +22,8 @@ among_from [] r (k, l, e) = absurd (omega arith)
 among_from (x ∷ xs) r (k, l, e) = at (λ c. among_from xs r c) k l e
   where
     at : (Contains xs r → Among r xs) → (k : ℕ) → k < length (x ∷ xs) → get_or (x ∷ xs) k r ≡ r → (x ≡ r) ⊎ Among r xs
-    at later zero l e = inl e
-    at later (suc k) l e = inr (later (k, omega arith, e))
+    at max_option zero l e = inl e
+    at max_option (suc k) l e = inr (max_option (k, omega arith, e))
 
 pub contains_from : (xs : List Rule) (r : Rule) → Among r xs → Contains xs r
 contains_from [] r a = absurd a

@@ -3,7 +3,7 @@ use Rattle.std.proofs.Common.{◌≡◌, ℕ, ◌≤◌, ◌⊎◌, inl, inr, �
 use Rattle.std.proofs.lemmas.Bool.Decides.{nat_tests}
 use Rattle.polcert_rules.specs.declared.rule.Rule.{Rule}
 use Rattle.polcert_rules.specs.Steps.Newest.{IsNewest}
-use Rattle.polcert_rules.specs.Matching.{later}
+use Rattle.polcert_rules.specs.Matching.{max_option}
 
 -- the greatest number of such rules
 abbrev pub IsGreatest : (Rule → Type 0) → Option ℕ → Type 0
@@ -22,7 +22,7 @@ pub newest_of : (rules : List Rule) (P : ℕ → Type 0) (x : Option ℕ) → Is
 newest_of rules P None n = λ r c p. n r (c, p)
 newest_of rules P (Some m) n = (record { rule = n.0.0; among = n.0.1.0; passes = n.0.1.1; is = n.0.2 }, λ r c p. n.1 r (c, p))
 
-pub greatest_of_two : (S T : Rule → Type 0) (a b : Option ℕ) → IsGreatest S a → IsGreatest T b → IsGreatest (λ r. S r ⊎ T r) (later a b)
+pub greatest_of_two : (S T : Rule → Type 0) (a b : Option ℕ) → IsGreatest S a → IsGreatest T b → IsGreatest (λ r. S r ⊎ T r) (max_option a b)
 greatest_of_two S T None None x y = λ r e. ⊎_elim (x r) (y r) e
 greatest_of_two S T None (Some n) x y = ((y.0.0, inr y.0.1, y.0.2), λ r e. ⊎_elim (λ p. absurd (x r p)) (y.1 r) e)
 greatest_of_two S T (Some m) None x y = ((x.0.0, inl x.0.1, x.0.2), λ r e. ⊎_elim (x.1 r) (λ q. absurd (y r q)) e)

@@ -2,7 +2,6 @@
 use Rattle.std.proofs.Common.{◌≡◌, ◌∙◌, ℕ, zero, suc, ◌*◌, ◌<◌, ◌≤◌, ◌==◌, ◌↔◌, ⊎_elim, Bool, true, false, cond, eqb, IsTrue, Option, Some, None, List, [], ◌∷◌, ◌++◌, length, map, get_or, slice_index, All, refl, sym, ap, subst, arith, rules, tests}
 use Rattle.std.specs.Option.{option_map}
 use Rattle.std.proofs.lemmas.List.{map-append}
-use Rattle.polcert_cells.proofs.Basics.{some≢none}
 use Rattle.std.specs.List.{slice_get}
 use Rattle.std.proofs.Math.Nat.{mul-le-mul_left, mul_comm}
 use Rattle.std.proofs.lemmas.Bool.{cases_lt}
@@ -18,15 +17,18 @@ use Rattle.polcert_cells.specs.Numbers.{one}
 use Rattle.polcert_cells.specs.Steps.Sound.{Fills}
 use Rattle.polcert_cells.specs.declared.cell.Cell.{Cell}
 use Rattle.polcert_rules.specs.declared.shape.Shape.{Shape}
-use Rattle.polcert_rules.specs.declared.kept.Source.{Source}
-use Rattle.polcert_rules.specs.declared.kept.Source.TheVariants.{Nothing, Even, Diagonal, Line}
-use Rattle.polcert_rules.specs.declared.kept.SharedRow.{SharedRow}
-use Rattle.polcert_rules.specs.declared.kept.Keeper.{Keeper}
+use Rattle.polcert_rules.specs.declared.row_store.RowOrigin.{RowOrigin}
+use Rattle.polcert_rules.specs.declared.row_store.RowOrigin.TheVariants.{Nothing, Even, Diagonal, Line}
+use Rattle.polcert_rules.specs.declared.row_store.SharedRow.{SharedRow}
+use Rattle.polcert_rules.specs.declared.row_store.RowStore.{RowStore}
 use Rattle.polcert_rules.specs.Steps.Given.{IsWithin, FitsShape, number_for, given_by, given}
 use Rattle.polcert_cells.specs.Meaning.{sum_below}
-use Rattle.polcert_cells.specs.Sparse.{weight_at, IsSparse, IsRow}
+use Rattle.polcert_cells.specs.Sparse.{weight_at, scaled_cells, IsSparse, IsRow}
+use Rattle.polcert_cells.proofs.SparseLaws.{row_same}
+use Rattle.polcert_cells.proofs.ScaledRows.{scaled_row}
+use Rattle.polcert_rules.specs.Steps.Lists.{IsFullLine}
 use Rattle.polcert_rules.specs.Steps.Merging.{given_at}
-use Rattle.polcert_rules.specs.Steps.Sources.{source_in, source_of, IsFrom, IsWhole, AreKept, IsKeptRow, IsShared, IsSharedRow, IsBehind, Stays, is_proper}
+use Rattle.polcert_rules.specs.Steps.Sources.{source_in, source_of, IsFrom, IsWhole, AreKept, IsKeptRow, IsShared, IsSharedRow, IsAfter, Stays, is_proper}
 use Rattle.polcert_rules.proofs.RowLaws.SumLaws.{sum_is, sum_same}
 
 -- ---- lists
@@ -48,7 +50,7 @@ equal_test x a b e = (λ t. let same : x ≡ b = search (rules, tests) in sym e 
 -- ---- rows that are made of the same
 module _ (columns : ℕ) (entries : List Entry) where
   -- what a row that is made of this has in a column
-  abbrev made_of : Source → ℕ → ℕ
+  abbrev made_of : RowOrigin → ℕ → ℕ
   made_of Nothing c = 0
   made_of Even c = one
   made_of (Diagonal s) c = cond (eqb s c) (one * columns) 0
@@ -73,19 +75,19 @@ module _ (columns : ℕ) (entries : List Entry) where
   by_source (Some n) s c = of_entry n (slice_get entries n) s c refl
 
   same_source : (one other : Option ℕ) (s t c : ℕ) → source_of entries one s ≡ source_of entries other t → given_at columns entries one s c ≡ given_at columns entries other t c
-  same_source one other s t c e = by_source one s c ∙ ap (λ (x : Source). made_of x c) e ∙ sym (by_source other t c)
+  same_source one other s t c e = by_source one s c ∙ ap (λ (x : RowOrigin). made_of x c) e ∙ sym (by_source other t c)
 
   pub from_row : (whole : Option ℕ) (s : ℕ) (cells : List Cell) → IsRow columns (given_at columns entries whole s) cells → IsFrom columns entries (source_of entries whole s) cells
   from_row whole s cells r other t e c l = r.each c l ∙ sym (same_source other whole t s c e)
 
   -- ---- a row that is kept already, and one more
-  pub known_row : (whole : Option ℕ) (s n : ℕ) (k : Keeper) → AreKept columns entries k → IsShared k.shared.items (source_of entries whole s) n → IsKeptRow columns (given_at columns entries whole s) k.rows n
+  pub known_row : (whole : Option ℕ) (s n : ℕ) (k : RowStore) → AreKept columns entries k → IsShared k.shared.items (source_of entries whole s) n → IsKeptRow columns (given_at columns entries whole s) k.rows n
   known_row whole s n k all m =
       let x = at_number (IsSharedRow columns entries k.rows) k.shared.items m.place (record { source = source_of entries whole s; number = n }) all.common m.is in
       record { row = x.row; is = x.is; each = x.made whole s refl }
 
   -- the cells of a row that is kept
-  pub cells_row : (cells : List Cell) (k : Keeper) (f : ℕ → ℕ) (n : ℕ) → AreKept columns entries k → IsKeptRow columns f k.rows n → slice_get k.rows n ≡ Some cells → IsRow columns f cells
+  pub cells_row : (cells : List Cell) (k : RowStore) (f : ℕ → ℕ) (n : ℕ) → AreKept columns entries k → IsKeptRow columns f k.rows n → slice_get k.rows n ≡ Some cells → IsRow columns f cells
   cells_row cells k f n all h is =
       let same : h.row ≡ cells = same_Some h.row cells (sym h.is ∙ is) in
       subst (λ (xs : List Cell). IsRow columns f xs) same (record { sparse = at_number (IsSparse columns) k.rows n h.row all.sparse h.is; each = h.each })
@@ -94,28 +96,28 @@ module _ (columns : ℕ) (entries : List Entry) where
   pub weighed_row : (cells : List Cell) (rows : List (List Cell)) (f : ℕ → ℕ) (n : ℕ) → slice_get rows n ≡ Some cells → IsRow columns f cells → IsKeptRow columns f rows n
   weighed_row cells rows f n is r = record { row = cells; is = is; each = r.each }
 
-  pub behind_stays : (cells : List Cell) (old new : Keeper) → IsBehind columns cells old new → Stays old.rows new.rows
-  behind_stays cells old new b n row e = subst (λ (xs : List (List Cell)). slice_get xs n ≡ Some row) (sym b.rows_are) (get_front old.rows (cells ∷ []) n row e)
+  pub after_stays : (cells : List Cell) (old new : RowStore) → IsAfter columns cells old new → Stays old.rows new.rows
+  after_stays cells old new b n row e = subst (λ (xs : List (List Cell)). slice_get xs n ≡ Some row) (sym b.rows_are) (get_front old.rows (cells ∷ []) n row e)
 
   common_stays : (old new : List (List Cell)) → Stays old new → (x : SharedRow) → IsSharedRow columns entries old x → IsSharedRow columns entries new x
   common_stays old new stays x h = record { row = h.row; is = stays x.number h.row h.is; made = h.made }
 
-  pub behind_kept : (cells : List Cell) (old new : Keeper) → IsBehind columns cells old new → IsSparse columns cells → AreKept columns entries old → AreKept columns entries new
-  behind_kept cells old new b sparse all = record {
+  pub after_kept : (cells : List Cell) (old new : RowStore) → IsAfter columns cells old new → IsSparse columns cells → AreKept columns entries old → AreKept columns entries new
+  after_kept cells old new b sparse all = record {
     sparse = subst (λ (xs : List (List Cell)). All (IsSparse columns) xs) (sym b.rows_are) (All-push (IsSparse columns) old.rows cells all.sparse sparse);
     tested =
         b.tests_are ∙ ap (λ (bs : List Bool). bs ++ is_proper columns cells ∷ []) all.tested ∙ sym (map-append (is_proper columns) old.rows (cells ∷ []))
         ∙ sym (ap (map (is_proper columns)) b.rows_are);
     common = subst (λ (xs : List SharedRow). All (IsSharedRow columns entries new.rows) xs) (sym b.common_are)
-        (All-weaker (IsSharedRow columns entries old.rows) (IsSharedRow columns entries new.rows) (common_stays old.rows new.rows (behind_stays cells old new b)) old.shared.items all.common);
+        (All-weaker (IsSharedRow columns entries old.rows) (IsSharedRow columns entries new.rows) (common_stays old.rows new.rows (after_stays cells old new b)) old.shared.items all.common);
   }
 
-  pub behind_row : (cells : List Cell) (old new : Keeper) (n : ℕ) → IsBehind columns cells old new → n ≡ length old.rows → slice_get new.rows n ≡ Some cells
-  behind_row cells old new n b e =
+  pub after_row : (cells : List Cell) (old new : RowStore) (n : ℕ) → IsAfter columns cells old new → n ≡ length old.rows → slice_get new.rows n ≡ Some cells
+  after_row cells old new n b e =
       subst (λ (xs : List (List Cell)). slice_get xs n ≡ Some cells) (sym b.rows_are) (subst (λ k. slice_get (old.rows ++ cells ∷ []) k ≡ Some cells) (sym e) (get_last old.rows cells))
 
   -- one more row that one entry gives alone
-  pub one_more_common : (old new : Keeper) (x : SharedRow) → new.rows ≡ old.rows → new.proper.items ≡ old.proper.items → new.shared.items ≡ old.shared.items ++ x ∷ []
+  pub one_more_common : (old new : RowStore) (x : SharedRow) → new.rows ≡ old.rows → new.proper.items ≡ old.proper.items → new.shared.items ≡ old.shared.items ++ x ∷ []
       → IsSharedRow columns entries old.rows x → AreKept columns entries old → AreKept columns entries new
   one_more_common old new x rows tests more here all = record {
     sparse = subst (λ (xs : List (List Cell)). All (IsSparse columns) xs) (sym rows) all.sparse;
@@ -125,17 +127,12 @@ module _ (columns : ℕ) (entries : List Entry) where
   }
 
   -- what is known of the sum of a row
-  pub proper_is : (k : Keeper) (f : ℕ → ℕ) (n : ℕ) (b : Bool) → AreKept columns entries k → IsKeptRow columns f k.rows n → slice_get k.proper.items n ≡ Some b → IsTrue b ↔ (sum_below f columns ≡ one * columns)
+  pub proper_is : (k : RowStore) (f : ℕ → ℕ) (n : ℕ) (b : Bool) → AreKept columns entries k → IsKeptRow columns f k.rows n → slice_get k.proper.items n ≡ Some b → IsTrue b ↔ (sum_below f columns ≡ one * columns)
   proper_is k f n b all h is =
       let at : slice_get (map (is_proper columns) k.rows) n ≡ Some (is_proper columns h.row) = slice_get-map (is_proper columns) k.rows n ∙ ap (option_map (is_proper columns)) h.is in
       let same : is_proper columns h.row ≡ b = same_Some (is_proper columns h.row) b (sym at ∙ ap (λ (bs : List Bool). slice_get bs n) (sym all.tested) ∙ is) in
       let sum = sum_is columns h.row (at_number (IsSparse columns) k.rows n h.row all.sparse h.is) ∙ sum_same _ _ columns h.each in
       subst (λ t. IsTrue t ↔ (sum_below f columns ≡ one * columns)) same (equal_test _ _ _ sum)
-
-  pub tested_row : (k : Keeper) (f : ℕ → ℕ) (n : ℕ) → AreKept columns entries k → IsKeptRow columns f k.rows n → slice_get k.proper.items n ≡ None → ⊥
-  tested_row k f n all h is =
-      let at : slice_get (map (is_proper columns) k.rows) n ≡ Some (is_proper columns h.row) = slice_get-map (is_proper columns) k.rows n ∙ ap (option_map (is_proper columns)) h.is in
-      some≢none refl (sym at ∙ ap (λ (bs : List Bool). slice_get bs n) (sym all.tested) ∙ is)
 
 -- ---- rows that stay
 pub row_within : (columns : ℕ) (f : ℕ → ℕ) (rows : List (List Cell)) (n : ℕ) → IsKeptRow columns f rows n → n < length rows
@@ -173,3 +170,9 @@ pub whole_small : (shape : Shape) (entries : List Entry) (whole : Option ℕ) (s
 whole_small shape entries None s c w h = omega arith
 whole_small shape entries (Some n) s c w h =
     subst (λ o. value_or 0 (λ e. given shape.columns e s c) o ≤ one * shape.columns) (sym h.1) (given_small shape h.0 s c w h.2)
+
+-- ---- rows of numbers
+pub full_row : (n : ℕ) (f : ℕ → ℕ) (ns : List ℕ) → IsFullLine n f ns → IsRow n f (scaled_cells (length ns) 0 ns)
+full_row n f ns line =
+    let row : IsRow n (λ c. slice_index ns c * length ns) (scaled_cells (length ns) 0 ns) = subst (λ (m : ℕ). IsRow m (λ c. slice_index ns c * length ns) (scaled_cells (length ns) 0 ns)) line.size (scaled_row (length ns) ns) in
+    row_same n _ f (scaled_cells (length ns) 0 ns) (λ c l. ap (λ m. slice_index ns c * m) line.size ∙ line.each c l) row

@@ -5,7 +5,7 @@ use Rattle.polcert_cells.specs.declared.entry.Place.{Place}
 use Rattle.polcert_rules.specs.declared.rule.Rule.{Rule}
 use Rattle.polcert_rules.specs.Keys.{key_base, key_in, Fits}
 use Rattle.polcert_rules.specs.Steps.Newest.{IsNewest}
-use Rattle.polcert_rules.specs.Matching.{later, fits_key, newest_by, newest_in}
+use Rattle.polcert_rules.specs.Matching.{max_option, fits_key, newest_by, newest_in}
 use Rattle.polcert_rules.proofs.Keyed.Fitting.{same_number, equal_numbers, fits_end, fits_here, fits_next, fits_every, fits_only}
 use Rattle.polcert_rules.proofs.Indexes.Greatest.{greatest_as, greatest_of, newest_of, greatest_of_two, greatest_itself}
 use Rattle.polcert_rules.proofs.Indexes.Newer.{newest_of_part}
@@ -57,27 +57,27 @@ is_fits (suc m) low (i ∷ indices) key f = ⊎_elim
     (fits_next m low i indices key f)
 
 -- ---- the newest of rules
-behind : (r q : Rule) (rs : List Rule) → Contains rs q → Contains (r ∷ rs) q
-behind r q rs c = contains_from (r ∷ rs) q (inr (among_from rs q c))
+following : (r q : Rule) (rs : List Rule) → Contains rs q → Contains (r ∷ rs) q
+following r q rs c = contains_from (r ∷ rs) q (inr (among_from rs q c))
 
 in_front : (r : Rule) (rs : List Rule) → Contains (r ∷ rs) r
 in_front r rs = contains_from (r ∷ rs) r (inl refl)
 
-front_or_behind : (r q : Rule) (rs : List Rule) → Contains (r ∷ rs) q → (r ≡ q) ⊎ Contains rs q
-front_or_behind r q rs c = ⊎_elim inl (λ a. inr (contains_from rs q a)) (among_from (r ∷ rs) q c)
+front_or_after : (r q : Rule) (rs : List Rule) → Contains (r ∷ rs) q → (r ≡ q) ⊎ Contains rs q
+front_or_after r q rs c = ⊎_elim inl (λ a. inr (contains_from rs q a)) (among_from (r ∷ rs) q c)
 
 -- the first rule passes
-with_first : (r : Rule) (rs : List Rule) (P : ℕ → Type 0) (x : Option ℕ) → P r.key → IsNewest rs P x → IsNewest (r ∷ rs) P (later (Some r.number) x)
+with_first : (r : Rule) (rs : List Rule) (P : ℕ → Type 0) (x : Option ℕ) → P r.key → IsNewest rs P x → IsNewest (r ∷ rs) P (max_option (Some r.number) x)
 with_first r rs P x p n =
-    newest_of (r ∷ rs) P (later (Some r.number) x) (greatest_as (λ q. (r ≡ q) ⊎ (Contains rs q × P q.key)) _ (later (Some r.number) x)
-    (λ q e. ⊎_elim (λ same. subst (λ (y : Rule). Contains (r ∷ rs) y × P y.key) same (in_front r rs, p)) (λ c. (behind r q rs c.0, c.1)) e)
-    (λ q f. ⊎_elim inl (λ c. inr (c, f.1)) (front_or_behind r q rs f.0))
+    newest_of (r ∷ rs) P (max_option (Some r.number) x) (greatest_as (λ q. (r ≡ q) ⊎ (Contains rs q × P q.key)) _ (max_option (Some r.number) x)
+    (λ q e. ⊎_elim (λ same. subst (λ (y : Rule). Contains (r ∷ rs) y × P y.key) same (in_front r rs, p)) (λ c. (following r q rs c.0, c.1)) e)
+    (λ q f. ⊎_elim inl (λ c. inr (c, f.1)) (front_or_after r q rs f.0))
     (greatest_of_two _ _ (Some r.number) x (greatest_itself r) (greatest_of rs P x n)))
 
 -- the first rule does not pass
 without_first : (r : Rule) (rs : List Rule) (P : ℕ → Type 0) (x : Option ℕ) → (P r.key → ⊥) → IsNewest rs P x → IsNewest (r ∷ rs) P x
-without_first r rs P x fails n = newest_of_part (r ∷ rs) rs P x (λ q c. behind r q rs c)
-    (λ q c own. ⊎_elim (λ same. absurd (fails (subst (λ (y : Rule). P y.key) (sym same) own))) (λ b. b) (front_or_behind r q rs c)) n
+without_first r rs P x fails n = newest_of_part (r ∷ rs) rs P x (λ q c. following r q rs c)
+    (λ q c own. ⊎_elim (λ same. absurd (fails (subst (λ (y : Rule). P y.key) (sym same) own))) (λ b. b) (front_or_after r q rs c)) n
 
 not_both : (b : Bool) → b ≡ false → b ≡ true → ⊥
 not_both b f t = cc
@@ -86,7 +86,7 @@ pub newest_by_is : (rules : List Rule) (passes : ℕ → Bool) (P : ℕ → Type
 newest_by_is [] passes P sound complete = λ r c p. among_from [] r c
 newest_by_is (r ∷ rs) passes P sound complete = at (newest_by passes rs) (newest_by_is rs passes P sound complete) (passes r.key) refl
   where
-    at : (x : Option ℕ) → IsNewest rs P x → (b : Bool) → passes r.key ≡ b → IsNewest (r ∷ rs) P (cond b (later (Some r.number) x) x)
+    at : (x : Option ℕ) → IsNewest rs P x → (b : Bool) → passes r.key ≡ b → IsNewest (r ∷ rs) P (cond b (max_option (Some r.number) x) x)
     at x n true e = with_first r rs P x (sound r.key e) n
     at x n false e = without_first r rs P x (λ p. not_both (passes r.key) e (complete r.key p)) n
 

@@ -4,7 +4,7 @@ use Rattle.std.specs.List.{slice_get}
 use Rattle.std.proofs.lemmas.Option.{slice_get_within, get_or_from_slice_get}
 use Rattle.polcert_rules.specs.declared.rule.Rule.{Rule}
 use Rattle.polcert_rules.specs.Steps.Newest.{IsRising, IsNewest}
-use Rattle.polcert_rules.specs.Matching.{later}
+use Rattle.polcert_rules.specs.Matching.{max_option}
 use Rattle.polcert_rules.specs.Keys.{key_base, AreIndices, Fits}
 use Rattle.polcert_rules.proofs.Indexes.Greatest.{greatest_as, greatest_of, newest_of, greatest_of_two}
 use Rattle.polcert_rules.proofs.Keyed.Fitting.{fits_low, fits_high, fits_next, fits_here, fits_end, fits_every, fits_only, digit_below, power_next, power_some}
@@ -21,9 +21,9 @@ newest_of_part rules part P None out in_part n = λ r c p. n r (in_part r c p) p
 newest_of_part rules part P (Some m) out in_part n =
     (record { rule = n.0.rule; among = out n.0.rule n.0.among; passes = n.0.passes; is = n.0.is }, λ r c p. n.1 r (in_part r c p) p)
 
-pub newest_of_two : (rules : List Rule) (P Q : ℕ → Type 0) (a b : Option ℕ) → IsNewest rules P a → IsNewest rules Q b → IsNewest rules (λ k. P k ⊎ Q k) (later a b)
+pub newest_of_two : (rules : List Rule) (P Q : ℕ → Type 0) (a b : Option ℕ) → IsNewest rules P a → IsNewest rules Q b → IsNewest rules (λ k. P k ⊎ Q k) (max_option a b)
 newest_of_two rules P Q a b x y =
-    newest_of rules (λ k. P k ⊎ Q k) (later a b) (greatest_as _ _ (later a b)
+    newest_of rules (λ k. P k ⊎ Q k) (max_option a b) (greatest_as _ _ (max_option a b)
     (λ r e. ⊎_elim (λ p. (p.0, inl p.1)) (λ q. (q.0, inr q.1)) e) (λ r f. ⊎_elim (λ p. inl (f.0, p)) (λ q. inr (f.0, q)) f.1)
     (greatest_of_two _ _ a b (greatest_of rules P a x) (greatest_of rules Q b y)))
 
@@ -41,10 +41,10 @@ newest_of_span rules part m low indices x a span n =
 -- one place more: no place, `*`, or the index
 pub newest_of_three : (rules : List Rule) (m low i : ℕ) (indices : List ℕ) (here every only : Option ℕ) → IsNewest rules (λ k. k ≡ low) here
     → IsNewest rules (Fits m (low + key_base ^ m) indices) every → IsNewest rules (Fits m (low + (i + 2) * key_base ^ m) indices) only
-    → IsNewest rules (Fits (suc m) low (i ∷ indices)) (later here (later every only))
+    → IsNewest rules (Fits (suc m) low (i ∷ indices)) (max_option here (max_option every only))
 newest_of_three rules m low i indices here every only h e o =
     let two = newest_of_two rules _ _ every only e o in
-    let three = newest_of_two rules _ _ here (later every only) h two in
+    let three = newest_of_two rules _ _ here (max_option every only) h two in
     newest_as rules (λ k. (k ≡ low) ⊎ (Fits m (low + key_base ^ m) indices k ⊎ Fits m (low + (i + 2) * key_base ^ m) indices k)) (Fits (suc m) low (i ∷ indices)) _
     (λ k f. ⊎_elim (fits_here (suc m) low k (i ∷ indices)) (λ g. ⊎_elim (fits_every m low i indices k) (fits_only m low i indices k) g) f)
     (λ k f. fits_next m low i indices k f) three
@@ -54,7 +54,7 @@ pub newest_next : (rules evens onlys : List Rule) (m low i : ℕ) (indices : Lis
     → IsNewest rules (λ k. k ≡ low) here
     → IsSpan rules evens (low + key_base ^ m) (key_base ^ m) → IsNewest evens (Fits m (low + key_base ^ m) indices) every
     → IsSpan rules onlys (low + (i + 2) * key_base ^ m) (key_base ^ m) → IsNewest onlys (Fits m (low + (i + 2) * key_base ^ m) indices) only
-    → IsNewest rules (Fits (suc m) low (i ∷ indices)) (later here (later every only))
+    → IsNewest rules (Fits (suc m) low (i ∷ indices)) (max_option here (max_option every only))
 newest_next rules evens onlys m low i indices here every only a h spanned e spanned_only o =
     newest_of_three rules m low i indices here every only h
     (newest_of_span rules evens m (low + key_base ^ m) indices every a spanned e)
@@ -129,9 +129,9 @@ pub newest_deeper : (rules evens onlys : List Rule) (m low i : ℕ) (indices : L
     → IsNewest rules (λ k. k ≡ low) here
     → IsSpan rules evens (low + step) step → IsNewest evens (Fits (m - 1) (low + step) indices) every
     → IsSpan rules onlys (low + (i + 2) * step) step → IsNewest onlys (Fits (m - 1) (low + (i + 2) * step) indices) only
-    → IsNewest rules (Fits m low (i ∷ indices)) (later here (later every only))
+    → IsNewest rules (Fits m low (i ∷ indices)) (max_option here (max_option every only))
 newest_deeper rules evens onlys m low i indices step here every only d h spanned e spanned_only o =
-    subst (λ k. IsNewest rules (Fits k low (i ∷ indices)) (later here (later every only))) d.level
+    subst (λ k. IsNewest rules (Fits k low (i ∷ indices)) (max_option here (max_option every only))) d.level
     (newest_next rules evens onlys (m - 1) low i indices here every only d.indices_are h
     (subst (λ s. IsSpan rules evens (low + s) s) d.step_is spanned)
     (subst (λ s. IsNewest evens (Fits (m - 1) (low + s) indices) every) d.step_is e)

@@ -5,26 +5,26 @@ use Rattle.std.proofs.lemmas.List.Elements.{Contains-append_left, Contains-appen
 use Rattle.polcert_rules.specs.declared.rule.Rule.{Rule}
 use Rattle.polcert_rules.specs.Keys.{key_base, AreIndices, Fits}
 use Rattle.polcert_rules.specs.Steps.Newest.{IsNewest}
-use Rattle.polcert_rules.specs.Matching.{later}
+use Rattle.polcert_rules.specs.Matching.{max_option}
 use Rattle.polcert_rules.specs.Steps.Noting.{IsNoted, IsLastPlace}
 use Rattle.polcert_rules.proofs.Keyed.Fitting.{fits_next, fits_here, fits_end, fits_every, fits_only}
 use Rattle.polcert_rules.proofs.Indexes.Greatest.{greatest_as, greatest_of, newest_of, greatest_of_two, greatest_itself}
 use Rattle.polcert_rules.proofs.Indexes.Newer.{newest_as, newest_of_part, newest_of_two, newest_of_three, newest_deeper, is_deeper, IsSpan}
 
 -- ---- the later of two numbers
-pub later_none : (x : Option ℕ) → later x None ≡ x
+pub later_none : (x : Option ℕ) → max_option x None ≡ x
 later_none None = refl
 later_none (Some m) = refl
 
 -- as a greatest: this is what it does
-later_left : (m n : ℕ) → n ≤ m → later (Some m) (Some n) ≡ Some m
+pub later_left : (m n : ℕ) → n ≤ m → max_option (Some m) (Some n) ≡ Some m
 later_left m n l = at (leb m n) refl
   where
     at : (b : Bool) → leb m n ≡ b → cond b (Some n) (Some m) ≡ Some m
     at true e = let same : n ≡ m = grind (arith, nat_tests) in ap Some same
     at false e = refl
 
-later_right : (m n : ℕ) → m ≤ n → later (Some m) (Some n) ≡ Some n
+pub later_right : (m n : ℕ) → m ≤ n → max_option (Some m) (Some n) ≡ Some n
 later_right m n l = at (leb m n) refl
   where
     at : (b : Bool) → leb m n ≡ b → cond b (Some n) (Some m) ≡ Some n
@@ -34,17 +34,17 @@ later_right m n l = at (leb m n) refl
 by_order : (m n : ℕ) → (m ≤ n) ⊎ (n ≤ m)
 by_order m n = grind arith
 
-pub later_of_later : (x y z : Option ℕ) → later (later x y) z ≡ later x (later y z)
+pub later_of_later : (x y z : Option ℕ) → max_option (max_option x y) z ≡ max_option x (max_option y z)
 later_of_later None y z = refl
 later_of_later (Some m) None z = refl
-later_of_later (Some m) (Some n) None = later_none (later (Some m) (Some n))
+later_of_later (Some m) (Some n) None = later_none (max_option (Some m) (Some n))
 later_of_later (Some m) (Some n) (Some k) = at (by_order m n) (by_order n k) (by_order m k)
   where
-    at : (m ≤ n) ⊎ (n ≤ m) → (n ≤ k) ⊎ (k ≤ n) → (m ≤ k) ⊎ (k ≤ m) → later (later (Some m) (Some n)) (Some k) ≡ later (Some m) (later (Some n) (Some k))
-    at (inl a) (inl b) _ = ap (λ x. later x (Some k)) (later_right m n a) ∙ later_right n k b ∙ sym (ap (later (Some m)) (later_right n k b) ∙ later_right m k (omega arith))
-    at (inl a) (inr b) _ = ap (λ x. later x (Some k)) (later_right m n a) ∙ later_left n k b ∙ sym (ap (later (Some m)) (later_left n k b) ∙ later_right m n a)
-    at (inr a) (inl b) _ = ap (λ x. later x (Some k)) (later_left m n a) ∙ sym (ap (later (Some m)) (later_right n k b))
-    at (inr a) (inr b) _ = ap (λ x. later x (Some k)) (later_left m n a) ∙ later_left m k (omega arith) ∙ sym (ap (later (Some m)) (later_left n k b) ∙ later_left m n a)
+    at : (m ≤ n) ⊎ (n ≤ m) → (n ≤ k) ⊎ (k ≤ n) → (m ≤ k) ⊎ (k ≤ m) → max_option (max_option (Some m) (Some n)) (Some k) ≡ max_option (Some m) (max_option (Some n) (Some k))
+    at (inl a) (inl b) _ = ap (λ x. max_option x (Some k)) (later_right m n a) ∙ later_right n k b ∙ sym (ap (max_option (Some m)) (later_right n k b) ∙ later_right m k (omega arith))
+    at (inl a) (inr b) _ = ap (λ x. max_option x (Some k)) (later_right m n a) ∙ later_left n k b ∙ sym (ap (max_option (Some m)) (later_left n k b) ∙ later_right m n a)
+    at (inr a) (inl b) _ = ap (λ x. max_option x (Some k)) (later_left m n a) ∙ sym (ap (max_option (Some m)) (later_right n k b))
+    at (inr a) (inr b) _ = ap (λ x. max_option x (Some k)) (later_left m n a) ∙ later_left m k (omega arith) ∙ sym (ap (max_option (Some m)) (later_left n k b) ∙ later_left m n a)
 
 -- ---- rule after rule
 pub only_one : (r y : Rule) → Contains (r ∷ []) y → r ≡ y
@@ -55,9 +55,9 @@ newest_skip : (xs : List Rule) (r : Rule) (P : ℕ → Type 0) (x : Option ℕ) 
 newest_skip xs r P x n d = newest_of_part (xs ++ r ∷ []) xs P x (λ y c. Contains-append_left xs (r ∷ []) y c)
     (λ y c p. ⊎_elim (λ old. old) (λ new. absurd (d (subst (λ (z : Rule). P z.key) (sym (only_one r y new)) p))) (Contains-append_cases xs (r ∷ []) y c)) n
 
-newest_hit : (xs : List Rule) (r : Rule) (P : ℕ → Type 0) (x : Option ℕ) → IsNewest xs P x → P r.key → IsNewest (xs ++ r ∷ []) P (later x (Some r.number))
+newest_hit : (xs : List Rule) (r : Rule) (P : ℕ → Type 0) (x : Option ℕ) → IsNewest xs P x → P r.key → IsNewest (xs ++ r ∷ []) P (max_option x (Some r.number))
 newest_hit xs r P x n h =
-    newest_of (xs ++ r ∷ []) P (later x (Some r.number)) (greatest_as (λ y. (Contains xs y × P y.key) ⊎ (r ≡ y)) _ (later x (Some r.number))
+    newest_of (xs ++ r ∷ []) P (max_option x (Some r.number)) (greatest_as (λ y. (Contains xs y × P y.key) ⊎ (r ≡ y)) _ (max_option x (Some r.number))
     (λ y e. ⊎_elim (λ old. (Contains-append_left xs (r ∷ []) y old.0, old.1))
     (λ same. subst (λ (z : Rule). Contains (xs ++ r ∷ []) z × P z.key) same (Contains-append_right xs (r ∷ []) r (0, omega arith, refl), h)) e)
     (λ y f. ⊎_elim (λ old. inl (old, f.1)) (λ new. inr (only_one r y new)) (Contains-append_cases xs (r ∷ []) y f.0))
@@ -66,11 +66,11 @@ newest_hit xs r P x n h =
 pub noted_skip : (xs : List Rule) (r : Rule) (P : ℕ → Type 0) (before old new : Option ℕ) → IsNoted xs P before old → (P r.key → ⊥) → new ≡ old → IsNoted (xs ++ r ∷ []) P before new
 noted_skip xs r P before old new n d e = record { found = n.found; newest = newest_skip xs r P n.found n.newest d; is = e ∙ n.is }
 
-pub noted_hit : (xs : List Rule) (r : Rule) (P : ℕ → Type 0) (before old new : Option ℕ) → IsNoted xs P before old → P r.key → new ≡ later old (Some r.number) → IsNoted (xs ++ r ∷ []) P before new
+pub noted_hit : (xs : List Rule) (r : Rule) (P : ℕ → Type 0) (before old new : Option ℕ) → IsNoted xs P before old → P r.key → new ≡ max_option old (Some r.number) → IsNoted (xs ++ r ∷ []) P before new
 noted_hit xs r P before old new n h e = record {
-  found = later n.found (Some r.number);
+  found = max_option n.found (Some r.number);
   newest = newest_hit xs r P n.found n.newest h;
-  is = e ∙ ap (λ x. later x (Some r.number)) n.is ∙ later_of_later before n.found (Some r.number);
+  is = e ∙ ap (λ x. max_option x (Some r.number)) n.is ∙ later_of_later before n.found (Some r.number);
 }
 
 -- whether two numbers are the same
@@ -85,55 +85,55 @@ one_more_index (suc m) [] z a e l = (l, tt)
 one_more_index (suc m) (i ∷ indices) z a e l = (a.0, one_more_index m indices z a.1 (omega arith) l)
 
 -- the last place: `*`, or the number itself, as the rules from their keys on have it
-pub noted_last : (rules behind named : List Rule) (low first count i start : ℕ) (here before between after : Option ℕ) → i < count → start ≡ low + 2 + first
-    → ((r : Rule) → Contains behind r ↔ (Contains rules r × (low + 1 ≤ r.key))) → IsNewest behind (λ k. k ≡ low + 1) here → between ≡ later before here
+pub noted_last : (rules following named : List Rule) (low first count i start : ℕ) (here before between after : Option ℕ) → i < count → start ≡ low + 2 + first
+    → ((r : Rule) → Contains following r ↔ (Contains rules r × (low + 1 ≤ r.key))) → IsNewest following (λ k. k ≡ low + 1) here → between ≡ max_option before here
     → IsSpan rules named start count → IsNoted named (λ k. k ≡ start + i) between after → IsNoted rules (IsLastPlace low (first + i)) before after
-noted_last rules behind named low first count i start here before between after l is from h e span n = record {
-  found = later here n.found;
-  newest = newest_as rules (λ k. (k ≡ low + 1) ⊎ (k ≡ start + i)) (IsLastPlace low (first + i)) (later here n.found)
+noted_last rules following named low first count i start here before between after l is from h e span n = record {
+  found = max_option here n.found;
+  newest = newest_as rules (λ k. (k ≡ low + 1) ⊎ (k ≡ start + i)) (IsLastPlace low (first + i)) (max_option here n.found)
       (λ k f. ⊎_elim (λ every. inl every) (λ only. inr (omega arith)) f)
       (λ k f. ⊎_elim (λ every. inl every) (λ only. inr (omega arith)) f)
       (newest_of_two rules (λ k. k ≡ low + 1) (λ k. k ≡ start + i) here n.found
-      (newest_of_part rules behind (λ k. k ≡ low + 1) here (λ r c. ((from r).0 c).0) (λ r c f. (from r).1 (c, omega arith)) h)
+      (newest_of_part rules following (λ k. k ≡ low + 1) here (λ r c. ((from r).0 c).0) (λ r c f. (from r).1 (c, omega arith)) h)
       (newest_of_part rules named (λ k. k ≡ start + i) n.found (λ r c. ((span r).0 c).0) (λ r c f. (span r).1 (c, omega arith, omega arith)) n.newest));
-  is = n.is ∙ ap (λ x. later x n.found) e ∙ later_of_later before here n.found;
+  is = n.is ∙ ap (λ x. max_option x n.found) e ∙ later_of_later before here n.found;
 }
 
-pub noted_end : (rules : List Rule) (low z : ℕ) (here before between after : Option ℕ) → IsNewest rules (λ k. k ≡ low) here → between ≡ later before here
+pub noted_end : (rules : List Rule) (low z : ℕ) (here before between after : Option ℕ) → IsNewest rules (λ k. k ≡ low) here → between ≡ max_option before here
     → IsNoted rules (IsLastPlace low z) between after → IsNoted rules (Fits 1 low (z ∷ [])) before after
 noted_end rules low z here before between after h e n = record {
-  found = later here n.found;
-  newest = newest_as rules (λ k. (k ≡ low) ⊎ IsLastPlace low z k) (Fits 1 low (z ∷ [])) (later here n.found)
+  found = max_option here n.found;
+  newest = newest_as rules (λ k. (k ≡ low) ⊎ IsLastPlace low z k) (Fits 1 low (z ∷ [])) (max_option here n.found)
       (λ k f. ⊎_elim (fits_here 1 low k (z ∷ [])) (λ g. ⊎_elim (λ i. fits_every 0 low z [] k (fits_here 0 (low + key_base ^ 0) k [] i)) (λ i. fits_only 0 low z [] k (fits_here 0 (low + (z + 2) * key_base ^ 0) k [] (omega arith))) g) f)
       (λ k f. ⊎_elim (λ i. inl i) (λ g. inr (⊎_elim (λ i. inl (fits_end 0 (low + key_base ^ 0) k i)) (λ i. inr (let j = fits_end 0 (low + (z + 2) * key_base ^ 0) k i in omega arith)) g)) (fits_next 0 low z [] k f))
       (newest_of_two rules (λ k. k ≡ low) (IsLastPlace low z) here n.found h n.newest);
-  is = n.is ∙ ap (λ x. later x n.found) e ∙ later_of_later before here n.found;
+  is = n.is ∙ ap (λ x. max_option x n.found) e ∙ later_of_later before here n.found;
 }
 
 pub noted_deeper : (rules evens onlys : List Rule) (m low i : ℕ) (rest : List ℕ) (z step : ℕ) (here before first second after : Option ℕ)
     → AreIndices m (i ∷ rest) → m ≡ length (i ∷ rest) + 1 → z + 2 < key_base → step ≡ key_base ^ (m - 1)
-    → IsNewest rules (λ k. k ≡ low) here → first ≡ later before here
+    → IsNewest rules (λ k. k ≡ low) here → first ≡ max_option before here
     → IsSpan rules evens (low + step) step → IsNoted evens (Fits (m - 1) (low + step) (rest ++ z ∷ [])) first second
     → IsSpan rules onlys (low + (i + 2) * step) step → IsNoted onlys (Fits (m - 1) (low + (i + 2) * step) (rest ++ z ∷ [])) second after
     → IsNoted rules (Fits m low (i ∷ (rest ++ z ∷ []))) before after
 noted_deeper rules evens onlys m low i rest z step here before first second after a size l is h e spanned n spanned_only o =
     let d = is_deeper m low i (rest ++ z ∷ []) step (one_more_index m (i ∷ rest) z a size l) is in
     record {
-      found = later here (later n.found o.found);
+      found = max_option here (max_option n.found o.found);
       newest = newest_deeper rules evens onlys m low i (rest ++ z ∷ []) step here n.found o.found d h spanned n.newest spanned_only o.newest;
-      is = o.is ∙ ap (λ x. later x o.found) (n.is ∙ ap (λ x. later x n.found) e) ∙ later_of_later (later before here) n.found o.found ∙ later_of_later before here (later n.found o.found);
+      is = o.is ∙ ap (λ x. max_option x o.found) (n.is ∙ ap (λ x. max_option x n.found) e) ∙ later_of_later (max_option before here) n.found o.found ∙ later_of_later before here (max_option n.found o.found);
     }
 
 -- the same of all rules
 pub noted_of_three : (rules : List Rule) (m low i : ℕ) (indices : List ℕ) (here before first second after : Option ℕ)
-    → IsNewest rules (λ k. k ≡ low) here → first ≡ later before here → IsNoted rules (Fits m (low + key_base ^ m) indices) first second
+    → IsNewest rules (λ k. k ≡ low) here → first ≡ max_option before here → IsNoted rules (Fits m (low + key_base ^ m) indices) first second
     → IsNoted rules (Fits m (low + (i + 2) * key_base ^ m) indices) second after → IsNoted rules (Fits (suc m) low (i ∷ indices)) before after
 noted_of_three rules m low i indices here before first second after h e n o = record {
-  found = later here (later n.found o.found);
+  found = max_option here (max_option n.found o.found);
   newest = newest_of_three rules m low i indices here n.found o.found h n.newest o.newest;
-  is = o.is ∙ ap (λ x. later x o.found) (n.is ∙ ap (λ x. later x n.found) e) ∙ later_of_later (later before here) n.found o.found ∙ later_of_later before here (later n.found o.found);
+  is = o.is ∙ ap (λ x. max_option x o.found) (n.is ∙ ap (λ x. max_option x n.found) e) ∙ later_of_later (max_option before here) n.found o.found ∙ later_of_later before here (max_option n.found o.found);
 }
 
 -- where nothing was noted before, the newest is noted
 pub noted_first : (rules : List Rule) (P : ℕ → Type 0) (before after : Option ℕ) → before ≡ None → IsNoted rules P before after → IsNewest rules P after
-noted_first rules P before after none n = subst (IsNewest rules P) (sym (n.is ∙ ap (λ x. later x n.found) none)) n.newest
+noted_first rules P before after none n = subst (IsNewest rules P) (sym (n.is ∙ ap (λ x. max_option x n.found) none)) n.newest

@@ -17,7 +17,7 @@ use Rattle.polcert_rules.specs.RewardAt.{RewardRules}
 use Rattle.polcert_rules.specs.Steps.RewardSearch.{Begins, IsLastBody}
 use Rattle.polcert_rules.proofs.Keyed.Fitting.{and_true, key_low, key_high}
 use Rattle.polcert_rules.proofs.Keyed.Covering.{keyed_at, same_table}
-use Rattle.polcert_rules.proofs.RewardLaws.RewardKeys.{begins_behind}
+use Rattle.polcert_rules.proofs.RewardLaws.RewardKeys.{begins_after}
 
 -- ---- the rule of an entry of R
 -- what is known of an entry of R that covers a cell
@@ -59,7 +59,7 @@ named_begins : (low a s e z : ℕ) (p q r : Place) (n : ℕ) (rest : List Place)
 named_begins low a s e z p q r n (x ∷ xs) key fits digits is = absurd digits.1.1.1.1
 named_begins low a s e z p q r n [] key fits digits is =
     let small = digits.1.1.1.0 in
-    begins_behind most_places low (p ∷ q ∷ r ∷ []) (Only n ∷ []) (a ∷ s ∷ e ∷ []) (z ∷ []) _ key refl fits (omega arith) (omega arith)
+    begins_after most_places low (p ∷ q ∷ r ∷ []) (Only n ∷ []) (a ∷ s ∷ e ∷ []) (z ∷ []) _ key refl fits (omega arith) (omega arith)
 
 fits_moved : (a s e y z : ℕ) (ps : List Place) → ((p q r : Place) (n : ℕ) (rest : List Place) → ps ≡ p ∷ q ∷ r ∷ Only n ∷ rest → ⊥)
     → fit_places ps (a ∷ s ∷ e ∷ y ∷ []) ≡ fit_places ps (a ∷ s ∷ e ∷ z ∷ [])

@@ -14,7 +14,7 @@ use Rattle.polcert_rules.specs.Steps.Newest.{IsLastNumber}
 use Rattle.polcert_rules.specs.Steps.Rewards.{AreRewardsOf}
 use Rattle.polcert_rules.specs.RewardAt.{RewardRules, cell_in}
 use Rattle.polcert_rules.specs.Steps.RewardSearch.{Begins, IsLastBody, IsSingle}
-use Rattle.polcert_rules.proofs.RewardLaws.RewardKeys.{begins_behind}
+use Rattle.polcert_rules.proofs.RewardLaws.RewardKeys.{begins_after}
 use Rattle.polcert_rules.proofs.RewardLaws.RewardAlike.{NoneBegins, covering}
 use Rattle.polcert_rules.proofs.RewardLaws.RewardValues.{is_open, body_reward, no_reward}
 
@@ -23,11 +23,11 @@ end_begins : (low a s e z : ℕ) (p q : Place) (n : ℕ) (rest : List Place) (ke
     → AreDigits most_places (p ∷ q ∷ Only n ∷ rest) → key ≡ key_in most_places low (p ∷ q ∷ Only n ∷ rest) → Begins most_places low (a ∷ s ∷ []) (key_base + 2) key
 end_begins low a s e z p q n [] key fits digits is =
     let small = digits.1.1.0 in
-    begins_behind most_places low (p ∷ q ∷ []) (Only n ∷ []) (a ∷ s ∷ []) (e ∷ z ∷ []) _ key refl fits (omega arith) (omega arith)
+    begins_after most_places low (p ∷ q ∷ []) (Only n ∷ []) (a ∷ s ∷ []) (e ∷ z ∷ []) _ key refl fits (omega arith) (omega arith)
 end_begins low a s e z p q n (r ∷ []) key fits digits is =
     let small = digits.1.1.0 in
     let smaller = digits.1.1.1.0 in
-    begins_behind most_places low (p ∷ q ∷ []) (Only n ∷ r ∷ []) (a ∷ s ∷ []) (e ∷ z ∷ []) _ key refl fits (omega arith) (omega arith)
+    begins_after most_places low (p ∷ q ∷ []) (Only n ∷ r ∷ []) (a ∷ s ∷ []) (e ∷ z ∷ []) _ key refl fits (omega arith) (omega arith)
 end_begins low a s e z p q n (r ∷ x ∷ xs) key fits digits is = absurd digits.1.1.1.1
 
 -- and so does what names an observation after any end state
@@ -35,7 +35,7 @@ seen_begins : (low a s e z : ℕ) (p q : Place) (n : ℕ) (rest : List Place) (k
     → AreDigits most_places (p ∷ q ∷ Every ∷ Only n ∷ rest) → key ≡ key_in most_places low (p ∷ q ∷ Every ∷ Only n ∷ rest) → Begins most_places low (a ∷ s ∷ []) (key_base + 2) key
 seen_begins low a s e z p q n [] key fits digits is =
     let small = digits.1.1.1.0 in
-    begins_behind most_places low (p ∷ q ∷ []) (Every ∷ Only n ∷ []) (a ∷ s ∷ []) (e ∷ z ∷ []) _ key refl fits (omega arith) (omega arith)
+    begins_after most_places low (p ∷ q ∷ []) (Every ∷ Only n ∷ []) (a ∷ s ∷ []) (e ∷ z ∷ []) _ key refl fits (omega arith) (omega arith)
 seen_begins low a s e z p q n (x ∷ xs) key fits digits is = absurd digits.1.1.1.1
 
 -- places that name neither fit every end state and observation, or none

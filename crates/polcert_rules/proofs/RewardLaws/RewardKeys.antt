@@ -34,9 +34,9 @@ fits_front (p ∷ ps) rest (i ∷ is) more size fits =
     let both = and_true (fits_place p i) _ fits in
     ap (λ b. b && fit_places ps is) both.0 ∙ fits_front ps rest is more (omega arith) both.1
 
-pub begins_behind : (m low : ℕ) (ps rest : List Place) (is more : List ℕ) (least key : ℕ) → length ps ≡ length is → fit_places (ps ++ rest) (is ++ more) ≡ true
+pub begins_after : (m low : ℕ) (ps rest : List Place) (is more : List ℕ) (least key : ℕ) → length ps ≡ length is → fit_places (ps ++ rest) (is ++ more) ≡ true
     → key_in m low ps + least ≤ key → key < key_in m low ps + key_base ^ (m - length is) → Begins m low is least key
-begins_behind m low ps rest is more least key size fits from to = record { places = ps; fits = fits_front ps rest is more size fits; all = size; from = from; to = to }
+begins_after m low ps rest is more least key size fits from to = record { places = ps; fits = fits_front ps rest is more size fits; all = size; from = from; to = to }
 
 pub begins_low : (m low : ℕ) (indices : List ℕ) (least key : ℕ) → Begins m low indices least key → low ≤ key
 begins_low m low indices least key b = let l = key_low m low b.places in let f = b.from in omega arith

@@ -6,6 +6,7 @@ use Rattle.std.proofs.lemmas.List.{drop_more, take_more, take-append-drop}
 use Rattle.std.proofs.lemmas.List.Elements.{Contains-append_cases, Contains-append_left}
 use Rattle.std.proofs.lemmas.Option.{slice_get-get_or, slice_get_past, slice_get-map, same_Some}
 use Rattle.polcert_cells.specs.declared.entry.Entry.{Entry}
+use Rattle.polcert_cells.specs.EntryRefs.{all_rewards, AreRewardsFrom}
 use Rattle.polcert_rules.specs.declared.rule.Rule.{Rule}
 use Rattle.polcert_rules.specs.declared.reward_parts.RewardBody.{RewardBody}
 use Rattle.polcert_rules.specs.Steps.Rewards.{worth, rewards_in, IsBodyOf, AreBodiesOf}
@@ -37,13 +38,6 @@ pub first_of_taken : (rules : List Rule) (i first : ℕ) → ((r : Rule) → Con
 first_of_taken rules i first of_each r among =
     of_each r (subst (λ (xs : List Rule). Contains xs r) (take-append-drop i rules) (Contains-append_left (take i rules) (drop i rules) r among))
 
--- ---- numbers after others
-get_behind : (xs ys : List ℤ) (k : ℕ) → slice_get (xs ++ ys) (length xs + k) ≡ slice_get ys k
-get_behind [] ys k = let e : 0 + k ≡ k = omega arith in ap (slice_get ys) e
-get_behind (x ∷ xs) ys k =
-    let e : suc (length xs) + k ≡ suc (length xs + k) = omega arith in
-    ap (slice_get ((x ∷ xs) ++ ys)) e ∙ get_behind xs ys k
-
 -- ---- one body is written
 get_set_same : (xs : List RewardBody) (i : ℕ) (b : RewardBody) → i < length xs → slice_get (set xs i b) i ≡ Some b
 get_set_same [] i b l = absurd (omega (arith, l))
@@ -57,47 +51,37 @@ get_set_other (x ∷ xs) zero (suc j) b d = refl
 get_set_other (x ∷ xs) (suc i) zero b d = refl
 get_set_other (x ∷ xs) (suc i) (suc j) b d = get_set_other xs i j b (λ e. d (ap suc e))
 
-some_more : (P Q : RewardBody → Type 0) (x : Option RewardBody) → ((b : RewardBody) → P b → Q b) → IsSomeAnd x P → IsSomeAnd x Q
-some_more P Q None f h = absurd h
-some_more P Q (Some b) f h = f b h
+-- the body of an entry, where the numbers are those of all entries
+pub body_is : (costs : Bool) (entries : List Entry) (entry : Entry) (n : ℕ) (b : RewardBody) → slice_get entries n ≡ Some entry → AreRewardsFrom entries n b.start → b.places ≡ length entry.places
+    → IsBodyOf costs entry (map (worth costs) (all_rewards entries)) b
+body_is costs entries entry n b is from places = record {
+  places = places;
+  numbers_are = λ k h g. slice_get-map (worth costs) (all_rewards entries) (b.start + k) ∙ ap (option_map (worth costs)) (from entry is k h g);
+}
 
 -- where the bodies of some rules are written, that of one more is
-pub one_more_body : (costs : Bool) (entries : List Entry) (rules : List Rule) (r : Rule) (first : ℕ) (numbers more : List ℤ) (bodies : List RewardBody) (b : RewardBody) (entry : Entry)
-    → AreBodiesOf costs entries rules first numbers bodies → more ≡ numbers ++ map (worth costs) (rewards_in entry.body) → slice_get entries r.number ≡ Some entry
-    → b.start ≡ length numbers → b.places ≡ length entry.places → ((x : Rule) → Contains rules x → first ≤ x.number) → first ≤ r.number → r.number - first < length bodies
-    → AreBodiesOf costs entries (rules ++ r ∷ []) first more (set bodies (r.number - first) b)
-one_more_body costs entries rules r first numbers more bodies b entry old numbers_are is start places behind here inside x among e found =
+pub one_more_body : (costs : Bool) (entries : List Entry) (rules : List Rule) (r : Rule) (first : ℕ) (numbers : List ℤ) (bodies : List RewardBody) (b : RewardBody) (entry : Entry)
+    → AreBodiesOf costs entries rules first numbers bodies → slice_get entries r.number ≡ Some entry → IsBodyOf costs entry numbers b
+    → ((x : Rule) → Contains rules x → first ≤ x.number) → first ≤ r.number → r.number - first < length bodies
+    → AreBodiesOf costs entries (rules ++ r ∷ []) first numbers (set bodies (r.number - first) b)
+one_more_body costs entries rules r first numbers bodies b entry old is here low_of low inside x among e found =
     ⊎_elim same other (same_or_not x.number r.number)
   where
     after : List RewardBody
     after = set bodies (r.number - first) b
 
-    written : entry ≡ e → IsBodyOf costs e more b
-    written entry_is = record {
-      places = places ∙ ap (λ (y : Entry). length y.places) entry_is;
-      numbers_are = λ k h g.
-          ap (λ s. slice_get more (s + k)) start ∙ ap (λ ns. slice_get ns (length numbers + k)) numbers_are ∙ get_behind numbers _ k
-          ∙ slice_get-map (worth costs) (rewards_in entry.body) k ∙ ap (λ (y : Entry). option_map (worth costs) (slice_get (rewards_in y.body) k)) entry_is ∙ ap (option_map (worth costs)) g;
-    }
-
-    same : x.number ≡ r.number → IsSomeAnd (body_at first after x.number) (IsBodyOf costs e more)
+    same : x.number ≡ r.number → IsSomeAnd (body_at first after x.number) (IsBodyOf costs e numbers)
     same n =
         let entry_is : entry ≡ e = same_Some entry e (sym is ∙ ap (slice_get entries) (sym n) ∙ found) in
         let at : body_at first after x.number ≡ Some b = ap (body_at first after) n ∙ get_set_same bodies (r.number - first) b inside in
-        subst (λ y. IsSomeAnd y (IsBodyOf costs e more)) (sym at) (written entry_is)
+        subst (λ y. IsSomeAnd y (IsBodyOf costs e numbers)) (sym at) (subst (λ (y : Entry). IsBodyOf costs y numbers b) entry_is here)
 
-    kept : (y : RewardBody) → IsBodyOf costs e numbers y → IsBodyOf costs e more y
-    kept y body = record {
-      places = body.places;
-      numbers_are = λ k h g. subst (λ ns. slice_get ns (y.start + k) ≡ Some (worth costs h)) (sym numbers_are) (get_front numbers _ (y.start + k) (worth costs h) (body.numbers_are k h g));
-    }
-
-    other : (x.number ≡ r.number → ⊥) → IsSomeAnd (body_at first after x.number) (IsBodyOf costs e more)
+    other : (x.number ≡ r.number → ⊥) → IsSomeAnd (body_at first after x.number) (IsBodyOf costs e numbers)
     other d = ⊎_elim
         (λ before.
-        let low = behind x before in
+        let low_x = low_of x before in
         let at : body_at first after x.number ≡ body_at first bodies x.number = get_set_other bodies (r.number - first) (x.number - first) b (λ n. d (omega arith)) in
-        subst (λ y. IsSomeAnd y (IsBodyOf costs e more)) (sym at) (some_more _ _ (body_at first bodies x.number) kept (old x before e found)))
+        subst (λ y. IsSomeAnd y (IsBodyOf costs e numbers)) (sym at) (old x before e found))
         (λ last. absurd (d (ap (λ (y : Rule). y.number) (sym (only_one r x last)))))
         (Contains-append_cases rules (r ∷ []) x among)
 

@@ -20,7 +20,7 @@ use Rattle.polcert_cells.proofs.Basics.{true≢false}
 use Rattle.polcert_rules.proofs.Keyed.Fitting.{and_true, key_low, key_high, power_some, fit_digits}
 use Rattle.polcert_rules.proofs.Keyed.Covering.{keyed_at}
 use Rattle.polcert_rules.proofs.Keyed.Keying.{digit_some, same_place, next_digit}
-use Rattle.polcert_rules.proofs.RewardLaws.RewardKeys.{key_room, begins_behind}
+use Rattle.polcert_rules.proofs.RewardLaws.RewardKeys.{key_room, begins_after}
 use Rattle.polcert_rules.proofs.RewardLaws.RewardAlike.{NoneBegins, covering}
 use Rattle.polcert_rules.proofs.RewardLaws.RewardValues.{no_reward}
 
@@ -43,7 +43,7 @@ covering_begins low a s e z key (p ∷ q ∷ rest) two fits digits is =
     let start = low + digit p * key_base ^ 3 + digit q * key_base ^ 2 in
     let from_here = key_low 2 start rest in
     let to_there = key_high 2 start rest digits.1.1 in
-    begins_behind most_places low (p ∷ q ∷ []) rest (a ∷ s ∷ []) (e ∷ z ∷ []) 0 key refl fits (omega arith) (omega arith)
+    begins_after most_places low (p ∷ q ∷ []) rest (a ∷ s ∷ []) (e ∷ z ∷ []) 0 key refl fits (omega arith) (omega arith)
 
 pub unpaid : (p : Preamble) (entries : List Entry) (rewards : RewardRules) (a s e z : ℕ) → AreRewardsOf p entries rewards → IsLastNumber entries Reward (a ∷ []) None → NoneBegins rewards (a ∷ s ∷ []) 0
     → reward p entries (a ∷ s ∷ e ∷ z ∷ []) ≡ pos 0

@@ -9,7 +9,7 @@ use Rattle.polcert_rules.specs.declared.zeros.RowZeros.{RowZeros}
 use Rattle.polcert_rules.specs.declared.row.Row.{Row}
 use Rattle.polcert_rules.specs.Keys.{key_base, table_key, AreDigits, Fits, most_places}
 use Rattle.polcert_rules.specs.Steps.Newest.{IsRising, IsNewest, IsIndexOf, AreKeyed, IsLastNumber}
-use Rattle.polcert_rules.specs.Matching.{later}
+use Rattle.polcert_rules.specs.Matching.{max_option}
 use Rattle.polcert_rules.specs.Steps.Rows.{IsSingle, IsCell, HasNoSuchColumn, HaveColumns, at_column, no_column}
 use Rattle.polcert_rules.specs.Steps.Zeros.{IsSplit, others_in, AreOrdered, IsRowOf, is_zero, zero_of, number_under}
 use Rattle.polcert_rules.proofs.Keyed.Fitting.{fits_low, fits_high}
@@ -19,7 +19,7 @@ use Rattle.polcert_rules.proofs.RowLaws.RowNumbers.{fits_split, single_fits, cov
 use Rattle.polcert_rules.proofs.RowLaws.SingleEntries.{single_entries}
 use Rattle.polcert_rules.proofs.Indexes.Greatest.{greatest_as, greatest_of, newest_of, greatest_of_two}
 
-pub under_is : (whole : Option ℕ) (zeros : Option RowZeros) (c : ℕ) → number_under whole zeros c ≡ later whole (zero_of zeros c)
+pub under_is : (whole : Option ℕ) (zeros : Option RowZeros) (c : ℕ) → number_under whole zeros c ≡ max_option whole (zero_of zeros c)
 under_is whole None c = sym (later_none whole)
 under_is whole (Some z) c = refl
 
@@ -63,11 +63,11 @@ module _ (entries : List Entry) (rules : List Rule) (table : Table) (a s : ℕ) 
 
   row_number : (c : ℕ) (whole zero cell : Option ℕ) → c < no_column → IsNewest rules (Fits most_places (table_key table) (a ∷ s ∷ no_column ∷ [])) whole
       → IsNewest split.zeros.items (IsSingle (table_key table) a s c) zero → IsNewest (others_in split.others) (IsSingle (table_key table) a s c) cell
-      → IsLastNumber entries table (a ∷ s ∷ c ∷ []) (later (later whole zero) cell)
+      → IsLastNumber entries table (a ∷ s ∷ c ∷ []) (max_option (max_option whole zero) cell)
   row_number c whole zero cell small w z o =
       let two = greatest_of_two (λ r. Contains rules r × Fits most_places (table_key table) (a ∷ s ∷ no_column ∷ []) r.key) (λ r. Contains split.zeros.items r × IsSingle (table_key table) a s c r.key)
       whole zero (greatest_of rules _ whole w) (greatest_of split.zeros.items _ zero z) in
-      let three = greatest_of_two _ (λ r. Contains (others_in split.others) r × IsSingle (table_key table) a s c r.key) (later whole zero) cell two (greatest_of (others_in split.others) _ cell o) in
+      let three = greatest_of_two _ (λ r. Contains (others_in split.others) r × IsSingle (table_key table) a s c r.key) (max_option whole zero) cell two (greatest_of (others_in split.others) _ cell o) in
       let all = newest_of rules (Fits most_places (table_key table) (a ∷ s ∷ c ∷ [])) _ (greatest_as (Three c) _ _ (three_fit c) (fit_three c small) three) in
       last_number entries rules table (a ∷ s ∷ c ∷ []) _ keyed index (omega arith, (omega arith, (omega arith, tt))) all
 
@@ -91,6 +91,6 @@ module _ (entries : List Entry) (rules : List Rule) (table : Table) (a s : ℕ) 
     zeros = λ c n l e. zero_is c n (zero_of row.zeros c) e (zeros c (omega arith));
     whole = last_number entries rules table (a ∷ s ∷ no_column ∷ []) row.whole keyed index (omega arith, (omega arith, (omega arith, tt))) w;
     last = λ c l.
-        subst (λ u. IsLastNumber entries table (a ∷ s ∷ c ∷ []) (later u (at_column row.cells.items c))) (sym (under_is row.whole row.zeros c))
+        subst (λ u. IsLastNumber entries table (a ∷ s ∷ c ∷ []) (max_option u (at_column row.cells.items c))) (sym (under_is row.whole row.zeros c))
         (row_number c row.whole (zero_of row.zeros c) (at_column row.cells.items c) l w (zeros c (omega arith)) (newest c (omega arith)));
   }

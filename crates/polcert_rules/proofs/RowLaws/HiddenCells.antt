@@ -11,10 +11,10 @@ use Rattle.polcert_cells.specs.declared.cell.Cell.{Cell}
 use Rattle.polcert_cells.specs.Sparse.{weight_at, IsRow}
 use Rattle.polcert_cells.proofs.SparseLaws.{Climbs, climbs_lower, climbs_from, sparse_from}
 use Rattle.polcert_rules.specs.declared.zeros.RowZeros.{RowZeros}
-use Rattle.polcert_rules.specs.Matching.{later}
+use Rattle.polcert_rules.specs.Matching.{max_option}
 use Rattle.polcert_rules.specs.Steps.Given.{given_by, given}
 use Rattle.polcert_rules.specs.Steps.Merging.{given_at, is_newer}
-use Rattle.polcert_rules.specs.Steps.Zeros.{gives_zero_in, gives_zero, is_zero, newest_zero, zero_of, number_under, hides, shown, shown_under}
+use Rattle.polcert_rules.specs.Steps.Zeros.{gives_zero_in, gives_zero, is_zero, newest_zero, zero_of, number_under, overrides, shown, shown_under}
 use Rattle.polcert_rules.proofs.Keyed.Fitting.{and_true, same_number}
 use Rattle.polcert_rules.proofs.RowLaws.NewerCells.{picked_number}
 
@@ -82,7 +82,7 @@ shown_row n hidden f g xs same row = record {
 
 -- ---- what is under the cells above 0
 under_given : (columns : ℕ) (entries : List Entry) (whole zero : Option ℕ) (s c : ℕ) → ((n : ℕ) → zero ≡ Some n → is_zero entries n ≡ true)
-    → given_at columns entries (later whole zero) s c ≡ cond (hides whole zero) 0 (given_at columns entries whole s c)
+    → given_at columns entries (max_option whole zero) s c ≡ cond (overrides whole zero) 0 (given_at columns entries whole s c)
 under_given columns entries whole None s c h = sym (picked_number columns entries s whole c None)
 under_given columns entries whole (Some n) s c h =
     sym (picked_number columns entries s whole c (Some n)) ∙ ap (λ v. cond (is_newer whole n) v (given_at columns entries whole s c)) (zero_given columns entries n s c (h n refl))
@@ -92,5 +92,5 @@ pub under_row : (columns : ℕ) (entries : List Entry) (whole : Option ℕ) (zer
     → IsRow columns (λ c. given_at columns entries (number_under whole zeros c) s c) (shown_under whole zeros base)
 under_row columns entries whole None s base h row = row
 under_row columns entries whole (Some z) s base h row =
-    shown_row columns (λ c. hides whole (newest_zero z c)) (given_at columns entries whole s) (λ c. given_at columns entries (later whole (newest_zero z c)) s c) base
+    shown_row columns (λ c. overrides whole (newest_zero z c)) (given_at columns entries whole s) (λ c. given_at columns entries (max_option whole (newest_zero z c)) s c) base
     (λ c l. under_given columns entries whole (newest_zero z c) s c (λ n e. h c n l e)) row

@@ -3,7 +3,7 @@ use Rattle.std.proofs.Common.{◌≡◌, ◌∙◌, ℕ, ◌+◌, ◌<◌, ◌�
 use Rattle.std.proofs.lemmas.Bool.Decides.{nat_tests}
 use Rattle.polcert_cells.specs.declared.cell.Cell.{Cell}
 use Rattle.polcert_cells.specs.Sparse.{weight_at, IsRow}
-use Rattle.polcert_rules.specs.Steps.Merging.{before, behind, with_cell, merged, weight_over, Rises}
+use Rattle.polcert_rules.specs.Steps.Merging.{before, following, with_cell, merged, weight_over, Rises}
 use Rattle.polcert_cells.proofs.SparseLaws.{Climbs, climbs_lower, climbs_from, sparse_from, weight_head, weight_tail, weight_below}
 
 -- ---- the cells before a column and after it
@@ -15,11 +15,11 @@ climbs_before low n k (x ∷ xs) rest h le g = at (ltb x.column k) refl (λ l. c
     at true e ih = let l : x.column < k = grind (arith, nat_tests) in (h.0, h.1, h.2, ih (omega arith))
     at false e ih = climbs_lower low k n rest le g
 
-climbs_behind : (low n k : ℕ) (base : List Cell) → Climbs low n base → Climbs (k + 1) n (behind k base)
-climbs_behind low n k [] h = tt
-climbs_behind low n k (x ∷ xs) h = at (ltb x.column k) refl (eqb x.column k) refl (climbs_behind (x.column + 1) n k xs h.3)
+climbs_after : (low n k : ℕ) (base : List Cell) → Climbs low n base → Climbs (k + 1) n (following k base)
+climbs_after low n k [] h = tt
+climbs_after low n k (x ∷ xs) h = at (ltb x.column k) refl (eqb x.column k) refl (climbs_after (x.column + 1) n k xs h.3)
   where
-    at : (b : Bool) → ltb x.column k ≡ b → (t : Bool) → eqb x.column k ≡ t → Climbs (k + 1) n (behind k xs) → Climbs (k + 1) n (cond b (behind k xs) (cond t xs (x ∷ xs)))
+    at : (b : Bool) → ltb x.column k ≡ b → (t : Bool) → eqb x.column k ≡ t → Climbs (k + 1) n (following k xs) → Climbs (k + 1) n (cond b (following k xs) (cond t xs (x ∷ xs)))
     at true e t f ih = ih
     at false e true f ih = let same : x.column ≡ k = grind (arith, nat_tests) in subst (λ i. Climbs (i + 1) n xs) same h.3
     at false e false f ih = let more : k + 1 ≤ x.column = grind (arith, nat_tests) in (more, h.1, h.2, h.3)
@@ -44,11 +44,11 @@ weight_after k c (x ∷ xs) rest l = at (ltb x.column k) refl (weight_after k c 
     at true e ih = let less : x.column < k = grind (arith, nat_tests) in weight_tail x (before k xs ++ rest) c (λ f. omega arith) ∙ ih
     at false e ih = refl
 
-weight_behind : (k c : ℕ) (base : List Cell) → k < c → weight_at (behind k base) c ≡ weight_at base c
-weight_behind k c [] l = refl
-weight_behind k c (x ∷ xs) l = at (ltb x.column k) refl (eqb x.column k) refl (weight_behind k c xs l)
+weight_following : (k c : ℕ) (base : List Cell) → k < c → weight_at (following k base) c ≡ weight_at base c
+weight_following k c [] l = refl
+weight_following k c (x ∷ xs) l = at (ltb x.column k) refl (eqb x.column k) refl (weight_following k c xs l)
   where
-    at : (b : Bool) → ltb x.column k ≡ b → (t : Bool) → eqb x.column k ≡ t → weight_at (behind k xs) c ≡ weight_at xs c → weight_at (cond b (behind k xs) (cond t xs (x ∷ xs))) c ≡ weight_at (x ∷ xs) c
+    at : (b : Bool) → ltb x.column k ≡ b → (t : Bool) → eqb x.column k ≡ t → weight_at (following k xs) c ≡ weight_at xs c → weight_at (cond b (following k xs) (cond t xs (x ∷ xs))) c ≡ weight_at (x ∷ xs) c
     at true e t f ih = let less : x.column < k = grind (arith, nat_tests) in ih ∙ sym (weight_tail x xs c (λ g. omega arith))
     at false e true f ih = let same : x.column ≡ k = grind (arith, nat_tests) in sym (weight_tail x xs c (λ g. omega arith))
     at false e false f ih = refl
@@ -91,24 +91,24 @@ over_same (x ∷ xs) f g c e = ap (cond (eqb x.column c) x.weight) (over_same xs
 pub merged_climbs : (low n : ℕ) (base newer : List Cell) → Climbs low n base → Rises low n newer → Climbs low n (merged base newer)
 merged_climbs low n base [] h r = h
 merged_climbs low n base (x ∷ xs) h r =
-    climbs_before low n x.column base (with_cell x (merged (behind x.column base) xs)) h r.0
-    (climbs_with x.column n x (merged (behind x.column base) xs) refl r.1 (merged_climbs (x.column + 1) n (behind x.column base) xs (climbs_behind low n x.column base h) r.2))
+    climbs_before low n x.column base (with_cell x (merged (following x.column base) xs)) h r.0
+    (climbs_with x.column n x (merged (following x.column base) xs) refl r.1 (merged_climbs (x.column + 1) n (following x.column base) xs (climbs_after low n x.column base h) r.2))
 
 pub merged_weights : (low n c : ℕ) (base newer : List Cell) → Climbs low n base → Rises low n newer → weight_at (merged base newer) c ≡ weight_over newer (weight_at base) c
 merged_weights low n c base [] h r = refl
 merged_weights low n c base (x ∷ xs) h r =
-    at (ltb c x.column) refl (eqb x.column c) refl (merged_weights (k + 1) n c (behind k base) xs (climbs_behind low n k base h) r.2)
+    at (ltb c x.column) refl (eqb x.column c) refl (merged_weights (k + 1) n c (following k base) xs (climbs_after low n k base h) r.2)
   where
     k : ℕ
     k = x.column
 
     rest : List Cell
-    rest = merged (behind k base) xs
+    rest = merged (following k base) xs
 
     rest_climbs : Climbs (k + 1) n rest
-    rest_climbs = merged_climbs (k + 1) n (behind k base) xs (climbs_behind low n k base h) r.2
+    rest_climbs = merged_climbs (k + 1) n (following k base) xs (climbs_after low n k base h) r.2
 
-    at : (b : Bool) → ltb c k ≡ b → (t : Bool) → eqb k c ≡ t → weight_at rest c ≡ weight_over xs (weight_at (behind k base)) c
+    at : (b : Bool) → ltb c k ≡ b → (t : Bool) → eqb k c ≡ t → weight_at rest c ≡ weight_over xs (weight_at (following k base)) c
         → weight_at (before k base ++ with_cell x rest) c ≡ cond t x.weight (weight_over xs (weight_at base) c)
     at true e true f ih = absurd (grind (arith, nat_tests))
     at true e false f ih =
@@ -120,7 +120,7 @@ merged_weights low n c base (x ∷ xs) h r =
         weight_after k c base (with_cell x rest) (omega arith) ∙ ap (weight_at (with_cell x rest)) (sym same) ∙ weight_with_here k n x rest refl rest_climbs
     at false e false f ih =
         let less : k < c = grind (arith, nat_tests) in
-        weight_after k c base (with_cell x rest) (omega arith) ∙ weight_with_there c x rest (λ g. omega arith) ∙ ih ∙ over_same xs (weight_at (behind k base)) (weight_at base) c (weight_behind k c base less)
+        weight_after k c base (with_cell x rest) (omega arith) ∙ weight_with_there c x rest (λ g. omega arith) ∙ ih ∙ over_same xs (weight_at (following k base)) (weight_at base) c (weight_following k c base less)
 
 -- newer cells over a row are a row
 pub merged_row : (n : ℕ) (f : ℕ → ℕ) (base newer : List Cell) → IsRow n f base → Rises 0 n newer → IsRow n (weight_over newer f) (merged base newer)

@@ -6,7 +6,7 @@ use Rattle.polcert_cells.specs.declared.entry.Entry.{Entry}
 use Rattle.polcert_cells.specs.declared.cell.Cell.{Cell}
 use Rattle.polcert_rules.specs.declared.rule.Rule.{Rule}
 use Rattle.polcert_rules.specs.Steps.Newest.{IsRising}
-use Rattle.polcert_rules.specs.Matching.{later}
+use Rattle.polcert_rules.specs.Matching.{max_option}
 use Rattle.polcert_rules.specs.Steps.Rows.{at_column, number_in}
 use Rattle.polcert_rules.specs.Steps.Merging.{given_at, is_newer, newer_cells, weight_over, Rises}
 
@@ -33,10 +33,10 @@ none_below low c (r ∷ rs) h l = at (eqb r.key c) refl (none_below (r.key + 1) 
 module _ (columns : ℕ) (entries : List Entry) (s : ℕ) where
   -- what a column has: that of its cell where it is newer than what is under it
   abbrev pub picked : Option ℕ → Option ℕ → ℕ → ℕ
-  picked under None c = given_at columns entries under s c
-  picked under (Some n) c = cond (is_newer under n) (given_at columns entries (Some n) s c) (given_at columns entries under s c)
+  picked covering_entry None c = given_at columns entries covering_entry s c
+  picked covering_entry (Some n) c = cond (is_newer covering_entry n) (given_at columns entries (Some n) s c) (given_at columns entries covering_entry s c)
 
-  pub picked_number : (under : Option ℕ) (c : ℕ) (o : Option ℕ) → picked under o c ≡ given_at columns entries (later under o) s c
+  pub picked_number : (covering_entry : Option ℕ) (c : ℕ) (o : Option ℕ) → picked covering_entry o c ≡ given_at columns entries (max_option covering_entry o) s c
   picked_number None c None = refl
   picked_number (Some m) c None = refl
   picked_number None c (Some n) = refl
@@ -49,44 +49,44 @@ module _ (columns : ℕ) (entries : List Entry) (s : ℕ) where
       two false g true h = let same : m ≡ n = grind (arith, nat_tests) in ap (λ k. given_at columns entries (Some k) s c) same
       two false g false h = refl
 
-  module _ (under : ℕ → Option ℕ) where
-    newer_picked : (low c : ℕ) (rs : List Rule) → RulesRise low rs → weight_over (newer_cells columns entries under s rs) (λ i. given_at columns entries (under i) s i) c ≡ picked (under c) (at_column rs c) c
+  module _ (covering_entry : ℕ → Option ℕ) where
+    newer_picked : (low c : ℕ) (rs : List Rule) → RulesRise low rs → weight_over (newer_cells columns entries covering_entry s rs) (λ i. given_at columns entries (covering_entry i) s i) c ≡ picked (covering_entry c) (at_column rs c) c
     newer_picked low c [] h = refl
-    newer_picked low c (r ∷ rs) h = at (is_newer (under r.key) r.number) refl (eqb r.key c) refl (newer_picked (r.key + 1) c rs h.1)
+    newer_picked low c (r ∷ rs) h = at (is_newer (covering_entry r.key) r.number) refl (eqb r.key c) refl (newer_picked (r.key + 1) c rs h.1)
       where
-        here : (b : Bool) → r.key ≡ c → is_newer (under r.key) r.number ≡ b
-            → picked (under c) (Some r.number) c ≡ cond b (given_at columns entries (Some r.number) s c) (given_at columns entries (under c) s c)
-        here b same e = ap (λ t. cond t (given_at columns entries (Some r.number) s c) (given_at columns entries (under c) s c)) (ap (λ i. is_newer (under i) r.number) (sym same) ∙ e)
+        here : (b : Bool) → r.key ≡ c → is_newer (covering_entry r.key) r.number ≡ b
+            → picked (covering_entry c) (Some r.number) c ≡ cond b (given_at columns entries (Some r.number) s c) (given_at columns entries (covering_entry c) s c)
+        here b same e = ap (λ t. cond t (given_at columns entries (Some r.number) s c) (given_at columns entries (covering_entry c) s c)) (ap (λ i. is_newer (covering_entry i) r.number) (sym same) ∙ e)
 
-        at : (b : Bool) → is_newer (under r.key) r.number ≡ b → (t : Bool) → eqb r.key c ≡ t
-            → weight_over (newer_cells columns entries under s rs) (λ i. given_at columns entries (under i) s i) c ≡ picked (under c) (at_column rs c) c
-            → weight_over (cond b (record { column = r.key; weight = given_at columns entries (Some r.number) s r.key } ∷ newer_cells columns entries under s rs) (newer_cells columns entries under s rs)) (λ i. given_at columns entries (under i) s i) c
-            ≡ picked (under c) (cond t (Some r.number) (at_column rs c)) c
+        at : (b : Bool) → is_newer (covering_entry r.key) r.number ≡ b → (t : Bool) → eqb r.key c ≡ t
+            → weight_over (newer_cells columns entries covering_entry s rs) (λ i. given_at columns entries (covering_entry i) s i) c ≡ picked (covering_entry c) (at_column rs c) c
+            → weight_over (cond b (record { column = r.key; weight = given_at columns entries (Some r.number) s r.key } ∷ newer_cells columns entries covering_entry s rs) (newer_cells columns entries covering_entry s rs)) (λ i. given_at columns entries (covering_entry i) s i) c
+            ≡ picked (covering_entry c) (cond t (Some r.number) (at_column rs c)) c
         at true e true f ih =
             let same : r.key ≡ c = grind (arith, nat_tests) in
-            ap (λ t. cond t (given_at columns entries (Some r.number) s r.key) (weight_over (newer_cells columns entries under s rs) (λ i. given_at columns entries (under i) s i) c)) f
+            ap (λ t. cond t (given_at columns entries (Some r.number) s r.key) (weight_over (newer_cells columns entries covering_entry s rs) (λ i. given_at columns entries (covering_entry i) s i) c)) f
             ∙ ap (given_at columns entries (Some r.number) s) same ∙ sym (here true same e)
         at true e false f ih =
-            ap (λ t. cond t (given_at columns entries (Some r.number) s r.key) (weight_over (newer_cells columns entries under s rs) (λ i. given_at columns entries (under i) s i) c)) f ∙ ih
+            ap (λ t. cond t (given_at columns entries (Some r.number) s r.key) (weight_over (newer_cells columns entries covering_entry s rs) (λ i. given_at columns entries (covering_entry i) s i) c)) f ∙ ih
         at false e true f ih =
             let same : r.key ≡ c = grind (arith, nat_tests) in
             let none : at_column rs c ≡ None = none_below (r.key + 1) c rs h.1 (omega arith) in
-            ih ∙ ap (λ o. picked (under c) o c) none ∙ sym (here false same e)
+            ih ∙ ap (λ o. picked (covering_entry c) o c) none ∙ sym (here false same e)
         at false e false f ih = ih
 
     -- the cells over what is under them have what the number of each column gives
     pub newer_over : (c : ℕ) (rs : List Rule) → IsRising rs
-        → weight_over (newer_cells columns entries under s rs) (λ i. given_at columns entries (under i) s i) c ≡ given_at columns entries (number_in (under c) rs c) s c
-    newer_over c rs up = newer_picked 0 c rs (rules_rise 0 rs up (λ k d l. omega arith)) ∙ picked_number (under c) c (at_column rs c)
+        → weight_over (newer_cells columns entries covering_entry s rs) (λ i. given_at columns entries (covering_entry i) s i) c ≡ given_at columns entries (number_in (covering_entry c) rs c) s c
+    newer_over c rs up = newer_picked 0 c rs (rules_rise 0 rs up (λ k d l. omega arith)) ∙ picked_number (covering_entry c) c (at_column rs c)
 
-    pub newer_rise : (low n : ℕ) (rs : List Rule) → RulesRise low rs → All (λ r. r.key < n) rs → Rises low n (newer_cells columns entries under s rs)
+    pub newer_rise : (low n : ℕ) (rs : List Rule) → RulesRise low rs → All (λ r. r.key < n) rs → Rises low n (newer_cells columns entries covering_entry s rs)
     newer_rise low n [] h within = tt
-    newer_rise low n (r ∷ rs) h within = at (is_newer (under r.key) r.number) (newer_rise (r.key + 1) n rs h.1 (All-tail (λ (r : Rule). r.key < n) r rs within))
+    newer_rise low n (r ∷ rs) h within = at (is_newer (covering_entry r.key) r.number) (newer_rise (r.key + 1) n rs h.1 (All-tail (λ (r : Rule). r.key < n) r rs within))
       where
-        at : (b : Bool) → Rises (r.key + 1) n (newer_cells columns entries under s rs)
-            → Rises low n (cond b (record { column = r.key; weight = given_at columns entries (Some r.number) s r.key } ∷ newer_cells columns entries under s rs) (newer_cells columns entries under s rs))
+        at : (b : Bool) → Rises (r.key + 1) n (newer_cells columns entries covering_entry s rs)
+            → Rises low n (cond b (record { column = r.key; weight = given_at columns entries (Some r.number) s r.key } ∷ newer_cells columns entries covering_entry s rs) (newer_cells columns entries covering_entry s rs))
         at true rest = (h.0, All-head (λ (r : Rule). r.key < n) r rs within, rest)
-        at false rest = let a = h.0 in rises_lower low (r.key + 1) n (newer_cells columns entries under s rs) (omega arith) rest
+        at false rest = let a = h.0 in rises_lower low (r.key + 1) n (newer_cells columns entries covering_entry s rs) (omega arith) rest
           where
             rises_lower : (k low n : ℕ) (xs : List Cell) → k ≤ low → Rises low n xs → Rises k n xs
             rises_lower k low n [] le h = tt

@@ -13,7 +13,7 @@ use Rattle.polcert_rules.specs.declared.row.Row.{Row}
 use Rattle.polcert_rules.specs.declared.shape.Shape.{Shape}
 use Rattle.polcert_rules.specs.Steps.Given.{given}
 use Rattle.polcert_rules.specs.Steps.Merging.{given_at, weight_in, newer_cells, weight_over, merged, Rises}
-use Rattle.polcert_rules.specs.Steps.Zeros.{number_under, under, shown_under}
+use Rattle.polcert_rules.specs.Steps.Zeros.{number_under, covering_entry, shown_under}
 use Rattle.polcert_rules.specs.Steps.Sources.{AreNumbersOf, IsKeptRow}
 use Rattle.polcert_rules.proofs.RowLaws.MergeLaws.{merged_row}
 use Rattle.polcert_rules.proofs.RowLaws.NewerCells.{newer_over, newer_rise, rules_rise}
@@ -28,26 +28,26 @@ no_zeros whole zeros c e = ap (λ z. number_under whole z c) e
 
 -- the newer cells of a row
 module _ (shape : Shape) (entries : List Entry) (table : Table) (a s : ℕ) (row : Row) (newer : List Cell) (h : AreNumbersOf shape entries table a s row)
-    (newer_are : newer ≡ newer_cells shape.columns entries (under row) s row.cells.items) where
-  newer_weights : (c : ℕ) → c < shape.columns → weight_over newer (λ i. given_at shape.columns entries (under row i) s i) c ≡ weight_in shape.columns entries table a s c
+    (newer_are : newer ≡ newer_cells shape.columns entries (covering_entry row) s row.cells.items) where
+  newer_weights : (c : ℕ) → c < shape.columns → weight_over newer (λ i. given_at shape.columns entries (covering_entry row i) s i) c ≡ weight_in shape.columns entries table a s c
   newer_weights c l =
-      ap (λ xs. weight_over xs (λ i. given_at shape.columns entries (under row i) s i) c) newer_are ∙ newer_over shape.columns entries s (under row) c row.cells.items h.rising
+      ap (λ xs. weight_over xs (λ i. given_at shape.columns entries (covering_entry row i) s i) c) newer_are ∙ newer_over shape.columns entries s (covering_entry row) c row.cells.items h.rising
       ∙ ap (value_or 0 (λ e. given shape.columns e s c)) (sym (h.last c l))
 
   newer_rises : Rises 0 shape.columns newer
   newer_rises =
       subst (Rises 0 shape.columns) (sym newer_are)
-      (newer_rise shape.columns entries s (under row) 0 shape.columns row.cells.items (rules_rise 0 row.cells.items h.rising (λ k d l. omega arith)) (λ k d l. (h.cells k d l).0))
+      (newer_rise shape.columns entries s (covering_entry row) 0 shape.columns row.cells.items (rules_rise 0 row.cells.items h.rising (λ k d l. omega arith)) (λ k d l. (h.cells k d l).0))
 
   -- the finished cells are the row
-  pub finished : (base lent_base lent_newer cells : List Cell) → IsRow shape.columns (given_at shape.columns entries row.whole s) base → lent_base ≡ base → lent_newer ≡ newer
-      → cells ≡ merged (shown_under row.whole row.zeros lent_base) lent_newer → IsRow shape.columns (weight_in shape.columns entries table a s) cells
-  finished base lent_base lent_newer cells given_base same_base same_newer e =
+  pub finished : (base borrowed_base borrowed_newer cells : List Cell) → IsRow shape.columns (given_at shape.columns entries row.whole s) base → borrowed_base ≡ base → borrowed_newer ≡ newer
+      → cells ≡ merged (shown_under row.whole row.zeros borrowed_base) borrowed_newer → IsRow shape.columns (weight_in shape.columns entries table a s) cells
+  finished base borrowed_base borrowed_newer cells given_base same_base same_newer e =
       let n = shape.columns in
-      let f = λ (i : ℕ). given_at shape.columns entries (under row i) s i in
+      let f = λ (i : ℕ). given_at shape.columns entries (covering_entry row i) s i in
       let lower = under_row n entries row.whole row.zeros s base h.zeros given_base in
       let over = merged_row n f (shown_under row.whole row.zeros base) newer lower newer_rises in
-      let is = e ∙ ap (λ (xs : List Cell). merged (shown_under row.whole row.zeros xs) lent_newer) same_base ∙ ap (merged (shown_under row.whole row.zeros base)) same_newer in
+      let is = e ∙ ap (λ (xs : List Cell). merged (shown_under row.whole row.zeros xs) borrowed_newer) same_base ∙ ap (merged (shown_under row.whole row.zeros base)) same_newer in
       subst (λ (xs : List Cell). IsRow n (weight_in n entries table a s) xs) (sym is) (row_same n _ _ _ newer_weights over)
 
   pub finished_small : (cells : List Cell) → IsRow shape.columns (weight_in shape.columns entries table a s) cells → (c : ℕ) → c < shape.columns → weight_at cells c ≤ one * shape.columns
@@ -61,5 +61,5 @@ module _ (shape : Shape) (entries : List Entry) (table : Table) (a s : ℕ) (row
     is = k.is;
     each = λ c l.
         k.each c l ∙ ap (λ o. given_at shape.columns entries o s c) (sym (no_zeros row.whole row.zeros c zeros))
-        ∙ sym (ap (λ xs. weight_over xs (λ i. given_at shape.columns entries (under row i) s i) c) (no_cells newer none)) ∙ newer_weights c l;
+        ∙ sym (ap (λ xs. weight_over xs (λ i. given_at shape.columns entries (covering_entry row i) s i) c) (no_cells newer none)) ∙ newer_weights c l;
   }

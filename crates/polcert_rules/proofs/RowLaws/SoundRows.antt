@@ -20,7 +20,7 @@ use Rattle.polcert_rules.specs.declared.rule.Rule.{Rule}
 use Rattle.polcert_rules.specs.declared.shape.Shape.{Shape}
 use Rattle.polcert_rules.specs.declared.split.SplitRules.{SplitRules}
 use Rattle.polcert_rules.specs.declared.row.Row.{Row}
-use Rattle.polcert_rules.specs.Steps.Zeros.{IsSplit, IsRowOf, under}
+use Rattle.polcert_rules.specs.Steps.Zeros.{IsSplit, IsRowOf, covering_entry}
 use Rattle.polcert_rules.specs.Steps.Repeats.{IsWholeNumber}
 use Rattle.polcert_rules.specs.Keys.{key_base, AreDigits, most_places}
 use Rattle.polcert_rules.specs.Steps.Newest.{IsIndexOf, AreKeyed, IsLastNumber, entry_at}
@@ -90,12 +90,12 @@ covering entries table indices e f = at (Some e) refl (subst (IsLastCovering ent
   where
     at : (o : Option Entry) → o ≡ Some e → IsLastCovering entries table indices o → IsCovering entries table e
     at None g h = cc
-    at (Some x) g (last front y behind whole here rest) =
+    at (Some x) g (last front y following whole here rest) =
         let same : x ≡ e = cc in
         let both = and_true (is_table x.table table) (fit_places x.places indices) here in
         record {
           number = length front;
-          is = ap (λ (xs : List Entry). slice_get xs (length front)) whole ∙ get_here front behind x ∙ ap Some same;
+          is = ap (λ (xs : List Entry). slice_get xs (length front)) whole ∙ get_here front following x ∙ ap Some same;
           of_table = ap (λ (z : Entry). z.table) (sym same) ∙ same_table x.table table both.0;
         }
 
@@ -149,7 +149,7 @@ module _ (p : Preamble) (table : Table) (shape : Shape) (entries : List Entry) (
           zeros = λ c n l e. h.zeros c n (omega arith) e;
           covering = whole_is row.whole h.whole;
           last = λ c l.
-              let number = number_in (under row c) row.cells.items c in
+              let number = number_in (covering_entry row c) row.cells.items c in
               sym (cells.last_is_one entries table (a ∷ s ∷ c ∷ []) (entry_at entries number) (last_is entries table (a ∷ s ∷ c ∷ []) number (h.last c (omega arith))));
           small = λ c l. small_is c;
         }

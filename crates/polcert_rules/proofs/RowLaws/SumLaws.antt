@@ -1,11 +1,15 @@
 -- The sum of a sparse row.
-use Rattle.std.proofs.Common.{◌≡◌, ◌∙◌, ℕ, zero, suc, ◌+◌, ◌*◌, ◌<◌, ◌≤◌, ⊎_elim, List, [], ◌∷◌, mul-suc, refl, sym, ap, arith}
+use Rattle.std.proofs.Common.{◌≡◌, ◌∙◌, ℕ, zero, suc, ◌+◌, ◌-◌, ◌*◌, ◌<◌, ◌≤◌, ⊎_elim, List, [], ◌∷◌, mul-suc, Bool, true, false, cond, ltb, length, sum, All, refl, sym, ap, subst, arith}
 use Rattle.std.proofs.lemmas.Bool.{cases_lt}
+use Rattle.std.proofs.lemmas.Bool.Decides.{nat_tests}
+use Rattle.std.proofs.lemmas.List.Sums.{sum_by-cons, sum_by-le}
+use Rattle.std.proofs.Math.Nat.{mul_comm}
 use Rattle.polcert_cells.specs.Meaning.{sum_below}
 use Rattle.polcert_cells.specs.declared.cell.Cell.{Cell}
-use Rattle.polcert_cells.specs.Sparse.{weight_at, IsSparse}
+use Rattle.polcert_cells.specs.Sparse.{weight_at, scaled_cells, IsSparse}
 use Rattle.polcert_rules.specs.Steps.Sources.{total}
-use Rattle.polcert_cells.proofs.SparseLaws.{Climbs, climbs_from, weight_head, weight_tail, weight_below}
+use Rattle.polcert_cells.specs.Numbers.{one}
+use Rattle.polcert_cells.proofs.SparseLaws.{Climbs, cell_of, climbs_from, weight_head, weight_tail, weight_below}
 
 sum_without : (x : Cell) (xs : List Cell) (n : ℕ) → n ≤ x.column → sum_below (weight_at (x ∷ xs)) n ≡ sum_below (weight_at xs) n
 sum_without x xs zero l = refl
@@ -55,3 +59,32 @@ sum_same f g (suc n) h =
     let before : sum_below f n ≡ sum_below g n = sum_same f g n (λ c l. h c (omega arith)) in
     let here : f n ≡ g n = h n (omega arith) in
     omega (arith, before, here)
+
+-- ---- rows of numbers
+pub total_scaled : (scale k : ℕ) (ns : List ℕ) → total (scaled_cells scale k ns) ≡ sum ns * scale
+total_scaled scale k [] = let none : 0 * scale ≡ 0 = omega arith in sym none
+total_scaled scale k (n ∷ ns) =
+    let parts : (n + sum ns) * scale ≡ n * scale + sum ns * scale = grind arith in
+    at (total_scaled scale (k + 1) ns) parts (ltb 0 (n * scale)) refl ∙ ap (λ m. m * scale) (sym (sum_by-cons (λ (x : ℕ). x) n ns))
+  where
+    xs : List Cell
+    xs = scaled_cells scale (k + 1) ns
+
+    at : total xs ≡ sum ns * scale → (n + sum ns) * scale ≡ n * scale + sum ns * scale → (b : Bool) → ltb 0 (n * scale) ≡ b → total (cond b (cell_of k (n * scale) ∷ xs) xs) ≡ (n + sum ns) * scale
+    at rest parts true e = ap (λ m. n * scale + m) rest ∙ sym parts
+    at rest parts false e = let none : n * scale ≡ 0 = grind (arith, nat_tests) in rest ∙ omega (arith, parts, none)
+
+pub sum_most : (ns : List ℕ) → All (λ n. n ≤ one) ns → sum ns ≤ one * length ns
+sum_most ns a = subst (λ m. sum ns ≤ m) (mul_comm (length ns) one) (sum_by-le (λ (x : ℕ). x) one ns a)
+
+-- a sparse row has no more cells than columns
+climbs_few : (low n : ℕ) (xs : List Cell) → Climbs low n xs → length xs ≤ n - low
+climbs_few low n [] h = omega arith
+climbs_few low n (x ∷ xs) h =
+    let rest = climbs_few (x.column + 1) n xs h.3 in
+    let first = h.0 in
+    let inside = h.1 in
+    omega (arith, rest, first, inside)
+
+pub sparse_few : (n : ℕ) (xs : List Cell) → IsSparse n xs → length xs ≤ n
+sparse_few n xs s = let few = climbs_few 0 n xs (climbs_from n xs s) in omega (arith, few)

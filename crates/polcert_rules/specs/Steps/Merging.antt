@@ -19,13 +19,13 @@ given_at columns entries number s c = value_or 0 (λ e. given columns e s c) (en
 -- a number is greater than that of what is under it
 abbrev pub is_newer : Option ℕ → ℕ → Bool
 is_newer None number = true
-is_newer (Some under) number = nat_lt under number
+is_newer (Some covering_entry) number = nat_lt covering_entry number
 
 -- the single cells that are newer than what is under them, column by column, with what their entries give
 abbrev pub newer_cells : ℕ → List Entry → (ℕ → Option ℕ) → ℕ → List Rule → List Cell
-newer_cells columns entries under s [] = []
-newer_cells columns entries under s (r ∷ rs) =
-    if is_newer (under r.key) r.number then (record { column = r.key; weight = given_at columns entries (Some r.number) s r.key } ∷ newer_cells columns entries under s rs) else newer_cells columns entries under s rs
+newer_cells columns entries covering_entry s [] = []
+newer_cells columns entries covering_entry s (r ∷ rs) =
+    if is_newer (covering_entry r.key) r.number then (record { column = r.key; weight = given_at columns entries (Some r.number) s r.key } ∷ newer_cells columns entries covering_entry s rs) else newer_cells columns entries covering_entry s rs
 
 -- the cells before a column
 abbrev pub before : ℕ → List Cell → List Cell
@@ -38,9 +38,9 @@ from column [] = []
 from column (x ∷ xs) = if nat_lt x.column column then from column xs else (x ∷ xs)
 
 -- the cells after a column
-abbrev pub behind : ℕ → List Cell → List Cell
-behind column [] = []
-behind column (x ∷ xs) = if nat_lt x.column column then behind column xs else (if x.column == column then xs else (x ∷ xs))
+abbrev pub following : ℕ → List Cell → List Cell
+following column [] = []
+following column (x ∷ xs) = if nat_lt x.column column then following column xs else (if x.column == column then xs else (x ∷ xs))
 
 -- with a cell in front, if it has a weight
 abbrev pub with_cell : Cell → List Cell → List Cell
@@ -49,7 +49,7 @@ with_cell x xs = if nat_lt 0 x.weight then (x ∷ xs) else xs
 -- newer cells over a row: each hides the row's cell in its column
 abbrev pub merged : List Cell → List Cell → List Cell
 merged base [] = base
-merged base (x ∷ xs) = before x.column base ++ with_cell x (merged (behind x.column base) xs)
+merged base (x ∷ xs) = before x.column base ++ with_cell x (merged (following x.column base) xs)
 
 -- the weight of a column: that of a newer cell, or else this one
 abbrev pub weight_over : List Cell → (ℕ → ℕ) → ℕ → ℕ

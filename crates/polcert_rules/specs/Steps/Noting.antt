@@ -4,13 +4,13 @@ use Rattle.std.specs.Prelude.{◌≡◌, ℕ, ◌+◌, ◌<◌, ◌⊎◌, List,
 use Rattle.polcert_rules.specs.declared.rule.Rule.{Rule}
 use Rattle.polcert_rules.specs.Keys.{Fits}
 use Rattle.polcert_rules.specs.Steps.Newest.{IsNewest}
-use Rattle.polcert_rules.specs.Matching.{later}
+use Rattle.polcert_rules.specs.Matching.{max_option}
 
 -- Of the rules whose keys pass, the newest is noted, where it is later than what was noted before.
 pub record IsNoted (rules : List Rule) (P : ℕ → Type 0) (before after : Option ℕ) : Type 0 where
   pub found : Option ℕ
   pub newest : IsNewest rules P found
-  pub is : after ≡ later before found
+  pub is : after ≡ max_option before found
 
 -- the same for each number from `first` on as the last index
 abbrev pub AreNoted : List Rule → ℕ → ℕ → List ℕ → ℕ → List (Option ℕ) → List (Option ℕ) → Type 0

@@ -5,7 +5,7 @@ use Rattle.std.specs.Int.{w64, int_wrapping_neg}
 use Rattle.std.specs.Option.{IsSomeAnd}
 use Rattle.polcert_cells.specs.declared.entry.Table.TheVariants.{Reward}
 use Rattle.polcert_cells.specs.declared.entry.Body.{Body}
-use Rattle.polcert_cells.specs.declared.entry.Body.TheVariants.{Rewards}
+use Rattle.polcert_cells.specs.EntryRefs.{rewards_of}
 use Rattle.polcert_cells.specs.declared.entry.Entry.{Entry}
 use Rattle.polcert_cells.specs.Elements.{count_of, most_states, most_actions, most_observations}
 use Rattle.polcert_cells.specs.Preamble.{Preamble, rewarded}
@@ -46,8 +46,7 @@ abbrev pub worth : Bool → ℤ → ℤ
 worth costs h = if costs then int_wrapping_neg w64 h else h
 
 abbrev pub rewards_in : Body → List ℤ
-rewards_in (Rewards hs) = hs
-rewards_in _ = []
+rewards_in body = rewards_of body
 
 -- The entry's numbers stand one after another from the start of the body on, each as it is worth.
 pub record IsBodyOf (costs : Bool) (entry : Entry) (numbers : List ℤ) (body : RewardBody) : Type 0 where

@@ -7,7 +7,7 @@ use Rattle.polcert_cells.specs.declared.entry.Entry.{Entry}
 use Rattle.polcert_cells.specs.Cells.{fits_place}
 use Rattle.polcert_rules.specs.declared.rule.Rule.{Rule}
 use Rattle.polcert_rules.specs.Keys.{key_base, key_in, most_places}
-use Rattle.polcert_rules.specs.Matching.{later}
+use Rattle.polcert_rules.specs.Matching.{max_option}
 
 -- a column that no row has: the last that has a digit
 abbrev pub no_column : ℕ
@@ -67,4 +67,4 @@ at_column (r ∷ rs) column = if r.key == column then Some r.number else at_colu
 
 -- the number that a row has in a column: that of a cell, or of what covers the whole row, whichever is greater
 abbrev pub number_in : Option ℕ → List Rule → ℕ → Option ℕ
-number_in whole cells column = later whole (at_column cells column)
+number_in whole cells column = max_option whole (at_column cells column)

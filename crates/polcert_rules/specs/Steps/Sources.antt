@@ -13,26 +13,26 @@ use Rattle.polcert_cells.specs.Meaning.{sum_below}
 use Rattle.polcert_cells.specs.declared.cell.Cell.{Cell}
 use Rattle.polcert_rules.specs.declared.rule.Rule.{Rule}
 use Rattle.polcert_rules.specs.declared.shape.Shape.{Shape}
-use Rattle.polcert_rules.specs.declared.kept.Source.{Source}
-use Rattle.polcert_rules.specs.declared.kept.Source.TheVariants.{Nothing, Even, Diagonal, Line}
-use Rattle.polcert_rules.specs.declared.kept.SharedRow.{SharedRow}
-use Rattle.polcert_rules.specs.declared.kept.Keeper.{Keeper}
-use Rattle.polcert_rules.specs.declared.kept.Near.{Near}
+use Rattle.polcert_rules.specs.declared.row_store.RowOrigin.{RowOrigin}
+use Rattle.polcert_rules.specs.declared.row_store.RowOrigin.TheVariants.{Nothing, Even, Diagonal, Line}
+use Rattle.polcert_rules.specs.declared.row_store.SharedRow.{SharedRow}
+use Rattle.polcert_rules.specs.declared.row_store.RowStore.{RowStore}
+use Rattle.polcert_rules.specs.declared.row_store.Near.{Near}
 use Rattle.polcert_rules.specs.declared.rows.TableEntries.{TableEntries}
 use Rattle.polcert_rules.specs.declared.wrong_row.WrongRow.{WrongRow}
 use Rattle.polcert_rules.specs.Steps.Newest.{IsRising, IsIndexOf, entry_at}
 use Rattle.polcert_rules.specs.Steps.Shapes.{IsShapeOf, AreSound}
 use Rattle.polcert_rules.specs.Steps.Rows.{number_in}
 use Rattle.polcert_rules.specs.declared.row.Row.{Row}
-use Rattle.polcert_rules.specs.Steps.Zeros.{AreOrdered, IsSplit, is_zero, zero_of, under}
+use Rattle.polcert_rules.specs.Steps.Zeros.{AreOrdered, IsSplit, is_zero, zero_of, covering_entry}
 use Rattle.polcert_rules.specs.Steps.Given.{FitsShape}
-use Rattle.polcert_cells.specs.Sparse.{weight_at, IsSparse}
+use Rattle.polcert_cells.specs.Sparse.{weight_at, IsSparse, IsRow}
 use Rattle.polcert_rules.specs.Steps.Merging.{given_at, weight_in}
 
 -- ---- what a row is made of
 -- the row of this state, where the entry of this number has these places and this body: all rows of `uniform` are
 -- alike, whatever the entry, and so are those of one state of `identity`
-abbrev pub source_in : ℕ → List Place → Body → ℕ → Source
+abbrev pub source_in : ℕ → List Place → Body → ℕ → RowOrigin
 source_in n (p ∷ []) (Probabilities ps) s = Line n s
 source_in n _ (Probabilities ps) s = Line n 0
 source_in n _ Identity s = Diagonal s
@@ -40,12 +40,12 @@ source_in n _ Uniform s = Even
 source_in n _ (Rewards hs) s = Nothing
 
 -- what a row without single cells is made of, by the number of the entry that covers the whole row
-abbrev pub source_of : List Entry → Option ℕ → ℕ → Source
+abbrev pub source_of : List Entry → Option ℕ → ℕ → RowOrigin
 source_of entries None s = Nothing
 source_of entries (Some n) s = value_or Nothing (λ e. source_in n e.places e.body s) (slice_get entries n)
 
 -- the cells are each row that is made of this
-abbrev pub IsFrom : ℕ → List Entry → Source → List Cell → Type 0
+abbrev pub IsFrom : ℕ → List Entry → RowOrigin → List Cell → Type 0
 IsFrom columns entries source cells = (whole : Option ℕ) (s : ℕ) → source_of entries whole s ≡ source → (c : ℕ) → c < columns → weight_at cells c ≡ given_at columns entries whole s c
 
 -- ---- what the index says of a row
@@ -74,7 +74,7 @@ pub record AreNumbersOf (shape : Shape) (entries : List Entry) (table : Table) (
   pub cells : All (IsColumnOf shape.columns entries) row.cells.items
   pub zeros : (c n : ℕ) → c < shape.columns → zero_of row.zeros c ≡ Some n → is_zero entries n ≡ true
   pub covering : IsWhole shape entries row.whole
-  pub last : (c : ℕ) → c < shape.columns → last_covering entries table (a ∷ s ∷ c ∷ []) ≡ entry_at entries (number_in (under row c) row.cells.items c)
+  pub last : (c : ℕ) → c < shape.columns → last_covering entries table (a ∷ s ∷ c ∷ []) ≡ entry_at entries (number_in (covering_entry row c) row.cells.items c)
   pub small : (c : ℕ) → c < shape.columns → weight_in shape.columns entries table a s c ≤ one * shape.columns
 
 -- ---- rows as they are kept
@@ -100,21 +100,27 @@ pub record IsSharedRow (columns : ℕ) (entries : List Entry) (rows : List (List
   pub made : IsFrom columns entries x.source row
 
 -- rows are sparse, it is known of each whether it is proper, and what one entry gives alone is kept
-pub record AreKept (columns : ℕ) (entries : List Entry) (k : Keeper) : Type 0 where
+pub record AreKept (columns : ℕ) (entries : List Entry) (k : RowStore) : Type 0 where
   pub sparse : All (IsSparse columns) k.rows
   pub tested : k.proper.items ≡ map (is_proper columns) k.rows
   pub common : All (IsSharedRow columns entries k.rows) k.shared.items
 
 -- the row that is made of this has this number
-pub record IsShared (shared : List SharedRow) (source : Source) (number : ℕ) : Type 0 where
+pub record IsShared (shared : List SharedRow) (source : RowOrigin) (number : ℕ) : Type 0 where
   pub place : ℕ
   pub is : slice_get shared place ≡ Some (record { source = source; number = number })
 
 -- one row more is kept, after the others
-pub record IsBehind (columns : ℕ) (cells : List Cell) (old new : Keeper) : Type 0 where
+pub record IsAfter (columns : ℕ) (cells : List Cell) (old new : RowStore) : Type 0 where
   pub rows_are : new.rows ≡ old.rows ++ cells ∷ []
   pub tests_are : new.proper.items ≡ old.proper.items ++ is_proper columns cells ∷ []
   pub common_are : new.shared.items ≡ old.shared.items
+
+-- so is one with these weights
+pub record IsRowAfter (columns : ℕ) (weights : ℕ → ℕ) (old new : RowStore) : Type 0 where
+  pub cells : List Cell
+  pub row : IsRow columns weights cells
+  pub kept : IsAfter columns cells old new
 
 -- each row stays where it is
 abbrev pub Stays : List (List Cell) → List (List Cell) → Type 0

@@ -9,13 +9,13 @@ use Rattle.polcert_cells.specs.declared.cell.Cell.{Cell}
 use Rattle.polcert_rules.specs.declared.rule.Rule.{Rule}
 use Rattle.polcert_rules.specs.declared.split.SplitRules.{SplitRules}
 use Rattle.polcert_rules.specs.declared.split.Others.{Others}
-use Rattle.polcert_rules.specs.declared.split.Others.TheVariants.{Lent, Listed}
+use Rattle.polcert_rules.specs.declared.split.Others.TheVariants.{Borrowed, Listed}
 use Rattle.polcert_rules.specs.declared.zeros.ZeroColumns.{ZeroColumns}
 use Rattle.polcert_rules.specs.declared.zeros.RowZeros.{RowZeros}
 use Rattle.polcert_rules.specs.declared.row.Row.{Row}
 use Rattle.polcert_rules.specs.Keys.{key_base, most_places, table_key}
 use Rattle.polcert_rules.specs.Steps.Newest.{IsRising, IsLastNumber}
-use Rattle.polcert_rules.specs.Matching.{later, newest_by}
+use Rattle.polcert_rules.specs.Matching.{max_option, newest_by}
 use Rattle.polcert_rules.specs.Steps.Merging.{is_newer}
 use Rattle.polcert_rules.specs.Steps.Rows.{IsSingleEntry, no_column, number_in}
 
@@ -47,7 +47,7 @@ others_of entries (r ∷ rs) =
 
 -- the rules that are no zeros, lent or listed
 abbrev pub others_in : Others → List Rule
-others_in (Lent rules) = rules.now
+others_in (Borrowed rules) = rules.now
 others_in (Listed rules) = rules.items
 
 -- each rule of the table is in one of the two lists, and those of the first are zeros
@@ -69,7 +69,7 @@ zero_in z column = at_key z.rules.now (z.start + column * key_base)
 -- the number of the newest zero of a column
 abbrev pub newest_zero : RowZeros → ℕ → Option ℕ
 newest_zero z c =
-    later (later (zero_in z.of_all c) (zero_in z.of_state c)) (later (zero_in z.of_action c) (zero_in z.of_row c))
+    max_option (max_option (zero_in z.of_all c) (zero_in z.of_state c)) (max_option (zero_in z.of_action c) (zero_in z.of_row c))
 
 abbrev pub zero_of : Option RowZeros → ℕ → Option ℕ
 zero_of None c = None
@@ -96,15 +96,15 @@ pub record AreColumnsFrom (rules : List Rule) (start : ℕ) (z : ZeroColumns) : 
 -- what covers the whole row, or a zero that is newer
 abbrev pub number_under : Option ℕ → Option RowZeros → ℕ → Option ℕ
 number_under whole None c = whole
-number_under whole (Some z) c = later whole (newest_zero z c)
+number_under whole (Some z) c = max_option whole (newest_zero z c)
 
-abbrev pub under : Row → ℕ → Option ℕ
-under row c = number_under row.whole row.zeros c
+abbrev pub covering_entry : Row → ℕ → Option ℕ
+covering_entry row c = number_under row.whole row.zeros c
 
 -- a zero of this number hides what covers the whole row
-abbrev pub hides : Option ℕ → Option ℕ → Bool
-hides whole None = false
-hides whole (Some number) = is_newer whole number
+abbrev pub overrides : Option ℕ → Option ℕ → Bool
+overrides whole None = false
+overrides whole (Some number) = is_newer whole number
 
 -- the cells in columns that are not hidden
 abbrev pub shown : (ℕ → Bool) → List Cell → List Cell
@@ -114,7 +114,7 @@ shown hidden (x ∷ xs) = if hidden x.column then shown hidden xs else (x ∷ sh
 -- the cells of what covers the whole row that no newer zero hides
 abbrev pub shown_under : Option ℕ → Option RowZeros → List Cell → List Cell
 shown_under whole None base = base
-shown_under whole (Some z) base = shown (λ c. hides whole (newest_zero z c)) base
+shown_under whole (Some z) base = shown (λ c. overrides whole (newest_zero z c)) base
 
 -- ---- a row, by the numbers of its entries
 -- The cells are single cells of the table; and in each column the last entry that covers the cell is that of the greatest number
@@ -125,4 +125,4 @@ pub record IsRowOf (entries : List Entry) (table : Table) (a s : ℕ) (row : Row
   pub single : All (IsSingleEntry entries table) row.cells.items
   pub zeros : (c n : ℕ) → c < no_column → zero_of row.zeros c ≡ Some n → is_zero entries n ≡ true
   pub whole : IsLastNumber entries table (a ∷ s ∷ no_column ∷ []) row.whole
-  pub last : (c : ℕ) → c < no_column → IsLastNumber entries table (a ∷ s ∷ c ∷ []) (number_in (under row c) row.cells.items c)
+  pub last : (c : ℕ) → c < no_column → IsLastNumber entries table (a ∷ s ∷ c ∷ []) (number_in (covering_entry row c) row.cells.items c)

@@ -3,7 +3,9 @@ use Rattle.std.specs.Prelude.{◌≡◌, true, false, List, Option, Some, None}
 use Rattle.polcert_cells.specs.declared.entry.Table.TheVariants.{Transition, Observation}
 use Rattle.polcert_cells.specs.declared.entry.Entry.{Entry}
 use Rattle.polcert_cells.specs.Preamble.{Preamble, is_mdp}
-use Rattle.polcert_cells.specs.Steps.Drafts.{Draft}
+use Rattle.polcert_cells.specs.Meaning.{Meaning, IsSame, HasProperRows, HasLimitedNumbers}
+use Rattle.polcert_cells.specs.Steps.Drafts.{Draft, meaning}
+use Rattle.polcert_format.specs.Writable.{IsWritable}
 use Rattle.polcert_rules.specs.RowTables.{RowTable, AreRowsOf}
 use Rattle.polcert_rules.specs.Steps.Rewards.{AreRewardsOf}
 use Rattle.polcert_tables.specs.Kept.{Kept}
@@ -20,3 +22,7 @@ pub record IsKeptOf (d : Draft) (k : Kept) : Type 0 where
   pub transitions : AreRowsOf d.preamble d.entries Transition k.transitions
   pub observations : AreObservationsOf d.preamble d.entries k.observations
   pub rewards : AreRewardsOf d.preamble d.entries k.rewards
+
+-- each model that these items denote is within its limits, and can be written
+abbrev pub DenotesWithinLimits : Draft → Type 0
+DenotesWithinLimits d = (m : Meaning) → IsSame m (meaning d) → HasProperRows m → HasLimitedNumbers m × IsWritable m

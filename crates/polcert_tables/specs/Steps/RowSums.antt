@@ -1,4 +1,4 @@
--- The rows of a draft, and the sums of those of O.
+-- The rows that are kept, and the sums of those of O.
 -- Nobody has to believe this file: no contract of `polcert_model` or above it rests on it.
 use Rattle.std.specs.Prelude.{◌≡◌, ℕ, ◌*◌, ◌<◌, List}
 use Rattle.polcert_cells.specs.declared.entry.Table.{Table}

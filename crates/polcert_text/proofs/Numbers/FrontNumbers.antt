@@ -1,12 +1,13 @@
 -- Numerals that end within some bytes, and their values.
-use Rattle.std.proofs.Common.{◌≡◌, ◌∙◌, ◌⊎◌, ⊎_elim, ℕ, suc, ◌+◌, ◌-◌, ◌*◌, ◌^◌, ◌<◌, ◌≤◌, ◌&&◌, min, true, false, List, [], ◌∷◌, ◌++◌, length, take, drop, get_or, pos, refl, sym, ap, arith}
+use Rattle.std.proofs.Common.{◌≡◌, ◌∙◌, ◌⊎◌, ⊎_elim, ℕ, suc, ◌+◌, ◌-◌, ◌*◌, ◌^◌, ◌<◌, ◌≤◌, ◌&&◌, ◌||◌, min, true, false, List, [], ◌∷◌, ◌++◌, length, take, drop, get_or, pos, refl, sym, ap, arith}
 use Rattle.std.proofs.Math.IntN.{pos-*ℤ-pos}
 use Rattle.std.proofs.Math.Nat.{mul_assoc, suc-mul, mul-le-mul, mul-le-mul_right, pow-le-pow_right}
 use Rattle.std.proofs.lemmas.Nat.{pow-add}
 use Rattle.std.proofs.lemmas.List.{drop-take, drop_all, get_or-take, get_or-drop, length-take-le, length-drop, take-take}
 use Rattle.std.specs.List.{list_all, list_any}
 use Rattle.std.specs.Str.Parse.{digits_value}
-use Rattle.polcert_text.specs.Bytes.{class_of, digit_class, is_digit, glue_class}
+use Rattle.polcert_text.specs.Bytes.{is_digit}
+use Rattle.polcert_text.specs.Steps.Classes.{class_of, glue_class}
 use Rattle.polcert_text.specs.Cut.{is_glued}
 use Rattle.polcert_text.specs.Lexemes.{are_digits}
 use Rattle.polcert_text.specs.Numbers.{largest, millionth, size_of, IsReadable, IsExact}
@@ -16,11 +17,12 @@ use Rattle.polcert_text.specs.declared.bytes.ByteClass.{ByteClass}
 use Rattle.polcert_text.specs.declared.bytes.ByteClass.TheVariants.{Digit, Point, Blank, LineEnd}
 use Rattle.polcert_text.specs.declared.lexeme.State.TheVariants.{Start, Whole, Fraction}
 use Rattle.polcert_text.specs.declared.lexeme.TokenKind.TheVariants.{Numeral}
-use Rattle.polcert_text.proofs.Numbers.MeasureLaws.{ten_pos}
+use Rattle.polcert_text.proofs.Numbers.MeasureLaws.{ten_pos, and-true_left}
 use Rattle.polcert_text.proofs.Numbers.NumberLaws.{pow_next}
 use Rattle.polcert_text.proofs.Numbers.Plain.{IsPlain, plain_measures, run}
 use Rattle.polcert_text.proofs.Numbers.PlainWhole.{whole_measures}
 use Rattle.polcert_text.proofs.Scanning.Runs.{begins_whole, at_point}
+use Rattle.polcert_text.proofs.Scanning.Tests.{digit_by, glue_by}
 
 -- each byte of these is a digit
 abbrev pub AreDigitsAt : List ℕ → ℕ → ℕ → Type 0
@@ -32,7 +34,7 @@ all_of_each (b ∷ bs) each = (λ i. each 0 (omega arith) i && all_of_each bs (�
 
 pub some_digits : (bs : List ℕ) → 0 < length bs → list_all is_digit bs ≡ true → are_digits bs ≡ true
 some_digits [] some all = absurd (omega arith)
-some_digits (b ∷ bs) some all = (λ i. all i && true)
+some_digits (b ∷ bs) some all = (λ i. all i && (and-true_left (is_digit b) (list_all is_digit bs) all i || list_any is_digit bs))
 
 -- digits are read as the whole part of a numeral
 pub whole_read : (bs : List ℕ) (p : ℕ) → 0 < p → p ≤ length bs → AreDigitsAt bs 0 p → state_through Start (take p bs) ≡ Whole
@@ -44,20 +46,20 @@ whole_read bs p some high digits =
 -- and after a point as its decimals
 pub fraction_read : (bs : List ℕ) (p n : ℕ) → 0 < p → p + 1 ≤ n → n ≤ length bs → AreDigitsAt bs 0 p → class_of (get_or bs p 0) ≡ Point → AreDigitsAt bs (p + 1) n → state_through Start (take n bs) ≡ Fraction
 fraction_read bs p n some low high first point second =
-    let behind = at_point bs p (omega arith) (whole_read bs p some (omega arith) first) point in
+    let following = at_point bs p (omega arith) (whole_read bs p some (omega arith) first) point in
     let all : p + 1 + (n - (p + 1)) ≡ n = omega arith in
-    ap (λ k. state_through Start (take k bs)) (sym all) ∙ run bs (p + 1) (n - (p + 1)) Fraction (omega arith) refl behind (λ k l. second (p + 1 + k) (omega arith) (omega arith))
+    ap (λ k. state_through Start (take k bs)) (sym all) ∙ run bs (p + 1) (n - (p + 1)) Fraction (omega arith) refl following (λ k l. second (p + 1 + k) (omega arith) (omega arith))
 
 blank_no_glue : (c : ByteClass) → ((c ≡ Blank) ⊎ (c ≡ LineEnd)) → glue_class c ≡ false
 blank_no_glue c h = ⊎_elim (ap glue_class) (ap glue_class) h
 
 glued_at : (bs : List ℕ) → 0 < length bs → is_glued Numeral bs ≡ glue_class (class_of (get_or bs 0 0))
 glued_at [] some = absurd (omega arith)
-glued_at (b ∷ bs) some = refl
+glued_at (b ∷ bs) some = glue_by b refl
 
 -- a numeral that a blank follows is not glued to it
-pub blank_behind : (bs : List ℕ) (n : ℕ) → n < length bs → ((class_of (get_or bs n 0) ≡ Blank) ⊎ (class_of (get_or bs n 0) ≡ LineEnd)) → is_glued Numeral (drop n bs) ≡ false
-blank_behind bs n inside blank =
+pub blank_after : (bs : List ℕ) (n : ℕ) → n < length bs → ((class_of (get_or bs n 0) ≡ Blank) ⊎ (class_of (get_or bs n 0) ≡ LineEnd)) → is_glued Numeral (drop n bs) ≡ false
+blank_after bs n inside blank =
     let here : n + 0 ≡ n = omega arith in
     glued_at (drop n bs) (omega (arith, length-drop n bs)) ∙ ap (λ b. glue_class (class_of b)) (get_or-drop n bs 0 0 ∙ ap (λ k. get_or bs k 0) here) ∙ blank_no_glue _ blank
 
@@ -69,7 +71,7 @@ pub digits_there : (bs : List ℕ) (n : ℕ) → 0 < n → n ≤ length bs → A
 digits_there bs n some high digits =
     let len : length (take n bs) ≡ n = length-take-le n bs high in
     some_digits (take n bs) (omega (arith, len))
-    (all_of_each (take n bs) (λ k below. ap digit_class (digits_in_front bs n 0 n (omega arith) digits k (omega arith) (omega (arith, len)))))
+    (all_of_each (take n bs) (λ k below. digit_by (get_or (take n bs) k 0) (digits_in_front bs n 0 n (omega arith) digits k (omega arith) (omega (arith, len)))))
 
 -- what was measured exactly
 pub measured_exactly : (bs : List ℕ) (floor : ℕ) → Measures bs floor false → IsExact false bs (pos floor)
@@ -110,11 +112,11 @@ decimal_exact bs p n number floor some low few short high first point second val
     let rest : ℕ = n - (p + 1) in
     let all : p + 1 + rest ≡ n = omega arith in
     let front : take p ns ≡ take p bs = take-take p n bs (omega arith) in
-    let behind : take rest (drop (p + 1) ns) ≡ take rest (drop (p + 1) bs) =
+    let following : take rest (drop (p + 1) ns) ≡ take rest (drop (p + 1) bs) =
     ap (λ m. take rest (drop (p + 1) (take m bs))) (sym all) ∙ ap (take rest) (drop-take (p + 1) rest bs) ∙ take-take rest rest (drop (p + 1) bs) (omega arith) in
     let none : drop n ns ≡ [] = drop_all n ns (omega (arith, len)) in
     let m = plain_measures ns p plain number floor n false (omega (arith, len)) (omega (arith, len))
-    (value ∙ ap (digits_value 10) (λ i. sym front i ++ sym behind i)) below (unscaled number (p + 7 - n) floor below scaled small) small (sym (ap (list_any is_nonzero) none)) in
+    (value ∙ ap (digits_value 10) (λ i. sym front i ++ sym following i)) below (unscaled number (p + 7 - n) floor below scaled small) small (sym (ap (list_any is_nonzero) none)) in
     (m.0, measured_exactly ns floor m.1)
 
 -- ---- numbers of few digits

@@ -6,12 +6,12 @@ use Rattle.std.proofs.lemmas.List.Folds.{list_any_at, list_any_more}
 use Rattle.std.proofs.lemmas.Bool.{eqb-true, lt-ltb, le-ltb}
 use Rattle.std.specs.List.{list_any}
 use Rattle.std.specs.Str.Parse.{digits_value}
-use Rattle.polcert_text.specs.Bytes.{class_of}
+use Rattle.polcert_text.specs.Steps.Classes.{class_of}
 use Rattle.polcert_text.specs.Numbers.{largest, IsReadable}
 use Rattle.polcert_text.specs.Steps.FrontSizes.{AreDigitsFrom}
 use Rattle.polcert_text.specs.Steps.Scaling.{cap, is_nonzero, ceiling, Measures}
 use Rattle.polcert_text.specs.declared.bytes.ByteClass.TheVariants.{Point}
-use Rattle.polcert_text.proofs.Numbers.Plain.{IsPlain, plain_measures, at_or_behind}
+use Rattle.polcert_text.proofs.Numbers.Plain.{IsPlain, plain_measures, at_or_after}
 use Rattle.polcert_text.proofs.Numbers.PlainWhole.{whole_measures}
 
 in_front : (bs : List ℕ) (n from until : ℕ) → until ≤ n → AreDigitsFrom bs from until → AreDigitsFrom (take n bs) from until
@@ -44,11 +44,11 @@ decimal_measures bs p kept n number floor is_inexact some low few kept_is short 
     let all : p + 1 + (n - (p + 1)) ≡ n = omega arith in
     let rest : kept + (n - kept) ≡ n = omega arith in
     let front : take p ns ≡ take p bs = take-take p n bs (omega arith) in
-    let behind : take (kept - (p + 1)) (drop (p + 1) ns) ≡ take (kept - (p + 1)) (drop (p + 1) bs) =
+    let following : take (kept - (p + 1)) (drop (p + 1) ns) ≡ take (kept - (p + 1)) (drop (p + 1) bs) =
     ap (λ m. take (kept - (p + 1)) (drop (p + 1) (take m bs))) (sym all) ∙ ap (take (kept - (p + 1))) (drop-take (p + 1) (n - (p + 1)) bs) ∙ take-take (kept - (p + 1)) (n - (p + 1)) (drop (p + 1) bs) (omega arith) in
     let left : drop kept ns ≡ take (n - kept) (drop kept bs) = ap (λ m. drop kept (take m bs)) (sym rest) ∙ drop-take kept (n - kept) bs in
     plain_measures ns p plain number floor kept is_inexact (omega (arith, len)) (kept_is ∙ ap (λ m. min m (p + 7)) (sym len))
-    (value ∙ ap (digits_value 10) (λ i. sym front i ++ sym behind i)) below zeros small (inexact ∙ ap (list_any is_nonzero) (sym left))
+    (value ∙ ap (digits_value 10) (λ i. sym front i ++ sym following i)) below zeros small (inexact ∙ ap (list_any is_nonzero) (sym left))
 
 zero_digit : (b : ℕ) → b ≡ 48 → is_nonzero b ≡ false
 zero_digit b e = ap is_nonzero e
@@ -89,7 +89,7 @@ pub tail_inexact : (bs : List ℕ) (from zeros end : ℕ) → from ≤ zeros →
 tail_inexact bs from zeros end low on high none stops = ⊎_elim
     (λ below. lt-ltb zeros end below ∙ sym (nonzero_there bs from zeros end low below high (nonzero_byte (get_or bs zeros 0) (stops below))))
     (λ same. let is : zeros ≡ end = omega (arith, on, same) in le-ltb zeros end same ∙ sym none ∙ ap (λ n. list_any is_nonzero (take (n - from) (drop from bs))) is)
-    (at_or_behind zeros end)
+    (at_or_after zeros end)
 
 -- ---- few digits
 

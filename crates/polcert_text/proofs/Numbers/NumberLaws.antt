@@ -5,12 +5,14 @@ use Rattle.std.specs.Char.{is_ascii_digit, is_ascii_alphabetic, digit_value}
 use Rattle.std.specs.Prelude.{◌==◌}
 use Rattle.std.proofs.lemmas.Int.Digits.{digits_value_push, digits_value_more}
 use Rattle.std.proofs.lemmas.Grind.{pow_more}
-use Rattle.std.proofs.lemmas.List.Sums.{AllPass-from_list_all}
+use Rattle.std.proofs.lemmas.List.Sums.{AllPass-from_list_all, position_or_len_is}
 use Rattle.std.proofs.lemmas.List.{take_more, take_all, drop_all, length-append, append_assoc}
-use Rattle.std.specs.List.{list_all, list_any}
+use Rattle.std.specs.List.{list_all, list_any, before_first, after_first}
 use Rattle.std.specs.Str.Parse.{digits_value}
-use Rattle.polcert_text.specs.Bytes.{class_of, is_letter, is_digit, is_name_byte, digit_class, letter_class, point_class}
-use Rattle.polcert_text.specs.Lexemes.{before, after, is_empty, is_name, is_numeral, mark_kind, kind_of}
+use Rattle.polcert_text.specs.Bytes.{is_letter, is_digit, is_point, is_name_byte}
+use Rattle.polcert_text.specs.Steps.Classes.{class_of, letter_class}
+use Rattle.polcert_text.specs.Lexemes.{is_name, is_numeral, kind_of, is_empty}
+use Rattle.polcert_text.specs.Steps.Classes.{mark_kind}
 use Rattle.polcert_text.specs.Steps.Scaling.{cap, is_nonzero, IsScaled}
 use Rattle.polcert_text.specs.declared.bytes.ByteClass.{ByteClass}
 use Rattle.polcert_text.specs.declared.bytes.ByteClass.TheVariants as classes
@@ -20,59 +22,37 @@ use Rattle.polcert_text.specs.Steps.Scan.{state_through, kind_at, is_numeral_kin
 use Rattle.polcert_text.specs.declared.number.Scaling.{Scaling}
 use Rattle.polcert_text.specs.declared.lexeme.State.{State}
 use Rattle.polcert_text.specs.declared.lexeme.State.TheVariants.{Start}
-use Rattle.polcert_text.proofs.Scanning.LexemeLaws.{no_numeral, kind_of-through}
+use Rattle.polcert_text.proofs.Scanning.LexemeLaws.{no_numeral, none_empty, kind_of-through}
+use Rattle.polcert_text.proofs.Scanning.Tests.{kind_by}
 
 pub true≢false : {b : Bool} → b ≡ true → b ≡ false → ⊥
 true≢false e f = cc
 
--- among the tests of `class_of`, in their order, the one for a digit passed
-chain : (blank line hash mark letter digit low point colon star plus minus : Bool) → digit_class (cond blank classes.Blank (cond line classes.LineEnd (cond hash classes.Hash (cond mark classes.ExponentMark (cond letter classes.Letter (cond digit classes.Digit (cond low classes.Underscore (cond point classes.Point (cond colon classes.Colon (cond star classes.Star (cond plus classes.Plus (cond minus classes.Minus classes.Other)))))))))))) ≡ true → digit ≡ true
-chain false false false false false true _ _ _ _ _ _ h = refl
-chain false false false false false false false false false false false false h = cc
-chain _ _ _ _ _ _ _ _ _ _ _ _ h = cc
-
-pub ascii_digit : (b : ℕ) → is_digit b ≡ true → is_ascii_digit b ≡ true
-unfolding class_of
-ascii_digit b h =
-    chain (b == 9 || b == 13 || b == 32) (b == 10) (b == 35) (b == 101 || b == 69) (is_ascii_alphabetic b) (is_ascii_digit b) (b == 95) (b == 46) (b == 58) (b == 42) (b == 43) (b == 45) h
-
 pub digit_from : (b : ℕ) → is_digit b ≡ true → 48 ≤ b
-digit_from b h = let e = ascii_digit b h in grind (arith, nat_tests)
+unfolding is_digit
+digit_from b h = grind (arith, nat_tests)
 
 pub digit_to : (b : ℕ) → is_digit b ≡ true → b ≤ 57
-digit_to b h = let e = ascii_digit b h in grind (arith, nat_tests)
+unfolding is_digit
+digit_to b h = grind (arith, nat_tests)
 
 pub digit_is : (b : ℕ) → is_digit b ≡ true → digit_value b ≡ b - 48
 digit_is b h = let l = digit_from b h in let u = digit_to b h in grind (arith, nat_tests)
 
--- `before` and `after` at the first byte that passes
-pub before_at : (p : ℕ → Bool) (bs : List ℕ) (i : ℕ) → i < length bs → ((k : ℕ) → k < i → p (get_or bs k 0) ≡ false) → p (get_or bs i 0) ≡ true → before p bs ≡ take i bs
-before_at p [] i h none at = absurd (omega arith)
-before_at p (b ∷ bs) zero h none at = simp at
-before_at p (b ∷ bs) (suc i) h none at =
-    let first : p b ≡ false = none 0 (omega arith) in
-    simp first (ap (λ xs. b ∷ xs) (before_at p bs i (omega arith) (λ k l. none (suc k) (omega arith)) at))
+-- what stands before the first byte that passes, and after it
+pub before_at : (p : ℕ → Bool) (bs : List ℕ) (i : ℕ) → i < length bs → ((k : ℕ) → k < i → p (get_or bs k 0) ≡ false) → p (get_or bs i 0) ≡ true → before_first p bs ≡ take i bs
+before_at p bs i h none at = ap (λ n. take n bs) (position_or_len_is p bs i 0 (omega arith) none (λ _. at))
 
-pub after_at : (p : ℕ → Bool) (bs : List ℕ) (i : ℕ) → i < length bs → ((k : ℕ) → k < i → p (get_or bs k 0) ≡ false) → p (get_or bs i 0) ≡ true → after p bs ≡ drop (i + 1) bs
-after_at p [] i h none at = absurd (omega arith)
-after_at p (b ∷ bs) zero h none at = simp at
-after_at p (b ∷ bs) (suc i) h none at =
-    let first : p b ≡ false = none 0 (omega arith) in
-    let further : suc (i + 1) ≡ suc i + 1 = omega arith in
-    let shifted : drop (i + 1) bs ≡ drop (suc i + 1) (b ∷ bs) = ap (λ n. drop n (b ∷ bs)) further in
-    simp first (after_at p bs i (omega arith) (λ k l. none (suc k) (omega arith)) at ∙ shifted)
+pub after_at : (p : ℕ → Bool) (bs : List ℕ) (i : ℕ) → i < length bs → ((k : ℕ) → k < i → p (get_or bs k 0) ≡ false) → p (get_or bs i 0) ≡ true → after_first p bs ≡ drop (i + 1) bs
+after_at p bs i h none at = ap (λ n. drop (n + 1) bs) (position_or_len_is p bs i 0 (omega arith) none (λ _. at))
 
-pub before_all : (p : ℕ → Bool) (bs : List ℕ) → ((k : ℕ) → k < length bs → p (get_or bs k 0) ≡ false) → before p bs ≡ bs
-before_all p [] none = refl
-before_all p (b ∷ bs) none =
-    let first : p b ≡ false = none 0 (omega arith) in
-    simp first (ap (λ xs. b ∷ xs) (before_all p bs (λ k l. none (suc k) (omega arith))))
+pub before_all : (p : ℕ → Bool) (bs : List ℕ) → ((k : ℕ) → k < length bs → p (get_or bs k 0) ≡ false) → before_first p bs ≡ bs
+before_all p bs none =
+    ap (λ n. take n bs) (position_or_len_is p bs (length bs) 0 (omega arith) none (λ l. absurd (omega (arith, l)))) ∙ take_all (length bs) bs (omega arith)
 
-pub after_all : (p : ℕ → Bool) (bs : List ℕ) → ((k : ℕ) → k < length bs → p (get_or bs k 0) ≡ false) → after p bs ≡ []
-after_all p [] none = refl
-after_all p (b ∷ bs) none =
-    let first : p b ≡ false = none 0 (omega arith) in
-    simp first (after_all p bs (λ k l. none (suc k) (omega arith)))
+pub after_all : (p : ℕ → Bool) (bs : List ℕ) → ((k : ℕ) → k < length bs → p (get_or bs k 0) ≡ false) → after_first p bs ≡ []
+after_all p bs none =
+    ap (λ n. drop (n + 1) bs) (position_or_len_is p bs (length bs) 0 (omega arith) none (λ l. absurd (omega (arith, l)))) ∙ drop_all (length bs + 1) bs (omega arith)
 
 -- a list is a numeral exactly where its kind is
 mark_no_numeral : (c : ByteClass) → mark_kind c ≡ Some kinds.Numeral → ⊥
@@ -86,13 +66,16 @@ chosen_numeral false false true c h = absurd (mark_no_numeral c h)
 chosen_numeral false false false c h = cc
 
 pub numeral_from_kind : (bs : List ℕ) → kind_of bs ≡ Some kinds.Numeral → is_numeral bs ≡ true
-numeral_from_kind [] h = cc
-numeral_from_kind (b ∷ bs) h = chosen_numeral (is_name (b ∷ bs)) (is_numeral (b ∷ bs)) (is_empty bs) (class_of b) h
+numeral_from_kind [] h = let e = sym none_empty ∙ h in cc
+numeral_from_kind (b ∷ bs) h = chosen_numeral (letter_class (class_of b) && list_all is_name_byte bs) (is_numeral (b ∷ bs)) (is_empty bs) (class_of b) (sym (kind_by b bs (class_of b) (is_numeral (b ∷ bs)) refl refl) ∙ h)
 
-letter_no_digit : (c : ByteClass) → letter_class c ≡ true → (digit_class c ≡ false) × (point_class c ≡ false)
-letter_no_digit classes.Letter h = (refl, refl)
-letter_no_digit classes.ExponentMark h = (refl, refl)
-letter_no_digit _ h = cc
+letter_no_digit : (b : ℕ) → is_letter b ≡ true → is_digit b ≡ false
+unfolding is_letter is_digit
+letter_no_digit b h = grind (arith, nat_tests)
+
+letter_no_point : (b : ℕ) → is_letter b ≡ true → is_point b ≡ false
+unfolding is_letter is_point
+letter_no_point b h = grind (arith, nat_tests)
 
 and-left : (x y : Bool) → (x && y) ≡ true → x ≡ true
 and-left true y h = refl
@@ -104,14 +87,13 @@ no_name (b ∷ bs) h = at (is_name (b ∷ bs)) refl
   where
     at : (name : Bool) → is_name (b ∷ bs) ≡ name → is_name (b ∷ bs) ≡ false
     at true e =
-        let other = letter_no_digit (class_of b) (and-left (is_letter b) (list_all is_name_byte bs) e) in
-        absurd (true≢false h (no_numeral b bs other.0 other.1))
+        let letter = and-left (is_letter b) (list_all is_name_byte bs) e in
+        absurd (true≢false h (no_numeral b bs (letter_no_digit b letter) (letter_no_point b letter)))
     at false e = e
 
 pub kind_from_numeral : (bs : List ℕ) → is_numeral bs ≡ true → kind_of bs ≡ Some kinds.Numeral
-kind_from_numeral [] h = cc
-kind_from_numeral (b ∷ bs) h =
-    λ i. cond (no_name (b ∷ bs) h i) (Some kinds.Name) (cond (h i) (Some kinds.Numeral) (cond (is_empty bs) (mark_kind (class_of b)) None))
+unfolding kind_of
+kind_from_numeral bs h = simp (no_name bs h, h)
 
 not_numeral : (o : Option TokenKind) → (o ≡ Some kinds.Numeral → ⊥) → is_numeral_kind o ≡ false
 not_numeral (Some kinds.Numeral) h = absurd (h refl)

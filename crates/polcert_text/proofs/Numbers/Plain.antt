@@ -4,13 +4,15 @@ use Rattle.std.proofs.Math.Seq.{take-append-add, drop-append-add}
 use Rattle.std.proofs.lemmas.List.{drop_all, length-take-le, length-drop, take_more, append_assoc, get_or-drop, drop-drop}
 use Rattle.std.proofs.lemmas.List.Folds.{list_all_at}
 use Rattle.std.proofs.lemmas.Int.Digits.{digits_value_push}
-use Rattle.std.specs.List.{list_all, list_any}
+use Rattle.std.specs.List.{list_all, list_any, before_first, after_first}
 use Rattle.std.specs.Str.Parse.{digits_value}
-use Rattle.polcert_text.specs.Bytes.{class_of, digit_class, is_digit, mark_class, point_class, is_exponent_mark, is_point}
-use Rattle.polcert_text.specs.Lexemes.{before, after, is_numeral}
-use Rattle.polcert_text.specs.Numbers.{whole_of, fraction_of, exponent_of, is_lowering, without_sign, exponent_size, largest, IsReadable}
+use Rattle.polcert_text.specs.Bytes.{is_digit, is_exponent_mark, is_point}
+use Rattle.polcert_text.specs.Steps.Classes.{class_of}
+use Rattle.polcert_text.specs.Lexemes.{is_numeral}
+use Rattle.polcert_text.specs.Numbers.{whole_of, fraction_of, exponent_of, is_lowering, exponent_size, largest, IsReadable}
+use Rattle.polcert_text.specs.Lexemes.{without_sign}
 use Rattle.polcert_text.specs.Steps.Scaling.{cap, is_nonzero, ceiling, Measures}
-use Rattle.polcert_text.proofs.Scanning.Classes.{is_digit_class}
+use Rattle.polcert_text.proofs.Scanning.Tests.{digit_by, mark_by, point_by, digit_class_is}
 use Rattle.polcert_text.specs.Steps.Scan.{state_after, state_through}
 use Rattle.polcert_text.specs.declared.bytes.ByteClass.TheVariants.{Digit, Point}
 use Rattle.polcert_text.specs.declared.lexeme.State.{State}
@@ -20,8 +22,8 @@ use Rattle.polcert_text.proofs.Numbers.NumberLaws.{before_at, after_at, before_a
 use Rattle.polcert_text.proofs.Numbers.SizeLaws.{parts_measure, exact_floor, within}
 
 -- one more digit of a piece that begins at `from`
-pub behind_more : (front bs : List ℕ) (from at read : ℕ) → from ≤ at → at < length bs → class_of (get_or bs at 0) ≡ Digit → read ≡ digits_value 10 (front ++ take (at - from) (drop from bs)) → read * 10 + (get_or bs at 0 - 48) ≡ digits_value 10 (front ++ take (at + 1 - from) (drop from bs))
-behind_more front bs from at read low high digit was =
+pub after_more : (front bs : List ℕ) (from at read : ℕ) → from ≤ at → at < length bs → class_of (get_or bs at 0) ≡ Digit → read ≡ digits_value 10 (front ++ take (at - from) (drop from bs)) → read * 10 + (get_or bs at 0 - 48) ≡ digits_value 10 (front ++ take (at + 1 - from) (drop from bs))
+after_more front bs from at read low high digit was =
     let n : ℕ = at - from in
     let d : ℕ = get_or bs at 0 in
     let long = length-drop from bs in
@@ -33,7 +35,7 @@ behind_more front bs from at read low high digit was =
     ap (λ k. front ++ take k (drop from bs)) next
     ∙ ap (λ xs. front ++ xs) (more ∙ ap (λ b. take n (drop from bs) ++ b ∷ []) byte)
     ∙ sym (append_assoc front (take n (drop from bs)) (d ∷ [])) in
-    (λ i. was i * 10 + sym (digit_is d (ap digit_class digit)) i)
+    (λ i. was i * 10 + sym (digit_is d (digit_by d digit)) i)
     ∙ sym (digits_value_push 10 (front ++ take n (drop from bs)) d)
     ∙ ap (digits_value 10) (sym list)
 
@@ -65,19 +67,19 @@ not_false false h = absurd (h refl)
 digit_of_all : (xs : List ℕ) (n : ℕ) → n < length xs → list_all is_digit xs ≡ true → is_digit (get_or xs n 0) ≡ true
 digit_of_all xs n h all = not_false (is_digit (get_or xs n 0)) (λ none. let none_all = list_all_at is_digit xs n 0 h none in cc)
 
-pub at_or_behind : (k n : ℕ) → (k < n) ⊎ (n ≤ k)
-at_or_behind k n = grind arith
+pub at_or_after : (k n : ℕ) → (k < n) ⊎ (n ≤ k)
+at_or_after k n = grind arith
 
 -- as many as there are, or the first n
 take_fewer : (xs : List ℕ) (n k : ℕ) → k ≡ min (length xs) n → take n xs ≡ take k xs
 take_fewer xs n k e = ⊎_elim
     (λ few. take_all n xs (omega arith) ∙ sym (take_all k xs (omega arith)))
-    (λ many. let same : n ≡ k = omega arith in ap (λ m. take m xs) same) (at_or_behind (length xs) n)
+    (λ many. let same : n ≡ k = omega arith in ap (λ m. take m xs) same) (at_or_after (length xs) n)
 
 drop_fewer : (xs : List ℕ) (n k : ℕ) → k ≡ min (length xs) n → drop n xs ≡ drop k xs
 drop_fewer xs n k e = ⊎_elim
     (λ few. drop_all n xs (omega arith) ∙ sym (drop_all k xs (omega arith)))
-    (λ many. let same : n ≡ k = omega arith in ap (λ m. drop m xs) same) (at_or_behind (length xs) n)
+    (λ many. let same : n ≡ k = omega arith in ap (λ m. drop m xs) same) (at_or_after (length xs) n)
 
 below_ceiling : (floor : ℕ) (is_inexact : Bool) → floor < largest → ceiling floor is_inexact ≤ largest
 below_ceiling floor true small = omega arith
@@ -89,25 +91,25 @@ digits_at bs from k all low high =
     let n : ℕ = k - from in
     let place : from + n ≡ k = omega arith in
     let here : is_digit (get_or (drop from bs) n 0) ≡ true = digit_of_all (drop from bs) n (omega (arith, length-drop from bs)) all in
-    is_digit_class (class_of (get_or bs k 0)) (ap is_digit (sym (get_or-drop from bs n 0 ∙ ap (λ i. get_or bs i 0) place)) ∙ here)
+    digit_class_is (get_or bs k 0) (ap is_digit (sym (get_or-drop from bs n 0 ∙ ap (λ i. get_or bs i 0) place)) ∙ here)
 
 module _ (bs : List ℕ) (p : ℕ) (plain : IsPlain bs p) where
   no_mark : (k : ℕ) → k < length bs → is_exponent_mark (get_or bs k 0) ≡ false
   no_mark k l =
-      ⊎_elim (λ below. ap mark_class (plain.first k (omega arith) below))
-      (⊎_elim (λ at. ap (λ i. mark_class (class_of (get_or bs i 0))) at ∙ ap mark_class plain.point) (λ above. ap mark_class (plain.second k above l))) (side k p)
+      ⊎_elim (λ below. mark_by (get_or bs k 0) (plain.first k (omega arith) below))
+      (⊎_elim (λ at. ap (λ i. is_exponent_mark (get_or bs i 0)) at ∙ mark_by (get_or bs p 0) plain.point) (λ above. mark_by (get_or bs k 0) (plain.second k above l))) (side k p)
 
-  mantissa : before is_exponent_mark bs ≡ bs
+  mantissa : before_first is_exponent_mark bs ≡ bs
   mantissa = before_all is_exponent_mark bs no_mark
 
   exponent : exponent_of bs ≡ []
   exponent = after_all is_exponent_mark bs no_mark
 
   whole : whole_of bs ≡ take p bs
-  whole = ap (before is_point) mantissa ∙ before_at is_point bs p plain.inside (λ k l. ap point_class (plain.first k (omega arith) l)) (ap point_class plain.point)
+  whole = ap (before_first is_point) mantissa ∙ before_at is_point bs p plain.inside (λ k l. point_by (get_or bs k 0) (plain.first k (omega arith) l)) (point_by (get_or bs p 0) plain.point)
 
   fraction : fraction_of bs ≡ drop (p + 1) bs
-  fraction = ap (after is_point) mantissa ∙ after_at is_point bs p plain.inside (λ k l. ap point_class (plain.first k (omega arith) l)) (ap point_class plain.point)
+  fraction = ap (after_first is_point) mantissa ∙ after_at is_point bs p plain.inside (λ k l. point_by (get_or bs k 0) (plain.first k (omega arith) l)) (point_by (get_or bs p 0) plain.point)
 
   numeral : is_numeral bs ≡ true
   numeral =
@@ -115,10 +117,10 @@ module _ (bs : List ℕ) (p : ℕ) (plain : IsPlain bs p) where
       let to_point = run bs 1 (p - 1) states.Whole (omega (arith, plain.inside, plain.some)) refl begun (λ k l. plain.first (1 + k) (omega arith) (omega arith)) in
       let at : 1 + (p - 1) ≡ p = omega (arith, plain.some) in
       let there : state_through states.Start (take p bs) ≡ states.Whole = ap (λ k. state_through states.Start (take k bs)) (sym at) ∙ to_point in
-      let behind = state_step bs p states.Whole Point states.Fraction plain.inside there (sym plain.point) refl in
+      let following = state_step bs p states.Whole Point states.Fraction plain.inside there (sym plain.point) refl in
       let n : ℕ = length bs - (p + 1) in
       let full : p + 1 + n ≡ length bs = omega (arith, plain.inside) in
-      let done = run bs (p + 1) n states.Fraction (omega arith) refl behind (λ k l. plain.second (p + 1 + k) (omega arith) (omega arith)) in
+      let done = run bs (p + 1) n states.Fraction (omega arith) refl following (λ k l. plain.second (p + 1 + k) (omega arith) (omega arith)) in
       let all : take (p + 1 + n) bs ≡ bs = take_all (p + 1 + n) bs (omega arith) in
       sym (numeral_at_state bs states.Fraction (ap (state_through states.Start) (sym all) ∙ done))
 
@@ -137,12 +139,12 @@ module _ (bs : List ℕ) (p : ℕ) (plain : IsPlain bs p) where
       let long_w : length w ≡ p = length-take-le p bs (omega (arith, plain.inside)) in
       let long_f : length f ≡ length bs - (p + 1) = length-drop (p + 1) bs in
       let long : length (w ++ f) ≡ p + (length bs - (p + 1)) = length-append w f ∙ (λ i. long_w i + long_f i) in
-      let behind : p + 6 ≡ length w + 6 = omega (arith, long_w) in
+      let following : p + 6 ≡ length w + 6 = omega (arith, long_w) in
       let front : take (p + 6) (w ++ f) ≡ w ++ take (kept - (p + 1)) f =
-      ap (λ n. take n (w ++ f)) behind ∙ take-append-add w f 6 ∙ ap (λ xs. w ++ xs) (take_fewer f 6 (kept - (p + 1)) (omega (arith, long_f, kept_is, plain.inside))) in
+      ap (λ n. take n (w ++ f)) following ∙ take-append-add w f 6 ∙ ap (λ xs. w ++ xs) (take_fewer f 6 (kept - (p + 1)) (omega (arith, long_f, kept_is, plain.inside))) in
       let seventh : p + 1 + 6 ≡ p + 7 = omega arith in
       let rest : drop (p + 6) (w ++ f) ≡ drop kept bs =
-      ap (λ n. drop n (w ++ f)) behind ∙ drop-append-add w f 6 ∙ drop-drop 6 (p + 1) bs ∙ ap (λ n. drop n bs) seventh ∙ drop_fewer bs (p + 7) kept kept_is in
+      ap (λ n. drop n (w ++ f)) following ∙ drop-append-add w f 6 ∙ drop-drop 6 (p + 1) bs ∙ ap (λ n. drop n bs) seventh ∙ drop_fewer bs (p + 7) kept kept_is in
       let left : p + 6 - length (w ++ f) ≡ p + 7 - kept = omega (arith, long, kept_is, plain.inside) in
       let size : ℕ = digits_value 10 (take (p + 6) (w ++ f)) * 10 ^ (p + 6 - length (w ++ f)) in
       let measures : Measures bs size is_inexact = parts_measure bs w f false 0 (p + 6) is_inexact numeral short (sym whole) (sym fraction) (sym (ap is_lowering exponent)) (sym no_exponent) (omega arith) (omega (arith, long_w)) (inexact ∙ ap (list_any is_nonzero) (sym rest)) in

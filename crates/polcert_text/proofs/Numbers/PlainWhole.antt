@@ -2,33 +2,36 @@
 use Rattle.std.proofs.Common.{◌≡◌, ◌∙◌, ℕ, ◌+◌, ◌-◌, ◌*◌, ◌^◌, ◌<◌, ◌≤◌, true, false, List, [], ◌++◌, length, take, drop, take_all, append-nil, get_or, refl, sym, ap, subst, arith}
 use Rattle.std.proofs.lemmas.List.{drop_all}
 use Rattle.std.specs.Prelude.{Option, Some, None, IfSome}
-use Rattle.std.specs.List.{list_any}
+use Rattle.std.specs.List.{list_any, before_first, after_first}
 use Rattle.std.specs.Str.Parse.{digits_value}
-use Rattle.polcert_text.specs.Bytes.{class_of, mark_class, point_class, is_exponent_mark, is_point}
-use Rattle.polcert_text.specs.Lexemes.{before, after, is_numeral}
-use Rattle.polcert_text.specs.Numbers.{whole_of, fraction_of, exponent_of, is_lowering, without_sign, exponent_size, largest, IsReadable}
+use Rattle.polcert_text.specs.Bytes.{is_exponent_mark, is_point}
+use Rattle.polcert_text.specs.Steps.Classes.{class_of}
+use Rattle.polcert_text.specs.Lexemes.{is_numeral}
+use Rattle.polcert_text.specs.Numbers.{whole_of, fraction_of, exponent_of, is_lowering, exponent_size, largest, IsReadable}
+use Rattle.polcert_text.specs.Lexemes.{without_sign}
 use Rattle.polcert_text.specs.Steps.Scaling.{is_nonzero, ceiling, Measures}
 use Rattle.polcert_text.specs.declared.number.Size.{Size}
 use Rattle.polcert_text.specs.Steps.Scan.{state_through}
 use Rattle.polcert_text.specs.declared.bytes.ByteClass.TheVariants.{Digit}
 use Rattle.polcert_text.specs.declared.lexeme.State.TheVariants as states
 use Rattle.polcert_text.proofs.Scanning.LexemeLaws.{state_step}
+use Rattle.polcert_text.proofs.Scanning.Tests.{mark_by, point_by}
 use Rattle.polcert_text.proofs.Numbers.NumberLaws.{before_all, after_all, numeral_at_state}
 use Rattle.polcert_text.proofs.Numbers.Plain.{run}
 use Rattle.polcert_text.proofs.Numbers.SizeLaws.{parts_measure, within}
 
 module _ (bs : List ℕ) (some : 0 < length bs) (digits : (k : ℕ) → 0 ≤ k → k < length bs → class_of (get_or bs k 0) ≡ Digit) where
-  mantissa : before is_exponent_mark bs ≡ bs
-  mantissa = before_all is_exponent_mark bs (λ k l. ap mark_class (digits k (omega arith) l))
+  mantissa : before_first is_exponent_mark bs ≡ bs
+  mantissa = before_all is_exponent_mark bs (λ k l. mark_by (get_or bs k 0) (digits k (omega arith) l))
 
   exponent : exponent_of bs ≡ []
-  exponent = after_all is_exponent_mark bs (λ k l. ap mark_class (digits k (omega arith) l))
+  exponent = after_all is_exponent_mark bs (λ k l. mark_by (get_or bs k 0) (digits k (omega arith) l))
 
   whole : whole_of bs ≡ bs
-  whole = ap (before is_point) mantissa ∙ before_all is_point bs (λ k l. ap point_class (digits k (omega arith) l))
+  whole = ap (before_first is_point) mantissa ∙ before_all is_point bs (λ k l. point_by (get_or bs k 0) (digits k (omega arith) l))
 
   fraction : fraction_of bs ≡ []
-  fraction = ap (after is_point) mantissa ∙ after_all is_point bs (λ k l. ap point_class (digits k (omega arith) l))
+  fraction = ap (after_first is_point) mantissa ∙ after_all is_point bs (λ k l. point_by (get_or bs k 0) (digits k (omega arith) l))
 
   numeral : is_numeral bs ≡ true
   numeral =

@@ -1,77 +1,60 @@
 -- The size of a numeral, from its digits.
 use Rattle.std.proofs.Common.{◌≡◌, ◌∙◌, ℕ, suc, ◌+◌, ◌-◌, ◌*◌, ◌^◌, ◌<◌, ◌≤◌, min, Bool, true, false, not, cond, ◌&&◌, ◌||◌, inl, inr, ⊎_elim, List, [], ◌∷◌, ◌++◌, length, take, drop, refl, sym, ap, subst, arith, length-append}
 use Rattle.std.specs.Prelude.{if◌then◌else◌}
-use Rattle.std.specs.List.{list_all, list_any}
+use Rattle.std.specs.List.{list_all, list_any, before_first, after_first, position_or_len}
 use Rattle.std.specs.Str.Parse.{digits_value}
-use Rattle.std.proofs.lemmas.List.{take_all, drop_all}
+use Rattle.std.proofs.lemmas.List.{take_all, drop_all, length-take, length-drop}
 use Rattle.std.proofs.Math.Nat.{mul-le-mul_right, one-le-pow}
 use Rattle.std.proofs.lemmas.List.Folds.{list_all-append}
-use Rattle.polcert_text.specs.Bytes.{is_digit, is_exponent_mark, is_point, is_sign}
-use Rattle.polcert_text.specs.Lexemes.{before, after, is_mantissa, is_exponent, are_digits, is_empty, is_numeral}
-use Rattle.polcert_text.specs.Numbers.{whole_of, fraction_of, exponent_of, without_sign, is_lowering, number_of, exponent_size, power_of, size_of, millionth, largest}
+use Rattle.polcert_text.specs.Bytes.{is_digit, is_exponent_mark, is_point}
+use Rattle.polcert_text.specs.Lexemes.{without_sign, is_mantissa, are_digits, is_numeral}
+use Rattle.polcert_text.specs.Numbers.{whole_of, fraction_of, exponent_of, is_lowering, number_of, exponent_size, power_of, size_of, millionth, largest}
+use Rattle.polcert_text.proofs.Scanning.BeforeFirst.{after_first-pass}
 use Rattle.polcert_text.specs.Steps.Scaling.{cap, is_nonzero, IsScaled, ceiling, Measures}
 use Rattle.polcert_text.proofs.Numbers.MeasureLaws.{and-true_left, and-true_right, Fits, measure, order}
 
-length-before : (p : ℕ → Bool) (bs : List ℕ) → length (before p bs) ≤ length bs
-length-before p [] = omega arith
-length-before p (b ∷ bs) = at (p b) refl (length-before p bs)
-  where
-    at : (t : Bool) → p b ≡ t → length (before p bs) ≤ length bs → length (cond (p b) [] (b ∷ before p bs)) ≤ suc (length bs)
-    at true e h = simp e (omega arith)
-    at false e h = simp e (omega arith)
+length-before : (p : ℕ → Bool) (bs : List ℕ) → length (before_first p bs) ≤ length bs
+length-before p bs = omega (arith, length-take (position_or_len p bs) bs)
 
-length-after : (p : ℕ → Bool) (bs : List ℕ) → length (after p bs) ≤ length bs
-length-after p [] = omega arith
-length-after p (b ∷ bs) = at (p b) refl (length-after p bs)
-  where
-    at : (t : Bool) → p b ≡ t → length (after p bs) ≤ length bs → length (cond (p b) bs (after p bs)) ≤ suc (length bs)
-    at true e h = simp e (omega arith)
-    at false e h = simp e (omega arith)
+length-after : (p : ℕ → Bool) (bs : List ℕ) → length (after_first p bs) ≤ length bs
+length-after p bs = omega (arith, length-drop (position_or_len p bs + 1) bs)
 
 pub length-whole : (bs : List ℕ) → length (whole_of bs) ≤ length bs
-length-whole bs = let inner = length-before is_point (before is_exponent_mark bs) in let outer = length-before is_exponent_mark bs in omega arith
+length-whole bs = let inner = length-before is_point (before_first is_exponent_mark bs) in let outer = length-before is_exponent_mark bs in omega arith
 
 pub length-fraction : (bs : List ℕ) → length (fraction_of bs) ≤ length bs
-length-fraction bs = let inner = length-after is_point (before is_exponent_mark bs) in let outer = length-before is_exponent_mark bs in omega arith
+length-fraction bs = let inner = length-after is_point (before_first is_exponent_mark bs) in let outer = length-before is_exponent_mark bs in omega arith
 
-mantissa_of_numeral : (bs : List ℕ) → is_numeral bs ≡ true → is_mantissa (before is_exponent_mark bs) ≡ true
-mantissa_of_numeral bs h = and-true_left (is_mantissa (before is_exponent_mark bs)) (not (list_any is_exponent_mark bs) || is_exponent (after is_exponent_mark bs)) h
+mantissa_of_numeral : (bs : List ℕ) → is_numeral bs ≡ true → is_mantissa (before_first is_exponent_mark bs) ≡ true
+mantissa_of_numeral bs h = and-true_left (is_mantissa (before_first is_exponent_mark bs)) (not (list_any is_exponent_mark bs) || are_digits (without_sign (after_first is_exponent_mark bs))) h
 
 pub whole_digits : (bs : List ℕ) → is_numeral bs ≡ true → list_all is_digit (whole_of bs) ≡ true
 whole_digits bs h =
-    let m = before is_exponent_mark bs in
-    let sides = and-true_left (list_all is_digit (before is_point m) && list_all is_digit (after is_point m)) (list_any is_digit m) (mantissa_of_numeral bs h) in
-    and-true_left (list_all is_digit (before is_point m)) (list_all is_digit (after is_point m)) sides
+    let m = before_first is_exponent_mark bs in
+    let sides = and-true_left (list_all is_digit (before_first is_point m) && list_all is_digit (after_first is_point m)) (list_any is_digit m) (mantissa_of_numeral bs h) in
+    and-true_left (list_all is_digit (before_first is_point m)) (list_all is_digit (after_first is_point m)) sides
 
 pub fraction_digits : (bs : List ℕ) → is_numeral bs ≡ true → list_all is_digit (fraction_of bs) ≡ true
 fraction_digits bs h =
-    let m = before is_exponent_mark bs in
-    let sides = and-true_left (list_all is_digit (before is_point m) && list_all is_digit (after is_point m)) (list_any is_digit m) (mantissa_of_numeral bs h) in
-    and-true_right (list_all is_digit (before is_point m)) (list_all is_digit (after is_point m)) sides
+    let m = before_first is_exponent_mark bs in
+    let sides = and-true_left (list_all is_digit (before_first is_point m) && list_all is_digit (after_first is_point m)) (list_any is_digit m) (mantissa_of_numeral bs h) in
+    and-true_right (list_all is_digit (before_first is_point m)) (list_all is_digit (after_first is_point m)) sides
 
-pub after-none : (p : ℕ → Bool) (bs : List ℕ) → list_any p bs ≡ false → after p bs ≡ []
+pub after-none : (p : ℕ → Bool) (bs : List ℕ) → list_any p bs ≡ false → after_first p bs ≡ []
 after-none p [] h = refl
 after-none p (b ∷ bs) h = at (p b) refl (after-none p bs)
   where
-    at : (t : Bool) → p b ≡ t → (list_any p bs ≡ false → after p bs ≡ []) → cond (p b) bs (after p bs) ≡ []
+    at : (t : Bool) → p b ≡ t → (list_any p bs ≡ false → after_first p bs ≡ []) → after_first p (b ∷ bs) ≡ []
     at true e more = let g : (p b || list_any p bs) ≡ false = h in let g2 = rw e at g in cc
-    at false e more = let g : (p b || list_any p bs) ≡ false = h in simp e (more (rw e at g))
-
-exponent_fits_digits : (bs : List ℕ) → is_exponent bs ≡ true → list_all is_digit (without_sign bs) ≡ true
-exponent_fits_digits [] h = refl
-exponent_fits_digits (b ∷ bs) h = at (is_sign b) refl
-  where
-    at : (t : Bool) → is_sign b ≡ t → list_all is_digit (cond (is_sign b) bs (b ∷ bs)) ≡ true
-    at true e = let g : cond (is_sign b) (are_digits bs) (are_digits (b ∷ bs)) ≡ true = h in simp e (and-true_left (list_all is_digit bs) (not (is_empty bs)) (rw e at g))
-    at false e = let g : cond (is_sign b) (are_digits bs) (are_digits (b ∷ bs)) ≡ true = h in simp e (and-true_left (list_all is_digit (b ∷ bs)) true (rw e at g))
+    at false e more = let g : (p b || list_any p bs) ≡ false = h in after_first-pass p b bs e ∙ more (rw e at g)
 
 pub exponent_digits : (bs : List ℕ) → is_numeral bs ≡ true → list_all is_digit (without_sign (exponent_of bs)) ≡ true
 exponent_digits bs h = at (list_any is_exponent_mark bs) refl
   where
     at : (t : Bool) → list_any is_exponent_mark bs ≡ t → list_all is_digit (without_sign (exponent_of bs)) ≡ true
     at true e =
-        let g : (not (list_any is_exponent_mark bs) || is_exponent (after is_exponent_mark bs)) ≡ true = and-true_right (is_mantissa (before is_exponent_mark bs)) (not (list_any is_exponent_mark bs) || is_exponent (after is_exponent_mark bs)) h in
-        exponent_fits_digits (exponent_of bs) (rw e at g)
+        let g : (not (list_any is_exponent_mark bs) || are_digits (without_sign (after_first is_exponent_mark bs))) ≡ true = and-true_right (is_mantissa (before_first is_exponent_mark bs)) (not (list_any is_exponent_mark bs) || are_digits (without_sign (after_first is_exponent_mark bs))) h in
+        and-true_left (list_all is_digit (without_sign (exponent_of bs))) (list_any is_digit (without_sign (exponent_of bs))) (rw e at g)
     at false e = ap (λ xs. list_all is_digit (without_sign xs)) (after-none is_exponent_mark bs e)
 
 -- how many digits are kept

@@ -72,6 +72,6 @@ module _ {S B N : Type 0} (writes : B → Option (List ℕ) → B → Type 0) (f
     stopped_name = f.failed.1 ∙ (passes_on f.took).1
 
 -- what is said of a sink is said of what is left after the reference to it
-pub left_behind : {S T E : Type 0} {writes : S → Option (List ℕ) → S → Type 0} {failures : S → ℕ} {from to final : S} {text : List ℕ} {r : Result T E}
+pub left_after : {S T E : Type 0} {writes : S → Option (List ℕ) → S → Type 0} {failures : S → ℕ} {from to final : S} {text : List ℕ} {r : Result T E}
     → WritesText writes failures from text r to → final ≡ to → WritesText writes failures from text r final
-left_behind {writes = writes} {failures = failures} {from = from} {text = text} {r = r} w e = subst (λ s. WritesText writes failures from text r s) (sym e) w
+left_after {writes = writes} {failures = failures} {from = from} {text = text} {r = r} w e = subst (λ s. WritesText writes failures from text r s) (sym e) w

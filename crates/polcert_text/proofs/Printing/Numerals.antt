@@ -4,7 +4,7 @@ use Rattle.std.specs.Prelude.{◌==◌}
 use Rattle.std.specs.List.{list_all, list_any}
 use Rattle.std.proofs.lemmas.List.Folds.{list_any-append}
 use Rattle.std.proofs.lemmas.Fmt.{decimal_nonempty, length-decimal-le}
-use Rattle.polcert_text.specs.Bytes.{class_of, is_digit, is_exponent_mark, digit_class, mark_class}
+use Rattle.polcert_text.specs.Bytes.{is_digit, is_exponent_mark}
 use Rattle.polcert_text.specs.Lexemes.{kind_of}
 use Rattle.polcert_text.specs.Millionths.{decimals, fraction_text, unsigned_text}
 use Rattle.polcert_text.specs.Steps.Scan.{state_after, state_through, kind_at}
@@ -14,8 +14,9 @@ use Rattle.polcert_text.specs.declared.lexeme.State.TheVariants.{Start, Whole, F
 use Rattle.polcert_text.specs.declared.lexeme.TokenKind.TheVariants.{Numeral}
 use Rattle.polcert_text.proofs.Scanning.LexemeLaws.{kind_of-through, state_through-append}
 use Rattle.polcert_text.proofs.Numbers.MeasureLaws.{and-true_left, and-true_right}
-use Rattle.polcert_text.proofs.Printing.PrintLaws.{decimal_digits, decimals_digits}
-use Rattle.polcert_text.proofs.Scanning.Classes.{is_digit_class as digit_is, point_at_46 as point_class_is}
+use Rattle.polcert_text.proofs.Printing.PrintLaws.{decimal_digits, decimals_digits, point_no_mark}
+use Rattle.polcert_text.proofs.Scanning.Classes.{point_at_46 as point_class_is}
+use Rattle.polcert_text.proofs.Scanning.Tests.{digit_class_is, mark_by}
 
 decimals_short : (k r : ℕ) → length (decimals k r) ≤ k
 unfolding decimals
@@ -29,28 +30,27 @@ decimals_short (suc k) r = at (r == 0) (decimals_short k (r % 10 ^ k))
 digits_stay : (state : State) → state_after state classes.Digit ≡ state → (ds : List ℕ) → list_all is_digit ds ≡ true → state_through state ds ≡ state
 digits_stay state stays [] h = refl
 digits_stay state stays (d ∷ ds) h =
-    ap (λ c. state_through (state_after state c) ds) (digit_is (class_of d) (and-true_left (is_digit d) (list_all is_digit ds) h))
+    ap (λ c. state_through (state_after state c) ds) (digit_class_is d (and-true_left (is_digit d) (list_all is_digit ds) h))
     ∙ ap (λ t. state_through t ds) stays ∙ digits_stay state stays ds (and-true_right (is_digit d) (list_all is_digit ds) h)
 
 digits_unmarked : (ds : List ℕ) → list_all is_digit ds ≡ true → list_any is_exponent_mark ds ≡ false
 digits_unmarked [] h = refl
 digits_unmarked (d ∷ ds) h =
-    let e = digit_is (class_of d) (and-true_left (is_digit d) (list_all is_digit ds) h) in
-    simp e (digits_unmarked ds (and-true_right (is_digit d) (list_all is_digit ds) h))
+    let e = digit_class_is d (and-true_left (is_digit d) (list_all is_digit ds) h) in
+    simp (mark_by d e) (digits_unmarked ds (and-true_right (is_digit d) (list_all is_digit ds) h))
 
 -- digits, and perhaps a point and digits
 pub record IsPlain (text : List ℕ) : Type 0 where
   pub digit : ℕ
   pub rest : List ℕ
   pub begins : text ≡ digit ∷ rest
-  pub is_digit : digit_class (class_of digit) ≡ true
   pub kind : kind_of text ≡ Some Numeral
   pub unmarked : list_any is_exponent_mark text ≡ false
   pub short : length text ≤ 30
 
 whole_state : (d : ℕ) (ds : List ℕ) → list_all is_digit (d ∷ ds) ≡ true → state_through Start (d ∷ ds) ≡ Whole
 whole_state d ds h =
-    ap (λ c. state_through (state_after Start c) ds) (digit_is (class_of d) (and-true_left (is_digit d) (list_all is_digit ds) h))
+    ap (λ c. state_through (state_after Start c) ds) (digit_class_is d (and-true_left (is_digit d) (list_all is_digit ds) h))
     ∙ digits_stay Whole refl ds (and-true_right (is_digit d) (list_all is_digit ds) h)
 
 pub plain_whole : (ds : List ℕ) → list_all is_digit ds ≡ true → 0 < length ds → length ds ≤ 20 → IsPlain ds
@@ -59,7 +59,6 @@ plain_whole (d ∷ ds) h some few = record {
   digit = d;
   rest = ds;
   begins = refl;
-  is_digit = and-true_left (is_digit d) (list_all is_digit ds) h;
   kind = kind_of-through (d ∷ ds) ∙ ap kind_at (whole_state d ds h);
   unmarked = digits_unmarked (d ∷ ds) h;
   short = omega (arith, few);
@@ -74,9 +73,8 @@ plain_point (d ∷ ds) fs h some few f small =
       digit = d;
       rest = ds ++ 46 ∷ fs;
       begins = refl;
-      is_digit = and-true_left (is_digit d) (list_all is_digit ds) h;
       kind = kind_of-through ((d ∷ ds) ++ 46 ∷ fs) ∙ ap kind_at state;
-      unmarked = list_any-append is_exponent_mark (d ∷ ds) (46 ∷ fs) ∙ (λ i. digits_unmarked (d ∷ ds) h i || (mark_class (point_class_is i) || digits_unmarked fs f i));
+      unmarked = list_any-append is_exponent_mark (d ∷ ds) (46 ∷ fs) ∙ (λ i. digits_unmarked (d ∷ ds) h i || (point_no_mark i || digits_unmarked fs f i));
       short = omega (arith, length-append (d ∷ ds) (46 ∷ fs), few, small);
     }
 

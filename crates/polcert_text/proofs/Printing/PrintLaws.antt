@@ -5,49 +5,26 @@ use mir.Val.{SFits}
 use mir.Syntax.{w64}
 use Rattle.std.specs.Prelude.{◌==◌}
 use Rattle.std.specs.Char.{digit_value, is_ascii_digit, is_ascii_alphabetic}
-use Rattle.std.specs.List.{list_all, list_any}
+use Rattle.std.specs.List.{list_all, list_any, before_first, after_first}
 use Rattle.std.specs.Str.Parse.{digits_value, digits_value_after}
 use Rattle.std.proofs.lemmas.Bool.Decides.{nat_tests}
 use Rattle.std.proofs.lemmas.List.Folds.{list_all-append, list_any-append}
 use Rattle.std.proofs.lemmas.Fmt.{decimal_by_steps, decimal_is_IsNumeral, decimal_nonempty}
 use Rattle.std.proofs.lemmas.Nat.{pow-add, div-add-mod'}
 use Rattle.std.proofs.Math.Nat.{mod-lt, mul_assoc}
-use Rattle.polcert_text.specs.Bytes.{class_of, is_digit, is_point, is_exponent_mark, digit_class, mark_class, point_class}
-use Rattle.polcert_text.specs.Lexemes.{before, after, is_mantissa, is_exponent, is_numeral}
-use Rattle.polcert_text.specs.Numbers.{whole_of, fraction_of, exponent_of, is_lowering, without_sign, number_of, exponent_size, power_of, size_of, millionth, signed, IsExact, Denotes}
+use Rattle.polcert_text.specs.Bytes.{is_digit, is_point, is_exponent_mark}
+use Rattle.polcert_text.specs.Lexemes.{without_sign, are_digits, is_mantissa, is_numeral}
+use Rattle.polcert_text.specs.Numbers.{whole_of, fraction_of, exponent_of, is_lowering, number_of, exponent_size, power_of, size_of, millionth, signed, IsExact, Denotes}
+use Rattle.polcert_text.proofs.Scanning.BeforeFirst.{before_first-stop, before_first-pass, after_first-stop, after_first-pass}
 use Rattle.polcert_text.specs.Millionths.{decimals, fraction_text, unsigned_text, scaled_text}
-use Rattle.polcert_text.specs.declared.bytes.ByteClass.{ByteClass}
-use Rattle.polcert_text.specs.declared.bytes.ByteClass.TheVariants as classes
 use Rattle.polcert_text.proofs.Numbers.MeasureLaws.{and-true_left, and-true_right, value_after, value-append, ten_pos}
 use Rattle.polcert_text.proofs.Numbers.SizeLaws.{after-none}
 use Rattle.polcert_text.proofs.Numbers.SignedLaws.{signed-mul}
 use Rattle.polcert_text.proofs.Numbers.DecimalLaws.{decimals-zero, digit_below_suc}
 
-chain_yes : (blank line hash mark letter digit : Bool) (rest : ByteClass) → blank ≡ false → line ≡ false → hash ≡ false → mark ≡ false → letter ≡ false → digit ≡ true → digit_class (cond blank classes.Blank (cond line classes.LineEnd (cond hash classes.Hash (cond mark classes.ExponentMark (cond letter classes.Letter (cond digit classes.Digit rest)))))) ≡ true
-chain_yes blank line hash mark letter digit rest a b c d e f = simp (a, b, c, d, e, f)
-
-module _ (b : ℕ) (low : 48 ≤ b) (high : b ≤ 57) where
-  no_blank : (b == 9 || b == 13 || b == 32) ≡ false
-  no_blank = grind (arith, nat_tests)
-
-  no_line : (b == 10) ≡ false
-  no_line = grind (arith, nat_tests)
-
-  no_hash : (b == 35) ≡ false
-  no_hash = grind (arith, nat_tests)
-
-  no_mark : (b == 101 || b == 69) ≡ false
-  no_mark = grind (arith, nat_tests)
-
-  no_letter : is_ascii_alphabetic b ≡ false
-  no_letter = grind (arith, nat_tests)
-
-  yes_digit : is_ascii_digit b ≡ true
-  yes_digit = grind (arith, nat_tests)
-
-  is_digit-yes : is_digit b ≡ true
-  unfolding class_of
-  is_digit-yes = chain_yes _ _ _ _ _ _ _ no_blank no_line no_hash no_mark no_letter yes_digit
+is_digit-yes : (b : ℕ) → 48 ≤ b → b ≤ 57 → is_digit b ≡ true
+unfolding is_digit
+is_digit-yes b low high = grind (arith, nat_tests)
 
 pub decimal_digits : (n : ℕ) → n < 2 ^ 64 → list_all is_digit (decimal n) ≡ true
 decimal_digits n h =
@@ -101,59 +78,56 @@ decimals_value (suc k) r h = at (r == 0) refl (decimals_value k (r % 10 ^ k) (mo
         let whole : r / 10 ^ k * 10 ^ k + r % 10 ^ k ≡ r = div-add-mod' r (10 ^ k) in
         simp e (subst (λ n. Decimals (suc k) n ((48 + r / 10 ^ k) ∷ decimals k (r % 10 ^ k))) whole (cons_value k (r / 10 ^ k) (r % 10 ^ k) (decimals k (r % 10 ^ k)) (digit_below_suc k r h) more))
 
--- digits are no other bytes
-digit_no_other : (c : ByteClass) → digit_class c ≡ true → (mark_class c ≡ false) × (point_class c ≡ false)
-digit_no_other classes.Digit h = (refl, refl)
-digit_no_other _ h = cc
-
 none_among : (p : ℕ → Bool) → ((b : ℕ) → is_digit b ≡ true → p b ≡ false) → (ds : List ℕ) → list_all is_digit ds ≡ true → list_any p ds ≡ false
 none_among p other [] h = refl
 none_among p other (d ∷ ds) h =
     let first = other d (and-true_left (is_digit d) (list_all is_digit ds) h) in
     simp first (none_among p other ds (and-true_right (is_digit d) (list_all is_digit ds) h))
 
-before-none : (p : ℕ → Bool) (bs : List ℕ) → list_any p bs ≡ false → before p bs ≡ bs
+before-none : (p : ℕ → Bool) (bs : List ℕ) → list_any p bs ≡ false → before_first p bs ≡ bs
 before-none p [] h = refl
 before-none p (b ∷ bs) h = at (p b) refl (before-none p bs)
   where
-    at : (t : Bool) → p b ≡ t → (list_any p bs ≡ false → before p bs ≡ bs) → cond (p b) [] (b ∷ before p bs) ≡ b ∷ bs
+    at : (t : Bool) → p b ≡ t → (list_any p bs ≡ false → before_first p bs ≡ bs) → before_first p (b ∷ bs) ≡ b ∷ bs
     at true e more = let g : (p b || list_any p bs) ≡ false = h in let g2 = rw e at g in cc
-    at false e more = let g : (p b || list_any p bs) ≡ false = h in simp e (ap (λ xs. b ∷ xs) (more (rw e at g)))
+    at false e more = let g : (p b || list_any p bs) ≡ false = h in before_first-pass p b bs e ∙ ap (λ xs. b ∷ xs) (more (rw e at g))
 
-before-at : (p : ℕ → Bool) (xs ys : List ℕ) (y : ℕ) → list_any p xs ≡ false → p y ≡ true → before p (xs ++ y ∷ ys) ≡ xs
-before-at p [] ys y h e = simp e
+before-at : (p : ℕ → Bool) (xs ys : List ℕ) (y : ℕ) → list_any p xs ≡ false → p y ≡ true → before_first p (xs ++ y ∷ ys) ≡ xs
+before-at p [] ys y h e = before_first-stop p y ys e
 before-at p (x ∷ xs) ys y h e = at (p x) refl (λ g. before-at p xs ys y g e)
   where
-    at : (t : Bool) → p x ≡ t → (list_any p xs ≡ false → before p (xs ++ y ∷ ys) ≡ xs) → cond (p x) [] (x ∷ before p (xs ++ y ∷ ys)) ≡ x ∷ xs
+    at : (t : Bool) → p x ≡ t → (list_any p xs ≡ false → before_first p (xs ++ y ∷ ys) ≡ xs) → before_first p (x ∷ (xs ++ y ∷ ys)) ≡ x ∷ xs
     at true f more = let g : (p x || list_any p xs) ≡ false = h in let g2 = rw f at g in cc
-    at false f more = let g : (p x || list_any p xs) ≡ false = h in simp f (ap (λ xs. x ∷ xs) (more (rw f at g)))
+    at false f more = let g : (p x || list_any p xs) ≡ false = h in before_first-pass p x (xs ++ y ∷ ys) f ∙ ap (λ xs. x ∷ xs) (more (rw f at g))
 
-after-at : (p : ℕ → Bool) (xs ys : List ℕ) (y : ℕ) → list_any p xs ≡ false → p y ≡ true → after p (xs ++ y ∷ ys) ≡ ys
-after-at p [] ys y h e = simp e
+after-at : (p : ℕ → Bool) (xs ys : List ℕ) (y : ℕ) → list_any p xs ≡ false → p y ≡ true → after_first p (xs ++ y ∷ ys) ≡ ys
+after-at p [] ys y h e = after_first-stop p y ys e
 after-at p (x ∷ xs) ys y h e = at (p x) refl (λ g. after-at p xs ys y g e)
   where
-    at : (t : Bool) → p x ≡ t → (list_any p xs ≡ false → after p (xs ++ y ∷ ys) ≡ ys) → cond (p x) (xs ++ y ∷ ys) (after p (xs ++ y ∷ ys)) ≡ ys
+    at : (t : Bool) → p x ≡ t → (list_any p xs ≡ false → after_first p (xs ++ y ∷ ys) ≡ ys) → after_first p (x ∷ (xs ++ y ∷ ys)) ≡ ys
     at true f more = let g : (p x || list_any p xs) ≡ false = h in let g2 = rw f at g in cc
-    at false f more = let g : (p x || list_any p xs) ≡ false = h in simp f (more (rw f at g))
+    at false f more = let g : (p x || list_any p xs) ≡ false = h in after_first-pass p x (xs ++ y ∷ ys) f ∙ more (rw f at g)
 
 -- how a text falls into parts
 record FallsInto (text whole fraction : List ℕ) : Type 0 where
   no_exponent : list_any is_exponent_mark text ≡ false
-  whole_is : before is_point text ≡ whole
-  fraction_is : after is_point text ≡ fraction
+  whole_is : before_first is_point text ≡ whole
+  fraction_is : after_first is_point text ≡ fraction
 
 mark_no_digit : (b : ℕ) → is_digit b ≡ true → is_exponent_mark b ≡ false
-mark_no_digit b h = (digit_no_other (class_of b) h).0
+unfolding is_digit is_exponent_mark
+mark_no_digit b h = grind (arith, nat_tests)
 
 point_no_digit : (b : ℕ) → is_digit b ≡ true → is_point b ≡ false
-point_no_digit b h = (digit_no_other (class_of b) h).1
+unfolding is_digit is_point
+point_no_digit b h = grind (arith, nat_tests)
 
 point_is : is_point 46 ≡ true
-unfolding class_of
+unfolding is_point
 point_is = refl
 
-point_no_mark : is_exponent_mark 46 ≡ false
-unfolding class_of
+pub point_no_mark : is_exponent_mark 46 ≡ false
+unfolding is_exponent_mark
 point_no_mark = refl
 
 falls_with_point : (whole fraction : List ℕ) → list_all is_digit whole ≡ true → list_all is_digit fraction ≡ true → FallsInto (whole ++ 46 ∷ fraction) whole fraction
@@ -192,9 +166,9 @@ some_digit (d ∷ ds) more h a = simp (and-true_left (is_digit d) (list_all is_d
 
 numeral_from_parts : (text whole fraction : List ℕ) → FallsInto text whole fraction → list_all is_digit whole ≡ true → list_all is_digit fraction ≡ true → list_any is_digit text ≡ true → is_numeral text ≡ true
 numeral_from_parts text whole fraction falls w f some =
-    let all : before is_exponent_mark text ≡ text = before-none is_exponent_mark text falls.no_exponent in
+    let all : before_first is_exponent_mark text ≡ text = before-none is_exponent_mark text falls.no_exponent in
     let mantissa : is_mantissa text ≡ true = λ i. (subst (λ xs. list_all is_digit xs ≡ true) (sym falls.whole_is) w i) && (subst (λ xs. list_all is_digit xs ≡ true) (sym falls.fraction_is) f i) && some i in
-    λ i. (ap is_mantissa all ∙ mantissa) i && (not (falls.no_exponent i) || is_exponent (after is_exponent_mark text))
+    λ i. (ap is_mantissa all ∙ mantissa) i && (not (falls.no_exponent i) || are_digits (without_sign (after_first is_exponent_mark text)))
 
 scaled_up : (q v len r n e : ℕ) → len ≤ 6 → v * 10 ^ (6 - len) ≡ r → q * 1_000_000 + r ≡ n → (q * 10 ^ len + v) * 10 ^ (6 + e - len) ≡ n * 10 ^ e
 scaled_up q v len r n e few value whole =
@@ -210,9 +184,9 @@ scaled_up q v len r n e few value whole =
 size_from_parts : (text whole fraction : List ℕ) (q r n : ℕ) → FallsInto text whole fraction → digits_value 10 whole ≡ q → Decimals 6 r fraction → q * 1_000_000 + r ≡ n → size_of text ≡ n * millionth
 unfolding size_of number_of power_of exponent_size millionth
 size_from_parts text whole fraction q r n falls value was all =
-    let text_is : before is_exponent_mark text ≡ text = before-none is_exponent_mark text falls.no_exponent in
-    let w : whole_of text ≡ whole = ap (before is_point) text_is ∙ falls.whole_is in
-    let f : fraction_of text ≡ fraction = ap (after is_point) text_is ∙ falls.fraction_is in
+    let text_is : before_first is_exponent_mark text ≡ text = before-none is_exponent_mark text falls.no_exponent in
+    let w : whole_of text ≡ whole = ap (before_first is_point) text_is ∙ falls.whole_is in
+    let f : fraction_of text ≡ fraction = ap (after_first is_point) text_is ∙ falls.fraction_is in
     let none : exponent_of text ≡ [] = after-none is_exponent_mark text falls.no_exponent in
     let number : digits_value 10 (whole_of text ++ fraction_of text) ≡ q * 10 ^ length fraction + digits_value 10 fraction = (λ i. digits_value 10 (w i ++ f i)) ∙ value-append whole fraction ∙ ap (λ v. v * 10 ^ length fraction + digits_value 10 fraction) value in
     let power : cond (is_lowering (exponent_of text)) (1000 - digits_value 10 (without_sign (exponent_of text)) - length (fraction_of text)) (1000 + digits_value 10 (without_sign (exponent_of text)) - length (fraction_of text)) ≡ 1000 - length fraction = (λ i. cond (is_lowering (none i)) (1000 - digits_value 10 (without_sign (none i)) - length (f i)) (1000 + digits_value 10 (without_sign (none i)) - length (f i))) in

@@ -3,7 +3,8 @@ use Rattle.std.proofs.Common.{◌≡◌, ◌∙◌, ℕ, ◌+◌, ◌<◌, ◌�
 use Rattle.std.specs.List.{list_all}
 use Rattle.std.proofs.Math.Seq.{drop-append_seam, get_or-append_seam}
 use Rattle.std.proofs.lemmas.List.{take_at, drop_all}
-use Rattle.polcert_text.specs.Bytes.{class_of, is_blank, blank_class, glue_class}
+use Rattle.polcert_text.specs.Bytes.{is_blank}
+use Rattle.polcert_text.specs.Steps.Classes.{class_of, blank_class, glue_class}
 use Rattle.polcert_text.specs.Gaps.{is_gap}
 use Rattle.polcert_text.specs.Lexemes.{kind_of}
 use Rattle.polcert_text.specs.Fronts.{IsLongestGap, IsLongestLexeme}
@@ -12,7 +13,7 @@ use Rattle.polcert_text.specs.Steps.Scan.{gap_after, gap_through, state_after, s
 use Rattle.polcert_text.specs.Steps.ScanOf.{IsFrontOf}
 use Rattle.polcert_text.specs.declared.bytes.ByteClass.{ByteClass}
 use Rattle.polcert_text.specs.declared.bytes.ByteClass.TheVariants as classes
-use Rattle.polcert_text.specs.declared.lexeme.Front.{Front}
+use Rattle.polcert_text.specs.declared.lexeme.LexemePrefix.{LexemePrefix}
 use Rattle.polcert_text.specs.declared.lexeme.Gap.{Gap}
 use Rattle.polcert_text.specs.declared.lexeme.Gap.TheVariants.{Between, Ended}
 use Rattle.polcert_text.specs.declared.lexeme.State.{State}
@@ -20,8 +21,9 @@ use Rattle.polcert_text.specs.declared.lexeme.State.TheVariants as states
 use Rattle.polcert_text.specs.declared.lexeme.TokenKind.{TokenKind}
 use Rattle.polcert_text.specs.declared.lexeme.TokenKind.TheVariants.{Numeral}
 use Rattle.polcert_text.proofs.Scanning.GapLaws.{gap_until_open, gap_through_more, longest_gap_at}
-use Rattle.polcert_text.proofs.Scanning.LexemeLaws.{kind_of-through, state_through-append, front_keeps, front_whatever_follows}
+use Rattle.polcert_text.proofs.Scanning.LexemeLaws.{none_empty, kind_of-through, state_through-append, front_keeps, front_whatever_follows}
 use Rattle.polcert_text.proofs.Numbers.MeasureLaws.{and-true_left, and-true_right}
+use Rattle.polcert_text.proofs.Scanning.Tests.{blank_by}
 
 abbrev pub rest_at : ℕ → List ℕ → Rest
 rest_at place bs = record { place = place; bytes = bs; ending = None }
@@ -34,7 +36,7 @@ blank_between _ h = cc
 blanks_between : (gap : List ℕ) → list_all is_blank gap ≡ true → gap_through Between gap ≡ Between
 blanks_between [] h = refl
 blanks_between (b ∷ bs) h =
-    ap (λ g. gap_through g bs) (blank_between (class_of b) (and-true_left (is_blank b) (list_all is_blank bs) h))
+    ap (λ g. gap_through g bs) (blank_between (class_of b) (sym (blank_by b refl) ∙ and-true_left (is_blank b) (list_all is_blank bs) h))
     ∙ blanks_between bs (and-true_right (is_blank b) (list_all is_blank bs) h)
 
 between_not_ended : (g : Gap) → g ≡ Between → g ≡ Ended → ⊥
@@ -66,7 +68,7 @@ ends_blank place gap h = record {
 longest_before : (w : List ℕ) (kind : TokenKind) (b : ℕ) (more : List ℕ) → kind_of w ≡ Some kind → state_after (state_through states.Start w) (class_of b) ≡ states.Stuck → IsLongestLexeme (w ++ b ∷ more) kind (length w)
 longest_before w kind b more is stuck =
     let state : state_through states.Start (w ++ b ∷ []) ≡ states.Stuck = state_through-append states.Start w (b ∷ []) ∙ stuck in
-    let front : Front = record { kind = kind; len = length w } in
+    let front : LexemePrefix = record { kind = kind; len = length w } in
     let alone : IsFrontOf w (Some front) = record {
       within = omega arith;
       lexeme = ap kind_of (take_all (length w) w (omega arith)) ∙ is;
@@ -93,21 +95,21 @@ takes_next : (place : ℕ) (gap w : List ℕ) (kind : TokenKind) (x : ℕ) (xs :
     → TakesToken (rest_at place (gap ++ (w ++ after))) (record { kind = kind; place = place + length gap; bytes = w }) (rest_at (place + length gap + length w) after)
 takes_next place gap w kind x xs b more after h begins stop after_is is stuck apart short =
     let token : Lexeme = record { kind = kind; place = place + length gap; bytes = w } in
-    let behind_gap : drop (length gap) (gap ++ (w ++ after)) ≡ w ++ after = drop-append_seam gap (w ++ after) in
-    let behind : drop (length w) (w ++ after) ≡ after = drop-append_seam w after in
+    let after_gap : drop (length gap) (gap ++ (w ++ after)) ≡ w ++ after = drop-append_seam gap (w ++ after) in
+    let following : drop (length w) (w ++ after) ≡ after = drop-append_seam w after in
     let text : gap ++ x ∷ (xs ++ after) ≡ gap ++ (w ++ after) = ap (λ v. gap ++ (v ++ after)) (sym begins) in
     let at : IsTokenAt (place + length gap) (w ++ after) token = record {
       lexeme = subst (λ ys. IsLongestLexeme (w ++ ys) kind (length w)) (sym after_is) (longest_before w kind b more is stuck);
       place_is = refl;
       bytes_are = sym (take_at w after (length w) refl);
       short = short;
-      apart = ap (is_glued kind) (behind ∙ after_is) ∙ apart;
+      apart = ap (is_glued kind) (following ∙ after_is) ∙ apart;
     } in
     record {
       gap = length gap;
       longest = subst (λ bs. IsLongestGap bs (length gap)) text (longest_blanks gap x (xs ++ after) h stop);
-      token_at = subst (λ bs. IsTokenAt (place + length gap) bs token) (sym behind_gap) at;
-      rest = λ i. record { place = place + length gap + length w; bytes = (sym behind ∙ ap (drop (length w)) (sym behind_gap)) i; ending = None };
+      token_at = subst (λ bs. IsTokenAt (place + length gap) bs token) (sym after_gap) at;
+      rest = λ i. record { place = place + length gap + length w; bytes = (sym following ∙ ap (drop (length w)) (sym after_gap)) i; ending = None };
     }
 
 -- ---- lexeme by lexeme
@@ -115,16 +117,16 @@ takes_next place gap w kind x xs b more after h begins stop after_is is stuck ap
 pub record Printed : Type 0 where
   pub kind : TokenKind
   pub bytes : List ℕ
-  pub behind : List ℕ
+  pub following : List ℕ
 
 abbrev pub text_of : List Printed → List ℕ
 text_of [] = []
-text_of (u ∷ us) = u.bytes ++ u.behind ++ text_of us
+text_of (u ∷ us) = u.bytes ++ u.following ++ text_of us
 
 -- the lexemes, the first of them at this place
 abbrev pub lexemes_at : ℕ → List Printed → List Lexeme
 lexemes_at place [] = []
-lexemes_at place (u ∷ us) = record { kind = u.kind; place = place; bytes = u.bytes } ∷ lexemes_at (place + length u.bytes + length u.behind) us
+lexemes_at place (u ∷ us) = record { kind = u.kind; place = place; bytes = u.bytes } ∷ lexemes_at (place + length u.bytes + length u.following) us
 
 -- the lexeme doesn't continue with what follows
 pub record Stops (kind : TokenKind) (bytes after : List ℕ) : Type 0 where
@@ -137,8 +139,8 @@ pub record Stops (kind : TokenKind) (bytes after : List ℕ) : Type 0 where
 pub record IsPrinted (u : Printed) (more : List ℕ) : Type 0 where
   pub kind : kind_of u.bytes ≡ Some u.kind
   pub short : length u.bytes ≤ 400
-  pub blank : list_all is_blank u.behind ≡ true
-  pub stops : Stops u.kind u.bytes (u.behind ++ more)
+  pub blank : list_all is_blank u.following ≡ true
+  pub stops : Stops u.kind u.bytes (u.following ++ more)
 
 abbrev pub ArePrinted : List Printed → Type 0
 ArePrinted [] = Unit {0}
@@ -165,7 +167,7 @@ record Begins (w : List ℕ) : Type 0 where
   ends : gap_after Between (class_of first) ≡ Ended
 
 begins : (w : List ℕ) (kind : TokenKind) → kind_of w ≡ Some kind → Begins w
-begins [] kind e = absurd (none_some e)
+begins [] kind e = absurd (none_some (sym none_empty ∙ e))
 begins (b ∷ bs) kind e = record { first = b; more = bs; is = refl; ends = class_begins (class_of b) bs kind (sym (kind_of-through (b ∷ bs)) ∙ e) }
 
 -- the text of lexemes is cut into just these
@@ -174,22 +176,22 @@ cut_printed [] place gap all h = subst (λ bs. Ends (rest_at place bs) None) (sy
 cut_printed (u ∷ us) place gap all h =
     let p = all.0 in
     let b = begins u.bytes u.kind p.kind in
-    let next = takes_next place gap u.bytes u.kind b.first b.more p.stops.first p.stops.more (u.behind ++ text_of us) h b.is b.ends p.stops.is p.kind p.stops.stuck p.stops.apart p.short in
-    let go = cut_printed us (place + length gap + length u.bytes) u.behind all.1 p.blank in
-    let whole : IsCut (rest_at place (gap ++ (u.bytes ++ (u.behind ++ text_of us)))) (lexemes_at (place + length gap) (u ∷ us)) None = (_, next, go) in
-    subst (λ bs. IsCut (rest_at place (gap ++ bs)) (lexemes_at (place + length gap) (u ∷ us)) None) (sym (append_assoc u.bytes u.behind (text_of us))) whole
+    let next = takes_next place gap u.bytes u.kind b.first b.more p.stops.first p.stops.more (u.following ++ text_of us) h b.is b.ends p.stops.is p.kind p.stops.stuck p.stops.apart p.short in
+    let go = cut_printed us (place + length gap + length u.bytes) u.following all.1 p.blank in
+    let whole : IsCut (rest_at place (gap ++ (u.bytes ++ (u.following ++ text_of us)))) (lexemes_at (place + length gap) (u ∷ us)) None = (_, next, go) in
+    subst (λ bs. IsCut (rest_at place (gap ++ bs)) (lexemes_at (place + length gap) (u ∷ us)) None) (sym (append_assoc u.bytes u.following (text_of us))) whole
 
 -- ---- one list after another
 pub text-append : (us vs : List Printed) → text_of (us ++ vs) ≡ text_of us ++ text_of vs
 text-append [] vs = refl
-text-append (u ∷ us) vs = ap (λ bs. u.bytes ++ u.behind ++ bs) (text-append us vs) ∙ sym (append_assoc (u.bytes ++ u.behind) (text_of us) (text_of vs))
+text-append (u ∷ us) vs = ap (λ bs. u.bytes ++ u.following ++ bs) (text-append us vs) ∙ sym (append_assoc (u.bytes ++ u.following) (text_of us) (text_of vs))
 
 pub lexemes-append : (place : ℕ) (us vs : List Printed) → lexemes_at place (us ++ vs) ≡ lexemes_at place us ++ lexemes_at (place + length (text_of us)) vs
 lexemes-append place [] vs = ap (λ p. lexemes_at p vs) (omega arith)
 lexemes-append place (u ∷ us) vs =
     let l : Lexeme = record { kind = u.kind; place = place; bytes = u.bytes } in
-    let next = place + length u.bytes + length u.behind in
-    let same : next + length (text_of us) ≡ place + length (text_of (u ∷ us)) = omega (arith, length-append (u.bytes ++ u.behind) (text_of us), length-append u.bytes u.behind) in
+    let next = place + length u.bytes + length u.following in
+    let same : next + length (text_of us) ≡ place + length (text_of (u ∷ us)) = omega (arith, length-append (u.bytes ++ u.following) (text_of us), length-append u.bytes u.following) in
     ap (λ ls. l ∷ ls) (lexemes-append next us vs ∙ ap (λ p. lexemes_at next us ++ lexemes_at p vs) same)
 
 stops_further : (kind : TokenKind) (bytes after more : List ℕ) → Stops kind bytes after → Stops kind bytes (after ++ more)
@@ -213,6 +215,6 @@ printed-append (u ∷ us) vs a b =
       kind = p.kind;
       short = p.short;
       blank = p.blank;
-      stops = subst (Stops u.kind u.bytes) (append_assoc u.behind (text_of us) (text_of vs)) (stops_further u.kind u.bytes (u.behind ++ text_of us) (text_of vs) p.stops);
+      stops = subst (Stops u.kind u.bytes) (append_assoc u.following (text_of us) (text_of vs)) (stops_further u.kind u.bytes (u.following ++ text_of us) (text_of vs) p.stops);
     } in
     (subst (IsPrinted u) (sym (text-append us vs)) here, printed-append us vs a.1 b)

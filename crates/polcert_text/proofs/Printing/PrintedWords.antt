@@ -1,7 +1,8 @@
 -- The lexemes of lines of words.
 use Rattle.std.proofs.Common.{◌≡◌, ◌∙◌, ℕ, ◌≤◌, true, false, Some, List, [], ◌∷◌, ◌++◌, length, map, codes, refl, sym, ap, subst, arith, append_assoc, append-nil}
 use Rattle.std.specs.List.{list_all}
-use Rattle.polcert_text.specs.Bytes.{class_of, is_blank, blank_class}
+use Rattle.polcert_text.specs.Bytes.{is_blank, is_letter, is_digit, is_point, is_exponent_mark}
+use Rattle.polcert_text.specs.Steps.Classes.{class_of, blank_class}
 use Rattle.polcert_text.specs.Lexemes.{kind_of}
 use Rattle.polcert_text.specs.Lines.{line}
 use Rattle.polcert_text.specs.Cut.{is_glued}
@@ -13,6 +14,7 @@ use Rattle.polcert_text.specs.declared.lexeme.TokenKind.{TokenKind}
 use Rattle.polcert_text.specs.declared.lexeme.TokenKind.TheVariants.{Name, Numeral, Colon, Minus}
 use Rattle.polcert_text.proofs.Scanning.LexemeLaws.{kind_of-through}
 use Rattle.polcert_text.proofs.Numbers.MeasureLaws.{and-true_left}
+use Rattle.polcert_text.proofs.Scanning.Tests.{blank_by, glue_by}
 use Rattle.polcert_text.proofs.Printing.Numerals.{IsPlain}
 use Rattle.polcert_text.proofs.Printing.PrintedCut.{Printed, text_of, Stops, IsPrinted, ArePrinted, blank_stops, blank_no_glue, text-append, printed-append}
 use Rattle.polcert_text.proofs.Scanning.Classes.{colon_at_58 as colon_class}
@@ -29,9 +31,9 @@ word_text (key name) = name ++ codes ":"
 word_text (minus numeral) = 45 ∷ numeral
 
 abbrev pub spelled : Word → List ℕ → List Printed
-spelled (plain kind bytes) behind = record { kind = kind; bytes = bytes; behind = behind } ∷ []
-spelled (key name) behind = record { kind = Name; bytes = name; behind = [] } ∷ record { kind = Colon; bytes = codes ":"; behind = behind } ∷ []
-spelled (minus numeral) behind = record { kind = Minus; bytes = 45 ∷ []; behind = [] } ∷ record { kind = Numeral; bytes = numeral; behind = behind } ∷ []
+spelled (plain kind bytes) following = record { kind = kind; bytes = bytes; following = following } ∷ []
+spelled (key name) following = record { kind = Name; bytes = name; following = [] } ∷ record { kind = Colon; bytes = codes ":"; following = following } ∷ []
+spelled (minus numeral) following = record { kind = Minus; bytes = 45 ∷ []; following = [] } ∷ record { kind = Numeral; bytes = numeral; following = following } ∷ []
 
 pub record IsPiece (kind : TokenKind) (bytes : List ℕ) : Type 0 where
   pub kind_is : kind_of bytes ≡ Some kind
@@ -51,58 +53,58 @@ spelled_line w [] = spelled w (codes "\n")
 spelled_line w (v ∷ ws) = spelled w (codes " ") ++ spelled_line v ws
 
 -- ---- texts
-pub text_word : (w : Word) (behind : List ℕ) → text_of (spelled w behind) ≡ word_text w ++ behind
-text_word (plain kind bytes) behind = append-nil (bytes ++ behind)
-text_word (key name) behind =
-    (λ i. append-nil name i ++ append-nil (codes ":" ++ behind) i) ∙ sym (append_assoc name (codes ":") behind)
-text_word (minus numeral) behind = ap (λ bs. 45 ∷ bs) (append-nil (numeral ++ behind))
+pub text_word : (w : Word) (following : List ℕ) → text_of (spelled w following) ≡ word_text w ++ following
+text_word (plain kind bytes) following = append-nil (bytes ++ following)
+text_word (key name) following =
+    (λ i. append-nil name i ++ append-nil (codes ":" ++ following) i) ∙ sym (append_assoc name (codes ":") following)
+text_word (minus numeral) following = ap (λ bs. 45 ∷ bs) (append-nil (numeral ++ following))
 
 pub text_line : (w : Word) (ws : List Word) → text_of (spelled_line w ws) ≡ line (word_text w ∷ map word_text ws)
 text_line w [] = text_word w (codes "\n")
 text_line w (v ∷ ws) = text-append (spelled w (codes " ")) (spelled_line v ws) ∙ (λ i. text_word w (codes " ") i ++ text_line v ws i)
 
 -- ---- each lexeme stops
-pub record Blank (behind : List ℕ) : Type 0 where
-  pub all : list_all is_blank behind ≡ true
+pub record Blank (following : List ℕ) : Type 0 where
+  pub all : list_all is_blank following ≡ true
   pub first : ℕ
   pub more : List ℕ
-  pub is : behind ≡ first ∷ more
+  pub is : following ≡ first ∷ more
 
 space : Blank (codes " ")
-unfolding class_of
+unfolding is_blank
 space = record { all = refl; first = 32; more = []; is = refl }
 
 line_end : Blank (codes "\n")
-unfolding class_of
+unfolding is_blank
 line_end = record { all = refl; first = 10; more = []; is = refl }
 
-first_blank : (behind : List ℕ) (b : Blank behind) → blank_class (class_of b.first) ≡ true
-first_blank behind b = and-true_left (is_blank b.first) (list_all is_blank b.more) (ap (list_all is_blank) (sym b.is) ∙ b.all)
+first_blank : (following : List ℕ) (b : Blank following) → blank_class (class_of b.first) ≡ true
+first_blank following b = sym (blank_by b.first refl) ∙ and-true_left (is_blank b.first) (list_all is_blank b.more) (ap (list_all is_blank) (sym b.is) ∙ b.all)
 
 not_glued : (kind : TokenKind) (b : ℕ) (more : List ℕ) → blank_class (class_of b) ≡ true → is_glued kind (b ∷ more) ≡ false
-not_glued Numeral b more h = blank_no_glue (class_of b) h
+not_glued Numeral b more h = glue_by b refl ∙ blank_no_glue (class_of b) h
 not_glued _ b more h = refl
 
-piece_printed : (kind : TokenKind) (bytes behind : List ℕ) → IsPiece kind bytes → Blank behind → IsPrinted (record { kind = kind; bytes = bytes; behind = behind }) []
-piece_printed kind bytes behind p b = record {
+piece_printed : (kind : TokenKind) (bytes following : List ℕ) → IsPiece kind bytes → Blank following → IsPrinted (record { kind = kind; bytes = bytes; following = following }) []
+piece_printed kind bytes following p b = record {
   kind = p.kind_is;
   short = p.short;
   blank = b.all;
   stops = record {
     first = b.first;
     more = b.more;
-    is = append-nil behind ∙ b.is;
-    stuck = blank_stops (state_through states.Start bytes) (class_of b.first) (first_blank behind b);
-    apart = not_glued kind b.first b.more (first_blank behind b);
+    is = append-nil following ∙ b.is;
+    stuck = blank_stops (state_through states.Start bytes) (class_of b.first) (first_blank following b);
+    apart = not_glued kind b.first b.more (first_blank following b);
   };
 }
 
 colon_piece : IsPiece Colon (codes ":")
-unfolding class_of
+unfolding kind_of is_letter is_digit is_point is_exponent_mark
 colon_piece = record { kind_is = refl; short = omega arith }
 
 minus_piece : IsPiece Minus (45 ∷ [])
-unfolding class_of
+unfolding kind_of is_letter is_digit is_point is_exponent_mark
 minus_piece = record { kind_is = refl; short = omega arith }
 
 -- no name continues with a colon
@@ -136,25 +138,25 @@ minus_stops numeral more p = record {
 pub numeral_piece : (numeral : List ℕ) → IsPlain numeral → IsPiece Numeral numeral
 numeral_piece numeral p = record { kind_is = p.kind; short = omega (arith, p.short) }
 
-pub word_printed : (w : Word) (behind : List ℕ) → IsSpelling w → Blank behind → ArePrinted (spelled w behind)
-word_printed (plain kind bytes) behind s b = (piece_printed kind bytes behind s b, tt)
-word_printed (key name) behind s b = (
+pub word_printed : (w : Word) (following : List ℕ) → IsSpelling w → Blank following → ArePrinted (spelled w following)
+word_printed (plain kind bytes) following s b = (piece_printed kind bytes following s b, tt)
+word_printed (key name) following s b = (
   record {
     kind = s.kind_is;
     short = s.short;
     blank = refl;
-    stops = name_stops name (behind ++ []) s;
+    stops = name_stops name (following ++ []) s;
   },
-  (piece_printed Colon (codes ":") behind colon_piece b, tt),
+  (piece_printed Colon (codes ":") following colon_piece b, tt),
 )
-word_printed (minus numeral) behind s b = (
+word_printed (minus numeral) following s b = (
   record {
     kind = minus_piece.kind_is;
     short = minus_piece.short;
     blank = refl;
-    stops = subst (Stops Minus (45 ∷ [])) (sym (append-nil (numeral ++ behind))) (minus_stops numeral behind s);
+    stops = subst (Stops Minus (45 ∷ [])) (sym (append-nil (numeral ++ following))) (minus_stops numeral following s);
   },
-  (piece_printed Numeral numeral behind (numeral_piece numeral s) b, tt),
+  (piece_printed Numeral numeral following (numeral_piece numeral s) b, tt),
 )
 
 pub line_printed : (w : Word) (ws : List Word) → IsSpelling w → AreSpellings ws → ArePrinted (spelled_line w ws)

@@ -9,16 +9,7 @@ pub record HasWritten {S : Type 0} (writes : S → Option (List ℕ) → S → T
   pub took : Takes writes from text s
   pub same : failures s ≡ failures from
 
--- what a call that went well tells of it
-pub wrote : {S : Type 0} {writes : S → Option (List ℕ) → S → Type 0} {failures : S → ℕ} {from t : S} {text : List ℕ} → Takes writes from text t
-    → failures t ≡ failures from → HasWritten writes failures from text t
-wrote took same = record { took = took; same = same }
-
 module _ {S : Type 0} {writes : S → Option (List ℕ) → S → Type 0} {failures : S → ℕ} {from : S} where
-  pub one_more : {s t : S} (first second : List ℕ) → HasWritten writes failures from first s → HasWritten writes failures s second t
-      → HasWritten writes failures from (first ++ second) t
-  one_more first second h k = record { took = took_then h.took k.took; same = k.same ∙ h.same }
-
   -- the next part fails
   pub fails_at : {T E : Type 0} {s t : S} (first second : List ℕ) (r : Result T E) → IsErr r → HasWritten writes failures from first s
       → TakesFront writes s second t → HasFailed (failures s) (failures t) → WritesText writes failures from (first ++ second) r t

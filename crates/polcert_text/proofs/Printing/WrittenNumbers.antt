@@ -6,7 +6,8 @@ use Rattle.std.proofs.Math.Nat.{mul-le-mul_right}
 use Rattle.std.proofs.Math.IntN.{pos-*ℤ-pos}
 use Rattle.polcert_text.specs.Bytes.{is_exponent_mark}
 use Rattle.polcert_text.specs.Millionths.{unsigned_text}
-use Rattle.polcert_text.specs.Numbers.{without_sign, exponent_size, size_of, millionth, largest, IsReadable}
+use Rattle.polcert_text.specs.Numbers.{exponent_size, size_of, millionth, largest, IsReadable}
+use Rattle.polcert_text.specs.Lexemes.{without_sign}
 use Rattle.polcert_text.proofs.Printing.PrintLaws.{written_exact}
 use Rattle.polcert_text.proofs.Numbers.SizeLaws.{after-none}
 use Rattle.polcert_text.proofs.Printing.Numerals.{IsPlain, plain_unsigned}

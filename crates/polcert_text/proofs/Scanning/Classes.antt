@@ -4,7 +4,7 @@ use Rattle.std.specs.Prelude.{IsTrue}
 use Rattle.std.proofs.lemmas.Bool.{and_parts, cases_lt}
 use Rattle.std.specs.Char.{is_ascii_digit, is_ascii_alphabetic}
 use Rattle.std.proofs.lemmas.Bool.Decides.{nat_tests}
-use Rattle.polcert_text.specs.Bytes.{class_of, blank_class, hash_class, digit_class, letter_class}
+use Rattle.polcert_text.specs.Steps.Classes.{class_of, blank_class, hash_class, digit_class, letter_class}
 use Rattle.polcert_text.specs.declared.bytes.ByteClass.{ByteClass}
 use Rattle.polcert_text.specs.declared.bytes.ByteClass.TheVariants as classes
 
@@ -36,11 +36,11 @@ unfolding class_of
 point_at_46 = refl
 
 -- p holds of each number below n
-abbrev all_below : (ℕ → Bool) → ℕ → Bool
+abbrev pub all_below : (ℕ → Bool) → ℕ → Bool
 all_below p zero = true
 all_below p (suc n) = p n && all_below p n
 
-all_below_at : (p : ℕ → Bool) (n k : ℕ) → all_below p n ≡ true → k < n → p k ≡ true
+pub all_below_at : (p : ℕ → Bool) (n k : ℕ) → all_below p n ≡ true → k < n → p k ≡ true
 all_below_at p zero k h lt = absurd (omega arith)
 all_below_at p (suc n) k h lt =
     let parts = and_parts (p n) (all_below p n) h in
@@ -94,17 +94,17 @@ capital_between b low high =
     subst (λ k. IsLetter (class_of k)) same (is_letter_class (class_of (65 + n)) (all_below_at (λ n. letter_class (class_of (65 + n))) 26 n all_capital (omega arith)))
 
 -- of the tests of `class_of`, in their order, the first three failed
-abbrev class_behind : (mark letter digit low point colon star plus minus : Bool) → ByteClass
-class_behind mark letter digit low point colon star plus minus = cond mark classes.ExponentMark (cond letter classes.Letter (cond digit classes.Digit (cond low classes.Underscore (cond point classes.Point (cond colon classes.Colon (cond star classes.Star (cond plus classes.Plus (cond minus classes.Minus classes.Other))))))))
+abbrev class_after : (mark letter digit low point colon star plus minus : Bool) → ByteClass
+class_after mark letter digit low point colon star plus minus = cond mark classes.ExponentMark (cond letter classes.Letter (cond digit classes.Digit (cond low classes.Underscore (cond point classes.Point (cond colon classes.Colon (cond star classes.Star (cond plus classes.Plus (cond minus classes.Minus classes.Other))))))))
 
 abbrev EndsGap : ByteClass → Type 0
 EndsGap c = (blank_class c ≡ false) × (hash_class c ≡ false)
 
-ends_behind : (mark letter digit low point colon star plus minus : Bool) → EndsGap (class_behind mark letter digit low point colon star plus minus)
-ends_behind false false false false false false false false false = (refl, refl)
-ends_behind _ _ _ _ _ _ _ _ _ = (refl, refl)
+ends_after : (mark letter digit low point colon star plus minus : Bool) → EndsGap (class_after mark letter digit low point colon star plus minus)
+ends_after false false false false false false false false false = (refl, refl)
+ends_after _ _ _ _ _ _ _ _ _ = (refl, refl)
 
-not_equal : (b n : ℕ) → n < b → (b == n) ≡ false
+pub not_equal : (b n : ℕ) → n < b → (b == n) ≡ false
 not_equal b n h = grind (arith, nat_tests)
 
 not_blank : (b : ℕ) → 35 < b → (b == 9 || b == 13 || b == 32) ≡ false
@@ -113,7 +113,7 @@ not_blank b h = simp (not_equal b 9 (omega arith), not_equal b 13 (omega arith),
 pub above_hash : (b : ℕ) → 35 < b → EndsGap (class_of b)
 unfolding class_of
 above_hash b h =
-    let rest : ByteClass = class_behind (b == 101 || b == 69) (is_ascii_alphabetic b) (is_ascii_digit b) (b == 95) (b == 46) (b == 58) (b == 42) (b == 43) (b == 45) in
+    let rest : ByteClass = class_after (b == 101 || b == 69) (is_ascii_alphabetic b) (is_ascii_digit b) (b == 95) (b == 46) (b == 58) (b == 42) (b == 43) (b == 45) in
     let same : cond (b == 9 || b == 13 || b == 32) classes.Blank (cond (b == 10) classes.LineEnd (cond (b == 35) classes.Hash rest)) ≡ rest =
     (λ i. cond (not_blank b h i) classes.Blank (cond (not_equal b 10 (omega arith) i) classes.LineEnd (cond (not_equal b 35 h i) classes.Hash rest))) in
-    subst EndsGap (sym same) (ends_behind (b == 101 || b == 69) (is_ascii_alphabetic b) (is_ascii_digit b) (b == 95) (b == 46) (b == 58) (b == 42) (b == 43) (b == 45))
+    subst EndsGap (sym same) (ends_after (b == 101 || b == 69) (is_ascii_alphabetic b) (is_ascii_digit b) (b == 95) (b == 46) (b == 58) (b == 42) (b == 43) (b == 45))

@@ -41,13 +41,13 @@ whole_gap bytes n none gap =
 
 pub tokens_from : (rest : Rest) (tokens : List Lexeme) → IsCut rest tokens None → AreTokensFrom rest.place rest.bytes tokens
 tokens_from rest [] ends = whole_gap rest.bytes ends.gap (no_bytes _ _ _ ends.ends_at).0 ends.longest.gap
-tokens_from rest (token ∷ tokens) (behind, takes, cut) =
-    (takes.gap, takes.longest, takes.token_at, subst (λ r. AreTokensFrom r.place r.bytes tokens) takes.rest (tokens_from behind tokens cut))
+tokens_from rest (token ∷ tokens) (following, takes, cut) =
+    (takes.gap, takes.longest, takes.token_at, subst (λ r. AreTokensFrom r.place r.bytes tokens) takes.rest (tokens_from following tokens cut))
 
 -- a cut that ends cleanly is one of bytes that do
 pub ends_cleanly : (rest : Rest) (tokens : List Lexeme) → IsCut rest tokens None → rest.ending ≡ None
 ends_cleanly rest [] ends = (no_bytes _ _ _ ends.ends_at).1
-ends_cleanly rest (token ∷ tokens) (behind, takes, cut) = ap (λ (r : Rest). r.ending) (sym takes.rest) ∙ ends_cleanly behind tokens cut
+ends_cleanly rest (token ∷ tokens) (following, takes, cut) = ap (λ (r : Rest). r.ending) (sym takes.rest) ∙ ends_cleanly following tokens cut
 
 some≢none : {A : Type 0} {x : A} → Some x ≡ None → ⊥
 some≢none e = cc

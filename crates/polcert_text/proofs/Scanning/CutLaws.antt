@@ -83,6 +83,7 @@ one_end_at place (c ∷ bs) ending (Some f) None a b = absurd b
 one_end_at place (c ∷ bs) ending (Some f) (Some g) a b = ap Some (one_fault_at place (c ∷ bs) f g a b)
 
 no_token_at_end : (place : ℕ) (bs : List ℕ) (ending : Option TokenFault) (x : Option TokenFault) (t : Lexeme) → IsTokenAt place bs t → EndsAt place bs ending x → ⊥
+unfolding kind_of
 no_token_at_end place [] ending x t a b =
     let none : length t.bytes ≡ 0 = omega (arith, a.lexeme.within) in
     some≢none a.lexeme.lexeme (ap (λ n. kind_of (take n [])) none)
@@ -90,8 +91,8 @@ no_token_at_end place (c ∷ bs) ending None t a b = b
 no_token_at_end place (c ∷ bs) ending (Some f) t a b = token_no_fault place (c ∷ bs) t f a b
 
 -- a token and an end don't both come next
-pub no_token_and_end : (rest : Rest) (t : Lexeme) (behind : Rest) (x : Option TokenFault) → TakesToken rest t behind → Ends rest x → ⊥
-no_token_and_end rest t behind x a b =
+pub no_token_and_end : (rest : Rest) (t : Lexeme) (following : Rest) (x : Option TokenFault) → TakesToken rest t following → Ends rest x → ⊥
+no_token_and_end rest t following x a b =
     let gaps = one_gap rest.bytes a.gap b.gap a.longest b.longest in
     let At : ℕ → Type 0 = λ n. IsTokenAt (rest.place + n) (drop n rest.bytes) t in
     no_token_at_end _ _ rest.ending x t (subst At gaps a.token_at) b.ends_at
@@ -117,6 +118,6 @@ one_cut rest [] (t ∷ ts) x y a b = absurd (no_token_and_end rest t b.0 x b.1 a
 one_cut rest (s ∷ ss) [] x y a b = absurd (no_token_and_end rest s a.0 y a.1 b)
 one_cut rest (s ∷ ss) (t ∷ ts) x y a b =
     let next = one_next rest s t a.0 b.0 a.1 b.1 in
-    let behind : IsCut b.0 ss x = subst (λ r. IsCut r ss x) next.1 a.2 in
-    let more = one_cut b.0 ss ts x y behind b.2 in
+    let following : IsCut b.0 ss x = subst (λ r. IsCut r ss x) next.1 a.2 in
+    let more = one_cut b.0 ss ts x y following b.2 in
     ((λ i. next.0 i ∷ more.0 i), more.1)

@@ -4,8 +4,10 @@ use Rattle.std.proofs.Common.{◌<◌, ◌≤◌, length, get_or, sym, append-ni
 use Rattle.std.proofs.lemmas.List.{take_more, take-take, take-append-drop}
 use Rattle.polcert_text.specs.Fronts.{IsLongestGap}
 use Rattle.std.specs.List.{list_all, slice_split, onto_first}
+use Rattle.polcert_text.proofs.Scanning.Tests.{blank_by, hash_by, line_end_by}
 use Rattle.polcert_text.proofs.Scanning.BeforeFirst.{before_first-stop, before_first-pass}
-use Rattle.polcert_text.specs.Bytes.{class_of, is_blank, is_hash, is_line_end, hash_class, blank_class}
+use Rattle.polcert_text.specs.Bytes.{is_blank, is_hash, is_line_end}
+use Rattle.polcert_text.specs.Steps.Classes.{class_of}
 use Rattle.polcert_text.specs.Gaps.{is_gap_line, is_gap}
 use Rattle.polcert_text.specs.Steps.Scan.{gap_after, gap_through}
 use Rattle.polcert_text.specs.declared.bytes.ByteClass.{ByteClass}
@@ -19,10 +21,10 @@ others_right [] = true
 others_right (line ∷ lines) = list_all is_gap_line lines
 
 -- the bytes continue what has been read so far as a gap
-abbrev pub goes_on : Gap → List ℕ → Bool
-goes_on Between bs = is_gap bs
-goes_on Comment bs = others_right (slice_split is_line_end bs)
-goes_on Ended bs = false
+abbrev pub continues : Gap → List ℕ → Bool
+continues Between bs = is_gap bs
+continues Comment bs = others_right (slice_split is_line_end bs)
+continues Ended bs = false
 
 others-onto_first : (b : ℕ) (lines : List (List ℕ)) → others_right (onto_first b lines) ≡ others_right lines
 others-onto_first b [] = refl
@@ -44,35 +46,35 @@ all-onto_other b [] e f = simp (before_first-pass is_hash b [] e, f)
 all-onto_other b (line ∷ lines) e f = simp (before_first-pass is_hash b line e, f)
 
 -- one more byte: what continues from before it is what continues from after it
-goes_on_at : (gap : Gap) (b : ℕ) (bs : List ℕ) (c : ByteClass) → class_of b ≡ c → goes_on gap (b ∷ bs) ≡ goes_on (gap_after gap c) bs
-goes_on_at Between b bs Blank e = simp e (all-onto_blank b (slice_split is_line_end bs) (ap hash_class e) (ap blank_class e))
-goes_on_at Between b bs LineEnd e = simp e
-goes_on_at Between b bs Hash e = simp e (all-onto_hash b (slice_split is_line_end bs) (ap hash_class e))
-goes_on_at Between b bs _ e = simp e (all-onto_other b (slice_split is_line_end bs) (ap hash_class e) (ap blank_class e))
-goes_on_at Comment b bs LineEnd e = simp e
-goes_on_at Comment b bs _ e = simp e (others-onto_first b (slice_split is_line_end bs))
-goes_on_at Ended b bs c e = refl
+continues_at : (gap : Gap) (b : ℕ) (bs : List ℕ) (c : ByteClass) → class_of b ≡ c → continues gap (b ∷ bs) ≡ continues (gap_after gap c) bs
+continues_at Between b bs Blank e = simp (line_end_by b e) (all-onto_blank b (slice_split is_line_end bs) (hash_by b e) (blank_by b e))
+continues_at Between b bs LineEnd e = simp (line_end_by b e)
+continues_at Between b bs Hash e = simp (line_end_by b e) (all-onto_hash b (slice_split is_line_end bs) (hash_by b e))
+continues_at Between b bs _ e = simp (line_end_by b e) (all-onto_other b (slice_split is_line_end bs) (hash_by b e) (blank_by b e))
+continues_at Comment b bs LineEnd e = simp (line_end_by b e)
+continues_at Comment b bs _ e = simp (line_end_by b e) (others-onto_first b (slice_split is_line_end bs))
+continues_at Ended b bs c e = refl
 
 -- the same for several bytes
-pub goes_on_through : (gap : Gap) (front rest : List ℕ) → goes_on gap (front ++ rest) ≡ goes_on (gap_through gap front) rest
-goes_on_through gap [] rest = refl
-goes_on_through gap (b ∷ bs) rest = goes_on_at gap b (bs ++ rest) (class_of b) refl ∙ goes_on_through (gap_after gap (class_of b)) bs rest
+pub continues_through : (gap : Gap) (front rest : List ℕ) → continues gap (front ++ rest) ≡ continues (gap_through gap front) rest
+continues_through gap [] rest = refl
+continues_through gap (b ∷ bs) rest = continues_at gap b (bs ++ rest) (class_of b) refl ∙ continues_through (gap_after gap (class_of b)) bs rest
 
 pub gap_through-append : (gap : Gap) (front rest : List ℕ) → gap_through gap (front ++ rest) ≡ gap_through (gap_through gap front) rest
 gap_through-append gap [] rest = refl
 gap_through-append gap (b ∷ bs) rest = gap_through-append (gap_after gap (class_of b)) bs rest
 
 -- whether bytes are a gap can be read off what they leave
-is_gap-through : (bs : List ℕ) → is_gap bs ≡ goes_on (gap_through Between bs) []
-is_gap-through bs = ap is_gap (sym (append-nil bs)) ∙ goes_on_through Between bs []
+is_gap-through : (bs : List ℕ) → is_gap bs ≡ continues (gap_through Between bs) []
+is_gap-through bs = ap is_gap (sym (append-nil bs)) ∙ continues_through Between bs []
 
-open_goes_on : (gap : Gap) → (gap ≡ Ended → ⊥) → goes_on gap [] ≡ true
-open_goes_on Between h = refl
-open_goes_on Comment h = refl
-open_goes_on Ended h = absurd (h refl)
+open_continues : (gap : Gap) → (gap ≡ Ended → ⊥) → continues gap [] ≡ true
+open_continues Between h = refl
+open_continues Comment h = refl
+open_continues Ended h = absurd (h refl)
 
 pub gap_until_open : (bs : List ℕ) → (gap_through Between bs ≡ Ended → ⊥) → is_gap bs ≡ true
-gap_until_open bs h = is_gap-through bs ∙ open_goes_on (gap_through Between bs) h
+gap_until_open bs h = is_gap-through bs ∙ open_continues (gap_through Between bs) h
 
 pub gap_through_more : (bs : List ℕ) (i : ℕ) → i < length bs → gap_through Between (take (i + 1) bs) ≡ gap_after (gap_through Between (take i bs)) (class_of (get_or bs i 0))
 gap_through_more bs i h = ap (gap_through Between) (take_more bs i 0 h) ∙ gap_through-append Between (take i bs) (get_or bs i 0 ∷ [])
@@ -83,7 +85,7 @@ no_gap_past bs n k h ended =
     let front : take n (take k bs) ≡ take n bs = take-take n k bs h in
     let joined : take n bs ++ drop n (take k bs) ≡ take k bs = ap (λ xs. xs ++ drop n (take k bs)) (sym front) ∙ take-append-drop n (take k bs) in
     let rest = drop n (take k bs) in
-    ap is_gap (sym joined) ∙ goes_on_through Between (take n bs) rest ∙ ap (λ gap. goes_on gap rest) ended
+    ap is_gap (sym joined) ∙ continues_through Between (take n bs) rest ∙ ap (λ gap. continues gap rest) ended
 
 pub longest_gap_at : (bs : List ℕ) (i : ℕ) → i < length bs → is_gap (take i bs) ≡ true → gap_through Between (take (i + 1) bs) ≡ Ended → IsLongestGap bs i
 longest_gap_at bs i h gap ended = record {

@@ -1,5 +1,5 @@
 -- How far a scan may be behind the longest lexeme that it found.
-use Rattle.std.proofs.Common.{◌≡◌, ◌+◌, ◌≤◌, ℕ, Bool, true, false, None, Some, List, ◌++◌, length, take, drop, take_all, refl, sym, ap, subst, ◌∙◌, arith}
+use Rattle.std.proofs.Common.{◌≡◌, ◌+◌, ℕ, Bool, true, false, None, Some, List, ◌++◌, length, take, drop, take_all, refl, sym, ap, subst, ◌∙◌, arith}
 use Rattle.std.proofs.lemmas.List.{take-append-drop}
 use Rattle.polcert_text.specs.Steps.ScanOf.{is_stuck, pending, IsFrontOf, IsScanOf}
 use Rattle.polcert_text.specs.declared.lexeme.LexemeScan.{LexemeScan}
@@ -10,10 +10,6 @@ use Rattle.polcert_text.specs.declared.bytes.ByteClass.TheVariants as classes
 use Rattle.polcert_text.specs.declared.lexeme.TokenKind.{TokenKind}
 use Rattle.polcert_text.specs.declared.lexeme.State.{State}
 use Rattle.polcert_text.specs.declared.lexeme.State.TheVariants.{Start, Whole, Point, Fraction, Mark, Sign, Stuck}
-
-pub few_pending : (state : State) → pending state ≤ 2
-few_pending Start = omega arith
-few_pending _ = omega arith
 
 -- a state that has read a lexeme waits for nothing
 pub none_pending : (state : State) (kind : TokenKind) → kind_at state ≡ Some kind → pending state ≡ 0
@@ -37,12 +33,12 @@ pub was_open : (state : State) (c : ByteClass) → is_stuck (state_after state c
 was_open Stuck c s = s
 was_open _ c s = refl
 
-pub behind_some : (state : State) (kind : TokenKind) (len : ℕ) → kind_at state ≡ Some kind → len ≡ len + pending state
-behind_some state kind len e = let none = none_pending state kind e in omega arith
+pub after_some : (state : State) (kind : TokenKind) (len : ℕ) → kind_at state ≡ Some kind → len ≡ len + pending state
+after_some state kind len e = let none = none_pending state kind e in omega arith
 
-pub behind_none : (state next : State) (c : ByteClass) (longest len : ℕ) → next ≡ state_after state c → kind_at next ≡ None
+pub after_none : (state next : State) (c : ByteClass) (longest len : ℕ) → next ≡ state_after state c → kind_at next ≡ None
     → (is_stuck state ≡ false → len ≡ longest + pending state) → is_stuck next ≡ false → len + 1 ≡ longest + pending next
-behind_none state next c longest len is none was not_stuck =
+after_none state next c longest len is none was not_stuck =
     let here : is_stuck (state_after state c) ≡ false = ap is_stuck (sym is) ∙ not_stuck in
     let more = one_pending state c (ap kind_at (sym is) ∙ none) here in
     let before = was (was_open state c here) in

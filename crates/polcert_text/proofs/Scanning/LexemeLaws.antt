@@ -4,9 +4,11 @@ use Rattle.std.proofs.Common.{◌<◌, ◌≤◌, length, get_or, ◌⊎◌, ⊎
 use Rattle.std.proofs.lemmas.List.{take_more, take-take, take-append-drop, take-append-le, take_at, length-append}
 use Rattle.polcert_text.specs.Steps.ScanOf.{is_stuck, IsFrontOf}
 use Rattle.std.specs.List.{list_all, list_any}
-use Rattle.polcert_text.specs.declared.lexeme.Front.{Front}
-use Rattle.polcert_text.specs.Bytes.{class_of, is_digit, is_exponent_mark, is_point, is_name_byte, point_class, digit_class, letter_class}
-use Rattle.polcert_text.specs.Lexemes.{before, after, is_empty, are_digits, is_exponent, is_numeral, mark_kind, kind_of}
+use Rattle.polcert_text.specs.declared.lexeme.LexemePrefix.{LexemePrefix}
+use Rattle.polcert_text.specs.Bytes.{is_digit, is_exponent_mark, is_point, is_name_byte}
+use Rattle.polcert_text.specs.Steps.Classes.{class_of, point_class, digit_class, letter_class}
+use Rattle.polcert_text.specs.Lexemes.{are_digits, without_sign, is_numeral, kind_of, is_empty}
+use Rattle.polcert_text.specs.Steps.Classes.{mark_kind}
 use Rattle.polcert_text.specs.Steps.Scan.{state_after, state_through, kind_at}
 use Rattle.polcert_text.specs.declared.bytes.ByteClass.{ByteClass}
 use Rattle.polcert_text.specs.declared.bytes.ByteClass.TheVariants as classes
@@ -14,10 +16,12 @@ use Rattle.polcert_text.specs.declared.lexeme.TokenKind.{TokenKind}
 use Rattle.polcert_text.specs.declared.lexeme.TokenKind.TheVariants as kinds
 use Rattle.polcert_text.specs.declared.lexeme.State.{State}
 use Rattle.polcert_text.specs.declared.lexeme.State.TheVariants.{Start, Name, Whole, Point, Fraction, Mark, Sign, Exponent, Single, Stuck}
+use Rattle.polcert_text.proofs.Scanning.BeforeFirst.{before, after, before_is, after_is}
+use Rattle.polcert_text.proofs.Scanning.Tests.{digit_by, mark_by, point_by, sign_by, name_by, kind_by}
 
 -- the bytes after the mantissa are an exponent or nothing
 abbrev exponent_fits : List ℕ → Bool
-exponent_fits bs = not (list_any is_exponent_mark bs) || is_exponent (after is_exponent_mark bs)
+exponent_fits bs = not (list_any is_exponent_mark bs) || are_digits (without_sign (after is_exponent_mark bs))
 
 abbrev kind_if : Bool → TokenKind → Option TokenKind
 kind_if b kind = cond b (Some kind) None
@@ -31,7 +35,7 @@ completed Whole bs =
     kind_if (list_all is_digit (before is_point m) && list_all is_digit (after is_point m) && exponent_fits bs) kinds.Numeral
 completed Point bs = kind_if (are_digits (before is_exponent_mark bs) && exponent_fits bs) kinds.Numeral
 completed Fraction bs = kind_if (list_all is_digit (before is_exponent_mark bs) && exponent_fits bs) kinds.Numeral
-completed Mark bs = kind_if (is_exponent bs) kinds.Numeral
+completed Mark bs = kind_if (are_digits (without_sign bs)) kinds.Numeral
 completed Sign bs = kind_if (are_digits bs) kinds.Numeral
 completed Exponent bs = kind_if (list_all is_digit bs) kinds.Numeral
 completed (Single kind) bs = kind_if (is_empty bs) kind
@@ -45,46 +49,44 @@ cond-same : {A : Type 0} (b : Bool) (x : A) → cond b x x ≡ x
 cond-same true x = refl
 cond-same false x = refl
 
-some_digits : (bs : List ℕ) → (list_all is_digit bs && list_any is_digit bs) ≡ are_digits bs
-some_digits [] = refl
-some_digits (b ∷ bs) = at_digit (is_digit b) refl
-  where
-    at_digit : (d : Bool) → is_digit b ≡ d → ((is_digit b && list_all is_digit bs) && (is_digit b || list_any is_digit bs)) ≡ ((is_digit b && list_all is_digit bs) && true)
-    at_digit true e = simp e
-    at_digit false e = simp e
+-- a numeral, where it is cut by recursion
+abbrev cut_numeral : List ℕ → Bool
+cut_numeral bs =
+    let m = before is_exponent_mark bs in
+    (list_all is_digit (before is_point m) && list_all is_digit (after is_point m) && list_any is_digit m) && exponent_fits bs
+
+numeral_cut : (bs : List ℕ) → is_numeral bs ≡ cut_numeral bs
+numeral_cut bs =
+    let m = before_is is_exponent_mark bs in
+    λ i. (list_all is_digit (before_is is_point (m i) i) && list_all is_digit (after_is is_point (m i) i) && list_any is_digit (m i)) && (not (list_any is_exponent_mark bs) || are_digits (without_sign (after_is is_exponent_mark bs i)))
 
 -- a byte that no numeral begins with
 pub no_numeral : (b : ℕ) (bs : List ℕ) → is_digit b ≡ false → is_point b ≡ false → is_numeral (b ∷ bs) ≡ false
 no_numeral b bs d p = at_mark (is_exponent_mark b) refl
   where
     at_mark : (m : Bool) → is_exponent_mark b ≡ m → is_numeral (b ∷ bs) ≡ false
-    at_mark true e = simp e
-    at_mark false e = simp (e, p, d)
+    at_mark true e = numeral_cut (b ∷ bs) ∙ simp e
+    at_mark false e = numeral_cut (b ∷ bs) ∙ simp (e, p, d)
 
 module _ (b : ℕ) (bs : List ℕ) where
   abbrev m : List ℕ
   m = before is_exponent_mark bs
 
-  -- the kind of a list that begins with b, by its tests
-  kind_by : (c : ByteClass) (numeral : Bool) → class_of b ≡ c → is_numeral (b ∷ bs) ≡ numeral → kind_of (b ∷ bs) ≡ cond (letter_class c && list_all is_name_byte bs) (Some kinds.Name) (cond numeral (Some kinds.Numeral) (cond (is_empty bs) (mark_kind c) None))
-  kind_by c numeral e is =
-      λ i. cond (letter_class (e i) && list_all is_name_byte bs) (Some kinds.Name) (cond (is i) (Some kinds.Numeral) (cond (is_empty bs) (mark_kind (e i)) None))
-
   -- a byte that begins no numeral
   no_numeral_at : (c : ByteClass) → class_of b ≡ c → digit_class c ≡ false → point_class c ≡ false → kind_of (b ∷ bs) ≡ cond (letter_class c && list_all is_name_byte bs) (Some kinds.Name) (cond (is_empty bs) (mark_kind c) None)
-  no_numeral_at c e d p = kind_by c false e (no_numeral b bs (ap digit_class e ∙ d) (ap point_class e ∙ p))
+  no_numeral_at c e d p = kind_by b bs c false e (no_numeral b bs (digit_by b e ∙ d) (point_by b e ∙ p))
 
   numeral_at_digit : class_of b ≡ classes.Digit → is_numeral (b ∷ bs) ≡ (list_all is_digit (before is_point m) && list_all is_digit (after is_point m) && exponent_fits bs)
-  numeral_at_digit e = simp (e, and-true)
+  numeral_at_digit e = numeral_cut (b ∷ bs) ∙ simp (digit_by b e, mark_by b e, point_by b e, and-true)
 
   numeral_at_point : class_of b ≡ classes.Point → is_numeral (b ∷ bs) ≡ (are_digits m && exponent_fits bs)
-  numeral_at_point e = simp e (ap (λ d. d && exponent_fits bs) (some_digits m))
+  numeral_at_point e = numeral_cut (b ∷ bs) ∙ simp (digit_by b e, mark_by b e, point_by b e)
 
   start_at : (c : ByteClass) → class_of b ≡ c → completed Start (b ∷ bs) ≡ completed (state_after Start c) bs
   start_at classes.Letter e = no_numeral_at classes.Letter e refl refl ∙ simp cond-same
   start_at classes.ExponentMark e = no_numeral_at classes.ExponentMark e refl refl ∙ simp cond-same
-  start_at classes.Digit e = kind_by classes.Digit _ e (numeral_at_digit e) ∙ simp cond-same
-  start_at classes.Point e = kind_by classes.Point _ e (numeral_at_point e) ∙ simp cond-same
+  start_at classes.Digit e = kind_by b bs classes.Digit _ e (numeral_at_digit e) ∙ simp cond-same
+  start_at classes.Point e = kind_by b bs classes.Point _ e (numeral_at_point e) ∙ simp cond-same
   start_at classes.Colon e = no_numeral_at classes.Colon e refl refl
   start_at classes.Star e = no_numeral_at classes.Star e refl refl
   start_at classes.Plus e = no_numeral_at classes.Plus e refl refl
@@ -96,11 +98,10 @@ module _ (b : ℕ) (bs : List ℕ) where
   completed_at Start c e = start_at c e
   completed_at (Single kind) c e = refl
   completed_at Stuck c e = refl
-  completed_at Point classes.Digit e = simp (e, and-true)
-  completed_at Mark classes.Digit e = simp (e, and-true)
-  completed_at Sign classes.Digit e = simp (e, and-true)
-  completed_at _ classes.Digit e = simp e
-  completed_at _ _ e = simp e
+  completed_at Name classes.Digit e = simp (name_by b e)
+  completed_at Name _ e = simp (name_by b e)
+  completed_at _ classes.Digit e = simp (digit_by b e, mark_by b e, point_by b e, sign_by b e, and-true)
+  completed_at _ _ e = simp (digit_by b e, mark_by b e, point_by b e, sign_by b e)
 
 -- the same for several bytes
 pub completed_through : (state : State) (front rest : List ℕ) → completed state (front ++ rest) ≡ completed (state_through state front) rest
@@ -111,9 +112,13 @@ pub state_through-append : (state : State) (front rest : List ℕ) → state_thr
 state_through-append state [] rest = refl
 state_through-append state (b ∷ bs) rest = state_through-append (state_after state (class_of b)) bs rest
 
+pub none_empty : kind_of [] ≡ None
+unfolding kind_of
+none_empty = refl
+
 -- what a state has read is what nothing more completes
 completed-none : (state : State) → completed state [] ≡ kind_at state
-completed-none Start = refl
+completed-none Start = none_empty
 completed-none _ = refl
 
 -- the kind of a list is the kind of the state after it
@@ -158,7 +163,7 @@ module _ (read : List ℕ) (b : ℕ) where
       ⊎_elim (λ below. ap kind_of (front_same k below) ∙ none k from below) (λ at. ap kind_of (all_same k at) ∙ whole) (at_or_below k (length read) (omega (arith, one_more)))
 
   -- the front of one byte more
-  pub front_keeps : (front : Option Front) → IsFrontOf read front → kind_of (read ++ b ∷ []) ≡ None → IsFrontOf (read ++ b ∷ []) front
+  pub front_keeps : (front : Option LexemePrefix) → IsFrontOf read front → kind_of (read ++ b ∷ []) ≡ None → IsFrontOf (read ++ b ∷ []) front
   front_keeps None none whole = λ k h. none_more 0 (λ k _ h. none k h) whole k (omega arith) h
   front_keeps (Some front) was whole = record {
     within = omega (arith, was.within, one_more);
@@ -166,7 +171,7 @@ module _ (read : List ℕ) (b : ℕ) where
     longest = λ k more h. none_more (front.len + 1) (λ k from h. was.longest k (omega arith) h) whole k (omega arith) h;
   }
 
-  pub front_takes : (front : Front) → front.len ≡ length read + 1 → kind_of (read ++ b ∷ []) ≡ Some front.kind → IsFrontOf (read ++ b ∷ []) (Some front)
+  pub front_takes : (front : LexemePrefix) → front.len ≡ length read + 1 → kind_of (read ++ b ∷ []) ≡ Some front.kind → IsFrontOf (read ++ b ∷ []) (Some front)
   front_takes front len whole = record {
     within = omega (arith, one_more);
     lexeme = ap kind_of (all_same front.len len) ∙ whole;
@@ -177,7 +182,7 @@ module _ (read : List ℕ) (b : ℕ) where
   state_fed state next c was class_is next_is = state_through-append Start read (b ∷ []) ∙ (λ j. state_after (was j) (sym class_is j)) ∙ sym next_is
 
 -- where no lexeme continues, bytes that follow change nothing
-pub front_whatever_follows : (read tail : List ℕ) (front : Option Front) → IsFrontOf read front → state_through Start read ≡ Stuck → IsFrontOf (read ++ tail) front
+pub front_whatever_follows : (read tail : List ℕ) (front : Option LexemePrefix) → IsFrontOf read front → state_through Start read ≡ Stuck → IsFrontOf (read ++ tail) front
 front_whatever_follows read tail front was stuck = go front was
   where
     whole : take (length read) (read ++ tail) ≡ read
@@ -190,7 +195,7 @@ front_whatever_follows read tail front was stuck = go front was
     none low k before from =
         ⊎_elim (λ below. ap kind_of (take-append-le k read tail below) ∙ before k from below) (λ above. none_past (read ++ tail) (length read) k above stuck_at) (le_or_ge k (length read))
 
-    go : (front : Option Front) → IsFrontOf read front → IsFrontOf (read ++ tail) front
+    go : (front : Option LexemePrefix) → IsFrontOf read front → IsFrontOf (read ++ tail) front
     go None was = λ k _. none 0 k (λ k _ h. was k h) (omega arith)
     go (Some front) was = record {
       within = omega (arith, was.within, length-append read tail);
@@ -199,7 +204,7 @@ front_whatever_follows read tail front was stuck = go front was
     }
 
 -- nor do bytes that follow one with which no lexeme continues
-pub front_before : (read : List ℕ) (b : ℕ) (tail : List ℕ) (front : Option Front) → IsFrontOf read front → state_through Start (read ++ b ∷ []) ≡ Stuck → IsFrontOf (read ++ b ∷ tail) front
+pub front_before : (read : List ℕ) (b : ℕ) (tail : List ℕ) (front : Option LexemePrefix) → IsFrontOf read front → state_through Start (read ++ b ∷ []) ≡ Stuck → IsFrontOf (read ++ b ∷ tail) front
 front_before read b tail front was stuck =
     let keeps = front_keeps read b front was (kind_of-through (read ++ b ∷ []) ∙ ap kind_at stuck) in
     subst (λ xs. IsFrontOf xs front) (append_assoc read (b ∷ []) tail) (front_whatever_follows (read ++ b ∷ []) tail front keeps stuck)

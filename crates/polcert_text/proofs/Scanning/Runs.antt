@@ -4,7 +4,7 @@ use Rattle.std.proofs.Math.Seq.{take-add}
 use Rattle.std.proofs.lemmas.Bool.{eqb-true}
 use Rattle.std.proofs.lemmas.List.{length-take-le, take_more, take-append-drop}
 use Rattle.std.specs.Char.{is_ascii_digit, is_ascii_alphabetic}
-use Rattle.polcert_text.specs.Bytes.{class_of}
+use Rattle.polcert_text.specs.Steps.Classes.{class_of}
 use Rattle.polcert_text.specs.Cut.{is_glued}
 use Rattle.polcert_text.specs.Fronts.{IsLongestGap, IsLongestLexeme}
 use Rattle.polcert_text.specs.Gaps.{is_gap}
@@ -15,7 +15,7 @@ use Rattle.polcert_text.specs.declared.bytes.ByteClass.{ByteClass}
 use Rattle.polcert_text.specs.declared.bytes.ByteClass.TheVariants as classes
 use Rattle.polcert_text.specs.declared.lexeme.TokenKind.{TokenKind}
 use Rattle.polcert_text.specs.declared.lexeme.TokenKind.TheVariants.{Colon, Star, Plus, Minus}
-use Rattle.polcert_text.specs.declared.lexeme.Front.{Front}
+use Rattle.polcert_text.specs.declared.lexeme.LexemePrefix.{LexemePrefix}
 use Rattle.polcert_text.specs.declared.lexeme.Gap.{Gap}
 use Rattle.polcert_text.specs.declared.lexeme.Gap.TheVariants.{Between, Comment, Ended}
 use Rattle.polcert_text.specs.declared.lexeme.State.{State}
@@ -49,8 +49,8 @@ comment_through bs (suc n) h none =
     let next : suc n ≡ n + 1 = omega arith in
     ap (λ k. gap_through Comment (take k bs)) next ∙ skipped_step Comment bs n Comment Comment (omega arith) before (sym stays)
 
-pub comment_goes_on : (bs : List ℕ) → ((k : ℕ) → k < length bs → (get_or bs k 0 == 10) ≡ true → ⊥) → gap_through Comment (take (length bs) bs) ≡ Comment
-comment_goes_on bs none = comment_through bs (length bs) (omega arith) none
+pub comment_continues : (bs : List ℕ) → ((k : ℕ) → k < length bs → (get_or bs k 0 == 10) ≡ true → ⊥) → gap_through Comment (take (length bs) bs) ≡ Comment
+comment_continues bs none = comment_through bs (length bs) (omega arith) none
 
 pub comment_ends : (bs : List ℕ) (n : ℕ) → n < length bs → ((k : ℕ) → k < n → (get_or bs k 0 == 10) ≡ true → ⊥) → (get_or bs n 0 == 10) ≡ true → gap_through Comment (take (n + 1) bs) ≡ Between
 comment_ends bs n h none line =
@@ -76,12 +76,12 @@ below_or_all n m h = grind arith
 
 -- where the gap from the start of the bytes stops is the longest
 pub longest_seen : (bs : List ℕ) (n : ℕ) (gap : Gap) → n ≤ length bs → gap_through Between (take n bs) ≡ gap → (gap ≡ Ended → ⊥) → (n < length bs → gap_after gap (class_of (get_or bs n 0)) ≡ Ended) → IsLongestGap bs n
-longest_seen bs n gap within read goes_on stops =
+longest_seen bs n gap within read continues stops =
     ⊎_elim (λ below. longest_gap_at bs n below is_front (skipped_step Between bs n gap Ended below read (sym (stops below))))
     (λ all. record { within = within; gap = is_front; longest = λ k more h. absurd (omega arith) }) (below_or_all n (length bs) within)
   where
     is_front : is_gap (take n bs) ≡ true
-    is_front = gap_until_open (take n bs) (λ ended. goes_on (sym read ∙ ended))
+    is_front = gap_until_open (take n bs) (λ ended. continues (sym read ∙ ended))
 
 -- all that was read is a lexeme
 pub scan_whole : (bs : List ℕ) (n : ℕ) (state : State) (kind : TokenKind) → n ≤ length bs → state_through Start (take n bs) ≡ state → kind_at state ≡ Some kind → pending state ≡ 0 → IsScanOf (take n bs) (scan_at state kind n)
@@ -95,14 +95,14 @@ scan_whole bs n state kind h read is none =
         lexeme = ap kind_of (take_all n (take n bs) (omega (arith, len))) ∙ kind_of-through (take n bs) ∙ ap kind_at read ∙ is;
         longest = λ k more h. absurd (omega (arith, len));
       };
-      behind = λ _. omega (arith, none);
+      following = λ _. omega (arith, none);
     }
 
 -- a lexeme that the next byte ends
 pub ends_within : (bs : List ℕ) (n : ℕ) (state : State) (kind : TokenKind) → n < length bs → state_through Start (take n bs) ≡ state → kind_at state ≡ Some kind → pending state ≡ 0 → state_after state (class_of (get_or bs n 0)) ≡ Stuck → EndsWithin bs (record { kind = kind; len = n })
 ends_within bs n state kind h read is none ends =
     let b : ℕ = get_or bs n 0 in
-    let front : Front = record { kind = kind; len = n } in
+    let front : LexemePrefix = record { kind = kind; len = n } in
     let whole = scan_whole bs n state kind (omega arith) read is none in
     let stuck : state_through Start (take (n + 1) bs) ≡ Stuck = state_step bs n state (class_of b) Stuck h read refl (sym ends) in
     let more : take (n + 1) bs ≡ take n bs ++ b ∷ [] = take_more bs n 0 h in
@@ -117,7 +117,7 @@ ends_within bs n state kind h read is none ends =
     }
 
 -- with nothing after the bytes
-pub ended_front : (bs : List ℕ) (front : Front) → EndsWithin bs front → IsFrontOf bs (Some front)
+pub ended_front : (bs : List ℕ) (front : LexemePrefix) → EndsWithin bs front → IsFrontOf bs (Some front)
 ended_front bs front ends = subst (λ xs. IsLongestLexeme xs front.kind front.len) (append-nil bs) (ends.longest [])
 
 -- a mark that a byte follows

@@ -2,11 +2,11 @@
 use Rattle.std.proofs.Common.{◌≡◌, ◌∙◌, ◌<◌, ◌≤◌, ◌⊎◌, inl, inr, ℕ, Bool, true, false, Option, Some, None, List, [], ◌++◌, length, take, drop, refl, sym, ap, subst, append-nil, append_assoc, take_all, ⊎_elim, ◌∷◌, arith}
 use Rattle.std.proofs.lemmas.List.{take-append-drop, take-append-le, length-append, length-take}
 use Rattle.polcert_text.specs.Lexemes.{kind_of}
-use Rattle.polcert_text.specs.Bytes.{class_of}
+use Rattle.polcert_text.specs.Steps.Classes.{class_of}
 use Rattle.polcert_text.specs.Steps.Scan.{state_after, state_through, kind_at, is_numeral_kind}
 use Rattle.polcert_text.specs.Steps.ScanOf.{front_len, front_kind, is_over, is_stuck, pending, IsFrontOf, IsScanOf}
 use Rattle.polcert_text.specs.Steps.Streaming.{IsFrontOrLong, IsSeen}
-use Rattle.polcert_text.specs.declared.lexeme.Front.{Front}
+use Rattle.polcert_text.specs.declared.lexeme.LexemePrefix.{LexemePrefix}
 use Rattle.polcert_text.specs.declared.lexeme.LexemeScan.{LexemeScan}
 use Rattle.polcert_text.specs.declared.bytes.ByteClass.{ByteClass}
 use Rattle.polcert_text.specs.declared.bytes.ByteClass.TheVariants as classes
@@ -16,19 +16,19 @@ use Rattle.polcert_text.specs.declared.lexeme.State.TheVariants.{Start, Single, 
 use Rattle.polcert_text.proofs.Scanning.LexemeEnds.{scanned}
 use Rattle.polcert_text.proofs.Scanning.LexemeLaws.{front_whatever_follows, front_before, state_fed, stuck_state, kind_of-through}
 
-pub front_or_long : (bs : List ℕ) (front : Option Front) → IsFrontOf bs front → IsFrontOrLong bs front
+pub front_or_long : (bs : List ℕ) (front : Option LexemePrefix) → IsFrontOf bs front → IsFrontOrLong bs front
 front_or_long bs None was = was
 front_or_long bs (Some f) was = inl was
 
 -- with nothing after the bytes
-pub seen_whole : (bs : List ℕ) (front : Option Front) → IsFrontOf bs front → IsSeen bs [] front
+pub seen_whole : (bs : List ℕ) (front : Option LexemePrefix) → IsFrontOf bs front → IsSeen bs [] front
 seen_whole bs front was = record {
   front_is = subst (λ xs. IsFrontOrLong xs front) (sym (append-nil bs)) (front_or_long bs front was);
   apart = λ _ _. inl refl;
 }
 
 -- a front is no longer than the bytes
-pub front_within : (bs : List ℕ) (front : Option Front) → IsFrontOf bs front → front_len front ≤ length bs
+pub front_within : (bs : List ℕ) (front : Option LexemePrefix) → IsFrontOf bs front → front_len front ≤ length bs
 front_within bs None was = omega arith
 front_within bs (Some f) was = was.within
 
@@ -46,7 +46,7 @@ some_read : (read : List ℕ) → state_through Start read ≡ Stuck → 0 < len
 some_read [] e = absurd (cc)
 some_read (b ∷ bs) e = omega arith
 
-front_short : (read : List ℕ) (front : Option Front) → IsFrontOf read front → state_through Start read ≡ Stuck → 0 < length read → front_len front < length read
+front_short : (read : List ℕ) (front : Option LexemePrefix) → IsFrontOf read front → state_through Start read ≡ Stuck → 0 < length read → front_len front < length read
 front_short read None was stuck some = some
 front_short read (Some f) was stuck some =
     ⊎_elim (λ less. less) (λ same. absurd (some≢none was.lexeme (ap kind_of (take_all f.len read (omega arith)) ∙ none))) (less_or_same f.len (length read) was.within)
@@ -68,7 +68,7 @@ seen_stuck bs tail scan was stuck =
     }
 
 -- bytes that follow a mark change nothing
-front_at_mark : (read tail : List ℕ) (front : Option Front) (kind : TokenKind) → IsFrontOf read front → state_through Start read ≡ Single kind → IsFrontOf (read ++ tail) front
+front_at_mark : (read tail : List ℕ) (front : Option LexemePrefix) (kind : TokenKind) → IsFrontOf read front → state_through Start read ≡ Single kind → IsFrontOf (read ++ tail) front
 front_at_mark read [] front kind was mark = subst (λ xs. IsFrontOf xs front) (sym (append-nil read)) was
 front_at_mark read (b ∷ tail) front kind was mark = front_before read b tail front was (state_fed read b (Single kind) Stuck (class_of b) mark refl refl)
 
@@ -86,7 +86,7 @@ no_numeral_mark : (state : State) (bs : List ℕ) → is_numeral_mark state ≡ 
 no_numeral_mark state [] before = before
 no_numeral_mark state (b ∷ bs) before = no_numeral_mark (state_after state (class_of b)) bs (no_numeral_after state (class_of b))
 
-mark_kind : (read : List ℕ) (front : Option Front) (kind : TokenKind) → IsFrontOf read front → front_len front ≡ length read → state_through Start read ≡ Single kind
+mark_kind : (read : List ℕ) (front : Option LexemePrefix) (kind : TokenKind) → IsFrontOf read front → front_len front ≡ length read → state_through Start read ≡ Single kind
     → is_numeral_kind (front_kind front) ≡ false
 mark_kind read None kind was len mark = refl
 mark_kind read (Some f) kind was len mark =
@@ -98,7 +98,7 @@ seen_mark : (bs tail : List ℕ) (scan : LexemeScan) (kind : TokenKind) → IsSc
 seen_mark bs tail scan kind was mark =
     let read = take scan.len bs in
     let at_mark : state_through Start read ≡ Single kind = was.state ∙ mark in
-    let whole : front_len scan.longest ≡ length read = omega (arith, was.len, was.behind (ap is_stuck mark), ap pending mark) in
+    let whole : front_len scan.longest ≡ length read = omega (arith, was.len, was.following (ap is_stuck mark), ap pending mark) in
     let joined : read ++ (drop scan.len bs ++ tail) ≡ bs ++ tail = sym (append_assoc read (drop scan.len bs) tail) ∙ ap (λ xs. xs ++ tail) (take-append-drop scan.len bs) in
     record {
       front_is = front_or_long (bs ++ tail) scan.longest (subst (λ xs. IsFrontOf xs scan.longest) joined (front_at_mark read (drop scan.len bs ++ tail) scan.longest kind was.longest at_mark));
@@ -114,7 +114,7 @@ seen_over bs tail scan was over = go scan.state refl
     go _ e = absurd (cc)
 
 -- or where a lexeme was found that is too long
-pub seen_long : (bs tail : List ℕ) (front : Option Front) (n : ℕ) → IsFrontOf (take n bs) front → 400 < front_len front → IsSeen bs tail front
+pub seen_long : (bs tail : List ℕ) (front : Option LexemePrefix) (n : ℕ) → IsFrontOf (take n bs) front → 400 < front_len front → IsSeen bs tail front
 seen_long bs tail None n was long = absurd (omega arith)
 seen_long bs tail (Some f) n was long =
     let joined : take n bs ++ (drop n bs ++ tail) ≡ bs ++ tail = sym (append_assoc (take n bs) (drop n bs) tail) ∙ ap (λ xs. xs ++ tail) (take-append-drop n bs) in

@@ -61,9 +61,9 @@ no_kind (Some k) e = absurd (true≢false refl e)
 no_kind None e = refl
 
 -- what stands at the front of some bytes
-data Front (place : ℕ) (bs : List ℕ) : Type 0 where
-  token : (t : Lexeme) → IsTokenAt place bs t → Front place bs
-  fault : (f : TokenFault) → IsFaultAt place bs f → Front place bs
+data LexemePrefix (place : ℕ) (bs : List ℕ) : Type 0 where
+  token : (t : Lexeme) → IsTokenAt place bs t → LexemePrefix place bs
+  fault : (f : TokenFault) → IsFaultAt place bs f → LexemePrefix place bs
 
 at_most : (n : ℕ) → (n ≤ 400) ⊎ (400 < n)
 at_most n = grind arith
@@ -73,7 +73,7 @@ glued_kind : (k : TokenKind) (bs : List ℕ) → is_glued k bs ≡ true → k �
 glued_kind Numeral bs e = refl
 glued_kind _ bs e = absurd (true≢false e refl)
 
-short_front : (place : ℕ) (bs : List ℕ) (kind : TokenKind) (m : ℕ) → IsLongestLexeme bs kind m → m ≤ 400 → (b : Bool) → is_glued kind (drop m bs) ≡ b → Front place bs
+short_front : (place : ℕ) (bs : List ℕ) (kind : TokenKind) (m : ℕ) → IsLongestLexeme bs kind m → m ≤ 400 → (b : Bool) → is_glued kind (drop m bs) ≡ b → LexemePrefix place bs
 short_front place bs kind m is short true e =
     let numeral = glued_kind kind (drop m bs) e in
     fault (Glued place) (refl, (m, subst (λ k. IsLongestLexeme bs k m) numeral is, short, subst (λ k. is_glued k (drop m bs) ≡ true) numeral e))
@@ -87,14 +87,14 @@ short_front place bs kind m is short false e =
       apart = subst (λ n. is_glued kind (drop n bs) ≡ false) same e;
     })
 
-some_front : (place : ℕ) (bs : List ℕ) → Front place bs
+some_front : (place : ℕ) (bs : List ℕ) → LexemePrefix place bs
 some_front place bs = at (last (λ k. is_some (kind_of (take k bs))) (length bs))
   where
-    of_size : (m : ℕ) (kind : TokenKind) → IsLongestLexeme bs kind m → (m ≤ 400) ⊎ (400 < m) → Front place bs
+    of_size : (m : ℕ) (kind : TokenKind) → IsLongestLexeme bs kind m → (m ≤ 400) ⊎ (400 < m) → LexemePrefix place bs
     of_size m kind is (inl short) = short_front place bs kind m is short (is_glued kind (drop m bs)) refl
     of_size m kind is (inr long) = fault (TokenTooLong place) (refl, record { kind = kind; len = m; within = is.within; lexeme = is.lexeme; long = long })
 
-    at : Last (λ k. is_some (kind_of (take k bs))) (length bs) → Front place bs
+    at : Last (λ k. is_some (kind_of (take k bs))) (length bs) → LexemePrefix place bs
     at (nothing f) = fault (BadByte place) (refl, λ k l. no_kind (kind_of (take k bs)) (f k l))
     at (found m w t f) =
         let kind = some_kind (kind_of (take m bs)) t in
@@ -107,15 +107,27 @@ some≢none e f = cc
 
 -- a token has some bytes
 some_bytes : (place : ℕ) (bs : List ℕ) (t : Lexeme) → IsTokenAt place bs t → (n : ℕ) → length t.bytes ≡ n → 1 ≤ n
+unfolding kind_of
 some_bytes place bs t is zero e = absurd (some≢none is.lexeme.lexeme (ap (λ n. kind_of (take n bs)) e))
 some_bytes place bs t is (suc n) e = omega arith
+
+pub has_bytes : (old new : Rest) (t : Lexeme) → TakesToken old t new → 1 ≤ length t.bytes
+has_bytes old new t takes = some_bytes (old.place + takes.gap) (drop takes.gap old.bytes) t takes.token_at (length t.bytes) refl
+
+-- a token leaves less than there was
+pub shorter : (old new : Rest) (t : Lexeme) → TakesToken old t new → length new.bytes + 1 ≤ length old.bytes
+shorter old new t takes =
+    let some = has_bytes old new t takes in
+    let within = takes.token_at.lexeme.within in
+    let bytes : length new.bytes ≡ length (drop (length t.bytes) (drop takes.gap old.bytes)) = ap (λ (r : Rest). length r.bytes) takes.rest in
+    omega (arith, some, within, bytes, length-drop (length t.bytes) (drop takes.gap old.bytes), length-drop takes.gap old.bytes)
 
 -- what comes next
 data Next (rest : Rest) : Type 0 where
   end : (answer : Option TokenFault) → Ends rest answer → Next rest
   takes : (t : Lexeme) (new : Rest) → TakesToken rest t new → length new.bytes < length rest.bytes → Next rest
 
-next_front : (rest : Rest) (gap : ℕ) → IsLongestGap rest.bytes gap → (b : ℕ) (bs : List ℕ) → drop gap rest.bytes ≡ b ∷ bs → Front (rest.place + gap) (b ∷ bs) → Next rest
+next_front : (rest : Rest) (gap : ℕ) → IsLongestGap rest.bytes gap → (b : ℕ) (bs : List ℕ) → drop gap rest.bytes ≡ b ∷ bs → LexemePrefix (rest.place + gap) (b ∷ bs) → Next rest
 next_front rest gap longest b bs e (fault f is) =
     end (Some f) (record { gap = gap; longest = longest; ends_at = subst (λ xs. EndsAt (rest.place + gap) xs rest.ending (Some f)) (sym e) is })
 next_front rest gap longest b bs e (token t is) =

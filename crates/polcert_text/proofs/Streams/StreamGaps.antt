@@ -1,7 +1,7 @@
 -- The gap that a stream skips, in pieces.
 use Rattle.std.proofs.Common.{◌≡◌, ◌∙◌, ◌+◌, ◌-◌, ◌<◌, ◌≤◌, ◌⊎◌, inl, inr, ℕ, zero, suc, take_all, not, Bool, true, false, Option, List, [], ◌∷◌, ◌++◌, length, take, drop, get_or, refl, sym, ap, subst, append-nil, append_assoc, length-append, arith}
 use Rattle.std.proofs.lemmas.List.{take_at, length-drop, get_or-drop}
-use Rattle.polcert_text.specs.Bytes.{class_of}
+use Rattle.polcert_text.specs.Steps.Classes.{class_of}
 use Rattle.polcert_text.specs.Fronts.{IsLongestGap}
 use Rattle.polcert_text.specs.Gaps.{is_gap}
 use Rattle.polcert_text.specs.Lexemes.{is_empty}
@@ -19,20 +19,20 @@ use Rattle.polcert_text.proofs.Streams.StreamLaws.{rest_bytes, tail_of, visible_
 
 -- a byte that no gap continues with ends the longest gap, whatever follows
 found : (skipped : List ℕ) (b : ℕ) (more : List ℕ) (gap : Gap) → gap_through Between skipped ≡ gap → (gap ≡ Ended → ⊥) → gap_after gap (class_of b) ≡ Ended → IsLongestGap (skipped ++ b ∷ more) (length skipped)
-found skipped b more gap was goes_on ends =
+found skipped b more gap was continues ends =
     let all = skipped ++ b ∷ more in
     let front : take (length skipped) all ≡ skipped = take_at skipped (b ∷ more) (length skipped) refl in
     let regrouped : (skipped ++ b ∷ []) ++ more ≡ all = append_assoc skipped (b ∷ []) more in
     let one_more : take (length skipped + 1) all ≡ skipped ++ b ∷ [] = ap (take (length skipped + 1)) (sym regrouped) ∙ take_at (skipped ++ b ∷ []) more (length skipped + 1) (length-append skipped (b ∷ [])) in
     let ended : gap_through Between (take (length skipped + 1) all) ≡ Ended = ap (gap_through Between) one_more ∙ gap_through-append Between skipped (b ∷ []) ∙ ap (λ g. gap_after g (class_of b)) was ∙ ends in
-    let gap_is : is_gap (take (length skipped) all) ≡ true = ap is_gap front ∙ gap_until_open skipped (λ e. goes_on (sym was ∙ e)) in
+    let gap_is : is_gap (take (length skipped) all) ≡ true = ap is_gap front ∙ gap_until_open skipped (λ e. continues (sym was ∙ e)) in
     longest_gap_at all (length skipped) (omega (arith, length-append skipped (b ∷ more))) gap_is ended
 
 -- a gap with nothing after it
 all_gap : (skipped : List ℕ) (gap : Gap) → gap_through Between skipped ≡ gap → (gap ≡ Ended → ⊥) → IsLongestGap (skipped ++ []) (length skipped)
-all_gap skipped gap was goes_on = subst (λ xs. IsLongestGap xs (length skipped)) (sym (append-nil skipped)) (record {
+all_gap skipped gap was continues = subst (λ xs. IsLongestGap xs (length skipped)) (sym (append-nil skipped)) (record {
   within = omega arith;
-  gap = ap is_gap (take_all (length skipped) skipped (omega arith)) ∙ gap_until_open skipped (λ e. goes_on (sym was ∙ e));
+  gap = ap is_gap (take_all (length skipped) skipped (omega arith)) ∙ gap_until_open skipped (λ e. continues (sym was ∙ e));
   longest = λ k past within. absurd (omega arith);
 })
 
@@ -47,31 +47,31 @@ pub longest_gap : (a : Ahead) (skipped : List ℕ) (gap : Gap) → gap_through B
     → (0 < length (visible a) → gap_after gap (class_of (get_or a.kept 0 0)) ≡ Ended)
     → (length (visible a) ≡ 0 → IsComplete a)
     → (rest : List ℕ) → CanFollow a rest → IsLongestGap (skipped ++ (rest_with a rest).bytes) (length skipped)
-longest_gap a skipped gap was goes_on stops complete rest can = go (visible a) refl
+longest_gap a skipped gap was continues stops complete rest can = go (visible a) refl
   where
     go : (v : List ℕ) → visible a ≡ v → IsLongestGap (skipped ++ (rest_with a rest).bytes) (length skipped)
     go [] e =
         let none : (rest_with a rest).bytes ≡ [] = rest_bytes a rest ∙ ap (λ xs. xs ++ tail_of a rest) e ∙ no_tail a rest can (complete (ap length e)) in
-        subst (λ xs. IsLongestGap (skipped ++ xs) (length skipped)) (sym none) (all_gap skipped gap was goes_on)
+        subst (λ xs. IsLongestGap (skipped ++ xs) (length skipped)) (sym none) (all_gap skipped gap was continues)
     go (b ∷ bs) e =
         let some : 0 < length (visible a) = omega (arith, ap length e) in
         let first = first_visible (a.limit - a.place) a.kept some in
         let bytes : (rest_with a rest).bytes ≡ get_or a.kept 0 0 ∷ (drop 1 (visible a) ++ tail_of a rest) = rest_bytes a rest ∙ ap (λ xs. xs ++ tail_of a rest) first in
-        subst (λ xs. IsLongestGap (skipped ++ xs) (length skipped)) (sym bytes) (found skipped (get_or a.kept 0 0) (drop 1 (visible a) ++ tail_of a rest) gap was goes_on (stops some))
+        subst (λ xs. IsLongestGap (skipped ++ xs) (length skipped)) (sym bytes) (found skipped (get_or a.kept 0 0) (drop 1 (visible a) ++ tail_of a rest) gap was continues (stops some))
 
 ended_from : (gap : Gap) (c : ByteClass) → gap_after gap c ≡ Ended → (gap ≡ Ended → ⊥) → gap ≡ Between
-ended_from Between c e goes_on = refl
-ended_from Comment LineEnd e goes_on = absurd (cc)
-ended_from Comment c e goes_on = absurd (cc)
-ended_from Ended c e goes_on = absurd (goes_on refl)
+ended_from Between c e continues = refl
+ended_from Comment LineEnd e continues = absurd (cc)
+ended_from Comment c e continues = absurd (cc)
+ended_from Ended c e continues = absurd (continues refl)
 
 -- after the gap comes no other
 pub no_gap : (a : Ahead) (gap : Gap) → (gap ≡ Ended → ⊥)
     → (0 < length (visible a) → gap_after gap (class_of (get_or a.kept 0 0)) ≡ Ended)
     → (length (visible a) ≡ 0 → IsComplete a)
     → (rest : List ℕ) → CanFollow a rest → IsLongestGap (rest_with a rest).bytes 0
-no_gap a gap goes_on stops complete = longest_gap a [] Between refl (λ e. absurd (cc)) (λ some.
-    let between = ended_from gap (class_of (get_or a.kept 0 0)) (stops some) goes_on in
+no_gap a gap continues stops complete = longest_gap a [] Between refl (λ e. absurd (cc)) (λ some.
+    let between = ended_from gap (class_of (get_or a.kept 0 0)) (stops some) continues in
     ap (λ g. gap_after g (class_of (get_or a.kept 0 0))) (sym between) ∙ stops some) complete
 
 pub found_some : (is_none : Bool) (n : ℕ) → is_none ≡ (n == 0) → not is_none ≡ true → 0 < n
@@ -93,7 +93,7 @@ module _ {S : Type 0} (reads : S → ℕ → Option (List ℕ) → S → Type 0)
     pub given : List ℕ
     pub on : ReadsOn reads failures old s skipped given now t
     pub read : gap_through Between skipped ≡ gap
-    pub goes_on : gap ≡ Ended → ⊥
+    pub continues : gap ≡ Ended → ⊥
     pub stops : 0 < length (visible now) → gap_after gap (class_of (get_or now.kept 0 0)) ≡ Ended
 
   -- from some bytes that were skipped to those that are skipped next
@@ -106,7 +106,7 @@ module _ {S : Type 0} (reads : S → ℕ → Option (List ℕ) → S → Type 0)
         given = given;
         on = reads_skip reads failures old s skipped given mid t n on skips.1;
         read = gap_through-append Between skipped (take n mid.kept) ∙ ap (λ g. gap_through g (take n mid.kept)) was ∙ skips.3;
-        goes_on = skips.4;
+        continues = skips.4;
         stops = λ some.
             let place : n + 0 ≡ n = omega arith in
             let byte : get_or (drop n mid.kept) 0 0 ≡ get_or mid.kept n 0 = get_or-drop n mid.kept 0 0 ∙ ap (λ k. get_or mid.kept k 0) place in
@@ -117,9 +117,9 @@ module _ {S : Type 0} (reads : S → ℕ → Option (List ℕ) → S → Type 0)
   pub gap_begins : (old : Ahead) (s : S) (next : Gap) (new : Ahead) → old.place ≤ old.limit → Skipped Between old next new → InGap old s next new s
   gap_begins old s next new below skips = skipped_next old s [] [] old s Between next new (reads_nothing reads failures old s below) refl skips
 
-  pub gap_goes_on : (old : Ahead) (s : S) (gap : Gap) (now : Ahead) (t : S) (mid : Ahead) (u : S) (next : Gap) (new : Ahead)
+  pub gap_continues : (old : Ahead) (s : S) (gap : Gap) (now : Ahead) (t : S) (mid : Ahead) (u : S) (next : Gap) (new : Ahead)
       → InGap old s gap now t → now.is_whole ≡ false → Fills reads failures now t true mid u → Skipped gap mid next new → InGap old s next new u
-  gap_goes_on old s gap now t mid u next new was unended f skips =
+  gap_continues old s gap now t mid u next new was unended f skips =
       skipped_next old s was.skipped (was.given ++ f.given) mid u gap next new (reads_fill reads failures old s was.skipped was.given now t true mid u was.on unended f) was.read skips
 
   -- after the gap
@@ -130,8 +130,8 @@ module _ {S : Type 0} (reads : S → ℕ → Option (List ℕ) → S → Type 0)
     skipped = was.skipped;
     given = was.given;
     reads_on = was.on;
-    longest = longest_gap now was.skipped gap was.read was.goes_on was.stops (λ empty. complete has empty);
-    again = no_gap now gap was.goes_on was.stops (λ empty. complete has empty);
+    longest = longest_gap now was.skipped gap was.read was.continues was.stops (λ empty. complete has empty);
+    again = no_gap now gap was.continues was.stops (λ empty. complete has empty);
     found = some;
     end = λ e. (none e, has);
   }
@@ -153,7 +153,7 @@ module _ {S : Type 0} (reads : S → ℕ → Option (List ℕ) → S → Type 0)
         given = was.given ++ f.given;
         on = on;
         read = was.read;
-        goes_on = was.goes_on;
+        continues = was.continues;
         stops = λ some. absurd (omega (arith, visible_len new));
       } in
       gap_ends old s gap new u false there (inl whole) (λ e. absurd (cc)) (λ _. omega (arith, visible_len new))

@@ -1,7 +1,7 @@
 -- What a stream skips and reads, step by step.
 use Rattle.std.proofs.Common.{◌≡◌, ◌∙◌, ◌+◌, ◌-◌, ◌<◌, ◌≤◌, inl, inr, ℕ, zero, suc, min, Bool, true, false, Option, Some, None, List, [], ◌∷◌, ◌++◌, length, take, drop, get_or, refl, sym, ap, subst, append-nil, append_assoc, length-append, arith}
 use Rattle.std.proofs.lemmas.List.{take-append-drop, take_more, length-take, length-take-le}
-use Rattle.polcert_text.specs.Bytes.{class_of}
+use Rattle.polcert_text.specs.Steps.Classes.{class_of}
 use Rattle.polcert_text.specs.Device.{HasFailed}
 use Rattle.polcert_text.specs.Lexemes.{is_empty}
 use Rattle.polcert_text.specs.Steps.Scan.{gap_after, gap_through}

@@ -5,7 +5,7 @@ use Rattle.polcert_text.specs.Steps.ScanOf.{IsScanOf, is_over, is_stuck, front_l
 use Rattle.polcert_text.specs.Stream.{Ahead, visible}
 use Rattle.polcert_text.specs.Steps.Streaming.{with_read, IsComplete, IsSeen, Fills, ReadsOn, ScansLexeme}
 use Rattle.polcert_text.specs.Lexemes.{is_empty}
-use Rattle.polcert_text.specs.declared.lexeme.Front.{Front}
+use Rattle.polcert_text.specs.declared.lexeme.LexemePrefix.{LexemePrefix}
 use Rattle.polcert_text.specs.declared.lexeme.LexemeScan.{LexemeScan}
 use Rattle.polcert_text.proofs.Scanning.SeenLaws.{seen_over, seen_long, seen_all, seen_within}
 use Rattle.polcert_text.proofs.Streams.StreamLaws.{visible_len, reads_nothing, reads_fill}
@@ -27,7 +27,7 @@ scan_stays now new given scan is was =
 
 module _ {S : Type 0} (reads : S → ℕ → Option (List ℕ) → S → Type 0) (failures : S → ℕ) where
   -- a lexeme that ends within the bytes below the limit
-  pub lexeme_ended : (old : Ahead) (s : S) (front : Front) → old.place ≤ old.limit → EndsWithin (visible old) front → ScansLexeme reads failures old s (Some front) old s
+  pub lexeme_ended : (old : Ahead) (s : S) (front : LexemePrefix) → old.place ≤ old.limit → EndsWithin (visible old) front → ScansLexeme reads failures old s (Some front) old s
   lexeme_ended old s front below ends = record {
     given = [];
     reads_on = reads_nothing reads failures old s below;
@@ -46,10 +46,10 @@ module _ {S : Type 0} (reads : S → ℕ → Option (List ℕ) → S → Type 0)
       → (is_stuck scan.state ≡ false → scan.len ≡ length (visible old)) → InLexeme old s scan old s
   lexeme_begins old s scan below scan_is all = record { given = []; on = reads_nothing reads failures old s below; scan_is = scan_is; all = all }
 
-  pub lexeme_goes_on : (old : Ahead) (s : S) (scan : LexemeScan) (now : Ahead) (t : S) (is_more : Bool) (new : Ahead) (u : S) (next : LexemeScan)
+  pub lexeme_continues : (old : Ahead) (s : S) (scan : LexemeScan) (now : Ahead) (t : S) (is_more : Bool) (new : Ahead) (u : S) (next : LexemeScan)
       → InLexeme old s scan now t → now.is_whole ≡ false → Fills reads failures now t is_more new u
       → IsScanOf (take next.len (visible new)) next → (is_stuck next.state ≡ false → next.len ≡ length (visible new)) → InLexeme old s next new u
-  lexeme_goes_on old s scan now t is_more new u next was unended f scan_is all = record {
+  lexeme_continues old s scan now t is_more new u next was unended f scan_is all = record {
     given = was.given ++ f.given;
     on = reads_fill reads failures old s [] was.given now t is_more new u was.on unended f;
     scan_is = scan_is;
@@ -78,5 +78,5 @@ module _ {S : Type 0} (reads : S → ℕ → Option (List ℕ) → S → Type 0)
       let none = f.is_end refl in
       let same : visible new ≡ visible now = ap visible f.new_is ∙ ap (λ xs. take (now.limit - now.place) (now.kept ++ xs)) none ∙ ap (take (now.limit - now.place)) (append-nil now.kept) in
       let whole : new.is_whole ≡ true = ap (λ a. a.is_whole) f.new_is ∙ ap is_empty none in
-      let there = lexeme_goes_on old s scan now t false new u scan was unended f (scan_stays now new f.given scan f.new_is was.scan_is) (λ e. was.all e ∙ ap length (sym same)) in
+      let there = lexeme_continues old s scan now t false new u scan was unended f (scan_stays now new f.given scan f.new_is was.scan_is) (λ e. was.all e ∙ ap length (sym same)) in
       lexeme_ends old s scan new u there (inl (inl whole))

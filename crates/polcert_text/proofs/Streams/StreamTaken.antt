@@ -12,6 +12,7 @@ use Rattle.polcert_text.specs.Stream.{Ahead, Stream, fresh, rest_with, CanFollow
 use Rattle.polcert_text.specs.Steps.StreamTaken.{TakenFrom}
 use Rattle.polcert_text.specs.TakenTokens.{Taken, nothing as none, token as one_more}
 use Rattle.polcert_text.specs.declared.tokens.TokenFault.{TokenFault}
+use Rattle.polcert_text.proofs.Scanning.LexemeLaws.{none_empty}
 use Rattle.polcert_text.proofs.Streams.StreamTakes.{from_both, could_follow}
 use Rattle.polcert_text.proofs.Taken.TakenTokens.{all_taken}
 
@@ -24,19 +25,19 @@ module _ {S : Type 0} (reads : S → ℕ → Option (List ℕ) → S → Type 0)
     was_read = nothing;
     same_count = refl;
     size = refl;
-    goes_on = refl;
+    continues = refl;
     taken = λ more can. subst (λ r. Taken (text_rest more limit) [] r) (sym (ap (λ s. rest_with s.ahead more) (sym is) ∙ text more)) (none (text_rest more limit));
   })
 
   -- one token more
   pub token_taken : (tokens : List Lexeme) (old : Stream) (s : S) (t : Lexeme) (new : Stream) (u : S) → TakenFrom reads failures limit first tokens old s
       → GivesToken reads failures old.ahead s t new.ahead u → new.stop ≡ None → TakenFrom reads failures limit first (tokens ++ t ∷ []) new u
-  token_taken tokens old s t new u was g goes_on = record {
+  token_taken tokens old s t new u was g continues = record {
     given = was.given ++ g.given;
     was_read = from_both reads failures false old.ahead.is_whole new.ahead.is_whole first s u was.given g.given was.was_read g.was_read;
     same_count = g.same_count ∙ was.same_count;
     size = omega (arith, g.size, was.size, length-append was.given g.given);
-    goes_on = goes_on;
+    continues = continues;
     taken = λ more can.
         let before = was.taken (g.given ++ more) (could_follow reads failures old.ahead s g.given more new.ahead u g.was_read can) in
         subst (λ text. Taken (text_rest text limit) (tokens ++ t ∷ []) (rest_with new.ahead more)) (sym (append_assoc was.given g.given more))
@@ -121,7 +122,7 @@ place_grows old new given t next =
     some_byte [] all kind l = absurd (both (l.lexeme))
       where
         both : kind_of (take 0 all) ≡ Some kind → ⊥
-        both e = cc
+        both e = let none = sym none_empty ∙ e in cc
     some_byte (b ∷ bs) all kind l = omega arith
 
 -- the tokens taken, and what is ahead, end where the text does

@@ -10,7 +10,7 @@ use Rattle.polcert_text.specs.Source.{Gives, IsText}
 use Rattle.polcert_text.specs.Stream.{Ahead, end_of_kept, rest_with, CanFollow, ReadsFrom, Fails, GivesToken, GivesEnd, visible, skip}
 use Rattle.polcert_text.specs.Steps.Streaming.{end_of, IsComplete, IsSeen, ReadsOn, SkipsGap, ScansLexeme}
 use Rattle.polcert_text.specs.Lexemes.{is_empty}
-use Rattle.polcert_text.specs.declared.lexeme.Front.{Front}
+use Rattle.polcert_text.specs.declared.lexeme.LexemePrefix.{LexemePrefix}
 use Rattle.polcert_text.specs.declared.tokens.TokenFault.{TokenFault}
 use Rattle.polcert_text.specs.declared.tokens.TokenFault.TheVariants.{TextTooLong}
 use Rattle.polcert_text.proofs.Streams.Giving.{gave_then}
@@ -24,33 +24,33 @@ no_bytes [] e = refl
 no_bytes (b ∷ bs) e = absurd (omega arith)
 
 -- after a gap comes what the rest after it begins with
-record Behind (rest : Rest) (skipped : List ℕ) (behind : Rest) : Type 0 where
-  bytes : rest.bytes ≡ skipped ++ behind.bytes
-  place : behind.place ≡ rest.place + length skipped
-  ending : rest.ending ≡ behind.ending
-  longest : IsLongestGap (skipped ++ behind.bytes) (length skipped)
+record After (rest : Rest) (skipped : List ℕ) (following : Rest) : Type 0 where
+  bytes : rest.bytes ≡ skipped ++ following.bytes
+  place : following.place ≡ rest.place + length skipped
+  ending : rest.ending ≡ following.ending
+  longest : IsLongestGap (skipped ++ following.bytes) (length skipped)
 
-dropped : (rest : Rest) (skipped : List ℕ) (behind : Rest) → Behind rest skipped behind → drop (length skipped) rest.bytes ≡ behind.bytes
-dropped rest skipped behind b = ap (drop (length skipped)) b.bytes ∙ drop-append_seam skipped behind.bytes
+dropped : (rest : Rest) (skipped : List ℕ) (following : Rest) → After rest skipped following → drop (length skipped) rest.bytes ≡ following.bytes
+dropped rest skipped following b = ap (drop (length skipped)) b.bytes ∙ drop-append_seam skipped following.bytes
 
-ends_behind : (rest : Rest) (skipped : List ℕ) (behind : Rest) (answer : Option TokenFault) → Behind rest skipped behind
-    → EndsAt behind.place behind.bytes behind.ending answer → Ends rest answer
-ends_behind rest skipped behind answer b at =
-    let placed = subst (λ p. EndsAt p behind.bytes behind.ending answer) b.place at in
-    let cut = subst (λ bs. EndsAt (rest.place + length skipped) bs behind.ending answer) (sym (dropped rest skipped behind b)) placed in
+ends_after : (rest : Rest) (skipped : List ℕ) (following : Rest) (answer : Option TokenFault) → After rest skipped following
+    → EndsAt following.place following.bytes following.ending answer → Ends rest answer
+ends_after rest skipped following answer b at =
+    let placed = subst (λ p. EndsAt p following.bytes following.ending answer) b.place at in
+    let cut = subst (λ bs. EndsAt (rest.place + length skipped) bs following.ending answer) (sym (dropped rest skipped following b)) placed in
     record {
       gap = length skipped;
       longest = subst (λ xs. IsLongestGap xs (length skipped)) (sym b.bytes) b.longest;
       ends_at = subst (λ e. EndsAt (rest.place + length skipped) (drop (length skipped) rest.bytes) e answer) (sym b.ending) cut;
     }
 
-takes_behind : (rest : Rest) (skipped : List ℕ) (behind : Rest) (token : Lexeme) (new : Rest) → Behind rest skipped behind
-    → IsTokenAt behind.place behind.bytes token
-    → new ≡ (let r : Rest = record { place = behind.place + length token.bytes; bytes = drop (length token.bytes) behind.bytes; ending = behind.ending } in r)
+takes_after : (rest : Rest) (skipped : List ℕ) (following : Rest) (token : Lexeme) (new : Rest) → After rest skipped following
+    → IsTokenAt following.place following.bytes token
+    → new ≡ (let r : Rest = record { place = following.place + length token.bytes; bytes = drop (length token.bytes) following.bytes; ending = following.ending } in r)
     → TakesToken rest token new
-takes_behind rest skipped behind token new b at is =
-    let placed = subst (λ p. IsTokenAt p behind.bytes token) b.place at in
-    let cut = sym (dropped rest skipped behind b) in
+takes_after rest skipped following token new b at is =
+    let placed = subst (λ p. IsTokenAt p following.bytes token) b.place at in
+    let cut = sym (dropped rest skipped following b) in
     record {
       gap = length skipped;
       longest = subst (λ xs. IsLongestGap xs (length skipped)) (sym b.bytes) b.longest;
@@ -59,7 +59,7 @@ takes_behind rest skipped behind token new b at is =
     }
 
 -- what is cut at the front, with no gap
-at_front : (rest : Rest) → IsLongestGap rest.bytes 0 → Behind rest [] rest
+at_front : (rest : Rest) → IsLongestGap rest.bytes 0 → After rest [] rest
 at_front rest none = record { bytes = refl; place = omega arith; ending = refl; longest = none }
 
 fault_at : (place : ℕ) (bs : List ℕ) (ending : Option TokenFault) (fault : TokenFault) → 0 < length bs → IsFaultAt place bs fault → EndsAt place bs ending (Some fault)
@@ -138,7 +138,7 @@ module _ {S : Type 0} (reads : S → ℕ → Option (List ℕ) → S → Type 0)
 
   -- the rest of the text after what was skipped is what is ahead then
   rest_on : (old : Ahead) (s : S) (skipped given : List ℕ) (new : Ahead) (t : S) (more : List ℕ) → ReadsOn reads failures old s skipped given new t
-      → IsLongestGap (skipped ++ (rest_with new more).bytes) (length skipped) → Behind (rest_with old (given ++ more)) skipped (rest_with new more)
+      → IsLongestGap (skipped ++ (rest_with new more).bytes) (length skipped) → After (rest_with old (given ++ more)) skipped (rest_with new more)
   rest_on old s skipped given new t more on longest =
       let room : old.limit - old.place ≡ length skipped + (new.limit - new.place) = omega (arith, on.place, on.limit, on.below) in
       let text : old.kept ++ (given ++ more) ≡ skipped ++ (new.kept ++ more) = sym (append_assoc old.kept given more) ∙ ap (λ xs. xs ++ more) on.bytes ∙ append_assoc skipped new.kept more in
@@ -151,9 +151,9 @@ module _ {S : Type 0} (reads : S → ℕ → Option (List ℕ) → S → Type 0)
       }
 
   -- a read fails after those of the gap
-  pub fails_behind : (old : Ahead) (s : S) (mid : Ahead) (t u : S) (is_found : Bool) → SkipsGap reads failures old s is_found mid t → mid.is_whole ≡ false
+  pub fails_after : (old : Ahead) (s : S) (mid : Ahead) (t u : S) (is_found : Bool) → SkipsGap reads failures old s is_found mid t → mid.is_whole ≡ false
       → Fails reads failures t u → Fails reads failures s u
-  fails_behind old s mid t u is_found g not_whole f = record {
+  fails_after old s mid t u is_found g not_whole f = record {
     given = g.given ++ f.given;
     failed = record { before = f.failed.before; room = f.failed.room; gave = gave_then (gives_from old.is_whole mid.is_whole g.reads_on.was_read not_whole) f.failed.gave; failed = f.failed.failed };
     count = subst (λ n. HasFailed n (failures u)) g.reads_on.same_count f.count;
@@ -182,16 +182,16 @@ module _ {S : Type 0} (reads : S → ℕ → Option (List ℕ) → S → Type 0)
         was_read = g.reads_on.was_read;
         same_count = g.reads_on.same_count;
         size = size_on g.skipped g.given g.reads_on;
-        ends = λ more can. ends_behind (rest_with old (g.given ++ more)) g.skipped (rest_with new more) (end_of new)
+        ends = λ more can. ends_after (rest_with old (g.given ++ more)) g.skipped (rest_with new more) (end_of new)
             (rest_on old s g.skipped g.given new t more g.reads_on (g.longest more can)) (end_is new more can g.reads_on.below at.0 at.1);
         at_end = record {
-          ends = λ more can. ends_behind (rest_with new more) [] (rest_with new more) (end_of new) (at_front (rest_with new more) (g.again more can)) (end_is new more can g.reads_on.below at.0 at.1);
+          ends = λ more can. ends_after (rest_with new more) [] (rest_with new more) (end_of new) (at_front (rest_with new more) (g.again more can)) (end_is new more can g.reads_on.below at.0 at.1);
           whole = clean_end new at.1;
         };
       }
 
   -- a lexeme at the front, after the gap
-  module _ (old : Ahead) (s : S) (mid : Ahead) (t : S) (front : Option Front) (new : Ahead) (u : S) (g : SkipsGap reads failures old s true mid t) (l : ScansLexeme reads failures mid t front new u) where
+  module _ (old : Ahead) (s : S) (mid : Ahead) (t : S) (front : Option LexemePrefix) (new : Ahead) (u : S) (g : SkipsGap reads failures old s true mid t) (l : ScansLexeme reads failures mid t front new u) where
     on : ReadsOn reads failures old s g.skipped (g.given ++ l.given) new u
     on = reads_both old s g.skipped g.given mid t l.given new u g.reads_on l.reads_on
 
@@ -202,11 +202,11 @@ module _ {S : Type 0} (reads : S → ℕ → Option (List ℕ) → S → Type 0)
         let text : mid.kept ++ (l.given ++ more) ≡ new.kept ++ more = sym (append_assoc mid.kept l.given more) ∙ ap (λ xs. xs ++ more) l.reads_on.bytes in
         ap (λ n. take n (mid.kept ++ (l.given ++ more))) room ∙ ap (take (new.limit - new.place)) text
 
-    behind : (more : List ℕ) → CanFollow new more → Behind (rest_with old ((g.given ++ l.given) ++ more)) g.skipped (rest_with new more)
-    behind more can = rest_on old s g.skipped (g.given ++ l.given) new u more on
+    following : (more : List ℕ) → CanFollow new more → After (rest_with old ((g.given ++ l.given) ++ more)) g.skipped (rest_with new more)
+    following more can = rest_on old s g.skipped (g.given ++ l.given) new u more on
         (subst (λ xs. IsLongestGap (g.skipped ++ xs) (length g.skipped)) (same_rest more) (g.longest (l.given ++ more) (could_follow mid t l.given more new u l.reads_on.was_read can)))
 
-    front_again : (more : List ℕ) → CanFollow new more → Behind (rest_with new more) [] (rest_with new more)
+    front_again : (more : List ℕ) → CanFollow new more → After (rest_with new more) [] (rest_with new more)
     front_again more can = at_front (rest_with new more)
         (subst (λ xs. IsLongestGap xs 0) (same_rest more) (g.again (l.given ++ more) (could_follow mid t l.given more new u l.reads_on.was_read can)))
 
@@ -223,10 +223,10 @@ module _ {S : Type 0} (reads : S → ℕ → Option (List ℕ) → S → Type 0)
       was_read = on.was_read;
       same_count = on.same_count;
       size = size_on g.skipped (g.given ++ l.given) on;
-      ends = λ more can. ends_behind (rest_with old ((g.given ++ l.given) ++ more)) g.skipped (rest_with new more) (Some fault) (behind more can)
+      ends = λ more can. ends_after (rest_with old ((g.given ++ l.given) ++ more)) g.skipped (rest_with new more) (Some fault) (following more can)
           (fault_at new.place (rest_with new more).bytes (rest_with new more).ending fault (some_bytes more) (is more can));
       at_end = record {
-        ends = λ more can. ends_behind (rest_with new more) [] (rest_with new more) (Some fault) (front_again more can)
+        ends = λ more can. ends_after (rest_with new more) [] (rest_with new more) (Some fault) (front_again more can)
             (fault_at new.place (rest_with new more).bytes (rest_with new more).ending fault (some_bytes more) (is more can));
         whole = λ e. absurd (cc);
       };
@@ -240,7 +240,7 @@ module _ {S : Type 0} (reads : S → ℕ → Option (List ℕ) → S → Type 0)
       was_read = on.was_read;
       same_count = on.same_count;
       size = omega (arith, size_on g.skipped (g.given ++ l.given) on, length-drop n new.kept, visible_len new);
-      next = λ more can. takes_behind (rest_with old ((g.given ++ l.given) ++ more)) g.skipped (rest_with new more) token (rest_with (skip n new) more) (behind more can) (is more can)
+      next = λ more can. takes_after (rest_with old ((g.given ++ l.given) ++ more)) g.skipped (rest_with new more) token (rest_with (skip n new) more) (following more can) (is more can)
           (rest_skipped new n more few ∙ (λ i. record { place = new.place + sym len i; bytes = drop (sym len i) (rest_with new more).bytes; ending = (rest_with new more).ending }));
     }
 
@@ -255,7 +255,7 @@ module _ {S : Type 0} (reads : S → ℕ → Option (List ℕ) → S → Type 0)
         omega (arith, length-append (visible new) (tail_of new []), ap length none)
 
     pub token_given : (token : Lexeme) → ((more : List ℕ) → CanFollow new more → IsTokenAt new.place (visible new ++ tail_of new more) token)
-        → GivesToken reads failures old s (let lent : Lexeme = record { kind = token.kind; place = new.place + length token.bytes - length (take (length token.bytes) new.kept); bytes = take (length token.bytes) new.kept } in lent) (skip (length token.bytes) new) u
+        → GivesToken reads failures old s (let borrowed : Lexeme = record { kind = token.kind; place = new.place + length token.bytes - length (take (length token.bytes) new.kept); bytes = take (length token.bytes) new.kept } in borrowed) (skip (length token.bytes) new) u
     token_given token is =
         let n = length token.bytes in
         let few = few_bytes token is in
@@ -263,7 +263,7 @@ module _ {S : Type 0} (reads : S → ℕ → Option (List ℕ) → S → Type 0)
         let room = new.limit - new.place in
         let bytes : token.bytes ≡ take n new.kept = first.bytes_are ∙ take-append-le n (visible new) (tail_of new []) few ∙ take-take n room new.kept (omega (arith, visible_len new)) in
         let place : token.place ≡ new.place + n - length (take n new.kept) = omega (arith, first.place_is, ap length bytes) in
-        let same : token ≡ (let lent : Lexeme = record { kind = token.kind; place = new.place + n - length (take n new.kept); bytes = take n new.kept } in lent) = λ i. record { kind = token.kind; place = place i; bytes = bytes i } in
+        let same : token ≡ (let borrowed : Lexeme = record { kind = token.kind; place = new.place + n - length (take n new.kept); bytes = take n new.kept } in borrowed) = λ i. record { kind = token.kind; place = place i; bytes = bytes i } in
         subst (λ t. GivesToken reads failures old s t (skip n new) u) same
         (gives_token token n refl few (λ more can. subst (λ bs. IsTokenAt new.place bs token) (sym (rest_bytes new more)) (is more can)))
 

@@ -6,16 +6,16 @@ use Rattle.std.proofs.lemmas.List.{take-append-le, drop-append-le, length-take-l
 use Rattle.polcert_text.specs.Beginning.{rest_at, BeginWith, BeginWithOne, BeginWithNumber, BeginWithDigits, IsNumeralOf, kind_of_sign, unsigned}
 use Rattle.polcert_text.specs.Beginning as begin
 use Rattle.polcert_text.specs.Steps.ScanOf.{EndsAsDigits, EndsWithin, IsNameOrMark, IsNumberFrom}
-use Rattle.polcert_text.specs.Bytes.{class_of, class_of_sign}
+use Rattle.polcert_text.specs.Steps.Classes.{class_of, class_of_sign}
 use Rattle.polcert_text.specs.Cut.{Lexeme, Rest, TakesToken, is_glued}
 use Rattle.polcert_text.specs.Fronts.{IsLongestLexeme}
 use Rattle.polcert_text.specs.Steps.Scan.{gap_after, gap_through, state_after}
 use Rattle.polcert_text.specs.Numbers.{millionth, size_of, signed, IsReadable, IsExact}
 use Rattle.polcert_text.specs.TakenTokens.{Taken, nothing, token}
-use Rattle.polcert_text.specs.declared.beginning.FrontDigits.{FrontDigits}
-use Rattle.polcert_text.specs.declared.beginning.FrontNumber.{FrontNumber}
+use Rattle.polcert_text.specs.declared.front_tokens.FrontDigits.{FrontDigits}
+use Rattle.polcert_text.specs.declared.front_tokens.FrontNumber.{FrontNumber}
 use Rattle.polcert_text.specs.declared.bytes.ByteClass.TheVariants as classes
-use Rattle.polcert_text.specs.declared.lexeme.Front.{Front}
+use Rattle.polcert_text.specs.declared.lexeme.LexemePrefix.{LexemePrefix}
 use Rattle.polcert_text.specs.declared.lexeme.Gap.TheVariants.{Between, Ended}
 use Rattle.polcert_text.specs.declared.lexeme.State.TheVariants.{Start, Single}
 use Rattle.polcert_text.specs.declared.lexeme.TokenKind.{TokenKind}
@@ -80,7 +80,7 @@ module _ (place : ℕ) (bytes : List ℕ) (gap n : ℕ) (kind : TokenKind) (open
       let all : drop gap (bytes ++ tail) ≡ drop gap bytes ++ tail = drop-append-le gap bytes tail low in
       let here : gap + 0 ≡ gap = omega arith in
       let byte : get_or (bytes ++ tail) gap 0 ≡ get_or (drop gap bytes) 0 0 = get_or-append bytes tail 0 gap inside ∙ ap (λ k. get_or bytes k 0) (sym here) ∙ sym (get_or-drop gap bytes 0 0) in
-      let behind : drop (length (take n (drop gap bytes))) (drop gap (bytes ++ tail)) ≡ drop n (drop gap bytes) ++ tail = ap (λ m. drop m (drop gap (bytes ++ tail))) len ∙ ap (drop n) all ∙ drop-append-le n (drop gap bytes) tail few in
+      let following : drop (length (take n (drop gap bytes))) (drop gap (bytes ++ tail)) ≡ drop n (drop gap bytes) ++ tail = ap (λ m. drop m (drop gap (bytes ++ tail))) len ∙ ap (drop n) all ∙ drop-append-le n (drop gap bytes) tail few in
       let end : place + (gap + n) ≡ place + gap + length (take n (drop gap bytes)) = omega (arith, len) in
       record {
         gap = gap;
@@ -90,9 +90,9 @@ module _ (place : ℕ) (bytes : List ℕ) (gap n : ℕ) (kind : TokenKind) (open
           place_is = refl;
           bytes_are = sym (ap (λ m. take m (drop gap (bytes ++ tail))) len ∙ ap (take n) all ∙ take-append-le n (drop gap bytes) tail few);
           short = omega (arith, len, short);
-          apart = ap (is_glued kind) behind ∙ glue_stays kind (drop n (drop gap bytes)) tail (omega (arith, ends.within, length-drop n (drop gap bytes))) ∙ apart;
+          apart = ap (is_glued kind) following ∙ glue_stays kind (drop n (drop gap bytes)) tail (omega (arith, ends.within, length-drop n (drop gap bytes))) ∙ apart;
         };
-        rest = λ i. record { place = end i; bytes = (ap (λ xs. xs ++ tail) (sym (drop-drop n gap bytes)) ∙ sym behind) i; ending = ending };
+        rest = λ i. record { place = end i; bytes = (ap (λ xs. xs ++ tail) (sym (drop-drop n gap bytes)) ∙ sym following) i; ending = ending };
       }
 
   pub begin_one : BeginWith place bytes (gap + n) (front_lexeme place bytes gap kind n ∷ [])
@@ -166,7 +166,7 @@ module _ (place : ℕ) (bytes : List ℕ) (gap : ℕ) (found : FrontNumber) (ope
 
 -- ---- a name or a mark
 
-pub word_begins : (place : ℕ) (bytes : List ℕ) (gap : ℕ) (front : Front) (rest : List ℕ) → rest ≡ drop gap bytes → gap_through Between (take gap bytes) ≡ Between → EndsWithin rest front → IsNameOrMark rest front → front.len ≤ 400
+pub word_begins : (place : ℕ) (bytes : List ℕ) (gap : ℕ) (front : LexemePrefix) (rest : List ℕ) → rest ≡ drop gap bytes → gap_through Between (take gap bytes) ≡ Between → EndsWithin rest front → IsNameOrMark rest front → front.len ≤ 400
     → BeginWith place bytes (gap + front.len) (record { kind = front.kind; place = place + gap; bytes = take front.len rest } ∷ [])
 word_begins place bytes gap front rest is open_gap ends word short =
     subst (λ xs. EndsWithin xs front → IsNameOrMark xs front → BeginWith place bytes (gap + front.len) (record { kind = front.kind; place = place + gap; bytes = take front.len xs } ∷ [])) (sym is)

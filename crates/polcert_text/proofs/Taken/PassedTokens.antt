@@ -17,15 +17,15 @@ passed_taken reads failures limit first tokens old s n ts was begin = record {
   was_read = was.was_read;
   same_count = was.same_count;
   size = omega (arith, was.size, begin.within, visible_len old.ahead, length-drop n old.ahead.kept);
-  goes_on = was.goes_on;
+  continues = was.continues;
   taken = λ more can.
       let a = old.ahead in
       let ending = (rest_with a more).ending in
       let bytes : visible a ++ tail_of a more ≡ (rest_with a more).bytes = sym (rest_bytes a more) in
-      let behind : drop n (visible a) ++ tail_of a more ≡ drop n (rest_with a more).bytes = sym (drop-append-le n (visible a) (tail_of a more) begin.within) ∙ ap (drop n) bytes in
+      let following : drop n (visible a) ++ tail_of a more ≡ drop n (rest_with a more).bytes = sym (drop-append-le n (visible a) (tail_of a more) begin.within) ∙ ap (drop n) bytes in
       let there : Taken (rest_at a.place (rest_with a more).bytes ending) ts (rest_at (a.place + n) (drop n (rest_with a more).bytes) ending)
       = subst (λ xs. Taken (rest_at a.place xs ending) ts (rest_at (a.place + n) (drop n (rest_with a more).bytes) ending)) bytes
-      (subst (λ ys. Taken (rest_at a.place (visible a ++ tail_of a more) ending) ts (rest_at (a.place + n) ys ending)) behind
+      (subst (λ ys. Taken (rest_at a.place (visible a ++ tail_of a more) ending) ts (rest_at (a.place + n) ys ending)) following
       (begin.taken (tail_of a more) ending)) in
       taken_both _ _ _ tokens ts (was.taken more can) (subst (Taken (rest_with a more) ts) (sym (rest_skipped a n more begin.within)) there);
 }

@@ -2,7 +2,7 @@
 use Rattle.std.proofs.Common.{◌≡◌, ℕ, ℤ, ◌+◌, true, false, Option, Some, None, List, [], ◌∷◌, take, drop, get_or, refl, sym, ap, subst, arith}
 use Rattle.std.proofs.lemmas.List.{length-drop, drop-drop}
 use Rattle.polcert_text.specs.Beginning.{BeginWith}
-use Rattle.polcert_text.specs.Bytes.{class_of}
+use Rattle.polcert_text.specs.Steps.Classes.{class_of}
 use Rattle.polcert_text.specs.Cut.{Lexeme}
 use Rattle.polcert_text.specs.FrontValues.{BeginWithValue}
 use Rattle.polcert_text.specs.Numbers.{IsRounded}
@@ -45,10 +45,10 @@ module _ (rounding : Rounding) (place : ℕ) (bytes : List ℕ) (gap : ℕ) (num
       → IsRounded rounding true (take numeral.len (drop 1 (drop gap bytes))) value → BeginWithValue rounding place bytes (record { len = gap + 1 + numeral.len; value = value })
   minus_begins minus e rounded =
       let rest = drop gap bytes in
-      let behind : drop 1 rest ≡ drop (gap + 1) bytes = drop-drop 1 gap bytes in
+      let following : drop 1 rest ≡ drop (gap + 1) bytes = drop-drop 1 gap bytes in
       let first : BeginWith place bytes (gap + 1) (front_lexeme place bytes gap Minus 1 ∷ []) =
       begin_one place bytes gap 1 Minus open_gap (ap (gap_after Between) minus) (ended_mark rest Minus (omega (arith, e.ends.within, length-drop 1 rest)) (ap (state_after Start) minus)) (omega arith) refl in
-      let there : EndsAsSize (drop (gap + 1) bytes) numeral = subst (λ xs. EndsAsSize xs numeral) behind e in
+      let there : EndsAsSize (drop (gap + 1) bytes) numeral = subst (λ xs. EndsAsSize xs numeral) following e in
       let none : 0 + numeral.len ≡ numeral.len = omega arith in
       let token = front_lexeme (place + (gap + 1)) (drop (gap + 1) bytes) 0 Numeral numeral.len in
       let second = subst (λ n. BeginWith (place + (gap + 1)) (drop (gap + 1) bytes) n (token ∷ [])) none (numeral_begins (place + (gap + 1)) (drop (gap + 1) bytes) 0 numeral refl there) in
@@ -59,5 +59,5 @@ module _ (rounding : Rounding) (place : ℕ) (bytes : List ℕ) (gap : ℕ) (num
         kind_is = refl;
         front = begin_then place bytes (gap + 1) numeral.len _ _ first second;
         readable = there.readable;
-        rounded = subst (λ xs. IsRounded rounding true (take numeral.len xs) value) behind rounded;
+        rounded = subst (λ xs. IsRounded rounding true (take numeral.len xs) value) following rounded;
       }

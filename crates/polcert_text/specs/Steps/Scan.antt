@@ -2,7 +2,7 @@
 -- Nobody has to believe this: only contracts of private functions cite it, and the proofs show that it finds the
 -- longest fronts.
 use Rattle.std.specs.Prelude.{◌≡◌, ℕ, Bool, true, false, Option, Some, None, List, [], ◌∷◌}
-use Rattle.polcert_text.specs.Bytes.{class_of}
+use Rattle.polcert_text.specs.Steps.Classes.{class_of}
 use Rattle.polcert_text.specs.declared.bytes.ByteClass.{ByteClass}
 use Rattle.polcert_text.specs.declared.bytes.ByteClass.TheVariants as classes
 use Rattle.polcert_text.specs.declared.lexeme.TokenKind.{TokenKind}
@@ -105,5 +105,5 @@ is_numeral_kind (Some kinds.Numeral) = true
 is_numeral_kind _ = false
 
 -- a digit changes nothing in this state
-abbrev pub GoesOnWithDigits : State → Type 0
-GoesOnWithDigits state = state_after state classes.Digit ≡ state
+abbrev pub ContinuesWithDigits : State → Type 0
+ContinuesWithDigits state = state_after state classes.Digit ≡ state

@@ -2,12 +2,12 @@
 -- Nobody has to believe this: only contracts of private functions cite it.
 use Rattle.std.specs.Prelude.{◌≡◌, ℕ, ◌+◌, ◌<◌, ◌≤◌, ◌++◌, Bool, true, false, Option, Some, None, List, length, take, drop, slice_index, pos, MatchOption}
 use Rattle.std.specs.Str.Parse.{digits_value}
-use Rattle.polcert_text.specs.Bytes.{class_of}
+use Rattle.polcert_text.specs.Steps.Classes.{class_of}
 use Rattle.polcert_text.specs.Lexemes.{are_digits}
 use Rattle.polcert_text.specs.Cut.{is_glued}
 use Rattle.polcert_text.specs.Numbers.{largest, signed, IsReadable, IsExact}
-use Rattle.polcert_text.specs.declared.beginning.FrontDigits.{FrontDigits}
-use Rattle.polcert_text.specs.declared.beginning.FrontNumber.{FrontNumber}
+use Rattle.polcert_text.specs.declared.front_tokens.FrontDigits.{FrontDigits}
+use Rattle.polcert_text.specs.declared.front_tokens.FrontNumber.{FrontNumber}
 use Rattle.polcert_text.specs.declared.bytes.ByteClass.TheVariants.{Digit}
 use Rattle.polcert_text.specs.Fronts.{IsLongestLexeme, NoLexeme}
 use Rattle.polcert_text.specs.Steps.Scan.{gap_after, state_through}
@@ -16,7 +16,7 @@ use Rattle.polcert_text.specs.declared.lexeme.State.{State}
 use Rattle.polcert_text.specs.declared.lexeme.TokenKind.{TokenKind}
 use Rattle.polcert_text.specs.declared.lexeme.TokenKind.TheVariants.{Numeral}
 use Rattle.polcert_text.specs.declared.lexeme.State.TheVariants.{Start, Point, Mark, Sign, Single, Stuck}
-use Rattle.polcert_text.specs.declared.lexeme.Front.{Front}
+use Rattle.polcert_text.specs.declared.lexeme.LexemePrefix.{LexemePrefix}
 use Rattle.polcert_text.specs.declared.lexeme.LexemeScan.{LexemeScan}
 
 abbrev pub is_stuck : State → Bool
@@ -29,7 +29,7 @@ is_over (Single kind) = true
 is_over state = is_stuck state
 
 -- the longest lexeme at the front of the bytes, or none
-abbrev pub IsFrontOf : List ℕ → Option Front → Type 0
+abbrev pub IsFrontOf : List ℕ → Option LexemePrefix → Type 0
 IsFrontOf bytes front = MatchOption front (NoLexeme bytes) (λ f. IsLongestLexeme bytes f.kind f.len)
 
 -- how many bytes were read since the last lexeme, where one may continue
@@ -39,11 +39,11 @@ pending Mark = 1
 pending Sign = 2
 pending _ = 0
 
-abbrev pub front_len : Option Front → ℕ
+abbrev pub front_len : Option LexemePrefix → ℕ
 front_len None = 0
 front_len (Some front) = front.len
 
-abbrev pub front_kind : Option Front → Option TokenKind
+abbrev pub front_kind : Option LexemePrefix → Option TokenKind
 front_kind None = None
 front_kind (Some front) = Some front.kind
 
@@ -52,19 +52,19 @@ pub record IsScanOf (read : List ℕ) (scan : LexemeScan) : Type 0 where
   pub len : scan.len ≡ length read
   pub state : state_through Start read ≡ scan.state
   pub longest : IsFrontOf read scan.longest
-  pub behind : is_stuck scan.state ≡ false → scan.len ≡ front_len scan.longest + pending scan.state
+  pub following : is_stuck scan.state ≡ false → scan.len ≡ front_len scan.longest + pending scan.state
 
 -- all that the scan was fed is a lexeme
 abbrev pub scan_at : State → TokenKind → ℕ → LexemeScan
 scan_at state kind len = record { state = state; len = len; longest = Some (record { kind = kind; len = len }) }
 
 -- this lexeme is the longest at the front of the bytes, whatever follows them, and a byte stands after it
-pub record EndsWithin (bytes : List ℕ) (front : Front) : Type 0 where
+pub record EndsWithin (bytes : List ℕ) (front : LexemePrefix) : Type 0 where
   pub within : front.len < length bytes
   pub longest : (tail : List ℕ) → IsLongestLexeme (bytes ++ tail) front.kind front.len
 
 -- the lexeme at the front of the bytes is a name or a mark, before which no gap continues
-pub record IsNameOrMark (bytes : List ℕ) (front : Front) : Type 0 where
+pub record IsNameOrMark (bytes : List ℕ) (front : LexemePrefix) : Type 0 where
   pub begins : gap_after Between (class_of (slice_index bytes 0)) ≡ Ended
   pub apart : (rest : List ℕ) → is_glued front.kind rest ≡ false
 

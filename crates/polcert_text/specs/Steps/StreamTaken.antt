@@ -13,6 +13,6 @@ pub record TakenFrom {S : Type 0} (reads : S → ℕ → Option (List ℕ) → S
   pub was_read : Reads reads first given stream.ahead.is_whole source
   pub same_count : failures source ≡ failures first
   pub size : end_of_kept stream.ahead ≡ length given
-  pub goes_on : stream.stop ≡ None
+  pub continues : stream.stop ≡ None
   pub taken : (more : List ℕ) → CanFollow stream.ahead more
       → Taken (text_rest (given ++ more) limit) tokens (rest_with stream.ahead more)

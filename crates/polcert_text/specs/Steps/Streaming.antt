@@ -4,11 +4,11 @@ use Rattle.std.specs.Prelude.{◌≡◌, ◌-◌, ◌+◌, ◌<◌, ◌≤◌, �
 use Rattle.polcert_text.specs.Cut.{Lexeme}
 use Rattle.polcert_text.specs.Device.{HasFailed}
 use Rattle.polcert_text.specs.Fronts.{IsLongestGap, IsLongestLexeme, NoLexeme}
-use Rattle.polcert_text.specs.Lexemes.{is_empty, kind_of}
+use Rattle.polcert_text.specs.Lexemes.{kind_of, is_empty}
 use Rattle.polcert_text.specs.Steps.Scan.{is_numeral_kind}
 use Rattle.polcert_text.specs.Steps.ScanOf.{front_len, front_kind}
 use Rattle.polcert_text.specs.Stream.{Ahead, Stream, rest_with, CanFollow, ReadsFrom, IsAtEnd, Fails, GivesToken, GivesEnd, visible}
-use Rattle.polcert_text.specs.declared.lexeme.Front.{Front}
+use Rattle.polcert_text.specs.declared.lexeme.LexemePrefix.{LexemePrefix}
 use Rattle.polcert_text.specs.declared.lexeme.TokenKind.{TokenKind}
 use Rattle.polcert_text.specs.declared.stream_tokens.StreamFault.{StreamFault}
 use Rattle.polcert_text.specs.declared.stream_tokens.StreamFault.TheVariants as faults
@@ -26,8 +26,8 @@ abbrev pub end_of : Ahead → Option TokenFault
 end_of a = if is_empty a.kept then None else Some (TextTooLong a.limit)
 
 -- the token of this kind that was given last
-abbrev pub lent_lexeme : Stream → TokenKind → Lexeme
-lent_lexeme s kind = record { kind = kind; place = s.ahead.place - length s.lent; bytes = s.lent }
+abbrev pub borrowed_lexeme : Stream → TokenKind → Lexeme
+borrowed_lexeme s kind = record { kind = kind; place = s.ahead.place - length s.borrowed; bytes = s.borrowed }
 
 -- once the tokens have stopped, what is ahead ends as is answered
 abbrev pub StopsRightly : Ahead → Option LastAnswer → Type 0
@@ -41,14 +41,14 @@ abbrev pub IsComplete : Ahead → Type 0
 IsComplete a = (a.is_whole ≡ true) ⊎ (a.limit ≤ a.place + length a.kept)
 
 -- the longest lexeme at the front of the bytes, or one that is too long
-abbrev pub IsFrontOrLong : List ℕ → Option Front → Type 0
+abbrev pub IsFrontOrLong : List ℕ → Option LexemePrefix → Type 0
 IsFrontOrLong bytes None = NoLexeme bytes
 IsFrontOrLong bytes (Some f) = IsLongestLexeme bytes f.kind f.len
     ⊎ ((400 < f.len) × (f.len ≤ length bytes) × (kind_of (take f.len bytes) ≡ Some f.kind))
 
 -- The lexeme at the front of these bytes, where the tail follows them. If it is a numeral and not too long, the byte after it
 -- is one of them, or there is no tail.
-pub record IsSeen (bytes tail : List ℕ) (front : Option Front) : Type 0 where
+pub record IsSeen (bytes tail : List ℕ) (front : Option LexemePrefix) : Type 0 where
   pub front_is : IsFrontOrLong (bytes ++ tail) front
   pub apart : is_numeral_kind (front_kind front) ≡ true → front_len front ≤ 400 → (tail ≡ []) ⊎ (front_len front < length bytes)
 
@@ -94,19 +94,19 @@ module _ {S : Type 0} (reads : S → ℕ → Option (List ℕ) → S → Type 0)
   SkipsGapOrFails old source (Err e) new source' = Fails reads failures source source'
 
   -- the lexeme at the front was read, as far as it takes to know it
-  pub record ScansLexeme (old : Ahead) (source : S) (front : Option Front) (new : Ahead) (source' : S) : Type 0 where
+  pub record ScansLexeme (old : Ahead) (source : S) (front : Option LexemePrefix) (new : Ahead) (source' : S) : Type 0 where
     pub given : List ℕ
     pub reads_on : ReadsOn old source [] given new source'
     pub within : front_len front ≤ length (visible new)
     pub seen : (tail : List ℕ) → (IsComplete new → tail ≡ []) → IsSeen (visible new) tail front
 
-  abbrev pub ScansLexemeOrFails : {E : Type 0} → Ahead → S → Result (Option Front) E → Ahead → S → Type 0
+  abbrev pub ScansLexemeOrFails : {E : Type 0} → Ahead → S → Result (Option LexemePrefix) E → Ahead → S → Type 0
   ScansLexemeOrFails old source (Ok front) new source' = ScansLexeme old source front new source'
   ScansLexemeOrFails old source (Err e) new source' = Fails reads failures source source' × (old.is_whole ≡ false)
 
   -- what is made of the bytes ahead, where the tokens have not stopped
   abbrev pub TakesNext : Stream → S → Result (Option TokenKind) StreamFault → Stream → S → Type 0
-  TakesNext old source (Ok (Some kind)) new source' = GivesToken reads failures old.ahead source (lent_lexeme new kind) new.ahead source'
+  TakesNext old source (Ok (Some kind)) new source' = GivesToken reads failures old.ahead source (borrowed_lexeme new kind) new.ahead source'
   TakesNext old source (Ok None) new source' = GivesEnd reads failures old.ahead source None new.ahead source'
   TakesNext old source (Err (faults.Token fault)) new source' = GivesEnd reads failures old.ahead source (Some fault) new.ahead source'
   TakesNext old source (Err faults.Device) new source' = Fails reads failures source source'

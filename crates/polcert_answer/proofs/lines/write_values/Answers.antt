@@ -1,7 +1,7 @@
 use Rattle.std.proofs.Common.{◌≡◌, ◌∙◌, ◌<◌, ◌^◌, ℕ, pos, ap, arith, rules, to_z, w64}
 use Rattle.std.proofs.lemmas.Int.{to_z_pos}
 use Rattle.polcert_text.specs.Millionths.{scaled_text}
-use Rattle.polcert_answer.specs.Lines.{gains}
+use Rattle.polcert_answer.specs.Lines.{earnings_word}
 use Rattle.polcert_text.proofs.Printing.Written.{and_then, unwritten, stopped}
 use Rattle.polcert_model.specs.Contents.{meaning}
 use Rattle.polcert_answer.proofs.lines.write_values.Goals as goal
@@ -13,7 +13,7 @@ widened n m small same = to_z_pos w64 n (omega arith) ∙ ap pos same
 pub returns-in_err-write_all : goal.returns-in_err-write_all
 returns-in_err-write_all g c =
     let m = meaning c.args.model.now in
-    stopped (search rules) (unwritten (gains m.preamble.costs) (unwritten (scaled_text (pos m.preamble.discount)) c.in_err-write_all.ensures))
+    stopped (search rules) (unwritten (earnings_word m.preamble.costs) (unwritten (scaled_text (pos m.preamble.discount)) c.in_err-write_all.ensures))
 
 pub returns-in_err-write_scaled : goal.returns-in_err-write_scaled
 returns-in_err-write_scaled g c =
@@ -23,4 +23,4 @@ returns-in_err-write_scaled g c =
 pub returns : goal.returns
 returns g c =
     let same = widened c.discount.result (meaning c.args.model.now).preamble.discount (search rules) c.discount.ensures in
-    and_then (and_then c.in_ok-write_all.ensures (rw same at c.in_ok-write_scaled.ensures.written)) (rw (c.gains.ensures, c.is_cost.ensures) at c.write_all-2.ensures)
+    and_then (and_then c.in_ok-write_all.ensures (rw same at c.in_ok-write_scaled.ensures.written)) (rw (c.earnings_word.ensures, c.is_cost.ensures) at c.write_all-2.ensures)

@@ -1,7 +1,7 @@
 use Rattle.std.proofs.Common.{sym, subst}
 use Rattle.polcert_policy.specs.Vectors.{value_of}
 use Rattle.polcert_check.specs.declared.above.AboveVerdict.{AboveVerdict}
-use Rattle.polcert_check.specs.Steps.Certificate.{controller}
+use Rattle.polcert_check.specs.Steps.CheckInput.{controller}
 use Rattle.polcert_check.specs.Horizon.{Controller, controller_of, MeetsHorizon}
 use Rattle.polcert_check.specs.Verdict.{IsVerdict, NamesSmallAmount}
 use Rattle.polcert_check.specs.Above.{IsAboveVerdict, MeetsHorizonAbove, NamesSmallAmountAbove}
@@ -18,9 +18,9 @@ pub returns : goal.returns
 returns g c =
     let x = g.C.Cells.table c.args.cells.now in
     let k : Controller = controller_of x c.args.graph.now c.args.vectors.now in
-    let certificate = c.new-certificate.result in
+    let input = c.new-input.result in
     let says : IsVerdict (mirrored k) c.survey.result.first × MeetsHorizon (mirrored k) c.survey.result.first × NamesSmallAmount (mirrored k) c.survey.result.first =
-    rw c.new-certificate.ensures.judged at (surveyed certificate.side (controller certificate) certificate.proper (g.met.C.Cells.is_within_limits certificate.cells.now) certificate.values c.survey.result c.survey.ensures.aim c.survey.ensures.found) in
+    rw c.new-input.ensures.checked_controller at (surveyed input.side (controller input) input.proper (g.met.C.Cells.is_within_limits input.cells.now) input.values c.survey.result c.survey.ensures.mode c.survey.ensures.found) in
     let verdict = subst (λ (v : AboveVerdict). IsAboveVerdict k v) (sym c.above_of.ensures) (verdict_above k c.survey.result.first says.0) in
     record {
       verdict = verdict;
@@ -28,7 +28,7 @@ returns g c =
       small = subst (λ (v : AboveVerdict). NamesSmallAmountAbove k v) (sym c.above_of.ensures) (small_above k c.survey.result.first says.2);
       interval = λ yes less low fits_low below n s nl sl.
           let both = scales x (g.met.C.Cells.is_within_limits c.args.cells.now) in
-          let proper : IsController k = rw c.new-certificate.ensures.controller at certificate.proper in
+          let proper : IsController k = rw c.new-input.ensures.controller at input.proper in
           let passes = subst (λ (v : AboveVerdict). IsAboveVerdict k v) yes verdict in
           never_above k proper passes (value_of low) below less (positive_product x.t_scale x.o_scale both.0 both.1) n s nl sl;
     }

@@ -6,7 +6,7 @@ use Rattle.polcert_cells.specs.Tables.{CellTable}
 use Rattle.polcert_check.specs.Steps.Factored.{reward_at_end}
 use Rattle.polcert_check.proofs.Walking.Weighed.{ends_weighed, weight_room, weight_small, weighed_step, weighed_on}
 use Rattle.polcert_check.proofs.Walking.Earning.{reward_at_end_le}
-use Rattle.polcert_cells.specs.LentRows.{reached}
+use Rattle.polcert_cells.specs.BorrowedRows.{reached}
 use Rattle.polcert_check.proofs.expected_reward.sum_over_ends.Goals as goal
 
 pub weigh-sum-requires-clause-weight : goal.weigh-sum-requires-clause-weight

@@ -3,7 +3,7 @@ use mir.Syntax.{w128}
 use Rattle.std.proofs.lemmas.Int.{to_z-of_z}
 use Rattle.polcert_cells.specs.Tables.{CellTable}
 use Rattle.polcert_check.proofs.Walking.Weighed.{seen_weighed, weight_room, weight_small, weighed_step, weighed_on}
-use Rattle.polcert_cells.specs.LentRows.{reached}
+use Rattle.polcert_cells.specs.BorrowedRows.{reached}
 use Rattle.polcert_check.proofs.expected_reward.sum_over_observations.Goals as goal
 
 pub weigh-sum-requires-clause-weight : goal.weigh-sum-requires-clause-weight

@@ -1,6 +1,6 @@
 use Rattle.std.proofs.Common.{◌≡◌, ℕ, ◌-◌, ◌<◌, ◌≤◌, pos}
 use Rattle.std.specs.Prelude.{slice_index_or}
-use Rattle.polcert_cells.specs.LentRows.{reached}
+use Rattle.polcert_cells.specs.BorrowedRows.{reached}
 use Rattle.polcert_check.specs.Steps.Factored.{reward_at_end, AreKnown}
 use Rattle.polcert_check.proofs.shared_rewards.find_at_ends.Given as goal
 

@@ -1,10 +1,10 @@
 use Rattle.std.proofs.Common.{rules, ◌≡◌, ◌∙◌, to_z, of_z, w64}
 use mir.Syntax.{w128}
 use Rattle.std.proofs.lemmas.Int.{to_z-of_z}
-use Rattle.polcert_check.specs.Steps.Node.{around}
+use Rattle.polcert_check.specs.Steps.Node.{node_controller}
 use Rattle.polcert_check.specs.Horizon.{Controller}
 use Rattle.polcert_check.specs.Shortfall.{short}
-use Rattle.polcert_check.specs.Steps.Followed.{followed, followed_is_proper, followed_is_within}
+use Rattle.polcert_check.specs.Steps.FollowedCells.{followed, followed_is_proper, followed_is_within}
 use Rattle.polcert_check.proofs.Walking.Earning.{expected_reward_le}
 use Rattle.polcert_check.proofs.Walking.Expecting.{expected_value_le}
 use Rattle.polcert_check.proofs.Sums.Amounts.{amount_is}
@@ -14,24 +14,24 @@ use Rattle.polcert_check.proofs.shortfall.amount_at.Goals as goal
 
 pub shortfall-requires-clause-reward : goal.shortfall-requires-clause-reward
 shortfall-requires-clause-reward g c =
-    let k : Controller = around c.args.node.now in
+    let k : Controller = node_controller c.args.node.now in
     let same = to_z-of_z w128 c.followed_reward-reward.result (search rules) ∙ c.followed_reward-reward.ensures in
-    rw same (expected_reward_le (followed k c.args.node.now.n) (followed_is_proper k c.args.node.now.n c.args.node.now.certificate.proper.cells) (followed_is_within k c.args.node.now.n (g.met.C.Cells.is_within_limits c.args.node.now.certificate.cells.now)) (k.action c.args.node.now.n) c.args.s (c.args.node.now.certificate.proper.closed.actions_in_range c.args.node.now.n c.args.node.now.within) c.requires.start)
+    rw same (expected_reward_le (followed k c.args.node.now.n) (followed_is_proper k c.args.node.now.n c.args.node.now.input.proper.cells) (followed_is_within k c.args.node.now.n (g.met.C.Cells.is_within_limits c.args.node.now.input.cells.now)) (k.action c.args.node.now.n) c.args.s (c.args.node.now.input.proper.closed.actions_in_range c.args.node.now.n c.args.node.now.within) c.requires.start)
 
 pub shortfall-requires-clause-expected : goal.shortfall-requires-clause-expected
 shortfall-requires-clause-expected g c =
-    let k : Controller = around c.args.node.now in
+    let k : Controller = node_controller c.args.node.now in
     let same = to_z-of_z w128 c.expected_value-expected.result.value (search rules) ∙ c.expected_value-expected.ensures.value in
-    rw same (expected_value_le k c.args.node.now.certificate.proper (g.met.C.Cells.is_within_limits c.args.node.now.certificate.cells.now) c.args.node.now.certificate.values c.args.node.now.n c.args.s c.args.node.now.within c.requires.start)
+    rw same (expected_value_le k c.args.node.now.input.proper (g.met.C.Cells.is_within_limits c.args.node.now.input.cells.now) c.args.node.now.input.values c.args.node.now.n c.args.s c.args.node.now.within c.requires.start)
 
 pub returns-clause-is : goal.returns-clause-is
 returns-clause-is g c =
-    let k : Controller = around c.args.node.now in
+    let k : Controller = node_controller c.args.node.now in
     to_z-of_z w128 c.shortfall.result (search rules)
     ∙ amount_is k c.args.node.now.n c.args.s _ _ (followed_split k c.args.node.now.n c.args.s) c.shortfall.result _ _ _ c.shortfall.ensures (to_z-of_z w64 c.at-value.result (search rules) ∙ c.at-value.ensures.value) (to_z-of_z w128 c.followed_reward-reward.result (search rules) ∙ c.followed_reward-reward.ensures) (to_z-of_z w128 c.expected_value-expected.result.value (search rules) ∙ c.expected_value-expected.ensures.value)
 
 pub returns-clause-small : goal.returns-clause-small
 returns-clause-small g c =
-    let k : Controller = around c.args.node.now in
+    let k : Controller = node_controller c.args.node.now in
     let is : to_z w128 (of_z w128 c.shortfall.result) ≡ short k c.args.node.now.n c.args.s = returns-clause-is g c in
-    rw is (short_le k c.args.node.now.certificate.proper (g.met.C.Cells.is_within_limits c.args.node.now.certificate.cells.now) c.args.node.now.certificate.values c.args.node.now.n c.args.s c.args.node.now.within c.requires.start)
+    rw is (short_le k c.args.node.now.input.proper (g.met.C.Cells.is_within_limits c.args.node.now.input.cells.now) c.args.node.now.input.values c.args.node.now.n c.args.s c.args.node.now.within c.requires.start)

@@ -7,8 +7,8 @@ use Rattle.polcert_check.proofs.shortfall.amount_short.Goals as goal
 
 pub returns-clause-is : goal.returns-clause-is
 returns-clause-is g c =
-    to_z-of_z w128 c.amount_at.result (search rules) ∙ subst (λ (k : Controller). c.amount_at.result ≡ short k c.args.n c.args.s) c.new-certificate.ensures.controller c.amount_at.ensures.is
+    to_z-of_z w128 c.amount_at.result (search rules) ∙ subst (λ (k : Controller). c.amount_at.result ≡ short k c.args.n c.args.s) c.new-input.ensures.controller c.amount_at.ensures.is
 
 pub returns-clause-small : goal.returns-clause-small
 returns-clause-small g c =
-    rw (to_z-of_z w128 c.amount_at.result (search rules)) (subst (λ (k : Controller). unsigned_abs c.amount_at.result ≤ most_short k) c.new-certificate.ensures.controller c.amount_at.ensures.small)
+    rw (to_z-of_z w128 c.amount_at.result (search rules)) (subst (λ (k : Controller). unsigned_abs c.amount_at.result ≤ most_short k) c.new-input.ensures.controller c.amount_at.ensures.small)

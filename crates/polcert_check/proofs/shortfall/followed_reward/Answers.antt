@@ -1,11 +1,11 @@
 use Rattle.std.proofs.Common.{rules, ◌∙◌, ap, ℕ}
 use mir.Syntax.{w128}
 use Rattle.std.proofs.lemmas.Int.{to_z-of_z}
-use Rattle.polcert_check.specs.Steps.Node.{around}
+use Rattle.polcert_check.specs.Steps.Node.{node_controller}
 use Rattle.polcert_check.specs.Steps.Factored.{expected_reward}
-use Rattle.polcert_check.specs.Steps.Followed.{followed}
+use Rattle.polcert_check.specs.Steps.FollowedCells.{followed}
 use Rattle.polcert_check.proofs.shortfall.followed_reward.Goals as goal
 
 pub returns : goal.returns
 returns g c =
-    to_z-of_z w128 c.expected_reward.result (search rules) ∙ c.expected_reward.ensures ∙ ap (λ (a : ℕ). expected_reward (followed (around c.args.node.now) c.args.node.now.n) a c.args.s) c.action.ensures.value
+    to_z-of_z w128 c.expected_reward.result (search rules) ∙ c.expected_reward.ensures ∙ ap (λ (a : ℕ). expected_reward (followed (node_controller c.args.node.now) c.args.node.now.n) a c.args.s) c.action.ensures.value

@@ -1,5 +1,5 @@
 use Rattle.std.proofs.Common.{arith, ◌≡◌, ◌+◌, ◌∙◌, ℕ, refl, sym, subst}
-use Rattle.polcert_check.specs.Steps.Certificate.{controller, judged}
+use Rattle.polcert_check.specs.Steps.CheckInput.{controller, checked_controller}
 use Rattle.polcert_check.specs.Horizon.{Controller}
 use Rattle.polcert_check.specs.Steps.Findings.{IsFoundBefore}
 use Rattle.polcert_check.specs.Steps.Survey.{IsOfAction}
@@ -11,13 +11,13 @@ pub loop-n-init : goal.loop-n-init
 loop-n-init g c = record {
   of_action = λ known. absurd (cc);
   found = c.requires.found;
-  aim = refl;
+  mode = refl;
 }
 
 pub loop-n-preserved : goal.loop-n-preserved
 loop-n-preserved g c =
-    let k : Controller = controller c.args.certificate.now in
-    let j : Controller = judged c.args.certificate.now in
+    let k : Controller = controller c.args.input.now in
+    let j : Controller = checked_controller c.args.input.now in
     elim c.if-action-a.branch [
       | then-action-a w ↦
           let same : k.action c.loop-n.n ≡ c.args.a = sym c.action.ensures.value ∙ w.if-action-a.true in
@@ -25,16 +25,16 @@ loop-n-preserved g c =
           rw w.survey-is (record {
             of_action = subst (λ (a : ℕ). IsOfAction k.cells a after.new.survey) same after.ensures.of_action;
             found = subst (λ (a : ℕ). IsFoundBefore j a (c.loop-n.n + 1) 0 after.new.survey.findings) same after.ensures.found;
-            aim = after.ensures.aim ∙ c.loop-n.invariant.aim;
+            mode = after.ensures.mode ∙ c.loop-n.invariant.mode;
           })
       | else-action-a w ↦
           rw w.survey-is (record {
             of_action = c.loop-n.invariant.of_action;
             found = node_passed j c.args.a c.loop-n.n c.loop-n.survey.findings c.loop-n.invariant.found (λ same. w.if-action-a.false (c.action.ensures.value ∙ same));
-            aim = c.loop-n.invariant.aim;
+            mode = c.loop-n.invariant.mode;
           })
     ]
 
 pub returns-clause-found : goal.returns-clause-found
 returns-clause-found g c =
-    action_done (judged c.args.certificate.now) c.args.a c.loop-n.n c.loop-n.survey.findings c.loop-n.invariant.found (omega (arith, c.nodes-n-end.ensures.count))
+    action_done (checked_controller c.args.input.now) c.args.a c.loop-n.n c.loop-n.survey.findings c.loop-n.invariant.found (omega (arith, c.nodes-n-end.ensures.count))

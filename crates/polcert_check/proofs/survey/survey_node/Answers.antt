@@ -1,29 +1,46 @@
-use Rattle.std.proofs.Common.{arith, ◌+◌, ◌∙◌, refl}
-use Rattle.polcert_check.specs.Steps.Certificate.{judged}
+use Rattle.std.proofs.Common.{arith, ◌+◌, ◌∙◌, refl, sym, ap, subst}
+use Rattle.polcert_check.specs.Steps.CheckInput.{checked_controller}
+use Rattle.polcert_check.specs.Steps.Findings.{IsFoundBefore}
+use Rattle.polcert_check.specs.Steps.Node.{node_controller}
+use Rattle.polcert_check.specs.Steps.Values.{AreEndValues}
 use Rattle.polcert_check.specs.Horizon.{Controller}
+use Rattle.polcert_check.specs.declared.end_values.EndValues.{EndValues}
+use Rattle.polcert_check.specs.declared.findings.Findings.{Findings}
 use Rattle.polcert_check.proofs.Walking.Walked.{node_done, node_settled}
 use Rattle.polcert_check.proofs.survey.survey_node.Goals as goal
 
 pub returns-then-is_settled-clause-found : goal.returns-then-is_settled-clause-found
 returns-then-is_settled-clause-found g c =
-    node_settled (judged c.args.node.now.certificate) c.args.node.now.n 0 c.args.survey.now.findings c.requires.found (c.if-is_settled.ensures.0 refl)
+    node_settled (checked_controller c.args.node.now.input) c.args.node.now.n 0 c.args.survey.now.findings c.requires.found (c.if-is_settled.ensures.0 refl)
 
-pub loop-s-preserved : goal.loop-s-preserved
-loop-s-preserved g c =
-    let j : Controller = judged c.args.node.now.certificate in
+pub pairs-preserved-then-s-states : goal.pairs-preserved-then-s-states
+pairs-preserved-then-s-states g c =
+    let j : Controller = checked_controller c.args.node.now.input in
+    let s = c.first_failure-failure.result.state in
+    let passed = subst (λ (f : Findings). IsFoundBefore j (j.action c.args.node.now.n) c.args.node.now.n s f) (sym c.verdict_at-verdict.ensures.findings) (c.first_failure-failure.ensures.passed c.pairs.survey.findings c.pairs.invariant.found) in
     record {
-      prepared = record { rewards = rw c.action-a.ensures.value at c.reward_at-reward.ensures.known; marks = c.loop-s.invariant.prepared.marks };
-      ends = c.loop-s.invariant.ends;
-      found = c.note.ensures.found j c.loop-s.s (c.args.node.now.within, omega (arith, c.loop-s-test.true, c.states-s-end.ensures)) c.pair_verdict-verdict.ensures c.loop-s.invariant.found;
-      aim = c.note.ensures.aim ∙ c.loop-s.invariant.aim;
+      prepared = record { rewards = c.verdict_at-verdict.ensures.prepared.rewards; marks = c.verdict_at-verdict.ensures.prepared.marks };
+      ends = subst (λ (ends : EndValues). AreEndValues (node_controller c.args.node.now) c.args.node.now.n (node_controller c.args.node.now).cells.states ends) (sym c.verdict_at-verdict.ensures.ends) c.pairs.invariant.ends;
+      found = c.note.ensures.found j s (c.args.node.now.within, omega (arith, c.if-s-states.true, c.states-states.ensures)) c.verdict_at-verdict.ensures.verdict passed;
+      mode = c.note.ensures.mode ∙ ap (λ (f : Findings). f.mode) c.verdict_at-verdict.ensures.findings ∙ c.pairs.invariant.mode;
     }
+
+pub pairs-preserved : goal.pairs-preserved
+pairs-preserved g c = record {
+  prepared = c.pairs.invariant.prepared;
+  ends = c.pairs.invariant.ends;
+  found = c.first_failure-failure.ensures.passed c.pairs.survey.findings c.pairs.invariant.found;
+  mode = c.pairs.invariant.mode;
+}
 
 pub returns-then-note-clause-found : goal.returns-then-note-clause-found
 returns-then-note-clause-found g c =
-    let j : Controller = judged c.args.node.now.certificate in
-    node_settled j c.args.node.now.n (c.loop-s.s + 1) c.note.new.self (c.note.ensures.found j c.loop-s.s (c.args.node.now.within, omega (arith, c.loop-s-test.true, c.states-s-end.ensures)) c.pair_verdict-verdict.ensures c.loop-s.invariant.found) (c.note.ensures.settled c.if-note.true)
+    let j : Controller = checked_controller c.args.node.now.input in
+    let s = c.first_failure-failure.result.state in
+    let passed = subst (λ (f : Findings). IsFoundBefore j (j.action c.args.node.now.n) c.args.node.now.n s f) (sym c.verdict_at-verdict.ensures.findings) (c.first_failure-failure.ensures.passed c.pairs.survey.findings c.pairs.invariant.found) in
+    node_settled j c.args.node.now.n (s + 1) c.note.new.self (c.note.ensures.found j s (c.args.node.now.within, omega (arith, c.if-s-states.true, c.states-states.ensures)) c.verdict_at-verdict.ensures.verdict passed) (c.note.ensures.settled c.if-note.true)
 
 pub returns-clause-found : goal.returns-clause-found
 returns-clause-found g c =
-    let j : Controller = judged c.args.node.now.certificate in
-    node_done j (j.action c.args.node.now.n) c.args.node.now.n c.loop-s.s c.loop-s.survey.findings c.loop-s.invariant.found (omega (arith, c.loop-s-test.false, c.states-s-end.ensures))
+    let j : Controller = checked_controller c.args.node.now.input in
+    node_done j (j.action c.args.node.now.n) c.args.node.now.n c.pairs.s c.pairs.survey.findings c.pairs.invariant.found (omega (arith, c.pairs-test.false, c.states-states.ensures))

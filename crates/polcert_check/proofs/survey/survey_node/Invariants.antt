@@ -1,15 +1,18 @@
-use Rattle.std.proofs.Common.{◌≡◌}
-use Rattle.polcert_check.specs.Steps.Certificate.{judged}
-use Rattle.polcert_check.specs.Steps.Node.{around}
+use Rattle.std.proofs.Common.{◌≡◌, ◌-◌}
+use Rattle.polcert_check.specs.Steps.CheckInput.{checked_controller}
+use Rattle.polcert_check.specs.Steps.Node.{node_controller}
 use Rattle.polcert_check.specs.Steps.Findings.{IsFoundBefore}
 use Rattle.polcert_check.specs.Steps.Survey.{IsPrepared}
 use Rattle.polcert_check.specs.Steps.Values.{AreEndValues}
 use Rattle.polcert_check.proofs.survey.survey_node.Given as goal
 
-abbrev pub invariant-loop-s : goal.invariant-loop-s
-invariant-loop-s g l = record {
-  prepared : IsPrepared (around l.node).cells ((around l.node).action l.node.n) l.survey;
-  ends : AreEndValues (around l.node) l.node.n (around l.node).cells.states l.survey.ends;
-  found : IsFoundBefore (judged l.node.certificate) ((around l.node).action l.node.n) l.node.n l.s l.survey.findings;
-  aim : l.survey.findings.aim ≡ l.fn.survey.findings.aim;
+abbrev pub invariant-pairs : goal.invariant-pairs
+invariant-pairs g l = record {
+  prepared : IsPrepared (node_controller l.node).cells ((node_controller l.node).action l.node.n) l.survey;
+  ends : AreEndValues (node_controller l.node) l.node.n (node_controller l.node).cells.states l.survey.ends;
+  found : IsFoundBefore (checked_controller l.node.input) ((node_controller l.node).action l.node.n) l.node.n l.s l.survey.findings;
+  mode : l.survey.findings.mode ≡ l.fn.survey.findings.mode;
 }
+
+abbrev pub decreases-pairs : goal.decreases-pairs
+decreases-pairs g l = (node_controller l.node).cells.states - l.s

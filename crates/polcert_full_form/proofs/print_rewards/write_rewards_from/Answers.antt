@@ -7,10 +7,10 @@ use Rattle.polcert_full_form.proofs.Printing.WrittenParts.{wrote_nothing}
 use Rattle.polcert_full_form.proofs.Printing.PrintedParts as texts
 use Rattle.polcert_full_form.proofs.print_rewards.write_rewards_from.Goals as goal
 
-pub returns-then-not-is_paid : goal.returns-then-not-is_paid
-returns-then-not-is_paid g c =
+pub returns-then-not-has_rewards : goal.returns-then-not-has_rewards
+returns-then-not-has_rewards g c =
     let m = meaning c.args.model.now in
-    let none : (e z : ℕ) → e < states_of m → z < observations_of m → m.r c.args.action c.args.start e z ≡ pos 0 = rw c.draft.ensures at c.is_paid.ensures c.if-not-is_paid.true in
+    let none : (e z : ℕ) → e < states_of m → z < observations_of m → m.r c.args.action c.args.start e z ≡ pos 0 = c.has_rewards.ensures c.if-not-has_rewards.true in
     wrote_nothing (texts.none_paid (is_mdp m.preamble) m.preamble.costs c.args.action c.args.start (observations_of m) (states_of m) (m.r c.args.action c.args.start) c.args.model.now.limits.observations.0 none)
 
 pub returns-then-is_mdp : goal.returns-then-is_mdp

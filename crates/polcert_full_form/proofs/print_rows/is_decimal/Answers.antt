@@ -1,5 +1,5 @@
 use Rattle.std.proofs.Common.{Some, refl, arith}
-use Rattle.polcert_cells.specs.LentRows.{reached}
+use Rattle.polcert_cells.specs.BorrowedRows.{reached}
 use Rattle.polcert_full_form.specs.Steps.PrintedRows.{row_weights}
 use Rattle.polcert_full_form.proofs.Printing.WalkedRows.{at_start, decimal_other, decimal_more, decimal_end}
 use Rattle.polcert_full_form.proofs.print_rows.is_decimal.Goals as goal
@@ -16,14 +16,14 @@ returns-then-step-columns-ne0 c =
 pub loop-step-smaller : goal.loop-step-smaller
 loop-step-smaller c =
     let next = (c.in-Some.ensures _ _ c.weights-weights.ensures).0 in
-    let behind = (c.in-Some.ensures _ _ c.weights-weights.ensures).1 in
-    omega (arith, next.0, next.1, behind)
+    let following = (c.in-Some.ensures _ _ c.weights-weights.ensures).1 in
+    omega (arith, next.0, next.1, following)
 
 pub loop-step-preserved : goal.loop-step-preserved
 loop-step-preserved c =
     let next = (c.in-Some.ensures _ _ c.weights-weights.ensures).0 in
-    let behind = (c.in-Some.ensures _ _ c.weights-weights.ensures).1 in
-    rw behind (record {
+    let following = (c.in-Some.ensures _ _ c.weights-weights.ensures).1 in
+    rw following (record {
       within = omega (arith, next.1);
       multiples = decimal_more c.args.row.now.columns (row_weights c.args.row.now) (reached (Some c.weights-weights.result) c.loop-step.at)
           c.in-Some.step.column c.in-Some.step.weight next c.if-step-columns-ne0.false c.loop-step.invariant.multiples;

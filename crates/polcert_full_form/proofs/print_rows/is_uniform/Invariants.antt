@@ -1,5 +1,5 @@
 use Rattle.std.proofs.Common.{◌≡◌, ◌≤◌, ◌-◌, ◌==◌, true, Some}
-use Rattle.polcert_cells.specs.LentRows.{reached}
+use Rattle.polcert_cells.specs.BorrowedRows.{reached}
 use Rattle.polcert_cells.specs.Numbers.{one}
 use Rattle.polcert_full_form.specs.Steps.PrintedRows.{row_weights}
 use Rattle.polcert_format.specs.FullForm.{all_below}

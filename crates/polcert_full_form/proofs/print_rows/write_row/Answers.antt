@@ -7,13 +7,13 @@ use Rattle.polcert_full_form.proofs.print_rows.write_row.Goals as goal
 
 pub returns-in_err-write_head : goal.returns-in_err-write_head
 returns-in_err-write_head g c =
-    let n = columns c.args.model.now.draft.preamble c.args.table in
-    as_text (texts.row_is c.args.table c.args.action c.args.state n (row_of c.args.model.now.draft c.args.table c.args.action c.args.state))
+    let n = columns c.args.model.now.kept.preamble c.args.table in
+    as_text (texts.row_is c.args.table c.args.action c.args.state n (row_of c.args.model.now.kept c.args.table c.args.action c.args.state))
     (stopped (search rules) (unwritten _ c.in_err-write_head.ensures))
 
 pub returns : goal.returns
 returns g c =
-    let n = columns c.args.model.now.draft.preamble c.args.table in
-    let width : c.columns.result ≡ n = rw c.draft-draft.ensures at c.columns.ensures.columns in
-    as_text (texts.row_is c.args.table c.args.action c.args.state n (row_of c.args.model.now.draft c.args.table c.args.action c.args.state))
-    (and_then c.in_ok-write_head.ensures (rw (c.draft-draft.ensures, width) at c.write_body.ensures))
+    let n = columns c.args.model.now.kept.preamble c.args.table in
+    let width : c.columns.result ≡ n = c.columns.ensures.columns in
+    as_text (texts.row_is c.args.table c.args.action c.args.state n (row_of c.args.model.now.kept c.args.table c.args.action c.args.state))
+    (and_then c.in_ok-write_head.ensures (rw width at c.write_body.ensures))

@@ -4,7 +4,7 @@ use Rattle.polcert_items.specs.declared.elements_reader.ElementsReader.TheVarian
 use Rattle.polcert_items.specs.Steps.Lines.{CannotTake}
 use Rattle.polcert_items.specs.Steps.Entries.{IfRefused}
 use Rattle.polcert_items.specs.Steps.Elements.{NamesGo, ElementsReason}
-use Rattle.polcert_format.specs.Misfits.{misfit, FurtherName}
+use Rattle.polcert_format.specs.Misfits.{unexpected_token, FurtherName}
 use Rattle.polcert_items.proofs.PatternLaws.{if_err_map, if_err_both, refused_map, each_refused_map, each_refused_both}
 use Rattle.polcert_items.proofs.MisfitLaws.{first_misfit}
 use Rattle.polcert_items.proofs.ElementLaws.{count_takes, first_takes, first_stuck, first_reason}
@@ -41,6 +41,6 @@ returns-in_err-add_name-in_default-clause-kind c =
     let answer = c.from_residual-in_err-add_name-in_default.result in
     let reason : IfErr answer (λ stop. IfRefused stop (λ r. ElementsReason (Named []) l r.kind r.place)) =
     subst (λ ns. IfErr answer (λ stop. IfRefused stop (λ r. ElementsReason (Named ns) l r.kind r.place))) c.new-names.ensures (search rules) in
-    let kind : IfErr answer (λ stop. IfRefused stop (λ r. r.kind ≡ misfit (FurtherName most []) (Some l))) =
-    subst (λ ns. IfErr answer (λ stop. IfRefused stop (λ r. r.kind ≡ misfit (FurtherName most ns) (Some l)))) c.new-names.ensures (search rules) in
+    let kind : IfErr answer (λ stop. IfRefused stop (λ r. r.kind ≡ unexpected_token (FurtherName most []) (Some l))) =
+    subst (λ ns. IfErr answer (λ stop. IfRefused stop (λ r. r.kind ≡ unexpected_token (FurtherName most ns) (Some l)))) c.new-names.ensures (search rules) in
     if_err_both answer _ _ _ (λ stop. each_refused_both stop (λ r x y. first_misfit most l r.kind r.place c.requires.some c.in_default.not-Numeral x y)) reason kind

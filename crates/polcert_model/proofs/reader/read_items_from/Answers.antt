@@ -3,9 +3,9 @@ use Rattle.polcert_text.specs.Cut.{text_limit}
 use Rattle.polcert_text.specs.Reading.{lexeme_of}
 use Rattle.polcert_text.proofs.Streams.ReadTexts.{value_read, text_refused, read_failed}
 use Rattle.polcert_text.proofs.Streams.StreamTaken.{none_taken, token_taken, place_grows, place_within}
+use Rattle.polcert_text.proofs.Taken.TakenAhead.{all_passed}
 use Rattle.polcert_format.specs.declared.fault.ModelFault.TheVariants.{Memory}
 use Rattle.polcert_items.proofs.TokenTexts.{token_is_text}
-use Rattle.polcert_model.proofs.ReadingAhead.{all_passed}
 use Rattle.polcert_model.proofs.ModelStreams.{refused_at_token, refused_tokens, read_at_end, refused_at_end}
 use Rattle.polcert_model.proofs.reader.read_items_from.Goals as goal
 
@@ -45,7 +45,7 @@ loop-token-preserved g c =
     let place = ap (λ s. s.ahead.place) ahead.tokens_are in
     let few = c.loop-token.invariant.few in
     record {
-      seen = ((was.0 ++ lexeme_of c.in-Ok-Some.token ∷ []) ++ ahead.ls, all_passed _ _ _ _ _ _ _ _ _ _ taken ahead, ahead.read _ (c.in_default.ensures.read was.0 was.2));
+      seen = ((was.0 ++ lexeme_of c.in-Ok-Some.token ∷ []) ++ ahead.ts, all_passed _ _ _ _ _ _ _ _ taken ahead, ahead.reads_on tt _ (c.in_default.ensures.read was.0 was.2));
       few = omega (arith, grows, more, same, place, few);
     }
 
@@ -58,7 +58,7 @@ loop-token-smaller g c =
     let taken = token_taken _ _ _ _ was.0 c.loop-token.tokens c.loop-token.source (lexeme_of c.in-Ok-Some.token) new c.next_token.new.source was.1 gives.0 gives.2 in
     let ahead = c.in_default-read_ahead.ensures.read in
     let place = ap (λ s. s.ahead.place) ahead.tokens_are in
-    let within : c.read_ahead.new.tokens.ahead.place ≤ text_limit = place_within _ _ _ _ _ c.read_ahead.new.tokens c.next_token.new.source (all_passed _ _ _ _ _ _ _ _ _ _ taken ahead) in
+    let within : c.read_ahead.new.tokens.ahead.place ≤ text_limit = place_within _ _ _ _ _ c.read_ahead.new.tokens c.next_token.new.source (all_passed _ _ _ _ _ _ _ _ taken ahead) in
     omega (arith, grows, place, within)
 
 pub read_ahead-requires-clause-read : goal.read_ahead-requires-clause-read
@@ -126,4 +126,4 @@ pub returns-in-Err-Device : goal.returns-in-Err-Device
 returns-in-Err-Device g c =
     let was = c.loop-token.invariant.seen in
     let fails = rw (c.in-Err-Device.is ∙ ap Err c.in-Err-Device.field-0-is) at c.next_token.follows.holds-at-none.answers in
-    record { read = read_failed _ was.0 c.loop-token.tokens c.loop-token.source was.1 (fails.0 was.1.goes_on) }
+    record { read = read_failed _ was.0 c.loop-token.tokens c.loop-token.source was.1 (fails.0 was.1.continues) }

@@ -3,6 +3,7 @@ use Rattle.std.proofs.Math.Path.{subst₂}
 use Rattle.polcert_text.specs.Reading.{lexeme_of}
 use Rattle.polcert_text.proofs.Streams.ReadTexts.{value_read, text_refused, read_failed}
 use Rattle.polcert_text.proofs.Streams.StreamTaken.{none_taken, token_taken, each_taken, each_cut}
+use Rattle.polcert_text.proofs.Taken.TakenAhead.{all_passed}
 use Rattle.polcert_policy.specs.Graphs.{IsGraph}
 use Rattle.polcert_policy.specs.GraphText.{IsGraphText, IsRefusedGraphText}
 use Rattle.polcert_policy.specs.declared.fault.GraphFault.TheVariants as faults
@@ -22,10 +23,14 @@ pub loop-token-preserved : goal.loop-token-preserved
 loop-token-preserved g c =
     let was = c.loop-token.invariant.seen in
     let counts = c.in_default.ensures.counts in
+    let after = c.in_default-read_ahead.ensures.counts in
+    let new = c.next_token.follows.lender-at-none in
     let gives = rw (c.in-Ok-Some.is ∙ ap Ok c.in-Ok-Some.field-0-is) at c.next_token.follows.holds-at-none.answers in
+    let taken = token_taken _ _ _ _ was.0 c.loop-token.tokens c.loop-token.source (lexeme_of c.in-Ok-Some.token) new c.next_token.new.source was.1 gives.0 gives.2 in
+    let ahead = c.in_default-read_ahead.ensures.read in
     record {
-      seen = (was.0 ++ lexeme_of c.in-Ok-Some.token ∷ [], token_taken _ _ _ _ was.0 _ _ _ _ _ was.1 gives.0 gives.2, c.in_default.ensures.read was.0 was.2);
-      counts = (counts.0 ∙ c.loop-token.invariant.counts.0, counts.1 ∙ c.loop-token.invariant.counts.1);
+      seen = ((was.0 ++ lexeme_of c.in-Ok-Some.token ∷ []) ++ ahead.ts, all_passed _ _ _ _ _ _ _ _ taken ahead, ahead.reads_on tt _ (c.in_default.ensures.read was.0 was.2));
+      counts = (after.0 ∙ counts.0 ∙ c.loop-token.invariant.counts.0, after.1 ∙ counts.1 ∙ c.loop-token.invariant.counts.1);
     }
 
 pub loop-token-smaller : goal.loop-token-smaller
@@ -33,7 +38,20 @@ loop-token-smaller g c =
     let was = c.loop-token.invariant.seen in
     let new = c.next_token.follows.lender-at-none in
     let gives = rw (c.in-Ok-Some.is ∙ ap Ok c.in-Ok-Some.field-0-is) at c.next_token.follows.holds-at-none.answers in
-    less_left _ _ _ was.0 c.loop-token.tokens c.loop-token.source (lexeme_of c.in-Ok-Some.token) new c.next_token.new.source was.1 gives.0 gives.2
+    less_left _ _ _ was.0 c.loop-token.tokens c.loop-token.source (lexeme_of c.in-Ok-Some.token) new c.next_token.new.source was.1 gives.0 gives.2 c.in_default-read_ahead.ensures.read
+
+pub returns-in-Err-read_ahead : goal.returns-in-Err-read_ahead
+returns-in-Err-read_ahead g c =
+    let was = c.loop-token.invariant.seen in
+    let new = c.next_token.follows.lender-at-none in
+    let gives = rw (c.in-Ok-Some.is ∙ ap Ok c.in-Ok-Some.field-0-is) at c.next_token.follows.holds-at-none.answers in
+    let taken = token_taken _ _ _ _ was.0 c.loop-token.tokens c.loop-token.source (lexeme_of c.in-Ok-Some.token) new c.next_token.new.source was.1 gives.0 gives.2 in
+    record {
+      read = text_refused faults.Memory
+          (each_taken _ _ _ _ _ new c.next_token.new.source (IsRefusedGraphText c.args.actions c.args.observations faults.Memory) taken
+          (λ text rest t. refused_text _ _ text faults.Memory tt))
+          taken.same_count;
+    }
 
 pub returns-in-Err : goal.returns-in-Err
 returns-in-Err g c =
@@ -91,4 +109,4 @@ pub returns-in-Err-Device : goal.returns-in-Err-Device
 returns-in-Err-Device g c =
     let was = c.loop-token.invariant.seen in
     let fails = rw (c.in-Err-Device.is ∙ ap Err c.in-Err-Device.field-0-is) at c.next_token.follows.holds-at-none.answers in
-    record { read = read_failed _ was.0 c.loop-token.tokens c.loop-token.source was.1 (fails.0 was.1.goes_on) }
+    record { read = read_failed _ was.0 c.loop-token.tokens c.loop-token.source was.1 (fails.0 was.1.continues) }

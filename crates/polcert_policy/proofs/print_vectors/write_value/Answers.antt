@@ -5,18 +5,18 @@ use mir.Val.{to_z, of_z}
 use Rattle.polcert_text.specs.Millionths.{scaled_text}
 use Rattle.polcert_text.proofs.Printing.Taking.{front_then, wrote_front, wrote_next}
 use Rattle.polcert_policy.specs.Vectors.{value_of}
-use Rattle.polcert_policy.specs.FullForm.{behind_value}
+use Rattle.polcert_policy.specs.FullForm.{after_value}
 use Rattle.polcert_policy.proofs.VectorEndLaws.{in_range_fits}
 use Rattle.polcert_policy.proofs.print_vectors.write_value.Goals as goal
 
 pub returns-in_err-write_scaled : goal.returns-in_err-write_scaled
 returns-in_err-write_scaled g c =
     let value : to_z w64 (of_z w64 c.at.result) ≡ value_of c.args.vectors.now c.args.node c.args.state = to_z-of_z w64 c.at.result (in_range_fits c.at.result c.at.ensures.in_range) ∙ c.at.ensures.value in
-    wrote_front _ _ (search rules) (front_then (behind_value c.args.vectors.now.states c.args.state) (rw value at c.in_err-write_scaled.ensures.written.err)) c.in_err-write_scaled.ensures.written.count
+    wrote_front _ _ (search rules) (front_then (after_value c.args.vectors.now.states c.args.state) (rw value at c.in_err-write_scaled.ensures.written.err)) c.in_err-write_scaled.ensures.written.count
 
 pub returns : goal.returns
 returns g c =
     let value : to_z w64 (of_z w64 c.at.result) ≡ value_of c.args.vectors.now c.args.node c.args.state = to_z-of_z w64 c.at.result (in_range_fits c.at.result c.at.ensures.in_range) ∙ c.at.ensures.value in
-    let behind : c.separator.result.now ≡ behind_value c.args.vectors.now.states c.args.state = search rules in
-    wrote_next (scaled_text (value_of c.args.vectors.now c.args.node c.args.state)) (behind_value c.args.vectors.now.states c.args.state) _
-    (rw value at c.in_ok-write_scaled.ensures.written.ok) c.in_ok-write_scaled.ensures.written.same_count (rw behind at c.write_all.ensures)
+    let following : c.separator.result.now ≡ after_value c.args.vectors.now.states c.args.state = search rules in
+    wrote_next (scaled_text (value_of c.args.vectors.now c.args.node c.args.state)) (after_value c.args.vectors.now.states c.args.state) _
+    (rw value at c.in_ok-write_scaled.ensures.written.ok) c.in_ok-write_scaled.ensures.written.same_count (rw following at c.write_all.ensures)

@@ -1,16 +1,15 @@
-use Rattle.std.proofs.Common.{◌∙◌, ◌++◌, ◌∷◌, ◌<◌, ◌≤◌, [], ap, subst, Ok, Err, arith}
-use Rattle.polcert_text.specs.Cut.{text_limit}
+use Rattle.std.proofs.Common.{◌∙◌, ◌++◌, ◌∷◌, [], ap, subst, Ok, Err}
 use Rattle.polcert_text.specs.Reading.{lexeme_of}
 use Rattle.polcert_text.proofs.Streams.ReadTexts.{value_read, text_refused, read_failed}
-use Rattle.polcert_text.proofs.Streams.StreamTaken.{none_taken, token_taken, each_taken, each_cut, place_grows, place_within}
+use Rattle.polcert_text.proofs.Streams.StreamTaken.{none_taken, token_taken, each_taken, each_cut}
+use Rattle.polcert_text.proofs.Taken.TakenAhead.{all_passed}
 use Rattle.polcert_policy.specs.Vectors.{IsRoundedVectors, ArePossible}
 use Rattle.polcert_policy.specs.VectorText.{IsRoundedVectorsText, IsRefusedRoundedVectorsText}
 use Rattle.polcert_policy.specs.declared.fault.VectorFault.TheVariants as faults
 use Rattle.polcert_policy.proofs.VectorReadLaws.{possible_seen}
-use Rattle.polcert_policy.proofs.SourceTexts.{of_its_text, of_each_text}
+use Rattle.polcert_policy.proofs.SourceTexts.{less_left, of_its_text, of_each_text}
 use Rattle.polcert_policy.proofs.FlatVectors.{vectors_text}
 use Rattle.polcert_policy.proofs.VectorTextLaws.{part_refusal, refused_text, end_refused}
-use Rattle.polcert_policy.proofs.VectorsAhead.{all_passed}
 use Rattle.polcert_policy.proofs.vectors_reader.read_rounded_vectors_from.Goals as goal
 
 pub loop-token-init : goal.loop-token-init
@@ -27,7 +26,7 @@ loop-token-preserved g c =
     let taken = token_taken _ _ _ _ was.0 c.loop-token.tokens c.loop-token.source (lexeme_of c.in-Ok-Some.token) new c.next_token.new.source was.1 gives.0 gives.2 in
     let ahead = c.in_default-read_ahead.ensures.read in
     record {
-      seen = ((was.0 ++ lexeme_of c.in-Ok-Some.token ∷ []) ++ ahead.ts, all_passed _ _ _ _ _ _ _ _ _ _ taken ahead, ahead.reads_on _ _ (c.in_default.ensures.takes was.0 was.2));
+      seen = ((was.0 ++ lexeme_of c.in-Ok-Some.token ∷ []) ++ ahead.ts, all_passed _ _ _ _ _ _ _ _ taken ahead, ahead.reads_on _ _ (c.in_default.ensures.takes was.0 was.2));
       states = c.in_default-read_ahead.ensures.states ∙ c.in_default.ensures.states ∙ c.loop-token.invariant.states;
     }
 
@@ -36,12 +35,7 @@ loop-token-smaller g c =
     let was = c.loop-token.invariant.seen in
     let new = c.next_token.follows.lender-at-none in
     let gives = rw (c.in-Ok-Some.is ∙ ap Ok c.in-Ok-Some.field-0-is) at c.next_token.follows.holds-at-none.answers in
-    let grows : c.loop-token.tokens.ahead.place < new.ahead.place = place_grows c.loop-token.tokens.ahead new.ahead gives.0.given (lexeme_of c.in-Ok-Some.token) gives.0.next in
-    let taken = token_taken _ _ _ _ was.0 c.loop-token.tokens c.loop-token.source (lexeme_of c.in-Ok-Some.token) new c.next_token.new.source was.1 gives.0 gives.2 in
-    let ahead = c.in_default-read_ahead.ensures.read in
-    let place = ap (λ s. s.ahead.place) ahead.tokens_are in
-    let within : c.read_ahead.new.tokens.ahead.place ≤ text_limit = place_within _ _ _ _ _ c.read_ahead.new.tokens c.next_token.new.source (all_passed _ _ _ _ _ _ _ _ _ _ taken ahead) in
-    omega (arith, grows, place, within)
+    less_left _ _ _ was.0 c.loop-token.tokens c.loop-token.source (lexeme_of c.in-Ok-Some.token) new c.next_token.new.source was.1 gives.0 gives.2 c.in_default-read_ahead.ensures.read
 
 pub returns-in-Err-read_ahead : goal.returns-in-Err-read_ahead
 returns-in-Err-read_ahead g c =
@@ -109,4 +103,4 @@ pub returns-in-Err-Device : goal.returns-in-Err-Device
 returns-in-Err-Device g c =
     let was = c.loop-token.invariant.seen in
     let fails = rw (c.in-Err-Device.is ∙ ap Err c.in-Err-Device.field-0-is) at c.next_token.follows.holds-at-none.answers in
-    record { read = read_failed _ was.0 c.loop-token.tokens c.loop-token.source was.1 (fails.0 was.1.goes_on) }
+    record { read = read_failed _ was.0 c.loop-token.tokens c.loop-token.source was.1 (fails.0 was.1.continues) }

@@ -1,6 +1,6 @@
 use Rattle.std.proofs.Common.{◌∙◌, ◌∷◌, sym, ap, subst, arith, rules}
 use Rattle.polcert_rules.specs.Steps.Newest.{IsNewest}
-use Rattle.polcert_rules.specs.Matching.{later}
+use Rattle.polcert_rules.specs.Matching.{max_option}
 use Rattle.polcert_rules.specs.Keys.{AreIndices, Fits}
 use Rattle.polcert_rules.proofs.Indexes.Newer.{newest_deeper, newest_end, no_more}
 use Rattle.polcert_rules.proofs.Indexes.NextPlaces.{first_index, goes_deeper, at_every, at_only}
@@ -33,5 +33,5 @@ returns-in-Some t c =
     let joined = newest_deeper c.args.rules.now _ _ c.args.levels c.args.low c.in-Some.index.now rest _ c.first_at-here.result c.newest-of_every.result c.newest-of_only.result d.deeper
     c.first_at-here.ensures d.span_every (at_every (λ k low. IsNewest next.of_every.now (Fits k low rest) c.newest-of_every.result) _ _ _ _ next c.next_place-next.ensures c.newest-of_every.ensures)
     d.span_only (at_only (λ k low. IsNewest next.of_only.now (Fits k low rest) c.newest-of_only.result) _ _ _ _ next c.next_place-next.ensures c.newest-of_only.ensures) in
-    subst (λ is. IsNewest c.args.rules.now (Fits c.args.levels c.args.low is) c.later-in-Some.result) (sym c.in-Some.ensures.cases.0)
-    (subst (IsNewest c.args.rules.now (Fits c.args.levels c.args.low (c.in-Some.index.now ∷ rest))) (sym (c.later-in-Some.ensures ∙ ap (later c.first_at-here.result) c.later.ensures)) joined)
+    subst (λ is. IsNewest c.args.rules.now (Fits c.args.levels c.args.low is) c.max_option-in-Some.result) (sym c.in-Some.ensures.cases.0)
+    (subst (IsNewest c.args.rules.now (Fits c.args.levels c.args.low (c.in-Some.index.now ∷ rest))) (sym (c.max_option-in-Some.ensures ∙ ap (max_option c.first_at-here.result) c.max_option.ensures)) joined)

@@ -1,12 +1,12 @@
 use Rattle.std.proofs.Common.{◌≡◌, ◌∙◌, ⊎_elim, get_or, ap, arith}
-use Rattle.polcert_text.specs.Bytes.{class_of}
+use Rattle.polcert_text.specs.Steps.Classes.{class_of}
 use Rattle.polcert_text.specs.declared.bytes.ByteClass.TheVariants.{Digit}
 use Rattle.polcert_text.proofs.Numbers.Plain.{below_or_at}
 use Rattle.polcert_text.proofs.front_values.digits_end.Goals as goal
 
 pub loop-at-preserved : goal.loop-at-preserved
 loop-at-preserved c =
-    let digit : class_of (get_or c.args.bytes.now c.loop-at.at 0) ≡ Digit = c.is_surely_digit.ensures c.if-is_surely_digit.true in
+    let digit : class_of (get_or c.args.bytes.now c.loop-at.at 0) ≡ Digit = c.quick_is_digit.ensures c.if-quick_is_digit.true in
     record {
       low = omega arith;
       high = omega arith;

@@ -1,10 +1,11 @@
 use Rattle.std.proofs.Common.{◌≡◌, ◌∙◌, ◌<◌, ◌≤◌, ◌+◌, ◌-◌, ◌*◌, ◌^◌, ◌++◌, ⊎_elim, length, take, drop, get_or, sym, subst, ap, append-nil, rules, arith}
 use Rattle.std.specs.Str.Parse.{digits_value}
-use Rattle.polcert_text.specs.Bytes.{class_of, digit_class}
+use Rattle.polcert_text.specs.Steps.Classes.{class_of}
+use Rattle.polcert_text.proofs.Scanning.Tests.{digit_by}
 use Rattle.polcert_text.specs.declared.bytes.ByteClass.TheVariants.{Digit}
 use Rattle.polcert_text.proofs.Numbers.FrontSizes.{few_more, few_fit}
 use Rattle.polcert_text.proofs.Numbers.NumberLaws.{digit_from, digit_to}
-use Rattle.polcert_text.proofs.Numbers.Plain.{behind_more, below_or_at}
+use Rattle.polcert_text.proofs.Numbers.Plain.{after_more, below_or_at}
 use Rattle.polcert_text.proofs.front_values.few_digits.Goals as goal
 
 pub loop-at-init : goal.loop-at-init
@@ -28,26 +29,26 @@ pub overflow_add-read : goal.overflow_add-read
 overflow_add-read c =
     let few = few_fit c.loop-at.read c.requires.few.0 c.args.from c.loop-at.at c.args.until c.requires.few.2 c.loop-at.invariant.low c.loop-at-test.true (c.loop-at.invariant.few c.requires.few.0 c.requires.few.1) in
     let small : c.loop-at.read < 100_000_000_000_000_000 = few in
-    let high : get_or c.args.bytes.now c.loop-at.at 0 ≤ 57 = digit_to _ (ap digit_class (c.is_surely_digit.ensures c.if-is_surely_digit.true)) in
+    let high : get_or c.args.bytes.now c.loop-at.at 0 ≤ 57 = digit_to _ (digit_by _ (c.quick_is_digit.ensures c.if-quick_is_digit.true)) in
     let digit : c.from.result ≤ 9 = omega (arith, c.from.ensures, high) in
     search rules
 
 pub overflow_sub-bytes : goal.overflow_sub-bytes
-overflow_sub-bytes c = digit_from _ (ap digit_class (c.is_surely_digit.ensures c.if-is_surely_digit.true))
+overflow_sub-bytes c = digit_from _ (digit_by _ (c.quick_is_digit.ensures c.if-quick_is_digit.true))
 
 pub loop-at-preserved : goal.loop-at-preserved
 loop-at-preserved c =
     let bs = c.args.bytes.now in
     let at = c.loop-at.at in
     let inside : at < length bs = omega arith in
-    let digit : class_of (get_or bs at 0) ≡ Digit = c.is_surely_digit.ensures c.if-is_surely_digit.true in
-    let high : get_or bs at 0 ≤ 57 = digit_to _ (ap digit_class digit) in
+    let digit : class_of (get_or bs at 0) ≡ Digit = c.quick_is_digit.ensures c.if-quick_is_digit.true in
+    let high : get_or bs at 0 ≤ 57 = digit_to _ (digit_by _ digit) in
     record {
       low = omega arith;
       high = omega arith;
       digits = λ k low below. ⊎_elim (λ before. c.loop-at.invariant.digits k low before) (λ here. ap (λ i. class_of (get_or bs i 0)) here ∙ digit) (below_or_at k at below);
       value = λ front was.
           ap (λ d. c.loop-at.read * 10 + d) c.from.ensures
-          ∙ behind_more front bs c.args.from at c.loop-at.read c.loop-at.invariant.low inside digit (c.loop-at.invariant.value front was);
+          ∙ after_more front bs c.args.from at c.loop-at.read c.loop-at.invariant.low inside digit (c.loop-at.invariant.value front was);
       few = λ m small. few_more c.loop-at.read _ m c.args.from at c.loop-at.invariant.low (omega (arith, high, c.from.ensures)) (c.loop-at.invariant.few m small);
     }

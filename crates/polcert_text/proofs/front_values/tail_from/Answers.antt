@@ -1,8 +1,8 @@
 use Rattle.std.proofs.Common.{◌≡◌, ◌∙◌, ◌<◌, ⊎_elim, get_or, length, refl, ap, arith}
-use Rattle.polcert_text.specs.Bytes.{class_of}
+use Rattle.polcert_text.specs.Steps.Classes.{class_of}
 use Rattle.polcert_text.specs.declared.bytes.ByteClass.TheVariants.{Digit}
 use Rattle.polcert_text.proofs.Numbers.FrontSizes.{zeros_more, tail_inexact}
-use Rattle.polcert_text.proofs.Numbers.Plain.{below_or_at, at_or_behind}
+use Rattle.polcert_text.proofs.Numbers.Plain.{below_or_at, at_or_after}
 use Rattle.polcert_text.proofs.front_values.tail_from.Goals as goal
 use Rattle.polcert_text.proofs.front_values.tail_from.Goals.{then-loop-zeros-test+else-bytes-zeros-eq48, else-loop-zeros-test}
 
@@ -40,6 +40,6 @@ returns c =
       high = omega (arith, within.1);
       none = λ below. absurd (omega (arith, below, c.if-from-full.false));
       short = omega (arith, within.1);
-      digits = λ k low below. ⊎_elim (λ before. was.digits k low before) (λ behind. c.digits_end-end.ensures.digits k behind below) (at_or_behind k zeros);
+      digits = λ k low below. ⊎_elim (λ before. was.digits k low before) (λ following. c.digits_end-end.ensures.digits k following below) (at_or_after k zeros);
       is_inexact = tail_inexact bs from zeros end was.low within.0 (omega (arith, within.1)) was.none stops;
     }

@@ -3,5 +3,5 @@ use Rattle.polcert_text.proofs.lexeme.gap_len.Goals as goal
 
 pub returns : goal.returns
 returns c =
-    let seen = c.seen_gap-len.ensures in
-    longest_seen c.args.bytes.now c.seen_gap-len.result.0 c.seen_gap-len.result.1 seen.within seen.state seen.open seen.stops
+    let seen = c.gap_prefix-len.ensures in
+    longest_seen c.args.bytes.now c.gap_prefix-len.result.0 c.gap_prefix-len.result.1 seen.within seen.state seen.open seen.stops

@@ -1,5 +1,5 @@
 use Rattle.std.proofs.Common.{arith}
-use Rattle.polcert_text.proofs.Scanning.Runs.{comment_goes_on, comment_ends}
+use Rattle.polcert_text.proofs.Scanning.Runs.{comment_continues, comment_ends}
 use Rattle.polcert_text.proofs.lexeme.seen_comment.Goals as goal
 
 pub returns-in-Some-clause-state : goal.returns-in-Some-clause-state
@@ -8,4 +8,4 @@ returns-in-Some-clause-state c =
     comment_ends c.args.bytes.now c.in-Some.line first.high (λ k below is. first.before k (omega arith) below is) c.in-Some.ensures.1
 
 pub returns-in-None-clause-state : goal.returns-in-None-clause-state
-returns-in-None-clause-state c = comment_goes_on c.args.bytes.now (λ k below is. c.in-None.ensures k (omega arith) below is)
+returns-in-None-clause-state c = comment_continues c.args.bytes.now (λ k below is. c.in-None.ensures k (omega arith) below is)

@@ -14,4 +14,4 @@ loop-byte-preserved c =
 pub returns : goal.returns
 returns c =
     let all = take_all c.loop-byte.byte-index c.args.bytes.now (omega arith) in
-    c.is_numeral.ensures ∙ numeral_at_state _ _ (ap (state_through Start) (sym all) ∙ c.loop-byte.invariant)
+    c.is_numeral.ensures ∙ numeral_at_state c.args.bytes.now _ (ap (state_through Start) (sym all) ∙ c.loop-byte.invariant)

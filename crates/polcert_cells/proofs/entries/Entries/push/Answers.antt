@@ -1,32 +1,32 @@
-use Rattle.std.proofs.Common.{◌∙◌, ◌++◌, ◌∷◌, [], map, All, Result, Ok, Err, OnErr, sym, ap, subst}
-use Rattle.polcert_cells.specs.Steps.EntryLists.{entry_in, IsWithin}
-use Rattle.polcert_cells.proofs.EntryListLaws.{all_stay, list_stays, one_more_within, one_more}
+use Rattle.std.proofs.Common.{◌≡◌, ◌∙◌, ◌++◌, ◌∷◌, [], map, take, length, refl, sym, ap, subst, rules}
+use Rattle.polcert_cells.specs.declared.entries.EntryStore.{EntryStore}
+use Rattle.polcert_cells.specs.Steps.EntryLists.{entry_in, AreHeldIn}
+use Rattle.polcert_cells.proofs.EntryListLaws.{held_more, listed_more, held_still, listed_still}
 use Rattle.polcert_cells.proofs.entries.Entries.push.Goals as goal
 
-on_err : {T E : Type 0} (r : Result T E) {P : Type 0} → P → OnErr r P
-on_err (Ok v) p = tt
-on_err (Err e) p = p
+pub invariant_of-self : goal.invariant_of-self
+invariant_of-self c =
+    held_more c.self.inside.pools c.put_entry.new.pools c.self.inside.heads.items c.put_entry.new.heads.items c.args.entry c.put_entry.ensures.go_on c.self.invariant c.in-Ok.ensures.ok
 
-pub returns-in_err-head-clause-err : goal.returns-in_err-head-clause-err
-returns-in_err-head-clause-err c = on_err c.from_residual.result (list_stays c.self.inside.pools c.put.new.self c.self.inside.heads.items c.put.ensures.go_on c.self.invariant ∙ c.self.view_is)
-
-pub invariant_of-self-in_err-push : goal.invariant_of-self-in_err-push
-invariant_of-self-in_err-push c =
-    let before = all_stay c.self.inside.pools c.put.new.self c.self.inside.heads.items c.put.ensures.go_on c.self.invariant in
-    subst (All (IsWithin c.put.new.self)) (sym c.in_err-push.ensures.items) before
-
-pub returns-in_err-push-clause-err : goal.returns-in_err-push-clause-err
-returns-in_err-push-clause-err c =
-    on_err c.from_residual-in_err-push.result
-    (ap (map (entry_in c.put.new.self)) c.in_err-push.ensures.items ∙ list_stays c.self.inside.pools c.put.new.self c.self.inside.heads.items c.put.ensures.go_on c.self.invariant ∙ c.self.view_is)
-
-pub invariant_of-self-2 : goal.invariant_of-self-2
-invariant_of-self-2 c =
-    let all = one_more_within c.self.inside.pools c.put.new.self c.self.inside.heads.items c.in_ok-head.head c.put.ensures.go_on c.self.invariant c.in_ok-head.ensures.within in
-    subst (All (IsWithin c.put.new.self)) (sym c.in_ok-push.ensures.items) all
-
-pub returns-clause-ok : goal.returns-clause-ok
-returns-clause-ok c =
-    ap (map (entry_in c.put.new.self)) c.in_ok-push.ensures.items
-    ∙ one_more c.self.inside.pools c.put.new.self c.self.inside.heads.items c.in_ok-head.head c.args.entry c.put.ensures.go_on c.self.invariant c.in_ok-head.ensures.entry
+pub returns-in-Ok-clause-ok : goal.returns-in-Ok-clause-ok
+returns-in-Ok-clause-ok c =
+    listed_more c.self.inside.pools c.put_entry.new.pools c.self.inside.heads.items c.put_entry.new.heads.items c.args.entry c.put_entry.ensures.go_on c.self.invariant c.in-Ok.ensures.ok
     ∙ ap (λ es. es ++ c.args.entry ∷ []) c.self.view_is
+
+pub invariant_of-self-in-Err : goal.invariant_of-self-in-Err
+invariant_of-self-in-Err c =
+    let p = c.self.inside.pools in
+    let q = c.put_entry.new.pools in
+    let r : EntryStore = record { places = q.places; probabilities = q.probabilities; rewards = c.truncate.new.self } in
+    let count : c.len-count.result ≡ length p.rewards.items = search rules in
+    let left : r.rewards.items ≡ take (length p.rewards.items) q.rewards.items = c.truncate.ensures.items ∙ ap (λ n. take n q.rewards.items) count in
+    subst (AreHeldIn r) (sym c.in-Err.ensures.err) (held_still p q r c.put_entry.ensures.go_on refl refl left c.self.inside.heads.items c.self.invariant)
+
+pub returns-clause-err : goal.returns-clause-err
+returns-clause-err c =
+    let p = c.self.inside.pools in
+    let q = c.put_entry.new.pools in
+    let r : EntryStore = record { places = q.places; probabilities = q.probabilities; rewards = c.truncate.new.self } in
+    let count : c.len-count.result ≡ length p.rewards.items = search rules in
+    let left : r.rewards.items ≡ take (length p.rewards.items) q.rewards.items = c.truncate.ensures.items ∙ ap (λ n. take n q.rewards.items) count in
+    ap (map (entry_in r)) c.in-Err.ensures.err ∙ listed_still p q r c.put_entry.ensures.go_on refl refl left c.self.inside.heads.items c.self.invariant ∙ c.self.view_is

@@ -1,5 +1,5 @@
 use Rattle.std.proofs.Common.{◌≡◌, ◌∙◌, ◌<◌, rules, subst, slice_index}
-use Rattle.polcert_cells.proofs.RowSteps.{step_sparse, end_sparse, step_filled, end_single, found_at, none_at}
+use Rattle.polcert_cells.proofs.RowSteps.{step_sparse, end_sparse, step_filled, step_scaled, end_single, found_at, none_at}
 use Rattle.polcert_cells.proofs.row.Row.step.Goals as goal
 
 pub returns-in-Some : goal.returns-in-Some
@@ -21,3 +21,6 @@ returns-in-Filled c = λ f count is.
     (λ are. c.first_weight.ensures f (λ k weight l post.
     let here : weight ≡ slice_index c.in-Filled.weights.now k = search rules in
     here ∙ are.each k (subst (λ n. k < n) are.size l)))
+
+pub returns-in-Scaled : goal.returns-in-Scaled
+returns-in-Scaled c = λ f count is. step_scaled f count c.args.self.now is c.args.at c.in-Scaled.numbers c.in-Scaled.scale c.scaled_step.result c.in-Scaled.is c.scaled_step.ensures

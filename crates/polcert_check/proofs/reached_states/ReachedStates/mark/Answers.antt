@@ -1,5 +1,5 @@
 use Rattle.std.proofs.Common.{arith, ◌<◌, length}
-use Rattle.polcert_cells.specs.LentRows.{reached}
+use Rattle.polcert_cells.specs.BorrowedRows.{reached}
 use Rattle.polcert_cells.specs.Tables.{CellTable}
 use Rattle.polcert_check.proofs.Walking.Marking.{still_marked, one_marked}
 use Rattle.polcert_check.proofs.reached_states.ReachedStates.mark.Goals as goal

@@ -1,12 +1,12 @@
 use Rattle.polcert_format.specs.Wants.{numbers_want, least_written}
-use Rattle.polcert_items.specs.Steps.Wants.{Leads, state_wants}
+use Rattle.polcert_items.specs.Steps.Wants.{ExpectsNext, state_wants}
 use Rattle.std.proofs.Common.{false, ◌∙◌, ◌≤◌, drop, length, sym, ap, subst, rules, arith}
 use Rattle.polcert_text.specs.Reading.{lexeme_of}
 use Rattle.polcert_cells.specs.Entry.{cells_in}
 use Rattle.polcert_cells.specs.Preamble.{is_mdp}
 use Rattle.polcert_format.specs.KnownPreamble.{preamble_in, indices_in}
 use Rattle.polcert_items.specs.Steps.Lines.{CannotTake}
-use Rattle.polcert_items.specs.Steps.Entries.{EntryGoes, IfRefused, CannotBegin, IsWordBehind}
+use Rattle.polcert_items.specs.Steps.Entries.{EntryGoes, IfRefused, CannotBegin, IsWordAfter}
 use Rattle.polcert_items.specs.declared.entry_reader.EntryState.TheVariants as states
 use Rattle.polcert_cells.proofs.Basics.{true≢false}
 use Rattle.polcert_format.proofs.FurtherNumbers.{begins_no_number}
@@ -27,13 +27,13 @@ returns-in_ok-self-in-Numeral-clause-fed c =
     let r = c.args.self.now in
     let preamble = preamble_in c.args.known.now in
     let l = lexeme_of c.args.token in
-    let cells = c.cells_behind-needed.ensures ∙ ap (λ n. cells_in (drop n (indices_in c.args.known.now r.table))) c.len-written.ensures in
+    let cells = c.cells_after-needed.ensures ∙ ap (λ n. cells_in (drop n (indices_in c.args.known.now r.table))) c.len-written.ensures in
     let low = subst (λ b. least_written b r.table ≤ length r.places) c.is_mdp.ensures (subst (λ n. least_written c.is_mdp.result r.table ≤ n) c.len-written.ensures (c.takes_numbers.ensures.0 c.if-takes_numbers.true)) in
     let takes = in_state preamble r states.Body c.in_ok-self-in-Numeral.field-0 l c.requires.state
-    (numbers_begin c.args.known.now r.table r.places l c.in_ok-self-in-Numeral.field-0 c.cells_behind-needed.result (number_not_colon l.kind c.in-Numeral.is) (number_not_name l.kind c.in-Numeral.is) cells low c.requires.within c.in_ok-self-in-Numeral.ensures.begun) in
+    (numbers_begin c.args.known.now r.table r.places l c.in_ok-self-in-Numeral.field-0 c.cells_after-needed.result (number_not_colon l.kind c.in-Numeral.is) (number_not_name l.kind c.in-Numeral.is) cells low c.requires.within c.in_ok-self-in-Numeral.ensures.begun) in
     let leads = body_leads preamble r l _ c.requires.state
     (numbers_lead preamble r.table (length r.places) l _ (number_begins l.kind c.in-Numeral.is)
-    (subst (λ m. Leads (numbers_want false m) l (state_wants preamble r.table r.places c.in_ok-self-in-Numeral.field-0)) cells (c.in_ok-self-in-Numeral.ensures.leads preamble r.places))) in
+    (subst (λ m. ExpectsNext (numbers_want false m) l (state_wants preamble r.table r.places c.in_ok-self-in-Numeral.field-0)) cells (c.in_ok-self-in-Numeral.ensures.leads preamble r.places))) in
     search rules
 
 pub returns-in_err-self-in-Numeral-clause-fed : goal.returns-in_err-self-in-Numeral-clause-fed
@@ -41,8 +41,8 @@ returns-in_err-self-in-Numeral-clause-fed c =
     let r = c.args.self.now in
     let preamble = preamble_in c.args.known.now in
     let l = lexeme_of c.args.token in
-    let needed = c.cells_behind-needed.result in
-    let cells = c.cells_behind-needed.ensures ∙ ap (λ n. cells_in (drop n (indices_in c.args.known.now r.table))) c.len-written.ensures in
+    let needed = c.cells_after-needed.result in
+    let cells = c.cells_after-needed.ensures ∙ ap (λ n. cells_in (drop n (indices_in c.args.known.now r.table))) c.len-written.ensures in
     let stuck = λ (begin : CannotBegin r.table needed l). stuck_in_state preamble r states.Body l c.requires.state (numbers_stuck c.args.known.now r.table r.places l needed (number_not_colon l.kind c.in-Numeral.is) (number_not_name l.kind c.in-Numeral.is) cells begin) in
     let refused = if_err_map c.from_residual.result (λ stop. IfRefused stop (λ r'. CannotBegin r.table needed l)) _ (λ stop h. refused_map stop stuck h) (search rules) in
     search rules
@@ -52,7 +52,7 @@ returns-in-Some-clause-fed c =
     let r = c.args.self.now in
     let preamble = preamble_in c.args.known.now in
     let l = lexeme_of c.args.token in
-    let is = subst (λ n. IsWordBehind (is_mdp preamble) r.table n l c.in-Some.word) c.len-written.ensures (c.in-Some.ensures.word (is_mdp preamble)) in
+    let is = subst (λ n. IsWordAfter (is_mdp preamble) r.table n l c.in-Some.word) c.len-written.ensures (c.in-Some.ensures.word (is_mdp preamble)) in
     let takes = in_state preamble r states.Body (states.Word c.in-Some.word) l c.requires.state (word_takes preamble r.table r.places l c.in-Some.word is) in
     search rules
 
@@ -73,6 +73,6 @@ returns-in-None-clause-fed c =
       | in_default-via-in_default w ↦
           stuck_in_state preamble r states.Body l c.requires.state (nothing_takes preamble r.table r.places l w.in_default.not-Colon
           (λ ls hs a. begins_no_number w.in_default.not-Numeral w.in_default.not-Plus w.in_default.not-Minus a)
-          (λ word is. none word (subst (λ n. IsWordBehind (is_mdp preamble) r.table n l word) (sym c.len-written.ensures) is)))
+          (λ word is. none word (subst (λ n. IsWordAfter (is_mdp preamble) r.table n l word) (sym c.len-written.ensures) is)))
     ] in
     search rules

@@ -23,23 +23,23 @@ returns-in_err-self-in-Sign-clause-refused c =
     refused_as result c.args.states.now _ _ _ c.in-Sign.is
     (token_refused result c.args.states.now (reader.Sign c.in-Sign.sign) (lexeme_of c.args.token) (search rules) (search rules) (search rules))
 
-pub returns-in_err-go_on-in-Number-clause-refused : goal.returns-in_err-go_on-in-Number-clause-refused
-returns-in_err-go_on-in-Number-clause-refused c =
-    let result = c.from_residual-in_err-go_on-in-Number.result in
+pub returns-in_err-advance-in-Number-clause-refused : goal.returns-in_err-advance-in-Number-clause-refused
+returns-in_err-advance-in-Number-clause-refused c =
+    let result = c.from_residual-in_err-advance-in-Number.result in
     refused_as result c.args.states.now _ _ _ c.in-Number.is
     (number_refused result c.args.states.now c.in-Number.first (lexeme_of c.args.token) (search rules) (search rules))
 
-pub returns-in_err-first-in-Digits-clause-refused : goal.returns-in_err-first-in-Digits-clause-refused
-returns-in_err-first-in-Digits-clause-refused c =
-    let result = c.from_residual-in_err-first-in-Digits.result in
-    let refused = valueless_refused c.args.states.now c.in-Digits.digits _ (lexeme_of c.args.token) c.in_err-first-in-Digits.ensures in
-    refused_as result c.args.states.now _ _ _ c.in-Digits.is (search rules)
+pub returns-in_err-first-in-StateOrNumber-clause-refused : goal.returns-in_err-first-in-StateOrNumber-clause-refused
+returns-in_err-first-in-StateOrNumber-clause-refused c =
+    let result = c.from_residual-in_err-first-in-StateOrNumber.result in
+    let refused = valueless_refused c.args.states.now c.in-StateOrNumber.digits _ (lexeme_of c.args.token) c.in_err-first-in-StateOrNumber.ensures in
+    refused_as result c.args.states.now _ _ _ c.in-StateOrNumber.is (search rules)
 
-pub returns-in_err-go_on-in-Digits-clause-refused : goal.returns-in_err-go_on-in-Digits-clause-refused
-returns-in_err-go_on-in-Digits-clause-refused c =
-    let result = c.from_residual-in_err-go_on-in-Digits.result in
-    refused_as result c.args.states.now _ _ _ c.in-Digits.is
-    (first_refused result c.args.states.now c.in-Digits.digits _ (lexeme_of c.args.token) c.in_ok-first-in-Digits.ensures (search rules) (search rules))
+pub returns-in_err-advance-in-StateOrNumber-clause-refused : goal.returns-in_err-advance-in-StateOrNumber-clause-refused
+returns-in_err-advance-in-StateOrNumber-clause-refused c =
+    let result = c.from_residual-in_err-advance-in-StateOrNumber.result in
+    refused_as result c.args.states.now _ _ _ c.in-StateOrNumber.is
+    (first_refused result c.args.states.now c.in-StateOrNumber.digits _ (lexeme_of c.args.token) c.in_ok-first-in-StateOrNumber.ensures (search rules) (search rules))
 
 pub returns-in_ok-self-in-Form-clause-fed : goal.returns-in_ok-self-in-Form-clause-fed
 returns-in_ok-self-in-Form-clause-fed c =
@@ -69,20 +69,20 @@ returns-in_ok-self-in-Sign-clause-fed c =
     (sign_takes c.args.states.now c.in-Sign.sign (lexeme_of c.args.token) _ (e.begun c.args.states.now)) (e.leads (count_of c.args.states.now))
     (λ body seen. numeral_seen _ c.in-Sign.sign body _ _ seen.body_is e.kept)
 
-pub returns-in_ok-go_on-in-Number-clause-fed : goal.returns-in_ok-go_on-in-Number-clause-fed
-returns-in_ok-go_on-in-Number-clause-fed c =
+pub returns-in_ok-advance-in-Number-clause-fed : goal.returns-in_ok-advance-in-Number-clause-fed
+returns-in_ok-advance-in-Number-clause-fed c =
     fed_as c.args.states.now _ _ _ _ c.in-Number.is (search rules) (search rules) (search rules)
-    (λ body seen. number_seen _ body _ c.in-Number.first c.in_ok-go_on-in-Number.field-0 seen c.in_ok-go_on-in-Number.ensures.inside c.in_ok-go_on-in-Number.ensures.kept)
+    (λ body seen. number_seen _ body _ c.in-Number.first c.in_ok-advance-in-Number.field-0 seen c.in_ok-advance-in-Number.ensures.inside c.in_ok-advance-in-Number.ensures.kept)
 
-pub returns-in_ok-go_on-in-Digits-clause-fed : goal.returns-in_ok-go_on-in-Digits-clause-fed
-returns-in_ok-go_on-in-Digits-clause-fed c =
-    let e = c.in_ok-go_on-in-Digits.ensures in
-    let d = c.in-Digits.digits in
+pub returns-in_ok-advance-in-StateOrNumber-clause-fed : goal.returns-in_ok-advance-in-StateOrNumber-clause-fed
+returns-in_ok-advance-in-StateOrNumber-clause-fed c =
+    let e = c.in_ok-advance-in-StateOrNumber.ensures in
+    let d = c.in-StateOrNumber.digits in
     let l = lexeme_of c.args.token in
-    let f = c.in_ok-first-in-Digits.first in
-    let is = first_is d.value d.place f c.in_ok-first-in-Digits.ensures in
-    fed_as c.args.states.now _ _ _ _ c.in-Digits.is (search rules) (digits_take c.args.states.now d l f c.in_ok-go_on-in-Digits.field-0 is.0 e.takes) (search rules)
-    (λ body seen. digits_go_on _ body l d f c.in_ok-go_on-in-Digits.field-0 seen is.0 e.inside e.kept)
+    let f = c.in_ok-first-in-StateOrNumber.first in
+    let is = first_is d.value d.place f c.in_ok-first-in-StateOrNumber.ensures in
+    fed_as c.args.states.now _ _ _ _ c.in-StateOrNumber.is (search rules) (digits_take c.args.states.now d l f c.in_ok-advance-in-StateOrNumber.field-0 is.0 e.takes) (search rules)
+    (λ body seen. digits_go_on _ body l d f c.in_ok-advance-in-StateOrNumber.field-0 seen is.0 e.inside e.kept)
 
 pub returns-in-Probabilities-clause-fed : goal.returns-in-Probabilities-clause-fed
 returns-in-Probabilities-clause-fed c =

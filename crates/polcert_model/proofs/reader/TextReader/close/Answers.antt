@@ -11,15 +11,15 @@ pub end-requires : goal.end-requires
 end-requires c =
     open_within c.requires.0 c.args.self.now c.in-Some.item c.requires.1 (sym c.take.ensures.value ∙ c.in-Some.is)
 
-pub learn-requires-clause-next : goal.learn-requires-clause-next
-learn-requires-clause-next c =
+pub add_item-requires-clause-next : goal.add_item-requires-clause-next
+add_item-requires-clause-next c =
     said_may_be_learned c.requires.0 c.args.self.now c.in-Some.item c.in-Ok.said c.requires.1 (sym c.take.ensures.value ∙ c.in-Some.is) c.in-Ok.ensures.said c.in-Ok.ensures.topic
 
-pub returns-in-Ok-learn-clause-items : goal.returns-in-Ok-learn-clause-items
-returns-in-Ok-learn-clause-items c = λ seen read.
+pub returns-in-Ok-add_item-clause-items : goal.returns-in-Ok-add_item-clause-items
+returns-in-Ok-add_item-clause-items c = λ seen read.
     let r = c.args.self.now in
-    item_ended seen r c.take.new.self c.in-Some.item c.learn.new.self c.in-Ok.said read (sym c.take.ensures.value ∙ c.in-Some.is) c.take.ensures.after
-    c.in-Ok.ensures.said c.in-Ok-learn.ensures.ok c.in-Ok-learn.ensures.few
+    item_ended seen r c.take.new.self c.in-Some.item c.add_item.new.self c.in-Ok.said read (sym c.take.ensures.value ∙ c.in-Some.is) c.take.ensures.after
+    c.in-Ok.ensures.said c.in-Ok-add_item.ensures.ok c.in-Ok-add_item.ensures.few
 
 pub returns-in-Err-TooManyCells-clause-items : goal.returns-in-Err-TooManyCells-clause-items
 returns-in-Err-TooManyCells-clause-items c = λ seen read text ts tokens ends.

@@ -2,7 +2,7 @@ use Rattle.std.proofs.Common.{rules, arith, ◌≡◌, ◌∙◌, ℕ, ◌*◌, 
 use mir.Syntax.{w128}
 use Rattle.std.proofs.lemmas.Int.{to_z-of_z}
 use Rattle.polcert_text.specs.Numbers.{largest}
-use Rattle.polcert_cells.specs.LentRows.{reached}
+use Rattle.polcert_cells.specs.BorrowedRows.{reached}
 use Rattle.polcert_cells.specs.Tables.{CellTable, IsProper, IsWithinLimits}
 use Rattle.polcert_policy.specs.Vectors.{value_of}
 use Rattle.polcert_check.specs.Steps.Ranges.{most_scales}

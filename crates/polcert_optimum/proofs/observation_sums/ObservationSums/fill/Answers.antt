@@ -1,5 +1,5 @@
 use Rattle.std.proofs.Common.{arith, ◌≡◌, ◌≤◌, ℕ, sym, subst}
-use Rattle.polcert_cells.specs.LentRows.{reached}
+use Rattle.polcert_cells.specs.BorrowedRows.{reached}
 use Rattle.polcert_cells.specs.Tables.{CellTable}
 use Rattle.polcert_policy.specs.Vectors.{value_of}
 use Rattle.polcert_optimum.specs.Steps.Sums.{AreValuesUntil}

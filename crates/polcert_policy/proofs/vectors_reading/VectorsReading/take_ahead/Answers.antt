@@ -1,20 +1,23 @@
-use Rattle.std.proofs.Common.{◌∙◌, ℕ, ◌≤◌, ◌+◌, length, rules, refl, subst}
+use Rattle.std.proofs.Common.{◌∙◌, ℕ, ◌≤◌, ◌+◌, length, rules, arith, refl, sym, subst}
 use Rattle.std.proofs.lemmas.Int.{to_z-of_z}
 use Rattle.std.proofs.lemmas.List.{take_rest}
 use mir.Syntax.{w64}
-use Rattle.polcert_text.specs.FrontValues.{BeginWithValue}
+use Rattle.polcert_text.specs.FrontValues.{BeginWithValue, with_minus}
 use Rattle.polcert_policy.proofs.VectorEndLaws.{rounded_in_range, in_range_fits}
-use Rattle.polcert_policy.proofs.VectorsAhead.{takes_none, takes_more, value_reads, value_within, fewer_left}
+use Rattle.polcert_text.proofs.Taken.TakenAhead.{takes_none, takes_more, front_within}
+use Rattle.polcert_policy.specs.Steps.VectorsRead.{HasVectors}
+use Rattle.polcert_policy.proofs.Places.{fewer_left}
+use Rattle.polcert_policy.proofs.VectorsAhead.{value_reads}
 use Rattle.polcert_policy.proofs.vectors_reading.VectorsReading.take_ahead.Goals as goal
 
 pub returns-then-is_some-clause-takes : goal.returns-then-is_some-clause-takes
-returns-then-is_some-clause-takes c = takes_none c.args.self.now c.args.bytes.now
+returns-then-is_some-clause-takes c = takes_none (HasVectors c.args.rounding) c.args.self.now c.args.bytes.now
 
 pub loop-self-init : goal.loop-self-init
 loop-self-init c = record {
   sign = search rules;
   states = refl;
-  takes = takes_none c.args.self.now c.args.bytes.now;
+  takes = takes_none (HasVectors c.args.rounding) c.args.self.now c.args.bytes.now;
 }
 
 pub overflow_add-at : goal.overflow_add-at
@@ -22,7 +25,7 @@ overflow_add-at c =
     let bs = c.args.bytes.now in
     let at = c.loop-self.at in
     let begins = subst (λ xs. (place : ℕ) → BeginWithValue c.args.rounding place xs c.in-Some.front) (take_rest bs at) c.in-Some.ensures in
-    let high : at + c.in-Some.front.len ≤ length bs = value_within bs at c.in-Some.front c.loop-self.invariant.takes.within begins in
+    let high : at + c.in-Some.front.len ≤ length bs = front_within bs at c.in-Some.front.len c.loop-self.invariant.takes.within (begins 0).front.within in
     search rules
 
 pub loop-self-preserved : goal.loop-self-preserved
@@ -36,11 +39,23 @@ loop-self-preserved c =
     record {
       sign = c.advance.ensures.sign_same ∙ was.sign;
       states = c.advance.ensures.states_same ∙ was.states;
-      takes = takes_more c.args.self.now r c.advance.new.self bs at front was.takes begins (λ minus t is numeral readable rounded.
-          let fits = in_range_fits front.value (rounded_in_range c.args.rounding _ _ front.value readable rounded) in
-          let pushed = rw (to_z-of_z w64 front.value fits) at c.in_ok-push.ensures in
-          value_reads r _ c.advance.new.self t front.value c.loop-self-test.true was.sign numeral readable refl refl refl was.sign pushed c.advance.ensures minus is rounded);
+      takes = takes_more (HasVectors c.args.rounding) c.args.self.now r c.advance.new.self bs at front.len was.takes (λ place.
+          let value = begins place in
+          let fits = in_range_fits front.value (rounded_in_range c.args.rounding _ _ front.value value.readable value.rounded) in
+          let pushed = rw (to_z-of_z w64 front.value fits) at c.in_ok-push.ensures in (
+            with_minus value.minus value.token,
+            (
+              value.front,
+              value_reads r _ c.advance.new.self value.token front.value c.loop-self-test.true was.sign value.kind_is value.readable refl refl refl was.sign pushed c.advance.ensures value.minus value.minus_is value.rounded,
+            ),
+          ));
     }
 
 pub loop-self-smaller : goal.loop-self-smaller
-loop-self-smaller c = fewer_left _ _ c.loop-self-test.true c.advance.ensures
+loop-self-smaller c =
+    let r = c.loop-self.self in
+    let next = c.advance.ensures in
+    let same = c.loop-self.invariant.states in
+    fewer_left c.args.self.now.states r.column c.advance.new.self.column c.loop-self-test.true (omega (arith, r.column_within, same))
+    (λ l. let is = (next.inside (omega (arith, l, same))).1 in omega (arith, is))
+    (λ e. (next.last (e ∙ sym same)).1)

@@ -9,12 +9,12 @@ use Rattle.polcert_rules.proofs.rewards.Rewards.given.Goals as goal
 
 pub cell_in-cell-requires-clause-small : goal.cell_in-cell-requires-clause-small
 cell_in-cell-requires-clause-small c =
-    subst (All (λ i. i < key_base)) (sym c.behind-left.ensures) (All-drop (λ i. i < key_base) c.in-Some.body.places c.args.indices.now (small_indices most_places c.args.indices.now c.requires))
+    subst (All (λ i. i < key_base)) (sym c.following-left.ensures) (All-drop (λ i. i < key_base) c.in-Some.body.places c.args.indices.now (small_indices most_places c.args.indices.now c.requires))
 
 pub returns-in-Some : goal.returns-in-Some
 returns-in-Some c p entries are within last =
     let fits : FitsSigned w64 c.number_at.result = search rules in
-    let cell = c.cell_in-cell.ensures ∙ ap (cell_in c.self.inside.shape.states c.self.inside.shape.observations) c.behind-left.ensures in
+    let cell = c.cell_in-cell.ensures ∙ ap (cell_in c.self.inside.shape.states c.self.inside.shape.observations) c.following-left.ensures in
     let b = c.in-Some.body in
     let read = c.number_at.ensures ∙ ap (λ k. get_or c.self.inside.bodies.numbers.items (b.start + k) (pos 0)) cell in
     let of_self = read ∙ ap (λ (rewards : RewardRules). get_or rewards.numbers (b.start + cell_in rewards.shape.states rewards.shape.observations (drop b.places c.args.indices.now)) (pos 0)) c.self.view_is in

@@ -9,7 +9,7 @@ use Rattle.polcert_rules.proofs.rewards.Rewards.of.Goals as goal
 
 pub of-requires : goal.of-requires
 of-requires c = λ r among.
-    number_within c.args.entries.now c.args.index c.in_ok-rules.rules.items (table_key Reward) (key_base ^ most_places) c.requires.index c.in_ok-rules.ensures.kept
+    number_within c.args.entries c.args.index c.in_ok-rules.rules.items (table_key Reward) (key_base ^ most_places) c.requires.index c.in_ok-rules.ensures.kept
     r (subst (λ (rules : List Rule). Contains rules r) c.as_slice.ensures.value among)
 
 pub invariant_of-result : goal.invariant_of-result
@@ -26,7 +26,7 @@ returns-clause-rewards c = λ p shape costs keyed sound.
     let first = c.in_ok-bodies.bodies.first in
     let bodies = c.in_ok-bodies.bodies.bodies.items in
     let numbers = c.in_ok-bodies.bodies.numbers.items in
-    subst (λ (rules : List Rule). AreRewardsOf p c.args.entries.now (reward_rules c.args.shape rules first bodies numbers)) (sym c.in_ok-rules-2.ensures)
-    (are_rewards p c.args.entries.now c.args.shape c.args.costs c.args.index c.in_ok-rules.rules.items first bodies numbers
+    subst (λ (rules : List Rule). AreRewardsOf p c.args.entries (reward_rules c.args.shape rules first bodies numbers)) (sym c.in_ok-rules-2.ensures)
+    (are_rewards p c.args.entries c.args.shape c.args.costs c.args.index c.in_ok-rules.rules.items first bodies numbers
     shape costs keyed sound c.requires.index c.in_ok-rules.ensures.kept
-    (subst (λ (rules : List Rule). AreBodiesOf c.args.costs c.args.entries.now rules first numbers bodies) c.as_slice.ensures.value c.in_ok-bodies.ensures))
+    (subst (λ (rules : List Rule). AreBodiesOf c.args.costs c.args.entries rules first numbers bodies) c.as_slice.ensures.value c.in_ok-bodies.ensures))

@@ -1,7 +1,7 @@
 use Rattle.std.proofs.Common.{◌∙◌, ◌+◌, ◌*◌, ◌^◌, ◌∷◌, sym, ap, subst, arith}
 use Rattle.polcert_cells.specs.declared.entry.Table.TheVariants.{Reward}
 use Rattle.polcert_rules.specs.Steps.Newest.{IsNewest}
-use Rattle.polcert_rules.specs.Matching.{later}
+use Rattle.polcert_rules.specs.Matching.{max_option}
 use Rattle.polcert_rules.specs.Keys.{key_base, Fits, table_key}
 use Rattle.polcert_rules.proofs.Indexes.Newer.{newest_of_three, newest_here}
 use Rattle.polcert_rules.proofs.row_rules.RowRules.newest.Goals as goal
@@ -15,7 +15,7 @@ returns c =
     let low = table_key Reward in
     let indices = c.args.start ∷ c.args.rest.now in
     let here = newest_here rules c.part.result.now low (key_base ^ 2) c.first_at-here.result (omega arith) c.part.ensures.kept c.first_at-here.ensures in
-    let every = subst (λ s. IsNewest rules (Fits 3 (low + s) indices) c.newest_behind-of_every.result) c.span-step.ensures c.newest_behind-of_every.ensures in
-    let only = subst (λ s. IsNewest rules (Fits 3 (low + (c.args.action + 2) * s) indices) c.newest_behind-of_only.result) c.span-step.ensures c.newest_behind-of_only.ensures in
-    subst (IsNewest rules (Fits 4 low (c.args.action ∷ indices))) (sym (c.later-2.ensures ∙ ap (later c.first_at-here.result) c.later.ensures))
-    (newest_of_three rules 3 low c.args.action indices c.first_at-here.result c.newest_behind-of_every.result c.newest_behind-of_only.result here every only)
+    let every = subst (λ s. IsNewest rules (Fits 3 (low + s) indices) c.newest_after-of_every.result) c.span-step.ensures c.newest_after-of_every.ensures in
+    let only = subst (λ s. IsNewest rules (Fits 3 (low + (c.args.action + 2) * s) indices) c.newest_after-of_only.result) c.span-step.ensures c.newest_after-of_only.ensures in
+    subst (IsNewest rules (Fits 4 low (c.args.action ∷ indices))) (sym (c.max_option-2.ensures ∙ ap (max_option c.first_at-here.result) c.max_option.ensures))
+    (newest_of_three rules 3 low c.args.action indices c.first_at-here.result c.newest_after-of_every.result c.newest_after-of_only.result here every only)

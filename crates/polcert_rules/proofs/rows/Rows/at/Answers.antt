@@ -1,25 +1,19 @@
-use Rattle.std.proofs.Common.{◌≡◌, ◌∙◌, Some, None, List, ap, sym}
-use Rattle.std.specs.List.{slice_get}
+use Rattle.std.proofs.Common.{◌∙◌, List, sym, ap}
 use Rattle.polcert_cells.specs.declared.cell.Cell.{Cell}
 use Rattle.polcert_cells.specs.Sparse.{weight_at}
-use Rattle.polcert_rules.specs.Steps.Merging.{from}
-use Rattle.polcert_rules.proofs.RowLaws.FromLaws.{at_here, at_there, at_none}
+use Rattle.polcert_cells.proofs.ScaledRows.{scaled_weight}
+use Rattle.polcert_rules.specs.Steps.Lists.{stored_cells}
 use Rattle.polcert_rules.proofs.rows.Rows.at.Goals as goal
 
-pub returns-then-cell-column : goal.returns-then-cell-column
-returns-then-cell-column c =
-    let found : slice_get (from c.args.column c.row.result.now) 0 ≡ Some c.in-Some.cell.now = ap (λ (ys : List Cell). slice_get ys 0) (sym c.cells_from.ensures) ∙ sym c.in-Some.ensures.value in
-    at_here c.args.self.now.columns c.args.column c.row.result.now c.row.ensures.sparse c.in-Some.cell.now found c.if-cell-column.true
-    ∙ ap (λ (ys : List Cell). weight_at ys c.args.column) c.row.ensures.row
+pub cell_weight-requires : goal.cell_weight-requires
+cell_weight-requires c = (c.args.self.now.columns, rw c.in-Sparse.is at c.stored.ensures.sparse)
 
-pub returns-else-cell-column : goal.returns-else-cell-column
-returns-else-cell-column c =
-    let found : slice_get (from c.args.column c.row.result.now) 0 ≡ Some c.in-Some.cell.now = ap (λ (ys : List Cell). slice_get ys 0) (sym c.cells_from.ensures) ∙ sym c.in-Some.ensures.value in
-    at_there c.args.self.now.columns c.args.column c.row.result.now c.row.ensures.sparse c.in-Some.cell.now found c.if-cell-column.false
-    ∙ ap (λ (ys : List Cell). weight_at ys c.args.column) c.row.ensures.row
+pub returns-in-Sparse : goal.returns-in-Sparse
+returns-in-Sparse c =
+    c.cell_weight.ensures ∙ ap (λ r. weight_at (stored_cells r) c.args.column) (sym c.in-Sparse.is)
+    ∙ ap (λ (ys : List Cell). weight_at ys c.args.column) c.stored.ensures.row
 
-pub returns-in-None : goal.returns-in-None
-returns-in-None c =
-    let found : slice_get (from c.args.column c.row.result.now) 0 ≡ None = ap (λ (ys : List Cell). slice_get ys 0) (sym c.cells_from.ensures) ∙ sym c.in-None.ensures.value in
-    at_none c.args.self.now.columns c.args.column c.row.result.now c.row.ensures.sparse found
-    ∙ ap (λ (ys : List Cell). weight_at ys c.args.column) c.row.ensures.row
+pub returns-in-Full : goal.returns-in-Full
+returns-in-Full c =
+    c.full_weight.ensures ∙ sym (scaled_weight c.in-Full.columns c.in-Full.numbers.now c.args.column) ∙ ap (λ r. weight_at (stored_cells r) c.args.column) (sym c.in-Full.is)
+    ∙ ap (λ (ys : List Cell). weight_at ys c.args.column) c.stored.ensures.row

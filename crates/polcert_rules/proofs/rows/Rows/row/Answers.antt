@@ -1,9 +1,17 @@
-use Rattle.std.proofs.Common.{subst}
-use Rattle.polcert_cells.specs.Sparse.{IsSparse}
-use Rattle.polcert_rules.specs.RowTables.{RowTable}
-use Rattle.polcert_rules.proofs.Indexes.KeptLaws.{at_number}
+use Rattle.std.proofs.Common.{List, ap, subst}
+use Rattle.polcert_cells.specs.declared.cell.Cell.{Cell}
+use Rattle.polcert_cells.specs.Sparse.{weight_at, IsRow}
+use Rattle.polcert_rules.specs.declared.stored_rows.StoredRow.{StoredRow}
+use Rattle.polcert_rules.specs.RowTables.{row_at}
+use Rattle.polcert_rules.specs.Steps.Lists.{stored_cells}
 use Rattle.polcert_rules.proofs.rows.Rows.row.Goals as goal
 
-pub returns-clause-sparse : goal.returns-clause-sparse
-returns-clause-sparse c =
-    subst (λ (t : RowTable). IsSparse t.columns c.at-2.result.now) c.self.view_is (at_number (IsSparse c.self.inside.shape.columns) c.self.inside.rows _ c.at-2.result.now c.self.invariant.2 c.at-2.ensures)
+pub returns-in-Sparse : goal.returns-in-Sparse
+returns-in-Sparse c =
+    subst (λ (r : StoredRow). IsRow c.args.self.now.columns (weight_at (row_at c.args.self.now c.args.action c.args.state)) (stored_cells r)) c.in-Sparse.is
+    (record { sparse = c.stored.ensures.sparse; each = λ k l. ap (λ (xs : List Cell). weight_at xs k) c.stored.ensures.row })
+
+pub returns-in-Full : goal.returns-in-Full
+returns-in-Full c =
+    subst (λ (r : StoredRow). IsRow c.args.self.now.columns (weight_at (row_at c.args.self.now c.args.action c.args.state)) (stored_cells r)) c.in-Full.is
+    (record { sparse = c.stored.ensures.sparse; each = λ k l. ap (λ (xs : List Cell). weight_at xs k) c.stored.ensures.row })

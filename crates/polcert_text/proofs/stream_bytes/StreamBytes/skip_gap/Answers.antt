@@ -1,5 +1,5 @@
 use Rattle.std.proofs.Common.{sym}
-use Rattle.polcert_text.proofs.Streams.StreamGaps.{gap_begins, gap_goes_on, gap_ends, gap_at_end, found_some, found_none}
+use Rattle.polcert_text.proofs.Streams.StreamGaps.{gap_begins, gap_continues, gap_ends, gap_at_end, found_some, found_none}
 use Rattle.polcert_text.proofs.stream_bytes.StreamBytes.skip_gap.Goals as goal
 
 pub loop-gap-init : goal.loop-gap-init
@@ -10,7 +10,7 @@ pub loop-gap-preserved : goal.loop-gap-preserved
 loop-gap-preserved g c =
     let lacks = c.lacks_byte.ensures.lacks c.loop-gap-test.true in
     let fills = rw c.in-Ok-true.field-0-test at c.in-Ok-true.ensures.ok in
-    gap_goes_on _ _ _ _ c.loop-gap.gap c.loop-gap.self c.loop-gap.source c.fill.new.self _ _ _ c.loop-gap.invariant lacks.1 fills c.skip_seen-gap-in-Ok-true.ensures.skipped
+    gap_continues _ _ _ _ c.loop-gap.gap c.loop-gap.self c.loop-gap.source c.fill.new.self _ _ _ c.loop-gap.invariant lacks.1 fills c.skip_seen-gap-in-Ok-true.ensures.skipped
 
 pub returns-in-Ok-false : goal.returns-in-Ok-false
 returns-in-Ok-false g c =

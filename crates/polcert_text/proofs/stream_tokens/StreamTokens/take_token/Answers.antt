@@ -4,7 +4,7 @@ use Rattle.polcert_text.specs.Reading.{IsReadAt, lexeme_of}
 use Rattle.polcert_text.specs.Steps.Streaming.{IsSeen, StopsRightly}
 use Rattle.polcert_text.specs.Stream.{visible, skip}
 use Rattle.polcert_text.proofs.Streams.StreamLaws.{tail_of}
-use Rattle.polcert_text.proofs.Streams.StreamTakes.{gives_end, few_bytes, token_given, fault_given, seen_more, fails_behind, ended_as, given_as}
+use Rattle.polcert_text.proofs.Streams.StreamTakes.{gives_end, few_bytes, token_given, fault_given, seen_more, fails_after, ended_as, given_as}
 use Rattle.polcert_text.proofs.stream_tokens.StreamTokens.take_token.Goals as goal
 use Rattle.polcert_text.proofs.stream_tokens.StreamTokens.take_token.Goals.{in-None, in-Some}
 
@@ -21,7 +21,7 @@ returns-in-Ok-false-clause-next g c =
 pub returns-in-Err-scan_lexeme-clause-next : goal.returns-in-Err-scan_lexeme-clause-next
 returns-in-Err-scan_lexeme-clause-next g c =
     let skips = c.in-Ok-true.ensures in
-    fails_behind _ _ _ _ _ _ _ _ skips c.in-Err-scan_lexeme.ensures.1 c.in-Err-scan_lexeme.ensures.0
+    fails_after _ _ _ _ _ _ _ _ skips c.in-Err-scan_lexeme.ensures.1 c.in-Err-scan_lexeme.ensures.0
 
 pub invariant_of-self-in-Ok-token_of : goal.invariant_of-self-in-Ok-token_of
 invariant_of-self-in-Ok-token_of g c =
@@ -32,9 +32,9 @@ invariant_of-self-in-Ok-token_of g c =
     let seen : (tail : List ℕ) → IsSeen (visible new) tail c.in-Ok.front → IsReadAt new.place (visible new ++ tail) token
     = subst (λ p. (tail : List ℕ) → IsSeen (visible new) tail c.in-Ok.front → IsReadAt p (visible new ++ tail) token) c.place.ensures
     (subst (λ v. (tail : List ℕ) → IsSeen v tail c.in-Ok.front → IsReadAt c.place.result (v ++ tail) token) c.visible.ensures.bytes c.in-Ok-token_of.ensures) in
-    let goes_on : None ≡ c.self.inside.stop = sym (ap (λ s. s.stop) c.self.view_is ∙ c.requires) in (
+    let continues : None ≡ c.self.inside.stop = sym (ap (λ s. s.stop) c.self.view_is ∙ c.requires) in (
       few_bytes _ _ _ _ _ _ _ _ _ skips scans (lexeme_of token) (λ more can. (seen (tail_of new more) (seen_more _ _ _ _ _ _ _ _ _ skips scans more can)).0),
-      subst (StopsRightly (skip (length token.bytes.now) new)) goes_on tt,
+      subst (StopsRightly (skip (length token.bytes.now) new)) continues tt,
     )
 
 pub returns-in-Ok-token_of-clause-next : goal.returns-in-Ok-token_of-clause-next

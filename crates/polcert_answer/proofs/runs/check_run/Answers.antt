@@ -1,0 +1,46 @@
+use Rattle.polcert_model.specs.Contents.{meaning}
+use Rattle.polcert_answer.specs.Run.{IsCheckRunFault}
+use Rattle.polcert_answer.specs.Steps.Reading.{IsNoReadFault}
+use Rattle.polcert_answer.proofs.Denoted.{fits_of}
+use Rattle.polcert_answer.proofs.OfSources.{wrote_mapped, text_of_answer, answered_with}
+use Rattle.polcert_answer.proofs.Answering.{has_verdict, has_promise, has_start_promise, has_horizon}
+use Rattle.polcert_answer.proofs.Passing.{is_err, not_ok, no_ok, of_fault, nothing_written, stops_again, stops_after, read_in_check, of_writing, is_write}
+use Rattle.polcert_answer.proofs.runs.check_run.Goals as goal
+
+pub write_answer-requires : goal.write_answer-requires
+write_answer-requires g c =
+    let d = c.in_ok-read.ensures.accepted in
+    fits_of _ (meaning c.in_ok-read.read.model) c.in_ok-read.read.graph c.in_ok-read.read.vectors d.has_graph d.are_vectors
+
+-- the fault of a read is handed on
+pub returns-in_err-read : goal.returns-in_err-read
+returns-in_err-read g c =
+    let same = is_err _ _ c.from_residual.ensures.1 in
+    let read = c.in_err-read.ensures in
+    record {
+      answered = nothing_written _ _ same read.of_reading _ _ _;
+      promise = λ yes. absurd (not_ok _ _ same _ yes);
+      start_promise = λ yes. absurd (not_ok _ _ same _ yes);
+      horizon = no_ok _ _ same _;
+      stops = stops_again _ _ same read.of_reading (rw c.rounding.ensures at read.refused) read.read read.in_order;
+      of_a_check = of_fault _ _ same _ (read_in_check _ read.of_reading);
+    }
+
+-- all three texts are accepted
+pub returns : goal.returns
+returns g c =
+    let m = meaning c.in_ok-read.read.model in
+    let graph = c.in_ok-read.read.graph in
+    let v = c.in_ok-read.read.vectors in
+    let d = rw c.rounding.ensures at c.in_ok-read.ensures.accepted in
+    let laws = c.laws.ensures in
+    let wrote = c.write_answer.ensures in
+    record {
+      answered = wrote_mapped _ _ (has_verdict laws m graph v d) _ wrote.answered;
+      promise = λ yes. let (line, is, took) = text_of_answer _ _ _ wrote.answered yes in has_promise laws m graph v d line is;
+      start_promise = λ yes. let (line, is, took) = text_of_answer _ _ _ wrote.answered yes in (line, has_start_promise laws m graph v d line is, took);
+      horizon = answered_with _ _ (has_horizon laws m graph v d) _ wrote.answered;
+      stops = stops_after _ (of_writing _ wrote.of_write IsNoReadFault tt) _ c.in_ok-read.ensures.read wrote.write
+          (λ fault same other. absurd (other (is_write _ wrote.of_write fault same)));
+      of_a_check = of_writing _ wrote.of_write IsCheckRunFault tt;
+    }

@@ -1,0 +1,16 @@
+-- Rewards that observations have in common, except a few that are listed.
+use Rattle.std.specs.Prelude.{◌≡◌, ℕ, ◌<◌, ◌≤◌, ℤ, pos, List, length, slice_index_or}
+use Rattle.polcert_cells.specs.declared.common_reward.RewardCell.{RewardCell}
+use Rattle.polcert_cells.specs.declared.common_reward.CommonReward.{CommonReward}
+
+-- the cell of this number
+abbrev pub cell_at : List RewardCell → ℕ → RewardCell
+cell_at cells k = slice_index_or cells k (record { observation = 0; reward = pos 0 })
+
+-- Of so many observations, the first cells say the rewards, each of another one; the others have the reward in common.
+pub record IsCommonReward (r : ℕ → ℤ) (count : ℕ) (common : CommonReward) (cells : List RewardCell) : Type 0 where
+  pub room : common.exceptions ≤ length cells
+  pub distinct : (j k : ℕ) → j < k → k < common.exceptions → (cell_at cells j).observation ≡ (cell_at cells k).observation → ⊥
+  pub within : (k : ℕ) → k < common.exceptions → (cell_at cells k).observation < count
+  pub each : (k : ℕ) → k < common.exceptions → r (cell_at cells k).observation ≡ (cell_at cells k).reward
+  pub others : (z : ℕ) → z < count → ((k : ℕ) → k < common.exceptions → (cell_at cells k).observation ≡ z → ⊥) → r z ≡ common.reward

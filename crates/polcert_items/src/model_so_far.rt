@@ -1,0 +1,314 @@
+//! What the items of a text have said so far.
+ghost use Rattle.std.specs.Prelude.{◌≡◌, ◌<◌, ◌≤◌, ◌++◌, ◌∷◌, [], length, drop, get_or, List, Some, None};
+ghost use Rattle.std.specs.Prelude.{unwrap_or, OnOk, OnErr, IfOk, MatchResult, IsErrOf, if◌then◌else◌};
+ghost use Rattle.std.specs.Option.{option_copied};
+ghost use Rattle.polcert_cells.specs.declared.elements.Elements.{Elements};
+ghost use Rattle.polcert_cells.specs.declared.elements.Elements.TheVariants.{Count};
+ghost use Rattle.polcert_cells.specs.Elements.{count_of, most_states, most_actions, most_observations, most_elements};
+ghost use Rattle.polcert_cells.specs.Entry.{cells_in};
+ghost use Rattle.polcert_cells.specs.declared.words.Topic.{Topic};
+ghost use Rattle.polcert_cells.specs.Preamble.{is_mdp};
+ghost use Rattle.polcert_format.specs.KnownPreamble.{preamble_in, indices_in, named_in};
+ghost use Rattle.polcert_format.specs.Wants.{least_written};
+ghost use Rattle.polcert_format.specs.Limits.{HasFewCells};
+ghost use Rattle.polcert_items.specs.Steps.CellBudget.{AreSizesOf};
+ghost use Rattle.polcert_items.specs.Steps.ModelSoFar.{with_item, AreContentsWithin, IsAllowedNext, IsWholeRead, said};
+ghost use Rattle.polcert_cells.specs.Meaning.{IsCount};
+ghost use Rattle.polcert_cells.specs.Rows.{IsFirstWrongRow};
+ghost use Rattle.polcert_cells.specs.Steps.Drafts as drafts;
+ghost use Rattle.polcert_tables.specs.Steps.KeptOf.{IsKeptOf, DenotesWithinLimits};
+ghost use Rattle.polcert_format.specs.Order.{word_fault, count_in, preamble_fault, is_late, came_before, is_unobserved};
+ghost use Rattle.polcert_format.specs.Order.{pairs_are_too_many};
+ghost use Rattle.polcert_format.specs.Text.{nothing_known};
+ghost use Rattle.polcert_text.specs.Cut.{Lexeme};
+
+use crate::cell_budget::{CellBudget, Sizes};
+use crate::feed_error::AddError;
+use crate::item::ItemContents;
+use polcert_cells::{Elements, Entries, Entry, StartWeights, Table, Topic};
+use polcert_format::ItemFault;
+use polcert_tables::{Model, Preamble, WrongRow, build_model, count_or};
+use std::alloc::{AllocError, Global};
+use std::marker;
+
+/// How many pairs of a state and an observation there may be.
+const MOST_PAIRS: usize = 5_000_000;
+
+/// What the items so far say: the lines of the preamble that came, the start item, and the entries.
+#[derive(Drop)]
+pub struct ModelSoFar {
+    discount: Option<u32>,
+    costs: Option<bool>,
+    states: Option<Elements>,
+    actions: Option<Elements>,
+    observations: Option<Elements>,
+    start: Option<StartWeights>,
+    entries: Entries,
+    cell_budget: CellBudget,
+}
+
+impl marker::Model for ModelSoFar {
+    ghost use Rattle.polcert_format.specs.Text as text;
+    ghost use Rattle.polcert_cells.specs.Elements.{most_states, most_actions, most_observations};
+    ghost use Rattle.polcert_format.specs.KnownPreamble.{preamble_in};
+    ghost use Rattle.polcert_items.specs.Steps.CellBudget.{IsCoveringOf};
+    ghost use Rattle.polcert_items.specs.Steps.ModelSoFar.{known_of, IsCountIn};
+
+    ghost Value = { text.ModelSoFar };
+
+    ghost view = { λ k. known_of k.discount k.costs k.states k.actions k.observations k.start k.entries };
+
+    ghost invariant = { λ k. IsCountIn most_states k.states × IsCountIn most_actions k.actions
+        × IsCountIn most_observations k.observations
+        × IsCoveringOf (preamble_in
+        (known_of k.discount k.costs k.states k.actions k.observations k.start k.entries)) k.entries k.cell_budget };
+}
+
+impl ModelSoFar {
+    /// Makes the record before the first item.
+    pub fn new(alloc: Global) -> ModelSoFar
+        ensures { result ≡ nothing_known }
+    {
+        ModelSoFar {
+            discount: None,
+            costs: None,
+            states: None,
+            actions: None,
+            observations: None,
+            start: None,
+            entries: Entries::new(alloc),
+            cell_budget: CellBudget::new(),
+        }
+    }
+
+    /// Adds what a whole item says, unless it is an entry with which entries give too much of a large table.
+    /// If memory runs out, too, all stays as it was.
+    pub fn add_item(&mut self, said: ItemContents) -> Result<(), AddError>
+        requires within { AreContentsWithin said }
+        requires next { IsAllowedNext self.old said }
+        ensures ok { OnOk result (self.new ≡ with_item self.old said) }
+        ensures few { OnOk result (HasFewCells (preamble_in self.old) (with_item self.old said).entries) }
+        ensures err { OnErr result (self.new ≡ self.old) }
+        ensures many { IsErrOf result AddError.TooManyCells →
+            HasFewCells (preamble_in self.old) (with_item self.old said).entries → ⊥ }
+    {
+        match said {
+            ItemContents::Discount(discount) => self.discount = Some(discount),
+            ItemContents::Costs(costs) => self.costs = Some(costs),
+            ItemContents::States(states) => self.states = Some(states),
+            ItemContents::Actions(actions) => self.actions = Some(actions),
+            ItemContents::Observations(observations) => self.observations = Some(observations),
+            ItemContents::Start(shares) => self.start = Some(shares),
+            ItemContents::Entry(entry) => self.add_entry(entry)?,
+        }
+        Ok(())
+    }
+
+    /// Adds an entry.
+    #[inline(always)]
+    fn add_entry(&mut self, entry: Entry) -> Result<(), AddError>
+        requires { IsAllowedNext self.old (ItemContents.Entry entry) }
+        ensures ok { OnOk result (self.new ≡ with_item self.old (ItemContents.Entry entry)) }
+        ensures few { OnOk result (HasFewCells (preamble_in self.old) (self.old.entries ++ entry ∷ [])) }
+        ensures err { OnErr result (self.new ≡ self.old) }
+        ensures many { IsErrOf result AddError.TooManyCells →
+            HasFewCells (preamble_in self.old) (self.old.entries ++ entry ∷ []) → ⊥ }
+    {
+        let Some(cell_budget) = self.cell_budget.with(self.sizes(), &entry) else {
+            return Err(AddError::TooManyCells);
+        };
+        self.entries.push(entry)?;
+        self.cell_budget = cell_budget;
+        Ok(())
+    }
+
+    /// Returns how many elements the indices of the tables run over.
+    #[inline(always)]
+    fn sizes(&self) -> Sizes
+        requires { preamble_fault self.now ≡ None }
+        ensures { AreSizesOf (preamble_in self.now) result }
+    {
+        let states = count_in(&self.states);
+        Sizes {
+            actions: count_in(&self.actions),
+            states,
+            observed: count_or(states, &self.observations),
+            rewarded: count_or(1, &self.observations),
+        }
+    }
+
+    /// Returns the model of a complete preamble, start item and entries, or else the first row that does not sum to its scale.
+    pub fn into_model(self, alloc: Global) -> Result<Result<Model, WrongRow>, AllocError>
+        requires read { (seen : List Lexeme) × IsWholeRead seen self }
+        requires limits { DenotesWithinLimits (said self) }
+        ensures { IfOk result (λ found. MatchResult found
+            (λ model. IsKeptOf (said self) model.kept)
+            (λ w. IsFirstWrongRow (drafts.meaning (said self)) w.table w.action w.row)) }
+    {
+        let ModelSoFar {
+            discount,
+            costs,
+            states,
+            actions,
+            observations,
+            start,
+            entries,
+            cell_budget: _,
+        } = self;
+        let preamble = Preamble {
+            discount: discount.unwrap_or(0),
+            costs: costs.unwrap_or(false),
+            states: states.unwrap_or(Elements::Count(0)),
+            actions: actions.unwrap_or(Elements::Count(0)),
+            observations,
+        };
+        build_model(alloc, preamble, start, entries)
+    }
+
+    /// Returns the elements that the place of this number may name in an entry of the table, if it may name
+    /// any.
+    pub fn elements(&self, table: Table, number: usize) -> Option<&Elements>
+        requires { number < length (indices_in self.now table) }
+        ensures elements { get_or (named_in self.now table) number (Count 0)
+            ≡ unwrap_or (option_copied result) (Count 0) }
+        ensures few { count_of (unwrap_or (option_copied result) (Count 0)) ≤ most_elements }
+    {
+        match (table, number) {
+            (_, 0) => self.actions.as_ref(),
+            (Table::Observation, 2) => match &self.observations {
+                Some(elements) => Some(elements),
+                None => self.states.as_ref(),
+            },
+            (Table::Reward, 3) => self.observations.as_ref(),
+            _ => self.states.as_ref(),
+        }
+    }
+
+    /// Returns the states of a complete preamble.
+    pub fn states(&self) -> &Elements
+        requires { (states : Elements) × (self.now.states ≡ Some states) }
+        ensures states { self.now.states ≡ Some result.now }
+        ensures count { IsCount most_states (count_of result.now) }
+    {
+        self.states.as_ref().unwrap()
+    }
+
+    /// Returns how many cells so many places leave open.
+    pub fn cells_after(&self, table: Table, written: usize) -> usize
+        requires { least_written (is_mdp (preamble_in self.now)) table ≤ written }
+        ensures { result ≡ cells_in (drop written (indices_in self.now table)) }
+    {
+        let states = count_in(&self.states);
+        let observed = count_or(states, &self.observations);
+        let rewarded = count_or(1, &self.observations);
+        match (table, written) {
+            (Table::Transition, 1) => states * states,
+            (Table::Transition, 2) => states,
+            (Table::Observation, 1) => states * observed,
+            (Table::Observation, 2) => observed,
+            (Table::Reward, 1) => states * states * rewarded,
+            (Table::Reward, 2) => states * rewarded,
+            (Table::Reward, 3) => rewarded,
+            _ => 1,
+        }
+    }
+
+    /// Tests whether there is no line of observations.
+    pub fn is_mdp(&self) -> bool
+        ensures { result ≡ is_mdp (preamble_in self.now) }
+    {
+        self.observations.is_none()
+    }
+
+    /// Returns the fault if an item of this topic is not allowed here, whatever its body.
+    pub fn word_fault(&self, topic: Topic) -> Option<ItemFault>
+        ensures { result ≡ word_fault self.now topic }
+    {
+        if self.is_late(topic) {
+            return Some(ItemFault::LateLine);
+        }
+        if self.came_before(topic) {
+            return Some(ItemFault::DuplicateLine);
+        }
+        match topic {
+            Topic::Start => self.preamble_fault(),
+            Topic::Cells(table) => match self.preamble_fault() {
+                Some(fault) => Some(fault),
+                None => self.table_fault(table),
+            },
+            _ => None,
+        }
+    }
+
+    /// Returns the fault if the table has no entries: an MDP's observation is the end state.
+    fn table_fault(&self, table: Table) -> Option<ItemFault>
+        ensures { result ≡
+            (if is_unobserved self.now (Topic.Cells table) then Some ItemFault.BadShape else None) }
+    {
+        match table {
+            Table::Observation if self.is_mdp() => Some(ItemFault::BadShape),
+            _ => None,
+        }
+    }
+
+    fn is_late(&self, topic: Topic) -> bool
+        ensures { result ≡ is_late self.now topic }
+    {
+        match topic {
+            Topic::Cells(_) => false,
+            Topic::Start => self.entries.len() > 0,
+            _ => self.start.is_some() || self.entries.len() > 0,
+        }
+    }
+
+    fn came_before(&self, topic: Topic) -> bool
+        ensures { result ≡ came_before self.now topic }
+    {
+        match topic {
+            Topic::Discount => self.discount.is_some(),
+            Topic::Values => self.costs.is_some(),
+            Topic::States => self.states.is_some(),
+            Topic::Actions => self.actions.is_some(),
+            Topic::Observations => self.observations.is_some(),
+            Topic::Start => self.start.is_some(),
+            Topic::Cells(_) => false,
+        }
+    }
+
+    /// Returns the fault if the preamble isn't complete: a line is missing, or else there are too many pairs
+    /// of a state and an observation.
+    pub fn preamble_fault(&self) -> Option<ItemFault>
+        ensures { result ≡ preamble_fault self.now }
+    {
+        if self.discount.is_none() || self.costs.is_none() {
+            return Some(ItemFault::MissingLine);
+        }
+        match (&self.states, &self.actions) {
+            (Some(states), Some(_)) => {
+                let states = states.count();
+                let observed = count_or(states, &self.observations);
+                pairs_fault(states, observed)
+            }
+            _ => Some(ItemFault::MissingLine),
+        }
+    }
+}
+
+fn count_in(elements: &Option<Elements>) -> usize
+    ensures { result ≡ count_in elements.now }
+{
+    count_or(0, elements)
+}
+
+/// Returns the fault if there are too many pairs of a state and an observation.
+fn pairs_fault(states: usize, observed: usize) -> Option<ItemFault>
+    requires states { states ≤ most_states }
+    requires observed { observed ≤ most_observations }
+    ensures { result ≡ (if pairs_are_too_many states observed then Some ItemFault.TooManyCells else None) }
+{
+    if states * observed > MOST_PAIRS {
+        Some(ItemFault::TooManyCells)
+    } else {
+        None
+    }
+}

@@ -1,6 +1,0 @@
-use Rattle.std.proofs.Common.{◌≡◌, ◌+◌, drop}
-use Rattle.polcert_rules.specs.Steps.Sources.{total}
-use Rattle.polcert_rules.proofs.kept.row_sum.Given as goal
-
-abbrev pub invariant-loop-cell : goal.invariant-loop-cell
-invariant-loop-cell l = l.sum + total (drop l.cell-index l.cells) ≡ total l.cells

@@ -1,0 +1,8 @@
+use Rattle.std.proofs.Common.{◌≡◌, ℕ, ◌+◌, take}
+use Rattle.polcert_rules.specs.Steps.Named.{noted_at}
+use Rattle.polcert_rules.specs.Steps.Noting.{IsNoted}
+use Rattle.polcert_rules.proofs.named_noting.note_each.Given as goal
+
+-- the rules so far are noted
+abbrev pub invariant-loop-rule : goal.invariant-loop-rule
+invariant-loop-rule l = (z : ℕ) → IsNoted (take l.rule-index l.rules) (λ k. k ≡ l.start + z) (noted_at l.initial.list z) (noted_at l.list z)

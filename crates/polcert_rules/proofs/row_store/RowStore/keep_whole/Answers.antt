@@ -1,0 +1,41 @@
+use Rattle.std.proofs.Common.{◌≡◌, ◌∙◌, ◌≤◌, ◌*◌, ℕ, List, length, sym, ap, subst, arith}
+use Rattle.polcert_cells.specs.Numbers.{one}
+use Rattle.polcert_cells.specs.declared.cell.Cell.{Cell}
+use Rattle.polcert_cells.specs.Sparse.{weight_at, scaled_cells, IsRow, IsSparse}
+use Rattle.polcert_rules.specs.Steps.Merging.{given_at}
+use Rattle.polcert_rules.specs.Steps.Sources.{IsAfter}
+use Rattle.polcert_rules.proofs.Indexes.KeptLaws.{whole_small, full_row}
+use Rattle.polcert_rules.proofs.row_store.RowStore.keep_whole.Goals as goal
+
+pub keep_numbers-requires-clause-few : goal.keep_numbers-requires-clause-few
+keep_numbers-requires-clause-few c = let size = c.in-Some.ensures.size in let few = c.requires.within.columns.1 in omega (arith, size, few)
+
+pub keep_numbers-requires-clause-small : goal.keep_numbers-requires-clause-small
+keep_numbers-requires-clause-small c = c.in-Some.ensures.small
+
+pub returns-in-Some-clause-kept : goal.returns-in-Some-clause-kept
+returns-in-Some-clause-kept c =
+    let n = c.args.bodies.shape.columns in
+    let ns = c.in-Some.line.now in
+    record {
+      cells = scaled_cells (length ns) 0 ns;
+      row = full_row n (given_at n c.args.bodies.entries.now c.args.whole c.args.state) ns c.in-Some.ensures;
+      kept = subst (λ (m : ℕ). IsAfter m (scaled_cells (length ns) 0 ns) c.args.self.now c.keep_numbers.new.self) c.in-Some.ensures.size c.in_ok-keep_numbers.ensures.kept;
+    }
+
+pub keep-requires-clause-sparse : goal.keep-requires-clause-sparse
+keep-requires-clause-sparse c = subst (IsSparse c.args.bodies.shape.columns) (sym c.as_slice.ensures.value) c.in_ok-cells.ensures.sparse
+
+pub keep-requires-clause-small : goal.keep-requires-clause-small
+keep-requires-clause-small c i l =
+    subst (λ k. k ≤ one * c.args.bodies.shape.columns) (sym (ap (λ (xs : List Cell). weight_at xs i) c.as_slice.ensures.value ∙ c.in_ok-cells.ensures.each i l))
+    (whole_small c.args.bodies.shape c.args.bodies.entries.now c.args.whole c.args.state i c.requires.within c.requires.whole)
+
+pub returns-clause-kept : goal.returns-clause-kept
+returns-clause-kept c =
+    let n = c.args.bodies.shape.columns in
+    record {
+      cells = c.as_slice.result.now;
+      row = subst (λ (xs : List Cell). IsRow n (given_at n c.args.bodies.entries.now c.args.whole c.args.state) xs) (sym c.as_slice.ensures.value) c.in_ok-cells.ensures;
+      kept = c.in_ok-keep.ensures.kept;
+    }

@@ -1,0 +1,62 @@
+use Rattle.std.proofs.Common.{◌≡◌, ◌∙◌, ◌≤◌, ◌*◌, ◌==◌, List, length, refl, sym, ap, subst, arith, rules}
+use Rattle.polcert_cells.specs.Numbers.{one}
+use Rattle.polcert_cells.specs.declared.cell.Cell.{Cell}
+use Rattle.polcert_cells.specs.Sparse.{weight_at, IsSparse, IsRow}
+use Rattle.polcert_rules.specs.Steps.Lists.{stored_cells}
+use Rattle.polcert_rules.specs.Steps.Merging.{weight_in}
+use Rattle.polcert_rules.proofs.Indexes.KeptLaws.{at_number, cells_row, row_within, numbers_stay, weighed_row}
+use Rattle.polcert_rules.proofs.RowLaws.RowWeights.{finished, finished_small, shared_weights}
+use Rattle.polcert_rules.proofs.row_store.RowStore.row_number.Goals as goal
+
+pub returns-then-is_empty-clause-row : goal.returns-then-is_empty-clause-row
+returns-then-is_empty-clause-row c table a h =
+    let size : length c.in_ok-newer.newer.items ≡ c.in_ok-newer.newer.len = search rules in
+    shared_weights c.args.bodies.shape c.args.bodies.entries.now table a c.args.state c.args.row.now c.in_ok-newer.newer.items h (c.in_ok-newer.ensures c.args.state) _ _
+    (search rules) (ap (λ k. k == 0) size ∙ sym c.if-is_empty.ensures) c.in_ok-base.ensures.row
+
+pub at-requires : goal.at-requires
+at-requires c = row_within c.args.bodies.shape.columns _ _ _ c.in_ok-base.ensures.row
+
+pub cells_over-requires-clause-columns : goal.cells_over-requires-clause-columns
+cells_over-requires-clause-columns c k d l =
+    let sparse = at_number (IsSparse c.args.bodies.shape.columns) _ c.in_ok-base.base (stored_cells c.at.result) c.in_ok-base.ensures.kept.sparse c.at.ensures in
+    let within = sparse.within k d l in
+    let few = c.requires.within.columns.1 in
+    omega (arith, within, few)
+
+pub own_row-requires-clause-near : goal.own_row-requires-clause-near
+own_row-requires-clause-near c = (
+  numbers_stay c.args.near.here.now _ _ c.in_ok-base.ensures.stays c.requires.near.0,
+  numbers_stay c.args.near.before.now _ _ c.in_ok-base.ensures.stays c.requires.near.1,
+)
+
+pub own_row-requires-clause-sparse : goal.own_row-requires-clause-sparse
+own_row-requires-clause-sparse c =
+    let n = c.args.bodies.shape.columns in
+    let entries = c.args.bodies.entries.now in
+    let below = cells_row n entries (stored_cells c.at.result) _ _ c.in_ok-base.base c.in_ok-base.ensures.kept c.in_ok-base.ensures.row c.at.ensures in
+    let row = finished c.args.bodies.shape entries c.requires.row.0 c.requires.row.1 c.args.state c.args.row.now c.in_ok-newer.newer.items c.requires.row.2 (c.in_ok-newer.ensures c.args.state)
+    (stored_cells c.at.result) _ _ c.in_ok-cells.cells.items below refl c.as_slice.ensures.value c.in_ok-cells.ensures in
+    subst (IsSparse n) (sym c.as_slice-2.ensures.value) row.sparse
+
+pub own_row-requires-clause-small : goal.own_row-requires-clause-small
+own_row-requires-clause-small c i l =
+    let n = c.args.bodies.shape.columns in
+    let entries = c.args.bodies.entries.now in
+    let below = cells_row n entries (stored_cells c.at.result) _ _ c.in_ok-base.base c.in_ok-base.ensures.kept c.in_ok-base.ensures.row c.at.ensures in
+    let row = finished c.args.bodies.shape entries c.requires.row.0 c.requires.row.1 c.args.state c.args.row.now c.in_ok-newer.newer.items c.requires.row.2 (c.in_ok-newer.ensures c.args.state)
+    (stored_cells c.at.result) _ _ c.in_ok-cells.cells.items below refl c.as_slice.ensures.value c.in_ok-cells.ensures in
+    subst (λ (xs : List Cell). weight_at xs i ≤ one * n) (sym c.as_slice-2.ensures.value)
+    (finished_small c.args.bodies.shape entries c.requires.row.0 c.requires.row.1 c.args.state c.args.row.now c.in_ok-newer.newer.items c.requires.row.2 (c.in_ok-newer.ensures c.args.state) c.in_ok-cells.cells.items row i l)
+
+pub returns-clause-stays : goal.returns-clause-stays
+returns-clause-stays c n row e = c.in_ok-own_row.ensures.stays n row (c.in_ok-base.ensures.stays n row e)
+
+pub returns-clause-row : goal.returns-clause-row
+returns-clause-row c table a h =
+    let n = c.args.bodies.shape.columns in
+    let entries = c.args.bodies.entries.now in
+    let below = cells_row n entries (stored_cells c.at.result) _ _ c.in_ok-base.base c.in_ok-base.ensures.kept c.in_ok-base.ensures.row c.at.ensures in
+    let row = finished c.args.bodies.shape entries table a c.args.state c.args.row.now c.in_ok-newer.newer.items h (c.in_ok-newer.ensures c.args.state)
+    (stored_cells c.at.result) _ _ c.in_ok-cells.cells.items below refl c.as_slice.ensures.value c.in_ok-cells.ensures in
+    weighed_row n entries c.as_slice-2.result.now _ _ _ c.in_ok-own_row.ensures.row (subst (λ (xs : List Cell). IsRow n (weight_in n entries table a c.args.state) xs) (sym c.as_slice-2.ensures.value) row)

@@ -1,0 +1,67 @@
+//! Noting the newest rules of the observations of an outcome, part of the rules by part.
+ghost use Rattle.std.specs.Prelude.{◌≡◌, ◌+◌, ◌<◌, ◌≤◌, ◌^◌, ◌∷◌, [], ℕ, Contains, IsTrue};
+ghost use Rattle.polcert_rules.specs.declared.rule.Rule.{Rule as R};
+ghost use Rattle.polcert_rules.specs.Keys.{key_base};
+ghost use Rattle.polcert_rules.specs.Steps.Named.{AreNamed, noted_at};
+ghost use Rattle.polcert_rules.specs.Steps.Newest.{IsRising};
+ghost use Rattle.polcert_rules.specs.Steps.Noting.{IsNoted};
+
+use crate::Rule;
+use crate::keys::KEY_BASE;
+use crate::named_rules::NamedRules;
+use crate::newest::{first_at, next_place};
+use crate::rule_span::{between, from};
+
+/// How many observations have a digit.
+const OBSERVATION_KEYS: u64 = KEY_BASE - 2;
+
+/// Notes, after two places, the newest of the rules that fit an end state and each observation. Returns whether there was room.
+pub(crate) fn note_ends(rules: &[Rule], low: u64, end: usize, list: &mut NamedRules) -> bool
+    requires rising { IsRising rules.now }
+    requires from { (r : R) → Contains rules.now r → low ≤ r.key }
+    requires room { low + key_base ^ 2 < 2 ^ 64 }
+    requires end { end + 2 < key_base }
+    ensures { IsTrue result → AreNamed rules.now 2 low (end ∷ []) list.old list.new }
+{
+    if rules.is_empty() {
+        return true;
+    }
+    list.note_all(first_at(rules, low));
+    let next = next_place(rules, low, 2, end);
+    if !note_observations(next.of_every, next.every, list) {
+        return false;
+    }
+    note_observations(next.of_only, next.only, list)
+}
+
+/// Notes, after three places, the newest of the rules that fit each observation. Returns whether there was room.
+fn note_observations(rules: &[Rule], low: u64, list: &mut NamedRules) -> bool
+    requires rising { IsRising rules.now }
+    requires from { (r : R) → Contains rules.now r → low ≤ r.key }
+    requires room { low + key_base < 2 ^ 64 }
+    ensures { IsTrue result → AreNamed rules.now 1 low [] list.old list.new }
+{
+    if rules.is_empty() {
+        return true;
+    }
+    list.note_all(first_at(rules, low));
+    let every = low + 1;
+    list.note_all(first_at(from(rules, every), every));
+    let start = low + 2;
+    note_each(between(rules, start, start + OBSERVATION_KEYS), start, list)
+}
+
+/// Notes each of these rules at the number by which its key is greater than `start`. Returns whether there was room.
+fn note_each(rules: &[Rule], start: u64, list: &mut NamedRules) -> bool
+    requires from { (r : R) → Contains rules.now r → start ≤ r.key }
+    ensures { IsTrue result → (z : ℕ) → IsNoted rules.now (λ k. k ≡ start + z) (noted_at list.old z)
+        (noted_at list.new z) }
+{
+    for rule in rules {
+        let observation = (rule.key - start) as usize;
+        if !list.note_rule(observation, rule.number) {
+            return false;
+        }
+    }
+    true
+}

@@ -1,0 +1,404 @@
+//! Rows that are kept once for many actions and states.
+ghost use Rattle.std.specs.Prelude.{◌≡◌, ℕ, [], ◌*◌, ◌<◌, ◌≤◌, ◌^◌, ◌↔◌, All, IfOk, OnOk, IfSome, IsTrue, List, length, slice_get, sum, Some};
+ghost use Rattle.polcert_cells.specs.Numbers.{one};
+ghost use Rattle.polcert_cells.specs.Elements.{most_elements};
+ghost use Rattle.polcert_cells.specs.EntryRefs.{entry_of};
+ghost use Rattle.polcert_cells.specs.Meaning.{sum_below};
+ghost use Rattle.polcert_cells.specs.declared.entry.Table.{Table as T};
+ghost use Rattle.polcert_cells.specs.declared.entry.Entry.{Entry as E};
+ghost use Rattle.polcert_rules.specs.declared.shape.Shape.{Shape as S};
+ghost use Rattle.polcert_rules.specs.Steps.Given.{IsWithin};
+ghost use Rattle.polcert_cells.specs.Sparse.{weight_at, scaled_cells, IsRow, IsSparse};
+ghost use Rattle.polcert_rules.specs.Steps.Lists.{IsFullLine};
+ghost use Rattle.polcert_rules.specs.Steps.Merging.{given_at, weight_in};
+ghost use Rattle.polcert_rules.specs.Steps.Sources.{source_of, source_in, IsWhole, IsFrom, AreKept, AreNumbersOf, IsKeptRow, IsShared, IsAfter, IsRowAfter, Stays, AreNear, total};
+
+use crate::Shape;
+use crate::body::{body_line, body_row};
+use crate::row::Row;
+use crate::row_cache::RowCache;
+use crate::single::newer_cells;
+use crate::stored_rows::{StoredRow, StoredRows};
+use crate::visible_cells::cells_over;
+use polcert_cells::{BodyRef, Cell, Entries, EntryRef, ONE, Table};
+use std::alloc::{AllocError, Global};
+
+/// What a row is made of that one entry gives alone.
+#[derive(Clone, Copy)]
+pub(crate) enum RowOrigin {
+    /// No entry.
+    Nothing,
+    /// `uniform`: the same weight in all columns.
+    Even,
+    /// `identity`: one column, that of the state.
+    Diagonal { state: usize },
+    /// A line of the numbers of one entry, by its number.
+    Line { entry: usize, line: usize },
+}
+
+/// A row that one entry gives alone: what it is made of, and the number under which it is kept.
+#[derive(Clone, Copy)]
+pub(crate) struct SharedRow {
+    pub source: RowOrigin,
+    pub number: usize,
+}
+
+/// The entries whose bodies give rows, and the shape of the table that has these rows.
+#[derive(Clone, Copy)]
+pub(crate) struct Bodies<'a> {
+    pub entries: &'a Entries,
+    pub shape: Shape,
+}
+
+/// The numbers of the rows of an action so far, and of those of the action before, if there is one.
+#[derive(Clone, Copy)]
+pub(crate) struct Near<'a> {
+    pub here: &'a [usize],
+    pub before: &'a [usize],
+}
+
+/// Rows that are kept once for many actions and states. A row that one entry gives alone is made once and kept once. A row of
+/// single cells is kept once where it is that of a neighbour.
+#[derive(Drop)]
+pub(crate) struct RowStore {
+    pub rows: StoredRows,
+    /// Of each row whether it sums to its scale.
+    pub proper: Vec<bool>,
+    pub shared: Vec<SharedRow>,
+    slots: RowCache,
+}
+
+impl RowStore {
+    /// Makes the store before its first row, for this table of so many states.
+    pub(crate) fn of(
+        alloc: Global,
+        entries: &Entries,
+        table: Table,
+        states: usize,
+    ) -> Result<RowStore, AllocError>
+        ensures { IfOk result (λ keeper. (columns : ℕ) → AreKept columns entries.now keeper) }
+    {
+        let slots = RowCache::of(alloc, entries, table, states)?;
+        Ok(RowStore {
+            rows: StoredRows::new(alloc),
+            proper: Vec::new(alloc),
+            shared: Vec::new(alloc),
+            slots,
+        })
+    }
+
+    /// Returns whether the row of this number sums to its scale.
+    pub(crate) fn is_proper(&self, number: usize) -> bool
+        requires number { number < length self.now.rows }
+        ensures { (columns : ℕ) (entries : List E) (weights : ℕ → ℕ) → AreKept columns entries self.now →
+            IsKeptRow columns weights self.now.rows number →
+            (IsTrue result ↔ (sum_below weights columns ≡ one * columns)) }
+    {
+        match self.proper.get(number) {
+            Some(proper) => *proper,
+            None => false,
+        }
+    }
+
+    /// Returns the number under which the row of these entries is kept, of this action and state.
+    pub(crate) fn row_number(
+        &mut self,
+        alloc: Global,
+        bodies: Bodies<'_>,
+        near: Near<'_>,
+        row: &Row<'_>,
+        state: usize,
+    ) -> Result<usize, AllocError>
+        requires within { IsWithin bodies.shape }
+        requires state { state < bodies.shape.states }
+        requires near { AreNear self.old.rows near }
+        requires kept { AreKept bodies.shape.columns bodies.entries.now self.old }
+        requires row { (table : T) × (a : ℕ) ×
+            AreNumbersOf bodies.shape bodies.entries.now table a state row.now }
+        ensures stays { OnOk result (Stays self.old.rows self.new.rows) }
+        ensures kept { OnOk result
+            (AreKept bodies.entry.shape.columns bodies.entry.entries.now self.new) }
+        ensures row { IfOk result (λ n. (table : T) (a : ℕ) →
+            AreNumbersOf bodies.entry.shape bodies.entry.entries.now table a state row.now →
+            IsKeptRow bodies.entry.shape.columns
+            (weight_in bodies.entry.shape.columns bodies.entry.entries.now table a state)
+            self.new.rows n) }
+    {
+        let base = self.shared_row(alloc, bodies, row.whole, state)?;
+        let newer = newer_cells(alloc, bodies.entries, row, bodies.shape.columns)?;
+        if row.zeros.is_none() && newer.is_empty() {
+            return Ok(base);
+        }
+        let cells = cells_over(alloc, row, self.rows.at(base), newer.as_slice())?;
+        Ok(self.own_row(bodies, near, cells.as_slice())?)
+    }
+
+    /// Returns the number of the row that the entry of this number gives alone. It is made on first use.
+    fn shared_row(
+        &mut self,
+        alloc: Global,
+        bodies: Bodies<'_>,
+        whole: Option<usize>,
+        state: usize,
+    ) -> Result<usize, AllocError>
+        requires within { IsWithin bodies.shape }
+        requires state { state < bodies.shape.states }
+        requires kept { AreKept bodies.shape.columns bodies.entries.now self.old }
+        requires whole { IsWhole bodies.shape bodies.entries.now whole }
+        ensures stays { OnOk result (Stays self.old.rows self.new.rows) }
+        ensures kept { OnOk result
+            (AreKept bodies.entry.shape.columns bodies.entry.entries.now self.new) }
+        ensures row { IfOk result (IsKeptRow bodies.entry.shape.columns
+            (given_at bodies.entry.shape.columns bodies.entry.entries.now whole state) self.new.rows) }
+    {
+        let source = source_of(bodies.entries, whole, state);
+        let place = self.slots.place_of(source);
+        if let Some(number) = number_at(self.shared.as_slice(), place, source) {
+            return Ok(number);
+        }
+        let number = self.keep_whole(alloc, bodies, whole, state)?;
+        self.slots.note(source, self.shared.len());
+        self.shared.push(SharedRow { source, number })?;
+        Ok(number)
+    }
+
+    /// Keeps the row that the entry of this number gives alone after the others, and returns its number.
+    fn keep_whole(
+        &mut self,
+        alloc: Global,
+        bodies: Bodies<'_>,
+        whole: Option<usize>,
+        state: usize,
+    ) -> Result<usize, AllocError>
+        requires within { IsWithin bodies.shape }
+        requires state { state < bodies.shape.states }
+        requires whole { IsWhole bodies.shape bodies.entries.now whole }
+        ensures number { IfOk result (λ n. n ≡ length self.old.rows) }
+        ensures kept { OnOk result (IsRowAfter bodies.entry.shape.columns
+            (given_at bodies.entry.shape.columns bodies.entry.entries.now whole state) self.old self.new) }
+    {
+        if let Some(line) = full_line(bodies.entries, whole, state, bodies.shape) {
+            return Ok(self.keep_numbers(line)?);
+        }
+        let cells = whole_row(alloc, bodies.entries, whole, state, bodies.shape)?;
+        Ok(self.keep(cells.as_slice(), bodies.shape.columns)?)
+    }
+
+    /// Returns the number of a row of these cells, which no entry gives alone.
+    fn own_row(
+        &mut self,
+        bodies: Bodies<'_>,
+        near: Near<'_>,
+        cells: &[Cell],
+    ) -> Result<usize, AllocError>
+        requires within { IsWithin bodies.shape }
+        requires near { AreNear self.old.rows near }
+        requires kept { AreKept bodies.shape.columns bodies.entries.now self.old }
+        requires sparse { IsSparse bodies.shape.columns cells.now }
+        requires small { (c : ℕ) → c < bodies.shape.columns →
+            weight_at cells.now c ≤ one * bodies.shape.columns }
+        ensures stays { OnOk result (Stays self.old.rows self.new.rows) }
+        ensures kept { OnOk result
+            (AreKept bodies.entry.shape.columns bodies.entry.entries.now self.new) }
+        ensures row { IfOk result (λ n. slice_get self.new.rows n ≡ Some cells.now) }
+    {
+        if let Some(number) = last_same(&self.rows, near, cells) {
+            return Ok(number);
+        }
+        Ok(self.keep(cells, bodies.shape.columns)?)
+    }
+
+    /// Keeps a row after the others, and gives its number.
+    fn keep(&mut self, cells: &[Cell], columns: usize) -> Result<usize, AllocError>
+        requires few { columns ≤ most_elements }
+        requires sparse { IsSparse columns cells.now }
+        requires small { (c : ℕ) → c < columns → weight_at cells.now c ≤ one * columns }
+        ensures number { IfOk result (λ n. n ≡ length self.old.rows) }
+        ensures kept { OnOk result (IsAfter columns cells.now self.old self.new) }
+    {
+        let number = self.rows.len();
+        self.rows.push_cells(cells)?;
+        self.proper.push(row_sum(cells) == ONE * columns as u64)?;
+        Ok(number)
+    }
+
+    /// Keeps a row after the others whose columns have these numbers, in millionths, and returns its number.
+    fn keep_numbers(&mut self, numbers: &[u32]) -> Result<usize, AllocError>
+        requires few { length numbers.now ≤ most_elements }
+        requires small { All (λ n. n ≤ one) numbers.now }
+        ensures number { IfOk result (λ n. n ≡ length self.old.rows) }
+        ensures kept { OnOk result (IsAfter (length numbers.now)
+            (scaled_cells (length numbers.now) 0 numbers.now) self.old self.new) }
+    {
+        let number = self.rows.len();
+        let columns = numbers.len() as u64;
+        self.rows.push_numbers(numbers)?;
+        self.proper
+            .push(numbers_sum(numbers) * columns == ONE * columns)?;
+        Ok(number)
+    }
+}
+
+/// Returns the row of the entry that covers the whole row, if there is one.
+fn whole_row(
+    alloc: Global,
+    entries: &Entries,
+    whole: Option<usize>,
+    state: usize,
+    shape: Shape,
+) -> Result<Vec<Cell>, AllocError>
+    requires within { IsWithin shape }
+    requires state { state < shape.states }
+    requires whole { IsWhole shape entries.now whole }
+    ensures { IfOk result
+        (λ cells. IsRow shape.columns (given_at shape.columns entries.now whole state) cells.items) }
+{
+    match whole {
+        None => Ok(Vec::new(alloc)),
+        Some(number) => Ok(body_row(alloc, entries.at(number), state, shape)?),
+    }
+}
+
+/// Returns the number of each column in millionths, if the entry that covers the whole row gives so many, and more than half are above 0.
+fn full_line<'a>(
+    entries: &'a Entries,
+    whole: Option<usize>,
+    state: usize,
+    shape: Shape,
+) -> Option<&'a [u32]>
+    requires within { IsWithin shape }
+    requires state { state < shape.states }
+    requires whole { IsWhole shape entries.now whole }
+    ensures { IfSome result (λ line. IsFullLine shape.columns
+        (given_at shape.columns entries.now whole state) line.now) }
+{
+    let Some(number) = whole else {
+        return None;
+    };
+    match body_line(entries.at(number), state, shape) {
+        Some(line) => if is_mostly_positive(line) {
+            Some(line)
+        } else {
+            None
+        },
+        None => None,
+    }
+}
+
+/// Returns whether more than half of the numbers are above 0.
+fn is_mostly_positive(numbers: &[u32]) -> bool {
+    let positive = numbers.iter().filter(|number| **number > 0).count();
+    positive > numbers.len() / 2
+}
+
+/// Returns the sum of the numbers.
+fn numbers_sum(numbers: &[u32]) -> u64
+    requires { sum numbers.now < 2 ^ 64 }
+    ensures { result ≡ sum numbers.now }
+{
+    let mut total = 0;
+    for number in numbers {
+        total += *number as u64;
+    }
+    total
+}
+
+/// Returns the origin of the row of a state, by the number of the entry that covers the whole row.
+fn source_of(entries: &Entries, whole: Option<usize>, state: usize) -> RowOrigin
+    requires { (shape : S) × IsWhole shape entries.now whole }
+    ensures { result ≡ source_of entries.now whole state }
+{
+    match whole {
+        None => RowOrigin::Nothing,
+        Some(number) => source_in(entries.at(number), number, state),
+    }
+}
+
+/// Returns the origin of the row of a state that the entry of this number gives.
+fn source_in(entry: EntryRef<'_>, number: usize, state: usize) -> RowOrigin
+    ensures { result ≡ source_in number (entry_of entry.entry).places (entry_of entry.entry).body state }
+{
+    match entry.body {
+        BodyRef::Probabilities(_) => RowOrigin::Line {
+            entry: number,
+            line: if entry.places.len() == 1 { state } else { 0 },
+        },
+        BodyRef::Identity => RowOrigin::Diagonal { state },
+        BodyRef::Uniform => RowOrigin::Even,
+        BodyRef::Rewards(_) => RowOrigin::Nothing,
+    }
+}
+
+/// Returns the number of a row next to this one that has these cells: of the state before, or of the action before.
+fn last_same(rows: &StoredRows, near: Near<'_>, cells: &[Cell]) -> Option<usize>
+    requires near { AreNear rows.now near }
+    ensures { IfSome result (λ n. slice_get rows.now n ≡ Some cells.now) }
+{
+    if let Some(number) = near.here.last() {
+        if has_cells(rows, *number, cells) {
+            return Some(*number);
+        }
+    }
+    if let Some(number) = near.before.get(near.here.len()) {
+        if has_cells(rows, *number, cells) {
+            return Some(*number);
+        }
+    }
+    None
+}
+
+/// Tests whether the row of this number has these cells.
+fn has_cells(rows: &StoredRows, number: usize, cells: &[Cell]) -> bool
+    requires { number < length rows.now }
+    ensures { IsTrue result → slice_get rows.now number ≡ Some cells.now }
+{
+    match rows.at(number) {
+        StoredRow::Sparse(own) => own == cells,
+        StoredRow::Full { .. } => false,
+    }
+}
+
+/// Returns the number of the row at this place of the list, if it is made of this.
+fn number_at(shared: &[SharedRow], place: usize, source: RowOrigin) -> Option<usize>
+    ensures { IfSome result (IsShared shared.now source) }
+{
+    match shared.get(place) {
+        Some(row) => if is_same(row.source, source) {
+            Some(row.number)
+        } else {
+            None
+        },
+        None => None,
+    }
+}
+
+/// Tests whether two rows have the same origin.
+fn is_same(one: RowOrigin, other: RowOrigin) -> bool
+    ensures { IsTrue result ↔ (one ≡ other) }
+{
+    match (one, other) {
+        (RowOrigin::Nothing, RowOrigin::Nothing) => true,
+        (RowOrigin::Even, RowOrigin::Even) => true,
+        (RowOrigin::Diagonal { state }, RowOrigin::Diagonal { state: place }) => state == place,
+        (
+            RowOrigin::Line { entry, line },
+            RowOrigin::Line {
+                entry: number,
+                line: place,
+            },
+        ) => { entry == number && line == place }
+        _ => false,
+    }
+}
+
+/// Returns the sum of the weights of a row.
+fn row_sum(cells: &[Cell]) -> u64
+    requires { total cells.now < 2 ^ 64 }
+    ensures { result ≡ total cells.now }
+{
+    let mut sum = 0;
+    for cell in cells {
+        sum += cell.weight;
+    }
+    sum
+}

@@ -1,0 +1,15 @@
+use Rattle.std.proofs.Common.{◌≡◌, ℕ, List, [], ◌∷◌, pos, subst}
+use Rattle.polcert_cells.specs.Cells.{reward}
+use Rattle.polcert_cells.specs.Preamble.{Preamble}
+use Rattle.polcert_cells.specs.declared.entry.Entry.{Entry}
+use Rattle.polcert_rules.specs.Steps.Rewards.{AreRewardsOf}
+use Rattle.polcert_tables.specs.Steps.ModelView.{IsKeptModel}
+use Rattle.polcert_tables.specs.Contents.{Contents}
+use Rattle.polcert_tables.proofs.KeptLaws.{model_unpaid}
+use Rattle.polcert_tables.proofs.model.Model.has_rewards.Goals as goal
+
+pub returns : goal.returns
+returns c = λ no.
+    model_unpaid c.args.self.now.kept (subst (λ (m : Contents). IsKeptModel m.kept) c.self.view_is c.self.invariant) c.args.a c.args.s c.requires.action c.requires.start
+    (subst (λ (m : Contents). (p : Preamble) (entries : List Entry) → AreRewardsOf p entries m.kept.rewards → (e z : ℕ) → reward p entries (c.args.a ∷ c.args.s ∷ e ∷ z ∷ []) ≡ pos 0) c.self.view_is
+    (c.has_rewards.ensures.unpaid no))

@@ -1,0 +1,36 @@
+-- What a call made of a slice, from what it made of the slice as the text of a source.
+use Rattle.std.proofs.Common.{◌≡◌, ◌∙◌, ℕ, ◌<◌, ◌⊎◌, inl, inr, Bool, true, false, List, Ok, Err, refl, sym, subst, arith}
+use Rattle.polcert_text.specs.Source.{IsText, Reads, Fits, EachTextThatFits}
+use Rattle.polcert_text.specs.Device.{last_count}
+use Rattle.polcert_text.specs.ReadTexts.{ReadsText}
+use Rattle.polcert_text.specs.declared.source.SourceFault.TheVariants.{Device, Refused}
+use Rattle.polcert_text.proofs.Known.{slice_reads, gave_slice, text_slice}
+
+module _ {S : Type 0} (rest : S → List ℕ) (old new : S) where
+  -- whatever was read of a slice, the slice is a text that fits
+  slice_fits : (bytes : List ℕ) (is_whole : Bool) → Reads (slice_reads rest) old bytes is_whole new → Fits bytes is_whole (rest old)
+  slice_fits bytes true was = sym (text_slice rest was)
+  slice_fits bytes false gave = (rest new, gave_slice rest gave)
+
+module _ {S : Type 0} (rest : S → List ℕ) {old new : S} {slice : List ℕ} (holds : rest old ≡ slice) where
+  -- so that what is said of each text that fits is said of the slice
+  pub of_slice : (P : List ℕ → Type 0) → EachTextThatFits (slice_reads rest) old new P → P slice
+  of_slice P h = subst P holds (h.each (rest old) (slice_fits rest old new h.bytes h.is_whole h.was_read))
+
+  -- and what is said of its text
+  pub of_slice_text : (P : List ℕ → Type 0) (text : List ℕ) → IsText (slice_reads rest) old text new → P text → P slice
+  of_slice_text P text is = subst P (text_slice rest is ∙ holds)
+
+  module _ {V F : Type 0} {Denotes : List ℕ → V → Type 0} {Refuses : F → List ℕ → Type 0} where
+    pub slice_denotes : {v : V} → ReadsText (slice_reads rest) (λ _. 0) old new Denotes Refuses (Ok v) → Denotes slice v
+    slice_denotes {v} read = of_slice_text (λ text. Denotes text v) read.accepted.0 read.accepted.1 read.accepted.2
+
+    pub slice_refused : {fault : F} → ReadsText (slice_reads rest) (λ _. 0) old new Denotes Refuses (Err (Refused fault)) → Refuses fault slice
+    slice_refused {fault} read = of_slice (Refuses fault) (read.refused fault refl)
+
+    pub slice_failed : ReadsText (slice_reads rest) (λ _. 0) old new Denotes Refuses (Err Device) → ⊥
+    slice_failed read = at (read.device refl)
+      where
+        at : (0 < 0) ⊎ (0 ≡ last_count) → ⊥
+        at (inl l) = omega (arith, l)
+        at (inr e) = omega (arith, e)

@@ -1,0 +1,13 @@
+use Rattle.std.proofs.Common.{◌≡◌, ◌-◌, ◌≤◌, length, take}
+use Rattle.polcert_text.specs.Steps.Scan.{gap_through}
+use Rattle.polcert_text.specs.declared.lexeme.Gap.TheVariants.{Between}
+use Rattle.polcert_text.proofs.front_tokens.blanks.Given as goal
+
+abbrev pub invariant-loop-at : goal.invariant-loop-at
+invariant-loop-at l = record {
+  high : l.at ≤ length l.bytes;
+  gap : gap_through Between (take l.at l.bytes) ≡ Between;
+}
+
+abbrev pub decreases-loop-at : goal.decreases-loop-at
+decreases-loop-at l = length l.bytes - l.at

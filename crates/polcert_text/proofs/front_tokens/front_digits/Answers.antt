@@ -1,0 +1,11 @@
+use Rattle.std.proofs.Common.{subst}
+use Rattle.std.proofs.lemmas.List.{take_rest}
+use Rattle.polcert_text.specs.Steps.ScanOf.{EndsAsDigits}
+use Rattle.polcert_text.proofs.Taken.BeginLaws.{digits_begin}
+use Rattle.polcert_text.proofs.front_tokens.front_digits.Goals as goal
+
+pub returns-in-Some : goal.returns-in-Some
+returns-in-Some c = λ place.
+    let bs = c.args.bytes.now in
+    let gap = c.blanks-start.result in
+    digits_begin place bs gap c.in-Some.number c.blanks-start.ensures.gap (subst (λ xs. EndsAsDigits xs c.in-Some.number) (take_rest bs gap) c.in-Some.ensures)

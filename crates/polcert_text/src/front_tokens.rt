@@ -1,0 +1,230 @@
+//! Tokens that stand whole at the front of some bytes, cut without going through a stream.
+ghost use Rattle.std.specs.Prelude.{◌≡◌, ◌≤◌, ◌∷◌, [], ℕ, length, take, IfSome};
+ghost use Rattle.polcert_text.specs.Steps.Scan.{gap_through};
+ghost use Rattle.polcert_text.specs.Beginning.{BeginWith, BeginWithOne, BeginWithNumber, BeginWithDigits, moved};
+ghost use Rattle.polcert_text.specs.Reading.{lexeme_of};
+ghost use Rattle.polcert_text.specs.Steps.ScanOf.{EndsAsNumber, EndsAsDigits, IsNumberFrom};
+
+use crate::bytes::{quick_is_blank, quick_is_colon, quick_is_letter, quick_is_point, quick_sign};
+use crate::lexeme::{Gap, LONGEST_TOKEN, TokenKind, ended_name, ended_name_or_mark};
+use crate::number::{MILLION, few_digits, power_of_ten, signed};
+use crate::tokens::Token;
+
+/// An unsigned number at the front of some bytes: its value, and how many bytes it takes with the blanks before it.
+#[derive(Clone, Copy)]
+pub struct FrontDigits {
+    pub len: usize,
+    pub value: u64,
+}
+
+/// A number with its sign at the front of some bytes: its value in millionths, and how many bytes it takes with the blanks before it.
+#[derive(Clone, Copy)]
+pub struct FrontNumber {
+    pub len: usize,
+    pub value: i64,
+}
+
+/// Returns how many bytes a colon at the front takes, with the blanks before it. `None`: unknown, take the
+/// slow path.
+#[inline(always)]
+pub fn front_colon(bytes: &[u8]) -> Option<usize>
+    ensures { IfSome result (λ len. (place : ℕ) → BeginWithOne place bytes.now len TokenKind.Colon) }
+{
+    match colon_at(bytes, one_blank(bytes)) {
+        Some(len) => Some(len),
+        None => far_colon(bytes),
+    }
+}
+
+/// Does the same after any number of blanks. Most colons follow one blank or none.
+#[inline(never)]
+fn far_colon(bytes: &[u8]) -> Option<usize>
+    ensures { IfSome result (λ len. (place : ℕ) → BeginWithOne place bytes.now len TokenKind.Colon) }
+{
+    colon_at(bytes, blanks(bytes))
+}
+
+/// Returns the end of the colon at this index, if a byte follows it. `None`: unknown.
+#[inline(always)]
+fn colon_at(bytes: &[u8], start: usize) -> Option<usize>
+    requires within { start ≤ length bytes.now }
+    requires gap { gap_through Gap.Between (take start bytes.now) ≡ Gap.Between }
+    ensures { IfSome result (λ len. (place : ℕ) → BeginWithOne place bytes.now len TokenKind.Colon) }
+{
+    if start + 1 < bytes.len() && quick_is_colon(bytes[start]) {
+        return Some(start + 1);
+    }
+    None
+}
+
+/// Returns the token that the bytes begin with, if it is a name or a mark and a byte follows it. Its place
+/// and its end are counted from the first of the bytes. `None`: unknown, take the slow path.
+#[inline(always)]
+pub fn front_token(bytes: &[u8]) -> Option<Token<'_>>
+    ensures { IfSome result (λ token. (place : ℕ) →
+        BeginWith place bytes.now token.stop (moved place (lexeme_of token) ∷ [])) }
+{
+    let start = blanks(bytes);
+    let rest = &bytes[start..];
+    if rest.len() < 2 {
+        return None;
+    }
+    match ended_name_or_mark(rest) {
+        Some(front) if front.len <= LONGEST_TOKEN => Some(Token {
+            kind: front.kind,
+            place: start as u64,
+            stop: (start + front.len) as u64,
+            bytes: &rest[..front.len],
+        }),
+        _ => None,
+    }
+}
+
+/// Returns the name that the bytes begin with, after one blank at most, if a byte follows it. Its place and its end are counted
+/// from the first of the bytes. `None`: unknown.
+#[inline(always)]
+pub fn front_name(bytes: &[u8]) -> Option<Token<'_>>
+    ensures front { IfSome result (λ token. (place : ℕ) →
+        BeginWith place bytes.now token.stop (moved place (lexeme_of token) ∷ [])) }
+    ensures name { IfSome result (λ token. token.kind ≡ TokenKind.Name) }
+{
+    let start = one_blank(bytes);
+    let rest = &bytes[start..];
+    if rest.is_empty() || !quick_is_letter(rest[0]) {
+        return None;
+    }
+    match ended_name(rest) {
+        Some(front) if front.len <= LONGEST_TOKEN => Some(Token {
+            kind: front.kind,
+            place: start as u64,
+            stop: (start + front.len) as u64,
+            bytes: &rest[..front.len],
+        }),
+        _ => None,
+    }
+}
+
+/// Returns the number in millionths that the bytes begin with, if a blank or a line end follows its numeral:
+/// digits, perhaps with a point and at most six digits, and perhaps directly after a sign. `None`: unknown,
+/// take the slow path.
+#[inline(always)]
+pub fn front_number(bytes: &[u8]) -> Option<FrontNumber>
+    ensures { IfSome result (λ found. (place : ℕ) → BeginWithNumber place bytes.now found) }
+{
+    let start = blanks(bytes);
+    if start == bytes.len() {
+        return None;
+    }
+    match quick_sign(bytes[start]) {
+        None => number_from(bytes, start, false),
+        Some(is_negative) => number_from(bytes, start + 1, is_negative),
+    }
+}
+
+/// Returns the number whose numeral begins there, after such a sign. `None`: unknown.
+#[inline(always)]
+fn number_from(bytes: &[u8], from: usize, is_negative: bool) -> Option<FrontNumber>
+    requires { from ≤ length bytes.now }
+    ensures { IfSome result (IsNumberFrom bytes.now from is_negative) }
+{
+    match ended_number(&bytes[from..]) {
+        Some(number) => Some(FrontNumber {
+            len: from + number.len,
+            value: signed(is_negative, number.value),
+        }),
+        None => None,
+    }
+}
+
+/// Returns the number that the bytes begin with, if it is a few digits and a blank or a line end follows
+/// them. `None`: unknown, take the slow path.
+#[inline(always)]
+pub fn front_digits(bytes: &[u8]) -> Option<FrontDigits>
+    ensures { IfSome result (λ number. (place : ℕ) → BeginWithDigits place bytes.now number) }
+{
+    let start = blanks(bytes);
+    match ended_digits(&bytes[start..]) {
+        Some(number) => Some(FrontDigits {
+            len: start + number.len,
+            value: number.value,
+        }),
+        None => None,
+    }
+}
+
+/// Returns 1 if the bytes begin with a blank or a line end, and else 0.
+#[inline(always)]
+fn one_blank(bytes: &[u8]) -> usize
+    ensures within { result ≤ length bytes.now }
+    ensures gap { gap_through Gap.Between (take result bytes.now) ≡ Gap.Between }
+{
+    if 0 < bytes.len() && quick_is_blank(bytes[0]) {
+        return 1;
+    }
+    0
+}
+
+/// Returns how many blanks and line ends the bytes begin with.
+#[inline(always)]
+pub(crate) fn blanks(bytes: &[u8]) -> usize
+    ensures within { result ≤ length bytes.now }
+    ensures gap { gap_through Gap.Between (take result bytes.now) ≡ Gap.Between }
+{
+    let mut at: usize = 0;
+    while at < bytes.len() && quick_is_blank(bytes[at]) {
+        at += 1;
+    }
+    at
+}
+
+/// Numerals with more digits before the point are rare, and read the general way; and so are those with more after it.
+const MOST_WHOLE: usize = 7;
+
+const MOST_DECIMALS: usize = 6;
+
+/// The longest numeral that is read here, with the blank after it.
+const ROOM: usize = MOST_WHOLE + 1 + MOST_DECIMALS + 1;
+
+#[inline(always)]
+fn ended_digits(bytes: &[u8]) -> Option<FrontDigits>
+    ensures { IfSome result (EndsAsDigits bytes.now) }
+{
+    if bytes.len() <= MOST_WHOLE {
+        return None;
+    }
+    let (value, len) = few_digits(0, bytes, 0, MOST_WHOLE);
+    if len == 0 || !quick_is_blank(bytes[len]) {
+        return None;
+    }
+    Some(FrontDigits { len, value })
+}
+
+#[inline(always)]
+fn ended_number(bytes: &[u8]) -> Option<FrontDigits>
+    ensures { IfSome result (EndsAsNumber bytes.now) }
+{
+    if bytes.len() < ROOM {
+        return None;
+    }
+    let (whole, point) = few_digits(0, bytes, 0, MOST_WHOLE);
+    if point == 0 {
+        return None;
+    }
+    if !quick_is_point(bytes[point]) {
+        if !quick_is_blank(bytes[point]) {
+            return None;
+        }
+        return Some(FrontDigits {
+            len: point,
+            value: whole * MILLION,
+        });
+    }
+    let (number, len) = few_digits(whole, bytes, point + 1, MOST_DECIMALS);
+    if !quick_is_blank(bytes[len]) {
+        return None;
+    }
+    Some(FrontDigits {
+        len,
+        value: number * power_of_ten(point + 1 + MOST_DECIMALS - len),
+    })
+}
