@@ -12,7 +12,7 @@ use Rattle.polcert_check.specs.declared.above.AboveVerdict.{AboveVerdict}
 use Rattle.polcert_check.specs.declared.above.AboveVerdict.TheVariants.{Yes, Long, NoSuccessor}
 use Rattle.polcert_check.specs.declared.fault.RaiseFault.{RaiseFault}
 use Rattle.polcert_check.specs.declared.fault.RaiseFault.TheVariants as faults
-use Rattle.polcert_check.specs.declared.verdict.Verdict.TheVariants as verdicts
+use Rattle.polcert_check.specs.declared.survey.Verdict.TheVariants as verdicts
 use Rattle.polcert_check.specs.Horizon.{Controller, controller_of, Fits, one, step_scale}
 use Rattle.polcert_check.specs.Above.{PromiseAbove}
 use Rattle.polcert_check.specs.Raise.{HasLeastRaise, IsNotRaised, RefusesToRaise}

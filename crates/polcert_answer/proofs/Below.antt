@@ -8,8 +8,8 @@ use Rattle.polcert_policy.specs.Vectors.{PolicyVectors}
 use Rattle.polcert_policy.specs.VectorText.{IsRoundedVectorsText}
 use Rattle.polcert_check.specs.declared.fault.LowerFault.{LowerFault}
 use Rattle.polcert_check.specs.declared.fault.LowerFault.TheVariants as faults
-use Rattle.polcert_check.specs.declared.verdict.Verdict.{Verdict}
-use Rattle.polcert_check.specs.declared.verdict.Verdict.TheVariants.{Yes, Short, NoSuccessor}
+use Rattle.polcert_check.specs.declared.survey.Verdict.{Verdict}
+use Rattle.polcert_check.specs.declared.survey.Verdict.TheVariants.{Yes, Short, NoSuccessor}
 use Rattle.polcert_check.specs.Horizon.{Controller, controller_of, Fits, Promise, one, step_scale}
 use Rattle.polcert_check.specs.Lower.{HasLeastConstant, IsNotLowered, RefusesToLower}
 use Rattle.polcert_check.specs.StartWorth.{IsCeilQuotient, IsBestStart, IsStartWorth, StartPromise}

@@ -15,7 +15,7 @@ use Rattle.polcert_policy.specs.declared.fault.VectorFault.TheVariants as values
 use Rattle.polcert_policy.specs.Graphs.{PolicyGraph}
 use Rattle.polcert_policy.specs.GraphText.{IsGraphText, IsGraphRefusal, IsNoGraphText}
 use Rattle.polcert_policy.specs.VectorText.{IsRoundedVectorsRefusal, IsNoRoundedVectorsText}
-use Rattle.polcert_check.specs.declared.verdict.Verdict.{Verdict}
+use Rattle.polcert_check.specs.declared.survey.Verdict.{Verdict}
 use Rattle.polcert_check.specs.declared.above.AboveVerdict.{AboveVerdict}
 use Rattle.polcert_check.specs.Horizon.{Controller}
 use Rattle.polcert_check.specs.Verdict.{IsVerdict}

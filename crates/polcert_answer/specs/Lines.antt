@@ -8,8 +8,8 @@ use Rattle.polcert_text.specs.Millionths.{scaled_text}
 use Rattle.polcert_cells.specs.Preamble.{is_mdp}
 use Rattle.polcert_cells.specs.Meaning.{Meaning, states_of, actions_of, observations_of}
 use Rattle.polcert_policy.specs.Vectors.{PolicyVectors}
-use Rattle.polcert_check.specs.declared.verdict.Verdict.{Verdict}
-use Rattle.polcert_check.specs.declared.verdict.Verdict.TheVariants.{Yes, Short, NoSuccessor}
+use Rattle.polcert_check.specs.declared.survey.Verdict.{Verdict}
+use Rattle.polcert_check.specs.declared.survey.Verdict.TheVariants.{Yes, Short, NoSuccessor}
 use Rattle.polcert_check.specs.declared.above.AboveVerdict.{AboveVerdict}
 use Rattle.polcert_check.specs.declared.above.AboveVerdict.TheVariants as above
 use Rattle.polcert_check.specs.Horizon.{Controller, step_scale, one}

@@ -11,8 +11,8 @@ use Rattle.polcert_check.specs.declared.fault.LowerFault.{LowerFault}
 use Rattle.polcert_check.specs.declared.fault.LowerFault.TheVariants as lowering
 use Rattle.polcert_check.specs.declared.fault.RaiseFault.{RaiseFault}
 use Rattle.polcert_check.specs.declared.fault.RaiseFault.TheVariants as raising
-use Rattle.polcert_check.specs.declared.verdict.Verdict.{Verdict}
-use Rattle.polcert_check.specs.declared.verdict.Verdict.TheVariants.{Yes}
+use Rattle.polcert_check.specs.declared.survey.Verdict.{Verdict}
+use Rattle.polcert_check.specs.declared.survey.Verdict.TheVariants.{Yes}
 use Rattle.polcert_check.specs.declared.above.AboveVerdict.{AboveVerdict}
 use Rattle.polcert_check.specs.declared.above.AboveVerdict.TheVariants as verdicts_above
 use Rattle.polcert_check.specs.Horizon.{Controller, MeetsHorizon}

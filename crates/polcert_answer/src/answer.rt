@@ -2,7 +2,7 @@
 ghost use Rattle.std.specs.Prelude.{◌≡◌, ◌<◌, IfOk, Ok};
 ghost use Rattle.polcert_check.specs.Horizon.{MeetsHorizon};
 ghost use Rattle.polcert_check.specs.Above.{MeetsHorizonAbove};
-ghost use Rattle.polcert_check.specs.declared.verdict.Verdict.TheVariants.{Yes};
+ghost use Rattle.polcert_check.specs.declared.survey.Verdict.TheVariants.{Yes};
 ghost use Rattle.polcert_answer.specs.Answer.{IsAnswer, IsAnswerAbove};
 ghost use Rattle.polcert_answer.specs.Headline.{Certificate, controller, IsCertified, AreRewardsCertified};
 ghost use Rattle.polcert_answer.specs.HeadlineAbove.{CertificateAbove, IsCertifiedAbove, AreRewardsCertifiedAbove, BoundLowerVectors};
@@ -10,7 +10,7 @@ ghost use Rattle.polcert_answer.specs.Steps.Reading.{IsTextAnswer};
 
 use crate::bound::{Bound, Lower, Upper};
 use crate::fault::Fault;
-use crate::inputs::read_texts;
+use crate::runs::read_texts;
 use polcert_check::{AboveVerdict, NoProgress, Verdict};
 use std::alloc::Global;
 

@@ -10,8 +10,8 @@ ghost use Rattle.polcert_answer.specs.Steps.Reading.{AreMoved, FitGiven, control
 ghost use Rattle.polcert_answer.specs.Steps.Laws.{SideLaws};
 
 use crate::fault::RunFault;
-use crate::inputs::Inputs;
 use crate::lines::VerdictLine;
+use crate::runs::Inputs;
 use polcert_check::{
     AboveVerdict, LowerFault, Progress, RaiseFault, Verdict, check_above_watched, check_watched,
     lowered_watched, millionths_short, raised_watched, start_most, start_worth,

@@ -5,7 +5,6 @@
 mod answer;
 mod bound;
 mod fault;
-mod inputs;
 pub mod laws;
 mod lines;
 mod runs;
@@ -13,11 +12,11 @@ mod task;
 
 pub use answer::{check_texts, check_texts_above};
 pub use fault::{Fault, RunFault};
-pub use inputs::model_of_run;
 pub use lines::write_count;
 pub use runs::{
-    run_check, run_check_above, run_check_above_watched, run_check_watched, run_lower,
-    run_lower_watched, run_model, run_print, run_raise, run_raise_watched, write_full_vectors,
+    model_of_run, run_check, run_check_above, run_check_above_watched, run_check_watched,
+    run_lower, run_lower_watched, run_model, run_print, run_raise, run_raise_watched,
+    write_full_vectors,
 };
 pub use task::{
     Outcome, Task, run_task, status_of, status_of_above_verdict, status_of_outcome,

@@ -7,7 +7,7 @@ use Rattle.polcert_model.proofs.TextLaws as models
 use Rattle.polcert_policy.specs.ActionVectors.{IsActionVectorsText}
 use Rattle.polcert_policy.specs.Graphs.{nodes}
 use Rattle.polcert_policy.specs.Vectors.{value_of}
-use Rattle.polcert_check.specs.declared.verdict.Verdict.TheVariants as verdicts
+use Rattle.polcert_check.specs.declared.survey.Verdict.TheVariants as verdicts
 use Rattle.polcert_check.specs.Horizon.{one}
 use Rattle.polcert_check.specs.StartWorth.{IsBestStart, IsStartWorth}
 use Rattle.polcert_check.specs.StartMost.{IsStartMost}

@@ -4,7 +4,7 @@ ghost use Rattle.polcert_format.specs.declared.fault.ModelFault.{ModelFault};
 ghost use Rattle.polcert_model.specs.Refusals.{SaysOfText};
 ghost use Rattle.polcert_policy.specs.declared.fault.VectorFault.{VectorFault};
 ghost use Rattle.polcert_policy.specs.declared.fault.VectorFault.TheVariants as values;
-ghost use Rattle.polcert_check.specs.declared.verdict.Verdict.TheVariants.{Yes};
+ghost use Rattle.polcert_check.specs.declared.survey.Verdict.TheVariants.{Yes};
 ghost use Rattle.polcert_check.specs.Horizon.{one};
 ghost use Rattle.polcert_check.specs.StartWorth.{IsBestStart, IsStartWorth};
 ghost use Rattle.polcert_check.specs.StartMost.{IsStartMost};

@@ -2,14 +2,14 @@
 use Rattle.std.proofs.Common.{◌≡◌, ◌∙◌, ℕ, pos, zero, suc, ◌+◌, ◌*◌, ◌<◌, Bool, true, false, cond, ◌&&◌, ⊎_elim, length, drop, Option, Some, None, List, [], ◌∷◌, ◌++◌, reverse, mul-suc, refl, sym, ap, subst, arith}
 use Rattle.std.proofs.lemmas.List.{reverse-append, append_assoc, append-nil}
 use Rattle.std.specs.List.{list_any, find}
-use Rattle.polcert_cells.specs.declared.entry.Table.{Table}
+use Rattle.polcert_cells.specs.declared.entries.Table.{Table}
 use Rattle.polcert_cells.specs.Preamble.{Preamble, columns, dimensions}
-use Rattle.polcert_cells.specs.declared.entry.Place.{Place}
-use Rattle.polcert_cells.specs.declared.entry.Body.TheVariants.{Uniform}
-use Rattle.polcert_cells.specs.declared.entry.Entry.{Entry}
+use Rattle.polcert_cells.specs.declared.entries.Place.{Place}
+use Rattle.polcert_cells.specs.declared.entries.Body.TheVariants.{Uniform}
+use Rattle.polcert_cells.specs.declared.entries.Entry.{Entry}
 use Rattle.polcert_cells.specs.Cells.{covers, last_covering, weight, weight_of, reward, reward_of, value_or, IsLastCovering, last, none, fit_places, fits_place, is_table, weight_in}
 use Rattle.polcert_cells.specs.Meaning.{sum_below}
-use Rattle.polcert_cells.specs.declared.entry.Table.TheVariants.{Reward}
+use Rattle.polcert_cells.specs.declared.entries.Table.TheVariants.{Reward}
 use Rattle.polcert_cells.specs.Laws.{OneMoreWeight, OneMoreReward}
 use Rattle.polcert_cells.proofs.Basics.{true≢false, or_false, or_false_from, and_true, is_true_or_false}
 

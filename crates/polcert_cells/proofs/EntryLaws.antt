@@ -2,20 +2,20 @@
 use Rattle.std.proofs.Common.{◌≡◌, ◌∙◌, ℕ, ◌==◌, Bool, true, List, [], ◌∷◌, ◌++◌, length, map, drop, codes, ℤ, pos, refl, sym, ap, subst, arith}
 use Rattle.std.specs.List.{list_any}
 use Rattle.polcert_text.specs.Cut.{Lexeme}
-use Rattle.polcert_text.specs.declared.lexeme.TokenKind.{TokenKind}
-use Rattle.polcert_text.specs.declared.lexeme.TokenKind.TheVariants.{Name, Numeral, Colon, Star, Plus, Minus}
-use Rattle.polcert_cells.specs.declared.entry.Table.{Table}
-use Rattle.polcert_cells.specs.declared.entry.Table.TheVariants.{Transition, Observation, Reward}
+use Rattle.polcert_text.specs.declared.tokens.TokenKind.{TokenKind}
+use Rattle.polcert_text.specs.declared.tokens.TokenKind.TheVariants.{Name, Numeral, Colon, Star, Plus, Minus}
+use Rattle.polcert_cells.specs.declared.entries.Table.{Table}
+use Rattle.polcert_cells.specs.declared.entries.Table.TheVariants.{Transition, Observation, Reward}
 use Rattle.polcert_cells.specs.Words.{IsWord}
 use Rattle.polcert_cells.specs.Numbers.{AreNumbers}
 use Rattle.polcert_cells.specs.Numbers as numbers
 use Rattle.polcert_cells.specs.Elements.{Elements, StandsFor, by_number, by_name}
 use Rattle.polcert_cells.specs.Preamble.{Preamble, is_mdp, dimensions}
-use Rattle.polcert_cells.specs.declared.entry.Place.{Place}
-use Rattle.polcert_cells.specs.declared.entry.Place.TheVariants.{Every, Only}
-use Rattle.polcert_cells.specs.declared.entry.Body.{Body}
-use Rattle.polcert_cells.specs.declared.entry.Body.TheVariants.{Probabilities, Rewards}
-use Rattle.polcert_cells.specs.declared.entry.Entry.{Entry}
+use Rattle.polcert_cells.specs.declared.entries.Place.{Place}
+use Rattle.polcert_cells.specs.declared.entries.Place.TheVariants.{Every, Only}
+use Rattle.polcert_cells.specs.declared.entries.Body.{Body}
+use Rattle.polcert_cells.specs.declared.entries.Body.TheVariants.{Probabilities, Rewards}
+use Rattle.polcert_cells.specs.declared.entries.Entry.{Entry}
 use Rattle.polcert_cells.specs.Entry.{forms, cells_in, IsPlace, ArePlaces, none, more, IsBody, probabilities, rewards, uniform, identity, IsEntry}
 use Rattle.polcert_cells.proofs.Basics.{true≢false, one_some, cons≢nil, same_head, same_tail}
 use Rattle.polcert_cells.proofs.NumberLaws.{one_whole, one_list}

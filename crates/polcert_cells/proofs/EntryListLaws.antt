@@ -10,8 +10,8 @@ use Rattle.polcert_cells.specs.declared.entries.BodyTag.TheVariants.{Probabiliti
 use Rattle.polcert_cells.specs.declared.entries.EntryHeader.{EntryHeader}
 use Rattle.polcert_cells.specs.declared.entries.EntryStore.{EntryStore}
 use Rattle.polcert_cells.specs.declared.entries.Span.{Span}
-use Rattle.polcert_cells.specs.declared.entry.Body.TheVariants as bodies
-use Rattle.polcert_cells.specs.declared.entry.Entry.{Entry}
+use Rattle.polcert_cells.specs.declared.entries.Body.TheVariants as bodies
+use Rattle.polcert_cells.specs.declared.entries.Entry.{Entry}
 use Rattle.polcert_cells.specs.Steps.EntryLists.{part, places_of, body_in, entry_in, LiesIn, HasNumbers, IsWithin, Continues, GoOn, AreHeldIn, IsPut}
 use Rattle.polcert_cells.specs.EntryRefs.{rewards_of, all_rewards, AreRewardsFrom}
 

@@ -1,10 +1,10 @@
 -- The steps of a walk over a row that is borrowed.
 use Rattle.std.proofs.Common.{◌≡◌, ◌∙◌, ℕ, zero, suc, ◌+◌, ◌*◌, ◌<◌, ◌≤◌, ⊎_elim, slice_index, Option, Some, None, List, [], ◌∷◌, length, get_or, refl, sym, ap, arith, add-one, subst, Bor}
 use Rattle.std.specs.List.{slice_get}
-use Rattle.polcert_cells.specs.declared.cell.Cell.{Cell}
-use Rattle.polcert_cells.specs.declared.row.Row.{Row}
-use Rattle.polcert_cells.specs.declared.row.Row.TheVariants.{Sparse, Filled, Scaled, Single}
-use Rattle.polcert_cells.specs.declared.row.Step.{Step}
+use Rattle.polcert_cells.specs.declared.elements.Cell.{Cell}
+use Rattle.polcert_cells.specs.declared.cells.Row.{Row}
+use Rattle.polcert_cells.specs.declared.cells.Row.TheVariants.{Sparse, Filled, Scaled, Single}
+use Rattle.polcert_cells.specs.declared.cells.Step.{Step}
 use Rattle.polcert_cells.specs.Cursors.{IsNext}
 use Rattle.polcert_cells.specs.Sparse.{weight_at, scaled_cells, IsRow}
 use Rattle.polcert_cells.specs.BorrowedRows.{AreWeights, IsRowOf, IsStep, after_cells}

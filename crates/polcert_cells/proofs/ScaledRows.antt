@@ -1,7 +1,7 @@
 -- Rows whose weights are numbers times a scale.
 use Rattle.std.proofs.Common.{◌≡◌, ◌∙◌, ℕ, zero, suc, ◌+◌, ◌*◌, ◌<◌, ◌≤◌, ⊎_elim, Bool, true, false, cond, ltb, List, [], ◌∷◌, length, slice_index, refl, sym, ap, subst, arith}
 use Rattle.std.proofs.lemmas.Bool.Decides.{nat_tests}
-use Rattle.polcert_cells.specs.declared.cell.Cell.{Cell}
+use Rattle.polcert_cells.specs.declared.elements.Cell.{Cell}
 use Rattle.polcert_cells.specs.Sparse.{weight_at, scaled_cells, IsRow}
 use Rattle.polcert_cells.proofs.SparseLaws.{Climbs, cell_of, climbs_lower, sparse_from, weight_head, weight_tail, weight_below}
 

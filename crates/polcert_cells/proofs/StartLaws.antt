@@ -2,8 +2,8 @@
 use Rattle.std.proofs.Common.{◌≡◌, ◌∙◌, ℕ, suc, ◌==◌, true, List, [], ◌∷◌, length, map, codes, ℤ, pos, refl, sym, ap, arith}
 use Rattle.std.specs.List.{AllZip}
 use Rattle.polcert_text.specs.Cut.{Lexeme}
-use Rattle.polcert_text.specs.declared.lexeme.TokenKind.{TokenKind}
-use Rattle.polcert_text.specs.declared.lexeme.TokenKind.TheVariants.{Name, Numeral, Colon}
+use Rattle.polcert_text.specs.declared.tokens.TokenKind.{TokenKind}
+use Rattle.polcert_text.specs.declared.tokens.TokenKind.TheVariants.{Name, Numeral, Colon}
 use Rattle.polcert_cells.specs.Words.{IsWord, IsName, is_reserved, topic_of}
 use Rattle.polcert_cells.specs.Numbers.{AreNumbers}
 use Rattle.polcert_cells.specs.Numbers as numbers

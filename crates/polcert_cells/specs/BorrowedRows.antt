@@ -1,9 +1,9 @@
 -- A row that is borrowed, and what its steps say of the weights.
 use Rattle.std.specs.Prelude.{◌≡◌, ℕ, zero, suc, ◌+◌, ◌<◌, List, [], ◌∷◌, Option, Some, None, length, slice_index}
-use Rattle.polcert_cells.specs.declared.cell.Cell.{Cell}
-use Rattle.polcert_cells.specs.declared.row.Row.{Row}
-use Rattle.polcert_cells.specs.declared.row.Row.TheVariants.{Sparse, Filled, Scaled, Single}
-use Rattle.polcert_cells.specs.declared.row.Step.{Step}
+use Rattle.polcert_cells.specs.declared.elements.Cell.{Cell}
+use Rattle.polcert_cells.specs.declared.cells.Row.{Row}
+use Rattle.polcert_cells.specs.declared.cells.Row.TheVariants.{Sparse, Filled, Scaled, Single}
+use Rattle.polcert_cells.specs.declared.cells.Step.{Step}
 use Rattle.polcert_cells.specs.Sparse.{scaled_cells, IsRow}
 use Rattle.polcert_cells.specs.Cursors.{IsNext}
 

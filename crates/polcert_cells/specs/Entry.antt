@@ -6,14 +6,14 @@
 use Rattle.std.specs.Prelude.{◌≡◌, ℕ, ◌*◌, ◌≤◌, ◌==◌, Bool, true, false, if◌then◌else◌, List, [], ◌∷◌, ◌++◌, length, drop, map, All, ℤ, pos, codes}
 use Rattle.std.specs.List.{list_any}
 use Rattle.polcert_text.specs.Cut.{Lexeme}
-use Rattle.polcert_cells.specs.declared.entry.Place.{Place}
-use Rattle.polcert_cells.specs.declared.entry.Place.TheVariants.{Every, Only}
-use Rattle.polcert_cells.specs.declared.entry.Body.{Body}
-use Rattle.polcert_cells.specs.declared.entry.Body.TheVariants.{Probabilities, Rewards, Uniform, Identity}
-use Rattle.polcert_cells.specs.declared.entry.Entry.{Entry}
-use Rattle.polcert_text.specs.declared.lexeme.TokenKind.TheVariants.{Colon, Star}
-use Rattle.polcert_cells.specs.declared.entry.Table.{Table}
-use Rattle.polcert_cells.specs.declared.entry.Table.TheVariants.{Transition, Observation, Reward}
+use Rattle.polcert_cells.specs.declared.entries.Place.{Place}
+use Rattle.polcert_cells.specs.declared.entries.Place.TheVariants.{Every, Only}
+use Rattle.polcert_cells.specs.declared.entries.Body.{Body}
+use Rattle.polcert_cells.specs.declared.entries.Body.TheVariants.{Probabilities, Rewards, Uniform, Identity}
+use Rattle.polcert_cells.specs.declared.entries.Entry.{Entry}
+use Rattle.polcert_text.specs.declared.tokens.TokenKind.TheVariants.{Colon, Star}
+use Rattle.polcert_cells.specs.declared.entries.Table.{Table}
+use Rattle.polcert_cells.specs.declared.entries.Table.TheVariants.{Transition, Observation, Reward}
 use Rattle.polcert_cells.specs.Words.{IsWord}
 use Rattle.polcert_cells.specs.Numbers.{AreNumbers, one}
 use Rattle.polcert_cells.specs.Elements.{Elements, count_of, StandsFor}

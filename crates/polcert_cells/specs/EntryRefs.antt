@@ -1,8 +1,8 @@
 -- An entry that is borrowed: the entry that it is; and the rewards of all entries.
 use Rattle.std.specs.Prelude.{◌≡◌, ℕ, ◌+◌, ℤ, List, [], ◌∷◌, ◌++◌, Some, slice_get}
-use Rattle.polcert_cells.specs.declared.entry.Body.{Body}
-use Rattle.polcert_cells.specs.declared.entry.Body.TheVariants as bodies
-use Rattle.polcert_cells.specs.declared.entry.Entry.{Entry}
+use Rattle.polcert_cells.specs.declared.entries.Body.{Body}
+use Rattle.polcert_cells.specs.declared.entries.Body.TheVariants as bodies
+use Rattle.polcert_cells.specs.declared.entries.Entry.{Entry}
 use Rattle.polcert_cells.specs.declared.entries.BodyRef.{BodyRef}
 use Rattle.polcert_cells.specs.declared.entries.BodyRef.TheVariants as refs
 use Rattle.polcert_cells.specs.declared.entries.EntryRef.{EntryRef}

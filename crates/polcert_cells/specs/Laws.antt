@@ -1,10 +1,10 @@
 -- Laws of cells.
 use Rattle.std.specs.Prelude.{◌≡◌, ℕ, ◌*◌, true, false, List, [], ◌∷◌, ◌++◌, Option}
-use Rattle.polcert_cells.specs.declared.entry.Table.{Table}
-use Rattle.polcert_cells.specs.declared.entry.Table.TheVariants.{Reward}
+use Rattle.polcert_cells.specs.declared.entries.Table.{Table}
+use Rattle.polcert_cells.specs.declared.entries.Table.TheVariants.{Reward}
 use Rattle.polcert_cells.specs.Preamble.{Preamble}
-use Rattle.polcert_cells.specs.declared.entry.Body.TheVariants.{Uniform}
-use Rattle.polcert_cells.specs.declared.entry.Entry.{Entry}
+use Rattle.polcert_cells.specs.declared.entries.Body.TheVariants.{Uniform}
+use Rattle.polcert_cells.specs.declared.entries.Entry.{Entry}
 use Rattle.polcert_cells.specs.Cells.{covers, last_covering, weight, weight_of, reward, reward_of, IsLastCovering}
 use Rattle.polcert_cells.specs.Meaning.{sum_below}
 

@@ -4,13 +4,13 @@
 -- minus that under `values: cost`, so that more is better; and that in an MDP the end state is observed.
 use Rattle.std.specs.Prelude.{◌≡◌, ℕ, zero, suc, ◌+◌, ◌*◌, ◌<◌, ◌≤◌, ◌==◌, if◌then◌else◌, List, [], ◌∷◌, ℤ, unsigned_abs, Option, unwrap_or, length, get_or, sum}
 use Rattle.polcert_text.specs.Numbers.{largest}
-use Rattle.polcert_cells.specs.declared.entry.Table.TheVariants.{Transition, Observation}
+use Rattle.polcert_cells.specs.declared.entries.Table.TheVariants.{Transition, Observation}
 use Rattle.polcert_cells.specs.declared.elements.Kind.{Kind}
 use Rattle.polcert_cells.specs.declared.elements.Kind.TheVariants as kinds
 use Rattle.polcert_cells.specs.Elements.{Elements, count_of, most_states, most_actions, most_observations, most_pairs}
 use Rattle.polcert_cells.specs.Numbers.{one}
 use Rattle.polcert_cells.specs.Preamble.{Preamble, is_mdp, observed}
-use Rattle.polcert_cells.specs.declared.entry.Entry.{Entry}
+use Rattle.polcert_cells.specs.declared.entries.Entry.{Entry}
 use Rattle.polcert_cells.specs.Cells.{weight, reward}
 use Rattle.polcert_cells.specs.Start.{StartWeights, all_states}
 

@@ -2,8 +2,8 @@
 -- Source: the POMDP file format page at pomdp.org, "the preamble". Our own: MDP files, which have no line of
 -- observations, and that the discount is kept in millionths.
 use Rattle.std.specs.Prelude.{ℕ, Bool, List, [], ◌∷◌, Option, is_none, unwrap_or}
-use Rattle.polcert_cells.specs.declared.entry.Table.{Table}
-use Rattle.polcert_cells.specs.declared.entry.Table.TheVariants.{Transition, Observation, Reward}
+use Rattle.polcert_cells.specs.declared.entries.Table.{Table}
+use Rattle.polcert_cells.specs.declared.entries.Table.TheVariants.{Transition, Observation, Reward}
 use Rattle.polcert_cells.specs.Elements.{Elements, Count, count_of}
 
 -- the discount in millionths, whether rewards are written as costs, and the elements; an MDP has no line of observations

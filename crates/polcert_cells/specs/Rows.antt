@@ -1,7 +1,7 @@
 -- Rows: their sums, and the first that doesn't sum to its scale.
 use Rattle.std.specs.Prelude.{◌≡◌, ℕ, ◌<◌}
-use Rattle.polcert_cells.specs.declared.entry.Table.{Table}
-use Rattle.polcert_cells.specs.declared.entry.Table.TheVariants.{Transition, Observation, Reward}
+use Rattle.polcert_cells.specs.declared.entries.Table.{Table}
+use Rattle.polcert_cells.specs.declared.entries.Table.TheVariants.{Transition, Observation, Reward}
 use Rattle.polcert_cells.specs.Meaning.{Meaning, states_of, actions_of, observations_of, t_scale, o_scale, sum_below}
 
 -- a table of weights

@@ -1,6 +1,6 @@
 -- Sparse rows: of a row of T or O the columns with a weight above 0.
 use Rattle.std.specs.Prelude.{◌≡◌, ℕ, ◌+◌, ◌*◌, ◌<◌, ◌==◌, nat_lt, All, AllPairs, List, [], ◌∷◌, if◌then◌else◌}
-use Rattle.polcert_cells.specs.declared.cell.Cell.{Cell}
+use Rattle.polcert_cells.specs.declared.elements.Cell.{Cell}
 
 -- the weight of a column, or 0 where it is not among the cells
 abbrev pub weight_at : List Cell → ℕ → ℕ

@@ -6,8 +6,8 @@
 use Rattle.std.specs.Prelude.{◌≡◌, ℕ, ◌<◌, ◌||◌, ◌==◌, Bool, true, not, List, [], ◌∷◌, length, ℤ, pos, ◌⊎◌, Some, codes, sum, map, if◌then◌else◌}
 use Rattle.std.specs.List.{list_any, list_all, range_with_len, count_by, AllZip}
 use Rattle.polcert_text.specs.Cut.{Lexeme}
-use Rattle.polcert_text.specs.declared.lexeme.TokenKind.TheVariants.{Colon}
-pub use Rattle.polcert_cells.specs.declared.start_weights.StartWeights.{StartWeights}
+use Rattle.polcert_text.specs.declared.tokens.TokenKind.TheVariants.{Colon}
+pub use Rattle.polcert_cells.specs.declared.elements.StartWeights.{StartWeights}
 use Rattle.polcert_cells.specs.Words.{IsWord, IsName}
 use Rattle.polcert_cells.specs.Numbers.{IsWhole, AreNumbers, IsNumber, one}
 use Rattle.polcert_cells.specs.Elements.{Elements, count_of, StandsFor, number_of}

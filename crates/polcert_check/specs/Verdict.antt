@@ -1,7 +1,7 @@
 -- What a verdict says of the pairs of a node and a state.
 use Rattle.std.specs.Prelude.{◌≡◌, ℕ, ◌<◌, ◌≤◌, unsigned_abs, ⊤, pos, ◌<ℤ◌, ◌⊎◌, Option, Some, None}
-use Rattle.polcert_check.specs.declared.verdict.Verdict.{Verdict}
-use Rattle.polcert_check.specs.declared.verdict.Verdict.TheVariants.{Yes, Short, NoSuccessor}
+use Rattle.polcert_check.specs.declared.survey.Verdict.{Verdict}
+use Rattle.polcert_check.specs.declared.survey.Verdict.TheVariants.{Yes, Short, NoSuccessor}
 use Rattle.polcert_check.specs.Horizon.{Controller}
 use Rattle.polcert_check.specs.Shortfall.{Lacks, short, most_short, PairPasses, Passes}
 

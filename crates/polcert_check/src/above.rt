@@ -6,11 +6,8 @@ ghost use Rattle.polcert_check.specs.Steps.Mirrored.{above_of};
 ghost use Rattle.polcert_check.specs.declared.above.AboveVerdict.TheVariants.{Yes};
 
 use crate::check_input::CheckInput;
-use crate::findings::Mode;
-use crate::progress::{NoProgress, Progress};
-use crate::side::Side;
-use crate::survey::survey;
-use crate::verdict::Verdict;
+use crate::findings::{Mode, Side};
+use crate::survey::{NoProgress, Progress, Verdict, survey};
 use polcert_model::Cells;
 use polcert_policy::{Graph, Vectors};
 

@@ -4,7 +4,7 @@ ghost use Rattle.polcert_policy.specs.Vectors.{AreProperVectors};
 ghost use Rattle.polcert_check.specs.Horizon.{Fits, controller_of};
 ghost use Rattle.polcert_check.specs.Steps.Ranges.{IsController, ValuesAreWithin};
 
-use crate::side::Side;
+use crate::findings::Side;
 use polcert_model::Cells;
 use polcert_policy::{Graph, Vectors};
 

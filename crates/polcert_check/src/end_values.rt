@@ -1,159 +1,342 @@
 //! The values of a node at all end states, computed once for all start states.
-ghost use Rattle.std.specs.Prelude.{◌≡◌, ◌<◌, ◌^◌, length, unsigned_abs, false};
+ghost use Rattle.std.specs.Prelude.{◌≡◌, ◌<◌, ◌^◌, length, unsigned_abs, false, IfSome, ℕ};
 ghost use Rattle.polcert_cells.specs.declared.elements.TheConstants.{MOST_STATES};
+ghost use Rattle.std.specs.Option.{ForSome};
+ghost use Rattle.polcert_cells.specs.BorrowedRows.{IsRowOf, IsStep};
+ghost use Rattle.polcert_check.specs.Steps.Node.{node_controller};
+ghost use Rattle.polcert_check.specs.Steps.Factored.{value_term, IsMissedAt, IsMinOption};
+ghost use Rattle.polcert_check.specs.Steps.Values.{IsCompleteValue, IsEndValue, IsExpectedValue};
+ghost use Rattle.polcert_check.specs.Steps.CheckInput.{controller};
+ghost use Rattle.polcert_check.specs.Steps.FollowedCells.{followed, followed_is_proper, followed_is_within};
 
-use crate::expected_value::expected_value;
+use crate::check_input::CheckInput;
+use crate::expected_reward::weigh;
 use crate::node::Node;
-use crate::partial_value::{PartialValue, complete_value, end_value};
-use crate::reached_states::ReachedStates;
-use polcert_cells::MOST_STATES;
+use polcert_cells::{MOST_STATES, Row, Step, first_weight};
 use polcert_model::Cells;
 
-/// Numbers smaller than this, in size, have 64 bits with their sign.
-const NARROW: i128 = 9_223_372_036_854_775_808;
-
-/// Returns whether a number may need more than 64 bits.
-fn is_wide(number: i128) -> bool
-    ensures { result ≡ false → unsigned_abs number < 2 ^ 63 }
-{
-    number >= NARROW || number <= -NARROW
+/// A weighted sum of values, and the least observation in it that has no successor.
+#[derive(Clone, Copy)]
+pub(crate) struct PartialValue {
+    pub value: i128,
+    pub missing: Option<usize>,
 }
 
-/// Returns the same number, which has 64 bits.
+/// Returns the least number that is there.
+pub(crate) fn min_option(x: Option<usize>, y: Option<usize>) -> Option<usize>
+    ensures { IsMinOption x y result }
+{
+    match (x, y) {
+        (None, _) => y,
+        (Some(_), None) => x,
+        (Some(a), Some(b)) => if a <= b { x } else { y },
+    }
+}
+
+/// Returns what one observation adds to a node's value at end state `e`.
+fn observation_value<C: Cells>(node: &Node<'_, C>, e: usize, step: Step) -> PartialValue
+    requires end { e < (node_controller node.now).cells.states }
+    requires observation { step.column < (node_controller node.now).cells.observations }
+    requires weight { step.weight ≡ (node_controller node.now).cells.o
+        ((node_controller node.now).action node.now.n) e step.column }
+    requires some { 0 < step.weight }
+    ensures value { result.value ≡ value_term (node_controller node.now) node.now.n e step.column
+        ((node_controller node.now).next node.now.n step.column) }
+    ensures missing { IsMissedAt (node_controller node.now) node.now.n step.column result.missing }
+{
+    let input = &node.input;
+    let observations = input.cells.observations();
+    let observation = step.column;
+    prove!(observation < observations);
+    match input.graph.next(node.n, observation) {
+        Some(m) => PartialValue {
+            value: weigh(step.weight, input.vectors.at(m, e) as i128),
+            missing: None,
+        },
+        None => PartialValue {
+            value: 0,
+            missing: Some(observation),
+        },
+    }
+}
+
+/// Returns a node's value at end state `e` if the node has a successor for each observation there.
 #[inline(always)]
-fn narrow(number: i128) -> i128
-    requires { unsigned_abs number < 2 ^ 63 }
-    ensures { result ≡ number }
+pub(crate) fn complete_value<C: Cells>(node: &Node<'_, C>, e: usize) -> Option<i128>
+    requires end { e < (node_controller node.now).cells.states }
+    ensures { IfSome result (IsCompleteValue (node_controller node.now) node.now.n e) }
 {
-    let low = number as i64;
-    low as i128
+    // A call for each form that most rows have, so that its loop asks for no form.
+    match node.input.cells.o_row(node.action(), e) {
+        Some(Row::Sparse(cells)) => complete_value_of_row(node, e, Some(Row::Sparse(cells))),
+        Some(Row::Scaled { numbers, scale }) => {
+            let row = Row::Scaled { numbers, scale };
+            complete_value_of_row(node, e, Some(row))
+        }
+        row => complete_value_of_row(node, e, row),
+    }
 }
 
-/// The values of a node at the end states that its action reaches.
+/// Returns a node's value at end state `e`, by the row of O there, if the node has a successor for each observation.
+#[inline(always)]
+fn complete_value_of_row<C: Cells>(
+    node: &Node<'_, C>,
+    e: usize,
+    row: Option<Row<'_>>,
+) -> Option<i128>
+    requires end { e < (node_controller node.now).cells.states }
+    requires row { ForSome row (IsRowOf ((node_controller node.now).cells.o
+        ((node_controller node.now).action node.now.n) e) (node_controller node.now).cells.observations) }
+    ensures { IfSome result (IsCompleteValue (node_controller node.now) node.now.n e) }
+{
+    let cells = node.input.cells;
+    let a = node.action();
+    let mut sum: i128 = 0;
+    let mut at = 0;
+    while let Some(observation) = next_observation(cells, a, e, row, at) {
+        let part = observation_value(node, e, observation);
+        if part.missing.is_some() {
+            return None;
+        }
+        sum += part.value;
+        at = observation.next;
+    }
+    Some(sum)
+}
+
+/// Returns a node's value at end state `e`: the sum over the row of O, without the weight of reaching `e`.
+pub(crate) fn end_value<C: Cells>(node: &Node<'_, C>, e: usize) -> PartialValue
+    requires end { e < (node_controller node.now).cells.states }
+    ensures { IsEndValue (node_controller node.now) node.now.n e result }
+{
+    let cells = node.input.cells;
+    let a = node.action();
+    let mut value: i128 = 0;
+    let mut missing: Option<usize> = None;
+    let row = cells.o_row(a, e);
+    let mut at = 0;
+    while let Some(observation) = next_observation(cells, a, e, row, at) {
+        let part = observation_value(node, e, observation);
+        value += part.value;
+        missing = min_option(missing, part.missing);
+        at = observation.next;
+    }
+    PartialValue { value, missing }
+}
+
+/// The end states that an action reaches.
 #[derive(Drop)]
-pub(crate) struct EndValues {
-    /// Unless the node lacks a successor there.
-    pub values: [i128; MOST_STATES],
-    /// Whether the node lacks a successor for an observation there. Which one is computed only at a pair that reaches such an end
-    /// state: that pair settles the node.
-    pub lacks_successor: [bool; MOST_STATES],
-    /// Whether it lacks one at any of them.
-    pub lacks_any: bool,
-    /// Whether any of the values may need more than 64 bits. The product of a weight and a shorter one takes half the time.
-    pub has_wide: bool,
-    ghost room_for_values: { length values ≡ MOST_STATES },
-    ghost room_for_marks: { length lacks_successor ≡ MOST_STATES },
+pub(crate) struct ReachedStates {
+    /// Whether the marks are those of the action.
+    pub is_known: bool,
+    pub marks: [bool; MOST_STATES],
+    ghost room: { length marks ≡ MOST_STATES },
 }
 
-impl EndValues {
-    ghost use Rattle.std.specs.Prelude.{ℕ, IsTrue};
-    ghost use Rattle.polcert_check.specs.Steps.Node.{node_controller};
+impl ReachedStates {
+    ghost use Rattle.std.specs.Prelude.{◌<◌, ℕ, false, true, slice_index_or};
     ghost use Rattle.polcert_check.specs.Steps.Factored.{AreMarked};
-    ghost use Rattle.polcert_check.specs.Steps.Values.{AreEndValues, IsEndValue, IsExpectedValue};
 
     pub(crate) fn new() -> Self {
-        EndValues {
-            values: [0; MOST_STATES],
-            lacks_successor: [false; MOST_STATES],
-            lacks_any: false,
-            has_wide: false,
+        ReachedStates {
+            is_known: false,
+            marks: [false; MOST_STATES],
         }
     }
 
-    /// Computes the values of a node at all end states that its action reaches.
-    pub(crate) fn fill<C: Cells>(&mut self, node: &Node<'_, C>, reached: &ReachedStates)
-        requires { AreMarked (node_controller node.now).cells ((node_controller node.now).action node.now.n)
-            (node_controller node.now).cells.states reached.now.marks }
-        ensures { AreEndValues (node_controller node.now) node.now.n
-            (node_controller node.now).cells.states self.new }
+    /// Forgets the marks, so that those of another action can follow.
+    pub(crate) fn clear(&mut self)
+        ensures { self.new.is_known ≡ false }
     {
-        self.lacks_any = false;
-        self.has_wide = false;
-        for e in 0..node.input.cells.states() {
-            if !reached.marks[e] {
-                continue;
-            }
-            match complete_value(node, e) {
-                Some(value) => {
-                    self.values[e] = value;
-                    self.lacks_successor[e] = false;
-                    if is_wide(value) {
-                        self.has_wide = true;
-                    }
-                }
-                None => {
-                    self.lacks_successor[e] = true;
-                    self.lacks_any = true;
-                }
-            }
+        self.is_known = false;
+    }
+
+    /// Marks the end states that action `a` reaches.
+    pub(crate) fn find<C: Cells>(&mut self, cells: &C, a: usize)
+        requires action { a < (C.table cells.now).actions }
+        ensures { AreMarked (C.table cells.now) a (C.table cells.now).states self.new.marks }
+    {
+        // (A mark too many would cost time alone.)
+        for e in 0..cells.states() {
+            self.marks[e] = false;
+        }
+        for s in 0..cells.states() {
+            self.mark(cells, a, s);
+        }
+        self.is_known = true;
+    }
+
+    /// Marks the end states that it reaches from state `s`.
+    fn mark<C: Cells>(&mut self, cells: &C, a: usize, s: usize)
+        requires action { a < (C.table cells.now).actions }
+        requires start { s < (C.table cells.now).states }
+        ensures still { (e : ℕ) → slice_index_or self.old.marks e false ≡ true
+            → slice_index_or self.new.marks e false ≡ true }
+        ensures marked { (e : ℕ) → e < (C.table cells.now).states → 0 < (C.table cells.now).t a s e
+            → slice_index_or self.new.marks e false ≡ true }
+    {
+        let row = cells.t_row(a, s);
+        let mut at = 0;
+        while let Some(end) = next_end(cells, a, s, row, at) {
+            self.marks[end.column] = true;
+            at = end.next;
         }
     }
+}
 
-    /// Returns whether `narrow_value` can be asked for.
-    pub(crate) fn are_narrow(&self) -> bool
-        ensures complete { IsTrue result → self.now.lacks_any ≡ false }
-        ensures narrow { IsTrue result → self.now.has_wide ≡ false }
-    {
-        !(self.lacks_any || self.has_wide)
-    }
-
-    /// Returns the value that a node expects at state `s`, where 64 bits are enough for each value and the node lacks no successor.
-    #[inline(always)]
-    pub(crate) fn narrow_value<C: Cells>(&self, node: &Node<'_, C>, s: usize) -> PartialValue
-        requires start { s < (node_controller node.now).cells.states }
-        requires ends { AreEndValues (node_controller node.now) node.now.n
-            (node_controller node.now).cells.states self.now }
-        requires complete { self.now.lacks_any ≡ false }
-        requires narrow { self.now.has_wide ≡ false }
-        ensures { IsExpectedValue (node_controller node.now) node.now.n s result }
-    {
-        let values = &self.values;
-        expected_value(
-            node,
-            s,
-            |e| PartialValue {
-                value: narrow(values[e]),
-                missing: None,
-            },
-        )
-    }
-
-    /// Returns the value that a node expects at state `s`.
-    pub(crate) fn expected_value<C: Cells>(&self, node: &Node<'_, C>, s: usize) -> PartialValue
-        requires start { s < (node_controller node.now).cells.states }
-        requires ends { AreEndValues (node_controller node.now) node.now.n
-            (node_controller node.now).cells.states self.now }
-        ensures { IsExpectedValue (node_controller node.now) node.now.n s result }
-    {
-        if self.lacks_any {
-            return expected_value(node, s, |e| self.value_at(node, e));
+/// Returns the value that a node expects at state `s`: the sum over the row of T, where `value_of` gives the value at each end state.
+#[inline(always)]
+pub(crate) fn expected_value<C: Cells, F: Fn(usize) -> PartialValue>(
+    node: &Node<'_, C>,
+    s: usize,
+    value_of: F,
+) -> PartialValue
+    requires start { s < (node_controller node.now).cells.states }
+    requires callable { (e : ℕ) → e < (node_controller node.now).cells.states
+        → 0 < (node_controller node.now).cells.t ((node_controller node.now).action node.now.n) s e
+        → F.pre value_of e }
+    requires value { (e : ℕ) (part : _) → e < (node_controller node.now).cells.states
+        → 0 < (node_controller node.now).cells.t ((node_controller node.now).action node.now.n) s e
+        → F.post value_of e part → IsEndValue (node_controller node.now) node.now.n e part }
+    ensures { IsExpectedValue (node_controller node.now) node.now.n s result }
+{
+    // A call for each form that most rows have, so that its loop asks for no form.
+    match node.input.cells.t_row(node.action(), s) {
+        Some(Row::Sparse(cells)) => value_of_row(node, s, Some(Row::Sparse(cells)), value_of),
+        Some(Row::Scaled { numbers, scale }) => {
+            let row = Row::Scaled { numbers, scale };
+            value_of_row(node, s, Some(row), value_of)
         }
-        let values = &self.values;
-        expected_value(
-            node,
-            s,
-            |e| PartialValue {
-                value: values[e],
-                missing: None,
-            },
-        )
+        row => value_of_row(node, s, row, value_of),
+    }
+}
+
+/// Returns the value that a node expects at state `s`, by the row of T there.
+#[inline(always)]
+fn value_of_row<C: Cells, F: Fn(usize) -> PartialValue>(
+    node: &Node<'_, C>,
+    s: usize,
+    row: Option<Row<'_>>,
+    value_of: F,
+) -> PartialValue
+    requires start { s < (node_controller node.now).cells.states }
+    requires row { ForSome row (IsRowOf ((node_controller node.now).cells.t
+        ((node_controller node.now).action node.now.n) s) (node_controller node.now).cells.states) }
+    requires callable { (e : ℕ) → e < (node_controller node.now).cells.states
+        → 0 < (node_controller node.now).cells.t ((node_controller node.now).action node.now.n) s e
+        → F.pre value_of e }
+    requires value { (e : ℕ) (part : _) → e < (node_controller node.now).cells.states
+        → 0 < (node_controller node.now).cells.t ((node_controller node.now).action node.now.n) s e
+        → F.post value_of e part → IsEndValue (node_controller node.now) node.now.n e part }
+    ensures { IsExpectedValue (node_controller node.now) node.now.n s result }
+{
+    let cells = node.input.cells;
+    let a = node.action();
+    let mut value: i128 = 0;
+    let mut missing = None;
+    let mut at = 0;
+    while let Some(end) = next_end(cells, a, s, row, at) {
+        let part = value_of(end.column);
+        value += weigh(end.weight, part.value);
+        missing = min_option(missing, part.missing);
+        at = end.next;
+    }
+    PartialValue { value, missing }
+}
+
+/// Returns the next end state of positive weight when action `a` is taken in state `s`, from a place in the row on. If no row is
+/// lent, places are end states.
+#[inline(always)]
+pub fn next_end<C: Cells>(
+    cells: &C,
+    a: usize,
+    s: usize,
+    row: Option<Row<'_>>,
+    at: usize,
+) -> Option<Step>
+    requires action { a < (C.table cells.now).actions }
+    requires start { s < (C.table cells.now).states }
+    requires row { ForSome row (IsRowOf ((C.table cells.now).t a s) (C.table cells.now).states) }
+    ensures { IsStep ((C.table cells.now).t a s) (C.table cells.now).states row.entry at result }
+{
+    match row {
+        Some(row) => row.step(at),
+        None => first_weight(at, cells.states(), move |e| cells.t(a, s, e)),
+    }
+}
+
+/// Returns the next observation of positive weight when action `a` ends in state `e`, from a place in the row on. If no row is
+/// lent, places are observations.
+#[inline(always)]
+pub fn next_observation<C: Cells>(
+    cells: &C,
+    a: usize,
+    e: usize,
+    row: Option<Row<'_>>,
+    at: usize,
+) -> Option<Step>
+    requires action { a < (C.table cells.now).actions }
+    requires end { e < (C.table cells.now).states }
+    requires row { ForSome row (IsRowOf ((C.table cells.now).o a e) (C.table cells.now).observations) }
+    ensures { IsStep ((C.table cells.now).o a e) (C.table cells.now).observations row.entry at result }
+{
+    match row {
+        Some(row) => row.step(at),
+        None => first_weight(at, cells.observations(), move |z| cells.o(a, e, z)),
+    }
+}
+
+/// The cells of a certificate, where an observation for which node `n` has no successor earns nothing.
+#[derive(Drop)]
+pub(crate) struct FollowedCells<'a, C: Cells> {
+    pub input: &'a CheckInput<'a, C>,
+    pub n: usize,
+    ghost node: { n < (controller input.now).nodes },
+}
+
+impl<C: Cells> Cells for FollowedCells<'_, C> {
+    ghost table = { λ x. followed (controller x.input.now) x.n };
+
+    ghost is_proper = { λ x. followed_is_proper (controller x.input.now) x.n x.input.now.proper.cells };
+
+    ghost is_within_limits = { λ x. followed_is_within (controller x.input.now) x.n (C.is_within_limits x.input.now.cells.now) };
+
+    fn states(&self) -> usize {
+        self.input.cells.states()
     }
 
-    /// Returns the value at end state `e` if a state reaches it.
-    fn value_at<C: Cells>(&self, node: &Node<'_, C>, e: usize) -> PartialValue
-        requires end { e < (node_controller node.now).cells.states }
-        requires ends { AreEndValues (node_controller node.now) node.now.n
-            (node_controller node.now).cells.states self.now }
-        ensures { (s : ℕ) → s < (node_controller node.now).cells.states →
-            0 < (node_controller node.now).cells.t ((node_controller node.now).action node.now.n) s e →
-            IsEndValue (node_controller node.now) node.now.n e result }
-    {
-        if self.lacks_successor[e] {
-            return end_value(node, e);
-        }
-        PartialValue {
-            value: self.values[e],
-            missing: None,
+    fn actions(&self) -> usize {
+        self.input.cells.actions()
+    }
+
+    fn observations(&self) -> usize {
+        self.input.cells.observations()
+    }
+
+    fn discount(&self) -> u32 {
+        self.input.cells.discount()
+    }
+
+    fn t_scale(&self) -> u64 {
+        self.input.cells.t_scale()
+    }
+
+    fn o_scale(&self) -> u64 {
+        self.input.cells.o_scale()
+    }
+
+    fn t(&self, a: usize, s: usize, e: usize) -> u64 {
+        self.input.cells.t(a, s, e)
+    }
+
+    fn o(&self, a: usize, e: usize, z: usize) -> u64 {
+        self.input.cells.o(a, e, z)
+    }
+
+    fn r(&self, a: usize, s: usize, e: usize, z: usize) -> i64 {
+        match self.input.graph.next(self.n, z) {
+            Some(_) => self.input.cells.r(a, s, e, z),
+            None => 0,
         }
     }
 }

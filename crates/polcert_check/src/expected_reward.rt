@@ -1,11 +1,15 @@
 //! The reward that an action expects at a state.
-ghost use Rattle.std.specs.Prelude.{◌≡◌, ℕ, ◌*◌, ◌^◌, ◌<◌, ◌≤◌, pos, ◌*ℤ◌, unsigned_abs};
+ghost use Rattle.std.specs.Prelude.{◌≡◌, ℕ, ◌*◌, ◌^◌, ◌<◌, ◌≤◌, pos, ◌*ℤ◌, unsigned_abs, length};
+ghost use Rattle.std.specs.Prelude.{slice_index_or};
 ghost use Rattle.polcert_check.specs.Steps.Ranges.{most_sum};
-ghost use Rattle.polcert_check.specs.Steps.Factored.{reward_at_end, expected_reward};
+ghost use Rattle.polcert_check.specs.Steps.Factored.{reward_at_end, expected_reward, AreKnown, AreAtEnds};
+ghost use Rattle.polcert_cells.specs.declared.elements.TheConstants.{MOST_STATES, MOST_OBSERVATIONS};
+ghost use Rattle.polcert_cells.specs.CommonRewards.{IsCommonReward};
+ghost use Rattle.std.specs.Option.{ForSome};
 
-use crate::reward_buffer::RewardBuffer;
-use crate::walk::{next_end, next_observation};
-use polcert_cells::{Cells, Row};
+use crate::end_values::{next_end, next_observation};
+use crate::survey::Progress;
+use polcert_cells::{Cells, CommonReward, MOST_OBSERVATIONS, MOST_STATES, RewardCell, Row};
 
 /// Reading the rewards of this many observations together takes about as long as asking for one.
 const READ_PER_QUERY: usize = 64;
@@ -124,4 +128,231 @@ pub fn expected_reward<C: Cells>(cells: &C, a: usize, s: usize, buffer: &mut Rew
         }
         None => sum_over_ends(cells, a, s, buffer),
     }
+}
+
+/// The reward that an action expects at each state.
+#[derive(Drop)]
+pub(crate) struct Earnings {
+    pub rewards: [i128; MOST_STATES],
+    buffer: RewardBuffer,
+    ghost room: { length rewards ≡ MOST_STATES },
+}
+
+impl Earnings {
+    pub(crate) fn new() -> Self {
+        Earnings {
+            rewards: [0; MOST_STATES],
+            buffer: RewardBuffer::new(),
+        }
+    }
+
+    /// Forgets the rewards of the action before, and computes those of action `a` at the states that no reward tells apart, with room for
+    /// the rewards at end states that they share.
+    pub(crate) fn begin<C: Cells>(&mut self, cells: &C, a: usize, at_ends: &mut [i128])
+        requires action { a < (C.table cells.now).actions }
+        requires room { MOST_STATES ≤ length at_ends.old }
+        ensures { AreKnown (expected_reward (C.table cells.now) a) (C.table cells.now).states
+            self.new.rewards }
+    {
+        clear_numbers(&mut self.rewards, cells.states());
+        if let Some(first) = first_shared(cells, a) {
+            self.share(cells, a, first, at_ends);
+        }
+    }
+
+    /// Computes the rewards at state `first` and at those that no reward tells from it.
+    fn share<C: Cells>(&mut self, cells: &C, a: usize, first: usize, at_ends: &mut [i128])
+        requires action { a < (C.table cells.now).actions }
+        requires first { first < (C.table cells.now).states }
+        requires room { MOST_STATES ≤ length at_ends.old }
+        requires known { AreKnown (expected_reward (C.table cells.now) a) (C.table cells.now).states
+            self.old.rewards }
+        ensures { AreKnown (expected_reward (C.table cells.now) a) (C.table cells.now).states
+            self.new.rewards }
+    {
+        clear_numbers(at_ends, cells.states());
+        for s in first..cells.states() {
+            if cells.has_same_rewards(a, s, first) {
+                find_at_ends(cells, a, s, &mut self.buffer, at_ends);
+                self.rewards[s] = sum_at_ends(cells, a, s, at_ends);
+            }
+        }
+    }
+
+    /// Returns the reward that action `a` expects at state `s`, computed on first use, of which `progress` is notified.
+    pub(crate) fn reward_at<C: Cells, W: Progress>(
+        &mut self,
+        cells: &C,
+        a: usize,
+        s: usize,
+        progress: &mut W,
+    ) -> i128
+        requires action { a < (C.table cells.now).actions }
+        requires start { s < (C.table cells.now).states }
+        requires known { AreKnown (expected_reward (C.table cells.now) a) (C.table cells.now).states
+            self.old.rewards }
+        ensures reward { result ≡ expected_reward (C.table cells.now) a s }
+        ensures known { AreKnown (expected_reward (C.table cells.now) a) (C.table cells.now).states
+            self.new.rewards }
+    {
+        if self.rewards[s] == UNKNOWN {
+            self.rewards[s] = expected_reward(cells, a, s, &mut self.buffer);
+            progress.states_done(s + 1, cells.states());
+        }
+        self.rewards[s]
+    }
+}
+
+/// So many exceptions of a common reward are added up one by one.
+const MOST_EXCEPTIONS: usize = 64;
+
+/// Buffers for the rewards of all observations, given an action, a start state and an end state.
+#[derive(Drop)]
+pub struct RewardBuffer {
+    rewards: [i64; MOST_OBSERVATIONS],
+    pub(crate) exceptions: [RewardCell; MOST_EXCEPTIONS],
+    ghost room: { length rewards ≡ MOST_OBSERVATIONS },
+}
+
+impl RewardBuffer {
+    pub fn new() -> Self {
+        RewardBuffer {
+            rewards: [0; MOST_OBSERVATIONS],
+            exceptions: [RewardCell {
+                observation: 0,
+                reward: 0,
+            }; MOST_EXCEPTIONS],
+        }
+    }
+
+    /// Returns the weighted sum of the rewards at end state `e`, which observations have in common, except a few.
+    pub(crate) fn sum_exceptions<C: Cells>(
+        &self,
+        cells: &C,
+        a: usize,
+        s: usize,
+        e: usize,
+        common: CommonReward,
+    ) -> i128
+        requires action { a < (C.table cells.now).actions }
+        requires start { s < (C.table cells.now).states }
+        requires end { e < (C.table cells.now).states }
+        requires common { IsCommonReward ((C.table cells.now).r a s e) (C.table cells.now).observations
+            common self.now.exceptions }
+        ensures { result ≡ reward_at_end (C.table cells.now) a s e }
+    {
+        let shared = weigh(cells.o_scale(), common.reward as i128);
+        let mut sum = shared;
+        for i in 0..common.exceptions {
+            let cell = self.exceptions[i];
+            let weight = cells.o(a, e, cell.observation);
+            let difference = cell.reward as i128 - common.reward as i128;
+            let part = weigh(weight, difference);
+            sum += part;
+        }
+        sum
+    }
+
+    /// Returns the weighted sum of the rewards at end state `e`, which are read all at once.
+    pub(crate) fn reward_at_end<C: Cells>(
+        &mut self,
+        cells: &C,
+        a: usize,
+        s: usize,
+        e: usize,
+    ) -> i128
+        requires action { a < (C.table cells.now).actions }
+        requires start { s < (C.table cells.now).states }
+        requires end { e < (C.table cells.now).states }
+        ensures { result ≡ reward_at_end (C.table cells.now) a s e }
+    {
+        cells.fill_rewards(a, s, e, 0, &mut self.rewards);
+        let rewards = &self.rewards;
+        sum_over_observations(cells, a, s, e, |z| rewards[z])
+    }
+}
+
+/// Stands for a number that is not computed yet.
+pub(crate) const UNKNOWN: i128 = i128::MIN;
+
+/// Marks the first numbers as not computed yet.
+pub(crate) fn clear_numbers(numbers: &mut [i128], count: usize)
+    requires { count ≤ length numbers.old }
+    ensures { (i : ℕ) → i < count → slice_index_or numbers.new i (pos 0) ≡ UNKNOWN }
+{
+    for i in 0..count {
+        numbers[i] = UNKNOWN;
+    }
+}
+
+/// Returns the first state that shares its rewards with others, unless they are all the same.
+pub(crate) fn first_shared<C: Cells>(cells: &C, a: usize) -> Option<usize>
+    requires action { a < (C.table cells.now).actions }
+    ensures { ForSome result (λ s. s < (C.table cells.now).states) }
+{
+    for s in 0..cells.states() {
+        if cells.has_same_rewards(a, s, s) {
+            return if cells.r_constant(a, s).is_none() {
+                Some(s)
+            } else {
+                None
+            };
+        }
+    }
+    None
+}
+
+/// Computes the rewards that action `a` expects at the end states that follow state `s`, unless they are known.
+pub(crate) fn find_at_ends<C: Cells>(
+    cells: &C,
+    a: usize,
+    s: usize,
+    buffer: &mut RewardBuffer,
+    at_ends: &mut [i128],
+)
+    requires action { a < (C.table cells.now).actions }
+    requires start { s < (C.table cells.now).states }
+    requires room { (C.table cells.now).states ≤ length at_ends.old }
+    requires known { AreKnown (reward_at_end (C.table cells.now) a s) (C.table cells.now).states at_ends.old }
+    ensures known { AreKnown (reward_at_end (C.table cells.now) a s) (C.table cells.now).states at_ends.new }
+    ensures found { AreAtEnds (C.table cells.now) a s at_ends.new }
+{
+    let row = cells.t_row(a, s);
+    let mut at = 0;
+    while let Some(end) = next_end(cells, a, s, row, at) {
+        let e = end.column;
+        if at_ends[e] == UNKNOWN {
+            at_ends[e] = reward_at_end(cells, a, s, e, buffer);
+        }
+        at = end.next;
+    }
+}
+
+/// Returns the reward at an end state that follows state `s`.
+fn at_end<C: Cells>(cells: &C, a: usize, s: usize, e: usize, at_ends: &[i128]) -> i128
+    requires end { e < (C.table cells.now).states }
+    requires follows { 0 < (C.table cells.now).t a s e }
+    requires room { (C.table cells.now).states ≤ length at_ends.now }
+    requires found { AreAtEnds (C.table cells.now) a s at_ends.now }
+    ensures { result ≡ reward_at_end (C.table cells.now) a s e }
+{
+    at_ends[e]
+}
+
+/// Returns the reward that action `a` expects at state `s`, from those at end states.
+pub(crate) fn sum_at_ends<C: Cells>(cells: &C, a: usize, s: usize, at_ends: &[i128]) -> i128
+    requires action { a < (C.table cells.now).actions }
+    requires start { s < (C.table cells.now).states }
+    requires room { (C.table cells.now).states ≤ length at_ends.now }
+    requires found { AreAtEnds (C.table cells.now) a s at_ends.now }
+    ensures { result ≡ expected_reward (C.table cells.now) a s }
+{
+    let mut sum: i128 = 0;
+    let row = cells.t_row(a, s);
+    let mut at = 0;
+    while let Some(end) = next_end(cells, a, s, row, at) {
+        sum += weigh(end.weight, at_end(cells, a, s, end.column, at_ends));
+        at = end.next;
+    }
+    sum
 }

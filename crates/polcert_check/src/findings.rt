@@ -1,11 +1,14 @@
 //! What a walk over the pairs of a node and a state has found.
-ghost use Rattle.std.specs.Prelude.{◌≡◌, ◌≤◌, ◌+◌, ◌⊎◌, ◌↔◌, ℕ, IsTrue};
+ghost use Rattle.std.specs.Prelude.{◌≡◌, ◌≤◌, ◌+◌, ◌⊎◌, ◌↔◌, ℕ, IsTrue, ◌<◌, ◌^◌, ◌<ℤ◌, ◌≤ℤ◌, IfNone, IfSome};
+ghost use Rattle.std.specs.Prelude.{pos, unsigned_abs};
 ghost use Rattle.polcert_check.specs.Horizon.{Controller};
 ghost use Rattle.polcert_check.specs.Steps.Factored.{IsPairVerdict};
 ghost use Rattle.polcert_check.specs.Steps.Findings.{IsEarlier, IsFoundBefore, IsPair, NamesUntil};
-ghost use Rattle.polcert_check.specs.declared.verdict.Verdict.TheVariants.{Yes};
+ghost use Rattle.polcert_check.specs.declared.survey.Verdict.TheVariants.{Yes};
+ghost use Rattle.polcert_policy.specs.Vectors.{IsInRange};
+ghost use Rattle.polcert_check.specs.Steps.Mirrored.{signed_from};
 
-use crate::verdict::Verdict;
+use crate::survey::Verdict;
 
 /// What the pairs are walked for.
 #[derive(Clone, Copy)]
@@ -117,6 +120,41 @@ impl Findings {
                 }
             },
             Verdict::NoSuccessor { .. } => self.first = earlier(self.first, n, found),
+        }
+    }
+}
+
+/// From which side the values are bounds of what the graph earns.
+#[derive(Clone, Copy, Debug, PartialEq, Eq)]
+pub(crate) enum Side {
+    Below,
+    Above,
+}
+
+impl Side {
+    /// Returns how far a value is on the wrong side, if it is, where the number is how far it is above.
+    #[inline(always)]
+    pub(crate) fn excess(self, above: i128) -> Option<i128>
+        requires { unsigned_abs above < 2 ^ 127 }
+        ensures some { IfSome result (λ amount. (amount ≡ signed_from self above) × (pos 0 <ℤ amount)) }
+        ensures none { IfNone result (signed_from self above ≤ℤ pos 0) }
+    {
+        // (A test for each side: to turn the number first takes more instructions.)
+        match self {
+            Side::Below => if above > 0 { Some(above) } else { None },
+            Side::Above => if above < 0 { Some(-above) } else { None },
+        }
+    }
+
+    /// Returns the value as it is; from above its negative.
+    pub(crate) fn turned_value(self, value: i64) -> i64
+        requires { IsInRange value }
+        ensures is { result ≡ signed_from self value }
+        ensures in_range { IsInRange result }
+    {
+        match self {
+            Side::Below => value,
+            Side::Above => -value,
         }
     }
 }

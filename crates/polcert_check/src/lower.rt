@@ -1,5 +1,5 @@
 //! The least constant by which all vectors can be lowered to pass.
-ghost use Rattle.std.specs.Prelude.{◌≡◌, ℕ, ◌+◌, ◌*◌, ◌^◌, ◌<◌, ◌≤◌, pos, neg_ℤ, ◌+ℤ◌, ◌↔◌, IsTrue, IfOk, IfErr};
+ghost use Rattle.std.specs.Prelude.{◌≡◌, ◌<◌, ◌≤◌, pos, neg_ℤ, ◌+ℤ◌, ◌↔◌, IsTrue, IfOk, IfErr};
 ghost use Rattle.polcert_policy.specs.Vectors.{IsInRange};
 ghost use Rattle.polcert_check.specs.Steps.CheckInput.{checked_controller};
 ghost use Rattle.polcert_check.specs.Horizon.{Fits, controller_of, one};
@@ -8,28 +8,16 @@ ghost use Rattle.polcert_check.specs.Steps.Leasts.{IsLowerAnswer};
 ghost use Rattle.polcert_check.specs.Steps.Mirrored.{CanMove, IsLeastMove};
 ghost use Rattle.polcert_check.specs.Steps.Findings.{IsFound, IsPair, IsRefused, IsWorstOf};
 ghost use Rattle.polcert_check.specs.declared.findings.Mode.TheVariants.{Lowering};
-ghost use Rattle.polcert_check.specs.declared.verdict.Verdict.TheVariants.{Yes};
+ghost use Rattle.polcert_check.specs.declared.survey.Verdict.TheVariants.{Yes};
 
 use crate::check_input::CheckInput;
 use crate::fault::LowerFault;
-use crate::findings::{Findings, Mode};
-use crate::progress::{NoProgress, Progress};
-use crate::side::Side;
-use crate::survey::survey;
-use crate::verdict::Verdict;
+use crate::findings::{Findings, Mode, Side};
+use crate::shortfall::ceil_quotient;
+use crate::survey::{NoProgress, Progress, Verdict, survey};
 use polcert_model::Cells;
 use polcert_policy::{Graph, Vectors};
 use std::alloc::Global;
-
-/// Returns a quotient, rounded up.
-pub fn ceil_quotient(amount: u128, divisor: u128) -> u128
-    requires some { 0 < divisor }
-    requires room { amount + divisor ≤ 2 ^ 127 }
-    ensures enough { amount ≤ divisor * result }
-    ensures least { (d : ℕ) → d < result → divisor * d < amount }
-{
-    (amount + (divisor - 1)) / divisor
-}
 
 /// Tests whether the value less `by` is in range.
 fn is_low_enough(value: i64, by: u128) -> bool

@@ -7,9 +7,9 @@ ghost use Rattle.polcert_check.specs.Steps.Mirrored.{raise_of};
 
 use crate::check_input::CheckInput;
 use crate::fault::{LowerFault, RaiseFault};
+use crate::findings::Side;
 use crate::lower::least_of;
-use crate::progress::{NoProgress, Progress};
-use crate::side::Side;
+use crate::survey::{NoProgress, Progress};
 use polcert_model::Cells;
 use polcert_policy::{Graph, Vectors};
 use std::alloc::Global;

@@ -1,21 +1,23 @@
 //! How far a value is above what the next step backs.
-ghost use Rattle.std.specs.Prelude.{◌≡◌, ◌<◌, ◌≤◌, unsigned_abs};
+ghost use Rattle.std.specs.Prelude.{◌≡◌, ◌<◌, ◌≤◌, unsigned_abs, ℕ, ◌+◌, ◌^◌, ◌*◌, pos, ◌+ℤ◌, ◌-ℤ◌, ◌*ℤ◌, ◌<ℤ◌};
 ghost use Rattle.polcert_policy.specs.Graphs.{nodes};
-ghost use Rattle.polcert_check.specs.Horizon.{Fits, controller_of};
+ghost use Rattle.polcert_check.specs.Horizon.{Fits, controller_of, one};
 ghost use Rattle.polcert_check.specs.Shortfall.{most_short, short};
-ghost use Rattle.polcert_check.specs.Steps.Factored.{expected_reward};
+ghost use Rattle.polcert_check.specs.Steps.Factored.{expected_reward, IsPairVerdict};
 ghost use Rattle.polcert_check.specs.Steps.FollowedCells.{followed};
 ghost use Rattle.polcert_check.specs.Steps.Node.{node_controller};
+ghost use Rattle.polcert_text.specs.Numbers.{largest};
+ghost use Rattle.polcert_check.specs.Steps.CheckInput.{checked_controller};
+ghost use Rattle.polcert_check.specs.Steps.Ranges.{most_scales};
+ghost use Rattle.polcert_check.specs.Steps.Values.{IsExpectedValue};
+ghost use Rattle.polcert_check.specs.StartWorth.{IsCeilQuotient};
 
 use crate::check_input::CheckInput;
-use crate::expected_reward::expected_reward;
-use crate::expected_value::expected_value;
-use crate::followed_cells::FollowedCells;
+use crate::end_values::{FollowedCells, PartialValue, end_value, expected_value};
+use crate::expected_reward::{RewardBuffer, expected_reward, weigh};
+use crate::findings::Side;
 use crate::node::Node;
-use crate::pairs::shortfall;
-use crate::partial_value::end_value;
-use crate::reward_buffer::RewardBuffer;
-use crate::side::Side;
+use crate::survey::Verdict;
 use polcert_cells::Cells;
 use polcert_policy::{Graph, Vectors};
 
@@ -66,4 +68,107 @@ pub fn amount_short<C: Cells>(
 {
     let input = CheckInput::new(Side::Below, cells, graph, vectors);
     amount_at(&Node { input, n }, s)
+}
+
+/// Returns how far a value is above what backs it, where the weights of a step sum to `step_scale`.
+fn shortfall_of(step_scale: u64, discount: u32, value: i64, reward: i128, expected: i128) -> i128
+    requires scale { step_scale ≤ most_scales }
+    requires discount { discount ≤ 1_000_000 }
+    requires value { unsigned_abs value ≤ largest }
+    requires reward { unsigned_abs reward ≤ most_scales * largest }
+    requires expected { unsigned_abs expected ≤ most_scales * largest }
+    ensures { result ≡ pos (step_scale * one) *ℤ value -ℤ (pos one *ℤ reward +ℤ pos discount *ℤ expected) }
+{
+    let at_scale = weigh(step_scale, value as i128);
+    let scaled = weigh(1_000_000, at_scale);
+    let earned = weigh(1_000_000, reward);
+    let later = weigh(u64::from(discount), expected);
+    scaled - (earned + later)
+}
+
+/// Returns how far a value is above what backs it: the expected reward, and the discounted value that is expected.
+pub fn shortfall<C: Cells>(cells: &C, value: i64, reward: i128, expected: i128) -> i128
+    requires value { unsigned_abs value ≤ largest }
+    requires reward { unsigned_abs
+        reward ≤ (C.table cells.now).t_scale * ((C.table cells.now).o_scale * largest) }
+    requires expected { unsigned_abs
+        expected ≤ (C.table cells.now).t_scale * ((C.table cells.now).o_scale * largest) }
+    ensures { result ≡ pos ((C.table cells.now).t_scale * (C.table cells.now).o_scale * one) *ℤ value
+        -ℤ (pos one *ℤ reward +ℤ pos (C.table cells.now).discount *ℤ expected) }
+{
+    let step_scale = cells.t_scale() * cells.o_scale();
+    shortfall_of(step_scale, cells.discount(), value, reward, expected)
+}
+
+/// Returns whether a node passes at state `s`, or why not.
+pub(crate) fn pair_verdict<C: Cells>(
+    node: &Node<'_, C>,
+    s: usize,
+    value: i64,
+    reward: i128,
+    expected: PartialValue,
+) -> Verdict
+    requires start { s < (node_controller node.now).cells.states }
+    requires value { value ≡ (node_controller node.now).value node.now.n s }
+    requires reward { reward
+        ≡ expected_reward (node_controller node.now).cells ((node_controller node.now).action node.now.n) s }
+    requires expected { IsExpectedValue (node_controller node.now) node.now.n s expected }
+    ensures { IsPairVerdict (checked_controller node.now.input) node.now.n s result }
+{
+    if let Some(observation) = expected.missing {
+        return Verdict::NoSuccessor {
+            node: node.n,
+            state: s,
+            observation,
+        };
+    }
+    let input = &node.input;
+    let above = shortfall_of(
+        input.step_scale,
+        input.discount,
+        value,
+        reward,
+        expected.value,
+    );
+    match input.side.excess(above) {
+        Some(amount) => Verdict::Short {
+            node: node.n,
+            state: s,
+            amount,
+        },
+        None => Verdict::Yes,
+    }
+}
+
+/// Returns a quotient, rounded up.
+pub fn ceil_quotient(amount: u128, divisor: u128) -> u128
+    requires some { 0 < divisor }
+    requires room { amount + divisor ≤ 2 ^ 127 }
+    ensures enough { amount ≤ divisor * result }
+    ensures least { (d : ℕ) → d < result → divisor * d < amount }
+{
+    (amount + (divisor - 1)) / divisor
+}
+
+/// Returns a quotient, rounded up. It is at most the sum of three values in size.
+fn small_quotient(amount: u128, scale: u128) -> i64
+    requires some { 0 < amount }
+    requires scale { 0 < scale }
+    requires room { scale ≤ most_scales * 1_000_000 }
+    requires small { amount ≤ scale * (3 * largest) }
+    ensures { IsCeilQuotient (pos amount) scale result }
+{
+    ceil_quotient(amount, scale) as i64
+}
+
+/// Returns the amount by which a value is short, in millionths and rounded up, so that it is never 0: the
+/// amount divided by its scale, which is `t_scale` times `o_scale` times 1,000,000.
+pub fn millionths_short<C: Cells>(cells: &C, amount: i128) -> i64
+    requires short { pos 0 <ℤ amount }
+    requires small { unsigned_abs
+        amount ≤ 3 * ((C.table cells.now).t_scale * (C.table cells.now).o_scale * one) * largest }
+    ensures { IsCeilQuotient amount ((C.table cells.now).t_scale * (C.table cells.now).o_scale * one) result }
+{
+    let scale = (cells.t_scale() * cells.o_scale()) as u128 * 1_000_000;
+    small_quotient(amount.unsigned_abs(), scale)
 }

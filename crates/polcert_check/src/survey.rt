@@ -1,22 +1,79 @@
-//! The walk over all pairs of a node and a state, action by action, since nodes that take the same action share its rewards.
-ghost use Rattle.std.specs.Prelude.{◌≡◌, ◌+◌, ◌<◌};
+//! The verdict on a policy certificate.
+ghost use Rattle.polcert_check.specs.Horizon.{Fits, controller_of, MeetsHorizon};
+ghost use Rattle.polcert_check.specs.Verdict.{IsVerdict, NamesSmallAmount};
+ghost use Rattle.std.specs.Prelude.{◌≡◌, ◌+◌, ◌<◌, ◌*◌, ◌≤◌, IfSome, None, false, length};
 ghost use Rattle.polcert_check.specs.Steps.CheckInput.{controller, checked_controller};
-ghost use Rattle.polcert_check.specs.Steps.Findings.{IsFound, IsFoundBefore, IsPair};
+ghost use Rattle.polcert_check.specs.Steps.Findings.{IsFound, IsFoundBefore, IsPair, PassUntil};
 ghost use Rattle.polcert_check.specs.Steps.Node.{node_controller};
 ghost use Rattle.polcert_check.specs.Steps.Survey.{IsOfAction};
+ghost use Rattle.polcert_policy.specs.Vectors.{AreProperVectors};
+ghost use Rattle.polcert_check.specs.Steps.Ranges.{IsController, ValuesAreWithin};
+ghost use Rattle.polcert_check.specs.Steps.Factored.{expected_reward, AreKnown, IsPairVerdict};
+ghost use Rattle.polcert_check.specs.Steps.Values.{AreEndValues};
 
 use crate::check_input::CheckInput;
-use crate::earnings::Earnings;
-use crate::end_values::EndValues;
-use crate::findings::{Findings, Mode};
-use crate::first_failure::{StateVerdict, first_failure};
+use crate::end_values::ReachedStates;
+use crate::ends::EndValues;
+use crate::expected_reward::{Earnings, UNKNOWN};
+use crate::findings::{Findings, Mode, Side};
 use crate::node::Node;
-use crate::pairs::pair_verdict;
-use crate::progress::Progress;
-use crate::reached_states::ReachedStates;
-use crate::shared_rewards::UNKNOWN;
-use crate::verdict::Verdict;
+use crate::shortfall::pair_verdict;
 use polcert_model::Cells;
+use polcert_policy::{Graph, Vectors};
+
+/// What a check finds: yes, or the first pair of a node and a state that doesn't pass, by node and then by state.
+#[derive(Clone, Copy, Debug, PartialEq, Eq)]
+pub enum Verdict {
+    /// Every value is backed, from every node and state.
+    Yes,
+    /// The value of this node at this state is above what the next step backs, by this amount: in millionths, on the scale
+    /// of the weights of one step times 1,000,000.
+    Short {
+        node: usize,
+        state: usize,
+        amount: i128,
+    },
+    /// This observation can be received at this node and state, and the node has no successor for it. It is the least such
+    /// observation.
+    NoSuccessor {
+        node: usize,
+        state: usize,
+        observation: usize,
+    },
+}
+
+/// Checks that the backup of one step reaches each value, so that every number of steps does. Returns the
+/// first pair of a node and a state that fails, if one does.
+pub fn check<C: Cells>(cells: &C, graph: &Graph, vectors: &Vectors) -> Verdict
+    requires fits { Fits (C.table cells.now) graph.now vectors.now }
+
+    // Yes where every pair passes, else the first that doesn't, and why.
+    ensures verdict { IsVerdict (controller_of (C.table cells.now) graph.now vectors.now) result }
+
+    // The promise for every horizon, or that one step breaks it.
+    ensures horizon { MeetsHorizon (controller_of (C.table cells.now) graph.now vectors.now) result }
+
+    // How large an amount can be.
+    ensures small { NamesSmallAmount (controller_of (C.table cells.now) graph.now vectors.now) result }
+{
+    check_watched(cells, graph, vectors, &mut NoProgress)
+}
+
+/// Checks as `check`, and notifies `progress` of each node when all of its pairs have passed.
+pub fn check_watched<C: Cells, W: Progress>(
+    cells: &C,
+    graph: &Graph,
+    vectors: &Vectors,
+    progress: &mut W,
+) -> Verdict
+    requires fits { Fits (C.table cells.now) graph.now vectors.now }
+    ensures verdict { IsVerdict (controller_of (C.table cells.now) graph.now vectors.now) result }
+    ensures horizon { MeetsHorizon (controller_of (C.table cells.now) graph.now vectors.now) result }
+    ensures small { NamesSmallAmount (controller_of (C.table cells.now) graph.now vectors.now) result }
+{
+    let input = CheckInput::new(Side::Below, cells, graph, vectors);
+    survey(&input, Mode::Check, progress).first
+}
 
 /// The state of the walk: what it has found, and buffers that are reused for every action and node.
 #[derive(Drop)]
@@ -195,4 +252,102 @@ pub(crate) fn survey<C: Cells, W: Progress>(
     }
     progress.end();
     survey.findings
+}
+
+/// A state, and the verdict on its pair with a node, if it is known.
+#[derive(Clone, Copy)]
+pub(crate) struct StateVerdict {
+    pub state: usize,
+    pub verdict: Option<Verdict>,
+}
+
+impl StateVerdict {
+    /// Makes the finding of a state without a verdict.
+    pub(crate) fn unknown(state: usize) -> Self
+        ensures state { result.state ≡ state }
+        ensures verdict { result.verdict ≡ None }
+    {
+        StateVerdict {
+            state,
+            verdict: None,
+        }
+    }
+}
+
+/// Returns the first state from `from` on whose pair with the node does not pass; with no verdict the first whose reward is not known yet,
+/// or the number of states.
+#[inline(never)]
+pub(crate) fn first_failure<C: Cells>(
+    node: &Node<'_, C>,
+    from: usize,
+    rewards: &[i128],
+    ends: &EndValues,
+) -> StateVerdict
+    requires from { from < (node_controller node.now).cells.states }
+    requires room { (node_controller node.now).cells.states ≤ length rewards.now }
+    requires rewards { AreKnown (expected_reward (node_controller node.now).cells
+        ((node_controller node.now).action node.now.n)) (node_controller node.now).cells.states rewards.now }
+    requires ends { AreEndValues (node_controller node.now) node.now.n
+        (node_controller node.now).cells.states ends.now }
+    requires complete { ends.now.lacks_any ≡ false }
+    requires narrow { ends.now.has_wide ≡ false }
+    ensures from { from ≤ result.state }
+    ensures within { result.state ≤ (node_controller node.now).cells.states }
+    ensures passed { PassUntil (checked_controller node.now.input) node.now.n from result.state }
+    ensures verdict { IfSome result.verdict
+        (IsPairVerdict (checked_controller node.now.input) node.now.n result.state) }
+{
+    let states = node.input.cells.states();
+    let mut state = from;
+    'pairs: loop {
+        // (These come first: what they have in common for all states is read once only if each iteration reads it.)
+        let value = node.value_at(state);
+        let expected = ends.narrow_value(node, state);
+        let reward = rewards[state];
+        if reward == UNKNOWN {
+            return StateVerdict::unknown(state);
+        }
+        let verdict = pair_verdict(node, state, value, reward, expected);
+        match verdict {
+            Verdict::Yes => {}
+            Verdict::Short { .. } | Verdict::NoSuccessor { .. } => return StateVerdict {
+                state,
+                verdict: Some(verdict),
+            },
+        }
+        state += 1;
+        if state == states {
+            return StateVerdict::unknown(state);
+        }
+    }
+}
+
+/// Is notified of how far a walk over the nodes of a graph is. No answer depends on it.
+pub trait Progress {
+    /// Notifies that a walk over so many nodes begins.
+    fn begin(&mut self, nodes: usize);
+
+    /// Notifies that the first `done` of `states` start states of a node are done. It is called for the first
+    /// node of an action only: nodes after it share its rewards, which take most of the time.
+    fn states_done(&mut self, done: usize, states: usize);
+
+    /// Notifies that one more node is done.
+    fn node_done(&mut self);
+
+    /// Notifies that the walk ends, perhaps before its last node.
+    fn end(&mut self);
+}
+
+/// Nobody is notified.
+#[derive(Clone, Copy, Debug)]
+pub struct NoProgress;
+
+impl Progress for NoProgress {
+    fn begin(&mut self, _nodes: usize) {}
+
+    fn states_done(&mut self, _done: usize, _states: usize) {}
+
+    fn node_done(&mut self) {}
+
+    fn end(&mut self) {}
 }

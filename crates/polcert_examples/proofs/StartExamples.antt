@@ -2,7 +2,7 @@
 use Rattle.std.proofs.Common.{◌≡◌, ℕ, ◌<◌, List, [], ◌∷◌, codes, refl, subst, arith, lit<}
 use Rattle.polcert_cells.specs.Numbers.{none, unsigned}
 use Rattle.polcert_cells.specs.Elements.{StandsFor, by_name}
-use Rattle.polcert_cells.specs.declared.start_weights.StartWeights.{StartWeights}
+use Rattle.polcert_cells.specs.declared.elements.StartWeights.{StartWeights}
 use Rattle.polcert_cells.specs.Start.{IsStart, plain, include, exclude, uniform, name, probabilities, equal_weights, excluded}
 use Rattle.polcert_examples.specs.Worked.Examples as examples
 use Rattle.polcert_examples.specs.Worked.StartExamples.{a_b, shares, uniform_start, halves_start, quarters_start, name_start, include_start, exclude_start, exclude_all}

@@ -3,8 +3,8 @@ use Rattle.std.proofs.Common.{◌≡◌, ℕ, ◌≤◌, ◌==◌, ◌∷◌, �
 use Rattle.std.specs.List.{list_any}
 use Rattle.polcert_text.specs.Cut.{Lexeme}
 use Rattle.polcert_cells.specs.Words.{begins_item, IsWord}
-use Rattle.polcert_cells.specs.declared.entry.Entry.{Entry}
-use Rattle.polcert_cells.specs.declared.entry.Body.TheVariants.{Probabilities}
+use Rattle.polcert_cells.specs.declared.entries.Entry.{Entry}
+use Rattle.polcert_cells.specs.declared.entries.Body.TheVariants.{Probabilities}
 use Rattle.polcert_cells.specs.Entry as entries
 use Rattle.polcert_cells.specs.Entry.{ArePlaces, IsEntry, IsBody}
 use Rattle.polcert_cells.specs.Preamble.{Preamble, is_mdp, dimensions, named as named_by}

@@ -1,7 +1,7 @@
 //! The definitions at small models, texts and controllers, computed.
 ghost use Rattle.std.specs.Prelude.{codes, true, false, Some, ◌≡◌, ◌*◌, ◌^◌, ◌∷◌, [], pos, neg_ℤ};
 ghost use Rattle.polcert_cells.specs.Meaning.{t_scale, HasProperRows, sum_below, states_of, actions_of, observations_of, start_total};
-ghost use Rattle.polcert_cells.specs.declared.start_weights.StartWeights.{StartWeights};
+ghost use Rattle.polcert_cells.specs.declared.elements.StartWeights.{StartWeights};
 ghost use Rattle.polcert_cells.specs.Start.{IsStart};
 ghost use Rattle.polcert_format.specs.Text.{Denotes};
 ghost use Rattle.polcert_format.specs.declared.fault.ItemFault.TheVariants.{DiscountRange};

@@ -1,7 +1,7 @@
 -- The first number of a start item is refused for one reason at most, and where nothing else is decided.
 use Rattle.std.proofs.Common.{◌≡◌, ℕ, ◌+◌, Bool, true, false, Some, List, [], ◌∷◌, ◌++◌, length, ℤ, subst, arith}
 use Rattle.polcert_text.specs.Cut.{Lexeme}
-use Rattle.polcert_text.specs.declared.lexeme.TokenKind.TheVariants.{Numeral}
+use Rattle.polcert_text.specs.declared.tokens.TokenKind.TheVariants.{Numeral}
 use Rattle.polcert_text.specs.declared.number.NumberFault.{NumberFault}
 use Rattle.polcert_text.proofs.TextLaws.{exact_not_refused}
 use Rattle.polcert_cells.specs.declared.words.Topic.{Topic}

@@ -1,7 +1,7 @@
 -- How numbers and places continue after those that were read.
 use Rattle.std.proofs.Common.{◌≡◌, List, ◌∷◌, ℤ, arith}
 use Rattle.polcert_text.specs.Cut.{Lexeme}
-use Rattle.polcert_text.specs.declared.lexeme.TokenKind.TheVariants.{Numeral, Plus, Minus}
+use Rattle.polcert_text.specs.declared.tokens.TokenKind.TheVariants.{Numeral, Plus, Minus}
 use Rattle.polcert_cells.specs.Numbers.{AreNumbers}
 
 -- a lexeme that is no numeral and no sign begins no numbers

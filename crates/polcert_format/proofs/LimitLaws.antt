@@ -3,7 +3,7 @@ use Rattle.std.proofs.Common.{◌≡◌, ℕ, zero, suc, ◌+◌, ◌*◌, ◌<�
 use Rattle.std.proofs.lemmas.List.{length-map}
 use Rattle.polcert_text.specs.Numbers.{largest}
 use Rattle.polcert_text.specs.Cut.{Lexeme}
-use Rattle.polcert_cells.specs.declared.entry.Table.TheVariants.{Reward}
+use Rattle.polcert_cells.specs.declared.entries.Table.TheVariants.{Reward}
 use Rattle.polcert_cells.specs.declared.words.Topic.{Topic}
 use Rattle.polcert_cells.specs.Numbers.{IsMillionths, AreNumbers}
 use Rattle.polcert_cells.specs.Numbers as numbers
@@ -11,9 +11,9 @@ use Rattle.polcert_cells.specs.declared.elements.Elements.{Elements}
 use Rattle.polcert_cells.specs.Elements.{count_of, most_states, most_actions, most_observations, most_pairs, AreElements}
 use Rattle.polcert_format.specs.Items.{Item}
 use Rattle.polcert_cells.specs.Preamble.{Preamble, observed}
-use Rattle.polcert_cells.specs.declared.entry.Body.{Body}
-use Rattle.polcert_cells.specs.declared.entry.Body.TheVariants.{Rewards}
-use Rattle.polcert_cells.specs.declared.entry.Entry.{Entry}
+use Rattle.polcert_cells.specs.declared.entries.Body.{Body}
+use Rattle.polcert_cells.specs.declared.entries.Body.TheVariants.{Rewards}
+use Rattle.polcert_cells.specs.declared.entries.Entry.{Entry}
 use Rattle.polcert_cells.specs.Entry.{IsBody}
 use Rattle.polcert_cells.specs.Entry as entries
 use Rattle.polcert_cells.specs.Cells.{last_covering, reward, reward_of, reward_in, value_or, IsLastCovering, none}
@@ -21,7 +21,7 @@ use Rattle.polcert_cells.specs.Meaning.{Meaning, reward_index, sum_below, IsCoun
 use Rattle.polcert_format.specs.Text as texts
 use Rattle.polcert_format.specs.Text.{ModelSoFar, nothing_known, IsRight, AreRight, Denotes}
 use Rattle.polcert_cells.proofs.NumberLaws.{millionth_pos}
-use Rattle.polcert_cells.specs.declared.start_weights.StartWeights.{StartWeights}
+use Rattle.polcert_cells.specs.declared.elements.StartWeights.{StartWeights}
 use Rattle.polcert_cells.specs.Start.{equal_weights}
 use Rattle.polcert_cells.proofs.CellLaws.{last_is}
 use Rattle.polcert_cells.proofs.StartLimits.{IsFair, start_fair, no_start_fair}

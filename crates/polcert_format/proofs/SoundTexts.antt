@@ -4,11 +4,11 @@ use Rattle.std.specs.Option.{ForSome}
 use Rattle.std.proofs.lemmas.List.Elements.{All-append}
 use Rattle.polcert_text.specs.Cut.{Lexeme}
 use Rattle.polcert_text.specs.Numbers.{largest}
-use Rattle.polcert_cells.specs.declared.entry.Table.{Table}
-use Rattle.polcert_cells.specs.declared.entry.Table.TheVariants.{Reward}
-use Rattle.polcert_cells.specs.declared.entry.Place.{Place}
-use Rattle.polcert_cells.specs.declared.entry.Body.{Body}
-use Rattle.polcert_cells.specs.declared.entry.Entry.{Entry}
+use Rattle.polcert_cells.specs.declared.entries.Table.{Table}
+use Rattle.polcert_cells.specs.declared.entries.Table.TheVariants.{Reward}
+use Rattle.polcert_cells.specs.declared.entries.Place.{Place}
+use Rattle.polcert_cells.specs.declared.entries.Body.{Body}
+use Rattle.polcert_cells.specs.declared.entries.Entry.{Entry}
 use Rattle.polcert_cells.specs.declared.words.Topic.{Topic}
 use Rattle.polcert_cells.specs.Numbers.{AreNumbers}
 use Rattle.polcert_cells.specs.Numbers as numbers
@@ -20,7 +20,7 @@ use Rattle.polcert_cells.specs.Entry.{IsPlace, ArePlaces, IsBody, IsEntry}
 use Rattle.polcert_cells.specs.Entry as entries
 use Rattle.polcert_format.specs.Text as texts
 use Rattle.polcert_format.specs.Text.{ModelSoFar, nothing_known, HasLines, IsRight, AreRight, IsRightText}
-use Rattle.polcert_cells.specs.declared.start_weights.StartWeights.{StartWeights}
+use Rattle.polcert_cells.specs.declared.elements.StartWeights.{StartWeights}
 use Rattle.polcert_cells.specs.Steps.Sound.{IsPlaceIn, ArePlacesIn, Fills, IsSoundEntry, IsSound}
 use Rattle.polcert_format.proofs.LimitLaws.{line_within, number_within, CountWithin, DiscountWithin, StartWithin, all_within}
 

@@ -10,7 +10,7 @@ use Rattle.polcert_cells.specs.declared.elements.Elements.{Elements}
 use Rattle.polcert_cells.specs.Elements.{most_states, most_actions, most_observations, AreElements, counted, named}
 use Rattle.polcert_format.specs.Items.{Item}
 use Rattle.polcert_cells.specs.Preamble.{Preamble}
-use Rattle.polcert_cells.specs.declared.entry.Entry.{Entry}
+use Rattle.polcert_cells.specs.declared.entries.Entry.{Entry}
 use Rattle.polcert_cells.specs.Entry.{IsEntry}
 use Rattle.polcert_cells.specs.Meaning.{Meaning, meaning_of, IsSame}
 use Rattle.polcert_format.specs.Text.{ModelSoFar, nothing_known, IsComplete, IsRight, discount, rewards, costs, states, actions, observations, start, entry, AreRight, none, more, IsRightText, Denotes, IsModelText}

@@ -4,7 +4,7 @@
 -- Source: the POMDP file format page at pomdp.org, whose start items these are, read from left to right.
 use Rattle.std.specs.Prelude.{◌≡◌, ℕ, ◌+◌, ◌<◌, Bool, true, false, List, [], ◌∷◌, ◌++◌, length, Option, Some, None}
 use Rattle.polcert_text.specs.Cut.{Lexeme}
-use Rattle.polcert_text.specs.declared.lexeme.TokenKind.TheVariants.{Colon, Plus, Minus}
+use Rattle.polcert_text.specs.declared.tokens.TokenKind.TheVariants.{Colon, Plus, Minus}
 use Rattle.polcert_text.specs.declared.number.NumberFault.{NumberFault}
 use Rattle.polcert_text.specs.declared.tokens.TokenFault.{TokenFault}
 use Rattle.polcert_cells.specs.declared.words.Topic.TheVariants.{Start}

@@ -4,12 +4,12 @@
 use Rattle.std.specs.Prelude.{◌≡◌, ℕ, ◌<◌, ◌≤◌, List, [], ◌∷◌, ◌++◌, length, ℤ, pos, ◌⊎◌, Some, All, codes, map}
 use Rattle.std.specs.List.{AllZip}
 use Rattle.polcert_text.specs.Cut.{Lexeme}
-use Rattle.polcert_text.specs.declared.lexeme.TokenKind.TheVariants.{Colon}
+use Rattle.polcert_text.specs.declared.tokens.TokenKind.TheVariants.{Colon}
 use Rattle.polcert_cells.specs.declared.elements.Elements.{Elements}
 use Rattle.polcert_cells.specs.declared.words.Topic.{Topic}
 use Rattle.polcert_cells.specs.declared.words.Topic.TheVariants.{Start, Cells}
-use Rattle.polcert_cells.specs.declared.entry.Table.{Table}
-use Rattle.polcert_cells.specs.declared.entry.Entry.{Entry}
+use Rattle.polcert_cells.specs.declared.entries.Table.{Table}
+use Rattle.polcert_cells.specs.declared.entries.Entry.{Entry}
 use Rattle.polcert_cells.specs.Entry.{MayBeGiven, IsEntry}
 use Rattle.polcert_cells.specs.Elements.{count_of, StandsFor, number_of}
 use Rattle.polcert_cells.specs.Numbers.{IsWhole, IsNumber, AreNumbers, one}

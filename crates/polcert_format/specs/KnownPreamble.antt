@@ -2,7 +2,7 @@
 use Rattle.std.specs.Prelude.{false, List, unwrap_or}
 use Rattle.polcert_cells.specs.declared.elements.Elements.{Elements}
 use Rattle.polcert_cells.specs.declared.elements.Elements.TheVariants.{Count}
-use Rattle.polcert_cells.specs.declared.entry.Table.{Table}
+use Rattle.polcert_cells.specs.declared.entries.Table.{Table}
 use Rattle.polcert_cells.specs.Preamble.{Preamble, dimensions, named}
 use Rattle.polcert_format.specs.Text.{ModelSoFar}
 

@@ -5,9 +5,9 @@
 use Rattle.std.specs.Prelude.{◌≡◌, ℕ, ◌≤◌, Bool, true, false, List, [], ◌∷◌, ◌++◌, pos, Option, Some, None, codes}
 use Rattle.polcert_text.specs.Cut.{Lexeme}
 use Rattle.polcert_text.specs.Tokens.{AreTokens}
-use Rattle.polcert_text.specs.declared.lexeme.TokenKind.TheVariants.{Colon}
-use Rattle.polcert_cells.specs.declared.entry.Table.{Table}
-use Rattle.polcert_cells.specs.declared.entry.Entry.{Entry}
+use Rattle.polcert_text.specs.declared.tokens.TokenKind.TheVariants.{Colon}
+use Rattle.polcert_cells.specs.declared.entries.Table.{Table}
+use Rattle.polcert_cells.specs.declared.entries.Entry.{Entry}
 use Rattle.polcert_cells.specs.declared.words.Topic.{Topic}
 use Rattle.polcert_cells.specs.declared.words.Topic.TheVariants.{Discount, Values, States, Actions, Observations, Start, Cells}
 use Rattle.polcert_cells.specs.Words.{topic, IsWord}
@@ -18,7 +18,7 @@ use Rattle.polcert_format.specs.Items.{Item, IsDivided}
 use Rattle.polcert_format.specs.Limits.{HasFewPairs, HasFewCells}
 use Rattle.polcert_cells.specs.Preamble.{Preamble}
 use Rattle.polcert_cells.specs.Entry.{MayBeGiven, IsEntry}
-use Rattle.polcert_cells.specs.declared.start_weights.StartWeights.{StartWeights}
+use Rattle.polcert_cells.specs.declared.elements.StartWeights.{StartWeights}
 use Rattle.polcert_cells.specs.Start.{IsStart}
 use Rattle.polcert_cells.specs.Meaning.{Meaning, meaning_of, HasProperRows, IsSame}
 

@@ -3,12 +3,12 @@
 use Rattle.std.specs.Prelude.{◌≡◌, ◌≢◌, ℕ, ◌*◌, ◌%◌, ◌<◌, ◌≤◌, ◌==◌, true, false, if◌then◌else◌, List, length, All, AllPairs, Some}
 use Rattle.std.specs.Option.{ForSome}
 use Rattle.polcert_text.specs.Lexemes.{kind_of}
-use Rattle.polcert_text.specs.declared.lexeme.TokenKind.TheVariants.{Name}
+use Rattle.polcert_text.specs.declared.tokens.TokenKind.TheVariants.{Name}
 use Rattle.polcert_cells.specs.Words.{is_reserved}
 use Rattle.polcert_cells.specs.Numbers.{one}
 use Rattle.polcert_cells.specs.declared.elements.Elements.{Elements}
 use Rattle.polcert_cells.specs.declared.elements.Elements.TheVariants.{Names}
-use Rattle.polcert_cells.specs.declared.start_weights.StartWeights.{StartWeights}
+use Rattle.polcert_cells.specs.declared.elements.StartWeights.{StartWeights}
 use Rattle.polcert_cells.specs.Start.{is_level}
 use Rattle.polcert_cells.specs.Preamble.{is_mdp}
 use Rattle.polcert_cells.specs.Meaning.{Meaning, states_of, actions_of, observations_of}

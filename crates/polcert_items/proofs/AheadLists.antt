@@ -1,15 +1,15 @@
 -- An entry whose numbers are taken several at once.
 use Rattle.std.proofs.Common.{◌≡◌, ◌≢◌, ◌∙◌, ◌⊎◌, ⊎_elim, inl, inr, ℕ, ◌<◌, ◌≤◌, true, false, List, [], ◌∷◌, ◌++◌, length, drop, refl, sym, ap, subst, arith}
 use Rattle.polcert_text.specs.Cut.{Lexeme}
-use Rattle.polcert_text.specs.declared.lexeme.TokenKind.{TokenKind}
-use Rattle.polcert_text.specs.declared.lexeme.TokenKind.TheVariants.{Numeral, Plus, Minus}
+use Rattle.polcert_text.specs.declared.tokens.TokenKind.{TokenKind}
+use Rattle.polcert_text.specs.declared.tokens.TokenKind.TheVariants.{Numeral, Plus, Minus}
 use Rattle.polcert_cells.specs.Entry.{cells_in}
 use Rattle.polcert_cells.specs.Preamble.{Preamble, is_mdp}
 use Rattle.polcert_cells.specs.Words.{begins_item}
 use Rattle.polcert_cells.specs.declared.elements.Elements.{Elements}
-use Rattle.polcert_cells.specs.declared.entry.Place.{Place}
-use Rattle.polcert_cells.specs.declared.entry.Table.{Table}
-use Rattle.polcert_cells.specs.declared.entry.Table.TheVariants.{Transition, Observation, Reward}
+use Rattle.polcert_cells.specs.declared.entries.Place.{Place}
+use Rattle.polcert_cells.specs.declared.entries.Table.{Table}
+use Rattle.polcert_cells.specs.declared.entries.Table.TheVariants.{Transition, Observation, Reward}
 use Rattle.polcert_format.specs.KnownPreamble.{preamble_in, indices_in}
 use Rattle.polcert_format.specs.Misfits.{begins_number}
 use Rattle.polcert_format.specs.Text.{ModelSoFar}

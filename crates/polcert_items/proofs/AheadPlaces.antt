@@ -4,8 +4,8 @@ use Rattle.std.proofs.lemmas.List.{length-drop}
 use Rattle.polcert_text.specs.Beginning.{BeginWithOne, BeginWithDigits, moved}
 use Rattle.polcert_text.specs.Cut.{Lexeme}
 use Rattle.polcert_text.specs.declared.front_tokens.FrontDigits.{FrontDigits}
-use Rattle.polcert_text.specs.declared.lexeme.TokenKind.{TokenKind}
-use Rattle.polcert_text.specs.declared.lexeme.TokenKind.TheVariants.{Colon, Numeral, Star}
+use Rattle.polcert_text.specs.declared.tokens.TokenKind.{TokenKind}
+use Rattle.polcert_text.specs.declared.tokens.TokenKind.TheVariants.{Colon, Numeral, Star}
 use Rattle.polcert_text.proofs.Taken.BeginLaws.{begin_then}
 use Rattle.polcert_cells.specs.Elements.{count_of, StandsFor, by_number, by_name}
 use Rattle.polcert_cells.specs.Entry.{IsPlace}
@@ -14,10 +14,10 @@ use Rattle.polcert_cells.specs.Preamble.{Preamble}
 use Rattle.polcert_cells.specs.Words.{begins_item, is_reserved, IsName}
 use Rattle.polcert_cells.specs.declared.elements.Elements.{Elements}
 use Rattle.polcert_cells.specs.declared.elements.Elements.TheVariants.{Count}
-use Rattle.polcert_cells.specs.declared.entry.Place.{Place}
-use Rattle.polcert_cells.specs.declared.entry.Place.TheVariants.{Every, Only}
-use Rattle.polcert_cells.specs.declared.entry.Table.{Table}
-use Rattle.polcert_cells.specs.declared.entry.Table.TheVariants.{Transition, Observation, Reward}
+use Rattle.polcert_cells.specs.declared.entries.Place.{Place}
+use Rattle.polcert_cells.specs.declared.entries.Place.TheVariants.{Every, Only}
+use Rattle.polcert_cells.specs.declared.entries.Table.{Table}
+use Rattle.polcert_cells.specs.declared.entries.Table.TheVariants.{Transition, Observation, Reward}
 use Rattle.polcert_cells.proofs.EntryLaws.{one_place}
 use Rattle.polcert_format.specs.KnownPreamble.{preamble_in, indices_in, named_in}
 use Rattle.polcert_format.specs.Reasons.{is_sign}

@@ -5,21 +5,21 @@ use Rattle.std.proofs.lemmas.Bool.Decides.{nat_tests}
 use Rattle.std.proofs.lemmas.List.Sums.{sum_by_push, count_by-le-length}
 use Rattle.std.proofs.Math.Nat.{mul_assoc, mul-le-mul, mul-one}
 use Rattle.polcert_cells.specs.Elements.{count_of, most_states, most_actions, most_observations}
-use Rattle.polcert_cells.specs.declared.entry.Body.{Body}
-use Rattle.polcert_cells.specs.declared.entry.Place.{Place}
-use Rattle.polcert_cells.specs.declared.entry.Place.TheVariants.{Every, Only}
+use Rattle.polcert_cells.specs.declared.entries.Body.{Body}
+use Rattle.polcert_cells.specs.declared.entries.Place.{Place}
+use Rattle.polcert_cells.specs.declared.entries.Place.TheVariants.{Every, Only}
 use Rattle.polcert_cells.specs.declared.elements.Elements.{Elements}
-use Rattle.polcert_cells.specs.declared.entry.Body.TheVariants.{Probabilities, Rewards, Uniform, Identity}
-use Rattle.polcert_cells.specs.declared.entry.Entry.{Entry}
-use Rattle.polcert_cells.specs.declared.entry.Table.{Table}
-use Rattle.polcert_cells.specs.declared.entry.Table.TheVariants.{Transition, Observation, Reward}
+use Rattle.polcert_cells.specs.declared.entries.Body.TheVariants.{Probabilities, Rewards, Uniform, Identity}
+use Rattle.polcert_cells.specs.declared.entries.Entry.{Entry}
+use Rattle.polcert_cells.specs.declared.entries.Table.{Table}
+use Rattle.polcert_cells.specs.declared.entries.Table.TheVariants.{Transition, Observation, Reward}
 use Rattle.polcert_cells.specs.Cells.{is_table}
 use Rattle.polcert_cells.specs.Entry.{cells_in, forms}
 use Rattle.polcert_cells.specs.Preamble.{Preamble, is_mdp, observed, rewarded, dimensions}
 use Rattle.polcert_cells.specs.Steps.Sound.{ArePlacesIn, Fills}
 use Rattle.polcert_format.specs.Limits.{IsLarge, HasFewCells, count_cells, gives_weight, covered, most_cells, most_reward_entries}
-use Rattle.polcert_items.specs.declared.cell_budget.CellBudget.{CellBudget}
-use Rattle.polcert_items.specs.declared.cell_budget.Sizes.{Sizes}
+use Rattle.polcert_items.specs.declared.model_so_far.CellBudget.{CellBudget}
+use Rattle.polcert_items.specs.declared.model_so_far.Sizes.{Sizes}
 use Rattle.polcert_items.specs.Steps.CellBudget.{chosen, open_cells, nonzero_cells, covered_by, most_covered, counted, IsCoveringOf, IsNext}
 use Rattle.polcert_items.proofs.CountedCells.{covered_transitions, covered_observations, not_covered, nothing_written}
 

@@ -9,11 +9,11 @@ use Rattle.std.proofs.lemmas.List.Quantifiers.{all_pairs_push}
 use Rattle.std.proofs.lemmas.Slice.Eq.{bytes_eq-Decides}
 use Rattle.polcert_text.specs.Bytes.{is_digit}
 use Rattle.polcert_text.specs.Cut.{Lexeme}
-use Rattle.polcert_text.specs.declared.lexeme.TokenKind.TheVariants.{Numeral}
+use Rattle.polcert_text.specs.declared.tokens.TokenKind.TheVariants.{Numeral}
 use Rattle.polcert_format.specs.declared.fault.ItemFault.{ItemFault}
 use Rattle.polcert_format.specs.declared.fault.ItemFault.TheVariants.{DuplicateName}
-use Rattle.polcert_items.specs.declared.elements_reader.ElementsReader.{ElementsReader}
-use Rattle.polcert_items.specs.declared.elements_reader.ElementsReader.TheVariants as readers
+use Rattle.polcert_items.specs.declared.preamble_lines.ElementsReader.{ElementsReader}
+use Rattle.polcert_items.specs.declared.preamble_lines.ElementsReader.TheVariants as readers
 use Rattle.polcert_cells.specs.Words.{IsName}
 use Rattle.polcert_cells.specs.Numbers.{IsWhole}
 use Rattle.polcert_cells.specs.declared.elements.Elements.{Elements}

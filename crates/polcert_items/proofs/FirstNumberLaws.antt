@@ -2,8 +2,8 @@
 use Rattle.std.proofs.Common.{◌≡◌, ◌∙◌, ℕ, ◌++◌, ◌⊎◌, inl, inr, Bool, false, true, Option, Some, None, Result, Ok, Err, List, [], ◌∷◌, ℤ, refl, sym, ap, subst}
 use Rattle.std.proofs.lemmas.List.{append-nil}
 use Rattle.polcert_text.specs.Cut.{Lexeme}
-use Rattle.polcert_text.specs.declared.lexeme.TokenKind.{TokenKind}
-use Rattle.polcert_text.specs.declared.lexeme.TokenKind.TheVariants.{Name, Numeral, Colon, Plus, Minus}
+use Rattle.polcert_text.specs.declared.tokens.TokenKind.{TokenKind}
+use Rattle.polcert_text.specs.declared.tokens.TokenKind.TheVariants.{Name, Numeral, Colon, Plus, Minus}
 use Rattle.polcert_text.specs.declared.number.NumberFault.{NumberFault}
 use Rattle.polcert_text.proofs.TextLaws.{one_exact_fault}
 use Rattle.polcert_cells.proofs.Basics.{cons≢nil, one_some, same_head, same_tail, true≢false}
@@ -19,12 +19,12 @@ use Rattle.polcert_format.specs.Wants as wants
 use Rattle.polcert_format.proofs.FirstNumbers.{OfNumerals, same_digits, same_number, digits_are_number, digits_numeral, value_not_refused, no_fraction_numeral}
 use Rattle.polcert_items.specs.declared.signed_number.Refusal.{Refusal}
 use Rattle.polcert_items.specs.declared.signed_number.Sign.{Sign}
-use Rattle.polcert_items.specs.declared.start_numbers.FirstNumber.{FirstNumber}
-use Rattle.polcert_items.specs.declared.start_numbers.StateOrNumber.{StateOrNumber}
+use Rattle.polcert_items.specs.declared.start_reader.FirstNumber.{FirstNumber}
+use Rattle.polcert_items.specs.declared.start_reader.StateOrNumber.{StateOrNumber}
 use Rattle.polcert_items.specs.declared.start_reader.StartReader.{StartReader}
 use Rattle.polcert_items.specs.declared.start_reader.StartReader.TheVariants as reader
-use Rattle.polcert_items.specs.declared.feed_error.EndError.{EndError}
-use Rattle.polcert_items.specs.declared.feed_error.EndError.TheVariants as ends_of
+use Rattle.polcert_items.specs.declared.item.EndError.{EndError}
+use Rattle.polcert_items.specs.declared.item.EndError.TheVariants as ends_of
 use Rattle.polcert_items.specs.Steps.Numbers.{IsSignAt}
 use Rattle.polcert_items.specs.Steps.Numbers as steps
 use Rattle.polcert_items.specs.Steps.Start.{start_sign, pending, pending_of, IsValue, IsState, IsOutside, IsFraction, IsAfterColon, IsListBegun, IsWordBody, IsNumberBody, IsDigitsKept, IsFurtherBody, HasReadStart, IsDue, IsDueNumber, IsDueValue, CanStillBeRight, IsStop, due, at_once, IsEndDue, IsLateEnd, StopsStart, first_number, token}

@@ -1,13 +1,13 @@
 -- An item's reader, token by token: what it keeps of the body, and why a token is refused.
 use Rattle.std.proofs.Common.{◌≡◌, ◌∙◌, ℕ, ◌⊎◌, inl, inr, Bool, true, false, Some, None, List, [], ◌∷◌, ◌++◌, Result, Ok, Err, OnOk, IfErr, unwrap_or, refl, sym, ap, subst}
 use Rattle.polcert_text.specs.Cut.{Lexeme}
-use Rattle.polcert_items.specs.declared.elements_reader.ElementsReader.{ElementsReader}
+use Rattle.polcert_items.specs.declared.preamble_lines.ElementsReader.{ElementsReader}
 use Rattle.polcert_format.specs.declared.fault.ItemFault.{ItemFault}
 use Rattle.polcert_format.specs.declared.fault.ItemFault.TheVariants.{BadShape, BadCount, DuplicateName, Reset, WrongNumberCount, StartSum, StartEmpty}
 use Rattle.polcert_items.specs.declared.item.ItemReader.{ItemReader}
 use Rattle.polcert_items.specs.declared.item.ItemReader.TheVariants as items
-use Rattle.polcert_items.specs.declared.feed_error.EndError.{EndError}
-use Rattle.polcert_items.specs.declared.feed_error.EndError.TheVariants as ends
+use Rattle.polcert_items.specs.declared.item.EndError.{EndError}
+use Rattle.polcert_items.specs.declared.item.EndError.TheVariants as ends
 use Rattle.polcert_items.specs.declared.start_reader.StartReader.{StartReader}
 use Rattle.polcert_items.specs.declared.start_reader.StartReader.TheVariants as reader
 use Rattle.polcert_cells.specs.declared.words.Topic.TheVariants.{Start}
@@ -16,8 +16,8 @@ use Rattle.polcert_cells.specs.declared.elements.Elements.TheVariants.{Count}
 use Rattle.polcert_cells.specs.Elements.{count_of}
 use Rattle.polcert_format.specs.Misfits.{unexpected_token, IsMisfit}
 use Rattle.polcert_items.specs.Steps.Wants.{ExpectsNext, start_wants, item_wants, IfAtEnd, IfNotStart, IfStart}
-use Rattle.polcert_items.specs.declared.feed_error.FeedError.{FeedError}
-use Rattle.polcert_items.specs.declared.feed_error.FeedError.TheVariants as stops
+use Rattle.polcert_items.specs.declared.item.FeedError.{FeedError}
+use Rattle.polcert_items.specs.declared.item.FeedError.TheVariants as stops
 use Rattle.polcert_items.specs.declared.signed_number.Refusal.{Refusal}
 use Rattle.polcert_format.specs.FirstNumber.{IsLate, states_known}
 use Rattle.polcert_items.proofs.FirstNumberLaws as laws

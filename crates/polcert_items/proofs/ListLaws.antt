@@ -2,12 +2,12 @@
 use Rattle.std.proofs.Common.{◌≡◌, ◌∙◌, ℕ, ◌≤◌, inl, inr, true, false, Option, Some, None, List, [], ◌∷◌, ◌++◌, length, map, ℤ, pos, refl, sym, ap, subst, All, arith, append_assoc, Result, Ok, Err, IfErr}
 use Rattle.std.proofs.lemmas.List.Elements.{All-cons, All-tail, All-map}
 use Rattle.polcert_text.specs.Cut.{Lexeme}
-use Rattle.polcert_cells.specs.declared.entry.Body.{Body}
+use Rattle.polcert_cells.specs.declared.entries.Body.{Body}
 use Rattle.polcert_items.specs.declared.entry_reader.Numbers.{Numbers}
 use Rattle.polcert_items.specs.declared.signed_number.Sign.{Sign}
 use Rattle.polcert_items.specs.declared.signed_number.Range.TheVariants.{Probability, Reward}
-use Rattle.polcert_text.specs.declared.lexeme.TokenKind.{TokenKind}
-use Rattle.polcert_text.specs.declared.lexeme.TokenKind.TheVariants.{Plus, Minus}
+use Rattle.polcert_text.specs.declared.tokens.TokenKind.{TokenKind}
+use Rattle.polcert_text.specs.declared.tokens.TokenKind.TheVariants.{Plus, Minus}
 use Rattle.polcert_cells.specs.Numbers.{IsMillionths, AreNumbers, one}
 use Rattle.polcert_cells.specs.Numbers as numbers
 use Rattle.polcert_cells.proofs.Basics.{true≢false, cons≢nil, same_head, same_tail}
@@ -17,8 +17,8 @@ use Rattle.polcert_items.specs.Steps.Start.{IsNumberHeld}
 use Rattle.polcert_items.specs.Steps.Numbers.{AreNumbersAfter, IsInRange, ListKind, is_negative, IsSignAt, IsNoNumber}
 use Rattle.polcert_items.specs.Steps.Lines.{Takes, CannotTake}
 use Rattle.polcert_items.specs.Steps.Entries.{NumberListGoes, IfRefused}
-use Rattle.polcert_items.specs.declared.feed_error.FeedError.{FeedError}
-use Rattle.polcert_items.specs.declared.feed_error.FeedError.TheVariants.{Refused, Memory}
+use Rattle.polcert_items.specs.declared.item.FeedError.{FeedError}
+use Rattle.polcert_items.specs.declared.item.FeedError.TheVariants.{Refused, Memory}
 use Rattle.polcert_items.proofs.SignedNumbers.{sign_back, sign_on, value_back, value_on}
 
 pub all_none : {X : Type 0} (P : X → Type 0) → All P []

@@ -2,12 +2,12 @@
 use Rattle.std.proofs.Common.{◌≡◌, ◌≢◌, ℕ, ◌≤◌, Bool, true, false, ◌||◌, ◌==◌, bytes_eq, Some, List, [], length, is_some, codes, refl, sym, subst, arith, if◌then◌else◌}
 use Rattle.std.proofs.lemmas.Grind.{common_steps}
 use Rattle.polcert_text.specs.Cut.{Lexeme}
-use Rattle.polcert_text.specs.declared.lexeme.TokenKind.{TokenKind}
-use Rattle.polcert_text.specs.declared.lexeme.TokenKind.TheVariants.{Name, Numeral}
+use Rattle.polcert_text.specs.declared.tokens.TokenKind.{TokenKind}
+use Rattle.polcert_text.specs.declared.tokens.TokenKind.TheVariants.{Name, Numeral}
 use Rattle.polcert_format.specs.declared.fault.ItemFault.{ItemFault}
 use Rattle.polcert_format.specs.declared.fault.ItemFault.TheVariants.{BadShape, BadCount, DuplicateName, UnknownName, Reset}
 use Rattle.polcert_cells.specs.Words.{topic_of, is_reserved, IsName}
-use Rattle.polcert_items.specs.declared.elements_reader.ElementsReader.TheVariants.{Named}
+use Rattle.polcert_items.specs.declared.preamble_lines.ElementsReader.TheVariants.{Named}
 use Rattle.polcert_items.specs.Steps.Elements.{ElementsReason}
 use Rattle.polcert_format.specs.Misfits.{unexpected_token, no_index, no_name, no_count, is_reset, Index, FurtherName, CountOrName, IsMisfit, of_place}
 

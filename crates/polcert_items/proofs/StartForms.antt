@@ -7,11 +7,11 @@ use Rattle.std.proofs.lemmas.Bool.Decides.{nat_tests}
 use Rattle.std.specs.List.{AllZip}
 use Rattle.polcert_text.specs.Cut.{Lexeme}
 use Rattle.polcert_text.specs.Lexemes.{are_digits}
-use Rattle.polcert_text.specs.declared.lexeme.TokenKind.TheVariants.{Name, Numeral, Colon, Plus, Minus}
-use Rattle.polcert_items.specs.declared.chosen.Choice.{Choice}
-use Rattle.polcert_items.specs.declared.chosen.Choice.TheVariants.{Include, Exclude}
-use Rattle.polcert_items.specs.declared.chosen.Chosen.{Chosen}
-use Rattle.polcert_items.specs.declared.start_numbers.StateOrNumber.{StateOrNumber}
+use Rattle.polcert_text.specs.declared.tokens.TokenKind.TheVariants.{Name, Numeral, Colon, Plus, Minus}
+use Rattle.polcert_items.specs.declared.start_reader.Choice.{Choice}
+use Rattle.polcert_items.specs.declared.start_reader.Choice.TheVariants.{Include, Exclude}
+use Rattle.polcert_items.specs.declared.start_reader.Chosen.{Chosen}
+use Rattle.polcert_items.specs.declared.start_reader.StateOrNumber.{StateOrNumber}
 use Rattle.polcert_items.specs.declared.start_reader.StartReader.{StartReader}
 use Rattle.polcert_items.specs.declared.start_reader.StartReader.TheVariants as reader
 use Rattle.polcert_cells.specs.Words.{IsWord, is_reserved}
@@ -19,7 +19,7 @@ use Rattle.polcert_cells.specs.Numbers.{IsWhole, IsMillionths, AreNumbers, one}
 use Rattle.polcert_cells.specs.declared.elements.Elements.{Elements}
 use Rattle.polcert_cells.specs.declared.elements.Elements.TheVariants.{Count, Names}
 use Rattle.polcert_cells.specs.Elements.{count_of, number_of, StandsFor, by_number, by_name}
-use Rattle.polcert_cells.specs.declared.start_weights.StartWeights.{StartWeights}
+use Rattle.polcert_cells.specs.declared.elements.StartWeights.{StartWeights}
 use Rattle.polcert_cells.specs.Start.{equal_weights, all_states, single, included, IsStartBody, IsStart, plain, include, exclude}
 use Rattle.polcert_cells.specs.Start as forms
 use Rattle.polcert_format.specs.Forms.{IsStartBodyForm, IsStartForm}

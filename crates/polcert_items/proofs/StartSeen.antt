@@ -2,8 +2,8 @@
 use Rattle.std.specs.Prelude.{if◌then◌else◌, ◌==◌}
 use Rattle.std.proofs.Common.{◌≡◌, ◌∙◌, ℕ, ◌-◌, ◌<◌, ◌++◌, Bool, false, true, Option, Some, None, Result, Ok, Err, IfErr, List, [], ◌∷◌, codes, ℤ, refl, sym, ap, subst, append_assoc, arith}
 use Rattle.polcert_text.specs.Cut.{Lexeme}
-use Rattle.polcert_text.specs.declared.lexeme.TokenKind.{TokenKind}
-use Rattle.polcert_text.specs.declared.lexeme.TokenKind.TheVariants.{Numeral, Name}
+use Rattle.polcert_text.specs.declared.tokens.TokenKind.{TokenKind}
+use Rattle.polcert_text.specs.declared.tokens.TokenKind.TheVariants.{Numeral, Name}
 use Rattle.polcert_format.proofs.FirstNumbers.{digits_numeral}
 use Rattle.polcert_text.specs.declared.number.NumberFault.{NumberFault}
 use Rattle.polcert_format.specs.declared.fault.ItemFault.{ItemFault}
@@ -11,13 +11,13 @@ use Rattle.polcert_format.specs.declared.fault.ItemFault.TheVariants.{Number, Ba
 use Rattle.polcert_items.specs.declared.signed_number.Sign.{Sign}
 use Rattle.polcert_items.specs.declared.signed_number.Refusal.{Refusal}
 use Rattle.polcert_items.specs.declared.signed_number.Range.TheVariants as ranges
-use Rattle.polcert_items.specs.declared.start_numbers.FirstNumber.{FirstNumber}
-use Rattle.polcert_items.specs.declared.start_numbers.StateOrNumber.{StateOrNumber}
+use Rattle.polcert_items.specs.declared.start_reader.FirstNumber.{FirstNumber}
+use Rattle.polcert_items.specs.declared.start_reader.StateOrNumber.{StateOrNumber}
 use Rattle.polcert_items.specs.declared.start_reader.StartReader.{StartReader}
 use Rattle.polcert_items.specs.declared.start_reader.StartReader.TheVariants as reader
-use Rattle.polcert_items.specs.declared.feed_error.EndError.{EndError}
-use Rattle.polcert_items.specs.declared.feed_error.FeedError.{FeedError}
-use Rattle.polcert_items.specs.declared.feed_error.FeedError.TheVariants as stops
+use Rattle.polcert_items.specs.declared.item.EndError.{EndError}
+use Rattle.polcert_items.specs.declared.item.FeedError.{FeedError}
+use Rattle.polcert_items.specs.declared.item.FeedError.TheVariants as stops
 use Rattle.polcert_cells.specs.Numbers.{IsMillionths}
 use Rattle.polcert_cells.specs.declared.elements.Elements.{Elements}
 use Rattle.polcert_items.specs.Steps.Lines.{Takes, CannotTake, CannotEnd}
@@ -36,7 +36,7 @@ use Rattle.polcert_format.specs.FirstNumber as begins
 use Rattle.polcert_format.specs.Wants.{may_be_state, number_end}
 use Rattle.polcert_text.specs.Lexemes.{are_digits}
 use Rattle.polcert_cells.proofs.Basics.{cons≢nil, same_head, same_tail, true≢false}
-use Rattle.polcert_items.specs.declared.chosen.Chosen.{Chosen}
+use Rattle.polcert_items.specs.declared.start_reader.Chosen.{Chosen}
 use Rattle.polcert_items.specs.declared.entry_reader.Numbers.{Numbers}
 use Rattle.polcert_items.proofs.PatternLaws.{if_err_map, refused_map, each_refused_map}
 use Rattle.polcert_items.proofs.StartForms.{test_different}

@@ -6,12 +6,12 @@ use Rattle.std.proofs.lemmas.List.{length-set}
 use Rattle.std.proofs.lemmas.List.FromFn.{map-range_with_len_more}
 use Rattle.std.proofs.lemmas.List.Sums.{sum_by-cons, AllPass-from_list_all, list_all-from_AllPass}
 use Rattle.std.proofs.lemmas.Grind.{get_or_default_zero}
-use Rattle.polcert_items.specs.declared.chosen.Choice.{Choice}
-use Rattle.polcert_items.specs.declared.chosen.Choice.TheVariants.{Include}
+use Rattle.polcert_items.specs.declared.start_reader.Choice.{Choice}
+use Rattle.polcert_items.specs.declared.start_reader.Choice.TheVariants.{Include}
 use Rattle.polcert_cells.specs.Numbers.{one}
 use Rattle.polcert_cells.specs.declared.elements.Elements.{Elements}
 use Rattle.polcert_cells.specs.Elements.{count_of}
-use Rattle.polcert_cells.specs.declared.start_weights.StartWeights.{StartWeights}
+use Rattle.polcert_cells.specs.declared.elements.StartWeights.{StartWeights}
 use Rattle.polcert_cells.specs.Start.{equal_weights, single, shares_of, is_level, is_positive}
 use Rattle.polcert_items.specs.Steps.Start.{marked, AreUnmarked, picks, first_above_0, is_level_at, support_weight}
 use Rattle.polcert_items.proofs.StartForms.{marked_more}

@@ -8,7 +8,7 @@ use Rattle.polcert_text.specs.TakenTokens.{Taken, nothing, token}
 use Rattle.polcert_text.specs.Bytes.{is_letter, is_digit, is_name_byte}
 use Rattle.polcert_text.specs.Lexemes.{is_name, is_numeral, kind_of}
 use Rattle.polcert_text.specs.Cut.{Lexeme, Rest, IsTokenAt, TakesToken}
-use Rattle.polcert_text.specs.declared.lexeme.TokenKind.TheVariants.{Name, Numeral, Colon, Star, Plus, Minus}
+use Rattle.polcert_text.specs.declared.tokens.TokenKind.TheVariants.{Name, Numeral, Colon, Star, Plus, Minus}
 use Rattle.polcert_items.specs.Steps.Elements.{IsText}
 use Rattle.polcert_cells.proofs.Basics.{and_true, cons≢nil, same_head, same_tail}
 

@@ -7,11 +7,12 @@ ghost use Rattle.polcert_items.specs.Steps.Ahead.{FedAhead, TakesAhead, IsListFe
 ghost use Rattle.polcert_items.specs.Steps.Entries.{IsWithinIndices};
 ghost use Rattle.polcert_items.specs.Steps.Items.{IsItemWithin};
 
-use crate::elements::named;
-use crate::entry_reader::{EntryReader, EntryState, Numbers, indices_of, takes_numbers};
+use crate::entry_reader::{
+    EntryReader, EntryState, ListNumber, Numbers, indices_of, takes_numbers,
+};
 use crate::item::ItemReader;
-use crate::list_number::ListNumber;
 use crate::model_so_far::ModelSoFar;
+use crate::preamble_lines::named;
 use crate::signed_number::range_fault;
 use polcert_cells::{Place, Table};
 use polcert_text::{front_colon, front_digits, front_name, front_number, front_token};

@@ -1,5 +1,6 @@
 //! An entry, read token by token after the word of its table.
-ghost use Rattle.std.specs.Prelude.{◌≡◌, ◌<◌, ◌≤◌, ◌↔◌, [], List, Bool, length, drop, IsTrue, IfOk, OnOk, IfErr, OnErr, IfSome, IfNone, MatchOption, Some, None, false, unwrap_or};
+ghost use Rattle.std.specs.Prelude.{◌≡◌, ◌<◌, ◌≤◌, ◌↔◌, [], List, Bool, length, drop, IsTrue, IfOk, OnOk};
+ghost use Rattle.std.specs.Prelude.{IfErr, OnErr, IfSome, IfNone, MatchOption, Some, None, false, unwrap_or};
 ghost use Rattle.polcert_text.specs.Reading.{lexeme_of};
 ghost use Rattle.std.specs.Option.{option_copied};
 ghost use Rattle.polcert_cells.specs.Preamble.{Preamble};
@@ -10,23 +11,28 @@ ghost use Rattle.polcert_cells.specs.Entry.{IsPlace};
 ghost use Rattle.polcert_format.specs.Wants.{least_written, numbers_want, place_wants};
 ghost use Rattle.polcert_items.specs.Steps.Lines.{Takes, CannotTake, CannotEnd};
 ghost use Rattle.polcert_format.specs.KnownPreamble.{preamble_in, indices_in, named_in};
-ghost use Rattle.polcert_items.specs.Steps.Entries.{IsFirstPlace, NumberListGoes, EntryGoes, IsWithinIndices, IsEntryReason, IsPlaceReason, IfRefused, IsFull, IsListReason, MayStand, IsWordAfter, AreBegun, CannotBegin, range_of, HasRoom, HasRoomIn, no_numbers, one_number, body_of, entry_sign, AreSome};
+ghost use Rattle.polcert_items.specs.Steps.Entries.{IsFirstPlace, NumberListGoes, EntryGoes, IsWithinIndices};
+ghost use Rattle.polcert_items.specs.Steps.Entries.{IsEntryReason, IsPlaceReason, IfRefused, IsFull};
+ghost use Rattle.polcert_items.specs.Steps.Entries.{IsListReason, MayStand, IsWordAfter, AreBegun};
+ghost use Rattle.polcert_items.specs.Steps.Entries.{CannotBegin, range_of, HasRoom, HasRoomIn, no_numbers};
+ghost use Rattle.polcert_items.specs.Steps.Entries.{one_number, body_of, entry_sign, AreSome};
 ghost use Rattle.polcert_format.specs.Misfits.{unexpected_token, IsMisfit, Index, Mark};
-ghost use Rattle.polcert_items.specs.Steps.Numbers.{SignIs};
+ghost use Rattle.polcert_items.specs.Steps.Numbers.{SignIs, IsInRange, ListKind, of_probabilities};
+ghost use Rattle.polcert_items.specs.Steps.Numbers.{of_rewards};
 ghost use Rattle.polcert_items.specs.Steps.Items.{IsEndReason};
 ghost use Rattle.polcert_format.specs.Text.{ModelSoFar};
 ghost use Rattle.polcert_items.specs.Steps.Feeding.{IsTokenStep, IsEntryStep};
 ghost use Rattle.polcert_items.specs.Steps.Wants.{ExpectsNext, list_wants, state_wants, entry_wants};
 ghost use Rattle.polcert_cells.specs.declared.words.Topic.{Topic};
-ghost use Rattle.polcert_cells.specs.declared.entry.Place.{Place};
+ghost use Rattle.polcert_cells.specs.declared.entries.Place.{Place};
 ghost use Rattle.polcert_items.specs.declared.entry_reader.Word.{Word};
 
-use crate::elements::element_of;
-use crate::feed_error::FeedError;
-use crate::list_number::ListNumber;
+use crate::item::FeedError;
 use crate::model_so_far::ModelSoFar;
-use crate::preamble_lines::colon;
-use crate::signed_number::{NumberStep, Refusal, Sign, after_numbers, misplaced, number_step};
+use crate::preamble_lines::{colon, element_of};
+use crate::signed_number::{
+    NumberStep, Range, Refusal, Sign, after_numbers, misplaced, number_step,
+};
 use polcert_cells::{Body, Elements, Entry, Place, Places, Sequence, Table, Topic, is_word};
 use polcert_format::ItemFault;
 use polcert_text::{Token, TokenKind};
@@ -445,5 +451,57 @@ fn takes_identity(table: Table, written: usize) -> bool
     match table {
         Table::Transition => written == 1,
         Table::Observation | Table::Reward => false,
+    }
+}
+
+/// A number of a list, in millionths.
+pub trait ListNumber: Copy {
+    // What a list of such numbers is.
+    ghost kind: { ListKind Self };
+
+    /// Returns the range of the numbers.
+    fn range() -> Range
+        ensures { result ≡ kind.range };
+
+    /// Returns the number of this value.
+    fn of_millionths(value: i64) -> Self
+        requires { IsInRange kind.range value }
+        ensures { kind.worth result ≡ value };
+
+    // No two numbers are worth the same.
+    ghost distinct: { (x y : Self) → kind.worth x ≡ kind.worth y → x ≡ y };
+}
+
+/// A probability.
+impl ListNumber for u32 {
+    ghost kind = { of_probabilities };
+
+    ghost distinct = { λ x y e. cc };
+
+    #[inline(always)]
+    fn range() -> Range {
+        Range::Probability
+    }
+
+    #[inline(always)]
+    fn of_millionths(value: i64) -> u32 {
+        value as u32
+    }
+}
+
+/// A reward.
+impl ListNumber for i64 {
+    ghost kind = { of_rewards };
+
+    ghost distinct = { λ x y e. e };
+
+    #[inline(always)]
+    fn range() -> Range {
+        Range::Reward
+    }
+
+    #[inline(always)]
+    fn of_millionths(value: i64) -> i64 {
+        value
     }
 }

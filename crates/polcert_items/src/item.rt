@@ -3,7 +3,8 @@ ghost use Rattle.std.specs.Prelude.{◌≡◌, true, None, List, [], IfOk, IfErr
 ghost use Rattle.polcert_text.specs.Cut.{Lexeme};
 ghost use Rattle.polcert_text.specs.Reading.{lexeme_of};
 ghost use Rattle.polcert_items.specs.Steps.Elements.{IsText};
-ghost use Rattle.polcert_items.specs.Steps.Items.{ItemGoes, IsItemWithin, FeedsItem, IsItemEndReason, topic_in, IsSeen, new_item, HasElements, pending_in};
+ghost use Rattle.polcert_items.specs.Steps.Items.{ItemGoes, IsItemWithin, FeedsItem, IsItemEndReason};
+ghost use Rattle.polcert_items.specs.Steps.Items.{topic_in, IsSeen, new_item, HasElements, pending_in};
 ghost use Rattle.polcert_items.specs.Steps.ModelSoFar.{with_item, AreContentsOf, AreContentsWithin};
 ghost use Rattle.polcert_items.specs.Steps.Lines.{CannotEnd};
 ghost use Rattle.polcert_format.specs.Misfits.{unexpected_token};
@@ -11,11 +12,9 @@ ghost use Rattle.polcert_items.specs.Steps.Start.{IfNotMemory, IsLateEnd};
 ghost use Rattle.polcert_format.specs.FirstNumber.{IsLate, states_known};
 ghost use Rattle.polcert_items.specs.Steps.Wants.{item_wants, IfAtEnd};
 
-use crate::elements_reader::ElementsReader;
 use crate::entry_reader::EntryReader;
-use crate::feed_error::{EndError, FeedError};
 use crate::model_so_far::ModelSoFar;
-use crate::preamble_lines::{DiscountReader, ValuesReader};
+use crate::preamble_lines::{DiscountReader, ElementsReader, ValuesReader};
 use crate::signed_number::Refusal;
 use crate::start_reader::StartReader;
 use polcert_cells::{
@@ -23,7 +22,7 @@ use polcert_cells::{
 };
 use polcert_format::ItemFault;
 use polcert_text::Token;
-use std::alloc::Global;
+use std::alloc::{AllocError, Global};
 
 /// An item after its word, as far as it has been read.
 #[derive(Drop)]
@@ -147,5 +146,82 @@ impl ItemReader {
             )?)),
             ItemReader::Entry(reader) => Ok(ItemContents::Entry(reader.end(known)?)),
         }
+    }
+}
+
+/// Why an item's reader stops: the item is refused, or a growth of memory was.
+#[derive(Clone, Copy, Debug, PartialEq, Eq)]
+pub enum FeedError {
+    Refused(Refusal),
+    Memory,
+}
+
+impl From<AllocError> for FeedError {
+    ghost use Rattle.polcert_items.specs.declared.item.FeedError.TheVariants.{Memory};
+
+    ghost from_gives = { λ _ stop. stop ≡ Memory };
+
+    fn from(_e: AllocError) -> FeedError {
+        FeedError::Memory
+    }
+}
+
+impl From<Refusal> for FeedError {
+    ghost use Rattle.polcert_items.specs.declared.item.FeedError.TheVariants as stops;
+
+    ghost from_gives = { λ refusal stop. stop ≡ stops.Refused refusal };
+
+    fn from(refusal: Refusal) -> FeedError {
+        FeedError::Refused(refusal)
+    }
+}
+
+/// Why an item cannot end where it does.
+#[derive(Clone, Copy, Debug, PartialEq, Eq)]
+pub enum EndError {
+    /// Refused where it ends.
+    AtEnd(ItemFault),
+    /// Refused at a place of its own.
+    At(Refusal),
+    /// A growth of memory was refused.
+    Memory,
+}
+
+impl From<AllocError> for EndError {
+    ghost use Rattle.polcert_items.specs.declared.item.EndError.TheVariants.{Memory};
+
+    ghost from_gives = { λ _ end. end ≡ Memory };
+
+    fn from(_e: AllocError) -> EndError {
+        EndError::Memory
+    }
+}
+
+impl From<ItemFault> for EndError {
+    ghost use Rattle.polcert_items.specs.declared.item.EndError.TheVariants as ends;
+
+    ghost from_gives = { λ kind end. end ≡ ends.AtEnd kind };
+
+    fn from(kind: ItemFault) -> EndError {
+        EndError::AtEnd(kind)
+    }
+}
+
+/// Why what a whole item says isn't added to what is known.
+#[derive(Clone, Copy, Debug, PartialEq, Eq)]
+pub enum AddError {
+    /// It is an entry with which entries give too much of a large table.
+    TooManyCells,
+    /// A growth of memory was refused.
+    Memory,
+}
+
+impl From<AllocError> for AddError {
+    ghost use Rattle.polcert_items.specs.declared.item.AddError.TheVariants.{Memory};
+
+    ghost from_gives = { λ _ end. end ≡ Memory };
+
+    fn from(_e: AllocError) -> AddError {
+        AddError::Memory
     }
 }

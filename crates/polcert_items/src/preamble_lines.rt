@@ -1,20 +1,33 @@
 //! The lines of the preamble, read token by token after their word.
-ghost use Rattle.std.specs.Prelude.{◌≡◌, false, None, OnOk, OnErr, IfOk, IfErr, [], ◌∷◌, ◌≢◌};
+ghost use Rattle.std.specs.Prelude.{◌≡◌, false, None, OnOk, OnErr, IfOk, IfErr, [], ◌∷◌, ◌≢◌, ◌<◌, ◌≤◌, ◌^◌};
+ghost use Rattle.std.specs.Prelude.{◌↔◌, ℕ, List, ◌++◌, Some, IsTrue};
 ghost use Rattle.polcert_text.specs.Reading.{lexeme_of};
 ghost use Rattle.polcert_items.specs.Steps.Numbers.{IsMisplaced, SignIs};
-ghost use Rattle.polcert_items.specs.Steps.Lines.{Takes, CannotTake, CannotEnd, DiscountGoes, DiscountReason, ValuesGoes, WordRest, discount_sign};
+ghost use Rattle.polcert_items.specs.Steps.Lines.{Takes, CannotTake, CannotEnd, DiscountGoes, DiscountReason};
+ghost use Rattle.polcert_items.specs.Steps.Lines.{ValuesGoes, WordRest, discount_sign};
 ghost use Rattle.polcert_items.specs.Steps.Items.{IsEndReason};
 ghost use Rattle.polcert_format.specs.Reasons.{is_sign};
-ghost use Rattle.polcert_format.specs.Misfits.{unexpected_token, IsMisfit, Mark};
+ghost use Rattle.polcert_format.specs.Misfits.{unexpected_token, IsMisfit, Mark, CountOrName, FurtherName};
+ghost use Rattle.polcert_format.specs.Misfits.{Index};
 ghost use Rattle.polcert_items.specs.Steps.Feeding.{IsTokenStep, IfRefusal, EndsLine};
-ghost use Rattle.polcert_items.specs.Steps.Wants.{discount_wants, values_want};
+ghost use Rattle.polcert_items.specs.Steps.Wants.{discount_wants, values_want, ExpectsNext, elements_want};
+ghost use Rattle.polcert_text.specs.Cut.{Lexeme};
+ghost use Rattle.polcert_cells.specs.Elements.{count_of, StandsFor, most_elements};
+ghost use Rattle.polcert_items.specs.Steps.Elements.{IsText, NamesGo, ElementsGo, AreNamesRead};
+ghost use Rattle.polcert_items.specs.Steps.Elements.{IsElementsRead, ElementsReason, AreElementsSeen};
+ghost use Rattle.polcert_items.specs.Steps.Elements.{IsCountOf};
+ghost use Rattle.polcert_items.specs.Steps.Entries.{IfRefused, IsPlaceReason};
+ghost use Rattle.polcert_cells.specs.Meaning.{IsCount};
+ghost use Rattle.polcert_cells.specs.Words.{IsName};
 
+use crate::item::FeedError;
 use crate::signed_number::{
     NumberStep, Range, Refusal, Sign, after_numbers, misplaced, number_step,
 };
-use polcert_cells::{Topic, is_word};
+use polcert_cells::{Elements, Names, Topic, is_reserved, is_word};
 use polcert_format::ItemFault;
-use polcert_text::{Token, TokenKind};
+use polcert_text::{Token, TokenKind, whole_number};
+use std::alloc::Global;
 
 /// `discount:` and a number, in millionths.
 #[derive(Clone, Copy, Debug, PartialEq, Eq)]
@@ -127,5 +140,226 @@ pub fn colon(token: Token<'_>) -> Result<(), Refusal>
     match token.kind {
         TokenKind::Colon => Ok(()),
         _ => Err(misplaced(token)),
+    }
+}
+
+/// `states:`, `actions:` or `observations:` and a count or names. Each call gets the greatest number of them.
+#[derive(Drop)]
+pub enum ElementsReader {
+    /// The colon after the item's word.
+    Colon,
+    /// A count or a name, after the colon.
+    First,
+    /// Nothing, after a count.
+    Counted(usize),
+    /// A further name.
+    Named(Names),
+}
+
+impl ElementsReader {
+    /// Continues with a token of the line.
+    pub fn feed(&mut self, alloc: Global, most: usize, token: Token<'_>) -> Result<(), FeedError>
+        requires text { IsText (lexeme_of token) }
+        requires within { IsElementsRead most self.old }
+        requires some { 1 ≤ most }
+        requires small { most < 2 ^ 32 }
+        ensures within { OnOk result (IsElementsRead most self.new) }
+        ensures fed { IsTokenStep IfRefused (ElementsGo most) (elements_want most) (ElementsReason self.old)
+            self.old (lexeme_of token.entry) self.new result }
+        ensures seen { (body : List Lexeme) → AreElementsSeen body self.old
+            → OnOk result (AreElementsSeen (body ++ lexeme_of token.entry ∷ []) self.new) }
+        ensures sign { OnOk result (is_sign (lexeme_of token.entry).kind ≡ false) }
+    {
+        match self {
+            ElementsReader::Colon => {
+                colon(token)?;
+                *self = ElementsReader::First;
+                Ok(())
+            }
+            ElementsReader::First => {
+                *self = begin(alloc, most, token)?;
+                Ok(())
+            }
+            ElementsReader::Counted(_) => Err(FeedError::Refused(misplaced(token))),
+            ElementsReader::Named(names) => add_name(names, alloc, most, token),
+        }
+    }
+
+    /// Returns the elements, or the fault if the line cannot end here.
+    pub fn end(self) -> Result<Elements, ItemFault>
+        ensures said { (most : ℕ) → IsElementsRead most self → IfOk result (ElementsGo most self []) }
+        ensures within { (most : ℕ) → IsElementsRead most self
+            → IfOk result (λ e. IsCount most (count_of e)) }
+        ensures reason { IfErr result (IsEndReason Topic.States) }
+        ensures refused { (most : ℕ) → OnErr result (CannotEnd (ElementsGo most) self) }
+        ensures kind { (most : ℕ) →
+            IfErr result (λ kind. kind ≡ unexpected_token (elements_want most self []) None) }
+    {
+        match self {
+            ElementsReader::Colon => Err(ItemFault::BadShape),
+            ElementsReader::First => Err(ItemFault::BadCount),
+            ElementsReader::Counted(count) => Ok(Elements::Count(count)),
+            ElementsReader::Named(names) => Ok(Elements::Names(names)),
+        }
+    }
+}
+
+/// Begins the elements with the first token after the colon.
+fn begin(alloc: Global, most: usize, token: Token<'_>) -> Result<ElementsReader, FeedError>
+    requires text { IsText (lexeme_of token) }
+    requires some { 1 ≤ most }
+    requires small { most < 2 ^ 32 }
+    ensures within { IfOk result (IsElementsRead most) }
+    ensures takes { IfOk result (Takes (ElementsGo most) ElementsReader.First (lexeme_of token.entry)) }
+    ensures refused { IfErr result (λ stop. IfRefused stop (λ r.
+        CannotTake (ElementsGo most) ElementsReader.First (lexeme_of token.entry))) }
+    ensures reason { IfErr result (λ stop. IfRefused stop (λ r.
+        ElementsReason ElementsReader.First (lexeme_of token.entry) r.kind r.place)) }
+    ensures seen { (colon : Lexeme) → IfOk result (AreElementsSeen (colon ∷ lexeme_of token.entry ∷ [])) }
+    ensures sign { OnOk result (is_sign (lexeme_of token.entry).kind ≡ false) }
+    ensures leads { IfOk result
+        (λ r. ExpectsNext (elements_want most ElementsReader.First) (lexeme_of token.entry)
+        (elements_want most r)) }
+    ensures kind { IfErr result
+        (λ stop. IfRefused stop (λ r. IsMisfit CountOrName (lexeme_of token.entry) r.kind)) }
+{
+    match token.kind {
+        TokenKind::Numeral => Ok(ElementsReader::Counted(count(most, token)?)),
+        _ => {
+            let mut names = Names::new(alloc);
+            add_name(&mut names, alloc, most, token)?;
+            Ok(ElementsReader::Named(names))
+        }
+    }
+}
+
+/// Returns the count that the numeral stands for.
+fn count(most: usize, token: Token<'_>) -> Result<usize, Refusal>
+    requires numeral { token.kind ≡ TokenKind.Numeral }
+    requires small { most < 2 ^ 32 }
+    ensures count { IfOk result (IsCountOf most (lexeme_of token.entry)) }
+    ensures refused { OnErr result
+        (CannotTake (ElementsGo most) ElementsReader.First (lexeme_of token.entry)) }
+    ensures reason { IfErr result
+        (λ r. ElementsReason ElementsReader.First (lexeme_of token.entry) r.kind r.place) }
+    ensures kind { IfErr result (λ r. r.kind ≡ unexpected_token CountOrName (Some (lexeme_of token.entry))) }
+{
+    match whole_number(most + 1, token.bytes) {
+        Some(count) if 1 <= count && count <= most => Ok(count),
+        _ => Err(bad_count(token)),
+    }
+}
+
+/// Puts the name that the token is after the others, of which there may be so many at most.
+fn add_name(
+    names: &mut Names,
+    alloc: Global,
+    most: usize,
+    token: Token<'_>,
+) -> Result<(), FeedError>
+    requires text { IsText (lexeme_of token) }
+    requires within { AreNamesRead most names.old }
+    ensures name { OnOk result (IsName (lexeme_of token.entry)) }
+    ensures added { OnOk result (names.new ≡ names.old ++ token.entry.bytes.now ∷ []) }
+    ensures within { OnOk result (AreNamesRead most names.new) }
+    ensures refused { IfErr result
+        (λ stop. IfRefused stop (λ r. CannotTake (NamesGo most) names.old (lexeme_of token.entry))) }
+    ensures reason { IfErr result (λ stop. IfRefused stop (λ r.
+        ElementsReason (ElementsReader.Named names.old) (lexeme_of token.entry) r.kind r.place)) }
+    ensures kind { IfErr result (λ stop. IfRefused stop (λ r.
+        r.kind ≡ unexpected_token (FurtherName most names.old) (Some (lexeme_of token.entry)))) }
+{
+    if !is_name(token) {
+        return Err(FeedError::Refused(misplaced(token)));
+    }
+    if names.len() == most {
+        return Err(FeedError::Refused(bad_count(token)));
+    }
+    if names.push(alloc, token.bytes)? {
+        Ok(())
+    } else {
+        Err(FeedError::Refused(Refusal {
+            kind: ItemFault::DuplicateName,
+            place: token.place,
+        }))
+    }
+}
+
+/// Tests whether the token is a name that isn't reserved.
+fn is_name(token: Token<'_>) -> bool
+    ensures { IsTrue result ↔ IsName (lexeme_of token.entry) }
+{
+    match token.kind {
+        TokenKind::Name => !is_reserved(token.bytes),
+        _ => false,
+    }
+}
+
+/// Refuses a token that is no count from 1 to the most, or a name too many.
+fn bad_count(token: Token<'_>) -> Refusal
+    ensures kind { result.kind ≡ ItemFault.BadCount }
+    ensures place { result.place ≡ token.entry.place }
+{
+    Refusal {
+        kind: ItemFault::BadCount,
+        place: token.place,
+    }
+}
+
+/// Returns the number of the element that the token names, by number or by name.
+#[inline(always)]
+pub fn element_of(token: Token<'_>, elements: &Elements) -> Result<usize, Refusal>
+    requires few { count_of elements.now ≤ most_elements }
+    requires text { IsText (lexeme_of token) }
+    ensures element { IfOk result (StandsFor elements.now (lexeme_of token.entry)) }
+    ensures refused { OnErr result ((index : ℕ) → StandsFor elements.now (lexeme_of token.entry) index → ⊥) }
+    ensures reason { IfErr result (λ r. IsPlaceReason (lexeme_of token.entry) r.kind r.place) }
+    ensures kind { IfErr result (λ r. r.kind ≡ unexpected_token Index (Some (lexeme_of token.entry))) }
+{
+    match token.kind {
+        TokenKind::Numeral => numbered(token, elements),
+        TokenKind::Name => named(token, elements),
+        _ => Err(misplaced(token)),
+    }
+}
+
+#[inline(always)]
+fn numbered(token: Token<'_>, elements: &Elements) -> Result<usize, Refusal>
+    requires few { count_of elements.now ≤ most_elements }
+    requires numeral { token.kind ≡ TokenKind.Numeral }
+    ensures element { IfOk result (StandsFor elements.now (lexeme_of token.entry)) }
+    ensures refused { OnErr result ((index : ℕ) → StandsFor elements.now (lexeme_of token.entry) index → ⊥) }
+    ensures reason { IfErr result (λ r. IsPlaceReason (lexeme_of token.entry) r.kind r.place) }
+    ensures kind { IfErr result (λ r. r.kind ≡ unexpected_token Index (Some (lexeme_of token.entry))) }
+{
+    let count = elements.count();
+    match whole_number(count + 1, token.bytes) {
+        Some(index) if index < count => Ok(index),
+        Some(_) => Err(Refusal {
+            kind: ItemFault::IndexOutOfRange,
+            place: token.place,
+        }),
+        None => Err(misplaced(token)),
+    }
+}
+
+#[inline(always)]
+pub(crate) fn named(token: Token<'_>, elements: &Elements) -> Result<usize, Refusal>
+    requires name { token.kind ≡ TokenKind.Name }
+    requires text { IsText (lexeme_of token) }
+    ensures element { IfOk result (StandsFor elements.now (lexeme_of token.entry)) }
+    ensures refused { OnErr result ((index : ℕ) → StandsFor elements.now (lexeme_of token.entry) index → ⊥) }
+    ensures reason { IfErr result (λ r. IsPlaceReason (lexeme_of token.entry) r.kind r.place) }
+    ensures kind { IfErr result (λ r. r.kind ≡ unexpected_token Index (Some (lexeme_of token.entry))) }
+{
+    if is_reserved(token.bytes) {
+        return Err(misplaced(token));
+    }
+    match elements.number_of(token.bytes) {
+        Some(index) => Ok(index),
+        None => Err(Refusal {
+            kind: ItemFault::UnknownName,
+            place: token.place,
+        }),
     }
 }

@@ -1,6 +1,7 @@
 //! A start item, read token by token after its word.
-ghost use Rattle.std.specs.Prelude.{◌≡◌, ◌≢◌, ◌<◌, ◌⊎◌, ◌++◌, ◌∷◌, [], ℕ, List, false, None, Some};
-ghost use Rattle.std.specs.Prelude.{is_some, IfOk, OnOk, IfErr, OnErr, MatchOption};
+ghost use Rattle.std.specs.Prelude.{◌≡◌, ◌≢◌, ◌<◌, ◌⊎◌, ◌++◌, ◌∷◌, [], ℕ, List, false, None, Some, is_some};
+ghost use Rattle.std.specs.Prelude.{IfOk, OnOk, IfErr, OnErr, MatchOption, ◌-◌, true, ◌≤◌, length, map, sum};
+ghost use Rattle.std.specs.Prelude.{if◌then◌else◌};
 ghost use Rattle.polcert_text.specs.Cut.{Lexeme};
 ghost use Rattle.polcert_text.specs.Reading.{lexeme_of};
 ghost use Rattle.polcert_text.specs.Lexemes.{are_digits};
@@ -8,33 +9,39 @@ ghost use Rattle.polcert_cells.specs.declared.elements.Elements.{Elements as Any
 ghost use Rattle.polcert_cells.specs.Elements.{count_of, most_states};
 ghost use Rattle.polcert_cells.specs.Meaning.{IsCount};
 ghost use Rattle.polcert_format.specs.Misfits.{unexpected_token, IsMisfit, IsOfValue, Mark, StartBody};
-ghost use Rattle.polcert_format.specs.Wants.{numbers_want, start_body_wants};
+ghost use Rattle.polcert_format.specs.Misfits.{begins_number, Listed};
+ghost use Rattle.polcert_format.specs.Wants.{numbers_want, start_body_wants, number_end};
 ghost use Rattle.polcert_items.specs.Steps.Elements.{IsText};
-ghost use Rattle.polcert_items.specs.Steps.Entries.{IfRefused};
+ghost use Rattle.polcert_items.specs.Steps.Entries.{IfRefused, HasRoom};
 ghost use Rattle.polcert_items.specs.Steps.Feeding.{IsStartFed, RefusesInStart};
 ghost use Rattle.polcert_items.specs.Steps.Lines.{Takes, CannotTake, CannotEnd};
-ghost use Rattle.polcert_items.specs.Steps.Numbers.{IsMisplaced};
+ghost use Rattle.polcert_items.specs.Steps.Numbers.{IsMisplaced, SignIs};
 ghost use Rattle.polcert_items.specs.Steps.Start.{StartGoes, StartGives, IsStartWithin, HasReadStart};
 ghost use Rattle.polcert_items.specs.Steps.Start.{IsStartReason, IsStartEndReason, IfNotMemory, new_start};
 ghost use Rattle.polcert_items.specs.Steps.Start.{start_sign, pending, NumbersGo, Begins, IsFormed, IsKept};
-ghost use Rattle.polcert_items.specs.Steps.Start.{IsNumberKept, CanStillBeRight, IsNumberHeld, IsReasonAt, IsDue};
-ghost use Rattle.polcert_items.specs.Steps.Start.{IsEndDue, IsStop, AreDigits};
+ghost use Rattle.polcert_items.specs.Steps.Start.{IsNumberKept, CanStillBeRight, IsNumberHeld, IsReasonAt};
+ghost use Rattle.polcert_items.specs.Steps.Start.{IsDue, IsEndDue, IsStop, AreDigits, IsOutside, IsDueNumber};
+ghost use Rattle.polcert_items.specs.Steps.Start.{IsAtEnd, first_of, refused, first_above_0, is_level_at};
+ghost use Rattle.polcert_items.specs.Steps.Start.{support_weight, marked, AreUnmarked, picks};
 ghost use Rattle.polcert_items.specs.Steps.Wants.{ExpectsNext, number_wants, start_wants, IfAtEnd};
+ghost use Rattle.polcert_items.specs.Steps.Wants.{list_wants};
+ghost use Rattle.polcert_items.specs.declared.start_reader.StartReader.TheVariants as reader;
+ghost use Rattle.std.specs.List.{count_by};
+ghost use Rattle.polcert_cells.specs.Start.{shares_of, is_level, is_positive, equal_weights, all_states};
+ghost use Rattle.polcert_cells.specs.Start.{single};
+ghost use Rattle.polcert_format.specs.Reasons.{is_sign};
 
-use crate::chosen::{Choice, Chosen, every_state, one_state};
-use crate::elements::element_of;
 use crate::entry_reader::Numbers;
-use crate::feed_error::{EndError, FeedError};
-use crate::preamble_lines::colon;
+use crate::item::{EndError, FeedError};
+use crate::preamble_lines::{colon, element_of};
 use crate::signed_number::{
-    NumberStep, Range, Refusal, Sign, misplaced, number_place, number_step,
+    NumberStep, Range, Refusal, Sign, after_numbers, begins_number, misplaced, number_place,
+    number_step,
 };
-use crate::start_numbers::{FirstNumber, StateOrNumber};
-use crate::start_weights::end_probabilities;
-use polcert_cells::{Elements, StartWeights, is_word};
+use polcert_cells::{Elements, ONE, Sequence, StartWeights, is_word};
 use polcert_format::ItemFault;
-use polcert_text::{Token, TokenKind, scaled_of, whole_number};
-use std::alloc::Global;
+use polcert_text::{NumberFault, Token, TokenKind, scaled_of, whole_number};
+use std::alloc::{AllocError, Global};
 
 /// A start item after its word, as far as it has been read: what it continues with.
 #[derive(Debug, Drop)]
@@ -256,4 +263,337 @@ fn first_number(sign: Option<Sign>, token: Token<'_>) -> Result<StartReader, Ref
             place: number_place(sign, token),
         })),
     }
+}
+
+/// The first of some numbers, in millionths, and the offset where it stands: at its sign, if it has one.
+#[derive(Clone, Copy, Debug, PartialEq, Eq)]
+pub struct FirstNumber {
+    pub value: i64,
+    pub place: u64,
+}
+
+/// Digits alone, and the offset where they stand: the state of this number, if there are so many, and the
+/// value.
+#[derive(Clone, Copy, Debug, PartialEq, Eq)]
+pub struct StateOrNumber {
+    pub state: Option<usize>,
+    pub value: Result<i64, NumberFault>,
+    pub place: u64,
+}
+
+impl FirstNumber {
+    /// Returns the numbers, if one more token follows the first of them.
+    pub(crate) fn advance(
+        self,
+        alloc: Global,
+        states: &Elements,
+        token: Token<'_>,
+    ) -> Result<Numbers<u32>, FeedError>
+        requires { IsCount most_states (count_of states.now) }
+        ensures takes { IfOk result (λ n. Takes (StartGoes states.now)
+            (reader.Number self) (lexeme_of token.entry) (reader.Probabilities n)) }
+        ensures within { IfOk result (λ n. IsStartWithin states.now (reader.Probabilities n)) }
+        ensures refused { IfErr result (λ stop. IfRefused stop (λ r.
+            CannotTake (StartGoes states.now) (reader.Number self) (lexeme_of token.entry))) }
+        ensures kept { IfOk result (λ n. SignIs n.sign (lexeme_of token.entry)) }
+        ensures inside { IfOk result (λ n. IsOutside self.value → ⊥) }
+        ensures leads { IfOk result (λ n. ExpectsNext
+            (numbers_want false (count_of states.now - 1)) (lexeme_of token.entry) (list_wants n)) }
+        ensures stops { IfErr result (λ stop. IfRefused stop (λ r.
+            IsStop (IsDueNumber self.value self.place (lexeme_of token.entry)) None
+            (number_end false (count_of states.now - 1)) (lexeme_of token.entry) r.kind r.place)) }
+        ensures late { IsOutside self.value → begins_number (lexeme_of token.entry).kind ≡ true →
+            result ≡ Err (FeedError.Refused (refused ItemFault.ProbabilityRange self.place)) }
+    {
+        if !begins_number(token.kind) {
+            return Err(FeedError::Refused(misplaced(token)));
+        }
+        if self.value < 0 || self.value > ONE as i64 {
+            return Err(self.out_of_range());
+        }
+        let count = states.count();
+        if count == 1 {
+            return Err(FeedError::Refused(after_numbers(token)));
+        }
+        let mut numbers = Numbers::begun(alloc, count, self.value as u32);
+        numbers.feed(token)?;
+        Ok(numbers)
+    }
+
+    /// Refuses this number, which is out of range, if another follows it.
+    fn out_of_range(self) -> FeedError
+        ensures { result ≡ FeedError.Refused (refused ItemFault.ProbabilityRange self.place) }
+    {
+        FeedError::Refused(Refusal {
+            kind: ItemFault::ProbabilityRange,
+            place: self.place,
+        })
+    }
+
+    /// Returns the start if this number is the only one after `start:`.
+    pub(crate) fn end(self, alloc: Global, states: &Elements) -> Result<StartWeights, EndError>
+        requires { IsCount most_states (count_of states.now) }
+        ensures said { IfOk result (StartGives states.now (reader.Number self) []) }
+        ensures refused { IfErr result (λ e.
+            IfNotMemory e (CannotEnd (StartGives states.now) (reader.Number self))) }
+        ensures reason { (body : List Lexeme) → IfErr result (IsStartEndReason body) }
+        ensures kind { IfErr result (λ e. IfAtEnd e (λ kind.
+            kind ≡ unexpected_token (number_end false (count_of states.now - 1)) None)) }
+        ensures at_end { IfErr result IsAtEnd }
+    {
+        let count = states.count();
+        if count != 1 {
+            return Err(EndError::AtEnd(ItemFault::WrongNumberCount));
+        }
+        if self.value != 0 && self.value != ONE as i64 {
+            return Err(EndError::AtEnd(ItemFault::StartSum));
+        }
+        Ok(every_state(alloc, count)?)
+    }
+}
+
+impl StateOrNumber {
+    /// Returns the first number, if something follows the digits; or its refusal, if they have no value.
+    pub(crate) fn first_number(self) -> Result<FirstNumber, Refusal>
+        ensures { result ≡ first_of self.value self.place }
+    {
+        match self.value {
+            Ok(value) => Ok(FirstNumber {
+                value,
+                place: self.place,
+            }),
+            Err(fault) => Err(Refusal {
+                kind: ItemFault::Number(fault),
+                place: self.place,
+            }),
+        }
+    }
+
+    /// Returns the start if the digits stand alone: they are a state's number.
+    pub(crate) fn end(self, alloc: Global, states: &Elements) -> Result<StartWeights, EndError>
+        requires count { IsCount most_states (count_of states.now) }
+        requires within { IsStartWithin states.now (reader.StateOrNumber self) }
+        ensures said { IfOk result (StartGives states.now (reader.StateOrNumber self) []) }
+        ensures refused { IfErr result (λ e.
+            IfNotMemory e (CannotEnd (StartGives states.now) (reader.StateOrNumber self))) }
+        ensures reason { (body : List Lexeme) →
+            HasReadStart (count_of states.now) body (reader.StateOrNumber self) →
+            IfErr result (IsStartEndReason body) }
+        ensures due { IfErr result (IsEndDue (reader.StateOrNumber self)) }
+    {
+        match self.state {
+            Some(state) => Ok(one_state(alloc, states.count(), state)?),
+            None => Err(EndError::At(Refusal {
+                kind: ItemFault::IndexOutOfRange,
+                place: self.place,
+            })),
+        }
+    }
+}
+
+/// Returns the start that a list of probabilities gives, if it is whole and sums to 1.
+pub(crate) fn end_probabilities(
+    alloc: Global,
+    numbers: Numbers<u32>,
+) -> Result<StartWeights, EndError>
+    requires { numbers.needed ≤ most_states }
+    ensures said { (states : AnyElements) →
+        IfOk result (StartGives states (reader.Probabilities numbers) []) }
+    ensures refused { (states : AnyElements) →
+        IfErr result (λ e. IfNotMemory e (CannotEnd (StartGives states) (reader.Probabilities numbers))) }
+    ensures reason { (body : List Lexeme) → IfErr result (IsStartEndReason body) }
+    ensures kind { HasRoom numbers → IfErr result (λ e.
+        IfAtEnd e (λ kind. kind ≡ unexpected_token (list_wants numbers []) None)) }
+    ensures at_end { IfErr result IsAtEnd }
+{
+    if let Some(fault) = numbers.end_fault() {
+        return Err(EndError::AtEnd(fault));
+    }
+    if sum_of(numbers.read.as_slice()) != ONE {
+        return Err(EndError::AtEnd(ItemFault::StartSum));
+    }
+    Ok(shares_of(alloc, numbers.read)?)
+}
+
+fn sum_of(numbers: &[u32]) -> u64
+    requires { length numbers.now ≤ most_states }
+    ensures { result ≡ sum numbers.now }
+{
+    numbers.iter().map(|number| *number as u64).sum()
+}
+
+/// Returns the shares if each state has a probability: equal ones if those above 0 are equal.
+fn shares_of(alloc: Global, probabilities: Sequence<u32>) -> Result<StartWeights, AllocError>
+    requires { length probabilities ≤ most_states }
+    ensures { IfOk result (λ s. s ≡ shares_of probabilities) }
+{
+    if is_level(probabilities.as_slice()) {
+        return level_shares(alloc, probabilities.as_slice());
+    }
+    Ok(StartWeights {
+        weights: probabilities,
+        total: ONE as u32,
+    })
+}
+
+/// Tests whether all positive probabilities are the same.
+fn is_level(probabilities: &[u32]) -> bool
+    ensures { result ≡ is_level probabilities.now }
+{
+    is_level_at(first_above_0(probabilities), probabilities)
+}
+
+/// Returns the first positive probability; 0 if there is none.
+fn first_above_0(probabilities: &[u32]) -> u32
+    ensures { result ≡ first_above_0 probabilities.now }
+{
+    for probability in probabilities {
+        if *probability != 0 {
+            return *probability;
+        }
+    }
+    0
+}
+
+fn is_level_at(level: u32, probabilities: &[u32]) -> bool
+    ensures { result ≡ is_level_at level probabilities.now }
+{
+    probabilities.iter().all(|p| *p == 0 || *p == level)
+}
+
+/// Returns a weight of 1 for each state with a positive probability.
+fn level_shares(alloc: Global, probabilities: &[u32]) -> Result<StartWeights, AllocError>
+    requires { length probabilities.now ≤ most_states }
+    ensures weights { IfOk result (λ s. s.weights ≡ map support_weight probabilities.now) }
+    ensures total { IfOk result (λ s. s.total ≡ count_by is_positive probabilities.now) }
+{
+    let mut weights = Sequence::new(alloc);
+    let mut total = 0;
+    for probability in probabilities {
+        let weight = support_weight(*probability);
+        weights.push(weight)?;
+        total += weight;
+    }
+    Ok(StartWeights { weights, total })
+}
+
+fn support_weight(probability: u32) -> u32
+    ensures { result ≡ support_weight probability }
+{
+    if probability == 0 { 0 } else { 1 }
+}
+
+/// Which states share where some are chosen: these, or the others.
+#[derive(Clone, Copy, Debug, PartialEq, Eq)]
+pub enum Choice {
+    Include,
+    Exclude,
+}
+
+/// States that were chosen, one mark for each state.
+#[derive(Debug, Drop)]
+pub struct Chosen {
+    pub choice: Choice,
+    pub marks: Sequence<bool>,
+}
+
+impl Chosen {
+    /// Makes the list before its first state.
+    pub(crate) fn new(alloc: Global, count: usize, choice: Choice) -> Result<Chosen, AllocError>
+        ensures unmarked { IfOk result (λ c. AreUnmarked count c.marks) }
+        ensures choice { IfOk result (λ c. c.choice ≡ choice) }
+    {
+        let mut marks = Sequence::new(alloc);
+        for _ in 0..count {
+            marks.push(false)?;
+        }
+        Ok(Chosen { choice, marks })
+    }
+
+    /// Adds one more state of the list.
+    pub(crate) fn feed(&mut self, states: &Elements, token: Token<'_>) -> Result<(), Refusal>
+        requires count { IsCount most_states (count_of states.now) }
+        requires text { IsText (lexeme_of token) }
+        requires size { length self.old.marks ≡ count_of states.now }
+        ensures size { OnOk result (length self.new.marks ≡ count_of states.now) }
+        ensures takes { OnOk result (Takes (StartGoes states.now)
+            (reader.List self.old) (lexeme_of token.entry) (reader.List self.new)) }
+        ensures refused { OnErr result
+            (CannotTake (StartGoes states.now) (reader.List self.old) (lexeme_of token.entry)) }
+        ensures kept { OnOk result (is_sign (lexeme_of token.entry).kind ≡ false) }
+        ensures reason { IfErr result (λ r. IsReasonAt None (lexeme_of token.entry) r.kind r.place) }
+        ensures kind { IfErr result (λ r. r.kind ≡ unexpected_token Listed (Some (lexeme_of token.entry))) }
+    {
+        let state = element_of(token, states)?;
+        self.marks.set(state, true);
+        Ok(())
+    }
+
+    /// Returns the start of the list, if the list leaves a state.
+    pub(crate) fn end(self, alloc: Global) -> Result<StartWeights, EndError>
+        requires { length self.marks ≤ most_states }
+        ensures said { (states : AnyElements) → length self.marks ≡ count_of states →
+            IfOk result (StartGives states (reader.List self) []) }
+        ensures refused { (states : AnyElements) → length self.marks ≡ count_of states →
+            IfErr result (λ e. IfNotMemory e (CannotEnd (StartGives states) (reader.List self))) }
+        ensures reason { (body : List Lexeme) → IfErr result (IsStartEndReason body) }
+        ensures kind { IfErr result (λ e. IfAtEnd e (λ kind. kind ≡ unexpected_token Listed None)) }
+        ensures at_end { IfErr result IsAtEnd }
+    {
+        let shares = self.shares(alloc)?;
+        if shares.total == 0 {
+            return Err(EndError::AtEnd(ItemFault::StartEmpty));
+        }
+        Ok(shares)
+    }
+
+    /// Returns equal weights for the states that the choice picks.
+    fn shares(&self, alloc: Global) -> Result<StartWeights, AllocError>
+        requires { length self.now.marks ≤ most_states }
+        ensures { IfOk result (λ s.
+            s ≡ equal_weights (length self.now.marks) (picks self.now.choice (marked self.now.marks))) }
+    {
+        let mut weights = Sequence::new(alloc);
+        let mut total = 0;
+        for state in 0..self.marks.len() {
+            let weight = self.weight(state);
+            weights.push(weight)?;
+            total += weight;
+        }
+        Ok(StartWeights { weights, total })
+    }
+
+    /// Returns 1 for a state that the choice picks, else 0.
+    fn weight(&self, state: usize) -> u32
+        requires { state < length self.now.marks }
+        ensures { result ≡ (if picks self.now.choice (marked self.now.marks) state then 1 else 0) }
+    {
+        match (self.choice, self.marks.at(state)) {
+            (Choice::Include, true) | (Choice::Exclude, false) => 1,
+            _ => 0,
+        }
+    }
+}
+
+/// Returns the uniform start.
+pub(crate) fn every_state(alloc: Global, count: usize) -> Result<StartWeights, AllocError>
+    requires { count ≤ most_states }
+    ensures { (states : AnyElements) → count ≡ count_of states → IfOk result (λ s. s ≡ all_states states) }
+{
+    Chosen::new(alloc, count, Choice::Exclude)?.shares(alloc)
+}
+
+/// Returns the start in one state.
+pub(crate) fn one_state(
+    alloc: Global,
+    count: usize,
+    state: usize,
+) -> Result<StartWeights, AllocError>
+    requires few { count ≤ most_states }
+    requires state { state < count }
+    ensures { (states : AnyElements) → count ≡ count_of states → IfOk result (λ s. s ≡ single states state) }
+{
+    let mut chosen = Chosen::new(alloc, count, Choice::Include)?;
+    chosen.marks.set(state, true);
+    chosen.shares(alloc)
 }

@@ -3,14 +3,14 @@ use Rattle.std.proofs.Common.{◌≡◌, ◌∙◌, ℕ, zero, suc, ◌+◌, ◌
 use Rattle.std.proofs.lemmas.List.{map-id}
 use Rattle.std.specs.List.{list_any}
 use Rattle.polcert_text.specs.Cut.{Lexeme}
-use Rattle.polcert_text.specs.declared.lexeme.TokenKind.TheVariants.{Name}
-use Rattle.polcert_cells.specs.declared.entry.Body.{Body as EntryBody}
-use Rattle.polcert_cells.specs.declared.entry.Body.TheVariants as bodies
-use Rattle.polcert_cells.specs.declared.entry.Entry.{Entry}
-use Rattle.polcert_cells.specs.declared.entry.Place.{Place}
-use Rattle.polcert_cells.specs.declared.entry.Place.TheVariants.{Every}
-use Rattle.polcert_cells.specs.declared.entry.Table.{Table}
-use Rattle.polcert_cells.specs.declared.entry.Table.TheVariants.{Transition, Observation, Reward}
+use Rattle.polcert_text.specs.declared.tokens.TokenKind.TheVariants.{Name}
+use Rattle.polcert_cells.specs.declared.entries.Body.{Body as EntryBody}
+use Rattle.polcert_cells.specs.declared.entries.Body.TheVariants as bodies
+use Rattle.polcert_cells.specs.declared.entries.Entry.{Entry}
+use Rattle.polcert_cells.specs.declared.entries.Place.{Place}
+use Rattle.polcert_cells.specs.declared.entries.Place.TheVariants.{Every}
+use Rattle.polcert_cells.specs.declared.entries.Table.{Table}
+use Rattle.polcert_cells.specs.declared.entries.Table.TheVariants.{Transition, Observation, Reward}
 use Rattle.polcert_items.specs.declared.entry_reader.EntryState.{EntryState}
 use Rattle.polcert_items.specs.declared.entry_reader.EntryState.TheVariants as states
 use Rattle.polcert_items.specs.declared.entry_reader.Numbers.{Numbers}
@@ -21,7 +21,7 @@ use Rattle.polcert_items.specs.declared.preamble_lines.DiscountReader.TheVariant
 use Rattle.polcert_items.specs.declared.preamble_lines.ValuesReader.TheVariants as values
 use Rattle.polcert_items.specs.declared.signed_number.Sign.{Sign}
 use Rattle.polcert_text.specs.declared.number.NumberFault.{NumberFault}
-use Rattle.polcert_items.specs.declared.chosen.Choice.{Choice}
+use Rattle.polcert_items.specs.declared.start_reader.Choice.{Choice}
 use Rattle.polcert_items.specs.declared.start_reader.StartReader.{StartReader}
 use Rattle.polcert_items.specs.declared.start_reader.StartReader.TheVariants as starts
 use Rattle.polcert_cells.specs.declared.elements.Elements.TheVariants.{Count}

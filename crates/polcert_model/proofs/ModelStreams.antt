@@ -7,7 +7,7 @@ use Rattle.polcert_text.specs.Stream.{Ahead, Stream, GivesEnd}
 use Rattle.polcert_text.specs.Steps.StreamTaken.{TakenFrom}
 use Rattle.polcert_text.specs.declared.tokens.TokenFault.{TokenFault}
 use Rattle.polcert_text.proofs.Streams.StreamTaken.{each_taken, each_cut, text_taken, each_whole}
-use Rattle.polcert_cells.specs.declared.entry.Table.{Table}
+use Rattle.polcert_cells.specs.declared.entries.Table.{Table}
 use Rattle.polcert_cells.proofs.Basics.{some≢none}
 use Rattle.polcert_cells.specs.Rows.{IsFirstWrongRow}
 use Rattle.polcert_cells.specs.Steps.Drafts as drafts

@@ -2,13 +2,13 @@
 use Rattle.std.proofs.Common.{ℕ, ◌≡◌, ◌∙◌, ◌≤◌, ◌⊎◌, inl, inr, true, false, Option, Some, None, unwrap_or, List, [], ◌∷◌, ◌++◌, refl, sym, ap, subst, arith, append_assoc}
 use Rattle.std.proofs.lemmas.List.Elements.{All-cons}
 use Rattle.polcert_text.specs.Cut.{Lexeme}
-use Rattle.polcert_cells.specs.declared.entry.Entry.{Entry}
-use Rattle.polcert_cells.specs.declared.entry.Table.{Table}
+use Rattle.polcert_cells.specs.declared.entries.Entry.{Entry}
+use Rattle.polcert_cells.specs.declared.entries.Table.{Table}
 use Rattle.polcert_items.specs.declared.item.ItemReader.{ItemReader}
 use Rattle.polcert_items.specs.declared.item.ItemReader.TheVariants as items
 use Rattle.polcert_items.specs.declared.preamble_lines.DiscountReader.TheVariants as discount
 use Rattle.polcert_items.specs.declared.preamble_lines.ValuesReader.TheVariants as values
-use Rattle.polcert_items.specs.declared.elements_reader.ElementsReader.TheVariants as elements
+use Rattle.polcert_items.specs.declared.preamble_lines.ElementsReader.TheVariants as elements
 use Rattle.polcert_cells.specs.declared.words.Topic.{Topic}
 use Rattle.polcert_cells.specs.declared.words.Topic.TheVariants.{Discount, Values, States, Actions, Observations, Start, Cells}
 use Rattle.polcert_cells.specs.declared.elements.Elements.{Elements}
@@ -24,7 +24,7 @@ use Rattle.polcert_format.specs.KnownPreamble.{preamble_in}
 use Rattle.polcert_items.specs.Steps.Entries.{IsEntryAfter, EntryGoes, AreSome}
 use Rattle.polcert_cells.specs.Start.{IsStart}
 use Rattle.polcert_items.specs.Steps.Start.{new_start, StartGives}
-use Rattle.polcert_cells.specs.declared.start_weights.StartWeights.{StartWeights}
+use Rattle.polcert_cells.specs.declared.elements.StartWeights.{StartWeights}
 use Rattle.polcert_format.specs.Forms.{IsStartForm, HasForm}
 use Rattle.polcert_format.specs.Forms as shapes
 use Rattle.polcert_items.specs.Steps.Items.{ItemGoes, ItemForms, IsItemWithin, topic_in, IsSeen, new_item, new_entry, HasElements}

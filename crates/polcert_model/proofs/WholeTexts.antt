@@ -2,7 +2,7 @@
 use Rattle.std.proofs.Common.{◌≡◌, ◌∙◌, ℕ, None, Result, Ok, Err, IfOk, IfErr, MatchResult, List, sym, subst, arith}
 use Rattle.polcert_text.specs.Cut.{Lexeme, IsCut, text_rest, end_place, text_limit}
 use Rattle.polcert_text.proofs.Scanning.CleanCut.{clean_tokens}
-use Rattle.polcert_cells.specs.declared.entry.Table.{Table}
+use Rattle.polcert_cells.specs.declared.entries.Table.{Table}
 use Rattle.polcert_format.specs.declared.fault.ModelFault.TheVariants as model_faults
 use Rattle.polcert_cells.specs.Meaning.{Meaning, IsSame, HasProperRows}
 use Rattle.polcert_cells.specs.Rows.{IsFirstWrongRow}

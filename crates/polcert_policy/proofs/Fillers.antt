@@ -11,7 +11,7 @@ use Rattle.polcert_text.proofs.Numbers.SignedLaws.{rounded_whole}
 use Rattle.polcert_text.proofs.Numbers.SizeLaws.{millionth_pos}
 use Rattle.polcert_text.proofs.Printing.PrintLaws.{decimal_digits}
 use Rattle.polcert_text.specs.Cut.{Lexeme}
-use Rattle.polcert_text.specs.declared.lexeme.TokenKind.TheVariants.{Numeral}
+use Rattle.polcert_text.specs.declared.tokens.TokenKind.TheVariants.{Numeral}
 use Rattle.polcert_policy.specs.Vectors.{Part, sign_kind, is_negative, IsActionPart, IsValuePart}
 use Rattle.polcert_text.specs.declared.number.Rounding.{Rounding}
 

@@ -7,8 +7,8 @@ use Rattle.std.proofs.lemmas.List.FromFn.{length-map-range_with_len, get_or-map-
 use Rattle.std.proofs.lemmas.Option.{get_or_from_slice_get, slice_get-get_or}
 use Rattle.polcert_text.specs.Cut.{Lexeme, IsCut, text_rest, text_limit}
 use Rattle.polcert_text.specs.Lexemes.{are_digits}
-use Rattle.polcert_text.specs.declared.lexeme.TokenKind.{TokenKind}
-use Rattle.polcert_text.specs.declared.lexeme.TokenKind.TheVariants.{Name, Numeral, Minus}
+use Rattle.polcert_text.specs.declared.tokens.TokenKind.{TokenKind}
+use Rattle.polcert_text.specs.declared.tokens.TokenKind.TheVariants.{Name, Numeral, Minus}
 use Rattle.polcert_text.proofs.Scanning.CleanCut.{clean_cut, clean_tokens}
 use Rattle.polcert_cells.specs.Numbers.{IsWhole}
 use Rattle.polcert_policy.specs.Fields.{numeral_kind, minus_kind, is_whole, whole_of, is_x, is_successor, is_successor_of, successor_of, number_at, is_joined}

@@ -4,7 +4,7 @@ use Rattle.polcert_text.specs.Cut.{Lexeme}
 use Rattle.polcert_text.specs.Lexemes.{are_digits}
 use Rattle.std.specs.Str.Parse.{digits_value}
 use Rattle.polcert_text.specs.Steps.TakenAhead.{ReadsOn}
-use Rattle.polcert_text.specs.declared.lexeme.TokenKind.TheVariants.{Numeral}
+use Rattle.polcert_text.specs.declared.tokens.TokenKind.TheVariants.{Numeral}
 use Rattle.polcert_policy.specs.Fields.{numeral_kind, minus_kind, whole_of, is_successor_of, number_at}
 use Rattle.polcert_policy.specs.Steps.Kept.{cap, kept_of}
 use Rattle.polcert_policy.specs.Steps.GraphRead.{IsRead, IsLastMinus, IsApartFrom, Advanced}

@@ -3,8 +3,8 @@ use Rattle.std.proofs.Common.{◌≡◌, ◌∙◌, ℕ, suc, zero, ◌+◌, ◌
 use Rattle.std.proofs.Math.Path.{subst₂}
 use Rattle.polcert_text.specs.Bytes.{is_digit}
 use Rattle.polcert_text.specs.Cut.{Lexeme}
-use Rattle.polcert_text.specs.declared.lexeme.TokenKind.{TokenKind}
-use Rattle.polcert_text.specs.declared.lexeme.TokenKind.TheVariants.{Name, Numeral}
+use Rattle.polcert_text.specs.declared.tokens.TokenKind.{TokenKind}
+use Rattle.polcert_text.specs.declared.tokens.TokenKind.TheVariants.{Name, Numeral}
 use Rattle.polcert_policy.specs.Fields.{numeral_kind, minus_kind, is_whole, whole_of, is_successor, successor_of, is_joined}
 use Rattle.polcert_policy.specs.Graphs.{PolicyGraph, nodes, IsAction, IsSuccessor, AreNodes, IsLooseGraph, IsPossible, width, most_nodes}
 use Rattle.polcert_policy.specs.Steps.GraphRead.{AreNodesUpTo, IsApartFrom}

@@ -3,7 +3,7 @@ use Rattle.std.proofs.Common.{◌≡◌, ◌∙◌, ℕ, ◌+◌, ◌≤◌, Boo
 use Rattle.std.specs.List.{list_all}
 use Rattle.polcert_text.specs.Bytes.{is_blank}
 use Rattle.polcert_text.specs.Cut.{Lexeme, IsCut}
-use Rattle.polcert_text.specs.declared.lexeme.TokenKind.TheVariants.{Numeral, Minus}
+use Rattle.polcert_text.specs.declared.tokens.TokenKind.TheVariants.{Numeral, Minus}
 use Rattle.polcert_text.proofs.Printing.Numerals.{IsPlain}
 use Rattle.polcert_text.proofs.Printing.PrintedCut as cuts
 use Rattle.polcert_text.proofs.Printing.PrintedCut.{rest_at}

@@ -1,8 +1,8 @@
 -- Tokens are at most one list of vectors.
 use Rattle.std.proofs.Common.{◌≡◌, ◌∙◌, ℕ, ℤ, suc, zero, ◌+◌, ◌*◌, ◌<◌, Bool, true, ◌&&◌, Option, Some, None, List, [], ◌∷◌, ◌++◌, length, slice_get, refl, sym, ap, subst, arith, append-nil}
 use Rattle.polcert_text.specs.Cut.{Lexeme}
-use Rattle.polcert_text.specs.declared.lexeme.TokenKind.{TokenKind}
-use Rattle.polcert_text.specs.declared.lexeme.TokenKind.TheVariants.{Numeral}
+use Rattle.polcert_text.specs.declared.tokens.TokenKind.{TokenKind}
+use Rattle.polcert_text.specs.declared.tokens.TokenKind.TheVariants.{Numeral}
 use Rattle.polcert_text.proofs.TextLaws.{one_rounded}
 use Rattle.polcert_policy.specs.Fields.{numeral_kind}
 use Rattle.polcert_policy.specs.Graphs.{PolicyGraph, nodes}

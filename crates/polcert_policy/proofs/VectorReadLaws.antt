@@ -4,8 +4,8 @@ use Rattle.std.proofs.Math.Path.{transport⁻¹, subst₂, subst⁻¹}
 use Rattle.polcert_text.specs.Cut.{Lexeme}
 use Rattle.polcert_text.specs.Numbers.{IsReadable, IsRounded, IsRefused}
 use Rattle.polcert_text.specs.declared.number.NumberFault.{NumberFault}
-use Rattle.polcert_text.specs.declared.lexeme.TokenKind.{TokenKind}
-use Rattle.polcert_text.specs.declared.lexeme.TokenKind.TheVariants.{Numeral, Plus, Minus}
+use Rattle.polcert_text.specs.declared.tokens.TokenKind.{TokenKind}
+use Rattle.polcert_text.specs.declared.tokens.TokenKind.TheVariants.{Numeral, Plus, Minus}
 use Rattle.polcert_text.proofs.TextLaws.{readable_not_refused}
 use Rattle.polcert_policy.specs.Fields.{numeral_kind, minus_kind, is_whole, whole_of}
 use Rattle.polcert_policy.specs.Graphs.{PolicyGraph, nodes, action_of, IsProperGraph}
@@ -14,7 +14,7 @@ use Rattle.polcert_policy.specs.VectorText.{numbers, IsPartColumn, last_sign, nu
 use Rattle.polcert_policy.specs.Steps.VectorsRead.{AreVectorsUpTo, open_of, kept_sign, place_after, is_minus, HasVectors, IsPartRefusal, CheckedAction, AdvancedValue}
 use Rattle.polcert_policy.specs.declared.fault.VectorFault.{VectorFault}
 use Rattle.polcert_policy.specs.declared.fault.VectorFault.TheVariants as faults
-use Rattle.polcert_policy.specs.declared.vectors_reading.OpenSign.{OpenSign}
+use Rattle.polcert_policy.specs.declared.vectors.OpenSign.{OpenSign}
 use Rattle.polcert_policy.specs.declared.vectors_reading.VectorsReading.{VectorsReading}
 use Rattle.polcert_policy.proofs.Places.{true_false, some_none, same_some}
 use Rattle.polcert_policy.proofs.Fillers.{signed_zero, signed_zero_value}

@@ -4,7 +4,7 @@ use Rattle.polcert_text.specs.Cut.{Lexeme}
 use Rattle.polcert_text.specs.FrontValues.{has_minus, with_minus}
 use Rattle.polcert_text.specs.Numbers.{IsReadable, IsRounded}
 use Rattle.polcert_text.specs.Steps.TakenAhead.{ReadsOn}
-use Rattle.polcert_text.specs.declared.lexeme.TokenKind.TheVariants.{Numeral, Minus}
+use Rattle.polcert_text.specs.declared.tokens.TokenKind.TheVariants.{Numeral, Minus}
 use Rattle.polcert_text.specs.declared.number.Rounding.{Rounding}
 use Rattle.polcert_policy.specs.Fields.{numeral_kind, minus_kind}
 use Rattle.polcert_policy.specs.Vectors.{sign_kind}

@@ -3,8 +3,8 @@ use Rattle.std.specs.Prelude.{ℕ, ◌+◌, ◌==◌, Bool, true, false, ◌&&�
 use Rattle.std.specs.Str.Parse.{digits_value}
 use Rattle.polcert_text.specs.Lexemes.{are_digits, is_empty}
 use Rattle.polcert_text.specs.Cut.{Lexeme}
-use Rattle.polcert_text.specs.declared.lexeme.TokenKind.{TokenKind}
-use Rattle.polcert_text.specs.declared.lexeme.TokenKind.TheVariants.{Name, Numeral, Minus}
+use Rattle.polcert_text.specs.declared.tokens.TokenKind.{TokenKind}
+use Rattle.polcert_text.specs.declared.tokens.TokenKind.TheVariants.{Name, Numeral, Minus}
 
 abbrev pub numeral_kind : TokenKind → Bool
 numeral_kind Numeral = true

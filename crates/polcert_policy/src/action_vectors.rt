@@ -5,11 +5,8 @@ ghost use Rattle.polcert_cells.specs.Elements.{most_actions, most_states};
 ghost use Rattle.polcert_policy.specs.ActionVectors.{action_graph, IsActionVectorsText, IsNoActionVectorsText, IsActionVectorsRefusal, IsRefusedActionVectorsText};
 
 use crate::fault::VectorFault;
-use crate::graph::Graph;
-use crate::growth::push;
-use crate::successor::Successor;
-use crate::vectors::Vectors;
-use crate::vectors_reader::{read_rounded_vectors, read_rounded_vectors_from};
+use crate::graph::{Graph, Successor, push};
+use crate::vectors::{Vectors, read_rounded_vectors, read_rounded_vectors_from};
 use polcert_text::{Rounding, Source, SourceFault};
 use std::alloc::{AllocError, Global};
 

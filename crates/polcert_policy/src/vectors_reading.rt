@@ -3,12 +3,7 @@ ghost use Rattle.std.specs.Prelude.{◌<◌, ◌≤◌};
 ghost use Rattle.polcert_cells.specs.Elements.{most_states};
 ghost use Rattle.polcert_policy.specs.Graphs.{most_nodes};
 
-/// A sign that no numeral has followed yet: where it stands, and whether it is a `-`.
-#[derive(Clone, Copy)]
-pub struct OpenSign {
-    pub place: u64,
-    pub is_negative: bool,
-}
+use crate::vectors::OpenSign;
 
 /// Vectors that are read token by token: whole vectors, and `column` parts of the next, of which the first is its
 /// action. The values are in millionths.

@@ -1,20 +1,22 @@
 //! The index of a list of entries.
-ghost use Rattle.std.specs.Prelude.{◌≡◌, ℕ, ◌+◌, ◌*◌, ◌^◌, ◌<◌, ◌≤◌, ◌↔◌, List, [], ◌∷◌, All, Contains, IfOk, IsTrue};
-ghost use Rattle.polcert_rules.specs.declared.rule.Rule.{Rule as R};
+ghost use Rattle.std.specs.Prelude.{◌≡◌, ℕ, ◌+◌, ◌*◌, ◌^◌, ◌<◌, ◌≤◌, ◌↔◌, List, [], ◌∷◌, All, Contains, IfOk};
+ghost use Rattle.std.specs.Prelude.{IsTrue, take, ◌-◌};
+ghost use Rattle.polcert_rules.specs.declared.index.Rule.{Rule as R};
 ghost use Rattle.polcert_rules.specs.Steps.Rows.{HaveColumns, IsSingleEntry, no_column, number_in};
-ghost use Rattle.polcert_cells.specs.declared.entry.Entry.{Entry as E};
+ghost use Rattle.polcert_cells.specs.declared.entries.Entry.{Entry as E};
 ghost use Rattle.polcert_cells.specs.Cells.{IsLastCovering, weight, weight_of, value_or};
 ghost use Rattle.polcert_cells.specs.Preamble.{Preamble};
-ghost use Rattle.polcert_rules.specs.Keys.{key_base, AreIndices, Fits, table_key, most_places};
-ghost use Rattle.polcert_rules.specs.Steps.Newest.{AreKeyed, IsIndexOf, IsNewest, IsRising, IsLastNumber, entry_at};
+ghost use Rattle.polcert_rules.specs.Keys.{key_base, AreIndices, Fits, table_key, most_places, digit};
+ghost use Rattle.polcert_rules.specs.Keys.{table_digit, key_of, AreDigits};
+ghost use Rattle.polcert_rules.specs.Steps.Newest.{AreKeyed, IsIndexOf, IsNewest, IsRising, IsLastNumber};
+ghost use Rattle.polcert_rules.specs.Steps.Newest.{entry_at, rules_from, newest_of_each, IsCut};
 ghost use Rattle.polcert_rules.specs.Steps.Repeats.{NamesNoAction};
+ghost use Rattle.polcert_cells.specs.EntryRefs.{entry_of};
+ghost use Rattle.polcert_rules.specs.Steps.NextPlaces.{IsNextPlace};
+ghost use Rattle.polcert_rules.specs.Matching.{max_option};
+ghost use Rattle.polcert_rules.specs.Steps.RewardSearch.{Begins, IsAnswer};
 
-use crate::Rule;
-use crate::build::{keep_newest_of_each, numbered, table_digit};
-use crate::keys::{ACTION, MOST_PLACES};
-use crate::newest::{newest, span};
-use crate::rule_span::{between, from, none_below};
-use polcert_cells::{Entries, Table};
+use polcert_cells::{Entries, EntryRef, Place, Table};
 use std::alloc::{AllocError, Global};
 use std::marker::Model;
 
@@ -26,7 +28,7 @@ pub struct Index {
 
 impl Model for Index {
     ghost use Rattle.std.specs.Prelude.{List};
-    ghost use Rattle.polcert_rules.specs.declared.rule.Rule.{Rule as R};
+    ghost use Rattle.polcert_rules.specs.declared.index.Rule.{Rule as R};
     ghost use Rattle.polcert_rules.specs.Steps.Newest.{IsRising};
 
     ghost Value = { List R };
@@ -93,5 +95,407 @@ impl Index {
             levels,
             indices,
         )
+    }
+}
+
+/// Returns a rule for each entry.
+pub(crate) fn numbered(alloc: Global, entries: &Entries) -> Result<Vec<Rule>, AllocError>
+    requires { AreKeyed entries.now }
+    ensures { IfOk result (λ rules. rules.items ≡ rules_from 0 entries.now) }
+{
+    let mut rules = Vec::with_capacity(alloc, entries.len())?;
+    for number in 0..entries.len() {
+        let key = key_of(entries.at(number));
+        rules.push(Rule { key, number })?;
+    }
+    Ok(rules)
+}
+
+/// Keeps of neighbours with the same key the one with the greatest number.
+pub(crate) fn keep_newest_of_each(rules: &mut Vec<Rule>)
+    ensures { rules.new.items ≡ newest_of_each rules.old.items }
+{
+    let count = move_newest_to_front(rules.as_mut_slice());
+    rules.truncate(count);
+}
+
+/// Moves of neighbours with the same key the one with the greatest number to the front, in order, and returns how many these are.
+fn move_newest_to_front(rules: &mut [Rule]) -> usize
+    ensures { take result rules.new ≡ newest_of_each rules.old }
+{
+    if rules.is_empty() {
+        return 0;
+    }
+    let mut last = rules[0];
+    let mut kept = 0;
+    for place in 1..rules.len() {
+        let rule = rules[place];
+        if rule.key == last.key {
+            last.number = last.number.max(rule.number);
+        } else {
+            rules[kept] = last;
+            kept += 1;
+            last = rule;
+        }
+    }
+    rules[kept] = last;
+    kept + 1
+}
+
+/// Returns the key of an entry's pattern, its table in front.
+fn key_of(entry: EntryRef<'_>) -> u64
+    requires { AreDigits most_places entry.places.now }
+    ensures { result ≡ key_of (entry_of entry.entry) }
+{
+    let mut key = table_digit(entry.table) * span(MOST_PLACES);
+    let mut levels = MOST_PLACES;
+    for place in entry.places {
+        levels -= 1;
+        key += digit(*place) * span(levels);
+    }
+    key
+}
+
+/// Returns a place as a digit; 0 stands for no place.
+fn digit(place: Place) -> u64
+    requires { digit place < key_base }
+    ensures { result ≡ digit place }
+{
+    match place {
+        Place::Every => 1,
+        Place::Only(index) => index as u64 + 2,
+    }
+}
+
+pub(crate) fn table_digit(table: Table) -> u64
+    ensures { result ≡ table_digit table }
+{
+    match table {
+        Table::Transition => 0,
+        Table::Observation => 1,
+        Table::Reward => 2,
+    }
+}
+
+/// The base of the keys: each place is a digit to it.
+pub(crate) const KEY_BASE: u64 = 16_384;
+
+/// How many places a key has at most.
+pub(crate) const MOST_PLACES: usize = 4;
+
+/// How many keys a column has, a row of single cells, all rows of an action, and a table.
+pub(crate) const COLUMN: u64 = KEY_BASE;
+
+pub(crate) const ROW: u64 = COLUMN * KEY_BASE;
+
+pub(crate) const ACTION: u64 = ROW * KEY_BASE;
+
+pub(crate) const TABLE: u64 = ACTION * KEY_BASE;
+
+/// How many columns have a digit.
+const COLUMNS: u64 = KEY_BASE - 2;
+
+/// How many keys there are from that of a row's first column to that of its last.
+pub(crate) const COLUMN_KEYS: u64 = COLUMNS * COLUMN;
+
+/// Returns the key of the first column of a row, by the digits of its places.
+pub(crate) fn first_column(low: u64, first: u64, second: u64) -> u64
+    requires room { low + key_base ^ 4 < 2 ^ 64 }
+    requires first { first < key_base }
+    requires second { second < key_base }
+    ensures is { result ≡ low + first * key_base ^ 3 + second * key_base ^ 2 + 2 * key_base }
+    ensures small { result + (key_base - 2) * key_base ≤ low + key_base ^ 4 }
+{
+    low + first * ACTION + second * ROW + 2 * COLUMN
+}
+
+/// An entry in the index: the key of its pattern, and its number in the order of the file.
+#[derive(Clone, Copy)]
+pub struct Rule {
+    pub key: u64,
+    pub number: usize,
+}
+
+/// How many rules are looked through before all of them are.
+const LINEAR_SCAN: usize = 16;
+
+/// Where a part of a list of rules may begin, and where it may end.
+#[derive(Clone, Copy)]
+pub(crate) struct RuleSpan {
+    pub start: u32,
+    pub end: u32,
+}
+
+/// Returns the rules from one key on and before another.
+pub(crate) fn between(rules: &[Rule], low: u64, high: u64) -> &[Rule]
+    requires { IsRising rules.now }
+    ensures rising { IsRising result.now }
+    ensures kept { (r : R) → Contains result.now r ↔ (Contains rules.now r × (low ≤ r.key) × (r.key < high)) }
+{
+    before(from(rules, low), high)
+}
+
+/// Returns the rules from one key on and before another: at once, if they stand where the span says.
+pub(crate) fn between_at(rules: &[Rule], low: u64, high: u64, span: RuleSpan) -> &[Rule]
+    requires { IsRising rules.now }
+    ensures rising { IsRising result.now }
+    ensures kept { (r : R) → Contains result.now r ↔ (Contains rules.now r × (low ≤ r.key) × (r.key < high)) }
+{
+    let front = before_at(rules, high, span.end as usize);
+    from_at(front, low, span.start as usize)
+}
+
+/// Returns where a part of a list of rules may stand. Nothing is promised of it: each use tests it.
+pub(crate) fn span_of(start: usize, end: usize) -> RuleSpan {
+    RuleSpan {
+        start: in_half(start),
+        end: in_half(end),
+    }
+}
+
+/// Returns the number in half the bits, or the greatest of these.
+pub(crate) fn in_half(number: usize) -> u32 {
+    number.min(u32::MAX as usize) as u32
+}
+
+/// Returns the place of the first rule from this place on that is not before the key, or the place after the
+/// last.
+pub(crate) fn place_of(rules: &[Rule], from: usize, key: u64) -> usize {
+    let mut place = from;
+    while place < rules.len() && rules[place].key < key {
+        place += 1;
+    }
+    place
+}
+
+/// Returns the rules from this key on.
+pub(crate) fn from(rules: &[Rule], low: u64) -> &[Rule]
+    requires { IsRising rules.now }
+    ensures rising { IsRising result.now }
+    ensures kept { (r : R) → Contains result.now r ↔ (Contains rules.now r × (low ≤ r.key)) }
+{
+    if none_below(rules, low) {
+        return rules;
+    }
+    let start = rules.partition_point(|rule| rule.key < low);
+    &rules[start..]
+}
+
+/// Returns the rules from this key on: at once, if the rules before this place are those before the key.
+fn from_at(rules: &[Rule], low: u64, place: usize) -> &[Rule]
+    requires { IsRising rules.now }
+    ensures rising { IsRising result.now }
+    ensures kept { (r : R) → Contains result.now r ↔ (Contains rules.now r × (low ≤ r.key)) }
+{
+    if is_cut(rules, low, place) {
+        return &rules[place..];
+    }
+    from(rules, low)
+}
+
+/// Returns the rules before this key.
+fn before(rules: &[Rule], high: u64) -> &[Rule]
+    requires { IsRising rules.now }
+    ensures rising { IsRising result.now }
+    ensures kept { (r : R) → Contains result.now r ↔ (Contains rules.now r × (r.key < high)) }
+{
+    if all_below(rules, high) {
+        return rules;
+    }
+    let near = near(rules, high);
+    let end = near.partition_point(|rule| rule.key < high);
+    &near[..end]
+}
+
+/// Returns the rules before this key: at once, if they are those before this place.
+fn before_at(rules: &[Rule], high: u64, place: usize) -> &[Rule]
+    requires { IsRising rules.now }
+    ensures rising { IsRising result.now }
+    ensures kept { (r : R) → Contains result.now r ↔ (Contains rules.now r × (r.key < high)) }
+{
+    if is_cut(rules, high, place) {
+        return &rules[..place];
+    }
+    before(rules, high)
+}
+
+/// Returns all rules before this key, and maybe more: a short list, if a look shows that they are few.
+fn near(rules: &[Rule], high: u64) -> &[Rule]
+    requires { IsRising rules.now }
+    ensures rising { IsRising result.now }
+    ensures kept { (r : R) → (Contains result.now r × (r.key < high)) ↔ (Contains rules.now r
+        × (r.key < high)) }
+{
+    if rules.len() <= LINEAR_SCAN {
+        return rules;
+    }
+    if none_below(&rules[LINEAR_SCAN..], high) {
+        return &rules[..LINEAR_SCAN];
+    }
+    rules
+}
+
+/// Tests whether the rules before this place are those before the key.
+fn is_cut(rules: &[Rule], key: u64, place: usize) -> bool
+    requires { IsRising rules.now }
+    ensures { IsTrue result → IsCut rules.now key place }
+{
+    if place > rules.len() {
+        return false;
+    }
+    if !all_below(&rules[..place], key) {
+        return false;
+    }
+    none_below(&rules[place..], key)
+}
+
+/// Tests whether all rules are before this key.
+fn all_below(rules: &[Rule], key: u64) -> bool
+    requires { IsRising rules.now }
+    ensures { IsTrue result → (r : R) → Contains rules.now r → r.key < key }
+{
+    match rules.last() {
+        Some(rule) => rule.key < key,
+        None => true,
+    }
+}
+
+/// Tests whether no rule is before this key.
+pub(crate) fn none_below(rules: &[Rule], key: u64) -> bool
+    requires { IsRising rules.now }
+    ensures { IsTrue result → (r : R) → Contains rules.now r → key ≤ r.key }
+{
+    match rules.first() {
+        Some(rule) => key <= rule.key,
+        None => true,
+    }
+}
+
+/// Returns the number of the newest rule that fits the first of these indices, of the rules whose places
+/// follow those of the key `low`, at most so many.
+pub(crate) fn newest(rules: &[Rule], low: u64, levels: usize, indices: &[usize]) -> Option<usize>
+    requires rising { IsRising rules.now }
+    requires from { (r : R) → Contains rules.now r → low ≤ r.key }
+    requires few { levels ≤ most_places }
+    requires room { low + key_base ^ levels < 2 ^ 64 }
+    requires indices { AreIndices levels indices.now }
+    ensures { IsNewest rules.now (Fits levels low indices.now) result }
+{
+    if rules.is_empty() {
+        return None;
+    }
+    let here = first_at(rules, low);
+    match indices.split_first() {
+        None => here,
+        Some((index, rest)) => {
+            let next = next_place(rules, low, levels, *index);
+            let of_every = newest(next.of_every, next.every, next.levels, rest);
+            let of_only = newest(next.of_only, next.only, next.levels, rest);
+            max_option(here, max_option(of_every, of_only))
+        }
+    }
+}
+
+/// The rules that continue with a place for an index: with `*`, or with the index itself; what their keys follow, and how many places
+/// may come after.
+#[derive(Clone, Copy)]
+pub(crate) struct NextPlace<'a> {
+    pub levels: usize,
+    pub every: u64,
+    pub of_every: &'a [Rule],
+    pub only: u64,
+    pub of_only: &'a [Rule],
+}
+
+/// Returns the rules that continue with a place for an index, of the rules whose places follow those of the
+/// key `low`, at most so many.
+#[inline(always)]
+pub(crate) fn next_place(rules: &[Rule], low: u64, levels: usize, index: usize) -> NextPlace<'_>
+    requires rising { IsRising rules.now }
+    requires few { levels ≤ most_places }
+    requires room { low + key_base ^ levels < 2 ^ 64 }
+    requires index { AreIndices levels (index ∷ []) }
+    ensures { IsNextPlace rules.now low levels index result }
+{
+    let below = levels - 1;
+    let step = span(below);
+    let every = low + step;
+    let only = low + (index as u64 + 2) * step;
+    NextPlace {
+        levels: below,
+        every,
+        of_every: between(rules, every, every + step),
+        only,
+        of_only: between(rules, only, only + step),
+    }
+}
+
+/// Returns the number of the rule with this key, if no rule has a lower one.
+pub(crate) fn first_at(rules: &[Rule], key: u64) -> Option<usize>
+    requires rising { IsRising rules.now }
+    requires from { (r : R) → Contains rules.now r → key ≤ r.key }
+    ensures { IsNewest rules.now (λ k. k ≡ key) result }
+{
+    match rules.first() {
+        Some(rule) => if rule.key == key {
+            Some(rule.number)
+        } else {
+            None
+        },
+        None => None,
+    }
+}
+
+/// Returns how many keys have so many places.
+pub(crate) fn span(levels: usize) -> u64
+    requires { levels ≤ most_places }
+    ensures { result ≡ key_base ^ levels }
+{
+    match levels {
+        0 => 1,
+        1 => COLUMN,
+        2 => ROW,
+        3 => ACTION,
+        _ => TABLE,
+    }
+}
+
+/// Returns the greater of two numbers, if there are any.
+pub(crate) fn max_option(one: Option<usize>, other: Option<usize>) -> Option<usize>
+    ensures { result ≡ max_option one other }
+{
+    match (one, other) {
+        (None, _) => other,
+        (_, None) => one,
+        (Some(m), Some(n)) => if m <= n { Some(n) } else { Some(m) },
+    }
+}
+
+/// Tests whether one of the rules, whose places follow those of the key `low`, begins with a place for each
+/// of these indices that fits it, and continues with a key of at least `least`: 0 for any, 2 for a last place
+/// that isn't `*`.
+pub(crate) fn some_begins(
+    rules: &[Rule],
+    low: u64,
+    levels: usize,
+    indices: &[usize],
+    least: u64,
+) -> bool
+    requires rising { IsRising rules.now }
+    requires few { levels ≤ most_places }
+    requires room { low + key_base ^ levels + least < 2 ^ 64 }
+    requires indices { AreIndices levels indices.now }
+    ensures { IsAnswer rules.now (Begins levels low indices.now least) result }
+{
+    if rules.is_empty() {
+        return false;
+    }
+    match indices.split_first() {
+        None => !between(rules, low + least, low + span(levels)).is_empty(),
+        Some((index, rest)) => {
+            let next = next_place(rules, low, levels, *index);
+            some_begins(next.of_every, next.every, next.levels, rest, least)
+                || some_begins(next.of_only, next.only, next.levels, rest, least)
+        }
     }
 }

@@ -1,16 +1,14 @@
 //! Noting the newest rules of the observations of an outcome, part of the rules by part.
 ghost use Rattle.std.specs.Prelude.{◌≡◌, ◌+◌, ◌<◌, ◌≤◌, ◌^◌, ◌∷◌, [], ℕ, Contains, IsTrue};
-ghost use Rattle.polcert_rules.specs.declared.rule.Rule.{Rule as R};
+ghost use Rattle.polcert_rules.specs.declared.index.Rule.{Rule as R};
 ghost use Rattle.polcert_rules.specs.Keys.{key_base};
 ghost use Rattle.polcert_rules.specs.Steps.Named.{AreNamed, noted_at};
 ghost use Rattle.polcert_rules.specs.Steps.Newest.{IsRising};
 ghost use Rattle.polcert_rules.specs.Steps.Noting.{IsNoted};
 
 use crate::Rule;
-use crate::keys::KEY_BASE;
+use crate::index::{KEY_BASE, between, first_at, from, next_place};
 use crate::named_rules::NamedRules;
-use crate::newest::{first_at, next_place};
-use crate::rule_span::{between, from};
 
 /// How many observations have a digit.
 const OBSERVATION_KEYS: u64 = KEY_BASE - 2;

@@ -3,7 +3,7 @@ ghost use Rattle.std.specs.Prelude.{◌≡◌, ◌≤◌, length};
 ghost use Rattle.polcert_rules.specs.declared.named_rules.TheConstants.{FEW_NAMED};
 ghost use Rattle.polcert_rules.specs.Steps.Distinct.{AreDistinct};
 
-use crate::newest::max_option;
+use crate::index::max_option;
 
 /// How many named observations are few.
 pub(crate) const FEW_NAMED: usize = 64;

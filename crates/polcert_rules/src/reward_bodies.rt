@@ -2,13 +2,13 @@
 ghost use Rattle.std.specs.Prelude.{◌≡◌, ◌<◌, ◌≤◌, ◌+◌, ◌++◌, All, Bool, Contains, map, get_or, length, drop, pos, IfOk, OnOk};
 ghost use Rattle.polcert_cells.specs.Elements.{most_states, most_elements};
 ghost use Rattle.polcert_cells.specs.EntryRefs.{all_rewards};
-ghost use Rattle.polcert_rules.specs.declared.rule.Rule.{Rule as R};
+ghost use Rattle.polcert_rules.specs.declared.index.Rule.{Rule as R};
 ghost use Rattle.polcert_rules.specs.Keys.{key_base};
 ghost use Rattle.polcert_rules.specs.Steps.Rewards.{worth, AreBodiesOf};
 ghost use Rattle.polcert_rules.specs.RewardAt.{body_at, cell_in};
 
 use crate::Rule;
-use crate::reward_parts::RewardBody;
+use crate::rewards::RewardBody;
 use polcert_cells::Entries;
 use std::alloc::{AllocError, Global};
 

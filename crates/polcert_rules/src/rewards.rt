@@ -2,9 +2,9 @@
 ghost use Rattle.std.specs.Prelude.{◌≡◌, ◌<◌, ◌≤◌, ◌+◌, ◌^◌, ◌↔◌, ℕ, List, [], ◌∷◌, map, All, Contains, pos};
 ghost use Rattle.std.specs.Prelude.{true, false, IfOk, IsTrue, Some, None, slice_get, length, slice_index_or};
 ghost use Rattle.std.specs.Option.{ForSome};
-ghost use Rattle.polcert_rules.specs.declared.rule.Rule.{Rule as R};
-ghost use Rattle.polcert_cells.specs.declared.entry.Entry.{Entry as E};
-ghost use Rattle.polcert_cells.specs.declared.entry.Table.TheVariants.{Reward as RewardTable};
+ghost use Rattle.polcert_rules.specs.declared.index.Rule.{Rule as R};
+ghost use Rattle.polcert_cells.specs.declared.entries.Entry.{Entry as E};
+ghost use Rattle.polcert_cells.specs.declared.entries.Table.TheVariants.{Reward as RewardTable};
 ghost use Rattle.polcert_cells.specs.Elements.{count_of};
 ghost use Rattle.polcert_cells.specs.Preamble.{Preamble, dimensions};
 ghost use Rattle.polcert_cells.specs.Steps.Sound.{IsSoundEntry};
@@ -17,12 +17,9 @@ ghost use Rattle.polcert_rules.specs.Steps.Newest.{AreKeyed, IsIndexOf, IsNewest
 ghost use Rattle.polcert_rules.specs.Steps.Rewards.{IsShapeOf, IsSmall, AreRewardsOf};
 ghost use Rattle.polcert_rules.specs.Steps.RewardSearch.{AreFilled, AreWithin, IsLastBody, IsSingle};
 
-use crate::keys::{KEY_BASE, MOST_PLACES};
+use crate::index::{KEY_BASE, MOST_PLACES, max_option, newest, some_begins};
 use crate::named_rules::NamedRules;
-use crate::newest::{max_option, newest};
 use crate::reward_bodies::{RewardBodies, cell_in, following};
-use crate::reward_parts::{Outcome, RewardBody, RewardShape};
-use crate::reward_search::some_begins;
 use crate::row_rules::{REWARD_KEYS, RowRules};
 use crate::{Index, Rule};
 use polcert_cells::{CommonReward, Entries, RewardCell, Table};
@@ -472,4 +469,30 @@ fn rules_of(alloc: Global, index: Index) -> Result<Vec<Rule>, AllocError>
 {
     let rules = index.of_table(Table::Reward).to_vec(alloc)?;
     Ok(rules)
+}
+
+/// How many elements each index of a reward runs over: in an MDP, where nothing but the end state is
+/// observed, there is one observation.
+#[derive(Clone, Copy)]
+pub struct RewardShape {
+    pub actions: usize,
+    pub states: usize,
+    pub observations: usize,
+}
+
+/// The body of an entry of R: where its numbers begin among those of all entries, and how many places it has.
+/// The fewer places, the more numbers: one, a row of observations, a matrix of end states by observations, or
+/// such a matrix for each start state.
+#[derive(Clone, Copy)]
+pub struct RewardBody {
+    pub start: usize,
+    pub places: usize,
+}
+
+/// An action that is taken in a start state, and ends in an end state.
+#[derive(Clone, Copy)]
+pub(crate) struct Outcome {
+    pub action: usize,
+    pub start: usize,
+    pub end: usize,
 }

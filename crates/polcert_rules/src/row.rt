@@ -1,22 +1,35 @@
 //! A row of T or O by the numbers of its entries, and its single cells above 0.
 ghost use Rattle.std.specs.Prelude.{◌≡◌, ◌+◌, ◌-◌, ◌*◌, ◌<◌, ◌≤◌, ◌↔◌, ◌⊎◌, ◌++◌, ◌^◌, ℕ, List, All};
-ghost use Rattle.std.specs.Prelude.{Contains, IfSome, OnOk, IfOk};
-ghost use Rattle.polcert_rules.specs.declared.rule.Rule.{Rule as R};
-ghost use Rattle.polcert_cells.specs.declared.entry.Entry.{Entry as E};
+ghost use Rattle.std.specs.Prelude.{Contains, IfSome, OnOk, IfOk, Some, length, ◌==◌, slice_index};
+ghost use Rattle.std.specs.Prelude.{if◌then◌else◌};
+ghost use Rattle.polcert_rules.specs.declared.index.Rule.{Rule as R};
+ghost use Rattle.polcert_cells.specs.declared.entries.Entry.{Entry as E};
 ghost use Rattle.polcert_rules.specs.Keys.{key_base};
 ghost use Rattle.polcert_rules.specs.Steps.Newest.{AreKeyed, IsIndexOf, IsRising, IsNewest};
-ghost use Rattle.polcert_rules.specs.Steps.Rows.{HaveColumns, IsSingle, IsColumn, IsCell, columns_of, at_column};
+ghost use Rattle.polcert_rules.specs.Steps.Rows.{HaveColumns, IsSingle, IsColumn, IsCell, columns_of};
+ghost use Rattle.polcert_rules.specs.Steps.Rows.{at_column};
 ghost use Rattle.polcert_rules.specs.Steps.Repeats.{IsWholeNumber};
-ghost use Rattle.polcert_rules.specs.Steps.Zeros.{AreOrdered, IsSplit, IsRowOf, covering_entry};
+ghost use Rattle.polcert_rules.specs.Steps.Zeros.{AreOrdered, IsSplit, IsRowOf, covering_entry, newest_zero};
+ghost use Rattle.polcert_rules.specs.Steps.Zeros.{overrides, shown, shown_under};
+ghost use Rattle.polcert_cells.specs.Elements.{most_elements};
+ghost use Rattle.polcert_rules.specs.Steps.Merging.{given_at, is_newer, newer_cells, merged, before};
+ghost use Rattle.polcert_rules.specs.Steps.Merging.{following};
+ghost use Rattle.polcert_rules.specs.Steps.Sources.{IsNumber, IsColumnOf};
+ghost use Rattle.polcert_cells.specs.declared.elements.Cell.{Cell as C};
+ghost use Rattle.polcert_rules.specs.Steps.Lists.{stored_cells, IsFullLine};
+ghost use Rattle.polcert_cells.specs.Numbers.{one};
+ghost use Rattle.polcert_cells.specs.EntryRefs.{entry_of};
+ghost use Rattle.polcert_rules.specs.Steps.Given.{IsWithin, FitsShape, given};
+ghost use Rattle.polcert_cells.specs.Sparse.{IsRow};
 
-use crate::Rule;
-use crate::build::{keep_newest_of_each, table_digit};
-use crate::keys::{COLUMN, COLUMN_KEYS, MOST_PLACES, first_column};
-use crate::newest::{max_option, span};
-use crate::rule_span::between;
-use crate::split::SplitRules;
-use crate::zeros::{RowZeros, row_zeros};
-use polcert_cells::Table;
+use crate::index::{
+    COLUMN, COLUMN_KEYS, MOST_PLACES, between, first_column, keep_newest_of_each, max_option, span,
+    table_digit,
+};
+use crate::rows::{StoredRow, cells_of};
+use crate::zeros::{RowZeros, SplitRules, row_zeros};
+use crate::{Rule, Shape};
+use polcert_cells::{BodyRef, Cell, Entries, EntryRef, ONE, Table};
 use std::alloc::{AllocError, Global};
 
 /// A row of T or O by the numbers of its entries: that of what covers the whole row, if anything does, those
@@ -125,4 +138,282 @@ fn add_part(cells: &mut Vec<Rule>, part: &[Rule], start: u64) -> Result<(), Allo
         }
     }
     Ok(())
+}
+
+/// Returns the cells of a row that are newer than the entry below them, with their weights.
+pub(crate) fn newer_cells(
+    alloc: Global,
+    entries: &Entries,
+    row: &Row<'_>,
+    columns: usize,
+) -> Result<Vec<Cell>, AllocError>
+    requires few { columns ≤ most_elements }
+    requires cells { All (IsColumnOf columns entries.now) row.now.cells.items }
+    requires ordered { IfSome row.now.zeros AreOrdered }
+    ensures { IfOk result (λ newer. (s : ℕ) →
+        newer.items ≡ newer_cells columns entries.now (covering_entry row.now) s row.now.cells.items) }
+{
+    let mut newer = Vec::new(alloc);
+    for rule in &row.cells {
+        let column = rule.key as usize;
+        if is_newer(row.covering_entry(column), rule.number) {
+            let weight = single_weight(entries, rule.number, columns);
+            newer.push(Cell { column, weight })?;
+        }
+    }
+    Ok(newer)
+}
+
+/// Tests whether a number is greater than that of the entry below it, if there is one.
+pub(crate) fn is_newer(covering_entry: Option<usize>, number: usize) -> bool
+    ensures { result ≡ is_newer covering_entry number }
+{
+    match covering_entry {
+        None => true,
+        Some(covering_entry) => covering_entry < number,
+    }
+}
+
+/// Returns the weight that the entry of this number gives, if it gives one number.
+fn single_weight(entries: &Entries, number: usize, columns: usize) -> u64
+    requires few { columns ≤ most_elements }
+    requires number { IsNumber entries.now number }
+    ensures { (s c : ℕ) → result ≡ given_at columns entries.now (Some number) s c }
+{
+    match entries.at(number).body {
+        BodyRef::Probabilities(numbers) => numbers[0] as u64 * columns as u64,
+        _ => 0,
+    }
+}
+
+/// Returns newer cells over a row, both rising by column: each hides the row's cell in its column, and one of
+/// weight 0 leaves nothing there.
+pub(crate) fn merged(alloc: Global, base: &[Cell], newer: &[Cell]) -> Result<Vec<Cell>, AllocError>
+    ensures { IfOk result (λ cells. cells.items ≡ merged base.now newer.now) }
+{
+    let mut cells = Vec::with_capacity(alloc, base.len() + count_nonzero(newer))?;
+    let mut rest = base;
+    for cell in newer {
+        rest = add_before(&mut cells, rest, cell.column)?;
+        if cell.weight > 0 {
+            cells.push(*cell)?;
+        }
+    }
+    cells.extend_from_slice(rest)?;
+    Ok(cells)
+}
+
+/// Puts the cells before a column after the others, and gives those after it.
+fn add_before<'a>(
+    cells: &mut Vec<Cell>,
+    base: &'a [Cell],
+    column: usize,
+) -> Result<&'a [Cell], AllocError>
+    ensures cells { OnOk result (cells.new.items ≡ cells.old.items ++ before column base.now) }
+    ensures rest { IfOk result (λ rest. rest.now ≡ following column base.now) }
+{
+    for number in 0..base.len() {
+        let cell = base[number];
+        if cell.column == column {
+            return Ok(&base[number + 1..]);
+        }
+        if cell.column > column {
+            return Ok(&base[number..]);
+        }
+        cells.push(cell)?;
+    }
+    Ok(&[])
+}
+
+/// Returns how many of the cells have a weight above 0.
+fn count_nonzero(cells: &[Cell]) -> usize
+    ensures { result ≤ length cells.now }
+{
+    cells.iter().filter(|cell| cell.weight > 0).count()
+}
+
+/// Returns the cells of a row: those of the entry of the whole row that no newer zero hides, below the newer
+/// cells.
+fn row_cells(
+    alloc: Global,
+    row: &Row<'_>,
+    base: &[Cell],
+    newer: &[Cell],
+) -> Result<Vec<Cell>, AllocError>
+    requires columns { All (λ (x : C). x.column + 2 < key_base) base.now }
+    requires ordered { IfSome row.now.zeros AreOrdered }
+    ensures { IfOk result (λ cells.
+        cells.items ≡ merged (shown_under row.now.whole row.now.zeros base.now) newer.now) }
+{
+    match row.zeros {
+        None => Ok(merged(alloc, base, newer)?),
+        Some(zeros) => {
+            let shown = visible_cells(alloc, row.whole, zeros, base)?;
+            Ok(merged(alloc, shown.as_slice(), newer)?)
+        }
+    }
+}
+
+/// Returns the same, if what covers the whole row is kept so.
+pub(crate) fn cells_over(
+    alloc: Global,
+    row: &Row<'_>,
+    base: StoredRow<'_>,
+    newer: &[Cell],
+) -> Result<Vec<Cell>, AllocError>
+    requires columns { All (λ (x : C). x.column + 2 < key_base) (stored_cells base) }
+    requires ordered { IfSome row.now.zeros AreOrdered }
+    ensures { IfOk result (λ cells. cells.items
+        ≡ merged (shown_under row.now.whole row.now.zeros (stored_cells base.entry)) newer.now) }
+{
+    match base {
+        StoredRow::Sparse(cells) => Ok(row_cells(alloc, row, cells, newer)?),
+        StoredRow::Full { numbers, columns } => {
+            let cells = cells_of(alloc, numbers, columns)?;
+            Ok(row_cells(alloc, row, cells.as_slice(), newer)?)
+        }
+    }
+}
+
+/// Returns the cells of the entry of the whole row that no newer zero hides.
+fn visible_cells(
+    alloc: Global,
+    whole: Option<usize>,
+    zeros: RowZeros<'_>,
+    base: &[Cell],
+) -> Result<Vec<Cell>, AllocError>
+    requires columns { All (λ (x : C). x.column + 2 < key_base) base.now }
+    requires ordered { AreOrdered zeros }
+    ensures { IfOk result (λ cells.
+        cells.items ≡ shown (λ c. overrides whole (newest_zero zeros.entry c)) base.now) }
+{
+    let mut shown = Vec::new(alloc);
+    for cell in base {
+        if !overrides(whole, zeros.newest(cell.column)) {
+            shown.push(*cell)?;
+        }
+    }
+    Ok(shown)
+}
+
+/// Tests whether a zero of this number, if there is one, is newer than the entry of the whole row.
+fn overrides(whole: Option<usize>, zero: Option<usize>) -> bool
+    ensures { result ≡ overrides whole zero }
+{
+    match zero {
+        None => false,
+        Some(number) => is_newer(whole, number),
+    }
+}
+
+/// Returns the row of this state that an entry of T or O gives, which covers whole rows.
+pub(crate) fn body_row(
+    alloc: Global,
+    entry: EntryRef<'_>,
+    state: usize,
+    shape: Shape,
+) -> Result<Vec<Cell>, AllocError>
+    requires within { IsWithin shape }
+    requires state { state < shape.states }
+    requires fits { FitsShape shape (entry_of entry) }
+    ensures { IfOk result
+        (λ cells. IsRow shape.columns (given shape.columns (entry_of entry.entry) state) cells.items) }
+{
+    let columns = shape.columns;
+    match entry.body {
+        BodyRef::Probabilities(numbers) => match entry.places.len() {
+            1 => {
+                let line = line_of(numbers, columns, state);
+                Ok(row_of_numbers(alloc, line)?)
+            }
+            2 => Ok(row_of_numbers(alloc, numbers)?),
+            _ => Ok(even_row(alloc, columns, numbers[0] as u64 * columns as u64)?),
+        },
+        BodyRef::Uniform => Ok(even_row(alloc, columns, ONE)?),
+        BodyRef::Identity => Ok(diagonal_row(alloc, columns, state)?),
+        BodyRef::Rewards(_) => Ok(even_row(alloc, columns, 0)?),
+    }
+}
+
+/// Returns the number of each column of the row of this state, in millionths, if an entry of T or O gives so many numbers.
+pub(crate) fn body_line<'a>(entry: EntryRef<'a>, state: usize, shape: Shape) -> Option<&'a [u32]>
+    requires within { IsWithin shape }
+    requires state { state < shape.states }
+    requires fits { FitsShape shape (entry_of entry) }
+    ensures { IfSome result (λ line. IsFullLine shape.columns
+        (given shape.columns (entry_of entry.entry) state) line.now) }
+{
+    match entry.body {
+        BodyRef::Probabilities(numbers) => match entry.places.len() {
+            1 => Some(line_of(numbers, shape.columns, state)),
+            2 => Some(numbers),
+            _ => None,
+        },
+        BodyRef::Uniform | BodyRef::Identity | BodyRef::Rewards(_) => None,
+    }
+}
+
+/// Returns the line of this state in a matrix.
+fn line_of(numbers: &[u32], columns: usize, state: usize) -> &[u32]
+    requires room { state * columns + columns ≤ length numbers.now }
+    requires small { All (λ n. n ≤ one) numbers.now }
+    ensures length { length result.now ≡ columns }
+    ensures small { All (λ n. n ≤ one) result.now }
+    ensures numbers { (c : ℕ) → c < columns
+        → slice_index result.now c ≡ slice_index numbers.now (state * columns + c) }
+{
+    let start = state * columns;
+    &numbers[start..start + columns]
+}
+
+/// Returns the row of a list of numbers in millionths, one for each column.
+fn row_of_numbers(alloc: Global, numbers: &[u32]) -> Result<Vec<Cell>, AllocError>
+    requires few { length numbers.now ≤ most_elements }
+    requires small { All (λ n. n ≤ one) numbers.now }
+    ensures { IfOk result
+        (λ cells. IsRow (length numbers.now) (λ c. slice_index numbers.now c * length numbers.now)
+        cells.items) }
+{
+    let columns = numbers.len();
+    let some = numbers.iter().filter(|number| **number > 0).count();
+    let mut cells = Vec::with_capacity(alloc, some)?;
+    for column in 0..columns {
+        let weight = numbers[column] as u64 * columns as u64;
+        if weight > 0 {
+            cells.push(Cell { column, weight })?;
+        }
+    }
+    Ok(cells)
+}
+
+/// Returns the row with the same weight in each column.
+fn even_row(alloc: Global, columns: usize, weight: u64) -> Result<Vec<Cell>, AllocError>
+    ensures { IfOk result (λ cells. IsRow columns (λ c. weight) cells.items) }
+{
+    if weight == 0 {
+        return Ok(Vec::new(alloc));
+    }
+    let mut cells = Vec::with_capacity(alloc, columns)?;
+    for column in 0..columns {
+        cells.push(Cell { column, weight })?;
+    }
+    Ok(cells)
+}
+
+/// Returns the row of this state of the identity: all of its weight in one column.
+fn diagonal_row(alloc: Global, columns: usize, state: usize) -> Result<Vec<Cell>, AllocError>
+    requires within { columns ≤ most_elements }
+    requires some { 0 < columns }
+    ensures { IfOk result
+        (λ cells. IsRow columns (λ c. if state == c then one * columns else 0) cells.items) }
+{
+    if state >= columns {
+        return Ok(Vec::new(alloc));
+    }
+    let mut cells = Vec::with_capacity(alloc, 1)?;
+    cells.push(Cell {
+        column: state,
+        weight: ONE * columns as u64,
+    })?;
+    Ok(cells)
 }

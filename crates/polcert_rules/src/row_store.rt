@@ -1,27 +1,28 @@
 //! Rows that are kept once for many actions and states.
-ghost use Rattle.std.specs.Prelude.{◌≡◌, ℕ, [], ◌*◌, ◌<◌, ◌≤◌, ◌^◌, ◌↔◌, All, IfOk, OnOk, IfSome, IsTrue, List, length, slice_get, sum, Some};
+ghost use Rattle.std.specs.Prelude.{◌≡◌, ℕ, [], ◌*◌, ◌<◌, ◌≤◌, ◌^◌, ◌↔◌, All, IfOk, OnOk, IfSome, IsTrue};
+ghost use Rattle.std.specs.Prelude.{List, length, slice_get, sum, Some, ◌-◌, ◌++◌, ◌∷◌, slice_index_or};
 ghost use Rattle.polcert_cells.specs.Numbers.{one};
 ghost use Rattle.polcert_cells.specs.Elements.{most_elements};
 ghost use Rattle.polcert_cells.specs.EntryRefs.{entry_of};
 ghost use Rattle.polcert_cells.specs.Meaning.{sum_below};
-ghost use Rattle.polcert_cells.specs.declared.entry.Table.{Table as T};
-ghost use Rattle.polcert_cells.specs.declared.entry.Entry.{Entry as E};
-ghost use Rattle.polcert_rules.specs.declared.shape.Shape.{Shape as S};
+ghost use Rattle.polcert_cells.specs.declared.entries.Table.{Table as T};
+ghost use Rattle.polcert_cells.specs.declared.entries.Entry.{Entry as E};
+ghost use Rattle.polcert_rules.specs.declared.rows.Shape.{Shape as S};
 ghost use Rattle.polcert_rules.specs.Steps.Given.{IsWithin};
 ghost use Rattle.polcert_cells.specs.Sparse.{weight_at, scaled_cells, IsRow, IsSparse};
-ghost use Rattle.polcert_rules.specs.Steps.Lists.{IsFullLine};
+ghost use Rattle.polcert_rules.specs.Steps.Lists.{IsFullLine, part_in};
 ghost use Rattle.polcert_rules.specs.Steps.Merging.{given_at, weight_in};
-ghost use Rattle.polcert_rules.specs.Steps.Sources.{source_of, source_in, IsWhole, IsFrom, AreKept, AreNumbersOf, IsKeptRow, IsShared, IsAfter, IsRowAfter, Stays, AreNear, total};
+ghost use Rattle.polcert_rules.specs.Steps.Sources.{source_of, source_in, IsWhole, IsFrom, AreKept};
+ghost use Rattle.polcert_rules.specs.Steps.Sources.{AreNumbersOf, IsKeptRow, IsShared, IsAfter, IsRowAfter};
+ghost use Rattle.polcert_rules.specs.Steps.Sources.{Stays, AreNear, total};
 
 use crate::Shape;
-use crate::body::{body_line, body_row};
-use crate::row::Row;
-use crate::row_cache::RowCache;
-use crate::single::newer_cells;
-use crate::stored_rows::{StoredRow, StoredRows};
-use crate::visible_cells::cells_over;
-use polcert_cells::{BodyRef, Cell, Entries, EntryRef, ONE, Table};
+use crate::index::in_half;
+use crate::row::{Row, body_line, body_row, cells_over, newer_cells};
+use crate::rows::{StoredRow, StoredRows};
+use polcert_cells::{BodyRef, Cell, Entries, EntryRef, ONE, Place, Table};
 use std::alloc::{AllocError, Global};
+use std::marker::Model;
 
 /// What a row is made of that one entry gives alone.
 #[derive(Clone, Copy)]
@@ -401,4 +402,172 @@ fn row_sum(cells: &[Cell]) -> u64
         sum += cell.weight;
     }
     sum
+}
+
+/// The slot of a row that no entry gives.
+const NOTHING: usize = 0;
+
+/// The slot of a row of `uniform`.
+const EVEN: usize = 1;
+
+/// The slot of the first row of `identity`, which the others follow, one for each state.
+const FIRST_DIAGONAL: usize = 2;
+
+/// A slot for each row that one entry may give alone.
+#[derive(Drop)]
+pub(crate) struct RowCache {
+    /// Of each entry the slot of the first line of its body.
+    starts: Vec<u32>,
+    /// In each slot the place of a row.
+    places: Vec<u32>,
+}
+
+impl RowCache {
+    /// Returns slots for the rows of this table. A row whose slot lies beyond 32 bits is made anew at each use.
+    pub(crate) fn of(
+        alloc: Global,
+        entries: &Entries,
+        table: Table,
+        states: usize,
+    ) -> Result<RowCache, AllocError> {
+        let mut starts = Vec::with_capacity(alloc, entries.len())?;
+        let mut end = states.saturating_add(FIRST_DIAGONAL);
+        for number in 0..entries.len() {
+            starts.push(in_half(end))?;
+            end = end.saturating_add(lines_of(entries.at(number), table, states));
+        }
+        let places = vec![in alloc; 0; in_half(end) as usize]?;
+        Ok(RowCache { starts, places })
+    }
+
+    /// Returns the place of the row that is made of this, if it was noted, and else any place.
+    pub(crate) fn place_of(&self, source: RowOrigin) -> usize {
+        match self.slot_of(source) {
+            Some(slot) => self.places.get(slot).copied().unwrap_or(0) as usize,
+            None => 0,
+        }
+    }
+
+    /// Notes the place of the row that is made of this.
+    pub(crate) fn note(&mut self, source: RowOrigin, place: usize) {
+        if let Some(slot) = self.slot_of(source) {
+            if slot < self.places.len() {
+                self.places[slot] = in_half(place);
+            }
+        }
+    }
+
+    /// Returns the slot of a row of this origin.
+    fn slot_of(&self, source: RowOrigin) -> Option<usize> {
+        match source {
+            RowOrigin::Nothing => Some(NOTHING),
+            RowOrigin::Even => Some(EVEN),
+            RowOrigin::Diagonal { state } => state.checked_add(FIRST_DIAGONAL),
+            RowOrigin::Line { entry, line } => match self.starts.get(entry) {
+                Some(start) => (*start as usize).checked_add(line),
+                None => None,
+            },
+        }
+    }
+}
+
+/// Returns how many rows of this table the numbers of an entry's body give, each its own line.
+fn lines_of(entry: EntryRef<'_>, table: Table, states: usize) -> usize {
+    if entry.table != table {
+        return 0;
+    }
+    match entry.body {
+        BodyRef::Probabilities(_) => match entry.places {
+            [_] => states,
+            [_, _] => 1,
+            [_, _, Place::Every] => 1,
+            _ => 0,
+        },
+        BodyRef::Uniform | BodyRef::Identity | BodyRef::Rewards(_) => 0,
+    }
+}
+
+/// Where a list begins in the list of all items, and where it ends.
+#[derive(Clone, Copy)]
+pub(crate) struct Part {
+    pub start: usize,
+    pub end: usize,
+}
+
+/// Lists of items, kept in one list. Contracts see the lists.
+#[derive(Drop)]
+pub(crate) struct Lists<T: Drop> {
+    parts: Vec<Part>,
+    items: Vec<T>,
+}
+
+impl<T: Drop> Model for Lists<T> {
+    ghost use Rattle.std.specs.Prelude.{List, All, map, length};
+    ghost use Rattle.polcert_rules.specs.Steps.Lists.{part_in, LiesIn};
+
+    ghost Value = { List (List T) };
+
+    ghost view = { λ l. map (part_in l.items.items) l.parts.items };
+
+    ghost invariant = { λ l. All (LiesIn (length l.items.items)) l.parts.items };
+}
+
+impl<T: Drop> Lists<T> {
+    /// Makes no lists.
+    pub(crate) fn new(alloc: Global) -> Lists<T>
+        ensures { result ≡ [] }
+    {
+        Lists {
+            parts: Vec::new(alloc),
+            items: Vec::new(alloc),
+        }
+    }
+
+    /// Returns how many lists there are.
+    pub(crate) fn len(&self) -> usize
+        ensures { result ≡ length self.now }
+    {
+        self.parts.len()
+    }
+
+    /// Returns the list of this number, counted from 0.
+    pub(crate) fn at(&self, number: usize) -> &[T]
+        requires { number < length self.now }
+        ensures { slice_get self.now number ≡ Some result.now }
+    {
+        items_in(self.items.as_slice(), self.parts[number])
+    }
+
+    /// Puts the last list after the others once more.
+    pub(crate) fn repeat_last(&mut self) -> Result<(), AllocError>
+        requires { 0 < length self.old }
+        ensures { OnOk result
+            (self.new ≡ self.old ++ slice_index_or self.old (length self.old - 1) [] ∷ []) }
+    {
+        let last = self.parts[self.parts.len() - 1];
+        self.parts.push(last)?;
+        Ok(())
+    }
+}
+
+impl<T: Copy + Drop> Lists<T> {
+    /// Puts a list after the others.
+    pub(crate) fn push(&mut self, more: &[T]) -> Result<(), AllocError>
+        ensures { OnOk result (self.new ≡ self.old ++ more.now ∷ []) }
+    {
+        let start = self.items.len();
+        self.items.extend_from_slice(more)?;
+        let end = self.items.len();
+        self.parts.push(Part { start, end })?;
+        Ok(())
+    }
+}
+
+/// Returns the items of this part.
+fn items_in<T>(items: &[T], part: Part) -> &[T]
+    requires order { part.start ≤ part.end }
+    requires room { part.end ≤ length items.now }
+    ensures { result.now ≡ part_in items.now part }
+{
+    &items[part.start..part.end]
 }

@@ -1,10 +1,10 @@
 -- What a model is built of.
 use Rattle.std.proofs.Common.{◌≡◌, List, Option, Some, None, is_none, refl, sym, subst}
-use Rattle.polcert_cells.specs.declared.entry.Entry.{Entry}
+use Rattle.polcert_cells.specs.declared.entries.Entry.{Entry}
 use Rattle.std.specs.Option.{ForSome}
 use Rattle.polcert_cells.specs.Elements.{count_of}
 use Rattle.polcert_cells.specs.Preamble.{Preamble, observed, is_mdp}
-use Rattle.polcert_cells.specs.declared.entry.Table.TheVariants.{Transition}
+use Rattle.polcert_cells.specs.declared.entries.Table.TheVariants.{Transition}
 use Rattle.polcert_cells.proofs.Basics.{one_some, some≢none}
 use Rattle.polcert_cells.specs.Steps.Drafts.{Draft}
 use Rattle.polcert_cells.specs.Steps.Sound.{IsSound}

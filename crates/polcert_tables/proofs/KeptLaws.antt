@@ -2,9 +2,9 @@
 use Rattle.std.proofs.Common.{◌≡◌, ◌∙◌, ℕ, zero, suc, ◌*◌, ◌<◌, ◌≤◌, ◌==◌, ◌⊎◌, ⊎_elim, false, cond, List, [], ◌∷◌, ℤ, pos, true, Option, Some, None, is_none, unwrap_or, refl, sym, ap, subst, arith}
 use Rattle.std.specs.Option.{ForSome}
 use Rattle.std.proofs.lemmas.Bool.Decides.{nat_tests}
-use Rattle.polcert_cells.specs.declared.entry.Entry.{Entry}
-use Rattle.polcert_cells.specs.declared.entry.Table.{Table}
-use Rattle.polcert_cells.specs.declared.entry.Table.TheVariants.{Transition, Observation}
+use Rattle.polcert_cells.specs.declared.entries.Entry.{Entry}
+use Rattle.polcert_cells.specs.declared.entries.Table.{Table}
+use Rattle.polcert_cells.specs.declared.entries.Table.TheVariants.{Transition, Observation}
 use Rattle.polcert_cells.specs.Elements.{count_of, most_states, most_actions, most_observations}
 use Rattle.polcert_cells.specs.Preamble.{Preamble, is_mdp, observed, rewarded, columns}
 use Rattle.polcert_cells.specs.Start.{all_states}

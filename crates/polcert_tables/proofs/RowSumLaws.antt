@@ -1,8 +1,8 @@
 -- Row sums: those of all tables, by what is known of each table.
 use Rattle.std.proofs.Common.{◌≡◌, ◌∙◌, ℕ, ◌*◌, ◌<◌, ◌==◌, Bool, true, false, cond, List, [], ◌∷◌, sym, ap, subst}
-use Rattle.polcert_cells.specs.declared.entry.Entry.{Entry}
-use Rattle.polcert_cells.specs.declared.entry.Table.{Table}
-use Rattle.polcert_cells.specs.declared.entry.Table.TheVariants.{Transition, Observation}
+use Rattle.polcert_cells.specs.declared.entries.Entry.{Entry}
+use Rattle.polcert_cells.specs.declared.entries.Table.{Table}
+use Rattle.polcert_cells.specs.declared.entries.Table.TheVariants.{Transition, Observation}
 use Rattle.polcert_cells.specs.Numbers.{one}
 use Rattle.polcert_cells.specs.Elements.{count_of}
 use Rattle.polcert_cells.specs.Preamble.{Preamble, is_mdp, observed}
@@ -10,7 +10,7 @@ use Rattle.polcert_cells.specs.Cells.{weight}
 use Rattle.polcert_cells.specs.Meaning.{HasProperRows, states_of, observations_of, sum_below}
 use Rattle.polcert_cells.specs.Rows.{IsFirstWrongRow}
 use Rattle.polcert_cells.specs.Steps.Drafts as drafts
-use Rattle.polcert_rules.specs.declared.wrong_row.WrongRow.{WrongRow}
+use Rattle.polcert_rules.specs.declared.rows.WrongRow.{WrongRow}
 use Rattle.polcert_rules.specs.RowTables.{AreProperRows, IsFirstWrong}
 use Rattle.polcert_rules.proofs.RowLaws.SumLaws.{sum_same}
 use Rattle.polcert_tables.specs.Kept.{Kept, meaning}

@@ -1,6 +1,6 @@
 -- What a model keeps of its text, and what that means: the preamble, the start, and the cells as sparse rows and as rules.
 use Rattle.std.specs.Prelude.{ℕ, ◌*◌, ◌==◌, if◌then◌else◌, Option, Some, None, unwrap_or}
-use Rattle.polcert_cells.specs.declared.start_weights.StartWeights.{StartWeights}
+use Rattle.polcert_cells.specs.declared.elements.StartWeights.{StartWeights}
 use Rattle.polcert_cells.specs.Elements.{count_of}
 use Rattle.polcert_cells.specs.Numbers.{one}
 use Rattle.polcert_cells.specs.Preamble.{Preamble}

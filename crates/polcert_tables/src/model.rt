@@ -6,7 +6,7 @@ ghost use Rattle.polcert_cells.specs.BorrowedRows.{IsRowOf};
 ghost use Rattle.polcert_cells.specs.Rows.{IsWeighted, IsFirstWrongRow};
 ghost use Rattle.polcert_cells.specs.Elements.{most_states, most_actions, most_observations, most_elements, count_of};
 ghost use Rattle.polcert_cells.specs.Elements.{name_of};
-ghost use Rattle.polcert_cells.specs.declared.entry.Table.TheVariants.{Transition, Observation};
+ghost use Rattle.polcert_cells.specs.declared.entries.Table.TheVariants.{Transition, Observation};
 ghost use Rattle.polcert_cells.specs.Preamble.{Preamble as P, is_mdp, rewarded, columns as columns_in};
 ghost use Rattle.polcert_cells.specs.Meaning.{IsCount, reward_index, states_of, actions_of, observations_of};
 ghost use Rattle.polcert_cells.specs.Meaning.{t_scale, o_scale, start_weight, start_total, elements_of};

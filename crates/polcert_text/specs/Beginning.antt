@@ -6,8 +6,8 @@ use Rattle.polcert_text.specs.Cut.{Lexeme, Rest}
 use Rattle.polcert_text.specs.Numbers.{IsReadable, IsExact}
 use Rattle.polcert_text.specs.Stream.{Stream, skip}
 use Rattle.polcert_text.specs.TakenTokens.{Taken}
-use Rattle.polcert_text.specs.declared.lexeme.TokenKind.{TokenKind}
-use Rattle.polcert_text.specs.declared.lexeme.TokenKind.TheVariants.{Numeral, Plus, Minus}
+use Rattle.polcert_text.specs.declared.tokens.TokenKind.{TokenKind}
+use Rattle.polcert_text.specs.declared.tokens.TokenKind.TheVariants.{Numeral, Plus, Minus}
 use Rattle.polcert_text.specs.declared.tokens.TokenFault.{TokenFault}
 use Rattle.polcert_text.specs.declared.front_tokens.FrontDigits.{FrontDigits}
 use Rattle.polcert_text.specs.declared.front_tokens.FrontNumber.{FrontNumber}

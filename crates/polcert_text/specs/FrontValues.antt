@@ -3,8 +3,8 @@ use Rattle.std.specs.Prelude.{◌≡◌, ℕ, Bool, true, false, Option, Some, N
 use Rattle.polcert_text.specs.Beginning.{BeginWith}
 use Rattle.polcert_text.specs.Cut.{Lexeme}
 use Rattle.polcert_text.specs.Numbers.{IsReadable, IsRounded}
-use Rattle.polcert_text.specs.declared.front_values.FrontValue.{FrontValue}
-use Rattle.polcert_text.specs.declared.lexeme.TokenKind.TheVariants.{Numeral, Minus}
+use Rattle.polcert_text.specs.declared.front_tokens.FrontValue.{FrontValue}
+use Rattle.polcert_text.specs.declared.tokens.TokenKind.TheVariants.{Numeral, Minus}
 use Rattle.polcert_text.specs.declared.number.Rounding.{Rounding}
 
 abbrev pub with_minus : Option Lexeme → Lexeme → List Lexeme

@@ -3,7 +3,7 @@
 use Rattle.std.specs.Prelude.{◌≡◌, ℕ, ◌<◌, ◌≤◌, true, false, Some, None, List, length, take}
 use Rattle.polcert_text.specs.Lexemes.{kind_of}
 use Rattle.polcert_text.specs.Gaps.{is_gap}
-use Rattle.polcert_text.specs.declared.lexeme.TokenKind.{TokenKind}
+use Rattle.polcert_text.specs.declared.tokens.TokenKind.{TokenKind}
 
 -- the first n bytes are a gap, and no longer front is one
 pub record IsLongestGap (bytes : List ℕ) (n : ℕ) : Type 0 where

@@ -1,17 +1,25 @@
 //! The value of a numeral.
-ghost use Rattle.std.specs.Prelude.{◌≡◌, ◌+◌, ◌-◌, ◌*◌, ◌^◌, length, take, drop, if◌then◌else◌, ◌<◌, ◌≤◌, ◌++◌, ◌∷◌, [], ℕ, List, MatchResult, IfOk, IfErr, IfSome, min, get_or, true, false};
+ghost use Rattle.std.specs.Prelude.{◌≡◌, ◌+◌, ◌-◌, ◌*◌, ◌^◌, length, take, drop, if◌then◌else◌, ◌<◌, ◌≤◌};
+ghost use Rattle.std.specs.Prelude.{◌++◌, ◌∷◌, [], ℕ, List, MatchResult, IfOk, IfErr, IfSome, min, get_or};
+ghost use Rattle.std.specs.Prelude.{true, false, MatchOption};
 ghost use Rattle.std.specs.List.{list_all, list_any, before_first, after_first};
 ghost use Rattle.std.specs.Str.Parse.{digits_value};
 ghost use Rattle.polcert_text.specs.Bytes.{is_digit};
 ghost use Rattle.polcert_text.specs.Steps.Classes.{class_of};
 ghost use Rattle.polcert_text.specs.declared.bytes.ByteClass.{ByteClass};
-ghost use Rattle.polcert_text.specs.Lexemes.{without_sign, is_numeral};
-ghost use Rattle.polcert_text.specs.Numbers.{whole_of, fraction_of, exponent_of, is_lowering, largest, signed, IsExact, IsFloor, IsCeil, IsRounded, IsReadable, IsRefused, IsRefusedExactly};
-ghost use Rattle.polcert_text.specs.Steps.Scaling.{separates, cap, is_nonzero, IsScaled, Measures, ceiling, rounded, is_away};
+ghost use Rattle.polcert_text.specs.Lexemes.{without_sign, is_numeral, are_digits};
+ghost use Rattle.polcert_text.specs.Numbers.{whole_of, fraction_of, exponent_of, is_lowering, largest};
+ghost use Rattle.polcert_text.specs.Numbers.{signed, IsExact, IsFloor, IsCeil, IsRounded, IsReadable};
+ghost use Rattle.polcert_text.specs.Numbers.{IsRefused, IsRefusedExactly};
+ghost use Rattle.polcert_text.specs.Steps.Scaling.{separates, cap, is_nonzero, IsScaled, Measures, ceiling};
+ghost use Rattle.polcert_text.specs.Steps.Scaling.{rounded, is_away};
+ghost use Rattle.polcert_text.specs.Millionths.{decimals, fraction_text, unsigned_text, scaled_text};
 
 use crate::bytes::{class_of, quick_is_digit, quick_is_point};
-use crate::lexeme::State;
-use crate::whole_numbers::{all_digits, number_up_to};
+use crate::tokens::State;
+use crate::{Sink, SinkFailed, write_all};
+use itoa::Buffer;
+use std::marker::Model;
 use thiserror::Error;
 
 /// Why a numeral has no value here: the first of these that holds.
@@ -511,4 +519,198 @@ fn kept_digits(whole: usize, is_lowering: bool, exponent: usize) -> usize
     } else {
         whole + 6 + exponent
     }
+}
+
+#[inline(always)]
+#[tactic(auto, unfolding(crate::specs::Bytes::is_digit))]
+fn is_digit(byte: u8) -> bool
+    ensures { result ≡ is_digit byte }
+{
+    matches!(byte, b'0'..=b'9')
+}
+
+#[inline(always)]
+pub fn all_digits(bytes: &[u8]) -> bool
+    ensures { result ≡ list_all is_digit bytes.now }
+{
+    bytes.iter().all(|byte| is_digit(*byte))
+}
+
+#[inline(always)]
+fn are_digits(bytes: &[u8]) -> bool
+    ensures { result ≡ are_digits bytes.now }
+{
+    match bytes {
+        [] => false,
+        _ => all_digits(bytes),
+    }
+}
+
+/// Returns the number that the digits spell, at most `most`.
+#[inline(always)]
+pub fn number_up_to(most: usize, digits: &[u8]) -> usize
+    requires digits { list_all is_digit digits.now ≡ true }
+    requires some { 0 < most }
+    requires small { most < 2 ^ 60 }
+    ensures { result ≡ min most (digits_value 10 digits.now) }
+{
+    let mut number: usize = 0;
+    for digit in digits {
+        number = (number * 10 + (*digit - b'0') as usize).min(most);
+    }
+    number
+}
+
+/// Longer numbers are rare, and read the general way.
+const LONGEST_SHORT: usize = 9;
+
+/// Returns the number that a few digits spell. `None`: unknown, take the slow path.
+#[inline(always)]
+fn short_number(bytes: &[u8]) -> Option<usize>
+    ensures digits { IfSome result (λ _. are_digits bytes.now ≡ true) }
+    ensures value { IfSome result (λ n. n ≡ digits_value 10 bytes.now) }
+{
+    if bytes.len() > LONGEST_SHORT {
+        return None;
+    }
+    let (number, end) = digits_after(0, bytes, 0, bytes.len());
+    if end == 0 || end < bytes.len() {
+        return None;
+    }
+    Some(number as usize)
+}
+
+/// Returns the number that the bytes spell, at most `most`, if they are digits only.
+#[inline(always)]
+pub fn whole_number(most: usize, bytes: &[u8]) -> Option<usize>
+    requires some { 0 < most }
+    requires small { most < 2 ^ 60 }
+    ensures { MatchOption result (are_digits bytes.now ≡ false)
+        (λ n. (are_digits bytes.now ≡ true) × (n ≡ min most (digits_value 10 bytes.now))) }
+{
+    match short_number(bytes) {
+        Some(number) => Some(number.min(most)),
+        None => any_number(most, bytes),
+    }
+}
+
+/// Returns the same as `whole_number`, for however many digits.
+#[inline(never)]
+fn any_number(most: usize, bytes: &[u8]) -> Option<usize>
+    requires some { 0 < most }
+    requires small { most < 2 ^ 60 }
+    ensures { MatchOption result (are_digits bytes.now ≡ false)
+        (λ n. (are_digits bytes.now ≡ true) × (n ≡ min most (digits_value 10 bytes.now))) }
+{
+    if are_digits(bytes) {
+        Some(number_up_to(most, bytes))
+    } else {
+        None
+    }
+}
+
+/// The text of a number of millionths.
+#[derive(Drop)]
+struct ScaledText {
+    bytes: [u8; 24],
+    len: usize,
+}
+
+impl Model for ScaledText {
+    ghost use Rattle.std.specs.Prelude.{List, ℕ, take, ◌≤◌};
+
+    ghost Value = { List ℕ };
+
+    ghost view = { λ t. take t.len t.bytes };
+
+    ghost invariant = { λ t. t.len ≤ 24 };
+}
+
+impl ScaledText {
+    fn of(scaled: i64) -> ScaledText
+        ensures { result ≡ scaled_text scaled }
+    {
+        let mut text = ScaledText {
+            bytes: [0; 24],
+            len: 0,
+        };
+        if scaled < 0 {
+            text.push(b'-');
+        }
+        text.push_unsigned(scaled.unsigned_abs());
+        text
+    }
+
+    fn as_bytes(&self) -> &[u8]
+        ensures { result.now ≡ self.now }
+    {
+        &self.bytes[..self.len]
+    }
+
+    fn push(&mut self, byte: u8)
+        requires { length self.old < 24 }
+        ensures { self.new ≡ self.old ++ byte ∷ [] }
+    {
+        self.bytes[self.len] = byte;
+        self.len += 1;
+    }
+
+    fn push_all(&mut self, bytes: &[u8])
+        requires { length self.old + length bytes.now ≤ 24 }
+        ensures { self.new ≡ self.old ++ bytes.now }
+    {
+        for byte in bytes {
+            self.push(*byte);
+        }
+    }
+
+    fn push_unsigned(&mut self, size: u64)
+        requires { length self.old ≤ 1 }
+        ensures { self.new ≡ self.old ++ unsigned_text size }
+    {
+        let mut buffer = Buffer::new();
+        self.push_all(buffer.format(size / 1_000_000).as_bytes());
+        self.push_fraction(size % 1_000_000);
+    }
+
+    fn push_fraction(&mut self, rest: u64)
+        requires room { length self.old ≤ 17 }
+        requires rest { rest < 1_000_000 }
+        ensures { self.new ≡ self.old ++ fraction_text rest }
+    {
+        if rest > 0 {
+            self.push(b'.');
+            self.push_decimals(rest);
+        }
+    }
+
+    fn push_decimals(&mut self, rest: u64)
+        requires room { length self.old ≤ 18 }
+        requires rest { rest < 1_000_000 }
+        ensures { self.new ≡ self.old ++ decimals 6 rest }
+    {
+        let mut rest = rest;
+        let mut places = 6u32;
+        while rest > 0 {
+            places -= 1;
+            let unit = 10u64.pow(places);
+            self.push(b'0' + (rest / unit) as u8);
+            rest %= unit;
+        }
+    }
+}
+
+ghost use Rattle.polcert_text.specs.Numbers.{Denotes};
+ghost use Rattle.polcert_text.specs.Sink.{WritesText};
+
+/// Writes a number of millionths: a `-` if it is negative, the whole part, and after a point the decimals without
+/// trailing zeros, if one is left.
+pub fn write_scaled<W: Sink>(scaled: i64, out: &mut W) -> Result<(), SinkFailed>
+    ensures written { WritesText W.writes W.failures out.old (scaled_text scaled) result out.new }
+
+    // Read as a sign and a numeral, the text denotes just this number.
+    ensures exact { Denotes (scaled_text scaled) scaled }
+{
+    let text = ScaledText::of(scaled);
+    write_all(out, text.as_bytes())
 }

@@ -1,9 +1,14 @@
 //! Sources, and how one is read whole.
-ghost use Rattle.std.specs.Prelude.{◌≡◌, ◌≢◌, ◌+◌, ◌-◌, ◌^◌, ◌<◌, ◌≤◌, ℕ, List, Option, length, IfOk, IsErrOf};
+ghost use Rattle.std.specs.Prelude.{◌≡◌, ◌≢◌, ◌+◌, ◌-◌, ◌^◌, ◌<◌, ◌≤◌, ℕ, List, Option, length, IfOk};
+ghost use Rattle.std.specs.Prelude.{IsErrOf, take};
 ghost use Rattle.polcert_text.specs.Device.{HasFailed, CountsFailures, moved};
 ghost use Rattle.polcert_text.specs.Source.{Gives, GivesThenFails, IsText};
+ghost use Rattle.polcert_text.specs.Memory.{ReadsSlice, WritesSlice};
+ghost use Rattle.polcert_text.specs.Known.{ReadsKnown, WritesKnown};
 
+use crate::{Sink, SinkFailed};
 use std::alloc::Global;
+use std::io::{Read, Write};
 use thiserror::Error;
 
 /// A read failed.
@@ -87,4 +92,175 @@ pub fn read_all<S: Source>(alloc: Global, source: &mut S, limit: u64) -> Result<
         }
     }
     Ok(bytes)
+}
+
+/// A slice to read. It never fails.
+#[derive(Drop)]
+pub struct SliceSource<'a> {
+    pub rest: &'a [u8],
+}
+
+impl<'a> SliceSource<'a> {
+    pub fn new(bytes: &'a [u8]) -> SliceSource<'a>
+        ensures { result.rest.now ≡ bytes.entry.now }
+    {
+        SliceSource { rest: bytes }
+    }
+}
+
+impl Source for SliceSource<'_> {
+    ghost failures = { λ _. 0 };
+
+    ghost reads = { λ s room answer t. ReadsSlice s.rest.now room answer t.rest.now };
+
+    fn read(&mut self, piece: &mut [u8]) -> Result<usize, SourceFailed> {
+        let count = self.rest.len().min(piece.len());
+        let (front, rest) = self.rest.split_at(count);
+        piece[..count].copy_from_slice(front);
+        self.rest = rest;
+        Ok(count)
+    }
+}
+
+/// A slice to write. A write fails where it is full.
+#[derive(Drop)]
+pub struct SliceSink<'a> {
+    pub buffer: &'a mut [u8],
+    pub len: usize,
+    failures: u64,
+    ghost in_range: { len ≤ length buffer.now },
+}
+
+impl<'a> SliceSink<'a> {
+    pub fn new(buffer: &'a mut [u8]) -> SliceSink<'a>
+        ensures len { result.len ≡ 0 }
+        ensures failures { result.failures ≡ 0 }
+        ensures same_bytes { result.buffer.now ≡ buffer.entry.now }
+        ensures same_reference { result.buffer.ghost_name ≡ buffer.entry.ghost_name }
+    {
+        SliceSink {
+            buffer,
+            len: 0,
+            failures: 0,
+        }
+    }
+}
+
+impl SliceSink<'_> {
+    /// Returns the bytes that were written so far.
+    pub fn written(&self) -> &[u8]
+        ensures { result.now ≡ take self.now.len self.now.buffer.now }
+    {
+        &self.buffer[..self.len]
+    }
+
+    /// Returns how many writes have failed, at most `u64::MAX`.
+    pub fn failures(&self) -> u64
+        ensures { result ≡ self.now.failures }
+    {
+        self.failures
+    }
+}
+
+impl Sink for SliceSink<'_> {
+    ghost failures = { λ s. s.failures };
+
+    // After the same reference, so that who lent the slice knows what it holds.
+    ghost writes = { λ s answer t. WritesSlice s.buffer.now s.len answer t.buffer.now t.len
+        × (t.buffer.ghost_name ≡ s.buffer.ghost_name) };
+
+    fn write(&mut self, piece: &[u8]) -> Result<usize, SinkFailed> {
+        let count = piece.len().min(self.buffer.len() - self.len);
+        if count == 0 && !piece.is_empty() {
+            self.failures = self.failures.saturating_add(1);
+            return Err(SinkFailed);
+        }
+        self.buffer[self.len..self.len + count].copy_from_slice(&piece[..count]);
+        self.len += count;
+        Ok(count)
+    }
+}
+
+/// A source over a reader of std.
+#[derive(Drop)]
+pub struct ReaderSource<R> {
+    pub reader: R,
+    failures: u64,
+}
+
+impl<R> ReaderSource<R> {
+    pub fn new(reader: R) -> ReaderSource<R>
+        ensures reader { result.reader ≡ reader }
+        ensures failures { result.failures ≡ 0 }
+    {
+        ReaderSource {
+            reader,
+            failures: 0,
+        }
+    }
+
+    /// Returns how many reads have failed, at most `u64::MAX`.
+    pub fn failures(&self) -> u64
+        ensures { result ≡ self.now.failures }
+    {
+        self.failures
+    }
+}
+
+impl<R: Read> Source for ReaderSource<R> {
+    ghost failures = { λ s. s.failures };
+
+    ghost reads = { λ s room answer t. ReadsKnown (R.remaining s.reader) room answer (R.remaining t.reader) };
+
+    fn read(&mut self, piece: &mut [u8]) -> Result<usize, SourceFailed> {
+        match self.reader.read(piece) {
+            Ok(count) => Ok(count),
+            Err(_) => {
+                self.failures = self.failures.saturating_add(1);
+                Err(SourceFailed)
+            }
+        }
+    }
+}
+
+/// A sink over a writer of std.
+#[derive(Drop)]
+pub struct WriterSink<W> {
+    pub writer: W,
+    failures: u64,
+}
+
+impl<W> WriterSink<W> {
+    pub fn new(writer: W) -> WriterSink<W>
+        ensures writer { result.writer ≡ writer }
+        ensures failures { result.failures ≡ 0 }
+    {
+        WriterSink {
+            writer,
+            failures: 0,
+        }
+    }
+
+    /// Returns how many writes have failed, at most `u64::MAX`.
+    pub fn failures(&self) -> u64
+        ensures { result ≡ self.now.failures }
+    {
+        self.failures
+    }
+}
+
+impl<W: Write> Sink for WriterSink<W> {
+    ghost failures = { λ s. s.failures };
+
+    ghost writes = { λ s answer t. WritesKnown (W.contents s.writer) answer (W.contents t.writer) };
+
+    fn write(&mut self, piece: &[u8]) -> Result<usize, SinkFailed> {
+        match self.writer.write(piece) {
+            Ok(count) if count > 0 || piece.is_empty() => Ok(count),
+            _ => {
+                self.failures = self.failures.saturating_add(1);
+                Err(SinkFailed)
+            }
+        }
+    }
 }

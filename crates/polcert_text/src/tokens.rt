@@ -1,8 +1,16 @@
 //! The tokens of a text, one after another.
-ghost use Rattle.std.specs.Prelude.{◌≡◌, ◌+◌, ◌<◌, ◌≤◌, ◌^◌, ◌++◌, ℕ, List, length, Option, MatchResult};
+ghost use Rattle.std.specs.Prelude.{◌≡◌, ◌+◌, ◌<◌, ◌≤◌, ◌^◌, ◌++◌, ℕ, List, length, Option, MatchResult, ◌∷◌};
+ghost use Rattle.std.specs.Prelude.{[], take, slice_index, true, false, ◌⊎◌, IfSome, IsTrue};
+ghost use Rattle.polcert_text.specs.Fronts.{IsLongestGap, IsLongestLexeme};
+ghost use Rattle.polcert_text.specs.Steps.Scan.{gap_after, gap_through, state_after, state_through, kind_at};
+ghost use Rattle.polcert_text.specs.Steps.Scan.{is_numeral_kind};
+ghost use Rattle.polcert_text.specs.Steps.Classes.{class_of};
 
-use crate::bytes::quick_is_blank;
-use crate::lexeme::{LONGEST_TOKEN, LexemePrefix, TokenKind, gap_len, longest_lexeme};
+use crate::bytes::{
+    ByteClass, class_of, quick_ends_gap, quick_is_blank, quick_is_colon, quick_is_digit,
+    quick_is_letter, quick_is_point,
+};
+use memchr::memchr;
 use std::marker::Model;
 use thiserror::Error;
 
@@ -194,4 +202,510 @@ fn is_glue(byte: u8) -> bool
     ensures { result ≡ is_glue byte }
 {
     byte.is_ascii_alphabetic() || byte == b'_' || byte == b'.'
+}
+
+#[derive(Clone, Copy, Debug, PartialEq, Eq)]
+pub enum TokenKind {
+    Name,
+    Numeral,
+    Colon,
+    Star,
+    Plus,
+    Minus,
+}
+
+/// Where the bytes so far stand between two lexemes.
+#[derive(Clone, Copy, Debug, PartialEq, Eq)]
+pub enum Gap {
+    Between,
+    Comment,
+    Ended,
+}
+
+impl Gap {
+    #[inline(always)]
+    pub fn after(self, class: ByteClass) -> Gap
+        ensures { result ≡ gap_after self class }
+    {
+        match self {
+            Gap::Between => match class {
+                ByteClass::Blank | ByteClass::LineEnd => Gap::Between,
+                ByteClass::Hash => Gap::Comment,
+                _ => Gap::Ended,
+            },
+            Gap::Comment => match class {
+                ByteClass::LineEnd => Gap::Between,
+                _ => Gap::Comment,
+            },
+            Gap::Ended => Gap::Ended,
+        }
+    }
+}
+
+/// Where the bytes so far stand in a lexeme.
+#[derive(Clone, Copy, Debug, PartialEq, Eq)]
+pub enum State {
+    Start,
+    Name,
+    Whole,
+    Point,
+    Fraction,
+    Mark,
+    Sign,
+    Exponent,
+    Single(TokenKind),
+    Stuck,
+}
+
+impl State {
+    /// Returns the state after the first byte.
+    #[inline(always)]
+    fn first(class: ByteClass) -> State
+        ensures { result ≡ state_after State.Start class }
+    {
+        match class {
+            ByteClass::Letter | ByteClass::ExponentMark => State::Name,
+            ByteClass::Digit => State::Whole,
+            ByteClass::Point => State::Point,
+            ByteClass::Colon => State::Single(TokenKind::Colon),
+            ByteClass::Star => State::Single(TokenKind::Star),
+            ByteClass::Plus => State::Single(TokenKind::Plus),
+            ByteClass::Minus => State::Single(TokenKind::Minus),
+            _ => State::Stuck,
+        }
+    }
+
+    /// Returns the state after one more byte.
+    #[inline(always)]
+    pub fn after(self, class: ByteClass) -> State
+        ensures { result ≡ state_after self class }
+    {
+        match self {
+            State::Start => State::first(class),
+            State::Name => match class {
+                ByteClass::Letter
+                | ByteClass::ExponentMark
+                | ByteClass::Digit
+                | ByteClass::Underscore
+                | ByteClass::Minus => State::Name,
+                _ => State::Stuck,
+            },
+            State::Whole => match class {
+                ByteClass::Digit => State::Whole,
+                ByteClass::Point => State::Fraction,
+                ByteClass::ExponentMark => State::Mark,
+                _ => State::Stuck,
+            },
+            State::Point => match class {
+                ByteClass::Digit => State::Fraction,
+                _ => State::Stuck,
+            },
+            State::Fraction => match class {
+                ByteClass::Digit => State::Fraction,
+                ByteClass::ExponentMark => State::Mark,
+                _ => State::Stuck,
+            },
+            State::Mark => match class {
+                ByteClass::Plus | ByteClass::Minus => State::Sign,
+                ByteClass::Digit => State::Exponent,
+                _ => State::Stuck,
+            },
+            State::Sign | State::Exponent => match class {
+                ByteClass::Digit => State::Exponent,
+                _ => State::Stuck,
+            },
+            State::Single(_) | State::Stuck => State::Stuck,
+        }
+    }
+
+    /// Tests whether the bytes so far are a numeral.
+    #[inline(always)]
+    pub fn is_numeral(self) -> bool
+        ensures { result ≡ is_numeral_kind (kind_at self) }
+    {
+        match self {
+            State::Whole | State::Fraction | State::Exponent => true,
+            State::Single(kind) => matches!(kind, TokenKind::Numeral),
+            _ => false,
+        }
+    }
+
+    #[inline(always)]
+    pub fn kind(self) -> Option<TokenKind>
+        ensures { result ≡ kind_at self }
+    {
+        match self {
+            State::Name => Some(TokenKind::Name),
+            State::Whole | State::Fraction | State::Exponent => Some(TokenKind::Numeral),
+            State::Single(kind) => Some(kind),
+            _ => None,
+        }
+    }
+}
+
+/// Returns how long the gap at the front of the bytes is.
+#[inline(always)]
+pub fn gap_len(bytes: &[u8]) -> usize
+    ensures { IsLongestGap bytes.now result }
+{
+    let (len, _) = gap_prefix(Gap::Between, bytes);
+    len
+}
+
+/// Returns how many bytes continue the gap, and the state of the gap after them.
+#[inline(always)]
+pub fn gap_prefix(gap: Gap, bytes: &[u8]) -> (usize, Gap)
+    requires { gap ≡ Gap.Ended → ⊥ }
+    ensures within { result.0 ≤ length bytes.now }
+    ensures state { gap_through gap (take result.0 bytes.now) ≡ result.1 }
+    ensures open { result.1 ≡ Gap.Ended → ⊥ }
+    ensures stops { result.0 < length bytes.now
+        → gap_after result.1 (class_of (slice_index bytes.now result.0)) ≡ Gap.Ended }
+{
+    let mut gap = gap;
+    let mut at: usize = 0;
+    while at < bytes.len() {
+        if let Gap::Comment = gap {
+            let (count, next) = seen_comment(&bytes[at..]);
+            at += count;
+            gap = next;
+            continue;
+        }
+        if quick_is_blank(bytes[at]) {
+            at += 1;
+            continue;
+        }
+        if quick_ends_gap(bytes[at]) {
+            return (at, gap);
+        }
+        match gap.after(class_of(bytes[at])) {
+            Gap::Ended => return (at, gap),
+            next => gap = next,
+        }
+        at += 1;
+    }
+    (bytes.len(), gap)
+}
+
+/// Returns how many bytes continue a comment, up to and with the end of its line, and the state of the gap
+/// after them.
+#[inline(never)]
+fn seen_comment(bytes: &[u8]) -> (usize, Gap)
+    requires { 0 < length bytes.now }
+    ensures within { (0 < result.0) × (result.0 ≤ length bytes.now) }
+    ensures state { gap_through Gap.Comment (take result.0 bytes.now) ≡ result.1 }
+    ensures open { result.1 ≡ Gap.Ended → ⊥ }
+{
+    match memchr(b'\n', bytes) {
+        Some(line) => (line + 1, Gap::Between),
+        None => (bytes.len(), Gap::Comment),
+    }
+}
+
+/// The lexeme at the front of some bytes: its kind, and how long it is.
+#[derive(Clone, Copy, Debug, PartialEq, Eq)]
+pub struct LexemePrefix {
+    pub kind: TokenKind,
+    pub len: usize,
+}
+
+/// The number of bytes that a token may have.
+pub const LONGEST_TOKEN: usize = 400;
+
+/// A lexeme read byte by byte: how far it has come, and the longest so far.
+#[derive(Clone, Copy)]
+pub struct LexemeScan {
+    state: State,
+    len: usize,
+    longest: Option<LexemePrefix>,
+}
+
+impl LexemeScan {
+    ghost use Rattle.polcert_text.specs.Steps.ScanOf.{IsScanOf, is_over, is_stuck, front_len, scan_at};
+
+    #[tactic(auto, unfolding(crate::specs::Lexemes::kind_of))]
+    pub fn new() -> LexemeScan
+        ensures { IsScanOf [] result }
+    {
+        LexemeScan {
+            state: State::Start,
+            len: 0,
+            longest: None,
+        }
+    }
+
+    /// Returns the scan after one more byte.
+    #[inline(always)]
+    pub fn with_byte(self, byte: u8) -> LexemeScan
+        requires { self.len < usize.MAX }
+        ensures scan { (read : List ℕ) → IsScanOf read self → IsScanOf (read ++ byte ∷ []) result }
+        ensures len { result.len ≡ self.len + 1 }
+    {
+        let state = self.state.after(class_of(byte));
+        let len = self.len + 1;
+        let longest = match state.kind() {
+            Some(kind) => Some(LexemePrefix { kind, len }),
+            None => self.longest,
+        };
+        LexemeScan {
+            state,
+            len,
+            longest,
+        }
+    }
+
+    /// Tests whether no lexeme continues, whatever bytes follow.
+    #[inline(always)]
+    pub fn is_stuck(self) -> bool
+        ensures { result ≡ is_stuck self.state }
+    {
+        matches!(self.state, State::Stuck)
+    }
+
+    /// Continues over bytes of which it was fed a front, up to the last or one that no lexeme continues with.
+    #[inline(always)]
+    pub fn through(self, bytes: &[u8]) -> LexemeScan
+        requires with_byte { IsScanOf (take self.len bytes.now) self }
+        ensures with_byte { IsScanOf (take result.len bytes.now) result }
+        ensures all { is_stuck result.state ≡ false → result.len ≡ length bytes.now }
+    {
+        let mut scan = self;
+        while scan.len < bytes.len() {
+            if scan.is_stuck() {
+                return scan;
+            }
+            scan = scan.with_byte(bytes[scan.len]).along(bytes);
+        }
+        scan
+    }
+
+    /// Continues over the digits, or the rest of a name, that it stands in.
+    #[inline(always)]
+    fn along(self, bytes: &[u8]) -> LexemeScan
+        requires with_byte { IsScanOf (take self.len bytes.now) self }
+        ensures with_byte { IsScanOf (take result.len bytes.now) result }
+        ensures on { self.len ≤ result.len }
+    {
+        match self.state {
+            State::Name => {
+                LexemeScan::whole(State::Name, TokenKind::Name, name_end(bytes, self.len))
+            }
+            State::Whole => {
+                LexemeScan::whole(
+                    State::Whole,
+                    TokenKind::Numeral,
+                    digits_end(bytes, self.len),
+                )
+            }
+            State::Fraction => {
+                LexemeScan::whole(
+                    State::Fraction,
+                    TokenKind::Numeral,
+                    digits_end(bytes, self.len),
+                )
+            }
+            _ => self,
+        }
+    }
+
+    /// Makes a scan whose bytes so far are one whole lexeme.
+    #[inline(always)]
+    fn whole(state: State, kind: TokenKind, len: usize) -> LexemeScan
+        ensures { result ≡ scan_at state kind len }
+    {
+        LexemeScan {
+            state,
+            len,
+            longest: Some(LexemePrefix { kind, len }),
+        }
+    }
+
+    /// Returns the longest lexeme at the front of the scanned bytes.
+    pub fn longest(self) -> Option<LexemePrefix>
+        ensures { result ≡ self.longest }
+    {
+        self.longest
+    }
+
+    /// Tests whether no byte that follows changes the lexeme: nothing prolongs it, or it is too long already.
+    pub fn is_known(self) -> bool
+        ensures known { result ≡ true → (is_over self.state ≡ true) ⊎ (400 < front_len self.longest) }
+        ensures not_known { result ≡ false → (is_over self.state ≡ false) × (front_len self.longest ≤ 400) }
+    {
+        if matches!(self.state, State::Single(_) | State::Stuck) {
+            return true;
+        }
+        match self.longest {
+            Some(front) => front.len > LONGEST_TOKEN,
+            None => false,
+        }
+    }
+}
+
+ghost use Rattle.polcert_text.specs.Steps.ScanOf.{IsFrontOf, EndsWithin, IsNameOrMark};
+ghost use Rattle.polcert_text.specs.Steps.Scan.{ContinuesWithDigits};
+ghost use Rattle.polcert_text.specs.declared.tokens.State.{State};
+
+/// Returns where the name ends that the bytes before `from` begin.
+#[inline(always)]
+fn name_end(bytes: &[u8], from: usize) -> usize
+    requires { from ≤ length bytes.now }
+    ensures within { (from ≤ result) × (result ≤ length bytes.now) }
+    ensures same { state_through State.Start (take from bytes.now) ≡ State.Name
+        → state_through State.Start (take result bytes.now) ≡ State.Name }
+    ensures stops { result < length bytes.now
+        → state_after State.Name (class_of (slice_index bytes.now result)) ≡ State.Stuck }
+{
+    let mut at = from;
+    while at < bytes.len() && continues_name(bytes[at]) {
+        at += 1;
+    }
+    at
+}
+
+/// Tests whether a name continues with the byte. For most bytes a test decides that is quicker than their
+/// class.
+#[inline(always)]
+fn continues_name(byte: u8) -> bool
+    ensures on { IsTrue result → state_after State.Name (class_of byte) ≡ State.Name }
+    ensures off { result ≡ false → state_after State.Name (class_of byte) ≡ State.Stuck }
+{
+    if quick_is_letter(byte) || quick_is_digit(byte) {
+        return true;
+    }
+    if quick_is_blank(byte) || quick_is_colon(byte) {
+        return false;
+    }
+    class_continues_name(byte)
+}
+
+#[inline(never)]
+fn class_continues_name(byte: u8) -> bool
+    ensures on { IsTrue result → state_after State.Name (class_of byte) ≡ State.Name }
+    ensures off { result ≡ false → state_after State.Name (class_of byte) ≡ State.Stuck }
+{
+    matches!(
+        class_of(byte),
+        ByteClass::Letter
+            | ByteClass::ExponentMark
+            | ByteClass::Digit
+            | ByteClass::Underscore
+            | ByteClass::Minus
+    )
+}
+
+/// Returns where the digits from `from` on end.
+#[inline(always)]
+fn digits_end(bytes: &[u8], from: usize) -> usize
+    requires { from ≤ length bytes.now }
+    ensures within { (from ≤ result) × (result ≤ length bytes.now) }
+    ensures same { (state : State) → ContinuesWithDigits state
+        → state_through State.Start (take from bytes.now) ≡ state
+        → state_through State.Start (take result bytes.now) ≡ state }
+{
+    let mut at = from;
+    while at < bytes.len() && quick_is_digit(bytes[at]) {
+        at += 1;
+    }
+    at
+}
+
+/// Returns the lexeme at the front, if a byte after it is there and ends it: a name, a mark, or a numeral of
+/// digits, perhaps with a point and digits, before a blank or a line end. Most are, and these are cut without
+/// a step for each byte. `None`: unknown, take the slow path.
+#[inline(always)]
+pub fn delimited_lexeme(bytes: &[u8]) -> Option<LexemePrefix>
+    ensures { IfSome result (EndsWithin bytes.now) }
+{
+    if bytes.len() < 2 {
+        return None;
+    }
+    if quick_is_digit(bytes[0]) {
+        return ended_numeral(bytes);
+    }
+    ended_name_or_mark(bytes)
+}
+
+/// Returns the name or the mark at the front, if a byte after it is there and ends it. `None`: unknown, take
+/// the slow path.
+#[inline(always)]
+pub fn ended_name_or_mark(bytes: &[u8]) -> Option<LexemePrefix>
+    requires { 1 < length bytes.now }
+    ensures ends { IfSome result (EndsWithin bytes.now) }
+    ensures word { IfSome result (IsNameOrMark bytes.now) }
+{
+    if quick_is_letter(bytes[0]) {
+        return ended_name(bytes);
+    }
+    match State::first(class_of(bytes[0])) {
+        State::Single(kind) => Some(LexemePrefix { kind, len: 1 }),
+        _ => None,
+    }
+}
+
+#[inline(always)]
+fn ended_numeral(bytes: &[u8]) -> Option<LexemePrefix>
+    requires some { 0 < length bytes.now }
+    requires digit { class_of (slice_index bytes.now 0) ≡ ByteClass.Digit }
+    ensures { IfSome result (EndsWithin bytes.now) }
+{
+    let point = digits_end(bytes, 1);
+    if point == bytes.len() {
+        return None;
+    }
+    if quick_is_blank(bytes[point]) {
+        return Some(LexemePrefix {
+            kind: TokenKind::Numeral,
+            len: point,
+        });
+    }
+    if !quick_is_point(bytes[point]) {
+        return None;
+    }
+    let end = digits_end(bytes, point + 1);
+    if end < bytes.len() && quick_is_blank(bytes[end]) {
+        return Some(LexemePrefix {
+            kind: TokenKind::Numeral,
+            len: end,
+        });
+    }
+    None
+}
+
+#[inline(always)]
+pub fn ended_name(bytes: &[u8]) -> Option<LexemePrefix>
+    requires some { 0 < length bytes.now }
+    requires letter { (class_of (slice_index bytes.now 0) ≡ ByteClass.Letter)
+        ⊎ (class_of (slice_index bytes.now 0) ≡ ByteClass.ExponentMark) }
+    ensures ends { IfSome result (EndsWithin bytes.now) }
+    ensures word { IfSome result (IsNameOrMark bytes.now) }
+    ensures kind { IfSome result (λ front. front.kind ≡ TokenKind.Name) }
+{
+    let end = name_end(bytes, 1);
+    if end == bytes.len() {
+        return None;
+    }
+    Some(LexemePrefix {
+        kind: TokenKind::Name,
+        len: end,
+    })
+}
+
+/// Returns the longest lexeme at the front of the bytes, if one begins there.
+#[inline(always)]
+pub fn longest_lexeme(bytes: &[u8]) -> Option<LexemePrefix>
+    ensures { IsFrontOf bytes.now result }
+{
+    match delimited_lexeme(bytes) {
+        Some(front) => Some(front),
+        None => scanned_lexeme(bytes),
+    }
+}
+
+/// Returns the longest lexeme at the front of the bytes, if one begins there, of any kind.
+#[inline(never)]
+fn scanned_lexeme(bytes: &[u8]) -> Option<LexemePrefix>
+    ensures { IsFrontOf bytes.now result }
+{
+    LexemeScan::new().through(bytes).longest()
 }

@@ -14,7 +14,7 @@ use Rattle.polcert_answer.specs.declared.fault.Fault.{Fault}
 use Rattle.polcert_answer.specs.declared.fault.Fault.TheVariants.{Graph, Vectors}
 use Rattle.polcert_answer.specs.declared.fault.RunFault.{RunFault}
 use Rattle.polcert_answer.specs.declared.fault.RunFault.TheVariants.{Text, ReadModel, ReadGraph, ReadVectors, Write, Lower, Raise, TooLargeToPrint}
-use Rattle.polcert_answer.specs.declared.inputs.Inputs.{Inputs}
+use Rattle.polcert_answer.specs.declared.runs.Inputs.{Inputs}
 use Rattle.polcert_answer.specs.Answer.{HasGraph, IsRoundedAnswer}
 use Rattle.polcert_answer.specs.Side.{Side, HasHorizon}
 

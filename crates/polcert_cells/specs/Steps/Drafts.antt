@@ -3,7 +3,7 @@
 use Rattle.std.specs.Prelude.{List, Option}
 use Rattle.polcert_cells.specs.Preamble.{Preamble}
 use Rattle.polcert_cells.specs.Start.{StartWeights}
-use Rattle.polcert_cells.specs.declared.entry.Entry.{Entry}
+use Rattle.polcert_cells.specs.declared.entries.Entry.{Entry}
 use Rattle.polcert_cells.specs.Meaning.{Meaning, meaning_of}
 
 -- the preamble, the start item if there was one, and the entries in the order of the text

@@ -2,10 +2,10 @@
 -- Nobody has to believe this file: a list of entries is the list.
 use Rattle.std.specs.Prelude.{◌≡◌, ℕ, ◌+◌, ◌≤◌, All, List, [], ◌∷◌, ◌++◌, length, map}
 use Rattle.std.specs.List.{slice_range}
-use Rattle.polcert_cells.specs.declared.entry.Place.{Place}
-use Rattle.polcert_cells.specs.declared.entry.Body.{Body}
-use Rattle.polcert_cells.specs.declared.entry.Body.TheVariants as bodies
-use Rattle.polcert_cells.specs.declared.entry.Entry.{Entry}
+use Rattle.polcert_cells.specs.declared.entries.Place.{Place}
+use Rattle.polcert_cells.specs.declared.entries.Body.{Body}
+use Rattle.polcert_cells.specs.declared.entries.Body.TheVariants as bodies
+use Rattle.polcert_cells.specs.declared.entries.Entry.{Entry}
 use Rattle.polcert_cells.specs.declared.entries.BodyTag.{BodyTag}
 use Rattle.polcert_cells.specs.declared.entries.BodyTag.TheVariants as fillings
 use Rattle.polcert_cells.specs.declared.entries.EntryHeader.{EntryHeader}

@@ -6,8 +6,8 @@ use Rattle.polcert_policy.specs.Graphs.{PolicyGraph, IsProperGraph, nodes}
 use Rattle.polcert_policy.specs.Vectors.{PolicyVectors}
 use Rattle.polcert_check.specs.declared.fault.LowerFault.{LowerFault}
 use Rattle.polcert_check.specs.declared.fault.LowerFault.TheVariants as faults
-use Rattle.polcert_check.specs.declared.verdict.Verdict.{Verdict}
-use Rattle.polcert_check.specs.declared.verdict.Verdict.TheVariants as verdicts
+use Rattle.polcert_check.specs.declared.survey.Verdict.{Verdict}
+use Rattle.polcert_check.specs.declared.survey.Verdict.TheVariants as verdicts
 use Rattle.polcert_check.specs.Horizon.{Controller, controller_of, Fits, runs, Promise, RewardPromise, HasCutRun, MeetsHorizon, IsRunInRange}
 use Rattle.polcert_check.specs.Shortfall.{Passes}
 use Rattle.polcert_check.specs.Verdict.{PassesBefore, IsLeastLacking, IsVerdict}

@@ -3,7 +3,7 @@ use Rattle.std.proofs.Common.{◌≡◌, ℕ, ◌*◌, ◌<◌, ℤ, pos, ◌*�
 use Rattle.polcert_cells.specs.Elements.{count_of}
 use Rattle.polcert_cells.specs.Numbers as numbers
 use Rattle.polcert_cells.specs.Preamble.{Preamble, observed}
-use Rattle.polcert_cells.specs.declared.start_weights.StartWeights.{StartWeights}
+use Rattle.polcert_cells.specs.declared.elements.StartWeights.{StartWeights}
 use Rattle.polcert_cells.specs.Meaning.{Meaning, IsSame, states_of, start_weight, start_total}
 use Rattle.polcert_cells.specs.Tables.{CellTable, table_of}
 use Rattle.polcert_policy.specs.Graphs.{PolicyGraph, IsProperGraph, nodes}

@@ -12,8 +12,8 @@ use Rattle.polcert_check.specs.Lower.{lowered_by, NoneLacks, IsLeast, CanLower}
 use Rattle.polcert_check.specs.Steps.Findings.{IsPair, IsWorstOf}
 use Rattle.std.proofs.Common.{w64}
 use Rattle.std.proofs.Math.Nat.{mul-le-mul}
-use Rattle.polcert_check.specs.declared.side.Side.{Side}
-use Rattle.polcert_check.specs.declared.side.Side.TheVariants.{Below, Above}
+use Rattle.polcert_check.specs.declared.findings.Side.{Side}
+use Rattle.polcert_check.specs.declared.findings.Side.TheVariants.{Below, Above}
 use Rattle.polcert_check.specs.Steps.Mirrored.{signed_from, CanMove}
 use Rattle.polcert_check.proofs.Walking.Verdicts.{positive_product}
 use Rattle.polcert_policy.specs.Vectors.{PolicyVectors, AreProperVectors, IsInRange, value_of}

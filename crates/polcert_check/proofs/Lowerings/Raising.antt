@@ -14,7 +14,7 @@ use Rattle.polcert_check.specs.declared.fault.LowerFault.{LowerFault}
 use Rattle.polcert_check.specs.declared.fault.LowerFault.TheVariants as lower
 use Rattle.polcert_check.specs.declared.fault.RaiseFault.{RaiseFault}
 use Rattle.polcert_check.specs.declared.fault.RaiseFault.TheVariants as raise
-use Rattle.polcert_check.specs.declared.side.Side.TheVariants.{Above}
+use Rattle.polcert_check.specs.declared.findings.Side.TheVariants.{Above}
 use Rattle.polcert_check.specs.Steps.Mirrored.{mirrored, CanMove, IsLeastMove, raise_of}
 use Rattle.polcert_check.proofs.Sums.Ring.{linear}
 use Rattle.polcert_check.proofs.Mirrors.Mirrored.{mirrored_short}

@@ -2,9 +2,9 @@
 use Rattle.std.proofs.Common.{◌≡◌, ◌∙◌, ℕ, ◌*◌, ◌^◌, ◌<◌, ℤ, pos, neg_ℤ, ◌+ℤ◌, ◌*ℤ◌, ◌≤ℤ◌, IsTrue, All, Contains, Some, List, ◌∷◌, [], refl, sym, subst, arith}
 use Rattle.polcert_check.specs.declared.above.AboveVerdict.{AboveVerdict}
 use Rattle.polcert_check.specs.declared.above.AboveVerdict.TheVariants as above
-use Rattle.polcert_check.specs.declared.verdict.Verdict.{Verdict}
-use Rattle.polcert_check.specs.declared.verdict.Verdict.TheVariants.{Yes, Short, NoSuccessor}
-use Rattle.polcert_check.specs.declared.side.Side.TheVariants.{Above}
+use Rattle.polcert_check.specs.declared.survey.Verdict.{Verdict}
+use Rattle.polcert_check.specs.declared.survey.Verdict.TheVariants.{Yes, Short, NoSuccessor}
+use Rattle.polcert_check.specs.declared.findings.Side.TheVariants.{Above}
 use Rattle.polcert_check.specs.Horizon.{Controller, one, step_scale, runs, is_cut, weight, Promise, RewardPromise, AtMost, MeetsEveryHorizon, MeetsHorizon, HasCutRun}
 use Rattle.polcert_check.specs.Shortfall.{short, PairPasses, Passes}
 use Rattle.polcert_check.specs.Verdict.{PassesBefore, IsVerdict, NamesSmallAmount}

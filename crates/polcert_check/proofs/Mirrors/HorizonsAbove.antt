@@ -1,7 +1,7 @@
 -- What a verdict from above says of the promise from above.
 use Rattle.std.proofs.Common.{subst}
 use Rattle.polcert_check.specs.declared.above.AboveVerdict.{AboveVerdict}
-use Rattle.polcert_check.specs.declared.side.Side.TheVariants.{Above}
+use Rattle.polcert_check.specs.declared.findings.Side.TheVariants.{Above}
 use Rattle.polcert_check.specs.Horizon.{Controller}
 use Rattle.polcert_check.specs.Above.{IsAboveVerdict, MeetsHorizonAbove}
 use Rattle.polcert_check.specs.Steps.Mirrored.{mirrored}

@@ -4,7 +4,7 @@ use Rattle.polcert_cells.specs.Meaning.{Meaning, start_total}
 use Rattle.polcert_policy.specs.Vectors.{PolicyVectors}
 use Rattle.polcert_check.specs.declared.above.AboveVerdict.{AboveVerdict}
 use Rattle.polcert_check.specs.declared.fault.RaiseFault.{RaiseFault}
-use Rattle.polcert_check.specs.declared.side.Side.TheVariants.{Above}
+use Rattle.polcert_check.specs.declared.findings.Side.TheVariants.{Above}
 use Rattle.polcert_check.specs.Above.{IsAboveVerdict}
 use Rattle.polcert_check.specs.Horizon.{Controller}
 use Rattle.polcert_check.specs.Steps.Mirrored.{mirrored, above_of, raise_of, CanMove}

@@ -3,12 +3,12 @@ use Rattle.std.proofs.Common.{ℕ, ◌<◌, ℤ, neg_ℤ, ap, subst}
 use Rattle.polcert_cells.specs.Meaning.{Meaning, IsSame, start_total}
 use Rattle.polcert_cells.specs.SameCells.{HasSameCells}
 use Rattle.polcert_cells.specs.Tables.{CellTable, table_of}
-use Rattle.polcert_cells.specs.declared.start_weights.StartWeights.{StartWeights}
+use Rattle.polcert_cells.specs.declared.elements.StartWeights.{StartWeights}
 use Rattle.polcert_policy.specs.Graphs.{PolicyGraph, IsProperGraph, nodes}
 use Rattle.polcert_policy.specs.Vectors.{PolicyVectors}
 use Rattle.polcert_check.specs.declared.above.AboveVerdict.{AboveVerdict}
 use Rattle.polcert_check.specs.declared.fault.RaiseFault.{RaiseFault}
-use Rattle.polcert_check.specs.declared.side.Side.TheVariants.{Above}
+use Rattle.polcert_check.specs.declared.findings.Side.TheVariants.{Above}
 use Rattle.polcert_check.specs.Above.{PromiseAbove, RewardPromiseAbove, MeetsHorizonAbove, PassesAbove, IsAboveVerdict}
 use Rattle.polcert_check.specs.Horizon.{Controller, Fits, controller_of, Promise, RewardPromise, MeetsHorizon}
 use Rattle.polcert_check.specs.Steps.Mirrored.{mirrored, CanMove, IsLeastMove}

@@ -5,8 +5,8 @@ use Rattle.polcert_cells.specs.Tables.{IsWithinLimits}
 use Rattle.polcert_check.specs.Horizon.{Controller}
 use Rattle.polcert_check.specs.Shortfall.{short}
 use Rattle.polcert_check.specs.Steps.Ranges.{IsClosed, IsController, ValuesAreWithin}
-use Rattle.polcert_check.specs.declared.side.Side.{Side}
-use Rattle.polcert_check.specs.declared.side.Side.TheVariants.{Below, Above}
+use Rattle.polcert_check.specs.declared.findings.Side.{Side}
+use Rattle.polcert_check.specs.declared.findings.Side.TheVariants.{Below, Above}
 use Rattle.polcert_check.specs.Steps.Mirrored.{signed_from, sided}
 use Rattle.polcert_check.proofs.Sums.Bounds.{abs_neg}
 use Rattle.polcert_check.proofs.Mirrors.Mirrored.{mirrored_short}

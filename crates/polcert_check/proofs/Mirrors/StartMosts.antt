@@ -12,7 +12,7 @@ use Rattle.polcert_check.specs.Steps.Ranges.{IsController}
 use Rattle.polcert_check.specs.StartWorth.{start_sum, IsFloorQuotient, IsCeilQuotient, StartPromise}
 use Rattle.polcert_check.specs.Steps.Mirrored.{mirrored}
 use Rattle.polcert_check.specs.Shortfall.{Passes}
-use Rattle.polcert_check.specs.declared.side.Side.TheVariants.{Above}
+use Rattle.polcert_check.specs.declared.findings.Side.TheVariants.{Above}
 use Rattle.polcert_check.specs.StartMost.{IsStartMost, StartPromiseAbove}
 use Rattle.polcert_check.specs.Above.{PassesAbove}
 use Rattle.polcert_check.proofs.Sums.Ring.{linear, ≤ℤ_trans, neg_product}

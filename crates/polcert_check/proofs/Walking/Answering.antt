@@ -4,14 +4,14 @@ use Rattle.polcert_check.specs.Horizon.{Controller, MeetsHorizon}
 use Rattle.polcert_cells.specs.Tables.{IsWithinLimits}
 use Rattle.polcert_check.specs.Shortfall.{most_short}
 use Rattle.polcert_check.specs.Verdict.{IsVerdict, NamesSmallAmount}
-use Rattle.polcert_check.specs.declared.verdict.Verdict.{Verdict}
-use Rattle.polcert_check.specs.declared.verdict.Verdict.TheVariants.{Yes, Short, NoSuccessor}
+use Rattle.polcert_check.specs.declared.survey.Verdict.{Verdict}
+use Rattle.polcert_check.specs.declared.survey.Verdict.TheVariants.{Yes, Short, NoSuccessor}
 use Rattle.polcert_check.specs.Steps.Ranges.{IsController, ValuesAreWithin}
 use Rattle.polcert_check.specs.Steps.Findings.{IsPair, IsFound}
 use Rattle.polcert_check.specs.Steps.Mirrored.{sided}
 use Rattle.polcert_check.specs.declared.findings.Mode.TheVariants.{Check}
 use Rattle.polcert_check.specs.declared.findings.Findings.{Findings}
-use Rattle.polcert_check.specs.declared.side.Side.{Side}
+use Rattle.polcert_check.specs.declared.findings.Side.{Side}
 use Rattle.polcert_check.proofs.Lowerings.Shorts.{short_le}
 use Rattle.polcert_check.proofs.Mirrors.Sides.{sided_proper, sided_limits, sided_values}
 use Rattle.polcert_check.proofs.Walking.Outcomes.{verdict_is}

@@ -9,8 +9,8 @@ use Rattle.polcert_check.specs.Steps.Findings.{IsVerdictFor, AreYesBefore, IsFir
 use Rattle.polcert_check.specs.declared.findings.Mode.{Mode}
 use Rattle.polcert_check.specs.declared.findings.Mode.TheVariants.{Check, Lowering}
 use Rattle.polcert_check.specs.declared.findings.Findings.{Findings}
-use Rattle.polcert_check.specs.declared.verdict.Verdict.{Verdict}
-use Rattle.polcert_check.specs.declared.verdict.Verdict.TheVariants.{Yes, Short, NoSuccessor}
+use Rattle.polcert_check.specs.declared.survey.Verdict.{Verdict}
+use Rattle.polcert_check.specs.declared.survey.Verdict.TheVariants.{Yes, Short, NoSuccessor}
 use Rattle.polcert_check.proofs.Sums.Ring.{linear, wider}
 
 abbrev pub Pairs : Type 1

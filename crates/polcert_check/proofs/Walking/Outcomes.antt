@@ -13,8 +13,8 @@ use Rattle.polcert_check.specs.declared.fault.LowerFault.TheVariants as faults
 use Rattle.polcert_check.specs.declared.findings.Mode.{Mode}
 use Rattle.polcert_check.specs.declared.findings.Mode.TheVariants.{Check, Lowering}
 use Rattle.polcert_check.specs.declared.findings.Findings.{Findings}
-use Rattle.polcert_check.specs.declared.verdict.Verdict.{Verdict}
-use Rattle.polcert_check.specs.declared.verdict.Verdict.TheVariants.{Yes, Short, NoSuccessor}
+use Rattle.polcert_check.specs.declared.survey.Verdict.{Verdict}
+use Rattle.polcert_check.specs.declared.survey.Verdict.TheVariants.{Yes, Short, NoSuccessor}
 use Rattle.polcert_check.proofs.Lowerings.Least.{no_constant}
 use Rattle.polcert_check.proofs.Lowerings.Shorts.{short_le}
 

@@ -5,7 +5,7 @@ use Rattle.std.proofs.lemmas.Bool.{cases_eq}
 use Rattle.std.proofs.lemmas.Grind.{get_or-set_at}
 use Rattle.std.proofs.lemmas.List.{get_or-set_other}
 use Rattle.polcert_cells.specs.Tables.{CellTable}
-use Rattle.polcert_check.specs.declared.shared_rewards.TheConstants.{UNKNOWN}
+use Rattle.polcert_check.specs.declared.expected_reward.TheConstants.{UNKNOWN}
 use Rattle.polcert_check.specs.Steps.Factored.{reward_at_end, AreKnown}
 use Rattle.polcert_check.proofs.Sums.SumLaws.{sum_below_same}
 

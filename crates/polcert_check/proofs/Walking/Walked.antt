@@ -4,8 +4,8 @@ use Rattle.polcert_check.specs.Horizon.{Controller}
 use Rattle.polcert_check.specs.Steps.Ranges.{IsClosed}
 use Rattle.polcert_check.specs.Steps.Findings.{IsPair, IsWalked, IsVerdictFor, IsFirstOf, NamesUntil, IsFound, IsFoundBefore}
 use Rattle.polcert_check.specs.declared.findings.Findings.{Findings}
-use Rattle.polcert_check.specs.declared.verdict.Verdict.{Verdict}
-use Rattle.polcert_check.specs.declared.verdict.Verdict.TheVariants.{Yes, Short, NoSuccessor}
+use Rattle.polcert_check.specs.declared.survey.Verdict.{Verdict}
+use Rattle.polcert_check.specs.declared.survey.Verdict.TheVariants.{Yes, Short, NoSuccessor}
 use Rattle.polcert_check.specs.Shortfall.{PairPasses}
 use Rattle.polcert_check.proofs.Walking.Found.{IsNext, IsAfter, found_wider, noted_pass, not_before}
 

@@ -5,9 +5,9 @@ use Rattle.polcert_cells.specs.Tables.{CellTable}
 use Rattle.polcert_check.specs.Horizon.{Controller, total_below}
 use Rattle.polcert_check.specs.Shortfall.{at_node, short, PairPasses}
 use Rattle.polcert_check.specs.Verdict.{IsLeastLacking}
-use Rattle.polcert_check.specs.declared.shared_rewards.TheConstants.{UNKNOWN}
-use Rattle.polcert_check.specs.declared.verdict.Verdict.{Verdict}
-use Rattle.polcert_check.specs.declared.verdict.Verdict.TheVariants.{Yes, Short, NoSuccessor}
+use Rattle.polcert_check.specs.declared.expected_reward.TheConstants.{UNKNOWN}
+use Rattle.polcert_check.specs.declared.survey.Verdict.{Verdict}
+use Rattle.polcert_check.specs.declared.survey.Verdict.TheVariants.{Yes, Short, NoSuccessor}
 
 -- ---- rewards, for each action and start state
 

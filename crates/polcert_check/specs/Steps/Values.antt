@@ -3,8 +3,8 @@
 use Rattle.std.specs.Prelude.{◌≡◌, ℕ, ℤ, ◌<◌, ◌^◌, pos, false, None, slice_index_or, unsigned_abs}
 use Rattle.polcert_check.specs.Horizon.{Controller}
 use Rattle.polcert_check.specs.Steps.Factored.{expected_value, value_at_end, IsLeastOf, Misses}
-use Rattle.polcert_check.specs.declared.partial_value.PartialValue.{PartialValue}
-use Rattle.polcert_check.specs.declared.end_values.EndValues.{EndValues}
+use Rattle.polcert_check.specs.declared.end_values.PartialValue.{PartialValue}
+use Rattle.polcert_check.specs.declared.ends.EndValues.{EndValues}
 
 -- the value of node n at end state e, and the least observation there for which it has no successor
 pub record IsEndValue (c : Controller) (n e : ℕ) (part : PartialValue) : Type 0 where

@@ -1,8 +1,8 @@
 -- Full forms, typed line by line.
 use Rattle.std.specs.Prelude.{ℕ, Bool, List, [], ◌∷◌, ◌++◌, None, codes}
 use Rattle.polcert_cells.specs.declared.elements.Elements.TheVariants.{Count}
-use Rattle.polcert_cells.specs.declared.entry.Place.TheVariants.{Only}
-use Rattle.polcert_cells.specs.declared.entry.Body.TheVariants.{Probabilities}
+use Rattle.polcert_cells.specs.declared.entries.Place.TheVariants.{Only}
+use Rattle.polcert_cells.specs.declared.entries.Body.TheVariants.{Probabilities}
 use Rattle.polcert_cells.specs.Meaning.{Meaning, meaning_of}
 use Rattle.polcert_examples.specs.Worked.Examples.{transition, rewards, whole}
 

@@ -1,7 +1,7 @@
 -- A refused text: its tokens with the places where they stand, how it ends, and how long it is.
 use Rattle.std.specs.Prelude.{ℕ, List, [], ◌∷◌, None, codes}
 use Rattle.polcert_text.specs.Cut.{Lexeme}
-use Rattle.polcert_text.specs.declared.lexeme.TokenKind.TheVariants as kinds
+use Rattle.polcert_text.specs.declared.tokens.TokenKind.TheVariants as kinds
 use Rattle.polcert_format.specs.FirstWrong.{TextTokens, tokens_of}
 
 abbrev pub name_at : ℕ → List ℕ → Lexeme

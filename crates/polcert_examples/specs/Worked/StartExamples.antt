@@ -3,7 +3,7 @@ use Rattle.std.specs.Prelude.{ℕ, List, [], ◌∷◌, codes}
 use Rattle.polcert_text.specs.Cut.{Lexeme}
 use Rattle.polcert_cells.specs.declared.elements.Elements.{Elements}
 use Rattle.polcert_cells.specs.declared.elements.Elements.TheVariants.{Names}
-use Rattle.polcert_cells.specs.declared.start_weights.StartWeights.{StartWeights}
+use Rattle.polcert_cells.specs.declared.elements.StartWeights.{StartWeights}
 use Rattle.polcert_examples.specs.Worked.Examples.{name, numeral, colon}
 
 abbrev pub a_b : Elements

@@ -2,10 +2,10 @@
 -- Source: Cassandra's tiger.POMDP, of the examples at pomdp.org.
 use Rattle.std.specs.Prelude.{ℕ, false, List, [], ◌∷◌, ℤ, neg_ℤ, Some, None, codes}
 use Rattle.polcert_text.specs.Cut.{Lexeme}
-use Rattle.polcert_text.specs.declared.lexeme.TokenKind.TheVariants as kinds
-use Rattle.polcert_cells.specs.declared.entry.Place.TheVariants.{Every, Only}
-use Rattle.polcert_cells.specs.declared.entry.Body.TheVariants.{Probabilities, Uniform, Identity}
-use Rattle.polcert_cells.specs.declared.entry.Entry.{Entry}
+use Rattle.polcert_text.specs.declared.tokens.TokenKind.TheVariants as kinds
+use Rattle.polcert_cells.specs.declared.entries.Place.TheVariants.{Every, Only}
+use Rattle.polcert_cells.specs.declared.entries.Body.TheVariants.{Probabilities, Uniform, Identity}
+use Rattle.polcert_cells.specs.declared.entries.Entry.{Entry}
 use Rattle.polcert_cells.specs.declared.elements.Elements.TheVariants.{Names}
 use Rattle.polcert_cells.specs.Preamble.{Preamble}
 use Rattle.polcert_format.specs.Text.{ModelSoFar}

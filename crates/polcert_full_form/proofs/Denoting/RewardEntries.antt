@@ -1,11 +1,11 @@
 -- The entry of a row of rewards as it is printed gives the row's rewards back.
 use Rattle.std.proofs.Common.{◌≡◌, ℕ, ◌+◌, ◌<◌, ◌==◌, ⊎_elim, Bool, true, false, ◌&&◌, cond, Some, List, [], ◌∷◌, ◌++◌, ℤ, pos, refl, arith}
 use Rattle.std.proofs.lemmas.List.FromFn.{get_or-map-range_with_len}
-use Rattle.polcert_cells.specs.declared.entry.Table.{Table}
-use Rattle.polcert_cells.specs.declared.entry.Table.TheVariants.{Reward}
-use Rattle.polcert_cells.specs.declared.entry.Place.TheVariants.{Only}
-use Rattle.polcert_cells.specs.declared.entry.Body.TheVariants.{Rewards}
-use Rattle.polcert_cells.specs.declared.entry.Entry.{Entry}
+use Rattle.polcert_cells.specs.declared.entries.Table.{Table}
+use Rattle.polcert_cells.specs.declared.entries.Table.TheVariants.{Reward}
+use Rattle.polcert_cells.specs.declared.entries.Place.TheVariants.{Only}
+use Rattle.polcert_cells.specs.declared.entries.Body.TheVariants.{Rewards}
+use Rattle.polcert_cells.specs.declared.entries.Entry.{Entry}
 use Rattle.polcert_cells.specs.Preamble.{Preamble, is_mdp}
 use Rattle.polcert_cells.specs.Cells.{is_table, covers, reward, reward_of}
 use Rattle.polcert_cells.proofs.Basics.{is_true_or_false, true≢false}

@@ -4,7 +4,7 @@ use Rattle.std.specs.List.{list_all, range_with_len, count_by}
 use Rattle.std.proofs.lemmas.List.Sums.{sum-map}
 use Rattle.polcert_text.specs.Cut.{Lexeme}
 use Rattle.polcert_cells.specs.declared.elements.Elements.{Elements}
-use Rattle.polcert_cells.specs.declared.start_weights.StartWeights.{StartWeights}
+use Rattle.polcert_cells.specs.declared.elements.StartWeights.{StartWeights}
 use Rattle.polcert_cells.specs.Numbers.{one}
 use Rattle.polcert_cells.specs.Elements.{count_of}
 use Rattle.polcert_cells.specs.Start.{equal_weights, is_positive, is_level, shares_of, included, excluded, IsStart, IsStartBody}

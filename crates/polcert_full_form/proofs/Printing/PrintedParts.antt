@@ -6,11 +6,11 @@ use Rattle.std.proofs.lemmas.List.FromFn.{length-range_with_len, get_or-range_wi
 use Rattle.std.proofs.lemmas.List.Sums.{sum_by-cons, get_or-le-sum_by}
 use Rattle.polcert_text.specs.Lines.{line}
 use Rattle.polcert_text.specs.Millionths.{scaled_text}
-use Rattle.polcert_cells.specs.declared.entry.Table.{Table}
-use Rattle.polcert_cells.specs.declared.entry.Table.TheVariants.{Observation, Reward}
+use Rattle.polcert_cells.specs.declared.entries.Table.{Table}
+use Rattle.polcert_cells.specs.declared.entries.Table.TheVariants.{Observation, Reward}
 use Rattle.polcert_cells.specs.declared.elements.Elements.{Elements}
 use Rattle.polcert_cells.specs.Numbers.{one}
-use Rattle.polcert_cells.specs.declared.start_weights.StartWeights.{StartWeights}
+use Rattle.polcert_cells.specs.declared.elements.StartWeights.{StartWeights}
 use Rattle.polcert_cells.specs.Preamble.{is_mdp}
 use Rattle.polcert_cells.specs.Meaning.{Meaning, states_of, actions_of, observations_of}
 use Rattle.polcert_format.specs.FullForm.{for_each, values, all_below, millionths_text, element_words, observations_line, preamble_text, chosen, is_whole, is_choice, start_text, table_word, row_words, is_uniform, is_decimal, cell_text, row_text, observations_text, written, is_zero, reward_words, rewards_row, rewards_from}

@@ -6,13 +6,13 @@ use Rattle.polcert_text.specs.Bytes.{is_letter, is_name_byte, is_digit, is_point
 use Rattle.polcert_text.specs.Lexemes.{kind_of}
 use Rattle.polcert_text.specs.Millionths.{unsigned_text, scaled_text}
 use Rattle.polcert_text.specs.Numbers.{largest}
-use Rattle.polcert_text.specs.declared.lexeme.TokenKind.TheVariants.{Name, Numeral, Colon}
-use Rattle.polcert_cells.specs.declared.entry.Table.{Table}
-use Rattle.polcert_cells.specs.declared.entry.Table.TheVariants.{Reward}
-use Rattle.polcert_cells.specs.declared.entry.Body.{Body}
-use Rattle.polcert_cells.specs.declared.entry.Body.TheVariants.{Probabilities, Rewards, Uniform}
-use Rattle.polcert_cells.specs.declared.entry.Entry.{Entry}
-use Rattle.polcert_cells.specs.declared.start_weights.StartWeights.{StartWeights}
+use Rattle.polcert_text.specs.declared.tokens.TokenKind.TheVariants.{Name, Numeral, Colon}
+use Rattle.polcert_cells.specs.declared.entries.Table.{Table}
+use Rattle.polcert_cells.specs.declared.entries.Table.TheVariants.{Reward}
+use Rattle.polcert_cells.specs.declared.entries.Body.{Body}
+use Rattle.polcert_cells.specs.declared.entries.Body.TheVariants.{Probabilities, Rewards, Uniform}
+use Rattle.polcert_cells.specs.declared.entries.Entry.{Entry}
+use Rattle.polcert_cells.specs.declared.elements.StartWeights.{StartWeights}
 use Rattle.polcert_cells.specs.Words.{topic_of, begins_item}
 use Rattle.polcert_cells.specs.Numbers.{one}
 use Rattle.polcert_cells.specs.Numbers as numbers

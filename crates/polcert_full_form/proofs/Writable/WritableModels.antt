@@ -3,7 +3,7 @@ use Rattle.std.proofs.Common.{◌≡◌, ◌∙◌, ℕ, ◌/◌, ◌%◌, ◌<�
 use Rattle.std.proofs.Math.Nat.{mul-mod_left, mod-add-div'}
 use Rattle.polcert_text.specs.Cut.{text_limit}
 use Rattle.polcert_text.specs.Numbers.{largest}
-use Rattle.polcert_cells.specs.declared.entry.Table.TheVariants.{Transition, Observation}
+use Rattle.polcert_cells.specs.declared.entries.Table.TheVariants.{Transition, Observation}
 use Rattle.polcert_cells.specs.Elements.{most_states, most_actions, most_observations}
 use Rattle.polcert_cells.specs.Preamble.{Preamble, is_mdp}
 use Rattle.std.specs.Option.{ForSome}

@@ -8,10 +8,10 @@ use Rattle.polcert_text.proofs.Scanning.CleanCut.{clean_cut}
 use Rattle.polcert_text.specs.Cut.{Lexeme, Rest, TakesToken, IsCut}
 use Rattle.polcert_text.specs.declared.tokens.TokenFault.{TokenFault}
 use Rattle.polcert_cells.specs.declared.elements.Elements.{Elements}
-use Rattle.polcert_cells.specs.declared.start_weights.StartWeights.{StartWeights}
+use Rattle.polcert_cells.specs.declared.elements.StartWeights.{StartWeights}
 use Rattle.polcert_cells.specs.declared.words.Topic.{Topic}
-use Rattle.polcert_cells.specs.declared.entry.Table.TheVariants.{Transition}
-use Rattle.polcert_cells.specs.declared.entry.Entry.{Entry}
+use Rattle.polcert_cells.specs.declared.entries.Table.TheVariants.{Transition}
+use Rattle.polcert_cells.specs.declared.entries.Entry.{Entry}
 use Rattle.polcert_cells.specs.Words.{IsName}
 use Rattle.polcert_cells.specs.Elements.{count_of, most_states, most_actions, most_observations, AreElements, counted, named}
 use Rattle.polcert_format.specs.Items.{Item, lexemes_of}

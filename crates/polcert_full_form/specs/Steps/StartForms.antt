@@ -1,7 +1,7 @@
 -- The forms of a start's line.
 -- Nobody has to believe this file: only private functions cite it.
 use Rattle.std.specs.Prelude.{ℕ, List, codes}
-use Rattle.polcert_cells.specs.declared.start_weights.StartWeights.{StartWeights}
+use Rattle.polcert_cells.specs.declared.elements.StartWeights.{StartWeights}
 use Rattle.polcert_full_form.specs.declared.print_model.StartForm.{StartForm}
 use Rattle.polcert_full_form.specs.declared.print_model.StartForm.TheVariants.{Chosen, Each}
 use Rattle.polcert_full_form.specs.Steps.Printing.{chosen_text, share_text}

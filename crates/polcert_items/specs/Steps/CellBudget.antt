@@ -1,20 +1,20 @@
 -- How much of a large table entries give, as it is counted while a text is read.
 -- Nobody has to believe this: only contracts of the readers of items cite it.
 use Rattle.std.specs.Prelude.{◌≡◌, ℕ, ◌+◌, ◌*◌, ◌≤◌, ◌==◌, List, [], ◌∷◌, ◌++◌, Option, Some, None, count_by, length, nat_lt, slice_get, if◌then◌else◌}
-use Rattle.polcert_cells.specs.declared.entry.Table.TheVariants.{Transition, Observation, Reward}
-use Rattle.polcert_cells.specs.declared.entry.Place.{Place}
-use Rattle.polcert_cells.specs.declared.entry.Place.TheVariants.{Every}
-use Rattle.polcert_cells.specs.declared.entry.Body.{Body}
-use Rattle.polcert_cells.specs.declared.entry.Body.TheVariants.{Probabilities, Rewards, Uniform, Identity}
-use Rattle.polcert_cells.specs.declared.entry.Entry.{Entry}
+use Rattle.polcert_cells.specs.declared.entries.Table.TheVariants.{Transition, Observation, Reward}
+use Rattle.polcert_cells.specs.declared.entries.Place.{Place}
+use Rattle.polcert_cells.specs.declared.entries.Place.TheVariants.{Every}
+use Rattle.polcert_cells.specs.declared.entries.Body.{Body}
+use Rattle.polcert_cells.specs.declared.entries.Body.TheVariants.{Probabilities, Rewards, Uniform, Identity}
+use Rattle.polcert_cells.specs.declared.entries.Entry.{Entry}
 use Rattle.polcert_cells.specs.Cells.{is_table}
 use Rattle.polcert_cells.specs.Elements.{count_of, most_states, most_actions, most_observations}
 use Rattle.polcert_cells.specs.Meaning.{IsCount}
 use Rattle.polcert_cells.specs.Preamble.{Preamble, observed, rewarded}
 use Rattle.polcert_cells.specs.Steps.Sound.{IsSoundEntry}
 use Rattle.polcert_format.specs.Limits.{IsLarge, HasFewCells, covered, most_cells, most_reward_entries}
-use Rattle.polcert_items.specs.declared.cell_budget.CellBudget.{CellBudget}
-use Rattle.polcert_items.specs.declared.cell_budget.Sizes.{Sizes}
+use Rattle.polcert_items.specs.declared.model_so_far.CellBudget.{CellBudget}
+use Rattle.polcert_items.specs.declared.model_so_far.Sizes.{Sizes}
 
 -- of so many elements, those that the place stands for
 abbrev pub chosen : Option Place → ℕ → ℕ

@@ -3,11 +3,11 @@
 use Rattle.std.specs.Prelude.{◌≡◌, ◌≢◌, ℕ, ◌≤◌, true, List, [], ◌∷◌, ◌++◌, length, map, All, AllPairs, bytes_eq, IsAscii}
 use Rattle.std.specs.List.{list_any}
 use Rattle.polcert_text.specs.Cut.{Lexeme}
-use Rattle.polcert_text.specs.declared.lexeme.TokenKind.TheVariants.{Name}
+use Rattle.polcert_text.specs.declared.tokens.TokenKind.TheVariants.{Name}
 use Rattle.polcert_format.specs.declared.fault.ItemFault.{ItemFault}
 use Rattle.polcert_format.specs.declared.fault.ItemFault.TheVariants.{BadCount, DuplicateName}
-use Rattle.polcert_items.specs.declared.elements_reader.ElementsReader.{ElementsReader}
-use Rattle.polcert_items.specs.declared.elements_reader.ElementsReader.TheVariants as readers
+use Rattle.polcert_items.specs.declared.preamble_lines.ElementsReader.{ElementsReader}
+use Rattle.polcert_items.specs.declared.preamble_lines.ElementsReader.TheVariants as readers
 use Rattle.polcert_cells.specs.Words.{IsName}
 use Rattle.polcert_cells.specs.Numbers.{IsWhole}
 use Rattle.polcert_cells.specs.declared.elements.Elements.{Elements}

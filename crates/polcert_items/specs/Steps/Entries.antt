@@ -5,14 +5,14 @@ use Rattle.std.specs.List.{list_any}
 use Rattle.polcert_text.specs.Cut.{Lexeme}
 use Rattle.polcert_format.specs.declared.fault.ItemFault.{ItemFault}
 use Rattle.polcert_format.specs.declared.fault.ItemFault.TheVariants.{UnknownName, IndexOutOfRange}
-use Rattle.polcert_cells.specs.declared.entry.Table.{Table}
-use Rattle.polcert_cells.specs.declared.entry.Table.TheVariants.{Transition, Observation, Reward}
-use Rattle.polcert_cells.specs.declared.entry.Place.{Place}
-use Rattle.polcert_cells.specs.declared.entry.Body.{Body}
-use Rattle.polcert_cells.specs.declared.entry.Body.TheVariants as bodies
-use Rattle.polcert_cells.specs.declared.entry.Entry.{Entry}
-use Rattle.polcert_items.specs.declared.feed_error.FeedError.{FeedError}
-use Rattle.polcert_items.specs.declared.feed_error.FeedError.TheVariants.{Refused, Memory}
+use Rattle.polcert_cells.specs.declared.entries.Table.{Table}
+use Rattle.polcert_cells.specs.declared.entries.Table.TheVariants.{Transition, Observation, Reward}
+use Rattle.polcert_cells.specs.declared.entries.Place.{Place}
+use Rattle.polcert_cells.specs.declared.entries.Body.{Body}
+use Rattle.polcert_cells.specs.declared.entries.Body.TheVariants as bodies
+use Rattle.polcert_cells.specs.declared.entries.Entry.{Entry}
+use Rattle.polcert_items.specs.declared.item.FeedError.{FeedError}
+use Rattle.polcert_items.specs.declared.item.FeedError.TheVariants.{Refused, Memory}
 use Rattle.polcert_items.specs.declared.entry_reader.Word.{Word}
 use Rattle.polcert_items.specs.declared.entry_reader.Word.TheVariants as words
 use Rattle.polcert_items.specs.declared.entry_reader.EntryState.{EntryState}

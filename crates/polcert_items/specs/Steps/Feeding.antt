@@ -12,7 +12,7 @@ use Rattle.polcert_cells.specs.declared.words.Topic.{Topic}
 use Rattle.polcert_items.specs.declared.entry_reader.EntryReader.{EntryReader}
 use Rattle.polcert_items.specs.declared.signed_number.Refusal.{Refusal}
 use Rattle.polcert_items.specs.declared.start_reader.StartReader.{StartReader}
-use Rattle.polcert_items.specs.declared.feed_error.FeedError.{FeedError}
+use Rattle.polcert_items.specs.declared.item.FeedError.{FeedError}
 use Rattle.polcert_items.specs.Steps.Entries.{EntryGoes, IfRefused}
 use Rattle.polcert_items.specs.Steps.Items.{IsEndReason}
 use Rattle.polcert_items.specs.Steps.Lines.{Takes, CannotTake, CannotEnd}

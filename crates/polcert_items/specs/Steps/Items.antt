@@ -4,25 +4,25 @@ use Rattle.std.specs.Prelude.{◌≡◌, ℕ, Bool, true, false, Option, Some, N
 use Rattle.polcert_text.specs.Cut.{Lexeme}
 use Rattle.polcert_format.specs.declared.fault.ItemFault.{ItemFault}
 use Rattle.polcert_format.specs.declared.fault.ItemFault.TheVariants.{BadShape, BadCount, DuplicateName, WrongNumberCount, ProbabilityRange, DiscountRange, StartSum, StartEmpty}
-use Rattle.polcert_cells.specs.declared.entry.Entry.{Entry}
-use Rattle.polcert_cells.specs.declared.entry.Table.{Table}
+use Rattle.polcert_cells.specs.declared.entries.Entry.{Entry}
+use Rattle.polcert_cells.specs.declared.entries.Table.{Table}
 use Rattle.polcert_items.specs.declared.item.ItemContents.TheVariants as said
 use Rattle.polcert_items.specs.declared.item.ItemReader.{ItemReader}
 use Rattle.polcert_items.specs.declared.item.ItemReader.TheVariants as items
-use Rattle.polcert_items.specs.declared.elements_reader.ElementsReader.TheVariants as elements
+use Rattle.polcert_items.specs.declared.preamble_lines.ElementsReader.TheVariants as elements
 use Rattle.polcert_items.specs.declared.preamble_lines.DiscountReader.TheVariants as discount
 use Rattle.polcert_items.specs.declared.preamble_lines.ValuesReader.TheVariants as values
 use Rattle.polcert_items.specs.declared.entry_reader.EntryReader.{EntryReader}
 use Rattle.polcert_items.specs.declared.entry_reader.EntryState.TheVariants as states
 use Rattle.polcert_items.specs.declared.signed_number.Refusal.{Refusal}
 use Rattle.polcert_items.specs.declared.signed_number.Sign.{Sign}
-use Rattle.polcert_items.specs.declared.feed_error.EndError.{EndError}
-use Rattle.polcert_items.specs.declared.feed_error.EndError.TheVariants as ends
-use Rattle.polcert_items.specs.declared.feed_error.FeedError.{FeedError}
+use Rattle.polcert_items.specs.declared.item.EndError.{EndError}
+use Rattle.polcert_items.specs.declared.item.EndError.TheVariants as ends
+use Rattle.polcert_items.specs.declared.item.FeedError.{FeedError}
 use Rattle.polcert_cells.specs.declared.words.Topic.{Topic}
 use Rattle.polcert_cells.specs.declared.words.Topic.TheVariants.{Discount, Values, States, Actions, Observations, Start, Cells}
 use Rattle.polcert_cells.specs.declared.elements.Elements.{Elements}
-use Rattle.polcert_cells.specs.declared.start_weights.StartWeights.{StartWeights}
+use Rattle.polcert_cells.specs.declared.elements.StartWeights.{StartWeights}
 use Rattle.polcert_cells.specs.Elements.{most_states, most_actions, most_observations}
 use Rattle.polcert_format.specs.Text.{ModelSoFar}
 use Rattle.polcert_format.specs.Reasons.{ends_in_sign, IsNoFraction, IsOfElements, IsOfProbabilities, IsRepeated}

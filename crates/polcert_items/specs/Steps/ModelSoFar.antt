@@ -2,12 +2,12 @@
 -- Nobody has to believe this: only contracts of the readers of items cite it.
 use Rattle.std.specs.Prelude.{◌≡◌, ℕ, Bool, Option, Some, None, List, [], ◌∷◌, ◌++◌}
 use Rattle.std.specs.Option.{ForSome}
-use Rattle.polcert_cells.specs.declared.entry.Entry.{Entry}
+use Rattle.polcert_cells.specs.declared.entries.Entry.{Entry}
 use Rattle.polcert_items.specs.declared.item.ItemContents.{ItemContents}
 use Rattle.polcert_items.specs.declared.item.ItemContents.TheVariants as says
 use Rattle.polcert_cells.specs.declared.elements.Elements.{Elements}
 use Rattle.polcert_cells.specs.Elements.{count_of, most_states, most_actions, most_observations}
-use Rattle.polcert_cells.specs.declared.start_weights.StartWeights.{StartWeights}
+use Rattle.polcert_cells.specs.declared.elements.StartWeights.{StartWeights}
 use Rattle.polcert_cells.specs.declared.words.Topic.{Topic}
 use Rattle.polcert_cells.specs.declared.words.Topic.TheVariants.{Discount, Values, States, Actions, Observations, Start, Cells}
 use Rattle.polcert_cells.specs.Meaning.{IsCount}

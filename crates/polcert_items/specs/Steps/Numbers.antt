@@ -3,8 +3,8 @@
 -- Nobody has to believe this: only contracts of private functions cite it.
 use Rattle.std.specs.Prelude.{◌≡◌, ℕ, ◌≤◌, Bool, true, false, Option, Some, None, List, [], ◌∷◌, ◌++◌, ℤ, pos, codes, All}
 use Rattle.polcert_text.specs.Cut.{Lexeme}
-use Rattle.polcert_text.specs.declared.lexeme.TokenKind.{TokenKind}
-use Rattle.polcert_text.specs.declared.lexeme.TokenKind.TheVariants.{Plus, Minus}
+use Rattle.polcert_text.specs.declared.tokens.TokenKind.{TokenKind}
+use Rattle.polcert_text.specs.declared.tokens.TokenKind.TheVariants.{Plus, Minus}
 use Rattle.polcert_format.specs.declared.fault.ItemFault.{ItemFault}
 use Rattle.polcert_format.specs.declared.fault.ItemFault.TheVariants.{Number, BadShape, WrongNumberCount, ProbabilityRange, DiscountRange, Reset}
 use Rattle.polcert_items.specs.declared.signed_number.Sign.{Sign}
@@ -13,8 +13,8 @@ use Rattle.polcert_items.specs.declared.signed_number.NumberStep.TheVariants as 
 use Rattle.polcert_items.specs.declared.signed_number.Range.{Range}
 use Rattle.polcert_items.specs.declared.signed_number.Range.TheVariants as ranges
 use Rattle.polcert_cells.specs.Words.{IsWord}
-use Rattle.polcert_cells.specs.declared.entry.Body.{Body}
-use Rattle.polcert_cells.specs.declared.entry.Body.TheVariants as bodies
+use Rattle.polcert_cells.specs.declared.entries.Body.{Body}
+use Rattle.polcert_cells.specs.declared.entries.Body.TheVariants as bodies
 use Rattle.polcert_cells.specs.Numbers.{IsMillionths, AreNumbers, one}
 use Rattle.polcert_format.specs.Reasons.{IsRefusedNumber, IsNoFraction, is_sign, ends_in_sign}
 

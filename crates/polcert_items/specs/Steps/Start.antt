@@ -8,25 +8,25 @@ use Rattle.polcert_format.specs.declared.fault.ItemFault.{ItemFault}
 use Rattle.polcert_format.specs.declared.fault.ItemFault.TheVariants.{Number, BadShape, UnknownName, IndexOutOfRange, WrongNumberCount, ProbabilityRange, Reset, StartSum, StartEmpty}
 use Rattle.polcert_items.specs.declared.signed_number.Refusal.{Refusal}
 use Rattle.polcert_items.specs.declared.signed_number.Sign.{Sign}
-use Rattle.polcert_cells.specs.declared.entry.Body.TheVariants as bodies
+use Rattle.polcert_cells.specs.declared.entries.Body.TheVariants as bodies
 use Rattle.polcert_items.specs.declared.entry_reader.Numbers.{Numbers}
-use Rattle.polcert_text.specs.declared.lexeme.TokenKind.TheVariants.{Name, Colon}
+use Rattle.polcert_text.specs.declared.tokens.TokenKind.TheVariants.{Name, Colon}
 use Rattle.polcert_format.specs.FirstNumber.{BeginsWithNumber, BeginsWithDigits, IsLate}
 use Rattle.polcert_format.specs.Forms.{IsStartBodyForm, IsStartForm}
 use Rattle.polcert_format.specs.Wants.{may_be_state}
-use Rattle.polcert_items.specs.declared.chosen.Choice.{Choice}
-use Rattle.polcert_items.specs.declared.chosen.Choice.TheVariants.{Include, Exclude}
-use Rattle.polcert_items.specs.declared.start_numbers.FirstNumber.{FirstNumber}
-use Rattle.polcert_items.specs.declared.start_numbers.StateOrNumber.{StateOrNumber}
+use Rattle.polcert_items.specs.declared.start_reader.Choice.{Choice}
+use Rattle.polcert_items.specs.declared.start_reader.Choice.TheVariants.{Include, Exclude}
+use Rattle.polcert_items.specs.declared.start_reader.FirstNumber.{FirstNumber}
+use Rattle.polcert_items.specs.declared.start_reader.StateOrNumber.{StateOrNumber}
 use Rattle.polcert_items.specs.declared.start_reader.StartReader.{StartReader}
 use Rattle.polcert_items.specs.declared.start_reader.StartReader.TheVariants as reader
-use Rattle.polcert_items.specs.declared.feed_error.EndError.{EndError}
-use Rattle.polcert_items.specs.declared.feed_error.EndError.TheVariants as ends
+use Rattle.polcert_items.specs.declared.item.EndError.{EndError}
+use Rattle.polcert_items.specs.declared.item.EndError.TheVariants as ends
 use Rattle.polcert_cells.specs.Words.{IsWord, IsName}
 use Rattle.polcert_cells.specs.Numbers.{IsWhole, IsMillionths, one}
 use Rattle.polcert_cells.specs.declared.elements.Elements.{Elements}
 use Rattle.polcert_cells.specs.Elements.{count_of, StandsFor}
-use Rattle.polcert_cells.specs.declared.start_weights.StartWeights.{StartWeights}
+use Rattle.polcert_cells.specs.declared.elements.StartWeights.{StartWeights}
 use Rattle.polcert_cells.specs.Start.{equal_weights, all_states, single, shares_of, included, IsStartBody, IsStart}
 use Rattle.polcert_format.specs.Reasons.{StandsIn, NumberStandsIn, IsRefusedNumber, IsNoFraction, IsDigits, is_sign}
 use Rattle.polcert_format.specs.Misfits.{Expected, IsMisfit, begins_number}

@@ -2,10 +2,10 @@
 -- Nobody has to believe this: only contracts of private functions cite it.
 use Rattle.std.specs.Prelude.{◌≡◌, ℕ, ◌-◌, true, false, Option, Some, None, is_some, List, [], ◌∷◌, length}
 use Rattle.polcert_text.specs.Cut.{Lexeme}
-use Rattle.polcert_items.specs.declared.elements_reader.ElementsReader.{ElementsReader}
-use Rattle.polcert_items.specs.declared.elements_reader.ElementsReader.TheVariants as elements
-use Rattle.polcert_cells.specs.declared.entry.Place.{Place}
-use Rattle.polcert_cells.specs.declared.entry.Table.{Table}
+use Rattle.polcert_items.specs.declared.preamble_lines.ElementsReader.{ElementsReader}
+use Rattle.polcert_items.specs.declared.preamble_lines.ElementsReader.TheVariants as elements
+use Rattle.polcert_cells.specs.declared.entries.Place.{Place}
+use Rattle.polcert_cells.specs.declared.entries.Table.{Table}
 use Rattle.polcert_items.specs.declared.entry_reader.EntryReader.{EntryReader}
 use Rattle.polcert_items.specs.declared.entry_reader.EntryState.{EntryState}
 use Rattle.polcert_items.specs.declared.entry_reader.EntryState.TheVariants as states
@@ -20,8 +20,8 @@ use Rattle.polcert_items.specs.declared.signed_number.Sign.{Sign}
 use Rattle.polcert_items.specs.declared.start_reader.StartReader.{StartReader}
 use Rattle.polcert_items.specs.declared.start_reader.StartReader.TheVariants as starts
 use Rattle.polcert_format.specs.declared.fault.ItemFault.{ItemFault}
-use Rattle.polcert_items.specs.declared.feed_error.EndError.{EndError}
-use Rattle.polcert_items.specs.declared.feed_error.EndError.TheVariants as ends
+use Rattle.polcert_items.specs.declared.item.EndError.{EndError}
+use Rattle.polcert_items.specs.declared.item.EndError.TheVariants as ends
 use Rattle.polcert_cells.specs.declared.words.Topic.{Topic}
 use Rattle.polcert_cells.specs.declared.words.Topic.TheVariants.{Start}
 use Rattle.polcert_cells.specs.Elements.{count_of, most_states, most_actions, most_observations}

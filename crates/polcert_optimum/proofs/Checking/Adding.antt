@@ -10,8 +10,8 @@ use Rattle.std.proofs.Math.Numerals.{add-one}
 use Rattle.polcert_text.specs.Numbers.{largest}
 use Rattle.polcert_cells.specs.Tables.{CellTable, IsProper, IsWithinLimits}
 use Rattle.polcert_cells.specs.BorrowedRows.{reached}
-use Rattle.polcert_cells.specs.declared.row.Row.{Row}
-use Rattle.polcert_cells.specs.declared.row.Row.TheVariants.{Sparse, Filled, Scaled, Single}
+use Rattle.polcert_cells.specs.declared.cells.Row.{Row}
+use Rattle.polcert_cells.specs.declared.cells.Row.TheVariants.{Sparse, Filled, Scaled, Single}
 use Rattle.polcert_check.specs.Horizon.{total_below}
 use Rattle.polcert_check.specs.Steps.Ranges.{most_scales, most_sum}
 use Rattle.polcert_check.proofs.Sums.Ring.{*ℤ_assoc}

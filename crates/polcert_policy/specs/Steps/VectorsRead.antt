@@ -8,7 +8,7 @@ use Rattle.polcert_policy.specs.Vectors.{PolicyVectors, Part, tokens_of, sign_ki
 use Rattle.polcert_policy.specs.VectorText.{IsPartColumn, StopVectorsFor}
 use Rattle.polcert_policy.specs.declared.fault.VectorFault.{VectorFault}
 use Rattle.polcert_policy.specs.declared.fault.VectorFault.TheVariants as faults
-use Rattle.polcert_policy.specs.declared.vectors_reading.OpenSign.{OpenSign}
+use Rattle.polcert_policy.specs.declared.vectors.OpenSign.{OpenSign}
 use Rattle.polcert_policy.specs.declared.vectors_reading.VectorsReading.{VectorsReading}
 
 -- whole vectors, and so many parts of the next

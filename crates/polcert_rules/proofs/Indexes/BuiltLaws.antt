@@ -5,7 +5,7 @@ use Rattle.std.proofs.lemmas.List.{length-append, get_or_append_left, get_or_def
 use Rattle.std.proofs.Math.Seq.{get_or-append_seam}
 use Rattle.std.proofs.lemmas.List.Elements.{All-nil, All-push}
 use Rattle.std.proofs.lemmas.Option.{get_or_from_slice_get}
-use Rattle.polcert_cells.specs.declared.cell.Cell.{Cell}
+use Rattle.polcert_cells.specs.declared.elements.Cell.{Cell}
 use Rattle.polcert_cells.specs.Preamble.{Preamble}
 use Rattle.polcert_cells.specs.Meaning.{sum_below}
 use Rattle.polcert_cells.specs.Numbers.{one}
@@ -13,9 +13,9 @@ use Rattle.polcert_cells.specs.Cells.{weight}
 use Rattle.polcert_cells.specs.Sparse.{IsSparse, IsRow}
 use Rattle.polcert_cells.proofs.SparseLaws.{row_same}
 use Rattle.polcert_rules.specs.declared.rows.TableEntries.{TableEntries}
-use Rattle.polcert_rules.specs.declared.wrong_row.WrongRow.{WrongRow}
+use Rattle.polcert_rules.specs.declared.rows.WrongRow.{WrongRow}
 use Rattle.polcert_rules.specs.Keys.{key_base, table_key, most_places}
-use Rattle.polcert_rules.specs.declared.rule.Rule.{Rule}
+use Rattle.polcert_rules.specs.declared.index.Rule.{Rule}
 use Rattle.polcert_rules.specs.Steps.Newest.{IsRising, IsIndexOf}
 use Rattle.polcert_rules.specs.Steps.Zeros.{zeros_of, others_of, others_in}
 use Rattle.polcert_cells.specs.Rows.{IsWeighted}

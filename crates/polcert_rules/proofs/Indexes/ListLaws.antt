@@ -4,13 +4,13 @@ use Rattle.std.proofs.lemmas.List.{append-nil, drop-append-le, take-append-le, l
 use Rattle.std.specs.List.{slice_range}
 use Rattle.std.proofs.Math.Seq.{drop-append_seam}
 use Rattle.std.proofs.lemmas.List.Elements.{All-head, All-tail}
-use Rattle.polcert_rules.specs.declared.lists.Part.{Part}
+use Rattle.polcert_rules.specs.declared.row_store.Part.{Part}
 use Rattle.polcert_rules.specs.Steps.Lists.{part_in, LiesIn, cells_in, row_in, HasRoom, IsHeld}
 use Rattle.polcert_cells.specs.Sparse.{scaled_cells}
-use Rattle.polcert_cells.specs.declared.cell.Cell.{Cell}
-use Rattle.polcert_rules.specs.declared.stored_rows.RowForm.{RowForm}
-use Rattle.polcert_rules.specs.declared.stored_rows.RowForm.TheVariants.{Sparse, Full}
-use Rattle.polcert_rules.specs.declared.stored_rows.RowPart.{RowPart}
+use Rattle.polcert_cells.specs.declared.elements.Cell.{Cell}
+use Rattle.polcert_rules.specs.declared.rows.RowForm.{RowForm}
+use Rattle.polcert_rules.specs.declared.rows.RowForm.TheVariants.{Sparse, Full}
+use Rattle.polcert_rules.specs.declared.rows.RowPart.{RowPart}
 
 module _ {X : Type 0} (xs ys : List X) where
   part_stays : (p : Part) → LiesIn (length xs) p → part_in (xs ++ ys) p ≡ part_in xs p

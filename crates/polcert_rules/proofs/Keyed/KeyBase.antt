@@ -1,8 +1,8 @@
 -- The base of the keys has what is needed of it; and so each element has a digit.
 use Rattle.std.proofs.Common.{ℕ, ◌+◌, ◌<◌, ◌≤◌, arith}
 use Rattle.polcert_cells.specs.declared.elements.Elements.{Elements}
-use Rattle.polcert_cells.specs.declared.entry.Place.{Place}
-use Rattle.polcert_cells.specs.declared.entry.Place.TheVariants.{Every, Only}
+use Rattle.polcert_cells.specs.declared.entries.Place.{Place}
+use Rattle.polcert_cells.specs.declared.entries.Place.TheVariants.{Every, Only}
 use Rattle.polcert_cells.specs.Elements.{count_of, most_actions, most_elements}
 use Rattle.polcert_cells.specs.Steps.Sound.{IsPlaceIn}
 use Rattle.polcert_rules.specs.Keys.{key_base, digit, IsKeyBase}

@@ -1,11 +1,11 @@
 -- The reward of a cell by the rules is what the last entry that covers it gives.
 use Rattle.std.proofs.Common.{◌≡◌, ℕ, ◌<◌, ◌≤◌, Option, Some, None, List, [], ◌∷◌, map, arith}
-use Rattle.polcert_cells.specs.declared.entry.Entry.{Entry}
-use Rattle.polcert_cells.specs.declared.entry.Table.TheVariants.{Reward}
+use Rattle.polcert_cells.specs.declared.entries.Entry.{Entry}
+use Rattle.polcert_cells.specs.declared.entries.Table.TheVariants.{Reward}
 use Rattle.polcert_cells.specs.Elements.{count_of, most_states, most_actions, most_observations}
 use Rattle.polcert_cells.specs.Preamble.{Preamble, rewarded, dimensions}
 use Rattle.polcert_cells.specs.Cells.{reward}
-use Rattle.polcert_rules.specs.declared.reward_parts.RewardBody.{RewardBody}
+use Rattle.polcert_rules.specs.declared.rewards.RewardBody.{RewardBody}
 use Rattle.polcert_rules.specs.Keys.{AreIndices, Fits, table_key, most_places}
 use Rattle.polcert_rules.specs.Steps.Newest.{IsNewest}
 use Rattle.polcert_rules.specs.Steps.Rewards.{AreRewardsOf}

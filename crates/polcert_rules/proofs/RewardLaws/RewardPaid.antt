@@ -3,14 +3,14 @@ use Rattle.std.proofs.Common.{◌≡◌, ◌∙◌, ℕ, zero, suc, ◌+◌, ◌
 use Rattle.std.specs.List.{slice_get}
 use Rattle.std.proofs.Math.Nat.{mul-le-mul_right}
 use Rattle.std.proofs.lemmas.Bool.{cases_lt}
-use Rattle.polcert_cells.specs.declared.entry.Table.{Table}
-use Rattle.polcert_cells.specs.declared.entry.Table.TheVariants.{Transition, Observation, Reward}
-use Rattle.polcert_cells.specs.declared.entry.Place.{Place}
-use Rattle.polcert_cells.specs.declared.entry.Entry.{Entry}
+use Rattle.polcert_cells.specs.declared.entries.Table.{Table}
+use Rattle.polcert_cells.specs.declared.entries.Table.TheVariants.{Transition, Observation, Reward}
+use Rattle.polcert_cells.specs.declared.entries.Place.{Place}
+use Rattle.polcert_cells.specs.declared.entries.Entry.{Entry}
 use Rattle.polcert_cells.specs.Preamble.{Preamble}
 use Rattle.polcert_cells.specs.Cells.{fits_place, fit_places, is_table, covers, reward}
 use Rattle.polcert_rules.specs.Steps.Meeting.{fits_at, meets_row}
-use Rattle.polcert_rules.specs.declared.rule.Rule.{Rule}
+use Rattle.polcert_rules.specs.declared.index.Rule.{Rule}
 use Rattle.polcert_rules.specs.Keys.{key_base, digit, key_in, table_key, AreDigits, most_places}
 use Rattle.polcert_rules.specs.Steps.Rewards.{AreRewardsOf}
 use Rattle.polcert_rules.specs.RewardAt.{RewardRules}

@@ -10,11 +10,11 @@ use Rattle.std.proofs.lemmas.Int.{wrapping_neg_is, int_wrap_fits}
 use Rattle.std.proofs.lemmas.List.Elements.{All-cons, All-nil}
 use Rattle.std.proofs.lemmas.Option.{slice_get-get_or, get_or_from_slice_get}
 use Rattle.polcert_text.specs.Numbers.{largest}
-use Rattle.polcert_cells.specs.declared.entry.Table.{Table}
-use Rattle.polcert_cells.specs.declared.entry.Table.TheVariants.{Reward}
-use Rattle.polcert_cells.specs.declared.entry.Body.{Body}
-use Rattle.polcert_cells.specs.declared.entry.Body.TheVariants.{Probabilities, Rewards, Uniform, Identity}
-use Rattle.polcert_cells.specs.declared.entry.Entry.{Entry}
+use Rattle.polcert_cells.specs.declared.entries.Table.{Table}
+use Rattle.polcert_cells.specs.declared.entries.Table.TheVariants.{Reward}
+use Rattle.polcert_cells.specs.declared.entries.Body.{Body}
+use Rattle.polcert_cells.specs.declared.entries.Body.TheVariants.{Probabilities, Rewards, Uniform, Identity}
+use Rattle.polcert_cells.specs.declared.entries.Entry.{Entry}
 use Rattle.polcert_cells.specs.Elements.{count_of}
 use Rattle.polcert_cells.specs.Entry.{forms, cells_in}
 use Rattle.polcert_cells.specs.Preamble.{Preamble, is_mdp, dimensions, rewarded}
@@ -22,7 +22,7 @@ use Rattle.polcert_cells.specs.Steps.Sound.{IsSoundEntry, Fills}
 use Rattle.polcert_cells.specs.Cells.{row_major, reward_in, reward_of, reward, value_or}
 use Rattle.polcert_cells.proofs.CellLaws.{last_is_one}
 use Rattle.polcert_cells.proofs.SoundLaws.{reward_fits, covered_table}
-use Rattle.polcert_rules.specs.declared.reward_parts.RewardBody.{RewardBody}
+use Rattle.polcert_rules.specs.declared.rewards.RewardBody.{RewardBody}
 use Rattle.polcert_rules.specs.Keys.{key_base, AreIndices}
 use Rattle.polcert_rules.specs.Steps.Newest.{IsLastNumber, entry_at}
 use Rattle.polcert_rules.specs.Steps.Rewards.{worth, rewards_in, IsBodyOf, AreRewardsOf}

@@ -1,11 +1,11 @@
 -- What the body of an entry gives a row.
 use Rattle.std.proofs.Common.{◌≡◌, ℕ, suc, ◌+◌, ◌*◌, ◌<◌, ◌≤◌, List, [], ◌∷◌, length, refl, subst, arith}
 use Rattle.std.proofs.Math.Nat.{mul-le-mul_left, mul_comm, mul-suc}
-use Rattle.polcert_cells.specs.declared.entry.Place.{Place}
-use Rattle.polcert_cells.specs.declared.entry.Body.TheVariants.{Probabilities}
-use Rattle.polcert_cells.specs.declared.entry.Entry.{Entry}
+use Rattle.polcert_cells.specs.declared.entries.Place.{Place}
+use Rattle.polcert_cells.specs.declared.entries.Body.TheVariants.{Probabilities}
+use Rattle.polcert_cells.specs.declared.entries.Entry.{Entry}
 use Rattle.polcert_cells.specs.Steps.Sound.{Fills}
-use Rattle.polcert_rules.specs.declared.shape.Shape.{Shape}
+use Rattle.polcert_rules.specs.declared.rows.Shape.{Shape}
 use Rattle.polcert_rules.specs.Steps.Given.{FitsShape, open_cells}
 
 -- a line of a matrix ends within it

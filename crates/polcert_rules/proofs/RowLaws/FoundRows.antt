@@ -1,10 +1,10 @@
 -- A row of the index: what covers the whole row, the zeros, and the other single cells.
 use Rattle.std.proofs.Common.{◌≡◌, ◌∙◌, ℕ, ◌+◌, ◌<◌, ◌⊎◌, inl, inr, ⊎_elim, true, Option, Some, None, List, [], ◌∷◌, All, Contains, refl, sym, subst, arith}
 use Rattle.std.specs.Prelude.{IfSome}
-use Rattle.polcert_cells.specs.declared.entry.Table.{Table}
-use Rattle.polcert_cells.specs.declared.entry.Entry.{Entry}
-use Rattle.polcert_rules.specs.declared.rule.Rule.{Rule}
-use Rattle.polcert_rules.specs.declared.split.SplitRules.{SplitRules}
+use Rattle.polcert_cells.specs.declared.entries.Table.{Table}
+use Rattle.polcert_cells.specs.declared.entries.Entry.{Entry}
+use Rattle.polcert_rules.specs.declared.index.Rule.{Rule}
+use Rattle.polcert_rules.specs.declared.zeros.SplitRules.{SplitRules}
 use Rattle.polcert_rules.specs.declared.zeros.RowZeros.{RowZeros}
 use Rattle.polcert_rules.specs.declared.row.Row.{Row}
 use Rattle.polcert_rules.specs.Keys.{key_base, table_key, AreDigits, Fits, most_places}

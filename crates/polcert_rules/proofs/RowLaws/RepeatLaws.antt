@@ -1,10 +1,10 @@
 -- Rows of actions that no entry names.
 use Rattle.std.proofs.Common.{◌≡◌, ◌∙◌, ℕ, ◌+◌, ◌*◌, ◌^◌, ◌<◌, ⊎_elim, Option, List, [], ◌∷◌, Contains, sym, ap, arith}
-use Rattle.polcert_cells.specs.declared.entry.Table.{Table}
-use Rattle.polcert_cells.specs.declared.entry.Entry.{Entry}
+use Rattle.polcert_cells.specs.declared.entries.Table.{Table}
+use Rattle.polcert_cells.specs.declared.entries.Entry.{Entry}
 use Rattle.polcert_cells.specs.Cells.{last_covering, value_or}
 use Rattle.polcert_cells.proofs.CellLaws as cells
-use Rattle.polcert_rules.specs.declared.rule.Rule.{Rule}
+use Rattle.polcert_rules.specs.declared.index.Rule.{Rule}
 use Rattle.polcert_rules.specs.Keys.{key_base, table_key, Fits, most_places}
 use Rattle.polcert_rules.specs.Steps.Newest.{IsNewest, IsIndexOf, AreKeyed, entry_at}
 use Rattle.polcert_rules.specs.Matching.{newest_in}

@@ -1,9 +1,9 @@
 -- What fits a cell of a row: what covers the whole row, or a single cell.
 use Rattle.std.proofs.Common.{◌≡◌, ◌∙◌, ℕ, ◌⊎◌, inl, inr, true, ◌&&◌, List, [], ◌∷◌, refl, ap}
-use Rattle.polcert_cells.specs.declared.entry.Table.{Table}
-use Rattle.polcert_cells.specs.declared.entry.Place.{Place}
-use Rattle.polcert_cells.specs.declared.entry.Place.TheVariants.{Every, Only}
-use Rattle.polcert_cells.specs.declared.entry.Entry.{Entry}
+use Rattle.polcert_cells.specs.declared.entries.Table.{Table}
+use Rattle.polcert_cells.specs.declared.entries.Place.{Place}
+use Rattle.polcert_cells.specs.declared.entries.Place.TheVariants.{Every, Only}
+use Rattle.polcert_cells.specs.declared.entries.Entry.{Entry}
 use Rattle.polcert_cells.specs.Cells.{fits_place, fit_places, is_table, covers}
 use Rattle.polcert_rules.specs.Keys.{key_in, Fits, most_places}
 use Rattle.polcert_rules.specs.Steps.Rows.{IsSingle, HasNoSuchColumn, no_column}

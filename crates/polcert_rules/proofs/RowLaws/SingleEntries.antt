@@ -1,11 +1,11 @@
 -- The entries of single cells.
 use Rattle.std.proofs.Common.{◌≡◌, ◌∙◌, ℕ, ◌+◌, ◌<◌, List, [], ◌∷◌, All, Some, subst, arith}
 use Rattle.std.specs.List.{slice_get}
-use Rattle.polcert_cells.specs.declared.entry.Table.{Table}
-use Rattle.polcert_cells.specs.declared.entry.Place.{Place}
-use Rattle.polcert_cells.specs.declared.entry.Place.TheVariants.{Only}
-use Rattle.polcert_cells.specs.declared.entry.Entry.{Entry}
-use Rattle.polcert_rules.specs.declared.rule.Rule.{Rule}
+use Rattle.polcert_cells.specs.declared.entries.Table.{Table}
+use Rattle.polcert_cells.specs.declared.entries.Place.{Place}
+use Rattle.polcert_cells.specs.declared.entries.Place.TheVariants.{Only}
+use Rattle.polcert_cells.specs.declared.entries.Entry.{Entry}
+use Rattle.polcert_rules.specs.declared.index.Rule.{Rule}
 use Rattle.polcert_rules.specs.Keys.{key_base, table_key, AreDigits, most_places}
 use Rattle.polcert_rules.specs.Steps.Newest.{IsIndexOf, AreKeyed}
 use Rattle.polcert_rules.specs.Steps.Rows.{IsCell, IsSingleEntry}

@@ -3,10 +3,10 @@ use Rattle.std.proofs.Common.{◌≡◌, ◌∙◌, ◌==◌, suc, ◌+◌, ◌^
 use Rattle.std.proofs.lemmas.Bool.Decides.{nat_tests}
 use Rattle.std.proofs.lemmas.List.Kept.{AllPairs-cons}
 use Rattle.std.proofs.lemmas.Option.{slice_get_within}
-use Rattle.polcert_cells.specs.declared.entry.Table.{Table}
-use Rattle.polcert_cells.specs.declared.entry.Entry.{Entry}
-use Rattle.polcert_rules.specs.declared.rule.Rule.{Rule}
-use Rattle.polcert_rules.specs.declared.split.SplitRules.{SplitRules}
+use Rattle.polcert_cells.specs.declared.entries.Table.{Table}
+use Rattle.polcert_cells.specs.declared.entries.Entry.{Entry}
+use Rattle.polcert_rules.specs.declared.index.Rule.{Rule}
+use Rattle.polcert_rules.specs.declared.zeros.SplitRules.{SplitRules}
 use Rattle.polcert_rules.specs.Keys.{key_base, most_places, table_key}
 use Rattle.polcert_rules.specs.Steps.Newest.{IsRising, IsIndexOf}
 use Rattle.polcert_rules.specs.Steps.Zeros.{IsSplit, others_in, is_zero, zeros_of, others_of}

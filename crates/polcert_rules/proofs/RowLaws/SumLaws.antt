@@ -5,7 +5,7 @@ use Rattle.std.proofs.lemmas.Bool.Decides.{nat_tests}
 use Rattle.std.proofs.lemmas.List.Sums.{sum_by-cons, sum_by-le}
 use Rattle.std.proofs.Math.Nat.{mul_comm}
 use Rattle.polcert_cells.specs.Meaning.{sum_below}
-use Rattle.polcert_cells.specs.declared.cell.Cell.{Cell}
+use Rattle.polcert_cells.specs.declared.elements.Cell.{Cell}
 use Rattle.polcert_cells.specs.Sparse.{weight_at, scaled_cells, IsSparse}
 use Rattle.polcert_rules.specs.Steps.Sources.{total}
 use Rattle.polcert_cells.specs.Numbers.{one}

@@ -1,10 +1,10 @@
 -- The zeros of a row, found by their keys.
 use Rattle.std.proofs.Common.{◌≡◌, ◌∙◌, ℕ, ◌+◌, ◌*◌, ◌<◌, ◌≤◌, ◌↔◌, ◌⊎◌, inl, inr, ⊎_elim, true, Option, None, List, Contains, refl, ap, subst, arith}
 use Rattle.std.specs.Prelude.{◌==◌}
-use Rattle.polcert_cells.specs.declared.entry.Place.{Place}
-use Rattle.polcert_cells.specs.declared.entry.Place.TheVariants.{Every, Only}
+use Rattle.polcert_cells.specs.declared.entries.Place.{Place}
+use Rattle.polcert_cells.specs.declared.entries.Place.TheVariants.{Every, Only}
 use Rattle.polcert_cells.specs.Cells.{fits_place}
-use Rattle.polcert_rules.specs.declared.rule.Rule.{Rule}
+use Rattle.polcert_rules.specs.declared.index.Rule.{Rule}
 use Rattle.polcert_rules.specs.declared.zeros.ZeroColumns.{ZeroColumns}
 use Rattle.polcert_rules.specs.declared.zeros.RowZeros.{RowZeros}
 use Rattle.polcert_rules.specs.Keys.{key_base, digit}

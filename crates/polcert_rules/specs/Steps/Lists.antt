@@ -3,13 +3,13 @@ use Rattle.std.specs.Prelude.{◌≡◌, ℕ, ◌+◌, ◌*◌, ◌<◌, ◌≤�
 use Rattle.std.specs.List.{slice_range}
 use Rattle.polcert_cells.specs.Numbers.{one}
 use Rattle.polcert_cells.specs.Sparse.{scaled_cells}
-use Rattle.polcert_cells.specs.declared.cell.Cell.{Cell}
-use Rattle.polcert_rules.specs.declared.lists.Part.{Part}
-use Rattle.polcert_rules.specs.declared.stored_rows.RowForm.{RowForm}
-use Rattle.polcert_rules.specs.declared.stored_rows.RowForm.TheVariants as forms
-use Rattle.polcert_rules.specs.declared.stored_rows.RowPart.{RowPart}
-use Rattle.polcert_rules.specs.declared.stored_rows.StoredRow.{StoredRow}
-use Rattle.polcert_rules.specs.declared.stored_rows.StoredRow.TheVariants as stored
+use Rattle.polcert_cells.specs.declared.elements.Cell.{Cell}
+use Rattle.polcert_rules.specs.declared.row_store.Part.{Part}
+use Rattle.polcert_rules.specs.declared.rows.RowForm.{RowForm}
+use Rattle.polcert_rules.specs.declared.rows.RowForm.TheVariants as forms
+use Rattle.polcert_rules.specs.declared.rows.RowPart.{RowPart}
+use Rattle.polcert_rules.specs.declared.rows.StoredRow.{StoredRow}
+use Rattle.polcert_rules.specs.declared.rows.StoredRow.TheVariants as stored
 
 abbrev pub part_in : {X : Type 0} → List X → Part → List X
 part_in xs p = slice_range xs p.start p.end

@@ -1,10 +1,10 @@
 -- A row's single cells over what covers the whole row. Nobody has to believe this file: only private functions cite it.
 use Rattle.std.specs.Prelude.{ℕ, ◌+◌, ◌<◌, ◌≤◌, ◌==◌, Bool, true, List, [], ◌∷◌, ◌++◌, Option, Some, None, nat_lt, if◌then◌else◌}
-use Rattle.polcert_cells.specs.declared.entry.Table.{Table}
-use Rattle.polcert_cells.specs.declared.entry.Entry.{Entry}
+use Rattle.polcert_cells.specs.declared.entries.Table.{Table}
+use Rattle.polcert_cells.specs.declared.entries.Entry.{Entry}
 use Rattle.polcert_cells.specs.Cells.{last_covering, value_or}
-use Rattle.polcert_cells.specs.declared.cell.Cell.{Cell}
-use Rattle.polcert_rules.specs.declared.rule.Rule.{Rule}
+use Rattle.polcert_cells.specs.declared.elements.Cell.{Cell}
+use Rattle.polcert_rules.specs.declared.index.Rule.{Rule}
 use Rattle.polcert_rules.specs.Steps.Newest.{entry_at}
 use Rattle.polcert_rules.specs.Steps.Given.{given}
 

@@ -1,7 +1,7 @@
 -- The newest rules of the observations of an outcome, where rules name few of them.
 -- Nobody has to believe this file: only private functions cite it.
 use Rattle.std.specs.Prelude.{◌≡◌, ℕ, zero, suc, ◌+◌, ◌<◌, ◌==◌, List, [], ◌∷◌, ◌++◌, Option, Some, None, if◌then◌else◌}
-use Rattle.polcert_rules.specs.declared.rule.Rule.{Rule}
+use Rattle.polcert_rules.specs.declared.index.Rule.{Rule}
 use Rattle.polcert_rules.specs.declared.named_rules.NamedRule.{NamedRule}
 use Rattle.polcert_rules.specs.declared.named_rules.NamedRules.{NamedRules}
 use Rattle.polcert_rules.specs.Keys.{key_base, Fits}

@@ -1,15 +1,15 @@
 -- The rewards of observations that rules name.
 -- Nobody has to believe this file: only private functions cite it.
 use Rattle.std.specs.Prelude.{◌≡◌, ℕ, ◌+◌, ◌<◌, List, [], ◌∷◌}
-use Rattle.polcert_cells.specs.declared.entry.Table.TheVariants.{Reward}
-use Rattle.polcert_cells.specs.declared.entry.Entry.{Entry}
+use Rattle.polcert_cells.specs.declared.entries.Table.TheVariants.{Reward}
+use Rattle.polcert_cells.specs.declared.entries.Entry.{Entry}
 use Rattle.polcert_cells.specs.declared.common_reward.RewardCell.{RewardCell}
 use Rattle.polcert_cells.specs.Cells.{reward}
 use Rattle.polcert_cells.specs.CommonRewards.{cell_at}
 use Rattle.polcert_cells.specs.Preamble.{Preamble}
-use Rattle.polcert_rules.specs.declared.rule.Rule.{Rule}
+use Rattle.polcert_rules.specs.declared.index.Rule.{Rule}
 use Rattle.polcert_rules.specs.declared.named_rules.NamedRules.{NamedRules}
-use Rattle.polcert_rules.specs.declared.reward_parts.Outcome.{Outcome}
+use Rattle.polcert_rules.specs.declared.rewards.Outcome.{Outcome}
 use Rattle.polcert_rules.specs.Keys.{key_base, Fits, most_places, table_key}
 use Rattle.polcert_rules.specs.RewardAt.{RewardRules}
 use Rattle.polcert_rules.specs.Steps.Newest.{IsNewest}

@@ -1,8 +1,8 @@
 -- Rules that continue with a place for an index.
 -- Nobody has to believe this file: only private functions cite it.
 use Rattle.std.specs.Prelude.{◌≡◌, ℕ, ◌+◌, ◌*◌, ◌-◌, ◌^◌, ◌<◌, ◌≤◌, ◌↔◌, List, Contains}
-use Rattle.polcert_rules.specs.declared.rule.Rule.{Rule}
-use Rattle.polcert_rules.specs.declared.newest.NextPlace.{NextPlace}
+use Rattle.polcert_rules.specs.declared.index.Rule.{Rule}
+use Rattle.polcert_rules.specs.declared.index.NextPlace.{NextPlace}
 use Rattle.polcert_rules.specs.Keys.{key_base}
 use Rattle.polcert_rules.specs.Steps.Newest.{IsRising}
 

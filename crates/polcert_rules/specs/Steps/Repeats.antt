@@ -1,7 +1,7 @@
 -- Actions whose rows are those of the action before. Nobody has to believe this file: only private functions cite it.
 use Rattle.std.specs.Prelude.{ℕ, ◌+◌, ◌-◌, ◌*◌, ◌^◌, ◌<◌, ◌≤◌, List, [], ◌∷◌, Option, Contains}
-use Rattle.polcert_cells.specs.declared.entry.Table.{Table}
-use Rattle.polcert_rules.specs.declared.rule.Rule.{Rule}
+use Rattle.polcert_cells.specs.declared.entries.Table.{Table}
+use Rattle.polcert_rules.specs.declared.index.Rule.{Rule}
 use Rattle.polcert_rules.specs.Keys.{key_base, table_key, Fits, most_places}
 use Rattle.polcert_rules.specs.Steps.Newest.{IsNewest}
 use Rattle.polcert_rules.specs.Steps.Rows.{no_column}

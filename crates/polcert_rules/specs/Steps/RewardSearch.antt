@@ -1,14 +1,14 @@
 -- Rules that begin with places that fit, and what the newest rule of R gives.
 -- Nobody has to believe this file: only private functions cite it.
 use Rattle.std.specs.Prelude.{◌≡◌, ℕ, ◌+◌, ◌-◌, ◌*◌, ◌^◌, ◌<◌, ◌≤◌, Bool, true, false, ◌⊎◌, List, [], ◌∷◌, length, Option, Some, None, Contains, slice_get, slice_index_or, ℤ, pos}
-use Rattle.polcert_cells.specs.declared.entry.Table.TheVariants.{Reward}
-use Rattle.polcert_cells.specs.declared.entry.Place.{Place}
-use Rattle.polcert_cells.specs.declared.entry.Entry.{Entry}
+use Rattle.polcert_cells.specs.declared.entries.Table.TheVariants.{Reward}
+use Rattle.polcert_cells.specs.declared.entries.Place.{Place}
+use Rattle.polcert_cells.specs.declared.entries.Entry.{Entry}
 use Rattle.polcert_cells.specs.Cells.{fit_places, reward}
 use Rattle.polcert_cells.specs.Preamble.{Preamble}
-use Rattle.polcert_rules.specs.declared.rule.Rule.{Rule}
-use Rattle.polcert_rules.specs.declared.reward_parts.Outcome.{Outcome}
-use Rattle.polcert_rules.specs.declared.reward_parts.RewardBody.{RewardBody}
+use Rattle.polcert_rules.specs.declared.index.Rule.{Rule}
+use Rattle.polcert_rules.specs.declared.rewards.Outcome.{Outcome}
+use Rattle.polcert_rules.specs.declared.rewards.RewardBody.{RewardBody}
 use Rattle.polcert_rules.specs.Keys.{key_base, key_in, table_key}
 use Rattle.polcert_rules.specs.Steps.Newest.{IsLastNumber}
 use Rattle.polcert_rules.specs.Steps.Rewards.{AreRewardsOf, IsBodyOf}

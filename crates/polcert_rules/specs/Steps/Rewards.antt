@@ -3,16 +3,16 @@
 use Rattle.std.specs.Prelude.{◌≡◌, ℕ, ◌+◌, ◌^◌, ◌<◌, ◌≤◌, ◌↔◌, Bool, List, [], length, All, Contains, slice_get, Some, ℤ, if◌then◌else◌}
 use Rattle.std.specs.Int.{w64, int_wrapping_neg}
 use Rattle.std.specs.Option.{IsSomeAnd}
-use Rattle.polcert_cells.specs.declared.entry.Table.TheVariants.{Reward}
-use Rattle.polcert_cells.specs.declared.entry.Body.{Body}
+use Rattle.polcert_cells.specs.declared.entries.Table.TheVariants.{Reward}
+use Rattle.polcert_cells.specs.declared.entries.Body.{Body}
 use Rattle.polcert_cells.specs.EntryRefs.{rewards_of}
-use Rattle.polcert_cells.specs.declared.entry.Entry.{Entry}
+use Rattle.polcert_cells.specs.declared.entries.Entry.{Entry}
 use Rattle.polcert_cells.specs.Elements.{count_of, most_states, most_actions, most_observations}
 use Rattle.polcert_cells.specs.Preamble.{Preamble, rewarded}
 use Rattle.polcert_cells.specs.Steps.Sound.{IsSoundEntry}
-use Rattle.polcert_rules.specs.declared.rule.Rule.{Rule}
-use Rattle.polcert_rules.specs.declared.reward_parts.RewardShape.{RewardShape}
-use Rattle.polcert_rules.specs.declared.reward_parts.RewardBody.{RewardBody}
+use Rattle.polcert_rules.specs.declared.index.Rule.{Rule}
+use Rattle.polcert_rules.specs.declared.rewards.RewardShape.{RewardShape}
+use Rattle.polcert_rules.specs.declared.rewards.RewardBody.{RewardBody}
 use Rattle.polcert_rules.specs.Keys.{key_base, table_key, most_places}
 use Rattle.polcert_rules.specs.Steps.Newest.{IsRising, IsIndexOf, AreKeyed}
 use Rattle.polcert_rules.specs.RewardAt.{RewardRules, body_at}

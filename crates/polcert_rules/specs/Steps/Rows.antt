@@ -1,11 +1,11 @@
 -- The rows of T and O, as an index gives them.
 use Rattle.std.specs.Prelude.{◌≡◌, ℕ, ◌+◌, ◌-◌, ◌*◌, ◌/◌, ◌%◌, ◌<◌, ◌==◌, true, List, [], ◌∷◌, Option, Some, None, All, Contains, slice_get, if◌then◌else◌}
-use Rattle.polcert_cells.specs.declared.entry.Table.{Table}
-use Rattle.polcert_cells.specs.declared.entry.Place.{Place}
-use Rattle.polcert_cells.specs.declared.entry.Place.TheVariants.{Only}
-use Rattle.polcert_cells.specs.declared.entry.Entry.{Entry}
+use Rattle.polcert_cells.specs.declared.entries.Table.{Table}
+use Rattle.polcert_cells.specs.declared.entries.Place.{Place}
+use Rattle.polcert_cells.specs.declared.entries.Place.TheVariants.{Only}
+use Rattle.polcert_cells.specs.declared.entries.Entry.{Entry}
 use Rattle.polcert_cells.specs.Cells.{fits_place}
-use Rattle.polcert_rules.specs.declared.rule.Rule.{Rule}
+use Rattle.polcert_rules.specs.declared.index.Rule.{Rule}
 use Rattle.polcert_rules.specs.Keys.{key_base, key_in, most_places}
 use Rattle.polcert_rules.specs.Matching.{max_option}
 

@@ -1,15 +1,15 @@
 -- Single cells of weight 0. Nobody has to believe this file: only private functions cite it.
 use Rattle.std.specs.Prelude.{◌≡◌, ℕ, ◌+◌, ◌-◌, ◌*◌, ◌^◌, ◌<◌, ◌≤◌, ◌==◌, ◌&&◌, ◌↔◌, ◌⊎◌, Bool, true, false, List, [], ◌∷◌, Option, Some, None, IfSome, All, Contains, length, slice_get, slice_index, if◌then◌else◌}
-use Rattle.polcert_cells.specs.declared.entry.Table.{Table}
-use Rattle.polcert_cells.specs.declared.entry.Body.{Body}
-use Rattle.polcert_cells.specs.declared.entry.Body.TheVariants.{Probabilities, Rewards, Uniform, Identity}
-use Rattle.polcert_cells.specs.declared.entry.Entry.{Entry}
+use Rattle.polcert_cells.specs.declared.entries.Table.{Table}
+use Rattle.polcert_cells.specs.declared.entries.Body.{Body}
+use Rattle.polcert_cells.specs.declared.entries.Body.TheVariants.{Probabilities, Rewards, Uniform, Identity}
+use Rattle.polcert_cells.specs.declared.entries.Entry.{Entry}
 use Rattle.polcert_cells.specs.Cells.{value_or}
-use Rattle.polcert_cells.specs.declared.cell.Cell.{Cell}
-use Rattle.polcert_rules.specs.declared.rule.Rule.{Rule}
-use Rattle.polcert_rules.specs.declared.split.SplitRules.{SplitRules}
-use Rattle.polcert_rules.specs.declared.split.Others.{Others}
-use Rattle.polcert_rules.specs.declared.split.Others.TheVariants.{Borrowed, Listed}
+use Rattle.polcert_cells.specs.declared.elements.Cell.{Cell}
+use Rattle.polcert_rules.specs.declared.index.Rule.{Rule}
+use Rattle.polcert_rules.specs.declared.zeros.SplitRules.{SplitRules}
+use Rattle.polcert_rules.specs.declared.zeros.Others.{Others}
+use Rattle.polcert_rules.specs.declared.zeros.Others.TheVariants.{Borrowed, Listed}
 use Rattle.polcert_rules.specs.declared.zeros.ZeroColumns.{ZeroColumns}
 use Rattle.polcert_rules.specs.declared.zeros.RowZeros.{RowZeros}
 use Rattle.polcert_rules.specs.declared.row.Row.{Row}

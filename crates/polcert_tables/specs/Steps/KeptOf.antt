@@ -1,7 +1,7 @@
 -- What is kept is what the items of a text say.
 use Rattle.std.specs.Prelude.{◌≡◌, true, false, List, Option, Some, None}
-use Rattle.polcert_cells.specs.declared.entry.Table.TheVariants.{Transition, Observation}
-use Rattle.polcert_cells.specs.declared.entry.Entry.{Entry}
+use Rattle.polcert_cells.specs.declared.entries.Table.TheVariants.{Transition, Observation}
+use Rattle.polcert_cells.specs.declared.entries.Entry.{Entry}
 use Rattle.polcert_cells.specs.Preamble.{Preamble, is_mdp}
 use Rattle.polcert_cells.specs.Meaning.{Meaning, IsSame, HasProperRows, HasLimitedNumbers}
 use Rattle.polcert_cells.specs.Steps.Drafts.{Draft, meaning}

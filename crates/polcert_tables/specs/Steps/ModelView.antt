@@ -2,8 +2,8 @@
 -- Nobody has to believe this: no contract of `polcert_model` or above it rests on it.
 use Rattle.std.specs.Prelude.{◌≡◌, ℕ, ◌≤◌, Option, List, length, is_none}
 use Rattle.std.specs.Option.{ForSome}
-use Rattle.polcert_cells.specs.declared.entry.Entry.{Entry}
-use Rattle.polcert_cells.specs.declared.start_weights.StartWeights.{StartWeights}
+use Rattle.polcert_cells.specs.declared.entries.Entry.{Entry}
+use Rattle.polcert_cells.specs.declared.elements.StartWeights.{StartWeights}
 use Rattle.polcert_cells.specs.Numbers.{one}
 use Rattle.polcert_cells.specs.Elements.{count_of, most_states, most_actions, most_observations}
 use Rattle.polcert_cells.specs.Preamble.{Preamble, observed, is_mdp}

@@ -15,8 +15,8 @@ use Rattle.polcert_text.specs.Steps.Scaling.{cap, is_nonzero, Measures}
 use Rattle.polcert_text.specs.Steps.Scan.{state_through}
 use Rattle.polcert_text.specs.declared.bytes.ByteClass.{ByteClass}
 use Rattle.polcert_text.specs.declared.bytes.ByteClass.TheVariants.{Digit, Point, Blank, LineEnd}
-use Rattle.polcert_text.specs.declared.lexeme.State.TheVariants.{Start, Whole, Fraction}
-use Rattle.polcert_text.specs.declared.lexeme.TokenKind.TheVariants.{Numeral}
+use Rattle.polcert_text.specs.declared.tokens.State.TheVariants.{Start, Whole, Fraction}
+use Rattle.polcert_text.specs.declared.tokens.TokenKind.TheVariants.{Numeral}
 use Rattle.polcert_text.proofs.Numbers.MeasureLaws.{ten_pos, and-true_left}
 use Rattle.polcert_text.proofs.Numbers.NumberLaws.{pow_next}
 use Rattle.polcert_text.proofs.Numbers.Plain.{IsPlain, plain_measures, run}

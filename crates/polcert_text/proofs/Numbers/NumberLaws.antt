@@ -16,12 +16,12 @@ use Rattle.polcert_text.specs.Steps.Classes.{mark_kind}
 use Rattle.polcert_text.specs.Steps.Scaling.{cap, is_nonzero, IsScaled}
 use Rattle.polcert_text.specs.declared.bytes.ByteClass.{ByteClass}
 use Rattle.polcert_text.specs.declared.bytes.ByteClass.TheVariants as classes
-use Rattle.polcert_text.specs.declared.lexeme.TokenKind.{TokenKind}
-use Rattle.polcert_text.specs.declared.lexeme.TokenKind.TheVariants as kinds
+use Rattle.polcert_text.specs.declared.tokens.TokenKind.{TokenKind}
+use Rattle.polcert_text.specs.declared.tokens.TokenKind.TheVariants as kinds
 use Rattle.polcert_text.specs.Steps.Scan.{state_through, kind_at, is_numeral_kind}
 use Rattle.polcert_text.specs.declared.number.Scaling.{Scaling}
-use Rattle.polcert_text.specs.declared.lexeme.State.{State}
-use Rattle.polcert_text.specs.declared.lexeme.State.TheVariants.{Start}
+use Rattle.polcert_text.specs.declared.tokens.State.{State}
+use Rattle.polcert_text.specs.declared.tokens.State.TheVariants.{Start}
 use Rattle.polcert_text.proofs.Scanning.LexemeLaws.{no_numeral, none_empty, kind_of-through}
 use Rattle.polcert_text.proofs.Scanning.Tests.{kind_by}
 

@@ -15,8 +15,8 @@ use Rattle.polcert_text.specs.Steps.Scaling.{cap, is_nonzero, ceiling, Measures}
 use Rattle.polcert_text.proofs.Scanning.Tests.{digit_by, mark_by, point_by, digit_class_is}
 use Rattle.polcert_text.specs.Steps.Scan.{state_after, state_through}
 use Rattle.polcert_text.specs.declared.bytes.ByteClass.TheVariants.{Digit, Point}
-use Rattle.polcert_text.specs.declared.lexeme.State.{State}
-use Rattle.polcert_text.specs.declared.lexeme.State.TheVariants as states
+use Rattle.polcert_text.specs.declared.tokens.State.{State}
+use Rattle.polcert_text.specs.declared.tokens.State.TheVariants as states
 use Rattle.polcert_text.proofs.Scanning.LexemeLaws.{state_step}
 use Rattle.polcert_text.proofs.Numbers.NumberLaws.{before_at, after_at, before_all, after_all, numeral_at_state, digit_is}
 use Rattle.polcert_text.proofs.Numbers.SizeLaws.{parts_measure, exact_floor, within}

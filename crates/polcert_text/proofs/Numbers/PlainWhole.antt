@@ -13,7 +13,7 @@ use Rattle.polcert_text.specs.Steps.Scaling.{is_nonzero, ceiling, Measures}
 use Rattle.polcert_text.specs.declared.number.Size.{Size}
 use Rattle.polcert_text.specs.Steps.Scan.{state_through}
 use Rattle.polcert_text.specs.declared.bytes.ByteClass.TheVariants.{Digit}
-use Rattle.polcert_text.specs.declared.lexeme.State.TheVariants as states
+use Rattle.polcert_text.specs.declared.tokens.State.TheVariants as states
 use Rattle.polcert_text.proofs.Scanning.LexemeLaws.{state_step}
 use Rattle.polcert_text.proofs.Scanning.Tests.{mark_by, point_by}
 use Rattle.polcert_text.proofs.Numbers.NumberLaws.{before_all, after_all, numeral_at_state}

@@ -9,9 +9,9 @@ use Rattle.polcert_text.specs.Lexemes.{kind_of}
 use Rattle.polcert_text.specs.Millionths.{decimals, fraction_text, unsigned_text}
 use Rattle.polcert_text.specs.Steps.Scan.{state_after, state_through, kind_at}
 use Rattle.polcert_text.specs.declared.bytes.ByteClass.TheVariants as classes
-use Rattle.polcert_text.specs.declared.lexeme.State.{State}
-use Rattle.polcert_text.specs.declared.lexeme.State.TheVariants.{Start, Whole, Fraction}
-use Rattle.polcert_text.specs.declared.lexeme.TokenKind.TheVariants.{Numeral}
+use Rattle.polcert_text.specs.declared.tokens.State.{State}
+use Rattle.polcert_text.specs.declared.tokens.State.TheVariants.{Start, Whole, Fraction}
+use Rattle.polcert_text.specs.declared.tokens.TokenKind.TheVariants.{Numeral}
 use Rattle.polcert_text.proofs.Scanning.LexemeLaws.{kind_of-through, state_through-append}
 use Rattle.polcert_text.proofs.Numbers.MeasureLaws.{and-true_left, and-true_right}
 use Rattle.polcert_text.proofs.Printing.PrintLaws.{decimal_digits, decimals_digits, point_no_mark}

@@ -13,13 +13,13 @@ use Rattle.polcert_text.specs.Steps.Scan.{gap_after, gap_through, state_after, s
 use Rattle.polcert_text.specs.Steps.ScanOf.{IsFrontOf}
 use Rattle.polcert_text.specs.declared.bytes.ByteClass.{ByteClass}
 use Rattle.polcert_text.specs.declared.bytes.ByteClass.TheVariants as classes
-use Rattle.polcert_text.specs.declared.lexeme.LexemePrefix.{LexemePrefix}
-use Rattle.polcert_text.specs.declared.lexeme.Gap.{Gap}
-use Rattle.polcert_text.specs.declared.lexeme.Gap.TheVariants.{Between, Ended}
-use Rattle.polcert_text.specs.declared.lexeme.State.{State}
-use Rattle.polcert_text.specs.declared.lexeme.State.TheVariants as states
-use Rattle.polcert_text.specs.declared.lexeme.TokenKind.{TokenKind}
-use Rattle.polcert_text.specs.declared.lexeme.TokenKind.TheVariants.{Numeral}
+use Rattle.polcert_text.specs.declared.tokens.LexemePrefix.{LexemePrefix}
+use Rattle.polcert_text.specs.declared.tokens.Gap.{Gap}
+use Rattle.polcert_text.specs.declared.tokens.Gap.TheVariants.{Between, Ended}
+use Rattle.polcert_text.specs.declared.tokens.State.{State}
+use Rattle.polcert_text.specs.declared.tokens.State.TheVariants as states
+use Rattle.polcert_text.specs.declared.tokens.TokenKind.{TokenKind}
+use Rattle.polcert_text.specs.declared.tokens.TokenKind.TheVariants.{Numeral}
 use Rattle.polcert_text.proofs.Scanning.GapLaws.{gap_until_open, gap_through_more, longest_gap_at}
 use Rattle.polcert_text.proofs.Scanning.LexemeLaws.{none_empty, kind_of-through, state_through-append, front_keeps, front_whatever_follows}
 use Rattle.polcert_text.proofs.Numbers.MeasureLaws.{and-true_left, and-true_right}

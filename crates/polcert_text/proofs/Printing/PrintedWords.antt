@@ -8,10 +8,10 @@ use Rattle.polcert_text.specs.Lines.{line}
 use Rattle.polcert_text.specs.Cut.{is_glued}
 use Rattle.polcert_text.specs.Steps.Scan.{state_after, state_through, kind_at}
 use Rattle.polcert_text.specs.declared.bytes.ByteClass.TheVariants as classes
-use Rattle.polcert_text.specs.declared.lexeme.State.{State}
-use Rattle.polcert_text.specs.declared.lexeme.State.TheVariants as states
-use Rattle.polcert_text.specs.declared.lexeme.TokenKind.{TokenKind}
-use Rattle.polcert_text.specs.declared.lexeme.TokenKind.TheVariants.{Name, Numeral, Colon, Minus}
+use Rattle.polcert_text.specs.declared.tokens.State.{State}
+use Rattle.polcert_text.specs.declared.tokens.State.TheVariants as states
+use Rattle.polcert_text.specs.declared.tokens.TokenKind.{TokenKind}
+use Rattle.polcert_text.specs.declared.tokens.TokenKind.TheVariants.{Name, Numeral, Colon, Minus}
 use Rattle.polcert_text.proofs.Scanning.LexemeLaws.{kind_of-through}
 use Rattle.polcert_text.proofs.Numbers.MeasureLaws.{and-true_left}
 use Rattle.polcert_text.proofs.Scanning.Tests.{blank_by, glue_by}

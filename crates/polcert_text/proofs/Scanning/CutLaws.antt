@@ -3,7 +3,7 @@ use Rattle.std.proofs.Common.{◌≡◌, ◌∙◌, ℕ, ◌+◌, ◌<◌, ◌�
 use Rattle.polcert_text.specs.Lexemes.{kind_of}
 use Rattle.polcert_text.specs.Fronts.{IsLongestGap, IsLongestLexeme, NoLexeme}
 use Rattle.polcert_text.specs.Cut.{Lexeme, Rest, is_glued, IsTokenAt, HasLongLexeme, IsFaultAt, TakesToken, EndsAt, Ends, IsCut}
-use Rattle.polcert_text.specs.declared.lexeme.TokenKind.{TokenKind}
+use Rattle.polcert_text.specs.declared.tokens.TokenKind.{TokenKind}
 use Rattle.polcert_text.specs.declared.tokens.TokenFault.{TokenFault}
 use Rattle.polcert_text.specs.declared.tokens.TokenFault.TheVariants.{BadByte, TokenTooLong, Glued, TextTooLong}
 

@@ -12,8 +12,8 @@ use Rattle.polcert_text.specs.Gaps.{is_gap_line, is_gap}
 use Rattle.polcert_text.specs.Steps.Scan.{gap_after, gap_through}
 use Rattle.polcert_text.specs.declared.bytes.ByteClass.{ByteClass}
 use Rattle.polcert_text.specs.declared.bytes.ByteClass.TheVariants.{Blank, LineEnd, Hash}
-use Rattle.polcert_text.specs.declared.lexeme.Gap.{Gap}
-use Rattle.polcert_text.specs.declared.lexeme.Gap.TheVariants.{Between, Comment, Ended}
+use Rattle.polcert_text.specs.declared.tokens.Gap.{Gap}
+use Rattle.polcert_text.specs.declared.tokens.Gap.TheVariants.{Between, Comment, Ended}
 
 -- all lines but the first are right
 abbrev others_right : List (List ℕ) → Bool

@@ -13,13 +13,13 @@ use Rattle.polcert_text.specs.Steps.Scan.{gap_after, gap_through, state_after, s
 use Rattle.polcert_text.specs.Steps.ScanOf.{pending, IsFrontOf, IsScanOf, scan_at, EndsWithin, IsNameOrMark}
 use Rattle.polcert_text.specs.declared.bytes.ByteClass.{ByteClass}
 use Rattle.polcert_text.specs.declared.bytes.ByteClass.TheVariants as classes
-use Rattle.polcert_text.specs.declared.lexeme.TokenKind.{TokenKind}
-use Rattle.polcert_text.specs.declared.lexeme.TokenKind.TheVariants.{Colon, Star, Plus, Minus}
-use Rattle.polcert_text.specs.declared.lexeme.LexemePrefix.{LexemePrefix}
-use Rattle.polcert_text.specs.declared.lexeme.Gap.{Gap}
-use Rattle.polcert_text.specs.declared.lexeme.Gap.TheVariants.{Between, Comment, Ended}
-use Rattle.polcert_text.specs.declared.lexeme.State.{State}
-use Rattle.polcert_text.specs.declared.lexeme.State.TheVariants.{Start, Name, Whole, Fraction, Single, Stuck}
+use Rattle.polcert_text.specs.declared.tokens.TokenKind.{TokenKind}
+use Rattle.polcert_text.specs.declared.tokens.TokenKind.TheVariants.{Colon, Star, Plus, Minus}
+use Rattle.polcert_text.specs.declared.tokens.LexemePrefix.{LexemePrefix}
+use Rattle.polcert_text.specs.declared.tokens.Gap.{Gap}
+use Rattle.polcert_text.specs.declared.tokens.Gap.TheVariants.{Between, Comment, Ended}
+use Rattle.polcert_text.specs.declared.tokens.State.{State}
+use Rattle.polcert_text.specs.declared.tokens.State.TheVariants.{Start, Name, Whole, Fraction, Single, Stuck}
 use Rattle.polcert_text.proofs.Scanning.GapLaws.{longest_gap_at, gap_until_open, gap_through-append}
 use Rattle.polcert_text.proofs.Scanning.LexemeLaws.{kind_of-through, front_before, state_step}
 use Rattle.polcert_text.proofs.Streams.StreamLaws.{skipped_step}

@@ -6,13 +6,13 @@ use Rattle.polcert_text.specs.Steps.Classes.{class_of}
 use Rattle.polcert_text.specs.Steps.Scan.{state_after, state_through, kind_at, is_numeral_kind}
 use Rattle.polcert_text.specs.Steps.ScanOf.{front_len, front_kind, is_over, is_stuck, pending, IsFrontOf, IsScanOf}
 use Rattle.polcert_text.specs.Steps.Streaming.{IsFrontOrLong, IsSeen}
-use Rattle.polcert_text.specs.declared.lexeme.LexemePrefix.{LexemePrefix}
-use Rattle.polcert_text.specs.declared.lexeme.LexemeScan.{LexemeScan}
+use Rattle.polcert_text.specs.declared.tokens.LexemePrefix.{LexemePrefix}
+use Rattle.polcert_text.specs.declared.tokens.LexemeScan.{LexemeScan}
 use Rattle.polcert_text.specs.declared.bytes.ByteClass.{ByteClass}
 use Rattle.polcert_text.specs.declared.bytes.ByteClass.TheVariants as classes
-use Rattle.polcert_text.specs.declared.lexeme.TokenKind.{TokenKind}
-use Rattle.polcert_text.specs.declared.lexeme.State.{State}
-use Rattle.polcert_text.specs.declared.lexeme.State.TheVariants.{Start, Single, Stuck}
+use Rattle.polcert_text.specs.declared.tokens.TokenKind.{TokenKind}
+use Rattle.polcert_text.specs.declared.tokens.State.{State}
+use Rattle.polcert_text.specs.declared.tokens.State.TheVariants.{Start, Single, Stuck}
 use Rattle.polcert_text.proofs.Scanning.LexemeEnds.{scanned}
 use Rattle.polcert_text.proofs.Scanning.LexemeLaws.{front_whatever_follows, front_before, state_fed, stuck_state, kind_of-through}
 

@@ -5,8 +5,8 @@ use Rattle.polcert_text.specs.Lexemes.{kind_of}
 use Rattle.polcert_text.specs.Gaps.{is_gap}
 use Rattle.polcert_text.specs.Fronts.{IsLongestGap, IsLongestLexeme}
 use Rattle.polcert_text.specs.Cut.{Lexeme, Rest, is_glued, IsTokenAt, IsFaultAt, TakesToken, EndsAt, Ends, HasCut}
-use Rattle.polcert_text.specs.declared.lexeme.TokenKind.{TokenKind}
-use Rattle.polcert_text.specs.declared.lexeme.TokenKind.TheVariants.{Numeral}
+use Rattle.polcert_text.specs.declared.tokens.TokenKind.{TokenKind}
+use Rattle.polcert_text.specs.declared.tokens.TokenKind.TheVariants.{Numeral}
 use Rattle.polcert_text.specs.declared.tokens.TokenFault.{TokenFault}
 use Rattle.polcert_text.specs.declared.tokens.TokenFault.TheVariants.{BadByte, TokenTooLong, Glued}
 

@@ -9,8 +9,8 @@ use Rattle.polcert_text.specs.Lexemes.{is_name, is_numeral, is_empty, kind_of}
 use Rattle.polcert_text.specs.Steps.Classes.{class_of, blank_class, line_end_class, hash_class, letter_class, digit_class, mark_class, point_class, sign_class, name_class, glue_class, minus_class, mark_kind}
 use Rattle.polcert_text.specs.declared.bytes.ByteClass.{ByteClass}
 use Rattle.polcert_text.specs.declared.bytes.ByteClass.TheVariants as classes
-use Rattle.polcert_text.specs.declared.lexeme.TokenKind.{TokenKind}
-use Rattle.polcert_text.specs.declared.lexeme.TokenKind.TheVariants as kinds
+use Rattle.polcert_text.specs.declared.tokens.TokenKind.{TokenKind}
+use Rattle.polcert_text.specs.declared.tokens.TokenKind.TheVariants as kinds
 use Rattle.polcert_text.proofs.Scanning.Classes.{all_below, all_below_at, not_equal, is_digit_class}
 
 abbrev same : Bool → Bool → Bool

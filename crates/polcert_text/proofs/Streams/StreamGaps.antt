@@ -8,8 +8,8 @@ use Rattle.polcert_text.specs.Lexemes.{is_empty}
 use Rattle.polcert_text.specs.Steps.Scan.{gap_after, gap_through}
 use Rattle.polcert_text.specs.Stream.{Ahead, rest_with, CanFollow, visible, skip}
 use Rattle.polcert_text.specs.Steps.Streaming.{IsComplete, Fills, ReadsOn, SkipsGap}
-use Rattle.polcert_text.specs.declared.lexeme.Gap.{Gap}
-use Rattle.polcert_text.specs.declared.lexeme.Gap.TheVariants.{Between, Comment, Ended}
+use Rattle.polcert_text.specs.declared.tokens.Gap.{Gap}
+use Rattle.polcert_text.specs.declared.tokens.Gap.TheVariants.{Between, Comment, Ended}
 use Rattle.polcert_text.specs.declared.bytes.ByteClass.{ByteClass}
 use Rattle.polcert_text.specs.declared.bytes.ByteClass.TheVariants.{LineEnd}
 use Rattle.std.specs.Bool.{◌==◌}

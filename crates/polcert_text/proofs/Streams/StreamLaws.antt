@@ -8,7 +8,7 @@ use Rattle.polcert_text.specs.Steps.Scan.{gap_after, gap_through}
 use Rattle.polcert_text.specs.Source.{GivesThenFails, nothing, more}
 use Rattle.polcert_text.specs.Stream.{Ahead, rest_with, CanFollow, ReadsFrom, Fails, visible, skip}
 use Rattle.polcert_text.specs.Steps.Streaming.{with_read, IsComplete, Fills, FailsAt, ReadsOn}
-use Rattle.polcert_text.specs.declared.lexeme.Gap.{Gap}
+use Rattle.polcert_text.specs.declared.tokens.Gap.{Gap}
 use Rattle.polcert_text.proofs.Scanning.GapLaws.{gap_through-append}
 
 true≢false : {b : Bool} → b ≡ true → b ≡ false → ⊥

@@ -5,8 +5,8 @@ use Rattle.polcert_text.specs.Steps.ScanOf.{IsScanOf, is_over, is_stuck, front_l
 use Rattle.polcert_text.specs.Stream.{Ahead, visible}
 use Rattle.polcert_text.specs.Steps.Streaming.{with_read, IsComplete, IsSeen, Fills, ReadsOn, ScansLexeme}
 use Rattle.polcert_text.specs.Lexemes.{is_empty}
-use Rattle.polcert_text.specs.declared.lexeme.LexemePrefix.{LexemePrefix}
-use Rattle.polcert_text.specs.declared.lexeme.LexemeScan.{LexemeScan}
+use Rattle.polcert_text.specs.declared.tokens.LexemePrefix.{LexemePrefix}
+use Rattle.polcert_text.specs.declared.tokens.LexemeScan.{LexemeScan}
 use Rattle.polcert_text.proofs.Scanning.SeenLaws.{seen_over, seen_long, seen_all, seen_within}
 use Rattle.polcert_text.proofs.Streams.StreamLaws.{visible_len, reads_nothing, reads_fill}
 

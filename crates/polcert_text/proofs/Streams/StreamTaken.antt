@@ -4,7 +4,7 @@ use Rattle.std.proofs.lemmas.List.{length-drop, length-take}
 use Rattle.std.proofs.lemmas.Bool.Decides.{nat_tests}
 use Rattle.polcert_text.specs.Fronts.{IsLongestLexeme}
 use Rattle.polcert_text.specs.Lexemes.{kind_of}
-use Rattle.polcert_text.specs.declared.lexeme.TokenKind.{TokenKind}
+use Rattle.polcert_text.specs.declared.tokens.TokenKind.{TokenKind}
 use Rattle.polcert_text.specs.Cut.{Lexeme, Rest, IsCut, TakesToken, text_rest, end_place}
 use Rattle.polcert_text.specs.Device.{HasFailed}
 use Rattle.polcert_text.specs.Source.{IsText, Fits, EachTextThatFits, nothing}

@@ -10,7 +10,7 @@ use Rattle.polcert_text.specs.Source.{Gives, IsText}
 use Rattle.polcert_text.specs.Stream.{Ahead, end_of_kept, rest_with, CanFollow, ReadsFrom, Fails, GivesToken, GivesEnd, visible, skip}
 use Rattle.polcert_text.specs.Steps.Streaming.{end_of, IsComplete, IsSeen, ReadsOn, SkipsGap, ScansLexeme}
 use Rattle.polcert_text.specs.Lexemes.{is_empty}
-use Rattle.polcert_text.specs.declared.lexeme.LexemePrefix.{LexemePrefix}
+use Rattle.polcert_text.specs.declared.tokens.LexemePrefix.{LexemePrefix}
 use Rattle.polcert_text.specs.declared.tokens.TokenFault.{TokenFault}
 use Rattle.polcert_text.specs.declared.tokens.TokenFault.TheVariants.{TextTooLong}
 use Rattle.polcert_text.proofs.Streams.Giving.{gave_then}

@@ -15,11 +15,11 @@ use Rattle.polcert_text.specs.TakenTokens.{Taken, nothing, token}
 use Rattle.polcert_text.specs.declared.front_tokens.FrontDigits.{FrontDigits}
 use Rattle.polcert_text.specs.declared.front_tokens.FrontNumber.{FrontNumber}
 use Rattle.polcert_text.specs.declared.bytes.ByteClass.TheVariants as classes
-use Rattle.polcert_text.specs.declared.lexeme.LexemePrefix.{LexemePrefix}
-use Rattle.polcert_text.specs.declared.lexeme.Gap.TheVariants.{Between, Ended}
-use Rattle.polcert_text.specs.declared.lexeme.State.TheVariants.{Start, Single}
-use Rattle.polcert_text.specs.declared.lexeme.TokenKind.{TokenKind}
-use Rattle.polcert_text.specs.declared.lexeme.TokenKind.TheVariants.{Name, Numeral, Colon}
+use Rattle.polcert_text.specs.declared.tokens.LexemePrefix.{LexemePrefix}
+use Rattle.polcert_text.specs.declared.tokens.Gap.TheVariants.{Between, Ended}
+use Rattle.polcert_text.specs.declared.tokens.State.TheVariants.{Start, Single}
+use Rattle.polcert_text.specs.declared.tokens.TokenKind.{TokenKind}
+use Rattle.polcert_text.specs.declared.tokens.TokenKind.TheVariants.{Name, Numeral, Colon}
 use Rattle.polcert_text.specs.declared.tokens.TokenFault.{TokenFault}
 use Rattle.polcert_text.proofs.Scanning.Runs.{longest_seen, ended_mark, is_mark}
 use Rattle.polcert_text.proofs.Numbers.SignedLaws.{signed-mul}

@@ -9,11 +9,11 @@ use Rattle.polcert_text.specs.Numbers.{IsRounded}
 use Rattle.polcert_text.specs.Steps.FrontSizes.{EndsAsSize}
 use Rattle.polcert_text.specs.Steps.Scan.{gap_after, gap_through, state_after}
 use Rattle.polcert_text.specs.declared.bytes.ByteClass.TheVariants as classes
-use Rattle.polcert_text.specs.declared.front_values.FrontSize.{FrontSize}
-use Rattle.polcert_text.specs.declared.lexeme.Gap.TheVariants.{Between}
-use Rattle.polcert_text.specs.declared.lexeme.State.TheVariants.{Start}
-use Rattle.polcert_text.specs.declared.lexeme.TokenKind.{TokenKind}
-use Rattle.polcert_text.specs.declared.lexeme.TokenKind.TheVariants.{Numeral, Minus}
+use Rattle.polcert_text.specs.declared.front_tokens.FrontSize.{FrontSize}
+use Rattle.polcert_text.specs.declared.tokens.Gap.TheVariants.{Between}
+use Rattle.polcert_text.specs.declared.tokens.State.TheVariants.{Start}
+use Rattle.polcert_text.specs.declared.tokens.TokenKind.{TokenKind}
+use Rattle.polcert_text.specs.declared.tokens.TokenKind.TheVariants.{Numeral, Minus}
 use Rattle.polcert_text.specs.declared.number.Rounding.{Rounding}
 use Rattle.polcert_text.proofs.Scanning.Runs.{ended_mark}
 use Rattle.polcert_text.proofs.Taken.BeginLaws.{front_lexeme, begin_one, begin_then}

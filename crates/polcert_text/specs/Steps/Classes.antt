@@ -4,8 +4,8 @@ use Rattle.std.specs.Prelude.{ℕ, Bool, true, false, ◌||◌, ◌==◌, Option
 use Rattle.std.specs.Char.{is_ascii_digit, is_ascii_alphabetic}
 use Rattle.polcert_text.specs.declared.bytes.ByteClass.{ByteClass}
 use Rattle.polcert_text.specs.declared.bytes.ByteClass.TheVariants.{Blank, LineEnd, Hash, ExponentMark, Letter, Digit, Underscore, Point, Colon, Star, Plus, Minus, Other}
-use Rattle.polcert_text.specs.declared.lexeme.TokenKind.{TokenKind}
-use Rattle.polcert_text.specs.declared.lexeme.TokenKind.TheVariants as kinds
+use Rattle.polcert_text.specs.declared.tokens.TokenKind.{TokenKind}
+use Rattle.polcert_text.specs.declared.tokens.TokenKind.TheVariants as kinds
 
 -- tab, carriage return, space; line end; `#`; `e` and `E`; the other ASCII letters; `0` to `9`; `_ . : * + -`
 unfoldable pub class_of : ℕ → ByteClass

@@ -8,9 +8,9 @@ use Rattle.polcert_text.specs.Numbers.{largest, IsReadable}
 use Rattle.polcert_text.specs.Steps.Scaling.{is_nonzero, ceiling, Measures}
 use Rattle.polcert_text.specs.Steps.ScanOf.{EndsWithin}
 use Rattle.polcert_text.specs.declared.bytes.ByteClass.TheVariants.{Digit}
-use Rattle.polcert_text.specs.declared.front_values.FrontSize.{FrontSize}
-use Rattle.polcert_text.specs.declared.front_values.Tail.{Tail}
-use Rattle.polcert_text.specs.declared.lexeme.TokenKind.TheVariants.{Numeral}
+use Rattle.polcert_text.specs.declared.front_tokens.FrontSize.{FrontSize}
+use Rattle.polcert_text.specs.declared.front_tokens.Tail.{Tail}
+use Rattle.polcert_text.specs.declared.tokens.TokenKind.TheVariants.{Numeral}
 
 -- each byte of these is a digit
 abbrev pub AreDigitsFrom : List ℕ → ℕ → ℕ → Type 0

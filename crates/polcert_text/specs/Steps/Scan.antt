@@ -5,12 +5,12 @@ use Rattle.std.specs.Prelude.{◌≡◌, ℕ, Bool, true, false, Option, Some, N
 use Rattle.polcert_text.specs.Steps.Classes.{class_of}
 use Rattle.polcert_text.specs.declared.bytes.ByteClass.{ByteClass}
 use Rattle.polcert_text.specs.declared.bytes.ByteClass.TheVariants as classes
-use Rattle.polcert_text.specs.declared.lexeme.TokenKind.{TokenKind}
-use Rattle.polcert_text.specs.declared.lexeme.TokenKind.TheVariants as kinds
-use Rattle.polcert_text.specs.declared.lexeme.Gap.{Gap}
-use Rattle.polcert_text.specs.declared.lexeme.Gap.TheVariants.{Between, Comment, Ended}
-use Rattle.polcert_text.specs.declared.lexeme.State.{State}
-use Rattle.polcert_text.specs.declared.lexeme.State.TheVariants.{Start, Name, Whole, Point, Fraction, Mark, Sign, Exponent, Single, Stuck}
+use Rattle.polcert_text.specs.declared.tokens.TokenKind.{TokenKind}
+use Rattle.polcert_text.specs.declared.tokens.TokenKind.TheVariants as kinds
+use Rattle.polcert_text.specs.declared.tokens.Gap.{Gap}
+use Rattle.polcert_text.specs.declared.tokens.Gap.TheVariants.{Between, Comment, Ended}
+use Rattle.polcert_text.specs.declared.tokens.State.{State}
+use Rattle.polcert_text.specs.declared.tokens.State.TheVariants.{Start, Name, Whole, Point, Fraction, Mark, Sign, Exponent, Single, Stuck}
 
 abbrev pub between_after : ByteClass → Gap
 between_after classes.Blank = Between

@@ -11,13 +11,13 @@ use Rattle.polcert_text.specs.declared.front_tokens.FrontNumber.{FrontNumber}
 use Rattle.polcert_text.specs.declared.bytes.ByteClass.TheVariants.{Digit}
 use Rattle.polcert_text.specs.Fronts.{IsLongestLexeme, NoLexeme}
 use Rattle.polcert_text.specs.Steps.Scan.{gap_after, state_through}
-use Rattle.polcert_text.specs.declared.lexeme.Gap.TheVariants.{Between, Ended}
-use Rattle.polcert_text.specs.declared.lexeme.State.{State}
-use Rattle.polcert_text.specs.declared.lexeme.TokenKind.{TokenKind}
-use Rattle.polcert_text.specs.declared.lexeme.TokenKind.TheVariants.{Numeral}
-use Rattle.polcert_text.specs.declared.lexeme.State.TheVariants.{Start, Point, Mark, Sign, Single, Stuck}
-use Rattle.polcert_text.specs.declared.lexeme.LexemePrefix.{LexemePrefix}
-use Rattle.polcert_text.specs.declared.lexeme.LexemeScan.{LexemeScan}
+use Rattle.polcert_text.specs.declared.tokens.Gap.TheVariants.{Between, Ended}
+use Rattle.polcert_text.specs.declared.tokens.State.{State}
+use Rattle.polcert_text.specs.declared.tokens.TokenKind.{TokenKind}
+use Rattle.polcert_text.specs.declared.tokens.TokenKind.TheVariants.{Numeral}
+use Rattle.polcert_text.specs.declared.tokens.State.TheVariants.{Start, Point, Mark, Sign, Single, Stuck}
+use Rattle.polcert_text.specs.declared.tokens.LexemePrefix.{LexemePrefix}
+use Rattle.polcert_text.specs.declared.tokens.LexemeScan.{LexemeScan}
 
 abbrev pub is_stuck : State → Bool
 is_stuck Stuck = true

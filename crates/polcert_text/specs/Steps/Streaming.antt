@@ -8,8 +8,8 @@ use Rattle.polcert_text.specs.Lexemes.{kind_of, is_empty}
 use Rattle.polcert_text.specs.Steps.Scan.{is_numeral_kind}
 use Rattle.polcert_text.specs.Steps.ScanOf.{front_len, front_kind}
 use Rattle.polcert_text.specs.Stream.{Ahead, Stream, rest_with, CanFollow, ReadsFrom, IsAtEnd, Fails, GivesToken, GivesEnd, visible}
-use Rattle.polcert_text.specs.declared.lexeme.LexemePrefix.{LexemePrefix}
-use Rattle.polcert_text.specs.declared.lexeme.TokenKind.{TokenKind}
+use Rattle.polcert_text.specs.declared.tokens.LexemePrefix.{LexemePrefix}
+use Rattle.polcert_text.specs.declared.tokens.TokenKind.{TokenKind}
 use Rattle.polcert_text.specs.declared.stream_tokens.StreamFault.{StreamFault}
 use Rattle.polcert_text.specs.declared.stream_tokens.StreamFault.TheVariants as faults
 use Rattle.polcert_text.specs.declared.stream_tokens.LastAnswer.{LastAnswer}

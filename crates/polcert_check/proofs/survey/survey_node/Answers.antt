@@ -4,7 +4,7 @@ use Rattle.polcert_check.specs.Steps.Findings.{IsFoundBefore}
 use Rattle.polcert_check.specs.Steps.Node.{node_controller}
 use Rattle.polcert_check.specs.Steps.Values.{AreEndValues}
 use Rattle.polcert_check.specs.Horizon.{Controller}
-use Rattle.polcert_check.specs.declared.end_values.EndValues.{EndValues}
+use Rattle.polcert_check.specs.declared.ends.EndValues.{EndValues}
 use Rattle.polcert_check.specs.declared.findings.Findings.{Findings}
 use Rattle.polcert_check.proofs.Walking.Walked.{node_done, node_settled}
 use Rattle.polcert_check.proofs.survey.survey_node.Goals as goal

@@ -4,7 +4,7 @@ use Rattle.std.proofs.lemmas.Result.{err_from_is_err_and}
 use Rattle.polcert_text.specs.Reading.{lexeme_of}
 use Rattle.polcert_cells.specs.declared.elements.Elements.TheVariants.{Count}
 use Rattle.polcert_cells.specs.Entry.{IsPlace}
-use Rattle.polcert_cells.specs.declared.entry.Place.{Place}
+use Rattle.polcert_cells.specs.declared.entries.Place.{Place}
 use Rattle.polcert_items.proofs.PatternLaws.{no_place}
 use Rattle.polcert_items.proofs.entry_reader.place_of.Goals as goal
 

@@ -2,8 +2,8 @@ use Rattle.std.proofs.Common.{◌≡◌, ◌∙◌, ◌<◌, ◌≤◌, ◌-◌,
 use Rattle.std.proofs.lemmas.List.{take_more}
 use Rattle.std.proofs.lemmas.List.Elements.{Contains-get_or}
 use Rattle.polcert_cells.specs.EntryRefs.{entry_of, all_rewards}
-use Rattle.polcert_rules.specs.declared.rule.Rule.{Rule}
-use Rattle.polcert_rules.specs.declared.reward_parts.RewardBody.{RewardBody}
+use Rattle.polcert_rules.specs.declared.index.Rule.{Rule}
+use Rattle.polcert_rules.specs.declared.rewards.RewardBody.{RewardBody}
 use Rattle.polcert_rules.specs.Steps.Rewards.{worth, AreBodiesOf}
 use Rattle.polcert_rules.proofs.RewardLaws.RewardLists.{body_is, one_more_body, all_taken, first_of_taken}
 use Rattle.polcert_rules.proofs.reward_bodies.bodies_of.Goals as goal

@@ -1,5 +1,5 @@
 use Rattle.std.proofs.Common.{◌∙◌, ◌<◌, ◌++◌, ℕ, zero, suc, List, [], ◌∷◌, length, subst, sym, arith}
-use Rattle.polcert_cells.specs.declared.entry.Place.{Place}
+use Rattle.polcert_cells.specs.declared.entries.Place.{Place}
 use Rattle.polcert_rules.specs.Keys.{key_base, AreDigits, digit, most_places}
 use Rattle.polcert_rules_tests.proofs.tests.places.Goals as goal
 use Rattle.polcert_rules_tests.proofs.tests.places.Goals.{then-len-lt4+in_ok-push, else-len-lt4}

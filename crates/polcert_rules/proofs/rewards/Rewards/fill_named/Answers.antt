@@ -5,7 +5,7 @@ use Rattle.polcert_cells.specs.Preamble.{dimensions}
 use Rattle.polcert_cells.specs.Cells.{reward}
 use Rattle.polcert_cells.specs.CommonRewards.{cell_at}
 use Rattle.polcert_cells.specs.declared.common_reward.RewardCell.{RewardCell}
-use Rattle.polcert_cells.specs.declared.entry.Table.TheVariants.{Reward}
+use Rattle.polcert_cells.specs.declared.entries.Table.TheVariants.{Reward}
 use Rattle.polcert_rules.specs.Keys.{AreIndices, Fits, table_key, most_places}
 use Rattle.polcert_rules.specs.Matching.{max_option}
 use Rattle.polcert_rules.specs.Steps.Distinct.{rule_at}

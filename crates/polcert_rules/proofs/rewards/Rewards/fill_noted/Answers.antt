@@ -4,13 +4,13 @@ use Rattle.std.proofs.lemmas.List.{get_or-take, length-take-le}
 use Rattle.polcert_cells.specs.Elements.{count_of}
 use Rattle.polcert_cells.specs.Preamble.{dimensions}
 use Rattle.polcert_cells.specs.Cells.{reward}
-use Rattle.polcert_cells.specs.declared.entry.Table.TheVariants.{Reward}
-use Rattle.polcert_rules.specs.declared.rule.Rule.{Rule}
+use Rattle.polcert_cells.specs.declared.entries.Table.TheVariants.{Reward}
+use Rattle.polcert_rules.specs.declared.index.Rule.{Rule}
 use Rattle.polcert_rules.specs.Keys.{AreIndices, Fits, table_key, most_places}
 use Rattle.polcert_rules.specs.Steps.Newest.{IsNewest}
 use Rattle.polcert_rules.specs.RewardAt.{RewardRules}
 use Rattle.polcert_rules.specs.Steps.RewardSearch.{AreWithin, IsLastBody}
-use Rattle.polcert_rules.specs.declared.reward_parts.RewardBody.{RewardBody}
+use Rattle.polcert_rules.specs.declared.rewards.RewardBody.{RewardBody}
 use Rattle.polcert_rules.proofs.Indexes.NotedLaws.{noted_first}
 use Rattle.polcert_rules.proofs.rewards.Rewards.fill_noted.Goals as goal
 use Rattle.polcert_rules.proofs.rewards.Rewards.fill_noted.Goals.{then-is_same, else-is_same}

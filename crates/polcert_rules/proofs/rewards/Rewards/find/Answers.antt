@@ -6,8 +6,8 @@ use Rattle.polcert_cells.specs.Preamble.{dimensions}
 use Rattle.polcert_cells.specs.Cells.{reward}
 use Rattle.polcert_cells.specs.CommonRewards.{IsCommonReward}
 use Rattle.polcert_cells.specs.declared.common_reward.CommonReward.{CommonReward}
-use Rattle.polcert_cells.specs.declared.entry.Table.TheVariants.{Reward}
-use Rattle.polcert_rules.specs.declared.rule.Rule.{Rule}
+use Rattle.polcert_cells.specs.declared.entries.Table.TheVariants.{Reward}
+use Rattle.polcert_rules.specs.declared.index.Rule.{Rule}
 use Rattle.polcert_rules.specs.Keys.{AreIndices, Fits, table_key, most_places, key_base}
 use Rattle.polcert_rules.specs.Matching.{max_option}
 use Rattle.polcert_rules.specs.RewardAt.{RewardRules}

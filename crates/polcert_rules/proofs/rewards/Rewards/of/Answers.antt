@@ -1,6 +1,6 @@
 use Rattle.std.proofs.Common.{◌^◌, List, Contains, subst, sym}
-use Rattle.polcert_cells.specs.declared.entry.Table.TheVariants.{Reward}
-use Rattle.polcert_rules.specs.declared.rule.Rule.{Rule}
+use Rattle.polcert_cells.specs.declared.entries.Table.TheVariants.{Reward}
+use Rattle.polcert_rules.specs.declared.index.Rule.{Rule}
 use Rattle.polcert_rules.specs.Keys.{key_base, table_key, most_places}
 use Rattle.polcert_rules.specs.Steps.Newest.{IsRising}
 use Rattle.polcert_rules.specs.Steps.Rewards.{AreBodiesOf, AreRewardsOf, reward_rules}

@@ -1,5 +1,5 @@
 use Rattle.std.proofs.Common.{◌∙◌, ◌*◌, ◌^◌, ℕ, ◌+◌, ◌<◌, List, All, subst, ap}
-use Rattle.polcert_rules.specs.declared.rule.Rule.{Rule}
+use Rattle.polcert_rules.specs.declared.index.Rule.{Rule}
 use Rattle.polcert_rules.specs.Steps.Newest.{IsNewest}
 use Rattle.polcert_rules.specs.Steps.Rows.{IsSingle, IsCell, at_column}
 use Rattle.polcert_rules.specs.Steps.Zeros.{zero_of}

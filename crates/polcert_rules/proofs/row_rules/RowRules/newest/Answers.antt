@@ -1,5 +1,5 @@
 use Rattle.std.proofs.Common.{◌∙◌, ◌+◌, ◌*◌, ◌^◌, ◌∷◌, sym, ap, subst, arith}
-use Rattle.polcert_cells.specs.declared.entry.Table.TheVariants.{Reward}
+use Rattle.polcert_cells.specs.declared.entries.Table.TheVariants.{Reward}
 use Rattle.polcert_rules.specs.Steps.Newest.{IsNewest}
 use Rattle.polcert_rules.specs.Matching.{max_option}
 use Rattle.polcert_rules.specs.Keys.{key_base, Fits, table_key}

@@ -1,5 +1,5 @@
 use Rattle.std.proofs.Common.{◌+◌, ◌*◌, ◌^◌, ◌∷◌, [], subst, arith}
-use Rattle.polcert_cells.specs.declared.entry.Table.TheVariants.{Reward}
+use Rattle.polcert_cells.specs.declared.entries.Table.TheVariants.{Reward}
 use Rattle.polcert_rules.specs.Keys.{key_base, Fits, table_key}
 use Rattle.polcert_rules.specs.Steps.Named.{noted_at}
 use Rattle.polcert_rules.specs.Steps.Noting.{IsNoted}

@@ -1,5 +1,5 @@
 use Rattle.std.proofs.Common.{◌^◌, List, subst}
-use Rattle.polcert_rules.specs.declared.rule.Rule.{Rule}
+use Rattle.polcert_rules.specs.declared.index.Rule.{Rule}
 use Rattle.polcert_rules.specs.Keys.{key_base}
 use Rattle.polcert_rules.proofs.Indexes.Newer.{IsSpan}
 use Rattle.polcert_rules.proofs.row_rules.RowRules.part.Goals as goal

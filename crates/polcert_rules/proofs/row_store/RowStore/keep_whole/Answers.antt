@@ -1,6 +1,6 @@
 use Rattle.std.proofs.Common.{◌≡◌, ◌∙◌, ◌≤◌, ◌*◌, ℕ, List, length, sym, ap, subst, arith}
 use Rattle.polcert_cells.specs.Numbers.{one}
-use Rattle.polcert_cells.specs.declared.cell.Cell.{Cell}
+use Rattle.polcert_cells.specs.declared.elements.Cell.{Cell}
 use Rattle.polcert_cells.specs.Sparse.{weight_at, scaled_cells, IsRow, IsSparse}
 use Rattle.polcert_rules.specs.Steps.Merging.{given_at}
 use Rattle.polcert_rules.specs.Steps.Sources.{IsAfter}

@@ -1,6 +1,6 @@
 use Rattle.std.proofs.Common.{◌≡◌, ◌∙◌, ◌≤◌, ◌*◌, ◌==◌, List, length, refl, sym, ap, subst, arith, rules}
 use Rattle.polcert_cells.specs.Numbers.{one}
-use Rattle.polcert_cells.specs.declared.cell.Cell.{Cell}
+use Rattle.polcert_cells.specs.declared.elements.Cell.{Cell}
 use Rattle.polcert_cells.specs.Sparse.{weight_at, IsSparse, IsRow}
 use Rattle.polcert_rules.specs.Steps.Lists.{stored_cells}
 use Rattle.polcert_rules.specs.Steps.Merging.{weight_in}

@@ -1,5 +1,5 @@
 use Rattle.std.proofs.Common.{◌∙◌, List, sym, ap}
-use Rattle.polcert_cells.specs.declared.cell.Cell.{Cell}
+use Rattle.polcert_cells.specs.declared.elements.Cell.{Cell}
 use Rattle.polcert_cells.specs.Sparse.{weight_at}
 use Rattle.polcert_cells.proofs.ScaledRows.{scaled_weight}
 use Rattle.polcert_rules.specs.Steps.Lists.{stored_cells}

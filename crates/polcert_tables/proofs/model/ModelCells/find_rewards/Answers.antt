@@ -4,7 +4,7 @@ use Rattle.polcert_cells.specs.Cells.{reward}
 use Rattle.polcert_cells.specs.CommonRewards.{IsCommonReward}
 use Rattle.polcert_cells.specs.declared.elements.Elements.{Elements}
 use Rattle.polcert_cells.specs.Preamble.{Preamble}
-use Rattle.polcert_cells.specs.declared.entry.Entry.{Entry}
+use Rattle.polcert_cells.specs.declared.entries.Entry.{Entry}
 use Rattle.polcert_rules.specs.Steps.Rewards.{AreRewardsOf}
 use Rattle.polcert_tables.specs.Steps.ModelView.{IsKeptModel}
 use Rattle.polcert_tables.specs.Contents.{Contents}

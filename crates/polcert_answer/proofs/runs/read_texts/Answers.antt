@@ -1,0 +1,19 @@
+use Rattle.polcert_answer.proofs.OfTexts.{denoted_slices, refused_slices}
+use Rattle.polcert_answer.proofs.runs.read_texts.Goals as goal
+
+pub returns-in-Ok : goal.returns-in-Ok
+returns-in-Ok c =
+    let both = denoted_slices
+    (λ s. s.rest.now) _ _ c.args.model.now c.new-model.ensures
+    (λ s. s.rest.now) _ _ c.args.graph.now c.new-graph.ensures
+    (λ s. s.rest.now) _ _ c.args.vectors.now c.new-vectors.ensures
+    c.args.rounding _ _ _ c.in-Ok.ensures.accepted in
+    record { graph_accepted = both.0; vectors_accepted = both.1; refused = tt }
+
+pub returns-in-Err-Text-clause-refused : goal.returns-in-Err-Text-clause-refused
+returns-in-Err-Text-clause-refused c =
+    refused_slices
+    (λ s. s.rest.now) _ _ c.args.model.now c.new-model.ensures
+    (λ s. s.rest.now) _ _ c.args.graph.now c.new-graph.ensures
+    (λ s. s.rest.now) _ _ c.args.vectors.now c.new-vectors.ensures
+    c.args.rounding _ c.in-Err-Text.ensures.refused c.in-Err-Text.fault (cc)

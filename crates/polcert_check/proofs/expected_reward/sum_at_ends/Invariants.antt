@@ -1,0 +1,15 @@
+use Rattle.std.proofs.Common.{◌≡◌, ◌-◌, ◌≤◌, pos, ◌*ℤ◌}
+use Rattle.polcert_check.specs.Horizon.{total_below}
+use Rattle.polcert_check.specs.Steps.Factored.{reward_at_end}
+use Rattle.polcert_cells.specs.BorrowedRows.{reached}
+use Rattle.polcert_check.proofs.expected_reward.sum_at_ends.Given as goal
+
+-- the sum so far
+abbrev pub invariant-loop-end : goal.invariant-loop-end
+invariant-loop-end g l = record {
+  sum : l.sum ≡ total_below (λ e. pos ((g.C.Cells.table l.cells).t l.a l.s e) *ℤ reward_at_end (g.C.Cells.table l.cells) l.a l.s e) (reached l.row l.at);
+  within : reached l.row l.at ≤ (g.C.Cells.table l.cells).states;
+}
+
+abbrev pub decreases-loop-end : goal.decreases-loop-end
+decreases-loop-end g l = (g.C.Cells.table l.cells).states - reached l.row l.at

@@ -1,5 +1,0 @@
-use Rattle.polcert_items.specs.Steps.Start.{AreUnmarked}
-use Rattle.polcert_items.proofs.chosen.Chosen.new.Given as goal
-
-abbrev pub invariant-loop : goal.invariant-loop
-invariant-loop l = AreUnmarked l.counter l.marks

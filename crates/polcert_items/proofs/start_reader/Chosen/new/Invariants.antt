@@ -1,0 +1,5 @@
+use Rattle.polcert_items.specs.Steps.Start.{AreUnmarked}
+use Rattle.polcert_items.proofs.start_reader.Chosen.new.Given as goal
+
+abbrev pub invariant-loop : goal.invariant-loop
+invariant-loop l = AreUnmarked l.counter l.marks

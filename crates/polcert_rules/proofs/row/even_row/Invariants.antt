@@ -1,0 +1,5 @@
+use Rattle.polcert_cells.specs.Sparse.{IsRow}
+use Rattle.polcert_rules.proofs.row.even_row.Given as goal
+
+abbrev pub invariant-loop-column : goal.invariant-loop-column
+invariant-loop-column l = IsRow l.column (λ c. l.weight) l.cells.items

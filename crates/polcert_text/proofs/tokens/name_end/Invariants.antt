@@ -1,0 +1,14 @@
+use Rattle.std.proofs.Common.{length, ◌-◌, ◌≡◌, ◌≤◌, take}
+use Rattle.polcert_text.specs.Steps.Scan.{state_through}
+use Rattle.polcert_text.specs.declared.tokens.State.TheVariants.{Start, Name}
+use Rattle.polcert_text.proofs.tokens.name_end.Given as goal
+
+abbrev pub invariant-loop-at : goal.invariant-loop-at
+invariant-loop-at l = record {
+  low : l.fn.from ≤ l.at;
+  high : l.at ≤ length l.bytes;
+  same : state_through Start (take l.fn.from l.bytes) ≡ Name → state_through Start (take l.at l.bytes) ≡ Name;
+}
+
+abbrev pub decreases-loop-at : goal.decreases-loop-at
+decreases-loop-at l = length l.bytes - l.at
