@@ -1,7 +1,7 @@
 -- What is read and taken, where the bytes are known.
-use Rattle.std.proofs.Common.{◌≡◌, ◌++◌, ◌∙◌, ◌∷◌, ap, sym, refl, append_assoc, ℕ, List, [], length, Option, None, IfSome, arith}
+use Rattle.std.proofs.Common.{◌≡◌, ◌++◌, ◌∷◌, refl, append_assoc, ℕ, List, [], length, Option, None, IfSome, arith}
 use Rattle.std.specs.Io.KnownBytes.{Consumes, Appends}
-use Rattle.std.proofs.KnownBytes.{Consumes-nil, Consumes-trans, Appends-nil, Appends-trans, Consumes-whole}
+use Rattle.std.proofs.KnownBytes.{Consumes-nil, Consumes-trans, Appends-nil, Appends-trans}
 use Rattle.std.proofs.lemmas.List.{append-nil}
 use Rattle.polcert_text.specs.Known.{ReadsKnown, WritesKnown}
 use Rattle.polcert_text.specs.Memory.{ReadsSlice}
@@ -21,11 +21,7 @@ module _ {S : Type 0} (remaining : S → Option (List ℕ)) where
 
   -- the text of such a source is all that its reader had
   pub text_known : {s t : S} {text : List ℕ} → IsText known_reads s text t → IfSome (remaining s) (λ xs. text ≡ xs)
-  text_known {s} {t} {text} is_text =
-      let gave = gave_known is_text.gave in
-      let last = is_text.ended in
-      let all : Consumes (remaining s) (remaining t) (text ++ []) = Consumes-trans _ _ _ _ _ gave last.0 in
-      Consumes-whole (remaining s) (remaining t) text (λ xs. text ≡ xs) (rw (append-nil text) at all) (last.1 refl is_text.has_room) refl
+  text_known h1 = grind (arith, append-nil, gave_known)
 
 module _ {S : Type 0} (contents : S → Option (List ℕ)) where
   -- the relation of one write of a sink over a writer of std
@@ -44,15 +40,11 @@ module _ {S : Type 0} (rest : S → List ℕ) where
 
   pub gave_slice : {s t : S} {bytes : List ℕ} → Gives slice_reads s bytes t → rest s ≡ bytes ++ rest t
   gave_slice {s} nothing = refl
-  gave_slice {s} {t} (more {bytes} {front} gave call some) =
-      gave_slice gave ∙ ap (λ xs. bytes ++ xs) call.0 ∙ sym (append_assoc bytes front (rest t))
+  gave_slice {s} {t} (more {bytes} {front} gave call some) = grind (arith, append_assoc, gave_slice gave)
 
   -- the text of a slice is what it had left
   pub text_slice : {s t : S} {text : List ℕ} → IsText slice_reads s text t → text ≡ rest s
-  text_slice {s} {t} {text} is_text =
-      let last = is_text.ended in
-      let all : rest is_text.before ≡ [] = last.0 ∙ last.1 refl is_text.has_room in
-      sym (gave_slice is_text.gave ∙ ap (λ xs. text ++ xs) all ∙ append-nil text)
+  text_slice h1 = grind (arith, append-nil, gave_slice)
 
 -- the same of the relations themselves
 pub slice_text : (rest after text : List ℕ) → IsText ReadsSlice rest text after → text ≡ rest

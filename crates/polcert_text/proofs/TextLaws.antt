@@ -1,15 +1,13 @@
 -- The laws of the definitions that proofs of the crates above may cite. Each is the contract of a public function.
-use Rattle.std.proofs.Common.{◌≡◌, ◌∙◌, ℕ, ◌<◌, ◌≤◌, Bool, true, false, ◌⊎◌, inl, inr, Option, Some, None, Result, Ok, Err, List, length, refl, sym, ap, subst, arith, ℤ, pos, ◌*ℤ◌, ◌≤ℤ◌}
+use Rattle.std.proofs.Common.{◌≡◌, ◌∙◌, ℕ, ◌≤◌, Bool, Option, Some, None, Result, Ok, Err, List, refl, sym, subst, arith, ℤ, ◌≤ℤ◌, rules}
 use Rattle.std.proofs.lemmas.Int.{ints}
 use Rattle.polcert_text.specs.Cut.{Lexeme, Rest, TakesToken, Ends, IsCut}
 use Rattle.polcert_text.specs.Reading.{GivesNext, lexeme_of}
-use Rattle.polcert_text.specs.Numbers.{millionth, size_of, signed, exponent_size, IsReadable, IsExact, IsFloor, IsCeil, IsRounded, IsRefused, IsRefusedExactly}
+use Rattle.polcert_text.specs.Numbers.{millionth, IsReadable, IsExact, IsFloor, IsCeil, IsRounded, IsRefused, IsRefusedExactly}
 use Rattle.polcert_text.specs.declared.tokens.Token.{Token}
 use Rattle.polcert_text.specs.declared.tokens.TokenFault.{TokenFault}
 use Rattle.polcert_text.specs.declared.number.Rounding.{Rounding}
-use Rattle.polcert_text.specs.declared.number.Rounding.TheVariants.{Down, Up}
 use Rattle.polcert_text.specs.declared.number.NumberFault.{NumberFault}
-use Rattle.polcert_text.specs.declared.number.NumberFault.TheVariants.{NotANumeral, TooLong, TooLarge, TooFine}
 use Rattle.polcert_text.proofs.Scanning.CutLaws as cuts
 use Rattle.polcert_text.proofs.Numbers.SizeLaws.{millionth_pos}
 use Rattle.polcert_text.proofs.Numbers.SignedLaws.{one_quotient, le_times_back}
@@ -39,8 +37,7 @@ ends_again rest None None later ends next = (refl, next.1)
 ends_again rest (Some f) None later ends next = absurd (none≢some f (one_end rest None (Some f) next.0 ends))
 ends_again rest x (Some (Ok token)) later ends next = absurd (token_or_end rest (lexeme_of token) later x next.0 ends)
 ends_again rest None (Some (Err f)) later ends next = absurd (none≢some f (one_end rest None (Some f) ends next.0))
-ends_again rest (Some g) (Some (Err f)) later ends next =
-    (ap (λ f. Some (Err f)) (some-eq f g (one_end rest (Some f) (Some g) next.0 ends)), next.1)
+ends_again rest (Some g) (Some (Err f)) later ends next = grind (arith, one_end, some-eq)
 
 pub refusal_again : (old new later : Rest) (fault : TokenFault) (answer : Option (Result Token TokenFault)) → GivesNext old (Some (Err fault)) new → GivesNext new answer later → (answer ≡ Some (Err fault)) × (later ≡ new)
 refusal_again old new later fault answer was next =
@@ -54,20 +51,13 @@ pub one_exact_value : (negative : Bool) (bs : List ℕ) (h k : ℤ) → IsExact 
 one_exact_value negative bs h k a b = one_quotient millionth millionth_pos h k (a ∙ sym b)
 
 pub one_floor : (negative : Bool) (bs : List ℕ) (h k : ℤ) → IsFloor negative bs h → IsFloor negative bs k → h ≡ k
-one_floor negative bs h k a b =
-    let up : h ≤ℤ k = b.greatest h a.not_above in
-    let down : k ≤ℤ h = a.greatest k b.not_above in
-    omega (arith, ints)
+one_floor negative bs h k a b = grind arith
 
 pub one_ceil : (negative : Bool) (bs : List ℕ) (h k : ℤ) → IsCeil negative bs h → IsCeil negative bs k → h ≡ k
-one_ceil negative bs h k a b =
-    let up : h ≤ℤ k = a.least k b.not_below in
-    let down : k ≤ℤ h = b.least h a.not_below in
-    omega (arith, ints)
+one_ceil negative bs h k a b = grind arith
 
 pub one_rounded : (rounding : Rounding) (negative : Bool) (bs : List ℕ) (h k : ℤ) → IsRounded rounding negative bs h → IsRounded rounding negative bs k → h ≡ k
-one_rounded Down = one_floor
-one_rounded Up = one_ceil
+one_rounded rounding negative bs h k h1 h2 = grind arith
 
 le_refl : (x y : ℤ) → x ≡ y → x ≤ℤ y
 le_refl x y e = omega (arith, ints)
@@ -76,51 +66,19 @@ le_through : (x y z : ℤ) → x ≤ℤ y → y ≤ℤ z → x ≤ℤ z
 le_through x y z a b = omega (arith, ints)
 
 pub exact_is_rounded : (rounding : Rounding) (negative : Bool) (bs : List ℕ) (h : ℤ) → IsExact negative bs h → IsRounded rounding negative bs h
-exact_is_rounded Down negative bs h e = record {
-  not_above = le_refl (h *ℤ pos millionth) (signed negative (size_of bs)) e;
-  greatest = λ k l. le_times_back millionth millionth_pos k h (subst (λ z. (k *ℤ pos millionth) ≤ℤ z) (sym e) l);
-}
-exact_is_rounded Up negative bs h e = record {
-  not_below = le_refl (signed negative (size_of bs)) (h *ℤ pos millionth) (sym e);
-  least = λ k l. le_times_back millionth millionth_pos h k (subst (λ z. z ≤ℤ (k *ℤ pos millionth)) (sym e) l);
-}
+exact_is_rounded rounding negative bs h h1 = grind (arith, millionth_pos, le_times_back, le_refl)
 
 pub floor_below_ceil : (negative : Bool) (bs : List ℕ) (h k : ℤ) → IsFloor negative bs h → IsCeil negative bs k → h ≤ℤ k
-floor_below_ceil negative bs h k f c =
-    le_times_back millionth millionth_pos h k (le_through (h *ℤ pos millionth) (signed negative (size_of bs)) (k *ℤ pos millionth) f.not_above c.not_below)
-
-true≢false : {b : Bool} → b ≡ true → b ≡ false → ⊥
-true≢false e f = cc
-
-not_long : (bs : List ℕ) → length bs ≤ 400 → exponent_size bs ≤ 400 → ((400 < length bs) ⊎ (400 < exponent_size bs)) → ⊥
-not_long bs short small (inl long) = omega arith
-not_long bs short small (inr large) = omega arith
+floor_below_ceil negative bs h k f c = search (rules, millionth_pos, le_times_back, le_through)
 
 pub readable_not_refused : (bs : List ℕ) (f : NumberFault) → IsReadable bs → IsRefused bs f → ⊥
-readable_not_refused bs NotANumeral r f = true≢false r.numeral f
-readable_not_refused bs TooLong r f = not_long bs r.short r.exponent f.1
-readable_not_refused bs TooLarge r f = omega (arith, r.size, f.3)
-readable_not_refused bs TooFine r f = f
+readable_not_refused bs f h1 h2 = grind arith
 
 pub one_number_fault : (bs : List ℕ) (f g : NumberFault) → IsRefused bs f → IsRefused bs g → f ≡ g
-one_number_fault bs NotANumeral NotANumeral a b = refl
-one_number_fault bs NotANumeral TooLong a b = absurd (true≢false b.0 a)
-one_number_fault bs NotANumeral TooLarge a b = absurd (true≢false b.0 a)
-one_number_fault bs TooLong NotANumeral a b = absurd (true≢false a.0 b)
-one_number_fault bs TooLong TooLong a b = refl
-one_number_fault bs TooLong TooLarge a b = absurd (not_long bs b.1 b.2 a.1)
-one_number_fault bs TooLarge NotANumeral a b = absurd (true≢false a.0 b)
-one_number_fault bs TooLarge TooLong a b = absurd (not_long bs a.1 a.2 b.1)
-one_number_fault bs TooLarge TooLarge a b = refl
-one_number_fault bs TooFine g a b = absurd a
-one_number_fault bs f TooFine a b = absurd b
+one_number_fault bs f g h1 h2 = grind arith
 
 pub exact_not_refused : (negative : Bool) (bs : List ℕ) (f : NumberFault) (h : ℤ) → IsReadable bs → IsExact negative bs h → IsRefusedExactly negative bs f → ⊥
-exact_not_refused negative bs TooFine h r e f = f.1 h e
-exact_not_refused negative bs f h r e g = readable_not_refused bs f r g
+exact_not_refused negative bs f h h1 h2 h3 = grind arith
 
 pub one_exact_fault : (negative : Bool) (bs : List ℕ) (f g : NumberFault) → IsRefusedExactly negative bs f → IsRefusedExactly negative bs g → f ≡ g
-one_exact_fault negative bs TooFine TooFine a b = refl
-one_exact_fault negative bs TooFine g a b = absurd (readable_not_refused bs g a.0 b)
-one_exact_fault negative bs f TooFine a b = absurd (readable_not_refused bs f b.0 a)
-one_exact_fault negative bs f g a b = one_number_fault bs f g a b
+one_exact_fault negative bs f g h1 h2 = grind arith

@@ -1,5 +1,5 @@
 -- The decimals of a number, digit by digit.
-use Rattle.std.proofs.Common.{◌≡◌, ◌∙◌, ℕ, suc, zero, ◌+◌, ◌-◌, ◌*◌, ◌/◌, ◌%◌, ◌^◌, ◌<◌, false, List, [], ◌∷◌, ◌++◌, refl, ap, subst, arith, append_assoc}
+use Rattle.std.proofs.Common.{◌≡◌, ◌∙◌, ℕ, suc, ◌+◌, ◌-◌, ◌*◌, ◌/◌, ◌%◌, ◌^◌, ◌<◌, false, List, [], ◌∷◌, ◌++◌, ap, arith, append_assoc}
 use Rattle.std.specs.Prelude.{◌==◌}
 use Rattle.std.proofs.lemmas.Bool.Decides.{nat_tests}
 use Rattle.std.proofs.Math.Nat.{pow-suc, one-le-pow, div-lt_iff_lt-mul}
@@ -13,16 +13,14 @@ not_zero r h = grind (arith, nat_tests)
 
 pub decimals-zero : (k : ℕ) → decimals k 0 ≡ []
 unfolding decimals
-decimals-zero zero = refl
-decimals-zero (suc k) = refl
+decimals-zero k = grind arith
 
 decimals-suc : (k r : ℕ) → 0 < r → decimals (suc k) r ≡ (48 + r / 10 ^ k) ∷ decimals k (r % 10 ^ k)
 unfolding decimals
 decimals-suc k r h = simp (not_zero r h)
 
 pub some_places : (k r : ℕ) → 0 < r → r < 10 ^ k → 0 < k
-some_places zero r h l = omega arith
-some_places (suc k) r h l = omega arith
+some_places k r h1 h2 = grind arith
 
 pub decimals-step : (k r : ℕ) → 0 < r → 0 < k → decimals k r ≡ (48 + r / 10 ^ (k - 1)) ∷ decimals (k - 1) (r % 10 ^ (k - 1))
 decimals-step k r h pos = let e : k ≡ suc (k - 1) = omega arith in ap (λ n. decimals n r) e ∙ decimals-suc (k - 1) r h
@@ -34,9 +32,7 @@ pub digit_below_suc : (k r : ℕ) → r < 10 ^ suc k → r / 10 ^ k < 10
 digit_below_suc k r l = below_ten r (10 ^ k) (ten_pos k) (omega (arith, pow-suc 10 k))
 
 pub digit_below : (k r : ℕ) → 0 < k → r < 10 ^ k → r / 10 ^ (k - 1) < 10
-digit_below k r pos l =
-    let e : k ≡ suc (k - 1) = omega arith in
-    digit_below_suc (k - 1) r (subst (λ n. r < 10 ^ n) e l)
+digit_below k r pos l = grind (arith, digit_below_suc)
 
 pub one_digit : (front : List ℕ) (d : ℕ) (more : List ℕ) → (front ++ d ∷ []) ++ more ≡ front ++ d ∷ more
 one_digit front d more = append_assoc front (d ∷ []) more

@@ -1,6 +1,5 @@
 -- Numerals that end within some bytes, and their values.
 use Rattle.std.proofs.Common.{◌≡◌, ◌∙◌, ◌⊎◌, ⊎_elim, ℕ, suc, ◌+◌, ◌-◌, ◌*◌, ◌^◌, ◌<◌, ◌≤◌, ◌&&◌, ◌||◌, min, true, false, List, [], ◌∷◌, ◌++◌, length, take, drop, get_or, pos, refl, sym, ap, arith}
-use Rattle.std.proofs.Math.IntN.{pos-*ℤ-pos}
 use Rattle.std.proofs.Math.Nat.{mul_assoc, suc-mul, mul-le-mul, mul-le-mul_right, pow-le-pow_right}
 use Rattle.std.proofs.lemmas.Nat.{pow-add}
 use Rattle.std.proofs.lemmas.List.{drop-take, drop_all, get_or-take, get_or-drop, length-take-le, length-drop, take-take}
@@ -10,7 +9,7 @@ use Rattle.polcert_text.specs.Bytes.{is_digit}
 use Rattle.polcert_text.specs.Steps.Classes.{class_of, glue_class}
 use Rattle.polcert_text.specs.Cut.{is_glued}
 use Rattle.polcert_text.specs.Lexemes.{are_digits}
-use Rattle.polcert_text.specs.Numbers.{largest, millionth, size_of, IsReadable, IsExact}
+use Rattle.polcert_text.specs.Numbers.{largest, IsReadable, IsExact}
 use Rattle.polcert_text.specs.Steps.Scaling.{cap, is_nonzero, Measures}
 use Rattle.polcert_text.specs.Steps.Scan.{state_through}
 use Rattle.polcert_text.specs.declared.bytes.ByteClass.{ByteClass}
@@ -54,30 +53,22 @@ blank_no_glue : (c : ByteClass) → ((c ≡ Blank) ⊎ (c ≡ LineEnd)) → glue
 blank_no_glue c h = ⊎_elim (ap glue_class) (ap glue_class) h
 
 glued_at : (bs : List ℕ) → 0 < length bs → is_glued Numeral bs ≡ glue_class (class_of (get_or bs 0 0))
-glued_at [] some = absurd (omega arith)
-glued_at (b ∷ bs) some = glue_by b refl
+glued_at bs h1 = grind (arith, glue_by)
 
 -- a numeral that a blank follows is not glued to it
 pub blank_after : (bs : List ℕ) (n : ℕ) → n < length bs → ((class_of (get_or bs n 0) ≡ Blank) ⊎ (class_of (get_or bs n 0) ≡ LineEnd)) → is_glued Numeral (drop n bs) ≡ false
-blank_after bs n inside blank =
-    let here : n + 0 ≡ n = omega arith in
-    glued_at (drop n bs) (omega (arith, length-drop n bs)) ∙ ap (λ b. glue_class (class_of b)) (get_or-drop n bs 0 0 ∙ ap (λ k. get_or bs k 0) here) ∙ blank_no_glue _ blank
+blank_after bs n inside blank = grind (arith, get_or-drop, length-drop, blank_no_glue, glued_at)
 
 digits_in_front : (bs : List ℕ) (n from until : ℕ) → until ≤ n → AreDigitsAt bs from until → AreDigitsAt (take n bs) from until
 digits_in_front bs n from until few digits = λ k low below. ap class_of (get_or-take n bs k 0 (omega arith)) ∙ digits k low below
 
 -- so many digits
 pub digits_there : (bs : List ℕ) (n : ℕ) → 0 < n → n ≤ length bs → AreDigitsAt bs 0 n → are_digits (take n bs) ≡ true
-digits_there bs n some high digits =
-    let len : length (take n bs) ≡ n = length-take-le n bs high in
-    some_digits (take n bs) (omega (arith, len))
-    (all_of_each (take n bs) (λ k below. digit_by (get_or (take n bs) k 0) (digits_in_front bs n 0 n (omega arith) digits k (omega arith) (omega (arith, len)))))
+digits_there bs n some high digits = grind (arith, length-take-le, digit_by, all_of_each, some_digits, digits_in_front)
 
 -- what was measured exactly
 pub measured_exactly : (bs : List ℕ) (floor : ℕ) → Measures bs floor false → IsExact false bs (pos floor)
-measured_exactly bs floor m =
-    let all : floor * millionth ≡ size_of bs = omega (arith, m.size, m.exact refl) in
-    pos-*ℤ-pos floor millionth ∙ ap pos all
+measured_exactly bs floor m = grind arith
 
 -- the number of a numeral of digits
 pub whole_exact : (bs : List ℕ) (n number : ℕ) → 0 < n → n ≤ 400 → n ≤ length bs → AreDigitsAt bs 0 n → number ≡ digits_value 10 (take n bs) → number * 1000000 < largest
@@ -123,24 +114,15 @@ decimal_exact bs p n number floor some low few short high first point second val
 
 -- one digit more is less than ten times as much
 pub small_step : (read number k d : ℕ) → d ≤ 57 → read < (number + 1) * 10 ^ k → read * 10 + (d - 48) < (number + 1) * 10 ^ (k + 1)
-small_step read number k d digit small =
-    let next : (number + 1) * 10 ^ (k + 1) ≡ (number + 1) * 10 ^ k * 10 = pow_next (number + 1) k in
-    omega (arith, next, small, digit)
+small_step read number k d digit small = grind (arith, pow_next)
 
 -- a number of at most seven digits
 pub small_whole : (whole p : ℕ) → p ≤ 7 → whole < (0 + 1) * 10 ^ (p - 0) → whole < 10000000
-small_whole whole p few small =
-    let high : p - 0 ≤ 7 = omega arith in
-    let powers : 10 ^ (p - 0) ≤ 10 ^ 7 = pow-le-pow_right (omega arith) high in
-    omega (arith, small, powers)
+small_whole whole p few small = grind (arith, pow-le-pow_right)
 
 -- and with six digits more
 pub small_read : (read number k : ℕ) → number < 10000000 → k ≤ 6 → read < (number + 1) * 10 ^ k → read < largest
-small_read read number k few high small =
-    let powers : 10 ^ k ≤ 10 ^ 6 = pow-le-pow_right (omega arith) high in
-    let above : number + 1 ≤ 10000000 = omega arith in
-    let all : (number + 1) * 10 ^ k ≤ 10000000 * 10 ^ 6 = mul-le-mul above powers in
-    omega (arith, small, all)
+small_read read number k few high small = grind (arith, mul-le-mul, pow-le-pow_right)
 
 -- a number with its decimals, in millionths
 pub small_scaled : (number whole k j : ℕ) → whole < 10000000 → k + j ≡ 6 → number < (whole + 1) * 10 ^ k → number * 10 ^ j < largest

@@ -1,9 +1,9 @@
 -- Numerals that end within some bytes, measured: digits, a point, and however many decimals.
-use Rattle.std.proofs.Common.{◌≡◌, ◌∙◌, ⊎_elim, ℕ, suc, ◌+◌, ◌-◌, ◌*◌, ◌^◌, ◌<◌, ◌≤◌, ◌||◌, ◌==◌, min, nat_lt, Bool, true, false, List, ◌++◌, length, take, drop, get_or, refl, sym, ap, arith}
+use Rattle.std.proofs.Common.{◌≡◌, ◌∙◌, ⊎_elim, ℕ, suc, ◌+◌, ◌-◌, ◌*◌, ◌^◌, ◌<◌, ◌≤◌, ◌||◌, min, nat_lt, Bool, true, false, List, ◌++◌, length, take, drop, get_or, sym, ap, arith}
 use Rattle.std.proofs.Math.Nat.{pow-suc, pow-le-pow_right}
 use Rattle.std.proofs.lemmas.List.{drop-take, get_or-take, get_or-drop, length-take-le, length-drop, take-take}
 use Rattle.std.proofs.lemmas.List.Folds.{list_any_at, list_any_more}
-use Rattle.std.proofs.lemmas.Bool.{eqb-true, lt-ltb, le-ltb}
+use Rattle.std.proofs.lemmas.Bool.{lt-ltb, le-ltb}
 use Rattle.std.specs.List.{list_any}
 use Rattle.std.specs.Str.Parse.{digits_value}
 use Rattle.polcert_text.specs.Steps.Classes.{class_of}
@@ -77,11 +77,7 @@ nonzero_there bs from at end low below high nonzero =
     list_any_at is_nonzero (take (end - from) (drop from bs)) n 0 (omega (arith, long)) (ap is_nonzero here ∙ nonzero)
 
 nonzero_byte : (b : ℕ) → (b ≡ 48 → ⊥) → is_nonzero b ≡ true
-nonzero_byte b not = at (b == 48) refl
-  where
-    at : (t : Bool) → (b == 48) ≡ t → is_nonzero b ≡ true
-    at true e = absurd (not (eqb-true b 48 e))
-    at false e = rw e refl
+nonzero_byte b not = grind arith
 
 -- after the zeros all are digits: one that isn't 0 is there if they go on
 pub tail_inexact : (bs : List ℕ) (from zeros end : ℕ) → from ≤ zeros → zeros ≤ end → end ≤ length bs → list_any is_nonzero (take (zeros - from) (drop from bs)) ≡ false
@@ -102,8 +98,4 @@ few_more read d m from at low small was =
 
 -- and it fits
 pub few_fit : (read m from at until : ℕ) → m + (until - from) ≤ 18 → from ≤ at → at < until → read < 10 ^ (m + (at - from)) → read < 10 ^ 17
-few_fit read m from at until few low below was =
-    let ten : 0 < 10 = omega arith in
-    let fewer : m + (at - from) ≤ 17 = omega (arith, few, low, below) in
-    let most : 10 ^ (m + (at - from)) ≤ 10 ^ 17 = pow-le-pow_right ten {j = 17} fewer in
-    omega (arith, most, was)
+few_fit read m from at until few low below was = grind (arith, pow-le-pow_right)

@@ -38,12 +38,10 @@ pub value-append : (xs ys : List ℕ) → digits_value 10 (xs ++ ys) ≡ digits_
 value-append xs ys = value_after-append 0 xs ys ∙ value_after (digits_value 10 xs) ys
 
 pub and-true_left : (x y : Bool) → (x && y) ≡ true → x ≡ true
-and-true_left true y h = refl
-and-true_left false y h = h
+and-true_left x y h1 = grind arith
 
 pub and-true_right : (x y : Bool) → (x && y) ≡ true → y ≡ true
-and-true_right true y h = h
-and-true_right false y h = cc
+and-true_right x y h1 = grind arith
 
 all_digits : (ds : List ℕ) → list_all is_digit ds ≡ true → AllDigits 10 ds
 all_digits [] h = tt
@@ -63,12 +61,10 @@ not_zero : (c : ℕ) → (c == 48) ≡ false → c ≡ 48 → ⊥
 not_zero c h e = grind (arith, nat_tests)
 
 or-false_left : (x y : Bool) → (not x || y) ≡ false → x ≡ true
-or-false_left true y h = refl
-or-false_left false y h = cc
+or-false_left x y h1 = grind arith
 
 or-false_right : (x y : Bool) → (not x || y) ≡ false → y ≡ false
-or-false_right true y h = h
-or-false_right false y h = cc
+or-false_right x y h1 = grind arith
 
 value_zero : (ds : List ℕ) → list_any is_nonzero ds ≡ false → digits_value 10 ds ≡ 0
 value_zero [] h = refl
@@ -79,8 +75,7 @@ value_zero (c ∷ cs) h =
     ap (λ n. digits_value_after 10 n cs) zero_in ∙ value_zero cs (or-false_right (c == 48) (list_any is_nonzero cs) h)
 
 or_rest : (z r : Bool) → z ≡ true → (not z || r) ≡ true → r ≡ true
-or_rest true r e h = h
-or_rest false r e h = cc
+or_rest z r h1 h2 = grind arith
 
 value_pos : (ds : List ℕ) → list_all is_digit ds ≡ true → list_any is_nonzero ds ≡ true → 0 < digits_value 10 ds
 value_pos [] a h = cc
@@ -139,11 +134,7 @@ module _ (ds : List ℕ) (digits : list_all is_digit ds ≡ true) (e power : ℕ
       let v = digits_value 10 (take kept ds) in
       let joined : j + power ≡ e = omega arith in
       mul_assoc v (10 ^ j) (10 ^ power) ∙ ap (λ p. v * p) (sym (pow-add 10 j power)) ∙ ap (λ p. v * 10 ^ p) joined
-  front_units kept j split (inr fits) =
-      let none : digits_value 10 (take kept ds) ≡ 0 = ap (λ k. digits_value 10 (take k ds)) fits.0 in
-      let left : digits_value 10 (take kept ds) * 10 ^ j * 10 ^ power ≡ 0 * 10 ^ j * 10 ^ power = ap (λ v. v * 10 ^ j * 10 ^ power) none in
-      let right : digits_value 10 (take kept ds) * 10 ^ e ≡ 0 * 10 ^ e = ap (λ v. v * 10 ^ e) none in
-      omega arith
+  front_units kept j split (inr fits) = grind arith
 
   back_digits : (kept : ℕ) → list_all is_digit (drop kept ds) ≡ true
   back_digits kept =
@@ -175,5 +166,4 @@ module _ (ds : List ℕ) (digits : list_all is_digit ds ≡ true) (e power : ℕ
       }
 
   pub measure : (kept : ℕ) → Fits e kept (length ds) power → IsPart (digits_value 10 ds * 10 ^ power) (digits_value 10 (take kept ds) * 10 ^ (kept - length ds)) e (list_any is_nonzero (drop kept ds))
-  measure kept fits =
-      ⊎_elim (λ inside. measure_cut kept inside fits) (λ over. measure_over kept (omega arith) (omega arith)) (order kept (length ds))
+  measure kept fits = grind (arith, ⊎_elim, order, measure_over, measure_cut)

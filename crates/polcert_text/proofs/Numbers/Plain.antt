@@ -51,9 +51,7 @@ side : (k p : ℕ) → (k < p) ⊎ ((k ≡ p) ⊎ (p + 1 ≤ k))
 side k p = grind arith
 
 pub run : (bs : List ℕ) (from n : ℕ) (state : State) → from + n ≤ length bs → state_after state Digit ≡ state → state_through states.Start (take from bs) ≡ state → ((k : ℕ) → k < n → class_of (get_or bs (from + k) 0) ≡ Digit) → state_through states.Start (take (from + n) bs) ≡ state
-run bs from zero state h on was digits =
-    let same : from + 0 ≡ from = omega arith in
-    ap (λ k. state_through states.Start (take k bs)) same ∙ was
+run bs from zero state h on was digits = grind arith
 run bs from (suc n) state h on was digits =
     let before = run bs from n state (omega arith) on was (λ k l. digits k (omega arith)) in
     let next : from + suc n ≡ from + n + 1 = omega arith in
@@ -61,8 +59,7 @@ run bs from (suc n) state h on was digits =
     ∙ state_step bs (from + n) state Digit state (omega arith) before (sym (digits n (omega arith))) (sym on)
 
 not_false : (b : Bool) → (b ≡ false → ⊥) → b ≡ true
-not_false true h = refl
-not_false false h = absurd (h refl)
+not_false b h1 = grind arith
 
 digit_of_all : (xs : List ℕ) (n : ℕ) → n < length xs → list_all is_digit xs ≡ true → is_digit (get_or xs n 0) ≡ true
 digit_of_all xs n h all = not_false (is_digit (get_or xs n 0)) (λ none. let none_all = list_all_at is_digit xs n 0 h none in cc)
@@ -72,18 +69,13 @@ at_or_after k n = grind arith
 
 -- as many as there are, or the first n
 take_fewer : (xs : List ℕ) (n k : ℕ) → k ≡ min (length xs) n → take n xs ≡ take k xs
-take_fewer xs n k e = ⊎_elim
-    (λ few. take_all n xs (omega arith) ∙ sym (take_all k xs (omega arith)))
-    (λ many. let same : n ≡ k = omega arith in ap (λ m. take m xs) same) (at_or_after (length xs) n)
+take_fewer xs n k e = grind (arith, ⊎_elim, take_all, at_or_after)
 
 drop_fewer : (xs : List ℕ) (n k : ℕ) → k ≡ min (length xs) n → drop n xs ≡ drop k xs
-drop_fewer xs n k e = ⊎_elim
-    (λ few. drop_all n xs (omega arith) ∙ sym (drop_all k xs (omega arith)))
-    (λ many. let same : n ≡ k = omega arith in ap (λ m. drop m xs) same) (at_or_after (length xs) n)
+drop_fewer xs n k e = grind (arith, ⊎_elim, drop_all, at_or_after)
 
 below_ceiling : (floor : ℕ) (is_inexact : Bool) → floor < largest → ceiling floor is_inexact ≤ largest
-below_ceiling floor true small = omega arith
-below_ceiling floor false small = omega arith
+below_ceiling floor is_inexact h1 = grind arith
 
 -- after `from` all are digits
 pub digits_at : (bs : List ℕ) (from k : ℕ) → list_all is_digit (drop from bs) ≡ true → from ≤ k → k < length bs → class_of (get_or bs k 0) ≡ Digit
@@ -95,9 +87,7 @@ digits_at bs from k all low high =
 
 module _ (bs : List ℕ) (p : ℕ) (plain : IsPlain bs p) where
   no_mark : (k : ℕ) → k < length bs → is_exponent_mark (get_or bs k 0) ≡ false
-  no_mark k l =
-      ⊎_elim (λ below. mark_by (get_or bs k 0) (plain.first k (omega arith) below))
-      (⊎_elim (λ at. ap (λ i. is_exponent_mark (get_or bs i 0)) at ∙ mark_by (get_or bs p 0) plain.point) (λ above. mark_by (get_or bs k 0) (plain.second k above l))) (side k p)
+  no_mark k l = grind (arith, ⊎_elim, mark_by, side)
 
   mantissa : before_first is_exponent_mark bs ≡ bs
   mantissa = before_all is_exponent_mark bs no_mark

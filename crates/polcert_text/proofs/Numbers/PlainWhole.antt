@@ -1,7 +1,7 @@
 -- A numeral of digits alone, read without a point and an exponent.
 use Rattle.std.proofs.Common.{◌≡◌, ◌∙◌, ℕ, ◌+◌, ◌-◌, ◌*◌, ◌^◌, ◌<◌, ◌≤◌, true, false, List, [], ◌++◌, length, take, drop, take_all, append-nil, get_or, refl, sym, ap, subst, arith}
 use Rattle.std.proofs.lemmas.List.{drop_all}
-use Rattle.std.specs.Prelude.{Option, Some, None, IfSome}
+use Rattle.std.specs.Prelude.{Option, IfSome}
 use Rattle.std.specs.List.{list_any, before_first, after_first}
 use Rattle.std.specs.Str.Parse.{digits_value}
 use Rattle.polcert_text.specs.Bytes.{is_exponent_mark, is_point}
@@ -65,7 +65,4 @@ module _ (bs : List ℕ) (some : 0 < length bs) (digits : (k : ℕ) → 0 ≤ k 
 
   pub whole_is_plain : (number : ℕ) → length bs ≤ 400 → number ≡ digits_value 10 bs → (size : Option Size)
       → IfSome size (λ s. s.floor ≡ number * 1000000) → IfSome size (λ s. s.is_inexact ≡ false) → IfSome size (λ s. number * 1000000 < largest) → IfSome size IsSizeOf
-  whole_is_plain number short value None floor inexact small = tt
-  whole_is_plain number short value (Some s) floor inexact small =
-      subst (λ n. IsReadable bs × Measures bs n s.is_inexact × (ceiling n s.is_inexact ≤ largest)) (sym floor)
-      (subst (λ b. IsReadable bs × Measures bs (number * 1000000) b × (ceiling (number * 1000000) b ≤ largest)) (sym inexact) (whole_measures number short value small))
+  whole_is_plain number h1 h2 size h3 h4 h5 = grind (arith, whole_measures)

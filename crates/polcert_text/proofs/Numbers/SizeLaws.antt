@@ -1,17 +1,17 @@
 -- The size of a numeral, from its digits.
-use Rattle.std.proofs.Common.{◌≡◌, ◌∙◌, ℕ, suc, ◌+◌, ◌-◌, ◌*◌, ◌^◌, ◌<◌, ◌≤◌, min, Bool, true, false, not, cond, ◌&&◌, ◌||◌, inl, inr, ⊎_elim, List, [], ◌∷◌, ◌++◌, length, take, drop, refl, sym, ap, subst, arith, length-append}
+use Rattle.std.proofs.Common.{◌≡◌, ◌∙◌, ℕ, ◌+◌, ◌-◌, ◌*◌, ◌^◌, ◌<◌, ◌≤◌, min, Bool, true, false, ◌&&◌, inl, List, [], ◌∷◌, ◌++◌, length, take, drop, refl, ap, subst, arith, length-append}
 use Rattle.std.specs.Prelude.{if◌then◌else◌}
 use Rattle.std.specs.List.{list_all, list_any, before_first, after_first, position_or_len}
 use Rattle.std.specs.Str.Parse.{digits_value}
-use Rattle.std.proofs.lemmas.List.{take_all, drop_all, length-take, length-drop}
+use Rattle.std.proofs.lemmas.List.{length-take, length-drop}
 use Rattle.std.proofs.Math.Nat.{mul-le-mul_right, one-le-pow}
 use Rattle.std.proofs.lemmas.List.Folds.{list_all-append}
 use Rattle.polcert_text.specs.Bytes.{is_digit, is_exponent_mark, is_point}
-use Rattle.polcert_text.specs.Lexemes.{without_sign, is_mantissa, are_digits, is_numeral}
+use Rattle.polcert_text.specs.Lexemes.{without_sign, is_numeral}
 use Rattle.polcert_text.specs.Numbers.{whole_of, fraction_of, exponent_of, is_lowering, number_of, exponent_size, power_of, size_of, millionth, largest}
 use Rattle.polcert_text.proofs.Scanning.BeforeFirst.{after_first-pass}
 use Rattle.polcert_text.specs.Steps.Scaling.{cap, is_nonzero, IsScaled, ceiling, Measures}
-use Rattle.polcert_text.proofs.Numbers.MeasureLaws.{and-true_left, and-true_right, Fits, measure, order}
+use Rattle.polcert_text.proofs.Numbers.MeasureLaws.{and-true_left, and-true_right, Fits, measure}
 
 length-before : (p : ℕ → Bool) (bs : List ℕ) → length (before_first p bs) ≤ length bs
 length-before p bs = omega (arith, length-take (position_or_len p bs) bs)
@@ -19,43 +19,21 @@ length-before p bs = omega (arith, length-take (position_or_len p bs) bs)
 length-after : (p : ℕ → Bool) (bs : List ℕ) → length (after_first p bs) ≤ length bs
 length-after p bs = omega (arith, length-drop (position_or_len p bs + 1) bs)
 
-pub length-whole : (bs : List ℕ) → length (whole_of bs) ≤ length bs
-length-whole bs = let inner = length-before is_point (before_first is_exponent_mark bs) in let outer = length-before is_exponent_mark bs in omega arith
-
 pub length-fraction : (bs : List ℕ) → length (fraction_of bs) ≤ length bs
 length-fraction bs = let inner = length-after is_point (before_first is_exponent_mark bs) in let outer = length-before is_exponent_mark bs in omega arith
 
-mantissa_of_numeral : (bs : List ℕ) → is_numeral bs ≡ true → is_mantissa (before_first is_exponent_mark bs) ≡ true
-mantissa_of_numeral bs h = and-true_left (is_mantissa (before_first is_exponent_mark bs)) (not (list_any is_exponent_mark bs) || are_digits (without_sign (after_first is_exponent_mark bs))) h
-
 pub whole_digits : (bs : List ℕ) → is_numeral bs ≡ true → list_all is_digit (whole_of bs) ≡ true
-whole_digits bs h =
-    let m = before_first is_exponent_mark bs in
-    let sides = and-true_left (list_all is_digit (before_first is_point m) && list_all is_digit (after_first is_point m)) (list_any is_digit m) (mantissa_of_numeral bs h) in
-    and-true_left (list_all is_digit (before_first is_point m)) (list_all is_digit (after_first is_point m)) sides
+whole_digits bs h = grind arith
 
 pub fraction_digits : (bs : List ℕ) → is_numeral bs ≡ true → list_all is_digit (fraction_of bs) ≡ true
-fraction_digits bs h =
-    let m = before_first is_exponent_mark bs in
-    let sides = and-true_left (list_all is_digit (before_first is_point m) && list_all is_digit (after_first is_point m)) (list_any is_digit m) (mantissa_of_numeral bs h) in
-    and-true_right (list_all is_digit (before_first is_point m)) (list_all is_digit (after_first is_point m)) sides
+fraction_digits bs h = grind arith
 
 pub after-none : (p : ℕ → Bool) (bs : List ℕ) → list_any p bs ≡ false → after_first p bs ≡ []
 after-none p [] h = refl
-after-none p (b ∷ bs) h = at (p b) refl (after-none p bs)
-  where
-    at : (t : Bool) → p b ≡ t → (list_any p bs ≡ false → after_first p bs ≡ []) → after_first p (b ∷ bs) ≡ []
-    at true e more = let g : (p b || list_any p bs) ≡ false = h in let g2 = rw e at g in cc
-    at false e more = let g : (p b || list_any p bs) ≡ false = h in after_first-pass p b bs e ∙ more (rw e at g)
+after-none p (b ∷ bs) h = grind (arith, after_first-pass, after-none p bs)
 
 pub exponent_digits : (bs : List ℕ) → is_numeral bs ≡ true → list_all is_digit (without_sign (exponent_of bs)) ≡ true
-exponent_digits bs h = at (list_any is_exponent_mark bs) refl
-  where
-    at : (t : Bool) → list_any is_exponent_mark bs ≡ t → list_all is_digit (without_sign (exponent_of bs)) ≡ true
-    at true e =
-        let g : (not (list_any is_exponent_mark bs) || are_digits (without_sign (after_first is_exponent_mark bs))) ≡ true = and-true_right (is_mantissa (before_first is_exponent_mark bs)) (not (list_any is_exponent_mark bs) || are_digits (without_sign (after_first is_exponent_mark bs))) h in
-        and-true_left (list_all is_digit (without_sign (exponent_of bs))) (list_any is_digit (without_sign (exponent_of bs))) (rw e at g)
-    at false e = ap (λ xs. list_all is_digit (without_sign xs)) (after-none is_exponent_mark bs e)
+exponent_digits bs h = grind (arith, and-true_left, and-true_right, after-none)
 
 -- how many digits are kept
 abbrev pub kept_of : List ℕ → ℕ
@@ -65,23 +43,14 @@ abbrev pub digits_of : List ℕ → List ℕ
 digits_of bs = whole_of bs ++ fraction_of bs
 
 lowering_fits : (w f x len : ℕ) → len ≡ w + f → f ≤ 400 → x ≤ 400 → Fits 994 (w + 6 - x) len (1000 - x - f)
-lowering_fits w f x len is a b =
-    ⊎_elim (λ some. inl (omega arith)) (λ none. inr (omega arith, omega arith)) (order x (w + 6))
+lowering_fits w f x len is a b = grind arith
 
 raising_fits : (w f x len : ℕ) → len ≡ w + f → f ≤ 400 → x ≤ 400 → Fits 994 (w + 6 + x) len (1000 + x - f)
 raising_fits w f x len is a b = inl (omega arith)
 
 power_fits : (bs : List ℕ) → length bs ≤ 400 → exponent_size bs ≤ 400 → Fits 994 (kept_of bs) (length (digits_of bs)) (power_of bs)
 unfolding power_of
-power_fits bs short small = at (is_lowering (exponent_of bs)) refl
-  where
-    at : (t : Bool) → is_lowering (exponent_of bs) ≡ t → Fits 994 (kept_of bs) (length (digits_of bs)) (cond (is_lowering (exponent_of bs)) (1000 - exponent_size bs - length (fraction_of bs)) (1000 + exponent_size bs - length (fraction_of bs)))
-    at true e =
-        let f_short = length-fraction bs in
-        simp e (lowering_fits (length (whole_of bs)) (length (fraction_of bs)) (exponent_size bs) (length (digits_of bs)) (length-append (whole_of bs) (fraction_of bs)) (omega arith) small)
-    at false e =
-        let f_short = length-fraction bs in
-        simp e (raising_fits (length (whole_of bs)) (length (fraction_of bs)) (exponent_size bs) (length (digits_of bs)) (length-append (whole_of bs) (fraction_of bs)) (omega arith) small)
+power_fits bs short small = grind (arith, length-append, length-fraction, lowering_fits, raising_fits)
 
 pub numeral_measure : (bs : List ℕ) → is_numeral bs ≡ true → length bs ≤ 400 → exponent_size bs ≤ 400 → Measures bs (digits_value 10 (take (kept_of bs) (digits_of bs)) * 10 ^ (kept_of bs - length (digits_of bs))) (list_any is_nonzero (drop (kept_of bs) (digits_of bs)))
 unfolding size_of number_of millionth
@@ -92,15 +61,7 @@ numeral_measure bs numeral short small =
 
 -- reading no digit yet
 pub scaled_none : (kept : ℕ) → IsScaled kept [] (record { floor = 0; left = kept; is_inexact = false })
-scaled_none kept =
-    let left : kept ≡ kept - 0 = omega arith in
-    let front : take kept [] ≡ [] = take_all kept [] (omega arith) in
-    let back : drop kept [] ≡ [] = drop_all kept [] (omega arith) in
-    record {
-      floor = ap (λ ds. min cap (digits_value 10 ds)) (sym front);
-      left = left;
-      is_inexact = ap (list_any is_nonzero) (sym back);
-    }
+scaled_none kept = grind arith
 
 pub millionth_pos : 0 < millionth
 unfolding millionth
@@ -108,39 +69,25 @@ millionth_pos = one-le-pow 994 10 (omega arith)
 
 module _ (bs : List ℕ) where
   pub beyond : (size floor : ℕ) (is_inexact : Bool) → Measures bs size is_inexact → floor ≡ min cap size → largest < ceiling floor is_inexact → largest * millionth < size_of bs
-  beyond size floor true m is more =
-      let at : largest ≤ size = omega arith in
-      let product : largest * millionth ≤ size * millionth = mul-le-mul_right millionth at in
-      omega (arith, product, m.size, m.inexact refl)
+  beyond size floor true m is more = grind (arith, mul-le-mul_right)
   beyond size floor false m is more =
       let at : largest + 1 ≤ size = omega arith in
       let product : (largest + 1) * millionth ≤ size * millionth = mul-le-mul_right millionth at in
       omega (arith, product, m.size, millionth_pos)
 
   pub within : (floor : ℕ) (is_inexact : Bool) → Measures bs floor is_inexact → ceiling floor is_inexact ≤ largest → size_of bs ≤ largest * millionth
-  within floor true m small =
-      let product : (floor + 1) * millionth ≤ largest * millionth = mul-le-mul_right millionth small in
-      omega (arith, product, m.size, m.below)
-  within floor false m small =
-      let product : floor * millionth ≤ largest * millionth = mul-le-mul_right millionth small in
-      omega (arith, product, m.size, m.exact refl)
+  within floor is_inexact h1 h2 = grind (arith, mul-le-mul_right)
 
   -- a size below the bound isn't cut off
   below_cap : (size floor : ℕ) (is_inexact : Bool) → floor ≡ min cap size → ceiling floor is_inexact ≤ largest → size ≡ floor
-  below_cap size floor true is small = omega arith
-  below_cap size floor false is small = omega arith
+  below_cap size floor is_inexact h1 h2 = grind arith
 
   pub exact_floor : (size floor : ℕ) (is_inexact : Bool) → Measures bs size is_inexact → floor ≡ min cap size → ceiling floor is_inexact ≤ largest → Measures bs floor is_inexact
   exact_floor size floor is_inexact m is small = subst (λ n. Measures bs n is_inexact) (below_cap size floor is_inexact is small) m
 
   -- the same of the parts that the code has
   pub parts_measure : (whole fraction : List ℕ) (lowers : Bool) (exponent kept : ℕ) (is_inexact : Bool) → is_numeral bs ≡ true → length bs ≤ 400 → whole ≡ whole_of bs → fraction ≡ fraction_of bs → lowers ≡ is_lowering (exponent_of bs) → exponent ≡ exponent_size bs → exponent ≤ 400 → kept ≡ (if lowers then length whole + 6 - exponent else length whole + 6 + exponent) → is_inexact ≡ list_any is_nonzero (drop kept (whole ++ fraction)) → Measures bs (digits_value 10 (take kept (whole ++ fraction)) * 10 ^ (kept - length (whole ++ fraction))) is_inexact
-  parts_measure whole fraction lowers exponent kept is_inexact numeral short whole_is fraction_is lowers_is exponent_is small kept_is inexact_is =
-      let kept_same : kept ≡ kept_of bs = kept_is ∙ (λ i. cond (lowers_is i) (length (whole_is i) + 6 - exponent_is i) (length (whole_is i) + 6 + exponent_is i)) in
-      let M : List ℕ → List ℕ → ℕ → Type 0 = λ w f k. Measures bs (digits_value 10 (take k (w ++ f)) * 10 ^ (k - length (w ++ f))) (list_any is_nonzero (drop k (w ++ f))) in
-      let base : M (whole_of bs) (fraction_of bs) (kept_of bs) = numeral_measure bs numeral short (omega arith) in
-      subst (Measures bs (digits_value 10 (take kept (whole ++ fraction)) * 10 ^ (kept - length (whole ++ fraction)))) (sym inexact_is)
-      (subst (λ w. M w fraction kept) (sym whole_is) (subst (λ f. M (whole_of bs) f kept) (sym fraction_is) (subst (M (whole_of bs) (fraction_of bs)) (sym kept_same) base)))
+  parts_measure whole fraction lowers exponent kept is_inexact numeral short whole_is fraction_is lowers_is exponent_is small kept_is inexact_is = grind (arith, numeral_measure)
 
 pub capped_exponent : (bs digits : List ℕ) (e : ℕ) → digits ≡ without_sign (exponent_of bs) → e ≡ min 401 (digits_value 10 digits) → e ≡ min 401 (exponent_size bs)
 unfolding exponent_size

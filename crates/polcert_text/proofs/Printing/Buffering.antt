@@ -1,5 +1,5 @@
 -- What a sink took through a buffer.
-use Rattle.std.proofs.Common.{◌≡◌, ◌∙◌, ◌++◌, ℕ, List, [], Option, Result, refl, sym, ap, subst, append_assoc, append-nil}
+use Rattle.std.proofs.Common.{◌≡◌, ◌∙◌, ◌++◌, ℕ, List, [], Option, Result, refl, sym, ap, subst, append_assoc, append-nil, arith}
 use Rattle.polcert_text.specs.Device.{HasFailed}
 use Rattle.polcert_text.specs.Sink.{Takes, TakesFront, WritesText, nothing, more}
 use Rattle.polcert_text.specs.Steps.Buffer.{PassesOn, WritesBuffered}
@@ -13,12 +13,7 @@ module _ {S : Type 0} {writes : S → Option (List ℕ) → S → Type 0} {failu
   -- and where what was held was written before, they are all that is held
   pub holds_alone : {to : S} (held bytes empty held' : List ℕ) → Takes writes from held to → failures to ≡ failures from → empty ≡ [] → held' ≡ empty ++ bytes
       → PassesOn writes failures from held bytes to held'
-  holds_alone held bytes empty held' took same none e = record {
-    passed = held;
-    took = took;
-    same_count = same;
-    whole = ap (λ bs. held ++ bs) (sym (e ∙ ap (λ bs. bs ++ bytes) none));
-  }
+  holds_alone held bytes empty held' took same none e = grind arith
 
 -- where nothing was held before, what was passed on and what is held make up the text
 made_up : (old text passed rest : List ℕ) → old ≡ [] → old ++ text ≡ passed ++ rest → passed ++ rest ≡ text

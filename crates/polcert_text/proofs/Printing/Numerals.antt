@@ -49,9 +49,7 @@ pub record IsPlain (text : List ℕ) : Type 0 where
   pub short : length text ≤ 30
 
 whole_state : (d : ℕ) (ds : List ℕ) → list_all is_digit (d ∷ ds) ≡ true → state_through Start (d ∷ ds) ≡ Whole
-whole_state d ds h =
-    ap (λ c. state_through (state_after Start c) ds) (digit_class_is d (and-true_left (is_digit d) (list_all is_digit ds) h))
-    ∙ digits_stay Whole refl ds (and-true_right (is_digit d) (list_all is_digit ds) h)
+whole_state d ds h = grind (arith, and-true_left, and-true_right, digit_class_is, digits_stay)
 
 pub plain_whole : (ds : List ℕ) → list_all is_digit ds ≡ true → 0 < length ds → length ds ≤ 20 → IsPlain ds
 plain_whole [] h some few = absurd (omega (arith, some))

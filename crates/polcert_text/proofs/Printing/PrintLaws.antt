@@ -1,10 +1,10 @@
 -- The text of a number of millionths is a numeral of just that value.
-use Rattle.std.proofs.Common.{◌≡◌, ◌∙◌, ℕ, suc, zero, ◌+◌, ◌-◌, ◌*◌, ◌/◌, ◌%◌, ◌^◌, ◌<◌, ◌≤◌, Bool, true, false, not, cond, ◌&&◌, ◌||◌, List, [], ◌∷◌, ◌++◌, length, refl, sym, ap, subst, arith, decimal, append-nil, ℤ, pos, negsuc}
+use Rattle.std.proofs.Common.{◌≡◌, ◌∙◌, ℕ, suc, zero, ◌+◌, ◌-◌, ◌*◌, ◌/◌, ◌%◌, ◌^◌, ◌<◌, ◌≤◌, Bool, true, false, cond, ◌&&◌, ◌||◌, List, [], ◌∷◌, ◌++◌, length, refl, sym, ap, subst, arith, decimal, append-nil, ℤ, pos, negsuc}
 use Rattle.std.proofs.lemmas.Int.{ints}
 use mir.Val.{SFits}
 use mir.Syntax.{w64}
 use Rattle.std.specs.Prelude.{◌==◌}
-use Rattle.std.specs.Char.{digit_value, is_ascii_digit, is_ascii_alphabetic}
+use Rattle.std.specs.Char.{digit_value}
 use Rattle.std.specs.List.{list_all, list_any, before_first, after_first}
 use Rattle.std.specs.Str.Parse.{digits_value, digits_value_after}
 use Rattle.std.proofs.lemmas.Bool.Decides.{nat_tests}
@@ -13,7 +13,7 @@ use Rattle.std.proofs.lemmas.Fmt.{decimal_by_steps, decimal_is_IsNumeral, decima
 use Rattle.std.proofs.lemmas.Nat.{pow-add, div-add-mod'}
 use Rattle.std.proofs.Math.Nat.{mod-lt, mul_assoc}
 use Rattle.polcert_text.specs.Bytes.{is_digit, is_point, is_exponent_mark}
-use Rattle.polcert_text.specs.Lexemes.{without_sign, are_digits, is_mantissa, is_numeral}
+use Rattle.polcert_text.specs.Lexemes.{without_sign, is_numeral}
 use Rattle.polcert_text.specs.Numbers.{whole_of, fraction_of, exponent_of, is_lowering, number_of, exponent_size, power_of, size_of, millionth, signed, IsExact, Denotes}
 use Rattle.polcert_text.proofs.Scanning.BeforeFirst.{before_first-stop, before_first-pass, after_first-stop, after_first-pass}
 use Rattle.polcert_text.specs.Millionths.{decimals, fraction_text, unsigned_text, scaled_text}
@@ -86,11 +86,7 @@ none_among p other (d ∷ ds) h =
 
 before-none : (p : ℕ → Bool) (bs : List ℕ) → list_any p bs ≡ false → before_first p bs ≡ bs
 before-none p [] h = refl
-before-none p (b ∷ bs) h = at (p b) refl (before-none p bs)
-  where
-    at : (t : Bool) → p b ≡ t → (list_any p bs ≡ false → before_first p bs ≡ bs) → before_first p (b ∷ bs) ≡ b ∷ bs
-    at true e more = let g : (p b || list_any p bs) ≡ false = h in let g2 = rw e at g in cc
-    at false e more = let g : (p b || list_any p bs) ≡ false = h in before_first-pass p b bs e ∙ ap (λ xs. b ∷ xs) (more (rw e at g))
+before-none p (b ∷ bs) h = grind (arith, before_first-pass, before-none p bs)
 
 before-at : (p : ℕ → Bool) (xs ys : List ℕ) (y : ℕ) → list_any p xs ≡ false → p y ≡ true → before_first p (xs ++ y ∷ ys) ≡ xs
 before-at p [] ys y h e = before_first-stop p y ys e
@@ -131,22 +127,10 @@ unfolding is_exponent_mark
 point_no_mark = refl
 
 falls_with_point : (whole fraction : List ℕ) → list_all is_digit whole ≡ true → list_all is_digit fraction ≡ true → FallsInto (whole ++ 46 ∷ fraction) whole fraction
-falls_with_point whole fraction w f =
-    let no_point = none_among is_point point_no_digit whole w in
-    record {
-      no_exponent = list_any-append is_exponent_mark whole (46 ∷ fraction) ∙ (λ i. none_among is_exponent_mark mark_no_digit whole w i || (point_no_mark i || none_among is_exponent_mark mark_no_digit fraction f i));
-      whole_is = before-at is_point whole fraction 46 no_point point_is;
-      fraction_is = after-at is_point whole fraction 46 no_point point_is;
-    }
+falls_with_point whole fraction w f = grind (arith, list_any-append, none_among, before-at, after-at, mark_no_digit, point_no_digit, point_is, point_no_mark)
 
 falls_alone : (whole : List ℕ) → list_all is_digit whole ≡ true → FallsInto whole whole []
-falls_alone whole w =
-    let no_point = none_among is_point point_no_digit whole w in
-    record {
-      no_exponent = none_among is_exponent_mark mark_no_digit whole w;
-      whole_is = before-none is_point whole no_point;
-      fraction_is = after-none is_point whole no_point;
-    }
+falls_alone whole w = grind (arith, after-none, none_among, before-none, mark_no_digit, point_no_digit)
 
 text_falls : (w : List ℕ) (r : ℕ) → list_all is_digit w ≡ true → r < 1_000_000 → FallsInto (w ++ fraction_text r) w (decimals 6 r)
 text_falls w r digits h = at (r == 0) refl
@@ -165,10 +149,7 @@ some_digit [] more h a = absurd (omega arith)
 some_digit (d ∷ ds) more h a = simp (and-true_left (is_digit d) (list_all is_digit ds) a)
 
 numeral_from_parts : (text whole fraction : List ℕ) → FallsInto text whole fraction → list_all is_digit whole ≡ true → list_all is_digit fraction ≡ true → list_any is_digit text ≡ true → is_numeral text ≡ true
-numeral_from_parts text whole fraction falls w f some =
-    let all : before_first is_exponent_mark text ≡ text = before-none is_exponent_mark text falls.no_exponent in
-    let mantissa : is_mantissa text ≡ true = λ i. (subst (λ xs. list_all is_digit xs ≡ true) (sym falls.whole_is) w i) && (subst (λ xs. list_all is_digit xs ≡ true) (sym falls.fraction_is) f i) && some i in
-    λ i. (ap is_mantissa all ∙ mantissa) i && (not (falls.no_exponent i) || are_digits (without_sign (after_first is_exponent_mark text)))
+numeral_from_parts text whole fraction falls w f some = grind (arith, before-none)
 
 scaled_up : (q v len r n e : ℕ) → len ≤ 6 → v * 10 ^ (6 - len) ≡ r → q * 1_000_000 + r ≡ n → (q * 10 ^ len + v) * 10 ^ (6 + e - len) ≡ n * 10 ^ e
 scaled_up q v len r n e few value whole =

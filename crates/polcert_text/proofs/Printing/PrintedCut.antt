@@ -1,5 +1,5 @@
 -- The lexemes of a text that is written lexeme by lexeme, each with blanks, line ends or nothing after it.
-use Rattle.std.proofs.Common.{◌≡◌, ◌∙◌, ℕ, ◌+◌, ◌<◌, ◌≤◌, true, false, Some, None, List, [], ◌∷◌, ◌++◌, length, take, drop, refl, sym, ap, subst, arith, append_assoc, append-nil, length-append, take_all}
+use Rattle.std.proofs.Common.{◌≡◌, ◌∙◌, ℕ, ◌+◌, ◌<◌, ◌≤◌, true, false, Some, None, List, [], ◌∷◌, ◌++◌, length, take, refl, sym, ap, subst, arith, append_assoc, append-nil, length-append, take_all, rules}
 use Rattle.std.specs.List.{list_all}
 use Rattle.std.proofs.Math.Seq.{drop-append_seam, get_or-append_seam}
 use Rattle.std.proofs.lemmas.List.{take_at, drop_all}
@@ -8,18 +8,16 @@ use Rattle.polcert_text.specs.Steps.Classes.{class_of, blank_class, glue_class}
 use Rattle.polcert_text.specs.Gaps.{is_gap}
 use Rattle.polcert_text.specs.Lexemes.{kind_of}
 use Rattle.polcert_text.specs.Fronts.{IsLongestGap, IsLongestLexeme}
-use Rattle.polcert_text.specs.Cut.{Lexeme, Rest, is_glued, IsTokenAt, TakesToken, EndsAt, Ends, IsCut}
+use Rattle.polcert_text.specs.Cut.{Lexeme, Rest, is_glued, TakesToken, Ends, IsCut}
 use Rattle.polcert_text.specs.Steps.Scan.{gap_after, gap_through, state_after, state_through, kind_at}
 use Rattle.polcert_text.specs.Steps.ScanOf.{IsFrontOf}
 use Rattle.polcert_text.specs.declared.bytes.ByteClass.{ByteClass}
-use Rattle.polcert_text.specs.declared.bytes.ByteClass.TheVariants as classes
 use Rattle.polcert_text.specs.declared.tokens.LexemePrefix.{LexemePrefix}
 use Rattle.polcert_text.specs.declared.tokens.Gap.{Gap}
 use Rattle.polcert_text.specs.declared.tokens.Gap.TheVariants.{Between, Ended}
 use Rattle.polcert_text.specs.declared.tokens.State.{State}
 use Rattle.polcert_text.specs.declared.tokens.State.TheVariants as states
 use Rattle.polcert_text.specs.declared.tokens.TokenKind.{TokenKind}
-use Rattle.polcert_text.specs.declared.tokens.TokenKind.TheVariants.{Numeral}
 use Rattle.polcert_text.proofs.Scanning.GapLaws.{gap_until_open, gap_through_more, longest_gap_at}
 use Rattle.polcert_text.proofs.Scanning.LexemeLaws.{none_empty, kind_of-through, state_through-append, front_keeps, front_whatever_follows}
 use Rattle.polcert_text.proofs.Numbers.MeasureLaws.{and-true_left, and-true_right}
@@ -29,9 +27,7 @@ abbrev pub rest_at : ℕ → List ℕ → Rest
 rest_at place bs = record { place = place; bytes = bs; ending = None }
 
 blank_between : (c : ByteClass) → blank_class c ≡ true → gap_after Between c ≡ Between
-blank_between classes.Blank h = refl
-blank_between classes.LineEnd h = refl
-blank_between _ h = cc
+blank_between c h1 = grind arith
 
 blanks_between : (gap : List ℕ) → list_all is_blank gap ≡ true → gap_through Between gap ≡ Between
 blanks_between [] h = refl
@@ -54,15 +50,7 @@ longest_blanks gap b more h stop =
     (gap_through_more (gap ++ b ∷ more) (length gap) inside ∙ (λ i. gap_after ((ap (gap_through Between) front ∙ blanks_between gap h) i) (class_of (get_or-append_seam gap b more 0 i))) ∙ stop)
 
 ends_blank : (place : ℕ) (gap : List ℕ) → list_all is_blank gap ≡ true → Ends (rest_at place gap) None
-ends_blank place gap h = record {
-  gap = length gap;
-  longest = record {
-    within = omega arith;
-    gap = ap is_gap (take_all (length gap) gap (omega arith)) ∙ blanks_gap gap h;
-    longest = λ k l m. absurd (omega (arith, l, m));
-  };
-  ends_at = subst (λ bs. EndsAt (place + length gap) bs None None) (sym (drop_all (length gap) gap (omega arith))) refl;
-}
+ends_blank place gap h = grind (arith, take_all, drop_all, blanks_gap)
 
 -- a lexeme with which no longer one continues
 longest_before : (w : List ℕ) (kind : TokenKind) (b : ℕ) (more : List ℕ) → kind_of w ≡ Some kind → state_after (state_through states.Start w) (class_of b) ≡ states.Stuck → IsLongestLexeme (w ++ b ∷ more) kind (length w)
@@ -79,38 +67,16 @@ longest_before w kind b more is stuck =
     subst (λ bs. IsLongestLexeme bs kind (length w)) (append_assoc w (b ∷ []) more) whole
 
 pub blank_stops : (state : State) (c : ByteClass) → blank_class c ≡ true → state_after state c ≡ states.Stuck
-blank_stops states.Start classes.Blank h = refl
-blank_stops _ classes.Blank h = refl
-blank_stops _ classes.LineEnd h = refl
-blank_stops _ _ h = cc
+blank_stops state c h1 = grind arith
 
 pub blank_no_glue : (c : ByteClass) → blank_class c ≡ true → glue_class c ≡ false
-blank_no_glue classes.Blank h = refl
-blank_no_glue classes.LineEnd h = refl
-blank_no_glue _ h = cc
+blank_no_glue c h1 = grind arith
 
 -- the next token after blanks
 takes_next : (place : ℕ) (gap w : List ℕ) (kind : TokenKind) (x : ℕ) (xs : List ℕ) (b : ℕ) (more after : List ℕ) → list_all is_blank gap ≡ true → w ≡ x ∷ xs → gap_after Between (class_of x) ≡ Ended
     → after ≡ b ∷ more → kind_of w ≡ Some kind → state_after (state_through states.Start w) (class_of b) ≡ states.Stuck → is_glued kind (b ∷ more) ≡ false → length w ≤ 400
     → TakesToken (rest_at place (gap ++ (w ++ after))) (record { kind = kind; place = place + length gap; bytes = w }) (rest_at (place + length gap + length w) after)
-takes_next place gap w kind x xs b more after h begins stop after_is is stuck apart short =
-    let token : Lexeme = record { kind = kind; place = place + length gap; bytes = w } in
-    let after_gap : drop (length gap) (gap ++ (w ++ after)) ≡ w ++ after = drop-append_seam gap (w ++ after) in
-    let following : drop (length w) (w ++ after) ≡ after = drop-append_seam w after in
-    let text : gap ++ x ∷ (xs ++ after) ≡ gap ++ (w ++ after) = ap (λ v. gap ++ (v ++ after)) (sym begins) in
-    let at : IsTokenAt (place + length gap) (w ++ after) token = record {
-      lexeme = subst (λ ys. IsLongestLexeme (w ++ ys) kind (length w)) (sym after_is) (longest_before w kind b more is stuck);
-      place_is = refl;
-      bytes_are = sym (take_at w after (length w) refl);
-      short = short;
-      apart = ap (is_glued kind) (following ∙ after_is) ∙ apart;
-    } in
-    record {
-      gap = length gap;
-      longest = subst (λ bs. IsLongestGap bs (length gap)) text (longest_blanks gap x (xs ++ after) h stop);
-      token_at = subst (λ bs. IsTokenAt (place + length gap) bs token) (sym after_gap) at;
-      rest = λ i. record { place = place + length gap + length w; bytes = (sym following ∙ ap (drop (length w)) (sym after_gap)) i; ending = None };
-    }
+takes_next place gap w kind x xs b more after h begins stop after_is is stuck apart short = search (rules, drop-append_seam, take_at, longest_blanks, longest_before, begins)
 
 -- ---- lexeme by lexeme
 -- a lexeme's kind and bytes, and what stands after it
@@ -155,10 +121,7 @@ none_some : {k : TokenKind} → None ≡ Some k → ⊥
 none_some e = cc
 
 class_begins : (c : ByteClass) (bs : List ℕ) (kind : TokenKind) → kind_at (state_through (state_after states.Start c) bs) ≡ Some kind → gap_after Between c ≡ Ended
-class_begins classes.Blank bs kind e = absurd (none_some (sym (ap kind_at (stays_stuck bs)) ∙ e))
-class_begins classes.LineEnd bs kind e = absurd (none_some (sym (ap kind_at (stays_stuck bs)) ∙ e))
-class_begins classes.Hash bs kind e = absurd (none_some (sym (ap kind_at (stays_stuck bs)) ∙ e))
-class_begins _ bs kind e = refl
+class_begins c bs kind h1 = grind (arith, stays_stuck, none_some)
 
 record Begins (w : List ℕ) : Type 0 where
   first : ℕ
@@ -195,26 +158,8 @@ lexemes-append place (u ∷ us) vs =
     ap (λ ls. l ∷ ls) (lexemes-append next us vs ∙ ap (λ p. lexemes_at next us ++ lexemes_at p vs) same)
 
 stops_further : (kind : TokenKind) (bytes after more : List ℕ) → Stops kind bytes after → Stops kind bytes (after ++ more)
-stops_further kind bytes after more s = record {
-  first = s.first;
-  more = s.more ++ more;
-  is = ap (λ bs. bs ++ more) s.is;
-  stuck = s.stuck;
-  apart = glued_first kind s.first s.more (s.more ++ more) s.apart;
-}
-  where
-    glued_first : (kind : TokenKind) (b : ℕ) (bs cs : List ℕ) → is_glued kind (b ∷ bs) ≡ false → is_glued kind (b ∷ cs) ≡ false
-    glued_first Numeral b bs cs e = e
-    glued_first _ b bs cs e = refl
+stops_further kind bytes after more s = grind arith
 
 pub printed-append : (us vs : List Printed) → ArePrinted us → ArePrinted vs → ArePrinted (us ++ vs)
 printed-append [] vs a b = b
-printed-append (u ∷ us) vs a b =
-    let p = a.0 in
-    let here : IsPrinted u (text_of us ++ text_of vs) = record {
-      kind = p.kind;
-      short = p.short;
-      blank = p.blank;
-      stops = subst (Stops u.kind u.bytes) (append_assoc u.following (text_of us) (text_of vs)) (stops_further u.kind u.bytes (u.following ++ text_of us) (text_of vs) p.stops);
-    } in
-    (subst (IsPrinted u) (sym (text-append us vs)) here, printed-append us vs a.1 b)
+printed-append (u ∷ us) vs a b = grind (arith, append_assoc, text-append, stops_further, printed-append us vs a.1 b)

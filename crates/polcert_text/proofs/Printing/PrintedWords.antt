@@ -1,5 +1,5 @@
 -- The lexemes of lines of words.
-use Rattle.std.proofs.Common.{◌≡◌, ◌∙◌, ℕ, ◌≤◌, true, false, Some, List, [], ◌∷◌, ◌++◌, length, map, codes, refl, sym, ap, subst, arith, append_assoc, append-nil}
+use Rattle.std.proofs.Common.{◌≡◌, ◌∙◌, ℕ, ◌≤◌, true, false, Some, List, [], ◌∷◌, ◌++◌, length, map, codes, refl, sym, ap, arith, append_assoc, append-nil, rules}
 use Rattle.std.specs.List.{list_all}
 use Rattle.polcert_text.specs.Bytes.{is_blank, is_letter, is_digit, is_point, is_exponent_mark}
 use Rattle.polcert_text.specs.Steps.Classes.{class_of, blank_class}
@@ -54,10 +54,7 @@ spelled_line w (v ∷ ws) = spelled w (codes " ") ++ spelled_line v ws
 
 -- ---- texts
 pub text_word : (w : Word) (following : List ℕ) → text_of (spelled w following) ≡ word_text w ++ following
-text_word (plain kind bytes) following = append-nil (bytes ++ following)
-text_word (key name) following =
-    (λ i. append-nil name i ++ append-nil (codes ":" ++ following) i) ∙ sym (append_assoc name (codes ":") following)
-text_word (minus numeral) following = ap (λ bs. 45 ∷ bs) (append-nil (numeral ++ following))
+text_word w following = grind (arith, append_assoc, append-nil, text_of)
 
 pub text_line : (w : Word) (ws : List Word) → text_of (spelled_line w ws) ≡ line (word_text w ∷ map word_text ws)
 text_line w [] = text_word w (codes "\n")
@@ -82,22 +79,10 @@ first_blank : (following : List ℕ) (b : Blank following) → blank_class (clas
 first_blank following b = sym (blank_by b.first refl) ∙ and-true_left (is_blank b.first) (list_all is_blank b.more) (ap (list_all is_blank) (sym b.is) ∙ b.all)
 
 not_glued : (kind : TokenKind) (b : ℕ) (more : List ℕ) → blank_class (class_of b) ≡ true → is_glued kind (b ∷ more) ≡ false
-not_glued Numeral b more h = glue_by b refl ∙ blank_no_glue (class_of b) h
-not_glued _ b more h = refl
+not_glued kind b more h1 = grind (arith, glue_by, blank_no_glue)
 
 piece_printed : (kind : TokenKind) (bytes following : List ℕ) → IsPiece kind bytes → Blank following → IsPrinted (record { kind = kind; bytes = bytes; following = following }) []
-piece_printed kind bytes following p b = record {
-  kind = p.kind_is;
-  short = p.short;
-  blank = b.all;
-  stops = record {
-    first = b.first;
-    more = b.more;
-    is = append-nil following ∙ b.is;
-    stuck = blank_stops (state_through states.Start bytes) (class_of b.first) (first_blank following b);
-    apart = not_glued kind b.first b.more (first_blank following b);
-  };
-}
+piece_printed kind bytes following p b = search (rules, append-nil, blank_stops, first_blank, not_glued)
 
 colon_piece : IsPiece Colon (codes ":")
 unfolding kind_of is_letter is_digit is_point is_exponent_mark
@@ -109,55 +94,23 @@ minus_piece = record { kind_is = refl; short = omega arith }
 
 -- no name continues with a colon
 name_state : (s : State) → kind_at s ≡ Some Name → state_after s classes.Colon ≡ states.Stuck
-name_state states.Name e = refl
-name_state (states.Single kind) e = refl
-name_state _ e = cc
+name_state s h1 = grind arith
 
 name_stops : (name more : List ℕ) → IsPiece Name name → Stops Name name (codes ":" ++ more)
-name_stops name more p = record {
-  first = 58;
-  more = more;
-  is = refl;
-  stuck = ap (state_after (state_through states.Start name)) colon_class ∙ name_state (state_through states.Start name) (sym (kind_of-through name) ∙ p.kind_is);
-  apart = refl;
-}
+name_stops name more p = grind (arith, kind_of-through, colon_class, name_state)
 
 minus_state : state_through states.Start (45 ∷ []) ≡ states.Single Minus
 unfolding class_of
 minus_state = refl
 
 minus_stops : (numeral more : List ℕ) → IsPlain numeral → Stops Minus (45 ∷ []) (numeral ++ more)
-minus_stops numeral more p = record {
-  first = p.digit;
-  more = p.rest ++ more;
-  is = ap (λ bs. bs ++ more) p.begins;
-  stuck = ap (λ s. state_after s (class_of p.digit)) minus_state;
-  apart = refl;
-}
+minus_stops numeral more p = grind (arith, minus_state)
 
 pub numeral_piece : (numeral : List ℕ) → IsPlain numeral → IsPiece Numeral numeral
 numeral_piece numeral p = record { kind_is = p.kind; short = omega (arith, p.short) }
 
 pub word_printed : (w : Word) (following : List ℕ) → IsSpelling w → Blank following → ArePrinted (spelled w following)
-word_printed (plain kind bytes) following s b = (piece_printed kind bytes following s b, tt)
-word_printed (key name) following s b = (
-  record {
-    kind = s.kind_is;
-    short = s.short;
-    blank = refl;
-    stops = name_stops name (following ++ []) s;
-  },
-  (piece_printed Colon (codes ":") following colon_piece b, tt),
-)
-word_printed (minus numeral) following s b = (
-  record {
-    kind = minus_piece.kind_is;
-    short = minus_piece.short;
-    blank = refl;
-    stops = subst (Stops Minus (45 ∷ [])) (sym (append-nil (numeral ++ following))) (minus_stops numeral following s);
-  },
-  (piece_printed Numeral numeral following (numeral_piece numeral s) b, tt),
-)
+word_printed w following h1 h2 = grind (arith, append-nil, piece_printed, colon_piece, minus_piece, name_stops, minus_stops, numeral_piece)
 
 pub line_printed : (w : Word) (ws : List Word) → IsSpelling w → AreSpellings ws → ArePrinted (spelled_line w ws)
 line_printed w [] a b = word_printed w (codes "\n") a line_end

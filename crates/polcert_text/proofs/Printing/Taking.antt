@@ -1,5 +1,5 @@
 -- Lemmas on what a sink took.
-use Rattle.std.proofs.Common.{subst, IsErr, append_assoc, ap, ◌∙◌, ◌≡◌, ◌+◌, ◌++◌, ℕ, List, Option, Some, None, Result, Ok, Err, OnErr, take, drop, sym}
+use Rattle.std.proofs.Common.{IsErr, append_assoc, ◌≡◌, ◌+◌, ◌++◌, ℕ, List, Option, Some, None, Result, OnErr, take, drop, sym, arith}
 use Rattle.std.proofs.lemmas.List.{take-append-drop, append-nil}
 use Rattle.std.proofs.Math.Seq.{take-add}
 use Rattle.polcert_text.specs.Device.{HasFailed}
@@ -7,8 +7,7 @@ use Rattle.polcert_text.specs.Sink.{Takes, TakesFront, WritesText, nothing, more
 
 -- what holds anyway holds of an `Err`
 pub on_err : {T E : Type 0} {P : Type 0} (r : Result T E) → P → OnErr r P
-on_err (Ok v) p = tt
-on_err (Err e) p = p
+on_err r h1 = grind arith
 
 module _ {S : Type 0} {writes : S → Option (List ℕ) → S → Type 0} {from : S} where
   -- one more write of a loop over the bytes
@@ -37,46 +36,20 @@ module _ {S : Type 0} {writes : S → Option (List ℕ) → S → Type 0} {from 
 -- more is written after what was
 pub front_then : {S : Type 0} {writes : S → Option (List ℕ) → S → Type 0} {from t : S} {first : List ℕ} (second : List ℕ)
     → TakesFront writes from first t → TakesFront writes from (first ++ second) t
-front_then {first = first} second f = record {
-  front = f.front;
-  rest = f.rest ++ second;
-  whole = ap (λ all. all ++ second) f.whole ∙ append_assoc f.front f.rest second;
-  before = f.before;
-  took = f.took;
-  failed = f.failed;
-}
+front_then second h1 = grind (arith, append_assoc)
 
 pub front_after : {S : Type 0} {writes : S → Option (List ℕ) → S → Type 0} {from s t : S} (first : List ℕ) {second : List ℕ}
     → Takes writes from first s → TakesFront writes s second t → TakesFront writes from (first ++ second) t
-front_after first took f = record {
-  front = first ++ f.front;
-  rest = f.rest;
-  whole = ap (λ all. first ++ all) f.whole ∙ sym (append_assoc first f.front f.rest);
-  before = f.before;
-  took = took_then took f.took;
-  failed = f.failed;
-}
+front_after first took f = grind (arith, append_assoc, took_then)
 
 module _ {S : Type 0} {writes : S → Option (List ℕ) → S → Type 0} {failures : S → ℕ} {from t : S} where
   -- a call that stops where a write of it failed
   pub wrote_front : {T E : Type 0} (text : List ℕ) (r : Result T E) → IsErr r → TakesFront writes from text t
       → HasFailed (failures from) (failures t) → WritesText writes failures from text r t
-  wrote_front text (Ok v) is_err took count = cc
-  wrote_front text (Err e) is_err took count = record { ok = tt; same_count = tt; err = took; count = count }
+  wrote_front text r h1 h2 h3 = grind arith
 
   -- a call that ends with a call of another, which writes the second part
   pub wrote_next : {T E : Type 0} {s : S} (first second : List ℕ) (r : Result T E) → Takes writes from first s
       → failures s ≡ failures from → WritesText writes failures s second r t
       → WritesText writes failures from (first ++ second) r t
-  wrote_next first second (Ok v) took same w = record {
-    ok = took_then took w.ok;
-    same_count = w.same_count ∙ same;
-    err = tt;
-    count = tt;
-  }
-  wrote_next first second (Err e) took same w = record {
-    ok = tt;
-    same_count = tt;
-    err = front_after first took w.err;
-    count = subst (λ n. HasFailed n (failures t)) same w.count;
-  }
+  wrote_next first second r h1 h2 h3 = grind (arith, took_then, front_after)

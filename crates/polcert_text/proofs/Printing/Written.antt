@@ -13,14 +13,12 @@ module _ {S : Type 0} {writes : S → Option (List ℕ) → S → Type 0} {failu
   -- the next part fails
   pub fails_at : {T E : Type 0} {s t : S} (first second : List ℕ) (r : Result T E) → IsErr r → HasWritten writes failures from first s
       → TakesFront writes s second t → HasFailed (failures s) (failures t) → WritesText writes failures from (first ++ second) r t
-  fails_at {t = t} first second r is_err h took count =
-      wrote_front (first ++ second) r is_err (front_after first h.took took) (subst (λ n. HasFailed n (failures t)) h.same count)
+  fails_at first second r h1 h2 h3 h4 = grind (arith, front_after, wrote_front)
 
   -- and what would come after it isn't written
   pub fails_before : {T E : Type 0} {t : S} (first second : List ℕ) (r : Result T E) → IsErr r → WritesText writes failures from first r t
       → WritesText writes failures from (first ++ second) r t
-  fails_before first second (Ok v) is_err w = cc
-  fails_before first second (Err e) is_err w = record { ok = tt; same_count = tt; err = front_then second w.err; count = w.count }
+  fails_before first second r h1 h2 = grind (arith, front_then)
 
   -- the last part
   pub ends_with : {T E : Type 0} {s t : S} (first second : List ℕ) (r : Result T E) → HasWritten writes failures from first s

@@ -1,8 +1,7 @@
 -- The classes of some bytes.
-use Rattle.std.proofs.Common.{◌≡◌, ◌∙◌, ℕ, zero, suc, ◌+◌, ◌-◌, ◌<◌, ◌≤◌, ◌==◌, ◌&&◌, ◌||◌, ◌⊎◌, Bool, true, false, cond, refl, sym, ap, subst, arith, inl, inr}
+use Rattle.std.proofs.Common.{◌≡◌, ℕ, zero, suc, ◌+◌, ◌-◌, ◌<◌, ◌≤◌, ◌==◌, ◌&&◌, ◌||◌, ◌⊎◌, Bool, true, false, cond, refl, subst, arith, inl, inr}
 use Rattle.std.specs.Prelude.{IsTrue}
 use Rattle.std.proofs.lemmas.Bool.{and_parts, cases_lt}
-use Rattle.std.specs.Char.{is_ascii_digit, is_ascii_alphabetic}
 use Rattle.std.proofs.lemmas.Bool.Decides.{nat_tests}
 use Rattle.polcert_text.specs.Steps.Classes.{class_of, blank_class, hash_class, digit_class, letter_class}
 use Rattle.polcert_text.specs.declared.bytes.ByteClass.{ByteClass}
@@ -56,14 +55,10 @@ unfolding class_of
 all_digits = refl
 
 pub is_digit_class : (c : ByteClass) → digit_class c ≡ true → c ≡ classes.Digit
-is_digit_class classes.Digit h = refl
-is_digit_class _ h = cc
+is_digit_class c h1 = grind arith
 
 pub digit_between : (b : ℕ) → 48 ≤ b → b ≤ 57 → class_of b ≡ classes.Digit
-digit_between b low high =
-    let n : ℕ = b - 48 in
-    let same : 48 + n ≡ b = omega arith in
-    ap class_of (sym same) ∙ is_digit_class (class_of (48 + n)) (all_below_at (λ n. digit_class (class_of (48 + n))) 10 n all_digits (omega arith))
+digit_between b low high = grind (arith, all_below_at, all_digits, is_digit_class)
 
 all_small : all_below (λ n. letter_class (class_of (97 + n))) 26 ≡ true
 unfolding class_of
@@ -77,9 +72,7 @@ abbrev pub IsLetter : ByteClass → Type 0
 IsLetter c = (c ≡ classes.Letter) ⊎ (c ≡ classes.ExponentMark)
 
 is_letter_class : (c : ByteClass) → letter_class c ≡ true → IsLetter c
-is_letter_class classes.Letter h = inl refl
-is_letter_class classes.ExponentMark h = inr refl
-is_letter_class _ h = cc
+is_letter_class c h1 = grind arith
 
 pub small_between : (b : ℕ) → 97 ≤ b → b ≤ 122 → IsLetter (class_of b)
 small_between b low high =
@@ -101,8 +94,7 @@ abbrev EndsGap : ByteClass → Type 0
 EndsGap c = (blank_class c ≡ false) × (hash_class c ≡ false)
 
 ends_after : (mark letter digit low point colon star plus minus : Bool) → EndsGap (class_after mark letter digit low point colon star plus minus)
-ends_after false false false false false false false false false = (refl, refl)
-ends_after _ _ _ _ _ _ _ _ _ = (refl, refl)
+ends_after mark letter digit low point colon star plus minus = grind arith
 
 pub not_equal : (b n : ℕ) → n < b → (b == n) ≡ false
 not_equal b n h = grind (arith, nat_tests)
@@ -112,8 +104,4 @@ not_blank b h = simp (not_equal b 9 (omega arith), not_equal b 13 (omega arith),
 
 pub above_hash : (b : ℕ) → 35 < b → EndsGap (class_of b)
 unfolding class_of
-above_hash b h =
-    let rest : ByteClass = class_after (b == 101 || b == 69) (is_ascii_alphabetic b) (is_ascii_digit b) (b == 95) (b == 46) (b == 58) (b == 42) (b == 43) (b == 45) in
-    let same : cond (b == 9 || b == 13 || b == 32) classes.Blank (cond (b == 10) classes.LineEnd (cond (b == 35) classes.Hash rest)) ≡ rest =
-    (λ i. cond (not_blank b h i) classes.Blank (cond (not_equal b 10 (omega arith) i) classes.LineEnd (cond (not_equal b 35 h i) classes.Hash rest))) in
-    subst EndsGap (sym same) (ends_after (b == 101 || b == 69) (is_ascii_alphabetic b) (is_ascii_digit b) (b == 95) (b == 46) (b == 58) (b == 42) (b == 43) (b == 45))
+above_hash b h = grind (arith, ends_after, not_equal, not_blank)

@@ -1,26 +1,17 @@
 -- The tokens of a text without a fault are its cut, if that ends cleanly.
-use Rattle.std.proofs.Common.{◌≡◌, ◌∙◌, ℕ, ◌+◌, ◌<◌, ◌≤◌, Bool, true, false, cond, Option, Some, None, List, [], ◌∷◌, length, take, drop, nat_lt, refl, sym, ap, subst, arith}
+use Rattle.std.proofs.Common.{◌≡◌, ◌∙◌, ℕ, ◌+◌, ◌≤◌, true, Option, Some, None, List, [], ◌∷◌, length, take, drop, refl, sym, ap, arith}
 use Rattle.std.proofs.lemmas.List.{length-drop, take_all, drop_all}
 use Rattle.std.proofs.lemmas.Bool.Decides.{nat_tests}
 use Rattle.polcert_text.specs.Cut.{Lexeme, Rest, Ends, EndsAt, IsCut, text_rest, text_limit}
 use Rattle.polcert_text.specs.Gaps.{is_gap}
 use Rattle.polcert_text.specs.Tokens.{AreTokensFrom, AreTokens}
 use Rattle.polcert_text.specs.declared.tokens.TokenFault.{TokenFault}
-use Rattle.polcert_text.specs.declared.tokens.TokenFault.TheVariants.{TextTooLong}
 
 abbrev rest_of : ℕ → List ℕ → Option TokenFault → Rest
 rest_of place bytes ending = record { place = place; bytes = bytes; ending = ending }
 
 ends_clean : (place : ℕ) (bytes : List ℕ) → is_gap bytes ≡ true → Ends (rest_of place bytes None) None
-ends_clean place bytes gap = record {
-  gap = length bytes;
-  longest = record {
-    within = omega arith;
-    gap = ap is_gap (take_all (length bytes) bytes (omega arith)) ∙ gap;
-    longest = λ k l m. absurd (omega (arith, l, m));
-  };
-  ends_at = subst (λ bs. EndsAt (place + length bytes) bs None None) (sym (drop_all (length bytes) bytes (omega arith))) refl;
-}
+ends_clean place bytes gap = grind (arith, take_all, drop_all)
 
 cut_from : (place : ℕ) (bytes : List ℕ) (tokens : List Lexeme) → AreTokensFrom place bytes tokens → IsCut (rest_of place bytes None) tokens None
 cut_from place bytes [] gap = ends_clean place bytes gap
@@ -41,8 +32,7 @@ whole_gap bytes n none gap =
 
 pub tokens_from : (rest : Rest) (tokens : List Lexeme) → IsCut rest tokens None → AreTokensFrom rest.place rest.bytes tokens
 tokens_from rest [] ends = whole_gap rest.bytes ends.gap (no_bytes _ _ _ ends.ends_at).0 ends.longest.gap
-tokens_from rest (token ∷ tokens) (following, takes, cut) =
-    (takes.gap, takes.longest, takes.token_at, subst (λ r. AreTokensFrom r.place r.bytes tokens) takes.rest (tokens_from following tokens cut))
+tokens_from rest (token ∷ tokens) (following, takes, cut) = grind (arith, tokens_from following tokens cut)
 
 -- a cut that ends cleanly is one of bytes that do
 pub ends_cleanly : (rest : Rest) (tokens : List Lexeme) → IsCut rest tokens None → rest.ending ≡ None
@@ -53,15 +43,7 @@ some≢none : {A : Type 0} {x : A} → Some x ≡ None → ⊥
 some≢none e = cc
 
 pub clean_cut : (text : List ℕ) (tokens : List Lexeme) → AreTokens text tokens → IsCut (text_rest text text_limit) tokens None
-clean_cut text tokens are = at (nat_lt text_limit (length text)) refl
-  where
-    at : (long : Bool) → nat_lt text_limit (length text) ≡ long → IsCut (cond long (rest_of 0 (take text_limit text) (Some (TextTooLong text_limit))) (rest_of 0 text None)) tokens None
-    at true e = let l : text_limit < length text = grind (arith, nat_tests) in absurd (omega (arith, l, are.short))
-    at false e = cut_from 0 text tokens are.each
+clean_cut text tokens are = grind (arith, nat_tests, cut_from)
 
 pub clean_tokens : (text : List ℕ) (tokens : List Lexeme) → IsCut (text_rest text text_limit) tokens None → AreTokens text tokens
-clean_tokens text tokens cut = at (nat_lt text_limit (length text)) refl cut
-  where
-    at : (long : Bool) → nat_lt text_limit (length text) ≡ long → IsCut (cond long (rest_of 0 (take text_limit text) (Some (TextTooLong text_limit))) (rest_of 0 text None)) tokens None → AreTokens text tokens
-    at true e cut = absurd (some≢none (ends_cleanly _ tokens cut))
-    at false e cut = record { short = grind (arith, nat_tests); each = tokens_from (rest_of 0 text None) tokens cut }
+clean_tokens text tokens cut = grind (arith, nat_tests, tokens_from, ends_cleanly, some≢none)

@@ -5,13 +5,12 @@ use Rattle.std.proofs.lemmas.List.{take_more, take-take, take-append-drop}
 use Rattle.polcert_text.specs.Fronts.{IsLongestGap}
 use Rattle.std.specs.List.{list_all, slice_split, onto_first}
 use Rattle.polcert_text.proofs.Scanning.Tests.{blank_by, hash_by, line_end_by}
-use Rattle.polcert_text.proofs.Scanning.BeforeFirst.{before_first-stop, before_first-pass}
+use Rattle.polcert_text.proofs.Scanning.BeforeFirst.{before_first-pass}
 use Rattle.polcert_text.specs.Bytes.{is_blank, is_hash, is_line_end}
 use Rattle.polcert_text.specs.Steps.Classes.{class_of}
 use Rattle.polcert_text.specs.Gaps.{is_gap_line, is_gap}
 use Rattle.polcert_text.specs.Steps.Scan.{gap_after, gap_through}
 use Rattle.polcert_text.specs.declared.bytes.ByteClass.{ByteClass}
-use Rattle.polcert_text.specs.declared.bytes.ByteClass.TheVariants.{Blank, LineEnd, Hash}
 use Rattle.polcert_text.specs.declared.tokens.Gap.{Gap}
 use Rattle.polcert_text.specs.declared.tokens.Gap.TheVariants.{Between, Comment, Ended}
 
@@ -27,33 +26,23 @@ continues Comment bs = others_right (slice_split is_line_end bs)
 continues Ended bs = false
 
 others-onto_first : (b : ℕ) (lines : List (List ℕ)) → others_right (onto_first b lines) ≡ others_right lines
-others-onto_first b [] = refl
-others-onto_first b (line ∷ lines) = refl
+others-onto_first b lines = grind arith
 
 is_gap_line-blank : (b : ℕ) (line : List ℕ) → is_hash b ≡ false → is_blank b ≡ true → is_gap_line (b ∷ line) ≡ is_gap_line line
 is_gap_line-blank b line e f = simp (before_first-pass is_hash b line e, f)
 
 all-onto_blank : (b : ℕ) (lines : List (List ℕ)) → is_hash b ≡ false → is_blank b ≡ true → list_all is_gap_line (onto_first b lines) ≡ list_all is_gap_line lines
-all-onto_blank b [] e f = simp (is_gap_line-blank b [] e f)
-all-onto_blank b (line ∷ lines) e f = simp (is_gap_line-blank b line e f)
+all-onto_blank b lines h1 h2 = grind (arith, is_gap_line-blank)
 
 all-onto_hash : (b : ℕ) (lines : List (List ℕ)) → is_hash b ≡ true → list_all is_gap_line (onto_first b lines) ≡ others_right lines
-all-onto_hash b [] e = simp (before_first-stop is_hash b [] e)
-all-onto_hash b (line ∷ lines) e = simp (before_first-stop is_hash b line e)
+all-onto_hash b lines h1 = grind arith
 
 all-onto_other : (b : ℕ) (lines : List (List ℕ)) → is_hash b ≡ false → is_blank b ≡ false → list_all is_gap_line (onto_first b lines) ≡ false
-all-onto_other b [] e f = simp (before_first-pass is_hash b [] e, f)
-all-onto_other b (line ∷ lines) e f = simp (before_first-pass is_hash b line e, f)
+all-onto_other b lines h1 h2 = grind (arith, before_first-pass)
 
 -- one more byte: what continues from before it is what continues from after it
 continues_at : (gap : Gap) (b : ℕ) (bs : List ℕ) (c : ByteClass) → class_of b ≡ c → continues gap (b ∷ bs) ≡ continues (gap_after gap c) bs
-continues_at Between b bs Blank e = simp (line_end_by b e) (all-onto_blank b (slice_split is_line_end bs) (hash_by b e) (blank_by b e))
-continues_at Between b bs LineEnd e = simp (line_end_by b e)
-continues_at Between b bs Hash e = simp (line_end_by b e) (all-onto_hash b (slice_split is_line_end bs) (hash_by b e))
-continues_at Between b bs _ e = simp (line_end_by b e) (all-onto_other b (slice_split is_line_end bs) (hash_by b e) (blank_by b e))
-continues_at Comment b bs LineEnd e = simp (line_end_by b e)
-continues_at Comment b bs _ e = simp (line_end_by b e) (others-onto_first b (slice_split is_line_end bs))
-continues_at Ended b bs c e = refl
+continues_at gap b bs c h1 = grind (arith, blank_by, hash_by, line_end_by, others-onto_first, all-onto_blank, all-onto_hash, all-onto_other)
 
 -- the same for several bytes
 pub continues_through : (gap : Gap) (front rest : List ℕ) → continues gap (front ++ rest) ≡ continues (gap_through gap front) rest
@@ -69,9 +58,7 @@ is_gap-through : (bs : List ℕ) → is_gap bs ≡ continues (gap_through Betwee
 is_gap-through bs = ap is_gap (sym (append-nil bs)) ∙ continues_through Between bs []
 
 open_continues : (gap : Gap) → (gap ≡ Ended → ⊥) → continues gap [] ≡ true
-open_continues Between h = refl
-open_continues Comment h = refl
-open_continues Ended h = absurd (h refl)
+open_continues gap h1 = grind arith
 
 pub gap_until_open : (bs : List ℕ) → (gap_through Between bs ≡ Ended → ⊥) → is_gap bs ≡ true
 gap_until_open bs h = is_gap-through bs ∙ open_continues (gap_through Between bs) h
@@ -88,8 +75,4 @@ no_gap_past bs n k h ended =
     ap is_gap (sym joined) ∙ continues_through Between (take n bs) rest ∙ ap (λ gap. continues gap rest) ended
 
 pub longest_gap_at : (bs : List ℕ) (i : ℕ) → i < length bs → is_gap (take i bs) ≡ true → gap_through Between (take (i + 1) bs) ≡ Ended → IsLongestGap bs i
-longest_gap_at bs i h gap ended = record {
-  within = omega arith;
-  gap = gap;
-  longest = λ k more _. no_gap_past bs (i + 1) k (omega arith) ended;
-}
+longest_gap_at bs i h gap ended = grind (arith, no_gap_past)

@@ -1,49 +1,24 @@
 -- How far a scan may be behind the longest lexeme that it found.
-use Rattle.std.proofs.Common.{◌≡◌, ◌+◌, ℕ, Bool, true, false, None, Some, List, ◌++◌, length, take, drop, take_all, refl, sym, ap, subst, ◌∙◌, arith}
+use Rattle.std.proofs.Common.{◌≡◌, ◌+◌, ℕ, Bool, true, false, None, Some, List, ◌++◌, length, take, drop, take_all, refl, subst, ◌∙◌, arith}
 use Rattle.std.proofs.lemmas.List.{take-append-drop}
 use Rattle.polcert_text.specs.Steps.ScanOf.{is_stuck, pending, IsFrontOf, IsScanOf}
 use Rattle.polcert_text.specs.declared.tokens.LexemeScan.{LexemeScan}
 use Rattle.polcert_text.proofs.Scanning.LexemeLaws.{front_whatever_follows, stuck_state}
 use Rattle.polcert_text.specs.Steps.Scan.{state_after, kind_at}
 use Rattle.polcert_text.specs.declared.bytes.ByteClass.{ByteClass}
-use Rattle.polcert_text.specs.declared.bytes.ByteClass.TheVariants as classes
 use Rattle.polcert_text.specs.declared.tokens.TokenKind.{TokenKind}
 use Rattle.polcert_text.specs.declared.tokens.State.{State}
-use Rattle.polcert_text.specs.declared.tokens.State.TheVariants.{Start, Whole, Point, Fraction, Mark, Sign, Stuck}
 
 -- a state that has read a lexeme waits for nothing
 pub none_pending : (state : State) (kind : TokenKind) → kind_at state ≡ Some kind → pending state ≡ 0
-none_pending Point kind e = absurd (cc)
-none_pending Mark kind e = absurd (cc)
-none_pending Sign kind e = absurd (cc)
-none_pending _ kind e = refl
-
--- a byte more is one more that waits, where it ends no lexeme and one may continue
-pub one_pending : (state : State) (c : ByteClass) → kind_at (state_after state c) ≡ None → is_stuck (state_after state c) ≡ false → pending (state_after state c) ≡ pending state + 1
-one_pending Start classes.Point k s = refl
-one_pending Whole classes.ExponentMark k s = refl
-one_pending Fraction classes.ExponentMark k s = refl
-one_pending Mark classes.Plus k s = refl
-one_pending Mark classes.Minus k s = refl
-one_pending _ classes.Digit k s = absurd (cc)
-one_pending _ _ k s = absurd (cc)
-
--- a scan that may continue was no dead end before
-pub was_open : (state : State) (c : ByteClass) → is_stuck (state_after state c) ≡ false → is_stuck state ≡ false
-was_open Stuck c s = s
-was_open _ c s = refl
+none_pending state kind h1 = grind arith
 
 pub after_some : (state : State) (kind : TokenKind) (len : ℕ) → kind_at state ≡ Some kind → len ≡ len + pending state
 after_some state kind len e = let none = none_pending state kind e in omega arith
 
 pub after_none : (state next : State) (c : ByteClass) (longest len : ℕ) → next ≡ state_after state c → kind_at next ≡ None
     → (is_stuck state ≡ false → len ≡ longest + pending state) → is_stuck next ≡ false → len + 1 ≡ longest + pending next
-after_none state next c longest len is none was not_stuck =
-    let here : is_stuck (state_after state c) ≡ false = ap is_stuck (sym is) ∙ not_stuck in
-    let more = one_pending state c (ap kind_at (sym is) ∙ none) here in
-    let before = was (was_open state c here) in
-    let same : pending next ≡ pending (state_after state c) = ap pending is in
-    omega arith
+after_none state next c longest len is none was not_stuck = grind arith
 
 -- a scan that went through all bytes, or up to a byte that no lexeme continues with, has found the longest lexeme
 pub scanned : (bs : List ℕ) (scan : LexemeScan) → IsScanOf (take scan.len bs) scan

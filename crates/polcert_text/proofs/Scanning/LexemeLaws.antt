@@ -42,12 +42,10 @@ completed (Single kind) bs = kind_if (is_empty bs) kind
 completed Stuck bs = None
 
 and-true : (b : Bool) → (b && true) ≡ b
-and-true true = refl
-and-true false = refl
+and-true b = grind arith
 
 cond-same : {A : Type 0} (b : Bool) (x : A) → cond b x x ≡ x
-cond-same true x = refl
-cond-same false x = refl
+cond-same b x = grind arith
 
 -- a numeral, where it is cut by recursion
 abbrev cut_numeral : List ℕ → Bool
@@ -56,9 +54,7 @@ cut_numeral bs =
     (list_all is_digit (before is_point m) && list_all is_digit (after is_point m) && list_any is_digit m) && exponent_fits bs
 
 numeral_cut : (bs : List ℕ) → is_numeral bs ≡ cut_numeral bs
-numeral_cut bs =
-    let m = before_is is_exponent_mark bs in
-    λ i. (list_all is_digit (before_is is_point (m i) i) && list_all is_digit (after_is is_point (m i) i) && list_any is_digit (m i)) && (not (list_any is_exponent_mark bs) || are_digits (without_sign (after_is is_exponent_mark bs i)))
+numeral_cut bs = grind (arith, before_is, after_is)
 
 -- a byte that no numeral begins with
 pub no_numeral : (b : ℕ) (bs : List ℕ) → is_digit b ≡ false → is_point b ≡ false → is_numeral (b ∷ bs) ≡ false
@@ -95,13 +91,7 @@ module _ (b : ℕ) (bs : List ℕ) where
 
   -- one more byte: what the bytes complete from before it, they complete from after it
   completed_at : (state : State) (c : ByteClass) → class_of b ≡ c → completed state (b ∷ bs) ≡ completed (state_after state c) bs
-  completed_at Start c e = start_at c e
-  completed_at (Single kind) c e = refl
-  completed_at Stuck c e = refl
-  completed_at Name classes.Digit e = simp (name_by b e)
-  completed_at Name _ e = simp (name_by b e)
-  completed_at _ classes.Digit e = simp (digit_by b e, mark_by b e, point_by b e, sign_by b e, and-true)
-  completed_at _ _ e = simp (digit_by b e, mark_by b e, point_by b e, sign_by b e)
+  completed_at state c h1 = grind (arith, digit_by, mark_by, point_by, sign_by, name_by, and-true, start_at)
 
 -- the same for several bytes
 pub completed_through : (state : State) (front rest : List ℕ) → completed state (front ++ rest) ≡ completed (state_through state front) rest
@@ -118,8 +108,7 @@ none_empty = refl
 
 -- what a state has read is what nothing more completes
 completed-none : (state : State) → completed state [] ≡ kind_at state
-completed-none Start = none_empty
-completed-none _ = refl
+completed-none state = grind (arith, none_empty)
 
 -- the kind of a list is the kind of the state after it
 pub kind_of-through : (bs : List ℕ) → kind_of bs ≡ kind_at (state_through Start bs)
@@ -130,8 +119,7 @@ state_through_more bs i h = ap (state_through Start) (take_more bs i 0 h) ∙ st
 
 -- a step of the loop
 pub state_step : (bs : List ℕ) (i : ℕ) (state : State) (c : ByteClass) (next : State) → i < length bs → state_through Start (take i bs) ≡ state → c ≡ class_of (get_or bs i 0) → next ≡ state_after state c → state_through Start (take (i + 1) bs) ≡ next
-state_step bs i state c next h read class_is next_is =
-    state_through_more bs i h ∙ (λ j. state_after (read j) (sym class_is j)) ∙ sym next_is
+state_step bs i state c next h read class_is next_is = grind (arith, state_through_more)
 
 le_or_ge : (k n : ℕ) → (k ≤ n) ⊎ (n ≤ k)
 le_or_ge k n = grind arith
@@ -159,24 +147,14 @@ module _ (read : List ℕ) (b : ℕ) where
 
   -- no lexeme of at least `low` bytes, where there was none and the whole isn't one
   none_more : (low : ℕ) → ((k : ℕ) → low ≤ k → k ≤ length read → kind_of (take k read) ≡ None) → kind_of (read ++ b ∷ []) ≡ None → (k : ℕ) → low ≤ k → k ≤ length (read ++ b ∷ []) → kind_of (take k (read ++ b ∷ [])) ≡ None
-  none_more low none whole k from h =
-      ⊎_elim (λ below. ap kind_of (front_same k below) ∙ none k from below) (λ at. ap kind_of (all_same k at) ∙ whole) (at_or_below k (length read) (omega (arith, one_more)))
+  none_more low none whole k from h = grind (arith, ⊎_elim, at_or_below, one_more, front_same, all_same)
 
   -- the front of one byte more
   pub front_keeps : (front : Option LexemePrefix) → IsFrontOf read front → kind_of (read ++ b ∷ []) ≡ None → IsFrontOf (read ++ b ∷ []) front
-  front_keeps None none whole = λ k h. none_more 0 (λ k _ h. none k h) whole k (omega arith) h
-  front_keeps (Some front) was whole = record {
-    within = omega (arith, was.within, one_more);
-    lexeme = ap kind_of (front_same front.len was.within) ∙ was.lexeme;
-    longest = λ k more h. none_more (front.len + 1) (λ k from h. was.longest k (omega arith) h) whole k (omega arith) h;
-  }
+  front_keeps front h1 h2 = grind (arith, one_more, front_same, none_more)
 
   pub front_takes : (front : LexemePrefix) → front.len ≡ length read + 1 → kind_of (read ++ b ∷ []) ≡ Some front.kind → IsFrontOf (read ++ b ∷ []) (Some front)
-  front_takes front len whole = record {
-    within = omega (arith, one_more);
-    lexeme = ap kind_of (all_same front.len len) ∙ whole;
-    longest = λ k more h. absurd (omega (arith, one_more));
-  }
+  front_takes front len whole = grind (arith, one_more, all_same)
 
   pub state_fed : (state next : State) (c : ByteClass) → state_through Start read ≡ state → c ≡ class_of b → next ≡ state_after state c → state_through Start (read ++ b ∷ []) ≡ next
   state_fed state next c was class_is next_is = state_through-append Start read (b ∷ []) ∙ (λ j. state_after (was j) (sym class_is j)) ∙ sym next_is
@@ -210,5 +188,4 @@ front_before read b tail front was stuck =
     subst (λ xs. IsFrontOf xs front) (append_assoc read (b ∷ []) tail) (front_whatever_follows (read ++ b ∷ []) tail front keeps stuck)
 
 pub stuck_state : (state : State) → is_stuck state ≡ true → state ≡ Stuck
-stuck_state Stuck h = refl
-stuck_state _ h = cc
+stuck_state state h1 = grind arith

@@ -1,20 +1,16 @@
 -- Runs of bytes that leave a state as it is: digits, the rest of a name, a comment; and the lexemes that end after one.
-use Rattle.std.proofs.Common.{◌≡◌, ◌∙◌, ◌⊎◌, ⊎_elim, ◌++◌, ℕ, zero, suc, ◌+◌, ◌<◌, ◌≤◌, ◌==◌, ◌||◌, Bool, true, false, cond, Some, List, [], ◌∷◌, length, take, drop, take_all, append-nil, append_assoc, get_or, refl, sym, ap, subst, arith}
+use Rattle.std.proofs.Common.{◌≡◌, ◌∙◌, ◌⊎◌, ⊎_elim, ◌++◌, ℕ, zero, suc, ◌+◌, ◌<◌, ◌≤◌, ◌==◌, true, Some, List, [], ◌∷◌, length, take, drop, take_all, append-nil, append_assoc, get_or, refl, sym, ap, subst, arith}
 use Rattle.std.proofs.Math.Seq.{take-add}
 use Rattle.std.proofs.lemmas.Bool.{eqb-true}
 use Rattle.std.proofs.lemmas.List.{length-take-le, take_more, take-append-drop}
-use Rattle.std.specs.Char.{is_ascii_digit, is_ascii_alphabetic}
 use Rattle.polcert_text.specs.Steps.Classes.{class_of}
-use Rattle.polcert_text.specs.Cut.{is_glued}
 use Rattle.polcert_text.specs.Fronts.{IsLongestGap, IsLongestLexeme}
 use Rattle.polcert_text.specs.Gaps.{is_gap}
-use Rattle.polcert_text.specs.Lexemes.{kind_of}
 use Rattle.polcert_text.specs.Steps.Scan.{gap_after, gap_through, state_after, state_through, kind_at}
 use Rattle.polcert_text.specs.Steps.ScanOf.{pending, IsFrontOf, IsScanOf, scan_at, EndsWithin, IsNameOrMark}
 use Rattle.polcert_text.specs.declared.bytes.ByteClass.{ByteClass}
 use Rattle.polcert_text.specs.declared.bytes.ByteClass.TheVariants as classes
 use Rattle.polcert_text.specs.declared.tokens.TokenKind.{TokenKind}
-use Rattle.polcert_text.specs.declared.tokens.TokenKind.TheVariants.{Colon, Star, Plus, Minus}
 use Rattle.polcert_text.specs.declared.tokens.LexemePrefix.{LexemePrefix}
 use Rattle.polcert_text.specs.declared.tokens.Gap.{Gap}
 use Rattle.polcert_text.specs.declared.tokens.Gap.TheVariants.{Between, Comment, Ended}
@@ -26,19 +22,11 @@ use Rattle.polcert_text.proofs.Streams.StreamLaws.{skipped_step}
 use Rattle.polcert_text.proofs.Scanning.Classes.{line_end_at_10}
 
 comment_stays : (c : ByteClass) → (c ≡ classes.LineEnd → ⊥) → gap_after Comment c ≡ Comment
-comment_stays classes.LineEnd h = absurd (h refl)
-comment_stays _ h = refl
-
--- among the tests of `class_of`, in their order, the one for a line end passed
-line_chain : (blank line hash mark letter digit low point colon star plus minus : Bool) → cond blank classes.Blank (cond line classes.LineEnd (cond hash classes.Hash (cond mark classes.ExponentMark (cond letter classes.Letter (cond digit classes.Digit (cond low classes.Underscore (cond point classes.Point (cond colon classes.Colon (cond star classes.Star (cond plus classes.Plus (cond minus classes.Minus classes.Other))))))))))) ≡ classes.LineEnd → line ≡ true
-line_chain false true _ _ _ _ _ _ _ _ _ _ h = refl
-line_chain false false false false false false false false false false false false h = cc
-line_chain _ _ _ _ _ _ _ _ _ _ _ _ h = cc
+comment_stays c h1 = grind arith
 
 pub line_end_is : (b : ℕ) → class_of b ≡ classes.LineEnd → (b == 10) ≡ true
 unfolding class_of
-line_end_is b h =
-    line_chain (b == 9 || b == 13 || b == 32) (b == 10) (b == 35) (b == 101 || b == 69) (is_ascii_alphabetic b) (is_ascii_digit b) (b == 95) (b == 46) (b == 58) (b == 42) (b == 43) (b == 45) h
+line_end_is b h = grind arith
 
 -- a comment continues over bytes that are no line end
 comment_through : (bs : List ℕ) (n : ℕ) → n ≤ length bs → ((k : ℕ) → k < n → (get_or bs k 0 == 10) ≡ true → ⊥) → gap_through Comment (take n bs) ≡ Comment
@@ -53,23 +41,15 @@ pub comment_continues : (bs : List ℕ) → ((k : ℕ) → k < length bs → (ge
 comment_continues bs none = comment_through bs (length bs) (omega arith) none
 
 pub comment_ends : (bs : List ℕ) (n : ℕ) → n < length bs → ((k : ℕ) → k < n → (get_or bs k 0 == 10) ≡ true → ⊥) → (get_or bs n 0 == 10) ≡ true → gap_through Comment (take (n + 1) bs) ≡ Between
-comment_ends bs n h none line =
-    let is : class_of (get_or bs n 0) ≡ classes.LineEnd = ap class_of (eqb-true (get_or bs n 0) 10 line) ∙ line_end_at_10 in
-    skipped_step Comment bs n Comment Between h (comment_through bs n (omega arith) none) (sym (ap (gap_after Comment) is))
+comment_ends bs n h none line = grind (arith, eqb-true, skipped_step, line_end_at_10, comment_through)
 
 -- a gap that continues in the bytes after a front
 pub gap_joined : (start : Gap) (bs : List ℕ) (at count : ℕ) (gap next : Gap) → gap_through start (take at bs) ≡ gap → gap_through gap (take count (drop at bs)) ≡ next → gap_through start (take (at + count) bs) ≡ next
-gap_joined start bs at count gap next was on =
-    ap (gap_through start) (take-add at count bs)
-    ∙ gap_through-append start (take at bs) (take count (drop at bs))
-    ∙ ap (λ g. gap_through g (take count (drop at bs))) was
-    ∙ on
+gap_joined start bs at count gap next was on = grind (arith, take-add, gap_through-append)
 
 -- a gap that is neither in a comment nor ended
 pub in_between : (gap : Gap) → (gap ≡ Comment → ⊥) → (gap ≡ Ended → ⊥) → gap ≡ Between
-in_between Between c e = refl
-in_between Comment c e = absurd (c refl)
-in_between Ended c e = absurd (e refl)
+in_between gap h1 h2 = grind arith
 
 below_or_all : (n m : ℕ) → n ≤ m → (n < m) ⊎ (n ≡ m)
 below_or_all n m h = grind arith
@@ -85,18 +65,7 @@ longest_seen bs n gap within read continues stops =
 
 -- all that was read is a lexeme
 pub scan_whole : (bs : List ℕ) (n : ℕ) (state : State) (kind : TokenKind) → n ≤ length bs → state_through Start (take n bs) ≡ state → kind_at state ≡ Some kind → pending state ≡ 0 → IsScanOf (take n bs) (scan_at state kind n)
-scan_whole bs n state kind h read is none =
-    let len : length (take n bs) ≡ n = length-take-le n bs h in
-    record {
-      len = sym len;
-      state = read;
-      longest = record {
-        within = omega (arith, len);
-        lexeme = ap kind_of (take_all n (take n bs) (omega (arith, len))) ∙ kind_of-through (take n bs) ∙ ap kind_at read ∙ is;
-        longest = λ k more h. absurd (omega (arith, len));
-      };
-      following = λ _. omega (arith, none);
-    }
+scan_whole bs n state kind h read is none = grind (arith, take_all, length-take-le, kind_of-through)
 
 -- a lexeme that the next byte ends
 pub ends_within : (bs : List ℕ) (n : ℕ) (state : State) (kind : TokenKind) → n < length bs → state_through Start (take n bs) ≡ state → kind_at state ≡ Some kind → pending state ≡ 0 → state_after state (class_of (get_or bs n 0)) ≡ Stuck → EndsWithin bs (record { kind = kind; len = n })
@@ -125,18 +94,9 @@ pub ended_mark : (bs : List ℕ) (kind : TokenKind) → 1 < length bs → state_
 ended_mark bs kind more mark =
     ends_within bs 1 (Single kind) kind more (state_step bs 0 Start (class_of (get_or bs 0 0)) (Single kind) (omega arith) refl refl (sym mark)) refl refl refl
 
-mark_word : (c : ByteClass) (kind : TokenKind) → state_after Start c ≡ Single kind → (gap_after Between c ≡ Ended) × ((rest : List ℕ) → is_glued kind rest ≡ false)
-mark_word classes.Colon Colon e = (refl, λ rest. refl)
-mark_word classes.Star Star e = (refl, λ rest. refl)
-mark_word classes.Plus Plus e = (refl, λ rest. refl)
-mark_word classes.Minus Minus e = (refl, λ rest. refl)
-mark_word _ _ e = absurd (cc)
-
 -- a mark is a word of its own
 pub is_mark : (bs : List ℕ) (kind : TokenKind) → state_after Start (class_of (get_or bs 0 0)) ≡ Single kind → IsNameOrMark bs (record { kind = kind; len = 1 })
-is_mark bs kind mark =
-    let w = mark_word (class_of (get_or bs 0 0)) kind mark in
-    record { begins = w.0; apart = w.1 }
+is_mark bs kind mark = grind arith
 
 -- the first byte of a name
 pub begins_name : (bs : List ℕ) (c : ByteClass) → 0 < length bs → c ≡ class_of (get_or bs 0 0) → ((c ≡ classes.Letter) ⊎ (c ≡ classes.ExponentMark)) → state_through Start (take 1 bs) ≡ Name

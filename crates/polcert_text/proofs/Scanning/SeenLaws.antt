@@ -1,5 +1,5 @@
 -- A lexeme that was seen at the front of some bytes, whatever follows them.
-use Rattle.std.proofs.Common.{◌≡◌, ◌∙◌, ◌<◌, ◌≤◌, ◌⊎◌, inl, inr, ℕ, Bool, true, false, Option, Some, None, List, [], ◌++◌, length, take, drop, refl, sym, ap, subst, append-nil, append_assoc, take_all, ⊎_elim, ◌∷◌, arith}
+use Rattle.std.proofs.Common.{◌≡◌, ◌∙◌, ◌<◌, ◌≤◌, ◌⊎◌, inr, ℕ, Bool, true, false, Option, Some, None, List, [], ◌++◌, length, take, drop, refl, sym, ap, subst, append-nil, append_assoc, take_all, ⊎_elim, ◌∷◌, arith}
 use Rattle.std.proofs.lemmas.List.{take-append-drop, take-append-le, length-append, length-take}
 use Rattle.polcert_text.specs.Lexemes.{kind_of}
 use Rattle.polcert_text.specs.Steps.Classes.{class_of}
@@ -9,7 +9,6 @@ use Rattle.polcert_text.specs.Steps.Streaming.{IsFrontOrLong, IsSeen}
 use Rattle.polcert_text.specs.declared.tokens.LexemePrefix.{LexemePrefix}
 use Rattle.polcert_text.specs.declared.tokens.LexemeScan.{LexemeScan}
 use Rattle.polcert_text.specs.declared.bytes.ByteClass.{ByteClass}
-use Rattle.polcert_text.specs.declared.bytes.ByteClass.TheVariants as classes
 use Rattle.polcert_text.specs.declared.tokens.TokenKind.{TokenKind}
 use Rattle.polcert_text.specs.declared.tokens.State.{State}
 use Rattle.polcert_text.specs.declared.tokens.State.TheVariants.{Start, Single, Stuck}
@@ -17,20 +16,15 @@ use Rattle.polcert_text.proofs.Scanning.LexemeEnds.{scanned}
 use Rattle.polcert_text.proofs.Scanning.LexemeLaws.{front_whatever_follows, front_before, state_fed, stuck_state, kind_of-through}
 
 pub front_or_long : (bs : List ℕ) (front : Option LexemePrefix) → IsFrontOf bs front → IsFrontOrLong bs front
-front_or_long bs None was = was
-front_or_long bs (Some f) was = inl was
+front_or_long bs front h1 = grind arith
 
 -- with nothing after the bytes
 pub seen_whole : (bs : List ℕ) (front : Option LexemePrefix) → IsFrontOf bs front → IsSeen bs [] front
-seen_whole bs front was = record {
-  front_is = subst (λ xs. IsFrontOrLong xs front) (sym (append-nil bs)) (front_or_long bs front was);
-  apart = λ _ _. inl refl;
-}
+seen_whole bs front was = grind (arith, append-nil, front_or_long)
 
 -- a front is no longer than the bytes
 pub front_within : (bs : List ℕ) (front : Option LexemePrefix) → IsFrontOf bs front → front_len front ≤ length bs
-front_within bs None was = omega arith
-front_within bs (Some f) was = was.within
+front_within bs front h1 = grind arith
 
 -- where no lexeme continues, the last byte is none of the longest
 true≢false : {b : Bool} → b ≡ true → b ≡ false → ⊥
@@ -47,12 +41,7 @@ some_read [] e = absurd (cc)
 some_read (b ∷ bs) e = omega arith
 
 front_short : (read : List ℕ) (front : Option LexemePrefix) → IsFrontOf read front → state_through Start read ≡ Stuck → 0 < length read → front_len front < length read
-front_short read None was stuck some = some
-front_short read (Some f) was stuck some =
-    ⊎_elim (λ less. less) (λ same. absurd (some≢none was.lexeme (ap kind_of (take_all f.len read (omega arith)) ∙ none))) (less_or_same f.len (length read) was.within)
-  where
-    none : kind_of read ≡ None
-    none = kind_of-through read ∙ ap kind_at stuck
+front_short read front h1 h2 h3 = grind (arith, take_all, ⊎_elim, kind_of-through, some≢none, less_or_same)
 
 -- the bytes that a scan went through tell the lexeme, where none continues
 seen_stuck : (bs tail : List ℕ) (scan : LexemeScan) → IsScanOf (take scan.len bs) scan → is_stuck scan.state ≡ true → IsSeen bs tail scan.longest
@@ -78,9 +67,7 @@ is_numeral_mark (Single kind) = is_numeral_kind (Some kind)
 is_numeral_mark _ = false
 
 no_numeral_after : (state : State) (c : ByteClass) → is_numeral_mark (state_after state c) ≡ false
-no_numeral_after Start classes.Digit = refl
-no_numeral_after _ classes.Digit = refl
-no_numeral_after _ _ = refl
+no_numeral_after state c = grind arith
 
 no_numeral_mark : (state : State) (bs : List ℕ) → is_numeral_mark state ≡ false → is_numeral_mark (state_through state bs) ≡ false
 no_numeral_mark state [] before = before

@@ -21,11 +21,7 @@ up_to k n l = grind arith
 
 last_of : (p : ℕ → Bool) (n : ℕ) → Last p n → (b : Bool) → p (suc n) ≡ b → Last p (suc n)
 last_of p n before true e = found (suc n) (omega arith) e (λ k m l. absurd (omega (arith, m, l)))
-last_of p n (nothing f) false e = nothing (λ k l. below k (up_to k n l))
-  where
-    below : (k : ℕ) → (k ≤ n) ⊎ (k ≡ suc n) → p k ≡ false
-    below k (inl less) = f k less
-    below k (inr same) = ap p same ∙ e
+last_of p n (nothing f) false e = grind (arith, up_to)
 last_of p n (found m w t f) false e = found m (omega (arith, w)) t (λ k more l. below k more (up_to k n l))
   where
     below : (k : ℕ) → m < k → (k ≤ n) ⊎ (k ≡ suc n) → p k ≡ false
@@ -53,12 +49,10 @@ some_gap bs = at (last (λ k. is_gap (take k bs)) (length bs))
     at (found m w t f) = (m, record { within = w; gap = t; longest = f })
 
 some_kind : (o : Option TokenKind) → is_some o ≡ true → (k : TokenKind) × (o ≡ Some k)
-some_kind (Some k) e = (k, refl)
-some_kind None e = absurd (true≢false e refl)
+some_kind o h1 = grind arith
 
 no_kind : (o : Option TokenKind) → is_some o ≡ false → o ≡ None
-no_kind (Some k) e = absurd (true≢false refl e)
-no_kind None e = refl
+no_kind o h1 = grind arith
 
 -- what stands at the front of some bytes
 data LexemePrefix (place : ℕ) (bs : List ℕ) : Type 0 where
@@ -70,8 +64,7 @@ at_most n = grind arith
 
 -- only a numeral is glued
 glued_kind : (k : TokenKind) (bs : List ℕ) → is_glued k bs ≡ true → k ≡ Numeral
-glued_kind Numeral bs e = refl
-glued_kind _ bs e = absurd (true≢false e refl)
+glued_kind k bs h1 = grind arith
 
 short_front : (place : ℕ) (bs : List ℕ) (kind : TokenKind) (m : ℕ) → IsLongestLexeme bs kind m → m ≤ 400 → (b : Bool) → is_glued kind (drop m bs) ≡ b → LexemePrefix place bs
 short_front place bs kind m is short true e =
@@ -102,14 +95,10 @@ some_front place bs = at (last (λ k. is_some (kind_of (take k bs))) (length bs)
 
 -- ---- the cut
 
-some≢none : {A : Type 0} {x : A} {o : Option A} → o ≡ Some x → o ≡ None → ⊥
-some≢none e f = cc
-
 -- a token has some bytes
 some_bytes : (place : ℕ) (bs : List ℕ) (t : Lexeme) → IsTokenAt place bs t → (n : ℕ) → length t.bytes ≡ n → 1 ≤ n
 unfolding kind_of
-some_bytes place bs t is zero e = absurd (some≢none is.lexeme.lexeme (ap (λ n. kind_of (take n bs)) e))
-some_bytes place bs t is (suc n) e = omega arith
+some_bytes place bs t h1 n h2 = grind arith
 
 pub has_bytes : (old new : Rest) (t : Lexeme) → TakesToken old t new → 1 ≤ length t.bytes
 has_bytes old new t takes = some_bytes (old.place + takes.gap) (drop takes.gap old.bytes) t takes.token_at (length t.bytes) refl

@@ -1,11 +1,11 @@
 -- What the class of a byte tells of it: the tests of bytes agree with the classes.
-use Rattle.std.proofs.Common.{◌≡◌, ◌∙◌, ℕ, zero, suc, ◌<◌, ◌≤◌, ◌==◌, ◌&&◌, ◌||◌, ◌⊎◌, ⊎_elim, Bool, true, false, not, cond, Option, Some, None, List, [], ◌∷◌, codes, refl, sym, ap, arith}
+use Rattle.std.proofs.Common.{◌≡◌, ◌∙◌, ℕ, ◌<◌, ◌==◌, ◌&&◌, ◌||◌, ◌⊎◌, ⊎_elim, Bool, true, false, not, cond, Option, Some, None, List, [], ◌∷◌, codes, refl, sym, ap, arith}
 use Rattle.std.specs.Prelude.{bytes_eq}
 use Rattle.std.specs.Char.{is_ascii_digit, is_ascii_alphabetic}
 use Rattle.std.specs.List.{list_all}
 use Rattle.std.proofs.lemmas.Bool.Decides.{nat_tests}
 use Rattle.polcert_text.specs.Bytes.{is_blank, is_line_end, is_hash, is_letter, is_digit, is_exponent_mark, is_point, is_sign, is_name_byte, is_glue}
-use Rattle.polcert_text.specs.Lexemes.{is_name, is_numeral, is_empty, kind_of}
+use Rattle.polcert_text.specs.Lexemes.{is_numeral, is_empty, kind_of}
 use Rattle.polcert_text.specs.Steps.Classes.{class_of, blank_class, line_end_class, hash_class, letter_class, digit_class, mark_class, point_class, sign_class, name_class, glue_class, minus_class, mark_kind}
 use Rattle.polcert_text.specs.declared.bytes.ByteClass.{ByteClass}
 use Rattle.polcert_text.specs.declared.bytes.ByteClass.TheVariants as classes
@@ -18,9 +18,7 @@ same true b = b
 same false b = not b
 
 same_is : (a b : Bool) → same a b ≡ true → a ≡ b
-same_is true b h = sym h
-same_is false true h = cc
-same_is false false h = refl
+same_is a b h1 = grind arith
 
 ascii_or_not : (b : ℕ) → (b < 128) ⊎ (127 < b)
 ascii_or_not b = grind arith
@@ -123,19 +121,15 @@ abbrev marked : (colon star plus minus : Bool) → Option TokenKind
 marked colon star plus minus = cond colon (Some kinds.Colon) (cond star (Some kinds.Star) (cond plus (Some kinds.Plus) (cond minus (Some kinds.Minus) None)))
 
 marked_class : (c : ByteClass) → marked (colon_class c && true) (star_class c && true) (plus_class c && true) (minus_class c && true) ≡ mark_kind c
-marked_class classes.Colon = refl
-marked_class _ = refl
+marked_class c = grind arith
 
 and-false : (b : Bool) → (b && false) ≡ false
-and-false true = refl
-and-false false = refl
+and-false b = grind arith
 
 marked_at : (b : ℕ) (bs : List ℕ) (c : ByteClass) → class_of b ≡ c → marked (bytes_eq (b ∷ bs) (codes ":")) (bytes_eq (b ∷ bs) (codes "*")) (bytes_eq (b ∷ bs) (codes "+")) (bytes_eq (b ∷ bs) (codes "-")) ≡ cond (is_empty bs) (mark_kind c) None
-marked_at b [] c is = (λ i. marked (colon_at b c is i && true) (star_at b c is i && true) (plus_at b c is i && true) (minus_at b c is i && true)) ∙ marked_class c
-marked_at b (x ∷ xs) c is = (λ i. marked (and-false (b == 58) i) (and-false (b == 42) i) (and-false (b == 43) i) (and-false (b == 45) i))
+marked_at b bs c h1 = grind (arith, colon_at, star_at, plus_at, minus_at, marked_class, and-false)
 
 -- the kind of a list that begins with b, by its class
 pub kind_by : (b : ℕ) (bs : List ℕ) (c : ByteClass) (numeral : Bool) → class_of b ≡ c → is_numeral (b ∷ bs) ≡ numeral → kind_of (b ∷ bs) ≡ cond (letter_class c && list_all is_name_byte bs) (Some kinds.Name) (cond numeral (Some kinds.Numeral) (cond (is_empty bs) (mark_kind c) None))
 unfolding kind_of
-kind_by b bs c numeral e is =
-    λ i. cond (letter_by b e i && list_all is_name_byte bs) (Some kinds.Name) (cond (is i) (Some kinds.Numeral) (marked_at b bs c e i))
+kind_by b bs c numeral e is = grind (arith, letter_by, marked_at)

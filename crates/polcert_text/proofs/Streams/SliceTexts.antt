@@ -1,7 +1,6 @@
 -- What a call made of a slice, from what it made of the slice as the text of a source.
-use Rattle.std.proofs.Common.{◌≡◌, ◌∙◌, ℕ, ◌<◌, ◌⊎◌, inl, inr, Bool, true, false, List, Ok, Err, refl, sym, subst, arith}
+use Rattle.std.proofs.Common.{◌≡◌, ◌∙◌, ℕ, Bool, List, Ok, Err, refl, subst, arith}
 use Rattle.polcert_text.specs.Source.{IsText, Reads, Fits, EachTextThatFits}
-use Rattle.polcert_text.specs.Device.{last_count}
 use Rattle.polcert_text.specs.ReadTexts.{ReadsText}
 use Rattle.polcert_text.specs.declared.source.SourceFault.TheVariants.{Device, Refused}
 use Rattle.polcert_text.proofs.Known.{slice_reads, gave_slice, text_slice}
@@ -9,8 +8,7 @@ use Rattle.polcert_text.proofs.Known.{slice_reads, gave_slice, text_slice}
 module _ {S : Type 0} (rest : S → List ℕ) (old new : S) where
   -- whatever was read of a slice, the slice is a text that fits
   slice_fits : (bytes : List ℕ) (is_whole : Bool) → Reads (slice_reads rest) old bytes is_whole new → Fits bytes is_whole (rest old)
-  slice_fits bytes true was = sym (text_slice rest was)
-  slice_fits bytes false gave = (rest new, gave_slice rest gave)
+  slice_fits bytes is_whole h1 = grind (arith, slice_reads, gave_slice, text_slice)
 
 module _ {S : Type 0} (rest : S → List ℕ) {old new : S} {slice : List ℕ} (holds : rest old ≡ slice) where
   -- so that what is said of each text that fits is said of the slice
@@ -29,8 +27,4 @@ module _ {S : Type 0} (rest : S → List ℕ) {old new : S} {slice : List ℕ} (
     slice_refused {fault} read = of_slice (Refuses fault) (read.refused fault refl)
 
     pub slice_failed : ReadsText (slice_reads rest) (λ _. 0) old new Denotes Refuses (Err Device) → ⊥
-    slice_failed read = at (read.device refl)
-      where
-        at : (0 < 0) ⊎ (0 ≡ last_count) → ⊥
-        at (inl l) = omega (arith, l)
-        at (inr e) = omega (arith, e)
+    slice_failed read = grind arith

@@ -1,5 +1,5 @@
 -- The gap that a stream skips, in pieces.
-use Rattle.std.proofs.Common.{◌≡◌, ◌∙◌, ◌+◌, ◌-◌, ◌<◌, ◌≤◌, ◌⊎◌, inl, inr, ℕ, zero, suc, take_all, not, Bool, true, false, Option, List, [], ◌∷◌, ◌++◌, length, take, drop, get_or, refl, sym, ap, subst, append-nil, append_assoc, length-append, arith}
+use Rattle.std.proofs.Common.{◌≡◌, ◌∙◌, ◌+◌, ◌-◌, ◌<◌, ◌≤◌, ◌⊎◌, inl, inr, ℕ, take_all, not, Bool, true, false, Option, List, [], ◌∷◌, ◌++◌, length, take, drop, get_or, refl, sym, ap, subst, append-nil, append_assoc, length-append, arith}
 use Rattle.std.proofs.lemmas.List.{take_at, length-drop, get_or-drop}
 use Rattle.polcert_text.specs.Steps.Classes.{class_of}
 use Rattle.polcert_text.specs.Fronts.{IsLongestGap}
@@ -9,9 +9,8 @@ use Rattle.polcert_text.specs.Steps.Scan.{gap_after, gap_through}
 use Rattle.polcert_text.specs.Stream.{Ahead, rest_with, CanFollow, visible, skip}
 use Rattle.polcert_text.specs.Steps.Streaming.{IsComplete, Fills, ReadsOn, SkipsGap}
 use Rattle.polcert_text.specs.declared.tokens.Gap.{Gap}
-use Rattle.polcert_text.specs.declared.tokens.Gap.TheVariants.{Between, Comment, Ended}
+use Rattle.polcert_text.specs.declared.tokens.Gap.TheVariants.{Between, Ended}
 use Rattle.polcert_text.specs.declared.bytes.ByteClass.{ByteClass}
-use Rattle.polcert_text.specs.declared.bytes.ByteClass.TheVariants.{LineEnd}
 use Rattle.std.specs.Bool.{◌==◌}
 use Rattle.std.proofs.lemmas.Bool.Decides.{nat_tests}
 use Rattle.polcert_text.proofs.Scanning.GapLaws.{gap_through-append, gap_until_open, longest_gap_at}
@@ -30,17 +29,11 @@ found skipped b more gap was continues ends =
 
 -- a gap with nothing after it
 all_gap : (skipped : List ℕ) (gap : Gap) → gap_through Between skipped ≡ gap → (gap ≡ Ended → ⊥) → IsLongestGap (skipped ++ []) (length skipped)
-all_gap skipped gap was continues = subst (λ xs. IsLongestGap xs (length skipped)) (sym (append-nil skipped)) (record {
-  within = omega arith;
-  gap = ap is_gap (take_all (length skipped) skipped (omega arith)) ∙ gap_until_open skipped (λ e. continues (sym was ∙ e));
-  longest = λ k past within. absurd (omega arith);
-})
+all_gap skipped gap was continues = grind (arith, take_all, append-nil, gap_until_open)
 
 -- the bytes below the limit begin with the first that is kept
 first_visible : (n : ℕ) (kept : List ℕ) → 0 < length (take n kept) → take n kept ≡ get_or kept 0 0 ∷ drop 1 (take n kept)
-first_visible zero kept some = absurd (omega arith)
-first_visible (suc n) [] some = absurd (omega arith)
-first_visible (suc n) (b ∷ bs) some = refl
+first_visible n kept h1 = grind arith
 
 -- the gap up to a byte below the limit, or up to the end
 pub longest_gap : (a : Ahead) (skipped : List ℕ) (gap : Gap) → gap_through Between skipped ≡ gap → (gap ≡ Ended → ⊥)
@@ -60,10 +53,7 @@ longest_gap a skipped gap was continues stops complete rest can = go (visible a)
         subst (λ xs. IsLongestGap (skipped ++ xs) (length skipped)) (sym bytes) (found skipped (get_or a.kept 0 0) (drop 1 (visible a) ++ tail_of a rest) gap was continues (stops some))
 
 ended_from : (gap : Gap) (c : ByteClass) → gap_after gap c ≡ Ended → (gap ≡ Ended → ⊥) → gap ≡ Between
-ended_from Between c e continues = refl
-ended_from Comment LineEnd e continues = absurd (cc)
-ended_from Comment c e continues = absurd (cc)
-ended_from Ended c e continues = absurd (continues refl)
+ended_from gap c h1 h2 = grind arith
 
 -- after the gap comes no other
 pub no_gap : (a : Ahead) (gap : Gap) → (gap ≡ Ended → ⊥)

@@ -1,10 +1,9 @@
 -- The lexeme that a stream scans, in pieces.
-use Rattle.std.proofs.Common.{◌≡◌, ◌∙◌, ◌-◌, ◌<◌, ◌≤◌, ◌⊎◌, inl, inr, ℕ, true, false, Option, Some, List, [], ◌++◌, length, take, refl, sym, ap, subst, append-nil, Bool, arith}
+use Rattle.std.proofs.Common.{◌≡◌, ◌-◌, ◌<◌, ◌≤◌, ◌⊎◌, inl, inr, ℕ, true, false, Option, Some, List, [], ◌++◌, length, take, append-nil, Bool, arith}
 use Rattle.std.proofs.lemmas.List.{take-append-le, take-take, length-take}
 use Rattle.polcert_text.specs.Steps.ScanOf.{IsScanOf, is_over, is_stuck, front_len, EndsWithin}
 use Rattle.polcert_text.specs.Stream.{Ahead, visible}
 use Rattle.polcert_text.specs.Steps.Streaming.{with_read, IsComplete, IsSeen, Fills, ReadsOn, ScansLexeme}
-use Rattle.polcert_text.specs.Lexemes.{is_empty}
 use Rattle.polcert_text.specs.declared.tokens.LexemePrefix.{LexemePrefix}
 use Rattle.polcert_text.specs.declared.tokens.LexemeScan.{LexemeScan}
 use Rattle.polcert_text.proofs.Scanning.SeenLaws.{seen_over, seen_long, seen_all, seen_within}
@@ -12,18 +11,14 @@ use Rattle.polcert_text.proofs.Streams.StreamLaws.{visible_len, reads_nothing, r
 
 -- a front of the bytes below the limit stays so
 front_stays : (a : Ahead) (given : List ℕ) (n : ℕ) → n ≤ length (visible a) → take n (visible (with_read a given)) ≡ take n (visible a)
-front_stays a given n few =
-    let room = a.limit - a.place in
-    take-take n room (a.kept ++ given) (omega (arith, visible_len a)) ∙ take-append-le n a.kept given (omega (arith, visible_len a)) ∙ sym (take-take n room a.kept (omega (arith, visible_len a)))
+front_stays a given n few = grind (arith, take-append-le, take-take, visible_len)
 
 scanned_few : (bs : List ℕ) (scan : LexemeScan) → IsScanOf (take scan.len bs) scan → scan.len ≤ length bs
 scanned_few bs scan was = omega (arith, was.len, length-take scan.len bs)
 
 -- a scan of a front continues over more bytes
 pub scan_stays : (now new : Ahead) (given : List ℕ) (scan : LexemeScan) → new ≡ with_read now given → IsScanOf (take scan.len (visible now)) scan → IsScanOf (take scan.len (visible new)) scan
-scan_stays now new given scan is was =
-    let same : take scan.len (visible new) ≡ take scan.len (visible now) = ap (λ a. take scan.len (visible a)) is ∙ front_stays now given scan.len (scanned_few (visible now) scan was) in
-    subst (λ xs. IsScanOf xs scan) (sym same) was
+scan_stays now new given scan is was = grind (arith, front_stays, scanned_few)
 
 module _ {S : Type 0} (reads : S → ℕ → Option (List ℕ) → S → Type 0) (failures : S → ℕ) where
   -- a lexeme that ends within the bytes below the limit
@@ -74,9 +69,4 @@ module _ {S : Type 0} (reads : S → ℕ → Option (List ℕ) → S → Type 0)
   -- the true end comes next
   pub lexeme_at_end : (old : Ahead) (s : S) (scan : LexemeScan) (now : Ahead) (t : S) (new : Ahead) (u : S) → InLexeme old s scan now t
       → now.is_whole ≡ false → Fills reads failures now t false new u → ScansLexeme reads failures old s scan.longest new u
-  lexeme_at_end old s scan now t new u was unended f =
-      let none = f.is_end refl in
-      let same : visible new ≡ visible now = ap visible f.new_is ∙ ap (λ xs. take (now.limit - now.place) (now.kept ++ xs)) none ∙ ap (take (now.limit - now.place)) (append-nil now.kept) in
-      let whole : new.is_whole ≡ true = ap (λ a. a.is_whole) f.new_is ∙ ap is_empty none in
-      let there = lexeme_continues old s scan now t false new u scan was unended f (scan_stays now new f.given scan f.new_is was.scan_is) (λ e. was.all e ∙ ap length (sym same)) in
-      lexeme_ends old s scan new u there (inl (inl whole))
+  lexeme_at_end old s scan now t new u was unended f = grind (arith, append-nil, scan_stays, lexeme_continues, lexeme_ends)

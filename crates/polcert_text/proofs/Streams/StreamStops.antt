@@ -1,12 +1,10 @@
 -- A stream that has stopped.
-use Rattle.std.proofs.Common.{◌≡◌, ◌∙◌, ℕ, Option, Some, None, List, [], Result, Ok, Err, refl, sym, ap, subst, arith}
+use Rattle.std.proofs.Common.{◌≡◌, ℕ, Option, Some, None, List, [], Result, Ok, Err, refl, arith}
 use Rattle.polcert_text.specs.Cut.{Lexeme}
 use Rattle.polcert_text.specs.Stream.{Ahead, Stream, IsAtEnd, GivesEnd, Answers, AnswersNext, answer_of}
 use Rattle.polcert_text.specs.Steps.Streaming.{StopsRightly}
 use Rattle.polcert_text.specs.declared.stream_tokens.StreamFault.{StreamFault}
-use Rattle.polcert_text.specs.declared.stream_tokens.StreamFault.TheVariants as faults
 use Rattle.polcert_text.specs.declared.stream_tokens.LastAnswer.{LastAnswer}
-use Rattle.polcert_text.specs.declared.stream_tokens.LastAnswer.TheVariants.{End, Fault}
 use Rattle.polcert_text.specs.declared.tokens.TokenFault.{TokenFault}
 use Rattle.polcert_text.proofs.Streams.StreamLaws.{from_nothing}
 
@@ -29,26 +27,19 @@ module _ {S : Type 0} (reads : S → ℕ → Option (List ℕ) → S → Type 0)
 
   module _ {T : Type 0} (lexeme : T → Lexeme) (old : Stream) (s : S) where
     answered_again : (stop : LastAnswer) → old.stop ≡ Some stop → StopsRightly old.ahead (Some stop) → Answers reads failures lexeme old s (answer_of stop) old s
-    answered_again End is at = (ends_again old.ahead s None at, is)
-    answered_again (Fault (faults.Token fault)) is at = (ends_again old.ahead s (Some fault) at, is)
-    answered_again (Fault faults.Device) is at = (λ none. absurd (some≢none is none), is)
+    answered_again stop h1 h2 = grind (arith, some≢none, ends_again)
 
     -- the same answer once more
     pub stopped_answers : (stop : LastAnswer) (result : Result (Option T) StreamFault) → result ≡ answer_of stop → old.stop ≡ Some stop → StopsRightly old.ahead old.stop
         → AnswersNext reads failures lexeme old s result old s
-    stopped_answers stop result same is at = record {
-      answers = subst (λ r. Answers reads failures lexeme old s r old s) (sym same) (answered_again stop is (subst (StopsRightly old.ahead) is at));
-      again = λ other other_is. (same ∙ ap answer_of (one_stop stop other old.stop is other_is), refl, refl);
-    }
+    stopped_answers stop result same is at = grind (arith, one_stop, answered_again)
 
   module _ {T U : Type 0} (lexeme : T → Lexeme) (other : U → Lexeme) (old : Stream) (s : S) (new : Stream) (u : S) where
     same_end : (stop : LastAnswer) → (let r : Result (Option T) StreamFault = Ok None in r) ≡ answer_of stop → (let r : Result (Option U) StreamFault = Ok None in r) ≡ answer_of stop
-    same_end End e = refl
-    same_end (Fault fault) e = cc
+    same_end stop h1 = grind arith
 
     same_fault : (fault : StreamFault) (stop : LastAnswer) → (let r : Result (Option T) StreamFault = Err fault in r) ≡ answer_of stop → (let r : Result (Option U) StreamFault = Err fault in r) ≡ answer_of stop
-    same_fault fault End e = cc
-    same_fault fault (Fault again) e = let same : fault ≡ again = cc in ap Err same
+    same_fault fault stop h1 = grind arith
 
     -- the end, and a fault, show no lexeme
     pub end_as : AnswersNext reads failures lexeme old s (Ok None) new u → AnswersNext reads failures other old s (Ok None) new u
@@ -58,8 +49,7 @@ module _ {S : Type 0} (reads : S → ℕ → Option (List ℕ) → S → Type 0)
     }
 
     fault_answers : (fault : StreamFault) → Answers reads failures lexeme old s (Err fault) new u → Answers reads failures other old s (Err fault) new u
-    fault_answers (faults.Token fault) a = a
-    fault_answers faults.Device a = a
+    fault_answers fault h1 = grind arith
 
     pub fault_as : (fault : StreamFault) → AnswersNext reads failures lexeme old s (Err fault) new u → AnswersNext reads failures other old s (Err fault) new u
     fault_as fault a = record {

@@ -1,14 +1,13 @@
 -- The tokens that were taken from a source, and the cut of each text that fits.
-use Rattle.std.proofs.Common.{◌≡◌, ◌∙◌, ◌++◌, ◌∷◌, ℕ, Bool, true, false, List, [], Option, Some, None, length, refl, sym, ap, subst, append-nil, append_assoc, length-append, take, drop, nat_lt, ◌<◌, ◌≤◌, arith}
+use Rattle.std.proofs.Common.{◌≡◌, ◌∙◌, ◌++◌, ◌∷◌, ℕ, Bool, true, false, List, [], Option, Some, None, length, refl, sym, ap, subst, append-nil, append_assoc, length-append, take, drop, ◌<◌, ◌≤◌, arith}
 use Rattle.std.proofs.lemmas.List.{length-drop, length-take}
 use Rattle.std.proofs.lemmas.Bool.Decides.{nat_tests}
 use Rattle.polcert_text.specs.Fronts.{IsLongestLexeme}
 use Rattle.polcert_text.specs.Lexemes.{kind_of}
 use Rattle.polcert_text.specs.declared.tokens.TokenKind.{TokenKind}
 use Rattle.polcert_text.specs.Cut.{Lexeme, Rest, IsCut, TakesToken, text_rest, end_place}
-use Rattle.polcert_text.specs.Device.{HasFailed}
 use Rattle.polcert_text.specs.Source.{IsText, Fits, EachTextThatFits, nothing}
-use Rattle.polcert_text.specs.Stream.{Ahead, Stream, fresh, rest_with, CanFollow, Fails, GivesToken, GivesEnd}
+use Rattle.polcert_text.specs.Stream.{Ahead, Stream, fresh, rest_with, CanFollow, GivesToken, GivesEnd}
 use Rattle.polcert_text.specs.Steps.StreamTaken.{TakenFrom}
 use Rattle.polcert_text.specs.TakenTokens.{Taken, nothing as none, token as one_more}
 use Rattle.polcert_text.specs.declared.tokens.TokenFault.{TokenFault}
@@ -46,11 +45,7 @@ module _ {S : Type 0} (reads : S → ℕ → Option (List ℕ) → S → Type 0)
 
   fits_of : (is_whole : Bool) (ahead : Ahead) → ahead.is_whole ≡ is_whole → (given text : List ℕ) → Fits given is_whole text
       → (more : List ℕ) × (text ≡ given ++ more) × CanFollow ahead more
-  fits_of true ahead e given text fits = ([], fits ∙ sym (append-nil given), λ _. refl)
-  fits_of false ahead e given text fits = (fits.0, fits.1, λ whole. absurd (both whole e))
-    where
-      both : {b : Bool} → b ≡ true → b ≡ false → ⊥
-      both a b = cc
+  fits_of is_whole ahead h1 given text h2 = grind (arith, append-nil)
 
   -- each text that fits begins with the tokens taken
   pub each_taken : (tokens : List Lexeme) (stream : Stream) (s : S) (P : List ℕ → Type 0) → TakenFrom reads failures limit first tokens stream s
@@ -66,10 +61,7 @@ module _ {S : Type 0} (reads : S → ℕ → Option (List ℕ) → S → Type 0)
 
   ended_cut : (tokens : List Lexeme) (old : Stream) (s : S) (answer : Option TokenFault) (new : Ahead) (u : S) → (was : TakenFrom reads failures limit first tokens old s)
       → (g : GivesEnd reads failures old.ahead s answer new u) → (more : List ℕ) → CanFollow new more → IsCut (text_rest ((was.given ++ g.given) ++ more) limit) tokens answer
-  ended_cut tokens old s answer new u was g more can =
-      let before = was.taken (g.given ++ more) (could_follow reads failures old.ahead s g.given more new u g.was_read can) in
-      subst (λ text. IsCut (text_rest text limit) tokens answer) (sym (append_assoc was.given g.given more))
-      (all_taken _ _ tokens answer before (g.ends more can))
+  ended_cut tokens old s answer new u was g more can = grind (arith, append_assoc, could_follow, all_taken)
 
   -- each text that fits has these tokens, and ends so
   pub each_cut : (tokens : List Lexeme) (old : Stream) (s : S) (answer : Option TokenFault) (new : Ahead) (u : S) (P : List ℕ → Type 0) → TakenFrom reads failures limit first tokens old s
@@ -96,10 +88,6 @@ module _ {S : Type 0} (reads : S → ℕ → Option (List ℕ) → S → Type 0)
         subst (λ x. IsCut (text_rest x limit) tokens None) (append-nil text) (ended_cut tokens old s None new u was g [] (λ _. refl)),
         omega (arith, g.size, was.size, length-append was.given g.given, ap length at.1),
       )
-
-  -- the failure of a read is one since the first state
-  pub failed_since : (tokens : List Lexeme) (old : Stream) (s u : S) → TakenFrom reads failures limit first tokens old s → Fails reads failures s u → HasFailed (failures first) (failures u)
-  failed_since tokens old s u was f = subst (λ n. HasFailed n (failures u)) was.same_count f.count
 
 -- what holds of the text of a source holds of each text that fits
 pub each_whole : {S : Type 0} (reads : S → ℕ → Option (List ℕ) → S → Type 0) (first : S) (text : List ℕ) (u : S) (P : List ℕ → Type 0) → IsText reads first text u → P text → EachTextThatFits reads first u P
@@ -128,20 +116,10 @@ place_grows old new given t next =
 -- the tokens taken, and what is ahead, end where the text does
 taken_end : (old new : Rest) (ts : List Lexeme) → Taken old ts new → end_place new ≡ end_place old
 taken_end old new ts (none _) = refl
-taken_end old new ts (one_more _ between _ us t before takes) =
-    let was = taken_end old between us before in
-    let place = ap (λ r. r.place) takes.rest in
-    let bytes = ap (λ r. length r.bytes) takes.rest in
-    let gap = takes.longest.within in
-    let token = takes.token_at.lexeme.within in
-    omega (arith, length-drop takes.gap between.bytes, length-drop (length t.bytes) (drop takes.gap between.bytes))
+taken_end old new ts (one_more _ between _ us t before takes) = grind (arith, length-drop, taken_end old between us before)
 
 text_end : (text : List ℕ) (limit : ℕ) → end_place (text_rest text limit) ≤ limit
-text_end text limit = at (nat_lt limit (length text)) refl
-  where
-    at : (b : Bool) → nat_lt limit (length text) ≡ b → end_place (text_rest text limit) ≤ limit
-    at true e = rw e (omega (arith, length-take limit text))
-    at false e = rw e (let few : length text ≤ limit = grind (arith, nat_tests) in omega arith)
+text_end text limit = grind (arith, length-take, nat_tests)
 
 -- what is ahead stands below the limit
 pub place_within : {S : Type 0} (reads : S → ℕ → Option (List ℕ) → S → Type 0) (failures : S → ℕ) (limit : ℕ) (first : S) (ts : List Lexeme) (stream : Stream) (s : S)

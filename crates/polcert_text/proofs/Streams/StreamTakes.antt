@@ -1,15 +1,11 @@
 -- What a stream answers, whatever follows what it has read.
-use Rattle.std.proofs.Common.{◌≡◌, ◌∙◌, ◌+◌, ◌-◌, ◌<◌, ◌≤◌, ◌⊎◌, inl, inr, ℕ, Bool, true, false, Option, Some, None, List, [], ◌∷◌, ◌++◌, length, take, drop, refl, sym, ap, subst, append-nil, append_assoc, length-append, nat_lt, cond, ⊎_elim, arith}
-use Rattle.std.proofs.lemmas.List.{drop-take, drop-append-le, length-drop, length-take, take-append-le, take-take}
-use Rattle.std.proofs.lemmas.Bool.Decides.{nat_tests}
+use Rattle.std.proofs.Common.{◌≡◌, ◌∙◌, ◌+◌, ◌-◌, ◌<◌, ◌≤◌, ◌⊎◌, ℕ, Bool, true, false, Option, Some, None, List, [], ◌++◌, length, take, drop, refl, sym, ap, subst, append-nil, append_assoc, length-append, nat_lt, cond, arith}
+use Rattle.std.proofs.lemmas.List.{drop-take, drop-append-le, length-drop, take-append-le, take-take}
 use Rattle.std.proofs.Math.Seq.{take-append-add, drop-append_seam}
 use Rattle.polcert_text.specs.Cut.{Lexeme, Rest, IsTokenAt, IsFaultAt, TakesToken, EndsAt, Ends}
-use Rattle.polcert_text.specs.Device.{HasFailed}
 use Rattle.polcert_text.specs.Fronts.{IsLongestGap}
-use Rattle.polcert_text.specs.Source.{Gives, IsText}
 use Rattle.polcert_text.specs.Stream.{Ahead, end_of_kept, rest_with, CanFollow, ReadsFrom, Fails, GivesToken, GivesEnd, visible, skip}
-use Rattle.polcert_text.specs.Steps.Streaming.{end_of, IsComplete, IsSeen, ReadsOn, SkipsGap, ScansLexeme}
-use Rattle.polcert_text.specs.Lexemes.{is_empty}
+use Rattle.polcert_text.specs.Steps.Streaming.{end_of, IsSeen, ReadsOn, SkipsGap, ScansLexeme}
 use Rattle.polcert_text.specs.declared.tokens.LexemePrefix.{LexemePrefix}
 use Rattle.polcert_text.specs.declared.tokens.TokenFault.{TokenFault}
 use Rattle.polcert_text.specs.declared.tokens.TokenFault.TheVariants.{TextTooLong}
@@ -18,10 +14,6 @@ use Rattle.polcert_text.proofs.Streams.StreamLaws.{rest_bytes, tail_of, visible_
 
 false≢true : {A : Type 0} → false ≡ true → A
 false≢true e = cc
-
-no_bytes : (bs : List ℕ) → length bs ≡ 0 → bs ≡ []
-no_bytes [] e = refl
-no_bytes (b ∷ bs) e = absurd (omega arith)
 
 -- after a gap comes what the rest after it begins with
 record After (rest : Rest) (skipped : List ℕ) (following : Rest) : Type 0 where
@@ -35,36 +27,20 @@ dropped rest skipped following b = ap (drop (length skipped)) b.bytes ∙ drop-a
 
 ends_after : (rest : Rest) (skipped : List ℕ) (following : Rest) (answer : Option TokenFault) → After rest skipped following
     → EndsAt following.place following.bytes following.ending answer → Ends rest answer
-ends_after rest skipped following answer b at =
-    let placed = subst (λ p. EndsAt p following.bytes following.ending answer) b.place at in
-    let cut = subst (λ bs. EndsAt (rest.place + length skipped) bs following.ending answer) (sym (dropped rest skipped following b)) placed in
-    record {
-      gap = length skipped;
-      longest = subst (λ xs. IsLongestGap xs (length skipped)) (sym b.bytes) b.longest;
-      ends_at = subst (λ e. EndsAt (rest.place + length skipped) (drop (length skipped) rest.bytes) e answer) (sym b.ending) cut;
-    }
+ends_after rest skipped following answer b at = grind (arith, dropped, following)
 
 takes_after : (rest : Rest) (skipped : List ℕ) (following : Rest) (token : Lexeme) (new : Rest) → After rest skipped following
     → IsTokenAt following.place following.bytes token
     → new ≡ (let r : Rest = record { place = following.place + length token.bytes; bytes = drop (length token.bytes) following.bytes; ending = following.ending } in r)
     → TakesToken rest token new
-takes_after rest skipped following token new b at is =
-    let placed = subst (λ p. IsTokenAt p following.bytes token) b.place at in
-    let cut = sym (dropped rest skipped following b) in
-    record {
-      gap = length skipped;
-      longest = subst (λ xs. IsLongestGap xs (length skipped)) (sym b.bytes) b.longest;
-      token_at = subst (λ bs. IsTokenAt (rest.place + length skipped) bs token) cut placed;
-      rest = is ∙ (λ i. record { place = b.place i + length token.bytes; bytes = drop (length token.bytes) (cut i); ending = sym b.ending i });
-    }
+takes_after rest skipped following token new b at is = grind (arith, dropped, following)
 
 -- what is cut at the front, with no gap
 at_front : (rest : Rest) → IsLongestGap rest.bytes 0 → After rest [] rest
 at_front rest none = record { bytes = refl; place = omega arith; ending = refl; longest = none }
 
 fault_at : (place : ℕ) (bs : List ℕ) (ending : Option TokenFault) (fault : TokenFault) → 0 < length bs → IsFaultAt place bs fault → EndsAt place bs ending (Some fault)
-fault_at place [] ending fault some is = absurd (omega arith)
-fault_at place (b ∷ bs) ending fault some is = is
+fault_at place bs ending fault h1 h2 = grind arith
 
 -- what is ahead where the first bytes were given
 pub rest_skipped : (a : Ahead) (n : ℕ) (more : List ℕ) → n ≤ length (visible a)
@@ -77,64 +53,23 @@ rest_skipped a n more few =
     let end : a.place + n + length (drop n a.kept ++ more) ≡ a.place + length (a.kept ++ more) = omega (arith, visible_len a, length-drop n a.kept, length-append (drop n a.kept) more, length-append a.kept more) in
     λ i. record { place = a.place + n; bytes = bytes i; ending = cond (nat_lt a.limit (end i)) (Some (TextTooLong a.limit)) None }
 
-ending_of : (place limit : ℕ) (kept more : List ℕ) → place ≤ limit → length (take (limit - place) kept) ≡ 0 → (length kept ≡ 0 → more ≡ [])
-    → cond (is_empty kept) None (Some (TextTooLong limit)) ≡ cond (nat_lt limit (place + length (kept ++ more))) (Some (TextTooLong limit)) None
-ending_of place limit [] more below none can =
-    let len : length more ≡ 0 = ap length (can refl) in
-    let past : nat_lt limit (place + length more) ≡ false = grind (arith, nat_tests) in
-    rw past refl
-ending_of place limit (b ∷ bs) more below none can =
-    let room : limit - place ≡ 0 = omega (arith, length-take (limit - place) (b ∷ bs)) in
-    let past : nat_lt limit (place + length (b ∷ (bs ++ more))) ≡ true = grind (arith, nat_tests) in
-    rw past refl
-
 -- the end, where no byte below the limit is left
 end_is : (a : Ahead) (more : List ℕ) → CanFollow a more → a.place ≤ a.limit → length (visible a) ≡ 0 → (a.is_whole ≡ true) ⊎ (0 < length a.kept)
     → EndsAt (rest_with a more).place (rest_with a more).bytes (rest_with a more).ending (end_of a)
-end_is a more can below none has =
-    let complete : IsComplete a = ⊎_elim (λ whole. inl whole) (λ some. inr (omega (arith, visible_len a))) has in
-    let empty : (rest_with a more).bytes ≡ [] = rest_bytes a more ∙ ap (λ xs. xs ++ tail_of a more) (no_bytes (visible a) none) ∙ no_tail a more can complete in
-    let is : end_of a ≡ (rest_with a more).ending = ending_of a.place a.limit a.kept more below none (λ e. ⊎_elim can (λ some. absurd (omega arith)) has) in
-    subst (λ bs. EndsAt (rest_with a more).place bs (rest_with a more).ending (end_of a)) (sym empty) is
+end_is a more can below none has = grind arith
 
 clean_end : (a : Ahead) → (a.is_whole ≡ true) ⊎ (0 < length a.kept) → end_of a ≡ None → (a.is_whole ≡ true) × (a.kept ≡ [])
-clean_end a has none = at a.kept refl
-  where
-    at : (kept : List ℕ) → a.kept ≡ kept → (a.is_whole ≡ true) × (a.kept ≡ [])
-    at [] e = (⊎_elim (λ whole. whole) (λ some. absurd (omega (arith, ap length e))) has, e)
-    at (b ∷ bs) e = absurd (some_end (end_of a) (ap (λ k. cond (is_empty k) None (Some (TextTooLong a.limit))) e) none)
-      where
-        some_end : (x : Option TokenFault) → x ≡ Some (TextTooLong a.limit) → x ≡ None → ⊥
-        some_end x e f = cc
+clean_end a has none = grind arith
 
 module _ {S : Type 0} (reads : S → ℕ → Option (List ℕ) → S → Type 0) (failures : S → ℕ) where
   pub from_both : (first second third : Bool) (s t u : S) (given more : List ℕ) → ReadsFrom reads first s given second t → ReadsFrom reads second t more third u
       → ReadsFrom reads first s (given ++ more) third u
-  from_both true true third s t u given more a b = (ap (λ xs. xs ++ more) a.0 ∙ b.0, b.1, b.2 ∙ a.2)
-  from_both true false third s t u given more a b = false≢true a.1
-  from_both false true third s t u given more a b =
-      let all : given ++ more ≡ given = ap (λ xs. given ++ xs) b.0 ∙ append-nil given in
-      subst (λ w. ReadsFrom reads false s (given ++ more) w u) (sym b.1) (subst (λ v. IsText reads s (given ++ more) v) (sym b.2) (subst (λ xs. IsText reads s xs t) (sym all) a))
-  from_both false false true s t u given more a b = record {
-    before = b.before;
-    room = b.room;
-    has_room = b.has_room;
-    gave = gave_then a b.gave;
-    ended = b.ended;
-  }
-  from_both false false false s t u given more a b = gave_then a b
+  from_both first second third s t u given more h1 h2 = grind (arith, append-nil, gave_then, false≢true)
 
   -- first some bytes are skipped, and then others read
   reads_both : (old : Ahead) (s : S) (skipped given : List ℕ) (mid : Ahead) (t : S) (more : List ℕ) (new : Ahead) (u : S)
       → ReadsOn reads failures old s skipped given mid t → ReadsOn reads failures mid t [] more new u → ReadsOn reads failures old s skipped (given ++ more) new u
-  reads_both old s skipped given mid t more new u a b = record {
-    was_read = from_both old.is_whole mid.is_whole new.is_whole s t u given more a.was_read b.was_read;
-    same_count = b.same_count ∙ a.same_count;
-    bytes = sym (append_assoc old.kept given more) ∙ ap (λ xs. xs ++ more) a.bytes ∙ append_assoc skipped mid.kept more ∙ ap (λ xs. skipped ++ xs) b.bytes;
-    place = omega (arith, a.place, b.place);
-    limit = b.limit ∙ a.limit;
-    below = b.below;
-  }
+  reads_both old s skipped given mid t more new u a b = grind (arith, append_assoc, from_both)
 
   -- the rest of the text after what was skipped is what is ahead then
   rest_on : (old : Ahead) (s : S) (skipped given : List ℕ) (new : Ahead) (t : S) (more : List ℕ) → ReadsOn reads failures old s skipped given new t
@@ -153,22 +88,11 @@ module _ {S : Type 0} (reads : S → ℕ → Option (List ℕ) → S → Type 0)
   -- a read fails after those of the gap
   pub fails_after : (old : Ahead) (s : S) (mid : Ahead) (t u : S) (is_found : Bool) → SkipsGap reads failures old s is_found mid t → mid.is_whole ≡ false
       → Fails reads failures t u → Fails reads failures s u
-  fails_after old s mid t u is_found g not_whole f = record {
-    given = g.given ++ f.given;
-    failed = record { before = f.failed.before; room = f.failed.room; gave = gave_then (gives_from old.is_whole mid.is_whole g.reads_on.was_read not_whole) f.failed.gave; failed = f.failed.failed };
-    count = subst (λ n. HasFailed n (failures u)) g.reads_on.same_count f.count;
-  }
-    where
-      gives_from : (first second : Bool) → ReadsFrom reads first s g.given second t → second ≡ false → Gives reads s g.given t
-      gives_from true second from e = false≢true (sym e ∙ from.1)
-      gives_from false true from e = false≢true (sym e)
-      gives_from false false from e = from
+  fails_after old s mid t u is_found g not_whole f = grind (arith, gave_then, false≢true)
 
   -- what can follow in the end could follow before
   pub could_follow : (mid : Ahead) (t : S) (given more : List ℕ) (new : Ahead) (u : S) → ReadsFrom reads mid.is_whole t given new.is_whole u → CanFollow new more → CanFollow mid (given ++ more)
-  could_follow mid t given more new u from can whole =
-      let was : ReadsFrom reads true t given new.is_whole u = rw whole at from in
-      ap (λ xs. xs ++ more) was.0 ∙ can was.1
+  could_follow mid t given more new u from can whole = grind arith
 
   size_on : {old new : Ahead} {s t : S} (skipped given : List ℕ) → ReadsOn reads failures old s skipped given new t → end_of_kept new ≡ end_of_kept old + length given
   size_on {old} {new} skipped given on = omega (arith, on.place, ap length on.bytes, length-append old.kept given, length-append skipped new.kept)
@@ -197,10 +121,7 @@ module _ {S : Type 0} (reads : S → ℕ → Option (List ℕ) → S → Type 0)
 
     -- what is ahead of the lexeme is what is ahead after the gap
     same_rest : (more : List ℕ) → (rest_with mid (l.given ++ more)).bytes ≡ (rest_with new more).bytes
-    same_rest more =
-        let room : mid.limit - mid.place ≡ new.limit - new.place = omega (arith, l.reads_on.place, l.reads_on.limit) in
-        let text : mid.kept ++ (l.given ++ more) ≡ new.kept ++ more = sym (append_assoc mid.kept l.given more) ∙ ap (λ xs. xs ++ more) l.reads_on.bytes in
-        ap (λ n. take n (mid.kept ++ (l.given ++ more))) room ∙ ap (take (new.limit - new.place)) text
+    same_rest more = grind (arith, append_assoc)
 
     following : (more : List ℕ) → CanFollow new more → After (rest_with old ((g.given ++ l.given) ++ more)) g.skipped (rest_with new more)
     following more can = rest_on old s g.skipped (g.given ++ l.given) new u more on
@@ -211,10 +132,7 @@ module _ {S : Type 0} (reads : S → ℕ → Option (List ℕ) → S → Type 0)
         (subst (λ xs. IsLongestGap xs 0) (same_rest more) (g.again (l.given ++ more) (could_follow mid t l.given more new u l.reads_on.was_read can)))
 
     some_bytes : (more : List ℕ) → 0 < length (rest_with new more).bytes
-    some_bytes more =
-        let found = g.found refl in
-        let kept = ap length l.reads_on.bytes in
-        omega (arith, ap length (rest_bytes new more), length-append (visible new) (tail_of new more), visible_len new, visible_len mid, length-append mid.kept l.given, l.reads_on.place, l.reads_on.limit)
+    some_bytes more = grind arith
 
     -- it is refused
     pub gives_fault : (fault : TokenFault) → ((more : List ℕ) → CanFollow new more → IsFaultAt new.place (rest_with new more).bytes fault) → GivesEnd reads failures old s (Some fault) new u
@@ -273,10 +191,7 @@ module _ {S : Type 0} (reads : S → ℕ → Option (List ℕ) → S → Type 0)
   -- the same, with nothing skipped after it
   pub ended_as : (old ahead : Ahead) (s : S) (answer other : Option TokenFault) (new : Ahead) (u : S) → old ≡ ahead → answer ≡ other → GivesEnd reads failures old s answer new u
       → GivesEnd reads failures ahead s other (skip 0 new) u
-  ended_as old ahead s answer other new u is same e =
-      let none : new.place ≡ new.place + 0 = omega arith in
-      let here : new ≡ skip 0 new = λ i. record { place = none i; kept = new.kept; limit = new.limit; is_whole = new.is_whole } in
-      subst (λ a. GivesEnd reads failures a s other (skip 0 new) u) is (subst (λ x. GivesEnd reads failures old s x (skip 0 new) u) same (subst (λ a. GivesEnd reads failures old s answer a u) here e))
+  ended_as old ahead s answer other new u is same e = grind arith
 
   pub given_as : (old ahead : Ahead) (s : S) (token : Lexeme) (new : Ahead) (u : S) → old ≡ ahead → GivesToken reads failures old s token new u → GivesToken reads failures ahead s token new u
   given_as old ahead s token new u is e = subst (λ a. GivesToken reads failures a s token new u) is e

@@ -1,7 +1,6 @@
 -- Tokens at the front of some bytes: one, and several, one after another.
-use Rattle.std.proofs.Common.{◌≡◌, ◌∙◌, ℕ, ◌+◌, ◌*◌, ◌<◌, ◌≤◌, Bool, true, false, Option, Some, None, IfSome, List, [], ◌∷◌, ◌++◌, length, take, drop, get_or, refl, sym, ap, subst, append_assoc, append-nil, length-append, pos, arith}
+use Rattle.std.proofs.Common.{◌≡◌, ◌∙◌, ℕ, ◌+◌, ◌<◌, ◌≤◌, Bool, false, Option, IfSome, List, [], ◌∷◌, ◌++◌, length, take, drop, get_or, refl, sym, ap, subst, append_assoc, append-nil, length-append, pos, arith}
 use Rattle.std.proofs.Math.ListN.{get_or-append}
-use Rattle.std.proofs.Math.IntN.{pos-*ℤ-pos}
 use Rattle.std.proofs.lemmas.List.{take-append-le, drop-append-le, length-take-le, length-drop, get_or-drop, drop-drop}
 use Rattle.polcert_text.specs.Beginning.{rest_at, BeginWith, BeginWithOne, BeginWithNumber, BeginWithDigits, IsNumeralOf, kind_of_sign, unsigned}
 use Rattle.polcert_text.specs.Beginning as begin
@@ -10,7 +9,7 @@ use Rattle.polcert_text.specs.Steps.Classes.{class_of, class_of_sign}
 use Rattle.polcert_text.specs.Cut.{Lexeme, Rest, TakesToken, is_glued}
 use Rattle.polcert_text.specs.Fronts.{IsLongestLexeme}
 use Rattle.polcert_text.specs.Steps.Scan.{gap_after, gap_through, state_after}
-use Rattle.polcert_text.specs.Numbers.{millionth, size_of, signed, IsReadable, IsExact}
+use Rattle.polcert_text.specs.Numbers.{signed, IsReadable, IsExact}
 use Rattle.polcert_text.specs.TakenTokens.{Taken, nothing, token}
 use Rattle.polcert_text.specs.declared.front_tokens.FrontDigits.{FrontDigits}
 use Rattle.polcert_text.specs.declared.front_tokens.FrontNumber.{FrontNumber}
@@ -19,10 +18,9 @@ use Rattle.polcert_text.specs.declared.tokens.LexemePrefix.{LexemePrefix}
 use Rattle.polcert_text.specs.declared.tokens.Gap.TheVariants.{Between, Ended}
 use Rattle.polcert_text.specs.declared.tokens.State.TheVariants.{Start, Single}
 use Rattle.polcert_text.specs.declared.tokens.TokenKind.{TokenKind}
-use Rattle.polcert_text.specs.declared.tokens.TokenKind.TheVariants.{Name, Numeral, Colon}
+use Rattle.polcert_text.specs.declared.tokens.TokenKind.TheVariants.{Numeral, Colon}
 use Rattle.polcert_text.specs.declared.tokens.TokenFault.{TokenFault}
 use Rattle.polcert_text.proofs.Scanning.Runs.{longest_seen, ended_mark, is_mark}
-use Rattle.polcert_text.proofs.Numbers.SignedLaws.{signed-mul}
 
 -- ---- several
 
@@ -55,9 +53,7 @@ begin_then place bytes m n us vs first second = record {
 -- ---- one
 
 glue_stays : (kind : TokenKind) (bs tail : List ℕ) → 0 < length bs → is_glued kind (bs ++ tail) ≡ is_glued kind bs
-glue_stays kind [] tail some = absurd (omega arith)
-glue_stays Name (b ∷ bs) tail some = refl
-glue_stays _ (b ∷ bs) tail some = refl
+glue_stays kind bs tail h1 = grind arith
 
 -- the lexeme at the front of the bytes after a gap
 abbrev pub front_lexeme : ℕ → List ℕ → ℕ → TokenKind → ℕ → Lexeme
@@ -104,8 +100,7 @@ module _ (place : ℕ) (bytes : List ℕ) (gap n : ℕ) (kind : TokenKind) (open
 -- ---- numbers
 
 pub if_some_map : {T : Type 0} (o : Option T) (P Q : T → Type 0) → ((v : T) → P v → Q v) → IfSome o P → IfSome o Q
-if_some_map (Some v) P Q each p = each v p
-if_some_map None P Q each p = tt
+if_some_map o P Q h1 h2 = grind arith
 
 pub digits_begin : (place : ℕ) (bytes : List ℕ) (gap : ℕ) (number : FrontDigits) → gap_through Between (take gap bytes) ≡ Between → EndsAsDigits (drop gap bytes) number
     → BeginWithDigits place bytes (record { len = gap + number.len; value = number.value })
@@ -117,25 +112,13 @@ digits_begin place bytes gap number open_gap e = record {
   value = e.value;
 }
 
--- a numeral without a sign, and after one
-exact_signed : (is_negative : Bool) (bs : List ℕ) (n : ℕ) → IsExact false bs (pos n) → IsExact is_negative bs (signed is_negative n)
-exact_signed is_negative bs n e =
-    let both : pos (n * millionth) ≡ pos (size_of bs) = sym (pos-*ℤ-pos n millionth) ∙ e in
-    let sizes : n * millionth ≡ size_of bs = cc in
-    signed-mul is_negative n millionth ∙ ap (signed is_negative) sizes
-
 single_sign : (is_negative : Bool) → state_after Start (class_of_sign is_negative) ≡ Single (kind_of_sign is_negative)
-single_sign true = refl
-single_sign false = refl
+single_sign is_negative = grind arith
 
 module _ (place : ℕ) (bytes : List ℕ) (gap : ℕ) (found : FrontNumber) (open_gap : gap_through Between (take gap bytes) ≡ Between) where
   numeral_of : (is_negative : Bool) (l : Lexeme) (number : FrontDigits) → l.kind ≡ Numeral → IsReadable l.bytes → IsExact false l.bytes (pos number.value) → found.value ≡ signed is_negative number.value
       → IsNumeralOf is_negative l found.value
-  numeral_of is_negative l number kind readable exact is = record {
-    kind_is = kind;
-    readable = readable;
-    exact = subst (IsExact is_negative l.bytes) (sym is) (exact_signed is_negative l.bytes number.value exact);
-  }
+  numeral_of is_negative l number kind readable exact is = grind arith
 
   pub numeral_begins : IsNumberFrom bytes gap false found → BeginWithNumber place bytes found
   numeral_begins v =

@@ -46,5 +46,4 @@ module _ {Reads : List Lexeme → Type 0} where
   -- and taken from the source
   pub all_passed : {S : Type 0} (reads : S → ℕ → Option (List ℕ) → S → Type 0) (failures : S → ℕ) (limit : ℕ) (first : S) (seen : List Lexeme) (tokens after : Stream) (s : S)
       → TakenFrom reads failures limit first seen tokens s → (p : ArePassed Reads tokens after) → TakenFrom reads failures limit first (seen ++ p.ts) after s
-  all_passed reads failures limit first seen tokens after s was p =
-      subst (λ t. TakenFrom reads failures limit first (seen ++ p.ts) t s) (sym p.tokens_are) (passed_taken reads failures limit first seen tokens s p.count p.ts was p.front)
+  all_passed reads failures limit first seen tokens after s was p = grind (arith, passed_taken)

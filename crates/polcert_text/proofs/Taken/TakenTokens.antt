@@ -1,5 +1,5 @@
 -- The tokens that were taken, and the cut of the whole.
-use Rattle.std.proofs.Common.{◌≡◌, ◌∙◌, Option, List, [], ◌∷◌, ◌++◌, refl, sym, ap, subst, append_assoc}
+use Rattle.std.proofs.Common.{◌≡◌, ◌∙◌, Option, List, [], ◌∷◌, ◌++◌, refl, sym, ap, subst, append_assoc, arith}
 use Rattle.std.proofs.lemmas.List.{append-nil}
 use Rattle.polcert_text.specs.Cut.{Lexeme, Rest, Ends, IsCut}
 use Rattle.polcert_text.specs.TakenTokens.{Taken, nothing, token}
@@ -9,8 +9,7 @@ use Rattle.polcert_text.proofs.TextLaws.{token_or_end, one_next_token}
 -- after the tokens taken comes the rest's cut
 pub taken_cut : (old new : Rest) (seen ts : List Lexeme) (end : Option TokenFault) → Taken old seen new → IsCut new ts end → IsCut old (seen ++ ts) end
 taken_cut old new seen ts end (nothing _) cut = cut
-taken_cut old new seen ts end (token _ between _ us t before takes) cut =
-    subst (λ xs. IsCut old xs end) (sym (append_assoc us (t ∷ []) ts)) (taken_cut old between us (t ∷ ts) end before (new, takes, cut))
+taken_cut old new seen ts end (token _ between _ us t before takes) cut = grind (arith, append_assoc, taken_cut old between us (t ∷ ts) end before (new, takes, cut))
 
 -- each cut of the whole begins with the tokens taken
 pub cut_taken : (old new : Rest) (seen all : List Lexeme) (end : Option TokenFault) → Taken old seen new → IsCut old all end → (more : List Lexeme) × ((all ≡ seen ++ more) × IsCut new more end)

@@ -3,5 +3,4 @@ use Rattle.polcert_text.proofs.Taken.BeginLaws.{colon_begins}
 use Rattle.polcert_text.proofs.front_tokens.colon_at.Goals as goal
 
 pub returns-then-quick_is_colon : goal.returns-then-quick_is_colon
-returns-then-quick_is_colon c = λ place.
-    colon_begins place c.args.bytes.now c.args.start c.requires.gap (omega arith) (c.quick_is_colon.ensures c.if-quick_is_colon.true)
+returns-then-quick_is_colon c = grind (arith, colon_begins)

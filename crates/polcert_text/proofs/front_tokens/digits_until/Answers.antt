@@ -1,5 +1,4 @@
-use Rattle.std.proofs.Common.{◌≡◌, ◌∙◌, ◌<◌, ◌≤◌, ◌+◌, ◌-◌, ◌*◌, ◌^◌, ◌++◌, ⊎_elim, length, take, drop, get_or, sym, subst, ap, append-nil, rules, arith}
-use Rattle.std.specs.Str.Parse.{digits_value}
+use Rattle.std.proofs.Common.{◌≡◌, ◌∙◌, ◌<◌, ◌≤◌, ◌+◌, ◌-◌, ◌*◌, ⊎_elim, length, get_or, ap, arith}
 use Rattle.polcert_text.specs.Steps.Classes.{class_of}
 use Rattle.polcert_text.proofs.Scanning.Tests.{digit_by}
 use Rattle.polcert_text.specs.declared.bytes.ByteClass.TheVariants.{Digit}
@@ -8,30 +7,11 @@ use Rattle.polcert_text.proofs.Numbers.NumberLaws.{digit_from, digit_to}
 use Rattle.polcert_text.proofs.Numbers.Plain.{after_more, below_or_at}
 use Rattle.polcert_text.proofs.front_tokens.digits_until.Goals as goal
 
-pub loop-at-init : goal.loop-at-init
-loop-at-init c =
-    let none : c.args.from - c.args.from ≡ 0 = omega arith in
-    record {
-      low = omega arith;
-      high = c.requires.range;
-      digits = λ k low below. absurd (omega (arith, low, below));
-      value = λ front was. was ∙ ap (digits_value 10) (sym (append-nil front) ∙ ap (λ n. front ++ take n (drop c.args.from c.args.bytes.now)) (sym none));
-      few = λ m small. let same : m ≡ m + (c.args.from - c.args.from) = omega arith in subst (λ n. c.args.number < 10 ^ n) same small;
-    }
-
 pub overflow_mul-read : goal.overflow_mul-read
-overflow_mul-read c =
-    let few = few_fit c.loop-at.read c.requires.few.0 c.args.from c.loop-at.at c.args.until c.requires.few.2 c.loop-at.invariant.low c.loop-at-test.true (c.loop-at.invariant.few c.requires.few.0 c.requires.few.1) in
-    let small : c.loop-at.read < 100_000_000_000_000_000 = few in
-    search rules
+overflow_mul-read c = grind (arith, few_fit)
 
 pub overflow_add-read : goal.overflow_add-read
-overflow_add-read c =
-    let few = few_fit c.loop-at.read c.requires.few.0 c.args.from c.loop-at.at c.args.until c.requires.few.2 c.loop-at.invariant.low c.loop-at-test.true (c.loop-at.invariant.few c.requires.few.0 c.requires.few.1) in
-    let small : c.loop-at.read < 100_000_000_000_000_000 = few in
-    let high : get_or c.args.bytes.now c.loop-at.at 0 ≤ 57 = digit_to _ (digit_by _ (c.quick_is_digit.ensures c.if-quick_is_digit.true)) in
-    let digit : c.from.result ≤ 9 = omega (arith, c.from.ensures, high) in
-    search rules
+overflow_add-read c = grind (arith, digit_by, few_fit, digit_to)
 
 pub overflow_sub-bytes : goal.overflow_sub-bytes
 overflow_sub-bytes c = digit_from _ (digit_by _ (c.quick_is_digit.ensures c.if-quick_is_digit.true))

@@ -1,4 +1,4 @@
-use Rattle.std.proofs.Common.{◌≡◌, ◌∙◌, ◌-◌, ◌*◌, ◌^◌, ◌+◌, ◌<◌, ◌≤◌, [], rules, length, take, get_or, refl, ap, arith}
+use Rattle.std.proofs.Common.{◌≡◌, ◌∙◌, ◌-◌, ◌*◌, ◌^◌, ◌+◌, ◌<◌, ◌≤◌, [], length, take, get_or, refl, ap, arith}
 use Rattle.std.specs.Str.Parse.{digits_value}
 use Rattle.polcert_text.specs.Steps.Classes.{class_of}
 use Rattle.polcert_text.specs.Numbers.{largest}
@@ -7,9 +7,6 @@ use Rattle.polcert_text.specs.declared.tokens.TokenKind.TheVariants.{Numeral}
 use Rattle.polcert_text.proofs.Numbers.FrontNumbers.{whole_read, fraction_read, blank_after, whole_exact, decimal_exact, small_whole, small_read, small_scaled}
 use Rattle.polcert_text.proofs.Scanning.Runs.{ends_within, ends_whole, ends_fraction}
 use Rattle.polcert_text.proofs.front_tokens.ended_number.Goals as goal
-
-pub few_digits-number-requires-clause-small : goal.few_digits-number-requires-clause-small
-few_digits-number-requires-clause-small c = small_whole _ c.few_digits-whole.result.1 (omega (arith, c.few_digits-whole.ensures.within.1)) c.few_digits-whole.ensures.small
 
 pub returns-then-not-quick_is_point : goal.returns-then-not-quick_is_point
 returns-then-not-quick_is_point c =
@@ -33,18 +30,7 @@ returns-then-not-quick_is_point c =
     }
 
 pub overflow_mul-result-2 : goal.overflow_mul-result-2
-overflow_mul-result-2 c =
-    let p = c.few_digits-whole.result.1 in
-    let n = c.few_digits-number.result.1 in
-    let number = c.few_digits-number.result.0 in
-    let first = c.few_digits-whole.ensures in
-    let second = c.few_digits-number.ensures in
-    let whole = small_whole _ p (omega (arith, first.within.1)) first.small in
-    let sum : p + 1 + 6 - n ≡ p + 7 - n = omega arith in
-    let scaled = small_scaled number _ (n - (p + 1)) (p + 7 - n) whole (omega (arith, second.within.0, second.within.1)) second.small in
-    let value : number * c.power_of_ten.result ≡ number * 10 ^ (p + 7 - n) = ap (λ k. number * k) (c.power_of_ten.ensures ∙ ap (λ k. 10 ^ k) sum) in
-    let fits : number * c.power_of_ten.result < largest = omega (arith, value, scaled) in
-    search rules
+overflow_mul-result-2 c = grind (arith, small_whole, small_scaled)
 
 pub returns : goal.returns
 returns c =

@@ -1,9 +1,9 @@
+use Rattle.std.proofs.Common.{rules}
 use Rattle.polcert_text.proofs.Taken.BeginLaws.{if_some_map, numeral_begins, sign_begins}
 use Rattle.polcert_text.proofs.front_tokens.front_number.Goals as goal
 
 pub returns-in-None : goal.returns-in-None
-returns-in-None c =
-    if_some_map c.number_from.result _ _ (λ found v place. numeral_begins place c.args.bytes.now c.blanks-start.result found c.blanks-start.ensures.gap v) c.number_from.ensures
+returns-in-None c = search (rules, if_some_map, numeral_begins)
 
 pub returns-in-Some : goal.returns-in-Some
 returns-in-Some c =

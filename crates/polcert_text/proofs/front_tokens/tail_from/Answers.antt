@@ -1,4 +1,4 @@
-use Rattle.std.proofs.Common.{◌≡◌, ◌∙◌, ◌<◌, ⊎_elim, get_or, length, refl, ap, arith}
+use Rattle.std.proofs.Common.{◌≡◌, ◌<◌, ⊎_elim, get_or, refl, arith}
 use Rattle.polcert_text.specs.Steps.Classes.{class_of}
 use Rattle.polcert_text.specs.declared.bytes.ByteClass.TheVariants.{Digit}
 use Rattle.polcert_text.proofs.Numbers.FrontSizes.{zeros_more, tail_inexact}
@@ -11,17 +11,7 @@ unfolding class_of
 digit_at_48 = refl
 
 pub loop-zeros-preserved : goal.loop-zeros-preserved
-loop-zeros-preserved c =
-    let bs = c.args.bytes.now in
-    let at = c.loop-zeros.zeros in
-    let zero : get_or bs at 0 ≡ 48 = c.if-bytes-zeros-eq48.true in
-    let inside : at < length bs = omega arith in
-    record {
-      low = omega arith;
-      high = omega arith;
-      digits = λ k low below. ⊎_elim (λ before. c.loop-zeros.invariant.digits k low before) (λ here. ap (λ i. class_of (get_or bs i 0)) here ∙ ap class_of zero ∙ digit_at_48) (below_or_at k at below);
-      none = zeros_more bs c.args.from at c.loop-zeros.invariant.low inside zero c.loop-zeros.invariant.none;
-    }
+loop-zeros-preserved c = grind (arith, ⊎_elim, zeros_more, below_or_at, digit_at_48)
 
 pub returns : goal.returns
 returns c =

@@ -1,16 +1,12 @@
-use Rattle.std.proofs.Common.{◌≡◌, ℕ, ◌∙◌, ◌≤◌, Bool, true, false, ◌&&◌, ◌||◌, refl, List, [], ◌∷◌, length, arith}
-use Rattle.std.specs.List.{list_all, list_any}
+use Rattle.std.proofs.Common.{◌≡◌, ℕ, ◌∙◌, ◌≤◌, List, [], ◌∷◌, length, arith}
+use Rattle.std.specs.List.{list_all}
 use Rattle.polcert_text.specs.Bytes.{is_digit}
 use Rattle.polcert_text.specs.Lexemes.{are_digits}
 use Rattle.polcert_text.proofs.number.are_digits.Goals as goal
 
 some_digits : (bs : List ℕ) → 1 ≤ length bs → list_all is_digit bs ≡ are_digits bs
 some_digits [] h = absurd (omega (arith, h))
-some_digits (b ∷ bs) h = at (is_digit b)
-  where
-    at : (digit : Bool) → (digit && list_all is_digit bs) ≡ ((digit && list_all is_digit bs) && (digit || list_any is_digit bs))
-    at true = grind arith
-    at false = refl
+some_digits (b ∷ bs) h = grind arith
 
 pub returns-in_default : goal.returns-in_default
 returns-in_default c = c.all_digits.ensures ∙ some_digits _ c.in_default.len_at_least

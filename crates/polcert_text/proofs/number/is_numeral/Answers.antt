@@ -1,4 +1,4 @@
-use Rattle.std.proofs.Common.{◌∙◌, ◌<◌, length, sym, ap, arith}
+use Rattle.std.proofs.Common.{◌∙◌, sym, ap, arith}
 use Rattle.std.proofs.lemmas.List.{take_all}
 use Rattle.polcert_text.specs.Steps.Scan.{state_through}
 use Rattle.polcert_text.specs.declared.tokens.State.TheVariants.{Start}
@@ -7,9 +7,7 @@ use Rattle.polcert_text.proofs.Numbers.NumberLaws.{numeral_at_state}
 use Rattle.polcert_text.proofs.number.is_numeral.Goals as goal
 
 pub loop-byte-preserved : goal.loop-byte-preserved
-loop-byte-preserved c =
-    let inside : c.loop-byte.byte-index < length c.args.bytes.now = omega arith in
-    state_step _ _ _ _ _ inside c.loop-byte.invariant c.class_of.ensures c.after-state.ensures
+loop-byte-preserved c = grind (arith, state_step)
 
 pub returns : goal.returns
 returns c =

@@ -1,10 +1,9 @@
-use Rattle.std.proofs.Common.{get_or, arith}
+use Rattle.std.proofs.Common.{arith, rules}
 use Rattle.polcert_text.proofs.Numbers.NumberLaws.{number_step, digit_at, digit_from}
 use Rattle.polcert_text.proofs.number.number_up_to.Goals as goal
 
 pub overflow_sub-digit : goal.overflow_sub-digit
-overflow_sub-digit c =
-    digit_from (get_or c.args.digits.now c.loop-digit.digit-index 0) (digit_at c.args.digits.now c.loop-digit.digit-index c.requires.digits (omega arith))
+overflow_sub-digit c = search (rules, digit_at, digit_from)
 
 pub loop-digit-preserved : goal.loop-digit-preserved
 loop-digit-preserved c =

@@ -1,14 +1,11 @@
-use Rattle.std.proofs.Common.{◌≡◌, ◌∙◌, ◌-◌, [], take, take_all, get_or, refl, ap, arith}
+use Rattle.std.proofs.Common.{◌≡◌, ◌∙◌, ◌-◌, [], take, take_all, refl, ap, arith}
 use Rattle.std.specs.Str.Parse.{digits_value}
 use Rattle.polcert_text.proofs.Scanning.Tests.{digit_by}
 use Rattle.polcert_text.proofs.Numbers.FrontNumbers.{all_of_each, some_digits}
 use Rattle.polcert_text.proofs.number.short_number.Goals as goal
 
 pub returns-clause-digits : goal.returns-clause-digits
-returns-clause-digits c =
-    let bs = c.args.bytes.now in
-    let read = c.digits_after-number.ensures in
-    some_digits bs (omega arith) (all_of_each bs (λ k below. digit_by (get_or bs k 0) (read.digits k (omega arith) (omega arith))))
+returns-clause-digits c = grind (arith, digit_by, all_of_each, some_digits)
 
 pub returns-clause-value : goal.returns-clause-value
 returns-clause-value c =

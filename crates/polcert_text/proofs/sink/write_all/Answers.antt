@@ -8,12 +8,7 @@ pub loop-at-init : goal.loop-at-init
 loop-at-init g c = record { in_range = omega arith; took = nothing; same_count = refl }
 
 pub returns-in_err-at : goal.returns-in_err-at
-returns-in_err-at g c = record {
-  ok = search rules;
-  same_count = search rules;
-  err = on_err _ (took_front _ _ _ _ c.loop-at.invariant.took c.in_err-at.ensures.call);
-  count = search rules;
-}
+returns-in_err-at g c = grind (arith, took_front, on_err)
 
 pub loop-at-preserved : goal.loop-at-preserved
 loop-at-preserved g c = record {

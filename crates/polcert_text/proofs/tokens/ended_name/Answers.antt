@@ -1,6 +1,4 @@
-use Rattle.std.proofs.Common.{◌<◌, ⊎_elim, length, refl, ap, arith}
-use Rattle.polcert_text.specs.Steps.Scan.{gap_after}
-use Rattle.polcert_text.specs.declared.tokens.Gap.TheVariants.{Between}
+use Rattle.std.proofs.Common.{◌<◌, length, refl, arith}
 use Rattle.polcert_text.specs.declared.tokens.State.TheVariants.{Name}
 use Rattle.polcert_text.specs.declared.tokens.TokenKind.TheVariants as kinds
 use Rattle.polcert_text.proofs.Scanning.Runs.{begins_name, ends_within}
@@ -13,9 +11,3 @@ returns-clause-ends c =
     let inside : c.name_end-end.result < length bs = omega (arith, name.within.1) in
     let read = name.same (begins_name bs _ c.requires.some refl c.requires.letter) in
     ends_within bs c.name_end-end.result Name kinds.Name inside read refl refl (name.stops inside)
-
-pub returns-clause-word : goal.returns-clause-word
-returns-clause-word c = record {
-  begins = ⊎_elim (ap (gap_after Between)) (ap (gap_after Between)) c.requires.letter;
-  apart = λ rest. refl;
-}

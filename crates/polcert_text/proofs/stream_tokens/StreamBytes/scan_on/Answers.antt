@@ -1,13 +1,9 @@
 use Rattle.std.proofs.Common.{◌∙◌, length, ap, arith}
-use Rattle.polcert_text.proofs.Streams.StreamLaws.{reads_fail, not_whole_before}
 use Rattle.polcert_text.proofs.Streams.StreamLexemes.{lexeme_begins, lexeme_continues, lexeme_ends, lexeme_at_end}
 use Rattle.polcert_text.proofs.stream_tokens.StreamBytes.scan_on.Goals as goal
 
 pub loop-self-init : goal.loop-self-init
-loop-self-init g c =
-    let seen = c.visible.ensures.bytes in
-    lexeme_begins _ _ c.args.self.now c.args.source.now c.through-scan.result (omega (arith, c.visible.ensures.below))
-    (rw seen at c.through-scan.ensures.with_byte) (λ e. c.through-scan.ensures.all e ∙ ap length seen)
+loop-self-init g c = grind (arith, lexeme_begins)
 
 pub loop-self-preserved : goal.loop-self-preserved
 loop-self-preserved g c =
@@ -26,9 +22,3 @@ returns-in-Ok-false g c =
 pub returns : goal.returns
 returns g c =
     rw c.longest-2.ensures (lexeme_ends _ _ _ _ c.loop-self.scan c.loop-self.self c.loop-self.source c.loop-self.invariant (c.lacks_lexeme.ensures.has c.loop-self-test.false))
-
-pub returns-in-Err : goal.returns-in-Err
-returns-in-Err g c =
-    let lacks = c.lacks_lexeme.ensures.lacks c.loop-self-test.true in
-    let on = c.loop-self.invariant.on in
-    (reads_fail _ _ _ _ _ _ _ _ _ on lacks.0 c.in-Err.ensures.err, not_whole_before g.S.Source.reads g.S.Source.failures _ _ _ _ _ on.was_read lacks.0)

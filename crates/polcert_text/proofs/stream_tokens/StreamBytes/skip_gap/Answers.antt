@@ -1,16 +1,12 @@
-use Rattle.std.proofs.Common.{sym}
+use Rattle.std.proofs.Common.{sym, arith}
 use Rattle.polcert_text.proofs.Streams.StreamGaps.{gap_begins, gap_continues, gap_ends, gap_at_end, found_some, found_none}
 use Rattle.polcert_text.proofs.stream_tokens.StreamBytes.skip_gap.Goals as goal
 
 pub loop-gap-init : goal.loop-gap-init
-loop-gap-init g c =
-    gap_begins _ _ c.args.self.now c.args.source.now c.skip_seen-gap.result c.skip_seen-gap.new.self c.skip_seen-gap.ensures.below c.skip_seen-gap.ensures.skipped
+loop-gap-init g c = grind (arith, gap_begins)
 
 pub loop-gap-preserved : goal.loop-gap-preserved
-loop-gap-preserved g c =
-    let lacks = c.lacks_byte.ensures.lacks c.loop-gap-test.true in
-    let fills = rw c.in-Ok-true.field-0-test at c.in-Ok-true.ensures.ok in
-    gap_continues _ _ _ _ c.loop-gap.gap c.loop-gap.self c.loop-gap.source c.fill.new.self _ _ _ c.loop-gap.invariant lacks.1 fills c.skip_seen-gap-in-Ok-true.ensures.skipped
+loop-gap-preserved g c = grind (arith, gap_continues)
 
 pub returns-in-Ok-false : goal.returns-in-Ok-false
 returns-in-Ok-false g c =

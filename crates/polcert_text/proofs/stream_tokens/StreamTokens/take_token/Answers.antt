@@ -1,4 +1,4 @@
-use Rattle.std.proofs.Common.{◌≡◌, ◌∙◌, ◌++◌, ℕ, List, length, Some, None, ap, sym, subst, refl}
+use Rattle.std.proofs.Common.{◌≡◌, ◌∙◌, ◌++◌, ℕ, List, length, None, ap, sym, subst, refl, arith}
 use Rattle.polcert_text.specs.Cut.{IsFaultAt}
 use Rattle.polcert_text.specs.Reading.{IsReadAt, lexeme_of}
 use Rattle.polcert_text.specs.Steps.Streaming.{IsSeen, StopsRightly}
@@ -9,19 +9,10 @@ use Rattle.polcert_text.proofs.stream_tokens.StreamTokens.take_token.Goals as go
 use Rattle.polcert_text.proofs.stream_tokens.StreamTokens.take_token.Goals.{in-None, in-Some}
 
 pub returns-in-Ok-false-clause-next : goal.returns-in-Ok-false-clause-next
-returns-in-Ok-false-clause-next g c =
-    let skips = rw c.in-Ok-false.field-0-test at c.in-Ok-false.ensures in
-    let ahead = c.consume.ensures ∙ ap (λ s. s.ahead) c.self.view_is in
-    let end = gives_end _ _ _ _ _ _ skips in
-    elim c.match-ending.branch [
-      | in-None w ↦ rw w.result-is (ended_as _ _ _ _ _ _ None _ _ ahead (sym c.ending.ensures ∙ w.in-None.is) end)
-      | in-Some w ↦ rw w.result-is (ended_as _ _ _ _ _ _ (Some w.in-Some.fault) _ _ ahead (sym c.ending.ensures ∙ w.in-Some.is) end)
-    ]
+returns-in-Ok-false-clause-next g c = grind (arith, gives_end, ended_as, in-None, in-Some)
 
 pub returns-in-Err-scan_lexeme-clause-next : goal.returns-in-Err-scan_lexeme-clause-next
-returns-in-Err-scan_lexeme-clause-next g c =
-    let skips = c.in-Ok-true.ensures in
-    fails_after _ _ _ _ _ _ _ _ skips c.in-Err-scan_lexeme.ensures.1 c.in-Err-scan_lexeme.ensures.0
+returns-in-Err-scan_lexeme-clause-next g c = grind (arith, fails_after)
 
 pub invariant_of-self-in-Ok-token_of : goal.invariant_of-self-in-Ok-token_of
 invariant_of-self-in-Ok-token_of g c =

@@ -1,6 +1,5 @@
 use Rattle.std.proofs.Common.{◌∙◌, ◌+◌, ◌++◌, ◌∷◌, [], length-append, sym, ap, arith}
 use Rattle.polcert_text.specs.Steps.Scan.{kind_at}
-use Rattle.polcert_text.specs.Steps.ScanOf.{front_len}
 use Rattle.polcert_text.proofs.Scanning.LexemeEnds.{after_some, after_none}
 use Rattle.polcert_text.proofs.Scanning.LexemeLaws.{state_fed, front_takes, front_keeps, kind_of-through}
 use Rattle.polcert_text.proofs.tokens.LexemeScan.with_byte.Goals as goal
@@ -17,12 +16,4 @@ returns-in-Some-clause-scan c = λ read was.
     }
 
 pub returns-in-None-clause-scan : goal.returns-in-None-clause-scan
-returns-in-None-clause-scan c = λ read was.
-    let state = state_fed read c.args.byte _ _ _ was.state c.class_of.ensures c.after-state.ensures in
-    let kind = kind_of-through (read ++ c.args.byte ∷ []) ∙ ap kind_at state ∙ sym c.kind.ensures ∙ c.in-None.is in
-    record {
-      len = omega (arith, was.len, length-append read (c.args.byte ∷ []));
-      state = state;
-      longest = front_keeps read c.args.byte _ was.longest kind;
-      following = after_none c.args.self.state _ _ (front_len c.args.self.longest) c.args.self.len c.after-state.ensures (sym c.kind.ensures ∙ c.in-None.is) was.following;
-    }
+returns-in-None-clause-scan c = grind (arith, length-append, after_none, state_fed, front_keeps, kind_of-through)
