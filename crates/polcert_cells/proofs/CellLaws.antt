@@ -1,13 +1,13 @@
 -- A cell has the value of the last entry that covers it.
-use Rattle.std.proofs.Common.{◌≡◌, ◌∙◌, ℕ, pos, zero, suc, ◌+◌, ◌*◌, ◌<◌, Bool, true, false, cond, ◌&&◌, ⊎_elim, length, drop, Option, Some, None, List, [], ◌∷◌, ◌++◌, reverse, mul-suc, refl, sym, ap, subst, arith}
+use Rattle.std.proofs.Common.{◌≡◌, ◌∙◌, ℕ, pos, zero, suc, ◌+◌, ◌*◌, ◌<◌, Bool, true, false, cond, ◌&&◌, ⊎_elim, Option, Some, None, List, [], ◌∷◌, ◌++◌, reverse, mul-suc, refl, sym, ap, subst, arith}
 use Rattle.std.proofs.lemmas.List.{reverse-append, append_assoc, append-nil}
 use Rattle.std.specs.List.{list_any, find}
 use Rattle.polcert_cells.specs.declared.entries.Table.{Table}
-use Rattle.polcert_cells.specs.Preamble.{Preamble, columns, dimensions}
+use Rattle.polcert_cells.specs.Preamble.{Preamble}
 use Rattle.polcert_cells.specs.declared.entries.Place.{Place}
 use Rattle.polcert_cells.specs.declared.entries.Body.TheVariants.{Uniform}
 use Rattle.polcert_cells.specs.declared.entries.Entry.{Entry}
-use Rattle.polcert_cells.specs.Cells.{covers, last_covering, weight, weight_of, reward, reward_of, value_or, IsLastCovering, last, none, fit_places, fits_place, is_table, weight_in}
+use Rattle.polcert_cells.specs.Cells.{covers, last_covering, weight, weight_of, reward, reward_of, value_or, IsLastCovering, last, none, fit_places, fits_place}
 use Rattle.polcert_cells.specs.Meaning.{sum_below}
 use Rattle.polcert_cells.specs.declared.entries.Table.TheVariants.{Reward}
 use Rattle.polcert_cells.specs.Laws.{OneMoreWeight, OneMoreReward}
@@ -20,13 +20,11 @@ one_more_entry entries entry table indices = ap (find (covers table indices)) (r
 
 pub covered_now : (entries : List Entry) (entry : Entry) (table : Table) (indices : List ℕ) → covers table indices entry ≡ true
     → last_covering (entries ++ entry ∷ []) table indices ≡ Some entry
-covered_now entries entry table indices e =
-    one_more_entry entries entry table indices ∙ ap (λ b. cond b (Some entry) (last_covering entries table indices)) e
+covered_now entries entry table indices e = grind (arith, one_more_entry)
 
 pub not_covered_now : (entries : List Entry) (entry : Entry) (table : Table) (indices : List ℕ) → covers table indices entry ≡ false
     → last_covering (entries ++ entry ∷ []) table indices ≡ last_covering entries table indices
-not_covered_now entries entry table indices e =
-    one_more_entry entries entry table indices ∙ ap (λ b. cond b (Some entry) (last_covering entries table indices)) e
+not_covered_now entries entry table indices e = grind (arith, one_more_entry)
 
 -- entries that don't cover the cell are passed over, from the end backwards
 passed_over : (p : Entry → Bool) (xs ys : List Entry) → list_any p xs ≡ false → find p (reverse xs ++ ys) ≡ find p ys
@@ -47,9 +45,7 @@ none_is_found : (p : Entry → Bool) (entries : List Entry) → list_any p entri
 none_is_found p entries e = ap (find p) (sym (append-nil (reverse entries))) ∙ passed_over p entries [] e
 
 pub last_is_one : (entries : List Entry) (table : Table) (indices : List ℕ) (found : Option Entry) → IsLastCovering entries table indices found → found ≡ last_covering entries table indices
-last_is_one entries table indices (Some f) (last before e after whole here following) =
-    sym (ap (λ es. find (covers table indices) (reverse es)) whole ∙ last_is_found (covers table indices) before e after here following)
-last_is_one entries table indices None (none clear) = sym (none_is_found (covers table indices) entries clear)
+last_is_one entries table indices found h1 = grind (arith, last_is_found, none_is_found)
 
 one_before : (entry : Entry) (entries : List Entry) (table : Table) (indices : List ℕ) (found : Option Entry) → IsLastCovering entries table indices found
     → (o : Option Entry) × IsLastCovering (entry ∷ entries) table indices o
@@ -75,31 +71,24 @@ fit_further [] row more e = refl
 fit_further (p ∷ ps) [] more e = absurd (true≢false e refl)
 fit_further (p ∷ ps) (i ∷ row) more e =
     let both = and_true (fits_place p i) (fit_places ps row) e in
-    let rest : fit_places ps (row ++ more) ≡ true = fit_further ps row more both.1 in
-    ap (λ b. b && fit_places ps (row ++ more)) both.0 ∙ rest
+    ap (λ b. b && fit_places ps (row ++ more)) both.0 ∙ (fit_further ps row more both.1)
 
 pub covers_row : (table : Table) (row more : List ℕ) (entry : Entry) → covers table row entry ≡ true → covers table (row ++ more) entry ≡ true
-covers_row table row more entry e =
-    let both = and_true (is_table entry.table table) (fit_places entry.places row) e in
-    ap (λ b. b && fit_places entry.places (row ++ more)) both.0 ∙ fit_further entry.places row more both.1
+covers_row table row more entry e = grind (arith, and_true, fit_further)
 
 pub sum_of_same : (f : ℕ → ℕ) (k n : ℕ) → ((i : ℕ) → i < n → f i ≡ k) → sum_below f n ≡ k * n
 sum_of_same f k zero h = let e : 0 ≡ k * 0 = omega arith in e
 sum_of_same f k (suc n) h =
     let before : sum_below f n ≡ k * n = sum_of_same f k n (λ i l. h i (omega arith)) in
-    let here : f n ≡ k = h n (omega arith) in
-    let product : k * suc n ≡ k * n + k = mul-suc k n in
-    omega (arith, before, here, product)
+    grind (arith, mul-suc)
 
 uniform_weight : (p : Preamble) (indices : List ℕ) (entry : Entry) → entry.body ≡ Uniform → weight_of p indices entry ≡ 1_000_000
-uniform_weight p indices entry e =
-    ap (λ b. weight_in (columns p entry.table) b (drop (length entry.places) (dimensions p entry.table)) (drop (length entry.places) indices)) e
+uniform_weight p indices entry e = grind arith
 
 -- a row whose cells all have their values from `uniform` sums to its scale
 pub uniform_row : (p : Preamble) (entries : List Entry) (table : Table) (row : List ℕ) (entry : Entry) (n : ℕ) → entry.body ≡ Uniform
     → ((c : ℕ) → c < n → last_covering entries table (row ++ c ∷ []) ≡ Some entry) → sum_below (λ c. weight p entries table (row ++ c ∷ [])) n ≡ 1_000_000 * n
-uniform_row p entries table row entry n u h =
-    sum_of_same _ 1_000_000 n (λ c l. ap (value_or 0 (weight_of p (row ++ c ∷ []))) (h c l) ∙ uniform_weight p (row ++ c ∷ []) entry u)
+uniform_row p entries table row entry n u h = grind (arith, sum_of_same, uniform_weight)
 
 pub uncovered_weight : (p : Preamble) (entries : List Entry) (table : Table) (indices : List ℕ) → list_any (covers table indices) entries ≡ false → weight p entries table indices ≡ 0
 uncovered_weight p entries table indices e = ap (value_or 0 (weight_of p indices)) (none_is_found (covers table indices) entries e)
@@ -108,13 +97,7 @@ pub uncovered_reward : (p : Preamble) (entries : List Entry) (indices : List ℕ
 uncovered_reward p entries indices e = ap (value_or (pos 0) (reward_of p indices)) (none_is_found (covers Reward indices) entries e)
 
 pub one_more_weight : (p : Preamble) (entries : List Entry) (entry : Entry) (table : Table) (indices : List ℕ) → OneMoreWeight p entries entry table indices
-one_more_weight p entries entry table indices = (
-  (λ e. ap (value_or 0 (weight_of p indices)) (covered_now entries entry table indices e)),
-  (λ e. ap (value_or 0 (weight_of p indices)) (not_covered_now entries entry table indices e)),
-)
+one_more_weight p entries entry table indices = grind (arith, covered_now, not_covered_now)
 
 pub one_more_reward : (p : Preamble) (entries : List Entry) (entry : Entry) (indices : List ℕ) → OneMoreReward p entries entry indices
-one_more_reward p entries entry indices = (
-  (λ e. ap (value_or (pos 0) (reward_of p indices)) (covered_now entries entry Reward indices e)),
-  (λ e. ap (value_or (pos 0) (reward_of p indices)) (not_covered_now entries entry Reward indices e)),
-)
+one_more_reward p entries entry indices = grind (arith, covered_now, not_covered_now)

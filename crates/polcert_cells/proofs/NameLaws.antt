@@ -1,5 +1,5 @@
 -- Names kept as texts, and the list of their bytes.
-use Rattle.std.proofs.Common.{◌≡◌, ◌∙◌, ℕ, zero, suc, ◌+◌, ◌<◌, Bool, true, false, not, ◌||◌, List, [], ◌∷◌, ◌++◌, map, position, bytes_eq, Some, None, refl, sym, ap, subst, arith, slice_get, string_bytes, cond, nat_lt, length, String, if◌then◌else◌}
+use Rattle.std.proofs.Common.{◌≡◌, ◌∙◌, ℕ, zero, suc, ◌+◌, Bool, true, false, not, ◌||◌, List, [], ◌∷◌, ◌++◌, map, position, bytes_eq, Some, refl, ap, subst, arith, slice_get, string_bytes, cond, String, if◌then◌else◌, rules}
 use Rattle.std.specs.List.{list_any, position_or_len, AllByRecursion, IsDistinct}
 use Rattle.std.proofs.lemmas.List.{map-append, length-map}
 use Rattle.std.proofs.lemmas.Bool.{lt-ltb}
@@ -7,16 +7,12 @@ use Rattle.std.proofs.lemmas.Map.Keys.{IsDistinct-head, IsDistinct-tail}
 use Rattle.std.proofs.lemmas.Option.{slice_get_within}
 use Rattle.std.proofs.lemmas.Slice.Eq.{bytes_eq-Decides}
 use Rattle.polcert_cells.proofs.Basics.{true≢false}
-use Rattle.std.specs.String.{string_eq, string_eq_equiv}
+use Rattle.std.specs.String.{string_eq}
 use Rattle.indexmap.proofs.SetLemmas.{set_all_distinct}
 use Rattle.indexmap.specs.IndexSet.{insert_key, insert_all}
 
 apart_flipped : (a b : List ℕ) → bytes_eq a b ≡ false → bytes_eq b a ≡ false
-apart_flipped a b apart = of (bytes_eq b a) refl
-  where
-    of : (same : Bool) → bytes_eq b a ≡ same → bytes_eq b a ≡ false
-    of false is = is
-    of true is = absurd (true≢false ((bytes_eq-Decides a b).1 (sym ((bytes_eq-Decides b a).0 is))) apart)
+apart_flipped a b apart = grind (arith, bytes_eq, bytes_eq-Decides, true≢false)
 
 module _ {Z : Type 0} where
   -- ---- a test of texts is one of their bytes
@@ -25,15 +21,11 @@ module _ {Z : Type 0} where
       position_or_len (λ k. bytes_eq name (string_bytes k)) keys
       ≡ position_or_len (bytes_eq name) (map string_bytes keys)
   at_of_bytes name [] = refl
-  at_of_bytes name (k ∷ keys) =
-      ap (λ rest. cond (not (bytes_eq name (string_bytes k))) (1 + rest) 0) (at_of_bytes name keys)
+  at_of_bytes name (k ∷ keys) = grind (arith, bytes_eq, string_bytes, at_of_bytes name keys)
 
   pub position_of_bytes : (name : List ℕ) (keys : List (String Z)) →
       position (λ k. bytes_eq name (string_bytes k)) keys ≡ position (bytes_eq name) (map string_bytes keys)
-  position_of_bytes name keys =
-      let found = position_or_len (bytes_eq name) (map string_bytes keys) in
-      ap (λ at. cond (nat_lt at (length keys)) (Some at) None) (at_of_bytes name keys)
-      ∙ ap (λ n. cond (nat_lt found n) (Some found) None) (sym (length-map keys string_bytes))
+  position_of_bytes name keys = grind (arith, bytes_eq, string_bytes, length-map, at_of_bytes)
 
   any_of_bytes : (name : List ℕ) (keys : List (String Z)) →
       list_any (λ k. bytes_eq name (string_bytes k)) keys ≡ list_any (bytes_eq name) (map string_bytes keys)
@@ -56,35 +48,16 @@ module _ {Z : Type 0} where
 
     pub new_name : is_new ≡ true
         → (list_any (bytes_eq name) old ≡ false) × (map string_bytes pushed ≡ old ++ name ∷ [])
-    new_name e = by (list_any (string_eq item) keys) refl
-      where
-        by : (known : Bool) → list_any (string_eq item) keys ≡ known
-            → (list_any (bytes_eq name) old ≡ false) × (map string_bytes pushed ≡ old ++ name ∷ [])
-        by true k = absurd (cc)
-        by false k = (
-          sym looked ∙ k,
-          ap (map string_bytes) (kept false k)
-              ∙ map-append string_bytes keys (item ∷ [])
-              ∙ ap (λ ns. ns ++ string_bytes item ∷ []) seen
-              ∙ ap (λ n. old ++ n ∷ []) is,
-        )
+    new_name e = grind (arith, bytes_eq, string_bytes, map-append, looked, kept)
 
     pub known_name : is_new ≡ false → (list_any (bytes_eq name) old ≡ true) × (map string_bytes pushed ≡ old)
-    known_name e = by (list_any (string_eq item) keys) refl
-      where
-        by : (known : Bool) → list_any (string_eq item) keys ≡ known
-            → (list_any (bytes_eq name) old ≡ true) × (map string_bytes pushed ≡ old)
-        by true k = (sym looked ∙ k, ap (map string_bytes) (kept true k) ∙ seen)
-        by false k = absurd (cc)
+    known_name e = grind (arith, bytes_eq, string_bytes, looked, kept)
 
   -- ---- the names of a set, put into an empty one
 
   pub moved : (keys empty made : List (String Z)) (old : List (List ℕ)) → map string_bytes keys ≡ old
       → IsDistinct string_eq keys → empty ≡ [] → made ≡ insert_all string_eq empty keys → map string_bytes made ≡ old
-  moved keys empty made old seen differ none all =
-      ap (map string_bytes)
-      (all ∙ ap (λ ks. insert_all string_eq ks keys) none ∙ set_all_distinct string_eq_equiv [] keys differ)
-      ∙ seen
+  moved keys empty made old seen differ none all = search (rules, string_bytes, set_all_distinct)
 
   -- ---- the name that stands at a place stands at none before it
 
@@ -96,22 +69,13 @@ module _ {Z : Type 0} where
   first_at : (keys : List (String Z)) (n : ℕ) (key : String Z) → IsDistinct string_eq keys → slice_get keys n ≡ Some key
       → position_or_len (bytes_eq (string_bytes key)) (map string_bytes keys) ≡ n
   first_at [] n key differ is = cc
-  first_at (x ∷ xs) zero key differ is =
-      let same : x ≡ key = cc in
-      let found : bytes_eq (string_bytes key) (string_bytes x) ≡ true = (bytes_eq-Decides (string_bytes key) (string_bytes x)).1 (ap string_bytes (sym same)) in
-      ap (λ b. cond (not b) (1 + position_or_len (bytes_eq (string_bytes key)) (map string_bytes xs)) 0) found
+  first_at (x ∷ xs) zero key differ is = grind (arith, bytes_eq, string_bytes, bytes_eq-Decides)
   first_at (x ∷ xs) (suc n) key differ is =
-      let apart = other_name x xs n key (IsDistinct-head string_eq x xs differ) is in
-      let next : 1 + n ≡ suc n = omega arith in
-      let other = apart_flipped (string_bytes x) (string_bytes key) apart in
+      let other = apart_flipped (string_bytes x) (string_bytes key) (other_name x xs n key (IsDistinct-head string_eq x xs differ) is) in
       ap (λ b. cond (not b) (1 + position_or_len (bytes_eq (string_bytes key)) (map string_bytes xs)) 0) other
       ∙ ap (λ m. 1 + m) (first_at xs n key (IsDistinct-tail string_eq x xs differ) is)
-      ∙ next
+      ∙ (omega arith)
 
   pub stands_at : (keys : List (String Z)) (names : List (List ℕ)) (name : List ℕ) (n : ℕ) (key : String Z) → map string_bytes keys ≡ names → IsDistinct string_eq keys
       → slice_get keys n ≡ Some key → bytes_eq (string_bytes key) name ≡ true → Some n ≡ position (bytes_eq name) names
-  stands_at keys names name n key are differ is same =
-      let at : position_or_len (bytes_eq name) names ≡ n = rw (sym are, sym ((bytes_eq-Decides (string_bytes key) name).0 same)) (first_at keys n key differ is) in
-      let inside : n < length names = omega (arith, slice_get_within keys n key is, length-map keys string_bytes, ap length are) in
-      let below : nat_lt n (length names) ≡ true = lt-ltb n (length names) inside in
-      sym (ap (λ m. cond (nat_lt m (length names)) (Some m) None) at ∙ ap (λ b. cond b (Some n) None) below)
+  stands_at keys names name n key are differ is same = grind (arith, bytes_eq, slice_get, string_bytes, length-map, lt-ltb, slice_get_within, bytes_eq-Decides, first_at)

@@ -1,5 +1,5 @@
 -- Lexemes are at most one list of numbers, and a numeral at most one whole number.
-use Rattle.std.proofs.Common.{◌≡◌, ◌∙◌, ℕ, suc, ◌+◌, ◌*◌, ◌<◌, ◌≤◌, Bool, ◌⊎◌, ⊎_elim, List, ◌∷◌, ℤ, pos, negsuc, neg_ℤ, ◌*ℤ◌, refl, sym, ap, arith}
+use Rattle.std.proofs.Common.{◌≡◌, ◌∙◌, ℕ, suc, ◌*◌, ◌<◌, ◌≤◌, Bool, List, ◌∷◌, ℤ, pos, neg_ℤ, ◌*ℤ◌, refl, sym, arith}
 use Rattle.std.proofs.lemmas.Int.{ints}
 use Rattle.std.proofs.Math.Nat.{mul-le-mul_right, one-le-pow}
 use Rattle.std.proofs.Math.IntN.{pos-*ℤ-pos, negsuc-*ℤ-pos}
@@ -16,15 +16,8 @@ pub millionth_pos : 0 < millionth
 unfolding millionth
 millionth_pos = one-le-pow 994 10 (omega arith)
 
--- a factor above 0 is taken away
-less_or_more : (m n : ℕ) → (m + 1 ≤ n) ⊎ (m ≡ n) ⊎ (n + 1 ≤ m)
-less_or_more m n = grind arith
-
 without_factor : (m n d : ℕ) → 0 < d → m * d ≡ n * d → m ≡ n
-without_factor m n d p e =
-    ⊎_elim (λ less. let l : (m + 1) * d ≤ n * d = mul-le-mul_right d less in absurd (omega (arith, l)))
-    (λ rest. ⊎_elim (λ same. same) (λ more. let l : (n + 1) * d ≤ m * d = mul-le-mul_right d more in absurd (omega (arith, l))) rest)
-    (less_or_more m n)
+without_factor m n d p e = grind arith
 
 same_pos : (m n : ℕ) → pos m ≡ pos n → m ≡ n
 same_pos m n e = cc
@@ -39,13 +32,7 @@ above_zero : (n d : ℕ) → 0 < d → 0 < suc n * d
 above_zero n d p = let l : 1 * d ≤ suc n * d = mul-le-mul_right d (omega arith) in omega (arith, l)
 
 pub without_factor_ℤ : (h k : ℤ) (d : ℕ) → 0 < d → h *ℤ pos d ≡ k *ℤ pos d → h ≡ k
-without_factor_ℤ (pos m) (pos n) d p e = ap pos (without_factor m n d p (same_pos (m * d) (n * d) (sym (pos-*ℤ-pos m d) ∙ e ∙ pos-*ℤ-pos n d)))
-without_factor_ℤ (pos m) (negsuc n) d p e = absurd (positive_not_negative (m * d) (suc n * d) (above_zero n d p) (sym (pos-*ℤ-pos m d) ∙ e ∙ negsuc-*ℤ-pos n d))
-without_factor_ℤ (negsuc m) (pos n) d p e = absurd (positive_not_negative (n * d) (suc m * d) (above_zero m d p) (sym (pos-*ℤ-pos n d) ∙ sym e ∙ negsuc-*ℤ-pos m d))
-without_factor_ℤ (negsuc m) (negsuc n) d p e =
-    let s : suc m ≡ suc n = without_factor (suc m) (suc n) d p (same_negative (suc m * d) (suc n * d) (sym (negsuc-*ℤ-pos m d) ∙ e ∙ negsuc-*ℤ-pos n d)) in
-    let t : m ≡ n = omega (arith, s) in
-    ap negsuc t
+without_factor_ℤ h k d h1 h2 = grind (arith, pos-*ℤ-pos, negsuc-*ℤ-pos, without_factor, same_pos, positive_not_negative, same_negative, above_zero)
 
 pub one_exact : (negative : Bool) (bs : List ℕ) (h k : ℤ) → IsExact negative bs h → IsExact negative bs k → h ≡ k
 one_exact negative bs h k a b = without_factor_ℤ h k millionth millionth_pos (a ∙ sym b)

@@ -16,49 +16,18 @@ use Rattle.std.proofs.lemmas.List.{get_or_past}
 after_low : (low n : ℕ) (xs : List Cell) (k : ℕ) → Climbs low n xs → low ≤ after_cells low xs k
 after_low low n xs zero h = omega arith
 after_low low n [] (suc k) h = omega arith
-after_low low n (x ∷ xs) (suc k) h =
-    let first = h.0 in
-    let rest = after_low (x.column + 1) n xs k h.3 in
-    omega (arith, rest)
+after_low low n (x ∷ xs) (suc k) h = grind (arith, after_low (x.column + 1) n xs k h.3)
 
 climbs_some : (low n : ℕ) (xs : List Cell) (k : ℕ) (x : Cell) → Climbs low n xs → slice_get xs k ≡ Some x
     → IsNext (weight_at xs) n (after_cells low xs k) (Some (x.column, x.weight)) × (after_cells low xs (suc k) ≡ x.column + 1)
 climbs_some low n [] k x h e = absurd (cc)
-climbs_some low n (y ∷ ys) zero x h e =
-    let same : y ≡ x = cc in
-    let here : Climbs low n (x ∷ ys) = subst (λ (z : Cell). Climbs low n (z ∷ ys)) same h in
-    let low_here = here.0 in
-    subst (λ (z : Cell). IsNext (weight_at (z ∷ ys)) n low (Some (x.column, x.weight)) × (z.column + 1 ≡ x.column + 1)) (sym same) (
-      (
-        here.0,
-        here.1,
-        sym (weight_head x ys x.column refl),
-        here.2,
-        λ i m l. weight_tail x ys i (λ j. omega arith) ∙ weight_below (x.column + 1) n i ys here.3 (omega arith),
-      ),
-      refl,
-    )
-climbs_some low n (y ∷ ys) (suc k) x h e =
-    let rest = climbs_some (y.column + 1) n ys k x h.3 e in
-    let next = rest.0 in
-    let above = after_low (y.column + 1) n ys k h.3 in
-    let low_x = next.0 in (
-      (
-        next.0,
-        next.1,
-        next.2 ∙ sym (weight_tail y ys x.column (λ j. omega (arith, above, low_x))),
-        next.3,
-        λ i m l. weight_tail y ys i (λ j. omega (arith, above, m)) ∙ next.4 i m l,
-      ),
-      rest.1,
-    )
+climbs_some low n (y ∷ ys) zero x h e = grind (arith, weight_head, weight_tail, weight_below)
+climbs_some low n (y ∷ ys) (suc k) x h e = grind (arith, weight_tail, after_low, climbs_some (y.column + 1) n ys k x h.3 e)
 
 climbs_none : (low n : ℕ) (xs : List Cell) (k : ℕ) → Climbs low n xs → slice_get xs k ≡ None → (i : ℕ) → after_cells low xs k ≤ i → weight_at xs i ≡ 0
 climbs_none low n [] k h e i m = refl
 climbs_none low n (y ∷ ys) zero h e i m = absurd (cc)
-climbs_none low n (y ∷ ys) (suc k) h e i m =
-    let above = after_low (y.column + 1) n ys k h.3 in
-    weight_tail y ys i (λ j. omega (arith, above, m)) ∙ climbs_none (y.column + 1) n ys k h.3 e i m
+climbs_none low n (y ∷ ys) (suc k) h e i m = grind (arith, weight_tail, after_low, climbs_none (y.column + 1) n ys k h.3 e i m)
 
 module _ (f : ℕ → ℕ) (n : ℕ) (xs : List Cell) (row : IsRow n f xs) where
   pub sparse_some : (k : ℕ) (x : Cell) → slice_get xs k ≡ Some x → IsNext f n (after_cells 0 xs k) (Some (x.column, x.weight)) × (after_cells 0 xs (k + 1) ≡ x.column + 1)
@@ -77,11 +46,7 @@ scaled_by scale ns c = slice_index ns c * scale
 
 -- where a column has no weight, the walk continues after it
 pub step_after : (g : ℕ → ℕ) (n at : ℕ) (s : Option Step) → g at ≡ 0 → IsStep g n None (at + 1) s → IsStep g n None at s
-step_after g n at None none h = λ i low high. ⊎_elim (λ l. h i (omega arith) high) (λ ge. let same : at ≡ i = omega arith in sym (ap g same) ∙ none) (cases_lt at i)
-step_after g n at (Some step) none h =
-    let next = h.0 in
-    let low = next.0 in
-    ((omega (arith, low), next.1, next.2, next.3, λ i m l. ⊎_elim (λ k. next.4 i (omega arith) l) (λ ge. let same : at ≡ i = omega arith in sym (ap g same) ∙ none) (cases_lt at i)), h.1)
+step_after g n at s h1 h2 = grind arith
 
 -- ---- the same of a row, by what it is
 module _ (f : ℕ → ℕ) (n : ℕ) (row : Row) (is : IsRowOf f n row) (at : ℕ) where
@@ -97,13 +62,7 @@ module _ (f : ℕ → ℕ) (n : ℕ) (row : Row) (is : IsRowOf f n row) (at : �
 
   -- (a filled row is walked by its columns)
   pub step_filled : (weights : Bor (List ℕ)) (s : Option Step) → row ≡ Filled weights → (AreWeights f n weights.now → IsStep f (length weights.now) None at s) → IsStep f n (Some row) at s
-  step_filled weights s e step =
-      subst (λ (r : Row). IsRowOf f n r → IsStep f n (Some r) at s) (sym e)
-      (λ are. by_columns s (subst (λ (count : ℕ). IsStep f count None at s) are.size (step are))) is
-    where
-      by_columns : (s : Option Step) → IsStep f n None at s → IsStep f n (Some (Filled weights)) at s
-      by_columns None h = h
-      by_columns (Some step) h = h
+  step_filled weights s e step = grind arith
 
   -- (so is one of numbers times a scale)
   pub step_scaled : (numbers : Bor (List ℕ)) (scale : ℕ) (s : Option Step) → row ≡ Scaled numbers scale → IsStep (scaled_by scale numbers.now) (length numbers.now) None at s → IsStep f n (Some row) at s

@@ -1,5 +1,5 @@
 -- Rows whose weights are numbers times a scale.
-use Rattle.std.proofs.Common.{◌≡◌, ◌∙◌, ℕ, zero, suc, ◌+◌, ◌*◌, ◌<◌, ◌≤◌, ⊎_elim, Bool, true, false, cond, ltb, List, [], ◌∷◌, length, slice_index, refl, sym, ap, subst, arith}
+use Rattle.std.proofs.Common.{◌≡◌, ◌∙◌, ℕ, zero, suc, ◌+◌, ◌*◌, ◌<◌, Bool, true, false, cond, ltb, List, [], ◌∷◌, length, slice_index, refl, sym, subst, arith}
 use Rattle.std.proofs.lemmas.Bool.Decides.{nat_tests}
 use Rattle.polcert_cells.specs.declared.elements.Cell.{Cell}
 use Rattle.polcert_cells.specs.Sparse.{weight_at, scaled_cells, IsRow}
@@ -8,8 +8,7 @@ use Rattle.polcert_cells.proofs.SparseLaws.{Climbs, cell_of, climbs_lower, spars
 pub climbs_scaled : (scale k : ℕ) (ns : List ℕ) → Climbs k (k + length ns) (scaled_cells scale k ns)
 climbs_scaled scale k [] = tt
 climbs_scaled scale k (n ∷ ns) =
-    let same : k + 1 + length ns ≡ k + suc (length ns) = omega arith in
-    at (subst (λ m. Climbs (k + 1) m (scaled_cells scale (k + 1) ns)) same (climbs_scaled scale (k + 1) ns)) (ltb 0 (n * scale)) refl
+    at (subst (λ m. Climbs (k + 1) m (scaled_cells scale (k + 1) ns)) (omega arith) (climbs_scaled scale (k + 1) ns)) (ltb 0 (n * scale)) refl
   where
     at : Climbs (k + 1) (k + suc (length ns)) (scaled_cells scale (k + 1) ns) → (b : Bool) → ltb 0 (n * scale) ≡ b → Climbs k (k + suc (length ns)) (cond b (cell_of k (n * scale) ∷ scaled_cells scale (k + 1) ns) (scaled_cells scale (k + 1) ns))
     at rest true e = let some : 0 < n * scale = grind (arith, nat_tests) in (omega arith, omega arith, some, rest)
@@ -27,16 +26,7 @@ weight_scaled scale k (n ∷ ns) zero = at (ltb 0 (n * scale)) refl
     at false e =
         let none : n * scale ≡ 0 = grind (arith, nat_tests) in
         weight_below (k + 1) (k + 1 + length ns) (k + 0) xs (climbs_scaled scale (k + 1) ns) (omega arith) ∙ sym none
-weight_scaled scale k (n ∷ ns) (suc i) =
-    let same : k + 1 + i ≡ k + suc i = omega arith in
-    at (subst (λ c. weight_at (scaled_cells scale (k + 1) ns) c ≡ slice_index ns i * scale) same (weight_scaled scale (k + 1) ns i)) (ltb 0 (n * scale))
-  where
-    xs : List Cell
-    xs = scaled_cells scale (k + 1) ns
-
-    at : weight_at xs (k + suc i) ≡ slice_index ns i * scale → (b : Bool) → weight_at (cond b (cell_of k (n * scale) ∷ xs) xs) (k + suc i) ≡ slice_index ns i * scale
-    at later true = weight_tail (cell_of k (n * scale)) xs (k + suc i) (λ e. omega arith) ∙ later
-    at later false = later
+weight_scaled scale k (n ∷ ns) (suc i) = grind (arith, cell_of, weight_tail, weight_scaled scale (k + 1) ns i)
 
 pub scaled_weight : (scale : ℕ) (ns : List ℕ) (c : ℕ) → weight_at (scaled_cells scale 0 ns) c ≡ slice_index ns c * scale
 scaled_weight scale ns c = let same : 0 + c ≡ c = omega arith in subst (λ k. weight_at (scaled_cells scale 0 ns) k ≡ slice_index ns c * scale) same (weight_scaled scale 0 ns c)

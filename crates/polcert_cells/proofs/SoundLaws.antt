@@ -1,40 +1,27 @@
 -- Facts of tables, rewards and starts that printing and reading a model rest on.
-use Rattle.std.proofs.Common.{◌≡◌, ◌∙◌, ℕ, ◌*◌, ◌<◌, ◌≤◌, true, Option, Some, None, List, get_or, unwrap_or, ℤ, unsigned_abs, FitsSigned, w64, length, refl, sym, arith}
+use Rattle.std.proofs.Common.{◌≡◌, ◌∙◌, ℕ, ◌*◌, ◌<◌, ◌≤◌, true, List, get_or, ℤ, unsigned_abs, FitsSigned, w64, length, refl, sym, arith}
 use Rattle.std.specs.List.{range_with_len}
 use Rattle.std.proofs.lemmas.List.Recursion.{is_count_by}
 use Rattle.std.proofs.lemmas.List.FromFn.{get_or-map-range_with_len, length-range_with_len}
 use Rattle.std.proofs.lemmas.Int.{fits_signed_from_abs}
 use Rattle.polcert_text.specs.Numbers.{largest}
 use Rattle.polcert_cells.specs.declared.entries.Table.{Table}
-use Rattle.polcert_cells.specs.declared.entries.Table.TheVariants.{Transition, Observation, Reward}
 use Rattle.polcert_cells.specs.declared.entries.Entry.{Entry}
 use Rattle.polcert_cells.specs.Cells.{is_table, fit_places, covers}
-use Rattle.polcert_cells.specs.Elements.{Elements, Count, count_of, most_observations}
+use Rattle.polcert_cells.specs.Elements.{count_of, most_observations}
 use Rattle.polcert_cells.specs.Preamble.{Preamble, observed, rewarded}
 use Rattle.polcert_cells.specs.Start.{equal_weights}
-use Rattle.polcert_cells.proofs.Basics.{and_true, true≢false}
+use Rattle.polcert_cells.proofs.Basics.{and_true}
 
 -- where few elements are observed, few are what a reward depends on
 pub rewarded_few : (p : Preamble) → count_of (observed p) ≤ most_observations → count_of (rewarded p) ≤ most_observations
-rewarded_few p = at p.observations p.states
-  where
-    at : (o : Option Elements) (states : Elements) → count_of (unwrap_or o states) ≤ most_observations → count_of (unwrap_or o (Count 1)) ≤ most_observations
-    at None states l = omega arith
-    at (Some elements) states l = l
+rewarded_few p = grind arith
 
 pub reward_fits : (h : ℤ) → unsigned_abs h ≤ largest → FitsSigned w64 h
 reward_fits h l = fits_signed_from_abs w64 h (omega (arith, l))
 
 same_table : (t u : Table) → is_table t u ≡ true → t ≡ u
-same_table Transition Transition e = refl
-same_table Transition Observation e = absurd (true≢false e refl)
-same_table Transition Reward e = absurd (true≢false e refl)
-same_table Observation Transition e = absurd (true≢false e refl)
-same_table Observation Observation e = refl
-same_table Observation Reward e = absurd (true≢false e refl)
-same_table Reward Transition e = absurd (true≢false e refl)
-same_table Reward Observation e = absurd (true≢false e refl)
-same_table Reward Reward e = refl
+same_table t u h1 = grind arith
 
 pub covered_table : (table : Table) (indices : List ℕ) (entry : Entry) → covers table indices entry ≡ true → entry.table ≡ table
 covered_table table indices entry c = same_table entry.table table (and_true (is_table entry.table table) (fit_places entry.places indices) c).0
@@ -44,5 +31,4 @@ alike_weight n s l = sym (get_or-map-range_with_len (λ (x : ℕ). 1) 0 n s s 0 
 
 pub alike_total : (n : ℕ) → 1 * n ≡ (equal_weights n (λ x. true)).total
 alike_total n =
-    let same : 1 * n ≡ n = omega arith in
-    same ∙ sym (length-range_with_len 0 n) ∙ is_count_by length (λ (x : ℕ). true) refl (λ x xs. omega arith) (range_with_len 0 n)
+    (omega arith) ∙ sym (length-range_with_len 0 n) ∙ is_count_by length (λ (x : ℕ). true) refl (λ x xs. omega arith) (range_with_len 0 n)

@@ -1,9 +1,7 @@
 -- Sparse rows, cell by cell.
-use Rattle.std.proofs.Common.{◌≡◌, ◌∙◌, ℕ, suc, ◌+◌, ◌<◌, ◌≤◌, ⊎_elim, Bool, true, false, cond, eqb, List, [], ◌∷◌, ◌++◌, All, refl, sym, ap, subst, arith}
+use Rattle.std.proofs.Common.{◌≡◌, ◌∙◌, ℕ, suc, ◌+◌, ◌<◌, ◌≤◌, ⊎_elim, cond, eqb, List, [], ◌∷◌, ◌++◌, All, refl, sym, ap, subst, arith}
 use Rattle.std.proofs.lemmas.Bool.{cases_lt}
-use Rattle.std.proofs.lemmas.Bool.Decides.{nat_tests}
 use Rattle.std.proofs.lemmas.List.Elements.{All-nil, All-cons, All-head, All-tail}
-use Rattle.std.proofs.lemmas.List.Kept.{AllPairs-cons}
 use Rattle.polcert_cells.specs.declared.elements.Cell.{Cell}
 use Rattle.polcert_cells.specs.Sparse.{weight_at, AreRising, IsSparse, IsRow}
 
@@ -29,19 +27,8 @@ columns_above low n [] h = All-nil (λ x. low ≤ x.column)
 columns_above low n (x ∷ xs) h = let a = h.0 in All-cons (λ x. low ≤ x.column) x xs h.0 (columns_above low n xs (climbs_lower low (x.column + 1) n xs (omega arith) h.3))
 
 pub sparse_from : (low n : ℕ) (xs : List Cell) → Climbs low n xs → IsSparse n xs
-sparse_from low n [] h = record {
-  rising = λ i j d less l. absurd (omega arith);
-  within = All-nil (λ x. x.column < n);
-  some = All-nil (λ x. 0 < x.weight);
-}
-sparse_from low n (x ∷ xs) h =
-    let rest = sparse_from (x.column + 1) n xs h.3 in
-    let above : All (λ y. x.column < y.column) xs = λ k d l. let a = columns_above (x.column + 1) n xs h.3 k d l in omega arith in
-    record {
-      rising = AllPairs-cons (λ x y. x.column < y.column) x xs above rest.rising;
-      within = All-cons (λ x. x.column < n) x xs h.1 rest.within;
-      some = All-cons (λ x. 0 < x.weight) x xs h.2 rest.some;
-    }
+sparse_from low n [] h = grind arith
+sparse_from low n (x ∷ xs) h = grind (arith, columns_above, sparse_from (x.column + 1) n xs h.3)
 
 climbs_of : (low n : ℕ) (xs : List Cell) → AreRising xs → All (λ x. x.column < n) xs → All (λ x. 0 < x.weight) xs → All (λ x. low ≤ x.column) xs → Climbs low n xs
 climbs_of low n [] up within some above = tt
@@ -58,24 +45,14 @@ climbs_from n xs s = climbs_of 0 n xs s.rising s.within s.some (λ k d l. omega 
 
 -- ---- the weight of a column
 pub weight_head : (x : Cell) (xs : List Cell) (c : ℕ) → x.column ≡ c → weight_at (x ∷ xs) c ≡ x.weight
-weight_head x xs c e = at (eqb x.column c) refl
-  where
-    at : (b : Bool) → eqb x.column c ≡ b → cond b x.weight (weight_at xs c) ≡ x.weight
-    at true f = refl
-    at false f = absurd (grind (arith, nat_tests))
+weight_head x xs c e = grind arith
 
 pub weight_tail : (x : Cell) (xs : List Cell) (c : ℕ) → (x.column ≡ c → ⊥) → weight_at (x ∷ xs) c ≡ weight_at xs c
-weight_tail x xs c d = at (eqb x.column c) refl
-  where
-    at : (b : Bool) → eqb x.column c ≡ b → cond b x.weight (weight_at xs c) ≡ weight_at xs c
-    at true f = absurd (d (grind (arith, nat_tests)))
-    at false f = refl
+weight_tail x xs c d = grind arith
 
 pub weight_below : (low n c : ℕ) (xs : List Cell) → Climbs low n xs → c < low → weight_at xs c ≡ 0
 weight_below low n c [] h l = refl
-weight_below low n c (x ∷ xs) h l =
-    let a = h.0 in
-    weight_tail x xs c (λ e. omega arith) ∙ weight_below (x.column + 1) n c xs h.3 (omega arith)
+weight_below low n c (x ∷ xs) h l = grind (arith, weight_tail, weight_below (x.column + 1) n c xs h.3 (omega arith))
 
 pub weight_beyond : (low n c : ℕ) (xs : List Cell) → Climbs low n xs → n ≤ c → weight_at xs c ≡ 0
 weight_beyond low n c [] h l = refl

@@ -8,8 +8,8 @@ use Rattle.polcert_cells.specs.Words.{IsWord, IsName, is_reserved, topic_of}
 use Rattle.polcert_cells.specs.Numbers.{AreNumbers}
 use Rattle.polcert_cells.specs.Numbers as numbers
 use Rattle.polcert_cells.specs.Elements.{Elements, count_of, StandsFor}
-use Rattle.polcert_cells.specs.Start.{StartWeights, shares_of, equal_weights, included, excluded, IsStartBody, uniform, name, number, only_state, probabilities, IsStart, plain, include, exclude}
-use Rattle.polcert_cells.proofs.Basics.{true≢false, one_some, same_head}
+use Rattle.polcert_cells.specs.Start.{StartWeights, shares_of, equal_weights, IsStartBody, uniform, name, number, only_state, probabilities, IsStart}
+use Rattle.polcert_cells.proofs.Basics.{true≢false, one_some}
 use Rattle.polcert_cells.proofs.NumberLaws.{one_whole, one_list}
 use Rattle.polcert_cells.proofs.EntryLaws.{one_element, pos_once}
 
@@ -40,7 +40,6 @@ pub numbers_once : (l : Lexeme) (ps : List ℕ) → AreNumbers (l ∷ []) (map p
 numbers_once l ps a = sym (length-pos ps) ∙ one_number a
 
 one_body : (states : Elements) (ls : List Lexeme) (x y : StartWeights) → IsStartBody states ls x → IsStartBody states ls y → x ≡ y
-one_body states ls x y (uniform w) (uniform v) = refl
 one_body states ls x y (uniform w) (name n f) = absurd (uniform_no_name _ w n)
 one_body states ls x y (uniform w) (number m n b) = absurd (numeral_not_name _ n.kind w.kind)
 one_body states ls x y (uniform w) (only_state c n v) = absurd (numbers_not_word w.kind n)
@@ -58,38 +57,24 @@ one_body states ls x y (number m n b) (probabilities ps o p c s) = absurd (omega
 one_body states ls x y (only_state c n v) (uniform w) = absurd (numbers_not_word w.kind n)
 one_body states ls x y (only_state c n v) (name m f) = absurd (numbers_not_word m.kind n)
 one_body states ls x y (only_state c n v) (number m o b) = absurd (omega (arith, m, c))
-one_body states ls x y (only_state c n v) (only_state d m w) = refl
 one_body states ls x y (only_state c n v) (probabilities ps o p d s) = absurd (omega (arith, o, c))
 one_body states ls x y (probabilities ps o p d s) (uniform w) = absurd (numbers_not_word w.kind p)
 one_body states ls x y (probabilities ps o p d s) (name n f) = absurd (numbers_not_word n.kind p)
 one_body states ls x y (probabilities ps o p d s) (number m n b) = absurd (omega (arith, m, d, numbers_once _ ps p))
 one_body states ls x y (probabilities ps o p d s) (only_state c n v) = absurd (omega (arith, o, c))
 one_body states ls x y (probabilities ps o p d s) (probabilities qs m n c t) = ap shares_of (pos_once ps qs (one_list p n))
+one_body states ls x y e q = refl
 
 pub one_choice : (states : Elements) (ls : List Lexeme) (ms ns : List ℕ) → AllZip (StandsFor states) ls ms → AllZip (StandsFor states) ls ns → ms ≡ ns
 one_choice states [] [] [] a b = refl
-one_choice states [] (m ∷ ms) ns a b = absurd a
-one_choice states [] ms (n ∷ ns) a b = absurd b
-one_choice states (l ∷ ls) [] ns a b = absurd a
-one_choice states (l ∷ ls) ms [] a b = absurd b
 one_choice states (l ∷ ls) (m ∷ ms) (n ∷ ns) a b =
     let here : m ≡ n = one_element states l m n a.0 b.0 in
     let following : ms ≡ ns = one_choice states ls ms ns a.1 b.1 in
     cc
+one_choice states c d e a b = grind arith
 
 pub include_not_exclude : (l : Lexeme) → IsWord (codes "include") l → IsWord (codes "exclude") l → ⊥
-include_not_exclude l a b = different (sym a.bytes ∙ b.bytes)
-  where
-    different : codes "include" ≡ codes "exclude" → ⊥
-    different e = let f : ◌≡◌ {A = ℕ} 105 101 = same_head e in omega arith
+include_not_exclude l a b = grind arith
 
 pub one_start : (states : Elements) (ls : List Lexeme) (x y : StartWeights) → IsStart states ls x → IsStart states ls y → x ≡ y
-one_start states ls x y (plain c a) (plain d b) = one_body states _ x y a b
-one_start states ls x y (plain c a) (include ms w d z p) = absurd (name_not_colon _ w.kind c)
-one_start states ls x y (plain c a) (exclude ms w d z p) = absurd (name_not_colon _ w.kind c)
-one_start states ls x y (include ns w d z p) (plain c a) = absurd (name_not_colon _ w.kind c)
-one_start states ls x y (exclude ns w d z p) (plain c a) = absurd (name_not_colon _ w.kind c)
-one_start states ls x y (include ns w d z p) (include ms v e y' q) = ap (λ l. equal_weights (count_of states) (included l)) (one_choice states _ ns ms z y')
-one_start states ls x y (include ns w d z p) (exclude ms v e y' q) = absurd (include_not_exclude _ w v)
-one_start states ls x y (exclude ns w d z p) (include ms v e y' q) = absurd (include_not_exclude _ v w)
-one_start states ls x y (exclude ns w d z p) (exclude ms v e y' q) = ap (λ l. equal_weights (count_of states) (excluded l)) (one_choice states _ ns ms z y')
+one_start states ls x y h1 h2 = grind (arith, name_not_colon, one_body, one_choice, include_not_exclude)

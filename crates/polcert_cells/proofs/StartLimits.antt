@@ -1,13 +1,12 @@
 -- A start has a share for each state, and the shares add up to their total, which is above 0 and at most one.
-use Rattle.std.proofs.Common.{◌≡◌, ◌∙◌, ℕ, zero, suc, ◌+◌, ◌<◌, ◌≤◌, ◌==◌, Bool, true, false, cond, ◌⊎◌, ⊎_elim, Some, List, [], ◌∷◌, length, map, sum, not, bytes_eq, refl, sym, ap, subst, arith}
+use Rattle.std.proofs.Common.{◌≡◌, ◌∙◌, ℕ, zero, suc, ◌+◌, ◌<◌, ◌≤◌, ◌==◌, Bool, true, false, cond, ◌⊎◌, ⊎_elim, Some, List, [], ◌∷◌, length, map, sum, not, refl, sym, ap, subst, arith}
 use Rattle.std.proofs.lemmas.List.{length-map}
 use Rattle.std.proofs.lemmas.List.FromFn.{length-map-range_with_len}
-use Rattle.std.proofs.lemmas.List.Quantifiers.{position-Some}
 use Rattle.std.proofs.lemmas.List.Sums.{sum_by-cons, sum-map}
 use Rattle.std.proofs.lemmas.Bool.Decides.{nat_tests}
 use Rattle.std.specs.List.{range_with_len, count_by}
 use Rattle.polcert_text.specs.Cut.{Lexeme}
-use Rattle.polcert_cells.specs.Elements.{Elements, Count, Names, count_of, number_of, most_states}
+use Rattle.polcert_cells.specs.Elements.{Elements, count_of, number_of, most_states}
 use Rattle.polcert_cells.specs.Start.{StartWeights, equal_weights, shares_of, is_level, is_positive, included, excluded, IsStartBody, uniform, name, number, only_state, probabilities, IsStart, plain, include, exclude}
 
 -- shares of n states
@@ -24,19 +23,14 @@ abbrev bit : Bool → ℕ
 bit b = cond b 1 0
 
 bit_le : (b : Bool) → bit b ≤ 1
-bit_le true = omega arith
-bit_le false = omega arith
+bit_le b = grind arith
 
 bit_true : (b : Bool) → b ≡ true → bit b ≡ 1
 bit_true b e = ap bit e
 
 bits_le : (f : ℕ → Bool) (a n : ℕ) → sum (map (λ s. bit (f s)) (range_with_len a n)) ≤ n
 bits_le f a zero = omega arith
-bits_le f a (suc n) =
-    let rest = bits_le f (a + 1) n in
-    let here = bit_le (f a) in
-    let e = sum-cons (bit (f a)) (map (λ s. bit (f s)) (range_with_len (a + 1) n)) in
-    omega (arith, rest, here, e)
+bits_le f a (suc n) = grind (arith, sum-cons, bit_le, bits_le f (a + 1) n)
 
 here_or_later : (a s n : ℕ) → a ≤ s → s < a + suc n → (s ≡ a) ⊎ ((a + 1 ≤ s) × (s < a + 1 + n))
 here_or_later a s n l m = grind arith
@@ -72,8 +66,7 @@ abbrev sign : ℕ → ℕ
 sign p = cond (is_positive p) 1 0
 
 choice_le : (b : Bool) → cond (not b) 1 0 ≤ 1
-choice_le true = omega arith
-choice_le false = omega arith
+choice_le b = grind arith
 
 sign_le : (p : ℕ) → sign p ≤ 1
 sign_le p = choice_le (p == 0)
@@ -86,11 +79,7 @@ sign_some p l = ap (λ b. cond (not b) 1 0) (not_zero p l)
 
 signs_le : (ps : List ℕ) → sum (map sign ps) ≤ length ps
 signs_le [] = omega arith
-signs_le (p ∷ ps) =
-    let rest = signs_le ps in
-    let here = sign_le p in
-    let e = sum-cons (sign p) (map sign ps) in
-    omega (arith, rest, here, e)
+signs_le (p ∷ ps) = grind (arith, sum-cons, sign_le, signs_le ps)
 
 zero_or_more : (p : ℕ) → (p ≡ 0) ⊎ (0 < p)
 zero_or_more p = grind arith
@@ -113,14 +102,11 @@ millionth_shares ps = record { weights = ps; total = 1_000_000 }
 shares_fair : (ps : List ℕ) → length ps ≤ most_states → sum ps ≡ 1_000_000 → (level : Bool) → IsFair (length ps) (cond level (level_shares ps) (millionth_shares ps))
 shares_fair ps l e true =
     let le = signs_le ps in
-    let adds : sum (map sign ps) ≡ count_by is_positive ps = sum-map sign ps in
-    let some = signs_some ps (omega (arith, e)) in
-    record { count = length-map ps sign; adds_up = adds; some = omega (arith, some, adds); most = omega (arith, le, adds) }
+    grind (arith, length-map, sum-map, signs_some)
 shares_fair ps l e false = record { count = refl; adds_up = e; some = omega arith; most = omega arith }
 
 named_below : (states : Elements) (bytes : List ℕ) (s : ℕ) → number_of states bytes ≡ Some s → s < count_of states
-named_below (Count n) bytes s e = absurd cc
-named_below (Names names) bytes s e = (position-Some (bytes_eq bytes) names s [] e).0
+named_below states bytes s h1 = grind arith
 
 body_fair : (states : Elements) (ls : List Lexeme) (x : StartWeights) → 1 ≤ count_of states → count_of states ≤ most_states → IsStartBody states ls x → IsFair (count_of states) x
 body_fair states ls x a m (uniform w) = alike_some (count_of states) (λ s. true) 0 m refl (omega (arith, a))

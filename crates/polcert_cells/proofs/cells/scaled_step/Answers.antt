@@ -1,4 +1,4 @@
-use Rattle.std.proofs.Common.{◌≡◌, ◌*◌, ◌+◌, slice_index, rules, refl, arith}
+use Rattle.std.proofs.Common.{◌≡◌, rules}
 use Rattle.polcert_cells.proofs.RowSteps.{scaled_by, step_after}
 use Rattle.polcert_cells.proofs.cells.scaled_step.Goals as goal
 

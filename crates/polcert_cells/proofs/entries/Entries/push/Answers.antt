@@ -1,32 +1,22 @@
-use Rattle.std.proofs.Common.{◌≡◌, ◌∙◌, ◌++◌, ◌∷◌, [], map, take, length, refl, sym, ap, subst, rules}
+use Rattle.std.proofs.Common.{◌≡◌, ◌∙◌, [], take, length, refl, sym, ap, subst, rules, arith}
 use Rattle.polcert_cells.specs.declared.entries.EntryStore.{EntryStore}
-use Rattle.polcert_cells.specs.Steps.EntryLists.{entry_in, AreHeldIn}
+use Rattle.polcert_cells.specs.Steps.EntryLists.{AreHeldIn}
 use Rattle.polcert_cells.proofs.EntryListLaws.{held_more, listed_more, held_still, listed_still}
 use Rattle.polcert_cells.proofs.entries.Entries.push.Goals as goal
 
 pub invariant_of-self : goal.invariant_of-self
-invariant_of-self c =
-    held_more c.self.inside.pools c.put_entry.new.pools c.self.inside.heads.items c.put_entry.new.heads.items c.args.entry c.put_entry.ensures.go_on c.self.invariant c.in-Ok.ensures.ok
+invariant_of-self c = grind (arith, held_more)
 
 pub returns-in-Ok-clause-ok : goal.returns-in-Ok-clause-ok
-returns-in-Ok-clause-ok c =
-    listed_more c.self.inside.pools c.put_entry.new.pools c.self.inside.heads.items c.put_entry.new.heads.items c.args.entry c.put_entry.ensures.go_on c.self.invariant c.in-Ok.ensures.ok
-    ∙ ap (λ es. es ++ c.args.entry ∷ []) c.self.view_is
+returns-in-Ok-clause-ok c = grind (arith, listed_more)
 
 pub invariant_of-self-in-Err : goal.invariant_of-self-in-Err
 invariant_of-self-in-Err c =
     let p = c.self.inside.pools in
     let q = c.put_entry.new.pools in
     let r : EntryStore = record { places = q.places; probabilities = q.probabilities; rewards = c.truncate.new.self } in
-    let count : c.len-count.result ≡ length p.rewards.items = search rules in
-    let left : r.rewards.items ≡ take (length p.rewards.items) q.rewards.items = c.truncate.ensures.items ∙ ap (λ n. take n q.rewards.items) count in
+    let left : r.rewards.items ≡ take (length p.rewards.items) q.rewards.items = c.truncate.ensures.items ∙ ap (λ n. take n q.rewards.items) (search rules) in
     subst (AreHeldIn r) (sym c.in-Err.ensures.err) (held_still p q r c.put_entry.ensures.go_on refl refl left c.self.inside.heads.items c.self.invariant)
 
 pub returns-clause-err : goal.returns-clause-err
-returns-clause-err c =
-    let p = c.self.inside.pools in
-    let q = c.put_entry.new.pools in
-    let r : EntryStore = record { places = q.places; probabilities = q.probabilities; rewards = c.truncate.new.self } in
-    let count : c.len-count.result ≡ length p.rewards.items = search rules in
-    let left : r.rewards.items ≡ take (length p.rewards.items) q.rewards.items = c.truncate.ensures.items ∙ ap (λ n. take n q.rewards.items) count in
-    ap (map (entry_in r)) c.in-Err.ensures.err ∙ listed_still p q r c.put_entry.ensures.go_on refl refl left c.self.inside.heads.items c.self.invariant ∙ c.self.view_is
+returns-clause-err c = grind (arith, listed_still)
