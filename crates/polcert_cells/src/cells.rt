@@ -1,4 +1,4 @@
-//! What a check asks of a model.
+//! What a check asks of a model, and the rows that a model lends it.
 ghost use Rattle.std.specs.Prelude.{◌≡◌, ℕ, ◌<◌, ◌+◌, IsTrue, length, pos, slice_index_or, ◌*◌, None};
 ghost use Rattle.std.specs.Prelude.{slice_index};
 ghost use Rattle.std.specs.Option.{ForSome};

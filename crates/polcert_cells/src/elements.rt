@@ -1,4 +1,4 @@
-//! The states, actions or observations of a model.
+//! The states, actions or observations of a model: a count or names, how names are found, and the start over states.
 ghost use Rattle.std.specs.Prelude.{◌≡◌, option_map, IsAscii, ℕ, ◌++◌, ◌∷◌, [], true, false, length};
 ghost use Rattle.std.specs.Prelude.{position, bytes_eq, slice_get, IfOk, IfSome, Some, OnErr, if◌then◌else◌};
 ghost use Rattle.polcert_cells.specs.Elements.{count_of, number_of, name_of};

@@ -1,4 +1,4 @@
-//! The values of a node at all end states, computed once for all start states.
+//! The values of a node at all end states, computed once for all start states, and what a start state expects of them.
 ghost use Rattle.std.specs.Prelude.{◌≡◌, ◌<◌, ◌^◌, length, unsigned_abs, false, IfSome, ℕ};
 ghost use Rattle.polcert_cells.specs.declared.elements.TheConstants.{MOST_STATES};
 ghost use Rattle.std.specs.Option.{ForSome};

@@ -1,4 +1,4 @@
-//! The reward that an action expects at a state.
+//! The reward that an action expects at a state, shared by start states that no reward tells apart.
 ghost use Rattle.std.specs.Prelude.{◌≡◌, ℕ, ◌*◌, ◌^◌, ◌<◌, ◌≤◌, pos, ◌*ℤ◌, unsigned_abs, length};
 ghost use Rattle.std.specs.Prelude.{slice_index_or};
 ghost use Rattle.polcert_check.specs.Steps.Ranges.{most_sum};

@@ -1,4 +1,4 @@
-//! What a walk over the pairs of a node and a state has found.
+//! What a walk over the pairs of a node and a state has found, and the side that it checks.
 ghost use Rattle.std.specs.Prelude.{◌≡◌, ◌≤◌, ◌+◌, ◌⊎◌, ◌↔◌, ℕ, IsTrue, ◌<◌, ◌^◌, ◌<ℤ◌, ◌≤ℤ◌, IfNone, IfSome};
 ghost use Rattle.std.specs.Prelude.{pos, unsigned_abs};
 ghost use Rattle.polcert_check.specs.Horizon.{Controller};

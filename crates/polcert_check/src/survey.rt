@@ -1,4 +1,4 @@
-//! The verdict on a policy certificate.
+//! The check of a policy certificate: its verdict, and the walk over all pairs of a node and a state.
 ghost use Rattle.polcert_check.specs.Horizon.{Fits, controller_of, MeetsHorizon};
 ghost use Rattle.polcert_check.specs.Verdict.{IsVerdict, NamesSmallAmount};
 ghost use Rattle.std.specs.Prelude.{◌≡◌, ◌+◌, ◌<◌, ◌*◌, ◌≤◌, IfSome, None, false, length};

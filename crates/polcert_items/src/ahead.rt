@@ -12,7 +12,7 @@ use crate::entry_reader::{
 };
 use crate::item::ItemReader;
 use crate::model_so_far::ModelSoFar;
-use crate::preamble_lines::named;
+use crate::preamble_lines::element_by_name;
 use crate::signed_number::range_fault;
 use polcert_cells::{Place, Table};
 use polcert_text::{front_colon, front_digits, front_name, front_number, front_token};
@@ -188,7 +188,7 @@ impl EntryReader {
         let Some(elements) = known.elements(self.table, self.places.len()) else {
             return None;
         };
-        match named(token, elements) {
+        match element_by_name(token, elements) {
             Ok(index) => Some(FrontPlace {
                 len: token.stop as usize,
                 place: Place::Only(index as u16),
@@ -296,7 +296,7 @@ fn only_ahead<T: ListNumber>(alloc: Global, bytes: &[u8]) -> Option<ListAhead<T>
     };
     match range_fault(T::range(), number.value) {
         None => Some(ListAhead {
-            numbers: Numbers::begun(alloc, 1, T::of_millionths(number.value)),
+            numbers: Numbers::with_first(alloc, 1, T::of_millionths(number.value)),
             len: number.len,
         }),
         Some(_) => None,

@@ -59,7 +59,7 @@ impl<T: Copy> Numbers<T> {
 
     /// Begins the list with its first number.
     #[inline(always)]
-    pub fn begun(alloc: Global, needed: usize, first: T) -> Numbers<T>
+    pub fn with_first(alloc: Global, needed: usize, first: T) -> Numbers<T>
         ensures { result ≡ one_number needed first }
     {
         Numbers {
@@ -223,7 +223,7 @@ impl EntryReader {
     {
         let written = self.places.len();
         if known.is_mdp() && written == 3 {
-            return every(token);
+            return star_place(token);
         }
         place_of(token, known.elements(self.table, written))
     }
@@ -386,7 +386,7 @@ fn place_of(token: Token<'_>, elements: Option<&Elements>) -> Result<Place, Refu
 }
 
 /// Returns the place that the token gives if only `*` is allowed.
-fn every(token: Token<'_>) -> Result<Place, Refusal>
+fn star_place(token: Token<'_>) -> Result<Place, Refusal>
     ensures star { IfOk result (λ p. (p ≡ Place.Every) × ((lexeme_of token.entry).kind ≡ TokenKind.Star)) }
     ensures refused { OnErr result ((lexeme_of token.entry).kind ≡ TokenKind.Star → ⊥) }
     ensures reason { IfErr result (λ r. IsPlaceReason (lexeme_of token.entry) r.kind r.place) }

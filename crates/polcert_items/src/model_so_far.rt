@@ -359,12 +359,12 @@ impl CellBudget {
             → IsCoveredWith p es entry.now result }
     {
         match entry.table {
-            Table::Transition => self.transitions = sizes.covered(
+            Table::Transition => self.transitions = sizes.add_cells(
                 self.transitions,
                 sizes.states,
                 entry,
             )?,
-            Table::Observation => self.observations = sizes.covered(
+            Table::Observation => self.observations = sizes.add_cells(
                 self.observations,
                 sizes.observed,
                 entry,
@@ -377,7 +377,7 @@ impl CellBudget {
 
 impl Sizes {
     /// Adds the cells that an entry covers in a table of so many columns. `None`: they pass their limit.
-    fn covered(self, count: usize, columns: usize, entry: &Entry) -> Option<usize>
+    fn add_cells(self, count: usize, columns: usize, entry: &Entry) -> Option<usize>
         requires actions { self.actions ≤ most_actions }
         requires states { self.states ≤ most_states }
         requires columns { columns ≤ most_observations }
@@ -422,7 +422,7 @@ impl Sizes {
 }
 
 /// Returns how many of `count` elements the place of this number stands for.
-fn chosen(places: &[Place], number: usize, count: usize) -> usize
+fn count_elements(places: &[Place], number: usize, count: usize) -> usize
     ensures { result ≡ chosen (slice_get places.now number) count }
 {
     match places.get(number) {
@@ -468,8 +468,8 @@ fn covered_by(actions: usize, states: usize, columns: usize, entry: &Entry) -> u
 {
     let places = entry.places.as_slice();
     let cells = open_cells(states, columns, places.len());
-    chosen(places, 0, actions)
-        * chosen(places, 1, states)
-        * chosen(places, 2, columns)
+    count_elements(places, 0, actions)
+        * count_elements(places, 1, states)
+        * count_elements(places, 2, columns)
         * nonzero_cells(&entry.body, states, cells)
 }

@@ -317,14 +317,14 @@ pub fn element_of(token: Token<'_>, elements: &Elements) -> Result<usize, Refusa
     ensures kind { IfErr result (λ r. r.kind ≡ unexpected_token Index (Some (lexeme_of token.entry))) }
 {
     match token.kind {
-        TokenKind::Numeral => numbered(token, elements),
-        TokenKind::Name => named(token, elements),
+        TokenKind::Numeral => element_by_number(token, elements),
+        TokenKind::Name => element_by_name(token, elements),
         _ => Err(misplaced(token)),
     }
 }
 
 #[inline(always)]
-fn numbered(token: Token<'_>, elements: &Elements) -> Result<usize, Refusal>
+fn element_by_number(token: Token<'_>, elements: &Elements) -> Result<usize, Refusal>
     requires few { count_of elements.now ≤ most_elements }
     requires numeral { token.kind ≡ TokenKind.Numeral }
     ensures element { IfOk result (StandsFor elements.now (lexeme_of token.entry)) }
@@ -344,7 +344,7 @@ fn numbered(token: Token<'_>, elements: &Elements) -> Result<usize, Refusal>
 }
 
 #[inline(always)]
-pub(crate) fn named(token: Token<'_>, elements: &Elements) -> Result<usize, Refusal>
+pub(crate) fn element_by_name(token: Token<'_>, elements: &Elements) -> Result<usize, Refusal>
     requires name { token.kind ≡ TokenKind.Name }
     requires text { IsText (lexeme_of token) }
     ensures element { IfOk result (StandsFor elements.now (lexeme_of token.entry)) }

@@ -1,4 +1,4 @@
-//! A start item, read token by token after its word.
+//! A start item, read token by token after its word, and the start that it gives.
 ghost use Rattle.std.specs.Prelude.{◌≡◌, ◌≢◌, ◌<◌, ◌⊎◌, ◌++◌, ◌∷◌, [], ℕ, List, false, None, Some, is_some};
 ghost use Rattle.std.specs.Prelude.{IfOk, OnOk, IfErr, OnErr, MatchOption, ◌-◌, true, ◌≤◌, length, map, sum};
 ghost use Rattle.std.specs.Prelude.{if◌then◌else◌};
@@ -315,7 +315,7 @@ impl FirstNumber {
         if count == 1 {
             return Err(FeedError::Refused(after_numbers(token)));
         }
-        let mut numbers = Numbers::begun(alloc, count, self.value as u32);
+        let mut numbers = Numbers::with_first(alloc, count, self.value as u32);
         numbers.feed(token)?;
         Ok(numbers)
     }

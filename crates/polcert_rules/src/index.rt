@@ -44,7 +44,7 @@ impl Index {
         requires { AreKeyed entries.now }
         ensures { IfOk result (IsIndexOf entries.now) }
     {
-        let mut rules = numbered(alloc, entries)?;
+        let mut rules = rules_of_entries(alloc, entries)?;
         rules.sort_unstable_by_key(|rule| rule.key);
         keep_newest_of_each(&mut rules);
         Ok(Index { rules })
@@ -68,7 +68,7 @@ impl Index {
             × (r.key < table_key table + key_base ^ most_places)) }
     {
         let low = table_digit(table) * span(4);
-        between(self.rules.as_slice(), low, low + span(4))
+        rules_between(self.rules.as_slice(), low, low + span(4))
     }
 
     /// Tests whether no rule of this table begins with this action.
@@ -78,7 +78,7 @@ impl Index {
     {
         let low = table_digit(table) * span(MOST_PLACES);
         let start = low + (action as u64 + 2) * ACTION;
-        none_below(from(self.rules.as_slice(), start), start + ACTION)
+        none_below(rules_from(self.rules.as_slice(), start), start + ACTION)
     }
 
     /// Returns the number of the newest rule that fits these indices of this table.
@@ -90,7 +90,7 @@ impl Index {
         let low = table_digit(table) * span(levels);
         let high = low + span(levels);
         newest(
-            between(self.rules.as_slice(), low, high),
+            rules_between(self.rules.as_slice(), low, high),
             low,
             levels,
             indices,
@@ -99,7 +99,7 @@ impl Index {
 }
 
 /// Returns a rule for each entry.
-pub(crate) fn numbered(alloc: Global, entries: &Entries) -> Result<Vec<Rule>, AllocError>
+pub(crate) fn rules_of_entries(alloc: Global, entries: &Entries) -> Result<Vec<Rule>, AllocError>
     requires { AreKeyed entries.now }
     ensures { IfOk result (λ rules. rules.items ≡ rules_from 0 entries.now) }
 {
@@ -227,34 +227,34 @@ pub(crate) struct RuleSpan {
 }
 
 /// Returns the rules from one key on and before another.
-pub(crate) fn between(rules: &[Rule], low: u64, high: u64) -> &[Rule]
+pub(crate) fn rules_between(rules: &[Rule], low: u64, high: u64) -> &[Rule]
     requires { IsRising rules.now }
     ensures rising { IsRising result.now }
     ensures kept { (r : R) → Contains result.now r ↔ (Contains rules.now r × (low ≤ r.key) × (r.key < high)) }
 {
-    before(from(rules, low), high)
+    rules_before(rules_from(rules, low), high)
 }
 
 /// Returns the rules from one key on and before another: at once, if they stand where the span says.
-pub(crate) fn between_at(rules: &[Rule], low: u64, high: u64, span: RuleSpan) -> &[Rule]
+pub(crate) fn rules_between_at(rules: &[Rule], low: u64, high: u64, span: RuleSpan) -> &[Rule]
     requires { IsRising rules.now }
     ensures rising { IsRising result.now }
     ensures kept { (r : R) → Contains result.now r ↔ (Contains rules.now r × (low ≤ r.key) × (r.key < high)) }
 {
-    let front = before_at(rules, high, span.end as usize);
-    from_at(front, low, span.start as usize)
+    let front = rules_before_at(rules, high, span.end as usize);
+    rules_from_at(front, low, span.start as usize)
 }
 
 /// Returns where a part of a list of rules may stand. Nothing is promised of it: each use tests it.
 pub(crate) fn span_of(start: usize, end: usize) -> RuleSpan {
     RuleSpan {
-        start: in_half(start),
-        end: in_half(end),
+        start: half_width(start),
+        end: half_width(end),
     }
 }
 
 /// Returns the number in half the bits, or the greatest of these.
-pub(crate) fn in_half(number: usize) -> u32 {
+pub(crate) fn half_width(number: usize) -> u32 {
     number.min(u32::MAX as usize) as u32
 }
 
@@ -269,7 +269,7 @@ pub(crate) fn place_of(rules: &[Rule], from: usize, key: u64) -> usize {
 }
 
 /// Returns the rules from this key on.
-pub(crate) fn from(rules: &[Rule], low: u64) -> &[Rule]
+pub(crate) fn rules_from(rules: &[Rule], low: u64) -> &[Rule]
     requires { IsRising rules.now }
     ensures rising { IsRising result.now }
     ensures kept { (r : R) → Contains result.now r ↔ (Contains rules.now r × (low ≤ r.key)) }
@@ -282,7 +282,7 @@ pub(crate) fn from(rules: &[Rule], low: u64) -> &[Rule]
 }
 
 /// Returns the rules from this key on: at once, if the rules before this place are those before the key.
-fn from_at(rules: &[Rule], low: u64, place: usize) -> &[Rule]
+fn rules_from_at(rules: &[Rule], low: u64, place: usize) -> &[Rule]
     requires { IsRising rules.now }
     ensures rising { IsRising result.now }
     ensures kept { (r : R) → Contains result.now r ↔ (Contains rules.now r × (low ≤ r.key)) }
@@ -290,11 +290,11 @@ fn from_at(rules: &[Rule], low: u64, place: usize) -> &[Rule]
     if is_cut(rules, low, place) {
         return &rules[place..];
     }
-    from(rules, low)
+    rules_from(rules, low)
 }
 
 /// Returns the rules before this key.
-fn before(rules: &[Rule], high: u64) -> &[Rule]
+fn rules_before(rules: &[Rule], high: u64) -> &[Rule]
     requires { IsRising rules.now }
     ensures rising { IsRising result.now }
     ensures kept { (r : R) → Contains result.now r ↔ (Contains rules.now r × (r.key < high)) }
@@ -302,13 +302,13 @@ fn before(rules: &[Rule], high: u64) -> &[Rule]
     if all_below(rules, high) {
         return rules;
     }
-    let near = near(rules, high);
+    let near = rules_near(rules, high);
     let end = near.partition_point(|rule| rule.key < high);
     &near[..end]
 }
 
 /// Returns the rules before this key: at once, if they are those before this place.
-fn before_at(rules: &[Rule], high: u64, place: usize) -> &[Rule]
+fn rules_before_at(rules: &[Rule], high: u64, place: usize) -> &[Rule]
     requires { IsRising rules.now }
     ensures rising { IsRising result.now }
     ensures kept { (r : R) → Contains result.now r ↔ (Contains rules.now r × (r.key < high)) }
@@ -316,11 +316,11 @@ fn before_at(rules: &[Rule], high: u64, place: usize) -> &[Rule]
     if is_cut(rules, high, place) {
         return &rules[..place];
     }
-    before(rules, high)
+    rules_before(rules, high)
 }
 
 /// Returns all rules before this key, and maybe more: a short list, if a look shows that they are few.
-fn near(rules: &[Rule], high: u64) -> &[Rule]
+fn rules_near(rules: &[Rule], high: u64) -> &[Rule]
     requires { IsRising rules.now }
     ensures rising { IsRising result.now }
     ensures kept { (r : R) → (Contains result.now r × (r.key < high)) ↔ (Contains rules.now r
@@ -424,9 +424,9 @@ pub(crate) fn next_place(rules: &[Rule], low: u64, levels: usize, index: usize) 
     NextPlace {
         levels: below,
         every,
-        of_every: between(rules, every, every + step),
+        of_every: rules_between(rules, every, every + step),
         only,
-        of_only: between(rules, only, only + step),
+        of_only: rules_between(rules, only, only + step),
     }
 }
 
@@ -491,7 +491,7 @@ pub(crate) fn some_begins(
         return false;
     }
     match indices.split_first() {
-        None => !between(rules, low + least, low + span(levels)).is_empty(),
+        None => !rules_between(rules, low + least, low + span(levels)).is_empty(),
         Some((index, rest)) => {
             let next = next_place(rules, low, levels, *index);
             some_begins(next.of_every, next.every, next.levels, rest, least)

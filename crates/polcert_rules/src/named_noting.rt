@@ -7,7 +7,7 @@ ghost use Rattle.polcert_rules.specs.Steps.Newest.{IsRising};
 ghost use Rattle.polcert_rules.specs.Steps.Noting.{IsNoted};
 
 use crate::Rule;
-use crate::index::{KEY_BASE, between, first_at, from, next_place};
+use crate::index::{KEY_BASE, first_at, next_place, rules_between, rules_from};
 use crate::named_rules::NamedRules;
 
 /// How many observations have a digit.
@@ -44,9 +44,13 @@ fn note_observations(rules: &[Rule], low: u64, list: &mut NamedRules) -> bool
     }
     list.note_all(first_at(rules, low));
     let every = low + 1;
-    list.note_all(first_at(from(rules, every), every));
+    list.note_all(first_at(rules_from(rules, every), every));
     let start = low + 2;
-    note_each(between(rules, start, start + OBSERVATION_KEYS), start, list)
+    note_each(
+        rules_between(rules, start, start + OBSERVATION_KEYS),
+        start,
+        list,
+    )
 }
 
 /// Notes each of these rules at the number by which its key is greater than `start`. Returns whether there was room.

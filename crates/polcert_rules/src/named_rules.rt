@@ -61,7 +61,7 @@ impl NamedRules {
     {
         match self.place_of(observation) {
             Some(place) => {
-                self.renew(place, number);
+                self.replace_newest(place, number);
                 true
             }
             None => self.push(observation, number),
@@ -81,7 +81,7 @@ impl NamedRules {
     }
 
     /// Notes a rule that names the observation at this place.
-    fn renew(&mut self, place: usize, number: usize)
+    fn replace_newest(&mut self, place: usize, number: usize)
         requires { place < self.old.count }
         ensures here { noted_at self.new (rule_at self.old.rules place).observation
             ≡ max_option (noted_at self.old (rule_at self.old.rules place).observation) (Some number) }

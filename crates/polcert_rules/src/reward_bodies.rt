@@ -41,7 +41,7 @@ impl RewardBodies {
     {
         let first = first_number(rules);
         let bodies = bodies_of(alloc, &entries, rules, first)?;
-        let numbers = worths(alloc, costs, entries.into_rewards())?;
+        let numbers = rewards_of(alloc, costs, entries.into_rewards())?;
         Ok(RewardBodies {
             first,
             bodies,
@@ -92,7 +92,7 @@ fn bodies_of(
 }
 
 /// Returns what these numbers are worth that are written as rewards, or as costs.
-fn worths(alloc: Global, costs: bool, written: Vec<i64>) -> Result<Vec<i64>, AllocError>
+fn rewards_of(alloc: Global, costs: bool, written: Vec<i64>) -> Result<Vec<i64>, AllocError>
     ensures { IfOk result (λ numbers. numbers.items ≡ map (worth costs) written.items) }
 {
     if !costs {
@@ -133,14 +133,14 @@ fn add_numbers(numbers: &mut Vec<i64>, costs: bool, written: &[i64]) -> Result<(
     ensures { OnOk result (numbers.new.items ≡ numbers.old.items ++ map (worth costs) written.now) }
 {
     for h in written {
-        numbers.push(worth(costs, *h))?;
+        numbers.push(reward_of(costs, *h))?;
     }
     Ok(())
 }
 
 /// Returns the reward of a number that is written as a reward, or as a cost. (No number that a text may have
 /// is so large that its opposite would wrap.)
-fn worth(costs: bool, h: i64) -> i64
+fn reward_of(costs: bool, h: i64) -> i64
     ensures { result ≡ worth costs h }
 {
     if costs { h.wrapping_neg() } else { h }
@@ -163,7 +163,7 @@ pub(crate) fn cell_in(rows: usize, columns: usize, left: &[usize]) -> usize
 }
 
 /// Returns the indices after so many places.
-pub(crate) fn following(places: usize, indices: &[usize]) -> &[usize]
+pub(crate) fn indices_after(places: usize, indices: &[usize]) -> &[usize]
     ensures { result.now ≡ drop places indices.now }
 {
     &indices[places.min(indices.len())..]

@@ -19,7 +19,7 @@ ghost use Rattle.polcert_rules.specs.Steps.RewardSearch.{AreFilled, AreWithin, I
 
 use crate::index::{KEY_BASE, MOST_PLACES, max_option, newest, some_begins};
 use crate::named_rules::NamedRules;
-use crate::reward_bodies::{RewardBodies, cell_in, following};
+use crate::reward_bodies::{RewardBodies, cell_in, indices_after};
 use crate::row_rules::{REWARD_KEYS, RowRules};
 use crate::{Index, Rule};
 use polcert_cells::{CommonReward, Entries, RewardCell, Table};
@@ -106,7 +106,7 @@ impl Rewards {
     {
         prove!(observation < self.shape.observations);
         let body = self.newest_body(action, start, &[end, observation]);
-        self.given(body, &[action, start, end, observation])
+        self.reward_of_body(body, &[action, start, end, observation])
     }
 
     /// Fills in the rewards of observation `first` and of those after it, in millionths, if this action
@@ -178,13 +178,13 @@ impl Rewards {
         self.rules.note(at, first, noted);
         let shared = noted[count];
         let shared_body = self.body_of(shared);
-        let single = self.single(shared_body);
+        let single = self.single_number(shared_body);
         for i in 0..count {
             let indices = [action, start, end, first + i];
             let reward = if is_same(noted[i], shared) {
                 self.single_or_given(single, shared_body, &indices)
             } else {
-                self.given(self.body_of(noted[i]), &indices)
+                self.reward_of_body(self.body_of(noted[i]), &indices)
             };
             rewards[i] = reward;
         }
@@ -212,7 +212,7 @@ impl Rewards {
             return None;
         }
         let whole = self.body_of(list.whole);
-        let Some(reward) = self.single(whole) else {
+        let Some(reward) = self.single_number(whole) else {
             return None;
         };
         if !self.fill_named(at, &list, exceptions) {
@@ -243,7 +243,7 @@ impl Rewards {
                 return false;
             }
             let body = self.body_of(max_option(list.whole, Some(rule.number)));
-            let reward = self.given(body, &[at.action, at.start, at.end, observation]);
+            let reward = self.reward_of_body(body, &[at.action, at.start, at.end, observation]);
             cells[i] = RewardCell {
                 observation,
                 reward,
@@ -269,7 +269,7 @@ impl Rewards {
         {
             return None;
         }
-        self.single(self.newest_body(action, start, &[end, 0]))
+        self.single_number(self.newest_body(action, start, &[end, 0]))
     }
 
     /// Returns the reward if one look-up shows that it is the same for every end state and observation: no
@@ -342,7 +342,7 @@ impl Rewards {
 
     /// Returns what the body of the last entry that covers the cell at these indices gives it; 0 if there is
     /// none.
-    fn given(&self, body: Option<RewardBody>, indices: &[usize]) -> i64
+    fn reward_of_body(&self, body: Option<RewardBody>, indices: &[usize]) -> i64
         requires { AreIndices most_places indices.now }
         ensures { (p : Preamble) (entries : List E) → AreRewardsOf p entries self.now →
             AreWithin (map count_of (dimensions p RewardTable)) indices.now →
@@ -351,7 +351,7 @@ impl Rewards {
     {
         match body {
             Some(body) => {
-                let left = following(body.places, indices);
+                let left = indices_after(body.places, indices);
                 let cell = cell_in(self.shape.states, self.shape.observations, left);
                 self.bodies.number_at(body, cell)
             }
@@ -360,7 +360,7 @@ impl Rewards {
     }
 
     /// Returns what a body gives each cell, if it has a single number; 0 if there is no body.
-    fn single(&self, body: Option<RewardBody>) -> Option<i64>
+    fn single_number(&self, body: Option<RewardBody>) -> Option<i64>
         ensures { (p : Preamble) (entries : List E) → AreRewardsOf p entries self.now →
             ForSome result (λ h. (cell : List ℕ) →
             AreWithin (map count_of (dimensions p RewardTable)) cell →
@@ -395,7 +395,7 @@ impl Rewards {
     {
         match single {
             Some(reward) => reward,
-            None => self.given(body, indices),
+            None => self.reward_of_body(body, indices),
         }
     }
 

@@ -1,4 +1,4 @@
-//! A row of T or O by the numbers of its entries, and its single cells above 0.
+//! A row of T or O: the numbers of its entries, its single cells above 0, and both merged.
 ghost use Rattle.std.specs.Prelude.{◌≡◌, ◌+◌, ◌-◌, ◌*◌, ◌<◌, ◌≤◌, ◌↔◌, ◌⊎◌, ◌++◌, ◌^◌, ℕ, List, All};
 ghost use Rattle.std.specs.Prelude.{Contains, IfSome, OnOk, IfOk, Some, length, ◌==◌, slice_index};
 ghost use Rattle.std.specs.Prelude.{if◌then◌else◌};
@@ -23,8 +23,8 @@ ghost use Rattle.polcert_rules.specs.Steps.Given.{IsWithin, FitsShape, given};
 ghost use Rattle.polcert_cells.specs.Sparse.{IsRow};
 
 use crate::index::{
-    COLUMN, COLUMN_KEYS, MOST_PLACES, between, first_column, keep_newest_of_each, max_option, span,
-    table_digit,
+    COLUMN, COLUMN_KEYS, MOST_PLACES, first_column, keep_newest_of_each, max_option, rules_between,
+    span, table_digit,
 };
 use crate::rows::{StoredRow, cells_of};
 use crate::zeros::{RowZeros, SplitRules, row_zeros};
@@ -60,7 +60,7 @@ impl<'a> Row<'a> {
             IsWholeNumber rules table action state whole → IsRowOf entries table action state row) }
     {
         let low = table_digit(table) * span(MOST_PLACES);
-        let cells = cells(alloc, split.others(), low, action, state)?;
+        let cells = cells(alloc, split.nonzero_rules(), low, action, state)?;
         let zeros = row_zeros(split.zeros.as_slice(), low, action, state);
         Ok(Row {
             whole,
@@ -119,7 +119,11 @@ fn add_columns(cells: &mut Vec<Rule>, rules: &[Rule], start: u64) -> Result<(), 
     ensures { OnOk result ((x : R) →
         Contains cells.new.items x ↔ (Contains cells.old.items x ⊎ IsColumn rules.now start x)) }
 {
-    add_part(cells, between(rules, start, start + COLUMN_KEYS), start)?;
+    add_part(
+        cells,
+        rules_between(rules, start, start + COLUMN_KEYS),
+        start,
+    )?;
     Ok(())
 }
 
@@ -188,7 +192,11 @@ fn single_weight(entries: &Entries, number: usize, columns: usize) -> u64
 
 /// Returns newer cells over a row, both rising by column: each hides the row's cell in its column, and one of
 /// weight 0 leaves nothing there.
-pub(crate) fn merged(alloc: Global, base: &[Cell], newer: &[Cell]) -> Result<Vec<Cell>, AllocError>
+pub(crate) fn merge_cells(
+    alloc: Global,
+    base: &[Cell],
+    newer: &[Cell],
+) -> Result<Vec<Cell>, AllocError>
     ensures { IfOk result (λ cells. cells.items ≡ merged base.now newer.now) }
 {
     let mut cells = Vec::with_capacity(alloc, base.len() + count_nonzero(newer))?;
@@ -246,10 +254,10 @@ fn row_cells(
         cells.items ≡ merged (shown_under row.now.whole row.now.zeros base.now) newer.now) }
 {
     match row.zeros {
-        None => Ok(merged(alloc, base, newer)?),
+        None => Ok(merge_cells(alloc, base, newer)?),
         Some(zeros) => {
             let shown = visible_cells(alloc, row.whole, zeros, base)?;
-            Ok(merged(alloc, shown.as_slice(), newer)?)
+            Ok(merge_cells(alloc, shown.as_slice(), newer)?)
         }
     }
 }

@@ -13,8 +13,8 @@ ghost use Rattle.polcert_rules.specs.Matching.{max_option};
 
 use crate::Rule;
 use crate::index::{
-    RuleSpan, TABLE, between, between_at, first_at, from, max_option, newest, next_place, place_of,
-    some_begins, span, span_of,
+    RuleSpan, TABLE, first_at, max_option, newest, next_place, place_of, rules_between,
+    rules_between_at, rules_from, some_begins, span, span_of,
 };
 use crate::named_noting::note_ends;
 use crate::named_rules::NamedRules;
@@ -92,7 +92,10 @@ impl RowRules {
     {
         let step = span(3);
         let only = REWARD_KEYS + (action as u64 + 2) * step;
-        let here = first_at(self.part(NO_PLACE, NO_PLACE, REWARD_KEYS), REWARD_KEYS);
+        let here = first_at(
+            self.rules_after(NO_PLACE, NO_PLACE, REWARD_KEYS),
+            REWARD_KEYS,
+        );
         let of_every = self.newest_after(EVERY, REWARD_KEYS + step, start, rest);
         let of_only = self.newest_after(action + INDICES, only, start, rest);
         max_option(here, max_option(of_every, of_only))
@@ -108,10 +111,15 @@ impl RowRules {
         let step = span(PLACES_LEFT);
         let every = low + step;
         let only = low + (start as u64 + 2) * step;
-        let here = first_at(self.part(digit, NO_PLACE, low), low);
-        let of_every = newest(self.part(digit, EVERY, every), every, PLACES_LEFT, rest);
+        let here = first_at(self.rules_after(digit, NO_PLACE, low), low);
+        let of_every = newest(
+            self.rules_after(digit, EVERY, every),
+            every,
+            PLACES_LEFT,
+            rest,
+        );
         let of_only = newest(
-            self.part(digit, start + INDICES, only),
+            self.rules_after(digit, start + INDICES, only),
             only,
             PLACES_LEFT,
             rest,
@@ -132,7 +140,10 @@ impl RowRules {
         let only = REWARD_KEYS + (at.action as u64 + 2) * step;
         note_all(
             noted,
-            first_at(self.part(NO_PLACE, NO_PLACE, REWARD_KEYS), REWARD_KEYS),
+            first_at(
+                self.rules_after(NO_PLACE, NO_PLACE, REWARD_KEYS),
+                REWARD_KEYS,
+            ),
         );
         self.note_after(EVERY, REWARD_KEYS + step, at, first, noted);
         self.note_after(at.action + INDICES, only, at, first, noted);
@@ -157,10 +168,10 @@ impl RowRules {
         let every = low + step;
         let only = low + (at.start as u64 + 2) * step;
         let rest = [at.end];
-        note_all(noted, first_at(self.part(digit, NO_PLACE, low), low));
-        let rules_of_every = self.part(digit, EVERY, every);
+        note_all(noted, first_at(self.rules_after(digit, NO_PLACE, low), low));
+        let rules_of_every = self.rules_after(digit, EVERY, every);
         note(rules_of_every, every, PLACES_LEFT, &rest, first, noted);
-        let rules_of_only = self.part(digit, at.start + INDICES, only);
+        let rules_of_only = self.rules_after(digit, at.start + INDICES, only);
         note(rules_of_only, only, PLACES_LEFT, &rest, first, noted);
     }
 
@@ -173,7 +184,10 @@ impl RowRules {
     {
         let step = span(3);
         let only = REWARD_KEYS + (at.action as u64 + 2) * step;
-        list.note_all(first_at(self.part(NO_PLACE, NO_PLACE, REWARD_KEYS), REWARD_KEYS));
+        list.note_all(first_at(
+            self.rules_after(NO_PLACE, NO_PLACE, REWARD_KEYS),
+            REWARD_KEYS,
+        ));
         if !self.note_named_after(EVERY, REWARD_KEYS + step, at, list) {
             return false;
         }
@@ -191,9 +205,9 @@ impl RowRules {
         let step = span(PLACES_LEFT);
         let every = low + step;
         let only = low + (at.start as u64 + 2) * step;
-        list.note_all(first_at(self.part(digit, NO_PLACE, low), low));
-        let rules_of_every = self.part(digit, EVERY, every);
-        let rules_of_only = self.part(digit, at.start + INDICES, only);
+        list.note_all(first_at(self.rules_after(digit, NO_PLACE, low), low));
+        let rules_of_every = self.rules_after(digit, EVERY, every);
+        let rules_of_only = self.rules_after(digit, at.start + INDICES, only);
         if !note_ends(rules_of_every, every, at.end, list) {
             return false;
         }
@@ -238,8 +252,8 @@ impl RowRules {
         let step = span(PLACES_LEFT);
         let every = low + step;
         let only = low + (start as u64 + 2) * step;
-        let of_every = self.part(digit, EVERY, every);
-        let of_only = self.part(digit, start + INDICES, only);
+        let of_every = self.rules_after(digit, EVERY, every);
+        let of_only = self.rules_after(digit, start + INDICES, only);
         some_begins(of_every, every, PLACES_LEFT, rest, least)
             || some_begins(of_only, only, PLACES_LEFT, rest, least)
     }
@@ -253,7 +267,12 @@ impl RowRules {
     {
         let step = span(3);
         let only = REWARD_KEYS + (action as u64 + 2) * step;
-        if first_at(self.part(NO_PLACE, NO_PLACE, REWARD_KEYS), REWARD_KEYS).is_some() {
+        if first_at(
+            self.rules_after(NO_PLACE, NO_PLACE, REWARD_KEYS),
+            REWARD_KEYS,
+        )
+        .is_some()
+        {
             return true;
         }
         self.names_start_after(EVERY, REWARD_KEYS + step, start)
@@ -269,14 +288,14 @@ impl RowRules {
             → ⊥ }
     {
         let only = low + (start as u64 + 2) * span(PLACES_LEFT);
-        if first_at(self.part(digit, NO_PLACE, low), low).is_some() {
+        if first_at(self.rules_after(digit, NO_PLACE, low), low).is_some() {
             return true;
         }
-        !self.part(digit, start + INDICES, only).is_empty()
+        !self.rules_after(digit, start + INDICES, only).is_empty()
     }
 
     /// Returns the rules whose keys follow `low`, the key of two places with these digits.
-    fn part(&self, first: usize, second: usize, low: u64) -> &[Rule]
+    fn rules_after(&self, first: usize, second: usize, low: u64) -> &[Rule]
         requires rising { IsRising self.now.rules.items }
         requires room { low + key_base ^ 2 < 2 ^ 64 }
         ensures rising { IsRising result.now }
@@ -287,8 +306,8 @@ impl RowRules {
         let high = low + span(PLACES_LEFT);
         let rules = self.rules.as_slice();
         match self.spans.get(place) {
-            Some(span) => between_at(rules, low, high, *span),
-            None => between(rules, low, high),
+            Some(span) => rules_between_at(rules, low, high, *span),
+            None => rules_between(rules, low, high),
         }
     }
 }
@@ -337,10 +356,10 @@ fn note_last(rules: &[Rule], low: u64, first: usize, noted: &mut [Option<usize>]
         (slice_index_or noted.new i None) }
 {
     let every = low + 1;
-    note_all(noted, first_at(from(rules, every), every));
+    note_all(noted, first_at(rules_from(rules, every), every));
     let start = low + 2 + first as u64;
     let end = start + noted.len() as u64;
-    note_each(between(rules, start, end), start, noted);
+    note_each(rules_between(rules, start, end), start, noted);
 }
 
 /// Notes each of these rules at the number by which its key is greater than `start`.

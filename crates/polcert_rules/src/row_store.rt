@@ -17,7 +17,7 @@ ghost use Rattle.polcert_rules.specs.Steps.Sources.{AreNumbersOf, IsKeptRow, IsS
 ghost use Rattle.polcert_rules.specs.Steps.Sources.{Stays, AreNear, total};
 
 use crate::Shape;
-use crate::index::in_half;
+use crate::index::half_width;
 use crate::row::{Row, body_line, body_row, cells_over, newer_cells};
 use crate::rows::{StoredRow, StoredRows};
 use polcert_cells::{BodyRef, Cell, Entries, EntryRef, ONE, Place, Table};
@@ -433,10 +433,10 @@ impl RowCache {
         let mut starts = Vec::with_capacity(alloc, entries.len())?;
         let mut end = states.saturating_add(FIRST_DIAGONAL);
         for number in 0..entries.len() {
-            starts.push(in_half(end))?;
+            starts.push(half_width(end))?;
             end = end.saturating_add(lines_of(entries.at(number), table, states));
         }
-        let places = vec![in alloc; 0; in_half(end) as usize]?;
+        let places = vec![in alloc; 0; half_width(end) as usize]?;
         Ok(RowCache { starts, places })
     }
 
@@ -452,7 +452,7 @@ impl RowCache {
     pub(crate) fn note(&mut self, source: RowOrigin, place: usize) {
         if let Some(slot) = self.slot_of(source) {
             if slot < self.places.len() {
-                self.places[slot] = in_half(place);
+                self.places[slot] = half_width(place);
             }
         }
     }

@@ -1,4 +1,4 @@
-//! The rows of T or O.
+//! The rows of T or O, and how they are stored.
 ghost use Rattle.std.specs.Prelude.{◌≡◌, ℕ, ◌+◌, ◌<◌, All, IfOk, OnOk, MatchResult, IsTrue, Some, length};
 ghost use Rattle.std.specs.Prelude.{slice_get, ◌*◌, ◌≤◌, ◌++◌, ◌∷◌, [], slice_index};
 ghost use Rattle.polcert_cells.specs.Preamble.{Preamble};
@@ -118,7 +118,7 @@ impl Rows {
         requires state { state < self.now.states }
         ensures { IsRowOf (weight_at (row_at self.now action state)) self.now.columns result }
     {
-        match self.stored(action, state) {
+        match self.stored_row(action, state) {
             StoredRow::Sparse(cells) => BorrowedRow::Sparse(cells),
             StoredRow::Full { numbers, columns } => BorrowedRow::Scaled {
                 numbers,
@@ -133,14 +133,14 @@ impl Rows {
         requires state { state < self.now.states }
         ensures { result ≡ weight_at (row_at self.now action state) column }
     {
-        match self.stored(action, state) {
+        match self.stored_row(action, state) {
             StoredRow::Sparse(cells) => cell_weight(cells, column),
             StoredRow::Full { numbers, columns } => full_weight(numbers, columns, column),
         }
     }
 
     /// Returns the row of an action and a state, as it is kept.
-    fn stored(&self, action: usize, state: usize) -> StoredRow<'_>
+    fn stored_row(&self, action: usize, state: usize) -> StoredRow<'_>
         requires action { action < self.now.actions }
         requires state { state < self.now.states }
         ensures row { stored_cells result ≡ row_at self.now action state }

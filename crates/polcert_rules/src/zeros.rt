@@ -11,7 +11,9 @@ ghost use Rattle.polcert_rules.specs.declared.index.Rule.{Rule as R};
 ghost use Rattle.polcert_cells.specs.EntryRefs.{entry_of};
 
 use crate::Rule;
-use crate::index::{COLUMN, COLUMN_KEYS, between, first_at, first_column, from, max_option};
+use crate::index::{
+    COLUMN, COLUMN_KEYS, first_at, first_column, max_option, rules_between, rules_from,
+};
 use polcert_cells::{BodyRef, Entries, EntryRef};
 use std::alloc::{AllocError, Global};
 
@@ -44,7 +46,7 @@ impl<'a> ZeroColumns<'a> {
     {
         ZeroColumns {
             start,
-            rules: between(rules, start, start + COLUMN_KEYS),
+            rules: rules_between(rules, start, start + COLUMN_KEYS),
         }
     }
 
@@ -55,7 +57,7 @@ impl<'a> ZeroColumns<'a> {
         ensures { result ≡ zero_in self.now column }
     {
         let key = self.start + column as u64 * COLUMN;
-        first_at(from(self.rules, key), key)
+        first_at(rules_from(self.rules, key), key)
     }
 }
 
@@ -152,7 +154,7 @@ impl<'a> SplitRules<'a> {
     }
 
     /// Returns the rules that are no zeros.
-    pub(crate) fn others(&self) -> &[Rule]
+    pub(crate) fn nonzero_rules(&self) -> &[Rule]
         ensures { result.now ≡ others_in self.now.others }
     {
         match &self.others {

@@ -1,4 +1,4 @@
-//! Tokens that stand whole at the front of some bytes, cut without going through a stream.
+//! Tokens and rounded values that stand whole at the front of some bytes, cut without going through a stream.
 ghost use Rattle.std.specs.Prelude.{◌≡◌, ◌≤◌, ◌∷◌, [], ℕ, length, take, IfSome, ◌+◌, ◌-◌, ◌^◌, ◌<◌, ◌++◌};
 ghost use Rattle.std.specs.Prelude.{List, drop};
 ghost use Rattle.polcert_text.specs.Steps.Scan.{gap_through};

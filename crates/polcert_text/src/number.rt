@@ -1,4 +1,4 @@
-//! The value of a numeral.
+//! The value of a numeral, and a number written as text.
 ghost use Rattle.std.specs.Prelude.{◌≡◌, ◌+◌, ◌-◌, ◌*◌, ◌^◌, length, take, drop, if◌then◌else◌, ◌<◌, ◌≤◌};
 ghost use Rattle.std.specs.Prelude.{◌++◌, ◌∷◌, [], ℕ, List, MatchResult, IfOk, IfErr, IfSome, min, get_or};
 ghost use Rattle.std.specs.Prelude.{true, false, MatchOption};
@@ -260,7 +260,7 @@ impl Scaling {
     }
 
     /// Returns the scaling after all these digits.
-    fn through(self, digits: &[u8]) -> Scaling
+    fn after_digits(self, digits: &[u8]) -> Scaling
         requires digits { list_all is_digit digits.now ≡ true }
         requires small { self.floor ≤ cap }
         ensures scaled { (kept : ℕ) (front : List ℕ) → IsScaled kept front self
@@ -328,7 +328,7 @@ fn split_sign(exponent: &[u8]) -> (bool, &[u8])
 }
 
 /// Returns the first `kept` digits as a number, with zeros if there are fewer, or one above the largest.
-fn measured(whole: &[u8], fraction: &[u8], kept: usize) -> Size
+fn leading_size(whole: &[u8], fraction: &[u8], kept: usize) -> Size
     requires whole { list_all is_digit whole.now ≡ true }
     requires fraction { list_all is_digit fraction.now ≡ true }
     ensures floor { let digits = whole.now ++ fraction.now in
@@ -341,7 +341,7 @@ fn measured(whole: &[u8], fraction: &[u8], kept: usize) -> Size
         left: kept,
         is_inexact: false,
     };
-    let scaling = none.through(whole).through(fraction);
+    let scaling = none.after_digits(whole).after_digits(fraction);
     Size {
         floor: with_zeros(scaling.floor, scaling.left),
         is_inexact: scaling.is_inexact,
@@ -501,7 +501,7 @@ fn general_size(numeral: &[u8]) -> Result<Size, NumberFault>
         return Err(NumberFault::TooLong);
     }
     let kept = kept_digits(parts.whole.len(), parts.is_lowering, exponent);
-    let size = measured(parts.whole, parts.fraction, kept);
+    let size = leading_size(parts.whole, parts.fraction, kept);
     if size.ceiling() > LARGEST {
         return Err(NumberFault::TooLarge);
     }

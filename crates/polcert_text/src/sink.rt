@@ -1,4 +1,4 @@
-//! Sinks, and how a text is written whole.
+//! Sinks, the buffer in front of one, and how a text is written whole.
 ghost use Rattle.std.specs.Prelude.{◌<◌, ◌≤◌, ℕ, List, Option, length, IfOk, ◌≡◌, ◌-◌, ◌++◌, [], take, min};
 ghost use Rattle.polcert_text.specs.Device.{CountsFailures, moved};
 ghost use Rattle.polcert_text.specs.Sink.{WritesText};

@@ -1,4 +1,4 @@
-//! Sources, and how one is read whole.
+//! Sources and how one is read whole; slices, and the readers and writers of the system.
 ghost use Rattle.std.specs.Prelude.{◌≡◌, ◌≢◌, ◌+◌, ◌-◌, ◌^◌, ◌<◌, ◌≤◌, ℕ, List, Option, length, IfOk};
 ghost use Rattle.std.specs.Prelude.{IsErrOf, take};
 ghost use Rattle.polcert_text.specs.Device.{HasFailed, CountsFailures, moved};

@@ -1,4 +1,4 @@
-//! The tokens of a text that comes from a source, one after another.
+//! The bytes and tokens of a text that comes from a source, one after another.
 ghost use Rattle.std.specs.Prelude.{◌≡◌, ◌+◌, ◌≤◌, Option, Some, None, length, ◌<◌, ◌-◌, ◌^◌, ◌∷◌, [], ℕ};
 ghost use Rattle.std.specs.Prelude.{List, Bool, true, false, take, slice_index, IfOk, OnErr, ◌++◌, OnOk};
 ghost use Rattle.std.specs.Prelude.{drop};
@@ -386,10 +386,10 @@ impl StreamBytes {
     fn scan_on<S: Source>(&mut self, source: &mut S) -> Result<Option<LexemePrefix>, SourceFailed>
         ensures { ScansLexemeOrFails S.reads S.failures self.old source.old result self.new source.new }
     {
-        let mut scan = LexemeScan::new().through(self.visible());
+        let mut scan = LexemeScan::new().scan_over(self.visible());
         while self.lacks_lexeme(scan) {
             match self.fill(source) {
-                Ok(true) => scan = scan.through(self.visible()),
+                Ok(true) => scan = scan.scan_over(self.visible()),
                 Ok(false) => return Ok(scan.longest()),
                 Err(error) => return Err(error),
             }

@@ -1,4 +1,4 @@
-//! The tokens of a text, one after another.
+//! How a text is cut into lexemes and tokens, one after another.
 ghost use Rattle.std.specs.Prelude.{◌≡◌, ◌+◌, ◌<◌, ◌≤◌, ◌^◌, ◌++◌, ℕ, List, length, Option, MatchResult, ◌∷◌};
 ghost use Rattle.std.specs.Prelude.{[], take, slice_index, true, false, ◌⊎◌, IfSome, IsTrue};
 ghost use Rattle.polcert_text.specs.Fronts.{IsLongestGap, IsLongestLexeme};
@@ -464,7 +464,7 @@ impl LexemeScan {
 
     /// Continues over bytes of which it was fed a front, up to the last or one that no lexeme continues with.
     #[inline(always)]
-    pub fn through(self, bytes: &[u8]) -> LexemeScan
+    pub fn scan_over(self, bytes: &[u8]) -> LexemeScan
         requires with_byte { IsScanOf (take self.len bytes.now) self }
         ensures with_byte { IsScanOf (take result.len bytes.now) result }
         ensures all { is_stuck result.state ≡ false → result.len ≡ length bytes.now }
@@ -474,14 +474,14 @@ impl LexemeScan {
             if scan.is_stuck() {
                 return scan;
             }
-            scan = scan.with_byte(bytes[scan.len]).along(bytes);
+            scan = scan.with_byte(bytes[scan.len]).skip_run(bytes);
         }
         scan
     }
 
     /// Continues over the digits, or the rest of a name, that it stands in.
     #[inline(always)]
-    fn along(self, bytes: &[u8]) -> LexemeScan
+    fn skip_run(self, bytes: &[u8]) -> LexemeScan
         requires with_byte { IsScanOf (take self.len bytes.now) self }
         ensures with_byte { IsScanOf (take result.len bytes.now) result }
         ensures on { self.len ≤ result.len }
@@ -707,5 +707,5 @@ pub fn longest_lexeme(bytes: &[u8]) -> Option<LexemePrefix>
 fn scanned_lexeme(bytes: &[u8]) -> Option<LexemePrefix>
     ensures { IsFrontOf bytes.now result }
 {
-    LexemeScan::new().through(bytes).longest()
+    LexemeScan::new().scan_over(bytes).longest()
 }

@@ -10,7 +10,7 @@ overflow_mul-result-3 c =
     let body = a.entry.now.body in
     let few = subst (λ (places : List Place). nonzero_cells body a.states (open_cells a.states a.columns (length places)) ≤ a.states * a.columns) (sym c.as_slice-places.ensures) c.requires.nonzero_cells in
     let cells = c.nonzero_cells.ensures ∙ ap (nonzero_cells body a.states) c.open_cells-cells.ensures in
-    covered_fits _ (subst (λ n. n ≤ most_covered) (λ i. sym c.chosen.ensures i * sym c.chosen-2.ensures i * sym c.chosen-3.ensures i * sym cells i)
+    covered_fits _ (subst (λ n. n ≤ most_covered) (λ i. sym c.count_elements.ensures i * sym c.count_elements-2.ensures i * sym c.count_elements-3.ensures i * sym cells i)
     (covered_few a.actions a.states a.columns c.as_slice-places.result.now body c.requires.actions c.requires.states c.requires.columns few))
 
 pub returns-clause-few : goal.returns-clause-few
@@ -19,5 +19,5 @@ returns-clause-few c =
     let body = a.entry.now.body in
     let few = subst (λ (places : List Place). nonzero_cells body a.states (open_cells a.states a.columns (length places)) ≤ a.states * a.columns) (sym c.as_slice-places.ensures) c.requires.nonzero_cells in
     let cells = c.nonzero_cells.ensures ∙ ap (nonzero_cells body a.states) c.open_cells-cells.ensures in
-    subst (λ n. n ≤ most_covered) (λ i. sym c.chosen.ensures i * sym c.chosen-2.ensures i * sym c.chosen-3.ensures i * sym cells i)
+    subst (λ n. n ≤ most_covered) (λ i. sym c.count_elements.ensures i * sym c.count_elements-2.ensures i * sym c.count_elements-3.ensures i * sym cells i)
     (covered_few a.actions a.states a.columns c.as_slice-places.result.now body c.requires.actions c.requires.states c.requires.columns few)

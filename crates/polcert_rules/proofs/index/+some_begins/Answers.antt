@@ -23,7 +23,7 @@ some_begins-requires-else-some_begins t c =
 pub returns-in-None : goal.returns-in-None
 returns-in-None t c =
     subst (λ is. IsAnswer c.args.rules.now (Begins c.args.levels c.args.low is c.args.least) (not c.is_empty-in-None.result)) (sym (no_more _ c.in-None.ensures.cases))
-    (begins_none c.args.rules.now c.between.result.now c.args.levels c.args.low c.args.least c.span.result c.is_empty-in-None.result c.span.ensures c.between.ensures.kept c.is_empty-in-None.ensures)
+    (begins_none c.args.rules.now c.rules_between.result.now c.args.levels c.args.low c.args.least c.span.result c.is_empty-in-None.result c.span.ensures c.rules_between.ensures.kept c.is_empty-in-None.ensures)
 
 pub returns-then-some_begins : goal.returns-then-some_begins
 returns-then-some_begins t c =

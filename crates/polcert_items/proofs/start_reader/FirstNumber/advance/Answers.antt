@@ -30,7 +30,7 @@ returns-in_err-feed-clause-refused c =
     let fits : FitsSigned w64 h = search rules in
     let f = fraction h (simp to_z-of_z at c.if-self-lt0.false) (simp to_z-of_z at c.if-self.false) in
     let more = more_states (count_of c.args.states.now) c.count-count.result c.count-count.ensures c.if-count-eq1.false c.requires.0 in
-    let is = one_read c.args.states.now _ c.count-count.result _ (simp to_z-of_z at c.begun-numbers.ensures) c.count-count.ensures in
+    let is = one_read c.args.states.now _ c.count-count.result _ (simp to_z-of_z at c.with_first-numbers.ensures) c.count-count.ensures in
     if_err_map _ _ _ (λ stop h. refused_map stop (number_stuck c.args.states.now c.args.self _ _ (lexeme_of c.args.token) f.value f.small more is) h) (search rules)
 
 pub returns-clause-takes : goal.returns-clause-takes
@@ -39,12 +39,12 @@ returns-clause-takes c =
     let fits : FitsSigned w64 h = search rules in
     let f = fraction h (simp to_z-of_z at c.if-self-lt0.false) (simp to_z-of_z at c.if-self.false) in
     let more = more_states (count_of c.args.states.now) c.count-count.result c.count-count.ensures c.if-count-eq1.false c.requires.0 in
-    let is = one_read c.args.states.now _ c.count-count.result _ (simp to_z-of_z at c.begun-numbers.ensures) c.count-count.ensures in
+    let is = one_read c.args.states.now _ c.count-count.result _ (simp to_z-of_z at c.with_first-numbers.ensures) c.count-count.ensures in
     number_takes c.args.states.now c.args.self _ _ _ (lexeme_of c.args.token) f.value f.small more is c.in_ok-feed.ensures.fed.takes
 
 pub returns-clause-within : goal.returns-clause-within
 returns-clause-within c = record {
   more = more_states (count_of c.args.states.now) c.count-count.result c.count-count.ensures c.if-count-eq1.false c.requires.0;
-  needed = c.in_ok-feed.ensures.needed ∙ ap (λ (n : Numbers ℕ). n.needed) c.begun-numbers.ensures ∙ c.count-count.ensures;
+  needed = c.in_ok-feed.ensures.needed ∙ ap (λ (n : Numbers ℕ). n.needed) c.with_first-numbers.ensures ∙ c.count-count.ensures;
   room = c.in_ok-feed.ensures.room;
 }

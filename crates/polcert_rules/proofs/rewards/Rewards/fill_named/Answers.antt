@@ -20,7 +20,7 @@ loop-i-preserved c =
     let i = c.loop-i.i in
     let list = c.args.list.now in
     let z = (rule_at list.rules i).observation in
-    let new : RewardCell = record { observation = z; reward = to_z w64 (of_z w64 c.given-reward.result) } in
+    let new : RewardCell = record { observation = z; reward = to_z w64 (of_z w64 c.reward_of_body-reward.result) } in
     let room : i < length c.loop-i.cells = omega (arith, c.loop-i-test.true, c.if-cells-list.false, c.loop-i.auto.cells) in
     let here : cell_at (set c.loop-i.cells i new) i ≡ new = get_or-set_same c.loop-i.cells i new _ room in
     let other : (k : ℕ) → k < i → cell_at (set c.loop-i.cells i new) k ≡ cell_at c.loop-i.cells k = λ k l. get_or-set_other c.loop-i.cells i k new _ (λ e. absurd (omega (arith, e, l))) in
@@ -36,9 +36,9 @@ loop-i-preserved c =
           (subst (λ (x : RewardCell). x.observation < c.args.self.now.shape.observations) (sym here) (search rules));
       each = λ p entries are.
           let within : AreWithin (map count_of (dimensions p Reward)) (cell_of c.args.at z) = search rules in
-          let fits : FitsSigned w64 c.given-reward.result = search rules in
+          let fits : FitsSigned w64 c.reward_of_body-reward.result = search rules in
           below_more (λ k. reward p entries (cell_of c.args.at (cell_at (set c.loop-i.cells i new) k).observation) ≡ (cell_at (set c.loop-i.cells i new) k).reward) i
           (λ k l. subst (λ (x : RewardCell). reward p entries (cell_of c.args.at x.observation) ≡ x.reward) (sym (other k l)) (c.loop-i.invariant.each p entries are k l))
           (subst (λ (x : RewardCell). reward p entries (cell_of c.args.at x.observation) ≡ x.reward) (sym here)
-          (sym (to_z-of_z w64 c.given-reward.result fits ∙ c.given-reward.ensures p entries are within (c.body_of-body.ensures (cell_of c.args.at z) p entries small are newest))));
+          (sym (to_z-of_z w64 c.reward_of_body-reward.result fits ∙ c.reward_of_body-reward.ensures p entries are within (c.body_of-body.ensures (cell_of c.args.at z) p entries small are newest))));
     }

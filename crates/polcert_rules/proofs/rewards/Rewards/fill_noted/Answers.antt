@@ -38,8 +38,8 @@ loop-i-preserved c = λ p entries are.
           w.reward-is ∙ to_z-of_z w64 w.single_or_given-reward.result fits
           ∙ w.single_or_given-reward.ensures p entries are within (c.body_of-shared_body.ensures (cell z) p entries small are (subst IsHere (c.is_same.ensures.0 w.if-is_same.true) newest))
       | else-is_same w ↦
-          let fits : FitsSigned w64 w.given-reward.result = search rules in
-          w.reward-is ∙ to_z-of_z w64 w.given-reward.result fits ∙ w.given-reward.ensures p entries are within (w.body_of.ensures (cell z) p entries small are newest)
+          let fits : FitsSigned w64 w.reward_of_body-reward.result = search rules in
+          w.reward-is ∙ to_z-of_z w64 w.reward_of_body-reward.result fits ∙ w.reward_of_body-reward.ensures p entries are within (w.body_of.ensures (cell z) p entries small are newest)
     ] in
     below_more (λ y. get_or (set c.loop-i.rewards i (to_z w64 c.if-is_same.reward-bits)) y (pos 0) ≡ reward p entries (cell (c.args.first + y))) i
     (λ y l. let ne : y ≢ i = omega arith in rw get_or-set_other (c.loop-i.invariant p entries are y l))

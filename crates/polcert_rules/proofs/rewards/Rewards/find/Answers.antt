@@ -45,5 +45,5 @@ returns c p entries are common is =
           let here : IsNewest c.args.self.now.rules (Fits most_places (table_key Reward) (cell z)) (noted_at list z) =
           subst (λ (rewards : RewardRules). IsNewest rewards.rules (Fits most_places (table_key Reward) (cell z)) (noted_at list z)) c.self.view_is first in
           let whole = subst (IsNewest c.args.self.now.rules (Fits most_places (table_key Reward) (cell z))) (ap (max_option list.whole) none ∙ later_none list.whole) here in
-          c.single.ensures p entries are c.in-Some.reward c.in-Some.is (cell z) within (c.body_of-whole.ensures (cell z) p entries small are whole) ∙ sym (to_z-of_z w64 c.in-Some.reward fits);
+          c.single_number.ensures p entries are c.in-Some.reward c.in-Some.is (cell z) within (c.body_of-whole.ensures (cell z) p entries small are whole) ∙ sym (to_z-of_z w64 c.in-Some.reward fits);
     })

@@ -12,5 +12,5 @@ returns c p entries are h is z l =
     let cell : List ℕ = c.args.action ∷ c.args.start ∷ c.args.end ∷ z ∷ [] in
     let unnamed = subst (λ (rewards : RewardRules). NoneBegins rewards (c.args.action ∷ c.args.start ∷ c.args.end ∷ []) 2) c.self.view_is c.if-some_begins.ensures in
     let within : AreWithin (map count_of (dimensions p Reward)) cell = search rules in
-    c.single.ensures p entries are h is cell within
+    c.single_number.ensures p entries are h is cell within
     (body_moved p entries c.args.self.now c.args.action c.args.start c.args.end 0 z c.newest_body.result are unnamed (c.newest_body.ensures p entries are))

@@ -5,11 +5,11 @@ use Rattle.polcert_rules.proofs.RewardLaws.RewardStarts.{unnamed_after}
 use Rattle.polcert_rules.proofs.row_rules.RowRules.names_start_after.Goals as goal
 
 pub first_at-requires-clause-from : goal.first_at-requires-clause-from
-first_at-requires-clause-from c r among = ((c.part.ensures.kept r).0 among).1
+first_at-requires-clause-from c r among = ((c.rules_after.ensures.kept r).0 among).1
 
 pub returns : goal.returns
 returns c =
     let rules = c.args.self.now.rules.items in
-    let named = subst (λ s. IsSpan rules c.part-2.result.now (c.args.low + (c.args.start + 2) * s) (key_base ^ 2)) c.span.ensures c.part-2.ensures.kept in
-    unnamed_after rules c.part.result.now c.part-2.result.now c.args.low c.args.start c.first_at.result c.is_empty.result c.part.ensures.kept c.first_at.ensures c.if-is_some.ensures
+    let named = subst (λ s. IsSpan rules c.rules_after-2.result.now (c.args.low + (c.args.start + 2) * s) (key_base ^ 2)) c.span.ensures c.rules_after-2.ensures.kept in
+    unnamed_after rules c.rules_after.result.now c.rules_after-2.result.now c.args.low c.args.start c.first_at.result c.is_empty.result c.rules_after.ensures.kept c.first_at.ensures c.if-is_some.ensures
     named c.is_empty.ensures

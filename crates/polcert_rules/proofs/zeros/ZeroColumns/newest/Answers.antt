@@ -2,7 +2,7 @@ use Rattle.polcert_rules.proofs.RowLaws.ZeroLaws.{found_at}
 use Rattle.polcert_rules.proofs.zeros.ZeroColumns.newest.Goals as goal
 
 pub first_at-requires-clause-from : goal.first_at-requires-clause-from
-first_at-requires-clause-from c r among = ((c.from.ensures.kept r).0 among).1
+first_at-requires-clause-from c r among = ((c.rules_from.ensures.kept r).0 among).1
 
 pub returns : goal.returns
-returns c = found_at c.args.self.now.rules.now c.from.result.now _ c.first_at.result c.from.ensures.kept c.first_at.ensures
+returns c = found_at c.args.self.now.rules.now c.rules_from.result.now _ c.first_at.result c.rules_from.ensures.kept c.first_at.ensures

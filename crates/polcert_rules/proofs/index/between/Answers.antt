@@ -1,7 +1,0 @@
-use Rattle.polcert_rules.proofs.index.between.Goals as goal
-
-pub returns-clause-kept : goal.returns-clause-kept
-returns-clause-kept c = λ r.
-    let outer = c.before-2.ensures.kept r in
-    let inner = c.from.ensures.kept r in
-    ((λ h. let o = outer.0 h in let i = inner.0 o.0 in (i.0, i.1, o.1)), (λ h. outer.1 (inner.1 (h.0, h.1), h.2)))

@@ -1,0 +1,7 @@
+use Rattle.polcert_rules.proofs.index.rules_between_at.Goals as goal
+
+pub returns-clause-kept : goal.returns-clause-kept
+returns-clause-kept c = λ r.
+    let outer = c.rules_from_at.ensures.kept r in
+    let inner = c.rules_before_at-front.ensures.kept r in
+    ((λ h. let o = outer.0 h in let i = inner.0 o.0 in (i.0, o.1, i.1)), (λ h. outer.1 (inner.1 (h.0, h.2), h.1)))

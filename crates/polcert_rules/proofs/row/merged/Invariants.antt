@@ -1,6 +1,0 @@
-use Rattle.std.proofs.Common.{◌≡◌, ◌++◌, drop}
-use Rattle.polcert_rules.specs.Steps.Merging.{merged}
-use Rattle.polcert_rules.proofs.row.merged.Given as goal
-
-abbrev pub invariant-loop-cell : goal.invariant-loop-cell
-invariant-loop-cell l = l.cells.items ++ merged l.rest (drop l.cell-index l.newer) ≡ merged l.base l.newer

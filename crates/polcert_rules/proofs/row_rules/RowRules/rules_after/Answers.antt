@@ -1,0 +1,15 @@
+use Rattle.std.proofs.Common.{◌^◌, List, subst}
+use Rattle.polcert_rules.specs.declared.index.Rule.{Rule}
+use Rattle.polcert_rules.specs.Keys.{key_base}
+use Rattle.polcert_rules.proofs.Indexes.Newer.{IsSpan}
+use Rattle.polcert_rules.proofs.row_rules.RowRules.rules_after.Goals as goal
+
+pub returns-in-Some-clause-kept : goal.returns-in-Some-clause-kept
+returns-in-Some-clause-kept c =
+    let kept = subst (λ n. IsSpan c.as_slice-rules.result.now c.rules_between_at.result.now c.args.low n) c.span.ensures c.rules_between_at.ensures.kept in
+    subst (λ (rules : List Rule). IsSpan rules c.rules_between_at.result.now c.args.low (key_base ^ 2)) c.as_slice-rules.ensures.value kept
+
+pub returns-in-None-clause-kept : goal.returns-in-None-clause-kept
+returns-in-None-clause-kept c =
+    let kept = subst (λ n. IsSpan c.as_slice-rules.result.now c.rules_between.result.now c.args.low n) c.span.ensures c.rules_between.ensures.kept in
+    subst (λ (rules : List Rule). IsSpan rules c.rules_between.result.now c.args.low (key_base ^ 2)) c.as_slice-rules.ensures.value kept
