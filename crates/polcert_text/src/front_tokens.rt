@@ -186,6 +186,19 @@ pub(crate) fn blanks(bytes: &[u8]) -> usize
     at
 }
 
+/// Returns the same, without a loop if there is one or none.
+#[inline(always)]
+fn few_blanks(bytes: &[u8]) -> usize
+    ensures within { result ≤ length bytes.now }
+    ensures gap { gap_through Gap.Between (take result bytes.now) ≡ Gap.Between }
+{
+    let start = one_blank(bytes);
+    if start < bytes.len() && !quick_is_blank(bytes[start]) {
+        return start;
+    }
+    blanks(bytes)
+}
+
 /// Numerals with more digits before the point are rare, and read the general way; and so are those with more after it.
 const MOST_WHOLE: usize = 7;
 
@@ -252,7 +265,7 @@ struct FrontSize {
     size: Size,
 }
 
-/// The decimals after the sixth: where they end, and whether one isn't 0.
+/// The decimals after the sixth: where they end, before a blank or a line end, and whether one isn't 0.
 #[derive(Clone, Copy)]
 struct Tail {
     end: usize,
@@ -266,7 +279,7 @@ struct Tail {
 pub fn front_value(rounding: Rounding, bytes: &[u8]) -> Option<FrontValue>
     ensures { IfSome result (λ value. (place : ℕ) → BeginWithValue rounding place bytes.now value) }
 {
-    let start = blanks(bytes);
+    let start = few_blanks(bytes);
     let rest = &bytes[start..];
     if !rest.is_empty() && quick_is_minus(rest[0]) {
         let Some(numeral) = ended_size(&rest[1..]) else {
@@ -323,15 +336,14 @@ fn ended_size(bytes: &[u8]) -> Option<FrontSize>
             },
         });
     }
-    if !quick_is_point(bytes[point]) {
-        return None;
-    }
     let full = point + DECIMALS;
     let (number, kept) = digits_until(whole, bytes, point + 1, full);
-    let tail = tail_from(bytes, kept, full);
-    if tail.end == bytes.len() || !quick_is_blank(bytes[tail.end]) || number > LARGEST {
+    if !quick_is_point(bytes[point]) || number > LARGEST {
         return None;
     }
+    let Some(tail) = tail_from(bytes, kept, full) else {
+        return None;
+    };
     let floor = with_zeros(number, full - kept);
     if floor >= LARGEST {
         return None;
@@ -344,6 +356,9 @@ fn ended_size(bytes: &[u8]) -> Option<FrontSize>
         },
     })
 }
+
+/// The first digit.
+const ZERO: u64 = b'0' as u64;
 
 /// Returns the number that the digits of `number` and those from `from` up to `until` spell, up to the first
 /// byte that is no digit, and where that is. They are so few that no test is needed for a number that is too
@@ -362,23 +377,30 @@ fn digits_until(number: u64, bytes: &[u8], from: usize, until: usize) -> (u64, u
     let mut read = number;
     let mut at = from;
     while at < until && quick_is_digit(bytes[at]) {
-        read = read * 10 + u64::from(bytes[at] - b'0');
+        // (The digit in 64 bits, as it is added: a difference of bytes would be widened once more.)
+        let digit = u64::from(bytes[at]) - ZERO;
+        read = read * 10 + digit;
         at += 1;
     }
     (read, at)
 }
 
-/// Returns the decimals from `from` on, if those before are six, which end at `full`.
+/// Returns the decimals from `from` on, if those before are six, which end at `full`, and if a blank or a line end follows. `None`:
+/// unknown.
 #[inline(always)]
-fn tail_from(bytes: &[u8], from: usize, full: usize) -> Tail
+fn tail_from(bytes: &[u8], from: usize, full: usize) -> Option<Tail>
     requires { from < length bytes.now }
-    ensures { IsTail bytes.now from full result }
+    ensures { IfSome result (IsTail bytes.now from full) }
 {
-    if from < full || quick_is_blank(bytes[from]) {
-        return Tail {
+    // (Most have no such decimals, and then no byte is tested twice.)
+    if quick_is_blank(bytes[from]) {
+        return Some(Tail {
             end: from,
             is_inexact: false,
-        };
+        });
+    }
+    if from < full {
+        return None;
     }
     let until = bytes.len().min(from + LONGEST_TAIL);
     let mut zeros = from;
@@ -386,10 +408,13 @@ fn tail_from(bytes: &[u8], from: usize, full: usize) -> Tail
         zeros += 1;
     }
     let end = digits_end(bytes, zeros, until);
-    Tail {
+    if end == bytes.len() || !quick_is_blank(bytes[end]) {
+        return None;
+    }
+    Some(Tail {
         end,
         is_inexact: zeros < end,
-    }
+    })
 }
 
 /// Returns where the digits from `from` on end, or `until` if they continue there.

@@ -1,13 +1,13 @@
 -- A numeral at the front of some bytes, measured.
 -- Nobody has to believe this: only contracts of private functions cite it.
-use Rattle.std.specs.Prelude.{◌≡◌, ℕ, ◌+◌, ◌-◌, ◌<◌, ◌≤◌, false, List, length, take, drop, get_or, slice_index}
+use Rattle.std.specs.Prelude.{◌≡◌, ℕ, ◌+◌, ◌-◌, ◌<◌, ◌≤◌, ◌⊎◌, false, List, length, take, drop, get_or, slice_index}
 use Rattle.std.specs.List.{list_any}
 use Rattle.polcert_text.specs.Steps.Classes.{class_of}
 use Rattle.polcert_text.specs.Cut.{is_glued}
 use Rattle.polcert_text.specs.Numbers.{largest, IsReadable}
 use Rattle.polcert_text.specs.Steps.Scaling.{is_nonzero, ceiling, Measures}
 use Rattle.polcert_text.specs.Steps.ScanOf.{EndsWithin}
-use Rattle.polcert_text.specs.declared.bytes.ByteClass.TheVariants.{Digit}
+use Rattle.polcert_text.specs.declared.bytes.ByteClass.TheVariants.{Digit, Blank, LineEnd}
 use Rattle.polcert_text.specs.declared.front_tokens.FrontSize.{FrontSize}
 use Rattle.polcert_text.specs.declared.front_tokens.Tail.{Tail}
 use Rattle.polcert_text.specs.declared.tokens.TokenKind.TheVariants.{Numeral}
@@ -16,10 +16,11 @@ use Rattle.polcert_text.specs.declared.tokens.TokenKind.TheVariants.{Numeral}
 abbrev pub AreDigitsFrom : List ℕ → ℕ → ℕ → Type 0
 AreDigitsFrom bytes from until = (k : ℕ) → from ≤ k → k < until → class_of (get_or bytes k 0) ≡ Digit
 
--- from here on the bytes are digits up to the end of the tail, which has one that isn't 0 or none
+-- from here on the bytes are digits up to the end of the tail, which has one that isn't 0 or none; a blank or a line end follows
 pub record IsTail (bytes : List ℕ) (from full : ℕ) (tail : Tail) : Type 0 where
   pub low : from ≤ tail.end
-  pub high : tail.end ≤ length bytes
+  pub high : tail.end < length bytes
+  pub blank : (class_of (get_or bytes tail.end 0) ≡ Blank) ⊎ (class_of (get_or bytes tail.end 0) ≡ LineEnd)
   pub none : from < full → tail.end ≡ from
   pub short : tail.end ≤ from + 300
   pub digits : AreDigitsFrom bytes from tail.end

@@ -1,4 +1,6 @@
-use Rattle.std.proofs.Common.{◌≡◌, ◌<◌, ⊎_elim, get_or, refl, arith}
+use Rattle.std.proofs.Common.{◌≡◌, ◌∙◌, ◌-◌, ◌<◌, ⊎_elim, ℕ, List, false, take, drop, get_or, length, refl, ap, arith}
+use Rattle.std.specs.List.{list_any}
+use Rattle.polcert_text.specs.Steps.Scaling.{is_nonzero}
 use Rattle.polcert_text.specs.Steps.Classes.{class_of}
 use Rattle.polcert_text.specs.declared.bytes.ByteClass.TheVariants.{Digit}
 use Rattle.polcert_text.proofs.Numbers.FrontSizes.{zeros_more, tail_inexact}
@@ -11,7 +13,36 @@ unfolding class_of
 digit_at_48 = refl
 
 pub loop-zeros-preserved : goal.loop-zeros-preserved
-loop-zeros-preserved c = grind (arith, ⊎_elim, zeros_more, below_or_at, digit_at_48)
+loop-zeros-preserved c =
+    let bs = c.args.bytes.now in
+    let at = c.loop-zeros.zeros in
+    let zero : get_or bs at 0 ≡ 48 = c.if-bytes-zeros-eq48.true in
+    let inside : at < length bs = omega arith in
+    record {
+      low = omega arith;
+      high = omega arith;
+      digits = λ k low below. ⊎_elim (λ before. c.loop-zeros.invariant.digits k low before) (λ here. ap (λ i. class_of (get_or bs i 0)) here ∙ ap class_of zero ∙ digit_at_48) (below_or_at k at below);
+      none = zeros_more bs c.args.from at c.loop-zeros.invariant.low inside zero c.loop-zeros.invariant.none;
+    }
+
+none_yet : (bs : List ℕ) (from : ℕ) → false ≡ list_any is_nonzero (take (from - from) (drop from bs))
+none_yet bs from =
+    let none : 0 ≡ from - from = omega arith in
+    ap (λ n. list_any is_nonzero (take n (drop from bs))) none
+
+pub returns-then-quick_is_blank : goal.returns-then-quick_is_blank
+returns-then-quick_is_blank c =
+    let bs = c.args.bytes.now in
+    let from = c.args.from in
+    record {
+      low = omega arith;
+      high = omega arith;
+      blank = c.quick_is_blank.ensures c.if-quick_is_blank.true;
+      none = λ _. refl;
+      short = omega arith;
+      digits = λ k low below. absurd (omega (arith, low, below));
+      is_inexact = none_yet bs from;
+    }
 
 pub returns : goal.returns
 returns c =
@@ -28,6 +59,7 @@ returns c =
     record {
       low = omega (arith, was.low, within.0);
       high = omega (arith, within.1);
+      blank = c.quick_is_blank-else-end-bytes.ensures c.if-not-quick_is_blank.false;
       none = λ below. absurd (omega (arith, below, c.if-from-full.false));
       short = omega (arith, within.1);
       digits = λ k low below. ⊎_elim (λ before. was.digits k low before) (λ following. c.digits_end-end.ensures.digits k following below) (at_or_after k zeros);
