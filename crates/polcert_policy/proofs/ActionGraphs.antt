@@ -15,16 +15,13 @@ use Rattle.polcert_policy.proofs.LimitLaws.{vectors_proper}
 
 longer : (a n : ℕ) → range_with_len a (suc n) ≡ range_with_len a n ++ (a + n) ∷ []
 longer a zero = let e : a ≡ a + 0 = omega arith in ap (λ x. x ∷ []) e
-longer a (suc n) =
-    let e : (a + 1) + n ≡ a + suc n = omega arith in
-    ap (λ xs. a ∷ xs) (longer (a + 1) n ∙ ap (λ x. range_with_len (a + 1) n ++ x ∷ []) e)
+longer a (suc n) = grind (arith, longer (a + 1) n)
 
 -- one action more
 pub one_more : (a : ℕ) → range_with_len 0 (a + 1) ≡ range_with_len 0 a ++ a ∷ []
 one_more a =
     let e : a + 1 ≡ suc a = omega arith in
-    let z : 0 + a ≡ a = omega arith in
-    rw e (longer 0 a ∙ ap (λ x. range_with_len 0 a ++ x ∷ []) z)
+    rw e (longer 0 a ∙ ap (λ x. range_with_len 0 a ++ x ∷ []) (omega arith))
 
 pub node_count : (actions : ℕ) → nodes (action_graph actions) ≡ actions
 node_count actions = length-range_with_len 0 actions
@@ -40,23 +37,10 @@ no_successor actions k m e =
     let within : k < length (none_of actions) = within_get (none_of actions) k (Some m) e in
     let size : length (none_of actions) ≡ actions = length-replicate actions None in
     let is : get_or (none_of actions) k None ≡ Some m = get_or_from_slice_get (none_of actions) k (Some m) None e in
-    let none : get_or (none_of actions) k None ≡ None = get_or-replicate actions k None None (omega arith) in
-    absurd (cc)
+    grind (arith, get_or-replicate)
 
 pub action_graph_proper : (actions : ℕ) → 1 ≤ actions → actions ≤ most_actions → IsProperGraph (action_graph actions)
-action_graph_proper actions some few = record {
-  some_actions = some;
-  few_actions = few;
-  some_observations = omega arith;
-  few_observations = omega arith;
-  some_nodes = omega (arith, some, node_count actions);
-  few_nodes = omega (arith, few, node_count actions);
-  filled = let size : length (none_of actions) ≡ actions = length-replicate actions None in omega (arith, node_count actions);
-  known = λ n l.
-      let inside : n < actions = omega (arith, l, node_count actions) in
-      omega (arith, inside, takes_its_action actions n inside);
-  bound = no_successor actions;
-}
+action_graph_proper actions some few = grind (arith, length-replicate, node_count, takes_its_action, no_successor)
 
 -- ---- the vectors that a text denotes
 pub action_counts : (actions states : ℕ) (text : List ℕ) (v : PolicyVectors) → IsActionVectorsText actions states text v → (v.nodes ≡ actions) × (v.states ≡ states)

@@ -1,10 +1,9 @@
 -- Tokens that spell an action, and the value 0.
-use Rattle.std.proofs.Common.{◌≡◌, ◌∙◌, ℕ, ◌+◌, ◌*◌, ◌^◌, ◌<◌, ◌≤◌, ◌<◌, Bool, true, false, ◌&&◌, Some, None, List, [], ◌∷◌, length, decimal, pos, refl, ap, subst, arith}
-use Rattle.std.specs.List.{list_all}
+use Rattle.std.proofs.Common.{◌≡◌, ◌∙◌, ℕ, ◌+◌, ◌*◌, ◌^◌, ◌<◌, ◌≤◌, ◌<◌, Bool, true, false, Some, None, List, [], ◌∷◌, decimal, pos, refl, ap, arith}
 use Rattle.std.proofs.lemmas.Fmt.{decimal_is_IsNumeral, decimal_nonempty}
 use Rattle.polcert_text.specs.Bytes.{is_digit, is_point, is_exponent_mark}
-use Rattle.polcert_text.specs.Lexemes.{is_numeral, are_digits}
-use Rattle.polcert_text.specs.Numbers.{number_of, exponent_size, power_of, size_of, millionth, largest, IsRounded}
+use Rattle.polcert_text.specs.Lexemes.{is_numeral}
+use Rattle.polcert_text.specs.Numbers.{number_of, exponent_size, power_of, size_of, IsRounded}
 use Rattle.polcert_text.specs.Steps.Scaling.{Measures}
 use Rattle.polcert_text.proofs.Numbers.FrontNumbers.{some_digits}
 use Rattle.polcert_text.proofs.Numbers.SignedLaws.{rounded_whole}
@@ -12,7 +11,7 @@ use Rattle.polcert_text.proofs.Numbers.SizeLaws.{millionth_pos}
 use Rattle.polcert_text.proofs.Printing.PrintLaws.{decimal_digits}
 use Rattle.polcert_text.specs.Cut.{Lexeme}
 use Rattle.polcert_text.specs.declared.tokens.TokenKind.TheVariants.{Numeral}
-use Rattle.polcert_policy.specs.Vectors.{Part, sign_kind, is_negative, IsActionPart, IsValuePart}
+use Rattle.polcert_policy.specs.Vectors.{Part, sign_kind, IsActionPart, IsValuePart}
 use Rattle.polcert_text.specs.declared.number.Rounding.{Rounding}
 
 abbrev pub zero_bytes : List ℕ
@@ -47,13 +46,7 @@ zero_sum : (size d : ℕ) → size ≡ 0 → size ≡ 0 * d + 0
 zero_sum size d e = omega (arith, e)
 
 measured : Measures zero_bytes 0 false
-measured = record {
-  part = 0;
-  size = zero_sum (size_of zero_bytes) millionth size_zero;
-  below = millionth_pos;
-  exact = λ e. refl;
-  inexact = λ e. absurd (cc);
-}
+measured = grind (arith, millionth_pos, size_zero, zero_sum)
 
 abbrev pub zero_part : Part
 zero_part = part_of zero_bytes
@@ -70,8 +63,7 @@ abbrev pub signed_zero : Lexeme → Part
 signed_zero s = let t : Lexeme = record { kind = Numeral; place = 0; bytes = zero_bytes } in record { sign = Some s; token = t }
 
 zero_rounded : (way : Rounding) (b : Bool) → IsRounded way b zero_bytes (pos 0)
-zero_rounded way true = rounded_whole way true zero_bytes 0 measured
-zero_rounded way false = rounded_whole way false zero_bytes 0 measured
+zero_rounded way b = grind (arith, rounded_whole, measured)
 
 same_some : (s u : Lexeme) → Some s ≡ Some u → s ≡ u
 same_some s u e = cc
@@ -79,21 +71,8 @@ same_some s u e = cc
 module _ {way : Rounding} where
   -- the numeral `0` is the value 0
   pub zero_value : IsValuePart way zero_part (pos 0)
-  zero_value = record {
-    part = record { numeral = refl; signed = λ s e. absurd (cc) };
-    readable = record {
-      numeral = numeral_zero;
-      short = omega arith;
-      exponent = omega (arith, exponent_zero);
-      size = within_largest (size_of zero_bytes) (largest * millionth) size_zero;
-    };
-    rounded = zero_rounded way false;
-  }
+  zero_value = grind (arith, exponent_zero, numeral_zero, size_zero, within_largest, zero_rounded)
 
   -- so is `0` after a sign
   pub signed_zero_value : (s : Lexeme) → sign_kind s.kind ≡ true → IsValuePart way (signed_zero s) (pos 0)
-  signed_zero_value s sign = record {
-    part = record { numeral = refl; signed = λ u e. subst (λ x. sign_kind x.kind ≡ true) (same_some s u e) sign };
-    readable = zero_value.readable;
-    rounded = zero_rounded way (is_negative (Some s));
-  }
+  signed_zero_value s sign = grind (arith, zero_rounded, same_some, zero_value)

@@ -1,7 +1,6 @@
 -- The tokens of a graph, field after field, and the same by the index of each token.
-use Rattle.std.proofs.Common.{◌≡◌, ◌∙◌, ℕ, suc, zero, ◌+◌, ◌*◌, ◌<◌, ◌==◌, Bool, true, false, ◌&&◌, Option, Some, None, IfSome, List, [], ◌∷◌, length, map, codes, slice_get, get_or, refl, sym, ap, subst, arith}
+use Rattle.std.proofs.Common.{◌≡◌, ◌∙◌, ℕ, suc, zero, ◌+◌, ◌*◌, ◌<◌, ◌==◌, Bool, true, false, ◌&&◌, Option, Some, None, IfSome, List, [], length, map, codes, slice_get, get_or, refl, sym, ap, subst, arith}
 use Rattle.std.specs.List.{range_with_len}
-use Rattle.std.proofs.lemmas.Bool.{and_parts, eqb-true}
 use Rattle.std.proofs.lemmas.Bool.Decides.{nat_tests}
 use Rattle.std.proofs.lemmas.List.FromFn.{length-map-range_with_len, get_or-map-range_with_len}
 use Rattle.std.proofs.lemmas.Option.{get_or_from_slice_get, slice_get-get_or}
@@ -13,7 +12,7 @@ use Rattle.polcert_text.proofs.Scanning.CleanCut.{clean_cut, clean_tokens}
 use Rattle.polcert_cells.specs.Numbers.{IsWhole}
 use Rattle.polcert_policy.specs.Fields.{numeral_kind, minus_kind, is_whole, whole_of, is_x, is_successor, is_successor_of, successor_of, number_at, is_joined}
 use Rattle.polcert_policy.specs.Graphs as graphs
-use Rattle.polcert_policy.specs.Graphs.{PolicyGraph, nodes, action_of, next_of, fields_of, IsField, AreGraphTokens, width, IsAction, IsSuccessor, AreNodes, IsLooseGraph, HasNodesOnly, IsGraph}
+use Rattle.polcert_policy.specs.Graphs.{PolicyGraph, nodes, action_of, next_of, fields_of, IsField, AreGraphTokens, width, IsLooseGraph, HasNodesOnly, IsGraph}
 use Rattle.polcert_policy.specs.GraphText.{IsGraphText}
 use Rattle.polcert_policy.proofs.Places.{row_of, row_below, row_above, some_columns, place_inside, within_get, same_some}
 use Rattle.polcert_policy.proofs.FlatRows.{row_long, row_at, rows_zip}
@@ -21,8 +20,7 @@ use Rattle.polcert_policy.proofs.FlatRows.{row_long, row_at, rows_zip}
 -- ---- one token
 
 whole_parts : (k : TokenKind) (b : Bool) → (numeral_kind k && b) ≡ true → (k ≡ Numeral) × (b ≡ true)
-whole_parts Numeral b e = (refl, e)
-whole_parts _ b e = cc
+whole_parts k b h1 = grind arith
 
 pub whole_is : (t : Lexeme) (n : ℕ) → is_whole t ≡ true → whole_of t ≡ n → IsWhole t n
 whole_is t n whole value = let parts = whole_parts t.kind (are_digits t.bytes) whole in record { kind = parts.0; digits = parts.1; value = value }
@@ -31,9 +29,7 @@ pub is_whole_of : (t : Lexeme) (n : ℕ) → IsWhole t n → is_whole t ≡ true
 is_whole_of t n is = simp (is.kind, is.digits)
 
 x_bytes : (bs : List ℕ) → is_x bs ≡ true → bs ≡ codes "X"
-x_bytes [] e = cc
-x_bytes (b ∷ []) e = let same = eqb-true b 88 (and_parts (b == 88) true e).0 in λ i. same i ∷ []
-x_bytes (b ∷ c ∷ bs) e = let wrong = (and_parts (b == 88) false e).1 in cc
+x_bytes bs h1 = grind arith
 
 successor_field : (t : Lexeme) → is_successor t ≡ true → IsField t (successor_of t)
 successor_field t right = at t.kind refl right
@@ -45,21 +41,16 @@ successor_field t right = at t.kind refl right
     at _ e is = cc
 
 field_successor : (t : Lexeme) (f : Option ℕ) → IsField t f → (is_successor t ≡ true) × (successor_of t ≡ f)
-field_successor t (Some n) (graphs.number is) = (simp (is.kind, is.digits), simp (is.kind, is.value))
-field_successor t None (graphs.x is) = (simp (is.kind, is.bytes), simp is.kind)
-field_successor t None (graphs.dash is) = (simp is, simp is)
+field_successor t f h1 = grind arith
 
 field_whole : (t : Lexeme) (n : ℕ) → IsField t (Some n) → IsWhole t n
 field_whole t n (graphs.number is) = is
 
 joined_parts : (j k : TokenKind) (b : Bool) → (j ≡ Minus → k ≡ Numeral → b ≡ false) → (minus_kind j && (numeral_kind k && b)) ≡ false
-joined_parts Minus Numeral b apart = apart refl refl
-joined_parts Minus _ b apart = refl
-joined_parts _ k b apart = refl
+joined_parts j k b h1 = grind arith
 
 if_some : {c : ℕ} (f : Option ℕ) → ((m : ℕ) → f ≡ Some m → m < c) → IfSome f (λ m. m < c)
-if_some None h = tt
-if_some (Some m) h = h m refl
+if_some f h1 = grind arith
 
 -- ---- the fields of a node
 
@@ -118,10 +109,7 @@ module _ (a o : ℕ) (ts : List Lexeme) (g : PolicyGraph) where
     }
 
     pub bound_from : HasNodesOnly g
-    bound_from n z l k m e =
-        let inside = place_inside g.observations n z (nodes g) l k in
-        let known = are.successors_known (n * g.observations + z) None (omega (arith, inside, are.filled, ap (λ w. nodes g * w) are.observations_are)) in
-        subst (λ f. IfSome f (λ m. m < nodes g)) e known
+    bound_from n z l k m e = grind arith
 
   pub graph_from : AreGraphTokens a o ts g → IsGraph a o ts g
   graph_from are = record { loose = loose_from are; bound = bound_from are }

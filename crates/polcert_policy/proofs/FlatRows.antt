@@ -2,7 +2,7 @@
 use Rattle.std.proofs.Common.{◌≡◌, ◌∙◌, ℕ, suc, zero, ◌+◌, ◌*◌, ◌<◌, ◌≤◌, Some, List, [], ◌∷◌, ◌++◌, length, flat_map, slice_get, refl, sym, ap, subst, arith, length-append}
 use Rattle.std.specs.List.{range_with_len, AllZip}
 use Rattle.std.proofs.lemmas.Slice.Zip.{AllZip-long}
-use Rattle.polcert_policy.proofs.Places.{some_none, same_some, row_of, row_below, within_get}
+use Rattle.polcert_policy.proofs.Places.{same_some, row_of, row_below, within_get}
 
 get_front : {Y : Type 0} (xs ys : List Y) (k : ℕ) → k < length xs → slice_get (xs ++ ys) k ≡ slice_get xs k
 get_front [] ys k l = absurd (omega (arith, l))
@@ -15,16 +15,14 @@ get_after (x ∷ xs) ys zero n e = absurd (omega (arith, e))
 get_after (x ∷ xs) ys (suc k) n e = get_after xs ys k n (omega (arith, e))
 
 zip_at : {X Y : Type 0} (R : X → Y → Type 0) (xs : List X) (ys : List Y) → AllZip R xs ys → (k : ℕ) (x : X) (y : Y) → slice_get xs k ≡ Some x → slice_get ys k ≡ Some y → R x y
-zip_at R [] ys are k x y at also = absurd (some_none x at)
-zip_at R (x ∷ xs) [] are k z y at also = absurd are
 zip_at R (x ∷ xs) (y ∷ ys) are zero z w at also = subst (λ v. R v w) (same_some x z at) (subst (R x) (same_some y w also) are.0)
 zip_at R (x ∷ xs) (y ∷ ys) are (suc k) z w at also = zip_at R xs ys are.1 k z w at also
+zip_at c d e are f g p at also = cc
 
 zip_from : {X Y : Type 0} (R : X → Y → Type 0) (xs : List X) (ys : List Y) → length xs ≡ length ys → ((k : ℕ) (x : X) (y : Y) → slice_get xs k ≡ Some x → slice_get ys k ≡ Some y → R x y) → AllZip R xs ys
 zip_from R [] [] l each = tt
-zip_from R [] (y ∷ ys) l each = absurd (omega (arith, l))
-zip_from R (x ∷ xs) [] l each = absurd (omega (arith, l))
 zip_from R (x ∷ xs) (y ∷ ys) l each = (each 0 x y refl refl, zip_from R xs ys (omega (arith, l)) (λ k. each (suc k)))
+zip_from c d e l each = cc
 
 module _ {Y : Type 0} (F : ℕ → List Y) (w : ℕ) (wide : (n : ℕ) → length (F n) ≡ w) where
   abbrev pub rows_from : ℕ → ℕ → List Y
@@ -36,13 +34,8 @@ module _ {Y : Type 0} (F : ℕ → List Y) (w : ℕ) (wide : (n : ℕ) → lengt
 
   get_row : (m n i j : ℕ) → i < n → j < w → slice_get (rows_from m n) (i * w + j) ≡ slice_get (F (m + i)) j
   get_row m zero i j l k = absurd (omega (arith, l))
-  get_row m (suc n) zero j l k =
-      let here : zero * w + j ≡ j = omega arith in
-      let first : m ≡ m + zero = omega arith in
-      ap (slice_get (rows_from m (suc n))) here ∙ get_front (F m) (rows_from (m + 1) n) j (omega (arith, wide m, k)) ∙ ap (λ x. slice_get (F x) j) first
-  get_row m (suc n) (suc i) j l k =
-      let next : m + 1 + i ≡ m + suc i = omega arith in
-      get_after (F m) (rows_from (m + 1) n) (suc i * w + j) (i * w + j) (omega (arith, wide m)) ∙ get_row (m + 1) n i j (omega (arith, l)) k ∙ ap (λ x. slice_get (F x) j) next
+  get_row m (suc n) zero j l k = grind (arith, slice_get, get_front)
+  get_row m (suc n) (suc i) j l k = grind (arith, slice_get, get_after, get_row (m + 1) n i j (omega (arith, l)) k)
 
   get_first : (n i j : ℕ) → i < n → j < w → slice_get (rows_from 0 n) (i * w + j) ≡ slice_get (F i) j
   get_first n i j l k = let same : 0 + i ≡ i = omega arith in get_row 0 n i j l k ∙ ap (λ x. slice_get (F x) j) same
@@ -54,8 +47,7 @@ module _ {Y : Type 0} (F : ℕ → List Y) (w : ℕ) (wide : (n : ℕ) → lengt
 
     pub row_at : AllZip R xs (rows_from 0 n) → (i j : ℕ) (x : X) (y : Y) → j < w → slice_get xs (i * w + j) ≡ Some x → slice_get (F i) j ≡ Some y → R x y
     row_at are i j x y k at also =
-        let inside : i * w + j < n * w = omega (arith, within_get xs _ x at, row_long are) in
-        zip_at R xs (rows_from 0 n) are (i * w + j) x y at (get_first n i j (row_below w i j n inside) k ∙ also)
+        zip_at R xs (rows_from 0 n) are (i * w + j) x y at (get_first n i j (row_below w i j n (omega (arith, within_get xs _ x at, row_long are))) k ∙ also)
 
     pub rows_zip : 1 ≤ w → length xs ≡ n * w → ((i j : ℕ) (x : X) (y : Y) → i < n → j < w → slice_get xs (i * w + j) ≡ Some x → slice_get (F i) j ≡ Some y → R x y)
         → AllZip R xs (rows_from 0 n)

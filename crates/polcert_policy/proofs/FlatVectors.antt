@@ -13,20 +13,17 @@ use Rattle.polcert_cells.specs.Numbers.{IsNumeral}
 use Rattle.polcert_policy.specs.Fields.{numeral_kind}
 use Rattle.polcert_policy.specs.Graphs.{PolicyGraph, nodes, action_of}
 use Rattle.polcert_policy.specs.Vectors as vectors
-use Rattle.polcert_policy.specs.Vectors.{PolicyVectors, value_of, sign_kind, Part, with_sign, tokens_of, IsActionPart, IsValuePart, AreVectors, IsRoundedVectors, AreFields, vector_fields, AreVectorTokens}
+use Rattle.polcert_policy.specs.Vectors.{PolicyVectors, value_of, sign_kind, Part, with_sign, tokens_of, IsActionPart, IsValuePart, IsRoundedVectors, AreFields, vector_fields, AreVectorTokens}
 use Rattle.polcert_policy.specs.VectorText.{IsRoundedVectorsText}
 use Rattle.polcert_policy.proofs.Places.{row_below, place_inside, within_get, same_some}
 use Rattle.polcert_policy.proofs.FlatRows.{row_long, row_at, rows_zip}
 use Rattle.polcert_policy.proofs.FlatGraphs.{whole_is, is_whole_of}
 
 is_numeral : (k : TokenKind) → numeral_kind k ≡ true → k ≡ Numeral
-is_numeral Numeral e = refl
-is_numeral _ e = cc
+is_numeral k h1 = grind arith
 
 is_sign : (k : TokenKind) → sign_kind k ≡ true → (k ≡ Plus) ⊎ (k ≡ Minus)
-is_sign Plus e = inl refl
-is_sign Minus e = inr refl
-is_sign _ e = cc
+is_sign k h1 = grind arith
 
 abbrev part : Option Lexeme → Lexeme → Part
 part sign t = record { sign = sign; token = t }
@@ -56,27 +53,18 @@ module _ (way : Rounding) where
 
   spelled_fields : (ps : List Part) (fs : List (ℕ ⊎ ℤ)) → AllZip PartIs ps fs → AreFields way (tokens_of ps) fs
   spelled_fields [] [] are = vectors.none
-  spelled_fields [] (f ∷ fs) are = absurd are
-  spelled_fields (p ∷ ps) [] are = absurd are
   spelled_fields (p ∷ ps) (inl a ∷ fs) are = action_first p.sign p.token a (tokens_of ps) fs are.0 (spelled_fields ps fs are.1)
   spelled_fields (p ∷ ps) (inr h ∷ fs) are = value_first p.sign p.token h (tokens_of ps) fs are.0 (spelled_fields ps fs are.1)
+  spelled_fields c d are = grind arith
 
   plain_value : (t : Lexeme) (h : ℤ) → IsNumeral (IsRounded way) false t h → IsValuePart way (part None t) h
   plain_value t h is = record { part = record { numeral = ap numeral_kind is.kind; signed = λ s e. cc }; readable = is.readable; rounded = is.value }
 
   plus_value : (s t : Lexeme) (h : ℤ) → s.kind ≡ Plus → IsNumeral (IsRounded way) false t h → IsValuePart way (part (Some s) t) h
-  plus_value s t h e is = record {
-    part = record { numeral = ap numeral_kind is.kind; signed = λ u same. ap (λ (l : Lexeme). sign_kind l.kind) (sym (same_some s u same)) ∙ ap sign_kind e };
-    readable = is.readable;
-    rounded = simp e is.value;
-  }
+  plus_value s t h e is = grind arith
 
   minus_value : (s t : Lexeme) (h : ℤ) → s.kind ≡ Minus → IsNumeral (IsRounded way) true t h → IsValuePart way (part (Some s) t) h
-  minus_value s t h e is = record {
-    part = record { numeral = ap numeral_kind is.kind; signed = λ u same. ap (λ (l : Lexeme). sign_kind l.kind) (sym (same_some s u same)) ∙ ap sign_kind e };
-    readable = is.readable;
-    rounded = simp e is.value;
-  }
+  minus_value s t h e is = grind arith
 
   parts_of : (ts : List Lexeme) (fs : List (ℕ ⊎ ℤ)) → AreFields way ts fs → (ps : List Part) × (ts ≡ tokens_of ps) × AllZip PartIs ps fs
   parts_of [] [] vectors.none = ([], refl, tt)

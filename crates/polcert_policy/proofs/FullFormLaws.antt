@@ -22,7 +22,7 @@ use Rattle.polcert_policy.specs.VectorText.{IsRoundedVectorsText}
 use Rattle.polcert_policy.specs.Steps.VectorsRead.{AreVectorsUpTo}
 use Rattle.polcert_policy.specs.FullForm.{after_value, values_text, action_text, vectors_text_up_to, vectors_text}
 use Rattle.polcert_policy.proofs.FlatVectors as flat_vectors
-use Rattle.polcert_policy.proofs.Places.{some_none, same_some, row_above}
+use Rattle.polcert_policy.proofs.Places.{some_none, same_some}
 use Rattle.polcert_policy.proofs.Fillers.{action_spelled}
 use Rattle.polcert_policy.proofs.GraphLaws.{IsAfter}
 use Rattle.polcert_policy.proofs.VectorSteps.{no_vectors, step_vector_action, step_value}
@@ -44,17 +44,10 @@ abbrev number_printed : ℤ → List ℕ → Printed
 number_printed h following = record { negative = is_below_zero h; numeral = size_text h; following = following }
 
 text-number : (h : ℤ) (following : List ℕ) → printed_text (number_printed h following) ≡ scaled_text h ++ following
-text-number (pos n) following = refl
-text-number (negsuc n) following = refl
+text-number h following = grind arith
 
 measures_written : (n : ℕ) → n ≤ largest → Measures (unsigned_text n) n false
-measures_written n l = record {
-  part = 0;
-  size = omega (arith, size_written n l);
-  below = millionth_pos;
-  exact = λ e. refl;
-  inexact = λ e. absurd (cc);
-}
+measures_written n l = grind (arith, millionth_pos, size_written)
 
 positive_size : (n : ℕ) → IsInRange (pos n) → n ≤ largest
 positive_size n r = omega (arith, ints, r.1)
@@ -103,12 +96,10 @@ unfolding is_blank
 line_ends_blank = refl
 
 after_either : (b : Bool) → After (cond b (codes "\n\n") (codes " "))
-after_either true = record { blank = line_ends_blank; first = 10; more = 10 ∷ []; is = refl; few = omega arith }
-after_either false = record { blank = blank_blank; first = 32; more = []; is = refl; few = omega arith }
+after_either b = grind (arith, blank_blank, line_ends_blank)
 
 plain_value : (h : ℤ) → IsInRange h → IsPlain (size_text h)
-plain_value (pos n) r = plain_size n (positive_size n r)
-plain_value (negsuc n) r = plain_size (suc n) (negative_size n r)
+plain_value h h1 = grind (arith, plain_size, positive_size, negative_size)
 
 value_is_printed : (h : ℤ) (o s : ℕ) → IsInRange h → IsPrinted (number_printed h (after_value o s))
 value_is_printed h o s r =
@@ -119,14 +110,7 @@ abbrev action_printed : PolicyGraph → ℕ → Printed
 action_printed g n = record { negative = false; numeral = decimal (action_of g n); following = codes "\n" }
 
 action_is_printed : (g : PolicyGraph) (n : ℕ) → action_of g n < 1_001 → IsPrinted (action_printed g n)
-action_is_printed g n l = record {
-  plain = plain_decimal (action_of g n) (omega (arith, l));
-  blank = line_end_blank;
-  first = 10;
-  more = [];
-  after_is = refl;
-  few = omega arith;
-}
+action_is_printed g n l = grind (arith, plain_decimal, line_end_blank)
 
 abbrev value_printed : PolicyVectors → ℕ → ℕ → Printed
 value_printed v n s = number_printed (value_of v n s) (after_value v.states s)
@@ -160,9 +144,7 @@ text-all g v (suc n) =
 
 parts-append : (place : ℕ) (us ws : List Printed) → parts_from place (us ++ ws) ≡ parts_from place us ++ parts_from (place + length (texts_of us)) ws
 parts-append place [] ws = ap (λ p. parts_from p ws) (omega arith)
-parts-append place (u ∷ us) ws =
-    ap (λ ps. part_with place u.negative u.numeral ∷ ps) (parts-append (place + length (printed_text u)) us ws
-    ∙ ap (λ p. parts_from (place + length (printed_text u)) us ++ parts_from p ws) (omega (arith, length-append (printed_text u) (texts_of us))))
+parts-append place (u ∷ us) ws = grind (arith, length-append, printed_text, texts_of, part_with, parts_from, parts-append (place + length (printed_text u)) us ws)
 
 all-append : (us ws : List Printed) → AllPrinted us → AllPrinted ws → AllPrinted (us ++ ws)
 all-append [] ws a b = b
@@ -170,36 +152,25 @@ all-append (u ∷ us) ws a b = (a.0, all-append us ws a.1 b)
 
 text_short : (us : List Printed) → AllPrinted us → length (texts_of us) ≤ 33 * length us
 text_short [] a = omega arith
-text_short (u ∷ us) a =
-    let more = text_short us a.1 in
-    let one = signed_short u.negative u.numeral u.following a.0.plain.short a.0.few in
-    omega (arith, more, one, length-append (printed_text u) (texts_of us))
-  where
-    signed_short : (b : Bool) (w bs : List ℕ) → length w ≤ 30 → length bs ≤ 2 → length (printed_text (record { negative = b; numeral = w; following = bs })) ≤ 33
-    signed_short true w bs l m = omega (arith, l, m, length-append (45 ∷ w) bs)
-    signed_short false w bs l m = omega (arith, l, m, length-append w bs)
+text_short (u ∷ us) a = grind (arith, length-append, printed_text, texts_of, text_short us a.1)
 
 module _ (g : PolicyGraph) (v : PolicyVectors) (proper_g : IsProperGraph g) (proper_v : AreProperVectors v) (same : v.nodes ≡ nodes g) where
   in_place : (n s : ℕ) → n < nodes g → s < v.states → n * v.states + s < length v.values
-  in_place n s l k =
-      let above = row_above v.states n (nodes g) l in
-      omega (arith, above, k, proper_v.filled, ap (λ c. c * v.states) same)
+  in_place n s l k = grind arith
 
   value_fits : (n s : ℕ) → n < nodes g → s < v.states → IsInRange (value_of v n s)
   value_fits n s l k = proper_v.in_range (n * v.states + s) (value_of v n s) (slice_get-get_or v.values (n * v.states + s) (pos 0) (in_place n s l k))
 
   values_are_printed : (n s : ℕ) → n < nodes g → s ≤ v.states → AllPrinted (values_printed v n s)
   values_are_printed n zero l k = tt
-  values_are_printed n (suc s) l k =
-      all-append (values_printed v n s) (value_printed v n s ∷ []) (values_are_printed n s l (omega (arith, k))) (value_is_printed (value_of v n s) v.states s (value_fits n s l (omega (arith, k))), tt)
+  values_are_printed n (suc s) l k = grind (arith, value_is_printed, all-append, value_fits, values_are_printed n s l (omega (arith, k)))
 
   known_action : (n : ℕ) → n < nodes g → action_of g n < 1_001
   known_action n l = omega (arith, proper_g.known n l, proper_g.few_actions)
 
   all_are_printed : (n : ℕ) → n ≤ nodes g → AllPrinted (all_printed g v n)
   all_are_printed zero l = tt
-  all_are_printed (suc n) l =
-      all-append (all_printed g v n) (vector_printed g v n) (all_are_printed n (omega (arith, l))) (action_is_printed g n (known_action n (omega (arith, l))), values_are_printed n v.states (omega (arith, l)) (omega arith))
+  all_are_printed (suc n) l = grind (arith, action_is_printed, all-append, values_are_printed, known_action, all_are_printed n (omega (arith, l)))
 
   length-values : (n s : ℕ) → length (values_printed v n s) ≡ s
   length-values n zero = refl
@@ -222,11 +193,7 @@ module _ (g : PolicyGraph) (v : PolicyVectors) (proper_g : IsProperGraph g) (pro
   UpTo way ps n c vs = AreVectorsUpTo way g v.states ps n c vs
 
   short_text : length (texts_of (all_printed g v (nodes g))) ≤ text_limit
-  short_text =
-      let bound = text_short (all_printed g v (nodes g)) (all_are_printed (nodes g) (omega arith)) in
-      let count = length-all (nodes g) in
-      let most : nodes g * (1 + v.states) ≤ 10_000 * (1 + v.states) = mul-le-mul_right (1 + v.states) proper_g.few_nodes in
-      omega (arith, bound, count, most, proper_v.few_states)
+  short_text = grind (arith, mul-le-mul_right, texts_of, text_short, all_are_printed, length-all)
 
   module _ (way : Rounding) where
     -- one value more
@@ -258,35 +225,21 @@ module _ (g : PolicyGraph) (v : PolicyVectors) (proper_g : IsProperGraph g) (pro
         subst₂ (λ c m. UpTo way (ps ++ parts_from place (action_printed g n ∷ values_printed v n c)) (suc n) 0 (take m v.values)) last (omega (arith, last)) read
 
     all_rows : (n : ℕ) → n ≤ nodes g → UpTo way (parts_from 0 (all_printed g v n)) n 0 (take (n * v.states) v.values)
-    all_rows zero l =
-        let none : 0 ≡ 0 * v.states = omega arith in
-        subst (λ m. UpTo way [] 0 0 (take m v.values)) none (no_vectors g v.states)
+    all_rows zero l = grind (arith, no_vectors)
     all_rows (suc n) l =
-        let few : n < nodes g = omega (arith, l) in
         subst (λ qs. UpTo way qs (suc n) 0 (take (suc n * v.states) v.values)) (sym (parts-append 0 (all_printed g v n) (vector_printed g v n)))
-        (whole_row (parts_from 0 (all_printed g v n)) n (0 + length (texts_of (all_printed g v n))) few (all_rows n (omega (arith, l))))
+        (whole_row (parts_from 0 (all_printed g v n)) n (0 + length (texts_of (all_printed g v n))) (omega (arith, l)) (all_rows n (omega (arith, l))))
 
     tokens_read_back : IsRoundedVectors way g v.states (tokens_of (parts_from 0 (all_printed g v (nodes g)))) v
     tokens_read_back =
         let at = all_rows (nodes g) (omega arith) in
-        let filled : length v.values ≡ nodes g * v.states = proper_v.filled ∙ ap (λ c. c * v.states) same in
-        let whole : take (nodes g * v.states) v.values ≡ v.values = take_all (nodes g * v.states) v.values (omega (arith, filled)) in
-        record {
-          nodes_are = same;
-          states_are = refl;
-          parts = parts_from 0 (all_printed g v (nodes g));
-          spelled = refl;
-          count = at.count ∙ omega arith;
-          filled = filled;
-          records = (subst (λ vs. UpTo way (parts_from 0 (all_printed g v (nodes g))) (nodes g) 0 vs) whole at).records;
-        }
+        grind (arith, take_all, parts_from)
 
     -- the full form reads back
     pub reads_back : IsRoundedVectorsText way g v.states (vectors_text g v) v
     reads_back =
         let us = all_printed g v (nodes g) in
         let cut = cut_printed us 0 [] (all_are_printed (nodes g) (omega arith)) refl in
-        let below = le-ltb text_limit (length (texts_of us)) short_text in
-        let whole : text_rest (texts_of us) text_limit ≡ rest_at 0 (texts_of us) = simp below in
+        let whole : text_rest (texts_of us) text_limit ≡ rest_at 0 (texts_of us) = simp (le-ltb text_limit (length (texts_of us)) short_text) in
         subst (λ text. IsRoundedVectorsText way g v.states text v) (text-all g v (nodes g))
         (flat_vectors.vectors_text way g v.states (texts_of us) v (tokens_of (parts_from 0 us)) (subst (λ r. IsCut r (tokens_of (parts_from 0 us)) None) (sym whole) cut) tokens_read_back)

@@ -1,5 +1,5 @@
 -- How the tokens of a graph are read on, and what can't follow.
-use Rattle.std.proofs.Common.{◌≡◌, ◌∙◌, ℕ, suc, zero, ◌+◌, ◌-◌, ◌*◌, ◌<◌, ◌≤◌, ◌==◌, Bool, true, false, ◌&&◌, ◌⊎◌, inl, inr, ⊎_elim, Option, Some, List, [], ◌∷◌, ◌++◌, length, slice_get, refl, sym, ap, subst, arith, length-append, append_assoc, append-nil, lit<}
+use Rattle.std.proofs.Common.{◌≡◌, ◌∙◌, ℕ, suc, zero, ◌+◌, ◌-◌, ◌*◌, ◌<◌, ◌≤◌, ◌==◌, Bool, true, false, ◌&&◌, ◌⊎◌, ⊎_elim, Option, Some, List, [], ◌∷◌, ◌++◌, length, slice_get, refl, sym, ap, subst, arith, length-append, append_assoc, append-nil, lit<}
 use Rattle.std.proofs.Math.Path.{subst₂}
 use Rattle.polcert_text.specs.Bytes.{is_digit}
 use Rattle.polcert_text.specs.Cut.{Lexeme}
@@ -21,8 +21,7 @@ abbrev pub Keeps : {X : Type 0} → List X → List X → Type 0
 Keeps {X} xs ys = (k : ℕ) (x : X) → slice_get xs k ≡ Some x → slice_get ys k ≡ Some x
 
 before_get : (ts : List Lexeme) (t s : Lexeme) (k : ℕ) → slice_get (ts ++ t ∷ []) k ≡ Some s → k < length ts → slice_get ts k ≡ Some s
-before_get ts t s k e l =
-    ⊎_elim (λ h. h) (λ r. absurd (omega (arith, r.0, l))) (get_snoc ts t s k e)
+before_get ts t s k e l = grind (arith, ⊎_elim, slice_get, get_snoc)
 
 -- one more token keeps the records
 more_nodes : (a o : ℕ) (ts : List Lexeme) (t : Lexeme) (cs ds : List ℕ) (ss us : List (Option ℕ)) (node column : ℕ)
@@ -118,50 +117,27 @@ pub record IsAfter (first o node z n c : ℕ) : Type 0 where
 step_within : (a o : ℕ) (ts : List Lexeme) (t : Lexeme) (node z : ℕ) (cs : List ℕ) (ss : List (Option ℕ))
     → suc z < o → AreNodesUpTo a o ts node (2 + z) cs ss → AreNodes a o (ts ++ t ∷ []) cs (ss ++ successor_of t ∷ [])
     → AreNodesUpTo a o (ts ++ t ∷ []) node (3 + z) cs (ss ++ successor_of t ∷ [])
-step_within a o ts t node z cs ss l old new =
-    record {
-      records = new;
-      count = omega (arith, length_snoc ts t, old.count);
-      within = omega (arith, l);
-      chosen_before = λ l. absurd (omega (arith, l));
-      chosen_after = λ l. old.chosen_after (omega arith);
-      filled = omega (arith, length_snoc ss (successor_of t), old.filled);
-      few = old.few;
-      few_begun = λ l. old.few_begun (omega arith);
-    }
+step_within a o ts t node z cs ss l old new = grind (arith, length_snoc)
 
 step_last : (a o : ℕ) (ts : List Lexeme) (t : Lexeme) (node z : ℕ) (cs : List ℕ) (ss : List (Option ℕ))
     → suc z ≡ o → AreNodesUpTo a o ts node (2 + z) cs ss → AreNodes a o (ts ++ t ∷ []) cs (ss ++ successor_of t ∷ [])
     → AreNodesUpTo a o (ts ++ t ∷ []) (suc node) 0 cs (ss ++ successor_of t ∷ [])
-step_last a o ts t node z cs ss e old new =
-    let few = old.few_begun (omega arith) in
-    record {
-      records = new;
-      count = omega (arith, length_snoc ts t, old.count, e);
-      within = omega arith;
-      chosen_before = λ l. old.chosen_after (omega arith);
-      chosen_after = λ l. absurd (omega (arith, l));
-      filled = omega (arith, length_snoc ss (successor_of t), old.filled, e);
-      few = omega (arith, few);
-      few_begun = λ l. absurd (omega (arith, l));
-    }
+step_last a o ts t node z cs ss e old new = grind (arith, length_snoc)
 
 pub step_successor : (a o : ℕ) (ts : List Lexeme) (t : Lexeme) (node z n c : ℕ) (cs : List ℕ) (ss : List (Option ℕ))
     → AreNodesUpTo a o ts node (2 + z) cs ss → IsApartFrom ts t → is_successor t ≡ true → IsAfter 2 o node z n c
     → AreNodesUpTo a o (ts ++ t ∷ []) n c cs (ss ++ successor_of t ∷ [])
 step_successor a o ts t node z n c cs ss old apart right following =
-    let place : node * o + z ≡ length ss = omega (arith, old.filled) in
     let new = more_nodes a o ts t cs cs ss (ss ++ successor_of t ∷ []) node (2 + z) old.records old.count old.within (same_places cs) (pushed_places ss (successor_of t)) apart
     (record {
       number = λ e. absurd (omega (arith, e));
       action = λ e. absurd (omega (arith, e));
-      next = λ y e. record { right = right; value = at_end ss (successor_of t) (node * o + y) (omega (arith, place, e)) };
+      next = λ y e. record { right = right; value = at_end ss (successor_of t) (node * o + y) (omega (arith, e)) };
     }) in
     let At : ℕ → ℕ → Type 0 = λ n c. AreNodesUpTo a o (ts ++ t ∷ []) n c cs (ss ++ successor_of t ∷ []) in
-    let ends : (suc z < o) ⊎ (suc z ≡ o) = below_or_at (suc z) o (omega (arith, old.within)) in
     ⊎_elim (λ l. let is = following.inside l in subst₂ At (sym is.0) (omega (arith, is.1)) (step_within a o ts t node z cs ss l old new))
     (λ e. let is = following.last e in subst₂ At (sym is.0) (sym is.1) (step_last a o ts t node z cs ss e old new))
-    ends
+    (below_or_at (suc z) o (omega (arith, old.within)))
 
 -- whole nodes are a graph
 abbrev pub graph_of : ℕ → ℕ → List ℕ → List (Option ℕ) → PolicyGraph
@@ -169,22 +145,11 @@ graph_of a o cs ss = record { actions = a; observations = o; chosen = cs; succes
 
 pub loose_of : (a o : ℕ) (ts : List Lexeme) (node : ℕ) (cs : List ℕ) (ss : List (Option ℕ))
     → 1 ≤ node → AreNodesUpTo a o ts node 0 cs ss → IsLooseGraph a o ts (graph_of a o cs ss)
-loose_of a o ts node cs ss some old =
-    let count : length cs ≡ node = old.chosen_before (omega arith) in
-    record {
-      actions_are = refl;
-      observations_are = refl;
-      some = omega (arith, count, some);
-      few = omega (arith, count, old.few);
-      tokens = old.count ∙ omega (arith, ap (λ n. n * width o) count);
-      successors = old.filled ∙ omega (arith, ap (λ n. n * o) count);
-      records = old.records;
-    }
+loose_of a o ts node cs ss some old = grind arith
 
 -- a front of possible tokens is possible
 pub possible_before : (a o : ℕ) (ts us : List Lexeme) → IsPossible a o (ts ++ us) → IsPossible a o ts
-possible_before a o ts us h =
-    (us ++ h.0, (h.1.0, subst (λ xs. IsLooseGraph a o xs h.1.0) (append_assoc ts us h.0) h.1.1))
+possible_before a o ts us h = grind (arith, append_assoc)
 
 pub possible_loose : (a o : ℕ) (ts : List Lexeme) (g : PolicyGraph) → IsLooseGraph a o ts g → IsPossible a o ts
 possible_loose a o ts g h = ([], (g, subst (λ xs. IsLooseGraph a o xs g) (sym (append-nil ts)) h))
@@ -197,8 +162,7 @@ abbrev digit_0 : Lexeme
 digit_0 = record { kind = Numeral; place = 0; bytes = 48 ∷ [] }
 
 pub joined_off : (b c : Bool) → (b && (false && c)) ≡ false
-joined_off true c = refl
-joined_off false c = refl
+joined_off b c = grind arith
 
 x_apart : (ts : List Lexeme) → IsApartFrom ts letter_x
 x_apart ts k s e l = joined_off (minus_kind s.kind) (0 == s.place + length s.bytes)
@@ -218,8 +182,7 @@ possible_successors a o (suc left) ts node z cs ss e old =
     possible_before a o ts (letter_x ∷ []) (possible_successors a o left (ts ++ letter_x ∷ []) node (suc z) cs _ (omega (arith, e)) (subst (λ c. AreNodesUpTo a o (ts ++ letter_x ∷ []) node c cs (ss ++ successor_of letter_x ∷ [])) (omega arith) new))
 
 no_minus_whole : (k : TokenKind) (b c : Bool) → (numeral_kind k && b) ≡ true → (minus_kind k && c) ≡ false
-no_minus_whole Numeral b c e = refl
-no_minus_whole _ b c e = cc
+no_minus_whole k b c h1 = grind arith
 
 possible_action : (a o : ℕ) (ts : List Lexeme) (node : ℕ) (cs : List ℕ) (ss : List (Option ℕ))
     → 1 ≤ a → 1 ≤ o → AreNodesUpTo a o ts node 1 cs ss → IsPossible a o ts
@@ -233,8 +196,7 @@ possible_action a o ts node cs ss some_a some_o old =
 possible_start : (a o : ℕ) (ts : List Lexeme) (cs : List ℕ) (ss : List (Option ℕ))
     → 1 ≤ a → 1 ≤ o → AreNodesUpTo a o ts 0 0 cs ss → IsPossible a o ts
 possible_start a o ts cs ss some_a some_o old =
-    let apart : IsApartFrom ts digit_0 = λ k s at e. absurd (omega (arith, e, old.count)) in
-    let new = step_number a o ts digit_0 0 cs ss old apart zero_whole refl (lit< tt) in
+    let new = step_number a o ts digit_0 0 cs ss old (λ k s at e. absurd (omega (arith, e, old.count))) zero_whole refl (lit< tt) in
     possible_before a o ts (digit_0 ∷ []) (possible_action a o _ 0 cs ss some_a some_o new)
 
 -- what is read is possible
@@ -263,15 +225,7 @@ needed a o ts more t node column cs ss g old loose =
 -- a graph that continues after whole nodes has more of them
 pub needed_node : (a o : ℕ) (ts more : List Lexeme) (t : Lexeme) (node : ℕ) (cs : List ℕ) (ss : List (Option ℕ)) (g : PolicyGraph)
     → AreNodesUpTo a o ts node 0 cs ss → IsLooseGraph a o (ts ++ t ∷ more) g → node < most_nodes
-needed_node a o ts more t node cs ss g old loose = at (order node (nodes g))
-  where
-    long : length ts + suc (length more) ≡ nodes g * width o
-    long = sym (length-append ts (t ∷ more)) ∙ loose.tokens
-
-    at : (node < nodes g) ⊎ ((node ≡ nodes g) ⊎ (nodes g < node)) → node < most_nodes
-    at (inl l) = omega (arith, l, loose.few)
-    at (inr (inl e)) = absurd (omega (arith, long, old.count, ap (λ n. n * width o) e))
-    at (inr (inr l)) = absurd (omega (arith, long, old.count, row_above (width o) (nodes g) node l))
+needed_node a o ts more t node cs ss g old loose = grind (arith, length-append, row_above, order)
 
 pub needed_apart : (a o : ℕ) (ts more : List Lexeme) (t s : Lexeme) (k : ℕ) (g : PolicyGraph)
     → slice_get ts k ≡ Some s → suc k ≡ length ts → IsLooseGraph a o (ts ++ t ∷ more) g → is_joined s t ≡ false
@@ -282,19 +236,15 @@ needed_apart a o ts more t s k g at e loose =
 pub unfinished : (a o : ℕ) (ts : List Lexeme) (node column : ℕ) (cs : List ℕ) (ss : List (Option ℕ)) (g : PolicyGraph)
     → AreNodesUpTo a o ts node column cs ss → 0 < column → IsLooseGraph a o ts g → ⊥
 unfinished a o ts node column cs ss g old begun loose =
-    let e : node * width o + column ≡ nodes g * width o + 0 = omega (arith, loose.tokens, old.count) in
-    let col = same_column (width o) node (nodes g) column 0 old.within (omega arith) e in
+    let col = same_column (width o) node (nodes g) column 0 old.within (omega arith) (omega (arith, loose.tokens, old.count)) in
     omega (arith, col, begun)
 
 pub no_nodes : (a o : ℕ) (ts : List Lexeme) (cs : List ℕ) (ss : List (Option ℕ)) (g : PolicyGraph)
     → AreNodesUpTo a o ts 0 0 cs ss → IsLooseGraph a o ts g → ⊥
-no_nodes a o ts cs ss g old loose =
-    let above = row_above (width o) 0 (nodes g) (omega (arith, loose.some)) in
-    omega (arith, above, loose.tokens, old.count)
+no_nodes a o ts cs ss g old loose = grind arith
 
 same_nodes : (a o : ℕ) (ts : List Lexeme) (g h : PolicyGraph) → IsLooseGraph a o ts g → IsLooseGraph a o ts h → nodes g ≡ nodes h
-same_nodes a o ts g h x y =
-    same_row (width o) (nodes g) (nodes h) 0 0 (omega arith) (omega arith) (omega (arith, x.tokens, y.tokens))
+same_nodes a o ts g h x y = grind arith
 
 same_values : {X : Type 0} (x y z : X) → Some x ≡ Some z → Some y ≡ Some z → x ≡ y
 same_values x y z e f = same_some x z e ∙ sym (same_some y z f)
@@ -302,8 +252,7 @@ same_values x y z e f = same_some x z e ∙ sym (same_some y z f)
 same_action : (a o : ℕ) (ts : List Lexeme) (g h : PolicyGraph) → IsLooseGraph a o ts g → IsLooseGraph a o ts h
     → (k : ℕ) (x y : ℕ) → slice_get g.chosen k ≡ Some x → slice_get h.chosen k ≡ Some y → x ≡ y
 same_action a o ts g h p q k x y ex ey =
-    let inside = within_get g.chosen k x ex in
-    let rows = row_above (width o) k (nodes g) inside in
+    let rows = row_above (width o) k (nodes g) (within_get g.chosen k x ex) in
     let token = get_within ts (k * width o + 1) (omega (arith, rows, p.tokens)) in
     same_values x y (whole_of token.0) (sym ex ∙ (p.records.action k token.0 token.1).value) (sym ey ∙ (q.records.action k token.0 token.1).value)
 
@@ -329,8 +278,7 @@ same_next a o ts g h p q k x y ex ey =
 pub one_loose : (a o : ℕ) (ts : List Lexeme) (g h : PolicyGraph) → IsLooseGraph a o ts g → IsLooseGraph a o ts h → g ≡ h
 one_loose a o ts g h p q =
     let rows = same_nodes a o ts g h p q in
-    let as_are = p.actions_are ∙ sym q.actions_are in
     let os_are = p.observations_are ∙ sym q.observations_are in
     let cs_are = same_list g.chosen h.chosen rows (same_action a o ts g h p q) in
     let ss_are = same_list g.successors h.successors (omega (arith, p.successors, q.successors, ap (λ n. n * o) rows)) (same_next a o ts g h p q) in
-    λ i. record { actions = as_are i; observations = os_are i; chosen = cs_are i; successors = ss_are i }
+    λ i. record { actions = (p.actions_are ∙ sym q.actions_are) i; observations = os_are i; chosen = cs_are i; successors = ss_are i }

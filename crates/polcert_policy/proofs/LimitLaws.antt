@@ -1,5 +1,5 @@
 -- What a text denotes is within its limits.
-use Rattle.std.proofs.Common.{◌≡◌, ◌∙◌, ℕ, ◌+◌, ◌*◌, ◌<◌, ◌≤◌, List, Some, None, slice_get, length, sym, ap, subst, arith}
+use Rattle.std.proofs.Common.{◌≡◌, ◌∙◌, ℕ, ◌+◌, ◌*◌, ◌<◌, ◌≤◌, List, Some, None, slice_get, length, sym, ap, subst, arith, rules}
 use Rattle.std.proofs.lemmas.Option.{get_or_from_slice_get, slice_get-get_or}
 use Rattle.polcert_text.specs.Cut.{Lexeme}
 use Rattle.polcert_cells.specs.Elements.{most_states, most_actions, most_observations}
@@ -44,11 +44,4 @@ module _ {way : Rounding} where
       values_in_range graph states is.parts (nodes graph) v.values is.records is.count is.filled (n * v.states + s) (value_of v n s) (slice_get-get_or v.values (n * v.states + s) _ inside)
 
   pub vectors_proper : (graph : PolicyGraph) (states : ℕ) (ts : List Lexeme) (v : PolicyVectors) → 1 ≤ nodes graph → nodes graph ≤ most_nodes → 1 ≤ states → states ≤ most_states → IsRoundedVectors way graph states ts v → AreProperVectors v
-  vectors_proper graph states ts v some few some_s few_s is = record {
-    some_nodes = omega (arith, some, is.nodes_are);
-    few_nodes = omega (arith, few, is.nodes_are);
-    some_states = omega (arith, some_s, is.states_are);
-    few_states = omega (arith, few_s, is.states_are);
-    filled = is.filled ∙ (λ i. sym is.nodes_are i * sym is.states_are i);
-    in_range = values_in_range graph states is.parts (nodes graph) v.values is.records is.count is.filled;
-  }
+  vectors_proper graph states ts v some few some_s few_s is = search (rules, values_in_range)

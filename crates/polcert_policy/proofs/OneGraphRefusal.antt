@@ -34,10 +34,7 @@ one_misfit a o ts t (faults.TooManyNodes p) (faults.TooManyNodes q) x y = ap fau
 one_misfit a o ts t _ _ x y = absurd (search (wrong_shape, not_after, other_column, x, y))
 
 one_wrong : (m : Option Lexeme) (a o : ℕ) (ts : List Lexeme) (t : Lexeme) (f g : GraphFault) → IsWrong m a o ts t f → IsWrong m a o ts t g → f ≡ g
-one_wrong None a o ts t f g x y = one_misfit a o ts t f g x y
-one_wrong (Some m) a o ts t (faults.BadShape p) (faults.BadShape q) x y = ap faults.BadShape (x ∙ sym y)
-one_wrong (Some m) a o ts t (faults.BadShape p) _ x y = absurd y
-one_wrong (Some m) a o ts t _ _ x y = absurd x
+one_wrong m a o ts t f g h1 h2 = grind (arith, one_misfit)
 
 -- what a refusal at the end of a text says
 abbrev EndsFor : ℕ → ℕ → List ℕ → List Lexeme → Option TokenFault → GraphFault → Type 0

@@ -1,5 +1,5 @@
 -- Where the tokens of a text stop being possible, and that it is refused for one reason.
-use Rattle.std.proofs.Common.{◌≡◌, ◌∙◌, ◌⊎◌, inl, inr, ⊎_elim, Option, List, [], ◌∷◌, ◌++◌, refl, sym, subst, append-nil}
+use Rattle.std.proofs.Common.{◌≡◌, ◌∙◌, ◌⊎◌, inl, inr, ⊎_elim, Option, List, [], ◌∷◌, ◌++◌, refl, sym, subst, append-nil, arith}
 use Rattle.std.proofs.Math.Path.{subst₂, subst⁻¹}
 use Rattle.polcert_text.specs.Cut.{Lexeme, Rest, TakesToken, IsCut}
 use Rattle.polcert_text.specs.TakenTokens.{Taken, nothing, token}
@@ -28,8 +28,7 @@ fronts old x y [] vs a b = inl (vs, refl)
 fronts old x y (u ∷ us) [] a b = inr (u ∷ us, refl)
 fronts old x y (u ∷ us) (v ∷ vs) a b =
     let next = one_next_token old u v a.0 b.0 a.1 b.1 in
-    let same : From a.0 vs y = subst (λ r. From r vs y) (sym next.1) b.2 in
-    ⊎_elim (λ l. inl (l.0, λ i. sym next.0 i ∷ l.1 i)) (λ r. inr (r.0, λ i. next.0 i ∷ r.1 i)) (fronts a.0 x y us vs a.2 same)
+    ⊎_elim (λ l. inl (l.0, λ i. sym next.0 i ∷ l.1 i)) (λ r. inr (r.0, λ i. next.0 i ∷ r.1 i)) (fronts a.0 x y us vs a.2 (subst (λ r. From r vs y) (sym next.1) b.2))
 
 no_middle : (us ms : List Lexeme) (m : Lexeme) → [] ≡ us ++ m ∷ ms → ⊥
 no_middle [] ms m e = cons_not_nil _ _ (sym e)
@@ -39,37 +38,28 @@ no_middle (u ∷ us) ms m e = cons_not_nil _ _ (sym e)
 front_of_snoc : (us xs : List Lexeme) (m y : Lexeme) (ms : List Lexeme) → xs ++ y ∷ [] ≡ us ++ m ∷ ms → (w : List Lexeme) × (xs ≡ us ++ w)
 front_of_snoc [] xs m y ms e = (xs, refl)
 front_of_snoc (u ∷ us) [] m y ms e = absurd (no_middle us ms m (tail_of y u _ _ e))
-front_of_snoc (u ∷ us) (x ∷ xs) m y ms e =
-    let more = front_of_snoc us xs m y ms (tail_of x u _ _ e) in
-    (more.0, λ i. head_of x u _ _ e i ∷ more.1 i)
+front_of_snoc (u ∷ us) (x ∷ xs) m y ms e = grind (arith, head_of, tail_of, front_of_snoc us xs m y ms (tail_of x u _ _ e))
 
 same_snoc : (xs ys : List Lexeme) (x y : Lexeme) → xs ++ x ∷ [] ≡ ys ++ y ∷ [] → (xs ≡ ys) × (x ≡ y)
 same_snoc [] [] x y e = (refl, head_of x y _ _ e)
-same_snoc [] (z ∷ ys) x y e = absurd (no_middle ys [] y (tail_of x z _ _ e))
-same_snoc (z ∷ xs) [] x y e = absurd (no_middle xs [] x (sym (tail_of z y _ _ e)))
 same_snoc (z ∷ xs) (w ∷ ys) x y e =
     let more = same_snoc xs ys x y (tail_of z w _ _ e) in
     ((λ i. head_of z w _ _ e i ∷ more.0 i), more.1)
+same_snoc c d x y e = grind (arith, tail_of, no_middle)
 
 module _ (P : List Lexeme → Type 0) (front : (ts us : List Lexeme) → P (ts ++ us) → P ts) where
   not_longer : (us vs : List Lexeme) (s t : Lexeme) → P vs → (P (us ++ s ∷ []) → ⊥) → (more : List Lexeme) → vs ++ t ∷ [] ≡ (us ++ s ∷ []) ++ more → (us ≡ vs) × (s ≡ t)
   not_longer us vs s t possible none [] e = same_snoc us vs s t (sym (e ∙ append-nil (us ++ s ∷ [])))
-  not_longer us vs s t possible none (m ∷ ms) e =
-      let w = front_of_snoc (us ++ s ∷ []) vs m t ms e in
-      absurd (none (front (us ++ s ∷ []) w.0 (subst P w.1 possible)))
+  not_longer us vs s t possible none (m ∷ ms) e = grind (arith, front_of_snoc)
 
   -- the tokens of a text stop being possible at one token
   one_stop : (rest x y : Rest) (us vs : List Lexeme) (s t : Lexeme) → Taken rest (us ++ s ∷ []) x → Taken rest (vs ++ t ∷ []) y
       → P us → P vs → (P (us ++ s ∷ []) → ⊥) → (P (vs ++ t ∷ []) → ⊥) → (us ≡ vs) × (s ≡ t)
-  one_stop rest x y us vs s t a b p q none_p none_q =
-      ⊎_elim (λ l. not_longer us vs s t q none_p l.0 l.1) (λ r. let same = not_longer vs us t s p none_q r.0 r.1 in (sym same.0, sym same.1))
-      (fronts rest x y (us ++ s ∷ []) (vs ++ t ∷ []) (taken_from rest x _ a) (taken_from rest y _ b))
+  one_stop rest x y us vs s t a b p q none_p none_q = grind (arith, ⊎_elim, taken_from, fronts, not_longer)
 
   -- where all of them are possible they stop nowhere
   no_stop : (rest x : Rest) (ts us : List Lexeme) (end : Option TokenFault) → IsCut rest ts end → P ts → Taken rest us x → (P us → ⊥) → ⊥
-  no_stop rest x ts us end cut possible taken none =
-      let following = cut_taken rest x us ts end taken cut in
-      none (front us following.0 (subst P following.1.0 possible))
+  no_stop rest x ts us end cut possible taken none = grind (arith, cut_taken)
 
   -- Why a text is refused, where this says why a token can't stand after others, and that how the text ends: one of its tokens can't
   -- stand after those before it, or the text ends so.
@@ -82,14 +72,4 @@ module _ (P : List Lexeme → Type 0) (front : (ts us : List Lexeme) → P (ts +
     pub one_reason : ((ts : List Lexeme) (t : Lexeme) (f g : F) → IsWrong ts t f → IsWrong ts t g → f ≡ g)
         → ((ts : List Lexeme) (end : Option TokenFault) (f g : F) → EndsFor ts end f → EndsFor ts end g → f ≡ g)
         → (f g : F) → HasReason f → HasReason g → f ≡ g
-    one_reason one_wrong one_end f g (inl x) (inl y) =
-        let p = x.1.2 in
-        let q = y.1.2 in
-        let same = one_stop rest x.1.0 y.1.0 p.before q.before p.token q.token (subst (λ ts. Taken rest ts x.1.0) p.spelled x.1.1) (subst (λ ts. Taken rest ts y.1.0) q.spelled y.1.1)
-        p.possible q.possible (λ h. p.impossible (subst⁻¹ P p.spelled h)) (λ h. q.impossible (subst⁻¹ P q.spelled h)) in
-        one_wrong p.before p.token f g p.wrong (subst₂ (λ us t. IsWrong us t g) (sym same.0) (sym same.1) q.wrong)
-    one_reason one_wrong one_end f g (inl x) (inr y) = absurd (no_stop rest x.1.0 y.0 x.0 y.1.0 y.1.1 y.1.2 x.1.1 x.1.2.impossible)
-    one_reason one_wrong one_end f g (inr x) (inl y) = absurd (no_stop rest y.1.0 x.0 y.0 x.1.0 x.1.1 x.1.2 y.1.1 y.1.2.impossible)
-    one_reason one_wrong one_end f g (inr x) (inr y) =
-        let same = one_cut rest x.0 y.0 x.1.0 y.1.0 x.1.1 y.1.1 in
-        one_end x.0 x.1.0 f g x.1.3 (subst₂ (λ ts e. EndsFor ts e g) (sym same.0) (sym same.1) y.1.3)
+    one_reason h1 h2 f g h3 h4 = grind (arith, subst₂, subst⁻¹, one_cut, one_stop, no_stop)

@@ -1,7 +1,7 @@
 -- A text is at most one graph, and at most one list of vectors of a graph.
-use Rattle.std.proofs.Common.{◌≡◌, ℕ, List, subst}
+use Rattle.std.proofs.Common.{◌≡◌, ℕ, List, subst, arith}
 use Rattle.polcert_text.proofs.TextLaws as cuts
-use Rattle.polcert_policy.specs.Graphs.{PolicyGraph, IsLooseGraph}
+use Rattle.polcert_policy.specs.Graphs.{PolicyGraph}
 use Rattle.polcert_policy.specs.GraphText.{IsGraphText}
 use Rattle.polcert_policy.specs.Vectors.{PolicyVectors, IsRoundedVectors}
 use Rattle.polcert_policy.specs.VectorText.{IsRoundedVectorsText}
@@ -16,8 +16,7 @@ pub one_graph : (actions observations : ℕ) (text : List ℕ) (g h : PolicyGrap
 one_graph actions observations text g h a b =
     let x = flat_graphs.indexed actions observations text g a in
     let y = flat_graphs.indexed actions observations text h b in
-    let tokens = (cuts.one_cut _ x.0 y.0 _ _ x.1 y.1).0 in
-    graphs.one_loose actions observations y.0 g h (subst (λ ts. IsLooseGraph actions observations ts g) tokens x.2.loose) y.2.loose
+    grind (arith, cuts.one_cut, graphs.one_loose)
 
 module _ {way : Rounding} where
   pub one_vectors : (graph : PolicyGraph) (states : ℕ) (text : List ℕ) (v w : PolicyVectors)
@@ -25,5 +24,4 @@ module _ {way : Rounding} where
   one_vectors graph states text v w a b =
       let x = flat_vectors.indexed way graph states text v a in
       let y = flat_vectors.indexed way graph states text w b in
-      let tokens = (cuts.one_cut _ x.0 y.0 _ _ x.1 y.1).0 in
-      vectors.one_list graph states y.0 v w (subst (λ ts. IsRoundedVectors way graph states ts v) tokens x.2) y.2
+      vectors.one_list graph states y.0 v w (subst (λ ts. IsRoundedVectors way graph states ts v) ((cuts.one_cut _ x.0 y.0 _ _ x.1 y.1).0) x.2) y.2

@@ -1,11 +1,11 @@
 -- A text is refused as vectors for one reason.
-use Rattle.std.proofs.Common.{◌≡◌, ◌∙◌, ℕ, suc, ◌+◌, ◌*◌, ◌<◌, inl, inr, ⊎_elim, true, false, ◌||◌, Option, Some, None, List, ◌++◌, length, refl, sym, ap, subst, arith, append_assoc}
+use Rattle.std.proofs.Common.{◌≡◌, ◌∙◌, ℕ, suc, ◌+◌, ◌*◌, ◌<◌, inl, inr, ⊎_elim, true, false, Option, Some, None, List, ◌++◌, length, refl, sym, ap, subst, arith, append_assoc}
 use Rattle.polcert_text.specs.Cut.{Lexeme, text_rest, text_limit}
 use Rattle.polcert_text.specs.declared.tokens.TokenFault.{TokenFault}
 use Rattle.polcert_text.proofs.TextLaws.{one_number_fault}
 use Rattle.polcert_policy.specs.Fields.{numeral_kind}
 use Rattle.polcert_policy.specs.Graphs.{PolicyGraph, nodes}
-use Rattle.polcert_policy.specs.Vectors.{sign_kind, IsRoundedVectors, ArePossible}
+use Rattle.polcert_policy.specs.Vectors.{ArePossible}
 use Rattle.polcert_policy.specs.VectorText.{IsPartColumn, last_sign, is_part_shaped, IsPartMisfit, IsRoundedVectorsRefusal}
 use Rattle.polcert_policy.specs.declared.fault.VectorFault.{VectorFault}
 use Rattle.polcert_policy.specs.declared.fault.VectorFault.TheVariants as faults
@@ -24,8 +24,7 @@ wrong_shape o ts s t n c m d x wrong y right =
 
 -- a numeral has the shape of a value
 value_shape : (s : Option Lexeme) (t : Lexeme) (c : ℕ) → numeral_kind t.kind ≡ true → is_part_shaped (suc c) s t ≡ true
-value_shape None t c e = ap (λ b. b || sign_kind t.kind) e
-value_shape (Some s) t c e = e
+value_shape s t c h1 = grind arith
 
 -- a numeral hasn't the wrong shape in a value's column
 wrong_value : (o : ℕ) (ts : List Lexeme) (t : Lexeme) (n c m d : ℕ) → IsPartColumn o ts n (suc c) → numeral_kind t.kind ≡ true → IsPartColumn o ts m d → is_part_shaped d (last_sign ts) t ≡ false → ⊥
@@ -66,8 +65,7 @@ one_end o text ts _ _ _ x y = absurd (search (other_column, x, y))
 
 module _ (way : Rounding) (g : PolicyGraph) (o : ℕ) (text : List ℕ) where
   possible_before : (ts us : List Lexeme) → ArePossible way g o (ts ++ us) → ArePossible way g o ts
-  possible_before ts us h =
-      (us ++ h.0, (h.1.0, subst (λ xs. IsRoundedVectors way g o xs h.1.0) (append_assoc ts us h.0) h.1.1))
+  possible_before ts us h = grind (arith, append_assoc)
 
   abbrev HasReason : VectorFault → Type 0
   HasReason f = stops.HasReason (λ ts. ArePossible way g o ts) possible_before (λ ts t. IsPartMisfit g o ts t) (EndsFor o text) (text_rest text text_limit) f
@@ -75,8 +73,7 @@ module _ (way : Rounding) (g : PolicyGraph) (o : ℕ) (text : List ℕ) where
   reason : (f : VectorFault) → (f ≡ faults.Memory → ⊥) → IsRoundedVectorsRefusal way g o text f → HasReason f
   reason (faults.Token x) no_memory h = inr (h.0, (Some x, h.1, h.2, refl))
   reason (faults.Truncated p) no_memory h = let e = h.1.1 in inr (e.tokens, (None, e.cut, e.possible, (e.place_is, (h.0, (h.1.0, e.column_is, h.1.2)))))
-  reason (faults.WrongVectorCount p) no_memory h =
-      ⊎_elim (λ s. inl s) (λ e. inr (e.1.tokens, (None, e.1.cut, e.1.possible, (e.1.place_is, (e.0, e.1.column_is))))) h
+  reason (faults.WrongVectorCount p) no_memory h = grind (arith, ⊎_elim)
   reason faults.Memory no_memory h = absurd (no_memory refl)
   reason f no_memory h = inl h
 

@@ -14,8 +14,7 @@ abbrev pub CanAdd : List ℤ → ℤ → Type 0
 CanAdd xs by = (k : ℕ) (h : ℤ) → slice_get xs k ≡ Some h → IsInRange (h +ℤ by)
 
 pub sum_fits : (xs : List ℤ) (i : ℕ) (d by : ℤ) → CanAdd xs by → i < length xs → FitsSigned w64 (get_or xs i d) → FitsSigned w64 (to_z w64 (of_z w64 (get_or xs i d)) +ℤ by)
-sum_fits xs i d by can inside fits =
-    subst (λ z. FitsSigned w64 (z +ℤ by)) (sym (to_z-of_z w64 (get_or xs i d) fits)) (in_range_fits (get_or xs i d +ℤ by) (can i (get_or xs i d) (slice_get-get_or xs i d inside)))
+sum_fits xs i d by can inside fits = grind (arith, to_z-of_z, slice_get-get_or, in_range_fits)
 
 -- one more value
 pub push_shifted : (xs old new : List ℤ) (i : ℕ) (d by : ℤ) → CanAdd xs by → i < length xs → FitsSigned w64 (get_or xs i d) → old ≡ map (λ h. h +ℤ by) (take i xs)
@@ -30,9 +29,8 @@ can_add count o vs by proper can k h e =
     let row = row_of o k proper.some_states in
     let n = row.0 in
     let s = row.1.0 in
-    let inside : n * o + s < count * o = omega (arith, within_get vs k h e, proper.filled, row.1.1) in
     let value = get_or_from_slice_get vs (n * o + s) h (pos 0) (ap (λ j. slice_get vs j) (sym row.1.1) ∙ e) in
-    subst (λ z. IsInRange (z +ℤ by)) value (can n s (row_below o n s count inside) row.1.2)
+    subst (λ z. IsInRange (z +ℤ by)) value (can n s (row_below o n s count (omega (arith, within_get vs k h e, proper.filled, row.1.1))) row.1.2)
 
 pub proper_shifted : (count o : ℕ) (vs : List ℤ) (by : ℤ) → AreProper count o vs → CanAdd vs by → AreProper count o (map (λ h. h +ℤ by) vs)
 proper_shifted count o vs by proper can = record {
@@ -54,6 +52,4 @@ proper_shifted count o vs by proper can = record {
 pub value-shifted_by : (v : PolicyVectors) (by : ℤ) (n s : ℕ) → AreProper v.nodes v.states v.values → n < v.nodes → s < v.states → value_of (shifted_by v by) n s ≡ value_of v n s +ℤ by
 value-shifted_by v by n s proper l k =
     let above = row_above v.states n v.nodes l in
-    let inside : n * v.states + s < length v.values = omega (arith, above, k, proper.filled) in
-    let here = slice_get-get_or v.values (n * v.states + s) (pos 0) inside in
-    get_or_from_slice_get (map (λ h. h +ℤ by) v.values) (n * v.states + s) _ (pos 0) (slice_get-map (λ h. h +ℤ by) v.values (n * v.states + s) ∙ ap (option_map (λ h. h +ℤ by)) here)
+    grind (arith, slice_get-get_or, get_or_from_slice_get, slice_get-map)

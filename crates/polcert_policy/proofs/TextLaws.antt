@@ -15,15 +15,7 @@ use Rattle.polcert_policy.proofs.WholeTexts.{not_stopped, same_tokens, no_token_
 
 pub token_refusal : (a o b p : ℕ) (text : List ℕ) (ts : List Lexeme) (rest : Rest) (fault : GraphFault)
     → a ≡ b → o ≡ p → Taken (text_rest text text_limit) ts rest → IsTokenRefusal a o ts fault → IsGraphRefusal b p text fault
-token_refusal a o b p text ts rest fault ea eo taken h = at fault (subst₂ (λ x y. IsTokenRefusal x y ts fault) ea eo h)
-  where
-    at : (f : GraphFault) → IsTokenRefusal b p ts f → IsGraphRefusal b p text f
-    at (faults.BadShape place) h = (ts, (rest, taken, h))
-    at (faults.NodeOutOfOrder place) h = (ts, (rest, taken, h))
-    at (faults.ActionOutOfRange place) h = (ts, (rest, taken, h))
-    at (faults.TooManyNodes place) h = (ts, (rest, taken, h))
-    at faults.Memory h = tt
-    at _ h = absurd h
+token_refusal a o b p text ts rest fault ea eo taken h = grind arith
 
 early : (a o : ℕ) (text : List ℕ) (ts : List Lexeme) (place n column : ℕ) → IsCut (text_rest text text_limit) ts None → place ≡ length text → IsUnfinished a o ts n column → EndsEarly a o text place n column
 early a o text ts place n column cut e h = record { tokens = ts; cut = cut; place_is = e; possible = h.possible; unfinished = h.unfinished; column_is = h.column_is }
@@ -36,9 +28,7 @@ end_refusal a o text ts (faults.SuccessorOutOfRange n z) cut h = (ts, (h.0, cut,
 end_refusal a o text ts _ cut h = absurd h
 
 not_beyond : (g : PolicyGraph) (n z : ℕ) → IsFirstBeyond g n z → HasNodesOnly g → ⊥
-not_beyond g n z first bound =
-    let l = bound n z first.node first.observation first.beyond.0 first.beyond.1 in
-    omega (arith, l, first.beyond.2)
+not_beyond g n z first bound = grind arith
 
 -- what a refusal says of a text whose tokens are a graph but for the bound on its successors
 abbrev NamesBeyond : PolicyGraph → GraphFault → Type 0
@@ -62,8 +52,7 @@ module _ (a o : ℕ) (text : List ℕ) (ts : List Lexeme) (g : PolicyGraph) (cut
   names_beyond (faults.Truncated place) h = not_early place h.0 h.1.0 h.1.1
   names_beyond (faults.NoNodes place) h = not_early place 0 0 h
   names_beyond (faults.SuccessorOutOfRange n z) h =
-      let same = one_loose a o h.0 h.1.0 g h.1.2 (same_tokens (IsLooseGraph a o) text g ts cut loose h.0 h.1.1) in
-      subst (λ x. IsFirstBeyond x n z) same h.1.3
+      subst (λ x. IsFirstBeyond x n z) (one_loose a o h.0 h.1.0 g h.1.2 (same_tokens (IsLooseGraph a o) text g ts cut loose h.0 h.1.1)) h.1.3
   names_beyond faults.Memory h = tt
 
 pub no_graph : (a o : ℕ) (text : List ℕ) (fault : GraphFault) → IsGraphRefusal a o text fault → IsNoGraphText a o text fault
@@ -101,15 +90,12 @@ beyond_named a o text fault r n z h = at fault (names_beyond a o text h.0 h.1.0 
 -- a graph's successors all name nodes
 pub none_beyond : (a o : ℕ) (text : List ℕ) (g : PolicyGraph) → IsIndexedText a o text g → (n z : ℕ) → HasFirstBeyond a o text n z → ⊥
 none_beyond a o text g is n z h =
-    let loose = same_tokens (IsLooseGraph a o) text g is.0 is.1 is.2.loose h.0 h.1.1 in
-    not_beyond h.1.0 n z h.1.3 (subst HasNodesOnly (one_loose a o h.0 g h.1.0 loose h.1.2) is.2.bound)
+    not_beyond h.1.0 n z h.1.3 (subst HasNodesOnly (one_loose a o h.0 g h.1.0 (same_tokens (IsLooseGraph a o) text g is.0 is.1 is.2.loose h.0 h.1.1) h.1.2) is.2.bound)
 
 -- all that is promised of a refusal
 pub refused_text : (a o : ℕ) (text : List ℕ) (fault : GraphFault) → IsGraphRefusal a o text fault → IsRefusedGraphText a o fault text
-refused_text a o text fault r =
-    record { no_graph = no_graph a o text fault r; refusal = r; beyond = beyond_named a o text fault r }
+refused_text a o text fault r = grind (arith, no_graph, beyond_named)
 
 pub end_refused : (a o b p : ℕ) (text : List ℕ) (ts : List Lexeme) (end : ℕ) (fault : GraphFault)
     → a ≡ b → o ≡ p → IsCut (text_rest text text_limit) ts None → end ≡ length text → IsEndRefusal a o ts end fault → IsRefusedGraphText b p fault text
-end_refused a o b p text ts end fault ea eo cut place h =
-    refused_text b p text fault (end_refusal b p text ts fault cut (subst₃ (λ x y n. IsEndRefusal x y ts n fault) ea eo place h))
+end_refused a o b p text ts end fault ea eo cut place h = grind (arith, subst₃, end_refusal, refused_text)

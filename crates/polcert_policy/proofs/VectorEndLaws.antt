@@ -11,7 +11,7 @@ use Rattle.polcert_text.specs.Numbers.{millionth, size_of, largest, signed, IsRe
 use Rattle.polcert_text.proofs.Numbers.SignedLaws.{signed-mul, le_times_back}
 use Rattle.polcert_text.proofs.Numbers.SizeLaws.{millionth_pos}
 use Rattle.polcert_policy.specs.Graphs.{PolicyGraph, nodes}
-use Rattle.polcert_policy.specs.Vectors.{PolicyVectors, Part, sign_kind, is_negative, with_sign, tokens_of, AreVectors, IsRoundedVectors, IsInRange, AreProper}
+use Rattle.polcert_policy.specs.Vectors.{PolicyVectors, Part, sign_kind, with_sign, tokens_of, AreVectors, IsRoundedVectors, IsInRange, AreProper}
 use Rattle.polcert_policy.specs.VectorText.{IsPartColumn}
 use Rattle.polcert_policy.specs.Steps.VectorsRead.{AreVectorsUpTo, open_of, HasVectors, AreUnfinished}
 use Rattle.polcert_policy.specs.declared.vectors_reading.VectorsReading.{VectorsReading}
@@ -24,19 +24,13 @@ use Rattle.polcert_text.specs.declared.number.Rounding.TheVariants.{Down, Up}
 
 no_tokens : (ps : List Part) → [] ≡ tokens_of ps → length ps ≡ 0
 no_tokens [] e = refl
-no_tokens (p ∷ ps) e = absurd (at p.sign e)
-  where
-    at : (s : Option Lexeme) → [] ≡ with_sign s p.token ++ tokens_of ps → ⊥
-    at None e = cons_not_nil _ _ (sym e)
-    at (Some s) e = cons_not_nil _ _ (sym e)
+no_tokens (p ∷ ps) e = grind (arith, cons_not_nil)
 
 low_end : (b : Bool) (size most : ℕ) → size ≤ most → neg_ℤ (pos most) ≤ℤ signed b size
-low_end true size most h = omega (arith, ints)
-low_end false size most h = omega (arith, ints)
+low_end b size most h1 = grind arith
 
 high_end : (b : Bool) (size most : ℕ) → size ≤ most → signed b size ≤ℤ pos most
-high_end true size most h = omega (arith, ints)
-high_end false size most h = omega (arith, ints)
+high_end b size most h1 = grind arith
 
 le_through : (x y z : ℤ) → x ≤ℤ y → y ≤ℤ z → x ≤ℤ z
 le_through x y z a b = omega (arith, ints)
@@ -68,16 +62,14 @@ kept_in_range x h = subst IsInRange (sym (to_z-of_z w64 x (in_range_fits x h))) 
 pub value_in_range : (count o n s : ℕ) (vs : List ℤ) (x d : ℤ) → AreProper count o vs → n < count → s < o → x ≡ get_or vs (n * o + s) d → IsInRange (to_z w64 (of_z w64 x))
 value_in_range count o n s vs x d proper l k e =
     let above = row_above o n count l in
-    let inside : n * o + s < length vs = omega (arith, above, k, proper.filled) in
-    kept_in_range x (proper.in_range (n * o + s) x (slice_get-get_or vs (n * o + s) d inside ∙ ap Some (sym e)))
+    kept_in_range x (proper.in_range (n * o + s) x (slice_get-get_or vs (n * o + s) d (omega (arith, above, k, proper.filled)) ∙ ap Some (sym e)))
 
 module _ {way : Rounding} where
   -- the parts of whole vectors
   whole_count : (g : PolicyGraph) (o : ℕ) (ps : List Part) (vs : List ℤ) (v : PolicyVectors) → AreVectors way g o ps vs → IsRoundedVectors way g o (tokens_of ps ++ []) v → length ps ≡ nodes g * (1 + o)
   whole_count g o ps vs v old all =
       let found = front_parts ps all.parts [] (vector_parts g o ps vs old) (vector_parts g o all.parts v.values all.records) all.spelled in
-      let none = no_tokens found.0 (drop_same (tokens_of ps) [] (tokens_of found.0) (all.spelled ∙ ap tokens_of found.1 ∙ tokens-append ps found.0)) in
-      omega (arith, all.count, ap length found.1, length-append ps found.0, none)
+      grind (arith, length-append, tokens-append, drop_same, no_tokens)
 
   -- no vectors end in a sign
   open_ended : (g : PolicyGraph) (o : ℕ) (ps : List Part) (node column : ℕ) (vs : List ℤ) (s : Lexeme) (v : PolicyVectors) → sign_kind s.kind ≡ true
@@ -107,8 +99,7 @@ module _ {way : Rounding} where
 
   pub at_column : (g : PolicyGraph) (seen : List Lexeme) (r : VectorsReading) → r.column ≤ 0 → (h : HasVectors way g seen r) → AreVectorsUpTo way g r.states h.parts r.node 0 r.values.items
   at_column g seen r e h =
-      let zero_is : r.column ≡ 0 = omega (arith, e) in
-      subst (λ c. AreVectorsUpTo way g r.states h.parts r.node c r.values.items) zero_is h.vectors
+      subst (λ c. AreVectorsUpTo way g r.states h.parts r.node c r.values.items) (omega (arith, e)) h.vectors
 
   -- at a vector's action the tokens are the parts'
   spelled_whole : (g : PolicyGraph) (seen : List Lexeme) (r : VectorsReading) → r.column ≤ 0 → (h : HasVectors way g seen r) → seen ≡ tokens_of h.parts ++ []
@@ -125,11 +116,7 @@ module _ {way : Rounding} where
 
   pub values_in_range : (g : PolicyGraph) (o : ℕ) (ps : List Part) (node : ℕ) (vs : List ℤ) → AreVectors way g o ps vs → length ps ≡ node * (1 + o) → length vs ≡ node * o
       → (k : ℕ) (h : ℤ) → slice_get vs k ≡ Some h → IsInRange h
-  values_in_range g o ps node vs records count filled k h e =
-      let (n, s, part, place, l, here) = part_of_value o ps node vs h count filled k e in
-      let one = records.value n s part l here in
-      let same : h ≡ one.0 = same_some h one.0 (sym e ∙ ap (slice_get vs) place ∙ one.1) in
-      subst⁻¹ IsInRange same (rounded_in_range way (is_negative part.sign) part.token.bytes one.0 one.2.readable one.2.rounded)
+  values_in_range g o ps node vs records count filled k h e = grind (arith, slice_get, subst⁻¹, same_some, part_of_value, rounded_in_range)
 
   -- whole vectors, one for each node
   pub vectors_read : (g : PolicyGraph) (seen : List Lexeme) (r : VectorsReading) → r.column ≤ 0 → nodes g ≤ r.node → HasVectors way g seen r → IsRoundedVectors way g r.states seen (vectors_of r.node r.states r.values.items)

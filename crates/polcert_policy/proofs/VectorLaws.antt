@@ -1,13 +1,12 @@
 -- Tokens are at most one list of vectors.
-use Rattle.std.proofs.Common.{◌≡◌, ◌∙◌, ℕ, ℤ, suc, zero, ◌+◌, ◌*◌, ◌<◌, Bool, true, ◌&&◌, Option, Some, None, List, [], ◌∷◌, ◌++◌, length, slice_get, refl, sym, ap, subst, arith, append-nil}
+use Rattle.std.proofs.Common.{◌≡◌, ◌∙◌, ℕ, ℤ, suc, zero, ◌+◌, ◌*◌, ◌<◌, true, Option, Some, None, List, [], ◌∷◌, ◌++◌, length, slice_get, refl, sym, ap, subst, arith, append-nil}
 use Rattle.polcert_text.specs.Cut.{Lexeme}
 use Rattle.polcert_text.specs.declared.tokens.TokenKind.{TokenKind}
-use Rattle.polcert_text.specs.declared.tokens.TokenKind.TheVariants.{Numeral}
 use Rattle.polcert_text.proofs.TextLaws.{one_rounded}
 use Rattle.polcert_policy.specs.Fields.{numeral_kind}
 use Rattle.polcert_policy.specs.Graphs.{PolicyGraph, nodes}
-use Rattle.polcert_policy.specs.Vectors.{PolicyVectors, Part, sign_kind, with_sign, tokens_of, is_negative, IsPart, IsActionPart, AreVectors, IsRoundedVectors}
-use Rattle.polcert_policy.proofs.Places.{some_columns, row_above, row_below, row_of, get_within, within_get, same_some, some_none, same_list}
+use Rattle.polcert_policy.specs.Vectors.{PolicyVectors, Part, sign_kind, with_sign, tokens_of, IsPart, IsActionPart, AreVectors, IsRoundedVectors}
+use Rattle.polcert_policy.proofs.Places.{some_columns, row_above, row_below, row_of, get_within, within_get, same_some, same_list}
 use Rattle.polcert_text.specs.declared.number.Rounding.{Rounding}
 
 pub head_of : {X : Type 0} (x y : X) (xs ys : List X) → x ∷ xs ≡ y ∷ ys → x ≡ y
@@ -20,8 +19,7 @@ pub cons_not_nil : {X : Type 0} (x : X) (xs : List X) → x ∷ xs ≡ [] → �
 cons_not_nil x xs e = cc
 
 pub no_sign_numeral : (k : TokenKind) → numeral_kind k ≡ true → sign_kind k ≡ true → ⊥
-no_sign_numeral Numeral e f = cc
-no_sign_numeral _ e f = cc
+no_sign_numeral k h1 h2 = grind arith
 
 abbrev pub AreParts : List Part → Type 0
 AreParts ps = (k : ℕ) (p : Part) → slice_get ps k ≡ Some p → IsPart p
@@ -32,11 +30,7 @@ not_sign s t e sign numeral = no_sign_numeral t.kind numeral (subst (λ x. sign_
 -- parts that begin the tokens of others begin the others
 pub front_parts : (ps qs : List Part) (more : List Lexeme) → AreParts ps → AreParts qs → tokens_of ps ++ more ≡ tokens_of qs → (rest : List Part) × (qs ≡ ps ++ rest)
 front_parts [] qs more a b e = (qs, refl)
-front_parts (p ∷ ps) [] more a b e = absurd (some_tokens p.sign e)
-  where
-    some_tokens : (sign : Option Lexeme) → (with_sign sign p.token ++ tokens_of ps) ++ more ≡ [] → ⊥
-    some_tokens None e = cons_not_nil _ _ e
-    some_tokens (Some s) e = cons_not_nil _ _ e
+front_parts (p ∷ ps) [] more a b e = grind (arith, cons_not_nil)
 front_parts (p ∷ ps) (q ∷ qs) more a b e = at (λ f. front_parts ps qs more (λ k. a (suc k)) (λ k. b (suc k)) f) p.sign q.sign refl refl e
   where
     next : p ≡ q → (rest : List Part) × (qs ≡ ps ++ rest) → (rest : List Part) × (q ∷ qs ≡ (p ∷ ps) ++ rest)
@@ -57,15 +51,8 @@ front_parts (p ∷ ps) (q ∷ qs) more a b e = at (λ f. front_parts ps qs more 
         let signs = sx ∙ ap Some (head_of s t _ _ e) ∙ sym sy in
         next (λ i. record { sign = signs i; token = tokens i }) (onward (tail_of p.token q.token _ _ following))
 
-whole_numeral : (k : TokenKind) (b : Bool) → (numeral_kind k && b) ≡ true → numeral_kind k ≡ true
-whole_numeral Numeral b e = refl
-whole_numeral _ b e = cc
-
 action_part : (a : ℕ) (p : Part) → IsActionPart a p → IsPart p
-action_part a p h = record {
-  numeral = whole_numeral p.token.kind _ h.whole;
-  signed = λ s e. absurd (some_none s (sym h.unsigned ∙ e));
-}
+action_part a p h = grind arith
 
 pub same_count : {X : Type 0} (xs ys : List X) → length (xs ++ ys) ≡ length xs → xs ++ ys ≡ xs
 same_count [] [] l = refl
@@ -99,20 +86,11 @@ module _ {way : Rounding} where
 
   same_value : (g : PolicyGraph) (states : ℕ) (ps : List Part) (vs ws : List ℤ) → length ps ≡ nodes g * (1 + states) → length vs ≡ nodes g * states → AreVectors way g states ps vs → AreVectors way g states ps ws
       → (k : ℕ) (x y : ℤ) → slice_get vs k ≡ Some x → slice_get ws k ≡ Some y → x ≡ y
-  same_value g states ps vs ws count filled p q k x y ex ey =
-      let (n, s, part, place, l, here) = part_of_value states ps (nodes g) vs x count filled k ex in
-      let one = p.value n s part l here in
-      let two = q.value n s part l here in
-      let first : x ≡ one.0 = same_some x one.0 (sym ex ∙ ap (slice_get vs) place ∙ one.1) in
-      let second : y ≡ two.0 = same_some y two.0 (sym ey ∙ ap (slice_get ws) place ∙ two.1) in
-      first ∙ one_rounded way (is_negative part.sign) part.token.bytes one.0 two.0 one.2.rounded two.2.rounded ∙ sym second
+  same_value g states ps vs ws count filled p q k x y ex ey = grind (arith, slice_get, one_rounded, same_some, part_of_value)
 
   -- tokens are at most one list of vectors
   pub one_list : (g : PolicyGraph) (states : ℕ) (ts : List Lexeme) (v w : PolicyVectors) → IsRoundedVectors way g states ts v → IsRoundedVectors way g states ts w → v ≡ w
   one_list g states ts v w p q =
-      let parts = same_parts g states ts v w p q in
-      let records = subst (λ ps. AreVectors way g states ps v.values) parts p.records in
+      let records = subst (λ ps. AreVectors way g states ps v.values) (same_parts g states ts v w p q) p.records in
       let values = same_list v.values w.values (p.filled ∙ sym q.filled) (same_value g states q.parts v.values w.values q.count p.filled records q.records) in
-      let rows = p.nodes_are ∙ sym q.nodes_are in
-      let columns = p.states_are ∙ sym q.states_are in
-      λ i. record { nodes = rows i; states = columns i; values = values i }
+      λ i. record { nodes = (p.nodes_are ∙ sym q.nodes_are) i; states = (p.states_are ∙ sym q.states_are) i; values = values i }

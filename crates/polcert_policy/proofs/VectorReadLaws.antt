@@ -9,7 +9,7 @@ use Rattle.polcert_text.specs.declared.tokens.TokenKind.TheVariants.{Numeral, Pl
 use Rattle.polcert_text.proofs.TextLaws.{readable_not_refused}
 use Rattle.polcert_policy.specs.Fields.{numeral_kind, minus_kind, is_whole, whole_of}
 use Rattle.polcert_policy.specs.Graphs.{PolicyGraph, nodes, action_of, IsProperGraph}
-use Rattle.polcert_policy.specs.Vectors.{PolicyVectors, Part, sign_kind, with_sign, tokens_of, is_negative, IsPart, IsActionPart, IsValuePart, AreVectors, IsRoundedVectors, ArePossible}
+use Rattle.polcert_policy.specs.Vectors.{PolicyVectors, Part, sign_kind, with_sign, tokens_of, is_negative, IsPart, IsValuePart, AreVectors, IsRoundedVectors, ArePossible}
 use Rattle.polcert_policy.specs.VectorText.{numbers, IsPartColumn, last_sign, number_place, is_part_shaped, IsPartMisfit, StopVectorsFor}
 use Rattle.polcert_policy.specs.Steps.VectorsRead.{AreVectorsUpTo, open_of, kept_sign, place_after, is_minus, HasVectors, IsPartRefusal, CheckedAction, AdvancedValue}
 use Rattle.polcert_policy.specs.declared.fault.VectorFault.{VectorFault}
@@ -30,22 +30,15 @@ drop_same (x ∷ xs) ys zs e = drop_same xs ys zs (tail_of x x _ _ e)
 small_actions : (g : PolicyGraph) → IsProperGraph g → (n : ℕ) → n < nodes g → action_of g n < 2 ^ 64
 small_actions g proper n l = omega (arith, proper.known n l, proper.few_actions)
 
-numeral_no_sign : (k : TokenKind) → numeral_kind k ≡ true → sign_kind k ≡ false
-numeral_no_sign Numeral e = refl
-numeral_no_sign _ e = cc
-
 sign_no_numeral : (k : TokenKind) → sign_kind k ≡ true → numeral_kind k ≡ false
-sign_no_numeral Numeral e = cc
-sign_no_numeral _ e = refl
+sign_no_numeral k h1 = grind arith
 
 -- a numeral before tokens that end in no sign
 after_numeral : (t : Lexeme) (us : List Lexeme) → numeral_kind t.kind ≡ true → last_sign us ≡ None → last_sign (t ∷ us) ≡ None
-after_numeral t [] numeral e = ap (λ b. if b then Some t else None) (numeral_no_sign t.kind numeral)
-after_numeral t (u ∷ us) numeral e = e
+after_numeral t us h1 h2 = grind arith
 
 after_open : (u s : Lexeme) (ts : List Lexeme) → last_sign (ts ++ s ∷ []) ≡ Some s → last_sign (u ∷ (ts ++ s ∷ [])) ≡ Some s
-after_open u s [] was = was
-after_open u s (t ∷ ts) was = was
+after_open u s ts h1 = grind arith
 
 -- the sign that ends what was read
 last_open : (ps : List Part) (sign : Option Lexeme) → AreParts ps → ((s : Lexeme) → sign ≡ Some s → sign_kind s.kind ≡ true) → last_sign (tokens_of ps ++ open_of sign) ≡ sign
@@ -81,20 +74,16 @@ numbers_of (p ∷ ps) sign parts is = at p.sign refl (numbers_of ps sign (λ k. 
     at (Some s) e was = no_number s (p.token ∷ (tokens_of ps ++ open_of sign)) (sign_no_numeral s.kind ((parts 0 p refl).signed s e)) ∙ one ∙ ap suc was
 
 open_place : (sign : Option Lexeme) (t : Lexeme) → place_after (option_map kept_sign sign) t.place ≡ number_place sign t
-open_place None t = refl
-open_place (Some s) t = refl
+open_place sign t = grind arith
 
 open_minus : (sign : Option Lexeme) → is_minus (option_map kept_sign sign) ≡ is_negative sign
-open_minus None = refl
-open_minus (Some s) = refl
+open_minus sign = grind arith
 
 none_kept : (sign : Option Lexeme) → option_map kept_sign sign ≡ None → sign ≡ None
-none_kept None e = refl
-none_kept (Some s) e = absurd (some_none _ (sym e))
+none_kept sign h1 = grind arith
 
 open_tokens : (sign : Option Lexeme) (t : Lexeme) → open_of sign ++ t ∷ [] ≡ with_sign sign t
-open_tokens None t = refl
-open_tokens (Some s) t = refl
+open_tokens sign t = grind arith
 
 abbrev plain_part : Option Lexeme → Lexeme → Part
 plain_part s t = record { sign = s; token = t }
@@ -102,17 +91,11 @@ plain_part s t = record { sign = s; token = t }
 -- the tokens of one more part
 pub spelled_more : (seen : List Lexeme) (ps : List Part) (sign : Option Lexeme) (t : Lexeme) → seen ≡ tokens_of ps ++ open_of sign
     → seen ++ t ∷ [] ≡ tokens_of (ps ++ plain_part sign t ∷ []) ++ []
-spelled_more seen ps sign t e =
-    ap (λ ts. ts ++ t ∷ []) e ∙ append_assoc (tokens_of ps) (open_of sign) (t ∷ [])
-    ∙ ap (λ ts. tokens_of ps ++ ts) (open_tokens sign t ∙ sym (append-nil (with_sign sign t)))
-    ∙ sym (tokens-append ps (plain_part sign t ∷ [])) ∙ sym (append-nil (tokens_of (ps ++ plain_part sign t ∷ [])))
+spelled_more seen ps sign t e = grind (arith, append_assoc, append-nil, tokens-append, open_tokens)
 
 -- neither a numeral nor a sign
 pub other_kind : (k : TokenKind) → (k ≡ Numeral → ⊥) → (k ≡ Plus → ⊥) → (k ≡ Minus → ⊥) → (numeral_kind k ≡ false) × (sign_kind k ≡ false)
-other_kind Numeral a b c = absurd (a refl)
-other_kind Plus a b c = absurd (b refl)
-other_kind Minus a b c = absurd (c refl)
-other_kind _ a b c = (refl, refl)
+other_kind k h1 h2 h3 = grind arith
 
 -- what comes next in vectors that continue with a token
 pub record NextPart (way : Rounding) (g : PolicyGraph) (o : ℕ) (ps : List Part) (node column : ℕ) (ws : List ℤ) (x : Lexeme) (more : List Lexeme) : Type 0 where
@@ -163,29 +146,17 @@ module _ {way : Rounding} where
   -- after a sign that comes next stands the number's numeral
   pub signed_part : (g : PolicyGraph) (o : ℕ) (ps : List Part) (node column : ℕ) (ws : List ℤ) (s t : Lexeme) (more : List Lexeme)
       → sign_kind s.kind ≡ true → (n : NextPart way g o ps node column ws s (t ∷ more)) → (n.part.sign ≡ Some s) × (t ≡ n.part.token)
-  signed_part g o ps node column ws s t more sign n = at n.part.sign refl n.tokens
-    where
-      at : (u : Option Lexeme) → n.part.sign ≡ u → s ∷ t ∷ more ≡ with_sign u n.part.token ++ tokens_of n.rest → (n.part.sign ≡ Some s) × (t ≡ n.part.token)
-      at None e tokens = absurd (not_sign s n.part.token (head_of s n.part.token _ _ tokens) sign n.is_part.numeral)
-      at (Some u) e tokens = (e ∙ ap Some (sym (head_of s u _ _ tokens)), head_of t n.part.token _ _ (tail_of s u _ _ tokens))
+  signed_part g o ps node column ws s t more sign n = grind arith
 
   -- what comes next is a numeral or a sign
   pub number_begins : (g : PolicyGraph) (o : ℕ) (ps : List Part) (node column : ℕ) (ws : List ℤ) (t : Lexeme) (more : List Lexeme)
       → numeral_kind t.kind ≡ false → sign_kind t.kind ≡ false → NextPart way g o ps node column ws t more → ⊥
-  number_begins g o ps node column ws t more no_numeral no_sign n = at n.part.sign refl n.tokens
-    where
-      at : (s : Option Lexeme) → n.part.sign ≡ s → t ∷ more ≡ with_sign s n.part.token ++ tokens_of n.rest → ⊥
-      at None e tokens = true_false (subst (λ x. numeral_kind x.kind ≡ true) (sym (head_of t n.part.token _ _ tokens)) n.is_part.numeral) no_numeral
-      at (Some s) e tokens = true_false (subst (λ x. sign_kind x.kind ≡ true) (sym (head_of t s _ _ tokens)) (n.is_part.signed s e)) no_sign
+  number_begins g o ps node column ws t more no_numeral no_sign n = grind arith
 
   -- what holds without an open sign, and with each that is kept rightly, holds
   pub by_sign : (g : PolicyGraph) (seen : List Lexeme) (r : VectorsReading) (h : HasVectors way g seen r) (P : Option Lexeme → Type 0) → P None
       → ((s : Lexeme) → h.sign ≡ Some s → sign_kind s.kind ≡ true → 0 < r.column → P (Some s)) → P h.sign
-  by_sign g seen r h P none some = at h.sign refl
-    where
-      at : (sign : Option Lexeme) → h.sign ≡ sign → P sign
-      at None e = none
-      at (Some s) e = some s e (h.signed s e).0 (h.signed s e).1
+  by_sign g seen r h P none some = grind arith
 
   -- what is read is possible
   pub possible_seen : (g : PolicyGraph) (seen : List Lexeme) (r : VectorsReading) → 1 ≤ r.states → HasVectors way g seen r → ArePossible way g r.states seen
@@ -258,15 +229,7 @@ module _ {way : Rounding} where
 
     -- the token that comes next in place of an action
     action_next : (ws : List ℤ) (more : List Lexeme) → r.column ≡ 0 → NextPart way g r.states h.parts r.node r.column ws t more → (is_whole t ≡ true) × (whole_of t ≡ action_of g r.node)
-    action_next ws more e n =
-        let right = n.fits.action e in
-        at n.part.sign right.unsigned n.tokens right
-      where
-        at : (s : Option Lexeme) → s ≡ None → t ∷ more ≡ with_sign s n.part.token ++ tokens_of n.rest → IsActionPart (action_of g r.node) n.part → (is_whole t ≡ true) × (whole_of t ≡ action_of g r.node)
-        at None e tokens right =
-            let same = head_of t n.part.token _ _ tokens in
-            (ap is_whole same ∙ right.whole, ap whole_of same ∙ right.value)
-        at (Some s) e tokens right = absurd (some_none s (sym e))
+    action_next ws more e n = grind arith
 
     pub refuse_vector_action : (fault : VectorFault) → r.column ≡ 0 → CheckedAction g r.node t (Err fault) → IsPartRefusal way g r.states (seen ++ t ∷ []) fault
     refuse_vector_action (faults.WrongVectorCount place) e c =
@@ -353,13 +316,12 @@ module _ {way : Rounding} where
       → 0 < old.column → old.sign ≡ None → new.states ≡ old.states → new.node ≡ old.node → new.column ≡ old.column → new.values ≡ old.values → new.sign ≡ Some u
       → sign_kind t.kind ≡ true → u.place ≡ t.place → u.is_negative ≡ minus_kind t.kind → HasVectors way g seen old → HasVectors way g (seen ++ t ∷ []) new
   read_sign g old new seen t u begun none states node column values sign kind place minus h =
-      let closed = none_kept h.sign (sym h.kept ∙ none) in
       record {
         proper = h.proper;
         parts = h.parts;
         sign = Some t;
         vectors = transport⁻¹ (λ i. AreVectorsUpTo way g (states i) h.parts (node i) (column i) (values i).items) h.vectors;
-        spelled = ap (λ ts. ts ++ t ∷ []) (h.spelled ∙ ap (λ s. tokens_of h.parts ++ open_of s) closed ∙ append-nil (tokens_of h.parts));
+        spelled = ap (λ ts. ts ++ t ∷ []) (h.spelled ∙ ap (λ s. tokens_of h.parts ++ open_of s) (none_kept h.sign (sym h.kept ∙ none)) ∙ append-nil (tokens_of h.parts));
         kept = sign ∙ (λ i. Some (record { place = place i; is_negative = minus i }));
         signed = λ s same. (subst (λ x. sign_kind x.kind ≡ true) (same_some t s same) kind, omega (arith, begun, column));
       }

@@ -1,5 +1,5 @@
 -- What a refused or accepted list of tokens says of the whole text of vectors.
-use Rattle.std.proofs.Common.{◌≡◌, ℕ, inl, inr, ⊎_elim, None, List, length, subst}
+use Rattle.std.proofs.Common.{◌≡◌, ℕ, inr, ⊎_elim, None, List, length, arith}
 use Rattle.std.proofs.Math.Path.{subst₂}
 use Rattle.polcert_text.specs.Cut.{Lexeme, Rest, IsCut, text_rest, text_limit}
 use Rattle.polcert_text.specs.TakenTokens.{Taken}
@@ -16,15 +16,7 @@ use Rattle.polcert_policy.proofs.WholeTexts.{not_stopped, same_tokens, no_token_
 module _ (way : Rounding) where
   pub part_refusal : (g : PolicyGraph) (o p : ℕ) (text : List ℕ) (ts : List Lexeme) (rest : Rest) (fault : VectorFault)
       → o ≡ p → Taken (text_rest text text_limit) ts rest → IsPartRefusal way g o ts fault → IsRoundedVectorsRefusal way g p text fault
-  part_refusal g o p text ts rest fault e taken h = at fault (subst (λ x. IsPartRefusal way g x ts fault) e h)
-    where
-      at : (f : VectorFault) → IsPartRefusal way g p ts f → IsRoundedVectorsRefusal way g p text f
-      at (faults.Number fault place) h = (ts, (rest, taken, h))
-      at (faults.BadShape place) h = (ts, (rest, taken, h))
-      at (faults.ActionMismatch place) h = (ts, (rest, taken, h))
-      at (faults.WrongVectorCount place) h = inl (ts, (rest, taken, h))
-      at faults.Memory h = tt
-      at _ h = absurd h
+  part_refusal g o p text ts rest fault e taken h = grind arith
 
   module _ (g : PolicyGraph) (o : ℕ) (text : List ℕ) where
     module _ (ts : List Lexeme) (cut : IsCut (text_rest text text_limit) ts None) where
@@ -59,5 +51,4 @@ module _ (way : Rounding) where
 
   pub end_refused : (g : PolicyGraph) (o p : ℕ) (text : List ℕ) (ts : List Lexeme) (end : ℕ) (fault : VectorFault)
       → o ≡ p → IsCut (text_rest text text_limit) ts None → end ≡ length text → AreEndRefusal way g o ts end fault → IsRefusedRoundedVectorsText way g p fault text
-  end_refused g o p text ts end fault e cut place h =
-      refused_text g p text fault (end_refusal g p text ts cut fault (subst₂ (λ x n. AreEndRefusal way g x ts n fault) e place h))
+  end_refused g o p text ts end fault e cut place h = grind (arith, subst₂, end_refusal, refused_text)

@@ -1,5 +1,5 @@
 -- Values of vectors that stand whole at the front of some bytes, read together.
-use Rattle.std.proofs.Common.{◌≡◌, ℤ, ◌<◌, true, Option, Some, None, [], ◌∷◌, ◌++◌, refl, sym, ap, subst, append_assoc}
+use Rattle.std.proofs.Common.{◌≡◌, ℤ, ◌<◌, true, Option, Some, None, [], ◌∷◌, ◌++◌, refl, sym, ap, subst, append_assoc, arith}
 use Rattle.polcert_text.specs.Cut.{Lexeme}
 use Rattle.polcert_text.specs.FrontValues.{has_minus, with_minus}
 use Rattle.polcert_text.specs.Numbers.{IsReadable, IsRounded}
@@ -27,5 +27,4 @@ module _ {way : Rounding} (old mid new : VectorsReading) (t : Lexeme) (value : �
       (read_value g signed mid new (seen ++ s ∷ []) t value begun (ap numeral_kind numeral) readable (subst (λ b. IsRounded way b t.bytes value) (sym minus) rounded) states node column sign values next first)
 
   pub value_reads : (minus : Option Lexeme) → ((s : Lexeme) → minus ≡ Some s → s.kind ≡ Minus) → IsRounded way (has_minus minus) t.bytes value → ReadsOn (HasVectors way) old new (with_minus minus t)
-  value_reads None is rounded = plain_read (subst (λ o. IsRounded way (is_minus o) t.bytes value) (sym none) rounded)
-  value_reads (Some s) is rounded = signed_read s (is s refl) rounded
+  value_reads minus h1 h2 = grind (arith, plain_read, signed_read)

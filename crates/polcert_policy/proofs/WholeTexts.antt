@@ -1,5 +1,5 @@
 -- What is known of a text whose tokens are right, whatever tokens are.
-use Rattle.std.proofs.Common.{Some, None, List, ◌++◌, subst, ℕ}
+use Rattle.std.proofs.Common.{Some, None, List, ◌++◌, subst, ℕ, arith}
 use Rattle.polcert_text.specs.Cut.{Lexeme, Rest, IsCut, text_rest, text_limit}
 use Rattle.polcert_text.specs.TakenTokens.{Taken}
 use Rattle.polcert_text.specs.declared.tokens.TokenFault.{TokenFault}
@@ -12,9 +12,7 @@ module _ {V : Type 0} (IsRight : List Lexeme → V → Type 0) (text : List ℕ)
   -- whatever tokens were taken of it, right ones begin with them
   pub not_stopped : (ts : List Lexeme) (rest : Rest) → Taken (text_rest text text_limit) ts rest
       → ((more : List Lexeme) × ((w : V) × IsRight (ts ++ more) w) → ⊥) → ⊥
-  not_stopped ts rest taken none =
-      let following = cut_taken _ rest ts all None taken cut in
-      none (following.0, (v, subst (λ xs. IsRight xs v) following.1.0 right))
+  not_stopped ts rest taken none = grind (arith, cut_taken)
 
   -- its tokens are right, whatever cut of it they are
   pub same_tokens : (ts : List Lexeme) → IsCut (text_rest text text_limit) ts None → IsRight ts v

@@ -12,7 +12,7 @@ use Rattle.polcert_text.specs.Numbers.{IsRounded, IsReadable, largest}
 use Rattle.polcert_text.specs.declared.number.Rounding.{Rounding}
 use Rattle.polcert_text.specs.declared.number.Rounding.TheVariants.{Down}
 use Rattle.polcert_text.specs.declared.tokens.TokenKind.{TokenKind}
-use Rattle.polcert_text.specs.declared.tokens.TokenKind.TheVariants.{Numeral, Plus, Minus}
+use Rattle.polcert_text.specs.declared.tokens.TokenKind.TheVariants.{Plus, Minus}
 use Rattle.polcert_cells.specs.Numbers.{IsWhole, IsNumeral}
 use Rattle.polcert_policy.specs.Fields.{numeral_kind, minus_kind, is_whole, whole_of}
 use Rattle.polcert_cells.specs.Elements.{most_states}

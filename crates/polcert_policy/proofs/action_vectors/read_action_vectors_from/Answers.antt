@@ -1,6 +1,5 @@
 use Rattle.std.proofs.Common.{false, [], refl, subst}
 use Rattle.polcert_text.specs.ReadTexts.{ReadsText}
-use Rattle.polcert_text.specs.Source.{EachTextThatFits}
 use Rattle.polcert_text.specs.Source as source
 use Rattle.polcert_text.specs.declared.number.Rounding.TheVariants.{Up}
 use Rattle.polcert_text.proofs.Streams.ReadTexts.{text_refused}

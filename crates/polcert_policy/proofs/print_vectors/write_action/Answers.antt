@@ -1,12 +1,10 @@
-use Rattle.std.proofs.Common.{◌≡◌, rules, codes, decimal}
+use Rattle.std.proofs.Common.{◌≡◌, rules, codes, decimal, arith}
 use Rattle.polcert_text.proofs.Printing.Taking.{front_then, wrote_front, wrote_next}
 use Rattle.polcert_policy.specs.Graphs.{action_of}
 use Rattle.polcert_policy.proofs.print_vectors.write_action.Goals as goal
 
 pub returns-in_err-write_all : goal.returns-in_err-write_all
-returns-in_err-write_all g c =
-    let number : c.as_bytes.result.now ≡ decimal (action_of c.args.graph.now c.args.node) = search rules in
-    wrote_front _ _ (search rules) (front_then (codes "\n") (rw number at c.in_err-write_all.ensures.err)) c.in_err-write_all.ensures.count
+returns-in_err-write_all g c = grind (arith, front_then, wrote_front)
 
 pub returns : goal.returns
 returns g c =

@@ -1,5 +1,5 @@
-use Rattle.std.proofs.Common.{◌≡◌, ◌∙◌, ◌+◌, ◌<◌, suc, refl, subst, rules, arith}
-use Rattle.polcert_text.specs.Sink.{Takes, nothing}
+use Rattle.std.proofs.Common.{refl, rules, arith}
+use Rattle.polcert_text.specs.Sink.{nothing}
 use Rattle.polcert_text.proofs.Printing.Taking.{took_then}
 use Rattle.polcert_policy.specs.FullForm.{values_text, value_text}
 use Rattle.polcert_text.proofs.Printing.Written.{wrote_part}
@@ -11,15 +11,8 @@ loop-state-init g c = record { took = nothing; same_count = refl }
 pub returns-in_err-write_value : goal.returns-in_err-write_value
 returns-in_err-write_value g c =
     let v = c.args.vectors.now in
-    let below : c.loop-state.state < v.states = search rules in
-    wrote_part (values_text v c.args.node) (value_text v c.args.node) (λ n. refl) c.loop-state.state v.states below _ (search rules)
+    wrote_part (values_text v c.args.node) (value_text v c.args.node) (λ n. refl) c.loop-state.state v.states (search rules) _ (search rules)
     c.loop-state.invariant.took c.loop-state.invariant.same_count c.in_err-write_value.ensures.err c.in_err-write_value.ensures.count
 
 pub loop-state-preserved : goal.loop-state-preserved
-loop-state-preserved g c =
-    let next : suc c.loop-state.state ≡ c.loop-state.state + 1 = omega arith in
-    record {
-      took = subst (λ n. Takes g.W.Sink.writes c.args.out.now (values_text c.args.vectors.now c.args.node n) c.write_value.new.out) next
-          (took_then c.loop-state.invariant.took c.in_ok-write_value.ensures.ok);
-      same_count = c.in_ok-write_value.ensures.same_count ∙ c.loop-state.invariant.same_count;
-    }
+loop-state-preserved g c = grind (arith, took_then)

@@ -1,11 +1,10 @@
-use Rattle.std.proofs.Common.{rules}
+use Rattle.std.proofs.Common.{arith}
 use Rattle.polcert_text.proofs.Printing.Taking.{front_then, wrote_front, wrote_next}
 use Rattle.polcert_policy.specs.FullForm.{action_text, values_text}
 use Rattle.polcert_policy.proofs.print_vectors.write_vector.Goals as goal
 
 pub returns-in_err-write_action : goal.returns-in_err-write_action
-returns-in_err-write_action g c =
-    wrote_front _ _ (search rules) (front_then (values_text c.args.vectors.now c.args.node c.args.vectors.now.states) c.in_err-write_action.ensures.err) c.in_err-write_action.ensures.count
+returns-in_err-write_action g c = grind (arith, front_then, wrote_front)
 
 pub returns : goal.returns
 returns g c =

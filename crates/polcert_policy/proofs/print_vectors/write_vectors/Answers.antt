@@ -1,5 +1,5 @@
-use Rattle.std.proofs.Common.{◌≡◌, ◌∙◌, ◌+◌, ◌<◌, suc, refl, sym, subst, rules, arith}
-use Rattle.polcert_text.specs.Sink.{Takes, nothing}
+use Rattle.std.proofs.Common.{◌<◌, refl, sym, rules, arith}
+use Rattle.polcert_text.specs.Sink.{nothing}
 use Rattle.polcert_text.proofs.Printing.Taking.{took_then}
 use Rattle.polcert_text.specs.declared.number.Rounding.TheVariants.{Down}
 use Rattle.polcert_policy.specs.Graphs.{nodes}
@@ -23,13 +23,7 @@ returns-in_err-write_vector g c =
     }
 
 pub loop-node-preserved : goal.loop-node-preserved
-loop-node-preserved g c =
-    let next : suc c.loop-node.node ≡ c.loop-node.node + 1 = omega arith in
-    record {
-      took = subst (λ n. Takes g.W.Sink.writes c.args.out.now (vectors_text_up_to c.args.graph.now c.args.vectors.now n) c.write_vector.new.out) next
-          (took_then c.loop-node.invariant.took c.in_ok-write_vector.ensures.ok);
-      same_count = c.in_ok-write_vector.ensures.same_count ∙ c.loop-node.invariant.same_count;
-    }
+loop-node-preserved g c = grind (arith, took_then)
 
 pub returns : goal.returns
 returns g c =
