@@ -3,7 +3,6 @@ use Rattle.std.proofs.Common.{◌≡◌, ◌∙◌, ℕ, zero, suc, ◌+◌, ◌
 use Rattle.std.specs.List.{slice_get}
 use Rattle.std.specs.List.Sorted.{IsPermutation, IsNonDecreasingBy}
 use Rattle.std.proofs.lemmas.Bool.Decides.{nat_tests}
-use Rattle.std.proofs.lemmas.Bool.{cases_lt}
 use Rattle.std.proofs.lemmas.List.Kept.{AllPairs-cons}
 use Rattle.std.proofs.lemmas.List.Elements.{All-nil, All-cons}
 use Rattle.std.proofs.lemmas.List.Sorted.{Contains-permutation, IsPermutation-sym}
@@ -40,16 +39,8 @@ rules_sound n (e ∷ es) r a = ⊎_elim
 
 rules_complete : (n : ℕ) (es : List Entry) (k : ℕ) (e : Entry) → slice_get es k ≡ Some e → Among (record { key = key_of e; number = n + k }) (rules_from n es)
 rules_complete n [] k e is = cc
-rules_complete n (x ∷ es) zero e is =
-    let same : x ≡ e = cc in
-    let at : n ≡ n + 0 = omega arith in
-    inl (ap (λ (y : Entry). numbered_rule (key_of y) n) same ∙ ap (numbered_rule (key_of e)) at)
-  where
-    numbered_rule : ℕ → ℕ → Rule
-    numbered_rule key number = record { key = key; number = number }
-rules_complete n (x ∷ es) (suc k) e is =
-    let at : n + 1 + k ≡ n + suc k = omega arith in
-    inr (subst (λ m. Among (record { key = key_of e; number = m }) (rules_from (n + 1) es)) at (rules_complete (n + 1) es k e is))
+rules_complete n (x ∷ es) zero e is = grind arith
+rules_complete n (x ∷ es) (suc k) e is = grind (arith, rules_complete (n + 1) es k e is)
 
 -- ---- of each key the newest
 -- a rule with the same key, and a number as great
@@ -92,12 +83,7 @@ none_lost last (s ∷ rs) r a = at (λ m q b. none_lost m rs q b) (eqb s.key las
 
 -- the greater number is one of the two
 one_of_two : (last s r : Rule) (rs : List Rule) → s.key ≡ last.key → joined last s ≡ r → Among r (last ∷ s ∷ rs)
-one_of_two last s r rs same e = ⊎_elim
-    (λ less. let top : max last.number s.number ≡ s.number = omega arith in
-    inr (inl (ap (λ k. rule_of k s.number) same ∙ ap (rule_of last.key) (sym top) ∙ e)))
-    (λ ge. let top : max last.number s.number ≡ last.number = omega arith in
-    inl (ap (rule_of last.key) (sym top) ∙ e))
-    (cases_lt last.number s.number)
+one_of_two last s r rs same e = grind arith
 
 none_new : (last : Rule) (rs : List Rule) (r : Rule) → Among r (newest_from last rs) → Among r (last ∷ rs)
 none_new last [] r a = a
@@ -178,12 +164,10 @@ each_rises [] up = λ i j d less l. absurd (omega arith)
 each_rises (x ∷ xs) up = rising_at x.key (newest_from x xs) (newest_rises_at x xs (rises_from x xs up))
 
 pub each_old : (xs : List Rule) (r : Rule) → Among r (newest_of_each xs) → Among r xs
-each_old [] r a = a
-each_old (x ∷ xs) r a = none_new x xs r a
+each_old xs r h1 = grind (arith, none_new)
 
 pub each_kept : (xs : List Rule) (r : Rule) → Among r xs → Stands (newest_of_each xs) r
-each_kept [] r a = absurd a
-each_kept (x ∷ xs) r a = none_lost x xs r a
+each_kept xs r h1 = grind (arith, none_lost)
 
 pub is_index : (entries : List Entry) (sorted : List Rule) → IsPermutation (rules_from 0 entries) sorted → IsIndexOf entries (newest_of_each sorted)
 is_index entries sorted p = record { sound = sound; complete = complete }

@@ -1,14 +1,12 @@
 -- Rows as they are built, action by action and state by state.
-use Rattle.std.proofs.Common.{◌≡◌, ◌∙◌, ℕ, ◌+◌, ◌-◌, ◌*◌, ◌^◌, ◌<◌, ◌≤◌, ◌↔◌, Contains, ⊎_elim, List, [], ◌∷◌, ◌++◌, length, get_or, slice_index, slice_index_or, All, sym, ap, subst, arith}
+use Rattle.std.proofs.Common.{◌≡◌, ◌∙◌, ℕ, ◌+◌, ◌-◌, ◌^◌, ◌<◌, ◌≤◌, ◌↔◌, Contains, ⊎_elim, List, [], ◌∷◌, ◌++◌, length, get_or, slice_index, slice_index_or, All, sym, ap, subst, arith, rules}
 use Rattle.std.proofs.lemmas.Bool.{cases_lt}
 use Rattle.std.proofs.lemmas.List.{length-append, get_or_append_left, get_or_default}
 use Rattle.std.proofs.Math.Seq.{get_or-append_seam}
-use Rattle.std.proofs.lemmas.List.Elements.{All-nil, All-push}
+use Rattle.std.proofs.lemmas.List.Elements.{All-push}
 use Rattle.std.proofs.lemmas.Option.{get_or_from_slice_get}
 use Rattle.polcert_cells.specs.declared.elements.Cell.{Cell}
 use Rattle.polcert_cells.specs.Preamble.{Preamble}
-use Rattle.polcert_cells.specs.Meaning.{sum_below}
-use Rattle.polcert_cells.specs.Numbers.{one}
 use Rattle.polcert_cells.specs.Cells.{weight}
 use Rattle.polcert_cells.specs.Sparse.{IsSparse, IsRow}
 use Rattle.polcert_cells.proofs.SparseLaws.{row_same}
@@ -38,12 +36,7 @@ module _ (given : TableEntries) where
 
   -- ---- the rows of an action
   pub line_none : (a : ℕ) (rows : List (List Cell)) (numbers : List ℕ) → numbers ≡ [] → AreLine given a 0 rows numbers
-  line_none a rows numbers e = record {
-    size = ap length e;
-    within = subst (λ (xs : List ℕ). All (λ n. n < length rows) xs) (sym e) (All-nil (λ n. n < length rows));
-    each = λ s l. absurd (omega arith);
-    proper = λ s l. absurd (omega arith);
-  }
+  line_none a rows numbers e = grind arith
 
   pub line_stays : (a count : ℕ) (old new : List (List Cell)) (numbers : List ℕ) → Stays old new → AreLine given a count old numbers → AreLine given a count new numbers
   line_stays a count old new numbers stays h = record {
@@ -108,11 +101,7 @@ module _ (given : TableEntries) where
           subst (AreLine given b given.bodies.shape.states new) last (subst (λ k. AreLine given k given.bodies.shape.states new line) (sym at) here)
 
   pub all_within : (count : ℕ) (rows : List (List Cell)) (numbers : List (List ℕ)) → AreLines given count rows numbers → All (HasRows given.bodies.shape.states (length rows)) numbers
-  all_within count rows numbers h k d l =
-      let size = h.size in
-      let line = h.each k (omega arith) in
-      let same : slice_index_or numbers k [] ≡ get_or numbers k d = get_or_default numbers k [] d l in
-      subst (HasRows given.bodies.shape.states (length rows)) same (line.size, line.within)
+  all_within count rows numbers h k d l = grind (arith, get_or_default)
 
   -- ---- an action that no entry tells from the one before
   module _ (sound : AreGiven given) where
@@ -149,13 +138,10 @@ module _ (given : TableEntries) where
       same_weights a s c = weight_is sound.preamble given.table given.bodies.shape given.bodies.entries.now sound.weighted sound.shape sound.sound.each p a s c is
 
       pub to_proper : (a s : ℕ) → HasScale given a s → IsProperRow p given.bodies.entries.now given.table a s
-      to_proper a s h =
-          subst (λ n. sum_below (λ c. weight p given.bodies.entries.now given.table (a ∷ s ∷ c ∷ [])) n ≡ one * n) is.columns (sym (sum_same _ _ width (λ c l. same_weights a s c)) ∙ h)
+      to_proper a s h = grind (arith, sum_same, same_weights)
 
       of_proper : (a s : ℕ) → IsProperRow p given.bodies.entries.now given.table a s → HasScale given a s
-      of_proper a s h =
-          sum_same _ _ width (λ c l. same_weights a s c)
-          ∙ subst (λ n. sum_below (λ c. weight p given.bodies.entries.now given.table (a ∷ s ∷ c ∷ [])) n ≡ one * n) (sym is.columns) h
+      of_proper a s h = grind (arith, sum_same, same_weights)
 
       pub wrong_row : (a : ℕ) (rows : List (List Cell)) (numbers : List (List ℕ)) (x : WrongRow) → AreLines given a rows numbers → a < given.bodies.shape.actions → IsFirstWrongIn given a x
           → IsFirstWrong p given.bodies.entries.now given.table x
@@ -192,14 +178,7 @@ pub given_is : (given : TableEntries) (part : List Rule) → IsWeighted given.ta
     → IsIndexOf given.bodies.entries.now given.index.now → IsRising part
     → ((r : Rule) → Contains part r ↔ (Contains given.index.now r × (table_key given.table ≤ r.key) × (r.key < table_key given.table + key_base ^ most_places)))
     → given.split.now.zeros.items ≡ zeros_of given.bodies.entries.now part → others_in given.split.now.others ≡ others_of given.bodies.entries.now part → AreGiven given
-given_is given part weighted sound index rising kept zeros others = record {
-  weighted = weighted;
-  preamble = sound.0;
-  shape = sound.1;
-  sound = sound.2;
-  index = index;
-  split = split_is given.bodies.entries.now given.table given.index.now part given.split.now rising kept zeros others;
-}
+given_is given part weighted sound index rising kept zeros others = search (rules, split_is)
 
 -- the numbers of the rows so far are those of rows
 pub all_below : (given : TableEntries) (count : ℕ) (rows : List (List Cell)) (numbers : List (List ℕ)) → AreLines given count rows numbers → All (All (λ n. n < length rows)) numbers

@@ -1,5 +1,5 @@
 -- Rows that are kept, and what they are made of.
-use Rattle.std.proofs.Common.{◌≡◌, ◌∙◌, ℕ, zero, suc, ◌*◌, ◌<◌, ◌≤◌, ◌==◌, ◌↔◌, ⊎_elim, Bool, true, false, cond, eqb, IsTrue, Option, Some, None, List, [], ◌∷◌, ◌++◌, length, map, get_or, slice_index, All, refl, sym, ap, subst, arith, rules, tests}
+use Rattle.std.proofs.Common.{◌≡◌, ◌∙◌, ℕ, zero, suc, ◌*◌, ◌<◌, ◌≤◌, ◌==◌, ◌↔◌, ⊎_elim, Bool, cond, eqb, IsTrue, Option, Some, List, [], ◌∷◌, ◌++◌, length, map, get_or, slice_index, All, refl, sym, ap, subst, arith, rules, tests}
 use Rattle.std.specs.Option.{option_map}
 use Rattle.std.proofs.lemmas.List.{map-append}
 use Rattle.std.specs.List.{slice_get}
@@ -10,9 +10,7 @@ use Rattle.std.proofs.lemmas.List.Elements.{All-push, All-weaker}
 use Rattle.std.proofs.lemmas.Option.{slice_get_within, slice_get-get_or, slice_get-map, get_or_from_slice_get, same_Some}
 use Rattle.polcert_cells.specs.declared.entries.Place.{Place}
 use Rattle.polcert_cells.specs.declared.entries.Body.{Body}
-use Rattle.polcert_cells.specs.declared.entries.Body.TheVariants.{Probabilities, Rewards, Uniform, Identity}
 use Rattle.polcert_cells.specs.declared.entries.Entry.{Entry}
-use Rattle.polcert_cells.specs.Cells.{value_or}
 use Rattle.polcert_cells.specs.Numbers.{one}
 use Rattle.polcert_cells.specs.Steps.Sound.{Fills}
 use Rattle.polcert_cells.specs.declared.elements.Cell.{Cell}
@@ -21,14 +19,14 @@ use Rattle.polcert_rules.specs.declared.row_store.RowOrigin.{RowOrigin}
 use Rattle.polcert_rules.specs.declared.row_store.RowOrigin.TheVariants.{Nothing, Even, Diagonal, Line}
 use Rattle.polcert_rules.specs.declared.row_store.SharedRow.{SharedRow}
 use Rattle.polcert_rules.specs.declared.row_store.RowStore.{RowStore}
-use Rattle.polcert_rules.specs.Steps.Given.{IsWithin, FitsShape, number_for, given_by, given}
+use Rattle.polcert_rules.specs.Steps.Given.{IsWithin, FitsShape, given_by, given}
 use Rattle.polcert_cells.specs.Meaning.{sum_below}
-use Rattle.polcert_cells.specs.Sparse.{weight_at, scaled_cells, IsSparse, IsRow}
+use Rattle.polcert_cells.specs.Sparse.{scaled_cells, IsSparse, IsRow}
 use Rattle.polcert_cells.proofs.SparseLaws.{row_same}
 use Rattle.polcert_cells.proofs.ScaledRows.{scaled_row}
 use Rattle.polcert_rules.specs.Steps.Lists.{IsFullLine}
 use Rattle.polcert_rules.specs.Steps.Merging.{given_at}
-use Rattle.polcert_rules.specs.Steps.Sources.{source_in, source_of, IsFrom, IsWhole, AreKept, IsKeptRow, IsShared, IsSharedRow, IsAfter, Stays, is_proper}
+use Rattle.polcert_rules.specs.Steps.Sources.{source_of, IsFrom, IsWhole, AreKept, IsKeptRow, IsShared, IsSharedRow, IsAfter, Stays, is_proper}
 use Rattle.polcert_rules.proofs.RowLaws.SumLaws.{sum_is, sum_same}
 
 -- ---- lists
@@ -56,23 +54,8 @@ module _ (columns : ℕ) (entries : List Entry) where
   made_of (Diagonal s) c = cond (eqb s c) (one * columns) 0
   made_of (Line n l) c = given_at columns entries (Some n) l c
 
-  of_body : (n : ℕ) (places : List Place) (body : Body) (s c : ℕ) → ((l : ℕ) → given_by columns places body l c ≡ given_at columns entries (Some n) l c)
-      → given_by columns places body s c ≡ made_of (source_in n places body s) c
-  of_body n [] (Probabilities ps) s c at = at 0
-  of_body n (p ∷ []) (Probabilities ps) s c at = at s
-  of_body n (p ∷ q ∷ []) (Probabilities ps) s c at = at 0
-  of_body n (p ∷ q ∷ r ∷ rest) (Probabilities ps) s c at = at 0
-  of_body n places Uniform s c at = refl
-  of_body n places Identity s c at = refl
-  of_body n places (Rewards hs) s c at = refl
-
-  of_entry : (n : ℕ) (o : Option Entry) (s c : ℕ) → slice_get entries n ≡ o → value_or 0 (λ e. given columns e s c) o ≡ made_of (value_or Nothing (λ e. source_in n e.places e.body s) o) c
-  of_entry n None s c is = refl
-  of_entry n (Some x) s c is = of_body n x.places x.body s c (λ l. sym (ap (λ o. value_or 0 (λ e. given columns e l c) o) is))
-
   by_source : (whole : Option ℕ) (s c : ℕ) → given_at columns entries whole s c ≡ made_of (source_of entries whole s) c
-  by_source None s c = refl
-  by_source (Some n) s c = of_entry n (slice_get entries n) s c refl
+  by_source whole s c = grind arith
 
   same_source : (one other : Option ℕ) (s t c : ℕ) → source_of entries one s ≡ source_of entries other t → given_at columns entries one s c ≡ given_at columns entries other t c
   same_source one other s t c e = by_source one s c ∙ ap (λ (x : RowOrigin). made_of x c) e ∙ sym (by_source other t c)
@@ -113,8 +96,7 @@ module _ (columns : ℕ) (entries : List Entry) where
   }
 
   pub after_row : (cells : List Cell) (old new : RowStore) (n : ℕ) → IsAfter columns cells old new → n ≡ length old.rows → slice_get new.rows n ≡ Some cells
-  after_row cells old new n b e =
-      subst (λ (xs : List (List Cell)). slice_get xs n ≡ Some cells) (sym b.rows_are) (subst (λ k. slice_get (old.rows ++ cells ∷ []) k ≡ Some cells) (sym e) (get_last old.rows cells))
+  after_row cells old new n b e = grind (arith, get_last)
 
   -- one more row that one entry gives alone
   pub one_more_common : (old new : RowStore) (x : SharedRow) → new.rows ≡ old.rows → new.proper.items ≡ old.proper.items → new.shared.items ≡ old.shared.items ++ x ∷ []
@@ -149,27 +131,13 @@ number_small : (ps : List ℕ) (k : ℕ) → All (λ p. p ≤ one) ps → slice_
 number_small ps k all = ⊎_elim (all k 0) (λ ge. let past : get_or ps k 0 ≡ 0 = get_or_past ps k 0 ge in omega arith) (cases_lt k (length ps))
 
 given_by_small : (columns cells : ℕ) (places : List Place) (body : Body) (s c : ℕ) → 1 ≤ columns → Fills cells body → given_by columns places body s c ≤ one * columns
-given_by_small columns cells places (Probabilities ps) s c some f =
-    let small = number_small ps (number_for columns places s c) f.1 in
-    let more : columns * slice_index ps (number_for columns places s c) ≤ columns * one = mul-le-mul_left columns small in
-    let left : columns * slice_index ps (number_for columns places s c) ≡ slice_index ps (number_for columns places s c) * columns = mul_comm columns (slice_index ps (number_for columns places s c)) in
-    let right : columns * one ≡ one * columns = mul_comm columns one in
-    omega arith
-given_by_small columns cells places Uniform s c some f = omega arith
-given_by_small columns cells places Identity s c some f = at (eqb s c)
-  where
-    at : (b : Bool) → cond b (one * columns) 0 ≤ one * columns
-    at true = omega arith
-    at false = omega arith
-given_by_small columns cells places (Rewards hs) s c some f = omega arith
+given_by_small columns cells places body s c h1 h2 = grind (arith, mul-le-mul_left, mul_comm, number_small)
 
 pub given_small : (shape : Shape) (e : Entry) (s c : ℕ) → IsWithin shape → FitsShape shape e → given shape.columns e s c ≤ one * shape.columns
 given_small shape e s c w f = given_by_small shape.columns _ e.places e.body s c w.columns.0 f.body
 
 pub whole_small : (shape : Shape) (entries : List Entry) (whole : Option ℕ) (s c : ℕ) → IsWithin shape → IsWhole shape entries whole → given_at shape.columns entries whole s c ≤ one * shape.columns
-whole_small shape entries None s c w h = omega arith
-whole_small shape entries (Some n) s c w h =
-    subst (λ o. value_or 0 (λ e. given shape.columns e s c) o ≤ one * shape.columns) (sym h.1) (given_small shape h.0 s c w h.2)
+whole_small shape entries whole s c h1 h2 = grind (arith, given_small)
 
 -- ---- rows of numbers
 pub full_row : (n : ℕ) (f : ℕ → ℕ) (ns : List ℕ) → IsFullLine n f ns → IsRow n f (scaled_cells (length ns) 0 ns)

@@ -1,5 +1,5 @@
 -- Lists that stand one after another in one list.
-use Rattle.std.proofs.Common.{◌≡◌, ◌∙◌, ℕ, ◌+◌, ◌-◌, ◌≤◌, List, [], ◌∷◌, ◌++◌, length, take, drop, map, All, refl, ap, subst, arith}
+use Rattle.std.proofs.Common.{◌≡◌, ◌∙◌, ℕ, ◌+◌, ◌-◌, ◌≤◌, List, [], ◌∷◌, ◌++◌, length, map, All, refl, ap, subst, arith}
 use Rattle.std.proofs.lemmas.List.{append-nil, drop-append-le, take-append-le, length-drop, map-append, take_all}
 use Rattle.std.specs.List.{slice_range}
 use Rattle.std.proofs.Math.Seq.{drop-append_seam}
@@ -14,12 +14,7 @@ use Rattle.polcert_rules.specs.declared.rows.RowPart.{RowPart}
 
 module _ {X : Type 0} (xs ys : List X) where
   part_stays : (p : Part) → LiesIn (length xs) p → part_in (xs ++ ys) p ≡ part_in xs p
-  part_stays p l =
-      let order = l.order in
-      let room = l.room in
-      let size = length-drop p.start xs in
-      ap (take (p.end - p.start)) (drop-append-le p.start xs ys (omega (arith, order, room)))
-      ∙ take-append-le (p.end - p.start) (drop p.start xs) ys (omega (arith, order, room, size))
+  part_stays p l = grind (arith, drop-append-le, take-append-le, length-drop)
 
   lists_stay : (ps : List Part) → All (LiesIn (length xs)) ps → map (part_in (xs ++ ys)) ps ≡ map (part_in xs) ps
   lists_stay [] a = refl
@@ -29,15 +24,11 @@ module _ {X : Type 0} (xs ys : List X) where
       λ i. here i ∷ rest i
 
   part_last : (p : Part) → p.start ≡ length xs → p.end ≡ length xs + length ys → part_in (xs ++ ys) p ≡ ys
-  part_last p s e =
-      ap (λ k. take (p.end - k) (drop k (xs ++ ys))) s ∙ ap (take (p.end - length xs)) (drop-append_seam xs ys) ∙ take_all (p.end - length xs) ys (omega (arith, e))
+  part_last p s e = grind (arith, take_all, drop-append_seam)
 
   -- one more list
   pub one_more_list : (ps : List Part) (p : Part) → All (LiesIn (length xs)) ps → p.start ≡ length xs → p.end ≡ length xs + length ys → map (part_in (xs ++ ys)) (ps ++ p ∷ []) ≡ map (part_in xs) ps ++ ys ∷ []
-  one_more_list ps p a s e =
-      let before = lists_stay ps a in
-      let last = part_last p s e in
-      map-append (part_in (xs ++ ys)) ps (p ∷ []) ∙ (λ i. before i ++ last i ∷ [])
+  one_more_list ps p a s e = grind (arith, map-append, lists_stay, part_last)
 
 -- ---- rows in two lists
 range_stays : {X : Type 0} (xs ys : List X) (start count : ℕ) → start + count ≤ length xs → slice_range (xs ++ ys) start (start + count) ≡ slice_range xs start (start + count)
@@ -49,8 +40,7 @@ range_last xs ys start count s e = part_last xs ys (record { start = start; end 
 -- the lists continue
 module _ (cells more : List Cell) (numbers others : List ℕ) where
   form_stays : (f : RowForm) (start count : ℕ) → HasRoom f (length cells) (length numbers) (start + count) → cells_in (cells ++ more) (numbers ++ others) f start count ≡ cells_in cells numbers f start count
-  form_stays Sparse start count room = range_stays cells more start count room
-  form_stays Full start count room = ap (scaled_cells count 0) (range_stays numbers others start count room)
+  form_stays f start count h1 = grind (arith, range_stays)
 
   rows_stay : (ps : List RowPart) → All (IsHeld cells numbers) ps → map (row_in (cells ++ more) (numbers ++ others)) ps ≡ map (row_in cells numbers) ps
   rows_stay [] a = refl
@@ -61,9 +51,7 @@ module _ (cells more : List Cell) (numbers others : List ℕ) where
 
   -- one more row
   one_more_row : (ps : List RowPart) (p : RowPart) → All (IsHeld cells numbers) ps → map (row_in (cells ++ more) (numbers ++ others)) (ps ++ p ∷ []) ≡ map (row_in cells numbers) ps ++ row_in (cells ++ more) (numbers ++ others) p ∷ []
-  one_more_row ps p a =
-      let before = rows_stay ps a in
-      map-append (row_in (cells ++ more) (numbers ++ others)) ps (p ∷ []) ∙ (λ i. before i ++ row_in (cells ++ more) (numbers ++ others) p ∷ [])
+  one_more_row ps p a = grind (arith, map-append, rows_stay)
 
 -- one more row of either form
 pub push_sparse : (cells more : List Cell) (numbers : List ℕ) (ps : List RowPart) (p : RowPart) → All (IsHeld cells numbers) ps → p.form ≡ Sparse → p.start ≡ length cells → p.count ≡ length more

@@ -1,5 +1,5 @@
 -- The newest rule is the one that the function of the rules gives.
-use Rattle.std.proofs.Common.{◌≡◌, ◌∙◌, ℕ, zero, suc, ◌+◌, ◌*◌, ◌^◌, ◌≤◌, Bool, true, false, cond, ◌⊎◌, inl, inr, ⊎_elim, Option, Some, None, List, [], ◌∷◌, Contains, refl, sym, ap, subst, arith}
+use Rattle.std.proofs.Common.{◌≡◌, ◌∙◌, ℕ, zero, suc, ◌+◌, ◌*◌, ◌^◌, Bool, true, false, ◌⊎◌, inl, inr, ⊎_elim, Option, Some, List, [], ◌∷◌, Contains, refl, ap, subst, arith}
 use Rattle.std.specs.Prelude.{◌||◌, ◌==◌}
 use Rattle.polcert_cells.specs.declared.entries.Place.{Place}
 use Rattle.polcert_rules.specs.declared.index.Rule.{Rule}
@@ -13,15 +13,13 @@ use Rattle.polcert_rules.proofs.Indexes.Building.{among_from, contains_from}
 
 -- ---- a key that fits
 one_of : (a b : Bool) → (a || b) ≡ true → (a ≡ true) ⊎ (b ≡ true)
-one_of true b e = inl refl
-one_of false b e = inr e
+one_of a b h1 = grind arith
 
 first_of_two : (a b : Bool) → a ≡ true → (a || b) ≡ true
 first_of_two a b e = ap (λ x. x || b) e
 
 second_of_two : (a b : Bool) → b ≡ true → (a || b) ≡ true
-second_of_two true b e = refl
-second_of_two false b e = e
+second_of_two a b h1 = grind arith
 
 equal_by : (a b : ℕ) → a ≡ b → (a == b) ≡ true
 equal_by a b e = ap (λ x. x == b) e ∙ equal_numbers b
@@ -76,32 +74,18 @@ with_first r rs P x p n =
 
 -- the first rule does not pass
 without_first : (r : Rule) (rs : List Rule) (P : ℕ → Type 0) (x : Option ℕ) → (P r.key → ⊥) → IsNewest rs P x → IsNewest (r ∷ rs) P x
-without_first r rs P x fails n = newest_of_part (r ∷ rs) rs P x (λ q c. following r q rs c)
-    (λ q c own. ⊎_elim (λ same. absurd (fails (subst (λ (y : Rule). P y.key) (sym same) own))) (λ b. b) (front_or_after r q rs c)) n
+without_first r rs P x fails n = grind (arith, ⊎_elim, newest_of_part, following, front_or_after)
 
 not_both : (b : Bool) → b ≡ false → b ≡ true → ⊥
 not_both b f t = cc
 
 pub newest_by_is : (rules : List Rule) (passes : ℕ → Bool) (P : ℕ → Type 0) → ((k : ℕ) → passes k ≡ true → P k) → ((k : ℕ) → P k → passes k ≡ true) → IsNewest rules P (newest_by passes rules)
 newest_by_is [] passes P sound complete = λ r c p. among_from [] r c
-newest_by_is (r ∷ rs) passes P sound complete = at (newest_by passes rs) (newest_by_is rs passes P sound complete) (passes r.key) refl
-  where
-    at : (x : Option ℕ) → IsNewest rs P x → (b : Bool) → passes r.key ≡ b → IsNewest (r ∷ rs) P (cond b (max_option (Some r.number) x) x)
-    at x n true e = with_first r rs P x (sound r.key e) n
-    at x n false e = without_first r rs P x (λ p. not_both (passes r.key) e (complete r.key p)) n
+newest_by_is (r ∷ rs) passes P sound complete = grind (arith, with_first, without_first, not_both, newest_by_is rs passes P sound complete)
 
 -- there is one newest number
 pub one_newest : (rules : List Rule) (P : ℕ → Type 0) (m n : Option ℕ) → IsNewest rules P m → IsNewest rules P n → m ≡ n
-one_newest rules P None None x y = refl
-one_newest rules P None (Some n) x y = absurd (x y.0.rule y.0.among y.0.passes)
-one_newest rules P (Some m) None x y = absurd (y x.0.rule x.0.among x.0.passes)
-one_newest rules P (Some m) (Some n) x y =
-    let up : x.0.rule.number ≤ n = y.1 x.0.rule x.0.among x.0.passes in
-    let down : y.0.rule.number ≤ m = x.1 y.0.rule y.0.among y.0.passes in
-    let one : x.0.rule.number ≡ m = x.0.is in
-    let other : y.0.rule.number ≡ n = y.0.is in
-    let same : m ≡ n = omega arith in
-    ap Some same
+one_newest rs0 P m n h1 h2 = grind arith
 
 -- ---- the newest rule, computed
 pub newest_is : (levels low : ℕ) (rules : List Rule) (indices : List ℕ) → IsNewest rules (Fits levels low indices) (newest_in levels low rules indices)

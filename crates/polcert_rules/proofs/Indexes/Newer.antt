@@ -1,31 +1,23 @@
 -- The newest of several.
-use Rattle.std.proofs.Common.{◌≡◌, ◌∙◌, ℕ, zero, suc, ◌+◌, ◌-◌, ◌*◌, ◌^◌, ◌<◌, ◌≤◌, ◌↔◌, ◌⊎◌, inl, inr, ⊎_elim, Option, Some, None, List, [], ◌∷◌, Contains, get_or, length, refl, sym, ap, subst, arith}
+use Rattle.std.proofs.Common.{◌≡◌, ◌∙◌, ℕ, suc, ◌+◌, ◌-◌, ◌*◌, ◌^◌, ◌<◌, ◌≤◌, ◌↔◌, ◌⊎◌, ⊎_elim, Option, Some, None, List, [], ◌∷◌, Contains, length, refl, sym, ap, subst, arith, rules}
 use Rattle.std.specs.List.{slice_get}
 use Rattle.std.proofs.lemmas.Option.{slice_get_within, get_or_from_slice_get}
 use Rattle.polcert_rules.specs.declared.index.Rule.{Rule}
 use Rattle.polcert_rules.specs.Steps.Newest.{IsRising, IsNewest}
 use Rattle.polcert_rules.specs.Matching.{max_option}
 use Rattle.polcert_rules.specs.Keys.{key_base, AreIndices, Fits}
-use Rattle.polcert_rules.proofs.Indexes.Greatest.{greatest_as, greatest_of, newest_of, greatest_of_two}
 use Rattle.polcert_rules.proofs.Keyed.Fitting.{fits_low, fits_high, fits_next, fits_here, fits_end, fits_every, fits_only, digit_below, power_next, power_some}
 
 pub newest_as : (rules : List Rule) (P Q : ℕ → Type 0) (x : Option ℕ) → ((k : ℕ) → P k → Q k) → ((k : ℕ) → Q k → P k) → IsNewest rules P x → IsNewest rules Q x
-newest_as rules P Q None f g n = λ r c q. n r c (g r.key q)
-newest_as rules P Q (Some m) f g n =
-    (record { rule = n.0.rule; among = n.0.among; passes = f n.0.rule.key n.0.passes; is = n.0.is }, λ r c q. n.1 r c (g r.key q))
+newest_as rs0 P Q x h1 h2 h3 = grind arith
 
 -- from a part of the rules that has all that pass
 pub newest_of_part : (rules part : List Rule) (P : ℕ → Type 0) (x : Option ℕ) → ((r : Rule) → Contains part r → Contains rules r)
     → ((r : Rule) → Contains rules r → P r.key → Contains part r) → IsNewest part P x → IsNewest rules P x
-newest_of_part rules part P None out in_part n = λ r c p. n r (in_part r c p) p
-newest_of_part rules part P (Some m) out in_part n =
-    (record { rule = n.0.rule; among = out n.0.rule n.0.among; passes = n.0.passes; is = n.0.is }, λ r c p. n.1 r (in_part r c p) p)
+newest_of_part rs0 part P x h1 h2 h3 = grind arith
 
 pub newest_of_two : (rules : List Rule) (P Q : ℕ → Type 0) (a b : Option ℕ) → IsNewest rules P a → IsNewest rules Q b → IsNewest rules (λ k. P k ⊎ Q k) (max_option a b)
-newest_of_two rules P Q a b x y =
-    newest_of rules (λ k. P k ⊎ Q k) (max_option a b) (greatest_as _ _ (max_option a b)
-    (λ r e. ⊎_elim (λ p. (p.0, inl p.1)) (λ q. (q.0, inr q.1)) e) (λ r f. ⊎_elim (λ p. inl (f.0, p)) (λ q. inr (f.0, q)) f.1)
-    (greatest_of_two _ _ a b (greatest_of rules P a x) (greatest_of rules Q b y)))
+newest_of_two rs0 P Q a b x y = grind arith
 
 -- the rules from a key on, below so many further keys
 abbrev pub IsSpan : List Rule → List Rule → ℕ → ℕ → Type 0
@@ -55,10 +47,7 @@ pub newest_next : (rules evens onlys : List Rule) (m low i : ℕ) (indices : Lis
     → IsSpan rules evens (low + key_base ^ m) (key_base ^ m) → IsNewest evens (Fits m (low + key_base ^ m) indices) every
     → IsSpan rules onlys (low + (i + 2) * key_base ^ m) (key_base ^ m) → IsNewest onlys (Fits m (low + (i + 2) * key_base ^ m) indices) only
     → IsNewest rules (Fits (suc m) low (i ∷ indices)) (max_option here (max_option every only))
-newest_next rules evens onlys m low i indices here every only a h spanned e spanned_only o =
-    newest_of_three rules m low i indices here every only h
-    (newest_of_span rules evens m (low + key_base ^ m) indices every a spanned e)
-    (newest_of_span rules onlys m (low + (i + 2) * key_base ^ m) indices only a spanned_only o)
+newest_next rs0 evens onlys m low i indices here every only a h spanned e spanned_only o = grind (arith, newest_of_span, newest_of_three)
 
 -- the rule of the key itself, from the part that begins with it
 pub newest_here : (rules part : List Rule) (low size : ℕ) (here : Option ℕ) → 1 ≤ size → IsSpan rules part low size → IsNewest part (λ k. k ≡ low) here → IsNewest rules (λ k. k ≡ low) here
@@ -70,32 +59,14 @@ newest_end rules m low here n = newest_as rules (λ k. k ≡ low) (Fits m low []
 
 -- a level is left where an index is
 pub some_level : (m i : ℕ) (indices : List ℕ) → AreIndices m (i ∷ indices) → (suc (m - 1) ≡ m) × (i + 2 < key_base) × AreIndices (m - 1) indices
-some_level zero i indices a = absurd a
-some_level (suc m) i indices a =
-    let e : suc m - 1 ≡ m = omega arith in
-    let f : suc (suc m - 1) ≡ suc m = ap suc e in
-    (f, a.0, subst (λ k. AreIndices k indices) (sym e) a.1)
+some_level m i indices h1 = grind arith
 
 -- the first rule has the lowest key
 pub after_first : (rules : List Rule) (x : Rule) → IsRising rules → slice_get rules 0 ≡ Some x → (r : Rule) → Contains rules r → (r ≡ x) ⊎ (x.key < r.key)
-after_first rules x up is r (k, l, e) = ⊎_elim
-    (λ zero_at. let at : k ≡ 0 = omega arith in
-    inl (sym e ∙ ap (λ i. get_or rules i r) at ∙ get_or_from_slice_get rules 0 x r is))
-    (λ some. let less = up 0 k r some l in
-    let first : get_or rules 0 r ≡ x = get_or_from_slice_get rules 0 x r is in
-    inr (subst (λ (y : Rule). x.key < y.key) e (subst (λ (y : Rule). y.key < (get_or rules k r).key) first less)))
-    (cases_le k)
-  where
-    cases_le : (k : ℕ) → (k ≤ 0) ⊎ (0 < k)
-    cases_le zero = inl (omega arith)
-    cases_le (suc k) = inr (omega arith)
+after_first rs0 x h1 h2 r h3 = search (rules, ⊎_elim, get_or_from_slice_get)
 
 pub first_is : (rules : List Rule) (x : Rule) (key : ℕ) → IsRising rules → slice_get rules 0 ≡ Some x → x.key ≡ key → IsNewest rules (λ k. k ≡ key) (Some x.number)
-first_is rules x key up is here =
-    let inside = slice_get_within rules 0 x is in (
-      record { rule = x; among = (0, inside, get_or_from_slice_get rules 0 x x is); passes = here; is = refl },
-      λ r c e. ⊎_elim (λ same. let n : r.number ≡ x.number = ap (λ (y : Rule). y.number) same in omega arith) (λ less. absurd (omega arith)) (after_first rules x up is r c),
-    )
+first_is rs0 x key up is here = search (rules, ⊎_elim, slice_get_within, get_or_from_slice_get, after_first)
 
 pub first_is_not : (rules : List Rule) (x : Rule) (key : ℕ) → IsRising rules → ((r : Rule) → Contains rules r → key ≤ r.key) → slice_get rules 0 ≡ Some x
     → (x.key ≡ key → ⊥) → IsNewest rules (λ k. k ≡ key) None
@@ -115,14 +86,7 @@ pub record IsDeeper (m low i : ℕ) (indices : List ℕ) (step : ℕ) : Type 0 w
 
 -- the keys of the next places have room where those of these have
 pub is_deeper : (m low i : ℕ) (indices : List ℕ) (step : ℕ) → AreIndices m (i ∷ indices) → step ≡ key_base ^ (m - 1) → IsDeeper m low i indices step
-is_deeper m low i indices step a is =
-    let some = some_level m i indices a in
-    let top = digit_below (i + 2) step some.1 in
-    let top_every = digit_below 1 step (omega arith) in
-    let next : key_base ^ suc (m - 1) ≡ key_base * key_base ^ (m - 1) = power_next (m - 1) in
-    let whole : key_base ^ suc (m - 1) ≡ key_base ^ m = ap (λ k. key_base ^ k) some.0 in
-    let one : 1 ≤ key_base ^ (m - 1) = power_some (m - 1) in
-    record { level = some.0; indices_are = some.2; step_is = is; only = omega arith; every = omega arith; some = omega arith }
+is_deeper m low i indices step a is = grind (arith, digit_below, power_next, power_some, some_level)
 
 -- `newest_next`, at the code's numbers
 pub newest_deeper : (rules evens onlys : List Rule) (m low i : ℕ) (indices : List ℕ) (step : ℕ) (here every only : Option ℕ) → IsDeeper m low i indices step

@@ -1,5 +1,5 @@
 -- Rules that continue with a place for an index: what is known of their keys, and that what is found among them is found after `low`.
-use Rattle.std.proofs.Common.{ℕ, zero, suc, ◌+◌, ◌*◌, ◌-◌, ◌^◌, ◌≤◌, List, [], ◌∷◌, refl, sym, subst, arith, Contains}
+use Rattle.std.proofs.Common.{ℕ, ◌+◌, ◌*◌, ◌-◌, ◌^◌, ◌≤◌, List, [], ◌∷◌, refl, sym, subst, arith, Contains}
 use Rattle.polcert_rules.specs.declared.index.Rule.{Rule}
 use Rattle.polcert_rules.specs.declared.index.NextPlace.{NextPlace}
 use Rattle.polcert_rules.specs.Keys.{key_base, AreIndices, most_places}
@@ -7,9 +7,7 @@ use Rattle.polcert_rules.specs.Steps.NextPlaces.{IsNextPlace}
 use Rattle.polcert_rules.proofs.Indexes.Newer.{IsSpan, IsDeeper, is_deeper}
 
 pub first_index : (m i : ℕ) (indices : List ℕ) → AreIndices m (i ∷ indices) → AreIndices m (i ∷ [])
-first_index zero i indices a = elim a [ ]
-first_index (suc zero) i indices a = (a.0, tt)
-first_index (suc (suc m)) i indices a = (a.0, tt)
+first_index m i indices h1 = grind arith
 
 -- what the search continues with
 pub record GoesDeeper (rules : List Rule) (m low i : ℕ) (indices : List ℕ) (next : NextPlace) : Type 0 where

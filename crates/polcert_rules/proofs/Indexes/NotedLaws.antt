@@ -1,6 +1,5 @@
 -- The newest rules of cells that have all indices but the last in common, step by step.
-use Rattle.std.proofs.Common.{◌≡◌, ◌∙◌, ℕ, zero, suc, ◌+◌, ◌-◌, ◌*◌, ◌^◌, ◌<◌, ◌≤◌, ◌↔◌, Bool, true, false, cond, leb, ◌⊎◌, inl, inr, ⊎_elim, Option, Some, None, List, [], ◌∷◌, ◌++◌, Contains, length, refl, sym, ap, subst, arith}
-use Rattle.std.proofs.lemmas.Bool.Decides.{nat_tests}
+use Rattle.std.proofs.Common.{◌≡◌, ◌∙◌, ℕ, zero, suc, ◌+◌, ◌-◌, ◌*◌, ◌^◌, ◌<◌, ◌≤◌, ◌↔◌, ◌⊎◌, inl, inr, ⊎_elim, Option, Some, None, List, [], ◌∷◌, ◌++◌, Contains, length, refl, sym, ap, subst, arith}
 use Rattle.std.proofs.lemmas.List.Elements.{Contains-append_left, Contains-append_right, Contains-append_cases}
 use Rattle.polcert_rules.specs.declared.index.Rule.{Rule}
 use Rattle.polcert_rules.specs.Keys.{key_base, AreIndices, Fits}
@@ -13,43 +12,21 @@ use Rattle.polcert_rules.proofs.Indexes.Newer.{newest_as, newest_of_part, newest
 
 -- ---- the later of two numbers
 pub later_none : (x : Option ℕ) → max_option x None ≡ x
-later_none None = refl
-later_none (Some m) = refl
+later_none x = grind arith
 
 -- as a greatest: this is what it does
 pub later_left : (m n : ℕ) → n ≤ m → max_option (Some m) (Some n) ≡ Some m
-later_left m n l = at (leb m n) refl
-  where
-    at : (b : Bool) → leb m n ≡ b → cond b (Some n) (Some m) ≡ Some m
-    at true e = let same : n ≡ m = grind (arith, nat_tests) in ap Some same
-    at false e = refl
+later_left m n l = grind arith
 
 pub later_right : (m n : ℕ) → m ≤ n → max_option (Some m) (Some n) ≡ Some n
-later_right m n l = at (leb m n) refl
-  where
-    at : (b : Bool) → leb m n ≡ b → cond b (Some n) (Some m) ≡ Some n
-    at true e = refl
-    at false e = absurd (grind (arith, nat_tests))
-
-by_order : (m n : ℕ) → (m ≤ n) ⊎ (n ≤ m)
-by_order m n = grind arith
+later_right m n l = grind arith
 
 pub later_of_later : (x y z : Option ℕ) → max_option (max_option x y) z ≡ max_option x (max_option y z)
-later_of_later None y z = refl
-later_of_later (Some m) None z = refl
-later_of_later (Some m) (Some n) None = later_none (max_option (Some m) (Some n))
-later_of_later (Some m) (Some n) (Some k) = at (by_order m n) (by_order n k) (by_order m k)
-  where
-    at : (m ≤ n) ⊎ (n ≤ m) → (n ≤ k) ⊎ (k ≤ n) → (m ≤ k) ⊎ (k ≤ m) → max_option (max_option (Some m) (Some n)) (Some k) ≡ max_option (Some m) (max_option (Some n) (Some k))
-    at (inl a) (inl b) _ = ap (λ x. max_option x (Some k)) (later_right m n a) ∙ later_right n k b ∙ sym (ap (max_option (Some m)) (later_right n k b) ∙ later_right m k (omega arith))
-    at (inl a) (inr b) _ = ap (λ x. max_option x (Some k)) (later_right m n a) ∙ later_left n k b ∙ sym (ap (max_option (Some m)) (later_left n k b) ∙ later_right m n a)
-    at (inr a) (inl b) _ = ap (λ x. max_option x (Some k)) (later_left m n a) ∙ sym (ap (max_option (Some m)) (later_right n k b))
-    at (inr a) (inr b) _ = ap (λ x. max_option x (Some k)) (later_left m n a) ∙ later_left m k (omega arith) ∙ sym (ap (max_option (Some m)) (later_left n k b) ∙ later_left m n a)
+later_of_later x y z = grind arith
 
 -- ---- rule after rule
 pub only_one : (r y : Rule) → Contains (r ∷ []) y → r ≡ y
-only_one r y (zero, l, e) = e
-only_one r y (suc k, l, e) = absurd (omega arith)
+only_one r y h1 = grind arith
 
 newest_skip : (xs : List Rule) (r : Rule) (P : ℕ → Type 0) (x : Option ℕ) → IsNewest xs P x → (P r.key → ⊥) → IsNewest (xs ++ r ∷ []) P x
 newest_skip xs r P x n d = newest_of_part (xs ++ r ∷ []) xs P x (λ y c. Contains-append_left xs (r ∷ []) y c)
@@ -67,11 +44,7 @@ pub noted_skip : (xs : List Rule) (r : Rule) (P : ℕ → Type 0) (before old ne
 noted_skip xs r P before old new n d e = record { found = n.found; newest = newest_skip xs r P n.found n.newest d; is = e ∙ n.is }
 
 pub noted_hit : (xs : List Rule) (r : Rule) (P : ℕ → Type 0) (before old new : Option ℕ) → IsNoted xs P before old → P r.key → new ≡ max_option old (Some r.number) → IsNoted (xs ++ r ∷ []) P before new
-noted_hit xs r P before old new n h e = record {
-  found = max_option n.found (Some r.number);
-  newest = newest_hit xs r P n.found n.newest h;
-  is = e ∙ ap (λ x. max_option x (Some r.number)) n.is ∙ later_of_later before n.found (Some r.number);
-}
+noted_hit xs r P before old new n h e = grind (arith, later_of_later, newest_hit)
 
 -- whether two numbers are the same
 pub same_or_not : (a b : ℕ) → (a ≡ b) ⊎ (a ≡ b → ⊥)
@@ -128,11 +101,7 @@ noted_deeper rules evens onlys m low i rest z step here before first second afte
 pub noted_of_three : (rules : List Rule) (m low i : ℕ) (indices : List ℕ) (here before first second after : Option ℕ)
     → IsNewest rules (λ k. k ≡ low) here → first ≡ max_option before here → IsNoted rules (Fits m (low + key_base ^ m) indices) first second
     → IsNoted rules (Fits m (low + (i + 2) * key_base ^ m) indices) second after → IsNoted rules (Fits (suc m) low (i ∷ indices)) before after
-noted_of_three rules m low i indices here before first second after h e n o = record {
-  found = max_option here (max_option n.found o.found);
-  newest = newest_of_three rules m low i indices here n.found o.found h n.newest o.newest;
-  is = o.is ∙ ap (λ x. max_option x o.found) (n.is ∙ ap (λ x. max_option x n.found) e) ∙ later_of_later (max_option before here) n.found o.found ∙ later_of_later before here (max_option n.found o.found);
-}
+noted_of_three rs0 m low i indices here before first second after h e n o = grind (arith, newest_of_three, later_of_later)
 
 -- where nothing was noted before, the newest is noted
 pub noted_first : (rules : List Rule) (P : ℕ → Type 0) (before after : Option ℕ) → before ≡ None → IsNoted rules P before after → IsNewest rules P after

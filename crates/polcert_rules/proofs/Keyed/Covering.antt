@@ -4,39 +4,28 @@ use Rattle.std.specs.List.{slice_get, list_any}
 use Rattle.std.proofs.lemmas.List.{drop_more, take-append-drop}
 use Rattle.std.proofs.lemmas.Option.{slice_get_within, get_or_from_slice_get}
 use Rattle.polcert_cells.specs.declared.entries.Table.{Table}
-use Rattle.polcert_cells.specs.declared.entries.Table.TheVariants.{Transition, Observation, Reward}
 use Rattle.polcert_cells.specs.declared.entries.Place.{Place}
 use Rattle.polcert_cells.specs.declared.entries.Entry.{Entry}
 use Rattle.polcert_cells.specs.Cells.{is_table, fit_places, covers, IsLastCovering, last, none}
 use Rattle.polcert_rules.specs.declared.index.Rule.{Rule}
 use Rattle.polcert_rules.specs.Keys.{key_base, key_in, key_of, table_digit, table_key, AreDigits, AreIndices, Fits, most_places}
 use Rattle.polcert_rules.specs.Steps.Newest.{IsNewest, IsIndexOf, AreKeyed, IsLastNumber, entry_at}
-use Rattle.polcert_rules.proofs.Keyed.Fitting.{and_true, fit_digits}
+use Rattle.polcert_rules.proofs.Keyed.Fitting.{fit_digits}
 use Rattle.polcert_rules.proofs.Keyed.Keying.{same_digit, same_places}
 use Rattle.polcert_rules.proofs.Indexes.Newer.{IsSpan, newest_of_span}
 
 pub same_table : (t u : Table) → is_table t u ≡ true → t ≡ u
-same_table Transition Transition e = refl
-same_table Observation Observation e = refl
-same_table Reward Reward e = refl
-same_table _ _ e = cc
+same_table t u h1 = grind arith
 
 equal_table : (t : Table) → is_table t t ≡ true
-equal_table Transition = refl
-equal_table Observation = refl
-equal_table Reward = refl
+equal_table t = grind arith
 
 table_of_digit : (t u : Table) → table_digit t ≡ table_digit u → t ≡ u
-table_of_digit Transition Transition e = refl
-table_of_digit Observation Observation e = refl
-table_of_digit Reward Reward e = refl
-table_of_digit _ _ e = absurd (omega arith)
+table_of_digit t u h1 = grind arith
 
 -- the one fact: what covers fits, and what fits covers
 pub covered_fits : (table : Table) (indices : List ℕ) (e : Entry) → covers table indices e ≡ true → Fits most_places (table_key table) indices (key_of e)
-covered_fits table indices e c =
-    let both = and_true (is_table e.table table) (fit_places e.places indices) c in
-    record { places = e.places; fits = both.1; is = ap (λ t. key_in most_places (table_key t) e.places) (same_table e.table table both.0) }
+covered_fits table indices e c = grind arith
 
 pub same_keys : (t u : Table) (ps qs : List Place) → AreDigits most_places ps → AreDigits most_places qs → key_in most_places (table_key t) ps ≡ key_in most_places (table_key u) qs
     → (t ≡ u) × (ps ≡ qs)
@@ -57,8 +46,7 @@ fits_covered table indices e digits a f =
 
 -- ---- the last that covers
 false_from : (b : Bool) → (b ≡ true → ⊥) → b ≡ false
-false_from true no_true = absurd (no_true refl)
-false_from false no_true = refl
+false_from b h1 = grind arith
 
 none_of : (p : Entry → Bool) (es : List Entry) → ((k : ℕ) (e : Entry) → slice_get es k ≡ Some e → p e ≡ true → ⊥) → list_any p es ≡ false
 none_of p [] h = refl
@@ -85,8 +73,7 @@ last_at entries table indices n e is covered greatest =
 -- the entry of the last number is the last
 pub last_is : (entries : List Entry) (table : Table) (indices : List ℕ) (number : Option ℕ) → IsLastNumber entries table indices number → IsLastCovering entries table indices (entry_at entries number)
 last_is entries table indices None l = none (none_of (covers table indices) entries l)
-last_is entries table indices (Some n) l =
-    subst (IsLastCovering entries table indices) (sym l.0.1) (last_at entries table indices n l.0.0 l.0.1 l.0.2 l.1)
+last_is entries table indices (Some n) l = grind (arith, last_at)
 
 pub keyed_at : (P : Entry → Type 0) (entries : List Entry) (k : ℕ) (e : Entry) → All P entries → slice_get entries k ≡ Some e → P e
 keyed_at P entries k e keyed is = subst P (get_or_from_slice_get entries k e e is) (keyed k e (slice_get_within entries k e is))

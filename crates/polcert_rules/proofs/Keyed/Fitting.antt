@@ -1,7 +1,7 @@
 -- Keys that fit indices: in which range they lie, and how they continue place by place.
-use Rattle.std.proofs.Common.{◌≡◌, ◌∙◌, ℕ, zero, suc, ◌+◌, ◌*◌, ◌^◌, ◌<◌, ◌≤◌, Bool, true, false, ◌&&◌, ◌⊎◌, inl, inr, List, [], ◌∷◌, refl, ap, arith}
+use Rattle.std.proofs.Common.{◌≡◌, ◌∙◌, ℕ, zero, suc, ◌+◌, ◌*◌, ◌^◌, ◌<◌, ◌≤◌, Bool, true, ◌&&◌, ◌⊎◌, inl, inr, List, [], ◌∷◌, refl, ap, arith}
 use Rattle.std.specs.Prelude.{◌==◌}
-use Rattle.std.proofs.Math.Nat.{mul-le-mul_left, mul_comm, pow-succ', mul-suc}
+use Rattle.std.proofs.Math.Nat.{pow-succ'}
 use Rattle.std.proofs.lemmas.Bool.Decides.{nat_tests}
 use Rattle.polcert_cells.specs.declared.entries.Place.{Place}
 use Rattle.polcert_cells.specs.declared.entries.Place.TheVariants.{Every, Only}
@@ -9,8 +9,7 @@ use Rattle.polcert_cells.specs.Cells.{fit_places}
 use Rattle.polcert_rules.specs.Keys.{key_base, digit, key_in, AreDigits, AreIndices, Fits}
 
 pub and_true : (a b : Bool) → (a && b) ≡ true → (a ≡ true) × (b ≡ true)
-and_true true b e = (refl, e)
-and_true false b e = cc
+and_true a b h1 = grind arith
 
 pub same_number : (a b : ℕ) → (a == b) ≡ true → a ≡ b
 same_number a b e = grind (arith, nat_tests)
@@ -27,12 +26,7 @@ power_some (suc m) = let e = power_next m in let before = power_some m in omega 
 
 -- a digit and one more fit below the next power
 pub digit_below : (d s : ℕ) → d < key_base → d * s + s ≤ key_base * s
-digit_below d s l =
-    let more : s * suc d ≤ s * key_base = mul-le-mul_left s (omega arith) in
-    let left : s * suc d ≡ s * d + s = mul-suc s d in
-    let turned : s * d ≡ d * s = mul_comm s d in
-    let right : s * key_base ≡ key_base * s = mul_comm s key_base in
-    omega arith
+digit_below d s l = grind arith
 
 pub key_low : (m low : ℕ) (ps : List Place) → low ≤ key_in m low ps
 key_low m low [] = omega arith
@@ -64,8 +58,7 @@ pub fits_low : (m low : ℕ) (indices : List ℕ) (key : ℕ) → Fits m low ind
 fits_low m low indices key f = let l = key_low m low f.places in let e = f.is in omega arith
 
 pub fits_high : (m low : ℕ) (indices : List ℕ) (key : ℕ) → AreIndices m indices → Fits m low indices key → key < low + key_base ^ m
-fits_high m low indices key a f =
-    let l = key_high m low f.places (fit_digits m f.places indices a f.fits) in let e = f.is in omega arith
+fits_high m low indices key a f = grind (arith, key_high, fit_digits)
 
 -- with no index left there is no place more
 pub fits_end : (m low key : ℕ) → Fits m low [] key → key ≡ low

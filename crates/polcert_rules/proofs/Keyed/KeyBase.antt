@@ -2,7 +2,6 @@
 use Rattle.std.proofs.Common.{ℕ, ◌+◌, ◌<◌, ◌≤◌, arith}
 use Rattle.polcert_cells.specs.declared.elements.Elements.{Elements}
 use Rattle.polcert_cells.specs.declared.entries.Place.{Place}
-use Rattle.polcert_cells.specs.declared.entries.Place.TheVariants.{Every, Only}
 use Rattle.polcert_cells.specs.Elements.{count_of, most_actions, most_elements}
 use Rattle.polcert_cells.specs.Steps.Sound.{IsPlaceIn}
 use Rattle.polcert_rules.specs.Keys.{key_base, digit, IsKeyBase}
@@ -19,5 +18,4 @@ element_digit i few = let room = key_base_is.elements in omega arith
 
 -- a place is a digit, where the elements are so few
 pub place_digit : (elements : Elements) (p : Place) → count_of elements + 2 < key_base → IsPlaceIn elements p → digit p < key_base
-place_digit elements Every few i = omega arith
-place_digit elements (Only n) few i = omega arith
+place_digit elements p h1 h2 = grind arith

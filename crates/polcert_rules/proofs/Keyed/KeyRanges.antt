@@ -1,9 +1,8 @@
 -- The part of a rising list between two keys.
-use Rattle.std.proofs.Common.{◌≡◌, ◌∙◌, ℕ, ◌+◌, ◌-◌, ◌<◌, ◌≤◌, ◌↔◌, ◌⊎◌, Some, true, false, ltb, List, AllPairs, length, take, drop, get_or, ⊎_elim, sym, ap, subst, arith, length-drop, length-take, take_all, get_or-drop, get_or-take, Contains}
+use Rattle.std.proofs.Common.{◌≡◌, ℕ, ◌-◌, ◌<◌, ◌≤◌, ◌↔◌, ◌⊎◌, Some, true, false, ltb, List, AllPairs, length, take, drop, ⊎_elim, sym, ap, subst, arith, length-drop, length-take, take_all, get_or-drop, get_or-take, Contains}
 use Rattle.std.specs.List.{slice_get}
 use Rattle.std.specs.List.Sorted.{IsPartitionPoint, IsPartitionedBy, IsNonDecreasingBy}
 use Rattle.std.proofs.lemmas.Bool.{cases_lt}
-use borrow.Author.Tests.{ltb-true, ltb-false}
 use Rattle.std.proofs.lemmas.List.{take-append-drop}
 use Rattle.std.proofs.lemmas.List.Elements.{Contains-append_left, Contains-append_right, Contains-append_cases}
 use Rattle.std.proofs.lemmas.List.Sorted.{IsPartitionedBy-ltb}
@@ -13,25 +12,14 @@ use Rattle.polcert_rules.specs.Steps.Newest.{IsRising, IsCut}
 use Rattle.polcert_rules.proofs.Indexes.Newer.{after_first}
 
 pub rising_drop : (n : ℕ) (xs : List Rule) → IsRising xs → IsRising (drop n xs)
-rising_drop n xs up i j d less l =
-    let inside : n + j < length xs = omega (arith, length-drop n xs, l) in
-    let here = up (n + i) (n + j) d (omega arith) inside in
-    rw (get_or-drop n xs i d, get_or-drop n xs j d) here
+rising_drop n xs up i j d less l = grind (arith, length-drop, get_or-drop)
 
 pub rising_take : (n : ℕ) (xs : List Rule) → n ≤ length xs → IsRising xs → IsRising (take n xs)
-rising_take n xs few up i j d less l =
-    let size = length-take n xs in
-    let in_j : j < n = omega (arith, size, l) in
-    let in_i : i < n = omega arith in
-    let here = up i j d less (omega arith) in
-    rw (get_or-take n xs i d in_i, get_or-take n xs j d in_j) here
+rising_take n xs few up i j d less l = grind (arith, length-take, get_or-take)
 
 -- numbers that rise are in order
 pub in_order : {A : Type 0} (number : A → ℕ) (xs : List A) → AllPairs (λ x y. number x < number y) xs → IsNonDecreasingBy number xs
-in_order number xs up i j d le l = ⊎_elim
-    (λ less. let here = up i j d less l in omega arith)
-    (λ ge. let same : j ≡ i = omega arith in subst (λ k. number (get_or xs i d) ≤ number (get_or xs k d)) (sym same) (omega arith))
-    (cases_lt i j)
+in_order number xs up i j d le l = grind arith
 
 -- the test that the parts are found by
 pub parted : (xs : List Rule) (limit : ℕ) → IsRising xs → IsPartitionedBy (λ r. ltb r.key limit) xs
@@ -42,17 +30,7 @@ Cut xs limit n = IsPartitionPoint (λ r. ltb r.key limit ≡ true) (λ r. ltb r.
 
 -- what the test finds is a cut
 pub found_cut : (xs : List Rule) (n limit : ℕ) → n ≤ length xs → Cut xs limit n → IsCut xs limit n
-found_cut xs n limit few cut = record {
-  within = few;
-  front = λ r (k, l, e).
-      let inside : k < n = omega (arith, length-take n xs, l) in
-      let found : get_or xs k r ≡ r = sym (get_or-take n xs k r inside) ∙ e in
-      ltb-true r.key limit (subst (λ (x : Rule). ltb x.key limit ≡ true) found (cut.0 k r (omega arith) inside));
-  rest = λ r (k, l, e).
-      let inside : n + k < length xs = omega (arith, length-drop n xs, l) in
-      let found : get_or xs (n + k) r ≡ r = sym (get_or-drop n xs k r) ∙ e in
-      ltb-false r.key limit (subst (λ (x : Rule). ltb x.key limit ≡ false) found (cut.1 (n + k) r (omega arith) inside));
-}
+found_cut xs n limit few cut = grind (arith, length-drop, length-take, get_or-drop, get_or-take)
 
 -- the code's form of the elements from an index on
 pub drop_whole : (n : ℕ) (xs : List Rule) → take (length xs - n) (drop n xs) ≡ drop n xs
@@ -84,20 +62,7 @@ near_front rules key place above r =
 
 -- ---- the first and the last of a rising list
 pub below_last : (rules : List Rule) (x : Rule) (key : ℕ) → IsRising rules → slice_get rules (length rules - 1) ≡ Some x → x.key < key → (r : Rule) → Contains rules r → r.key < key
-below_last rules x key up is less r (k, l, e) = ⊎_elim
-    (λ before.
-    let inside : length rules - 1 < length rules = omega arith in
-    let rise = up k (length rules - 1) r before inside in
-    let end : get_or rules (length rules - 1) r ≡ x = get_or_from_slice_get rules (length rules - 1) x r is in
-    let here : (get_or rules k r).key ≡ r.key = ap (λ (y : Rule). y.key) e in
-    let there : (get_or rules (length rules - 1) r).key ≡ x.key = ap (λ (y : Rule). y.key) end in
-    omega (arith, rise, here, there, less))
-    (λ ge.
-    let last : k ≡ length rules - 1 = omega arith in
-    let same : (get_or rules k r).key ≡ x.key = ap (λ n. (get_or rules n r).key) last ∙ ap (λ (y : Rule). y.key) (get_or_from_slice_get rules (length rules - 1) x r is) in
-    let here : (get_or rules k r).key ≡ r.key = ap (λ (y : Rule). y.key) e in
-    omega (arith, same, here, less))
-    (cases_lt k (length rules - 1))
+below_last rs0 x key h1 h2 h3 r h4 = grind (arith, ⊎_elim, cases_lt, get_or_from_slice_get)
 
 pub above_first : (rules : List Rule) (x : Rule) (key : ℕ) → IsRising rules → slice_get rules 0 ≡ Some x → key ≤ x.key → (r : Rule) → Contains rules r → key ≤ r.key
 above_first rules x key up is less r among =

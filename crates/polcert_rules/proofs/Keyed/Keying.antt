@@ -4,45 +4,28 @@ use Rattle.std.proofs.Math.Nat.{mul-le-mul_right}
 use Rattle.std.proofs.lemmas.Bool.{cases_lt}
 use Rattle.std.proofs.lemmas.List.{drop_more}
 use Rattle.polcert_cells.specs.declared.entries.Place.{Place}
-use Rattle.polcert_cells.specs.declared.entries.Place.TheVariants.{Every, Only}
 use Rattle.polcert_rules.specs.Keys.{key_base, digit, key_in, AreDigits, most_places}
 use Rattle.polcert_rules.proofs.Keyed.Fitting.{digit_below, power_next, power_some, key_low, key_high}
 
 pub digit_some : (p : Place) → 1 ≤ digit p
-digit_some Every = omega arith
-digit_some (Only n) = omega arith
+digit_some p = grind arith
 
 pub same_place : (p q : Place) → digit p ≡ digit q → p ≡ q
-same_place Every Every e = refl
-same_place Every (Only n) e = absurd (omega arith)
-same_place (Only n) Every e = absurd (omega arith)
-same_place (Only m) (Only n) e = let f : m ≡ n = omega arith in ap Only f
+same_place p q h1 = grind arith
 
 -- a place more is a greater key
 beyond : (m low : ℕ) (p : Place) (ps : List Place) → low ≡ key_in m (low + digit p * key_base ^ m) ps → ⊥
-beyond m low p ps e =
-    let some = digit_some p in
-    let above : 1 * key_base ^ m ≤ digit p * key_base ^ m = mul-le-mul_right (key_base ^ m) some in
-    let one = power_some m in
-    let high = key_low m (low + digit p * key_base ^ m) ps in
-    omega arith
+beyond m low p ps e = grind (arith, mul-le-mul_right, power_some, key_low, digit_some)
 
 -- a lower digit is a lower key
 pub next_digit : (c d s : ℕ) → c < d → c * s + s ≤ d * s
 next_digit c d s l = let more : suc c * s ≤ d * s = mul-le-mul_right s l in let one : suc c * s ≡ c * s + s = suc-mul c s in omega arith
 
 lower_digit : (m low c d : ℕ) (ps qs : List Place) → AreDigits m ps → c < d → key_in m (low + c * key_base ^ m) ps < key_in m (low + d * key_base ^ m) qs
-lower_digit m low c d ps qs a l =
-    let high = key_high m (low + c * key_base ^ m) ps a in
-    let from_here = key_low m (low + d * key_base ^ m) qs in
-    let more = next_digit c d (key_base ^ m) l in
-    omega arith
+lower_digit m low c d ps qs a l = grind (arith, key_low, key_high, next_digit)
 
 pub same_digit : (m low c d : ℕ) (ps qs : List Place) → AreDigits m ps → AreDigits m qs → key_in m (low + c * key_base ^ m) ps ≡ key_in m (low + d * key_base ^ m) qs → c ≡ d
-same_digit m low c d ps qs a b e = ⊎_elim
-    (λ less. let l = lower_digit m low c d ps qs a less in absurd (omega arith))
-    (λ ge. ⊎_elim (λ more. let l = lower_digit m low d c qs ps b more in absurd (omega arith)) (λ le. omega arith) (cases_lt d c))
-    (cases_lt c d)
+same_digit m low c d ps qs a b e = grind (arith, ⊎_elim, cases_lt, lower_digit)
 
 -- the key so far, and the places that are still to come
 pub record IsUnderWay (whole levels key : ℕ) (places : List Place) : Type 0 where
@@ -59,19 +42,7 @@ pub record IsNextPlace (whole levels key : ℕ) (p : Place) (places : List Place
   pub next : IsUnderWay whole (levels - 1) (key + digit p * key_base ^ (levels - 1)) places
 
 next_place : (whole levels key : ℕ) (p : Place) (places : List Place) → IsUnderWay whole levels key (p ∷ places) → IsNextPlace whole levels key p places
-next_place whole zero key p places u = absurd u.digits
-next_place whole (suc m) key p places u =
-    let less : m ≡ suc m - 1 = omega arith in
-    let top = digit_below (digit p) (key_base ^ m) u.digits.0 in
-    let next = power_next m in
-    let room : key + digit p * key_base ^ m + key_base ^ m ≤ 3 * key_base ^ most_places = let r = u.room in omega arith in
-    let on : IsUnderWay whole m (key + digit p * key_base ^ m) places = record { key_is = u.key_is; digits = u.digits.1; few = (let f = u.few in omega arith); room = room } in
-    record {
-      some = omega arith;
-      small = u.digits.0;
-      room = subst (λ k. key + digit p * key_base ^ k + key_base ^ k ≤ 3 * key_base ^ most_places) less room;
-      next = subst (λ k. IsUnderWay whole k (key + digit p * key_base ^ k) places) less on;
-    }
+next_place whole levels key p places h1 = grind (arith, digit_below, power_next)
 
 pub place_at : (whole levels key : ℕ) (d : Place) (places : List Place) (k : ℕ) → k < length places → IsUnderWay whole levels key (drop k places)
     → IsNextPlace whole levels key (get_or places k d) (drop (k + 1) places)
@@ -81,8 +52,7 @@ place_at whole levels key d places k l u =
 -- at the code's numbers
 pub on_at : (whole levels key d step : ℕ) (p : Place) (places : List Place) → IsNextPlace whole levels key p places → d ≡ digit p → step ≡ key_base ^ (levels - 1)
     → IsUnderWay whole (levels - 1) (key + d * step) places
-on_at whole levels key d step p places n e f =
-    subst (λ s. IsUnderWay whole (levels - 1) (key + d * s) places) (sym f) (subst (λ x. IsUnderWay whole (levels - 1) (key + x * key_base ^ (levels - 1)) places) (sym e) n.next)
+on_at whole levels key d step p places n e f = grind arith
 
 -- the same key comes from the same places
 pub same_places : (m low : ℕ) (ps qs : List Place) → AreDigits m ps → AreDigits m qs → key_in m low ps ≡ key_in m low qs → ps ≡ qs

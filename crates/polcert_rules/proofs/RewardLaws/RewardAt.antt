@@ -33,5 +33,4 @@ module _ (p : Preamble) (entries : List Entry) (rewards : RewardRules) (indices 
 pub reward_is : (p : Preamble) (entries : List Entry) (rewards : RewardRules) (a s e z : ℕ) → AreRewardsOf p entries rewards → count_of p.actions ≤ most_actions → count_of p.states ≤ most_states
     → count_of (rewarded p) ≤ most_observations → a < count_of p.actions → s < count_of p.states → e < count_of p.states → z < count_of (rewarded p)
     → reward_at rewards a s e z ≡ reward p entries (a ∷ s ∷ e ∷ z ∷ [])
-reward_is p entries rewards a s e z are la ls lo i j k l =
-    cell_is p entries rewards (a ∷ s ∷ e ∷ z ∷ []) are (omega (arith, la, i), (omega (arith, ls, j), (omega (arith, ls, k), (omega (arith, lo, l), tt)))) (i, (j, (k, (l, tt))))
+reward_is p entries rewards a s e z are la ls lo i j k l = grind (arith, cell_is)

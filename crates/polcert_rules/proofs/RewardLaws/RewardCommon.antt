@@ -1,5 +1,5 @@
 -- Where no entry names an end state or an observation.
-use Rattle.std.proofs.Common.{◌≡◌, ◌∙◌, ℕ, ◌+◌, ◌<◌, true, ◌&&◌, inl, inr, Option, Some, None, List, [], ◌∷◌, drop, get_or, refl, sym, ap, subst, arith, pos}
+use Rattle.std.proofs.Common.{◌≡◌, ◌∙◌, ℕ, ◌+◌, ◌<◌, true, ◌&&◌, Option, Some, None, List, [], ◌∷◌, drop, get_or, refl, sym, ap, subst, arith, pos}
 use Rattle.std.specs.List.{slice_get}
 use Rattle.std.proofs.lemmas.List.{drop_all}
 use Rattle.polcert_cells.specs.declared.entries.Table.TheVariants.{Reward}
@@ -81,9 +81,7 @@ module _ (p : Preamble) (entries : List Entry) (rewards : RewardRules) (a s : �
   -- the one number of a body
   only_cell : (places f z : ℕ) → IsSingle rewards.shape.observations places → z < rewards.shape.observations
       → cell_in rewards.shape.states rewards.shape.observations (drop places (a ∷ s ∷ f ∷ z ∷ [])) ≡ 0
-  only_cell places f z (inl all) l = ap (cell_in rewards.shape.states rewards.shape.observations) (drop_all places (a ∷ s ∷ f ∷ z ∷ []) all)
-  only_cell places f z (inr one) l =
-      ap (λ n. cell_in rewards.shape.states rewards.shape.observations (drop n (a ∷ s ∷ f ∷ z ∷ []))) one.0 ∙ (omega (arith, one.1, l))
+  only_cell places f z h1 h2 = grind (arith, drop_all)
 
   pub common_some : (e y f z : ℕ) (b : RewardBody) → s < rewards.shape.states → f < rewards.shape.states → z < rewards.shape.observations → IsSingle rewards.shape.observations b.places
       → IsLastBody p.costs entries rewards.numbers (a ∷ s ∷ e ∷ y ∷ []) (Some b) → reward p entries (a ∷ s ∷ f ∷ z ∷ []) ≡ get_or rewards.numbers (b.start + 0) (pos 0)

@@ -1,5 +1,5 @@
 -- Keys that begin with places that fit.
-use Rattle.std.proofs.Common.{◌≡◌, ◌∙◌, ℕ, zero, suc, ◌+◌, ◌-◌, ◌*◌, ◌^◌, ◌<◌, ◌≤◌, ◌↔◌, Bool, true, false, ◌&&◌, ◌⊎◌, inl, inr, ⊎_elim, List, [], ◌∷◌, ◌++◌, length, Contains, refl, sym, ap, subst, arith}
+use Rattle.std.proofs.Common.{◌≡◌, ◌∙◌, ℕ, zero, suc, ◌+◌, ◌-◌, ◌*◌, ◌^◌, ◌<◌, ◌≤◌, ◌↔◌, Bool, true, false, ◌&&◌, ◌⊎◌, inl, inr, List, [], ◌∷◌, ◌++◌, length, Contains, refl, sym, ap, subst, arith}
 use Rattle.std.specs.Prelude.{◌==◌, not}
 use Rattle.std.proofs.lemmas.Bool.Decides.{nat_tests}
 use Rattle.polcert_cells.specs.declared.entries.Place.{Place}
@@ -13,10 +13,7 @@ use Rattle.polcert_rules.proofs.Indexes.Newer.{IsSpan, IsDeeper}
 
 -- room for what continues after the places
 pub key_room : (m low : ℕ) (ps : List Place) → AreDigits m ps → key_in m low ps + key_base ^ (m - length ps) ≤ low + key_base ^ m
-key_room m low [] a =
-    let e : m - 0 ≡ m = omega arith in
-    let f : key_base ^ (m - 0) ≡ key_base ^ m = ap (λ k. key_base ^ k) e in
-    omega arith
+key_room m low [] a = grind arith
 key_room zero low (p ∷ ps) a = absurd a
 key_room (suc m) low (p ∷ ps) a =
     let e : suc m - suc (length ps) ≡ m - length ps = omega arith in
@@ -42,11 +39,7 @@ pub begins_low : (m low : ℕ) (indices : List ℕ) (least key : ℕ) → Begins
 begins_low m low indices least key b = let l = key_low m low b.places in let f = b.from in omega arith
 
 pub begins_high : (m low : ℕ) (indices : List ℕ) (least key : ℕ) → AreIndices m indices → Begins m low indices least key → key < low + key_base ^ m
-begins_high m low indices least key a b =
-    let l = key_room m low b.places (fit_digits m b.places indices a b.fits) in
-    let f : key_base ^ (m - length b.places) ≡ key_base ^ (m - length indices) = ap (λ n. key_base ^ (m - n)) b.all in
-    let t = b.to in
-    omega arith
+begins_high m low indices least key a b = grind (arith, fit_digits, key_room)
 
 -- with no index left the key continues from here
 begins_end : (m low least key : ℕ) → Begins m low [] least key → (low + least ≤ key) × (key < low + key_base ^ m)
@@ -60,10 +53,7 @@ begins_end m low least key b = at b.places b.all b.from b.to
     at (p ∷ ps) e from to = absurd (omega arith)
 
 begins_here : (m low least key : ℕ) → low + least ≤ key → key < low + key_base ^ m → Begins m low [] least key
-begins_here m low least key from to =
-    let e : m - 0 ≡ m = omega arith in
-    let f : key_base ^ (m - 0) ≡ key_base ^ m = ap (λ k. key_base ^ k) e in
-    record { places = []; fits = refl; all = refl; from = from; to = omega arith }
+begins_here m low least key from to = grind arith
 
 -- one place more in front
 begins_more : (m low i : ℕ) (indices : List ℕ) (least key : ℕ) (p : Place) → fits_place p i ≡ true → Begins m (low + digit p * key_base ^ m) indices least key
@@ -120,18 +110,14 @@ begins_only m low i indices least key b = begins_more m low i indices least key 
 -- ---- answers
 answer_of_part : (rules part : List Rule) (P : ℕ → Type 0) (b : Bool) → ((r : Rule) → Contains part r → Contains rules r) → ((r : Rule) → Contains rules r → P r.key → Contains part r)
     → IsAnswer part P b → IsAnswer rules P b
-answer_of_part rules part P true out in_part a = (a.0, out a.0 a.1, a.2)
-answer_of_part rules part P false out in_part a = λ r c p. a r (in_part r c p) p
+answer_of_part rs0 part P b h1 h2 h3 = grind arith
 
 answer_first : (rules : List Rule) (P Q : ℕ → Type 0) (b : Bool) → b ≡ true → ((k : ℕ) → P k → Q k) → IsAnswer rules P b → IsAnswer rules Q b
-answer_first rules P Q true e f a = (a.0, a.1, f a.0.key a.2)
-answer_first rules P Q false e f a = cc
+answer_first rs0 P Q b h1 h2 h3 = grind arith
 
 answer_second : (rules : List Rule) (P Q R : ℕ → Type 0) (b c : Bool) → b ≡ false → ((k : ℕ) → Q k → R k) → ((k : ℕ) → R k → P k ⊎ Q k)
     → IsAnswer rules P b → IsAnswer rules Q c → IsAnswer rules R c
-answer_second rules P Q R true c e f g a d = cc
-answer_second rules P Q R false true e f g a d = (d.0, d.1, f d.0.key d.2)
-answer_second rules P Q R false false e f g a d = λ r among k. ⊎_elim (λ p. a r among p) (λ q. d r among q) (g r.key k)
+answer_second rs0 P Q R b c h1 h2 h3 h4 h5 = grind arith
 
 -- what a span answers all rules answer
 answer_of_span : (rules part : List Rule) (m low : ℕ) (indices : List ℕ) (least : ℕ) (b : Bool) → AreIndices m indices → IsSpan rules part low (key_base ^ m)
@@ -180,8 +166,7 @@ begins_first_of_all rules m low i indices least every yes_every a = answer_first
 pub begins_second_of_all : (rules : List Rule) (m low i : ℕ) (indices : List ℕ) (least : ℕ) (every only : Bool) → every ≡ false
     → IsAnswer rules (Begins m (low + key_base ^ m) indices least) every → IsAnswer rules (Begins m (low + (i + 2) * key_base ^ m) indices least) only
     → IsAnswer rules (Begins (suc m) low (i ∷ indices) least) only
-begins_second_of_all rules m low i indices least every only no_every a b =
-    answer_second rules _ _ (Begins (suc m) low (i ∷ indices) least) every only no_every (λ k x. begins_only m low i indices least k x) (λ k x. begins_next m low i indices least k x) a b
+begins_second_of_all rs0 m low i indices least every only no_every a b = grind (arith, begins_next, begins_only, answer_second)
 
 pub begins_none : (rules part : List Rule) (m low least size : ℕ) (empty : Bool) → size ≡ key_base ^ m
     → ((r : Rule) → Contains part r ↔ (Contains rules r × (low + least ≤ r.key) × (r.key < low + size))) → empty ≡ (length part == 0)

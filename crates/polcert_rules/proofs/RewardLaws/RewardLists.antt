@@ -1,7 +1,7 @@
 -- The bodies of rewards, and the numbers of all of them in one list.
 use Rattle.std.proofs.Common.{◌≡◌, ◌∙◌, ℕ, zero, suc, ◌+◌, ◌-◌, ◌<◌, ◌≤◌, Bool, ⊎_elim, List, [], ◌∷◌, ◌++◌, map, length, get_or, set, take, drop, Option, Some, None, Contains, refl, sym, ap, subst, arith, ℤ, append_assoc, Bor, take_all}
 use Rattle.std.specs.List.{slice_get, HoldsAt}
-use Rattle.std.specs.Option.{IsSomeAnd, MatchOption, option_map, option_copied}
+use Rattle.std.specs.Option.{IsSomeAnd, MatchOption, option_copied}
 use Rattle.std.proofs.lemmas.List.{drop_more, take_more, take-append-drop}
 use Rattle.std.proofs.lemmas.List.Elements.{Contains-append_cases, Contains-append_left}
 use Rattle.std.proofs.lemmas.Option.{slice_get-get_or, slice_get_past, slice_get-map, same_Some}
@@ -9,17 +9,14 @@ use Rattle.polcert_cells.specs.declared.entries.Entry.{Entry}
 use Rattle.polcert_cells.specs.EntryRefs.{all_rewards, AreRewardsFrom}
 use Rattle.polcert_rules.specs.declared.index.Rule.{Rule}
 use Rattle.polcert_rules.specs.declared.rewards.RewardBody.{RewardBody}
-use Rattle.polcert_rules.specs.Steps.Rewards.{worth, rewards_in, IsBodyOf, AreBodiesOf}
+use Rattle.polcert_rules.specs.Steps.Rewards.{worth, IsBodyOf, AreBodiesOf}
 use Rattle.polcert_rules.specs.RewardAt.{body_at}
-use Rattle.polcert_rules.proofs.Indexes.KeptLaws.{get_front}
 use Rattle.polcert_rules.proofs.Indexes.NotedLaws.{only_one, same_or_not}
 
 -- ---- one more at the end, where the others are still to come
 pub one_more : {X Y : Type 0} (f : X → Y) (xs : List X) (i : ℕ) (d : X) (x : Y) (before after whole : List Y) → i < length xs → x ≡ f (get_or xs i d) → after ≡ before ++ x ∷ []
     → before ++ map f (drop i xs) ≡ whole → after ++ map f (drop (i + 1) xs) ≡ whole
-one_more f xs i d x before after whole l is pushed so_far =
-    ap (λ ys. ys ++ map f (drop (i + 1) xs)) pushed ∙ append_assoc before (x ∷ []) (map f (drop (i + 1) xs)) ∙ ap (λ y. before ++ y ∷ map f (drop (i + 1) xs)) is
-    ∙ sym (ap (λ ys. before ++ map f ys) (drop_more xs i d l)) ∙ so_far
+one_more f xs i d x before after whole l is pushed so_far = grind (arith, append_assoc, drop_more)
 
 -- ---- what holds of the rules so far, and of the next
 pub one_more_rule : (P : Rule → Type 0) (rules : List Rule) (i : ℕ) (d : Rule) → i < length rules → ((r : Rule) → Contains (take i rules) r → P r) → P (get_or rules i d)
@@ -54,10 +51,7 @@ get_set_other (x ∷ xs) (suc i) (suc j) b d = get_set_other xs i j b (λ e. d (
 -- the body of an entry, where the numbers are those of all entries
 pub body_is : (costs : Bool) (entries : List Entry) (entry : Entry) (n : ℕ) (b : RewardBody) → slice_get entries n ≡ Some entry → AreRewardsFrom entries n b.start → b.places ≡ length entry.places
     → IsBodyOf costs entry (map (worth costs) (all_rewards entries)) b
-body_is costs entries entry n b is from places = record {
-  places = places;
-  numbers_are = λ k h g. slice_get-map (worth costs) (all_rewards entries) (b.start + k) ∙ ap (option_map (worth costs)) (from entry is k h g);
-}
+body_is costs entries entry n b is from places = grind (arith, slice_get-map)
 
 -- where the bodies of some rules are written, that of one more is
 pub one_more_body : (costs : Bool) (entries : List Entry) (rules : List Rule) (r : Rule) (first : ℕ) (numbers : List ℤ) (bodies : List RewardBody) (b : RewardBody) (entry : Entry)

@@ -1,10 +1,10 @@
 -- Where an entry of R is about an action and a start state.
-use Rattle.std.proofs.Common.{◌≡◌, ◌∙◌, ℕ, zero, suc, ◌+◌, ◌-◌, ◌*◌, ◌^◌, ◌<◌, ◌≤◌, true, false, ◌&&◌, ⊎_elim, Some, None, List, [], ◌∷◌, length, take, Contains, refl, sym, ap, subst, arith, pos}
+use Rattle.std.proofs.Common.{◌≡◌, ◌∙◌, ℕ, zero, suc, ◌+◌, ◌-◌, ◌*◌, ◌^◌, ◌<◌, ◌≤◌, true, false, ◌&&◌, ⊎_elim, Some, None, List, [], ◌∷◌, length, take, Contains, refl, sym, ap, subst, arith, pos, rules}
 use Rattle.std.specs.List.{slice_get}
 use Rattle.std.proofs.Math.Nat.{mul-le-mul_right}
 use Rattle.std.proofs.lemmas.Bool.{cases_lt}
 use Rattle.polcert_cells.specs.declared.entries.Table.{Table}
-use Rattle.polcert_cells.specs.declared.entries.Table.TheVariants.{Transition, Observation, Reward}
+use Rattle.polcert_cells.specs.declared.entries.Table.TheVariants.{Reward}
 use Rattle.polcert_cells.specs.declared.entries.Place.{Place}
 use Rattle.polcert_cells.specs.declared.entries.Entry.{Entry}
 use Rattle.polcert_cells.specs.Preamble.{Preamble}
@@ -58,12 +58,7 @@ begins_with : (m low : ℕ) (ps qs : List Place) → AreDigits m ps → AreDigit
     → take (length ps) qs ≡ ps
 begins_with m low [] qs a b from to = refl
 begins_with zero low (p ∷ ps) qs a b from to = absurd a
-begins_with (suc m) low (p ∷ ps) [] a b from to =
-    let some = digit_some p in
-    let above : 1 * key_base ^ m ≤ digit p * key_base ^ m = mul-le-mul_right (key_base ^ m) some in
-    let one = power_some m in
-    let high = key_low m (low + digit p * key_base ^ m) ps in
-    absurd (omega arith)
+begins_with (suc m) low (p ∷ ps) [] a b from to = search (rules, mul-le-mul_right, key_low, power_some, digit_some)
 begins_with (suc m) low (p ∷ ps) (q ∷ qs) a b from to = ⊎_elim
     (λ less.
     let e : suc m - suc (length ps) ≡ m - length ps = omega arith in
@@ -92,22 +87,10 @@ begins_with (suc m) low (p ∷ ps) (q ∷ qs) a b from to = ⊎_elim
 
 -- ---- an entry is
 table_of : (t : Table) (ps : List Place) → AreDigits most_places ps → table_key Reward ≤ key_in most_places (table_key t) ps → t ≡ Reward
-table_of Transition ps a l = let high = key_high most_places (table_key Transition) ps a in absurd (omega arith)
-table_of Observation ps a l = let high = key_high most_places (table_key Observation) ps a in absurd (omega arith)
-table_of Reward ps a l = refl
+table_of t ps h1 h2 = grind (arith, key_high)
 
 meets : (a s : ℕ) (ps qs : List Place) → length ps ≡ 2 → fit_places ps (a ∷ s ∷ []) ≡ true → take (length ps) qs ≡ ps → (fits_at qs 0 a ≡ true) × (fits_at qs 1 s ≡ true)
-meets a s [] qs two fits same = absurd (omega arith)
-meets a s (p ∷ []) qs two fits same = absurd (omega arith)
-meets a s (p ∷ q ∷ r ∷ ps) qs two fits same = absurd (omega arith)
-meets a s (p ∷ q ∷ []) [] two fits same = cc
-meets a s (p ∷ q ∷ []) (x ∷ []) two fits same = cc
-meets a s (p ∷ q ∷ []) (x ∷ y ∷ rest) two fits same =
-    let one = and_true (fits_place p a) _ fits in
-    let other = and_true (fits_place q s) true one.1 in
-    let first : x ≡ p = cc in
-    let second : y ≡ q = cc in
-    (ap (λ z. fits_place z a) first ∙ one.0, ap (λ z. fits_place z s) second ∙ other.0)
+meets a s ps qs h1 h2 h3 = grind arith
 
 -- an entry that covers all cells of the action
 meets_all : (a s : ℕ) (ps : List Place) → fit_places ps (a ∷ []) ≡ true → (fits_at ps 0 a ≡ true) × (fits_at ps 1 s ≡ true)
@@ -120,11 +103,7 @@ abbrev pub IsPaidBy : List Entry → ℕ → ℕ → Type 0
 IsPaidBy entries a s = (n : ℕ) × (x : Entry) × (slice_get entries n ≡ Some x) × (meets_row Reward a s x ≡ true)
 
 pub paid_by_all : (entries : List Entry) (a s n : ℕ) → IsLastNumber entries Reward (a ∷ []) (Some n) → IsPaidBy entries a s
-paid_by_all entries a s n last =
-    let x = last.0.0 in
-    let both = and_true (is_table x.table Reward) (fit_places x.places (a ∷ [])) last.0.2 in
-    let m = meets_all a s x.places both.1 in
-    (n, x, last.0.1, ap (λ b. b && fits_at x.places 0 a && fits_at x.places 1 s) both.0 ∙ ap (λ b. b && fits_at x.places 1 s) m.0 ∙ m.1)
+paid_by_all entries a s n last = grind (arith, and_true, meets_all)
 
 pub paid : (p : Preamble) (entries : List Entry) (rewards : RewardRules) (a s : ℕ) (r : Rule) → AreRewardsOf p entries rewards → a + 2 < key_base → s + 2 < key_base
     → Contains rewards.rules r → Begins most_places (table_key Reward) (a ∷ s ∷ []) 0 r.key → IsPaidBy entries a s

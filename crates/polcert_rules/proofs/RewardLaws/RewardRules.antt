@@ -1,5 +1,5 @@
 -- The rewards of entries: from the rules of R and the bodies of their entries.
-use Rattle.std.proofs.Common.{◌≡◌, ℕ, ◌^◌, ◌<◌, Bool, List, length, All, Contains, sym, subst, ℤ}
+use Rattle.std.proofs.Common.{◌≡◌, ℕ, ◌^◌, ◌<◌, Bool, List, length, All, Contains, ℤ, arith}
 use Rattle.std.proofs.lemmas.Option.{slice_get_within}
 use Rattle.polcert_cells.specs.declared.entries.Table.TheVariants.{Reward}
 use Rattle.polcert_cells.specs.declared.entries.Entry.{Entry}
@@ -24,12 +24,4 @@ pub are_rewards : (p : Preamble) (entries : List Entry) (shape : RewardShape) (c
     → IsShapeOf p shape → p.costs ≡ costs → AreKeyed entries → All (IsSoundEntry p) entries → IsIndexOf entries index
     → IsSpan index rules (table_key Reward) (key_base ^ most_places) → AreBodiesOf costs entries rules first numbers bodies
     → AreRewardsOf p entries (reward_rules shape rules first bodies numbers)
-are_rewards p entries shape costs index rules first bodies numbers shape_is costs_are keyed sound is span each = record {
-  shape = shape_is;
-  sound = sound;
-  keyed = keyed;
-  index = index;
-  index_is = is;
-  rules = span;
-  bodies = subst (λ c. AreBodiesOf c entries rules first numbers bodies) (sym costs_are) each;
-}
+are_rewards p entries shape costs index rs0 first bodies numbers shape_is costs_are keyed sound is span each = grind arith

@@ -1,5 +1,5 @@
 -- Where no entry names either of two start states.
-use Rattle.std.proofs.Common.{◌≡◌, ◌∙◌, ℕ, zero, suc, ◌+◌, ◌*◌, ◌^◌, ◌<◌, ◌≤◌, Bool, true, false, ◌&&◌, inl, inr, Option, Some, None, List, [], ◌∷◌, length, drop, Contains, refl, sym, ap, subst, arith, pos}
+use Rattle.std.proofs.Common.{◌≡◌, ◌∙◌, ℕ, zero, suc, ◌+◌, ◌*◌, ◌^◌, ◌<◌, ◌≤◌, Bool, true, false, ◌&&◌, inl, inr, Option, Some, None, List, [], ◌∷◌, length, drop, Contains, refl, sym, ap, subst, arith, pos, rules}
 use Rattle.std.specs.Prelude.{◌==◌, not, is_some, IsTrue, IsFalse}
 use Rattle.std.proofs.lemmas.Bool.Decides.{nat_tests}
 use Rattle.std.specs.List.{slice_get}
@@ -7,8 +7,8 @@ use Rattle.polcert_cells.specs.declared.entries.Table.TheVariants.{Reward}
 use Rattle.polcert_cells.specs.declared.entries.Place.{Place}
 use Rattle.polcert_cells.specs.declared.entries.Place.TheVariants.{Every, Only}
 use Rattle.polcert_cells.specs.declared.entries.Entry.{Entry}
-use Rattle.polcert_cells.specs.Preamble.{Preamble, dimensions}
-use Rattle.polcert_cells.specs.Cells.{fits_place, fit_places, is_table, covers, reward, reward_in, reward_of, value_or}
+use Rattle.polcert_cells.specs.Preamble.{Preamble}
+use Rattle.polcert_cells.specs.Cells.{fits_place, fit_places, is_table, covers, reward, reward_of, value_or}
 use Rattle.polcert_rules.specs.declared.index.Rule.{Rule}
 use Rattle.polcert_rules.specs.Keys.{key_base, digit, key_in, table_key, AreDigits, AreIndices, most_places}
 use Rattle.polcert_rules.specs.Matching.{newest_in}
@@ -25,8 +25,7 @@ use Rattle.polcert_rules.proofs.RewardLaws.RewardCells.{last_of_rules}
 use Rattle.polcert_rules.proofs.RewardLaws.RewardValues.{number_reward}
 
 pub false_of : (b : Bool) → IsTrue (not b) → b ≡ false
-false_of true e = cc
-false_of false e = refl
+false_of b h1 = grind arith
 
 -- ---- what the search finds
 none_here : (rules part : List Rule) (low : ℕ) (here : Option ℕ) → IsSpan rules part low (key_base ^ 2) → IsNewest part (λ k. k ≡ low) here → false ≡ is_some here
@@ -40,16 +39,13 @@ none_within rules [] low empty span is some_left r among from to =
     let inside = (span r).1 (among, from, to) in
     let none = inside.1 in
     omega arith
-none_within rules (x ∷ xs) low empty span is some_left r among from to =
-    let some : (length (x ∷ xs) == 0) ≡ false = grind (arith, nat_tests) in
-    true≢false (ap not (is ∙ some)) some_left
+none_within rules-0 (x ∷ xs) low empty span is some_left r among from to = grind (arith, nat_tests, true≢false)
 
 pub unnamed_after : (rules first second : List Rule) (low s : ℕ) (here : Option ℕ) (empty : Bool) → IsSpan rules first low (key_base ^ 2)
     → IsNewest first (λ k. k ≡ low) here → false ≡ is_some here → IsSpan rules second (low + (s + 2) * key_base ^ 2) (key_base ^ 2) → empty ≡ (length second == 0)
     → IsFalse (not empty) → (r : Rule) → Contains rules r → NamesStartAfter low s r.key → ⊥
 unnamed_after rules first second low s here empty span newest none named is some_left r among (inl at) = none_here rules first low here span newest none r among at
-unnamed_after rules first second low s here empty span newest none named is some_left r among (inr within) =
-    none_within rules second (low + (s + 2) * key_base ^ 2) empty named is some_left r among within.0 within.1
+unnamed_after rules-0 first second low s here empty span newest none named is some_left r among (inr within) = search (rules, none_within)
 
 pub unnamed : (rules first : List Rule) (a s step : ℕ) (here : Option ℕ) → step ≡ key_base ^ 3 → IsSpan rules first (table_key Reward) (key_base ^ 2)
     → IsNewest first (λ k. k ≡ table_key Reward) here → false ≡ is_some here
@@ -65,9 +61,7 @@ unnamed rules first a s step here full span newest none every only r among (inr 
 -- ---- what covers a cell
 -- what is known of the key after the first place is known of the key
 after_first : (a s key : ℕ) (p : Place) → fits_place p a ≡ true → NamesStartAfter (table_key Reward + digit p * key_base ^ 3) s key → NamesStart a s key
-after_first a s key Every fit names = inr (inl names)
-after_first a s key (Only n) fit names =
-    inr (inr (subst (λ i. NamesStartAfter (table_key Reward + (i + 2) * key_base ^ 3) s key) (same_number n a fit) names))
+after_first a s key p h1 h2 = grind arith
 
 -- Places that fit a cell leave the start state open, if the key does not name it; they are two at least.
 pub record LeavesOpen (a other e z : ℕ) (ps : List Place) : Type 0 where
@@ -77,17 +71,9 @@ pub record LeavesOpen (a other e z : ℕ) (ps : List Place) : Type 0 where
 leaves_open : (a s other e z : ℕ) (ps : List Place) (key : ℕ) → fit_places ps (a ∷ s ∷ e ∷ z ∷ []) ≡ true → AreDigits most_places ps
     → key ≡ key_in most_places (table_key Reward) ps → (NamesStart a s key → ⊥) → LeavesOpen a other e z ps
 leaves_open a s other e z [] key fits digits is unnamed = absurd (unnamed (inl is))
-leaves_open a s other e z (p ∷ []) key fits digits is unnamed =
-    absurd (unnamed (after_first a s key p (and_true (fits_place p a) true fits).0 (inl is)))
+leaves_open a s other e z (p ∷ []) key fits digits is unnamed = grind (arith, and_true, unnamed, after_first)
 leaves_open a s other e z (p ∷ Every ∷ ps) key fits digits is unnamed = record { fits = fits; two = omega arith }
-leaves_open a s other e z (p ∷ Only n ∷ ps) key fits digits is unnamed =
-    let first = and_true (fits_place p a) _ fits in
-    let second = and_true (n == s) _ first.1 in
-    let same = same_number n s second.0 in
-    let start : table_key Reward + digit p * key_base ^ 3 + (n + 2) * key_base ^ 2 ≡ table_key Reward + digit p * key_base ^ 3 + (s + 2) * key_base ^ 2 = ap (λ i. table_key Reward + digit p * key_base ^ 3 + (i + 2) * key_base ^ 2) same in
-    let low = key_low 2 (table_key Reward + digit p * key_base ^ 3 + (n + 2) * key_base ^ 2) ps in
-    let high = key_high 2 (table_key Reward + digit p * key_base ^ 3 + (n + 2) * key_base ^ 2) ps digits.1.1 in
-    absurd (unnamed (after_first a s key p first.0 (inr (omega (arith, start, low, is), omega (arith, start, high, is)))))
+leaves_open a s other e z (p ∷ Only n ∷ ps) key fits digits is unnamed = grind (arith, and_true, same_number, key_low, key_high, unnamed, after_first)
 
 -- no rule that fits the action names this start state
 abbrev pub NoneNames : RewardRules → ℕ → ℕ → Type 0
@@ -115,13 +101,7 @@ module _ (p : Preamble) (entries : List Entry) (rewards : RewardRules) (are : Ar
 
   given_same : (s other e z : ℕ) (number : Option ℕ) → NoneNames rewards a s → IsLastNumber entries Reward (a ∷ s ∷ e ∷ z ∷ []) number
       → value_or (pos 0) (reward_of p (a ∷ s ∷ e ∷ z ∷ [])) (entry_at entries number) ≡ value_or (pos 0) (reward_of p (a ∷ other ∷ e ∷ z ∷ [])) (entry_at entries number)
-  given_same s other e z None here last = refl
-  given_same s other e z (Some n) here last =
-      let x = last.0.0 in
-      let two = (opened s other e z n x here last.0.1 last.0.2).1 in
-      ap (value_or (pos 0) (reward_of p (a ∷ s ∷ e ∷ z ∷ []))) last.0.1
-      ∙ ap (λ (cell : List ℕ). reward_in p.costs x.body (drop (length x.places) (dimensions p x.table)) cell) (open_cell s other e z (length x.places) two)
-      ∙ sym (ap (value_or (pos 0) (reward_of p (a ∷ other ∷ e ∷ z ∷ []))) last.0.1)
+  given_same s other e z number h1 h2 = grind (arith, opened, open_cell)
 
   pub same_rewards : (s other e z : ℕ) → NoneNames rewards a s → NoneNames rewards a other → AreIndices most_places (a ∷ s ∷ e ∷ z ∷ [])
       → reward p entries (a ∷ s ∷ e ∷ z ∷ []) ≡ reward p entries (a ∷ other ∷ e ∷ z ∷ [])

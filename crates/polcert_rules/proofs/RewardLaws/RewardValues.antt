@@ -1,19 +1,13 @@
 -- The number that a body has for a cell is what the entry gives it.
-use Rattle.std.proofs.Common.{◌≡◌, ◌∙◌, ℕ, zero, suc, ◌+◌, ◌*◌, ◌<◌, ◌≤◌, Bool, true, false, ◌⊎◌, inl, inr, Option, Some, None, List, [], ◌∷◌, length, drop, map, get_or, All, refl, sym, ap, subst, arith, ℤ, pos, negsuc, neg_ℤ, unsigned_abs, w64, if◌then◌else◌}
+use Rattle.std.proofs.Common.{◌≡◌, ◌∙◌, ℕ, zero, suc, ◌+◌, ◌<◌, ◌≤◌, Bool, true, ◌⊎◌, Option, Some, None, List, [], ◌∷◌, length, drop, map, get_or, All, sym, ap, arith, ℤ, pos, neg_ℤ, unsigned_abs, if◌then◌else◌}
 use Rattle.std.specs.Prelude.{◌==◌}
 use Rattle.std.specs.List.{slice_get, list_any}
-use Rattle.std.proofs.lemmas.Bool.Decides.{nat_tests}
 use Rattle.std.proofs.lemmas.List.{drop_all}
-use Rattle.std.proofs.lemmas.Nat.{mul-add-lt}
-use Rattle.std.proofs.Math.Nat.{mul_comm, mul_assoc, add-mul}
-use Rattle.std.proofs.lemmas.Int.{wrapping_neg_is, int_wrap_fits}
 use Rattle.std.proofs.lemmas.List.Elements.{All-cons, All-nil}
 use Rattle.std.proofs.lemmas.Option.{slice_get-get_or, get_or_from_slice_get}
 use Rattle.polcert_text.specs.Numbers.{largest}
-use Rattle.polcert_cells.specs.declared.entries.Table.{Table}
 use Rattle.polcert_cells.specs.declared.entries.Table.TheVariants.{Reward}
 use Rattle.polcert_cells.specs.declared.entries.Body.{Body}
-use Rattle.polcert_cells.specs.declared.entries.Body.TheVariants.{Probabilities, Rewards, Uniform, Identity}
 use Rattle.polcert_cells.specs.declared.entries.Entry.{Entry}
 use Rattle.polcert_cells.specs.Elements.{count_of}
 use Rattle.polcert_cells.specs.Entry.{forms, cells_in}
@@ -21,7 +15,7 @@ use Rattle.polcert_cells.specs.Preamble.{Preamble, is_mdp, dimensions, rewarded}
 use Rattle.polcert_cells.specs.Steps.Sound.{IsSoundEntry, Fills}
 use Rattle.polcert_cells.specs.Cells.{row_major, reward_in, reward_of, reward, value_or}
 use Rattle.polcert_cells.proofs.CellLaws.{last_is_one}
-use Rattle.polcert_cells.proofs.SoundLaws.{reward_fits, covered_table}
+use Rattle.polcert_cells.proofs.SoundLaws.{covered_table}
 use Rattle.polcert_rules.specs.declared.rewards.RewardBody.{RewardBody}
 use Rattle.polcert_rules.specs.Keys.{key_base, AreIndices}
 use Rattle.polcert_rules.specs.Steps.Newest.{IsLastNumber, entry_at}
@@ -33,19 +27,11 @@ use Rattle.polcert_rules.proofs.Keyed.Covering.{last_is, keyed_at}
 -- ---- the reward of a cell is what the entry of its last number gives
 pub number_reward : (p : Preamble) (entries : List Entry) (indices : List ℕ) (number : Option ℕ) → IsLastNumber entries Reward indices number
     → reward p entries indices ≡ value_or (pos 0) (reward_of p indices) (entry_at entries number)
-number_reward p entries indices number l =
-    ap (value_or (pos 0) (reward_of p indices)) (sym (last_is_one entries Reward indices (entry_at entries number) (last_is entries Reward indices number l)))
+number_reward p entries indices number l = grind (arith, last_is_one, last_is)
 
 -- ---- what a number is worth
-abs_neg : (h : ℤ) → unsigned_abs (neg_ℤ h) ≡ unsigned_abs h
-abs_neg (pos zero) = refl
-abs_neg (pos (suc n)) = refl
-abs_neg (negsuc n) = refl
-
 worth_is : (costs : Bool) (h : ℤ) → unsigned_abs h ≤ largest → worth costs h ≡ (if costs then neg_ℤ h else h)
-worth_is false h l = refl
-worth_is true h l =
-    wrapping_neg_is w64 h (reward_fits h l) ∙ int_wrap_fits w64 (neg_ℤ h) (reward_fits (neg_ℤ h) (subst (λ n. n ≤ largest) (sym (abs_neg h)) l))
+worth_is costs h h1 = grind arith
 
 -- ---- the cells that places leave open
 -- so many places leave these indices open
@@ -53,76 +39,27 @@ abbrev pub IsForm : ℕ → Type 0
 IsForm n = (n ≡ 1) ⊎ ((n ≡ 2) ⊎ ((n ≡ 3) ⊎ (n ≡ 4)))
 
 pub form_of : (mdp : Bool) (n : ℕ) → list_any (λ k. k == n) (if mdp then (1 ∷ 2 ∷ 3 ∷ 4 ∷ []) else (2 ∷ 3 ∷ 4 ∷ [])) ≡ true → IsForm n
-form_of true n e = grind (arith, nat_tests)
-form_of false n e = grind (arith, nat_tests)
+form_of mdp n h1 = grind arith
 
 -- the number of the cell is the one of the definition, and there is one
 pub record IsOpen (p : Preamble) (n : ℕ) (indices : List ℕ) : Type 0 where
   pub cell : cell_in (count_of p.states) (count_of (rewarded p)) (drop n indices) ≡ row_major (drop n (dimensions p Reward)) (drop n indices)
   pub within : row_major (drop n (dimensions p Reward)) (drop n indices) < cells_in (drop n (dimensions p Reward))
 
-open_one : (p : Preamble) (a s e z : ℕ) → s < count_of p.states → e < count_of p.states → z < count_of (rewarded p) → IsOpen p 1 (a ∷ s ∷ e ∷ z ∷ [])
-open_one p a s e z ls le lz =
-    let rows = count_of p.states in
-    let columns = count_of (rewarded p) in
-    let one : columns ≡ columns * 1 = omega arith in
-    let last : z ≡ z * 1 + 0 = omega arith in
-    let split : (s * rows + e) * columns + z ≡ s * rows * columns + e * columns + z = ap (λ c. c + z) (add-mul (s * rows) e columns) in
-    let grouped : s * rows * columns ≡ s * (rows * columns) = mul_assoc s rows columns in
-    let plain : (s * rows + e) * columns + z ≡ s * (rows * columns) + (e * columns + z) = omega (arith, split, grouped) in
-    let cell : (s * rows + e) * columns + z ≡ s * (rows * (columns * 1)) + (e * (columns * 1) + (z * 1 + 0)) =
-    plain ∙ ap (λ c. s * (rows * c) + (e * c + z)) one ∙ ap (λ c. s * (rows * (columns * 1)) + (e * (columns * 1) + c)) last in
-    let row : s * rows + e < rows * rows = mul-add-lt s rows e rows ls le in
-    let below : (s * rows + e) * columns + z < columns * (rows * rows) = mul-add-lt (s * rows + e) columns z (rows * rows) row lz in
-    let whole : columns * (rows * rows) ≡ rows * (rows * (columns * 1)) = mul_comm columns (rows * rows) ∙ mul_assoc rows rows columns ∙ ap (λ c. rows * (rows * c)) one in
-    record { cell = cell; within = subst (λ k. k < rows * (rows * (columns * 1))) cell (subst (λ k. (s * rows + e) * columns + z < k) whole below) }
-
-open_two : (p : Preamble) (a s e z : ℕ) → e < count_of p.states → z < count_of (rewarded p) → IsOpen p 2 (a ∷ s ∷ e ∷ z ∷ [])
-open_two p a s e z le lz =
-    let columns = count_of (rewarded p) in
-    let one : columns * 1 ≡ columns = omega arith in
-    let last : z * 1 + 0 ≡ z = omega arith in
-    let cell : e * columns + z ≡ e * (columns * 1) + (z * 1 + 0) = ap (λ c. e * c + z) (sym one) ∙ ap (λ c. e * (columns * 1) + c) (sym last) in
-    let below : e * columns + z < columns * count_of p.states = mul-add-lt e columns z (count_of p.states) le lz in
-    let whole : columns * count_of p.states ≡ count_of p.states * (columns * 1) = mul_comm columns (count_of p.states) ∙ ap (λ c. count_of p.states * c) (sym one) in
-    record { cell = cell; within = subst (λ k. k < count_of p.states * (columns * 1)) cell (subst (λ k. e * columns + z < k) whole below) }
-
-open_three : (p : Preamble) (a s e z : ℕ) → z < count_of (rewarded p) → IsOpen p 3 (a ∷ s ∷ e ∷ z ∷ [])
-open_three p a s e z lz =
-    let cell : z ≡ z * 1 + 0 = omega arith in
-    let below : z * 1 + 0 < count_of (rewarded p) * 1 = omega arith in
-    record { cell = cell; within = below }
-
-open_four : (p : Preamble) (a s e z : ℕ) → IsOpen p 4 (a ∷ s ∷ e ∷ z ∷ [])
-open_four p a s e z = record { cell = refl; within = (let l : 0 < 1 = omega arith in l) }
-
 pub is_open : (p : Preamble) (n a s e z : ℕ) → IsForm n → s < count_of p.states → e < count_of p.states → z < count_of (rewarded p) → IsOpen p n (a ∷ s ∷ e ∷ z ∷ [])
-is_open p n a s e z (inl is) ls le lz = subst (λ k. IsOpen p k (a ∷ s ∷ e ∷ z ∷ [])) (sym is) (open_one p a s e z ls le lz)
-is_open p n a s e z (inr (inl is)) ls le lz = subst (λ k. IsOpen p k (a ∷ s ∷ e ∷ z ∷ [])) (sym is) (open_two p a s e z le lz)
-is_open p n a s e z (inr (inr (inl is))) ls le lz = subst (λ k. IsOpen p k (a ∷ s ∷ e ∷ z ∷ [])) (sym is) (open_three p a s e z lz)
-is_open p n a s e z (inr (inr (inr is))) ls le lz = subst (λ k. IsOpen p k (a ∷ s ∷ e ∷ z ∷ [])) (sym is) (open_four p a s e z)
+is_open p n a s e z h1 h2 h3 h4 = grind arith
 
 -- ---- the number at the cell
 number_at : (costs : Bool) (hs numbers : List ℤ) (start k : ℕ) → ((k : ℕ) (h : ℤ) → slice_get hs k ≡ Some h → slice_get numbers (start + k) ≡ Some (worth costs h))
     → All (λ h. unsigned_abs h ≤ largest) hs → k < length hs → get_or numbers (start + k) (pos 0) ≡ (if costs then neg_ℤ (get_or hs k (pos 0)) else get_or hs k (pos 0))
-number_at costs hs numbers start k stands small l =
-    let h = get_or hs k (pos 0) in
-    get_or_from_slice_get numbers (start + k) (worth costs h) (pos 0) (stands k h (slice_get-get_or hs k (pos 0) l)) ∙ worth_is costs h (small k (pos 0) l)
+number_at costs hs numbers start k stands small l = grind (arith, slice_get-get_or, get_or_from_slice_get, worth_is)
 
 -- a sound entry of R has rewards
 in_body : (p : Preamble) (body : Body) (numbers : List ℤ) (n start : ℕ) (indices : List ℕ) → list_any (λ k. k == n) (forms (is_mdp p) Reward body) ≡ true
     → Fills (cells_in (drop n (dimensions p Reward))) body
     → ((k : ℕ) (h : ℤ) → slice_get (rewards_in body) k ≡ Some h → slice_get numbers (start + k) ≡ Some (worth p.costs h)) → (IsForm n → IsOpen p n indices)
     → get_or numbers (start + cell_in (count_of p.states) (count_of (rewarded p)) (drop n indices)) (pos 0) ≡ reward_in p.costs body (drop n (dimensions p Reward)) (drop n indices)
-in_body p (Rewards hs) numbers n start indices form fills stands opens =
-    let opened = opens (form_of (is_mdp p) n form) in
-    let within = opened.within in
-    let size = fills.0 in
-    ap (λ k. get_or numbers (start + k) (pos 0)) opened.cell
-    ∙ number_at p.costs hs numbers start (row_major (drop n (dimensions p Reward)) (drop n indices)) stands fills.1 (omega arith)
-in_body p (Probabilities ps) numbers n start indices form fills stands opens = cc
-in_body p Uniform numbers n start indices form fills stands opens = cc
-in_body p Identity numbers n start indices form fills stands opens = cc
+in_body p body numbers n start indices h1 h2 h3 h4 = grind (arith, form_of, number_at)
 
 -- at an entry of R
 pub record IsOfEntry (p : Preamble) (entry : Entry) : Type 0 where
@@ -130,18 +67,11 @@ pub record IsOfEntry (p : Preamble) (entry : Entry) : Type 0 where
   pub fills : Fills (cells_in (drop (length entry.places) (dimensions p Reward))) entry.body
 
 pub of_entry : (p : Preamble) (entry : Entry) → entry.table ≡ Reward → IsSoundEntry p entry → IsOfEntry p entry
-of_entry p entry t s = record {
-  form = subst (λ (u : Table). list_any (λ k. k == length entry.places) (forms (is_mdp p) u entry.body) ≡ true) t s.form;
-  fills = subst (λ (u : Table). Fills (cells_in (drop (length entry.places) (dimensions p u))) entry.body) t s.body;
-}
+of_entry p entry t s = grind arith
 
 entry_number : (p : Preamble) (entry : Entry) (numbers : List ℤ) (b : RewardBody) (indices : List ℕ) → entry.table ≡ Reward → IsSoundEntry p entry → IsBodyOf p.costs entry numbers b
     → ((n : ℕ) → IsForm n → IsOpen p n indices) → get_or numbers (b.start + cell_in (count_of p.states) (count_of (rewarded p)) (drop b.places indices)) (pos 0) ≡ reward_of p indices entry
-entry_number p entry numbers b indices t s body opens =
-    let of = of_entry p entry t s in
-    ap (λ n. get_or numbers (b.start + cell_in (count_of p.states) (count_of (rewarded p)) (drop n indices)) (pos 0)) body.places
-    ∙ in_body p entry.body numbers (length entry.places) b.start indices of.form of.fills body.numbers_are (opens (length entry.places))
-    ∙ ap (λ (u : Table). reward_in p.costs entry.body (drop (length entry.places) (dimensions p u)) (drop (length entry.places) indices)) (sym t)
+entry_number p entry numbers b indices t s body opens = grind (arith, in_body, of_entry)
 
 -- ---- the cell of a body
 pub all_open : (p : Preamble) (indices : List ℕ) → AreWithin (map count_of (dimensions p Reward)) indices → (n : ℕ) → IsForm n → IsOpen p n indices
@@ -170,12 +100,7 @@ no_reward p entries indices last = sym (number_reward p entries indices None las
 
 -- ---- a body with a single number
 no_index_left : (p : Preamble) (indices : List ℕ) (n : ℕ) → AreWithin (map count_of (dimensions p Reward)) indices → 4 ≤ n → drop n indices ≡ []
-no_index_left p [] n w l = absurd w
-no_index_left p (a ∷ []) n w l = absurd w.1
-no_index_left p (a ∷ s ∷ []) n w l = absurd w.1.1
-no_index_left p (a ∷ s ∷ e ∷ []) n w l = absurd w.1.1.1
-no_index_left p (a ∷ s ∷ e ∷ z ∷ []) n w l = drop_all n (a ∷ s ∷ e ∷ z ∷ []) l
-no_index_left p (a ∷ s ∷ e ∷ z ∷ x ∷ xs) n w l = absurd w.1.1.1.1
+no_index_left p indices n h1 h2 = grind (arith, drop_all)
 
 pub single_reward : (p : Preamble) (entries : List Entry) (rewards : RewardRules) (indices : List ℕ) (b : RewardBody) → AreRewardsOf p entries rewards
     → AreWithin (map count_of (dimensions p Reward)) indices → 4 ≤ b.places → IsLastBody p.costs entries rewards.numbers indices (Some b)

@@ -1,6 +1,5 @@
 -- What the body of an entry gives a row.
-use Rattle.std.proofs.Common.{◌≡◌, ℕ, suc, ◌+◌, ◌*◌, ◌<◌, ◌≤◌, List, [], ◌∷◌, length, refl, subst, arith}
-use Rattle.std.proofs.Math.Nat.{mul-le-mul_left, mul_comm, mul-suc}
+use Rattle.std.proofs.Common.{◌≡◌, ℕ, ◌+◌, ◌*◌, ◌<◌, ◌≤◌, List, [], length, subst, arith}
 use Rattle.polcert_cells.specs.declared.entries.Place.{Place}
 use Rattle.polcert_cells.specs.declared.entries.Body.TheVariants.{Probabilities}
 use Rattle.polcert_cells.specs.declared.entries.Entry.{Entry}
@@ -10,17 +9,10 @@ use Rattle.polcert_rules.specs.Steps.Given.{FitsShape, open_cells}
 
 -- a line of a matrix ends within it
 pub line_within : (s n m : ℕ) → s < n → s * m + m ≤ n * m
-line_within s n m l =
-    let more : m * suc s ≤ m * n = mul-le-mul_left m (omega arith) in
-    let left : m * suc s ≡ m * s + m = mul-suc m s in
-    let turned : m * s ≡ s * m = mul_comm m s in
-    let right : m * n ≡ n * m = mul_comm m n in
-    omega arith
+line_within s n m l = grind arith
 
 open_of_one : (shape : Shape) (places : List Place) → length places ≡ 1 → open_cells shape places ≡ shape.states * shape.columns
-open_of_one shape [] e = absurd (omega arith)
-open_of_one shape (p ∷ []) e = refl
-open_of_one shape (p ∷ q ∷ ps) e = absurd (omega arith)
+open_of_one shape places h1 = grind arith
 
 -- an entry whose body is a list of numbers
 module _ (shape : Shape) (e : Entry) (ps : List ℕ) (fits : FitsShape shape e) (body : e.body ≡ Probabilities ps) where
@@ -28,8 +20,4 @@ module _ (shape : Shape) (e : Entry) (ps : List ℕ) (fits : FitsShape shape e) 
   fills = subst (Fills (open_cells shape e.places)) body fits.body
 
   pub matrix_room : (s : ℕ) → length e.places ≡ 1 → s < shape.states → s * shape.columns + shape.columns ≤ length ps
-  matrix_room s n l =
-      let size = fills.0 in
-      let full = open_of_one shape e.places n in
-      let room = line_within s shape.states shape.columns l in
-      omega arith
+  matrix_room s n l = grind (arith, line_within, open_of_one, fills)

@@ -13,7 +13,7 @@ use Rattle.polcert_rules.specs.declared.index.Rule.{Rule}
 use Rattle.polcert_rules.specs.Keys.{key_base, digit}
 use Rattle.polcert_rules.specs.Steps.Newest.{IsRising, IsNewest, newest_of_each}
 use Rattle.polcert_rules.specs.Steps.Rows.{IsSingle, IsColumn, IsCell, columns_of, at_column}
-use Rattle.polcert_rules.proofs.Keyed.Fitting.{same_number, equal_numbers}
+use Rattle.polcert_rules.proofs.Keyed.Fitting.{equal_numbers}
 use Rattle.polcert_rules.proofs.Indexes.Building.{Among, Stands, among_from, contains_from, each_old, each_kept, rule_of}
 
 pub all_of : (P : Rule → Type 0) (xs : List Rule) → ((r : Rule) → Contains xs r → P r) → All P xs
@@ -93,19 +93,14 @@ start_of low first second = low + first * key_base ^ 3 + second * key_base ^ 2 +
 
 cell_from : (rules : List Rule) (low action state start : ℕ) (p q : Place) (x : Rule) → start ≡ start_of low (digit p) (digit q) → fits_place p action ≡ true → fits_place q state ≡ true
     → IsColumn rules start x → IsCell rules low action state x
-cell_from rules low action state start p q x is a s c =
-    let key = c.key_is in
-    record { rule = c.rule; among = c.among; single = record { first = p; second = q; fits_action = a; fits_state = s; is = omega arith }; column = c.column; number_is = c.number_is }
+cell_from rs0 low action state start p q x is a s c = grind arith
 
 cell_to : (rules : List Rule) (low action state start : ℕ) (x : Rule) → (c : IsCell rules low action state x) → start ≡ start_of low (digit c.single.first) (digit c.single.second) → IsColumn rules start x
-cell_to rules low action state start x c is =
-    let key = c.single.is in
-    record { rule = c.rule; among = c.among; key_is = omega arith; column = c.column; number_is = c.number_is }
+cell_to rs0 low action state start x c is = grind arith
 
 -- a place that fits an index has one of two digits
 pub two_digits : (p : Place) (i : ℕ) → fits_place p i ≡ true → (digit p ≡ 1) ⊎ (digit p ≡ i + 2)
-two_digits Every i e = inl refl
-two_digits (Only n) i e = inr (ap (λ k. k + 2) (same_number n i e))
+two_digits p i h1 = grind arith
 
 abbrev pub IsStep : List Rule → List Rule → List Rule → ℕ → Type 0
 IsStep rules old new start = (x : Rule) → Contains new x ↔ (Contains old x ⊎ IsColumn rules start x)

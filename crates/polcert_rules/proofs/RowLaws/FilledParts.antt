@@ -1,5 +1,5 @@
 -- A list that is filled part by part.
-use Rattle.std.proofs.Common.{◌≡◌, ◌∙◌, ℕ, ◌+◌, ◌-◌, ◌<◌, ◌≤◌, ⊎_elim, List, ◌++◌, length, get_or, take, sym, ap, subst, refl, arith}
+use Rattle.std.proofs.Common.{◌≡◌, ◌∙◌, ℕ, ◌+◌, ◌-◌, ◌<◌, ◌≤◌, ⊎_elim, List, ◌++◌, length, get_or, take, sym, ap, refl, arith}
 use Rattle.std.proofs.lemmas.Bool.{cases_lt}
 use Rattle.std.proofs.lemmas.List.{get_or-take, get_or_append_left, get_or-append_right, length-take-le}
 use Rattle.std.proofs.lemmas.Slice.{take-put_mid}
@@ -13,12 +13,4 @@ at_front done k i xs ys d within l =
 pub filled_part : {X : Type 0} (P : ℕ → X → Type 0) (done size k : ℕ) (xs ys : List X) (d : X) → done ≤ length xs → size ≤ length ys
     → ((i : ℕ) → i < done → P i (get_or xs i d)) → ((i : ℕ) → i < size → P (done + i) (get_or ys i d))
     → (i : ℕ) → i < done + size → P i (get_or (put_mid done k xs ys) i d)
-filled_part P done size k xs ys d within room before part i l = ⊎_elim
-    (λ less.
-    let first = get_or_append_left (take done xs) ys d i (omega (arith, length-take-le done xs within)) in
-    subst (P i) (sym (at_front done k i xs ys d within (omega arith) ∙ first ∙ get_or-take done xs i d less)) (before i less))
-    (λ more.
-    let second = get_or-append_right (take done xs) ys done i d (length-take-le done xs within) more in
-    let place : done + (i - done) ≡ i = omega arith in
-    subst (P i) (sym (at_front done k i xs ys d within (omega arith) ∙ second)) (subst (λ n. P n (get_or ys (i - done) d)) place (part (i - done) (omega arith))))
-    (cases_lt i done)
+filled_part P done size k xs ys d within room before part i l = grind (arith, ⊎_elim, cases_lt, get_or-take, get_or_append_left, get_or-append_right, length-take-le, at_front)

@@ -1,5 +1,5 @@
 -- A row of the index: what covers the whole row, the zeros, and the other single cells.
-use Rattle.std.proofs.Common.{◌≡◌, ◌∙◌, ℕ, ◌+◌, ◌<◌, ◌⊎◌, inl, inr, ⊎_elim, true, Option, Some, None, List, [], ◌∷◌, All, Contains, refl, sym, subst, arith}
+use Rattle.std.proofs.Common.{◌≡◌, ℕ, ◌+◌, ◌<◌, ◌⊎◌, inl, inr, ⊎_elim, true, Option, Some, List, [], ◌∷◌, All, Contains, sym, subst, arith}
 use Rattle.std.specs.Prelude.{IfSome}
 use Rattle.polcert_cells.specs.declared.entries.Table.{Table}
 use Rattle.polcert_cells.specs.declared.entries.Entry.{Entry}
@@ -13,15 +13,13 @@ use Rattle.polcert_rules.specs.Matching.{max_option}
 use Rattle.polcert_rules.specs.Steps.Rows.{IsSingle, IsCell, HasNoSuchColumn, HaveColumns, at_column, no_column}
 use Rattle.polcert_rules.specs.Steps.Zeros.{IsSplit, others_in, AreOrdered, IsRowOf, is_zero, zero_of, number_under}
 use Rattle.polcert_rules.proofs.Keyed.Fitting.{fits_low, fits_high}
-use Rattle.polcert_rules.proofs.Indexes.NotedLaws.{later_none}
 use Rattle.polcert_rules.proofs.Keyed.Covering.{covered_fits, fits_covered, last_number, keyed_at}
 use Rattle.polcert_rules.proofs.RowLaws.RowNumbers.{fits_split, single_fits, covers_any}
 use Rattle.polcert_rules.proofs.RowLaws.SingleEntries.{single_entries}
 use Rattle.polcert_rules.proofs.Indexes.Greatest.{greatest_as, greatest_of, newest_of, greatest_of_two}
 
 pub under_is : (whole : Option ℕ) (zeros : Option RowZeros) (c : ℕ) → number_under whole zeros c ≡ max_option whole (zero_of zeros c)
-under_is whole None c = sym (later_none whole)
-under_is whole (Some z) c = refl
+under_is whole zeros c = grind arith
 
 -- what covers the whole row fits each column
 module _ (entries : List Entry) (rules : List Rule) (table : Table) (a s : ℕ) (keyed : AreKeyed entries) (columns : HaveColumns entries) (index : IsIndexOf entries rules)
@@ -75,10 +73,7 @@ module _ (entries : List Entry) (rules : List Rule) (table : Table) (a s : ℕ) 
   of_index x c = record { rule = c.rule; among = ((parted.each c.rule).0 (inr c.among)).0; single = c.single; column = c.column; number_is = c.number_is }
 
   zero_is : (c n : ℕ) (o : Option ℕ) → o ≡ Some n → IsNewest split.zeros.items (IsSingle (table_key table) a s c) o → is_zero entries n ≡ true
-  zero_is c n None e z = cc
-  zero_is c n (Some m) e z =
-      let same : m ≡ n = cc in
-      subst (λ k. is_zero entries k ≡ true) (z.0.is ∙ same) (parted.zero z.0.rule z.0.among)
+  zero_is c n o h1 h2 = grind arith
 
   pub row_is : (row : Row) → IsNewest rules (Fits most_places (table_key table) (a ∷ s ∷ no_column ∷ [])) row.whole → IsRising row.cells.items
       → ((c : ℕ) → c + 2 < key_base → IsNewest (others_in split.others) (IsSingle (table_key table) a s c) (at_column row.cells.items c))

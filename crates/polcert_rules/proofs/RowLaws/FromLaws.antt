@@ -1,5 +1,5 @@
 -- The cells of a row from a column on.
-use Rattle.std.proofs.Common.{◌≡◌, ◌∙◌, ℕ, zero, suc, ◌+◌, ◌<◌, ◌≤◌, Bool, true, false, cond, ltb, Some, None, List, [], ◌∷◌, length, get_or, drop, refl, sym, ap, arith}
+use Rattle.std.proofs.Common.{◌≡◌, ◌∙◌, ℕ, zero, suc, ◌+◌, ◌<◌, ◌≤◌, true, false, cond, ltb, Some, None, List, [], ◌∷◌, length, get_or, drop, refl, sym, ap, arith}
 use Rattle.std.specs.List.{slice_get}
 use Rattle.std.specs.List.Sorted.{IsPartitionedBy}
 use Rattle.std.proofs.lemmas.Bool.{lt-ltb, le-ltb}
@@ -40,19 +40,11 @@ full_up_to xs column x up is same =
 
 from_climbs : (low n column : ℕ) (xs : List Cell) → Climbs low n xs → Climbs column n (from column xs)
 from_climbs low n column [] h = tt
-from_climbs low n column (x ∷ xs) h = at (ltb x.column column) refl (from_climbs (x.column + 1) n column xs h.3)
-  where
-    at : (b : Bool) → ltb x.column column ≡ b → Climbs column n (from column xs) → Climbs column n (cond b (from column xs) (x ∷ xs))
-    at true e rest = rest
-    at false e rest = (grind (arith, nat_tests), h.1, h.2, h.3)
+from_climbs low n column (x ∷ xs) h = grind (arith, nat_tests, from_climbs (x.column + 1) n column xs h.3)
 
 from_weight : (column c : ℕ) (xs : List Cell) → column ≤ c → weight_at (from column xs) c ≡ weight_at xs c
 from_weight column c [] l = refl
-from_weight column c (x ∷ xs) l = at (ltb x.column column) refl (from_weight column c xs l)
-  where
-    at : (b : Bool) → ltb x.column column ≡ b → weight_at (from column xs) c ≡ weight_at xs c → weight_at (cond b (from column xs) (x ∷ xs)) c ≡ weight_at (x ∷ xs) c
-    at true e rest = let less : x.column < column = grind (arith, nat_tests) in rest ∙ sym (weight_tail x xs c (λ f. omega arith))
-    at false e rest = refl
+from_weight column c (x ∷ xs) l = grind (arith, nat_tests, weight_tail, from_weight column c xs l)
 
 module _ (n column : ℕ) (xs : List Cell) (sparse : IsSparse n xs) where
   climbs : Climbs column n (from column xs)

@@ -38,42 +38,21 @@ weight_before low n k c (x ∷ xs) rest h l z = at (ltb x.column k) refl (weight
 -- a column from the given one on
 weight_after : (k c : ℕ) (base rest : List Cell) → k ≤ c → weight_at (before k base ++ rest) c ≡ weight_at rest c
 weight_after k c [] rest l = refl
-weight_after k c (x ∷ xs) rest l = at (ltb x.column k) refl (weight_after k c xs rest l)
-  where
-    at : (b : Bool) → ltb x.column k ≡ b → weight_at (before k xs ++ rest) c ≡ weight_at rest c → weight_at (cond b (x ∷ before k xs) [] ++ rest) c ≡ weight_at rest c
-    at true e ih = let less : x.column < k = grind (arith, nat_tests) in weight_tail x (before k xs ++ rest) c (λ f. omega arith) ∙ ih
-    at false e ih = refl
+weight_after k c (x ∷ xs) rest l = grind (arith, nat_tests, weight_tail, weight_after k c xs rest l)
 
 weight_following : (k c : ℕ) (base : List Cell) → k < c → weight_at (following k base) c ≡ weight_at base c
 weight_following k c [] l = refl
-weight_following k c (x ∷ xs) l = at (ltb x.column k) refl (eqb x.column k) refl (weight_following k c xs l)
-  where
-    at : (b : Bool) → ltb x.column k ≡ b → (t : Bool) → eqb x.column k ≡ t → weight_at (following k xs) c ≡ weight_at xs c → weight_at (cond b (following k xs) (cond t xs (x ∷ xs))) c ≡ weight_at (x ∷ xs) c
-    at true e t f ih = let less : x.column < k = grind (arith, nat_tests) in ih ∙ sym (weight_tail x xs c (λ g. omega arith))
-    at false e true f ih = let same : x.column ≡ k = grind (arith, nat_tests) in sym (weight_tail x xs c (λ g. omega arith))
-    at false e false f ih = refl
+weight_following k c (x ∷ xs) l = grind (arith, nat_tests, weight_tail, weight_following k c xs l)
 
 -- ---- a cell in front
 climbs_with : (k n : ℕ) (x : Cell) (xs : List Cell) → x.column ≡ k → k < n → Climbs (k + 1) n xs → Climbs k n (with_cell x xs)
-climbs_with k n x xs e l h = at (ltb 0 x.weight) refl
-  where
-    at : (b : Bool) → ltb 0 x.weight ≡ b → Climbs k n (cond b (x ∷ xs) xs)
-    at true f = (omega arith, omega arith, grind (arith, nat_tests), subst (λ i. Climbs (i + 1) n xs) (sym e) h)
-    at false f = climbs_lower k (k + 1) n xs (omega arith) h
+climbs_with k n x xs e l h = grind (arith, nat_tests, climbs_lower)
 
 weight_with_here : (k n : ℕ) (x : Cell) (xs : List Cell) → x.column ≡ k → Climbs (k + 1) n xs → weight_at (with_cell x xs) k ≡ x.weight
-weight_with_here k n x xs e h = at (ltb 0 x.weight) refl
-  where
-    at : (b : Bool) → ltb 0 x.weight ≡ b → weight_at (cond b (x ∷ xs) xs) k ≡ x.weight
-    at true f = weight_head x xs k e
-    at false f = let none : x.weight ≡ 0 = grind (arith, nat_tests) in weight_below (k + 1) n k xs h (omega arith) ∙ sym none
+weight_with_here k n x xs e h = grind (arith, nat_tests, weight_head, weight_below)
 
 weight_with_there : (c : ℕ) (x : Cell) (xs : List Cell) → (x.column ≡ c → ⊥) → weight_at (with_cell x xs) c ≡ weight_at xs c
-weight_with_there c x xs d = at (ltb 0 x.weight)
-  where
-    at : (b : Bool) → weight_at (cond b (x ∷ xs) xs) c ≡ weight_at xs c
-    at true = weight_tail x xs c d
-    at false = refl
+weight_with_there c x xs d = grind arith
 
 -- ---- the weights of newer cells over others
 over_low : (low n c : ℕ) (newer : List Cell) (f : ℕ → ℕ) → Rises low n newer → c < low → weight_over newer f c ≡ f c

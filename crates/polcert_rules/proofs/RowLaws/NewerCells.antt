@@ -1,5 +1,5 @@
 -- The single cells of a row that are newer than what is under them.
-use Rattle.std.proofs.Common.{◌≡◌, ◌∙◌, ℕ, suc, ◌+◌, ◌<◌, ◌≤◌, Bool, true, false, cond, eqb, leb, ltb, Option, Some, None, List, [], ◌∷◌, All, refl, sym, ap, arith}
+use Rattle.std.proofs.Common.{◌≡◌, ◌∙◌, ℕ, suc, ◌+◌, ◌<◌, ◌≤◌, Bool, true, false, cond, eqb, Option, Some, None, List, [], ◌∷◌, All, refl, sym, ap, arith}
 use Rattle.std.proofs.lemmas.Bool.Decides.{nat_tests}
 use Rattle.std.proofs.lemmas.List.Elements.{All-head, All-tail}
 use Rattle.polcert_cells.specs.declared.entries.Entry.{Entry}
@@ -37,17 +37,7 @@ module _ (columns : ℕ) (entries : List Entry) (s : ℕ) where
   picked covering_entry (Some n) c = cond (is_newer covering_entry n) (given_at columns entries (Some n) s c) (given_at columns entries covering_entry s c)
 
   pub picked_number : (covering_entry : Option ℕ) (c : ℕ) (o : Option ℕ) → picked covering_entry o c ≡ given_at columns entries (max_option covering_entry o) s c
-  picked_number None c None = refl
-  picked_number (Some m) c None = refl
-  picked_number None c (Some n) = refl
-  picked_number (Some m) c (Some n) = two (ltb m n) refl (leb m n) refl
-    where
-      two : (b : Bool) → ltb m n ≡ b → (t : Bool) → leb m n ≡ t
-          → cond b (given_at columns entries (Some n) s c) (given_at columns entries (Some m) s c) ≡ given_at columns entries (cond t (Some n) (Some m)) s c
-      two true g true h = refl
-      two true g false h = absurd (grind (arith, nat_tests))
-      two false g true h = let same : m ≡ n = grind (arith, nat_tests) in ap (λ k. given_at columns entries (Some k) s c) same
-      two false g false h = refl
+  picked_number covering_entry c o = grind arith
 
   module _ (covering_entry : ℕ → Option ℕ) where
     newer_picked : (low c : ℕ) (rs : List Rule) → RulesRise low rs → weight_over (newer_cells columns entries covering_entry s rs) (λ i. given_at columns entries (covering_entry i) s i) c ≡ picked (covering_entry c) (at_column rs c) c

@@ -1,10 +1,10 @@
 -- What fits a cell of a row: what covers the whole row, or a single cell.
-use Rattle.std.proofs.Common.{◌≡◌, ◌∙◌, ℕ, ◌⊎◌, inl, inr, true, ◌&&◌, List, [], ◌∷◌, refl, ap}
+use Rattle.std.proofs.Common.{◌≡◌, ◌∙◌, ℕ, ◌⊎◌, inl, inr, true, List, [], ◌∷◌, refl, ap, arith}
 use Rattle.polcert_cells.specs.declared.entries.Table.{Table}
 use Rattle.polcert_cells.specs.declared.entries.Place.{Place}
 use Rattle.polcert_cells.specs.declared.entries.Place.TheVariants.{Every, Only}
 use Rattle.polcert_cells.specs.declared.entries.Entry.{Entry}
-use Rattle.polcert_cells.specs.Cells.{fits_place, fit_places, is_table, covers}
+use Rattle.polcert_cells.specs.Cells.{fits_place, fit_places, covers}
 use Rattle.polcert_rules.specs.Keys.{key_in, Fits, most_places}
 use Rattle.polcert_rules.specs.Steps.Rows.{IsSingle, HasNoSuchColumn, no_column}
 use Rattle.polcert_rules.proofs.Keyed.Fitting.{and_true, same_number, equal_numbers}
@@ -21,16 +21,10 @@ no_rest [] e = refl
 no_rest (p ∷ ps) e = cc
 
 all_fit : (p q r : Place) (ps : List Place) (a s c : ℕ) → fit_places (p ∷ q ∷ r ∷ ps) (a ∷ s ∷ c ∷ []) ≡ true → AllFit p q r ps a s c
-all_fit p q r ps a s c e =
-    let one = and_true (fits_place p a) _ e in
-    let two = and_true (fits_place q s) _ one.1 in
-    let three = and_true (fits_place r c) (fit_places ps []) two.1 in
-    record { first = one.0; second = two.0; third = three.0; rest = no_rest ps three.1 }
+all_fit p q r ps a s c e = grind (arith, and_true, no_rest)
 
 fit_all : (p q r : Place) (ps : List Place) (a s c : ℕ) → AllFit p q r ps a s c → fit_places (p ∷ q ∷ r ∷ ps) (a ∷ s ∷ c ∷ []) ≡ true
-fit_all p q r ps a s c f =
-    ap (λ b. b && (fits_place q s && (fits_place r c && fit_places ps []))) f.first ∙ ap (λ b. b && (fits_place r c && fit_places ps [])) f.second
-    ∙ ap (λ b. b && fit_places ps []) f.third ∙ ap (λ xs. fit_places xs []) f.rest
+fit_all p q r ps a s c f = grind arith
 
 -- what fits a cell fits the whole row, or is a single cell
 pub fits_split : (low a s c d key : ℕ) → Fits most_places low (a ∷ s ∷ c ∷ []) key → Fits most_places low (a ∷ s ∷ d ∷ []) key ⊎ IsSingle low a s c key
@@ -60,17 +54,5 @@ single_fit low a s c key i = fit_all i.first i.second (Only c) [] a s c (record 
 pub single_fits : (low a s c key : ℕ) → IsSingle low a s c key → Fits most_places low (a ∷ s ∷ c ∷ []) key
 single_fits low a s c key i = record { places = i.first ∷ i.second ∷ Only c ∷ []; fits = single_fit low a s c key i; is = i.is }
 
--- what fits a column that no entry names fits each column
-fits_any : (ps : List Place) (a s c : ℕ) → HasNoSuchColumn ps → fit_places ps (a ∷ s ∷ no_column ∷ []) ≡ true → fit_places ps (a ∷ s ∷ c ∷ []) ≡ true
-fits_any [] a s c h e = refl
-fits_any (p ∷ []) a s c h e = e
-fits_any (p ∷ q ∷ []) a s c h e = e
-fits_any (p ∷ q ∷ Every ∷ ps) a s c h e =
-    let g = all_fit p q Every ps a s no_column e in
-    fit_all p q Every ps a s c (record { first = g.first; second = g.second; third = refl; rest = g.rest })
-fits_any (p ∷ q ∷ Only n ∷ ps) a s c h e = absurd (h (same_number n no_column (all_fit p q (Only n) ps a s no_column e).third))
-
 pub covers_any : (table : Table) (e : Entry) (a s c : ℕ) → HasNoSuchColumn e.places → covers table (a ∷ s ∷ no_column ∷ []) e ≡ true → covers table (a ∷ s ∷ c ∷ []) e ≡ true
-covers_any table e a s c h covered =
-    let both = and_true (is_table e.table table) (fit_places e.places (a ∷ s ∷ no_column ∷ [])) covered in
-    ap (λ b. b && fit_places e.places (a ∷ s ∷ c ∷ [])) both.0 ∙ fits_any e.places a s c h both.1
+covers_any table e a s c h covered = grind arith

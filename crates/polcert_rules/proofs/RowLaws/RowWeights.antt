@@ -35,9 +35,7 @@ module _ (shape : Shape) (entries : List Entry) (table : Table) (a s : ℕ) (row
       ∙ ap (value_or 0 (λ e. given shape.columns e s c)) (sym (h.last c l))
 
   newer_rises : Rises 0 shape.columns newer
-  newer_rises =
-      subst (Rises 0 shape.columns) (sym newer_are)
-      (newer_rise shape.columns entries s (covering_entry row) 0 shape.columns row.cells.items (rules_rise 0 row.cells.items h.rising (λ k d l. omega arith)) (λ k d l. (h.cells k d l).0))
+  newer_rises = grind (arith, newer_rise, rules_rise)
 
   -- the finished cells are the row
   pub finished : (base borrowed_base borrowed_newer cells : List Cell) → IsRow shape.columns (given_at shape.columns entries row.whole s) base → borrowed_base ≡ base → borrowed_newer ≡ newer

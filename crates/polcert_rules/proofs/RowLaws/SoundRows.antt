@@ -1,15 +1,14 @@
 -- Sound entries: their keys, and the numbers and weights of their rows.
-use Rattle.std.proofs.Common.{◌≡◌, ◌∙◌, ℕ, zero, suc, ◌+◌, ◌*◌, ◌<◌, ◌≤◌, lit≤, Option, Some, None, List, [], ◌∷◌, ◌++◌, length, All, refl, sym, ap, subst, arith}
+use Rattle.std.proofs.Common.{◌≡◌, ◌∙◌, ℕ, zero, suc, ◌+◌, ◌*◌, ◌<◌, ◌≤◌, lit≤, Option, Some, None, List, [], ◌∷◌, ◌++◌, length, All, refl, sym, ap, subst, arith, rules}
 use Rattle.std.specs.List.{slice_get}
 use Rattle.polcert_cells.specs.declared.entries.Table.{Table}
 use Rattle.polcert_cells.specs.declared.entries.Table.TheVariants.{Transition, Observation, Reward}
 use Rattle.polcert_cells.specs.declared.entries.Place.{Place}
-use Rattle.polcert_cells.specs.declared.entries.Place.TheVariants.{Every, Only}
+use Rattle.polcert_cells.specs.declared.entries.Place.TheVariants.{Only}
 use Rattle.polcert_cells.specs.declared.entries.Entry.{Entry}
 use Rattle.polcert_cells.specs.declared.elements.Elements.{Elements}
-use Rattle.polcert_cells.specs.Elements.{count_of, most_states, most_actions, most_observations, most_elements}
+use Rattle.polcert_cells.specs.Elements.{count_of, most_states, most_actions, most_observations}
 use Rattle.polcert_cells.specs.Cells.{is_table, fit_places, last_covering, IsLastCovering, last, weight, weight_of, value_or}
-use Rattle.polcert_cells.specs.Meaning.{IsCount}
 use Rattle.polcert_cells.specs.Numbers.{one}
 use Rattle.polcert_cells.specs.Preamble.{Preamble, dimensions, observed}
 use Rattle.polcert_cells.specs.Rows.{IsWeighted}
@@ -24,7 +23,7 @@ use Rattle.polcert_rules.specs.Steps.Zeros.{IsSplit, IsRowOf, covering_entry}
 use Rattle.polcert_rules.specs.Steps.Repeats.{IsWholeNumber}
 use Rattle.polcert_rules.specs.Keys.{key_base, AreDigits, most_places}
 use Rattle.polcert_rules.specs.Steps.Newest.{IsIndexOf, AreKeyed, IsLastNumber, entry_at}
-use Rattle.polcert_rules.specs.Steps.Rows.{HasNoSuchColumn, HaveColumns, IsSingleEntry, no_column, number_in}
+use Rattle.polcert_rules.specs.Steps.Rows.{HaveColumns, IsSingleEntry, no_column, number_in}
 use Rattle.polcert_rules.specs.Steps.Given.{IsWithin, FitsShape, HasColumn, given}
 use Rattle.polcert_rules.specs.Steps.Shapes.{IsShapeOf, AreSound}
 use Rattle.polcert_rules.specs.Steps.Merging.{weight_in}
@@ -54,26 +53,13 @@ module _ (p : Preamble) (sound : (count_of p.states ≤ most_states) × (count_o
   keyed Reward ps h =
       digits_in 4 _ ps (lit≤ tt) (action_digit _ sound.1, (element_digit _ sound.0, (element_digit _ sound.0, (element_digit _ (rewarded_few p sound.2), tt)))) h
 
-  no_such : (t : Table) (ps : List Place) → ArePlacesIn (dimensions p t) ps → HasNoSuchColumn ps
-  no_such t [] h = tt
-  no_such t (x ∷ []) h = tt
-  no_such t (x ∷ y ∷ []) h = tt
-  no_such t (x ∷ y ∷ Every ∷ ps) h = tt
-  no_such Transition (x ∷ y ∷ Only k ∷ ps) h = let l = h.1.1.0 in let m = sound.0 in λ e. omega arith
-  no_such Observation (x ∷ y ∷ Only k ∷ ps) h = let l = h.1.1.0 in let m = sound.2 in λ e. omega arith
-  no_such Reward (x ∷ y ∷ Only k ∷ ps) h = let l = h.1.1.0 in let m = sound.0 in λ e. omega arith
-
 -- sound entries have keys
 pub sound_keyed : (p : Preamble) (entries : List Entry) → AreSound p entries → AreKeyed entries
-sound_keyed p entries sound k d l =
-    let e = sound.each k d l in
-    keyed p (sound.states.1, sound.actions.1, sound.observations.1) _ _ e.places
+sound_keyed p entries sound k d l = grind (arith, keyed)
 
 -- and no column too large
 pub sound_columns : (p : Preamble) (entries : List Entry) → AreSound p entries → HaveColumns entries
-sound_columns p entries sound k d l =
-    let e = sound.each k d l in
-    no_such p (sound.states.1, sound.actions.1, sound.observations.1) _ _ e.places
+sound_columns p entries sound k d l = grind arith
 
 -- ---- what covers a cell is an entry of the table
 get_here : (xs ys : List Entry) (e : Entry) → slice_get (xs ++ e ∷ ys) (length xs) ≡ Some e
@@ -156,22 +142,11 @@ module _ (p : Preamble) (table : Table) (shape : Shape) (entries : List Entry) (
 
 -- the counts of a shape are within their limits
 pub sound_within : (p : Preamble) (table : Table) (shape : Shape) (entries : List Entry) → IsWeighted table → IsShapeOf p table shape → AreSound p entries → IsWithin shape
-sound_within p Transition shape entries w is sound =
-    let a = sound.actions in
-    let s = sound.states in
-    record { actions = subst (IsCount most_actions) (sym is.actions) a; states = subst (IsCount most_states) (sym is.states) s; columns = subst (IsCount most_elements) (sym is.columns) s }
-sound_within p Observation shape entries w is sound =
-    let a = sound.actions in
-    let s = sound.states in
-    record { actions = subst (IsCount most_actions) (sym is.actions) a; states = subst (IsCount most_states) (sym is.states) s; columns = subst (IsCount most_elements) (sym is.columns) sound.observations }
-sound_within p Reward shape entries w is sound = absurd w
+sound_within p table shape entries h1 h2 h3 = grind arith
 
 -- the numbers of a row, by what the index says of it
 pub row_numbers : (p : Preamble) (table : Table) (shape : Shape) (entries : List Entry) (rules : List Rule) (split : SplitRules) (a s : ℕ) (whole : Option ℕ) (row : Row)
     → IsWeighted table → IsShapeOf p table shape → AreSound p entries → IsIndexOf entries rules → IsSplit entries table rules split → IsWholeNumber rules table a s whole
     → ((es : List Entry) (rs : List Rule) → AreKeyed es → HaveColumns es → IsIndexOf es rs → IsSplit es table rs split → IsWholeNumber rs table a s whole → IsRowOf es table a s row)
     → AreNumbersOf shape entries table a s row
-row_numbers p table shape entries rules split a s whole row w is sound index parted covering of_row =
-    let keyed = sound_keyed p entries sound in
-    let columns = sound_columns p entries sound in
-    numbers_are p table shape entries w is sound.each (sound_within p table shape entries w is sound) a s row (of_row entries rules keyed columns index parted covering)
+row_numbers p table shape entries rs0 split a s whole row w is sound index parted coverings0 of_row = search (rules, keyed, sound_keyed, sound_columns, covering, numbers_are, sound_within)

@@ -1,5 +1,5 @@
 -- The rules of a table in two lists.
-use Rattle.std.proofs.Common.{◌≡◌, ◌∙◌, ◌==◌, suc, ◌+◌, ◌^◌, ◌<◌, ◌≤◌, ◌↔◌, ◌⊎◌, inl, inr, ⊎_elim, Bool, true, false, cond, List, [], ◌∷◌, All, Contains, length, refl, sym, ap, subst, arith}
+use Rattle.std.proofs.Common.{◌≡◌, ◌∙◌, ◌==◌, suc, ◌+◌, ◌^◌, ◌<◌, ◌≤◌, ◌↔◌, ◌⊎◌, inl, inr, ⊎_elim, Bool, true, false, cond, List, [], ◌∷◌, All, Contains, length, refl, sym, subst, arith}
 use Rattle.std.proofs.lemmas.Bool.Decides.{nat_tests}
 use Rattle.std.proofs.lemmas.List.Kept.{AllPairs-cons}
 use Rattle.std.proofs.lemmas.Option.{slice_get_within}
@@ -16,29 +16,15 @@ use Rattle.polcert_rules.proofs.RowLaws.Cells.{all_of}
 module _ (entries : List Entry) where
   zeros_old : (rs : List Rule) (q : Rule) → Among q (zeros_of entries rs) → Among q rs × (is_zero entries q.number ≡ true)
   zeros_old [] q a = absurd a
-  zeros_old (r ∷ rs) q a = at (is_zero entries r.number) refl (zeros_old rs q) a
-    where
-      at : (b : Bool) → is_zero entries r.number ≡ b → (Among q (zeros_of entries rs) → Among q rs × (is_zero entries q.number ≡ true))
-          → Among q (cond b (r ∷ zeros_of entries rs) (zeros_of entries rs)) → ((r ≡ q) ⊎ Among q rs) × (is_zero entries q.number ≡ true)
-      at true e ih m = ⊎_elim (λ same. (inl same, subst (λ (x : Rule). is_zero entries x.number ≡ true) same e)) (λ n. let i = ih n in (inr i.0, i.1)) m
-      at false e ih m = let i = ih m in (inr i.0, i.1)
+  zeros_old (r ∷ rs) q a = grind (arith, ⊎_elim, zeros_old rs q)
 
   others_old : (rs : List Rule) (q : Rule) → Among q (others_of entries rs) → Among q rs
   others_old [] q a = absurd a
-  others_old (r ∷ rs) q a = at (is_zero entries r.number) (others_old rs q) a
-    where
-      at : (b : Bool) → (Among q (others_of entries rs) → Among q rs) → Among q (cond b (others_of entries rs) (r ∷ others_of entries rs)) → (r ≡ q) ⊎ Among q rs
-      at true ih m = inr (ih m)
-      at false ih m = ⊎_elim inl (λ n. inr (ih n)) m
+  others_old (r ∷ rs) q a = grind (arith, ⊎_elim, others_old rs q)
 
   none_lost : (rs : List Rule) (q : Rule) → Among q rs → Among q (zeros_of entries rs) ⊎ Among q (others_of entries rs)
   none_lost [] q a = absurd a
-  none_lost (r ∷ rs) q a = at (is_zero entries r.number) (none_lost rs q)
-    where
-      at : (b : Bool) → (Among q rs → Among q (zeros_of entries rs) ⊎ Among q (others_of entries rs))
-          → Among q (cond b (r ∷ zeros_of entries rs) (zeros_of entries rs)) ⊎ Among q (cond b (others_of entries rs) (r ∷ others_of entries rs))
-      at true ih = ⊎_elim (λ same. inl (inl same)) (λ n. ⊎_elim (λ z. inl (inr z)) inr (ih n)) a
-      at false ih = ⊎_elim (λ same. inr (inl same)) (λ n. ⊎_elim inl (λ o. inr (inr o)) (ih n)) a
+  none_lost (r ∷ rs) q a = grind (arith, ⊎_elim, none_lost rs q)
 
   -- ---- both rise
   rest_rises : (r : Rule) (rs : List Rule) → IsRising (r ∷ rs) → IsRising rs
@@ -99,12 +85,7 @@ module _ (entries : List Entry) where
   -- without zeros the others are all rules
   all_others : (rs : List Rule) → zeros_of entries rs ≡ [] → others_of entries rs ≡ rs
   all_others [] e = refl
-  all_others (r ∷ rs) e = at (is_zero entries r.number) (all_others rs) e
-    where
-      at : (b : Bool) → (zeros_of entries rs ≡ [] → others_of entries rs ≡ rs) → cond b (r ∷ zeros_of entries rs) (zeros_of entries rs) ≡ []
-          → cond b (others_of entries rs) (r ∷ others_of entries rs) ≡ r ∷ rs
-      at true ih f = cc
-      at false ih f = ap (λ (xs : List Rule). r ∷ xs) (ih f)
+  all_others (r ∷ rs) e = grind (arith, all_others rs)
 
   pub no_zeros : (rs zeros : List Rule) → (length zeros == 0) ≡ true → zeros ≡ zeros_of entries rs → rs ≡ others_of entries rs
   no_zeros rs zeros none is = sym (all_others rs (sym is ∙ empty zeros none))

@@ -1,5 +1,5 @@
-use Rattle.std.proofs.Common.{◌≡◌, ◌+◌, ◌*◌, ◌-◌, ◌^◌, ◌≤◌, ℕ, List, [], ◌∷◌, refl, subst, arith}
-use Rattle.polcert_rules.specs.Keys.{key_base, AreIndices, Fits}
+use Rattle.std.proofs.Common.{◌+◌, ◌-◌, ◌^◌, ◌≤◌, [], ◌∷◌, refl, subst, arith}
+use Rattle.polcert_rules.specs.Keys.{key_base, Fits}
 use Rattle.polcert_rules.specs.Steps.Named.{noted_at}
 use Rattle.polcert_rules.specs.Steps.Noting.{IsNoted}
 use Rattle.polcert_rules.proofs.Indexes.NextPlaces.{goes_deeper}

@@ -1,4 +1,4 @@
-use Rattle.std.proofs.Common.{◌≡◌, ◌+◌, ◌-◌, ◌<◌, ℕ, subst, arith}
+use Rattle.std.proofs.Common.{◌≡◌, ◌+◌, ◌-◌, subst, arith}
 use Rattle.polcert_rules.specs.Keys.{key_base}
 use Rattle.polcert_rules.specs.Steps.Named.{noted_at}
 use Rattle.polcert_rules.specs.Steps.Noting.{IsNoted, IsLastPlace}

@@ -1,4 +1,4 @@
-use Rattle.std.proofs.Common.{◌≡◌, ◌∙◌, ◌<◌, ◌≤◌, ◌-◌, List, take, length, get_or, set, map, refl, sym, subst, arith, rules, length-set}
+use Rattle.std.proofs.Common.{◌∙◌, ◌<◌, ◌-◌, List, take, length, get_or, set, map, refl, sym, subst, arith, rules, length-set}
 use Rattle.std.proofs.lemmas.List.{take_more}
 use Rattle.std.proofs.lemmas.List.Elements.{Contains-get_or}
 use Rattle.polcert_cells.specs.EntryRefs.{entry_of, all_rewards}

@@ -1,4 +1,4 @@
-use Rattle.std.proofs.Common.{◌≡◌, ◌∙◌, ◌++◌, List, [], ◌∷◌, Bool, true, false, ℤ, map, refl, sym, ap, rules}
+use Rattle.std.proofs.Common.{◌≡◌, ◌∙◌, ◌++◌, List, [], ◌∷◌, false, ℤ, map, refl, sym, ap, rules}
 use Rattle.polcert_rules.specs.Steps.Rewards.{worth}
 use Rattle.polcert_rules.proofs.reward_bodies.rewards_of.Goals as goal
 

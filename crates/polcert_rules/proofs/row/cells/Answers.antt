@@ -1,7 +1,7 @@
-use Rattle.std.proofs.Common.{◌∙◌, ℕ, ◌+◌, ◌<◌, List, All, subst, sym, ap, rules}
+use Rattle.std.proofs.Common.{ℕ, ◌+◌, ◌<◌, List, All, subst, sym, rules}
 use Rattle.std.proofs.lemmas.List.Sorted.{IsNonDecreasingBy-from_sort_by_key}
 use Rattle.polcert_rules.specs.declared.index.Rule.{Rule}
-use Rattle.polcert_rules.specs.Steps.Newest.{IsRising, IsNewest, newest_of_each}
+use Rattle.polcert_rules.specs.Steps.Newest.{IsRising, IsNewest}
 use Rattle.polcert_rules.specs.Steps.Rows.{IsSingle, IsCell, at_column}
 use Rattle.polcert_rules.specs.Keys.{key_base}
 use Rattle.polcert_rules.proofs.Indexes.Building.{each_rises}

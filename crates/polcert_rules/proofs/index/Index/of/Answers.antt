@@ -1,8 +1,8 @@
-use Rattle.std.proofs.Common.{◌∙◌, List, subst, sym, ap, rules}
+use Rattle.std.proofs.Common.{List, subst, sym, rules}
 use Rattle.std.specs.List.Sorted.{IsPermutation}
 use Rattle.std.proofs.lemmas.List.Sorted.{IsNonDecreasingBy-from_sort_by_key}
 use Rattle.polcert_rules.specs.declared.index.Rule.{Rule}
-use Rattle.polcert_rules.specs.Steps.Newest.{IsRising, IsIndexOf, newest_of_each}
+use Rattle.polcert_rules.specs.Steps.Newest.{IsRising, IsIndexOf}
 use Rattle.polcert_rules.proofs.Indexes.Building.{each_rises, is_index}
 use Rattle.polcert_rules.proofs.index.Index.of.Goals as goal
 

@@ -1,4 +1,4 @@
-use Rattle.std.proofs.Common.{◌<◌, List, length, arith}
+use Rattle.std.proofs.Common.{◌<◌, length, arith}
 use Rattle.polcert_rules.specs.declared.named_rules.NamedRule.{NamedRule}
 use Rattle.polcert_rules.proofs.Indexes.NamedLaws.{pushed_here, pushed_other}
 use Rattle.polcert_rules.proofs.named_rules.NamedRules.push.Goals as goal

@@ -1,4 +1,4 @@
-use Rattle.std.proofs.Common.{◌≡◌, ◌∙◌, ◌≢◌, ◌+◌, ◌<◌, ℕ, List, [], ◌∷◌, Some, None, Option, map, length, get_or, set, pos, ℤ, FitsSigned, to_z, of_z, w64, sym, ap, refl, subst, arith, rules, below_more, get_or-set_other, get_or-set_same}
+use Rattle.std.proofs.Common.{◌≡◌, ◌∙◌, ◌<◌, ℕ, [], map, length, set, FitsSigned, to_z, of_z, w64, sym, ap, refl, subst, arith, rules, below_more, get_or-set_other, get_or-set_same}
 use Rattle.std.proofs.lemmas.Int.{to_z-of_z}
 use Rattle.polcert_cells.specs.Elements.{count_of}
 use Rattle.polcert_cells.specs.Preamble.{dimensions}

@@ -1,4 +1,4 @@
-use Rattle.std.proofs.Common.{◌≡◌, ◌∙◌, ◌+◌, ◌<◌, ℕ, List, [], ◌∷◌, None, Option, map, FitsSigned, w64, sym, ap, subst, arith, rules}
+use Rattle.std.proofs.Common.{◌∙◌, ℕ, [], ◌∷◌, map, FitsSigned, w64, sym, ap, subst, arith, rules}
 use Rattle.std.proofs.lemmas.Int.{to_z-of_z}
 use Rattle.std.proofs.lemmas.Option.{same_Some}
 use Rattle.polcert_cells.specs.Elements.{count_of}
@@ -7,13 +7,11 @@ use Rattle.polcert_cells.specs.Cells.{reward}
 use Rattle.polcert_cells.specs.CommonRewards.{IsCommonReward}
 use Rattle.polcert_cells.specs.declared.common_reward.CommonReward.{CommonReward}
 use Rattle.polcert_cells.specs.declared.entries.Table.TheVariants.{Reward}
-use Rattle.polcert_rules.specs.declared.index.Rule.{Rule}
-use Rattle.polcert_rules.specs.Keys.{AreIndices, Fits, table_key, most_places, key_base}
+use Rattle.polcert_rules.specs.Keys.{AreIndices, Fits, table_key, most_places}
 use Rattle.polcert_rules.specs.Matching.{max_option}
 use Rattle.polcert_rules.specs.RewardAt.{RewardRules}
-use Rattle.polcert_rules.specs.Steps.Distinct.{rule_at}
 use Rattle.polcert_rules.specs.Steps.Named.{noted_at}
-use Rattle.polcert_rules.specs.Steps.NamedCells.{cell_of, AreNewestAt}
+use Rattle.polcert_rules.specs.Steps.NamedCells.{AreNewestAt}
 use Rattle.polcert_rules.specs.Steps.Newest.{IsNewest}
 use Rattle.polcert_rules.specs.Steps.RewardSearch.{AreWithin}
 use Rattle.polcert_rules.proofs.Indexes.NotedLaws.{noted_first, later_none}

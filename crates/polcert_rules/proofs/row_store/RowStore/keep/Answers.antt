@@ -2,7 +2,6 @@ use Rattle.std.proofs.Common.{◌∙◌, ◌*◌, ◌==◌, ◌∷◌, ◌++◌,
 use Rattle.polcert_cells.specs.Elements.{most_elements}
 use Rattle.polcert_cells.specs.Numbers.{one}
 use Rattle.polcert_cells.specs.Sparse.{weight_at}
-use Rattle.polcert_rules.specs.Steps.Sources.{total}
 use Rattle.polcert_rules.proofs.RowLaws.SumLaws.{sum_is, sum_small, sparse_few}
 use Rattle.polcert_rules.proofs.row_store.RowStore.keep.Goals as goal
 

@@ -1,9 +1,7 @@
-use Rattle.std.proofs.Common.{◌≡◌, ◌∙◌, ◌≤◌, ◌*◌, ◌==◌, ◌∷◌, ◌++◌, [], length, sum, refl, sym, ap, arith}
+use Rattle.std.proofs.Common.{◌∙◌, ◌≤◌, ◌*◌, ◌==◌, ◌∷◌, ◌++◌, [], length, refl, sym, ap, arith}
 use Rattle.std.proofs.Math.Nat.{mul-le-mul}
 use Rattle.polcert_cells.specs.Numbers.{one}
 use Rattle.polcert_cells.specs.Elements.{most_elements}
-use Rattle.polcert_cells.specs.Sparse.{scaled_cells}
-use Rattle.polcert_rules.specs.Steps.Sources.{total}
 use Rattle.polcert_rules.proofs.RowLaws.SumLaws.{total_scaled, sum_most}
 use Rattle.polcert_rules.proofs.row_store.RowStore.keep_numbers.Goals as goal
 

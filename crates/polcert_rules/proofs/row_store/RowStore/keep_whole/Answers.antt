@@ -1,4 +1,4 @@
-use Rattle.std.proofs.Common.{◌≡◌, ◌∙◌, ◌≤◌, ◌*◌, ℕ, List, length, sym, ap, subst, arith}
+use Rattle.std.proofs.Common.{◌∙◌, ◌≤◌, ◌*◌, ℕ, List, length, sym, ap, subst, arith}
 use Rattle.polcert_cells.specs.Numbers.{one}
 use Rattle.polcert_cells.specs.declared.elements.Cell.{Cell}
 use Rattle.polcert_cells.specs.Sparse.{weight_at, scaled_cells, IsRow, IsSparse}
