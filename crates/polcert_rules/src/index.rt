@@ -45,6 +45,8 @@ impl Index {
         ensures { IfOk result (IsIndexOf entries.now) }
     {
         let mut rules = rules_of_entries(alloc, entries)?;
+        // (First by table: in most texts the rules of each are then in order already.)
+        rules.sort_by_key(|rule| rule.key / TABLE)?;
         rules.sort_unstable_by_key(|rule| rule.key);
         keep_newest_of_each(&mut rules);
         Ok(Index { rules })
