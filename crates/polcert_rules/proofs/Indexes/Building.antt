@@ -21,8 +21,7 @@ among_from [] r (k, l, e) = absurd (omega arith)
 among_from (x ∷ xs) r (k, l, e) = at (λ c. among_from xs r c) k l e
   where
     at : (Contains xs r → Among r xs) → (k : ℕ) → k < length (x ∷ xs) → get_or (x ∷ xs) k r ≡ r → (x ≡ r) ⊎ Among r xs
-    at max_option zero l e = inl e
-    at max_option (suc k) l e = inr (max_option (k, omega arith, e))
+    at h1 k h2 h3 = grind arith
 
 pub contains_from : (xs : List Rule) (r : Rule) → Among r xs → Contains xs r
 contains_from [] r a = absurd a
@@ -91,10 +90,7 @@ none_new last (s ∷ rs) r a = at (λ m b. none_new m rs r b) (eqb s.key last.ke
   where
     at : ((m : Rule) → Among r (newest_from m rs) → Among r (m ∷ rs)) → (b : Bool) → eqb s.key last.key ≡ b
         → Among r (cond b (newest_from (joined last s) rs) (last ∷ newest_from s rs)) → Among r (last ∷ s ∷ rs)
-    at ih true e a =
-        let same : s.key ≡ last.key = grind (arith, nat_tests) in
-        ⊎_elim (one_of_two last s r rs same) (λ b. inr (inr b)) (ih (joined last s) a)
-    at ih false e a = ⊎_elim inl (λ b. inr (ih s b)) a
+    at h1 b h2 h3 = grind (arith, ⊎_elim, nat_tests, one_of_two)
 
 -- ---- keys in order
 abbrev RisesFrom : ℕ → List Rule → Type 0
@@ -128,13 +124,7 @@ newest_rises j last (s ∷ rs) l up = at (λ j m l up. newest_rises j m rs l up)
   where
     at : ((j : ℕ) (m : Rule) → j < m.key → RisesFrom m.key rs → RisesAbove j (newest_from m rs)) → (b : Bool) → eqb s.key last.key ≡ b
         → RisesAbove j (cond b (newest_from (joined last s) rs) (last ∷ newest_from s rs))
-    at ih true e =
-        let same : s.key ≡ last.key = grind (arith, nat_tests) in
-        ih j (joined last s) l (subst (λ k. RisesFrom k rs) same up.1)
-    at ih false e =
-        let f = up.0 in
-        let other : last.key < s.key = grind (arith, nat_tests) in
-        (l, ih last.key s other up.1)
+    at h1 b h2 = grind (arith, nat_tests)
 
 abbrev RisesAt : ℕ → List Rule → Type 0
 RisesAt k [] = Unit {0}
@@ -146,13 +136,7 @@ newest_rises_at last (s ∷ rs) up = at (λ m up. newest_rises_at m rs up) (eqb 
   where
     at : ((m : Rule) → RisesFrom m.key rs → RisesAt m.key (newest_from m rs)) → (b : Bool) → eqb s.key last.key ≡ b
         → RisesAt last.key (cond b (newest_from (joined last s) rs) (last ∷ newest_from s rs))
-    at ih true e =
-        let same : s.key ≡ last.key = grind (arith, nat_tests) in
-        ih (joined last s) (subst (λ k. RisesFrom k rs) same up.1)
-    at ih false e =
-        let f = up.0 in
-        let other : last.key < s.key = grind (arith, nat_tests) in
-        (refl, newest_rises last.key s rs other up.1)
+    at h1 b h2 = grind (arith, nat_tests, newest_rises)
 
 rising_at : (k : ℕ) (xs : List Rule) → RisesAt k xs → IsRising xs
 rising_at k [] up = λ i j d less l. absurd (omega arith)

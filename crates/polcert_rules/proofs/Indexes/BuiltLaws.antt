@@ -58,16 +58,10 @@ module _ (given : TableEntries) where
       }
     where
       old_row : ((t : ℕ) → t < s → IsKeptRow width (weights_at given a t) new (slice_index numbers t)) → (t : ℕ) → t < s → IsKeptRow width (weights_at given a t) new (slice_index longer t)
-      old_row each t less =
-          let size = h.size in
-          let same : slice_index numbers t ≡ slice_index longer t = sym (ap (λ (xs : List ℕ). get_or xs t 0) e ∙ get_or_append_left numbers (n ∷ []) 0 t (omega arith)) in
-          subst (IsKeptRow width (weights_at given a t) new) same (each t less)
+      old_row each t less = grind (arith, get_or_append_left)
 
       new_row : (t : ℕ) → t ≡ s → IsKeptRow width (weights_at given a t) new (slice_index longer t)
-      new_row t at =
-          let number : n ≡ slice_index longer t =
-          sym (ap (λ (xs : List ℕ). get_or xs t 0) e ∙ ap (λ k. get_or (numbers ++ n ∷ []) k 0) (at ∙ sym h.size) ∙ get_or-append_seam numbers n [] 0) in
-          subst (IsKeptRow width (weights_at given a t) new) number (subst (λ k. IsKeptRow width (weights_at given a k) new n) (sym at) here)
+      new_row t at = grind (arith, get_or-append_seam)
 
   -- the row of a state, as callers see it
   pub line_row : (a s count : ℕ) (rows : List (List Cell)) (numbers : List ℕ) → AreLine given a count rows numbers → All (IsSparse width) rows → s < count
@@ -95,10 +89,7 @@ module _ (given : TableEntries) where
           subst (AreLine given b given.bodies.shape.states new) same (line_stays b _ old new _ stays (h.each b less))
 
       new_line : (b : ℕ) → b ≡ a → AreLine given b given.bodies.shape.states new (slice_index_or longer b [])
-      new_line b at =
-          let last : line ≡ slice_index_or longer b [] =
-          sym (ap (λ (xs : List (List ℕ)). get_or xs b []) e ∙ ap (λ k. get_or (numbers ++ line ∷ []) k []) (at ∙ sym h.size) ∙ get_or-append_seam numbers line [] []) in
-          subst (AreLine given b given.bodies.shape.states new) last (subst (λ k. AreLine given k given.bodies.shape.states new line) (sym at) here)
+      new_line b at = grind (arith, get_or-append_seam)
 
   pub all_within : (count : ℕ) (rows : List (List Cell)) (numbers : List (List ℕ)) → AreLines given count rows numbers → All (HasRows given.bodies.shape.states (length rows)) numbers
   all_within count rows numbers h k d l = grind (arith, get_or_default)
@@ -115,14 +106,7 @@ module _ (given : TableEntries) where
     }
       where
         as_before : (s c : ℕ) → s < given.bodies.shape.states → c < width → weights_at given (a - 1) s c ≡ weights_at given a s c
-        as_before s c l m =
-            let entries = given.bodies.entries.now in
-            let within = sound_within sound.preamble given.table given.bodies.shape entries sound.weighted sound.shape sound.sound in
-            let columns = within.columns.1 in
-            let states = within.states.1 in
-            let some = same.some in
-            as_named entries given.index.now given.table (sound_keyed sound.preamble entries sound.sound) sound.index
-            (a - 1) a s width c same.before same.here (omega (arith, la, some)) la (omega (arith, states, l)) (omega (arith, columns, m))
+        as_before s c l m = grind (arith, as_named, sound_keyed, sound_within)
 
     pub lines_before : (a : ℕ) (rows : List (List Cell)) (numbers longer : List (List ℕ)) → IsAsBefore given.index.now given.table a → a + 2 < key_base → AreLines given a rows numbers
         → longer ≡ numbers ++ slice_index_or numbers (length numbers - 1) [] ∷ [] → AreLines given (a + 1) rows longer

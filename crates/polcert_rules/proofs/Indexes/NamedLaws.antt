@@ -1,5 +1,5 @@
 -- Rules of few observations, one after another.
-use Rattle.std.proofs.Common.{◌≡◌, ◌∙◌, ℕ, zero, suc, ◌+◌, ◌<◌, false, cond, ◌⊎◌, inl, inr, Option, Some, None, List, [], length, set, refl, sym, ap, arith, get_or-set_other}
+use Rattle.std.proofs.Common.{◌≡◌, ◌∙◌, ℕ, zero, suc, ◌+◌, ◌<◌, false, cond, ◌⊎◌, inl, Option, Some, None, List, [], length, set, refl, sym, ap, arith, get_or-set_other}
 use Rattle.std.specs.Prelude.{◌==◌}
 use Rattle.std.proofs.lemmas.Bool.Decides.{nat_tests}
 use Rattle.std.proofs.lemmas.Grind.{get_or-set_at}
@@ -31,10 +31,7 @@ found_in rules (suc n) k z l e d = at (same_or_not k n) (λ m. found_in rules n 
   where
     at : (k ≡ n) ⊎ (k ≡ n → ⊥) → (k < n → number_in rules n z ≡ Some (rule_at rules k).number)
         → cond ((rule_at rules n).observation == z) (Some (rule_at rules n).number) (number_in rules n z) ≡ Some (rule_at rules k).number
-    at (inl same) _ = hit (rule_at rules n).observation z _ _ (ap (λ i. (rule_at rules i).observation) (sym same) ∙ e) ∙ ap (λ i. Some (rule_at rules i).number) (sym same)
-    at (inr other) earlier =
-        let before : k < n = omega (arith, l, other) in
-        miss (rule_at rules n).observation z _ _ (λ f. d.each k n before (omega arith) (e ∙ sym f)) ∙ earlier before
+    at h1 h2 = grind (arith, hit, miss)
 
 -- two lists that have the same for an observation
 same_in : (xs ys : List NamedRule) (n z : ℕ) → ((k : ℕ) → k < n → (rule_at xs k ≡ rule_at ys k) ⊎ (((rule_at xs k).observation ≡ z → ⊥) × ((rule_at ys k).observation ≡ z → ⊥)))

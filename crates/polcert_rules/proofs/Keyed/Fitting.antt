@@ -1,5 +1,5 @@
 -- Keys that fit indices: in which range they lie, and how they continue place by place.
-use Rattle.std.proofs.Common.{◌≡◌, ◌∙◌, ℕ, zero, suc, ◌+◌, ◌*◌, ◌^◌, ◌<◌, ◌≤◌, Bool, true, ◌&&◌, ◌⊎◌, inl, inr, List, [], ◌∷◌, refl, ap, arith}
+use Rattle.std.proofs.Common.{◌≡◌, ◌∙◌, ℕ, zero, suc, ◌+◌, ◌*◌, ◌^◌, ◌<◌, ◌≤◌, Bool, true, ◌&&◌, ◌⊎◌, inl, List, [], ◌∷◌, refl, ap, arith}
 use Rattle.std.specs.Prelude.{◌==◌}
 use Rattle.std.proofs.Math.Nat.{pow-succ'}
 use Rattle.std.proofs.lemmas.Bool.Decides.{nat_tests}
@@ -80,12 +80,8 @@ fits_next m low i indices key f = at f.places f.fits f.is
   where
     at : (ps : List Place) → fit_places ps (i ∷ indices) ≡ true → key ≡ key_in (suc m) low ps → Next m low i indices key
     at [] e is = inl is
-    at (Every ∷ ps) e is =
-        let one : low + 1 * key_base ^ m ≡ low + key_base ^ m = omega arith in
-        inr (inl (record { places = ps; fits = e; is = is ∙ ap (λ l. key_in m l ps) one }))
-    at (Only n ∷ ps) e is =
-        let both = and_true (n == i) (fit_places ps indices) e in
-        inr (inr (record { places = ps; fits = both.1; is = is ∙ ap (λ k. key_in m (low + (k + 2) * key_base ^ m) ps) (same_number n i both.0) }))
+    at (Every ∷ ps) e is = grind arith
+    at (Only n ∷ ps) e is = grind (arith, and_true, same_number)
 
 pub fits_every : (m low i : ℕ) (indices : List ℕ) (key : ℕ) → Fits m (low + key_base ^ m) indices key → Fits (suc m) low (i ∷ indices) key
 fits_every m low i indices key f =

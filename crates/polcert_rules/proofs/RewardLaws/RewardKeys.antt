@@ -1,5 +1,5 @@
 -- Keys that begin with places that fit.
-use Rattle.std.proofs.Common.{◌≡◌, ◌∙◌, ℕ, zero, suc, ◌+◌, ◌-◌, ◌*◌, ◌^◌, ◌<◌, ◌≤◌, ◌↔◌, Bool, true, false, ◌&&◌, ◌⊎◌, inl, inr, List, [], ◌∷◌, ◌++◌, length, Contains, refl, sym, ap, subst, arith}
+use Rattle.std.proofs.Common.{◌≡◌, ◌∙◌, ℕ, zero, suc, ◌+◌, ◌-◌, ◌*◌, ◌^◌, ◌<◌, ◌≤◌, ◌↔◌, Bool, true, false, ◌&&◌, ◌⊎◌, List, [], ◌∷◌, ◌++◌, length, Contains, refl, sym, ap, subst, arith}
 use Rattle.std.specs.Prelude.{◌==◌, not}
 use Rattle.std.proofs.lemmas.Bool.Decides.{nat_tests}
 use Rattle.polcert_cells.specs.declared.entries.Place.{Place}
@@ -80,24 +80,13 @@ begins_next m low i indices least key b = at b.places b.fits b.all b.from b.to
 
     rest : (p : Place) (ps : List Place) → fit_places ps indices ≡ true → suc (length ps) ≡ suc (length indices) → key_in m (low + digit p * key_base ^ m) ps + least ≤ key
         → key < key_in m (low + digit p * key_base ^ m) ps + key_base ^ (suc m - suc (length indices)) → Begins m (low + digit p * key_base ^ m) indices least key
-    rest p ps fits all from to = record {
-      places = ps;
-      fits = fits;
-      all = omega arith;
-      from = from;
-      to = subst (λ n. key < key_in m (low + digit p * key_base ^ m) ps + key_base ^ n) shorter to;
-    }
+    rest p ps fits all from to = grind (arith, shorter)
 
     at : (ps : List Place) → fit_places ps (i ∷ indices) ≡ true → length ps ≡ suc (length indices) → key_in (suc m) low ps + least ≤ key
         → key < key_in (suc m) low ps + key_base ^ (suc m - suc (length indices)) → Next m low i indices least key
     at [] e all from to = absurd (omega arith)
-    at (Every ∷ ps) e all from to =
-        let one : low + 1 * key_base ^ m ≡ low + key_base ^ m = omega arith in
-        inl (subst (λ l. Begins m l indices least key) one (rest Every ps e all from to))
-    at (Only n ∷ ps) e all from to =
-        let both = and_true (n == i) (fit_places ps indices) e in
-        let same : n ≡ i = same_number n i both.0 in
-        inr (subst (λ k. Begins m (low + (k + 2) * key_base ^ m) indices least key) same (rest (Only n) ps both.1 all from to))
+    at (Every ∷ ps) e all from to = grind (arith, rest)
+    at (Only n ∷ ps) e all from to = grind (arith, and_true, same_number, rest)
 
 begins_every : (m low i : ℕ) (indices : List ℕ) (least key : ℕ) → Begins m (low + key_base ^ m) indices least key → Begins (suc m) low (i ∷ indices) least key
 begins_every m low i indices least key b =

@@ -65,10 +65,7 @@ one_more_body costs entries rules r first numbers bodies b entry old is here low
     after = set bodies (r.number - first) b
 
     same : x.number ≡ r.number → IsSomeAnd (body_at first after x.number) (IsBodyOf costs e numbers)
-    same n =
-        let entry_is : entry ≡ e = same_Some entry e (sym is ∙ ap (slice_get entries) (sym n) ∙ found) in
-        let at : body_at first after x.number ≡ Some b = ap (body_at first after) n ∙ get_set_same bodies (r.number - first) b inside in
-        subst (λ y. IsSomeAnd y (IsBodyOf costs e numbers)) (sym at) (subst (λ (y : Entry). IsBodyOf costs y numbers b) entry_is here)
+    same n = grind (arith, same_Some, get_set_same, after)
 
     other : (x.number ≡ r.number → ⊥) → IsSomeAnd (body_at first after x.number) (IsBodyOf costs e numbers)
     other d = ⊎_elim

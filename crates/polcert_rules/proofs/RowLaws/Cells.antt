@@ -44,18 +44,7 @@ columns_new start (x ∷ xs) r c a is = at (eqb ((x.key - start) % key_base) 0) 
   where
     at : (b : Bool) → eqb ((x.key - start) % key_base) 0 ≡ b → (Among r xs → Among (rule_of c r.number) (columns_of start xs)) → (x ≡ r) ⊎ Among r xs
         → Among (rule_of c r.number) (cond b (rule_of ((x.key - start) / key_base) x.number ∷ columns_of start xs) (columns_of start xs))
-    at true e ih a = ⊎_elim
-        (λ same.
-        let key : x.key ≡ start + c * key_base = ap (λ (y : Rule). y.key) same ∙ is in
-        let column : (x.key - start) / key_base ≡ c = omega arith in
-        inl (ap (λ k. rule_of k x.number) column ∙ ap (λ (y : Rule). rule_of c y.number) same))
-        (λ b. inr (ih b)) a
-    at false e ih a = ⊎_elim
-        (λ same.
-        let key : x.key ≡ start + c * key_base = ap (λ (y : Rule). y.key) same ∙ is in
-        let none_left : (x.key - start) % key_base ≡ 0 = omega arith in
-        absurd (grind (arith, nat_tests)))
-        ih a
+    at b h1 h2 h3 = grind (arith, ⊎_elim, nat_tests, rule_of)
 
 abbrev pub IsBetween : List Rule → List Rule → ℕ → ℕ → Type 0
 IsBetween rules part low high = (r : Rule) → Contains part r ↔ (Contains rules r × (low ≤ r.key) × (r.key < high))
@@ -160,19 +149,14 @@ column_found [] c n e = cc
 column_found (x ∷ xs) c n e = at (eqb x.key c) refl (λ f. column_found xs c n f) e
   where
     at : (b : Bool) → eqb x.key c ≡ b → (at_column xs c ≡ Some n → Among (rule_of c n) xs) → cond b (Some x.number) (at_column xs c) ≡ Some n → (x ≡ rule_of c n) ⊎ Among (rule_of c n) xs
-    at true e ih f =
-        let key : x.key ≡ c = grind (arith, nat_tests) in
-        let number : x.number ≡ n = cc in
-        inl (ap (λ k. rule_of k x.number) key ∙ ap (rule_of c) number)
-    at false e ih f = inr (ih f)
+    at b h1 h2 h3 = grind (arith, nat_tests, rule_of)
 
 pub column_missed : (xs : List Rule) (c : ℕ) (r : Rule) → at_column xs c ≡ None → Among r xs → r.key ≡ c → ⊥
 column_missed [] c r e a k = a
 column_missed (x ∷ xs) c r e a k = at (eqb x.key c) refl (λ f b. column_missed xs c r f b k) e a
   where
     at : (b : Bool) → eqb x.key c ≡ b → (at_column xs c ≡ None → Among r xs → ⊥) → cond b (Some x.number) (at_column xs c) ≡ None → (x ≡ r) ⊎ Among r xs → ⊥
-    at true e ih f a = cc
-    at false e ih f a = ⊎_elim (λ same. let key : x.key ≡ c = ap (λ (y : Rule). y.key) same ∙ k in grind (arith, nat_tests)) (ih f) a
+    at b h1 h2 h3 h4 = grind (arith, ⊎_elim, nat_tests)
 
 pub newest_at : (rules gathered sorted : List Rule) (low action state : ℕ) → ((x : Rule) → Contains gathered x ↔ IsCell rules low action state x) → IsPermutation gathered sorted
     → IsRising (newest_of_each sorted) → (c : ℕ) → c + 2 < key_base → IsNewest rules (IsSingle low action state c) (at_column (newest_of_each sorted) c)

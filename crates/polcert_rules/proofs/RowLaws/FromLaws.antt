@@ -55,20 +55,14 @@ module _ (n column : ℕ) (xs : List Cell) (sparse : IsSparse n xs) where
     where
       at : (ys : List Cell) → from column xs ≡ ys → slice_get ys 0 ≡ Some x → x.weight ≡ weight_at (from column xs) column
       at [] f g = cc
-      at (y ∷ ys) f g =
-          let head : y ≡ x = cc in
-          sym (ap (λ zs. weight_at zs column) f ∙ weight_head y ys column (ap (λ (z : Cell). z.column) head ∙ same) ∙ ap (λ (z : Cell). z.weight) head)
+      at (y ∷ ys) f g = grind (arith, weight_head)
 
   pub at_there : (x : Cell) → slice_get (from column xs) 0 ≡ Some x → (x.column ≡ column → ⊥) → 0 ≡ weight_at xs column
   at_there x e other = at (from column xs) refl e climbs ∙ from_weight column column xs (omega arith)
     where
       at : (ys : List Cell) → from column xs ≡ ys → slice_get ys 0 ≡ Some x → Climbs column n ys → 0 ≡ weight_at (from column xs) column
       at [] f g h = cc
-      at (y ∷ ys) f g h =
-          let head : y.column ≡ x.column = ap (λ (z : Cell). z.column) (let same : y ≡ x = cc in same) in
-          let low = h.0 in
-          let apart : y.column ≡ column → ⊥ = λ i. other (sym head ∙ i) in
-          sym (ap (λ zs. weight_at zs column) f ∙ weight_tail y ys column apart ∙ weight_below (y.column + 1) n column ys h.3 (omega arith))
+      at (y ∷ ys) f g h = grind (arith, weight_tail, weight_below)
 
   none_from : slice_get (from column xs) 0 ≡ None → (c : ℕ) → column ≤ c → weight_at xs c ≡ 0
   none_from e c l = sym (from_weight column c xs l) ∙ at (from column xs) e

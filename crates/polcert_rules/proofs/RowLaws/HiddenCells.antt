@@ -1,5 +1,5 @@
 -- What covers the whole row, where newer zeros hide it.
-use Rattle.std.proofs.Common.{◌≡◌, ◌∙◌, ℕ, ◌+◌, ◌<◌, Bool, true, false, cond, Option, Some, None, List, [], ◌∷◌, sym, ap, arith, rules}
+use Rattle.std.proofs.Common.{◌≡◌, ◌∙◌, ℕ, ◌+◌, ◌<◌, Bool, true, cond, Option, Some, None, List, [], ◌∷◌, sym, ap, arith, rules}
 use Rattle.std.proofs.lemmas.Bool.Decides.{nat_tests}
 use Rattle.polcert_cells.specs.declared.entries.Entry.{Entry}
 use Rattle.polcert_cells.specs.declared.elements.Cell.{Cell}
@@ -21,8 +21,7 @@ shown_climbs low n hidden [] h = tt
 shown_climbs low n hidden (x ∷ xs) h = at (hidden x.column) (shown_climbs (x.column + 1) n hidden xs h.3)
   where
     at : (b : Bool) → Climbs (x.column + 1) n (shown hidden xs) → Climbs low n (cond b (shown hidden xs) (x ∷ shown hidden xs))
-    at true ih = let a = h.0 in climbs_lower low (x.column + 1) n (shown hidden xs) (omega arith) ih
-    at false ih = (h.0, h.1, h.2, ih)
+    at b h1 = grind (arith, climbs_lower)
 
 shown_weight : (hidden : ℕ → Bool) (xs : List Cell) (c : ℕ) → weight_at (shown hidden xs) c ≡ cond (hidden c) 0 (weight_at xs c)
 shown_weight hidden [] c = grind arith

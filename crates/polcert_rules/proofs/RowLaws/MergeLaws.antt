@@ -1,5 +1,5 @@
 -- Newer cells over a row.
-use Rattle.std.proofs.Common.{◌≡◌, ◌∙◌, ℕ, ◌+◌, ◌<◌, ◌≤◌, Bool, true, false, cond, eqb, ltb, List, [], ◌∷◌, ◌++◌, refl, sym, ap, subst, arith}
+use Rattle.std.proofs.Common.{◌≡◌, ◌∙◌, ℕ, ◌+◌, ◌<◌, ◌≤◌, Bool, cond, eqb, ltb, List, [], ◌∷◌, ◌++◌, refl, ap, arith}
 use Rattle.std.proofs.lemmas.Bool.Decides.{nat_tests}
 use Rattle.polcert_cells.specs.declared.elements.Cell.{Cell}
 use Rattle.polcert_cells.specs.Sparse.{weight_at, IsRow}
@@ -12,17 +12,14 @@ climbs_before low n k [] rest h le g = climbs_lower low k n rest le g
 climbs_before low n k (x ∷ xs) rest h le g = at (ltb x.column k) refl (λ l. climbs_before (x.column + 1) n k xs rest h.3 l g)
   where
     at : (b : Bool) → ltb x.column k ≡ b → (x.column + 1 ≤ k → Climbs (x.column + 1) n (before k xs ++ rest)) → Climbs low n (cond b (x ∷ before k xs) [] ++ rest)
-    at true e ih = let l : x.column < k = grind (arith, nat_tests) in (h.0, h.1, h.2, ih (omega arith))
-    at false e ih = climbs_lower low k n rest le g
+    at b h1 h2 = grind (arith, nat_tests, climbs_lower)
 
 climbs_after : (low n k : ℕ) (base : List Cell) → Climbs low n base → Climbs (k + 1) n (following k base)
 climbs_after low n k [] h = tt
 climbs_after low n k (x ∷ xs) h = at (ltb x.column k) refl (eqb x.column k) refl (climbs_after (x.column + 1) n k xs h.3)
   where
     at : (b : Bool) → ltb x.column k ≡ b → (t : Bool) → eqb x.column k ≡ t → Climbs (k + 1) n (following k xs) → Climbs (k + 1) n (cond b (following k xs) (cond t xs (x ∷ xs)))
-    at true e t f ih = ih
-    at false e true f ih = let same : x.column ≡ k = grind (arith, nat_tests) in subst (λ i. Climbs (i + 1) n xs) same h.3
-    at false e false f ih = let more : k + 1 ≤ x.column = grind (arith, nat_tests) in (more, h.1, h.2, h.3)
+    at b h1 t h2 h3 = grind (arith, nat_tests)
 
 -- a column before the given one
 weight_before : (low n k c : ℕ) (base rest : List Cell) → Climbs low n base → c < k → weight_at rest c ≡ 0 → weight_at (before k base ++ rest) c ≡ weight_at base c
@@ -30,10 +27,7 @@ weight_before low n k c [] rest h l z = z
 weight_before low n k c (x ∷ xs) rest h l z = at (ltb x.column k) refl (weight_before (x.column + 1) n k c xs rest h.3 l z)
   where
     at : (b : Bool) → ltb x.column k ≡ b → weight_at (before k xs ++ rest) c ≡ weight_at xs c → weight_at (cond b (x ∷ before k xs) [] ++ rest) c ≡ weight_at (x ∷ xs) c
-    at true e ih = ap (cond (eqb x.column c) x.weight) ih
-    at false e ih =
-        let more : k ≤ x.column = grind (arith, nat_tests) in
-        z ∙ sym (weight_below k n c (x ∷ xs) (more, h.1, h.2, h.3) l)
+    at b h1 h2 = grind (arith, nat_tests, weight_below)
 
 -- a column from the given one on
 weight_after : (k c : ℕ) (base rest : List Cell) → k ≤ c → weight_at (before k base ++ rest) c ≡ weight_at rest c
@@ -60,8 +54,7 @@ over_low low n c [] f h l = refl
 over_low low n c (x ∷ xs) f h l = let a = h.0 in at (eqb x.column c) refl (over_low (x.column + 1) n c xs f h.2 (omega arith))
   where
     at : (b : Bool) → eqb x.column c ≡ b → weight_over xs f c ≡ f c → cond b x.weight (weight_over xs f c) ≡ f c
-    at true e ih = let a = h.0 in absurd (grind (arith, nat_tests))
-    at false e ih = ih
+    at b h1 h2 = grind (arith, nat_tests)
 
 pub over_same : (newer : List Cell) (f g : ℕ → ℕ) (c : ℕ) → f c ≡ g c → weight_over newer f c ≡ weight_over newer g c
 over_same [] f g c e = e
@@ -89,17 +82,7 @@ merged_weights low n c base (x ∷ xs) h r =
 
     at : (b : Bool) → ltb c k ≡ b → (t : Bool) → eqb k c ≡ t → weight_at rest c ≡ weight_over xs (weight_at (following k base)) c
         → weight_at (before k base ++ with_cell x rest) c ≡ cond t x.weight (weight_over xs (weight_at base) c)
-    at true e true f ih = absurd (grind (arith, nat_tests))
-    at true e false f ih =
-        let less : c < k = grind (arith, nat_tests) in
-        weight_before low n k c base (with_cell x rest) h less (weight_below k n c (with_cell x rest) (climbs_with k n x rest refl r.1 rest_climbs) less)
-        ∙ sym (over_low (k + 1) n c xs (weight_at base) r.2 (omega arith))
-    at false e true f ih =
-        let same : k ≡ c = grind (arith, nat_tests) in
-        weight_after k c base (with_cell x rest) (omega arith) ∙ ap (weight_at (with_cell x rest)) (sym same) ∙ weight_with_here k n x rest refl rest_climbs
-    at false e false f ih =
-        let less : k < c = grind (arith, nat_tests) in
-        weight_after k c base (with_cell x rest) (omega arith) ∙ weight_with_there c x rest (λ g. omega arith) ∙ ih ∙ over_same xs (weight_at (following k base)) (weight_at base) c (weight_following k c base less)
+    at b h1 t h2 h3 = grind (arith, nat_tests, weight_below, weight_before, weight_after, weight_following, climbs_with, weight_with_here, weight_with_there, over_low, over_same, k, rest, rest_climbs)
 
 -- newer cells over a row are a row
 pub merged_row : (n : ℕ) (f : ℕ → ℕ) (base newer : List Cell) → IsRow n f base → Rises 0 n newer → IsRow n (weight_over newer f) (merged base newer)

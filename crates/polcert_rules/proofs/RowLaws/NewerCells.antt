@@ -27,8 +27,7 @@ none_below low c [] h l = refl
 none_below low c (r ∷ rs) h l = at (eqb r.key c) refl (none_below (r.key + 1) c rs h.1 (let a = h.0 in omega arith))
   where
     at : (b : Bool) → eqb r.key c ≡ b → at_column rs c ≡ None → cond b (Some r.number) (at_column rs c) ≡ None
-    at true e ih = let a = h.0 in absurd (grind (arith, nat_tests))
-    at false e ih = ih
+    at b h1 h2 = grind (arith, nat_tests)
 
 module _ (columns : ℕ) (entries : List Entry) (s : ℕ) where
   -- what a column has: that of its cell where it is newer than what is under it
@@ -52,17 +51,7 @@ module _ (columns : ℕ) (entries : List Entry) (s : ℕ) where
             → weight_over (newer_cells columns entries covering_entry s rs) (λ i. given_at columns entries (covering_entry i) s i) c ≡ picked (covering_entry c) (at_column rs c) c
             → weight_over (cond b (record { column = r.key; weight = given_at columns entries (Some r.number) s r.key } ∷ newer_cells columns entries covering_entry s rs) (newer_cells columns entries covering_entry s rs)) (λ i. given_at columns entries (covering_entry i) s i) c
             ≡ picked (covering_entry c) (cond t (Some r.number) (at_column rs c)) c
-        at true e true f ih =
-            let same : r.key ≡ c = grind (arith, nat_tests) in
-            ap (λ t. cond t (given_at columns entries (Some r.number) s r.key) (weight_over (newer_cells columns entries covering_entry s rs) (λ i. given_at columns entries (covering_entry i) s i) c)) f
-            ∙ ap (given_at columns entries (Some r.number) s) same ∙ sym (here true same e)
-        at true e false f ih =
-            ap (λ t. cond t (given_at columns entries (Some r.number) s r.key) (weight_over (newer_cells columns entries covering_entry s rs) (λ i. given_at columns entries (covering_entry i) s i) c)) f ∙ ih
-        at false e true f ih =
-            let same : r.key ≡ c = grind (arith, nat_tests) in
-            let none : at_column rs c ≡ None = none_below (r.key + 1) c rs h.1 (omega arith) in
-            ih ∙ ap (λ o. picked (covering_entry c) o c) none ∙ sym (here false same e)
-        at false e false f ih = ih
+        at b h1 t h2 h3 = grind (arith, nat_tests, none_below, here)
 
     -- the cells over what is under them have what the number of each column gives
     pub newer_over : (c : ℕ) (rs : List Rule) → IsRising rs

@@ -1,5 +1,5 @@
 -- What fits a cell of a row: what covers the whole row, or a single cell.
-use Rattle.std.proofs.Common.{◌≡◌, ◌∙◌, ℕ, ◌⊎◌, inl, inr, true, List, [], ◌∷◌, refl, ap, arith}
+use Rattle.std.proofs.Common.{◌≡◌, ℕ, ◌⊎◌, inl, true, List, [], ◌∷◌, refl, arith}
 use Rattle.polcert_cells.specs.declared.entries.Table.{Table}
 use Rattle.polcert_cells.specs.declared.entries.Place.{Place}
 use Rattle.polcert_cells.specs.declared.entries.Place.TheVariants.{Every, Only}
@@ -37,16 +37,7 @@ fits_split low a s c d key f = at f.places f.fits f.is
     at (p ∷ q ∷ Every ∷ ps) e is =
         let g = all_fit p q Every ps a s c e in
         inl (record { places = p ∷ q ∷ Every ∷ ps; fits = fit_all p q Every ps a s d (record { first = g.first; second = g.second; third = refl; rest = g.rest }); is = is })
-    at (p ∷ q ∷ Only n ∷ ps) e is =
-        let g = all_fit p q (Only n) ps a s c e in
-        let same : n ≡ c = same_number n c g.third in
-        inr (record {
-          first = p;
-          second = q;
-          fits_action = g.first;
-          fits_state = g.second;
-          is = is ∙ ap (λ xs. key_in most_places low (p ∷ q ∷ Only n ∷ xs)) g.rest ∙ ap (λ m. key_in most_places low (p ∷ q ∷ Only m ∷ [])) same;
-        })
+    at (p ∷ q ∷ Only n ∷ ps) e is = grind (arith, same_number, all_fit)
 
 pub single_fit : (low a s c key : ℕ) → (i : IsSingle low a s c key) → fit_places (i.first ∷ i.second ∷ Only c ∷ []) (a ∷ s ∷ c ∷ []) ≡ true
 single_fit low a s c key i = fit_all i.first i.second (Only c) [] a s c (record { first = i.fits_action; second = i.fits_state; third = equal_numbers c; rest = refl })

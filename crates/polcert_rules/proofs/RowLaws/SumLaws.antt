@@ -1,5 +1,5 @@
 -- The sum of a sparse row.
-use Rattle.std.proofs.Common.{◌≡◌, ◌∙◌, ℕ, zero, suc, ◌+◌, ◌-◌, ◌*◌, ◌<◌, ◌≤◌, ⊎_elim, List, [], ◌∷◌, mul-suc, Bool, true, false, cond, ltb, length, sum, All, refl, sym, ap, subst, arith}
+use Rattle.std.proofs.Common.{◌≡◌, ◌∙◌, ℕ, zero, suc, ◌+◌, ◌-◌, ◌*◌, ◌<◌, ◌≤◌, ⊎_elim, List, [], ◌∷◌, mul-suc, Bool, cond, ltb, length, sum, All, refl, sym, ap, subst, arith}
 use Rattle.std.proofs.lemmas.Bool.{cases_lt}
 use Rattle.std.proofs.lemmas.Bool.Decides.{nat_tests}
 use Rattle.std.proofs.lemmas.List.Sums.{sum_by-cons, sum_by-le}
@@ -71,8 +71,7 @@ total_scaled scale k (n ∷ ns) =
     xs = scaled_cells scale (k + 1) ns
 
     at : total xs ≡ sum ns * scale → (n + sum ns) * scale ≡ n * scale + sum ns * scale → (b : Bool) → ltb 0 (n * scale) ≡ b → total (cond b (cell_of k (n * scale) ∷ xs) xs) ≡ (n + sum ns) * scale
-    at rest parts true e = ap (λ m. n * scale + m) rest ∙ sym parts
-    at rest parts false e = let none : n * scale ≡ 0 = grind (arith, nat_tests) in rest ∙ omega (arith, parts, none)
+    at h1 h2 b h3 = grind (arith, nat_tests)
 
 pub sum_most : (ns : List ℕ) → All (λ n. n ≤ one) ns → sum ns ≤ one * length ns
 sum_most ns a = subst (λ m. sum ns ≤ m) (mul_comm (length ns) one) (sum_by-le (λ (x : ℕ). x) one ns a)

@@ -1,5 +1,5 @@
 -- The zeros of a row, found by their keys.
-use Rattle.std.proofs.Common.{◌≡◌, ◌∙◌, ℕ, ◌+◌, ◌*◌, ◌<◌, ◌≤◌, ◌↔◌, ◌⊎◌, inl, inr, ⊎_elim, true, Option, None, List, Contains, refl, ap, subst, arith}
+use Rattle.std.proofs.Common.{◌≡◌, ◌∙◌, ℕ, ◌+◌, ◌*◌, ◌<◌, ◌≤◌, ◌↔◌, ◌⊎◌, ⊎_elim, true, Option, None, List, Contains, refl, ap, subst, arith}
 use Rattle.std.specs.Prelude.{◌==◌}
 use Rattle.polcert_cells.specs.declared.entries.Place.{Place}
 use Rattle.polcert_cells.specs.declared.entries.Place.TheVariants.{Every, Only}
@@ -55,13 +55,7 @@ row_newest rules low action state s1 s2 s3 s4 z i1 i2 i3 i4 f1 f2 f3 f4 c small 
         (single_from low action state c s4 k (Only action) (Only state) i4 (equal_numbers action) (equal_numbers state)) rest) e
 
     back : (k : ℕ) → IsSingle low action state c k → ((k ≡ s1 + c * key_base) ⊎ (k ≡ s2 + c * key_base)) ⊎ ((k ≡ s3 + c * key_base) ⊎ (k ≡ s4 + c * key_base))
-    back k i =
-        let first = two_digits i.first action i.fits_action in
-        let second = two_digits i.second state i.fits_state in
-        ⊎_elim
-        (λ every. ⊎_elim (λ all. inl (inl (single_to low action state c s1 1 1 k i i1 every all))) (λ one. inl (inr (single_to low action state c s2 1 (state + 2) k i i2 every one))) second)
-        (λ only. ⊎_elim (λ all. inr (inl (single_to low action state c s3 (action + 2) 1 k i i3 only all))) (λ one. inr (inr (single_to low action state c s4 (action + 2) (state + 2) k i i4 only one))) second)
-        first
+    back k i = grind (arith, ⊎_elim, two_digits, single_to)
 
 pub none_newest : (rules : List Rule) (P : ℕ → Type 0) (x : Option ℕ) → x ≡ None → IsNewest rules P x → IsNewest rules P None
 none_newest rules P x e n = subst (IsNewest rules P) e n
