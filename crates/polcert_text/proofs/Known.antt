@@ -5,8 +5,7 @@ use Rattle.std.proofs.KnownBytes.{Consumes-nil, Consumes-trans, Appends-nil, App
 use Rattle.std.proofs.lemmas.List.{append-nil}
 use Rattle.polcert_text.specs.Known.{ReadsKnown, WritesKnown}
 use Rattle.polcert_text.specs.Memory.{ReadsSlice}
-use Rattle.polcert_text.specs.Source.{Gives, IsText, nothing, more}
-use Rattle.polcert_text.specs.Sink.{Takes}
+use Rattle.polcert_text.proofs.Common.{Gives, IsText, nothing, more, Takes}
 use Rattle.polcert_text.specs.Sink as sink
 
 module _ {S : Type 0} (remaining : S → Option (List ℕ)) where

@@ -1,12 +1,9 @@
 -- The laws of the definitions that proofs of the crates above may cite. Each is the contract of a public function.
 use Rattle.std.proofs.Common.{◌≡◌, ◌∙◌, ℕ, ◌≤◌, Bool, Option, Some, None, Result, Ok, Err, List, refl, sym, subst, arith, ℤ, ◌≤ℤ◌, rules}
-use Rattle.std.proofs.lemmas.Int.{ints}
-use Rattle.polcert_text.specs.Cut.{Lexeme, Rest, TakesToken, Ends, IsCut}
-use Rattle.polcert_text.specs.Reading.{GivesNext, lexeme_of}
-use Rattle.polcert_text.specs.Numbers.{millionth, IsReadable, IsExact, IsFloor, IsCeil, IsRounded, IsRefused, IsRefusedExactly}
+use Rattle.polcert_text.proofs.Common.{ints, Lexeme, Rest, TakesToken, Ends, IsCut, lexeme_of, millionth, IsReadable, IsExact, IsFloor, IsCeil, IsRounded, TokenFault, Rounding}
+use Rattle.polcert_text.specs.Reading.{GivesNext}
+use Rattle.polcert_text.specs.Numbers.{IsRefused, IsRefusedExactly}
 use Rattle.polcert_text.specs.declared.tokens.Token.{Token}
-use Rattle.polcert_text.specs.declared.tokens.TokenFault.{TokenFault}
-use Rattle.polcert_text.specs.declared.number.Rounding.{Rounding}
 use Rattle.polcert_text.specs.declared.number.NumberFault.{NumberFault}
 use Rattle.polcert_text.proofs.Scanning.CutLaws as cuts
 use Rattle.polcert_text.proofs.Numbers.SizeLaws.{millionth_pos}

@@ -1,9 +1,8 @@
 -- The decimals of a number, digit by digit.
 use Rattle.std.proofs.Common.{◌≡◌, ◌∙◌, ℕ, suc, ◌+◌, ◌-◌, ◌*◌, ◌/◌, ◌%◌, ◌^◌, ◌<◌, false, List, [], ◌∷◌, ◌++◌, ap, arith, append_assoc}
 use Rattle.std.specs.Prelude.{◌==◌}
-use Rattle.std.proofs.lemmas.Bool.Decides.{nat_tests}
-use Rattle.std.proofs.Math.Nat.{pow-suc, one-le-pow, div-lt_iff_lt-mul}
-use Rattle.polcert_text.specs.Millionths.{decimals}
+use Rattle.polcert_text.proofs.Common.{nat_tests, one-le-pow, decimals}
+use Rattle.std.proofs.Math.Nat.{pow-suc, div-lt_iff_lt-mul}
 
 pub ten_pos : (k : ℕ) → 0 < 10 ^ k
 ten_pos k = one-le-pow k 10 (omega arith)

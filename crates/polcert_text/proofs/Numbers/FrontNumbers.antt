@@ -1,21 +1,10 @@
 -- Numerals that end within some bytes, and their values.
 use Rattle.std.proofs.Common.{◌≡◌, ◌∙◌, ◌⊎◌, ⊎_elim, ℕ, suc, ◌+◌, ◌-◌, ◌*◌, ◌^◌, ◌<◌, ◌≤◌, ◌&&◌, ◌||◌, min, true, false, List, [], ◌∷◌, ◌++◌, length, take, drop, get_or, pos, refl, sym, ap, arith}
-use Rattle.std.proofs.Math.Nat.{mul_assoc, suc-mul, mul-le-mul, mul-le-mul_right, pow-le-pow_right}
+use Rattle.polcert_text.proofs.Common.{pow-le-pow_right, drop-take, drop_all, list_all, list_any, digits_value, is_digit, class_of, glue_class, is_glued, are_digits, largest, IsReadable, IsExact, cap, is_nonzero, Measures, state_through, ByteClass, Digit, Point, Start, Whole, Fraction, Numeral}
+use Rattle.std.proofs.Math.Nat.{mul_assoc, suc-mul, mul-le-mul, mul-le-mul_right}
 use Rattle.std.proofs.lemmas.Nat.{pow-add}
-use Rattle.std.proofs.lemmas.List.{drop-take, drop_all, get_or-take, get_or-drop, length-take-le, length-drop, take-take}
-use Rattle.std.specs.List.{list_all, list_any}
-use Rattle.std.specs.Str.Parse.{digits_value}
-use Rattle.polcert_text.specs.Bytes.{is_digit}
-use Rattle.polcert_text.specs.Steps.Classes.{class_of, glue_class}
-use Rattle.polcert_text.specs.Cut.{is_glued}
-use Rattle.polcert_text.specs.Lexemes.{are_digits}
-use Rattle.polcert_text.specs.Numbers.{largest, IsReadable, IsExact}
-use Rattle.polcert_text.specs.Steps.Scaling.{cap, is_nonzero, Measures}
-use Rattle.polcert_text.specs.Steps.Scan.{state_through}
-use Rattle.polcert_text.specs.declared.bytes.ByteClass.{ByteClass}
-use Rattle.polcert_text.specs.declared.bytes.ByteClass.TheVariants.{Digit, Point, Blank, LineEnd}
-use Rattle.polcert_text.specs.declared.tokens.State.TheVariants.{Start, Whole, Fraction}
-use Rattle.polcert_text.specs.declared.tokens.TokenKind.TheVariants.{Numeral}
+use Rattle.std.proofs.lemmas.List.{get_or-take, get_or-drop, length-take-le, length-drop, take-take}
+use Rattle.polcert_text.specs.declared.bytes.ByteClass.TheVariants.{Blank, LineEnd}
 use Rattle.polcert_text.proofs.Numbers.MeasureLaws.{ten_pos, and-true_left}
 use Rattle.polcert_text.proofs.Numbers.NumberLaws.{pow_next}
 use Rattle.polcert_text.proofs.Numbers.Plain.{IsPlain, plain_measures, run}

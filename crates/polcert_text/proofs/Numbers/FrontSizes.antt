@@ -1,16 +1,10 @@
 -- Numerals that end within some bytes, measured: digits, a point, and however many decimals.
 use Rattle.std.proofs.Common.{◌≡◌, ◌∙◌, ⊎_elim, ℕ, suc, ◌+◌, ◌-◌, ◌*◌, ◌^◌, ◌<◌, ◌≤◌, ◌||◌, min, nat_lt, Bool, true, false, List, ◌++◌, length, take, drop, get_or, sym, ap, arith}
-use Rattle.std.proofs.Math.Nat.{pow-suc, pow-le-pow_right}
-use Rattle.std.proofs.lemmas.List.{drop-take, get_or-take, get_or-drop, length-take-le, length-drop, take-take}
+use Rattle.polcert_text.proofs.Common.{pow-le-pow_right, drop-take, list_any, digits_value, class_of, largest, IsReadable, AreDigitsFrom, cap, is_nonzero, ceiling, Measures, Point}
+use Rattle.std.proofs.Math.Nat.{pow-suc}
+use Rattle.std.proofs.lemmas.List.{get_or-take, get_or-drop, length-take-le, length-drop, take-take}
 use Rattle.std.proofs.lemmas.List.Folds.{list_any_at, list_any_more}
 use Rattle.std.proofs.lemmas.Bool.{lt-ltb, le-ltb}
-use Rattle.std.specs.List.{list_any}
-use Rattle.std.specs.Str.Parse.{digits_value}
-use Rattle.polcert_text.specs.Steps.Classes.{class_of}
-use Rattle.polcert_text.specs.Numbers.{largest, IsReadable}
-use Rattle.polcert_text.specs.Steps.FrontSizes.{AreDigitsFrom}
-use Rattle.polcert_text.specs.Steps.Scaling.{cap, is_nonzero, ceiling, Measures}
-use Rattle.polcert_text.specs.declared.bytes.ByteClass.TheVariants.{Point}
 use Rattle.polcert_text.proofs.Numbers.Plain.{IsPlain, plain_measures, at_or_after}
 use Rattle.polcert_text.proofs.Numbers.PlainWhole.{whole_measures}
 

@@ -1,17 +1,12 @@
 -- Digits as a number, cut off after the millionths.
 use Rattle.std.proofs.Common.{◌≡◌, ◌∙◌, ℕ, suc, ◌+◌, ◌-◌, ◌*◌, ◌^◌, ◌<◌, ◌≤◌, Bool, true, false, not, ◌&&◌, ◌||◌, ◌⊎◌, inl, inr, ⊎_elim, List, [], ◌∷◌, ◌++◌, length, take, drop, refl, sym, ap, subst, arith}
 use Rattle.std.specs.Prelude.{◌==◌}
-use Rattle.std.proofs.lemmas.Bool.Decides.{nat_tests}
-use Rattle.std.specs.Char.{digit_value}
-use Rattle.std.specs.List.{list_all, list_any}
-use Rattle.std.specs.Str.Parse.{digits_value, digits_value_after, AllDigits}
-use Rattle.std.proofs.Math.Nat.{pow-suc, mul-pos, pow-le-pow_right, mul-lt-mul_of_pos_right, one-le-pow, mul_assoc}
+use Rattle.polcert_text.proofs.Common.{nat_tests, digit_value, list_all, list_any, digits_value, digits_value_after, pow-le-pow_right, one-le-pow, drop_all, list_all-append, is_digit, is_nonzero}
+use Rattle.std.specs.Str.Parse.{AllDigits}
+use Rattle.std.proofs.Math.Nat.{pow-suc, mul-pos, mul-lt-mul_of_pos_right, mul_assoc}
 use Rattle.std.proofs.lemmas.Nat.{pow-add}
 use Rattle.std.proofs.lemmas.Int.Digits.{digits_value-lt}
-use Rattle.std.proofs.lemmas.List.{take-append-drop, length-drop, take_all, drop_all}
-use Rattle.std.proofs.lemmas.List.Folds.{list_all-append}
-use Rattle.polcert_text.specs.Bytes.{is_digit}
-use Rattle.polcert_text.specs.Steps.Scaling.{is_nonzero}
+use Rattle.std.proofs.lemmas.List.{take-append-drop, length-drop, take_all}
 use Rattle.polcert_text.proofs.Numbers.NumberLaws.{true≢false, digit_from, digit_to, digit_is}
 
 pub order : (m n : ℕ) → (m ≤ n) ⊎ (n < m)

@@ -1,21 +1,10 @@
 -- A numeral of digits, a point and digits, read without its exponent.
 use Rattle.std.proofs.Common.{◌≡◌, ◌∙◌, ◌⊎◌, ⊎_elim, ℕ, zero, suc, ◌+◌, ◌-◌, ◌*◌, ◌^◌, ◌<◌, ◌≤◌, min, Bool, true, false, List, [], ◌∷◌, ◌++◌, length, take, drop, take_all, get_or, refl, sym, ap, length-append, arith}
-use Rattle.std.proofs.Math.Seq.{take-append-add, drop-append-add}
-use Rattle.std.proofs.lemmas.List.{drop_all, length-take-le, length-drop, take_more, append_assoc, get_or-drop, drop-drop}
+use Rattle.polcert_text.proofs.Common.{take-append-add, drop_all, take_more, digits_value_push, list_all, list_any, before_first, after_first, digits_value, is_digit, is_exponent_mark, is_point, class_of, is_numeral, whole_of, fraction_of, exponent_of, is_lowering, exponent_size, largest, IsReadable, without_sign, cap, is_nonzero, ceiling, Measures, state_after, state_through, Digit, Point, State}
+use Rattle.std.proofs.Math.Seq.{drop-append-add}
+use Rattle.std.proofs.lemmas.List.{length-take-le, length-drop, append_assoc, get_or-drop, drop-drop}
 use Rattle.std.proofs.lemmas.List.Folds.{list_all_at}
-use Rattle.std.proofs.lemmas.Int.Digits.{digits_value_push}
-use Rattle.std.specs.List.{list_all, list_any, before_first, after_first}
-use Rattle.std.specs.Str.Parse.{digits_value}
-use Rattle.polcert_text.specs.Bytes.{is_digit, is_exponent_mark, is_point}
-use Rattle.polcert_text.specs.Steps.Classes.{class_of}
-use Rattle.polcert_text.specs.Lexemes.{is_numeral}
-use Rattle.polcert_text.specs.Numbers.{whole_of, fraction_of, exponent_of, is_lowering, exponent_size, largest, IsReadable}
-use Rattle.polcert_text.specs.Lexemes.{without_sign}
-use Rattle.polcert_text.specs.Steps.Scaling.{cap, is_nonzero, ceiling, Measures}
 use Rattle.polcert_text.proofs.Scanning.Tests.{digit_by, mark_by, point_by, digit_class_is}
-use Rattle.polcert_text.specs.Steps.Scan.{state_after, state_through}
-use Rattle.polcert_text.specs.declared.bytes.ByteClass.TheVariants.{Digit, Point}
-use Rattle.polcert_text.specs.declared.tokens.State.{State}
 use Rattle.polcert_text.specs.declared.tokens.State.TheVariants as states
 use Rattle.polcert_text.proofs.Scanning.LexemeLaws.{state_step}
 use Rattle.polcert_text.proofs.Numbers.NumberLaws.{before_at, after_at, before_all, after_all, numeral_at_state, digit_is}

@@ -1,18 +1,8 @@
 -- A numeral of digits alone, read without a point and an exponent.
 use Rattle.std.proofs.Common.{◌≡◌, ◌∙◌, ℕ, ◌+◌, ◌-◌, ◌*◌, ◌^◌, ◌<◌, ◌≤◌, true, false, List, [], ◌++◌, length, take, drop, take_all, append-nil, get_or, refl, sym, ap, subst, arith}
-use Rattle.std.proofs.lemmas.List.{drop_all}
+use Rattle.polcert_text.proofs.Common.{drop_all, list_any, before_first, after_first, digits_value, is_exponent_mark, is_point, class_of, is_numeral, whole_of, fraction_of, exponent_of, is_lowering, exponent_size, largest, IsReadable, without_sign, is_nonzero, ceiling, Measures, state_through, Digit}
 use Rattle.std.specs.Prelude.{Option, IfSome}
-use Rattle.std.specs.List.{list_any, before_first, after_first}
-use Rattle.std.specs.Str.Parse.{digits_value}
-use Rattle.polcert_text.specs.Bytes.{is_exponent_mark, is_point}
-use Rattle.polcert_text.specs.Steps.Classes.{class_of}
-use Rattle.polcert_text.specs.Lexemes.{is_numeral}
-use Rattle.polcert_text.specs.Numbers.{whole_of, fraction_of, exponent_of, is_lowering, exponent_size, largest, IsReadable}
-use Rattle.polcert_text.specs.Lexemes.{without_sign}
-use Rattle.polcert_text.specs.Steps.Scaling.{is_nonzero, ceiling, Measures}
 use Rattle.polcert_text.specs.declared.number.Size.{Size}
-use Rattle.polcert_text.specs.Steps.Scan.{state_through}
-use Rattle.polcert_text.specs.declared.bytes.ByteClass.TheVariants.{Digit}
 use Rattle.polcert_text.specs.declared.tokens.State.TheVariants as states
 use Rattle.polcert_text.proofs.Scanning.LexemeLaws.{state_step}
 use Rattle.polcert_text.proofs.Scanning.Tests.{mark_by, point_by}

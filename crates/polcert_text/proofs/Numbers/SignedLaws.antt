@@ -1,12 +1,9 @@
 -- A sign and a size as a whole number.
 use Rattle.std.proofs.Common.{◌≡◌, ◌∙◌, ℕ, suc, ◌+◌, ◌*◌, ◌/◌, ◌<◌, ◌≤◌, Bool, true, false, not, List, ◌⊎◌, ⊎_elim, ℤ, pos, negsuc, neg_ℤ, ◌*ℤ◌, ◌≤ℤ◌, refl, sym, ap, subst, arith, rules}
-use Rattle.std.proofs.lemmas.Int.{ints}
+use Rattle.polcert_text.proofs.Common.{ints, pos-*ℤ-pos, millionth, size_of, signed, IsExact, IsFloor, IsCeil, IsRounded, Rounding, ceiling, rounded, is_away, Measures}
 use Rattle.std.proofs.Math.Nat.{mul-le-mul_right, mul-div_cancel, mul-pos}
-use Rattle.std.proofs.Math.IntN.{pos-*ℤ-pos, negsuc-*ℤ-pos}
-use Rattle.polcert_text.specs.Numbers.{millionth, size_of, signed, IsExact, IsFloor, IsCeil, IsRounded}
-use Rattle.polcert_text.specs.declared.number.Rounding.{Rounding}
+use Rattle.std.proofs.Math.IntN.{negsuc-*ℤ-pos}
 use Rattle.polcert_text.specs.declared.number.Rounding.TheVariants.{Down, Up}
-use Rattle.polcert_text.specs.Steps.Scaling.{ceiling, rounded, is_away, Measures}
 
 -- without its sign
 abbrev size_without_sign : ℤ → ℕ

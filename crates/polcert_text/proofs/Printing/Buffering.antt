@@ -1,7 +1,7 @@
 -- What a sink took through a buffer.
 use Rattle.std.proofs.Common.{◌≡◌, ◌∙◌, ◌++◌, ℕ, List, [], Option, Result, refl, sym, ap, subst, append_assoc, append-nil, arith}
-use Rattle.polcert_text.specs.Device.{HasFailed}
-use Rattle.polcert_text.specs.Sink.{Takes, TakesFront, WritesText, nothing, more}
+use Rattle.polcert_text.proofs.Common.{HasFailed, Takes, TakesFront, WritesText}
+use Rattle.polcert_text.specs.Sink.{nothing, more}
 use Rattle.polcert_text.specs.Steps.Buffer.{PassesOn, WritesBuffered}
 use Rattle.polcert_text.proofs.Printing.Taking.{took_then, front_then, front_after, wrote_next}
 

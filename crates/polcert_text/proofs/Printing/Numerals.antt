@@ -1,17 +1,8 @@
 -- What is written of a number is a numeral that a blank or a line end stops.
 use Rattle.std.proofs.Common.{◌≡◌, ◌∙◌, ℕ, suc, zero, ◌+◌, ◌/◌, ◌%◌, ◌^◌, ◌<◌, ◌≤◌, Bool, true, false, cond, ◌||◌, Some, List, [], ◌∷◌, ◌++◌, length, refl, sym, ap, subst, arith, decimal, append-nil, length-append}
 use Rattle.std.specs.Prelude.{◌==◌}
-use Rattle.std.specs.List.{list_all, list_any}
-use Rattle.std.proofs.lemmas.List.Folds.{list_any-append}
-use Rattle.std.proofs.lemmas.Fmt.{decimal_nonempty, length-decimal-le}
-use Rattle.polcert_text.specs.Bytes.{is_digit, is_exponent_mark}
-use Rattle.polcert_text.specs.Lexemes.{kind_of}
-use Rattle.polcert_text.specs.Millionths.{decimals, fraction_text, unsigned_text}
-use Rattle.polcert_text.specs.Steps.Scan.{state_after, state_through, kind_at}
+use Rattle.polcert_text.proofs.Common.{list_all, list_any, list_any-append, decimal_nonempty, length-decimal-le, is_digit, is_exponent_mark, kind_of, decimals, fraction_text, unsigned_text, state_after, state_through, kind_at, State, Start, Whole, Fraction, Numeral}
 use Rattle.polcert_text.specs.declared.bytes.ByteClass.TheVariants as classes
-use Rattle.polcert_text.specs.declared.tokens.State.{State}
-use Rattle.polcert_text.specs.declared.tokens.State.TheVariants.{Start, Whole, Fraction}
-use Rattle.polcert_text.specs.declared.tokens.TokenKind.TheVariants.{Numeral}
 use Rattle.polcert_text.proofs.Scanning.LexemeLaws.{kind_of-through, state_through-append}
 use Rattle.polcert_text.proofs.Numbers.MeasureLaws.{and-true_left, and-true_right}
 use Rattle.polcert_text.proofs.Printing.PrintLaws.{decimal_digits, decimals_digits, point_no_mark}

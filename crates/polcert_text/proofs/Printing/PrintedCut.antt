@@ -1,23 +1,9 @@
 -- The lexemes of a text that is written lexeme by lexeme, each with blanks, line ends or nothing after it.
 use Rattle.std.proofs.Common.{◌≡◌, ◌∙◌, ℕ, ◌+◌, ◌<◌, ◌≤◌, true, false, Some, None, List, [], ◌∷◌, ◌++◌, length, take, refl, sym, ap, subst, arith, append_assoc, append-nil, length-append, take_all, rules}
-use Rattle.std.specs.List.{list_all}
-use Rattle.std.proofs.Math.Seq.{drop-append_seam, get_or-append_seam}
-use Rattle.std.proofs.lemmas.List.{take_at, drop_all}
-use Rattle.polcert_text.specs.Bytes.{is_blank}
-use Rattle.polcert_text.specs.Steps.Classes.{class_of, blank_class, glue_class}
-use Rattle.polcert_text.specs.Gaps.{is_gap}
-use Rattle.polcert_text.specs.Lexemes.{kind_of}
-use Rattle.polcert_text.specs.Fronts.{IsLongestGap, IsLongestLexeme}
-use Rattle.polcert_text.specs.Cut.{Lexeme, Rest, is_glued, TakesToken, Ends, IsCut}
-use Rattle.polcert_text.specs.Steps.Scan.{gap_after, gap_through, state_after, state_through, kind_at}
-use Rattle.polcert_text.specs.Steps.ScanOf.{IsFrontOf}
-use Rattle.polcert_text.specs.declared.bytes.ByteClass.{ByteClass}
-use Rattle.polcert_text.specs.declared.tokens.LexemePrefix.{LexemePrefix}
-use Rattle.polcert_text.specs.declared.tokens.Gap.{Gap}
-use Rattle.polcert_text.specs.declared.tokens.Gap.TheVariants.{Between, Ended}
-use Rattle.polcert_text.specs.declared.tokens.State.{State}
+use Rattle.polcert_text.proofs.Common.{list_all, drop-append_seam, drop_all, is_blank, class_of, blank_class, glue_class, is_gap, kind_of, IsLongestGap, IsLongestLexeme, Lexeme, Rest, is_glued, TakesToken, Ends, IsCut, gap_after, gap_through, state_after, state_through, kind_at, IsFrontOf, ByteClass, LexemePrefix, Gap, Between, Ended, State, TokenKind}
+use Rattle.std.proofs.Math.Seq.{get_or-append_seam}
+use Rattle.std.proofs.lemmas.List.{take_at}
 use Rattle.polcert_text.specs.declared.tokens.State.TheVariants as states
-use Rattle.polcert_text.specs.declared.tokens.TokenKind.{TokenKind}
 use Rattle.polcert_text.proofs.Scanning.GapLaws.{gap_until_open, gap_through_more, longest_gap_at}
 use Rattle.polcert_text.proofs.Scanning.LexemeLaws.{none_empty, kind_of-through, state_through-append, front_keeps, front_whatever_follows}
 use Rattle.polcert_text.proofs.Numbers.MeasureLaws.{and-true_left, and-true_right}

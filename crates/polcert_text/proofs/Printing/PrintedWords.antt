@@ -1,17 +1,10 @@
 -- The lexemes of lines of words.
 use Rattle.std.proofs.Common.{◌≡◌, ◌∙◌, ℕ, ◌≤◌, true, false, Some, List, [], ◌∷◌, ◌++◌, length, map, codes, refl, sym, ap, arith, append_assoc, append-nil, rules}
-use Rattle.std.specs.List.{list_all}
-use Rattle.polcert_text.specs.Bytes.{is_blank, is_letter, is_digit, is_point, is_exponent_mark}
-use Rattle.polcert_text.specs.Steps.Classes.{class_of, blank_class}
-use Rattle.polcert_text.specs.Lexemes.{kind_of}
+use Rattle.polcert_text.proofs.Common.{list_all, is_blank, is_letter, is_digit, is_point, is_exponent_mark, class_of, blank_class, kind_of, is_glued, state_after, state_through, kind_at, State, TokenKind, Numeral, Colon, Minus}
 use Rattle.polcert_text.specs.Lines.{line}
-use Rattle.polcert_text.specs.Cut.{is_glued}
-use Rattle.polcert_text.specs.Steps.Scan.{state_after, state_through, kind_at}
 use Rattle.polcert_text.specs.declared.bytes.ByteClass.TheVariants as classes
-use Rattle.polcert_text.specs.declared.tokens.State.{State}
 use Rattle.polcert_text.specs.declared.tokens.State.TheVariants as states
-use Rattle.polcert_text.specs.declared.tokens.TokenKind.{TokenKind}
-use Rattle.polcert_text.specs.declared.tokens.TokenKind.TheVariants.{Name, Numeral, Colon, Minus}
+use Rattle.polcert_text.specs.declared.tokens.TokenKind.TheVariants.{Name}
 use Rattle.polcert_text.proofs.Scanning.LexemeLaws.{kind_of-through}
 use Rattle.polcert_text.proofs.Numbers.MeasureLaws.{and-true_left}
 use Rattle.polcert_text.proofs.Scanning.Tests.{blank_by, glue_by}

@@ -2,8 +2,8 @@
 use Rattle.std.proofs.Common.{IsErr, append_assoc, ◌≡◌, ◌+◌, ◌++◌, ℕ, List, Option, Some, None, Result, OnErr, take, drop, sym, arith}
 use Rattle.std.proofs.lemmas.List.{take-append-drop, append-nil}
 use Rattle.std.proofs.Math.Seq.{take-add}
-use Rattle.polcert_text.specs.Device.{HasFailed}
-use Rattle.polcert_text.specs.Sink.{Takes, TakesFront, WritesText, nothing, more}
+use Rattle.polcert_text.proofs.Common.{HasFailed, Takes, TakesFront, WritesText}
+use Rattle.polcert_text.specs.Sink.{nothing, more}
 
 -- what holds anyway holds of an `Err`
 pub on_err : {T E : Type 0} {P : Type 0} (r : Result T E) → P → OnErr r P

@@ -1,7 +1,7 @@
 -- A text that is written part by part.
 use Rattle.std.proofs.Common.{◌≡◌, ◌∙◌, ◌<◌, ◌⊎◌, ⊎_elim, ◌++◌, ℕ, zero, suc, List, [], Option, Result, Ok, Err, IsErr, refl, sym, ap, subst, arith, append_assoc, append-nil}
-use Rattle.polcert_text.specs.Device.{HasFailed}
-use Rattle.polcert_text.specs.Sink.{Takes, TakesFront, WritesText, nothing}
+use Rattle.polcert_text.proofs.Common.{HasFailed, Takes, TakesFront, WritesText}
+use Rattle.polcert_text.specs.Sink.{nothing}
 use Rattle.polcert_text.proofs.Printing.Taking.{took_then, front_then, front_after, wrote_front, wrote_next}
 
 -- the sink took the text so far, and no write failed

@@ -1,13 +1,7 @@
 -- What is written of a number is a numeral that a reader takes.
 use Rattle.std.proofs.Common.{◌≡◌, ◌∙◌, ℕ, ◌*◌, ◌≤◌, false, pos, List, sym, ap, arith}
-use Rattle.std.specs.List.{list_any}
-use Rattle.std.specs.Str.Parse.{digits_value}
+use Rattle.polcert_text.proofs.Common.{list_any, digits_value, pos-*ℤ-pos, is_exponent_mark, unsigned_text, exponent_size, size_of, millionth, largest, IsReadable, without_sign}
 use Rattle.std.proofs.Math.Nat.{mul-le-mul_right}
-use Rattle.std.proofs.Math.IntN.{pos-*ℤ-pos}
-use Rattle.polcert_text.specs.Bytes.{is_exponent_mark}
-use Rattle.polcert_text.specs.Millionths.{unsigned_text}
-use Rattle.polcert_text.specs.Numbers.{exponent_size, size_of, millionth, largest, IsReadable}
-use Rattle.polcert_text.specs.Lexemes.{without_sign}
 use Rattle.polcert_text.proofs.Printing.PrintLaws.{written_exact}
 use Rattle.polcert_text.proofs.Numbers.SizeLaws.{after-none}
 use Rattle.polcert_text.proofs.Printing.Numerals.{IsPlain, plain_unsigned}

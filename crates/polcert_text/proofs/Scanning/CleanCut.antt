@@ -1,11 +1,9 @@
 -- The tokens of a text without a fault are its cut, if that ends cleanly.
 use Rattle.std.proofs.Common.{◌≡◌, ◌∙◌, ℕ, ◌+◌, ◌≤◌, true, Option, Some, None, List, [], ◌∷◌, length, take, drop, refl, sym, ap, arith}
-use Rattle.std.proofs.lemmas.List.{length-drop, take_all, drop_all}
-use Rattle.std.proofs.lemmas.Bool.Decides.{nat_tests}
-use Rattle.polcert_text.specs.Cut.{Lexeme, Rest, Ends, EndsAt, IsCut, text_rest, text_limit}
-use Rattle.polcert_text.specs.Gaps.{is_gap}
+use Rattle.polcert_text.proofs.Common.{drop_all, nat_tests, Lexeme, Rest, Ends, EndsAt, IsCut, text_rest, is_gap, TokenFault}
+use Rattle.std.proofs.lemmas.List.{length-drop, take_all}
+use Rattle.polcert_text.specs.Cut.{text_limit}
 use Rattle.polcert_text.specs.Tokens.{AreTokensFrom, AreTokens}
-use Rattle.polcert_text.specs.declared.tokens.TokenFault.{TokenFault}
 
 abbrev rest_of : ℕ → List ℕ → Option TokenFault → Rest
 rest_of place bytes ending = record { place = place; bytes = bytes; ending = ending }

@@ -1,9 +1,6 @@
 -- A text has one cut.
 use Rattle.std.proofs.Common.{◌≡◌, ℕ, Option, List, [], ◌∷◌, refl, subst, arith}
-use Rattle.polcert_text.specs.Lexemes.{kind_of}
-use Rattle.polcert_text.specs.Fronts.{IsLongestGap}
-use Rattle.polcert_text.specs.Cut.{Lexeme, Rest, IsTokenAt, TakesToken, EndsAt, Ends, IsCut}
-use Rattle.polcert_text.specs.declared.tokens.TokenFault.{TokenFault}
+use Rattle.polcert_text.proofs.Common.{kind_of, IsLongestGap, Lexeme, Rest, IsTokenAt, TakesToken, EndsAt, Ends, IsCut, TokenFault}
 
 pub one_gap : (bs : List ℕ) (m n : ℕ) → IsLongestGap bs m → IsLongestGap bs n → m ≡ n
 one_gap bs m n a b = grind arith

@@ -1,18 +1,12 @@
 -- Reading a gap byte by byte finds its longest front.
 use Rattle.std.proofs.Common.{◌≡◌, ◌∙◌, ℕ, ◌+◌, Bool, true, false, List, [], ◌∷◌, ◌++◌, take, drop, refl, ap, arith}
 use Rattle.std.proofs.Common.{◌<◌, ◌≤◌, length, get_or, sym, append-nil}
-use Rattle.std.proofs.lemmas.List.{take_more, take-take, take-append-drop}
-use Rattle.polcert_text.specs.Fronts.{IsLongestGap}
-use Rattle.std.specs.List.{list_all, slice_split, onto_first}
+use Rattle.polcert_text.proofs.Common.{take_more, IsLongestGap, list_all, is_blank, is_hash, is_line_end, class_of, is_gap, gap_after, gap_through, ByteClass, Gap, Between, Comment, Ended}
+use Rattle.std.proofs.lemmas.List.{take-take, take-append-drop}
+use Rattle.std.specs.List.{slice_split, onto_first}
 use Rattle.polcert_text.proofs.Scanning.Tests.{blank_by, hash_by, line_end_by}
 use Rattle.polcert_text.proofs.Scanning.BeforeFirst.{before_first-pass}
-use Rattle.polcert_text.specs.Bytes.{is_blank, is_hash, is_line_end}
-use Rattle.polcert_text.specs.Steps.Classes.{class_of}
-use Rattle.polcert_text.specs.Gaps.{is_gap_line, is_gap}
-use Rattle.polcert_text.specs.Steps.Scan.{gap_after, gap_through}
-use Rattle.polcert_text.specs.declared.bytes.ByteClass.{ByteClass}
-use Rattle.polcert_text.specs.declared.tokens.Gap.{Gap}
-use Rattle.polcert_text.specs.declared.tokens.Gap.TheVariants.{Between, Comment, Ended}
+use Rattle.polcert_text.specs.Gaps.{is_gap_line}
 
 -- all lines but the first are right
 abbrev others_right : List (List ℕ) → Bool

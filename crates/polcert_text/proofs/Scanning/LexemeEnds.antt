@@ -1,13 +1,8 @@
 -- How far a scan may be behind the longest lexeme that it found.
 use Rattle.std.proofs.Common.{◌≡◌, ◌+◌, ℕ, Bool, true, false, None, Some, List, ◌++◌, length, take, drop, take_all, refl, subst, ◌∙◌, arith}
 use Rattle.std.proofs.lemmas.List.{take-append-drop}
-use Rattle.polcert_text.specs.Steps.ScanOf.{is_stuck, pending, IsFrontOf, IsScanOf}
-use Rattle.polcert_text.specs.declared.tokens.LexemeScan.{LexemeScan}
+use Rattle.polcert_text.proofs.Common.{is_stuck, pending, IsFrontOf, IsScanOf, LexemeScan, state_after, kind_at, ByteClass, TokenKind, State}
 use Rattle.polcert_text.proofs.Scanning.LexemeLaws.{front_whatever_follows, stuck_state}
-use Rattle.polcert_text.specs.Steps.Scan.{state_after, kind_at}
-use Rattle.polcert_text.specs.declared.bytes.ByteClass.{ByteClass}
-use Rattle.polcert_text.specs.declared.tokens.TokenKind.{TokenKind}
-use Rattle.polcert_text.specs.declared.tokens.State.{State}
 
 -- a state that has read a lexeme waits for nothing
 pub none_pending : (state : State) (kind : TokenKind) → kind_at state ≡ Some kind → pending state ≡ 0

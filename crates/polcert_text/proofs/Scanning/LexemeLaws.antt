@@ -1,21 +1,11 @@
 -- Reading a lexeme byte by byte tells what kind of lexeme each front is.
 use Rattle.std.proofs.Common.{◌≡◌, ◌∙◌, ℕ, ◌+◌, Bool, true, false, not, ◌&&◌, ◌||◌, cond, Option, Some, None, List, [], ◌∷◌, ◌++◌, take, drop, refl, sym, ap, append-nil, arith}
 use Rattle.std.proofs.Common.{◌<◌, ◌≤◌, length, get_or, ◌⊎◌, ⊎_elim, take_all, append_assoc, subst}
-use Rattle.std.proofs.lemmas.List.{take_more, take-take, take-append-drop, take-append-le, take_at, length-append}
-use Rattle.polcert_text.specs.Steps.ScanOf.{is_stuck, IsFrontOf}
-use Rattle.std.specs.List.{list_all, list_any}
-use Rattle.polcert_text.specs.declared.tokens.LexemePrefix.{LexemePrefix}
-use Rattle.polcert_text.specs.Bytes.{is_digit, is_exponent_mark, is_point, is_name_byte}
-use Rattle.polcert_text.specs.Steps.Classes.{class_of, point_class, digit_class, letter_class}
-use Rattle.polcert_text.specs.Lexemes.{are_digits, without_sign, is_numeral, kind_of, is_empty}
-use Rattle.polcert_text.specs.Steps.Classes.{mark_kind}
-use Rattle.polcert_text.specs.Steps.Scan.{state_after, state_through, kind_at}
-use Rattle.polcert_text.specs.declared.bytes.ByteClass.{ByteClass}
+use Rattle.polcert_text.proofs.Common.{take_more, take-append-le, is_stuck, IsFrontOf, list_all, list_any, LexemePrefix, is_digit, is_exponent_mark, is_point, is_name_byte, class_of, point_class, digit_class, letter_class, are_digits, without_sign, is_numeral, kind_of, is_empty, mark_kind, state_after, state_through, kind_at, ByteClass, TokenKind, State, Start, Name, Whole, Fraction, Single, Stuck}
+use Rattle.std.proofs.lemmas.List.{take-take, take-append-drop, take_at, length-append}
 use Rattle.polcert_text.specs.declared.bytes.ByteClass.TheVariants as classes
-use Rattle.polcert_text.specs.declared.tokens.TokenKind.{TokenKind}
 use Rattle.polcert_text.specs.declared.tokens.TokenKind.TheVariants as kinds
-use Rattle.polcert_text.specs.declared.tokens.State.{State}
-use Rattle.polcert_text.specs.declared.tokens.State.TheVariants.{Start, Name, Whole, Point, Fraction, Mark, Sign, Exponent, Single, Stuck}
+use Rattle.polcert_text.specs.declared.tokens.State.TheVariants.{Point, Mark, Sign, Exponent}
 use Rattle.polcert_text.proofs.Scanning.BeforeFirst.{before, after, before_is, after_is}
 use Rattle.polcert_text.proofs.Scanning.Tests.{digit_by, mark_by, point_by, sign_by, name_by, kind_by}
 

@@ -2,20 +2,10 @@
 use Rattle.std.proofs.Common.{◌≡◌, ◌∙◌, ◌⊎◌, ⊎_elim, ◌++◌, ℕ, zero, suc, ◌+◌, ◌<◌, ◌≤◌, ◌==◌, true, Some, List, [], ◌∷◌, length, take, drop, take_all, append-nil, append_assoc, get_or, refl, sym, ap, subst, arith}
 use Rattle.std.proofs.Math.Seq.{take-add}
 use Rattle.std.proofs.lemmas.Bool.{eqb-true}
-use Rattle.std.proofs.lemmas.List.{length-take-le, take_more, take-append-drop}
-use Rattle.polcert_text.specs.Steps.Classes.{class_of}
-use Rattle.polcert_text.specs.Fronts.{IsLongestGap, IsLongestLexeme}
-use Rattle.polcert_text.specs.Gaps.{is_gap}
-use Rattle.polcert_text.specs.Steps.Scan.{gap_after, gap_through, state_after, state_through, kind_at}
-use Rattle.polcert_text.specs.Steps.ScanOf.{pending, IsFrontOf, IsScanOf, scan_at, EndsWithin, IsNameOrMark}
-use Rattle.polcert_text.specs.declared.bytes.ByteClass.{ByteClass}
+use Rattle.polcert_text.proofs.Common.{take_more, class_of, IsLongestGap, IsLongestLexeme, is_gap, gap_after, gap_through, state_after, state_through, kind_at, pending, IsFrontOf, IsScanOf, EndsWithin, IsNameOrMark, ByteClass, TokenKind, LexemePrefix, Gap, Between, Comment, Ended, State, Start, Name, Whole, Fraction, Single, Stuck}
+use Rattle.std.proofs.lemmas.List.{length-take-le, take-append-drop}
+use Rattle.polcert_text.specs.Steps.ScanOf.{scan_at}
 use Rattle.polcert_text.specs.declared.bytes.ByteClass.TheVariants as classes
-use Rattle.polcert_text.specs.declared.tokens.TokenKind.{TokenKind}
-use Rattle.polcert_text.specs.declared.tokens.LexemePrefix.{LexemePrefix}
-use Rattle.polcert_text.specs.declared.tokens.Gap.{Gap}
-use Rattle.polcert_text.specs.declared.tokens.Gap.TheVariants.{Between, Comment, Ended}
-use Rattle.polcert_text.specs.declared.tokens.State.{State}
-use Rattle.polcert_text.specs.declared.tokens.State.TheVariants.{Start, Name, Whole, Fraction, Single, Stuck}
 use Rattle.polcert_text.proofs.Scanning.GapLaws.{longest_gap_at, gap_until_open, gap_through-append}
 use Rattle.polcert_text.proofs.Scanning.LexemeLaws.{kind_of-through, front_before, state_step}
 use Rattle.polcert_text.proofs.Streams.StreamLaws.{skipped_step}

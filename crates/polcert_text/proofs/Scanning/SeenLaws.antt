@@ -1,17 +1,9 @@
 -- A lexeme that was seen at the front of some bytes, whatever follows them.
 use Rattle.std.proofs.Common.{◌≡◌, ◌∙◌, ◌<◌, ◌≤◌, ◌⊎◌, inr, ℕ, Bool, true, false, Option, Some, None, List, [], ◌++◌, length, take, drop, refl, sym, ap, subst, append-nil, append_assoc, take_all, ⊎_elim, ◌∷◌, arith}
-use Rattle.std.proofs.lemmas.List.{take-append-drop, take-append-le, length-append, length-take}
-use Rattle.polcert_text.specs.Lexemes.{kind_of}
-use Rattle.polcert_text.specs.Steps.Classes.{class_of}
-use Rattle.polcert_text.specs.Steps.Scan.{state_after, state_through, kind_at, is_numeral_kind}
-use Rattle.polcert_text.specs.Steps.ScanOf.{front_len, front_kind, is_over, is_stuck, pending, IsFrontOf, IsScanOf}
-use Rattle.polcert_text.specs.Steps.Streaming.{IsFrontOrLong, IsSeen}
-use Rattle.polcert_text.specs.declared.tokens.LexemePrefix.{LexemePrefix}
-use Rattle.polcert_text.specs.declared.tokens.LexemeScan.{LexemeScan}
-use Rattle.polcert_text.specs.declared.bytes.ByteClass.{ByteClass}
-use Rattle.polcert_text.specs.declared.tokens.TokenKind.{TokenKind}
-use Rattle.polcert_text.specs.declared.tokens.State.{State}
-use Rattle.polcert_text.specs.declared.tokens.State.TheVariants.{Start, Single, Stuck}
+use Rattle.polcert_text.proofs.Common.{take-append-le, kind_of, class_of, state_after, state_through, kind_at, is_numeral_kind, front_len, is_over, is_stuck, pending, IsFrontOf, IsScanOf, IsSeen, LexemePrefix, LexemeScan, ByteClass, TokenKind, State, Start, Single, Stuck}
+use Rattle.std.proofs.lemmas.List.{take-append-drop, length-append, length-take}
+use Rattle.polcert_text.specs.Steps.ScanOf.{front_kind}
+use Rattle.polcert_text.specs.Steps.Streaming.{IsFrontOrLong}
 use Rattle.polcert_text.proofs.Scanning.LexemeEnds.{scanned}
 use Rattle.polcert_text.proofs.Scanning.LexemeLaws.{front_whatever_follows, front_before, state_fed, stuck_state, kind_of-through}
 

@@ -1,13 +1,8 @@
 -- Each text has a cut.
 use Rattle.std.proofs.Common.{◌≡◌, ◌∙◌, ℕ, zero, suc, ◌+◌, ◌<◌, ◌≤◌, Bool, true, false, ◌⊎◌, inl, inr, Option, Some, None, is_some, List, [], ◌∷◌, length, take, drop, refl, sym, ap, subst, arith}
 use Rattle.std.proofs.lemmas.List.{length-take-le, length-drop}
-use Rattle.polcert_text.specs.Lexemes.{kind_of}
-use Rattle.polcert_text.specs.Gaps.{is_gap}
-use Rattle.polcert_text.specs.Fronts.{IsLongestGap, IsLongestLexeme}
-use Rattle.polcert_text.specs.Cut.{Lexeme, Rest, is_glued, IsTokenAt, IsFaultAt, TakesToken, EndsAt, Ends, HasCut}
-use Rattle.polcert_text.specs.declared.tokens.TokenKind.{TokenKind}
-use Rattle.polcert_text.specs.declared.tokens.TokenKind.TheVariants.{Numeral}
-use Rattle.polcert_text.specs.declared.tokens.TokenFault.{TokenFault}
+use Rattle.polcert_text.proofs.Common.{kind_of, is_gap, IsLongestGap, IsLongestLexeme, Lexeme, Rest, is_glued, IsTokenAt, IsFaultAt, TakesToken, EndsAt, Ends, TokenKind, Numeral, TokenFault}
+use Rattle.polcert_text.specs.Cut.{HasCut}
 use Rattle.polcert_text.specs.declared.tokens.TokenFault.TheVariants.{BadByte, TokenTooLong, Glued}
 
 -- ---- the last number that passes a test

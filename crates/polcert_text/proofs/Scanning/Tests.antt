@@ -2,14 +2,10 @@
 use Rattle.std.proofs.Common.{◌≡◌, ◌∙◌, ℕ, ◌<◌, ◌==◌, ◌&&◌, ◌||◌, ◌⊎◌, ⊎_elim, Bool, true, false, not, cond, Option, Some, None, List, [], ◌∷◌, codes, refl, sym, ap, arith}
 use Rattle.std.specs.Prelude.{bytes_eq}
 use Rattle.std.specs.Char.{is_ascii_digit, is_ascii_alphabetic}
-use Rattle.std.specs.List.{list_all}
-use Rattle.std.proofs.lemmas.Bool.Decides.{nat_tests}
-use Rattle.polcert_text.specs.Bytes.{is_blank, is_line_end, is_hash, is_letter, is_digit, is_exponent_mark, is_point, is_sign, is_name_byte, is_glue}
-use Rattle.polcert_text.specs.Lexemes.{is_numeral, is_empty, kind_of}
-use Rattle.polcert_text.specs.Steps.Classes.{class_of, blank_class, line_end_class, hash_class, letter_class, digit_class, mark_class, point_class, sign_class, name_class, glue_class, minus_class, mark_kind}
-use Rattle.polcert_text.specs.declared.bytes.ByteClass.{ByteClass}
+use Rattle.polcert_text.proofs.Common.{list_all, nat_tests, is_blank, is_line_end, is_hash, is_letter, is_digit, is_exponent_mark, is_point, is_name_byte, is_numeral, is_empty, kind_of, class_of, blank_class, hash_class, letter_class, digit_class, point_class, glue_class, mark_kind, ByteClass, TokenKind}
+use Rattle.polcert_text.specs.Bytes.{is_sign, is_glue}
+use Rattle.polcert_text.specs.Steps.Classes.{line_end_class, mark_class, sign_class, name_class, minus_class}
 use Rattle.polcert_text.specs.declared.bytes.ByteClass.TheVariants as classes
-use Rattle.polcert_text.specs.declared.tokens.TokenKind.{TokenKind}
 use Rattle.polcert_text.specs.declared.tokens.TokenKind.TheVariants as kinds
 use Rattle.polcert_text.proofs.Scanning.Classes.{all_below, all_below_at, not_equal, is_digit_class}
 

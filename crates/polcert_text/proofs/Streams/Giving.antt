@@ -1,6 +1,6 @@
 -- Lemmas on what a source gave.
 use Rattle.std.proofs.Common.{◌≡◌, ◌<◌, ◌++◌, ℕ, List, Option, Some, length, append-nil, append_assoc}
-use Rattle.polcert_text.specs.Source.{Gives, nothing, more}
+use Rattle.polcert_text.proofs.Common.{Gives, nothing, more}
 
 module _ {S : Type 0} {reads : S → ℕ → Option (List ℕ) → S → Type 0} {from : S} where
   -- one more read of a loop that keeps the bytes

@@ -1,12 +1,7 @@
 -- What a call made of the text of a source, from what is known where it ends.
 use Rattle.std.proofs.Common.{◌≡◌, ℕ, List, Option, Ok, Err, arith}
-use Rattle.polcert_text.specs.Cut.{Lexeme}
-use Rattle.polcert_text.specs.Source.{IsText, EachTextThatFits}
-use Rattle.polcert_text.specs.Stream.{Stream, Fails}
-use Rattle.polcert_text.specs.ReadTexts.{ReadsText}
-use Rattle.polcert_text.specs.Steps.StreamTaken.{TakenFrom}
+use Rattle.polcert_text.proofs.Common.{Lexeme, IsText, EachTextThatFits, Stream, Fails, ReadsText, TakenFrom, Device, Refused}
 use Rattle.polcert_text.specs.declared.source.SourceFault.{SourceFault}
-use Rattle.polcert_text.specs.declared.source.SourceFault.TheVariants.{Device, Refused}
 
 module _ {S V F : Type 0} {reads : S → ℕ → Option (List ℕ) → S → Type 0} {failures : S → ℕ} {first u : S}
     {Denotes : List ℕ → V → Type 0} {Refuses : F → List ℕ → Type 0} where

@@ -1,8 +1,7 @@
 -- What a call made of a slice, from what it made of the slice as the text of a source.
 use Rattle.std.proofs.Common.{◌≡◌, ◌∙◌, ℕ, Bool, List, Ok, Err, refl, subst, arith}
-use Rattle.polcert_text.specs.Source.{IsText, Reads, Fits, EachTextThatFits}
-use Rattle.polcert_text.specs.ReadTexts.{ReadsText}
-use Rattle.polcert_text.specs.declared.source.SourceFault.TheVariants.{Device, Refused}
+use Rattle.polcert_text.proofs.Common.{IsText, EachTextThatFits, ReadsText, Device, Refused}
+use Rattle.polcert_text.specs.Source.{Reads, Fits}
 use Rattle.polcert_text.proofs.Known.{slice_reads, gave_slice, text_slice}
 
 module _ {S : Type 0} (rest : S → List ℕ) (old new : S) where

@@ -1,18 +1,8 @@
 -- The gap that a stream skips, in pieces.
 use Rattle.std.proofs.Common.{◌≡◌, ◌∙◌, ◌+◌, ◌-◌, ◌<◌, ◌≤◌, ◌⊎◌, inl, inr, ℕ, take_all, not, Bool, true, false, Option, List, [], ◌∷◌, ◌++◌, length, take, drop, get_or, refl, sym, ap, subst, append-nil, append_assoc, length-append, arith}
 use Rattle.std.proofs.lemmas.List.{take_at, length-drop, get_or-drop}
-use Rattle.polcert_text.specs.Steps.Classes.{class_of}
-use Rattle.polcert_text.specs.Fronts.{IsLongestGap}
-use Rattle.polcert_text.specs.Gaps.{is_gap}
-use Rattle.polcert_text.specs.Lexemes.{is_empty}
-use Rattle.polcert_text.specs.Steps.Scan.{gap_after, gap_through}
-use Rattle.polcert_text.specs.Stream.{Ahead, rest_with, CanFollow, visible, skip}
-use Rattle.polcert_text.specs.Steps.Streaming.{IsComplete, Fills, ReadsOn, SkipsGap}
-use Rattle.polcert_text.specs.declared.tokens.Gap.{Gap}
-use Rattle.polcert_text.specs.declared.tokens.Gap.TheVariants.{Between, Ended}
-use Rattle.polcert_text.specs.declared.bytes.ByteClass.{ByteClass}
+use Rattle.polcert_text.proofs.Common.{class_of, IsLongestGap, is_gap, is_empty, gap_after, gap_through, Ahead, rest_with, CanFollow, visible, skip, IsComplete, Fills, ReadsOn, SkipsGap, Gap, Between, Ended, ByteClass, nat_tests}
 use Rattle.std.specs.Bool.{◌==◌}
-use Rattle.std.proofs.lemmas.Bool.Decides.{nat_tests}
 use Rattle.polcert_text.proofs.Scanning.GapLaws.{gap_through-append, gap_until_open, longest_gap_at}
 use Rattle.polcert_text.proofs.Streams.StreamLaws.{rest_bytes, tail_of, visible_len, no_tail, reads_nothing, reads_skip, reads_fill}
 

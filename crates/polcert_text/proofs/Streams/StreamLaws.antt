@@ -1,13 +1,7 @@
 -- What a stream skips and reads, step by step.
 use Rattle.std.proofs.Common.{◌≡◌, ◌∙◌, ◌+◌, ◌-◌, ◌<◌, ◌≤◌, ℕ, zero, suc, min, Bool, true, false, Option, Some, List, [], ◌∷◌, ◌++◌, length, take, get_or, refl, sym, ap, append-nil, append_assoc, length-append, arith}
-use Rattle.std.proofs.lemmas.List.{take-append-drop, take_more, length-take, length-take-le}
-use Rattle.polcert_text.specs.Steps.Classes.{class_of}
-use Rattle.polcert_text.specs.Lexemes.{is_empty}
-use Rattle.polcert_text.specs.Steps.Scan.{gap_after, gap_through}
-use Rattle.polcert_text.specs.Source.{nothing, more}
-use Rattle.polcert_text.specs.Stream.{Ahead, rest_with, CanFollow, ReadsFrom, visible, skip}
-use Rattle.polcert_text.specs.Steps.Streaming.{IsComplete, Fills, ReadsOn}
-use Rattle.polcert_text.specs.declared.tokens.Gap.{Gap}
+use Rattle.polcert_text.proofs.Common.{take_more, class_of, is_empty, gap_after, gap_through, nothing, more, Ahead, rest_with, CanFollow, ReadsFrom, visible, skip, IsComplete, Fills, ReadsOn, Gap}
+use Rattle.std.proofs.lemmas.List.{take-append-drop, length-take, length-take-le}
 use Rattle.polcert_text.proofs.Scanning.GapLaws.{gap_through-append}
 
 true≢false : {b : Bool} → b ≡ true → b ≡ false → ⊥

@@ -1,11 +1,8 @@
 -- The lexeme that a stream scans, in pieces.
 use Rattle.std.proofs.Common.{◌≡◌, ◌-◌, ◌<◌, ◌≤◌, ◌⊎◌, inl, inr, ℕ, true, false, Option, Some, List, [], ◌++◌, length, take, append-nil, Bool, arith}
-use Rattle.std.proofs.lemmas.List.{take-append-le, take-take, length-take}
-use Rattle.polcert_text.specs.Steps.ScanOf.{IsScanOf, is_over, is_stuck, front_len, EndsWithin}
-use Rattle.polcert_text.specs.Stream.{Ahead, visible}
-use Rattle.polcert_text.specs.Steps.Streaming.{with_read, IsComplete, IsSeen, Fills, ReadsOn, ScansLexeme}
-use Rattle.polcert_text.specs.declared.tokens.LexemePrefix.{LexemePrefix}
-use Rattle.polcert_text.specs.declared.tokens.LexemeScan.{LexemeScan}
+use Rattle.polcert_text.proofs.Common.{take-append-le, IsScanOf, is_over, is_stuck, front_len, EndsWithin, Ahead, visible, IsComplete, IsSeen, Fills, ReadsOn, ScansLexeme, LexemePrefix, LexemeScan}
+use Rattle.std.proofs.lemmas.List.{take-take, length-take}
+use Rattle.polcert_text.specs.Steps.Streaming.{with_read}
 use Rattle.polcert_text.proofs.Scanning.SeenLaws.{seen_over, seen_long, seen_all, seen_within}
 use Rattle.polcert_text.proofs.Streams.StreamLaws.{visible_len, reads_nothing, reads_fill}
 

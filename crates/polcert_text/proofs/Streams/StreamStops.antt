@@ -1,11 +1,9 @@
 -- A stream that has stopped.
 use Rattle.std.proofs.Common.{◌≡◌, ℕ, Option, Some, None, List, [], Result, Ok, Err, refl, arith}
-use Rattle.polcert_text.specs.Cut.{Lexeme}
-use Rattle.polcert_text.specs.Stream.{Ahead, Stream, IsAtEnd, GivesEnd, Answers, AnswersNext, answer_of}
-use Rattle.polcert_text.specs.Steps.Streaming.{StopsRightly}
+use Rattle.polcert_text.proofs.Common.{Lexeme, Ahead, Stream, GivesEnd, StopsRightly, TokenFault}
+use Rattle.polcert_text.specs.Stream.{IsAtEnd, Answers, AnswersNext, answer_of}
 use Rattle.polcert_text.specs.declared.stream_tokens.StreamFault.{StreamFault}
 use Rattle.polcert_text.specs.declared.stream_tokens.LastAnswer.{LastAnswer}
-use Rattle.polcert_text.specs.declared.tokens.TokenFault.{TokenFault}
 use Rattle.polcert_text.proofs.Streams.StreamLaws.{from_nothing}
 
 some≢none : {A : Type 0} {x : A} {o : Option A} → o ≡ Some x → o ≡ None → ⊥

@@ -1,16 +1,11 @@
 -- The tokens that were taken from a source, and the cut of each text that fits.
 use Rattle.std.proofs.Common.{◌≡◌, ◌∙◌, ◌++◌, ◌∷◌, ℕ, Bool, true, false, List, [], Option, Some, None, length, refl, sym, ap, subst, append-nil, append_assoc, length-append, take, drop, ◌<◌, ◌≤◌, arith}
 use Rattle.std.proofs.lemmas.List.{length-drop, length-take}
-use Rattle.std.proofs.lemmas.Bool.Decides.{nat_tests}
-use Rattle.polcert_text.specs.Fronts.{IsLongestLexeme}
-use Rattle.polcert_text.specs.Lexemes.{kind_of}
-use Rattle.polcert_text.specs.declared.tokens.TokenKind.{TokenKind}
-use Rattle.polcert_text.specs.Cut.{Lexeme, Rest, IsCut, TakesToken, text_rest, end_place}
-use Rattle.polcert_text.specs.Source.{IsText, Fits, EachTextThatFits, nothing}
-use Rattle.polcert_text.specs.Stream.{Ahead, Stream, fresh, rest_with, CanFollow, GivesToken, GivesEnd}
-use Rattle.polcert_text.specs.Steps.StreamTaken.{TakenFrom}
-use Rattle.polcert_text.specs.TakenTokens.{Taken, nothing as none, token as one_more}
-use Rattle.polcert_text.specs.declared.tokens.TokenFault.{TokenFault}
+use Rattle.polcert_text.proofs.Common.{nat_tests, IsLongestLexeme, kind_of, TokenKind, Lexeme, Rest, IsCut, TakesToken, text_rest, IsText, EachTextThatFits, nothing, Ahead, Stream, rest_with, CanFollow, GivesToken, GivesEnd, TakenFrom, Taken, TokenFault}
+use Rattle.polcert_text.specs.Cut.{end_place}
+use Rattle.polcert_text.specs.Source.{Fits}
+use Rattle.polcert_text.specs.Stream.{fresh}
+use Rattle.polcert_text.specs.TakenTokens.{nothing as none, token as one_more}
 use Rattle.polcert_text.proofs.Scanning.LexemeLaws.{none_empty}
 use Rattle.polcert_text.proofs.Streams.StreamTakes.{from_both, could_follow}
 use Rattle.polcert_text.proofs.Taken.TakenTokens.{all_taken}

@@ -1,13 +1,9 @@
 -- What a stream answers, whatever follows what it has read.
 use Rattle.std.proofs.Common.{◌≡◌, ◌∙◌, ◌+◌, ◌-◌, ◌<◌, ◌≤◌, ◌⊎◌, ℕ, Bool, true, false, Option, Some, None, List, [], ◌++◌, length, take, drop, refl, sym, ap, subst, append-nil, append_assoc, length-append, nat_lt, cond, arith}
-use Rattle.std.proofs.lemmas.List.{drop-take, drop-append-le, length-drop, take-append-le, take-take}
-use Rattle.std.proofs.Math.Seq.{take-append-add, drop-append_seam}
-use Rattle.polcert_text.specs.Cut.{Lexeme, Rest, IsTokenAt, IsFaultAt, TakesToken, EndsAt, Ends}
-use Rattle.polcert_text.specs.Fronts.{IsLongestGap}
-use Rattle.polcert_text.specs.Stream.{Ahead, end_of_kept, rest_with, CanFollow, ReadsFrom, Fails, GivesToken, GivesEnd, visible, skip}
-use Rattle.polcert_text.specs.Steps.Streaming.{end_of, IsSeen, ReadsOn, SkipsGap, ScansLexeme}
-use Rattle.polcert_text.specs.declared.tokens.LexemePrefix.{LexemePrefix}
-use Rattle.polcert_text.specs.declared.tokens.TokenFault.{TokenFault}
+use Rattle.polcert_text.proofs.Common.{drop-take, drop-append-le, take-append-le, take-append-add, drop-append_seam, Lexeme, Rest, IsTokenAt, IsFaultAt, TakesToken, EndsAt, Ends, IsLongestGap, Ahead, rest_with, CanFollow, ReadsFrom, Fails, GivesToken, GivesEnd, visible, skip, IsSeen, ReadsOn, SkipsGap, ScansLexeme, LexemePrefix, TokenFault}
+use Rattle.std.proofs.lemmas.List.{length-drop, take-take}
+use Rattle.polcert_text.specs.Stream.{end_of_kept}
+use Rattle.polcert_text.specs.Steps.Streaming.{end_of}
 use Rattle.polcert_text.specs.declared.tokens.TokenFault.TheVariants.{TextTooLong}
 use Rattle.polcert_text.proofs.Streams.Giving.{gave_then}
 use Rattle.polcert_text.proofs.Streams.StreamLaws.{rest_bytes, tail_of, visible_len, no_tail, take_nil}

@@ -1,7 +1,7 @@
 -- The part of an array that is in use.
 use Rattle.std.proofs.Common.{◌≡◌, ◌∙◌, ℕ, ◌+◌, ◌-◌, ◌≤◌, List, ◌++◌, length, take, drop, sym, ap, arith}
-use Rattle.std.proofs.lemmas.List.{drop-take, drop-drop, drop-append-le, take-append-le, length-take-le, length-drop}
-use Rattle.std.proofs.Math.Seq.{take-append-add}
+use Rattle.polcert_text.proofs.Common.{drop-take, drop-append-le, take-append-le, take-append-add}
+use Rattle.std.proofs.lemmas.List.{drop-drop, length-take-le, length-drop}
 
 pub used_consumed : (xs : List ℕ) (s e n : ℕ) → s + n ≤ e → take (e - (s + n)) (drop (s + n) xs) ≡ drop n (take (e - s) (drop s xs))
 used_consumed xs s e n h =

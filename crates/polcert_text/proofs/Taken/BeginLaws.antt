@@ -1,25 +1,16 @@
 -- Tokens at the front of some bytes: one, and several, one after another.
 use Rattle.std.proofs.Common.{◌≡◌, ◌∙◌, ℕ, ◌+◌, ◌<◌, ◌≤◌, Bool, false, Option, IfSome, List, [], ◌∷◌, ◌++◌, length, take, drop, get_or, refl, sym, ap, subst, append_assoc, append-nil, length-append, pos, arith}
 use Rattle.std.proofs.Math.ListN.{get_or-append}
-use Rattle.std.proofs.lemmas.List.{take-append-le, drop-append-le, length-take-le, length-drop, get_or-drop, drop-drop}
-use Rattle.polcert_text.specs.Beginning.{rest_at, BeginWith, BeginWithOne, BeginWithNumber, BeginWithDigits, IsNumeralOf, kind_of_sign, unsigned}
+use Rattle.polcert_text.proofs.Common.{take-append-le, drop-append-le, BeginWith, EndsAsDigits, EndsWithin, IsNameOrMark, class_of, Lexeme, Rest, TakesToken, is_glued, IsLongestLexeme, gap_after, gap_through, state_after, signed, IsReadable, IsExact, Taken, token, LexemePrefix, Between, Ended, Start, Single, TokenKind, Numeral, Colon, TokenFault}
+use Rattle.std.proofs.lemmas.List.{length-take-le, length-drop, get_or-drop, drop-drop}
+use Rattle.polcert_text.specs.Beginning.{rest_at, BeginWithOne, BeginWithNumber, BeginWithDigits, IsNumeralOf, kind_of_sign, unsigned}
 use Rattle.polcert_text.specs.Beginning as begin
-use Rattle.polcert_text.specs.Steps.ScanOf.{EndsAsDigits, EndsWithin, IsNameOrMark, IsNumberFrom}
-use Rattle.polcert_text.specs.Steps.Classes.{class_of, class_of_sign}
-use Rattle.polcert_text.specs.Cut.{Lexeme, Rest, TakesToken, is_glued}
-use Rattle.polcert_text.specs.Fronts.{IsLongestLexeme}
-use Rattle.polcert_text.specs.Steps.Scan.{gap_after, gap_through, state_after}
-use Rattle.polcert_text.specs.Numbers.{signed, IsReadable, IsExact}
-use Rattle.polcert_text.specs.TakenTokens.{Taken, nothing, token}
+use Rattle.polcert_text.specs.Steps.ScanOf.{IsNumberFrom}
+use Rattle.polcert_text.specs.Steps.Classes.{class_of_sign}
+use Rattle.polcert_text.specs.TakenTokens.{nothing}
 use Rattle.polcert_text.specs.declared.front_tokens.FrontDigits.{FrontDigits}
 use Rattle.polcert_text.specs.declared.front_tokens.FrontNumber.{FrontNumber}
 use Rattle.polcert_text.specs.declared.bytes.ByteClass.TheVariants as classes
-use Rattle.polcert_text.specs.declared.tokens.LexemePrefix.{LexemePrefix}
-use Rattle.polcert_text.specs.declared.tokens.Gap.TheVariants.{Between, Ended}
-use Rattle.polcert_text.specs.declared.tokens.State.TheVariants.{Start, Single}
-use Rattle.polcert_text.specs.declared.tokens.TokenKind.{TokenKind}
-use Rattle.polcert_text.specs.declared.tokens.TokenKind.TheVariants.{Numeral, Colon}
-use Rattle.polcert_text.specs.declared.tokens.TokenFault.{TokenFault}
 use Rattle.polcert_text.proofs.Scanning.Runs.{longest_seen, ended_mark, is_mark}
 
 -- ---- several

@@ -1,10 +1,7 @@
 -- Tokens that stand whole at the front of what is ahead, taken from a source together.
 use Rattle.std.proofs.Common.{◌+◌, ◌++◌, ℕ, Option, List, arith}
-use Rattle.std.proofs.lemmas.List.{length-drop, drop-append-le}
-use Rattle.polcert_text.specs.Beginning.{BeginWith, passed}
-use Rattle.polcert_text.specs.Cut.{Lexeme}
-use Rattle.polcert_text.specs.Stream.{Stream, visible}
-use Rattle.polcert_text.specs.Steps.StreamTaken.{TakenFrom}
+use Rattle.polcert_text.proofs.Common.{drop-append-le, BeginWith, passed, Lexeme, Stream, visible, TakenFrom}
+use Rattle.std.proofs.lemmas.List.{length-drop}
 use Rattle.polcert_text.proofs.Taken.BeginLaws.{taken_both}
 use Rattle.polcert_text.proofs.Streams.StreamLaws.{tail_of, rest_bytes, visible_len}
 use Rattle.polcert_text.proofs.Streams.StreamTakes.{rest_skipped}

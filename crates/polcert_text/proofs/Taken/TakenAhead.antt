@@ -1,10 +1,7 @@
 -- Tokens that stand whole at the front of some bytes and that a reader takes together.
 use Rattle.std.proofs.Common.{◌≡◌, ℕ, ◌+◌, ◌≤◌, Option, List, [], ◌++◌, length, drop, sym, subst, arith, append_assoc}
 use Rattle.std.proofs.lemmas.List.{append-nil, length-drop}
-use Rattle.polcert_text.specs.Beginning.{BeginWith, passed}
-use Rattle.polcert_text.specs.Cut.{Lexeme}
-use Rattle.polcert_text.specs.Stream.{Stream, visible}
-use Rattle.polcert_text.specs.Steps.StreamTaken.{TakenFrom}
+use Rattle.polcert_text.proofs.Common.{BeginWith, passed, Lexeme, Stream, visible, TakenFrom}
 use Rattle.polcert_text.specs.Steps.TakenAhead.{ReadsOn, TakesAhead, ArePassed}
 use Rattle.polcert_text.proofs.Taken.BeginLaws.{begin_none, begin_then}
 use Rattle.polcert_text.proofs.Taken.PassedTokens.{passed_taken}

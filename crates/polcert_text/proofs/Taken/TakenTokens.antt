@@ -1,9 +1,8 @@
 -- The tokens that were taken, and the cut of the whole.
 use Rattle.std.proofs.Common.{◌≡◌, ◌∙◌, Option, List, [], ◌∷◌, ◌++◌, refl, sym, ap, subst, append_assoc, arith}
 use Rattle.std.proofs.lemmas.List.{append-nil}
-use Rattle.polcert_text.specs.Cut.{Lexeme, Rest, Ends, IsCut}
-use Rattle.polcert_text.specs.TakenTokens.{Taken, nothing, token}
-use Rattle.polcert_text.specs.declared.tokens.TokenFault.{TokenFault}
+use Rattle.polcert_text.proofs.Common.{Lexeme, Rest, Ends, IsCut, Taken, token, TokenFault}
+use Rattle.polcert_text.specs.TakenTokens.{nothing}
 use Rattle.polcert_text.proofs.TextLaws.{token_or_end, one_next_token}
 
 -- after the tokens taken comes the rest's cut

@@ -1,20 +1,9 @@
 -- A value at the front of some bytes: a numeral, perhaps after a `-`.
 use Rattle.std.proofs.Common.{◌≡◌, ℕ, ℤ, ◌+◌, true, false, Option, Some, None, List, [], ◌∷◌, take, drop, get_or, refl, sym, ap, subst, arith}
 use Rattle.std.proofs.lemmas.List.{length-drop, drop-drop}
-use Rattle.polcert_text.specs.Beginning.{BeginWith}
-use Rattle.polcert_text.specs.Steps.Classes.{class_of}
-use Rattle.polcert_text.specs.Cut.{Lexeme}
-use Rattle.polcert_text.specs.FrontValues.{BeginWithValue}
-use Rattle.polcert_text.specs.Numbers.{IsRounded}
-use Rattle.polcert_text.specs.Steps.FrontSizes.{EndsAsSize}
-use Rattle.polcert_text.specs.Steps.Scan.{gap_after, gap_through, state_after}
+use Rattle.polcert_text.proofs.Common.{BeginWith, class_of, Lexeme, BeginWithValue, IsRounded, EndsAsSize, gap_after, gap_through, state_after, Between, Start, TokenKind, Numeral, Minus, Rounding}
 use Rattle.polcert_text.specs.declared.bytes.ByteClass.TheVariants as classes
 use Rattle.polcert_text.specs.declared.front_tokens.FrontSize.{FrontSize}
-use Rattle.polcert_text.specs.declared.tokens.Gap.TheVariants.{Between}
-use Rattle.polcert_text.specs.declared.tokens.State.TheVariants.{Start}
-use Rattle.polcert_text.specs.declared.tokens.TokenKind.{TokenKind}
-use Rattle.polcert_text.specs.declared.tokens.TokenKind.TheVariants.{Numeral, Minus}
-use Rattle.polcert_text.specs.declared.number.Rounding.{Rounding}
 use Rattle.polcert_text.proofs.Scanning.Runs.{ended_mark}
 use Rattle.polcert_text.proofs.Taken.BeginLaws.{front_lexeme, begin_one, begin_then}
 

@@ -1,6 +1,6 @@
 use Rattle.std.proofs.Common.{◌≡◌, ◌∙◌, refl, ap}
 use Rattle.std.proofs.lemmas.Bool.{eqb-true}
-use Rattle.polcert_text.specs.Steps.Classes.{class_of}
+use Rattle.polcert_text.proofs.Common.{class_of}
 use Rattle.polcert_text.proofs.Scanning.Classes.{from_true}
 use Rattle.polcert_text.specs.declared.bytes.ByteClass.TheVariants.{Minus}
 use Rattle.polcert_text.proofs.bytes.quick_is_minus.Goals as goal

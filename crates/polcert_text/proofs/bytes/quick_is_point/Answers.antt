@@ -1,6 +1,6 @@
 use Rattle.std.proofs.Common.{ap, ◌∙◌}
 use Rattle.std.proofs.lemmas.Bool.{eqb-true}
-use Rattle.polcert_text.specs.Steps.Classes.{class_of}
+use Rattle.polcert_text.proofs.Common.{class_of}
 use Rattle.polcert_text.proofs.Scanning.Classes.{from_true, point_at_46}
 use Rattle.polcert_text.proofs.bytes.quick_is_point.Goals as goal
 

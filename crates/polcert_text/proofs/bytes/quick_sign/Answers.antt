@@ -1,5 +1,5 @@
 use Rattle.std.proofs.Common.{◌≡◌, ◌∙◌, ap, arith}
-use Rattle.polcert_text.specs.Steps.Classes.{class_of}
+use Rattle.polcert_text.proofs.Common.{class_of}
 use Rattle.polcert_text.proofs.Scanning.Classes.{minus_at_45, plus_at_43}
 use Rattle.polcert_text.proofs.bytes.quick_sign.Goals as goal
 

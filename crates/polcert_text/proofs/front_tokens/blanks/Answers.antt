@@ -1,7 +1,5 @@
 use Rattle.std.proofs.Common.{◌≡◌, ◌<◌, ⊎_elim, get_or, length, sym, ap, arith}
-use Rattle.polcert_text.specs.Steps.Classes.{class_of}
-use Rattle.polcert_text.specs.Steps.Scan.{gap_after}
-use Rattle.polcert_text.specs.declared.tokens.Gap.TheVariants.{Between}
+use Rattle.polcert_text.proofs.Common.{class_of, gap_after, Between}
 use Rattle.polcert_text.proofs.Streams.StreamLaws.{skipped_step}
 use Rattle.polcert_text.proofs.front_tokens.blanks.Goals as goal
 

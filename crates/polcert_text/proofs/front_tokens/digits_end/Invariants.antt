@@ -1,5 +1,5 @@
 use Rattle.std.proofs.Common.{◌-◌, ◌≤◌}
-use Rattle.polcert_text.specs.Steps.FrontSizes.{AreDigitsFrom}
+use Rattle.polcert_text.proofs.Common.{AreDigitsFrom}
 use Rattle.polcert_text.proofs.front_tokens.digits_end.Given as goal
 
 abbrev pub invariant-loop-at : goal.invariant-loop-at

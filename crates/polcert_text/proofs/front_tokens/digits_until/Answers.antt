@@ -1,8 +1,6 @@
 use Rattle.std.proofs.Common.{◌≡◌, ◌∙◌, ◌<◌, ◌≤◌, ◌+◌, ◌-◌, ◌*◌, ◌^◌, ◌++◌, ⊎_elim, length, take, drop, get_or, sym, subst, ap, append-nil, rules, arith}
-use Rattle.std.specs.Str.Parse.{digits_value}
-use Rattle.polcert_text.specs.Steps.Classes.{class_of}
+use Rattle.polcert_text.proofs.Common.{digits_value, class_of, Digit}
 use Rattle.polcert_text.proofs.Scanning.Tests.{digit_by}
-use Rattle.polcert_text.specs.declared.bytes.ByteClass.TheVariants.{Digit}
 use Rattle.polcert_text.proofs.Numbers.FrontSizes.{few_more, few_fit}
 use Rattle.polcert_text.proofs.Numbers.NumberLaws.{digit_from, digit_to}
 use Rattle.polcert_text.proofs.Numbers.Plain.{after_more, below_or_at}

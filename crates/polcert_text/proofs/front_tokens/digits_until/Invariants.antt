@@ -1,6 +1,5 @@
 use Rattle.std.proofs.Common.{◌≡◌, ℕ, List, ◌+◌, ◌-◌, ◌^◌, ◌<◌, ◌≤◌, ◌++◌, take, drop}
-use Rattle.std.specs.Str.Parse.{digits_value}
-use Rattle.polcert_text.specs.Steps.FrontSizes.{AreDigitsFrom}
+use Rattle.polcert_text.proofs.Common.{digits_value, AreDigitsFrom}
 use Rattle.polcert_text.proofs.front_tokens.digits_until.Given as goal
 
 abbrev pub invariant-loop-at : goal.invariant-loop-at

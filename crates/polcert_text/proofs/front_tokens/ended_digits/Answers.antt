@@ -1,8 +1,5 @@
 use Rattle.std.proofs.Common.{◌≡◌, ◌∙◌, ◌-◌, ◌<◌, [], length, take, get_or, refl, sym, ap, arith}
-use Rattle.std.specs.Str.Parse.{digits_value}
-use Rattle.polcert_text.specs.Steps.Classes.{class_of}
-use Rattle.polcert_text.specs.declared.tokens.State.TheVariants.{Whole}
-use Rattle.polcert_text.specs.declared.tokens.TokenKind.TheVariants.{Numeral}
+use Rattle.polcert_text.proofs.Common.{digits_value, class_of, Whole, Numeral}
 use Rattle.polcert_text.proofs.Numbers.FrontNumbers.{whole_read, blank_after, digits_there}
 use Rattle.polcert_text.proofs.Scanning.Runs.{ends_within, ends_whole}
 use Rattle.polcert_text.proofs.front_tokens.ended_digits.Goals as goal

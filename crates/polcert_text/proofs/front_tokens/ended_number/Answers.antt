@@ -1,9 +1,5 @@
 use Rattle.std.proofs.Common.{◌≡◌, ◌∙◌, ◌-◌, ◌*◌, ◌^◌, ◌+◌, ◌<◌, ◌≤◌, [], length, take, get_or, refl, ap, arith}
-use Rattle.std.specs.Str.Parse.{digits_value}
-use Rattle.polcert_text.specs.Steps.Classes.{class_of}
-use Rattle.polcert_text.specs.Numbers.{largest}
-use Rattle.polcert_text.specs.declared.tokens.State.TheVariants.{Whole, Fraction}
-use Rattle.polcert_text.specs.declared.tokens.TokenKind.TheVariants.{Numeral}
+use Rattle.polcert_text.proofs.Common.{digits_value, class_of, largest, Whole, Fraction, Numeral}
 use Rattle.polcert_text.proofs.Numbers.FrontNumbers.{whole_read, fraction_read, blank_after, whole_exact, decimal_exact, small_whole, small_read, small_scaled}
 use Rattle.polcert_text.proofs.Scanning.Runs.{ends_within, ends_whole, ends_fraction}
 use Rattle.polcert_text.proofs.front_tokens.ended_number.Goals as goal

@@ -1,9 +1,5 @@
 use Rattle.std.proofs.Common.{◌≡◌, ◌∙◌, ◌-◌, ◌+◌, ◌<◌, ◌≤◌, [], min, length, take, get_or, refl, ap, ⊎_elim, arith}
-use Rattle.std.specs.Str.Parse.{digits_value}
-use Rattle.polcert_text.specs.Steps.Classes.{class_of}
-use Rattle.polcert_text.specs.Steps.FrontSizes.{AreDigitsFrom}
-use Rattle.polcert_text.specs.declared.tokens.State.TheVariants.{Whole, Fraction}
-use Rattle.polcert_text.specs.declared.tokens.TokenKind.TheVariants.{Numeral}
+use Rattle.polcert_text.proofs.Common.{digits_value, class_of, AreDigitsFrom, Whole, Fraction, Numeral}
 use Rattle.polcert_text.proofs.Numbers.FrontNumbers.{whole_read, fraction_read, blank_after}
 use Rattle.polcert_text.proofs.Numbers.FrontSizes.{digits_measure, decimal_measures}
 use Rattle.polcert_text.proofs.Numbers.Plain.{at_or_after}

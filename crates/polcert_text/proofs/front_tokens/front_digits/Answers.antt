@@ -1,6 +1,5 @@
 use Rattle.std.proofs.Common.{subst}
-use Rattle.std.proofs.lemmas.List.{take_rest}
-use Rattle.polcert_text.specs.Steps.ScanOf.{EndsAsDigits}
+use Rattle.polcert_text.proofs.Common.{take_rest, EndsAsDigits}
 use Rattle.polcert_text.proofs.Taken.BeginLaws.{digits_begin}
 use Rattle.polcert_text.proofs.front_tokens.front_digits.Goals as goal
 

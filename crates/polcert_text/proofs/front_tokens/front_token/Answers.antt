@@ -1,5 +1,5 @@
 use Rattle.std.proofs.Common.{arith}
-use Rattle.std.proofs.lemmas.List.{take_rest}
+use Rattle.polcert_text.proofs.Common.{take_rest}
 use Rattle.polcert_text.proofs.Taken.BeginLaws.{word_begins}
 use Rattle.polcert_text.proofs.front_tokens.front_token.Goals as goal
 

@@ -1,11 +1,8 @@
 use Rattle.std.proofs.Common.{◌≡◌, ◌∙◌, ◌-◌, ◌+◌, length, take, drop, get_or, sym, subst, ap}
 use Rattle.std.proofs.lemmas.Int.{to_z-of_z}
-use Rattle.std.proofs.lemmas.List.{take_rest}
+use Rattle.polcert_text.proofs.Common.{take_rest, class_of, BeginWithValue, EndsAsSize}
 use mir.Val.{SFits, to_z, of_z}
 use mir.Syntax.{w64}
-use Rattle.polcert_text.specs.Steps.Classes.{class_of}
-use Rattle.polcert_text.specs.FrontValues.{BeginWithValue}
-use Rattle.polcert_text.specs.Steps.FrontSizes.{EndsAsSize}
 use Rattle.polcert_text.specs.declared.bytes.ByteClass.TheVariants.{Minus}
 use Rattle.polcert_text.proofs.Taken.ValueLaws.{plain_begins, minus_begins}
 use Rattle.polcert_text.proofs.front_tokens.front_value.Goals as goal

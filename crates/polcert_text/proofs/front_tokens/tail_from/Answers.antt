@@ -1,8 +1,5 @@
 use Rattle.std.proofs.Common.{◌≡◌, ◌∙◌, ◌-◌, ◌<◌, ⊎_elim, ℕ, List, false, take, drop, get_or, length, refl, ap, arith}
-use Rattle.std.specs.List.{list_any}
-use Rattle.polcert_text.specs.Steps.Scaling.{is_nonzero}
-use Rattle.polcert_text.specs.Steps.Classes.{class_of}
-use Rattle.polcert_text.specs.declared.bytes.ByteClass.TheVariants.{Digit}
+use Rattle.polcert_text.proofs.Common.{list_any, is_nonzero, class_of, Digit}
 use Rattle.polcert_text.proofs.Numbers.FrontSizes.{zeros_more, tail_inexact}
 use Rattle.polcert_text.proofs.Numbers.Plain.{below_or_at, at_or_after}
 use Rattle.polcert_text.proofs.front_tokens.tail_from.Goals as goal

@@ -1,7 +1,5 @@
 use Rattle.std.proofs.Common.{◌≡◌, ◌-◌, ◌≤◌, false, take, drop}
-use Rattle.std.specs.List.{list_any}
-use Rattle.polcert_text.specs.Steps.FrontSizes.{AreDigitsFrom}
-use Rattle.polcert_text.specs.Steps.Scaling.{is_nonzero}
+use Rattle.polcert_text.proofs.Common.{list_any, AreDigitsFrom, is_nonzero}
 use Rattle.polcert_text.proofs.front_tokens.tail_from.Given as goal
 
 abbrev pub invariant-loop-zeros : goal.invariant-loop-zeros

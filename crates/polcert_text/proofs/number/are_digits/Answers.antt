@@ -1,7 +1,5 @@
 use Rattle.std.proofs.Common.{◌≡◌, ℕ, ◌∙◌, ◌≤◌, List, [], ◌∷◌, length, arith}
-use Rattle.std.specs.List.{list_all}
-use Rattle.polcert_text.specs.Bytes.{is_digit}
-use Rattle.polcert_text.specs.Lexemes.{are_digits}
+use Rattle.polcert_text.proofs.Common.{list_all, is_digit, are_digits}
 use Rattle.polcert_text.proofs.number.are_digits.Goals as goal
 
 some_digits : (bs : List ℕ) → 1 ≤ length bs → list_all is_digit bs ≡ are_digits bs

@@ -1,7 +1,6 @@
 use Rattle.std.proofs.Common.{◌≡◌, ◌∙◌, ◌<◌, ◌+◌, ◌*◌, ⊎_elim, length, get_or, ap, arith}
-use Rattle.polcert_text.specs.Steps.Classes.{class_of}
+use Rattle.polcert_text.proofs.Common.{class_of, Digit}
 use Rattle.polcert_text.proofs.Scanning.Tests.{digit_by}
-use Rattle.polcert_text.specs.declared.bytes.ByteClass.TheVariants.{Digit}
 use Rattle.polcert_text.proofs.Numbers.NumberLaws.{digit_from}
 use Rattle.polcert_text.proofs.Numbers.Plain.{after_more, below_or_at}
 use Rattle.polcert_text.proofs.number.digits_after.Goals as goal

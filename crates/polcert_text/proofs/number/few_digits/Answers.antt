@@ -1,8 +1,6 @@
 use Rattle.std.proofs.Common.{◌≡◌, ◌∙◌, ◌<◌, ◌+◌, ◌-◌, ◌*◌, ◌^◌, ◌++◌, ⊎_elim, length, take, drop, get_or, sym, ap, subst, arith}
-use Rattle.std.specs.Str.Parse.{digits_value}
-use Rattle.polcert_text.specs.Steps.Classes.{class_of}
+use Rattle.polcert_text.proofs.Common.{digits_value, class_of, Digit}
 use Rattle.polcert_text.proofs.Scanning.Tests.{digit_by}
-use Rattle.polcert_text.specs.declared.bytes.ByteClass.TheVariants.{Digit}
 use Rattle.polcert_text.proofs.Numbers.NumberLaws.{digit_from, digit_to}
 use Rattle.polcert_text.proofs.Numbers.FrontNumbers.{small_step}
 use Rattle.polcert_text.proofs.Numbers.Plain.{after_more, below_or_at}

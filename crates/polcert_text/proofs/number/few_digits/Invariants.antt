@@ -1,7 +1,5 @@
 use Rattle.std.proofs.Common.{◌≡◌, ℕ, List, ◌+◌, ◌-◌, ◌*◌, ◌^◌, ◌<◌, ◌≤◌, ◌++◌, take, drop, get_or}
-use Rattle.std.specs.Str.Parse.{digits_value}
-use Rattle.polcert_text.specs.Steps.Classes.{class_of}
-use Rattle.polcert_text.specs.declared.bytes.ByteClass.TheVariants.{Digit}
+use Rattle.polcert_text.proofs.Common.{digits_value, class_of, Digit}
 use Rattle.polcert_text.proofs.number.few_digits.Given as goal
 
 abbrev pub invariant-loop-count : goal.invariant-loop-count

@@ -1,7 +1,6 @@
 use Rattle.std.proofs.Common.{◌∙◌, sym, ap, arith}
 use Rattle.std.proofs.lemmas.List.{take_all}
-use Rattle.polcert_text.specs.Steps.Scan.{state_through}
-use Rattle.polcert_text.specs.declared.tokens.State.TheVariants.{Start}
+use Rattle.polcert_text.proofs.Common.{state_through, Start}
 use Rattle.polcert_text.proofs.Scanning.LexemeLaws.{state_step}
 use Rattle.polcert_text.proofs.Numbers.NumberLaws.{numeral_at_state}
 use Rattle.polcert_text.proofs.number.is_numeral.Goals as goal

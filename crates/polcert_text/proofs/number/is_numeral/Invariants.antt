@@ -1,6 +1,5 @@
 use Rattle.std.proofs.Common.{◌≡◌, take}
-use Rattle.polcert_text.specs.Steps.Scan.{state_through}
-use Rattle.polcert_text.specs.declared.tokens.State.TheVariants.{Start}
+use Rattle.polcert_text.proofs.Common.{state_through, Start}
 use Rattle.polcert_text.proofs.number.is_numeral.Given as goal
 
 abbrev pub invariant-loop-byte : goal.invariant-loop-byte

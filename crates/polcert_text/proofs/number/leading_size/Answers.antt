@@ -1,6 +1,5 @@
 use Rattle.std.proofs.Common.{◌∙◌, ◌*◌, ◌^◌, ◌++◌, min, take, ap, arith}
-use Rattle.std.specs.Str.Parse.{digits_value}
-use Rattle.polcert_text.specs.Steps.Scaling.{cap}
+use Rattle.polcert_text.proofs.Common.{digits_value, cap}
 use Rattle.polcert_text.proofs.Numbers.SizeLaws.{scaled_none}
 use Rattle.polcert_text.proofs.number.leading_size.Goals as goal
 

@@ -1,5 +1,5 @@
 use Rattle.std.proofs.Common.{◌≡◌, ◌≤◌, min, take}
-use Rattle.std.specs.Str.Parse.{digits_value}
+use Rattle.polcert_text.proofs.Common.{digits_value}
 use Rattle.polcert_text.proofs.number.number_up_to.Given as goal
 
 abbrev pub invariant-loop-digit : goal.invariant-loop-digit

@@ -1,9 +1,5 @@
 use Rattle.std.proofs.Common.{◌≡◌, ◌∙◌, ◌+◌, ◌-◌, ◌<◌, ◌++◌, [], min, true, length, take, drop, take_all, ⊎_elim, refl, sym, ap, arith}
-use Rattle.std.proofs.lemmas.List.{take_rest}
-use Rattle.std.specs.List.{list_all, list_any}
-use Rattle.std.specs.Str.Parse.{digits_value}
-use Rattle.polcert_text.specs.Bytes.{is_digit}
-use Rattle.polcert_text.specs.Steps.Scaling.{is_nonzero}
+use Rattle.polcert_text.proofs.Common.{take_rest, list_all, list_any, digits_value, is_digit, is_nonzero}
 use Rattle.polcert_text.proofs.Numbers.Plain.{IsPlain, plain_measures, digits_at, at_or_after}
 use Rattle.polcert_text.proofs.Numbers.PlainWhole.{whole_is_plain}
 use Rattle.polcert_text.proofs.number.plain_size.Goals as goal

@@ -1,5 +1,5 @@
 use Rattle.std.proofs.Common.{subst}
-use Rattle.polcert_text.specs.Steps.Scaling.{Measures}
+use Rattle.polcert_text.proofs.Common.{Measures}
 use Rattle.polcert_text.proofs.Numbers.SignedLaws.{no_exact}
 use Rattle.polcert_text.proofs.number.scaled_of.Goals as goal
 

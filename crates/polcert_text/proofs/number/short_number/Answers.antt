@@ -1,5 +1,5 @@
 use Rattle.std.proofs.Common.{◌≡◌, ◌∙◌, ◌-◌, [], take, take_all, refl, ap, arith}
-use Rattle.std.specs.Str.Parse.{digits_value}
+use Rattle.polcert_text.proofs.Common.{digits_value}
 use Rattle.polcert_text.proofs.Scanning.Tests.{digit_by}
 use Rattle.polcert_text.proofs.Numbers.FrontNumbers.{all_of_each, some_digits}
 use Rattle.polcert_text.proofs.number.short_number.Goals as goal

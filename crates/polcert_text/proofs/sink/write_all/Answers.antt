@@ -1,5 +1,6 @@
 use Rattle.std.proofs.Common.{rules, arith, refl}
-use Rattle.std.proofs.lemmas.List.{take_rest, length-drop}
+use Rattle.polcert_text.proofs.Common.{take_rest}
+use Rattle.std.proofs.lemmas.List.{length-drop}
 use Rattle.polcert_text.specs.Sink.{nothing}
 use Rattle.polcert_text.proofs.Printing.Taking.{took_more, took_front, on_err}
 use Rattle.polcert_text.proofs.sink.write_all.Goals as goal

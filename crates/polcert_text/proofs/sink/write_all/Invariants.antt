@@ -1,5 +1,5 @@
 use Rattle.std.proofs.Common.{length, take, ◌-◌, ◌≡◌, ◌≤◌}
-use Rattle.polcert_text.specs.Sink.{Takes}
+use Rattle.polcert_text.proofs.Common.{Takes}
 use Rattle.polcert_text.proofs.sink.write_all.Given as goal
 
 abbrev pub invariant-loop-at : goal.invariant-loop-at

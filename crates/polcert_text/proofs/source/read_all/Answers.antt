@@ -1,6 +1,6 @@
 use Rattle.std.proofs.Common.{rules, arith, refl}
 use Rattle.std.proofs.lemmas.Grind.{common_steps}
-use Rattle.polcert_text.specs.Source.{nothing}
+use Rattle.polcert_text.proofs.Common.{nothing}
 use Rattle.polcert_text.proofs.Streams.Giving.{gave_more}
 use Rattle.polcert_text.proofs.source.read_all.Goals as goal
 

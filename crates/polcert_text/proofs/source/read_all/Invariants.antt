@@ -1,5 +1,5 @@
 use Rattle.std.proofs.Common.{length, ◌+◌, ◌-◌, ◌≡◌, ◌≤◌}
-use Rattle.polcert_text.specs.Source.{Gives}
+use Rattle.polcert_text.proofs.Common.{Gives}
 use Rattle.polcert_text.proofs.source.read_all.Given as goal
 
 abbrev pub invariant-loop-piece : goal.invariant-loop-piece

@@ -1,7 +1,6 @@
 use Rattle.std.proofs.Common.{length, ◌-◌, ◌≡◌, ◌≤◌, take}
-use Rattle.polcert_text.specs.Steps.Scan.{state_through, ContinuesWithDigits}
-use Rattle.polcert_text.specs.declared.tokens.State.{State}
-use Rattle.polcert_text.specs.declared.tokens.State.TheVariants.{Start}
+use Rattle.polcert_text.proofs.Common.{state_through, State, Start}
+use Rattle.polcert_text.specs.Steps.Scan.{ContinuesWithDigits}
 use Rattle.polcert_text.proofs.tokens.digits_end.Given as goal
 
 abbrev pub invariant-loop-at : goal.invariant-loop-at

@@ -1,5 +1,5 @@
 use Rattle.std.proofs.Common.{◌<◌, length, refl, arith}
-use Rattle.polcert_text.specs.declared.tokens.State.TheVariants.{Name}
+use Rattle.polcert_text.proofs.Common.{Name}
 use Rattle.polcert_text.specs.declared.tokens.TokenKind.TheVariants as kinds
 use Rattle.polcert_text.proofs.Scanning.Runs.{begins_name, ends_within}
 use Rattle.polcert_text.proofs.tokens.ended_name.Goals as goal

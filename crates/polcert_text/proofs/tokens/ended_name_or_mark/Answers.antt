@@ -1,6 +1,5 @@
 use Rattle.std.proofs.Common.{◌∙◌, sym, ap}
-use Rattle.polcert_text.specs.Steps.Scan.{state_after}
-use Rattle.polcert_text.specs.declared.tokens.State.TheVariants.{Start}
+use Rattle.polcert_text.proofs.Common.{state_after, Start}
 use Rattle.polcert_text.proofs.Scanning.Runs.{ended_mark}
 use Rattle.polcert_text.proofs.tokens.ended_name_or_mark.Goals as goal
 

@@ -1,7 +1,5 @@
 use Rattle.std.proofs.Common.{◌<◌, length, get_or, refl, arith}
-use Rattle.polcert_text.specs.Steps.Classes.{class_of}
-use Rattle.polcert_text.specs.declared.tokens.State.TheVariants.{Whole, Fraction}
-use Rattle.polcert_text.specs.declared.tokens.TokenKind.TheVariants.{Numeral}
+use Rattle.polcert_text.proofs.Common.{class_of, Whole, Fraction, Numeral}
 use Rattle.polcert_text.proofs.Scanning.Runs.{begins_whole, at_point, ends_within, ends_whole, ends_fraction}
 use Rattle.polcert_text.proofs.tokens.ended_numeral.Goals as goal
 

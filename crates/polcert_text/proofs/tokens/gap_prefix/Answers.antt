@@ -1,7 +1,6 @@
 use Rattle.std.proofs.Common.{◌∙◌, ◌<◌, ⊎_elim, length, ap, arith}
-use Rattle.std.proofs.lemmas.List.{length-drop, take_rest}
-use Rattle.polcert_text.specs.Steps.Classes.{class_of}
-use Rattle.polcert_text.specs.Steps.Scan.{gap_after}
+use Rattle.polcert_text.proofs.Common.{take_rest, class_of, gap_after}
+use Rattle.std.proofs.lemmas.List.{length-drop}
 use Rattle.polcert_text.proofs.Scanning.Runs.{gap_joined, in_between}
 use Rattle.polcert_text.proofs.Streams.StreamLaws.{skipped_step}
 use Rattle.polcert_text.proofs.tokens.gap_prefix.Goals as goal

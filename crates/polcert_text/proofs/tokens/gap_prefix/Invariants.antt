@@ -1,6 +1,5 @@
 use Rattle.std.proofs.Common.{◌≡◌, ◌-◌, ◌≤◌, length, take}
-use Rattle.polcert_text.specs.Steps.Scan.{gap_through}
-use Rattle.polcert_text.specs.declared.tokens.Gap.TheVariants.{Ended}
+use Rattle.polcert_text.proofs.Common.{gap_through, Ended}
 use Rattle.polcert_text.proofs.tokens.gap_prefix.Given as goal
 
 abbrev pub invariant-loop-at : goal.invariant-loop-at

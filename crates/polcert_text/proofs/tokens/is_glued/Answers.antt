@@ -1,5 +1,5 @@
 use Rattle.std.proofs.Common.{◌∙◌, not, ap, sym, arith}
-use Rattle.polcert_text.specs.Cut.{is_glued}
+use Rattle.polcert_text.proofs.Common.{is_glued}
 use Rattle.polcert_text.proofs.Numbers.FrontNumbers.{blank_after}
 use Rattle.polcert_text.proofs.tokens.is_glued.Goals as goal
 

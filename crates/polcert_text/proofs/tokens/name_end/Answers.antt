@@ -1,5 +1,5 @@
 use Rattle.std.proofs.Common.{◌<◌, length, refl, sym, arith}
-use Rattle.polcert_text.specs.declared.tokens.State.TheVariants.{Name}
+use Rattle.polcert_text.proofs.Common.{Name}
 use Rattle.polcert_text.proofs.Scanning.LexemeLaws.{state_step}
 use Rattle.polcert_text.proofs.tokens.name_end.Goals as goal
 

@@ -1,6 +1,5 @@
 use Rattle.std.proofs.Common.{length, ◌-◌, ◌≡◌, ◌≤◌, take}
-use Rattle.polcert_text.specs.Steps.Scan.{state_through}
-use Rattle.polcert_text.specs.declared.tokens.State.TheVariants.{Start, Name}
+use Rattle.polcert_text.proofs.Common.{state_through, Start, Name}
 use Rattle.polcert_text.proofs.tokens.name_end.Given as goal
 
 abbrev pub invariant-loop-at : goal.invariant-loop-at

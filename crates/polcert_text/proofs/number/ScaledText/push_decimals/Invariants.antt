@@ -1,5 +1,5 @@
 use Rattle.std.proofs.Common.{◌≡◌, ◌+◌, ◌^◌, ◌<◌, ◌≤◌, ◌++◌, length}
-use Rattle.polcert_text.specs.Millionths.{decimals}
+use Rattle.polcert_text.proofs.Common.{decimals}
 use Rattle.polcert_text.proofs.number.ScaledText.push_decimals.Given as goal
 
 abbrev pub invariant-loop-rest : goal.invariant-loop-rest

@@ -1,5 +1,5 @@
 use Rattle.std.proofs.Common.{◌/◌, ◌≤◌, length, length-append, decimal, ap, arith}
-use Rattle.std.proofs.lemmas.Fmt.{length-decimal-le}
+use Rattle.polcert_text.proofs.Common.{length-decimal-le}
 use Rattle.polcert_text.proofs.number.ScaledText.push_unsigned.Goals as goal
 
 pub push_fraction-requires-clause-room : goal.push_fraction-requires-clause-room

@@ -1,5 +1,5 @@
 use Rattle.std.proofs.Common.{ℕ, List, ◌≤◌, ◌++◌, take}
-use Rattle.polcert_text.specs.Steps.Scaling.{cap, IsScaled}
+use Rattle.polcert_text.proofs.Common.{cap, IsScaled}
 use Rattle.polcert_text.proofs.number.Scaling.after_digits.Given as goal
 
 abbrev pub invariant-loop-digit : goal.invariant-loop-digit

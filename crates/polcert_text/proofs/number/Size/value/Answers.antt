@@ -2,8 +2,7 @@ use Rattle.std.proofs.Common.{◌≡◌, ◌∙◌, sym, ap, subst}
 use Rattle.std.proofs.lemmas.Int.{to_z-of_z}
 use mir.Val.{SFits, to_z, of_z}
 use mir.Syntax.{w64}
-use Rattle.polcert_text.specs.Numbers.{signed, IsRounded}
-use Rattle.polcert_text.specs.Steps.Scaling.{rounded, is_away}
+use Rattle.polcert_text.proofs.Common.{signed, IsRounded, rounded, is_away}
 use Rattle.polcert_text.proofs.Numbers.SignedLaws.{rounded_signed}
 use Rattle.polcert_text.proofs.number.Size.value.Goals as goal
 

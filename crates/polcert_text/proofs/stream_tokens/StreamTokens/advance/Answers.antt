@@ -1,5 +1,5 @@
 use Rattle.std.proofs.Common.{◌∙◌, ap, sym, subst}
-use Rattle.polcert_text.specs.Steps.Streaming.{StopsRightly}
+use Rattle.polcert_text.proofs.Common.{StopsRightly}
 use Rattle.polcert_text.proofs.Streams.StreamStops.{stopped_answers}
 use Rattle.polcert_text.proofs.stream_tokens.StreamTokens.advance.Goals as goal
 

@@ -1,5 +1,5 @@
 use Rattle.std.proofs.Common.{refl}
-use Rattle.polcert_text.specs.Reading.{lexeme_of}
+use Rattle.polcert_text.proofs.Common.{lexeme_of}
 use Rattle.polcert_text.specs.Steps.Streaming.{borrowed_lexeme}
 use Rattle.polcert_text.proofs.Streams.StreamStops.{end_as, fault_as}
 use Rattle.polcert_text.proofs.stream_tokens.StreamTokens.next_token.Goals as goal

@@ -1,8 +1,6 @@
 use Rattle.std.proofs.Common.{◌≡◌, ◌∙◌, ◌++◌, ℕ, List, length, None, ap, sym, subst, refl, arith}
-use Rattle.polcert_text.specs.Cut.{IsFaultAt}
-use Rattle.polcert_text.specs.Reading.{IsReadAt, lexeme_of}
-use Rattle.polcert_text.specs.Steps.Streaming.{IsSeen, StopsRightly}
-use Rattle.polcert_text.specs.Stream.{visible, skip}
+use Rattle.polcert_text.proofs.Common.{IsFaultAt, lexeme_of, IsSeen, StopsRightly, visible, skip}
+use Rattle.polcert_text.specs.Reading.{IsReadAt}
 use Rattle.polcert_text.proofs.Streams.StreamLaws.{tail_of}
 use Rattle.polcert_text.proofs.Streams.StreamTakes.{gives_end, few_bytes, token_given, fault_given, seen_more, fails_after, ended_as, given_as}
 use Rattle.polcert_text.proofs.stream_tokens.StreamTokens.take_token.Goals as goal

@@ -1,5 +1,5 @@
 use Rattle.std.proofs.Common.{length, ◌-◌, take}
-use Rattle.polcert_text.specs.Steps.ScanOf.{IsScanOf}
+use Rattle.polcert_text.proofs.Common.{IsScanOf}
 use Rattle.polcert_text.proofs.tokens.LexemeScan.scan_over.Given as goal
 
 abbrev pub invariant-loop-scan : goal.invariant-loop-scan

@@ -1,7 +1,6 @@
 use Rattle.std.proofs.Common.{◌∙◌, take, sym, refl, subst}
-use Rattle.polcert_text.specs.Steps.ScanOf.{IsScanOf}
+use Rattle.polcert_text.proofs.Common.{IsScanOf, Name, Whole, Fraction}
 use Rattle.polcert_text.specs.declared.tokens.TokenKind.TheVariants as kinds
-use Rattle.polcert_text.specs.declared.tokens.State.TheVariants.{Name, Whole, Fraction}
 use Rattle.polcert_text.proofs.Scanning.Runs.{scan_whole}
 use Rattle.polcert_text.proofs.tokens.LexemeScan.skip_run.Goals as goal
 

@@ -1,5 +1,5 @@
 use Rattle.std.proofs.Common.{◌∙◌, ◌+◌, ◌++◌, ◌∷◌, [], length-append, sym, ap, arith}
-use Rattle.polcert_text.specs.Steps.Scan.{kind_at}
+use Rattle.polcert_text.proofs.Common.{kind_at}
 use Rattle.polcert_text.proofs.Scanning.LexemeEnds.{after_some, after_none}
 use Rattle.polcert_text.proofs.Scanning.LexemeLaws.{state_fed, front_takes, front_keeps, kind_of-through}
 use Rattle.polcert_text.proofs.tokens.LexemeScan.with_byte.Goals as goal
