@@ -1,13 +1,10 @@
 -- A cell has the value of the last entry that covers it.
 use Rattle.std.proofs.Common.{◌≡◌, ◌∙◌, ℕ, pos, zero, suc, ◌+◌, ◌*◌, ◌<◌, Bool, true, false, cond, ◌&&◌, ⊎_elim, Option, Some, None, List, [], ◌∷◌, ◌++◌, reverse, mul-suc, refl, sym, ap, subst, arith}
 use Rattle.std.proofs.lemmas.List.{reverse-append, append_assoc, append-nil}
-use Rattle.std.specs.List.{list_any, find}
-use Rattle.polcert_cells.specs.declared.entries.Table.{Table}
-use Rattle.polcert_cells.specs.Preamble.{Preamble}
-use Rattle.polcert_cells.specs.declared.entries.Place.{Place}
+use Rattle.polcert_cells.proofs.Common.{list_any, Table, Preamble, Place, Entry, covers, fit_places}
+use Rattle.std.specs.List.{find}
 use Rattle.polcert_cells.specs.declared.entries.Body.TheVariants.{Uniform}
-use Rattle.polcert_cells.specs.declared.entries.Entry.{Entry}
-use Rattle.polcert_cells.specs.Cells.{covers, last_covering, weight, weight_of, reward, reward_of, value_or, IsLastCovering, last, none, fit_places, fits_place}
+use Rattle.polcert_cells.specs.Cells.{last_covering, weight, weight_of, reward, reward_of, value_or, IsLastCovering, last, none, fits_place}
 use Rattle.polcert_cells.specs.Meaning.{sum_below}
 use Rattle.polcert_cells.specs.declared.entries.Table.TheVariants.{Reward}
 use Rattle.polcert_cells.specs.Laws.{OneMoreWeight, OneMoreReward}

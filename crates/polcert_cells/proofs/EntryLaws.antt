@@ -1,19 +1,10 @@
 -- A lexeme stands for at most one element, and the lexemes of an item are at most one entry.
 use Rattle.std.proofs.Common.{◌≡◌, ◌∙◌, ℕ, ◌==◌, Bool, true, List, [], ◌∷◌, ◌++◌, length, map, drop, codes, ℤ, pos, refl, sym, ap, subst, arith}
-use Rattle.std.specs.List.{list_any}
-use Rattle.polcert_text.specs.Cut.{Lexeme}
-use Rattle.polcert_text.specs.declared.tokens.TokenKind.{TokenKind}
-use Rattle.polcert_text.specs.declared.tokens.TokenKind.TheVariants.{Name, Numeral, Colon}
-use Rattle.polcert_cells.specs.declared.entries.Table.{Table}
-use Rattle.polcert_cells.specs.Words.{IsWord}
-use Rattle.polcert_cells.specs.Numbers.{AreNumbers}
+use Rattle.polcert_cells.proofs.Common.{list_any, Lexeme, TokenKind, Name, Numeral, Colon, Table, IsWord, AreNumbers, Elements, StandsFor, Preamble, Place, Entry}
 use Rattle.polcert_cells.specs.Numbers as numbers
-use Rattle.polcert_cells.specs.Elements.{Elements, StandsFor}
-use Rattle.polcert_cells.specs.Preamble.{Preamble, is_mdp, dimensions}
-use Rattle.polcert_cells.specs.declared.entries.Place.{Place}
+use Rattle.polcert_cells.specs.Preamble.{is_mdp, dimensions}
 use Rattle.polcert_cells.specs.declared.entries.Body.{Body}
 use Rattle.polcert_cells.specs.declared.entries.Body.TheVariants.{Probabilities, Rewards}
-use Rattle.polcert_cells.specs.declared.entries.Entry.{Entry}
 use Rattle.polcert_cells.specs.Entry.{forms, cells_in, IsPlace, ArePlaces, none, more, IsBody, probabilities, rewards, uniform, identity, IsEntry}
 use Rattle.polcert_cells.proofs.Basics.{same_head, same_tail}
 use Rattle.polcert_cells.proofs.NumberLaws.{one_list}

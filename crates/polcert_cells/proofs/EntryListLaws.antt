@@ -1,14 +1,13 @@
 -- Entries as they are kept: what stands in lists that continue stays, and an entry that is put after them stands there.
 use Rattle.std.proofs.Common.{◌≡◌, ◌∙◌, ◌+◌, ◌-◌, List, [], ◌∷◌, ◌++◌, length, take, map, All, refl, sym, ap, subst, arith, length-append, append_assoc, take_all, rules}
-use Rattle.std.proofs.lemmas.List.{append-nil, drop-append-le, take-append-le, length-drop, map-append}
-use Rattle.std.proofs.lemmas.List.Elements.{All-head, All-tail, All-cons, All-nil, All-append, All-weaker}
+use Rattle.polcert_cells.proofs.Common.{map-append, All-head, All-tail, All-cons, All-nil, EntryStore, Entry, AreHeldIn}
+use Rattle.std.proofs.lemmas.List.{append-nil, drop-append-le, take-append-le, length-drop}
+use Rattle.std.proofs.lemmas.List.Elements.{All-append, All-weaker}
 use Rattle.polcert_cells.specs.declared.entries.BodyTag.{BodyTag}
 use Rattle.polcert_cells.specs.declared.entries.BodyTag.TheVariants.{Probabilities, Rewards}
 use Rattle.polcert_cells.specs.declared.entries.EntryHeader.{EntryHeader}
-use Rattle.polcert_cells.specs.declared.entries.EntryStore.{EntryStore}
 use Rattle.polcert_cells.specs.declared.entries.Span.{Span}
-use Rattle.polcert_cells.specs.declared.entries.Entry.{Entry}
-use Rattle.polcert_cells.specs.Steps.EntryLists.{part, places_of, body_in, entry_in, LiesIn, HasNumbers, IsWithin, Continues, GoOn, AreHeldIn, IsPut}
+use Rattle.polcert_cells.specs.Steps.EntryLists.{part, places_of, body_in, entry_in, LiesIn, HasNumbers, IsWithin, Continues, GoOn, IsPut}
 use Rattle.polcert_cells.specs.EntryRefs.{rewards_of, all_rewards}
 
 -- ---- a part of a list

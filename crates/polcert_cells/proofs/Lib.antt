@@ -1,3 +1,4 @@
+mod Common
 pub mod Basics
 pub mod NumberLaws
 pub mod EntryLaws

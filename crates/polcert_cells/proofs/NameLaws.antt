@@ -1,11 +1,10 @@
 -- Names kept as texts, and the list of their bytes.
 use Rattle.std.proofs.Common.{◌≡◌, ◌∙◌, ℕ, zero, suc, ◌+◌, Bool, true, false, not, ◌||◌, List, [], ◌∷◌, ◌++◌, map, position, bytes_eq, Some, refl, ap, subst, arith, slice_get, string_bytes, cond, String, if◌then◌else◌, rules}
-use Rattle.std.specs.List.{list_any, position_or_len, AllByRecursion, IsDistinct}
-use Rattle.std.proofs.lemmas.List.{map-append, length-map}
+use Rattle.polcert_cells.proofs.Common.{list_any, map-append, length-map, bytes_eq-Decides}
+use Rattle.std.specs.List.{position_or_len, AllByRecursion, IsDistinct}
 use Rattle.std.proofs.lemmas.Bool.{lt-ltb}
 use Rattle.std.proofs.lemmas.Map.Keys.{IsDistinct-head, IsDistinct-tail}
 use Rattle.std.proofs.lemmas.Option.{slice_get_within}
-use Rattle.std.proofs.lemmas.Slice.Eq.{bytes_eq-Decides}
 use Rattle.polcert_cells.proofs.Basics.{true≢false}
 use Rattle.std.specs.String.{string_eq}
 use Rattle.indexmap.proofs.SetLemmas.{set_all_distinct}

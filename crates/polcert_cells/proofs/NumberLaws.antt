@@ -3,11 +3,10 @@ use Rattle.std.proofs.Common.{◌≡◌, ◌∙◌, ℕ, suc, ◌*◌, ◌<◌, 
 use Rattle.std.proofs.lemmas.Int.{ints}
 use Rattle.std.proofs.Math.Nat.{mul-le-mul_right, one-le-pow}
 use Rattle.std.proofs.Math.IntN.{pos-*ℤ-pos, negsuc-*ℤ-pos}
-use Rattle.polcert_text.specs.Cut.{Lexeme}
+use Rattle.polcert_cells.proofs.Common.{Lexeme, TokenKind, Numeral, AreNumbers}
 use Rattle.polcert_text.specs.Numbers.{millionth, IsExact}
-use Rattle.polcert_text.specs.declared.tokens.TokenKind.{TokenKind}
-use Rattle.polcert_text.specs.declared.tokens.TokenKind.TheVariants.{Numeral, Plus, Minus}
-use Rattle.polcert_cells.specs.Numbers.{IsWhole, IsMillionths, AreNumbers, none, unsigned, plus, minus}
+use Rattle.polcert_text.specs.declared.tokens.TokenKind.TheVariants.{Plus, Minus}
+use Rattle.polcert_cells.specs.Numbers.{IsWhole, IsMillionths, none, unsigned, plus, minus}
 
 pub one_whole : (l : Lexeme) (m n : ℕ) → IsWhole l m → IsWhole l n → m ≡ n
 one_whole l m n a b = sym a.value ∙ b.value

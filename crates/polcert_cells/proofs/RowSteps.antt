@@ -1,16 +1,14 @@
 -- The steps of a walk over a row that is borrowed.
 use Rattle.std.proofs.Common.{◌≡◌, ◌∙◌, ℕ, zero, suc, ◌+◌, ◌*◌, ◌<◌, ◌≤◌, ⊎_elim, slice_index, Option, Some, None, List, [], ◌∷◌, length, get_or, refl, sym, ap, arith, add-one, subst, Bor}
 use Rattle.std.specs.List.{slice_get}
-use Rattle.polcert_cells.specs.declared.elements.Cell.{Cell}
+use Rattle.polcert_cells.proofs.Common.{Cell, weight_at, scaled_cells, IsRow, cases_lt}
 use Rattle.polcert_cells.specs.declared.cells.Row.{Row}
 use Rattle.polcert_cells.specs.declared.cells.Row.TheVariants.{Sparse, Filled, Scaled, Single}
 use Rattle.polcert_cells.specs.declared.cells.Step.{Step}
 use Rattle.polcert_cells.specs.Cursors.{IsNext}
-use Rattle.polcert_cells.specs.Sparse.{weight_at, scaled_cells, IsRow}
 use Rattle.polcert_cells.specs.BorrowedRows.{AreWeights, IsRowOf, IsStep, after_cells}
 use Rattle.polcert_cells.proofs.SparseLaws.{Climbs, climbs_from, weight_head, weight_tail, weight_below, weight_beyond}
 use Rattle.polcert_cells.proofs.ScaledRows.{scaled_weight}
-use Rattle.std.proofs.lemmas.Bool.{cases_lt}
 use Rattle.std.proofs.lemmas.List.{get_or_past}
 
 after_low : (low n : ℕ) (xs : List Cell) (k : ℕ) → Climbs low n xs → low ≤ after_cells low xs k

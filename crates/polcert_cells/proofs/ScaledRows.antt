@@ -1,8 +1,6 @@
 -- Rows whose weights are numbers times a scale.
 use Rattle.std.proofs.Common.{◌≡◌, ◌∙◌, ℕ, zero, suc, ◌+◌, ◌*◌, ◌<◌, Bool, true, false, cond, ltb, List, [], ◌∷◌, length, slice_index, refl, sym, subst, arith}
-use Rattle.std.proofs.lemmas.Bool.Decides.{nat_tests}
-use Rattle.polcert_cells.specs.declared.elements.Cell.{Cell}
-use Rattle.polcert_cells.specs.Sparse.{weight_at, scaled_cells, IsRow}
+use Rattle.polcert_cells.proofs.Common.{nat_tests, Cell, weight_at, scaled_cells, IsRow}
 use Rattle.polcert_cells.proofs.SparseLaws.{Climbs, cell_of, climbs_lower, sparse_from, weight_head, weight_tail, weight_below}
 
 pub climbs_scaled : (scale k : ℕ) (ns : List ℕ) → Climbs k (k + length ns) (scaled_cells scale k ns)

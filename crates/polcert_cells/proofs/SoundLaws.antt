@@ -1,16 +1,13 @@
 -- Facts of tables, rewards and starts that printing and reading a model rest on.
 use Rattle.std.proofs.Common.{◌≡◌, ◌∙◌, ℕ, ◌*◌, ◌<◌, ◌≤◌, true, List, get_or, ℤ, unsigned_abs, FitsSigned, w64, length, refl, sym, arith}
-use Rattle.std.specs.List.{range_with_len}
+use Rattle.polcert_cells.proofs.Common.{range_with_len, Table, Entry, fit_places, covers, count_of, Preamble, equal_weights}
 use Rattle.std.proofs.lemmas.List.Recursion.{is_count_by}
 use Rattle.std.proofs.lemmas.List.FromFn.{get_or-map-range_with_len, length-range_with_len}
 use Rattle.std.proofs.lemmas.Int.{fits_signed_from_abs}
 use Rattle.polcert_text.specs.Numbers.{largest}
-use Rattle.polcert_cells.specs.declared.entries.Table.{Table}
-use Rattle.polcert_cells.specs.declared.entries.Entry.{Entry}
-use Rattle.polcert_cells.specs.Cells.{is_table, fit_places, covers}
-use Rattle.polcert_cells.specs.Elements.{count_of, most_observations}
-use Rattle.polcert_cells.specs.Preamble.{Preamble, observed, rewarded}
-use Rattle.polcert_cells.specs.Start.{equal_weights}
+use Rattle.polcert_cells.specs.Cells.{is_table}
+use Rattle.polcert_cells.specs.Elements.{most_observations}
+use Rattle.polcert_cells.specs.Preamble.{observed, rewarded}
 use Rattle.polcert_cells.proofs.Basics.{and_true}
 
 -- where few elements are observed, few are what a reward depends on

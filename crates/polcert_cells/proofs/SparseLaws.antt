@@ -1,9 +1,7 @@
 -- Sparse rows, cell by cell.
 use Rattle.std.proofs.Common.{◌≡◌, ◌∙◌, ℕ, suc, ◌+◌, ◌<◌, ◌≤◌, ⊎_elim, cond, eqb, List, [], ◌∷◌, ◌++◌, All, refl, sym, ap, subst, arith}
-use Rattle.std.proofs.lemmas.Bool.{cases_lt}
-use Rattle.std.proofs.lemmas.List.Elements.{All-nil, All-cons, All-head, All-tail}
-use Rattle.polcert_cells.specs.declared.elements.Cell.{Cell}
-use Rattle.polcert_cells.specs.Sparse.{weight_at, AreRising, IsSparse, IsRow}
+use Rattle.polcert_cells.proofs.Common.{cases_lt, All-nil, All-cons, All-head, All-tail, Cell, weight_at, IsRow}
+use Rattle.polcert_cells.specs.Sparse.{AreRising, IsSparse}
 
 abbrev pub cell_of : ℕ → ℕ → Cell
 cell_of column weight = record { column = column; weight = weight }

@@ -1,14 +1,9 @@
 -- The lexemes after `start` give at most one start.
 use Rattle.std.proofs.Common.{◌≡◌, ◌∙◌, ℕ, suc, ◌==◌, true, List, [], ◌∷◌, length, map, codes, ℤ, pos, refl, sym, ap, arith}
 use Rattle.std.specs.List.{AllZip}
-use Rattle.polcert_text.specs.Cut.{Lexeme}
-use Rattle.polcert_text.specs.declared.tokens.TokenKind.{TokenKind}
-use Rattle.polcert_text.specs.declared.tokens.TokenKind.TheVariants.{Name, Numeral, Colon}
-use Rattle.polcert_cells.specs.Words.{IsWord, IsName, is_reserved, topic_of}
-use Rattle.polcert_cells.specs.Numbers.{AreNumbers}
+use Rattle.polcert_cells.proofs.Common.{Lexeme, TokenKind, Name, Numeral, Colon, IsWord, is_reserved, topic_of, AreNumbers, Elements, count_of, StandsFor, StartWeights, shares_of, equal_weights, IsStartBody, uniform, name, number, only_state, probabilities, IsStart}
+use Rattle.polcert_cells.specs.Words.{IsName}
 use Rattle.polcert_cells.specs.Numbers as numbers
-use Rattle.polcert_cells.specs.Elements.{Elements, count_of, StandsFor}
-use Rattle.polcert_cells.specs.Start.{StartWeights, shares_of, equal_weights, IsStartBody, uniform, name, number, only_state, probabilities, IsStart}
 use Rattle.polcert_cells.proofs.Basics.{true≢false, one_some}
 use Rattle.polcert_cells.proofs.NumberLaws.{one_whole, one_list}
 use Rattle.polcert_cells.proofs.EntryLaws.{one_element, pos_once}

@@ -1,13 +1,11 @@
 -- A start has a share for each state, and the shares add up to their total, which is above 0 and at most one.
 use Rattle.std.proofs.Common.{◌≡◌, ◌∙◌, ℕ, zero, suc, ◌+◌, ◌<◌, ◌≤◌, ◌==◌, Bool, true, false, cond, ◌⊎◌, ⊎_elim, Some, List, [], ◌∷◌, length, map, sum, not, refl, sym, ap, subst, arith}
-use Rattle.std.proofs.lemmas.List.{length-map}
+use Rattle.polcert_cells.proofs.Common.{length-map, nat_tests, range_with_len, Lexeme, Elements, count_of, StartWeights, equal_weights, shares_of, IsStartBody, uniform, name, number, only_state, probabilities, IsStart}
 use Rattle.std.proofs.lemmas.List.FromFn.{length-map-range_with_len}
 use Rattle.std.proofs.lemmas.List.Sums.{sum_by-cons, sum-map}
-use Rattle.std.proofs.lemmas.Bool.Decides.{nat_tests}
-use Rattle.std.specs.List.{range_with_len, count_by}
-use Rattle.polcert_text.specs.Cut.{Lexeme}
-use Rattle.polcert_cells.specs.Elements.{Elements, count_of, number_of, most_states}
-use Rattle.polcert_cells.specs.Start.{StartWeights, equal_weights, shares_of, is_level, is_positive, included, excluded, IsStartBody, uniform, name, number, only_state, probabilities, IsStart, plain, include, exclude}
+use Rattle.std.specs.List.{count_by}
+use Rattle.polcert_cells.specs.Elements.{number_of, most_states}
+use Rattle.polcert_cells.specs.Start.{is_level, is_positive, included, excluded, plain, include, exclude}
 
 -- shares of n states
 pub record IsFair (n : ℕ) (shares : StartWeights) : Type 0 where

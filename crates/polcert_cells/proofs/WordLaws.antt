@@ -1,8 +1,7 @@
 -- No reserved word ends in a digit.
 use Rattle.std.proofs.Common.{◌≡◌, ◌-◌, ℕ, Bool, true, false, List, length, get_or, bytes_eq, arith}
 use Rattle.std.specs.Char.{is_ascii_digit}
-use Rattle.std.proofs.lemmas.Slice.Eq.{bytes_eq-Decides}
-use Rattle.polcert_cells.specs.Words.{topic_of, is_reserved}
+use Rattle.polcert_cells.proofs.Common.{bytes_eq-Decides, topic_of, is_reserved}
 use Rattle.polcert_cells.proofs.Basics.{true≢false}
 
 abbrev ends_in_digit : List ℕ → Bool

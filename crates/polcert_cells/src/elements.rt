@@ -165,8 +165,17 @@ impl Names {
     {
         match self.guessed_number(name) {
             Some(number) => Some(number),
-            None => self.set.get_index_of(text_of(name)),
+            None => self.searched_number(name),
         }
+    }
+
+    /// Does the same without a guess.
+    #[inline(never)]
+    fn searched_number(&self, name: &[u8]) -> Option<usize>
+        requires { IsAscii name.now }
+        ensures { result ≡ position (bytes_eq name.now) self.now }
+    {
+        self.set.get_index_of(text_of(name))
     }
 
     /// Returns the number that is guessed for the name, if it is right.

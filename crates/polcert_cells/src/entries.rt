@@ -3,7 +3,7 @@ ghost use Rattle.std.specs.Prelude.{◌≡◌, ◌<◌, ◌++◌, ◌∷◌, [],
 ghost use Rattle.std.specs.Prelude.{◌+◌, Some, List, IfOk};
 ghost use Rattle.polcert_cells.specs.Steps.EntryLists.{part, entry_in, places_in, body_in, HasNumbers};
 ghost use Rattle.polcert_cells.specs.Steps.EntryLists.{IsWithin, Continues, GoOn, IsPut};
-ghost use Rattle.polcert_cells.specs.EntryRefs.{entry_of, rewards_of, all_rewards, AreRewardsFrom};
+ghost use Rattle.polcert_cells.specs.EntryRefs.{entry_of, body_of, rewards_of, all_rewards, AreRewardsFrom};
 
 use std::alloc::{AllocError, Global};
 use std::fmt;
@@ -205,6 +205,14 @@ impl Places {
         self.count += 1;
         Ok(())
     }
+
+    /// Removes all places.
+    #[inline(always)]
+    pub fn clear(&mut self)
+        ensures { self.new ≡ [] }
+    {
+        self.count = 0;
+    }
 }
 
 /// What fills the cells that an entry's places leave open, row after row: numbers in millionths, or a word.
@@ -220,12 +228,41 @@ pub enum Body {
     Identity,
 }
 
+impl Body {
+    /// Borrows the body.
+    #[inline(always)]
+    pub fn as_ref(&self) -> BodyRef<'_>
+        ensures { body_of result ≡ self.now }
+    {
+        match self {
+            Body::Probabilities(numbers) => BodyRef::Probabilities(numbers.as_slice()),
+            Body::Rewards(numbers) => BodyRef::Rewards(numbers.as_slice()),
+            Body::Uniform => BodyRef::Uniform,
+            Body::Identity => BodyRef::Identity,
+        }
+    }
+}
+
 /// An entry: its table, the first indices of the cells that it covers, and what these cells hold.
 #[derive(Debug, Drop)]
 pub struct Entry {
     pub table: Table,
     pub places: Places,
     pub body: Body,
+}
+
+impl Entry {
+    /// Borrows the entry.
+    #[inline(always)]
+    pub fn as_ref(&self) -> EntryRef<'_>
+        ensures { entry_of result ≡ self.now }
+    {
+        EntryRef {
+            table: self.table,
+            places: self.places.as_slice(),
+            body: self.body.as_ref(),
+        }
+    }
 }
 
 /// Where a part of a list begins, and where it ends.
@@ -257,7 +294,7 @@ pub(crate) struct EntryHeader {
     pub numbers: Span,
 }
 
-/// What fills the cells that an entry's places leave open, lent from the list of entries.
+/// What fills the cells that an entry's places leave open, borrowed.
 #[derive(Clone, Copy)]
 pub enum BodyRef<'a> {
     Probabilities(&'a [u32]),
@@ -266,7 +303,7 @@ pub enum BodyRef<'a> {
     Identity,
 }
 
-/// An entry that is borrowed from the list of entries.
+/// An entry whose places and body are borrowed.
 #[derive(Clone, Copy)]
 pub struct EntryRef<'a> {
     pub table: Table,
@@ -296,16 +333,16 @@ impl EntryStore {
     /// Puts the places and numbers of an entry after the others, and says where they stand. If memory runs out
     /// some may stand there.
     #[inline(always)]
-    fn put(&mut self, entry: &Entry) -> Result<EntryHeader, AllocError>
+    fn put(&mut self, entry: EntryRef<'_>) -> Result<EntryHeader, AllocError>
         ensures go_on { GoOn self.old self.new }
         ensures within { IfOk result (IsWithin self.new) }
-        ensures entry { IfOk result (λ head. entry_in self.new head ≡ entry.now) }
+        ensures entry { IfOk result (λ head. entry_in self.new head ≡ entry_of entry.entry) }
         ensures rewards { OnOk result
-            (self.new.rewards.items ≡ self.old.rewards.items ++ rewards_of entry.now.body) }
+            (self.new.rewards.items ≡ self.old.rewards.items ++ rewards_of (body_of entry.entry.body)) }
     {
-        let places = put(&mut self.places, entry.places.as_slice())?;
+        let places = put(&mut self.places, entry.places)?;
         let count = in_a_byte(entry.places.len())?;
-        let (filling, numbers) = self.put_body(&entry.body)?;
+        let (filling, numbers) = self.put_body(entry.body)?;
         Ok(EntryHeader {
             table: entry.table,
             filling,
@@ -317,25 +354,25 @@ impl EntryStore {
 
     /// Puts the numbers of a body after the others.
     #[inline(always)]
-    fn put_body(&mut self, body: &Body) -> Result<(BodyTag, Span), AllocError>
+    fn put_body(&mut self, body: BodyRef<'_>) -> Result<(BodyTag, Span), AllocError>
         ensures places { self.new.places ≡ self.old.places }
         ensures go_on { GoOn self.old self.new }
         ensures within { IfOk result (λ head. HasNumbers self.new head.0 head.1) }
-        ensures body { IfOk result (λ head. body_in self.new head.0 head.1 ≡ body.now) }
+        ensures body { IfOk result (λ head. body_in self.new head.0 head.1 ≡ body_of body.entry) }
         ensures rewards { OnOk result
-            (self.new.rewards.items ≡ self.old.rewards.items ++ rewards_of body.now) }
+            (self.new.rewards.items ≡ self.old.rewards.items ++ rewards_of (body_of body.entry)) }
     {
         match body {
-            Body::Probabilities(numbers) => {
-                let numbers = put(&mut self.probabilities, numbers.as_slice())?;
+            BodyRef::Probabilities(numbers) => {
+                let numbers = put(&mut self.probabilities, numbers)?;
                 Ok((BodyTag::Probabilities, numbers))
             }
-            Body::Rewards(numbers) => {
-                let numbers = put(&mut self.rewards, numbers.as_slice())?;
+            BodyRef::Rewards(numbers) => {
+                let numbers = put(&mut self.rewards, numbers)?;
                 Ok((BodyTag::Rewards, numbers))
             }
-            Body::Uniform => Ok((BodyTag::Uniform, NOTHING)),
-            Body::Identity => Ok((BodyTag::Identity, NOTHING)),
+            BodyRef::Uniform => Ok((BodyTag::Uniform, NOTHING)),
+            BodyRef::Identity => Ok((BodyTag::Identity, NOTHING)),
         }
     }
 
@@ -414,13 +451,21 @@ impl Entries {
     }
 
     /// Puts the entry after the others. If memory runs out the list stays as it was.
-    #[inline(always)]
     pub fn push(&mut self, entry: Entry) -> Result<(), AllocError>
         ensures ok { OnOk result (self.new ≡ self.old ++ entry ∷ []) }
         ensures err { OnErr result (self.new ≡ self.old) }
     {
+        self.push_ref(entry.as_ref())
+    }
+
+    /// Puts a copy of the entry after the others. If memory runs out the list stays as it was.
+    #[inline(always)]
+    pub fn push_ref(&mut self, entry: EntryRef<'_>) -> Result<(), AllocError>
+        ensures ok { OnOk result (self.new ≡ self.old ++ entry_of entry.entry ∷ []) }
+        ensures err { OnErr result (self.new ≡ self.old) }
+    {
         let count = self.pools.rewards.len();
-        match put_entry(&mut self.heads, &mut self.pools, &entry) {
+        match put_entry(&mut self.heads, &mut self.pools, entry) {
             Ok(()) => Ok(()),
             Err(error) => {
                 self.pools.rewards.truncate(count);
@@ -455,10 +500,11 @@ impl Entries {
 fn put_entry(
     heads: &mut Vec<EntryHeader>,
     pools: &mut EntryStore,
-    entry: &Entry,
+    entry: EntryRef<'_>,
 ) -> Result<(), AllocError>
     ensures go_on { GoOn pools.old pools.new }
-    ensures ok { OnOk result (IsPut heads.old.items heads.new.items pools.old pools.new entry.now) }
+    ensures ok { OnOk result
+        (IsPut heads.old.items heads.new.items pools.old pools.new (entry_of entry.entry)) }
     ensures err { OnErr result (heads.new.items ≡ heads.old.items) }
 {
     let head = pools.put(entry)?;
