@@ -1,3 +1,4 @@
+mod Common
 pub mod Keyed
 pub mod Indexes
 pub mod RowLaws

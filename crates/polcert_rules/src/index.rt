@@ -234,6 +234,9 @@ pub(crate) fn rules_between(rules: &[Rule], low: u64, high: u64) -> &[Rule]
     ensures rising { IsRising result.now }
     ensures kept { (r : R) → Contains result.now r ↔ (Contains rules.now r × (low ≤ r.key) × (r.key < high)) }
 {
+    if none_below(rules, high) {
+        return &rules[..0];
+    }
     rules_before(rules_from(rules, low), high)
 }
 

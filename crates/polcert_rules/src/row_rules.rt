@@ -13,7 +13,7 @@ ghost use Rattle.polcert_rules.specs.Matching.{max_option};
 
 use crate::Rule;
 use crate::index::{
-    RuleSpan, TABLE, first_at, max_option, newest, next_place, place_of, rules_between,
+    RuleSpan, TABLE, first_at, max_option, newest, next_place, none_below, place_of, rules_between,
     rules_between_at, rules_from, some_begins, span, span_of,
 };
 use crate::named_noting::note_ends;
@@ -302,9 +302,12 @@ impl RowRules {
         ensures kept { (r : R) → Contains result.now r ↔ (Contains self.now.rules.items r × (low ≤ r.key)
             × (r.key < low + key_base ^ 2)) }
     {
-        let place = first.wrapping_mul(self.seconds).wrapping_add(second);
         let high = low + span(PLACES_LEFT);
         let rules = self.rules.as_slice();
+        if none_below(rules, high) {
+            return &rules[..0];
+        }
+        let place = first.wrapping_mul(self.seconds).wrapping_add(second);
         match self.spans.get(place) {
             Some(span) => rules_between_at(rules, low, high, *span),
             None => rules_between(rules, low, high),

@@ -1,15 +1,8 @@
 -- Building an index.
 use Rattle.std.proofs.Common.{◌≡◌, ◌∙◌, ℕ, zero, suc, ◌+◌, ◌<◌, ◌≤◌, ◌⊎◌, inl, inr, ⊎_elim, Bool, true, false, cond, eqb, max, Some, List, [], ◌∷◌, length, get_or, Contains, All, refl, sym, ap, subst, arith}
 use Rattle.std.specs.List.{slice_get}
-use Rattle.std.specs.List.Sorted.{IsPermutation, IsNonDecreasingBy}
-use Rattle.std.proofs.lemmas.Bool.Decides.{nat_tests}
-use Rattle.std.proofs.lemmas.List.Kept.{AllPairs-cons}
-use Rattle.std.proofs.lemmas.List.Elements.{All-nil, All-cons}
-use Rattle.std.proofs.lemmas.List.Sorted.{Contains-permutation, IsPermutation-sym}
-use Rattle.polcert_cells.specs.declared.entries.Entry.{Entry}
-use Rattle.polcert_rules.specs.declared.index.Rule.{Rule}
-use Rattle.polcert_rules.specs.Keys.{key_of}
-use Rattle.polcert_rules.specs.Steps.Newest.{IsRising, IsEntry, IsIndexOf, rules_from, newest_from, newest_of_each}
+use Rattle.polcert_rules.proofs.Common.{IsNonDecreasingBy, nat_tests, AllPairs-cons, All-nil, All-cons, Contains-permutation, IsPermutation-sym, Entry, Rule, key_of, IsRising, IsEntry, IsIndexOf, rules_from, newest_from, newest_of_each}
+use Rattle.std.specs.List.Sorted.{IsPermutation}
 
 -- ---- being one of a list, by recursion on it
 abbrev pub Among : Rule → List Rule → Type 0

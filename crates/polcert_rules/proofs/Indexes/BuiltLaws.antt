@@ -1,26 +1,14 @@
 -- Rows as they are built, action by action and state by state.
 use Rattle.std.proofs.Common.{◌≡◌, ◌∙◌, ℕ, ◌+◌, ◌-◌, ◌^◌, ◌<◌, ◌≤◌, ◌↔◌, Contains, ⊎_elim, List, [], ◌∷◌, ◌++◌, length, get_or, slice_index, slice_index_or, All, sym, ap, subst, arith, rules}
-use Rattle.std.proofs.lemmas.Bool.{cases_lt}
-use Rattle.std.proofs.lemmas.List.{length-append, get_or_append_left, get_or_default}
+use Rattle.polcert_rules.proofs.Common.{cases_lt, get_or_append_left, get_or_default, All-push, get_or_from_slice_get, Cell, Preamble, weight, IsSparse, IsRow, key_base, table_key, most_places, Rule, IsRising, IsIndexOf, zeros_of, others_of, others_in, IsWeighted, IsShapeOf, AreSound, IsKeptRow, Stays, AreLine, AreLines}
+use Rattle.std.proofs.lemmas.List.{length-append}
 use Rattle.std.proofs.Math.Seq.{get_or-append_seam}
-use Rattle.std.proofs.lemmas.List.Elements.{All-push}
-use Rattle.std.proofs.lemmas.Option.{get_or_from_slice_get}
-use Rattle.polcert_cells.specs.declared.elements.Cell.{Cell}
-use Rattle.polcert_cells.specs.Preamble.{Preamble}
-use Rattle.polcert_cells.specs.Cells.{weight}
-use Rattle.polcert_cells.specs.Sparse.{IsSparse, IsRow}
 use Rattle.polcert_cells.proofs.SparseLaws.{row_same}
 use Rattle.polcert_rules.specs.declared.rows.TableEntries.{TableEntries}
 use Rattle.polcert_rules.specs.declared.rows.WrongRow.{WrongRow}
-use Rattle.polcert_rules.specs.Keys.{key_base, table_key, most_places}
-use Rattle.polcert_rules.specs.declared.index.Rule.{Rule}
-use Rattle.polcert_rules.specs.Steps.Newest.{IsRising, IsIndexOf}
-use Rattle.polcert_rules.specs.Steps.Zeros.{zeros_of, others_of, others_in}
-use Rattle.polcert_cells.specs.Rows.{IsWeighted}
 use Rattle.polcert_rules.specs.RowTables.{IsProperRow, AreProperRows, IsFirstWrong}
-use Rattle.polcert_rules.specs.Steps.Shapes.{IsShapeOf, AreSound}
 use Rattle.polcert_rules.specs.Steps.Repeats.{IsAsBefore}
-use Rattle.polcert_rules.specs.Steps.Sources.{IsKeptRow, Stays, AreGiven, weights_at, HasScale, HasRows, AreLine, AreLines, IsFirstWrongIn}
+use Rattle.polcert_rules.specs.Steps.Sources.{AreGiven, weights_at, HasScale, HasRows, IsFirstWrongIn}
 use Rattle.polcert_rules.proofs.RowLaws.SumLaws.{sum_same}
 use Rattle.polcert_rules.proofs.RowLaws.SplitLaws.{split_is}
 use Rattle.polcert_rules.proofs.RowLaws.RepeatLaws.{as_named}

@@ -1,8 +1,6 @@
 -- The newest of rules that pass some test.
 use Rattle.std.proofs.Common.{◌≡◌, ℕ, ◌≤◌, ◌⊎◌, Option, Some, None, List, Contains, refl, ap, arith}
-use Rattle.polcert_rules.specs.declared.index.Rule.{Rule}
-use Rattle.polcert_rules.specs.Steps.Newest.{IsNewest}
-use Rattle.polcert_rules.specs.Matching.{max_option}
+use Rattle.polcert_rules.proofs.Common.{Rule, IsNewest, max_option}
 
 -- the greatest number of such rules
 abbrev pub IsGreatest : (Rule → Type 0) → Option ℕ → Type 0

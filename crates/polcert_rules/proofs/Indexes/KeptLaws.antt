@@ -1,32 +1,17 @@
 -- Rows that are kept, and what they are made of.
 use Rattle.std.proofs.Common.{◌≡◌, ◌∙◌, ℕ, zero, suc, ◌*◌, ◌<◌, ◌≤◌, ◌==◌, ◌↔◌, ⊎_elim, Bool, cond, eqb, IsTrue, Option, Some, List, [], ◌∷◌, ◌++◌, length, map, get_or, slice_index, All, refl, sym, ap, subst, arith, rules, tests}
 use Rattle.std.specs.Option.{option_map}
-use Rattle.std.proofs.lemmas.List.{map-append}
+use Rattle.polcert_rules.proofs.Common.{map-append, cases_lt, get_or_past, All-push, slice_get_within, slice_get-get_or, slice_get-map, get_or_from_slice_get, same_Some, Place, Body, Entry, one, Fills, Cell, Shape, RowOrigin, SharedRow, IsWithin, FitsShape, given, sum_below, scaled_cells, IsSparse, IsRow, given_at, IsFrom, IsWhole, AreKept, IsKeptRow, IsShared, IsAfter, Stays}
 use Rattle.std.specs.List.{slice_get}
 use Rattle.std.proofs.Math.Nat.{mul-le-mul_left, mul_comm}
-use Rattle.std.proofs.lemmas.Bool.{cases_lt}
-use Rattle.std.proofs.lemmas.List.{get_or_past}
-use Rattle.std.proofs.lemmas.List.Elements.{All-push, All-weaker}
-use Rattle.std.proofs.lemmas.Option.{slice_get_within, slice_get-get_or, slice_get-map, get_or_from_slice_get, same_Some}
-use Rattle.polcert_cells.specs.declared.entries.Place.{Place}
-use Rattle.polcert_cells.specs.declared.entries.Body.{Body}
-use Rattle.polcert_cells.specs.declared.entries.Entry.{Entry}
-use Rattle.polcert_cells.specs.Numbers.{one}
-use Rattle.polcert_cells.specs.Steps.Sound.{Fills}
-use Rattle.polcert_cells.specs.declared.elements.Cell.{Cell}
-use Rattle.polcert_rules.specs.declared.rows.Shape.{Shape}
-use Rattle.polcert_rules.specs.declared.row_store.RowOrigin.{RowOrigin}
+use Rattle.std.proofs.lemmas.List.Elements.{All-weaker}
 use Rattle.polcert_rules.specs.declared.row_store.RowOrigin.TheVariants.{Nothing, Even, Diagonal, Line}
-use Rattle.polcert_rules.specs.declared.row_store.SharedRow.{SharedRow}
 use Rattle.polcert_rules.specs.declared.row_store.RowStore.{RowStore}
-use Rattle.polcert_rules.specs.Steps.Given.{IsWithin, FitsShape, given_by, given}
-use Rattle.polcert_cells.specs.Meaning.{sum_below}
-use Rattle.polcert_cells.specs.Sparse.{scaled_cells, IsSparse, IsRow}
+use Rattle.polcert_rules.specs.Steps.Given.{given_by}
 use Rattle.polcert_cells.proofs.SparseLaws.{row_same}
 use Rattle.polcert_cells.proofs.ScaledRows.{scaled_row}
 use Rattle.polcert_rules.specs.Steps.Lists.{IsFullLine}
-use Rattle.polcert_rules.specs.Steps.Merging.{given_at}
-use Rattle.polcert_rules.specs.Steps.Sources.{source_of, IsFrom, IsWhole, AreKept, IsKeptRow, IsShared, IsSharedRow, IsAfter, Stays, is_proper}
+use Rattle.polcert_rules.specs.Steps.Sources.{source_of, IsSharedRow, is_proper}
 use Rattle.polcert_rules.proofs.RowLaws.SumLaws.{sum_is, sum_same}
 
 -- ---- lists

@@ -1,16 +1,11 @@
 -- Lists that stand one after another in one list.
 use Rattle.std.proofs.Common.{◌≡◌, ◌∙◌, ℕ, ◌+◌, ◌-◌, ◌≤◌, List, [], ◌∷◌, ◌++◌, length, map, All, refl, ap, subst, arith}
-use Rattle.std.proofs.lemmas.List.{append-nil, drop-append-le, take-append-le, length-drop, map-append, take_all}
+use Rattle.polcert_rules.proofs.Common.{map-append, All-head, All-tail, Part, part_in, row_in, scaled_cells, Cell, Sparse, Full, RowPart}
+use Rattle.std.proofs.lemmas.List.{append-nil, drop-append-le, take-append-le, length-drop, take_all}
 use Rattle.std.specs.List.{slice_range}
 use Rattle.std.proofs.Math.Seq.{drop-append_seam}
-use Rattle.std.proofs.lemmas.List.Elements.{All-head, All-tail}
-use Rattle.polcert_rules.specs.declared.row_store.Part.{Part}
-use Rattle.polcert_rules.specs.Steps.Lists.{part_in, LiesIn, cells_in, row_in, HasRoom, IsHeld}
-use Rattle.polcert_cells.specs.Sparse.{scaled_cells}
-use Rattle.polcert_cells.specs.declared.elements.Cell.{Cell}
+use Rattle.polcert_rules.specs.Steps.Lists.{LiesIn, cells_in, HasRoom, IsHeld}
 use Rattle.polcert_rules.specs.declared.rows.RowForm.{RowForm}
-use Rattle.polcert_rules.specs.declared.rows.RowForm.TheVariants.{Sparse, Full}
-use Rattle.polcert_rules.specs.declared.rows.RowPart.{RowPart}
 
 module _ {X : Type 0} (xs ys : List X) where
   part_stays : (p : Part) → LiesIn (length xs) p → part_in (xs ++ ys) p ≡ part_in xs p

@@ -1,11 +1,9 @@
 -- The newest rule is the one that the function of the rules gives.
 use Rattle.std.proofs.Common.{◌≡◌, ◌∙◌, ℕ, zero, suc, ◌+◌, ◌*◌, ◌^◌, Bool, true, false, ◌⊎◌, inl, inr, ⊎_elim, Option, Some, List, [], ◌∷◌, Contains, refl, ap, subst, arith}
 use Rattle.std.specs.Prelude.{◌||◌, ◌==◌}
-use Rattle.polcert_cells.specs.declared.entries.Place.{Place}
-use Rattle.polcert_rules.specs.declared.index.Rule.{Rule}
-use Rattle.polcert_rules.specs.Keys.{key_base, key_in, Fits}
-use Rattle.polcert_rules.specs.Steps.Newest.{IsNewest}
-use Rattle.polcert_rules.specs.Matching.{max_option, fits_key, newest_by, newest_in}
+use Rattle.polcert_rules.proofs.Common.{Place, Rule, key_base, key_in, IsNewest, max_option, newest_in}
+use Rattle.polcert_rules.specs.Keys.{Fits}
+use Rattle.polcert_rules.specs.Matching.{fits_key, newest_by}
 use Rattle.polcert_rules.proofs.Keyed.Fitting.{same_number, equal_numbers, fits_end, fits_here, fits_next, fits_every, fits_only}
 use Rattle.polcert_rules.proofs.Indexes.Greatest.{greatest_as, greatest_of, newest_of, greatest_of_two, greatest_itself}
 use Rattle.polcert_rules.proofs.Indexes.Newer.{newest_of_part}

@@ -1,11 +1,9 @@
 -- Rules of few observations, one after another.
 use Rattle.std.proofs.Common.{◌≡◌, ◌∙◌, ℕ, zero, suc, ◌+◌, ◌<◌, false, cond, ◌⊎◌, inl, Option, Some, None, List, [], length, set, refl, sym, ap, arith, get_or-set_other}
 use Rattle.std.specs.Prelude.{◌==◌}
-use Rattle.std.proofs.lemmas.Bool.Decides.{nat_tests}
+use Rattle.polcert_rules.proofs.Common.{nat_tests, NamedRule, max_option, rule_at}
 use Rattle.std.proofs.lemmas.Grind.{get_or-set_at}
-use Rattle.polcert_rules.specs.declared.named_rules.NamedRule.{NamedRule}
-use Rattle.polcert_rules.specs.Matching.{max_option}
-use Rattle.polcert_rules.specs.Steps.Distinct.{rule_at, AreDistinct}
+use Rattle.polcert_rules.specs.Steps.Distinct.{AreDistinct}
 use Rattle.polcert_rules.specs.Steps.Named.{number_in}
 use Rattle.polcert_rules.proofs.Keyed.Fitting.{equal_numbers}
 use Rattle.polcert_rules.proofs.Indexes.NotedLaws.{later_none, later_of_later, same_or_not}

@@ -1,11 +1,8 @@
 -- The newest of several.
 use Rattle.std.proofs.Common.{◌≡◌, ◌∙◌, ℕ, suc, ◌+◌, ◌-◌, ◌*◌, ◌^◌, ◌<◌, ◌≤◌, ◌↔◌, ◌⊎◌, ⊎_elim, Option, Some, None, List, [], ◌∷◌, Contains, length, refl, sym, ap, subst, arith, rules}
 use Rattle.std.specs.List.{slice_get}
-use Rattle.std.proofs.lemmas.Option.{slice_get_within, get_or_from_slice_get}
-use Rattle.polcert_rules.specs.declared.index.Rule.{Rule}
-use Rattle.polcert_rules.specs.Steps.Newest.{IsRising, IsNewest}
-use Rattle.polcert_rules.specs.Matching.{max_option}
-use Rattle.polcert_rules.specs.Keys.{key_base, AreIndices, Fits}
+use Rattle.polcert_rules.proofs.Common.{slice_get_within, get_or_from_slice_get, Rule, IsRising, IsNewest, max_option, key_base, AreIndices}
+use Rattle.polcert_rules.specs.Keys.{Fits}
 use Rattle.polcert_rules.proofs.Keyed.Fitting.{fits_low, fits_high, fits_next, fits_here, fits_end, fits_every, fits_only, digit_below, power_next, power_some}
 
 pub newest_as : (rules : List Rule) (P Q : ℕ → Type 0) (x : Option ℕ) → ((k : ℕ) → P k → Q k) → ((k : ℕ) → Q k → P k) → IsNewest rules P x → IsNewest rules Q x

@@ -1,8 +1,7 @@
 -- Rules that continue with a place for an index: what is known of their keys, and that what is found among them is found after `low`.
 use Rattle.std.proofs.Common.{ℕ, ◌+◌, ◌*◌, ◌-◌, ◌^◌, ◌≤◌, List, [], ◌∷◌, refl, sym, subst, arith, Contains}
-use Rattle.polcert_rules.specs.declared.index.Rule.{Rule}
+use Rattle.polcert_rules.proofs.Common.{Rule, key_base, AreIndices, most_places}
 use Rattle.polcert_rules.specs.declared.index.NextPlace.{NextPlace}
-use Rattle.polcert_rules.specs.Keys.{key_base, AreIndices, most_places}
 use Rattle.polcert_rules.specs.Steps.NextPlaces.{IsNextPlace}
 use Rattle.polcert_rules.proofs.Indexes.Newer.{IsSpan, IsDeeper, is_deeper}
 

@@ -1,15 +1,10 @@
 -- An entry covers a cell exactly where its key fits the indices: the newest that fits is the last that covers.
 use Rattle.std.proofs.Common.{◌≡◌, ◌∙◌, ℕ, zero, suc, ◌+◌, ◌*◌, ◌^◌, ◌≤◌, Bool, true, false, ◌&&◌, ◌||◌, Option, Some, None, List, [], ◌∷◌, ◌++◌, take, drop, All, refl, sym, ap, subst, arith}
-use Rattle.std.specs.List.{slice_get, list_any}
-use Rattle.std.proofs.lemmas.List.{drop_more, take-append-drop}
-use Rattle.std.proofs.lemmas.Option.{slice_get_within, get_or_from_slice_get}
-use Rattle.polcert_cells.specs.declared.entries.Table.{Table}
-use Rattle.polcert_cells.specs.declared.entries.Place.{Place}
-use Rattle.polcert_cells.specs.declared.entries.Entry.{Entry}
-use Rattle.polcert_cells.specs.Cells.{is_table, fit_places, covers, IsLastCovering, last, none}
-use Rattle.polcert_rules.specs.declared.index.Rule.{Rule}
-use Rattle.polcert_rules.specs.Keys.{key_base, key_in, key_of, table_digit, table_key, AreDigits, AreIndices, Fits, most_places}
-use Rattle.polcert_rules.specs.Steps.Newest.{IsNewest, IsIndexOf, AreKeyed, IsLastNumber, entry_at}
+use Rattle.polcert_rules.proofs.Common.{list_any, drop_more, slice_get_within, get_or_from_slice_get, Table, Place, Entry, is_table, fit_places, covers, IsLastCovering, last, Rule, key_base, key_in, key_of, table_key, AreDigits, AreIndices, most_places, IsNewest, IsIndexOf, AreKeyed, IsLastNumber, entry_at}
+use Rattle.std.specs.List.{slice_get}
+use Rattle.std.proofs.lemmas.List.{take-append-drop}
+use Rattle.polcert_cells.specs.Cells.{none}
+use Rattle.polcert_rules.specs.Keys.{table_digit, Fits}
 use Rattle.polcert_rules.proofs.Keyed.Fitting.{fit_digits}
 use Rattle.polcert_rules.proofs.Keyed.Keying.{same_digit, same_places}
 use Rattle.polcert_rules.proofs.Indexes.Newer.{IsSpan, newest_of_span}

@@ -2,11 +2,8 @@
 use Rattle.std.proofs.Common.{◌≡◌, ◌∙◌, ℕ, zero, suc, ◌+◌, ◌*◌, ◌^◌, ◌<◌, ◌≤◌, Bool, true, ◌&&◌, ◌⊎◌, inl, List, [], ◌∷◌, refl, ap, arith}
 use Rattle.std.specs.Prelude.{◌==◌}
 use Rattle.std.proofs.Math.Nat.{pow-succ'}
-use Rattle.std.proofs.lemmas.Bool.Decides.{nat_tests}
-use Rattle.polcert_cells.specs.declared.entries.Place.{Place}
-use Rattle.polcert_cells.specs.declared.entries.Place.TheVariants.{Every, Only}
-use Rattle.polcert_cells.specs.Cells.{fit_places}
-use Rattle.polcert_rules.specs.Keys.{key_base, digit, key_in, AreDigits, AreIndices, Fits}
+use Rattle.polcert_rules.proofs.Common.{nat_tests, Place, Every, Only, fit_places, key_base, digit, key_in, AreDigits, AreIndices}
+use Rattle.polcert_rules.specs.Keys.{Fits}
 
 pub and_true : (a b : Bool) → (a && b) ≡ true → (a ≡ true) × (b ≡ true)
 and_true a b h1 = grind arith

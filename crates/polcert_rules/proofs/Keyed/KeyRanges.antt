@@ -1,14 +1,10 @@
 -- The part of a rising list between two keys.
-use Rattle.std.proofs.Common.{◌≡◌, ℕ, ◌-◌, ◌<◌, ◌≤◌, ◌↔◌, ◌⊎◌, Some, true, false, ltb, List, AllPairs, length, take, drop, ⊎_elim, sym, ap, subst, arith, length-drop, length-take, take_all, get_or-drop, get_or-take, Contains}
+use Rattle.std.proofs.Common.{◌≡◌, ℕ, ◌-◌, ◌<◌, ◌≤◌, ◌↔◌, ◌⊎◌, Some, true, false, ltb, List, [], AllPairs, length, take, drop, ⊎_elim, sym, ap, subst, arith, length-drop, length-take, take_all, get_or-drop, get_or-take, Contains}
 use Rattle.std.specs.List.{slice_get}
-use Rattle.std.specs.List.Sorted.{IsPartitionPoint, IsPartitionedBy, IsNonDecreasingBy}
-use Rattle.std.proofs.lemmas.Bool.{cases_lt}
+use Rattle.polcert_rules.proofs.Common.{IsPartitionedBy, IsNonDecreasingBy, cases_lt, Contains-append_left, Contains-append_right, Contains-append_cases, IsPartitionedBy-ltb, get_or_from_slice_get, Rule, IsRising}
+use Rattle.std.specs.List.Sorted.{IsPartitionPoint}
 use Rattle.std.proofs.lemmas.List.{take-append-drop}
-use Rattle.std.proofs.lemmas.List.Elements.{Contains-append_left, Contains-append_right, Contains-append_cases}
-use Rattle.std.proofs.lemmas.List.Sorted.{IsPartitionedBy-ltb}
-use Rattle.std.proofs.lemmas.Option.{get_or_from_slice_get}
-use Rattle.polcert_rules.specs.declared.index.Rule.{Rule}
-use Rattle.polcert_rules.specs.Steps.Newest.{IsRising, IsCut}
+use Rattle.polcert_rules.specs.Steps.Newest.{IsCut}
 use Rattle.polcert_rules.proofs.Indexes.Newer.{after_first}
 
 pub rising_drop : (n : ℕ) (xs : List Rule) → IsRising xs → IsRising (drop n xs)
@@ -67,3 +63,8 @@ below_last rs0 x key h1 h2 h3 r h4 = grind (arith, ⊎_elim, cases_lt, get_or_fr
 pub above_first : (rules : List Rule) (x : Rule) (key : ℕ) → IsRising rules → slice_get rules 0 ≡ Some x → key ≤ x.key → (r : Rule) → Contains rules r → key ≤ r.key
 above_first rules x key up is less r among =
     ⊎_elim (λ same. let here : r.key ≡ x.key = ap (λ (y : Rule). y.key) same in omega (arith, here, less)) (λ more. omega (arith, more, less)) (after_first rules x up is r among)
+
+-- ---- no rule stands below a key
+pub none_between : (rules : List Rule) (low high : ℕ) → ((r : Rule) → Contains rules r → high ≤ r.key) → (r : Rule) → Contains [] r ↔ (Contains rules r × (low ≤ r.key) × (r.key < high))
+none_between rules low high above r =
+    ((λ none. let no : ⊥ = omega (arith, none.1) in absurd no), (λ h. let no : ⊥ = omega (arith, above r h.0, h.2) in absurd no))

@@ -1,10 +1,7 @@
 -- The key of an entry, place by place; and that a key is that of one pattern.
 use Rattle.std.proofs.Common.{◌≡◌, ◌∙◌, ℕ, zero, suc, ◌+◌, ◌-◌, ◌*◌, ◌^◌, ◌<◌, ◌≤◌, ⊎_elim, List, [], ◌∷◌, length, drop, get_or, refl, sym, ap, subst, arith, suc-mul}
 use Rattle.std.proofs.Math.Nat.{mul-le-mul_right}
-use Rattle.std.proofs.lemmas.Bool.{cases_lt}
-use Rattle.std.proofs.lemmas.List.{drop_more}
-use Rattle.polcert_cells.specs.declared.entries.Place.{Place}
-use Rattle.polcert_rules.specs.Keys.{key_base, digit, key_in, AreDigits, most_places}
+use Rattle.polcert_rules.proofs.Common.{cases_lt, drop_more, Place, key_base, digit, key_in, AreDigits, most_places}
 use Rattle.polcert_rules.proofs.Keyed.Fitting.{digit_below, power_next, power_some, key_low, key_high}
 
 pub digit_some : (p : Place) → 1 ≤ digit p

@@ -1,20 +1,7 @@
 -- Where no entry names an observation.
 use Rattle.std.proofs.Common.{◌≡◌, ◌∙◌, ℕ, true, ◌&&◌, Option, Some, None, List, [], ◌∷◌, Contains, refl, sym, ap, subst, arith}
 use Rattle.std.specs.List.{slice_get}
-use Rattle.polcert_cells.specs.declared.entries.Table.TheVariants.{Reward}
-use Rattle.polcert_cells.specs.declared.entries.Place.{Place}
-use Rattle.polcert_cells.specs.declared.entries.Place.TheVariants.{Every, Only}
-use Rattle.polcert_cells.specs.declared.entries.Entry.{Entry}
-use Rattle.polcert_cells.specs.Preamble.{Preamble}
-use Rattle.polcert_cells.specs.Steps.Sound.{IsSoundEntry}
-use Rattle.polcert_cells.specs.Cells.{fit_places, is_table, covers}
-use Rattle.polcert_rules.specs.declared.index.Rule.{Rule}
-use Rattle.polcert_rules.specs.declared.rewards.RewardBody.{RewardBody}
-use Rattle.polcert_rules.specs.Keys.{key_in, table_key, AreDigits, most_places}
-use Rattle.polcert_rules.specs.Steps.Newest.{IsLastNumber}
-use Rattle.polcert_rules.specs.Steps.Rewards.{AreRewardsOf}
-use Rattle.polcert_rules.specs.RewardAt.{RewardRules}
-use Rattle.polcert_rules.specs.Steps.RewardSearch.{Begins, IsLastBody}
+use Rattle.polcert_rules.proofs.Common.{Reward, Place, Every, Only, Entry, Preamble, IsSoundEntry, fit_places, is_table, covers, Rule, RewardBody, key_in, table_key, AreDigits, most_places, IsLastNumber, AreRewardsOf, RewardRules, Begins, IsLastBody}
 use Rattle.polcert_rules.proofs.Keyed.Fitting.{and_true, key_low, key_high}
 use Rattle.polcert_rules.proofs.Keyed.Covering.{keyed_at, same_table}
 use Rattle.polcert_rules.proofs.RewardLaws.RewardKeys.{begins_after}

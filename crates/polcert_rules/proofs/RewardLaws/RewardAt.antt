@@ -1,17 +1,8 @@
 -- The reward of a cell by the rules is what the last entry that covers it gives.
 use Rattle.std.proofs.Common.{◌≡◌, ℕ, ◌<◌, ◌≤◌, Option, Some, None, List, [], ◌∷◌, map, arith}
-use Rattle.polcert_cells.specs.declared.entries.Entry.{Entry}
-use Rattle.polcert_cells.specs.declared.entries.Table.TheVariants.{Reward}
-use Rattle.polcert_cells.specs.Elements.{count_of, most_states, most_actions, most_observations}
-use Rattle.polcert_cells.specs.Preamble.{Preamble, rewarded, dimensions}
-use Rattle.polcert_cells.specs.Cells.{reward}
-use Rattle.polcert_rules.specs.declared.rewards.RewardBody.{RewardBody}
-use Rattle.polcert_rules.specs.Keys.{AreIndices, Fits, table_key, most_places}
-use Rattle.polcert_rules.specs.Steps.Newest.{IsNewest}
-use Rattle.polcert_rules.specs.Steps.Rewards.{AreRewardsOf}
-use Rattle.polcert_rules.specs.RewardAt.{RewardRules, body_at, given, given_by, reward_in, reward_at}
-use Rattle.polcert_rules.specs.Steps.RewardSearch.{AreWithin, IsLastBody}
-use Rattle.polcert_rules.specs.Matching.{newest_in}
+use Rattle.polcert_rules.proofs.Common.{Entry, Reward, count_of, most_states, most_actions, most_observations, Preamble, rewarded, dimensions, reward, RewardBody, AreIndices, table_key, most_places, IsNewest, AreRewardsOf, RewardRules, body_at, AreWithin, IsLastBody, newest_in}
+use Rattle.polcert_rules.specs.Keys.{Fits}
+use Rattle.polcert_rules.specs.RewardAt.{given, given_by, reward_in, reward_at}
 use Rattle.polcert_rules.proofs.Indexes.Matching.{newest_is}
 use Rattle.polcert_rules.proofs.RewardLaws.RewardCells.{last_of_rules, last_body}
 use Rattle.polcert_rules.proofs.RewardLaws.RewardValues.{all_open, body_reward, no_reward}

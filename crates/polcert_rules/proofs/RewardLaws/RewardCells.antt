@@ -2,16 +2,8 @@
 use Rattle.std.proofs.Common.{◌≡◌, ◌∙◌, ℕ, ◌^◌, Option, Some, None, List, refl, sym, ap, subst}
 use Rattle.std.specs.List.{slice_get}
 use Rattle.std.specs.Option.{IsSomeAnd}
-use Rattle.std.proofs.lemmas.Option.{same_Some}
-use Rattle.polcert_cells.specs.declared.entries.Table.TheVariants.{Reward}
-use Rattle.polcert_cells.specs.declared.entries.Entry.{Entry}
-use Rattle.polcert_cells.specs.Preamble.{Preamble}
-use Rattle.polcert_rules.specs.declared.rewards.RewardBody.{RewardBody}
-use Rattle.polcert_rules.specs.Keys.{key_base, AreIndices, Fits, table_key, most_places}
-use Rattle.polcert_rules.specs.Steps.Newest.{IsEntry, IsNewest, IsLastNumber}
-use Rattle.polcert_rules.specs.Steps.Rewards.{AreRewardsOf, IsBodyOf}
-use Rattle.polcert_rules.specs.RewardAt.{RewardRules, body_at}
-use Rattle.polcert_rules.specs.Steps.RewardSearch.{IsLastBody}
+use Rattle.polcert_rules.proofs.Common.{same_Some, Reward, Entry, Preamble, RewardBody, key_base, AreIndices, table_key, most_places, IsEntry, IsNewest, IsLastNumber, AreRewardsOf, IsBodyOf, RewardRules, body_at, IsLastBody}
+use Rattle.polcert_rules.specs.Keys.{Fits}
 use Rattle.polcert_rules.proofs.Keyed.Covering.{last_number, newest_in}
 
 -- the newest of the rules is the last of all entries

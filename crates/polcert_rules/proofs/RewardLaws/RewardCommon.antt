@@ -1,19 +1,8 @@
 -- Where no entry names an end state or an observation.
 use Rattle.std.proofs.Common.{◌≡◌, ◌∙◌, ℕ, ◌+◌, ◌<◌, true, ◌&&◌, Option, Some, None, List, [], ◌∷◌, drop, get_or, refl, sym, ap, subst, arith, pos}
 use Rattle.std.specs.List.{slice_get}
-use Rattle.std.proofs.lemmas.List.{drop_all}
-use Rattle.polcert_cells.specs.declared.entries.Table.TheVariants.{Reward}
-use Rattle.polcert_cells.specs.declared.entries.Place.{Place}
-use Rattle.polcert_cells.specs.declared.entries.Place.TheVariants.{Every, Only}
-use Rattle.polcert_cells.specs.declared.entries.Entry.{Entry}
-use Rattle.polcert_cells.specs.Preamble.{Preamble}
-use Rattle.polcert_cells.specs.Cells.{fit_places, is_table, covers, reward}
-use Rattle.polcert_rules.specs.declared.rewards.RewardBody.{RewardBody}
-use Rattle.polcert_rules.specs.Keys.{key_base, key_in, table_key, AreDigits, most_places}
-use Rattle.polcert_rules.specs.Steps.Newest.{IsLastNumber}
-use Rattle.polcert_rules.specs.Steps.Rewards.{AreRewardsOf}
-use Rattle.polcert_rules.specs.RewardAt.{RewardRules, cell_in}
-use Rattle.polcert_rules.specs.Steps.RewardSearch.{Begins, IsLastBody, IsSingle}
+use Rattle.polcert_rules.proofs.Common.{drop_all, Reward, Place, Every, Only, Entry, Preamble, fit_places, is_table, covers, reward, RewardBody, key_base, key_in, table_key, AreDigits, most_places, IsLastNumber, AreRewardsOf, RewardRules, cell_in, Begins, IsLastBody}
+use Rattle.polcert_rules.specs.Steps.RewardSearch.{IsSingle}
 use Rattle.polcert_rules.proofs.RewardLaws.RewardKeys.{begins_after}
 use Rattle.polcert_rules.proofs.RewardLaws.RewardAlike.{NoneBegins, covering}
 use Rattle.polcert_rules.proofs.RewardLaws.RewardValues.{is_open, body_reward, no_reward}

@@ -1,13 +1,7 @@
 -- Keys that begin with places that fit.
 use Rattle.std.proofs.Common.{◌≡◌, ◌∙◌, ℕ, zero, suc, ◌+◌, ◌-◌, ◌*◌, ◌^◌, ◌<◌, ◌≤◌, ◌↔◌, Bool, true, false, ◌&&◌, ◌⊎◌, List, [], ◌∷◌, ◌++◌, length, Contains, refl, sym, ap, subst, arith}
 use Rattle.std.specs.Prelude.{◌==◌, not}
-use Rattle.std.proofs.lemmas.Bool.Decides.{nat_tests}
-use Rattle.polcert_cells.specs.declared.entries.Place.{Place}
-use Rattle.polcert_cells.specs.declared.entries.Place.TheVariants.{Every, Only}
-use Rattle.polcert_cells.specs.Cells.{fits_place, fit_places}
-use Rattle.polcert_rules.specs.declared.index.Rule.{Rule}
-use Rattle.polcert_rules.specs.Keys.{key_base, digit, key_in, AreDigits, AreIndices}
-use Rattle.polcert_rules.specs.Steps.RewardSearch.{Begins, IsAnswer}
+use Rattle.polcert_rules.proofs.Common.{nat_tests, Place, Every, Only, fits_place, fit_places, Rule, key_base, digit, key_in, AreDigits, AreIndices, Begins, IsAnswer}
 use Rattle.polcert_rules.proofs.Keyed.Fitting.{and_true, same_number, equal_numbers, power_next, digit_below, key_low, fit_digits}
 use Rattle.polcert_rules.proofs.Indexes.Newer.{IsSpan, IsDeeper}
 

@@ -2,15 +2,10 @@
 use Rattle.std.proofs.Common.{◌≡◌, ◌∙◌, ℕ, zero, suc, ◌+◌, ◌-◌, ◌<◌, ◌≤◌, Bool, ⊎_elim, List, [], ◌∷◌, ◌++◌, map, length, get_or, set, take, drop, Option, Some, None, Contains, refl, sym, ap, subst, arith, ℤ, append_assoc, Bor, take_all}
 use Rattle.std.specs.List.{slice_get, HoldsAt}
 use Rattle.std.specs.Option.{IsSomeAnd, MatchOption, option_copied}
-use Rattle.std.proofs.lemmas.List.{drop_more, take_more, take-append-drop}
-use Rattle.std.proofs.lemmas.List.Elements.{Contains-append_cases, Contains-append_left}
-use Rattle.std.proofs.lemmas.Option.{slice_get-get_or, slice_get_past, slice_get-map, same_Some}
-use Rattle.polcert_cells.specs.declared.entries.Entry.{Entry}
-use Rattle.polcert_cells.specs.EntryRefs.{all_rewards, AreRewardsFrom}
-use Rattle.polcert_rules.specs.declared.index.Rule.{Rule}
-use Rattle.polcert_rules.specs.declared.rewards.RewardBody.{RewardBody}
-use Rattle.polcert_rules.specs.Steps.Rewards.{worth, IsBodyOf, AreBodiesOf}
-use Rattle.polcert_rules.specs.RewardAt.{body_at}
+use Rattle.polcert_rules.proofs.Common.{drop_more, take_more, Contains-append_cases, Contains-append_left, slice_get-get_or, slice_get-map, same_Some, Entry, all_rewards, Rule, RewardBody, worth, IsBodyOf, AreBodiesOf, body_at}
+use Rattle.std.proofs.lemmas.List.{take-append-drop}
+use Rattle.std.proofs.lemmas.Option.{slice_get_past}
+use Rattle.polcert_cells.specs.EntryRefs.{AreRewardsFrom}
 use Rattle.polcert_rules.proofs.Indexes.NotedLaws.{only_one, same_or_not}
 
 -- ---- one more at the end, where the others are still to come

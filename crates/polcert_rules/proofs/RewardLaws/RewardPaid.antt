@@ -2,20 +2,8 @@
 use Rattle.std.proofs.Common.{◌≡◌, ◌∙◌, ℕ, zero, suc, ◌+◌, ◌-◌, ◌*◌, ◌^◌, ◌<◌, ◌≤◌, true, false, ◌&&◌, ⊎_elim, Some, None, List, [], ◌∷◌, length, take, Contains, refl, sym, ap, subst, arith, pos, rules}
 use Rattle.std.specs.List.{slice_get}
 use Rattle.std.proofs.Math.Nat.{mul-le-mul_right}
-use Rattle.std.proofs.lemmas.Bool.{cases_lt}
-use Rattle.polcert_cells.specs.declared.entries.Table.{Table}
-use Rattle.polcert_cells.specs.declared.entries.Table.TheVariants.{Reward}
-use Rattle.polcert_cells.specs.declared.entries.Place.{Place}
-use Rattle.polcert_cells.specs.declared.entries.Entry.{Entry}
-use Rattle.polcert_cells.specs.Preamble.{Preamble}
-use Rattle.polcert_cells.specs.Cells.{fits_place, fit_places, is_table, covers, reward}
+use Rattle.polcert_rules.proofs.Common.{cases_lt, Table, Reward, Place, Entry, Preamble, fits_place, fit_places, is_table, covers, reward, Rule, key_base, digit, key_in, table_key, AreDigits, most_places, AreRewardsOf, RewardRules, IsLastNumber, Begins}
 use Rattle.polcert_rules.specs.Steps.Meeting.{fits_at, meets_row}
-use Rattle.polcert_rules.specs.declared.index.Rule.{Rule}
-use Rattle.polcert_rules.specs.Keys.{key_base, digit, key_in, table_key, AreDigits, most_places}
-use Rattle.polcert_rules.specs.Steps.Rewards.{AreRewardsOf}
-use Rattle.polcert_rules.specs.RewardAt.{RewardRules}
-use Rattle.polcert_rules.specs.Steps.Newest.{IsLastNumber}
-use Rattle.polcert_rules.specs.Steps.RewardSearch.{Begins}
 use Rattle.polcert_cells.proofs.Basics.{true≢false}
 use Rattle.polcert_rules.proofs.Keyed.Fitting.{and_true, key_low, key_high, power_some, fit_digits}
 use Rattle.polcert_rules.proofs.Keyed.Covering.{keyed_at}

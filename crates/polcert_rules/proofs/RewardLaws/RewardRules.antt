@@ -1,16 +1,7 @@
 -- The rewards of entries: from the rules of R and the bodies of their entries.
 use Rattle.std.proofs.Common.{◌≡◌, ℕ, ◌^◌, ◌<◌, Bool, List, length, All, Contains, ℤ, arith}
-use Rattle.std.proofs.lemmas.Option.{slice_get_within}
-use Rattle.polcert_cells.specs.declared.entries.Table.TheVariants.{Reward}
-use Rattle.polcert_cells.specs.declared.entries.Entry.{Entry}
-use Rattle.polcert_cells.specs.Preamble.{Preamble}
-use Rattle.polcert_cells.specs.Steps.Sound.{IsSoundEntry}
-use Rattle.polcert_rules.specs.declared.index.Rule.{Rule}
-use Rattle.polcert_rules.specs.declared.rewards.RewardShape.{RewardShape}
-use Rattle.polcert_rules.specs.declared.rewards.RewardBody.{RewardBody}
-use Rattle.polcert_rules.specs.Keys.{key_base, table_key, most_places}
-use Rattle.polcert_rules.specs.Steps.Newest.{AreKeyed, IsIndexOf}
-use Rattle.polcert_rules.specs.Steps.Rewards.{IsShapeOf, AreBodiesOf, AreRewardsOf, reward_rules}
+use Rattle.polcert_rules.proofs.Common.{slice_get_within, Reward, Entry, Preamble, IsSoundEntry, Rule, RewardShape, RewardBody, key_base, table_key, most_places, AreKeyed, IsIndexOf, AreBodiesOf, AreRewardsOf, reward_rules}
+use Rattle.polcert_rules.specs.Steps.Rewards.{IsShapeOf}
 use Rattle.polcert_rules.proofs.Indexes.Newer.{IsSpan}
 
 -- ---- the rules of R

@@ -1,20 +1,8 @@
 -- Where no entry names either of two start states.
 use Rattle.std.proofs.Common.{◌≡◌, ◌∙◌, ℕ, zero, suc, ◌+◌, ◌*◌, ◌^◌, ◌<◌, ◌≤◌, Bool, true, false, ◌&&◌, inl, inr, Option, Some, None, List, [], ◌∷◌, length, drop, Contains, refl, sym, ap, subst, arith, pos, rules}
 use Rattle.std.specs.Prelude.{◌==◌, not, is_some, IsTrue, IsFalse}
-use Rattle.std.proofs.lemmas.Bool.Decides.{nat_tests}
+use Rattle.polcert_rules.proofs.Common.{nat_tests, Reward, Place, Every, Only, Entry, Preamble, fits_place, fit_places, is_table, covers, reward, reward_of, value_or, Rule, key_base, digit, key_in, table_key, AreDigits, AreIndices, most_places, newest_in, IsNewest, IsLastNumber, entry_at, AreRewardsOf, RewardRules}
 use Rattle.std.specs.List.{slice_get}
-use Rattle.polcert_cells.specs.declared.entries.Table.TheVariants.{Reward}
-use Rattle.polcert_cells.specs.declared.entries.Place.{Place}
-use Rattle.polcert_cells.specs.declared.entries.Place.TheVariants.{Every, Only}
-use Rattle.polcert_cells.specs.declared.entries.Entry.{Entry}
-use Rattle.polcert_cells.specs.Preamble.{Preamble}
-use Rattle.polcert_cells.specs.Cells.{fits_place, fit_places, is_table, covers, reward, reward_of, value_or}
-use Rattle.polcert_rules.specs.declared.index.Rule.{Rule}
-use Rattle.polcert_rules.specs.Keys.{key_base, digit, key_in, table_key, AreDigits, AreIndices, most_places}
-use Rattle.polcert_rules.specs.Matching.{newest_in}
-use Rattle.polcert_rules.specs.Steps.Newest.{IsNewest, IsLastNumber, entry_at}
-use Rattle.polcert_rules.specs.Steps.Rewards.{AreRewardsOf}
-use Rattle.polcert_rules.specs.RewardAt.{RewardRules}
 use Rattle.polcert_rules.specs.Steps.RewardSearch.{NamesStart, NamesStartAfter}
 use Rattle.polcert_rules.proofs.Keyed.Fitting.{and_true, same_number, key_low, key_high}
 use Rattle.polcert_cells.proofs.Basics.{true≢false}

@@ -1,27 +1,15 @@
 -- The number that a body has for a cell is what the entry gives it.
 use Rattle.std.proofs.Common.{◌≡◌, ◌∙◌, ℕ, zero, suc, ◌+◌, ◌<◌, ◌≤◌, Bool, true, ◌⊎◌, Option, Some, None, List, [], ◌∷◌, length, drop, map, get_or, All, sym, ap, arith, ℤ, pos, neg_ℤ, unsigned_abs, if◌then◌else◌}
 use Rattle.std.specs.Prelude.{◌==◌}
-use Rattle.std.specs.List.{slice_get, list_any}
-use Rattle.std.proofs.lemmas.List.{drop_all}
-use Rattle.std.proofs.lemmas.List.Elements.{All-cons, All-nil}
-use Rattle.std.proofs.lemmas.Option.{slice_get-get_or, get_or_from_slice_get}
+use Rattle.polcert_rules.proofs.Common.{list_any, drop_all, All-cons, All-nil, slice_get-get_or, get_or_from_slice_get, Reward, Body, Entry, count_of, forms, Preamble, dimensions, rewarded, IsSoundEntry, Fills, reward_of, reward, value_or, RewardBody, key_base, AreIndices, IsLastNumber, entry_at, worth, IsBodyOf, AreRewardsOf, cell_in, RewardRules, AreWithin, IsLastBody}
+use Rattle.std.specs.List.{slice_get}
 use Rattle.polcert_text.specs.Numbers.{largest}
-use Rattle.polcert_cells.specs.declared.entries.Table.TheVariants.{Reward}
-use Rattle.polcert_cells.specs.declared.entries.Body.{Body}
-use Rattle.polcert_cells.specs.declared.entries.Entry.{Entry}
-use Rattle.polcert_cells.specs.Elements.{count_of}
-use Rattle.polcert_cells.specs.Entry.{forms, cells_in}
-use Rattle.polcert_cells.specs.Preamble.{Preamble, is_mdp, dimensions, rewarded}
-use Rattle.polcert_cells.specs.Steps.Sound.{IsSoundEntry, Fills}
-use Rattle.polcert_cells.specs.Cells.{row_major, reward_in, reward_of, reward, value_or}
+use Rattle.polcert_cells.specs.Entry.{cells_in}
+use Rattle.polcert_cells.specs.Preamble.{is_mdp}
+use Rattle.polcert_cells.specs.Cells.{row_major, reward_in}
 use Rattle.polcert_cells.proofs.CellLaws.{last_is_one}
 use Rattle.polcert_cells.proofs.SoundLaws.{covered_table}
-use Rattle.polcert_rules.specs.declared.rewards.RewardBody.{RewardBody}
-use Rattle.polcert_rules.specs.Keys.{key_base, AreIndices}
-use Rattle.polcert_rules.specs.Steps.Newest.{IsLastNumber, entry_at}
-use Rattle.polcert_rules.specs.Steps.Rewards.{worth, rewards_in, IsBodyOf, AreRewardsOf}
-use Rattle.polcert_rules.specs.RewardAt.{cell_in, RewardRules}
-use Rattle.polcert_rules.specs.Steps.RewardSearch.{AreWithin, IsLastBody}
+use Rattle.polcert_rules.specs.Steps.Rewards.{rewards_in}
 use Rattle.polcert_rules.proofs.Keyed.Covering.{last_is, keyed_at}
 
 -- ---- the reward of a cell is what the entry of its last number gives

@@ -1,11 +1,7 @@
 -- What the body of an entry gives a row.
 use Rattle.std.proofs.Common.{◌≡◌, ℕ, ◌+◌, ◌*◌, ◌<◌, ◌≤◌, List, [], length, subst, arith}
-use Rattle.polcert_cells.specs.declared.entries.Place.{Place}
-use Rattle.polcert_cells.specs.declared.entries.Body.TheVariants.{Probabilities}
-use Rattle.polcert_cells.specs.declared.entries.Entry.{Entry}
-use Rattle.polcert_cells.specs.Steps.Sound.{Fills}
-use Rattle.polcert_rules.specs.declared.rows.Shape.{Shape}
-use Rattle.polcert_rules.specs.Steps.Given.{FitsShape, open_cells}
+use Rattle.polcert_rules.proofs.Common.{Place, Probabilities, Entry, Fills, Shape, FitsShape}
+use Rattle.polcert_rules.specs.Steps.Given.{open_cells}
 
 -- a line of a matrix ends within it
 pub line_within : (s n m : ℕ) → s < n → s * m + m ≤ n * m

@@ -1,18 +1,8 @@
 -- The single cells of a row.
 use Rattle.std.proofs.Common.{◌≡◌, ◌∙◌, ℕ, ◌+◌, ◌-◌, ◌*◌, ◌/◌, ◌%◌, ◌^◌, ◌<◌, ◌≤◌, ◌↔◌, ◌⊎◌, inl, inr, ⊎_elim, Bool, true, false, cond, eqb, Option, Some, None, List, [], ◌∷◌, ◌++◌, get_or, Contains, All, refl, sym, ap, subst, arith}
 use Rattle.std.specs.List.Sorted.{IsPermutation}
-use Rattle.std.proofs.lemmas.Bool.{cases_lt}
-use Rattle.std.proofs.lemmas.Bool.Decides.{nat_tests}
-use Rattle.std.proofs.lemmas.List.{get_or_default}
-use Rattle.std.proofs.lemmas.List.Sorted.{Contains-permutation, IsPermutation-sym}
-use Rattle.std.proofs.lemmas.List.Elements.{Contains-append_left, Contains-append_right, Contains-append_cases, Contains-get_or}
-use Rattle.polcert_cells.specs.declared.entries.Place.{Place}
-use Rattle.polcert_cells.specs.declared.entries.Place.TheVariants.{Every, Only}
-use Rattle.polcert_cells.specs.Cells.{fits_place}
-use Rattle.polcert_rules.specs.declared.index.Rule.{Rule}
-use Rattle.polcert_rules.specs.Keys.{key_base, digit}
-use Rattle.polcert_rules.specs.Steps.Newest.{IsRising, IsNewest, newest_of_each}
-use Rattle.polcert_rules.specs.Steps.Rows.{IsSingle, IsColumn, IsCell, columns_of, at_column}
+use Rattle.polcert_rules.proofs.Common.{cases_lt, nat_tests, get_or_default, Contains-permutation, IsPermutation-sym, Contains-append_left, Contains-append_right, Contains-append_cases, Contains-get_or, Place, Every, Only, fits_place, Rule, key_base, digit, IsRising, IsNewest, newest_of_each, IsSingle, IsCell, columns_of, at_column}
+use Rattle.polcert_rules.specs.Steps.Rows.{IsColumn}
 use Rattle.polcert_rules.proofs.Keyed.Fitting.{equal_numbers}
 use Rattle.polcert_rules.proofs.Indexes.Building.{Among, Stands, among_from, contains_from, each_old, each_kept, rule_of}
 

@@ -1,21 +1,8 @@
 -- What entries of T and O give, by their forms.
 use Rattle.std.proofs.Common.{◌≡◌, ℕ, ◌≤◌, ◌==◌, true, false, List, [], ◌∷◌, length, All, refl, arith}
-use Rattle.std.specs.List.{list_any}
-use Rattle.std.proofs.lemmas.List.Elements.{All-head}
-use Rattle.polcert_cells.specs.declared.entries.Table.{Table}
-use Rattle.polcert_cells.specs.declared.entries.Place.{Place}
-use Rattle.polcert_cells.specs.declared.entries.Body.{Body}
-use Rattle.polcert_cells.specs.declared.entries.Body.TheVariants.{Probabilities, Rewards, Uniform, Identity}
-use Rattle.polcert_cells.specs.declared.entries.Entry.{Entry}
-use Rattle.polcert_cells.specs.Entry.{forms}
-use Rattle.polcert_cells.specs.Cells.{weight_of}
-use Rattle.polcert_cells.specs.Numbers.{one}
-use Rattle.polcert_cells.specs.Preamble.{Preamble, columns}
-use Rattle.polcert_cells.specs.Rows.{IsWeighted}
-use Rattle.polcert_cells.specs.Steps.Sound.{Fills, IsSoundEntry}
-use Rattle.polcert_rules.specs.declared.rows.Shape.{Shape}
-use Rattle.polcert_rules.specs.Steps.Given.{FitsShape, given}
-use Rattle.polcert_rules.specs.Steps.Shapes.{IsShapeOf}
+use Rattle.polcert_rules.proofs.Common.{list_any, All-head, Table, Place, Body, Probabilities, Entry, forms, weight_of, one, Preamble, IsWeighted, Fills, IsSoundEntry, Shape, FitsShape, given, IsShapeOf}
+use Rattle.polcert_cells.specs.declared.entries.Body.TheVariants.{Rewards, Uniform, Identity}
+use Rattle.polcert_cells.specs.Preamble.{columns}
 
 -- how many places may stand before such a body
 abbrev Lens : Body → ℕ → Type 0

@@ -1,17 +1,9 @@
 -- A row of the index: what covers the whole row, the zeros, and the other single cells.
 use Rattle.std.proofs.Common.{◌≡◌, ℕ, ◌+◌, ◌<◌, ◌⊎◌, inl, inr, ⊎_elim, true, Option, Some, List, [], ◌∷◌, All, Contains, sym, subst, arith}
 use Rattle.std.specs.Prelude.{IfSome}
-use Rattle.polcert_cells.specs.declared.entries.Table.{Table}
-use Rattle.polcert_cells.specs.declared.entries.Entry.{Entry}
-use Rattle.polcert_rules.specs.declared.index.Rule.{Rule}
-use Rattle.polcert_rules.specs.declared.zeros.SplitRules.{SplitRules}
-use Rattle.polcert_rules.specs.declared.zeros.RowZeros.{RowZeros}
-use Rattle.polcert_rules.specs.declared.row.Row.{Row}
-use Rattle.polcert_rules.specs.Keys.{key_base, table_key, AreDigits, Fits, most_places}
-use Rattle.polcert_rules.specs.Steps.Newest.{IsRising, IsNewest, IsIndexOf, AreKeyed, IsLastNumber}
-use Rattle.polcert_rules.specs.Matching.{max_option}
-use Rattle.polcert_rules.specs.Steps.Rows.{IsSingle, IsCell, HasNoSuchColumn, HaveColumns, at_column, no_column}
-use Rattle.polcert_rules.specs.Steps.Zeros.{IsSplit, others_in, AreOrdered, IsRowOf, is_zero, zero_of, number_under}
+use Rattle.polcert_rules.proofs.Common.{Table, Entry, Rule, SplitRules, RowZeros, Row, key_base, table_key, AreDigits, most_places, IsRising, IsNewest, IsIndexOf, AreKeyed, IsLastNumber, max_option, IsSingle, IsCell, HasNoSuchColumn, HaveColumns, at_column, no_column, IsSplit, others_in, IsRowOf, is_zero, zero_of, number_under}
+use Rattle.polcert_rules.specs.Keys.{Fits}
+use Rattle.polcert_rules.specs.Steps.Zeros.{AreOrdered}
 use Rattle.polcert_rules.proofs.Keyed.Fitting.{fits_low, fits_high}
 use Rattle.polcert_rules.proofs.Keyed.Covering.{covered_fits, fits_covered, last_number, keyed_at}
 use Rattle.polcert_rules.proofs.RowLaws.RowNumbers.{fits_split, single_fits, covers_any}

@@ -1,14 +1,9 @@
 -- The cells of a row from a column on.
 use Rattle.std.proofs.Common.{◌≡◌, ◌∙◌, ℕ, zero, suc, ◌+◌, ◌<◌, ◌≤◌, true, false, cond, ltb, Some, None, List, [], ◌∷◌, length, get_or, drop, refl, sym, ap, arith}
 use Rattle.std.specs.List.{slice_get}
-use Rattle.std.specs.List.Sorted.{IsPartitionedBy}
+use Rattle.polcert_rules.proofs.Common.{IsPartitionedBy, slice_get_within, get_or_from_slice_get, nat_tests, IsPartitionedBy-ltb, Cell, weight_at, IsSparse, from}
 use Rattle.std.proofs.lemmas.Bool.{lt-ltb, le-ltb}
-use Rattle.std.proofs.lemmas.Option.{slice_get_within, get_or_from_slice_get}
-use Rattle.std.proofs.lemmas.Bool.Decides.{nat_tests}
-use Rattle.std.proofs.lemmas.List.Sorted.{IsPartitionedBy-ltb}
-use Rattle.polcert_cells.specs.declared.elements.Cell.{Cell}
-use Rattle.polcert_cells.specs.Sparse.{weight_at, AreRising, IsSparse}
-use Rattle.polcert_rules.specs.Steps.Merging.{from}
+use Rattle.polcert_cells.specs.Sparse.{AreRising}
 use Rattle.polcert_rules.proofs.Keyed.KeyRanges.{in_order}
 use Rattle.polcert_cells.proofs.SparseLaws.{Climbs, climbs_from, weight_head, weight_tail, weight_below}
 

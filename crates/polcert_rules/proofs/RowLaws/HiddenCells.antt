@@ -1,14 +1,7 @@
 -- What covers the whole row, where newer zeros hide it.
 use Rattle.std.proofs.Common.{◌≡◌, ◌∙◌, ℕ, ◌+◌, ◌<◌, Bool, true, cond, Option, Some, None, List, [], ◌∷◌, sym, ap, arith, rules}
-use Rattle.std.proofs.lemmas.Bool.Decides.{nat_tests}
-use Rattle.polcert_cells.specs.declared.entries.Entry.{Entry}
-use Rattle.polcert_cells.specs.declared.elements.Cell.{Cell}
-use Rattle.polcert_cells.specs.Sparse.{weight_at, IsRow}
+use Rattle.polcert_rules.proofs.Common.{nat_tests, Entry, Cell, weight_at, IsRow, RowZeros, max_option, given_at, is_zero, zero_of, number_under, overrides, shown, shown_under}
 use Rattle.polcert_cells.proofs.SparseLaws.{Climbs, climbs_lower, climbs_from, sparse_from}
-use Rattle.polcert_rules.specs.declared.zeros.RowZeros.{RowZeros}
-use Rattle.polcert_rules.specs.Matching.{max_option}
-use Rattle.polcert_rules.specs.Steps.Merging.{given_at}
-use Rattle.polcert_rules.specs.Steps.Zeros.{is_zero, zero_of, number_under, overrides, shown, shown_under}
 use Rattle.polcert_rules.proofs.RowLaws.NewerCells.{picked_number}
 
 -- ---- a zero gives 0

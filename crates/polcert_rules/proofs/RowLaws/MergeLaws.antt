@@ -1,9 +1,7 @@
 -- Newer cells over a row.
 use Rattle.std.proofs.Common.{◌≡◌, ◌∙◌, ℕ, ◌+◌, ◌<◌, ◌≤◌, Bool, cond, eqb, ltb, List, [], ◌∷◌, ◌++◌, refl, ap, arith}
-use Rattle.std.proofs.lemmas.Bool.Decides.{nat_tests}
-use Rattle.polcert_cells.specs.declared.elements.Cell.{Cell}
-use Rattle.polcert_cells.specs.Sparse.{weight_at, IsRow}
-use Rattle.polcert_rules.specs.Steps.Merging.{before, following, with_cell, merged, weight_over, Rises}
+use Rattle.polcert_rules.proofs.Common.{nat_tests, Cell, weight_at, IsRow, before, following, merged, weight_over, Rises}
+use Rattle.polcert_rules.specs.Steps.Merging.{with_cell}
 use Rattle.polcert_cells.proofs.SparseLaws.{Climbs, climbs_lower, climbs_from, sparse_from, weight_head, weight_tail, weight_below}
 
 -- ---- the cells before a column and after it

@@ -1,14 +1,7 @@
 -- The single cells of a row that are newer than what is under them.
 use Rattle.std.proofs.Common.{◌≡◌, ◌∙◌, ℕ, suc, ◌+◌, ◌<◌, ◌≤◌, Bool, true, false, cond, eqb, Option, Some, None, List, [], ◌∷◌, All, refl, sym, ap, arith}
-use Rattle.std.proofs.lemmas.Bool.Decides.{nat_tests}
-use Rattle.std.proofs.lemmas.List.Elements.{All-head, All-tail}
-use Rattle.polcert_cells.specs.declared.entries.Entry.{Entry}
-use Rattle.polcert_cells.specs.declared.elements.Cell.{Cell}
-use Rattle.polcert_rules.specs.declared.index.Rule.{Rule}
-use Rattle.polcert_rules.specs.Steps.Newest.{IsRising}
-use Rattle.polcert_rules.specs.Matching.{max_option}
-use Rattle.polcert_rules.specs.Steps.Rows.{at_column, number_in}
-use Rattle.polcert_rules.specs.Steps.Merging.{given_at, is_newer, newer_cells, weight_over, Rises}
+use Rattle.polcert_rules.proofs.Common.{nat_tests, All-head, All-tail, Entry, Cell, Rule, IsRising, max_option, at_column, number_in, given_at, newer_cells, weight_over, Rises}
+use Rattle.polcert_rules.specs.Steps.Merging.{is_newer}
 
 -- rules by column, from this one on
 abbrev pub RulesRise : ℕ → List Rule → Type 0

@@ -1,12 +1,7 @@
 -- What fits a cell of a row: what covers the whole row, or a single cell.
 use Rattle.std.proofs.Common.{◌≡◌, ℕ, ◌⊎◌, inl, true, List, [], ◌∷◌, refl, arith}
-use Rattle.polcert_cells.specs.declared.entries.Table.{Table}
-use Rattle.polcert_cells.specs.declared.entries.Place.{Place}
-use Rattle.polcert_cells.specs.declared.entries.Place.TheVariants.{Every, Only}
-use Rattle.polcert_cells.specs.declared.entries.Entry.{Entry}
-use Rattle.polcert_cells.specs.Cells.{fits_place, fit_places, covers}
-use Rattle.polcert_rules.specs.Keys.{key_in, Fits, most_places}
-use Rattle.polcert_rules.specs.Steps.Rows.{IsSingle, HasNoSuchColumn, no_column}
+use Rattle.polcert_rules.proofs.Common.{Table, Place, Every, Only, Entry, fits_place, fit_places, covers, key_in, most_places, IsSingle, HasNoSuchColumn, no_column}
+use Rattle.polcert_rules.specs.Keys.{Fits}
 use Rattle.polcert_rules.proofs.Keyed.Fitting.{and_true, same_number, equal_numbers}
 
 -- three tests in a row

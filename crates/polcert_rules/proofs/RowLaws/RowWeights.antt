@@ -1,20 +1,7 @@
 -- The weights of a row, from the numbers of its entries.
 use Rattle.std.proofs.Common.{◌≡◌, ◌∙◌, ℕ, ◌*◌, ◌<◌, ◌≤◌, ◌==◌, true, Option, None, List, [], ◌∷◌, length, refl, sym, ap, subst, arith}
-use Rattle.std.proofs.lemmas.Bool.Decides.{nat_tests}
-use Rattle.polcert_cells.specs.declared.entries.Table.{Table}
-use Rattle.polcert_cells.specs.declared.entries.Entry.{Entry}
-use Rattle.polcert_cells.specs.Cells.{value_or}
-use Rattle.polcert_cells.specs.Numbers.{one}
-use Rattle.polcert_cells.specs.declared.elements.Cell.{Cell}
-use Rattle.polcert_cells.specs.Sparse.{weight_at, IsRow}
+use Rattle.polcert_rules.proofs.Common.{nat_tests, Table, Entry, value_or, one, Cell, weight_at, IsRow, RowZeros, Row, Shape, given, given_at, weight_in, newer_cells, weight_over, merged, Rises, number_under, covering_entry, shown_under, AreNumbersOf, IsKeptRow}
 use Rattle.polcert_cells.proofs.SparseLaws.{row_same}
-use Rattle.polcert_rules.specs.declared.zeros.RowZeros.{RowZeros}
-use Rattle.polcert_rules.specs.declared.row.Row.{Row}
-use Rattle.polcert_rules.specs.declared.rows.Shape.{Shape}
-use Rattle.polcert_rules.specs.Steps.Given.{given}
-use Rattle.polcert_rules.specs.Steps.Merging.{given_at, weight_in, newer_cells, weight_over, merged, Rises}
-use Rattle.polcert_rules.specs.Steps.Zeros.{number_under, covering_entry, shown_under}
-use Rattle.polcert_rules.specs.Steps.Sources.{AreNumbersOf, IsKeptRow}
 use Rattle.polcert_rules.proofs.RowLaws.MergeLaws.{merged_row}
 use Rattle.polcert_rules.proofs.RowLaws.NewerCells.{newer_over, newer_rise, rules_rise}
 use Rattle.polcert_rules.proofs.RowLaws.HiddenCells.{under_row}

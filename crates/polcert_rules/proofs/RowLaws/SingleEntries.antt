@@ -1,14 +1,7 @@
 -- The entries of single cells.
 use Rattle.std.proofs.Common.{◌≡◌, ◌∙◌, ℕ, ◌+◌, ◌<◌, List, [], ◌∷◌, All, Some, subst, arith}
 use Rattle.std.specs.List.{slice_get}
-use Rattle.polcert_cells.specs.declared.entries.Table.{Table}
-use Rattle.polcert_cells.specs.declared.entries.Place.{Place}
-use Rattle.polcert_cells.specs.declared.entries.Place.TheVariants.{Only}
-use Rattle.polcert_cells.specs.declared.entries.Entry.{Entry}
-use Rattle.polcert_rules.specs.declared.index.Rule.{Rule}
-use Rattle.polcert_rules.specs.Keys.{key_base, table_key, AreDigits, most_places}
-use Rattle.polcert_rules.specs.Steps.Newest.{IsIndexOf, AreKeyed}
-use Rattle.polcert_rules.specs.Steps.Rows.{IsCell, IsSingleEntry}
+use Rattle.polcert_rules.proofs.Common.{Table, Place, Only, Entry, Rule, key_base, table_key, AreDigits, most_places, IsIndexOf, AreKeyed, IsCell, IsSingleEntry}
 use Rattle.polcert_rules.proofs.Keyed.Fitting.{fit_digits}
 use Rattle.polcert_rules.proofs.Keyed.Covering.{same_keys, keyed_at}
 use Rattle.polcert_rules.proofs.RowLaws.RowNumbers.{single_fit}

@@ -1,33 +1,15 @@
 -- Sound entries: their keys, and the numbers and weights of their rows.
 use Rattle.std.proofs.Common.{◌≡◌, ◌∙◌, ℕ, zero, suc, ◌+◌, ◌*◌, ◌<◌, ◌≤◌, lit≤, Option, Some, None, List, [], ◌∷◌, ◌++◌, length, All, refl, sym, ap, subst, arith, rules}
 use Rattle.std.specs.List.{slice_get}
-use Rattle.polcert_cells.specs.declared.entries.Table.{Table}
-use Rattle.polcert_cells.specs.declared.entries.Table.TheVariants.{Transition, Observation, Reward}
-use Rattle.polcert_cells.specs.declared.entries.Place.{Place}
-use Rattle.polcert_cells.specs.declared.entries.Place.TheVariants.{Only}
-use Rattle.polcert_cells.specs.declared.entries.Entry.{Entry}
-use Rattle.polcert_cells.specs.declared.elements.Elements.{Elements}
-use Rattle.polcert_cells.specs.Elements.{count_of, most_states, most_actions, most_observations}
-use Rattle.polcert_cells.specs.Cells.{is_table, fit_places, last_covering, IsLastCovering, last, weight, weight_of, value_or}
-use Rattle.polcert_cells.specs.Numbers.{one}
-use Rattle.polcert_cells.specs.Preamble.{Preamble, dimensions, observed}
-use Rattle.polcert_cells.specs.Rows.{IsWeighted}
-use Rattle.polcert_cells.specs.Steps.Sound.{ArePlacesIn, IsSoundEntry}
+use Rattle.polcert_rules.proofs.Common.{Table, Reward, Place, Only, Entry, Elements, count_of, most_states, most_actions, most_observations, is_table, fit_places, last_covering, IsLastCovering, last, weight, weight_of, value_or, one, Preamble, dimensions, IsWeighted, IsSoundEntry, Rule, Shape, SplitRules, Row, IsSplit, IsRowOf, covering_entry, key_base, AreDigits, most_places, IsIndexOf, AreKeyed, IsLastNumber, entry_at, HaveColumns, IsSingleEntry, no_column, number_in, IsWithin, FitsShape, given, IsShapeOf, AreSound, weight_in, IsWhole, AreNumbersOf}
+use Rattle.polcert_cells.specs.declared.entries.Table.TheVariants.{Transition, Observation}
+use Rattle.polcert_cells.specs.Preamble.{observed}
+use Rattle.polcert_cells.specs.Steps.Sound.{ArePlacesIn}
 use Rattle.polcert_cells.proofs.CellLaws as cells
 use Rattle.polcert_cells.proofs.SoundLaws.{rewarded_few}
-use Rattle.polcert_rules.specs.declared.index.Rule.{Rule}
-use Rattle.polcert_rules.specs.declared.rows.Shape.{Shape}
-use Rattle.polcert_rules.specs.declared.zeros.SplitRules.{SplitRules}
-use Rattle.polcert_rules.specs.declared.row.Row.{Row}
-use Rattle.polcert_rules.specs.Steps.Zeros.{IsSplit, IsRowOf, covering_entry}
 use Rattle.polcert_rules.specs.Steps.Repeats.{IsWholeNumber}
-use Rattle.polcert_rules.specs.Keys.{key_base, AreDigits, most_places}
-use Rattle.polcert_rules.specs.Steps.Newest.{IsIndexOf, AreKeyed, IsLastNumber, entry_at}
-use Rattle.polcert_rules.specs.Steps.Rows.{HaveColumns, IsSingleEntry, no_column, number_in}
-use Rattle.polcert_rules.specs.Steps.Given.{IsWithin, FitsShape, HasColumn, given}
-use Rattle.polcert_rules.specs.Steps.Shapes.{IsShapeOf, AreSound}
-use Rattle.polcert_rules.specs.Steps.Merging.{weight_in}
-use Rattle.polcert_rules.specs.Steps.Sources.{IsNumber, IsWhole, AreNumbersOf}
+use Rattle.polcert_rules.specs.Steps.Given.{HasColumn}
+use Rattle.polcert_rules.specs.Steps.Sources.{IsNumber}
 use Rattle.polcert_rules.proofs.Keyed.Fitting.{and_true}
 use Rattle.polcert_rules.proofs.Keyed.KeyBase.{action_digit, element_digit, place_digit}
 use Rattle.polcert_rules.proofs.Keyed.Covering.{same_table, last_is}

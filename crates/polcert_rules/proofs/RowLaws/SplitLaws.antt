@@ -1,15 +1,6 @@
 -- The rules of a table in two lists.
 use Rattle.std.proofs.Common.{◌≡◌, ◌∙◌, ◌==◌, suc, ◌+◌, ◌^◌, ◌<◌, ◌≤◌, ◌↔◌, ◌⊎◌, inl, inr, ⊎_elim, Bool, true, false, cond, List, [], ◌∷◌, All, Contains, length, refl, sym, subst, arith}
-use Rattle.std.proofs.lemmas.Bool.Decides.{nat_tests}
-use Rattle.std.proofs.lemmas.List.Kept.{AllPairs-cons}
-use Rattle.std.proofs.lemmas.Option.{slice_get_within}
-use Rattle.polcert_cells.specs.declared.entries.Table.{Table}
-use Rattle.polcert_cells.specs.declared.entries.Entry.{Entry}
-use Rattle.polcert_rules.specs.declared.index.Rule.{Rule}
-use Rattle.polcert_rules.specs.declared.zeros.SplitRules.{SplitRules}
-use Rattle.polcert_rules.specs.Keys.{key_base, most_places, table_key}
-use Rattle.polcert_rules.specs.Steps.Newest.{IsRising, IsIndexOf}
-use Rattle.polcert_rules.specs.Steps.Zeros.{IsSplit, others_in, is_zero, zeros_of, others_of}
+use Rattle.polcert_rules.proofs.Common.{nat_tests, AllPairs-cons, slice_get_within, Table, Entry, Rule, SplitRules, key_base, most_places, table_key, IsRising, IsIndexOf, IsSplit, others_in, is_zero, zeros_of, others_of}
 use Rattle.polcert_rules.proofs.Indexes.Building.{Among, among_from, contains_from}
 use Rattle.polcert_rules.proofs.RowLaws.Cells.{all_of}
 

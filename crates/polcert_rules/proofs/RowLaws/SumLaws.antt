@@ -1,14 +1,8 @@
 -- The sum of a sparse row.
 use Rattle.std.proofs.Common.{◌≡◌, ◌∙◌, ℕ, zero, suc, ◌+◌, ◌-◌, ◌*◌, ◌<◌, ◌≤◌, ⊎_elim, List, [], ◌∷◌, mul-suc, Bool, cond, ltb, length, sum, All, refl, sym, ap, subst, arith}
-use Rattle.std.proofs.lemmas.Bool.{cases_lt}
-use Rattle.std.proofs.lemmas.Bool.Decides.{nat_tests}
+use Rattle.polcert_rules.proofs.Common.{cases_lt, nat_tests, sum_below, Cell, weight_at, scaled_cells, IsSparse, total, one}
 use Rattle.std.proofs.lemmas.List.Sums.{sum_by-cons, sum_by-le}
 use Rattle.std.proofs.Math.Nat.{mul_comm}
-use Rattle.polcert_cells.specs.Meaning.{sum_below}
-use Rattle.polcert_cells.specs.declared.elements.Cell.{Cell}
-use Rattle.polcert_cells.specs.Sparse.{weight_at, scaled_cells, IsSparse}
-use Rattle.polcert_rules.specs.Steps.Sources.{total}
-use Rattle.polcert_cells.specs.Numbers.{one}
 use Rattle.polcert_cells.proofs.SparseLaws.{Climbs, cell_of, climbs_from, weight_head, weight_tail, weight_below}
 
 sum_without : (x : Cell) (xs : List Cell) (n : ℕ) → n ≤ x.column → sum_below (weight_at (x ∷ xs)) n ≡ sum_below (weight_at xs) n

@@ -1,7 +1,6 @@
 use Rattle.std.proofs.Common.{◌∙◌, ◌∷◌, sym, ap, subst, arith, rules}
-use Rattle.polcert_rules.specs.Steps.Newest.{IsNewest}
-use Rattle.polcert_rules.specs.Matching.{max_option}
-use Rattle.polcert_rules.specs.Keys.{AreIndices, Fits}
+use Rattle.polcert_rules.proofs.Common.{IsNewest, max_option, AreIndices}
+use Rattle.polcert_rules.specs.Keys.{Fits}
 use Rattle.polcert_rules.proofs.Indexes.Newer.{newest_deeper, newest_end, no_more}
 use Rattle.polcert_rules.proofs.Indexes.NextPlaces.{first_index, goes_deeper, at_every, at_only}
 use Rattle.polcert_rules.proofs.index.+newest.Goals as goal

@@ -1,6 +1,5 @@
 use Rattle.std.proofs.Common.{sym, subst, arith, rules, not}
-use Rattle.polcert_rules.specs.Keys.{AreIndices}
-use Rattle.polcert_rules.specs.Steps.RewardSearch.{Begins, IsAnswer}
+use Rattle.polcert_rules.proofs.Common.{AreIndices, Begins, IsAnswer}
 use Rattle.polcert_rules.proofs.Indexes.Newer.{no_more}
 use Rattle.polcert_rules.proofs.Indexes.NextPlaces.{first_index, goes_deeper, at_every, at_only}
 use Rattle.polcert_rules.proofs.RewardLaws.RewardKeys.{begins_first, begins_second, begins_none}

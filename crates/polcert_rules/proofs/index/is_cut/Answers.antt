@@ -1,5 +1,5 @@
 use Rattle.std.proofs.Common.{List, Contains, subst, sym, arith}
-use Rattle.polcert_rules.specs.declared.index.Rule.{Rule}
+use Rattle.polcert_rules.proofs.Common.{Rule}
 use Rattle.polcert_rules.proofs.Keyed.KeyRanges.{drop_whole}
 use Rattle.polcert_rules.proofs.index.is_cut.Goals as goal
 

@@ -1,4 +1,4 @@
-use Rattle.polcert_cells.specs.declared.entries.Place.TheVariants.{Every}
+use Rattle.polcert_rules.proofs.Common.{Every}
 use Rattle.polcert_rules.proofs.Keyed.Keying.{place_at, on_at}
 use Rattle.polcert_rules.proofs.index.key_of.Goals as goal
 

@@ -1,6 +1,5 @@
 use Rattle.std.proofs.Common.{drop}
-use Rattle.polcert_cells.specs.EntryRefs.{entry_of}
-use Rattle.polcert_rules.specs.Keys.{key_of}
+use Rattle.polcert_rules.proofs.Common.{entry_of, key_of}
 use Rattle.polcert_rules.proofs.Keyed.Keying.{IsUnderWay}
 use Rattle.polcert_rules.proofs.index.key_of.Given as goal
 

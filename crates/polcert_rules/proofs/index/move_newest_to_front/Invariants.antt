@@ -1,5 +1,5 @@
 use Rattle.std.proofs.Common.{◌≡◌, ◌<◌, ◌++◌, length, take, drop}
-use Rattle.polcert_rules.specs.Steps.Newest.{newest_from, newest_of_each}
+use Rattle.polcert_rules.proofs.Common.{newest_from, newest_of_each}
 use Rattle.polcert_rules.proofs.index.move_newest_to_front.Given as goal
 
 abbrev pub invariant-loop-place : goal.invariant-loop-place

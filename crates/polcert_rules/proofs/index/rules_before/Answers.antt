@@ -1,6 +1,5 @@
 use Rattle.std.proofs.Common.{ltb, rules}
-use Rattle.std.proofs.lemmas.List.Sorted.{IsPartitionPoint-from_clause}
-use Rattle.polcert_rules.specs.declared.index.Rule.{Rule}
+use Rattle.polcert_rules.proofs.Common.{IsPartitionPoint-from_clause, Rule}
 use Rattle.polcert_rules.proofs.Keyed.KeyRanges.{parted, found_cut, cut_front}
 use Rattle.polcert_rules.proofs.index.rules_before.Goals as goal
 

@@ -1,6 +1,5 @@
 use Rattle.std.proofs.Common.{List, Contains, subst, sym, arith}
-use Rattle.polcert_rules.specs.declared.index.Rule.{Rule}
-use Rattle.polcert_rules.specs.Steps.Newest.{IsRising}
+use Rattle.polcert_rules.proofs.Common.{Rule, IsRising}
 use Rattle.polcert_rules.proofs.Keyed.KeyRanges.{drop_whole, rising_drop, rising_take, near_front}
 use Rattle.polcert_rules.proofs.index.rules_near.Goals as goal
 

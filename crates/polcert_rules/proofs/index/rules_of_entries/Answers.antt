@@ -1,11 +1,6 @@
 use Rattle.std.proofs.Common.{◌≡◌, ◌∙◌, ◌+◌, ◌++◌, ◌∷◌, [], ℕ, suc, List, drop, sym, ap, arith, append_assoc}
 use Rattle.std.proofs.Math.Seq.{drop-cons}
-use Rattle.std.proofs.lemmas.Option.{get_or_from_slice_get, slice_get_within}
-use Rattle.polcert_cells.specs.declared.entries.Entry.{Entry}
-use Rattle.polcert_cells.specs.EntryRefs.{entry_of}
-use Rattle.polcert_rules.specs.declared.index.Rule.{Rule}
-use Rattle.polcert_rules.specs.Keys.{key_of}
-use Rattle.polcert_rules.specs.Steps.Newest.{rules_from}
+use Rattle.polcert_rules.proofs.Common.{get_or_from_slice_get, slice_get_within, Entry, entry_of, Rule, key_of, rules_from}
 use Rattle.polcert_rules.proofs.index.rules_of_entries.Goals as goal
 
 abbrev with_key : ℕ → ℕ → Rule

@@ -1,5 +1,5 @@
 use Rattle.std.proofs.Common.{◌≡◌, ◌++◌, drop}
-use Rattle.polcert_rules.specs.Steps.Newest.{rules_from}
+use Rattle.polcert_rules.proofs.Common.{rules_from}
 use Rattle.polcert_rules.proofs.index.rules_of_entries.Given as goal
 
 abbrev pub invariant-loop-number : goal.invariant-loop-number

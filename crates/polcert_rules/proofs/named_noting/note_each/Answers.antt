@@ -1,10 +1,5 @@
 use Rattle.std.proofs.Common.{◌≡◌, ◌+◌, ◌-◌, List, get_or, take, take_all, Some, sym, subst, arith, ⊎_elim}
-use Rattle.std.proofs.lemmas.List.{take_more}
-use Rattle.std.proofs.lemmas.List.Elements.{Contains-get_or}
-use Rattle.polcert_rules.specs.Matching.{max_option}
-use Rattle.polcert_rules.specs.Steps.Named.{noted_at}
-use Rattle.polcert_rules.specs.declared.index.Rule.{Rule}
-use Rattle.polcert_rules.specs.Steps.Noting.{IsNoted}
+use Rattle.polcert_rules.proofs.Common.{take_more, Contains-get_or, max_option, noted_at, Rule, IsNoted}
 use Rattle.polcert_rules.proofs.Indexes.NotedLaws.{noted_hit, noted_skip, same_or_not}
 use Rattle.polcert_rules.proofs.named_noting.note_each.Goals as goal
 

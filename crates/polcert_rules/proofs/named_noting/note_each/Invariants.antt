@@ -1,6 +1,5 @@
 use Rattle.std.proofs.Common.{◌≡◌, ℕ, ◌+◌, take}
-use Rattle.polcert_rules.specs.Steps.Named.{noted_at}
-use Rattle.polcert_rules.specs.Steps.Noting.{IsNoted}
+use Rattle.polcert_rules.proofs.Common.{noted_at, IsNoted}
 use Rattle.polcert_rules.proofs.named_noting.note_each.Given as goal
 
 -- the rules so far are noted

@@ -1,7 +1,6 @@
 use Rattle.std.proofs.Common.{◌+◌, ◌-◌, ◌^◌, ◌≤◌, [], ◌∷◌, refl, subst, arith}
-use Rattle.polcert_rules.specs.Keys.{key_base, Fits}
-use Rattle.polcert_rules.specs.Steps.Named.{noted_at}
-use Rattle.polcert_rules.specs.Steps.Noting.{IsNoted}
+use Rattle.polcert_rules.proofs.Common.{key_base, noted_at, IsNoted}
+use Rattle.polcert_rules.specs.Keys.{Fits}
 use Rattle.polcert_rules.proofs.Indexes.NextPlaces.{goes_deeper}
 use Rattle.polcert_rules.proofs.Indexes.NotedLaws.{noted_deeper}
 use Rattle.polcert_rules.proofs.named_noting.note_ends.Goals as goal

@@ -1,7 +1,5 @@
 use Rattle.std.proofs.Common.{◌≡◌, ◌+◌, ◌-◌, subst, arith}
-use Rattle.polcert_rules.specs.Keys.{key_base}
-use Rattle.polcert_rules.specs.Steps.Named.{noted_at}
-use Rattle.polcert_rules.specs.Steps.Noting.{IsNoted, IsLastPlace}
+use Rattle.polcert_rules.proofs.Common.{key_base, noted_at, IsNoted, IsLastPlace}
 use Rattle.polcert_rules.proofs.Indexes.NotedLaws.{noted_last, noted_end}
 use Rattle.polcert_rules.proofs.named_noting.note_observations.Goals as goal
 

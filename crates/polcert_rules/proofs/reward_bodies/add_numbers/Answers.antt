@@ -1,6 +1,6 @@
 use Rattle.std.proofs.Common.{◌≡◌, ◌∙◌, ◌++◌, ◌∷◌, [], ℤ, pos, get_or, FitsSigned, w64, rules, ap}
 use Rattle.std.proofs.lemmas.Int.{to_z-of_z}
-use Rattle.polcert_rules.specs.Steps.Rewards.{worth}
+use Rattle.polcert_rules.proofs.Common.{worth}
 use Rattle.polcert_rules.proofs.RewardLaws.RewardLists.{one_more}
 use Rattle.polcert_rules.proofs.reward_bodies.add_numbers.Goals as goal
 

@@ -1,5 +1,5 @@
 use Rattle.std.proofs.Common.{◌≡◌, ◌++◌, map, drop}
-use Rattle.polcert_rules.specs.Steps.Rewards.{worth}
+use Rattle.polcert_rules.proofs.Common.{worth}
 use Rattle.polcert_rules.proofs.reward_bodies.add_numbers.Given as goal
 
 abbrev pub invariant-loop-h : goal.invariant-loop-h

@@ -1,6 +1,5 @@
 use Rattle.std.proofs.Common.{◌≤◌, ◌<◌, get_or, arith}
-use Rattle.std.proofs.lemmas.List.Elements.{Contains-get_or}
-use Rattle.polcert_rules.specs.declared.index.Rule.{Rule}
+use Rattle.polcert_rules.proofs.Common.{Contains-get_or, Rule}
 use Rattle.polcert_rules.proofs.RewardLaws.RewardLists.{one_more_rule, of_all_rules}
 use Rattle.polcert_rules.proofs.reward_bodies.after_last.Goals as goal
 use Rattle.polcert_rules.proofs.reward_bodies.after_last.Goals.{then-end-rule, else-end-rule}

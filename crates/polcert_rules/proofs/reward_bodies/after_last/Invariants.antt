@@ -1,5 +1,5 @@
 use Rattle.std.proofs.Common.{◌<◌, Contains, take}
-use Rattle.polcert_rules.specs.declared.index.Rule.{Rule}
+use Rattle.polcert_rules.proofs.Common.{Rule}
 use Rattle.polcert_rules.proofs.reward_bodies.after_last.Given as goal
 
 abbrev pub invariant-loop-rule : goal.invariant-loop-rule

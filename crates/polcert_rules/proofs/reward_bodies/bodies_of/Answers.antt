@@ -1,10 +1,5 @@
 use Rattle.std.proofs.Common.{◌∙◌, ◌<◌, ◌-◌, List, take, length, get_or, set, map, refl, sym, subst, arith, rules, length-set}
-use Rattle.std.proofs.lemmas.List.{take_more}
-use Rattle.std.proofs.lemmas.List.Elements.{Contains-get_or}
-use Rattle.polcert_cells.specs.EntryRefs.{entry_of, all_rewards}
-use Rattle.polcert_rules.specs.declared.index.Rule.{Rule}
-use Rattle.polcert_rules.specs.declared.rewards.RewardBody.{RewardBody}
-use Rattle.polcert_rules.specs.Steps.Rewards.{worth, AreBodiesOf}
+use Rattle.polcert_rules.proofs.Common.{take_more, Contains-get_or, entry_of, all_rewards, Rule, RewardBody, worth, AreBodiesOf}
 use Rattle.polcert_rules.proofs.RewardLaws.RewardLists.{body_is, one_more_body, all_taken, first_of_taken}
 use Rattle.polcert_rules.proofs.reward_bodies.bodies_of.Goals as goal
 

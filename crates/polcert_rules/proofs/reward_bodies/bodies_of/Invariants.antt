@@ -1,6 +1,5 @@
 use Rattle.std.proofs.Common.{◌≡◌, Bool, length, map, take}
-use Rattle.polcert_cells.specs.EntryRefs.{all_rewards}
-use Rattle.polcert_rules.specs.Steps.Rewards.{worth, AreBodiesOf}
+use Rattle.polcert_rules.proofs.Common.{all_rewards, worth, AreBodiesOf}
 use Rattle.polcert_rules.proofs.reward_bodies.bodies_of.Given as goal
 
 -- the rules so far have their bodies

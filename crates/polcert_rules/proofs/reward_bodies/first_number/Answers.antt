@@ -1,5 +1,5 @@
 use Rattle.std.proofs.Common.{◌≤◌, arith}
-use Rattle.polcert_rules.specs.declared.index.Rule.{Rule}
+use Rattle.polcert_rules.proofs.Common.{Rule}
 use Rattle.polcert_rules.proofs.RewardLaws.RewardLists.{one_more_rule, of_all_rules}
 use Rattle.polcert_rules.proofs.reward_bodies.first_number.Goals as goal
 

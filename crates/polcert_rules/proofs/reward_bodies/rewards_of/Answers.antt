@@ -1,5 +1,5 @@
 use Rattle.std.proofs.Common.{◌≡◌, ◌∙◌, ◌++◌, List, [], ◌∷◌, false, ℤ, map, refl, sym, ap, rules}
-use Rattle.polcert_rules.specs.Steps.Rewards.{worth}
+use Rattle.polcert_rules.proofs.Common.{worth}
 use Rattle.polcert_rules.proofs.reward_bodies.rewards_of.Goals as goal
 
 same : (hs : List ℤ) → hs ≡ map (worth false) hs

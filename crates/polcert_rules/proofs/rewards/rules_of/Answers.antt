@@ -1,7 +1,5 @@
 use Rattle.std.proofs.Common.{◌≡◌, ◌^◌, List, subst, sym, rules}
-use Rattle.polcert_cells.specs.declared.entries.Table.TheVariants.{Reward}
-use Rattle.polcert_rules.specs.declared.index.Rule.{Rule}
-use Rattle.polcert_rules.specs.Keys.{key_base, table_key, most_places}
+use Rattle.polcert_rules.proofs.Common.{Reward, Rule, key_base, table_key, most_places}
 use Rattle.polcert_rules.proofs.Indexes.Newer.{IsSpan}
 use Rattle.polcert_rules.proofs.rewards.rules_of.Goals as goal
 

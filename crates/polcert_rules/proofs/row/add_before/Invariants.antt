@@ -1,5 +1,5 @@
 use Rattle.std.proofs.Common.{◌≡◌, ◌++◌, drop}
-use Rattle.polcert_rules.specs.Steps.Merging.{before, following}
+use Rattle.polcert_rules.proofs.Common.{before, following}
 use Rattle.polcert_rules.proofs.row.add_before.Given as goal
 
 abbrev pub invariant-loop-number : goal.invariant-loop-number

@@ -1,5 +1,5 @@
 use Rattle.std.proofs.Common.{◌≤◌}
-use Rattle.polcert_rules.specs.declared.index.Rule.{Rule}
+use Rattle.polcert_rules.proofs.Common.{Rule}
 use Rattle.polcert_rules.proofs.RowLaws.Cells.{all_of, with_columns}
 use Rattle.polcert_rules.proofs.row.add_columns.Goals as goal
 

@@ -1,5 +1,5 @@
 use Rattle.std.proofs.Common.{◌≡◌, ◌++◌, drop}
-use Rattle.polcert_rules.specs.Steps.Rows.{columns_of}
+use Rattle.polcert_rules.proofs.Common.{columns_of}
 use Rattle.polcert_rules.proofs.row.add_part.Given as goal
 
 abbrev pub invariant-loop-rule : goal.invariant-loop-rule

@@ -1,5 +1,5 @@
 use Rattle.std.proofs.Common.{ap}
-use Rattle.polcert_cells.specs.EntryRefs.{entry_of, body_of}
+use Rattle.polcert_rules.proofs.Common.{entry_of, body_of}
 use Rattle.polcert_rules.proofs.RowLaws.BodyLaws.{matrix_room}
 use Rattle.polcert_rules.proofs.row.body_row.Goals as goal
 

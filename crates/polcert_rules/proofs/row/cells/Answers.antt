@@ -1,9 +1,5 @@
 use Rattle.std.proofs.Common.{ℕ, ◌+◌, ◌<◌, List, All, subst, sym, rules}
-use Rattle.std.proofs.lemmas.List.Sorted.{IsNonDecreasingBy-from_sort_by_key}
-use Rattle.polcert_rules.specs.declared.index.Rule.{Rule}
-use Rattle.polcert_rules.specs.Steps.Newest.{IsRising, IsNewest}
-use Rattle.polcert_rules.specs.Steps.Rows.{IsSingle, IsCell, at_column}
-use Rattle.polcert_rules.specs.Keys.{key_base}
+use Rattle.polcert_rules.proofs.Common.{IsNonDecreasingBy-from_sort_by_key, Rule, IsRising, IsNewest, IsSingle, IsCell, at_column, key_base}
 use Rattle.polcert_rules.proofs.Indexes.Building.{each_rises}
 use Rattle.polcert_rules.proofs.RowLaws.Cells.{gathered_are, newest_at, each_cell}
 use Rattle.polcert_rules.proofs.row.cells.Goals as goal

@@ -1,6 +1,5 @@
 use Rattle.std.proofs.Common.{ℕ, ◌+◌, List, subst, sym, refl, arith}
-use Rattle.polcert_cells.specs.declared.elements.Cell.{Cell}
-use Rattle.polcert_cells.specs.Sparse.{IsRow}
+use Rattle.polcert_rules.proofs.Common.{Cell, IsRow}
 use Rattle.polcert_cells.proofs.SparseLaws.{row_push}
 use Rattle.polcert_rules.proofs.row.even_row.Goals as goal
 

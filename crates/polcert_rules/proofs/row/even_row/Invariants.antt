@@ -1,4 +1,4 @@
-use Rattle.polcert_cells.specs.Sparse.{IsRow}
+use Rattle.polcert_rules.proofs.Common.{IsRow}
 use Rattle.polcert_rules.proofs.row.even_row.Given as goal
 
 abbrev pub invariant-loop-column : goal.invariant-loop-column

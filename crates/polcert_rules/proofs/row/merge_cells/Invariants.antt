@@ -1,5 +1,5 @@
 use Rattle.std.proofs.Common.{◌≡◌, ◌++◌, drop}
-use Rattle.polcert_rules.specs.Steps.Merging.{merged}
+use Rattle.polcert_rules.proofs.Common.{merged}
 use Rattle.polcert_rules.proofs.row.merge_cells.Given as goal
 
 abbrev pub invariant-loop-cell : goal.invariant-loop-cell

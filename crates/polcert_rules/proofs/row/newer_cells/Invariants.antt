@@ -1,6 +1,5 @@
 use Rattle.std.proofs.Common.{◌≡◌, ℕ, ◌++◌, drop}
-use Rattle.polcert_rules.specs.Steps.Merging.{newer_cells}
-use Rattle.polcert_rules.specs.Steps.Zeros.{covering_entry}
+use Rattle.polcert_rules.proofs.Common.{newer_cells, covering_entry}
 use Rattle.polcert_rules.proofs.row.newer_cells.Given as goal
 
 abbrev pub invariant-loop-rule : goal.invariant-loop-rule

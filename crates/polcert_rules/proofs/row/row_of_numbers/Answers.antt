@@ -1,6 +1,5 @@
 use Rattle.std.proofs.Common.{ℕ, ◌≡◌, ◌∙◌, ◌+◌, ◌*◌, List, length, slice_index, ap, subst, sym, refl, arith}
-use Rattle.polcert_cells.specs.declared.elements.Cell.{Cell}
-use Rattle.polcert_cells.specs.Sparse.{IsRow}
+use Rattle.polcert_rules.proofs.Common.{Cell, IsRow}
 use Rattle.polcert_cells.proofs.SparseLaws.{row_push, row_skip}
 use Rattle.polcert_rules.proofs.row.row_of_numbers.Goals as goal
 use Rattle.polcert_rules.proofs.row.row_of_numbers.Goals.{then-weight-gt0+in_ok-push, else-weight-gt0}

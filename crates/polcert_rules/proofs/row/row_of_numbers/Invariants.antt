@@ -1,5 +1,5 @@
 use Rattle.std.proofs.Common.{◌*◌, length, slice_index}
-use Rattle.polcert_cells.specs.Sparse.{IsRow}
+use Rattle.polcert_rules.proofs.Common.{IsRow}
 use Rattle.polcert_rules.proofs.row.row_of_numbers.Given as goal
 
 abbrev pub invariant-loop-column : goal.invariant-loop-column

@@ -1,5 +1,5 @@
 use Rattle.std.proofs.Common.{◌≡◌, ◌++◌, drop}
-use Rattle.polcert_rules.specs.Steps.Zeros.{newest_zero, overrides, shown}
+use Rattle.polcert_rules.proofs.Common.{newest_zero, overrides, shown}
 use Rattle.polcert_rules.proofs.row.visible_cells.Given as goal
 
 abbrev pub invariant-loop-cell : goal.invariant-loop-cell

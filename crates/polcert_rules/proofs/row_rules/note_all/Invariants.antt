@@ -1,5 +1,5 @@
 use Rattle.std.proofs.Common.{◌≡◌, ℕ, ◌<◌, ◌≤◌, get_or, None}
-use Rattle.polcert_rules.specs.Matching.{max_option}
+use Rattle.polcert_rules.proofs.Common.{max_option}
 use Rattle.polcert_rules.proofs.row_rules.note_all.Given as goal
 
 -- each before z is done, and each from z on is as it was

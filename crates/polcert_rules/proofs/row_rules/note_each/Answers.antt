@@ -1,8 +1,5 @@
 use Rattle.std.proofs.Common.{◌≡◌, ◌+◌, List, None, get_or, take, take_all, sym, subst, arith, ⊎_elim}
-use Rattle.std.proofs.lemmas.List.{take_more}
-use Rattle.std.proofs.lemmas.List.Elements.{Contains-get_or}
-use Rattle.polcert_rules.specs.declared.index.Rule.{Rule}
-use Rattle.polcert_rules.specs.Steps.Noting.{IsNoted}
+use Rattle.polcert_rules.proofs.Common.{take_more, Contains-get_or, Rule, IsNoted}
 use Rattle.polcert_rules.proofs.Indexes.NotedLaws.{noted_hit, noted_skip, same_or_not}
 use Rattle.polcert_rules.proofs.row_rules.note_each.Goals as goal
 

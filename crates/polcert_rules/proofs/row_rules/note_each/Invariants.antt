@@ -1,5 +1,5 @@
 use Rattle.std.proofs.Common.{◌≡◌, ℕ, ◌+◌, ◌<◌, get_or, length, take, None}
-use Rattle.polcert_rules.specs.Steps.Noting.{IsNoted}
+use Rattle.polcert_rules.proofs.Common.{IsNoted}
 use Rattle.polcert_rules.proofs.row_rules.note_each.Given as goal
 
 -- the rules so far are noted

@@ -1,6 +1,6 @@
 use Rattle.std.proofs.Common.{◌∙◌, Some, ap, rules}
 use Rattle.std.proofs.lemmas.Slice.Eq.{slice_eq-Decides}
-use Rattle.polcert_rules.specs.Steps.Lists.{stored_cells}
+use Rattle.polcert_rules.proofs.Common.{stored_cells}
 use Rattle.polcert_rules.proofs.row_store.has_cells.Goals as goal
 
 pub returns-in-Sparse : goal.returns-in-Sparse

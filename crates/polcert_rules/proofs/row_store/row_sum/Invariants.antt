@@ -1,5 +1,5 @@
 use Rattle.std.proofs.Common.{◌≡◌, ◌+◌, drop}
-use Rattle.polcert_rules.specs.Steps.Sources.{total}
+use Rattle.polcert_rules.proofs.Common.{total}
 use Rattle.polcert_rules.proofs.row_store.row_sum.Given as goal
 
 abbrev pub invariant-loop-cell : goal.invariant-loop-cell

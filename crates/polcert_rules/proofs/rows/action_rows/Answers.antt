@@ -1,5 +1,5 @@
 use Rattle.std.proofs.Common.{◌≡◌, ◌<◌, ℕ, List, All, length, subst, sym, arith, refl, rules}
-use Rattle.polcert_rules.specs.Steps.Sources.{AreLine}
+use Rattle.polcert_rules.proofs.Common.{AreLine}
 use Rattle.polcert_rules.proofs.RowLaws.SoundRows.{sound_within, row_numbers}
 use Rattle.polcert_rules.proofs.Indexes.KeptLaws.{numbers_stay, row_within}
 use Rattle.polcert_rules.proofs.Indexes.BuiltLaws.{line_none, line_more}

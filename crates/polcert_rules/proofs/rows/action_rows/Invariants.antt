@@ -1,4 +1,4 @@
-use Rattle.polcert_rules.specs.Steps.Sources.{AreKept, AreLine, Stays}
+use Rattle.polcert_rules.proofs.Common.{AreKept, AreLine, Stays}
 use Rattle.polcert_rules.proofs.rows.action_rows.Given as goal
 
 -- the rows so far are kept, and proper

@@ -1,7 +1,6 @@
 use Rattle.std.proofs.Common.{◌≡◌, ◌∙◌, Some, None, List, ap, sym}
 use Rattle.std.specs.List.{slice_get}
-use Rattle.polcert_cells.specs.declared.elements.Cell.{Cell}
-use Rattle.polcert_rules.specs.Steps.Merging.{from}
+use Rattle.polcert_rules.proofs.Common.{Cell, from}
 use Rattle.polcert_rules.proofs.RowLaws.FromLaws.{at_here, at_there, at_none}
 use Rattle.polcert_rules.proofs.rows.cell_weight.Goals as goal
 

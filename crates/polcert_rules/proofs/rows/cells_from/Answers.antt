@@ -1,7 +1,6 @@
 use Rattle.std.proofs.Common.{◌∙◌, ltb, rules, arith}
 use Rattle.std.proofs.lemmas.List.{take_rest}
-use Rattle.std.proofs.lemmas.List.Sorted.{IsPartitionPoint-from_clause}
-use Rattle.polcert_cells.specs.declared.elements.Cell.{Cell}
+use Rattle.polcert_rules.proofs.Common.{IsPartitionPoint-from_clause, Cell}
 use Rattle.polcert_rules.proofs.RowLaws.FromLaws.{parted, drop_is_from, full_up_to}
 use Rattle.polcert_rules.proofs.rows.cells_from.Goals as goal
 

@@ -1,5 +1,5 @@
 use Rattle.std.proofs.Common.{◌≡◌, ◌++◌, drop}
-use Rattle.polcert_cells.specs.Sparse.{scaled_cells}
+use Rattle.polcert_rules.proofs.Common.{scaled_cells}
 use Rattle.polcert_rules.proofs.rows.cells_of.Given as goal
 
 abbrev pub invariant-loop-column : goal.invariant-loop-column

@@ -1,5 +1,5 @@
 use Rattle.std.proofs.Common.{◌≡◌, ◌∙◌, ◌*◌, slice_index, sym, ap, arith}
-use Rattle.std.proofs.lemmas.List.{get_or_past}
+use Rattle.polcert_rules.proofs.Common.{get_or_past}
 use Rattle.polcert_rules.proofs.rows.full_weight.Goals as goal
 
 pub returns-in-Some : goal.returns-in-Some

@@ -1,5 +1,5 @@
 use Rattle.std.proofs.Common.{◌≡◌, ◌++◌, drop}
-use Rattle.polcert_rules.specs.Steps.Zeros.{others_of}
+use Rattle.polcert_rules.proofs.Common.{others_of}
 use Rattle.polcert_rules.proofs.zeros.others_of.Given as goal
 
 abbrev pub invariant-loop-rule : goal.invariant-loop-rule

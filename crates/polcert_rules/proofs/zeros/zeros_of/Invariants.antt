@@ -1,5 +1,5 @@
 use Rattle.std.proofs.Common.{◌≡◌, ◌++◌, drop}
-use Rattle.polcert_rules.specs.Steps.Zeros.{zeros_of}
+use Rattle.polcert_rules.proofs.Common.{zeros_of}
 use Rattle.polcert_rules.proofs.zeros.zeros_of.Given as goal
 
 abbrev pub invariant-loop-rule : goal.invariant-loop-rule

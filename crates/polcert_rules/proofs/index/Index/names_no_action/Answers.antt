@@ -1,6 +1,5 @@
 use Rattle.std.proofs.Common.{◌∙◌, ◌+◌, ◌*◌, ◌^◌, ◌≤◌, List, Contains, subst, sym, ap, arith}
-use Rattle.polcert_rules.specs.declared.index.Rule.{Rule}
-use Rattle.polcert_rules.specs.Keys.{key_base}
+use Rattle.polcert_rules.proofs.Common.{Rule, key_base}
 use Rattle.polcert_rules.proofs.index.Index.names_no_action.Goals as goal
 
 pub returns : goal.returns

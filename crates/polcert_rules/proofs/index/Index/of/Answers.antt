@@ -1,8 +1,7 @@
 use Rattle.std.proofs.Common.{List, subst, sym, rules}
 use Rattle.std.specs.List.Sorted.{IsPermutation}
-use Rattle.std.proofs.lemmas.List.Sorted.{IsNonDecreasingBy-from_sort_by_key, IsPermutation-trans}
-use Rattle.polcert_rules.specs.declared.index.Rule.{Rule}
-use Rattle.polcert_rules.specs.Steps.Newest.{IsRising, IsIndexOf}
+use Rattle.polcert_rules.proofs.Common.{IsNonDecreasingBy-from_sort_by_key, Rule, IsRising, IsIndexOf}
+use Rattle.std.proofs.lemmas.List.Sorted.{IsPermutation-trans}
 use Rattle.polcert_rules.proofs.Indexes.Building.{each_rises, is_index}
 use Rattle.polcert_rules.proofs.index.Index.of.Goals as goal
 

@@ -1,6 +1,5 @@
 use Rattle.std.proofs.Common.{◌∙◌, ◌*◌, ◌^◌, List, subst, ap}
-use Rattle.polcert_rules.specs.declared.index.Rule.{Rule}
-use Rattle.polcert_rules.specs.Keys.{key_base}
+use Rattle.polcert_rules.proofs.Common.{Rule, key_base}
 use Rattle.polcert_rules.proofs.Indexes.Newer.{IsSpan}
 use Rattle.polcert_rules.proofs.index.Index.of_table.Goals as goal
 

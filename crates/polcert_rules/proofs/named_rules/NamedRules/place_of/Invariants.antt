@@ -1,5 +1,5 @@
 use Rattle.std.proofs.Common.{◌≡◌, ◌<◌, ℕ}
-use Rattle.polcert_rules.specs.Steps.Distinct.{rule_at}
+use Rattle.polcert_rules.proofs.Common.{rule_at}
 use Rattle.polcert_rules.proofs.named_rules.NamedRules.place_of.Given as goal
 
 -- none of the rules so far names the observation

@@ -1,5 +1,5 @@
 use Rattle.std.proofs.Common.{◌<◌, length, arith}
-use Rattle.polcert_rules.specs.declared.named_rules.NamedRule.{NamedRule}
+use Rattle.polcert_rules.proofs.Common.{NamedRule}
 use Rattle.polcert_rules.proofs.Indexes.NamedLaws.{pushed_here, pushed_other}
 use Rattle.polcert_rules.proofs.named_rules.NamedRules.push.Goals as goal
 

@@ -1,7 +1,5 @@
 use Rattle.std.proofs.Common.{◌≡◌, ◌∙◌, ◌<◌, Some, length, refl, sym, ap, arith}
-use Rattle.polcert_rules.specs.declared.named_rules.NamedRule.{NamedRule}
-use Rattle.polcert_rules.specs.Matching.{max_option}
-use Rattle.polcert_rules.specs.Steps.Distinct.{rule_at}
+use Rattle.polcert_rules.proofs.Common.{NamedRule, max_option, rule_at}
 use Rattle.polcert_rules.proofs.Indexes.NotedLaws.{later_left, later_right}
 use Rattle.polcert_rules.proofs.Indexes.NamedLaws.{renewed_here, renewed_other}
 use Rattle.polcert_rules.proofs.named_rules.NamedRules.replace_newest.Goals as goal

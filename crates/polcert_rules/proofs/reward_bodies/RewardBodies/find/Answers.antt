@@ -1,6 +1,6 @@
 use Rattle.std.proofs.Common.{◌∙◌, List, ap}
 use Rattle.std.specs.List.{slice_get}
-use Rattle.polcert_rules.specs.declared.rewards.RewardBody.{RewardBody}
+use Rattle.polcert_rules.proofs.Common.{RewardBody}
 use Rattle.polcert_rules.proofs.RewardLaws.RewardLists.{copied_is}
 use Rattle.polcert_rules.proofs.reward_bodies.RewardBodies.find.Goals as goal
 

@@ -1,5 +1,5 @@
 use Rattle.std.proofs.Common.{◌∙◌, List, ℤ, map, sym, ap, subst}
-use Rattle.polcert_rules.specs.Steps.Rewards.{worth, AreBodiesOf}
+use Rattle.polcert_rules.proofs.Common.{worth, AreBodiesOf}
 use Rattle.polcert_rules.proofs.reward_bodies.RewardBodies.of.Goals as goal
 
 pub returns : goal.returns

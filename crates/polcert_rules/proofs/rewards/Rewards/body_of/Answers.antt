@@ -1,9 +1,6 @@
 use Rattle.std.proofs.Common.{◌∙◌, ℕ, None, Option, subst, sym, ap}
-use Rattle.polcert_cells.specs.declared.entries.Table.TheVariants.{Reward}
-use Rattle.polcert_rules.specs.Keys.{Fits, table_key, most_places}
-use Rattle.polcert_rules.specs.Steps.Newest.{IsNewest}
-use Rattle.polcert_rules.specs.RewardAt.{RewardRules, body_at}
-use Rattle.polcert_rules.specs.Steps.RewardSearch.{IsLastBody}
+use Rattle.polcert_rules.proofs.Common.{Reward, table_key, most_places, IsNewest, RewardRules, body_at, IsLastBody}
+use Rattle.polcert_rules.specs.Keys.{Fits}
 use Rattle.polcert_rules.proofs.RewardLaws.RewardCells.{last_of_rules, last_body}
 use Rattle.polcert_rules.proofs.rewards.Rewards.body_of.Goals as goal
 

@@ -1,5 +1,5 @@
 use Rattle.std.proofs.Common.{None}
-use Rattle.std.proofs.lemmas.List.{get_or-replicate}
+use Rattle.polcert_rules.proofs.Common.{get_or-replicate}
 use Rattle.polcert_rules.proofs.rewards.Rewards.fill.Goals as goal
 
 pub fill_noted-requires-clause-nothing : goal.fill_noted-requires-clause-nothing

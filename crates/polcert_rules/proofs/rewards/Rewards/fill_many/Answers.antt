@@ -1,6 +1,5 @@
 use Rattle.std.proofs.Common.{◌≡◌, ◌+◌, [], ◌∷◌, None, get_or, pos, subst, arith}
-use Rattle.std.proofs.lemmas.List.{get_or-replicate}
-use Rattle.polcert_cells.specs.Cells.{reward}
+use Rattle.polcert_rules.proofs.Common.{get_or-replicate, reward}
 use Rattle.polcert_rules.proofs.RowLaws.FilledParts.{filled_part}
 use Rattle.polcert_rules.proofs.rewards.Rewards.fill_many.Goals as goal
 

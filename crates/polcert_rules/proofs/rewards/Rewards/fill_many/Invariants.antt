@@ -1,8 +1,5 @@
 use Rattle.std.proofs.Common.{◌≡◌, ℕ, ◌+◌, ◌-◌, ◌<◌, ◌≤◌, List, [], ◌∷◌, get_or, pos}
-use Rattle.polcert_cells.specs.declared.entries.Entry.{Entry}
-use Rattle.polcert_cells.specs.Preamble.{Preamble}
-use Rattle.polcert_cells.specs.Cells.{reward}
-use Rattle.polcert_rules.specs.Steps.Rewards.{AreRewardsOf}
+use Rattle.polcert_rules.proofs.Common.{Entry, Preamble, reward, AreRewardsOf}
 use Rattle.polcert_rules.proofs.rewards.Rewards.fill_many.Given as goal
 
 -- the rewards so far

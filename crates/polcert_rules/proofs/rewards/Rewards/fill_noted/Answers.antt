@@ -1,16 +1,8 @@
 use Rattle.std.proofs.Common.{◌≡◌, ◌∙◌, ◌≢◌, ◌+◌, ◌<◌, ℕ, List, [], ◌∷◌, None, Option, map, length, get_or, set, take, pos, FitsSigned, to_z, w64, ap, subst, arith, rules, below_more, get_or-set_other, get_or-set_same}
 use Rattle.std.proofs.lemmas.Int.{to_z-of_z}
 use Rattle.std.proofs.lemmas.List.{get_or-take, length-take-le}
-use Rattle.polcert_cells.specs.Elements.{count_of}
-use Rattle.polcert_cells.specs.Preamble.{dimensions}
-use Rattle.polcert_cells.specs.Cells.{reward}
-use Rattle.polcert_cells.specs.declared.entries.Table.TheVariants.{Reward}
-use Rattle.polcert_rules.specs.declared.index.Rule.{Rule}
-use Rattle.polcert_rules.specs.Keys.{AreIndices, Fits, table_key, most_places}
-use Rattle.polcert_rules.specs.Steps.Newest.{IsNewest}
-use Rattle.polcert_rules.specs.RewardAt.{RewardRules}
-use Rattle.polcert_rules.specs.Steps.RewardSearch.{AreWithin, IsLastBody}
-use Rattle.polcert_rules.specs.declared.rewards.RewardBody.{RewardBody}
+use Rattle.polcert_rules.proofs.Common.{count_of, dimensions, reward, Reward, Rule, AreIndices, table_key, most_places, IsNewest, RewardRules, AreWithin, IsLastBody, RewardBody}
+use Rattle.polcert_rules.specs.Keys.{Fits}
 use Rattle.polcert_rules.proofs.Indexes.NotedLaws.{noted_first}
 use Rattle.polcert_rules.proofs.rewards.Rewards.fill_noted.Goals as goal
 use Rattle.polcert_rules.proofs.rewards.Rewards.fill_noted.Goals.{then-is_same, else-is_same}

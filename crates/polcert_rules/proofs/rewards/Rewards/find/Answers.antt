@@ -1,19 +1,10 @@
 use Rattle.std.proofs.Common.{◌∙◌, ℕ, [], ◌∷◌, map, FitsSigned, w64, sym, ap, subst, arith, rules}
 use Rattle.std.proofs.lemmas.Int.{to_z-of_z}
-use Rattle.std.proofs.lemmas.Option.{same_Some}
-use Rattle.polcert_cells.specs.Elements.{count_of}
-use Rattle.polcert_cells.specs.Preamble.{dimensions}
-use Rattle.polcert_cells.specs.Cells.{reward}
+use Rattle.polcert_rules.proofs.Common.{same_Some, count_of, dimensions, reward, Reward, AreIndices, table_key, most_places, max_option, RewardRules, noted_at, IsNewest, AreWithin}
 use Rattle.polcert_cells.specs.CommonRewards.{IsCommonReward}
 use Rattle.polcert_cells.specs.declared.common_reward.CommonReward.{CommonReward}
-use Rattle.polcert_cells.specs.declared.entries.Table.TheVariants.{Reward}
-use Rattle.polcert_rules.specs.Keys.{AreIndices, Fits, table_key, most_places}
-use Rattle.polcert_rules.specs.Matching.{max_option}
-use Rattle.polcert_rules.specs.RewardAt.{RewardRules}
-use Rattle.polcert_rules.specs.Steps.Named.{noted_at}
+use Rattle.polcert_rules.specs.Keys.{Fits}
 use Rattle.polcert_rules.specs.Steps.NamedCells.{AreNewestAt}
-use Rattle.polcert_rules.specs.Steps.Newest.{IsNewest}
-use Rattle.polcert_rules.specs.Steps.RewardSearch.{AreWithin}
 use Rattle.polcert_rules.proofs.Indexes.NotedLaws.{noted_first, later_none}
 use Rattle.polcert_rules.proofs.Indexes.NamedLaws.{unnamed_in}
 use Rattle.polcert_rules.proofs.rewards.Rewards.find.Goals as goal

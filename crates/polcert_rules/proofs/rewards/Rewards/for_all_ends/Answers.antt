@@ -1,8 +1,6 @@
 use Rattle.std.proofs.Common.{◌∙◌, ◌+◌, pos, [], ◌∷◌, get_or, FitsSigned, w64, subst, sym, ap, rules, refl}
 use Rattle.std.proofs.lemmas.Int.{to_z-of_z}
-use Rattle.std.proofs.lemmas.Option.{same_Some}
-use Rattle.polcert_rules.specs.Keys.{key_base}
-use Rattle.polcert_rules.specs.RewardAt.{RewardRules}
+use Rattle.polcert_rules.proofs.Common.{same_Some, key_base, RewardRules}
 use Rattle.polcert_rules.specs.Steps.RewardSearch.{IsSingle}
 use Rattle.polcert_rules.proofs.RewardLaws.RewardAlike.{NoneBegins}
 use Rattle.polcert_rules.proofs.RewardLaws.RewardCommon.{common_none, common_some}

@@ -1,9 +1,5 @@
 use Rattle.std.proofs.Common.{ℕ, List, [], ◌∷◌, map, subst, rules}
-use Rattle.polcert_cells.specs.declared.entries.Table.TheVariants.{Reward}
-use Rattle.polcert_cells.specs.Elements.{count_of}
-use Rattle.polcert_cells.specs.Preamble.{dimensions}
-use Rattle.polcert_rules.specs.RewardAt.{RewardRules}
-use Rattle.polcert_rules.specs.Steps.RewardSearch.{AreWithin}
+use Rattle.polcert_rules.proofs.Common.{Reward, count_of, dimensions, RewardRules, AreWithin}
 use Rattle.polcert_rules.proofs.RewardLaws.RewardAlike.{NoneBegins, body_moved}
 use Rattle.polcert_rules.proofs.rewards.Rewards.for_all_observations.Goals as goal
 

@@ -1,10 +1,5 @@
 use Rattle.std.proofs.Common.{List, [], ◌∷◌, subst, ap, arith}
-use Rattle.polcert_cells.specs.declared.entries.Table.TheVariants.{Reward}
-use Rattle.polcert_rules.specs.declared.index.Rule.{Rule}
-use Rattle.polcert_rules.specs.declared.rewards.RewardShape.{RewardShape}
-use Rattle.polcert_rules.specs.Keys.{table_key, most_places}
-use Rattle.polcert_rules.specs.RewardAt.{RewardRules}
-use Rattle.polcert_rules.specs.Steps.RewardSearch.{Begins, IsAnswer}
+use Rattle.polcert_rules.proofs.Common.{Reward, Rule, RewardShape, table_key, most_places, RewardRules, Begins, IsAnswer}
 use Rattle.polcert_rules.proofs.RewardLaws.RewardPaid.{unpaid, paid, paid_by_all}
 use Rattle.polcert_rules.proofs.rewards.Rewards.has_rewards.Goals as goal
 

@@ -1,5 +1,5 @@
 use Rattle.std.proofs.Common.{refl, rules, subst}
-use Rattle.polcert_rules.specs.RewardAt.{RewardRules}
+use Rattle.polcert_rules.proofs.Common.{RewardRules}
 use Rattle.polcert_rules.proofs.RewardLaws.RewardStarts.{NoneNames, same_rewards, false_of}
 use Rattle.polcert_rules.proofs.rewards.Rewards.has_same.Goals as goal
 

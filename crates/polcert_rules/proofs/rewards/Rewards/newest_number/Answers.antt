@@ -1,9 +1,6 @@
 use Rattle.std.proofs.Common.{List, Contains, subst, sym}
-use Rattle.polcert_rules.specs.declared.index.Rule.{Rule}
-use Rattle.polcert_rules.specs.Keys.{Fits, table_key, most_places}
-use Rattle.polcert_cells.specs.declared.entries.Table.TheVariants.{Reward}
-use Rattle.polcert_rules.specs.Steps.Newest.{IsNewest}
-use Rattle.polcert_rules.specs.Steps.Rewards.{AreRewardsOf}
+use Rattle.polcert_rules.proofs.Common.{Rule, table_key, most_places, Reward, IsNewest, AreRewardsOf}
+use Rattle.polcert_rules.specs.Keys.{Fits}
 use Rattle.polcert_rules.proofs.RewardLaws.RewardCells.{last_of_rules}
 use Rattle.polcert_rules.proofs.rewards.Rewards.newest_number.Goals as goal
 

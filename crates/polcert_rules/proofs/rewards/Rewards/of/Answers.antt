@@ -1,9 +1,5 @@
 use Rattle.std.proofs.Common.{◌^◌, List, Contains, subst, sym}
-use Rattle.polcert_cells.specs.declared.entries.Table.TheVariants.{Reward}
-use Rattle.polcert_rules.specs.declared.index.Rule.{Rule}
-use Rattle.polcert_rules.specs.Keys.{key_base, table_key, most_places}
-use Rattle.polcert_rules.specs.Steps.Newest.{IsRising}
-use Rattle.polcert_rules.specs.Steps.Rewards.{AreBodiesOf, AreRewardsOf, reward_rules}
+use Rattle.polcert_rules.proofs.Common.{Reward, Rule, key_base, table_key, most_places, IsRising, AreBodiesOf, AreRewardsOf, reward_rules}
 use Rattle.polcert_rules.proofs.RewardLaws.RewardRules.{number_within, are_rewards}
 use Rattle.polcert_rules.proofs.rewards.Rewards.of.Goals as goal
 

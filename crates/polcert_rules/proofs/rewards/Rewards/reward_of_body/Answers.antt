@@ -1,9 +1,7 @@
 use Rattle.std.proofs.Common.{◌∙◌, ◌<◌, ◌+◌, pos, get_or, drop, All, FitsSigned, w64, subst, sym, ap, rules}
 use Rattle.std.proofs.lemmas.Int.{to_z-of_z}
 use Rattle.std.proofs.lemmas.List.Elements.{All-drop}
-use Rattle.polcert_rules.specs.Keys.{key_base, most_places}
-use Rattle.polcert_rules.specs.Steps.RewardSearch.{IsLastBody}
-use Rattle.polcert_rules.specs.RewardAt.{RewardRules, cell_in}
+use Rattle.polcert_rules.proofs.Common.{key_base, most_places, IsLastBody, RewardRules, cell_in}
 use Rattle.polcert_rules.proofs.RewardLaws.RewardValues.{all_open, body_reward, no_reward, small_indices}
 use Rattle.polcert_rules.proofs.rewards.Rewards.reward_of_body.Goals as goal
 

@@ -1,8 +1,6 @@
 use Rattle.std.proofs.Common.{◌∙◌, ◌+◌, pos, get_or, FitsSigned, w64, subst, sym, ap, rules}
 use Rattle.std.proofs.lemmas.Int.{to_z-of_z}
-use Rattle.std.proofs.lemmas.Option.{same_Some}
-use Rattle.polcert_rules.specs.RewardAt.{RewardRules}
-use Rattle.polcert_rules.specs.Steps.RewardSearch.{IsLastBody}
+use Rattle.polcert_rules.proofs.Common.{same_Some, RewardRules, IsLastBody}
 use Rattle.polcert_rules.proofs.RewardLaws.RewardValues.{single_reward, no_reward}
 use Rattle.polcert_rules.proofs.rewards.Rewards.single_number.Goals as goal
 

@@ -1,9 +1,5 @@
 use Rattle.std.proofs.Common.{◌∙◌, ◌*◌, ◌^◌, ℕ, ◌+◌, ◌<◌, List, All, subst, ap}
-use Rattle.polcert_rules.specs.declared.index.Rule.{Rule}
-use Rattle.polcert_rules.specs.Steps.Newest.{IsNewest}
-use Rattle.polcert_rules.specs.Steps.Rows.{IsSingle, IsCell, at_column}
-use Rattle.polcert_rules.specs.Steps.Zeros.{zero_of}
-use Rattle.polcert_rules.specs.Keys.{key_base, table_key}
+use Rattle.polcert_rules.proofs.Common.{Rule, IsNewest, IsSingle, IsCell, at_column, zero_of, key_base, table_key}
 use Rattle.polcert_rules.proofs.RowLaws.FoundRows.{row_is}
 use Rattle.polcert_rules.proofs.row.Row.of.Goals as goal
 

@@ -1,5 +1,5 @@
 use Rattle.std.proofs.Common.{◌+◌, ◌*◌, ◌^◌, subst}
-use Rattle.polcert_rules.specs.Keys.{key_base}
+use Rattle.polcert_rules.proofs.Common.{key_base}
 use Rattle.polcert_rules.proofs.Indexes.Newer.{IsSpan}
 use Rattle.polcert_rules.proofs.RewardLaws.RewardStarts.{unnamed_after}
 use Rattle.polcert_rules.proofs.row_rules.RowRules.names_start_after.Goals as goal

@@ -1,8 +1,6 @@
 use Rattle.std.proofs.Common.{◌∙◌, ◌+◌, ◌*◌, ◌^◌, ◌∷◌, sym, ap, subst, arith}
-use Rattle.polcert_cells.specs.declared.entries.Table.TheVariants.{Reward}
-use Rattle.polcert_rules.specs.Steps.Newest.{IsNewest}
-use Rattle.polcert_rules.specs.Matching.{max_option}
-use Rattle.polcert_rules.specs.Keys.{key_base, Fits, table_key}
+use Rattle.polcert_rules.proofs.Common.{Reward, IsNewest, max_option, key_base, table_key}
+use Rattle.polcert_rules.specs.Keys.{Fits}
 use Rattle.polcert_rules.proofs.Indexes.Newer.{newest_of_three, newest_here}
 use Rattle.polcert_rules.proofs.row_rules.RowRules.newest.Goals as goal
 

@@ -1,7 +1,6 @@
 use Rattle.std.proofs.Common.{◌∙◌, ◌+◌, ◌*◌, ◌^◌, ◌∷◌, sym, ap, subst, arith}
-use Rattle.polcert_rules.specs.Steps.Newest.{IsNewest}
-use Rattle.polcert_rules.specs.Matching.{max_option}
-use Rattle.polcert_rules.specs.Keys.{key_base, Fits}
+use Rattle.polcert_rules.proofs.Common.{IsNewest, max_option, key_base}
+use Rattle.polcert_rules.specs.Keys.{Fits}
 use Rattle.polcert_rules.proofs.Indexes.Newer.{IsSpan, is_deeper, newest_deeper, newest_here}
 use Rattle.polcert_rules.proofs.row_rules.RowRules.newest_after.Goals as goal
 

@@ -1,7 +1,6 @@
 use Rattle.std.proofs.Common.{◌+◌, ◌*◌, ◌^◌, ◌∷◌, [], None, get_or, subst, arith}
-use Rattle.polcert_cells.specs.declared.entries.Table.TheVariants.{Reward}
-use Rattle.polcert_rules.specs.Keys.{key_base, Fits, table_key}
-use Rattle.polcert_rules.specs.Steps.Noting.{IsNoted}
+use Rattle.polcert_rules.proofs.Common.{Reward, key_base, table_key, IsNoted}
+use Rattle.polcert_rules.specs.Keys.{Fits}
 use Rattle.polcert_rules.proofs.Indexes.Newer.{newest_here}
 use Rattle.polcert_rules.proofs.Indexes.NotedLaws.{noted_of_three}
 use Rattle.polcert_rules.proofs.row_rules.RowRules.note.Goals as goal

@@ -1,5 +1,5 @@
 use Rattle.std.proofs.Common.{◌+◌, ◌*◌, ◌^◌, ◌∷◌, [], refl, sym, subst, arith}
-use Rattle.polcert_rules.specs.Keys.{key_base}
+use Rattle.polcert_rules.proofs.Common.{key_base}
 use Rattle.polcert_rules.proofs.Indexes.Newer.{IsSpan, newest_here}
 use Rattle.polcert_rules.proofs.Indexes.NotedLaws.{noted_deeper}
 use Rattle.polcert_rules.proofs.row_rules.RowRules.note_after.Goals as goal

@@ -1,7 +1,7 @@
-use Rattle.std.proofs.Common.{◌^◌, List, subst}
-use Rattle.polcert_rules.specs.declared.index.Rule.{Rule}
-use Rattle.polcert_rules.specs.Keys.{key_base}
+use Rattle.std.proofs.Common.{◌+◌, ◌^◌, List, [], subst}
+use Rattle.polcert_rules.proofs.Common.{Rule, key_base}
 use Rattle.polcert_rules.proofs.Indexes.Newer.{IsSpan}
+use Rattle.polcert_rules.proofs.Keyed.KeyRanges.{none_between}
 use Rattle.polcert_rules.proofs.row_rules.RowRules.rules_after.Goals as goal
 
 pub returns-in-Some-clause-kept : goal.returns-in-Some-clause-kept
@@ -13,3 +13,9 @@ pub returns-in-None-clause-kept : goal.returns-in-None-clause-kept
 returns-in-None-clause-kept c =
     let kept = subst (λ n. IsSpan c.as_slice-rules.result.now c.rules_between.result.now c.args.low n) c.span.ensures c.rules_between.ensures.kept in
     subst (λ (rules : List Rule). IsSpan rules c.rules_between.result.now c.args.low (key_base ^ 2)) c.as_slice-rules.ensures.value kept
+
+pub returns-then-none_below-clause-kept : goal.returns-then-none_below-clause-kept
+returns-then-none_below-clause-kept c =
+    let kept = none_between c.as_slice-rules.result.now c.args.low (c.args.low + c.span.result) (c.none_below.ensures c.if-none_below.true) in
+    subst (λ (rules : List Rule). IsSpan rules [] c.args.low (key_base ^ 2)) c.as_slice-rules.ensures.value
+    (subst (λ n. IsSpan c.as_slice-rules.result.now [] c.args.low n) c.span.ensures kept)

@@ -1,7 +1,5 @@
 use Rattle.std.proofs.Common.{◌+◌, ◌*◌, ◌∷◌, subst}
-use Rattle.polcert_cells.specs.declared.entries.Table.TheVariants.{Reward}
-use Rattle.polcert_rules.specs.Keys.{table_key}
-use Rattle.polcert_rules.specs.Steps.RewardSearch.{Begins, IsAnswer}
+use Rattle.polcert_rules.proofs.Common.{Reward, table_key, Begins, IsAnswer}
 use Rattle.polcert_rules.proofs.RewardLaws.RewardKeys.{begins_first_of_all, begins_second_of_all}
 use Rattle.polcert_rules.proofs.row_rules.RowRules.some_begins.Goals as goal
 

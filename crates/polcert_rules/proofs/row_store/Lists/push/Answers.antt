@@ -1,6 +1,5 @@
 use Rattle.std.proofs.Common.{◌≡◌, ◌∙◌, ◌+◌, ◌++◌, ◌∷◌, [], length, map, ap, rules}
-use Rattle.polcert_rules.specs.declared.row_store.Part.{Part}
-use Rattle.polcert_rules.specs.Steps.Lists.{part_in}
+use Rattle.polcert_rules.proofs.Common.{Part, part_in}
 use Rattle.polcert_rules.proofs.Indexes.ListLaws.{one_more_list}
 use Rattle.polcert_rules.proofs.row_store.Lists.push.Goals as goal
 

@@ -1,6 +1,6 @@
 use Rattle.std.proofs.Common.{◌≡◌, ◌∙◌, Bool, List, Some, ap, sym}
 use Rattle.std.specs.List.{slice_get}
-use Rattle.std.proofs.lemmas.Option.{slice_get-get_or}
+use Rattle.polcert_rules.proofs.Common.{slice_get-get_or}
 use Rattle.polcert_rules.proofs.Indexes.KeptLaws.{proper_is}
 use Rattle.polcert_rules.proofs.row_store.RowStore.is_proper.Goals as goal
 

@@ -1,7 +1,5 @@
 use Rattle.std.proofs.Common.{◌∙◌, ◌*◌, ◌==◌, ◌∷◌, ◌++◌, [], refl, ap, arith}
-use Rattle.polcert_cells.specs.Elements.{most_elements}
-use Rattle.polcert_cells.specs.Numbers.{one}
-use Rattle.polcert_cells.specs.Sparse.{weight_at}
+use Rattle.polcert_rules.proofs.Common.{most_elements, one, weight_at}
 use Rattle.polcert_rules.proofs.RowLaws.SumLaws.{sum_is, sum_small, sparse_few}
 use Rattle.polcert_rules.proofs.row_store.RowStore.keep.Goals as goal
 

@@ -1,7 +1,6 @@
 use Rattle.std.proofs.Common.{◌∙◌, ◌≤◌, ◌*◌, ◌==◌, ◌∷◌, ◌++◌, [], length, refl, sym, ap, arith}
 use Rattle.std.proofs.Math.Nat.{mul-le-mul}
-use Rattle.polcert_cells.specs.Numbers.{one}
-use Rattle.polcert_cells.specs.Elements.{most_elements}
+use Rattle.polcert_rules.proofs.Common.{one, most_elements}
 use Rattle.polcert_rules.proofs.RowLaws.SumLaws.{total_scaled, sum_most}
 use Rattle.polcert_rules.proofs.row_store.RowStore.keep_numbers.Goals as goal
 

@@ -1,9 +1,5 @@
 use Rattle.std.proofs.Common.{◌∙◌, ◌≤◌, ◌*◌, ℕ, List, length, sym, ap, subst, arith}
-use Rattle.polcert_cells.specs.Numbers.{one}
-use Rattle.polcert_cells.specs.declared.elements.Cell.{Cell}
-use Rattle.polcert_cells.specs.Sparse.{weight_at, scaled_cells, IsRow, IsSparse}
-use Rattle.polcert_rules.specs.Steps.Merging.{given_at}
-use Rattle.polcert_rules.specs.Steps.Sources.{IsAfter}
+use Rattle.polcert_rules.proofs.Common.{one, Cell, weight_at, scaled_cells, IsRow, IsSparse, given_at, IsAfter}
 use Rattle.polcert_rules.proofs.Indexes.KeptLaws.{whole_small, full_row}
 use Rattle.polcert_rules.proofs.row_store.RowStore.keep_whole.Goals as goal
 

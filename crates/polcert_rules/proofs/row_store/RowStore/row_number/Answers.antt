@@ -1,9 +1,5 @@
 use Rattle.std.proofs.Common.{◌≡◌, ◌∙◌, ◌≤◌, ◌*◌, ◌==◌, List, length, refl, sym, ap, subst, arith, rules}
-use Rattle.polcert_cells.specs.Numbers.{one}
-use Rattle.polcert_cells.specs.declared.elements.Cell.{Cell}
-use Rattle.polcert_cells.specs.Sparse.{weight_at, IsSparse, IsRow}
-use Rattle.polcert_rules.specs.Steps.Lists.{stored_cells}
-use Rattle.polcert_rules.specs.Steps.Merging.{weight_in}
+use Rattle.polcert_rules.proofs.Common.{one, Cell, weight_at, IsSparse, IsRow, stored_cells, weight_in}
 use Rattle.polcert_rules.proofs.Indexes.KeptLaws.{at_number, cells_row, row_within, numbers_stay, weighed_row}
 use Rattle.polcert_rules.proofs.RowLaws.RowWeights.{finished, finished_small, shared_weights}
 use Rattle.polcert_rules.proofs.row_store.RowStore.row_number.Goals as goal

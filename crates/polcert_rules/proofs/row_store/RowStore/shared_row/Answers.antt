@@ -1,7 +1,5 @@
 use Rattle.std.proofs.Common.{List, refl, sym, subst}
-use Rattle.polcert_rules.specs.declared.row_store.RowOrigin.{RowOrigin}
-use Rattle.polcert_rules.specs.declared.row_store.SharedRow.{SharedRow}
-use Rattle.polcert_rules.specs.Steps.Sources.{IsFrom, IsShared}
+use Rattle.polcert_rules.proofs.Common.{RowOrigin, SharedRow, IsFrom, IsShared}
 use Rattle.polcert_rules.proofs.Indexes.KeptLaws.{from_row, known_row, weighed_row, after_stays, after_kept, after_row, one_more_common}
 use Rattle.polcert_rules.proofs.row_store.RowStore.shared_row.Goals as goal
 

@@ -1,8 +1,6 @@
 use Rattle.std.proofs.Common.{◌∙◌, List, sym, ap}
-use Rattle.polcert_cells.specs.declared.elements.Cell.{Cell}
-use Rattle.polcert_cells.specs.Sparse.{weight_at}
+use Rattle.polcert_rules.proofs.Common.{Cell, weight_at, stored_cells}
 use Rattle.polcert_cells.proofs.ScaledRows.{scaled_weight}
-use Rattle.polcert_rules.specs.Steps.Lists.{stored_cells}
 use Rattle.polcert_rules.proofs.rows.Rows.at.Goals as goal
 
 pub cell_weight-requires : goal.cell_weight-requires

@@ -1,5 +1,5 @@
 use Rattle.std.proofs.Common.{◌≡◌, ◌∙◌, ◌+◌, ◌<◌, ℕ, List, ◌++◌, ◌∷◌, [], ap, arith}
-use Rattle.polcert_rules.specs.Keys.{key_base}
+use Rattle.polcert_rules.proofs.Common.{key_base}
 use Rattle.polcert_rules.proofs.RowLaws.SoundRows.{sound_within}
 use Rattle.polcert_rules.proofs.RowLaws.SplitLaws.{numbers_within}
 use Rattle.polcert_rules.proofs.Indexes.BuiltLaws.{given_is, lines_none, lines_more, lines_before, all_below, lines_rows, lines_proper, wrong_row}

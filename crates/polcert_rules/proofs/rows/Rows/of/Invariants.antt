@@ -1,4 +1,4 @@
-use Rattle.polcert_rules.specs.Steps.Sources.{AreKept, AreLines}
+use Rattle.polcert_rules.proofs.Common.{AreKept, AreLines}
 use Rattle.polcert_rules.proofs.rows.Rows.of.Given as goal
 
 -- the rows of the actions so far are kept, and proper

@@ -1,9 +1,7 @@
 use Rattle.std.proofs.Common.{List, ap, subst}
-use Rattle.polcert_cells.specs.declared.elements.Cell.{Cell}
-use Rattle.polcert_cells.specs.Sparse.{weight_at, IsRow}
+use Rattle.polcert_rules.proofs.Common.{Cell, weight_at, IsRow, stored_cells}
 use Rattle.polcert_rules.specs.declared.rows.StoredRow.{StoredRow}
 use Rattle.polcert_rules.specs.RowTables.{row_at}
-use Rattle.polcert_rules.specs.Steps.Lists.{stored_cells}
 use Rattle.polcert_rules.proofs.rows.Rows.row.Goals as goal
 
 pub returns-in-Sparse : goal.returns-in-Sparse

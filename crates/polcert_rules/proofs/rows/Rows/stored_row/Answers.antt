@@ -1,7 +1,6 @@
 use Rattle.std.proofs.Common.{subst}
-use Rattle.polcert_cells.specs.Sparse.{IsSparse}
+use Rattle.polcert_rules.proofs.Common.{IsSparse, stored_cells}
 use Rattle.polcert_rules.specs.RowTables.{RowTable}
-use Rattle.polcert_rules.specs.Steps.Lists.{stored_cells}
 use Rattle.polcert_rules.proofs.Indexes.KeptLaws.{at_number}
 use Rattle.polcert_rules.proofs.rows.Rows.stored_row.Goals as goal
 

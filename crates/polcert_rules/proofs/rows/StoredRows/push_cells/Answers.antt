@@ -1,7 +1,5 @@
 use Rattle.std.proofs.Common.{◌≡◌, ◌∙◌, ◌++◌, ◌∷◌, [], length, map, refl, ap, rules}
-use Rattle.polcert_rules.specs.declared.rows.RowForm.TheVariants.{Sparse}
-use Rattle.polcert_rules.specs.declared.rows.RowPart.{RowPart}
-use Rattle.polcert_rules.specs.Steps.Lists.{row_in}
+use Rattle.polcert_rules.proofs.Common.{Sparse, RowPart, row_in}
 use Rattle.polcert_rules.proofs.Indexes.ListLaws.{push_sparse}
 use Rattle.polcert_rules.proofs.rows.StoredRows.push_cells.Goals as goal
 

@@ -1,8 +1,5 @@
 use Rattle.std.proofs.Common.{◌≡◌, ◌∙◌, ◌++◌, ◌∷◌, [], length, map, refl, ap, rules}
-use Rattle.polcert_cells.specs.Sparse.{scaled_cells}
-use Rattle.polcert_rules.specs.declared.rows.RowForm.TheVariants.{Full}
-use Rattle.polcert_rules.specs.declared.rows.RowPart.{RowPart}
-use Rattle.polcert_rules.specs.Steps.Lists.{row_in}
+use Rattle.polcert_rules.proofs.Common.{scaled_cells, Full, RowPart, row_in}
 use Rattle.polcert_rules.proofs.Indexes.ListLaws.{push_full}
 use Rattle.polcert_rules.proofs.rows.StoredRows.push_numbers.Goals as goal
 
