@@ -1,11 +1,7 @@
 -- A lexeme more of an item that was begun, and an item that begins.
 use Rattle.std.proofs.Common.{◌≡◌, ◌∙◌, false, Some, List, [], ◌∷◌, ◌++◌, refl, ap}
 use Rattle.std.proofs.lemmas.List.{append_assoc}
-use Rattle.polcert_text.specs.Cut.{Lexeme}
-use Rattle.polcert_cells.specs.declared.words.Topic.{Topic}
-use Rattle.polcert_cells.specs.Words.{topic, begins_item}
-use Rattle.polcert_format.specs.Text.{ModelSoFar}
-use Rattle.polcert_format.specs.Reading.{AreRightItems, IsWithinItem}
+use Rattle.polcert_format.proofs.Common.{Lexeme, Topic, topic, begins_item, ModelSoFar, AreRightItems, IsWithinItem}
 use Rattle.polcert_cells.proofs.Basics.{or_false_from}
 use Rattle.polcert_format.proofs.Dividing.{no_word_append}
 

@@ -3,35 +3,18 @@
 use Rattle.std.proofs.Common.{◌≡◌, ◌∙◌, ℕ, ◌*◌, ◌<◌, ◌≤◌, None, List, [], ◌∷◌, ◌++◌, length, sym, ap, subst, arith, Some, ◌+◌}
 use Rattle.std.proofs.lemmas.List.{append_assoc, append-nil}
 use Rattle.std.proofs.Math.Nat.{mul-le-mul}
-use Rattle.polcert_text.specs.Cut.{Lexeme}
-use Rattle.polcert_cells.specs.declared.entries.Entry.{Entry}
-use Rattle.polcert_cells.specs.declared.entries.Table.{Table}
-use Rattle.polcert_cells.specs.declared.entries.Table.TheVariants.{Transition, Observation, Reward}
-use Rattle.polcert_cells.specs.declared.words.Topic.{Topic}
-use Rattle.polcert_cells.specs.declared.words.Topic.TheVariants.{Start, Cells}
-use Rattle.polcert_cells.specs.Elements.{count_of}
-use Rattle.polcert_cells.specs.Entry.{IsEntry}
-use Rattle.polcert_cells.specs.Preamble.{Preamble, observed}
+use Rattle.polcert_format.proofs.Common.{Lexeme, Entry, Table, Transition, Observation, Reward, Topic, Start, Cells, count_of, IsEntry, Preamble, observed, ItemFault, TextTokens, IsDecided, word_place, HasForm, IsPossible, Item, IsDivided, IsLateIn, word_fault, IsWrong, IsReason, Stops, at_lexeme, at_number, at_end, StopsInBody, IsOfTokens, EndsPossible, at_once, in_item, StandsRight, before_body, in_body, after_body, of_first_number, of_tokens, TooManyCells, topic, ModelSoFar, nothing_known, AreRight}
 use Rattle.polcert_cells.proofs.EntryLaws.{one_entry}
-use Rattle.polcert_format.specs.declared.fault.ItemFault.{ItemFault}
-use Rattle.polcert_format.specs.FirstWrong.{TextTokens, IsDecided, word_place}
-use Rattle.polcert_format.specs.Forms.{HasForm, PassesCellLimit, IsPossible}
+use Rattle.polcert_format.specs.Forms.{PassesCellLimit}
 use Rattle.polcert_format.specs.Forms as shapes
-use Rattle.polcert_format.specs.Items.{Item, IsDivided}
-use Rattle.polcert_format.specs.FirstNumber.{IsLateIn}
 use Rattle.polcert_format.specs.Limits.{IsLarge, HasFewPairs, HasFewCells, most_cells}
-use Rattle.polcert_format.specs.Order.{word_fault}
 use Rattle.polcert_format.specs.Printable.{IsPrintable}
-use Rattle.polcert_format.specs.Reading.{IsWrong}
-use Rattle.polcert_format.specs.Reasons.{IsReason, PassesLimit}
-use Rattle.polcert_format.specs.Refusals.{Stops, at_lexeme, at_number, at_end, StopsInBody, IsOfTokens, EndsPossible, at_once, in_item, StandsRight, before_body, in_body, after_body, of_first_number, of_tokens}
-use Rattle.polcert_format.specs.declared.fault.ItemFault.TheVariants.{Token, TextTooLong, TooManyCells}
-use Rattle.polcert_cells.specs.Words.{topic}
+use Rattle.polcert_format.specs.Reasons.{PassesLimit}
+use Rattle.polcert_format.specs.declared.fault.ItemFault.TheVariants.{Token, TextTooLong}
 use Rattle.polcert_cells.proofs.Basics.{some≢none}
 use Rattle.polcert_format.proofs.ReadLaws.{no_empty}
 use Rattle.polcert_format.proofs.Dividing.{empty_division}
 use Rattle.polcert_format.specs.Text as texts
-use Rattle.polcert_format.specs.Text.{ModelSoFar, nothing_known, AreRight}
 use Rattle.polcert_format.proofs.DecidedLaws.{same_cut, same_length, nothing_decided}
 use Rattle.polcert_format.proofs.ItemLaws.{one_division}
 use Rattle.polcert_format.proofs.OrderLaws.{cells_stand}

@@ -1,10 +1,7 @@
 -- No two lexemes of a text stand at one place, so that a place tells which lexeme of a body is meant.
 use Rattle.std.proofs.Common.{◌≡◌, ◌∙◌, ℕ, ◌+◌, ◌≤◌, Option, List, [], ◌∷◌, ◌++◌, length, flat_map, refl, ap, subst, arith}
-use Rattle.polcert_text.specs.Cut.{Lexeme, Rest, TakesToken, IsCut, text_rest, text_limit}
-use Rattle.polcert_text.specs.declared.tokens.TokenFault.{TokenFault}
+use Rattle.polcert_format.proofs.Common.{Lexeme, Rest, TakesToken, IsCut, text_rest, text_limit, TokenFault, TextTokens, AreTokensOf, Item, lexemes_of, IsDivided}
 use Rattle.polcert_cells.proofs.Basics.{same_head, same_tail}
-use Rattle.polcert_format.specs.FirstWrong.{TextTokens, AreTokensOf}
-use Rattle.polcert_format.specs.Items.{Item, lexemes_of, IsDivided}
 use Rattle.polcert_format.proofs.DecidedLaws.{SameCut}
 use Rattle.polcert_format.proofs.Dividing.{all_append}
 use Rattle.polcert_text.proofs.Scanning.SomeCut.{has_bytes}

@@ -1,12 +1,7 @@
 -- What is decided at an item's word is one thing, or nothing.
 use Rattle.std.proofs.Common.{◌≡◌, ◌∙◌, ℕ, suc, ◌+◌, Option, Some, None, List, [], ◌∷◌, ◌++◌, length, refl, sym, ap, subst, arith, length-append}
-use Rattle.polcert_format.specs.declared.fault.ItemFault.{ItemFault}
-use Rattle.polcert_cells.specs.declared.words.Topic.{Topic}
-use Rattle.polcert_cells.specs.Words.{topic}
-use Rattle.polcert_format.specs.Items.{Item, IsDivided}
-use Rattle.polcert_format.specs.Text.{ModelSoFar, nothing_known, AreRight}
-use Rattle.polcert_format.specs.Order.{preamble_fault, word_fault}
-use Rattle.polcert_format.specs.FirstWrong.{TextTokens, IsDecided, before_items, at_word, at_end}
+use Rattle.polcert_format.proofs.Common.{ItemFault, Topic, topic, Item, IsDivided, ModelSoFar, nothing_known, AreRight, preamble_fault, word_fault, TextTokens, IsDecided}
+use Rattle.polcert_format.specs.FirstWrong.{before_items, at_word, at_end}
 use Rattle.polcert_cells.proofs.Basics.{one_some, same_head, same_tail}
 use Rattle.polcert_format.proofs.ItemLaws.{one_division}
 use Rattle.polcert_format.proofs.TextLaws.{one_known}

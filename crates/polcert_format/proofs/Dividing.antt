@@ -1,12 +1,7 @@
 -- Lexemes divided into items, put together.
 use Rattle.std.proofs.Common.{◌≡◌, ◌∙◌, true, false, Option, Some, is_some, List, [], ◌∷◌, ◌++◌, flat_map, refl, sym, ap, arith}
 use Rattle.std.proofs.lemmas.List.{append_assoc}
-use Rattle.std.proofs.lemmas.List.Elements.{All-cons, All-nil, All-append}
-use Rattle.std.specs.List.{list_any}
-use Rattle.polcert_text.specs.Cut.{Lexeme}
-use Rattle.polcert_cells.specs.declared.words.Topic.{Topic}
-use Rattle.polcert_cells.specs.Words.{topic, begins_item}
-use Rattle.polcert_format.specs.Items.{Item, lexemes_of, IsItem, IsDivided}
+use Rattle.polcert_format.proofs.Common.{All-cons, All-nil, All-append, list_any, Lexeme, Topic, topic, begins_item, Item, lexemes_of, IsItem, IsDivided}
 use Rattle.polcert_cells.proofs.Basics.{or_false, or_false_from}
 
 pub all_append : (xs ys : List Item) → flat_map lexemes_of (xs ++ ys) ≡ flat_map lexemes_of xs ++ flat_map lexemes_of ys

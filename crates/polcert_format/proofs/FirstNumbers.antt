@@ -1,20 +1,9 @@
 -- The first number of a start item is refused for one reason at most, and where nothing else is decided.
 use Rattle.std.proofs.Common.{◌≡◌, ℕ, ◌+◌, Bool, true, false, Some, List, [], ◌∷◌, ◌++◌, length, ℤ, subst, arith}
-use Rattle.polcert_text.specs.Cut.{Lexeme}
-use Rattle.polcert_text.specs.declared.tokens.TokenKind.TheVariants.{Numeral}
-use Rattle.polcert_text.specs.declared.number.NumberFault.{NumberFault}
+use Rattle.polcert_format.proofs.Common.{Lexeme, Numeral, NumberFault, Topic, Start, IsMillionths, topic, ItemFault, IsLateIn, TextTokens, IsDecided, Item, IsDivided, IsRefusedNumber, IsNoFraction, ModelSoFar, nothing_known, AreRight}
 use Rattle.polcert_text.proofs.TextLaws.{exact_not_refused}
-use Rattle.polcert_cells.specs.declared.words.Topic.{Topic}
-use Rattle.polcert_cells.specs.declared.words.Topic.TheVariants.{Start}
-use Rattle.polcert_cells.specs.Numbers.{IsMillionths}
-use Rattle.polcert_cells.specs.Words.{topic}
 use Rattle.polcert_cells.proofs.Basics.{one_some}
-use Rattle.polcert_format.specs.declared.fault.ItemFault.{ItemFault}
-use Rattle.polcert_format.specs.FirstNumber.{BeginsWithNumber, BeginsWithDigits, IsLate, IsLateIn, ends_cleanly, states_known}
-use Rattle.polcert_format.specs.FirstWrong.{TextTokens, IsDecided}
-use Rattle.polcert_format.specs.Items.{Item, IsDivided}
-use Rattle.polcert_format.specs.Reasons.{IsRefusedNumber, IsNoFraction}
-use Rattle.polcert_format.specs.Text.{ModelSoFar, nothing_known, AreRight}
+use Rattle.polcert_format.specs.FirstNumber.{BeginsWithNumber, BeginsWithDigits, IsLate, ends_cleanly, states_known}
 use Rattle.polcert_format.specs.Wants.{may_be_state}
 use Rattle.polcert_format.proofs.DecidedLaws.{nothing_decided, same_cut, same_length}
 use Rattle.polcert_format.proofs.ItemLaws.{one_division}

@@ -1,15 +1,6 @@
 -- An entry begins with a colon and a place.
 use Rattle.std.proofs.Common.{◌≡◌, ◌==◌, Bool, true, List, ◌∷◌, ◌++◌, length, sym, subst, arith}
-use Rattle.std.specs.List.{list_any}
-use Rattle.polcert_text.specs.Cut.{Lexeme}
-use Rattle.polcert_text.specs.declared.tokens.TokenKind.TheVariants.{Colon}
-use Rattle.polcert_cells.specs.declared.entries.Table.{Table}
-use Rattle.polcert_cells.specs.declared.entries.Place.{Place}
-use Rattle.polcert_cells.specs.declared.entries.Body.{Body}
-use Rattle.polcert_cells.specs.declared.elements.Elements.{Elements}
-use Rattle.polcert_cells.specs.Entry.{ArePlaces, IsEntry, forms}
-use Rattle.polcert_cells.specs.declared.entries.Entry.{Entry}
-use Rattle.polcert_cells.specs.Preamble.{Preamble}
+use Rattle.polcert_format.proofs.Common.{list_any, Lexeme, Colon, Table, Place, Body, Elements, ArePlaces, IsEntry, forms, Entry, Preamble}
 
 -- a colon and a place at the front
 pub record BeginsWithPlace (body : List Lexeme) : Type 0 where

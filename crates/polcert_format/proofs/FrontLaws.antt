@@ -1,13 +1,9 @@
 -- What the tokens taken leave, and the tokens of the whole text.
 use Rattle.std.proofs.Common.{◌≡◌, ◌∙◌, ℕ, ◌+◌, ◌-◌, ◌≤◌, Bool, true, false, cond, Option, Some, None, List, ◌++◌, length, take, nat_lt, refl, arith, length-take-le}
-use Rattle.std.proofs.lemmas.Bool.Decides.{nat_tests}
-use Rattle.polcert_text.specs.Cut.{Lexeme, Rest, IsCut, text_rest, end_place, text_limit}
-use Rattle.polcert_text.specs.declared.tokens.TokenFault.{TokenFault}
-use Rattle.polcert_text.specs.declared.tokens.TokenFault.TheVariants.{TextTooLong}
+use Rattle.polcert_format.proofs.Common.{nat_tests, Lexeme, Rest, IsCut, text_rest, end_place, text_limit, TokenFault, TextTooLong, TextTokens, AreTokensOf}
 use Rattle.polcert_text.specs.TakenTokens.{Taken, nothing, token}
 use Rattle.polcert_text.proofs.Taken.TakenTokens.{cut_taken}
 use Rattle.polcert_text.proofs.TextLaws.{one_cut}
-use Rattle.polcert_format.specs.FirstWrong.{TextTokens, AreTokensOf}
 use Rattle.polcert_format.proofs.PlaceLaws.{token_leaves}
 
 -- the rest ends where the text does

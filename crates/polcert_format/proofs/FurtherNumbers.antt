@@ -1,8 +1,7 @@
 -- How numbers and places continue after those that were read.
 use Rattle.std.proofs.Common.{◌≡◌, List, ◌∷◌, ℤ, arith}
-use Rattle.polcert_text.specs.Cut.{Lexeme}
-use Rattle.polcert_text.specs.declared.tokens.TokenKind.TheVariants.{Numeral, Plus, Minus}
-use Rattle.polcert_cells.specs.Numbers.{AreNumbers}
+use Rattle.polcert_format.proofs.Common.{Lexeme, Numeral, AreNumbers}
+use Rattle.polcert_text.specs.declared.tokens.TokenKind.TheVariants.{Plus, Minus}
 
 -- a lexeme that is no numeral and no sign begins no numbers
 pub begins_no_number : {l : Lexeme} {ls : List Lexeme} {hs : List ℤ} → (l.kind ≡ Numeral → ⊥) → (l.kind ≡ Plus → ⊥) → (l.kind ≡ Minus → ⊥) → AreNumbers (l ∷ ls) hs → ⊥

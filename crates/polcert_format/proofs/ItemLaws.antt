@@ -1,10 +1,7 @@
 -- Every list of lexemes is divided into items in just one way.
 use Rattle.std.proofs.Common.{◌≡◌, ◌∙◌, true, false, ⊎_elim, List, [], ◌∷◌, ◌++◌, flat_map, All, refl, sym, ap, arith}
-use Rattle.std.proofs.lemmas.List.Elements.{All-head, All-tail, All-cons, All-nil}
-use Rattle.std.specs.List.{list_any}
-use Rattle.polcert_text.specs.Cut.{Lexeme}
-use Rattle.polcert_cells.specs.Words.{begins_item}
-use Rattle.polcert_format.specs.Items.{Item, lexemes_of, IsItem, IsDivided}
+use Rattle.polcert_format.proofs.Common.{All-cons, All-nil, list_any, Lexeme, begins_item, Item, lexemes_of, IsItem, IsDivided}
+use Rattle.std.proofs.lemmas.List.Elements.{All-head, All-tail}
 use Rattle.polcert_cells.proofs.Basics.{true≢false, or_false, or_false_from, is_true_or_false, cons≢nil, same_head, same_tail}
 
 abbrev all_lexemes : List Item → List Lexeme

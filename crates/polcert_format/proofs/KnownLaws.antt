@@ -1,9 +1,7 @@
 -- The preamble that is known is the complete one, where all its lines came.
 use Rattle.std.proofs.Common.{◌≡◌, ap, arith}
-use Rattle.polcert_cells.specs.declared.entries.Table.{Table}
-use Rattle.polcert_cells.specs.Preamble.{Preamble, dimensions}
+use Rattle.polcert_format.proofs.Common.{Table, Preamble, dimensions, ModelSoFar, HasLines, IsComplete}
 use Rattle.polcert_format.specs.KnownPreamble.{preamble_in, indices_in}
-use Rattle.polcert_format.specs.Text.{ModelSoFar, HasLines, IsComplete}
 
 pub same_preamble : (k : ModelSoFar) (p : Preamble) → HasLines k p → preamble_in k ≡ p
 same_preamble k p h = grind arith

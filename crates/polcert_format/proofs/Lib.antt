@@ -1,3 +1,4 @@
+mod Common
 pub mod CellLimits
 pub mod Climbing
 pub mod DecidedLaws

@@ -1,27 +1,14 @@
 -- What a right text denotes is within its limits.
 use Rattle.std.proofs.Common.{◌≡◌, ℕ, zero, suc, ◌+◌, ◌*◌, ◌<◌, ◌≤◌, Bool, true, ◌⊎◌, ⊎_elim, Option, Some, None, unwrap_or, List, [], ◌∷◌, ◌++◌, get_or, ℤ, pos, neg_ℤ, sym, ap, subst, arith, unsigned_abs}
 use Rattle.std.proofs.lemmas.List.{length-map}
-use Rattle.polcert_text.specs.Numbers.{largest}
-use Rattle.polcert_text.specs.Cut.{Lexeme}
-use Rattle.polcert_cells.specs.declared.entries.Table.TheVariants.{Reward}
-use Rattle.polcert_cells.specs.declared.words.Topic.{Topic}
-use Rattle.polcert_cells.specs.Numbers.{IsMillionths, AreNumbers}
+use Rattle.polcert_format.proofs.Common.{largest, Lexeme, Reward, Topic, IsMillionths, AreNumbers, Elements, count_of, most_states, most_actions, most_observations, most_pairs, AreElements, Item, Preamble, observed, Body, Entry, IsBody, Meaning, sum_below, states_of, observations_of, ModelSoFar, nothing_known, IsRight, AreRight, Denotes, StartWeights}
 use Rattle.polcert_cells.specs.Numbers as numbers
-use Rattle.polcert_cells.specs.declared.elements.Elements.{Elements}
-use Rattle.polcert_cells.specs.Elements.{count_of, most_states, most_actions, most_observations, most_pairs, AreElements}
-use Rattle.polcert_format.specs.Items.{Item}
-use Rattle.polcert_cells.specs.Preamble.{Preamble, observed}
-use Rattle.polcert_cells.specs.declared.entries.Body.{Body}
 use Rattle.polcert_cells.specs.declared.entries.Body.TheVariants.{Rewards}
-use Rattle.polcert_cells.specs.declared.entries.Entry.{Entry}
-use Rattle.polcert_cells.specs.Entry.{IsBody}
 use Rattle.polcert_cells.specs.Entry as entries
 use Rattle.polcert_cells.specs.Cells.{last_covering, reward, reward_of, reward_in, value_or, IsLastCovering, none}
-use Rattle.polcert_cells.specs.Meaning.{Meaning, reward_index, sum_below, IsCount, HasLimitedNumbers, states_of, observations_of}
+use Rattle.polcert_cells.specs.Meaning.{reward_index, IsCount, HasLimitedNumbers}
 use Rattle.polcert_format.specs.Text as texts
-use Rattle.polcert_format.specs.Text.{ModelSoFar, nothing_known, IsRight, AreRight, Denotes}
 use Rattle.polcert_cells.proofs.NumberLaws.{millionth_pos}
-use Rattle.polcert_cells.specs.declared.elements.StartWeights.{StartWeights}
 use Rattle.polcert_cells.specs.Start.{equal_weights}
 use Rattle.polcert_cells.proofs.CellLaws.{last_is}
 use Rattle.polcert_cells.proofs.StartLimits.{IsFair, start_fair, no_start_fair}

@@ -1,27 +1,12 @@
 -- A text is refused as a model for one reason.
 use Rattle.std.proofs.Common.{◌≡◌, ◌∙◌, ℕ, ◌+◌, Some, List, [], ◌∷◌, ◌++◌, length, refl, sym, ap, subst, arith}
 use Rattle.std.proofs.Math.Path.{subst₂}
-use Rattle.polcert_text.specs.Cut.{Lexeme}
-use Rattle.polcert_text.specs.declared.tokens.TokenFault.{TokenFault}
-use Rattle.polcert_cells.specs.declared.entries.Table.{Table}
-use Rattle.polcert_cells.specs.declared.words.Topic.{Topic}
-use Rattle.polcert_cells.specs.Meaning.{Meaning, meaning_of}
-use Rattle.polcert_cells.specs.Preamble.{Preamble}
-use Rattle.polcert_cells.specs.Rows.{IsFirstWrongRow}
-use Rattle.polcert_cells.specs.Words.{topic}
+use Rattle.polcert_format.proofs.Common.{Lexeme, TokenFault, Table, Topic, Meaning, meaning_of, Preamble, IsFirstWrongRow, topic, ItemFault, Number, ProbabilityRange, DiscountRange, ModelFault, TextTokens, AreTokensOf, word_place, IsPossible, Item, IsDivided, IsOfValue, IsReason, Stops, StopsInBody, IsOfTokens, EndsPossible, at_once, in_item, StandsRight, before_body, in_body, after_body, of_first_number, of_tokens, place_or, ModelSoFar, nothing_known, AreRight, IsRightText}
 use Rattle.polcert_cells.proofs.Basics.{one_some, some≢none}
-use Rattle.polcert_format.specs.declared.fault.ItemFault.{ItemFault}
-use Rattle.polcert_format.specs.declared.fault.ItemFault.TheVariants.{Number, ProbabilityRange, DiscountRange}
-use Rattle.polcert_format.specs.declared.fault.ModelFault.{ModelFault}
 use Rattle.polcert_format.specs.declared.fault.ModelFault.TheVariants as model_faults
-use Rattle.polcert_format.specs.FirstWrong.{TextTokens, AreTokensOf, word_place}
-use Rattle.polcert_format.specs.Forms.{IsPossible}
-use Rattle.polcert_format.specs.Items.{Item, IsDivided}
-use Rattle.polcert_format.specs.Misfits.{IsOfValue}
-use Rattle.polcert_format.specs.Reasons.{IsReason, InItem}
-use Rattle.polcert_format.specs.Refusals.{IsItemRefusal, Stops, StopsInBody, IsOfTokens, EndsPossible, at_once, in_item, StandsRight, before_body, in_body, after_body, of_first_number, of_tokens, IsItemPlaced, place_or}
+use Rattle.polcert_format.specs.Reasons.{InItem}
+use Rattle.polcert_format.specs.Refusals.{IsItemRefusal, IsItemPlaced}
 use Rattle.polcert_format.specs.RefusedTexts.{IsRefusedModelText}
-use Rattle.polcert_format.specs.Text.{ModelSoFar, nothing_known, AreRight, IsRightText}
 use Rattle.polcert_format.proofs.CellLimits.{only_limit}
 use Rattle.polcert_format.proofs.Climbing.{tokens_climb, body_climbs}
 use Rattle.polcert_format.proofs.DecidedLaws.{SameCut, same_cut, same_length}

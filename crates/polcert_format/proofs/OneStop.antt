@@ -2,16 +2,10 @@
 use Rattle.std.proofs.Common.{◌≡◌, ◌∙◌, ℕ, true, false, List, [], ◌∷◌, ◌++◌, refl, sym, ap, subst, arith, rules}
 use Rattle.std.proofs.Math.Path.{subst₂}
 use Rattle.std.proofs.lemmas.List.{append_assoc, append-nil}
-use Rattle.polcert_text.specs.Cut.{Lexeme}
-use Rattle.polcert_text.specs.declared.tokens.TokenKind.TheVariants.{Numeral}
-use Rattle.polcert_cells.specs.declared.words.Topic.{Topic}
+use Rattle.polcert_format.proofs.Common.{Lexeme, Numeral, Topic, ItemFault, HasForm, IsPossible, IsOfValue, is_sign, Stops, at_lexeme, at_number, at_end, place_or, ModelSoFar}
 use Rattle.polcert_cells.proofs.Basics.{true≢false, cons≢nil, same_head, same_tail}
-use Rattle.polcert_format.specs.declared.fault.ItemFault.{ItemFault}
-use Rattle.polcert_format.specs.Forms.{HasForm, HasNoForm, IsPossible}
-use Rattle.polcert_format.specs.Misfits.{Expected, IsOfValue, IsMisfit, of_value, of_place, tests_value}
-use Rattle.polcert_format.specs.Reasons.{is_sign}
-use Rattle.polcert_format.specs.Refusals.{Stops, at_lexeme, at_number, at_end, place_or}
-use Rattle.polcert_format.specs.Text.{ModelSoFar}
+use Rattle.polcert_format.specs.Forms.{HasNoForm}
+use Rattle.polcert_format.specs.Misfits.{Expected, IsMisfit, of_value, of_place, tests_value}
 use Rattle.polcert_format.specs.Wants.{expected}
 use Rattle.polcert_format.proofs.Climbing.{Climbs}
 use Rattle.polcert_format.proofs.OneValue.{ValueReason, one_value_reason, no_reason_after_sign}

@@ -1,14 +1,8 @@
 -- At one place of a body one number stands, and its value is refused for one reason.
 use Rattle.std.proofs.Common.{◌≡◌, ◌∙◌, ℕ, Bool, true, List, [], ◌∷◌, ◌++◌, refl, sym, ap, subst, arith}
-use Rattle.polcert_text.specs.Cut.{Lexeme}
-use Rattle.polcert_text.specs.declared.tokens.TokenKind.TheVariants.{Numeral}
-use Rattle.polcert_text.specs.declared.number.NumberFault.{NumberFault}
+use Rattle.polcert_format.proofs.Common.{Lexeme, Numeral, NumberFault, Topic, Discount, ItemFault, Number, ProbabilityRange, DiscountRange, IsRefusedNumber, IsNoFraction, is_sign}
 use Rattle.polcert_text.proofs.TextLaws.{one_exact_fault}
-use Rattle.polcert_cells.specs.declared.words.Topic.{Topic}
-use Rattle.polcert_cells.specs.declared.words.Topic.TheVariants.{Discount}
-use Rattle.polcert_format.specs.declared.fault.ItemFault.{ItemFault}
-use Rattle.polcert_format.specs.declared.fault.ItemFault.TheVariants.{Number, ProbabilityRange, DiscountRange}
-use Rattle.polcert_format.specs.Reasons.{NumberStandsIn, IsRefusedNumber, IsNoFraction, IsOfProbabilities, is_sign, ends_in_sign}
+use Rattle.polcert_format.specs.Reasons.{NumberStandsIn, IsOfProbabilities, ends_in_sign}
 use Rattle.polcert_format.proofs.Climbing.{Climbs, one_lexeme}
 use Rattle.polcert_format.proofs.FirstNumbers.{OfNumerals, no_fraction_numeral, fraction_not_refused}
 

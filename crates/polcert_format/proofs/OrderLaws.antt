@@ -1,20 +1,11 @@
 -- What is decided at an item's word is so: the items of such a topic aren't right there, or the preamble is complete.
 use Rattle.std.proofs.Common.{◌≡◌, ◌∙◌, ℕ, ◌≤◌, Bool, true, false, cond, ◌||◌, ◌&&◌, Option, Some, None, is_some, unwrap_or, List, [], nat_lt, refl, sym, arith}
-use Rattle.std.proofs.lemmas.Bool.Decides.{nat_tests}
-use Rattle.polcert_text.specs.Cut.{Lexeme}
-use Rattle.polcert_format.specs.declared.fault.ItemFault.{ItemFault}
-use Rattle.polcert_format.specs.declared.fault.ItemFault.TheVariants.{DuplicateLine, LateLine, MissingLine, TooManyCells}
-use Rattle.polcert_cells.specs.declared.entries.Entry.{Entry}
-use Rattle.polcert_cells.specs.declared.entries.Table.{Table}
+use Rattle.polcert_format.proofs.Common.{nat_tests, Lexeme, ItemFault, TooManyCells, Entry, Table, Topic, Discount, Start, Cells, Elements, count_of, most_pairs, Preamble, observed, ModelSoFar, HasLines, IsComplete, IsRight, preamble_fault, word_fault, IsWrong}
+use Rattle.polcert_format.specs.declared.fault.ItemFault.TheVariants.{DuplicateLine, LateLine, MissingLine}
 use Rattle.polcert_cells.specs.Entry.{MayBeGiven}
-use Rattle.polcert_cells.specs.declared.words.Topic.{Topic}
-use Rattle.polcert_cells.specs.declared.words.Topic.TheVariants.{Discount, Values, States, Actions, Observations, Start, Cells}
-use Rattle.polcert_cells.specs.declared.elements.Elements.{Elements}
-use Rattle.polcert_cells.specs.Elements.{count_of, most_pairs}
-use Rattle.polcert_cells.specs.Preamble.{Preamble, observed}
-use Rattle.polcert_format.specs.Text.{ModelSoFar, IsInPreamble, HasLines, IsComplete, IsRight}
-use Rattle.polcert_format.specs.Order.{has_entries, has_all_lines, count_or, count_in, pairs_are_too_many, preamble_fault, is_unobserved, fault_after, word_fault}
-use Rattle.polcert_format.specs.Reading.{IsWrong}
+use Rattle.polcert_cells.specs.declared.words.Topic.TheVariants.{Values, States, Actions, Observations}
+use Rattle.polcert_format.specs.Text.{IsInPreamble}
+use Rattle.polcert_format.specs.Order.{has_entries, has_all_lines, count_or, count_in, pairs_are_too_many, is_unobserved, fault_after}
 use Rattle.polcert_cells.proofs.Basics.{some≢none}
 
 -- ---- a complete preamble has no fault

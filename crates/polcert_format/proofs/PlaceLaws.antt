@@ -1,14 +1,11 @@
 -- The places of a text's lexemes rise, so that a refusal lies in its item.
 use Rattle.std.proofs.Common.{◌≡◌, ◌∙◌, ℕ, suc, ◌+◌, ◌-◌, ◌≤◌, ◌⊎◌, ⊎_elim, Bool, cond, Option, Some, None, List, [], ◌∷◌, ◌++◌, length, take, nat_lt, flat_map, refl, sym, ap, subst, arith, length-drop, length-take-le, add-one, rules}
 use Rattle.std.proofs.lemmas.List.{append_assoc}
-use Rattle.polcert_text.specs.Cut.{Lexeme, Rest, TakesToken, EndsAt, IsCut, text_rest, end_place, text_limit}
+use Rattle.polcert_format.proofs.Common.{Lexeme, Rest, TakesToken, IsCut, text_rest, end_place, text_limit, TextTooLong, Item, lexemes_of, IsDivided, TextTokens, AreTokensOf, word_place, place_or, TokenFault}
+use Rattle.polcert_text.specs.Cut.{EndsAt}
 use Rattle.polcert_text.specs.Reading.{fault_place}
-use Rattle.polcert_text.specs.declared.tokens.TokenFault.TheVariants.{TextTooLong}
-use Rattle.polcert_format.specs.Items.{Item, lexemes_of, IsDivided}
-use Rattle.polcert_format.specs.FirstWrong.{TextTokens, AreTokensOf, word_place, item_begin, LiesIn}
-use Rattle.polcert_format.specs.Refusals.{place_or}
+use Rattle.polcert_format.specs.FirstWrong.{item_begin, LiesIn}
 use Rattle.polcert_format.proofs.Dividing.{all_append, empty_division}
-use Rattle.polcert_text.specs.declared.tokens.TokenFault.{TokenFault}
 
 -- from here to there the places of the lexemes rise
 abbrev pub Rises : ℕ → List Lexeme → ℕ → Type 0

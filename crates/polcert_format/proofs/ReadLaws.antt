@@ -1,15 +1,9 @@
 -- The first wrong item, from the lexemes taken so far and however the text continues.
 use Rattle.std.proofs.Common.{◌≡◌, ◌∙◌, ℕ, suc, ◌+◌, arith, length-append, true, false, Option, Some, None, List, [], ◌∷◌, ◌++◌, length, refl, sym, ap, subst}
 use Rattle.std.proofs.lemmas.List.{append_assoc, append-nil}
-use Rattle.polcert_text.specs.Cut.{Lexeme}
-use Rattle.polcert_text.specs.declared.tokens.TokenFault.{TokenFault}
-use Rattle.polcert_cells.specs.declared.words.Topic.{Topic}
-use Rattle.polcert_cells.specs.Words.{topic, begins_item}
-use Rattle.polcert_format.specs.Items.{Item, IsDivided}
-use Rattle.polcert_cells.specs.Preamble.{Preamble}
-use Rattle.polcert_format.specs.Text.{ModelSoFar, nothing_known, IsComplete, IsRight, AreRight, none, more, IsRightText}
-use Rattle.polcert_format.specs.Reading.{AreRightItems, IsWithinItem, CannotGoOn, IsWrong}
-use Rattle.polcert_format.specs.FirstWrong.{TextTokens, tokens_of, IsFirstWrong, wrong_front, wrong_fault, wrong_item, wrong_last, wrong_end}
+use Rattle.polcert_format.proofs.Common.{Lexeme, TokenFault, Topic, topic, begins_item, Item, IsDivided, Preamble, ModelSoFar, nothing_known, IsComplete, IsRight, AreRight, none, more, IsRightText, AreRightItems, IsWithinItem, IsWrong, TextTokens, tokens_of}
+use Rattle.polcert_format.specs.Reading.{CannotGoOn}
+use Rattle.polcert_format.specs.FirstWrong.{IsFirstWrong, wrong_front, wrong_fault, wrong_item, wrong_last, wrong_end}
 use Rattle.polcert_cells.proofs.Basics.{one_some, some≢none, or_false_from, cons≢nil, same_head, same_tail}
 use Rattle.polcert_format.proofs.ItemLaws.{one_division, has_division}
 use Rattle.polcert_format.proofs.TextLaws.{one_right, one_known}

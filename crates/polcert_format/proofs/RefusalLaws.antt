@@ -1,17 +1,11 @@
 -- What is refused isn't accepted.
 use Rattle.std.proofs.Common.{◌≡◌, ◌∙◌, ℕ, zero, suc, ◌<◌, None, List, refl, sym, subst, arith}
-use Rattle.polcert_text.specs.Cut.{text_rest, end_place, text_limit}
+use Rattle.polcert_format.proofs.Common.{text_rest, end_place, text_limit, Table, Transition, Observation, Reward, ModelFault, Preamble, Meaning, meaning_of, sum_below, states_of, observations_of, IsSame, IsFirstWrongRow, IsRightText, IsModelText, TextTokens, tokens_of, AreTokensOf}
 use Rattle.polcert_text.proofs.Scanning.CleanCut.{clean_cut}
 use Rattle.polcert_text.proofs.TextLaws.{one_cut}
-use Rattle.polcert_cells.specs.declared.entries.Table.{Table}
-use Rattle.polcert_cells.specs.declared.entries.Table.TheVariants.{Transition, Observation, Reward}
-use Rattle.polcert_format.specs.declared.fault.ModelFault.{ModelFault}
 use Rattle.polcert_format.specs.declared.fault.ModelFault.TheVariants.{Item, RowSum, Memory}
-use Rattle.polcert_cells.specs.Preamble.{Preamble}
-use Rattle.polcert_cells.specs.Meaning.{Meaning, meaning_of, sum_below, states_of, actions_of, observations_of, t_scale, o_scale, IsSame, HasProperRows}
-use Rattle.polcert_cells.specs.Rows.{IsProperRow, IsFirstWrongRow}
-use Rattle.polcert_format.specs.Text.{IsRightText, IsModelText}
-use Rattle.polcert_format.specs.FirstWrong.{TextTokens, tokens_of, AreTokensOf}
+use Rattle.polcert_cells.specs.Meaning.{actions_of, t_scale, o_scale, HasProperRows}
+use Rattle.polcert_cells.specs.Rows.{IsProperRow}
 use Rattle.polcert_format.specs.Refusals.{IsRefusal, SaysOfText, IsNoModel}
 use Rattle.polcert_format.proofs.TextLaws.{one_right_text}
 use Rattle.polcert_format.proofs.ReadLaws.{not_taken}

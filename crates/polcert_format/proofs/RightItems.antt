@@ -1,10 +1,6 @@
 -- Right items, put together and taken apart.
 use Rattle.std.proofs.Common.{◌≡◌, Some, List, ◌∷◌, ◌++◌, arith}
-use Rattle.polcert_cells.specs.declared.words.Topic.{Topic}
-use Rattle.polcert_cells.specs.Words.{topic}
-use Rattle.polcert_format.specs.Items.{Item}
-use Rattle.polcert_format.specs.Text.{ModelSoFar, AreRight, none, more}
-use Rattle.polcert_format.specs.Reading.{IsWrong}
+use Rattle.polcert_format.proofs.Common.{Topic, topic, Item, ModelSoFar, AreRight, none, more, IsWrong}
 use Rattle.polcert_cells.proofs.Basics.{one_some}
 use Rattle.polcert_format.proofs.TextLaws.{one_right}
 

@@ -1,9 +1,9 @@
 -- A text has one list of tokens.
 use Rattle.std.proofs.Common.{◌≡◌, ℕ, List, refl, arith}
-use Rattle.polcert_text.specs.Cut.{text_rest, end_place, text_limit}
+use Rattle.polcert_format.proofs.Common.{text_rest, end_place, text_limit, TextTokens, tokens_of, AreTokensOf}
 use Rattle.polcert_text.proofs.Scanning.SomeCut.{some_cut}
 use Rattle.polcert_text.proofs.TextLaws.{one_cut}
-use Rattle.polcert_format.specs.FirstWrong.{TextTokens, tokens_of, AreTokensOf, HasTokens}
+use Rattle.polcert_format.specs.FirstWrong.{HasTokens}
 
 pub has_tokens : (text : List ℕ) → HasTokens text
 has_tokens text =

@@ -1,26 +1,12 @@
 -- What a right text says is sound, so that a model may keep it.
 use Rattle.std.proofs.Common.{◌≡◌, ℕ, ◌≤◌, List, [], ◌∷◌, length, All, Some, Option, unwrap_or, ℤ, unsigned_abs, refl, sym, subst, arith}
 use Rattle.std.specs.Option.{ForSome}
-use Rattle.std.proofs.lemmas.List.Elements.{All-append}
-use Rattle.polcert_text.specs.Cut.{Lexeme}
-use Rattle.polcert_text.specs.Numbers.{largest}
-use Rattle.polcert_cells.specs.declared.entries.Table.{Table}
-use Rattle.polcert_cells.specs.declared.entries.Table.TheVariants.{Reward}
-use Rattle.polcert_cells.specs.declared.entries.Place.{Place}
-use Rattle.polcert_cells.specs.declared.entries.Body.{Body}
-use Rattle.polcert_cells.specs.declared.entries.Entry.{Entry}
-use Rattle.polcert_cells.specs.declared.words.Topic.{Topic}
-use Rattle.polcert_cells.specs.Numbers.{AreNumbers}
+use Rattle.polcert_format.proofs.Common.{All-append, Lexeme, largest, Table, Reward, Place, Body, Entry, Topic, AreNumbers, Elements, count_of, most_states, most_actions, most_observations, Item, Preamble, dimensions, ArePlaces, IsBody, IsEntry, ModelSoFar, nothing_known, HasLines, IsRight, AreRight, IsRightText, StartWeights}
 use Rattle.polcert_cells.specs.Numbers as numbers
-use Rattle.polcert_cells.specs.declared.elements.Elements.{Elements}
-use Rattle.polcert_cells.specs.Elements.{count_of, most_states, most_actions, most_observations}
-use Rattle.polcert_format.specs.Items.{Item}
-use Rattle.polcert_cells.specs.Preamble.{Preamble, dimensions, named}
-use Rattle.polcert_cells.specs.Entry.{IsPlace, ArePlaces, IsBody, IsEntry}
+use Rattle.polcert_cells.specs.Preamble.{named}
+use Rattle.polcert_cells.specs.Entry.{IsPlace}
 use Rattle.polcert_cells.specs.Entry as entries
 use Rattle.polcert_format.specs.Text as texts
-use Rattle.polcert_format.specs.Text.{ModelSoFar, nothing_known, HasLines, IsRight, AreRight, IsRightText}
-use Rattle.polcert_cells.specs.declared.elements.StartWeights.{StartWeights}
 use Rattle.polcert_cells.specs.Steps.Sound.{IsPlaceIn, ArePlacesIn, Fills, IsSoundEntry, IsSound}
 use Rattle.polcert_format.proofs.LimitLaws.{line_within, number_within, CountWithin, DiscountWithin, StartWithin, all_within}
 

@@ -1,18 +1,12 @@
 -- What is still possible: an entry with some places and numbers continues with `: *` and zeros.
 use Rattle.std.proofs.Common.{◌≡◌, ℕ, zero, suc, ◌≤◌, Bool, false, List, [], ◌∷◌, ◌++◌, length, map, All, pos, codes, refl, ap, subst, arith}
 use Rattle.std.proofs.lemmas.List.{append_assoc}
-use Rattle.std.proofs.lemmas.List.Elements.{All-cons, All-nil}
+use Rattle.polcert_format.proofs.Common.{All-cons, All-nil, Lexeme, Numeral, Colon, Table, Topic, IsMillionths, AreNumbers, forms, ModelSoFar, HasForm, IsPossible}
 use Rattle.polcert_text.specs.Bytes.{is_digit, is_point, is_exponent_mark}
 use Rattle.polcert_text.specs.Numbers.{number_of, exponent_size, power_of, size_of, millionth}
-use Rattle.polcert_text.specs.Cut.{Lexeme}
-use Rattle.polcert_text.specs.declared.tokens.TokenKind.TheVariants.{Numeral, Star, Colon}
-use Rattle.polcert_cells.specs.declared.entries.Table.{Table}
+use Rattle.polcert_text.specs.declared.tokens.TokenKind.TheVariants.{Star}
 use Rattle.polcert_cells.specs.declared.entries.Body.TheVariants.{Probabilities}
-use Rattle.polcert_cells.specs.declared.words.Topic.{Topic}
-use Rattle.polcert_cells.specs.Numbers.{IsMillionths, AreNumbers, none, unsigned, one}
-use Rattle.polcert_cells.specs.Entry.{forms}
-use Rattle.polcert_format.specs.Text.{ModelSoFar}
-use Rattle.polcert_format.specs.Forms.{HasForm, IsPossible}
+use Rattle.polcert_cells.specs.Numbers.{none, unsigned, one}
 
 -- ---- lexemes to continue with
 

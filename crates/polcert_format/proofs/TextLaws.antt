@@ -1,19 +1,12 @@
 -- A text denotes at most one model.
 use Rattle.std.proofs.Common.{◌≡◌, ℕ, Some, None, List, [], ◌∷◌, ◌++◌, pos, codes, refl, ap, subst, arith}
-use Rattle.polcert_text.specs.Cut.{Lexeme, text_rest, text_limit}
+use Rattle.polcert_format.proofs.Common.{Lexeme, text_rest, text_limit, Topic, Elements, most_states, most_actions, most_observations, AreElements, Item, Preamble, Entry, IsEntry, Meaning, meaning_of, IsSame, ModelSoFar, nothing_known, IsComplete, IsRight, AreRight, none, more, IsRightText, Denotes, IsModelText}
 use Rattle.polcert_text.proofs.Scanning.CleanCut.{clean_cut}
 use Rattle.polcert_text.proofs.Scanning.CutLaws.{one_cut}
-use Rattle.polcert_cells.specs.declared.words.Topic.{Topic}
 use Rattle.polcert_cells.specs.Words.{IsWord, IsName}
 use Rattle.polcert_cells.specs.Numbers.{IsWhole, IsNumber}
-use Rattle.polcert_cells.specs.declared.elements.Elements.{Elements}
-use Rattle.polcert_cells.specs.Elements.{most_states, most_actions, most_observations, AreElements, counted, named}
-use Rattle.polcert_format.specs.Items.{Item}
-use Rattle.polcert_cells.specs.Preamble.{Preamble}
-use Rattle.polcert_cells.specs.declared.entries.Entry.{Entry}
-use Rattle.polcert_cells.specs.Entry.{IsEntry}
-use Rattle.polcert_cells.specs.Meaning.{Meaning, meaning_of, IsSame}
-use Rattle.polcert_format.specs.Text.{ModelSoFar, nothing_known, IsComplete, IsRight, discount, rewards, costs, states, actions, observations, start, entry, AreRight, none, more, IsRightText, Denotes, IsModelText}
+use Rattle.polcert_cells.specs.Elements.{counted, named}
+use Rattle.polcert_format.specs.Text.{discount, rewards, costs, states, actions, observations, start, entry}
 use Rattle.polcert_cells.proofs.Basics.{one_some, same_head}
 use Rattle.polcert_cells.proofs.NumberLaws.{one_whole, one_list}
 use Rattle.polcert_cells.proofs.EntryLaws.{one_entry}

@@ -1,3 +1,4 @@
+mod Common
 pub mod Printing
 pub mod Denoting
 pub mod Writable

@@ -1,11 +1,10 @@
 -- Which entry covers a cell last, where entries stand in groups.
 use Rattle.std.proofs.Common.{◌≡◌, ◌∙◌, ℕ, zero, suc, ◌<◌, ◌⊎◌, ⊎_elim, Bool, false, cond, Option, Some, List, [], ◌∷◌, ◌++◌, reverse, refl, ap, subst, arith}
-use Rattle.std.specs.List.{list_any, find}
+use Rattle.polcert_full_form.proofs.Common.{list_any, Entry, for_each}
+use Rattle.std.specs.List.{find}
 use Rattle.std.proofs.lemmas.List.{reverse-append, append_assoc}
 use Rattle.std.proofs.lemmas.List.Folds.{list_any-append}
-use Rattle.polcert_cells.specs.declared.entries.Entry.{Entry}
 use Rattle.polcert_cells.proofs.Basics.{or_false, or_false_from}
-use Rattle.polcert_format.specs.FullForm.{for_each}
 
 module _ (p : Entry → Bool) where
   -- the last of the entries that passes the test

@@ -1,12 +1,7 @@
 -- The entries of a printed model give each cell of the model back.
 use Rattle.std.proofs.Common.{◌≡◌, ◌∙◌, ℕ, ◌<◌, ◌==◌, Bool, true, false, ◌&&◌, cond, Some, List, [], ◌∷◌, ◌++◌, refl, sym, ap, arith, rules}
-use Rattle.polcert_cells.specs.declared.entries.Table.{Table}
-use Rattle.polcert_cells.specs.declared.entries.Table.TheVariants.{Transition, Observation, Reward}
-use Rattle.polcert_cells.specs.declared.entries.Entry.{Entry}
-use Rattle.polcert_cells.specs.Preamble.{is_mdp}
-use Rattle.polcert_cells.specs.Cells.{is_table, covers, weight, weight_of, reward, value_or}
-use Rattle.polcert_cells.specs.Meaning.{Meaning, states_of, actions_of, observations_of, reward_index}
-use Rattle.polcert_format.specs.FullForm.{for_each}
+use Rattle.polcert_full_form.proofs.Common.{Table, Transition, Observation, Reward, Entry, is_mdp, is_table, covers, weight, weight_of, reward, value_or, Meaning, states_of, actions_of, observations_of, for_each}
+use Rattle.polcert_cells.specs.Meaning.{reward_index}
 use Rattle.polcert_full_form.proofs.Denoting.Covering.{last_of, none_of, last_after, last_before, none_both, none_of_each, last_of_each}
 use Rattle.polcert_full_form.proofs.Denoting.RowEntries.{row_entries, Fits, test_apart, entries_elsewhere, transition_rows, observation_rows, row_covered}
 use Rattle.polcert_full_form.proofs.Denoting.RewardEntries.{entries_from, IsGiven, given_is, given_after, given_each, from_elsewhere, from_given}

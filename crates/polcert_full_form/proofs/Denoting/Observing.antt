@@ -1,7 +1,6 @@
 -- What is observed with a line of observations, and without.
 use Rattle.std.proofs.Common.{◌≡◌, true, false, arith}
-use Rattle.polcert_cells.specs.Elements.{count_of}
-use Rattle.polcert_cells.specs.Preamble.{Preamble, is_mdp, observed, rewarded}
+use Rattle.polcert_full_form.proofs.Common.{count_of, Preamble, is_mdp, observed, rewarded}
 
 -- in an MDP the states are observed
 pub states_seen : (p : Preamble) → is_mdp p ≡ true → observed p ≡ p.states

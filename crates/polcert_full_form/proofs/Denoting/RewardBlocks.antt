@@ -1,21 +1,14 @@
 -- A row of rewards that is read block by block.
 use Rattle.std.proofs.Common.{◌≡◌, ◌∙◌, ℕ, zero, suc, ◌+◌, ◌-◌, ◌<◌, ◌≤◌, ◌⊎◌, ⊎_elim, Bool, true, false, Option, Some, None, List, [], ◌∷◌, ◌++◌, length, min, take, get_or, ℤ, pos, unsigned_abs, refl, sym, ap, subst, arith, append_assoc, codes}
-use Rattle.std.specs.List.{list_all}
+use Rattle.polcert_full_form.proofs.Common.{list_all, largest, Reward, Meaning, HasLimitedNumbers, states_of, actions_of, observations_of, most_elements, meaning, ForSome, for_each, all_below, written, is_zero, row_words, reward_words, number_text, reward_row_text, block_text, IsFilled, row_width, row_rewards, rewarded_text}
 use Rattle.std.proofs.lemmas.List.{length-take-le, get_or-take}
-use Rattle.polcert_text.specs.Numbers.{largest}
-use Rattle.polcert_cells.specs.declared.entries.Table.TheVariants.{Reward}
-use Rattle.polcert_cells.specs.Meaning.{Meaning, HasLimitedNumbers, states_of, actions_of, observations_of}
-use Rattle.polcert_cells.specs.Elements.{most_elements}
-use Rattle.polcert_tables.specs.Contents.{meaning}
-use Rattle.std.specs.Option.{ForSome}
 use Rattle.polcert_cells.proofs.Basics.{is_true_or_false, true≢false}
-use Rattle.polcert_format.specs.FullForm.{for_each, all_below, written, is_zero, row_words, reward_words}
-use Rattle.polcert_full_form.specs.Steps.Printing.{number_text, zeros_text, reward_columns, reward_in, reward_head, reward_row_text, reward_text, block_text, IsFilled, IsPaidFrom}
+use Rattle.polcert_full_form.specs.Steps.Printing.{zeros_text, reward_columns, reward_in, reward_head, reward_text, IsPaidFrom}
 use Rattle.polcert_full_form.proofs.Printing.PrintedParts as texts
 use Rattle.polcert_full_form.proofs.Denoting.RowEntries.{test_below}
 use Rattle.polcert_full_form.proofs.Denoting.SameForms.{same_for_each, same_test}
 use Rattle.polcert_full_form.specs.declared.reward_row.RewardRow.{RewardRow}
-use Rattle.polcert_full_form.specs.Steps.PrintedRows.{row_width, row_rewards, rewarded_text, paid_row_text}
+use Rattle.polcert_full_form.specs.Steps.PrintedRows.{paid_row_text}
 use Rattle.polcert_full_form.proofs.Printing.Runs.{run_after, run_more}
 use Rattle.polcert_full_form.proofs.Denoting.RewardEntries.{zero_is}
 

@@ -1,16 +1,9 @@
 -- The entry of a row of rewards as it is printed gives the row's rewards back.
 use Rattle.std.proofs.Common.{◌≡◌, ℕ, ◌+◌, ◌<◌, ◌==◌, ⊎_elim, Bool, true, false, ◌&&◌, cond, Some, List, [], ◌∷◌, ◌++◌, ℤ, pos, refl, arith}
-use Rattle.std.proofs.lemmas.List.FromFn.{get_or-map-range_with_len}
-use Rattle.polcert_cells.specs.declared.entries.Table.{Table}
-use Rattle.polcert_cells.specs.declared.entries.Table.TheVariants.{Reward}
-use Rattle.polcert_cells.specs.declared.entries.Place.TheVariants.{Only}
-use Rattle.polcert_cells.specs.declared.entries.Body.TheVariants.{Rewards}
-use Rattle.polcert_cells.specs.declared.entries.Entry.{Entry}
-use Rattle.polcert_cells.specs.Preamble.{Preamble, is_mdp}
-use Rattle.polcert_cells.specs.Cells.{is_table, covers, reward, reward_of}
+use Rattle.polcert_full_form.proofs.Common.{get_or-map-range_with_len, Table, Reward, Only, Rewards, Entry, Preamble, is_mdp, is_table, covers, reward, for_each, values, all_below, is_zero, written}
+use Rattle.polcert_cells.specs.Cells.{reward_of}
 use Rattle.polcert_cells.proofs.Basics.{is_true_or_false, true≢false}
 use Rattle.polcert_cells.proofs.CellLaws.{uncovered_reward}
-use Rattle.polcert_format.specs.FullForm.{for_each, values, all_below, is_zero, written}
 use Rattle.polcert_full_form.proofs.Denoting.Covering.{last_of, none_of, last_after, none_both, none_of_each, last_of_each}
 use Rattle.polcert_full_form.proofs.Denoting.RowEntries.{IsOtherRow, test_below, test_same, test_itself}
 

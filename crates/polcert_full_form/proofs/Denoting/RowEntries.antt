@@ -1,22 +1,7 @@
 -- The entries of a row as it is printed give the row's weights back.
 use Rattle.std.proofs.Common.{◌≡◌, ◌∙◌, ℕ, zero, suc, ◌+◌, ◌*◌, ◌/◌, ◌%◌, ◌<◌, ◌==◌, ◌≢◌, ◌⊎◌, ⊎_elim, inl, inr, Bool, true, false, ◌&&◌, cond, Some, List, [], ◌∷◌, ◌++◌, refl, sym, ap, subst, arith}
-use Rattle.std.specs.List.{list_any}
-use Rattle.std.proofs.lemmas.Bool.Decides.{nat_tests}
-use Rattle.std.proofs.lemmas.List.FromFn.{get_or-map-range_with_len}
-use Rattle.polcert_cells.specs.declared.entries.Table.{Table}
-use Rattle.polcert_cells.specs.declared.entries.Table.TheVariants.{Transition, Observation}
-use Rattle.polcert_cells.specs.declared.entries.Place.TheVariants.{Only}
-use Rattle.polcert_cells.specs.declared.entries.Body.{Body}
-use Rattle.polcert_cells.specs.declared.entries.Body.TheVariants.{Probabilities, Uniform}
-use Rattle.polcert_cells.specs.declared.entries.Entry.{Entry}
-use Rattle.polcert_cells.specs.declared.elements.Elements.{Elements}
-use Rattle.polcert_cells.specs.Numbers.{one}
-use Rattle.polcert_cells.specs.Elements.{count_of}
-use Rattle.polcert_cells.specs.Preamble.{Preamble, is_mdp, dimensions, named, columns, observed}
-use Rattle.polcert_cells.specs.Entry.{forms, MayBeGiven}
-use Rattle.polcert_cells.specs.Cells.{is_table, covers, weight_of}
+use Rattle.polcert_full_form.proofs.Common.{list_any, nat_tests, get_or-map-range_with_len, Table, Transition, Observation, Only, Body, Probabilities, Uniform, Entry, Elements, one, count_of, Preamble, is_mdp, dimensions, named, columns, observed, forms, MayBeGiven, is_table, covers, weight_of, for_each, values, all_below, is_uniform, is_decimal}
 use Rattle.polcert_cells.proofs.Basics.{and_true, is_true_or_false, true≢false}
-use Rattle.polcert_format.specs.FullForm.{for_each, values, all_below, is_uniform, is_decimal}
 use Rattle.polcert_full_form.proofs.Denoting.Covering.{last_of, none_of, last_after, last_before, none_of_each, last_of_each}
 
 -- ---- the entries

@@ -1,13 +1,6 @@
 -- Equal models have the same full form.
 use Rattle.std.proofs.Common.{◌≡◌, ◌∙◌, ℕ, zero, suc, ◌+◌, ◌<◌, Bool, true, false, cond, if◌then◌else◌, List, [], ◌++◌, map, ℤ, refl, ap, arith}
-use Rattle.std.specs.List.{range_with_len}
-use Rattle.polcert_cells.specs.declared.entries.Table.{Table}
-use Rattle.polcert_cells.specs.declared.entries.Table.TheVariants.{Transition, Observation, Reward}
-use Rattle.polcert_cells.specs.Elements.{count_of}
-use Rattle.polcert_cells.specs.Preamble.{Preamble, is_mdp, observed}
-use Rattle.polcert_cells.specs.declared.elements.StartWeights.{StartWeights}
-use Rattle.polcert_cells.specs.Meaning.{Meaning, states_of, actions_of, observations_of, IsSame}
-use Rattle.polcert_format.specs.FullForm.{for_each, values, all_below, row_words, row_text, transitions_text, observations_text, reward_words, rewards_row, rewards_text, preamble_text, start_text, full_form}
+use Rattle.polcert_full_form.proofs.Common.{range_with_len, Table, Transition, Observation, Reward, count_of, Preamble, is_mdp, observed, StartWeights, Meaning, states_of, actions_of, observations_of, IsSame, for_each, values, all_below, row_words, row_text, transitions_text, observations_text, reward_words, rewards_row, rewards_text, preamble_text, start_text, full_form}
 
 -- ---- functions that agree below a bound
 pub same_for_each : {A : Type 0} (n : ℕ) (f g : ℕ → List A) → ((i : ℕ) → i < n → f i ≡ g i) → for_each n f ≡ for_each n g

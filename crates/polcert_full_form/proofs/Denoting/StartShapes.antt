@@ -1,16 +1,9 @@
 -- A right start item gives shares of 0 and 1, or millionths.
 use Rattle.std.proofs.Common.{◌≡◌, ◌∙◌, ℕ, ◌<◌, ◌==◌, ◌||◌, ◌&&◌, ◌⊎◌, inl, inr, Bool, true, false, cond, List, [], ◌∷◌, map, sum, refl, ap, arith}
-use Rattle.std.specs.List.{list_all, range_with_len, count_by}
-use Rattle.std.proofs.lemmas.List.Sums.{sum-map}
-use Rattle.polcert_text.specs.Cut.{Lexeme}
-use Rattle.polcert_cells.specs.declared.elements.Elements.{Elements}
-use Rattle.polcert_cells.specs.declared.elements.StartWeights.{StartWeights}
-use Rattle.polcert_cells.specs.Numbers.{one}
-use Rattle.polcert_cells.specs.Elements.{count_of}
-use Rattle.polcert_cells.specs.Start.{equal_weights, is_positive, is_level, shares_of, included, excluded, IsStart, IsStartBody}
+use Rattle.polcert_full_form.proofs.Common.{list_all, range_with_len, sum-map, Lexeme, Elements, StartWeights, one, count_of, equal_weights, is_level, shares_of, included, IsStart, IsStartBody, is_choice, IsMillionthsStart}
+use Rattle.std.specs.List.{count_by}
+use Rattle.polcert_cells.specs.Start.{is_positive, excluded}
 use Rattle.polcert_cells.specs.Start as starts
-use Rattle.polcert_format.specs.FullForm.{is_choice}
-use Rattle.polcert_format.specs.Writable.{IsMillionthsStart}
 use Rattle.polcert_full_form.proofs.Denoting.RowEntries.{test_itself}
 
 -- states that are the same, or millionths

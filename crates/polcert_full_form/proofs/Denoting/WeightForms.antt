@@ -1,13 +1,7 @@
 -- Each weight is that of one part in n, or of a number of millionths: whatever the entries are.
 use Rattle.std.proofs.Common.{◌≡◌, ℕ, ◌*◌, ◌==◌, inr, Bool, true, false, cond, Option, List, [], ◌∷◌, refl, sym, subst, arith}
-use Rattle.polcert_cells.specs.declared.entries.Table.{Table}
-use Rattle.polcert_cells.specs.declared.entries.Table.TheVariants.{Observation}
-use Rattle.polcert_cells.specs.declared.entries.Entry.{Entry}
-use Rattle.polcert_cells.specs.Numbers.{one}
-use Rattle.polcert_cells.specs.Elements.{count_of}
-use Rattle.polcert_cells.specs.Preamble.{Preamble, is_mdp, observed, columns}
-use Rattle.polcert_cells.specs.Meaning.{observation_weight}
-use Rattle.polcert_cells.specs.Cells.{last_covering, weight, weight_of, value_or, IsLastCovering}
+use Rattle.polcert_full_form.proofs.Common.{Table, Observation, Entry, one, count_of, Preamble, is_mdp, observed, columns, observation_weight, weight, weight_of, value_or}
+use Rattle.polcert_cells.specs.Cells.{last_covering, IsLastCovering}
 use Rattle.polcert_cells.proofs.CellLaws.{last_is}
 use Rattle.polcert_full_form.proofs.Denoting.RowEntries.{Fits}
 use Rattle.polcert_full_form.proofs.Denoting.Observing.{states_seen}

@@ -1,11 +1,7 @@
 -- Lines and rows as a printer's loop makes them: part by part, each after those so far.
 use Rattle.std.proofs.Common.{◌≡◌, ◌∙◌, ℕ, zero, suc, ◌+◌, List, [], ◌∷◌, ◌++◌, flat_map, map, codes, refl, sym, ap, arith, append_assoc, append-nil, decimal}
-use Rattle.std.specs.List.{range_with_len}
+use Rattle.polcert_full_form.proofs.Common.{range_with_len, line, Table, Reward, for_each, values, millionths_text, table_word, row_words}
 use Rattle.std.proofs.lemmas.List.FromFn.{map-range_with_len_more}
-use Rattle.polcert_text.specs.Lines.{line}
-use Rattle.polcert_cells.specs.declared.entries.Table.{Table}
-use Rattle.polcert_cells.specs.declared.entries.Table.TheVariants.{Reward}
-use Rattle.polcert_format.specs.FullForm.{for_each, values, millionths_text, table_word, row_words}
 
 abbrev after_blank : List ℕ → List ℕ
 after_blank w = codes " " ++ w

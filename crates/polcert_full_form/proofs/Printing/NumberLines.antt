@@ -1,13 +1,7 @@
 -- A line of numbers.
 use Rattle.std.proofs.Common.{◌≡◌, ◌∙◌, ℕ, ℤ, zero, suc, ◌+◌, ◌<◌, ◌≤◌, false, pos, List, [], ◌∷◌, length, map, All, refl, sym, ap, subst, arith, unsigned_abs}
-use Rattle.std.specs.List.{list_any, range_with_len}
-use Rattle.std.proofs.lemmas.List.FromFn.{get_or-map-range_with_len, length-map-range_with_len}
-use Rattle.polcert_text.specs.Millionths.{scaled_text}
-use Rattle.polcert_text.specs.Numbers.{largest}
-use Rattle.polcert_cells.specs.Words.{begins_item}
-use Rattle.polcert_cells.specs.Numbers.{AreNumbers, one}
-use Rattle.polcert_text.specs.Lines.{line}
-use Rattle.polcert_format.specs.FullForm.{values, millionths_text}
+use Rattle.polcert_full_form.proofs.Common.{list_any, range_with_len, get_or-map-range_with_len, scaled_text, largest, begins_item, AreNumbers, one, line, values, millionths_text}
+use Rattle.std.proofs.lemmas.List.FromFn.{length-map-range_with_len}
 use Rattle.polcert_text.proofs.Printing.PrintedCut.{Printed, text_of, lexemes_at, ArePrinted}
 use Rattle.polcert_text.proofs.Printing.PrintedWords.{spelled_line, text_line, line_printed}
 use Rattle.polcert_full_form.proofs.Printing.PrintedNumbers.{number_word, text_numbers, AreSmall, spells_number, spells_numbers, numbers_at, numbers_inside}

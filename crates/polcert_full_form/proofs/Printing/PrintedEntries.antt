@@ -1,27 +1,11 @@
 -- The lines of an entry are an item, and that entry.
 use Rattle.std.proofs.Common.{◌≡◌, ◌∙◌, ℕ, zero, suc, ◌^◌, ◌<◌, ◌≤◌, ◌==◌, true, false, Some, List, [], ◌∷◌, ◌++◌, length, drop, codes, decimal, refl, sym, ap, subst, arith, append_assoc, append-nil}
-use Rattle.std.specs.List.{list_any}
-use Rattle.polcert_text.specs.Bytes.{is_letter, is_name_byte, is_digit, is_point, is_exponent_mark}
-use Rattle.polcert_text.specs.Lexemes.{kind_of}
-use Rattle.polcert_text.specs.Cut.{Lexeme}
-use Rattle.polcert_text.specs.declared.tokens.TokenKind.TheVariants.{Name, Colon}
-use Rattle.polcert_cells.specs.declared.entries.Table.{Table}
-use Rattle.polcert_cells.specs.declared.entries.Table.TheVariants.{Transition, Observation, Reward}
-use Rattle.polcert_cells.specs.declared.entries.Place.TheVariants.{Only}
-use Rattle.polcert_cells.specs.declared.entries.Body.{Body}
-use Rattle.polcert_cells.specs.declared.entries.Entry.{Entry}
-use Rattle.polcert_cells.specs.declared.elements.Elements.{Elements}
-use Rattle.polcert_cells.specs.declared.elements.StartWeights.{StartWeights}
+use Rattle.polcert_full_form.proofs.Common.{list_any, is_letter, is_name_byte, is_digit, is_point, is_exponent_mark, kind_of, Lexeme, Name, Colon, Table, Transition, Observation, Reward, Only, Body, Entry, Elements, StartWeights, topic, topic_of, begins_item, count_of, by_number, Preamble, is_mdp, dimensions, named, cells_in, forms, MayBeGiven, IsBody, ModelSoFar, IsComplete, for_each, table_word}
 use Rattle.polcert_cells.specs.declared.words.Topic.TheVariants.{Cells}
-use Rattle.polcert_cells.specs.Words.{topic, topic_of, begins_item}
-use Rattle.polcert_cells.specs.Elements.{count_of, by_number}
-use Rattle.polcert_cells.specs.Preamble.{Preamble, is_mdp, dimensions, named}
-use Rattle.polcert_cells.specs.Entry.{cells_in, forms, MayBeGiven, ArePlaces, IsBody, IsEntry}
+use Rattle.polcert_cells.specs.Entry.{ArePlaces, IsEntry}
 use Rattle.polcert_cells.specs.Entry as entries
 use Rattle.polcert_format.proofs.CellLimits.{printable_cells}
 use Rattle.polcert_format.specs.Text as texts
-use Rattle.polcert_format.specs.Text.{ModelSoFar, IsComplete}
-use Rattle.polcert_format.specs.FullForm.{for_each, table_word}
 use Rattle.polcert_text.proofs.Printing.PrintedWords.{key, word_text, IsPiece}
 use Rattle.polcert_full_form.proofs.Printing.PrintedNumbers.{numeral_at, whole_at}
 use Rattle.polcert_full_form.proofs.Writable.Printable.{HasRoom}

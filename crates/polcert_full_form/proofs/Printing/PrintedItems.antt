@@ -1,16 +1,10 @@
 -- Texts that are whole items, each right after those before it.
 use Rattle.std.proofs.Common.{◌≡◌, ◌∙◌, ℕ, ◌+◌, ◌≤◌, false, Some, None, List, [], ◌∷◌, ◌++◌, length, flat_map, All, refl, sym, ap, subst, append-nil, arith}
-use Rattle.std.specs.List.{list_any}
-use Rattle.std.proofs.lemmas.List.Elements.{All-cons, All-nil, All-append}
-use Rattle.polcert_text.specs.Cut.{Lexeme, IsCut, text_limit}
+use Rattle.polcert_full_form.proofs.Common.{list_any, All-cons, All-nil, Lexeme, IsCut, text_limit, Topic, topic, begins_item, Item, lexemes_of, Preamble, Meaning, meaning_of, IsSame, HasProperRows, ModelSoFar, nothing_known, IsComplete, IsRight, AreRight, IsModelText}
+use Rattle.std.proofs.lemmas.List.Elements.{All-append}
 use Rattle.polcert_text.proofs.Scanning.CleanCut.{tokens_from}
-use Rattle.polcert_cells.specs.declared.words.Topic.{Topic}
-use Rattle.polcert_cells.specs.Words.{topic, begins_item}
-use Rattle.polcert_format.specs.Items.{Item, IsItem, lexemes_of}
-use Rattle.polcert_cells.specs.Preamble.{Preamble}
-use Rattle.polcert_cells.specs.Meaning.{Meaning, meaning_of, IsSame, HasProperRows}
+use Rattle.polcert_format.specs.Items.{IsItem}
 use Rattle.polcert_format.specs.Text as texts
-use Rattle.polcert_format.specs.Text.{ModelSoFar, nothing_known, IsComplete, IsRight, AreRight, IsModelText}
 use Rattle.polcert_format.proofs.Dividing.{all_append, begins}
 use Rattle.polcert_format.proofs.RightItems.{append_right}
 use Rattle.polcert_text.proofs.Printing.PrintedCut.{Printed, text_of, lexemes_at, ArePrinted, rest_at, cut_printed, text-append, lexemes-append, printed-append}

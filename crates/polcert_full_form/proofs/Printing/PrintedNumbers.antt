@@ -1,17 +1,14 @@
 -- Numbers as they are written are the numbers that a reader takes.
 use Rattle.std.proofs.Common.{◌≡◌, ℕ, ℤ, suc, ◌^◌, ◌<◌, ◌≤◌, Bool, true, false, ◌||◌, pos, negsuc, List, [], ◌∷◌, ◌++◌, length, map, decimal, codes, refl, arith, unsigned_abs}
-use Rattle.std.specs.List.{list_all, list_any}
+use Rattle.polcert_full_form.proofs.Common.{list_all, list_any, Lexeme, Numeral, unsigned_text, scaled_text, largest, begins_item, AreNumbers}
 use Rattle.std.proofs.lemmas.Fmt.{decimal_is_IsNumeral, decimal_nonempty}
 use Rattle.polcert_text.specs.Lexemes.{are_digits}
-use Rattle.polcert_text.specs.Cut.{Lexeme}
-use Rattle.polcert_text.specs.declared.tokens.TokenKind.TheVariants.{Numeral, Minus, Plus}
-use Rattle.polcert_text.specs.Millionths.{unsigned_text, scaled_text}
-use Rattle.polcert_text.specs.Numbers.{largest, signed}
+use Rattle.polcert_text.specs.declared.tokens.TokenKind.TheVariants.{Minus, Plus}
+use Rattle.polcert_text.specs.Numbers.{signed}
 use Rattle.polcert_text.proofs.Numbers.FrontNumbers.{some_digits}
 use Rattle.polcert_text.proofs.Printing.WrittenNumbers.{plain_size, readable_written}
 use Rattle.polcert_text.proofs.Printing.PrintLaws.{written_exact, decimal_digits}
-use Rattle.polcert_cells.specs.Words.{begins_item}
-use Rattle.polcert_cells.specs.Numbers.{IsWhole, IsMillionths, AreNumbers}
+use Rattle.polcert_cells.specs.Numbers.{IsWhole, IsMillionths}
 use Rattle.polcert_cells.specs.Numbers as numbers
 use Rattle.polcert_text.proofs.Printing.Numerals.{plain_decimal}
 use Rattle.polcert_text.proofs.Printing.PrintedCut.{Printed, lexemes_at}

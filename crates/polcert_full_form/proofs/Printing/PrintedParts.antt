@@ -1,20 +1,9 @@
 -- The lines of the full form, as a printer puts them together.
 use Rattle.std.proofs.Common.{◌≡◌, ◌∙◌, ℕ, zero, suc, ◌+◌, ◌/◌, ◌==◌, ◌<◌, ◌≤◌, ◌||◌, ◌&&◌, Bool, true, false, cond, if◌then◌else◌, ⊎_elim, List, [], ◌∷◌, ◌++◌, length, get_or, map, filter, flat_map, sum, ℤ, pos, decimal, codes, refl, sym, ap, arith, append_assoc, append-nil, zero-add}
-use Rattle.std.specs.List.{list_all, range_with_len}
-use Rattle.std.proofs.lemmas.Bool.Decides.{nat_tests}
+use Rattle.polcert_full_form.proofs.Common.{list_all, range_with_len, nat_tests, sum_by-cons, line, scaled_text, Table, Observation, Reward, Elements, one, StartWeights, is_mdp, Meaning, states_of, actions_of, observations_of, for_each, values, all_below, millionths_text, element_words, observations_line, preamble_text, chosen, is_whole, is_choice, start_text, table_word, row_words, is_uniform, is_decimal, cell_text, row_text, observations_text, written, is_zero, reward_words, rewards_row, rewards_from, after_blank, values_line, name_text, share_of}
 use Rattle.std.proofs.lemmas.List.FromFn.{length-range_with_len, get_or-range_with_len}
-use Rattle.std.proofs.lemmas.List.Sums.{sum_by-cons, get_or-le-sum_by}
-use Rattle.polcert_text.specs.Lines.{line}
-use Rattle.polcert_text.specs.Millionths.{scaled_text}
-use Rattle.polcert_cells.specs.declared.entries.Table.{Table}
-use Rattle.polcert_cells.specs.declared.entries.Table.TheVariants.{Observation, Reward}
-use Rattle.polcert_cells.specs.declared.elements.Elements.{Elements}
-use Rattle.polcert_cells.specs.Numbers.{one}
-use Rattle.polcert_cells.specs.declared.elements.StartWeights.{StartWeights}
-use Rattle.polcert_cells.specs.Preamble.{is_mdp}
-use Rattle.polcert_cells.specs.Meaning.{Meaning, states_of, actions_of, observations_of}
-use Rattle.polcert_format.specs.FullForm.{for_each, values, all_below, millionths_text, element_words, observations_line, preamble_text, chosen, is_whole, is_choice, start_text, table_word, row_words, is_uniform, is_decimal, cell_text, row_text, observations_text, written, is_zero, reward_words, rewards_row, rewards_from}
-use Rattle.polcert_full_form.specs.Steps.Printing.{after_blank, settings_text, values_line, name_text, elements_line, share_of, chosen_text, share_text, pattern_text, blank_before, body_text, reward_rows}
+use Rattle.std.proofs.lemmas.List.Sums.{get_or-le-sum_by}
+use Rattle.polcert_full_form.specs.Steps.Printing.{settings_text, elements_line, chosen_text, share_text, pattern_text, blank_before, body_text, reward_rows}
 use Rattle.polcert_cells.proofs.Basics.{is_true_or_false, true≢false, and_true}
 use Rattle.polcert_full_form.proofs.Denoting.RowEntries.{test_below, test_same, test_itself}
 use Rattle.polcert_full_form.proofs.Denoting.SameForms.{same_for_each}

@@ -1,31 +1,14 @@
 -- The printed preamble is read as the preamble.
 use Rattle.std.proofs.Common.{◌≡◌, ◌≢◌, ◌∙◌, ℕ, suc, ◌≤◌, Bool, true, false, is_some, Option, Some, None, List, [], ◌∷◌, length, map, All, AllPairs, codes, decimal, refl, sym, ap, subst, arith}
-use Rattle.std.specs.List.{list_any}
-use Rattle.std.specs.Option.{ForSome}
-use Rattle.std.proofs.lemmas.List.Elements.{All-cons, All-nil, All-head, All-tail}
+use Rattle.polcert_full_form.proofs.Common.{list_any, ForSome, All-cons, All-nil, All-head, All-tail, is_letter, is_name_byte, is_digit, is_point, is_exponent_mark, kind_of, unsigned_text, largest, Lexeme, Name, Numeral, Colon, Elements, Count, Names, Topic, Start, topic_of, begins_item, IsName, one, most_states, most_actions, most_observations, most_elements, AreElements, counted, Preamble, ModelSoFar, nothing_known, IsRight, Meaning, line, IsWritableName, millionths_text, element_words, observations_line, preamble_text}
 use Rattle.std.specs.Prelude.{bytes_eq}
-use Rattle.polcert_text.specs.Bytes.{is_letter, is_name_byte, is_digit, is_point, is_exponent_mark}
-use Rattle.polcert_text.specs.Lexemes.{kind_of}
-use Rattle.polcert_text.specs.Millionths.{unsigned_text}
-use Rattle.polcert_text.specs.Numbers.{largest}
-use Rattle.polcert_text.specs.Cut.{Lexeme}
-use Rattle.polcert_text.specs.declared.tokens.TokenKind.TheVariants.{Name, Numeral, Colon}
-use Rattle.polcert_cells.specs.declared.elements.Elements.{Elements}
-use Rattle.polcert_cells.specs.declared.elements.Elements.TheVariants.{Count, Names}
-use Rattle.polcert_cells.specs.declared.words.Topic.{Topic}
-use Rattle.polcert_cells.specs.declared.words.Topic.TheVariants.{Discount, Values, States, Actions, Observations, Start}
-use Rattle.polcert_cells.specs.Words.{topic_of, is_reserved, inner_words, begins_item, IsName}
-use Rattle.polcert_cells.specs.Numbers.{one}
+use Rattle.polcert_cells.specs.declared.words.Topic.TheVariants.{Discount, Values, States, Actions, Observations}
+use Rattle.polcert_cells.specs.Words.{is_reserved, inner_words}
 use Rattle.polcert_cells.specs.Numbers as numbers
-use Rattle.polcert_cells.specs.Elements.{most_states, most_actions, most_observations, most_elements, AreElements, counted, named}
-use Rattle.polcert_cells.specs.Preamble.{Preamble}
+use Rattle.polcert_cells.specs.Elements.{named}
 use Rattle.polcert_format.specs.Text as texts
-use Rattle.polcert_format.specs.Text.{ModelSoFar, nothing_known, IsRight}
-use Rattle.polcert_cells.specs.Meaning.{Meaning}
 use Rattle.polcert_cells.proofs.Basics.{or_false, or_false_from}
-use Rattle.polcert_text.specs.Lines.{line}
-use Rattle.polcert_format.specs.Writable.{IsWritableName}
-use Rattle.polcert_format.specs.FullForm.{millionths_text, values_word, element_words, observations_line, preamble_text}
+use Rattle.polcert_format.specs.FullForm.{values_word}
 use Rattle.polcert_text.proofs.Printing.PrintedCut.{Printed, text_of, lexemes_at, ArePrinted}
 use Rattle.polcert_text.proofs.Printing.PrintedWords.{Word, plain, key, word_text, spelled_line, IsPiece, AreSpellings, text_line, line_printed, numeral_piece}
 use Rattle.polcert_text.proofs.Printing.WrittenNumbers.{plain_size}

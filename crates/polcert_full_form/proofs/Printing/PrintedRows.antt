@@ -1,27 +1,8 @@
 -- A printed row is read as its entries.
 use Rattle.std.proofs.Common.{◌≡◌, ◌∙◌, ℕ, zero, suc, ◌+◌, ◌*◌, ◌/◌, ◌<◌, ◌≤◌, ◌==◌, Bool, true, false, cond, Some, List, [], ◌∷◌, ◌++◌, map, All, codes, decimal, ℤ, pos, refl, sym, ap, subst, arith, append_assoc, unsigned_abs}
-use Rattle.std.specs.List.{list_any}
-use Rattle.std.proofs.lemmas.Nat.{div_below}
-use Rattle.polcert_text.specs.Bytes.{is_letter, is_name_byte, is_digit, is_point, is_exponent_mark}
-use Rattle.polcert_text.specs.Lexemes.{kind_of}
-use Rattle.polcert_text.specs.Millionths.{unsigned_text, scaled_text}
-use Rattle.polcert_text.specs.Numbers.{largest}
-use Rattle.polcert_text.specs.declared.tokens.TokenKind.TheVariants.{Name, Numeral, Colon}
-use Rattle.polcert_cells.specs.declared.entries.Table.{Table}
-use Rattle.polcert_cells.specs.declared.entries.Table.TheVariants.{Reward}
-use Rattle.polcert_cells.specs.declared.entries.Body.{Body}
-use Rattle.polcert_cells.specs.declared.entries.Body.TheVariants.{Probabilities, Rewards, Uniform}
-use Rattle.polcert_cells.specs.declared.entries.Entry.{Entry}
-use Rattle.polcert_cells.specs.declared.elements.StartWeights.{StartWeights}
-use Rattle.polcert_cells.specs.Words.{topic_of, begins_item}
-use Rattle.polcert_cells.specs.Numbers.{one}
+use Rattle.polcert_full_form.proofs.Common.{list_any, div_below, is_letter, is_name_byte, is_digit, is_point, is_exponent_mark, kind_of, unsigned_text, scaled_text, largest, Name, Numeral, Colon, Table, Reward, Body, Probabilities, Rewards, Uniform, Entry, StartWeights, topic_of, begins_item, one, count_of, most_states, most_actions, most_elements, Preamble, is_mdp, observed, rewarded, cells_in, forms, IsBody, line, for_each, values, all_below, millionths_text, table_word, row_words, is_uniform, is_decimal, cell_text, row_text, written, is_zero, reward_words, rewards_row}
 use Rattle.polcert_cells.specs.Numbers as numbers
-use Rattle.polcert_cells.specs.Elements.{count_of, most_states, most_actions, most_elements}
-use Rattle.polcert_cells.specs.Preamble.{Preamble, is_mdp, observed, rewarded}
-use Rattle.polcert_cells.specs.Entry.{cells_in, forms, IsBody}
 use Rattle.polcert_cells.specs.Entry as entries
-use Rattle.polcert_text.specs.Lines.{line}
-use Rattle.polcert_format.specs.FullForm.{for_each, values, all_below, millionths_text, table_word, row_words, is_uniform, is_decimal, cell_text, row_text, written, is_zero, reward_words, rewards_row}
 use Rattle.polcert_text.proofs.Printing.PrintedCut.{Printed, text_of, lexemes_at, ArePrinted, text-append, printed-append}
 use Rattle.polcert_text.proofs.Printing.PrintedWords.{Word, plain, key, word_text, spelled_line, IsPiece, text_line, line_printed, numeral_piece}
 use Rattle.polcert_text.proofs.Printing.WrittenNumbers.{plain_size}

@@ -1,25 +1,12 @@
 -- The printed start item is read as the start.
 use Rattle.std.proofs.Common.{◌≡◌, ◌∙◌, ℕ, zero, suc, ◌+◌, ◌<◌, ◌≤◌, ◌==◌, ◌||◌, ◌⊎◌, ⊎_elim, Bool, true, false, cond, List, [], ◌∷◌, length, get_or, map, filter, sum, codes, decimal, pos, refl, sym, ap, subst, arith}
-use Rattle.std.specs.List.{list_any, list_all, range_with_len, AllZip}
+use Rattle.polcert_full_form.proofs.Common.{list_any, list_all, range_with_len, sum-map, sum_by-cons, scaled_text, Lexeme, Name, Numeral, Elements, StartWeights, Start, topic_of, begins_item, one, count_of, by_number, most_states, Preamble, equal_weights, all_states, is_level, shares_of, included, IsStart, IsStartBody, line, IsMillionthsStart, millionths_text, chosen, is_whole, is_choice, start_text}
+use Rattle.std.specs.List.{AllZip}
 use Rattle.std.proofs.lemmas.List.FromFn.{fill_by_all}
-use Rattle.std.proofs.lemmas.List.Sums.{sum-map, sum_by-cons}
-use Rattle.polcert_text.specs.Millionths.{scaled_text}
-use Rattle.polcert_text.specs.Cut.{Lexeme}
-use Rattle.polcert_text.specs.declared.tokens.TokenKind.TheVariants.{Name, Numeral}
-use Rattle.polcert_cells.specs.declared.elements.Elements.{Elements}
-use Rattle.polcert_cells.specs.declared.elements.StartWeights.{StartWeights}
-use Rattle.polcert_cells.specs.declared.words.Topic.TheVariants.{Start}
-use Rattle.polcert_cells.specs.Words.{topic_of, begins_item}
-use Rattle.polcert_cells.specs.Numbers.{one}
-use Rattle.polcert_cells.specs.Elements.{count_of, StandsFor, by_number, most_states}
-use Rattle.polcert_cells.specs.Preamble.{Preamble}
-use Rattle.polcert_cells.specs.Start.{equal_weights, all_states, is_level, shares_of, included, IsStart, IsStartBody}
+use Rattle.polcert_cells.specs.Elements.{StandsFor}
 use Rattle.polcert_cells.specs.Start as starts
 use Rattle.polcert_format.specs.Text as texts
 use Rattle.polcert_cells.proofs.Basics.{and_true, or_false_from}
-use Rattle.polcert_text.specs.Lines.{line}
-use Rattle.polcert_format.specs.Writable.{IsMillionthsStart}
-use Rattle.polcert_format.specs.FullForm.{millionths_text, chosen, is_whole, is_choice, start_text}
 use Rattle.polcert_text.proofs.Printing.PrintedCut.{Printed, text_of, lexemes_at, ArePrinted}
 use Rattle.polcert_text.proofs.Printing.PrintedWords.{Word, plain, key, word_text, spelled_line, AreSpellings, text_line, line_printed}
 use Rattle.polcert_full_form.proofs.Writable.Printable.{HasRoom}

@@ -1,8 +1,7 @@
 -- A zero in a line, as it is written.
 use Rattle.std.proofs.Common.{◌≡◌, ◌∷◌, [], ◌==◌, ℕ, pos, if◌then◌else◌, refl, arith, codes}
 use Rattle.std.specs.Fmt.{digits}
-use Rattle.polcert_text.specs.Millionths.{scaled_text}
-use Rattle.polcert_full_form.specs.Steps.Printing.{number_text}
+use Rattle.polcert_full_form.proofs.Common.{scaled_text, number_text}
 
 zero_text : 48 ∷ [] ≡ scaled_text (pos 0)
 unfolding digits

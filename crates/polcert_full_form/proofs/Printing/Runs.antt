@@ -1,9 +1,7 @@
 -- Parts of a line or of lines, some of which are written in a run: those of zeros up to the next column that has a weight.
 use Rattle.std.proofs.Common.{◌≡◌, ◌∙◌, ℕ, zero, suc, ◌+◌, ◌-◌, ◌<◌, ◌≤◌, Some, None, Option, Result, Ok, Err, IsErr, List, ◌++◌, sym, ap, subst, arith, append_assoc, append-nil, zero-add}
-use Rattle.polcert_text.specs.Sink.{WritesText}
+use Rattle.polcert_full_form.proofs.Common.{WritesText, IsNext, for_each}
 use Rattle.polcert_text.proofs.Printing.Written.{HasWritten, next_written, fails_at, fails_before, as_text}
-use Rattle.polcert_cells.specs.Cursors.{IsNext}
-use Rattle.polcert_format.specs.FullForm.{for_each}
 use Rattle.polcert_full_form.proofs.Denoting.SameForms.{same_for_each}
 
 -- so many parts, and so many after them

@@ -2,7 +2,7 @@
 use Rattle.std.proofs.Common.{◌≡◌, ℕ, ◌<◌, arith}
 use Rattle.polcert_full_form.specs.declared.weight_row.WeightRow.{WeightRow}
 use Rattle.polcert_full_form.specs.declared.weight_row.ColumnForm.{ColumnForm}
-use Rattle.polcert_full_form.specs.Steps.PrintedRows.{row_weights, column_text, zero_text}
+use Rattle.polcert_full_form.proofs.Common.{row_weights, column_text, zero_text}
 use Rattle.polcert_full_form.proofs.Printing.WalkedRows.{zero_cell}
 
 pub zero_column : (form : ColumnForm) (r : WeightRow) (c : ℕ) → c < r.columns → row_weights r c ≡ 0

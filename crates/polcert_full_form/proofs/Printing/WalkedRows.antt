@@ -1,13 +1,8 @@
 -- A row that is walked from one weight above 0 to the next: what is known of the columns passed, and what is printed of them.
 use Rattle.std.proofs.Common.{◌≡◌, ◌≢◌, ◌∙◌, ℕ, zero, suc, ◌+◌, ◌-◌, ◌%◌, ◌<◌, ◌≤◌, ◌==◌, Bool, true, false, Some, None, [], pos, ap, subst, arith}
 use Rattle.std.proofs.Math.Nat.{zero-mod}
-use Rattle.polcert_cells.specs.declared.entries.Table.{Table}
-use Rattle.polcert_cells.specs.Cursors.{IsNext}
-use Rattle.polcert_cells.specs.BorrowedRows.{reached}
+use Rattle.polcert_full_form.proofs.Common.{Table, IsNext, reached, one, all_below, is_uniform, is_decimal, cell_text, cell_line}
 use Rattle.polcert_cells.specs.declared.cells.Row.{Row}
-use Rattle.polcert_cells.specs.Numbers.{one}
-use Rattle.polcert_format.specs.FullForm.{all_below, is_uniform, is_decimal, cell_text}
-use Rattle.polcert_full_form.specs.Steps.Printing.{cell_line}
 use Rattle.polcert_full_form.proofs.Printing.PrintedParts as texts
 use Rattle.polcert_full_form.proofs.Denoting.RowEntries.{test_apart}
 

@@ -1,8 +1,8 @@
 -- Texts of many parts, as a printer's loop writes them.
 use Rattle.std.proofs.Common.{◌≡◌, ℕ, suc, ◌+◌, ◌<◌, Option, Result, Ok, Err, IsErr, List, [], refl, subst, arith}
-use Rattle.polcert_text.specs.Sink.{Takes, WritesText, nothing}
+use Rattle.polcert_full_form.proofs.Common.{WritesText, for_each}
+use Rattle.polcert_text.specs.Sink.{Takes, nothing}
 use Rattle.polcert_text.proofs.Printing.Written.{HasWritten, nothing_yet, next_written, wrote_part}
-use Rattle.polcert_format.specs.FullForm.{for_each}
 
 -- the sink took so many parts, and no write failed
 pub record AreWritten {S : Type 0} (writes : S → Option (List ℕ) → S → Type 0) (failures : S → ℕ) (from : S) (part : ℕ → List ℕ) (k : ℕ) (s : S) : Type 0 where

@@ -1,31 +1,11 @@
 -- The full form is shorter than a text may be.
 use Rattle.std.proofs.Common.{◌≡◌, ◌∙◌, ℕ, zero, suc, ◌+◌, ◌*◌, ◌/◌, ◌<◌, ◌≤◌, ◌==◌, Bool, true, false, cond, List, [], ◌∷◌, ◌++◌, length, map, filter, sum, All, codes, decimal, ℤ, refl, sym, ap, subst, arith, length-append, unsigned_abs}
-use Rattle.std.specs.List.{range_with_len}
-use Rattle.std.specs.Option.{ForSome}
+use Rattle.polcert_full_form.proofs.Common.{range_with_len, ForSome, div_below, All-head, All-tail, sum_by-cons, text_limit, unsigned_text, scaled_text, largest, Table, Transition, Observation, Reward, Elements, Count, Names, StartWeights, one, IsPrintable, count_of, most_states, most_actions, most_observations, most_elements, is_mdp, rewarded, Meaning, HasLimitedNumbers, states_of, actions_of, observations_of, line, for_each, values, all_below, millionths_text, element_words, preamble_text, start_text, table_word, row_words, is_uniform, is_decimal, cell_text, row_text, transitions_text, observations_text, written, is_zero, reward_words, rewards_row, rewards_from, rewards_text, full_form, IsWritableName}
 use Rattle.std.proofs.Math.Nat.{mul_assoc, mul-le-mul_right}
-use Rattle.std.proofs.lemmas.Nat.{div_below}
 use Rattle.std.proofs.lemmas.Fmt.{length-decimal-le}
-use Rattle.std.proofs.lemmas.List.Elements.{All-head, All-tail}
-use Rattle.std.proofs.lemmas.List.Sums.{sum_by-cons}
-use Rattle.polcert_text.specs.Cut.{text_limit}
-use Rattle.polcert_text.specs.Millionths.{unsigned_text, scaled_text}
-use Rattle.polcert_text.specs.Numbers.{largest}
-use Rattle.polcert_cells.specs.declared.entries.Table.{Table}
-use Rattle.polcert_cells.specs.declared.entries.Table.TheVariants.{Transition, Observation, Reward}
-use Rattle.polcert_cells.specs.declared.elements.Elements.{Elements}
-use Rattle.polcert_cells.specs.declared.elements.Elements.TheVariants.{Count, Names}
-use Rattle.polcert_cells.specs.declared.elements.StartWeights.{StartWeights}
-use Rattle.polcert_cells.specs.Numbers.{one}
 use Rattle.polcert_format.specs.Limits.{most_cells}
-use Rattle.polcert_format.specs.Printable.{IsPrintable}
-use Rattle.polcert_cells.specs.Elements.{count_of, most_states, most_actions, most_observations, most_elements}
-use Rattle.polcert_cells.specs.Preamble.{is_mdp, rewarded}
-use Rattle.polcert_cells.specs.Meaning.{Meaning, HasLimitedNumbers, states_of, actions_of, observations_of}
-use Rattle.polcert_text.specs.Lines.{line}
-use Rattle.polcert_format.specs.FullForm.{for_each, values, all_below, millionths_text, element_words, preamble_text, start_text, table_word, row_words, is_uniform, is_decimal, cell_text, row_text, transitions_text, observations_text, written, is_zero, reward_words, rewards_row, rewards_from, rewards_text, full_form}
 use Rattle.polcert_text.proofs.Printing.WrittenNumbers.{plain_size}
 use Rattle.polcert_full_form.proofs.Printing.PrintedPreamble.{AreWritable}
-use Rattle.polcert_format.specs.Writable.{IsWritableName}
 use Rattle.polcert_full_form.proofs.Denoting.Observing.{one_rewarded, seen_rewarded}
 
 -- ---- lines

@@ -1,8 +1,6 @@
 -- What is not too large to print is within the limits of a text's cells.
-use Rattle.polcert_cells.specs.Preamble.{Preamble}
-use Rattle.polcert_cells.specs.Meaning.{Meaning, HasLimitedNumbers}
+use Rattle.polcert_full_form.proofs.Common.{Preamble, Meaning, HasLimitedNumbers, IsPrintable}
 use Rattle.polcert_format.specs.Limits.{HasFewPairs}
-use Rattle.polcert_format.specs.Printable.{IsPrintable}
 
 -- there is room for what is printed after this preamble, and for the cells of a text
 pub record HasRoom (p : Preamble) : Type 0 where

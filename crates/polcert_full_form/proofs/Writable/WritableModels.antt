@@ -1,21 +1,10 @@
 -- The full form of a model that is not too large to print is a text of that model.
 use Rattle.std.proofs.Common.{◌≡◌, ◌∙◌, ℕ, ◌/◌, ◌%◌, ◌<◌, ◌≤◌, ◌⊎◌, ⊎_elim, inl, inr, Bool, true, false, cond, Some, [], ◌++◌, ◌≢◌, ℤ, refl, sym, ap, subst, unsigned_abs, length, arith}
 use Rattle.std.proofs.Math.Nat.{mul-mod_left, mod-add-div'}
-use Rattle.polcert_text.specs.Cut.{text_limit}
-use Rattle.polcert_text.specs.Numbers.{largest}
-use Rattle.polcert_cells.specs.declared.entries.Table.TheVariants.{Transition, Observation}
-use Rattle.polcert_cells.specs.Elements.{most_states, most_actions, most_observations}
-use Rattle.polcert_cells.specs.Preamble.{Preamble, is_mdp}
-use Rattle.std.specs.Option.{ForSome}
-use Rattle.polcert_cells.specs.Meaning.{Meaning, meaning_of, states_of, actions_of, observations_of, IsSame, HasProperRows, HasLimitedNumbers}
-use Rattle.polcert_format.specs.Text.{nothing_known, IsModelText}
-use Rattle.polcert_format.specs.Printable.{IsPrintable}
-use Rattle.polcert_format.specs.FullForm.{for_each, row_text, written, is_choice, transitions_text, observations_text, rewards_text, full_form}
-use Rattle.polcert_cells.specs.Numbers.{one}
-use Rattle.polcert_format.specs.Writable.{HasProperNames, IsMillionthsStart, IsWritableWeight, IsEndObserved, IsWritable}
+use Rattle.polcert_full_form.proofs.Common.{text_limit, largest, Transition, Observation, most_states, most_actions, most_observations, Preamble, is_mdp, ForSome, Meaning, meaning_of, states_of, actions_of, observations_of, IsSame, HasProperRows, HasLimitedNumbers, nothing_known, IsModelText, IsPrintable, for_each, row_text, written, is_choice, transitions_text, observations_text, rewards_text, full_form, one, IsMillionthsStart, IsEndObserved, IsWritable, Elements}
+use Rattle.polcert_format.specs.Writable.{HasProperNames, IsWritableWeight}
 use Rattle.polcert_tables.specs.Contents.{Contents}
 use Rattle.polcert_tables.specs.Kept.{Kept, meaning}
-use Rattle.polcert_cells.specs.declared.elements.Elements.{Elements}
 use Rattle.polcert_cells.proofs.Basics.{true≢false}
 use Rattle.polcert_full_form.proofs.Writable.Printable.{HasRoom, has_room}
 use Rattle.polcert_full_form.proofs.Printing.PrintedItems.{Prints, prints_then, text_from_items}

@@ -1,32 +1,15 @@
 -- What a text denotes can be written, where it is not too large: its names are names, its start has a form, and so has each weight.
 use Rattle.std.proofs.Common.{◌≡◌, ◌∙◌, ℕ, ◌≤◌, true, Option, Some, None, unwrap_or, List, [], ◌∷◌, ◌++◌, length, flat_map, map, All, sym, ap, subst, arith, rules}
-use Rattle.std.specs.Option.{ForSome}
+use Rattle.polcert_full_form.proofs.Common.{ForSome, All-cons, All-nil, All-head, All-tail, kind_of, Lexeme, IsCut, Elements, StartWeights, Topic, Transition, Entry, IsName, count_of, most_states, most_actions, most_observations, AreElements, counted, Item, lexemes_of, Preamble, is_mdp, observed, Meaning, meaning_of, observation_weight, IsSame, states_of, observations_of, weight, all_states, ModelSoFar, nothing_known, IsRight, AreRight, IsModelText, IsPrintable, full_form, IsWritableName, IsEndObserved, IsWritable}
 use Rattle.std.proofs.lemmas.List.{length-map}
-use Rattle.std.proofs.lemmas.List.Elements.{All-cons, All-nil, All-head, All-tail}
-use Rattle.polcert_text.specs.Lexemes.{kind_of}
 use Rattle.polcert_text.proofs.Scanning.CleanCut.{clean_cut}
-use Rattle.polcert_text.specs.Cut.{Lexeme, Rest, TakesToken, IsCut}
+use Rattle.polcert_text.specs.Cut.{Rest, TakesToken}
 use Rattle.polcert_text.specs.declared.tokens.TokenFault.{TokenFault}
-use Rattle.polcert_cells.specs.declared.elements.Elements.{Elements}
-use Rattle.polcert_cells.specs.declared.elements.StartWeights.{StartWeights}
-use Rattle.polcert_cells.specs.declared.words.Topic.{Topic}
-use Rattle.polcert_cells.specs.declared.entries.Table.TheVariants.{Transition}
-use Rattle.polcert_cells.specs.declared.entries.Entry.{Entry}
-use Rattle.polcert_cells.specs.Words.{IsName}
-use Rattle.polcert_cells.specs.Elements.{count_of, most_states, most_actions, most_observations, AreElements, counted, named}
-use Rattle.polcert_format.specs.Items.{Item, lexemes_of}
-use Rattle.polcert_cells.specs.Preamble.{Preamble, is_mdp, observed}
-use Rattle.polcert_cells.specs.Meaning.{Meaning, meaning_of, observation_weight, IsSame, states_of, observations_of}
-use Rattle.polcert_cells.specs.Cells.{weight}
-use Rattle.polcert_cells.specs.Start.{all_states}
+use Rattle.polcert_cells.specs.Elements.{named}
 use Rattle.polcert_format.specs.Text as texts
-use Rattle.polcert_format.specs.Text.{ModelSoFar, nothing_known, IsRight, AreRight, IsModelText}
-use Rattle.polcert_format.specs.Printable.{IsPrintable}
 use Rattle.polcert_format.proofs.LimitLaws.{within_limits}
 use Rattle.polcert_format.proofs.TextLaws.{one_model}
-use Rattle.polcert_format.specs.FullForm.{full_form}
 use Rattle.polcert_full_form.proofs.Printing.PrintedPreamble.{AreWritable}
-use Rattle.polcert_format.specs.Writable.{IsWritableName, IsEndObserved, IsWritable}
 use Rattle.polcert_full_form.proofs.Denoting.RowEntries.{Fits}
 use Rattle.polcert_full_form.proofs.Denoting.WeightForms.{weight_fits, observation_fits}
 use Rattle.polcert_full_form.proofs.Denoting.StartShapes.{HasShape, start_shape, alike_shape}

@@ -1,10 +1,7 @@
 use Rattle.std.proofs.Common.{◌≡◌, ◌∙◌, ◌≤◌, ℕ, sym, ap, rules, arith, true, ◌==◌, ◌||◌}
-use Rattle.polcert_tables.specs.Contents.{meaning}
-use Rattle.polcert_cells.specs.Meaning.{states_of}
-use Rattle.polcert_full_form.specs.Steps.Printing.{share_of}
+use Rattle.polcert_full_form.proofs.Common.{meaning, states_of, share_of, nat_tests}
 use Rattle.polcert_full_form.proofs.Printing.PrintedParts as texts
 use Rattle.polcert_full_form.proofs.print_model.is_choice.Goals as goal
-use Rattle.std.proofs.lemmas.Bool.Decides.{nat_tests}
 use Rattle.polcert_full_form.proofs.Denoting.RowEntries.{test_apart}
 use Rattle.polcert_cells.proofs.Basics.{or_false_from}
 

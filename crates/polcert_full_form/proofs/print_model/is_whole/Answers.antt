@@ -1,7 +1,5 @@
 use Rattle.std.proofs.Common.{◌∙◌, sym, ap, rules, ◌==◌}
-use Rattle.polcert_tables.specs.Contents.{meaning}
-use Rattle.polcert_cells.specs.Meaning.{states_of}
-use Rattle.polcert_full_form.specs.Steps.Printing.{share_of}
+use Rattle.polcert_full_form.proofs.Common.{meaning, states_of, share_of}
 use Rattle.polcert_full_form.proofs.Printing.PrintedParts as texts
 use Rattle.polcert_full_form.proofs.print_model.is_whole.Goals as goal
 use Rattle.polcert_full_form.proofs.Denoting.RowEntries.{test_apart}

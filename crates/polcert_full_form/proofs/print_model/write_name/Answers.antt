@@ -1,6 +1,6 @@
 use Rattle.std.proofs.Common.{◌≡◌, ◌<◌, [], ℕ, List, sym, ap, slice_get, Some, None, slice_index_or, get_or, length, rules}
 use Rattle.polcert_text.proofs.Printing.Written.{and_then, unwritten, stopped, as_text}
-use Rattle.polcert_full_form.specs.Steps.Printing.{after_blank}
+use Rattle.polcert_full_form.proofs.Common.{after_blank}
 use Rattle.std.proofs.lemmas.Option.{slice_get-get_or}
 use Rattle.polcert_cells.proofs.Basics.{some≢none}
 use Rattle.polcert_full_form.proofs.print_model.write_name.Goals as goal

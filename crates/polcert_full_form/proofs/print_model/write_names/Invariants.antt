@@ -1,4 +1,4 @@
-use Rattle.polcert_full_form.specs.Steps.Printing.{name_text}
+use Rattle.polcert_full_form.proofs.Common.{name_text}
 use Rattle.polcert_full_form.proofs.Printing.WrittenParts.{AreWritten}
 use Rattle.polcert_full_form.proofs.print_model.write_names.Given as goal
 

@@ -1,6 +1,6 @@
 use Rattle.std.proofs.Common.{◌∙◌, ap, codes}
 use Rattle.polcert_text.proofs.Printing.Written.{as_text}
-use Rattle.polcert_format.specs.FullForm.{observations_line}
+use Rattle.polcert_full_form.proofs.Common.{observations_line}
 use Rattle.polcert_full_form.proofs.Printing.WrittenParts.{wrote_nothing}
 use Rattle.polcert_full_form.proofs.Printing.PrintedParts as texts
 use Rattle.polcert_full_form.proofs.print_model.write_observations.Goals as goal

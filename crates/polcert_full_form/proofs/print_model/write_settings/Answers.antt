@@ -1,9 +1,6 @@
 use Rattle.std.proofs.Common.{◌≡◌, ◌∙◌, ◌<◌, ◌^◌, ℕ, pos, ap, rules, arith}
-use Rattle.polcert_text.specs.Millionths.{scaled_text}
+use Rattle.polcert_full_form.proofs.Common.{scaled_text, meaning, values_line, to_z_pos}
 use Rattle.polcert_text.proofs.Printing.Written.{and_then, unwritten, stopped, as_text}
-use Rattle.polcert_tables.specs.Contents.{meaning}
-use Rattle.polcert_full_form.specs.Steps.Printing.{values_line}
-use Rattle.std.proofs.lemmas.Int.{to_z_pos}
 use mir.Syntax.{w64}
 use mir.Val.{to_z}
 use Rattle.polcert_full_form.proofs.print_model.write_settings.Goals as goal

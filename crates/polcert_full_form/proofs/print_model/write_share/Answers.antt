@@ -1,9 +1,6 @@
 use Rattle.std.proofs.Common.{◌∙◌, pos, ap, rules, arith}
-use Rattle.polcert_text.specs.Millionths.{scaled_text}
+use Rattle.polcert_full_form.proofs.Common.{scaled_text, meaning, states_of, to_z_pos}
 use Rattle.polcert_text.proofs.Printing.Written.{and_then, unwritten, stopped, as_text}
-use Rattle.polcert_tables.specs.Contents.{meaning}
-use Rattle.polcert_cells.specs.Meaning.{states_of}
-use Rattle.std.proofs.lemmas.Int.{to_z_pos}
 use mir.Syntax.{w64}
 use Rattle.polcert_full_form.proofs.Printing.PrintedParts as texts
 use Rattle.polcert_full_form.proofs.print_model.write_share.Goals as goal

@@ -1,7 +1,6 @@
 use Rattle.std.proofs.Common.{◌∙◌, sym}
 use Rattle.polcert_text.proofs.Printing.Written.{as_text}
-use Rattle.polcert_tables.specs.Contents.{meaning}
-use Rattle.polcert_cells.specs.Meaning.{states_of}
+use Rattle.polcert_full_form.proofs.Common.{meaning, states_of}
 use Rattle.polcert_full_form.proofs.Printing.PrintedParts as texts
 use Rattle.polcert_full_form.proofs.print_model.write_start.Goals as goal
 

@@ -1,4 +1,4 @@
-use Rattle.polcert_tables.specs.Contents.{meaning}
+use Rattle.polcert_full_form.proofs.Common.{meaning}
 use Rattle.polcert_full_form.specs.Steps.StartForms.{start_part}
 use Rattle.polcert_full_form.proofs.Printing.WrittenParts.{AreWritten}
 use Rattle.polcert_full_form.proofs.print_model.write_start_parts.Given as goal

@@ -1,7 +1,6 @@
 use Rattle.std.proofs.Common.{◌≡◌, ◌∙◌, [], sym, ap, cond, true, false, ◌==◌, decimal}
 use Rattle.polcert_text.proofs.Printing.Written.{as_text}
-use Rattle.polcert_tables.specs.Contents.{meaning}
-use Rattle.polcert_full_form.specs.Steps.Printing.{after_blank, share_of}
+use Rattle.polcert_full_form.proofs.Common.{meaning, after_blank, share_of}
 use Rattle.polcert_full_form.proofs.Printing.WrittenParts.{wrote_nothing}
 use Rattle.polcert_full_form.proofs.print_model.write_state_if_chosen.Goals as goal
 use Rattle.polcert_full_form.proofs.Denoting.RowEntries.{test_apart}

@@ -1,8 +1,6 @@
 use Rattle.std.proofs.Common.{◌≡◌, ◌∙◌, ◌+◌, ◌≤◌, Bool, ℤ, pos, ap, rules, FitsSigned, get_or, unsigned_abs, length}
-use Rattle.polcert_text.specs.Numbers.{largest}
+use Rattle.polcert_full_form.proofs.Common.{largest, written, number_text}
 use Rattle.polcert_text.proofs.Printing.Written.{as_text}
-use Rattle.polcert_format.specs.FullForm.{written}
-use Rattle.polcert_full_form.specs.Steps.Printing.{number_text}
 use Rattle.polcert_cells.proofs.SoundLaws.{reward_fits}
 use Rattle.polcert_full_form.proofs.Printing.WrittenParts.{no_turn, turn_written, turn_failed}
 use Rattle.std.proofs.lemmas.Int.{to_z-of_z}

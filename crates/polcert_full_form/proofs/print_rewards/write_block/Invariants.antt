@@ -1,4 +1,4 @@
-use Rattle.polcert_full_form.specs.Steps.Printing.{block_text}
+use Rattle.polcert_full_form.proofs.Common.{block_text}
 use Rattle.polcert_full_form.proofs.Printing.WrittenParts.{AreWritten}
 use Rattle.polcert_full_form.proofs.print_rewards.write_block.Given as goal
 

@@ -1,7 +1,6 @@
 use Rattle.std.proofs.Common.{◌≡◌, ◌+◌, ◌-◌, rules, arith}
 use Rattle.polcert_text.proofs.Printing.Written.{nothing_yet}
-use Rattle.polcert_tables.specs.Contents.{meaning}
-use Rattle.polcert_full_form.specs.Steps.PrintedRows.{row_width, row_rewards, rewarded_text}
+use Rattle.polcert_full_form.proofs.Common.{meaning, row_width, row_rewards, rewarded_text}
 use Rattle.polcert_full_form.proofs.Denoting.RewardBlocks.{within, size_is, small_in, block_more, small_rewards}
 use Rattle.polcert_full_form.proofs.Printing.Runs.{run_written, run_failed}
 use Rattle.polcert_full_form.proofs.print_rewards.write_blocks.Goals as goal

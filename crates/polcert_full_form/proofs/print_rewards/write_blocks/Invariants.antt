@@ -1,8 +1,6 @@
 use Rattle.std.proofs.Common.{◌+◌, ◌-◌, ◌≤◌}
 use Rattle.polcert_text.proofs.Printing.Written.{HasWritten}
-use Rattle.polcert_format.specs.FullForm.{for_each}
-use Rattle.polcert_full_form.specs.Steps.Printing.{IsFilled}
-use Rattle.polcert_full_form.specs.Steps.PrintedRows.{row_width, row_rewards, rewarded_text}
+use Rattle.polcert_full_form.proofs.Common.{for_each, IsFilled, row_width, row_rewards, rewarded_text}
 use Rattle.polcert_full_form.proofs.print_rewards.write_blocks.Given as goal
 
 abbrev pub invariant-loop-column : goal.invariant-loop-column

@@ -1,6 +1,6 @@
 use Rattle.std.proofs.Common.{rules, arith}
 use Rattle.polcert_text.proofs.Printing.Written.{and_then, unwritten, stopped, as_text}
-use Rattle.polcert_tables.specs.Contents.{meaning}
+use Rattle.polcert_full_form.proofs.Common.{meaning}
 use Rattle.polcert_full_form.proofs.Printing.WrittenParts.{wrote_nothing}
 use Rattle.polcert_full_form.proofs.Denoting.RewardBlocks.{row_paid, row_unpaid, few_columns}
 use Rattle.polcert_full_form.proofs.print_rewards.write_reward_row.Goals as goal

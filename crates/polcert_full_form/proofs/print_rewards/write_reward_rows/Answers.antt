@@ -1,6 +1,5 @@
 use Rattle.std.proofs.Common.{rules}
-use Rattle.polcert_tables.specs.Contents.{meaning}
-use Rattle.polcert_cells.specs.Meaning.{states_of}
+use Rattle.polcert_full_form.proofs.Common.{meaning, states_of}
 use Rattle.polcert_full_form.proofs.Printing.WrittenParts.{no_turn, turn_written, turn_failed}
 use Rattle.polcert_full_form.proofs.print_rewards.write_reward_rows.Goals as goal
 

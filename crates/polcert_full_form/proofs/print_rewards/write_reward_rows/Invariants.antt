@@ -1,6 +1,5 @@
 use Rattle.std.proofs.Common.{Some}
-use Rattle.polcert_tables.specs.Contents.{meaning}
-use Rattle.polcert_full_form.specs.Steps.Printing.{reward_row_text}
+use Rattle.polcert_full_form.proofs.Common.{meaning, reward_row_text}
 use Rattle.polcert_full_form.proofs.Printing.WrittenParts.{AreWritten}
 use Rattle.polcert_full_form.proofs.print_rewards.write_reward_rows.Given as goal
 

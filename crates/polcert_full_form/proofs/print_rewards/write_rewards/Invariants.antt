@@ -1,4 +1,4 @@
-use Rattle.polcert_tables.specs.Contents.{meaning}
+use Rattle.polcert_full_form.proofs.Common.{meaning}
 use Rattle.polcert_full_form.specs.Steps.Printing.{rewards_at}
 use Rattle.polcert_full_form.proofs.Printing.WrittenParts.{AreWritten}
 use Rattle.polcert_full_form.proofs.print_rewards.write_rewards.Given as goal

@@ -1,6 +1,5 @@
-use Rattle.polcert_tables.specs.Contents.{meaning}
+use Rattle.polcert_full_form.proofs.Common.{meaning, rewards_from}
 use Rattle.polcert_full_form.proofs.Printing.WrittenParts.{AreWritten}
-use Rattle.polcert_format.specs.FullForm.{rewards_from}
 use Rattle.polcert_full_form.proofs.print_rewards.write_rewards_at.Given as goal
 
 abbrev pub invariant-loop-start : goal.invariant-loop-start

@@ -1,8 +1,6 @@
 use Rattle.std.proofs.Common.{◌≡◌, ◌∙◌, ◌<◌, ℕ, pos, sym}
 use Rattle.polcert_text.proofs.Printing.Written.{as_text}
-use Rattle.polcert_cells.specs.Preamble.{is_mdp}
-use Rattle.polcert_tables.specs.Contents.{meaning}
-use Rattle.polcert_cells.specs.Meaning.{states_of, observations_of}
+use Rattle.polcert_full_form.proofs.Common.{is_mdp, meaning, states_of, observations_of}
 use Rattle.polcert_full_form.proofs.Printing.WrittenParts.{wrote_nothing}
 use Rattle.polcert_full_form.proofs.Printing.PrintedParts as texts
 use Rattle.polcert_full_form.proofs.print_rewards.write_rewards_from.Goals as goal

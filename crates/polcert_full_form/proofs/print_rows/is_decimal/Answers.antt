@@ -1,6 +1,5 @@
 use Rattle.std.proofs.Common.{Some, refl, arith}
-use Rattle.polcert_cells.specs.BorrowedRows.{reached}
-use Rattle.polcert_full_form.specs.Steps.PrintedRows.{row_weights}
+use Rattle.polcert_full_form.proofs.Common.{reached, row_weights}
 use Rattle.polcert_full_form.proofs.Printing.WalkedRows.{at_start, decimal_other, decimal_more, decimal_end}
 use Rattle.polcert_full_form.proofs.print_rows.is_decimal.Goals as goal
 

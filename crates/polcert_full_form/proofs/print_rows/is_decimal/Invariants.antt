@@ -1,7 +1,5 @@
 use Rattle.std.proofs.Common.{◌≡◌, ◌≤◌, ◌-◌, ◌%◌, ◌==◌, true, Some}
-use Rattle.polcert_cells.specs.BorrowedRows.{reached}
-use Rattle.polcert_full_form.specs.Steps.PrintedRows.{row_weights}
-use Rattle.polcert_format.specs.FullForm.{all_below}
+use Rattle.polcert_full_form.proofs.Common.{reached, row_weights, all_below}
 use Rattle.polcert_full_form.proofs.print_rows.is_decimal.Given as goal
 
 abbrev pub invariant-loop-step : goal.invariant-loop-step

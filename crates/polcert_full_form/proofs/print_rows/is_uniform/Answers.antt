@@ -1,5 +1,5 @@
 use Rattle.std.proofs.Common.{refl, arith}
-use Rattle.polcert_full_form.specs.Steps.PrintedRows.{row_weights}
+use Rattle.polcert_full_form.proofs.Common.{row_weights}
 use Rattle.polcert_full_form.proofs.Printing.WalkedRows.{at_start, uniform_gap, uniform_other, uniform_more, uniform_end}
 use Rattle.polcert_full_form.proofs.print_rows.is_uniform.Goals as goal
 

@@ -1,7 +1,6 @@
 use Rattle.std.proofs.Common.{◌≡◌, ◌∙◌, sym, false}
 use Rattle.polcert_text.proofs.Printing.Written.{as_text}
-use Rattle.polcert_full_form.specs.Steps.PrintedRows.{row_weights}
-use Rattle.polcert_format.specs.FullForm.{is_uniform}
+use Rattle.polcert_full_form.proofs.Common.{row_weights, is_uniform}
 use Rattle.polcert_full_form.proofs.Printing.PrintedParts as texts
 use Rattle.polcert_full_form.proofs.Printing.WalkedRows.{some_columns}
 use Rattle.polcert_full_form.proofs.print_rows.write_body.Goals as goal

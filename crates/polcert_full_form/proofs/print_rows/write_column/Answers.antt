@@ -1,8 +1,6 @@
 use Rattle.std.proofs.Common.{◌≡◌, ◌∙◌, ◌/◌, ◌==◌, false, pos, ap, sym, rules, FitsSigned}
 use Rattle.polcert_text.proofs.Printing.Written.{as_text}
-use Rattle.polcert_cells.specs.Numbers.{one}
-use Rattle.polcert_full_form.specs.Steps.Printing.{number_text, cell_line}
-use Rattle.polcert_full_form.specs.Steps.PrintedRows.{row_weights, column_text}
+use Rattle.polcert_full_form.proofs.Common.{one, number_text, cell_line, row_weights, column_text}
 use Rattle.polcert_full_form.proofs.Printing.WrittenParts.{wrote_nothing}
 use Rattle.std.proofs.lemmas.Int.{to_z-of_z}
 use mir.Syntax.{w64}

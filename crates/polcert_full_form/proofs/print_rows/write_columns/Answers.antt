@@ -1,6 +1,6 @@
 use Rattle.std.proofs.Common.{◌+◌, rules, arith}
 use Rattle.polcert_text.proofs.Printing.Written.{nothing_yet, ends_with, as_text}
-use Rattle.polcert_full_form.specs.Steps.PrintedRows.{row_weights, column_text, zero_text}
+use Rattle.polcert_full_form.proofs.Common.{row_weights, column_text, zero_text}
 use Rattle.polcert_full_form.proofs.Printing.Runs.{step_is, rest_is, run_written, run_failed}
 use Rattle.polcert_full_form.proofs.Printing.WalkedRows.{at_start}
 use Rattle.polcert_full_form.proofs.Printing.WalkedColumns.{zero_column}

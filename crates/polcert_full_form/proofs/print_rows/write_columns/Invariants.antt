@@ -1,8 +1,6 @@
 use Rattle.std.proofs.Common.{◌≡◌, ◌≤◌, ◌-◌, Some}
 use Rattle.polcert_text.proofs.Printing.Written.{HasWritten}
-use Rattle.polcert_cells.specs.BorrowedRows.{reached}
-use Rattle.polcert_format.specs.FullForm.{for_each}
-use Rattle.polcert_full_form.specs.Steps.PrintedRows.{column_text}
+use Rattle.polcert_full_form.proofs.Common.{reached, for_each, column_text}
 use Rattle.polcert_full_form.proofs.print_rows.write_columns.Given as goal
 
 abbrev pub invariant-loop-step : goal.invariant-loop-step

@@ -1,6 +1,6 @@
 use Rattle.std.proofs.Common.{◌≡◌, rules}
 use Rattle.polcert_text.proofs.Printing.Written.{and_then, unwritten, stopped, as_text}
-use Rattle.polcert_cells.specs.Preamble.{columns}
+use Rattle.polcert_full_form.proofs.Common.{columns}
 use Rattle.polcert_tables.specs.Steps.RowSums.{row_of}
 use Rattle.polcert_full_form.proofs.Printing.PrintedParts as texts
 use Rattle.polcert_full_form.proofs.print_rows.write_row.Goals as goal

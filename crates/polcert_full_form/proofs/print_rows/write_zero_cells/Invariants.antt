@@ -1,5 +1,5 @@
 use Rattle.std.proofs.Common.{◌+◌, pos}
-use Rattle.polcert_full_form.specs.Steps.Printing.{cell_line}
+use Rattle.polcert_full_form.proofs.Common.{cell_line}
 use Rattle.polcert_full_form.proofs.Printing.WrittenParts.{AreWritten}
 use Rattle.polcert_full_form.proofs.print_rows.write_zero_cells.Given as goal
 

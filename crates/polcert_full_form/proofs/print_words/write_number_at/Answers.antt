@@ -1,5 +1,5 @@
 use Rattle.std.proofs.Common.{ap, rules}
-use Rattle.polcert_text.specs.Millionths.{scaled_text}
+use Rattle.polcert_full_form.proofs.Common.{scaled_text}
 use Rattle.std.proofs.lemmas.Int.{to_z-of_z}
 use mir.Syntax.{w64}
 use Rattle.polcert_text.proofs.Printing.Written.{and_then, unwritten, stopped, as_text}

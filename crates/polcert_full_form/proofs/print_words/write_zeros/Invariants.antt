@@ -1,6 +1,6 @@
 use Rattle.std.proofs.Common.{◌+◌, pos}
 use Rattle.polcert_full_form.proofs.Printing.WrittenParts.{AreWritten}
-use Rattle.polcert_full_form.specs.Steps.Printing.{number_text}
+use Rattle.polcert_full_form.proofs.Common.{number_text}
 use Rattle.polcert_full_form.proofs.print_words.write_zeros.Given as goal
 
 abbrev pub invariant-loop-number : goal.invariant-loop-number

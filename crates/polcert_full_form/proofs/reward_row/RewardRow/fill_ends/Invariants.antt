@@ -1,5 +1,5 @@
 use Rattle.std.proofs.Common.{◌≡◌, ℕ, ◌+◌, ◌<◌, get_or, pos}
-use Rattle.polcert_tables.specs.Contents.{meaning}
+use Rattle.polcert_full_form.proofs.Common.{meaning}
 use Rattle.polcert_full_form.proofs.reward_row.RewardRow.fill_ends.Given as goal
 
 -- the rewards so far

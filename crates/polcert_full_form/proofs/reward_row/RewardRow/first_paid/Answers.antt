@@ -1,5 +1,5 @@
 use Rattle.std.proofs.Common.{◌∙◌, sym, arith}
-use Rattle.polcert_full_form.specs.Steps.PrintedRows.{row_width, row_rewards}
+use Rattle.polcert_full_form.proofs.Common.{row_width, row_rewards}
 use Rattle.polcert_full_form.proofs.Printing.PrintedParts.{all_zero}
 use Rattle.polcert_full_form.proofs.Denoting.RewardBlocks.{within, zero_to, paid_from}
 use Rattle.polcert_full_form.proofs.reward_row.RewardRow.first_paid.Goals as goal

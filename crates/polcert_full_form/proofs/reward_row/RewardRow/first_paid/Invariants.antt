@@ -1,5 +1,5 @@
 use Rattle.std.proofs.Common.{◌≡◌, ◌<◌, ◌≤◌, ◌-◌, ℕ, pos}
-use Rattle.polcert_full_form.specs.Steps.PrintedRows.{row_width, row_rewards}
+use Rattle.polcert_full_form.proofs.Common.{row_width, row_rewards}
 use Rattle.polcert_full_form.proofs.reward_row.RewardRow.first_paid.Given as goal
 
 abbrev pub invariant-loop-first : goal.invariant-loop-first
