@@ -1,4 +1,4 @@
-pub mod BuiltModels
+mod Common
 pub mod FilledLaws
 pub mod KeptLaws
 pub mod RowSumLaws

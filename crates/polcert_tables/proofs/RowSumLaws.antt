@@ -1,20 +1,14 @@
 -- Row sums: those of all tables, by what is known of each table.
-use Rattle.std.proofs.Common.{◌≡◌, ◌∙◌, ℕ, ◌*◌, ◌<◌, ◌==◌, Bool, true, false, cond, List, [], ◌∷◌, sym, ap, subst}
-use Rattle.polcert_cells.specs.declared.entries.Entry.{Entry}
-use Rattle.polcert_cells.specs.declared.entries.Table.{Table}
-use Rattle.polcert_cells.specs.declared.entries.Table.TheVariants.{Transition, Observation}
+use Rattle.std.proofs.Common.{◌≡◌, ◌∙◌, ℕ, ◌*◌, ◌<◌, ◌==◌, Bool, true, false, cond, List, [], ◌∷◌, sym, ap, subst, rules}
+use Rattle.polcert_tables.proofs.Common.{Entry, Table, Transition, count_of, Preamble, is_mdp, observed, weight, HasProperRows, states_of, observations_of, sum_below, Kept, IsKeptOf}
+use Rattle.polcert_cells.specs.declared.entries.Table.TheVariants.{Observation}
 use Rattle.polcert_cells.specs.Numbers.{one}
-use Rattle.polcert_cells.specs.Elements.{count_of}
-use Rattle.polcert_cells.specs.Preamble.{Preamble, is_mdp, observed}
-use Rattle.polcert_cells.specs.Cells.{weight}
-use Rattle.polcert_cells.specs.Meaning.{HasProperRows, states_of, observations_of, sum_below}
 use Rattle.polcert_cells.specs.Rows.{IsFirstWrongRow}
 use Rattle.polcert_cells.specs.Steps.Drafts as drafts
 use Rattle.polcert_rules.specs.declared.rows.WrongRow.{WrongRow}
 use Rattle.polcert_rules.specs.RowTables.{AreProperRows, IsFirstWrong}
 use Rattle.polcert_rules.proofs.RowLaws.SumLaws.{sum_same}
-use Rattle.polcert_tables.specs.Kept.{Kept, meaning}
-use Rattle.polcert_tables.specs.Steps.KeptOf.{IsKeptOf}
+use Rattle.polcert_tables.specs.Kept.{meaning}
 use Rattle.polcert_tables.specs.Steps.RowSums.{AreProperObservations}
 use Rattle.polcert_tables.proofs.KeptLaws.{AreFew, kept_same, sum_of_one, states_seen}
 
@@ -39,27 +33,13 @@ module _ (d : drafts.Draft) where
   kept_proper k few kept t o =
       let same = kept_same d k few kept in
       record {
-        transitions = λ a s i j.
-            sum_same _ _ (states_of (meaning k)) (λ c l. same.t a s c i j l)
-            ∙ ap (sum_below ((drafts.meaning d).t a s)) (ap (λ (p : Preamble). count_of p.states) same.preamble)
-            ∙ t a s (subst (λ (p : Preamble). a < count_of p.actions) same.preamble i) (subst (λ (p : Preamble). s < count_of p.states) same.preamble j)
-            ∙ sym (ap (λ (p : Preamble). one * count_of p.states) same.preamble);
-        observations = λ a e i j.
-            sum_same _ _ (observations_of (meaning k)) (λ c l. same.o a e c i j l)
-            ∙ ap (sum_below ((drafts.meaning d).o a e)) (ap (λ (p : Preamble). count_of (observed p)) same.preamble)
-            ∙ o a e (subst (λ (p : Preamble). a < count_of p.actions) same.preamble i) (subst (λ (p : Preamble). e < count_of p.states) same.preamble j)
-            ∙ sym (ap (λ (p : Preamble). one * count_of (observed p)) same.preamble);
+        transitions = λ a s i j. sum_same _ _ (states_of (meaning k)) (λ c l. same.t a s c i j l) ∙ rw kept.preamble (t a s (rw kept.preamble at i) (rw kept.preamble at j));
+        observations = λ a e i j. sum_same _ _ (observations_of (meaning k)) (λ c l. same.o a e c i j l) ∙ rw kept.preamble (o a e (rw kept.preamble at i) (rw kept.preamble at j));
       }
 
   -- ---- the first row that is wrong
   pub wrong_transition : (w : WrongRow) → IsFirstWrong d.preamble d.entries Transition w → IsFirstWrongRow (drafts.meaning d) w.table w.action w.row
-  wrong_transition w h = subst (λ (u : Table). IsFirstWrongRow (drafts.meaning d) u w.action w.row) (sym h.table_is) (record {
-    action = h.action;
-    state = h.state;
-    wrong = h.wrong;
-    before = record { earlier_actions = h.earlier_actions; same_action = h.same_action };
-    after_transitions = tt;
-  })
+  wrong_transition w h = rw h.table_is (search rules)
 
   pub wrong_observation : (w : WrongRow) → AreProperRows d.preamble d.entries Transition → is_mdp d.preamble ≡ false → IsFirstWrong d.preamble d.entries Observation w
       → IsFirstWrongRow (drafts.meaning d) w.table w.action w.row

@@ -1,7 +1,6 @@
 use Rattle.std.proofs.Common.{sym}
-use Rattle.polcert_cells.specs.Tables.{table_of}
-use Rattle.polcert_tables.specs.Contents.{meaning}
-use Rattle.polcert_tables.specs.Filled.{lists_of, filled_table}
+use Rattle.polcert_tables.proofs.Common.{table_of, meaning, filled_table}
+use Rattle.polcert_tables.specs.Filled.{lists_of}
 use Rattle.polcert_tables.proofs.FilledLaws as filled
 use Rattle.polcert_tables.proofs.dense.dense_of.Goals as goal
 

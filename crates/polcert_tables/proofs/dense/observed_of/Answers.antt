@@ -1,7 +1,5 @@
 use Rattle.std.proofs.Common.{◌∙◌, ℕ, ◌+◌, ◌/◌, ◌%◌, ap, arith}
-use Rattle.std.proofs.lemmas.List.{length_push}
-use Rattle.polcert_cells.specs.Tables.{table_of}
-use Rattle.polcert_tables.specs.Contents.{meaning}
+use Rattle.polcert_tables.proofs.Common.{length_push, table_of, meaning}
 use Rattle.polcert_tables.proofs.FilledLaws as filled
 use Rattle.polcert_tables.proofs.dense.observed_of.Goals as goal
 

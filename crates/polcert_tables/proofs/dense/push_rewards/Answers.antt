@@ -1,7 +1,7 @@
 use Rattle.std.proofs.Common.{◌∙◌, sym, rules, arith, FitsSigned}
 use Rattle.std.proofs.lemmas.Int.{to_z-of_z}
 use mir.Syntax.{w64}
-use Rattle.polcert_tables.specs.Contents.{meaning}
+use Rattle.polcert_tables.proofs.Common.{meaning}
 use Rattle.polcert_tables.proofs.FilledLaws.{adds_next}
 use Rattle.polcert_tables.proofs.dense.push_rewards.Goals as goal
 

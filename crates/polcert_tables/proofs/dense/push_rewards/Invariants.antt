@@ -1,5 +1,4 @@
-use Rattle.polcert_tables.specs.Contents.{meaning}
-use Rattle.polcert_tables.specs.Filled.{AddsCells}
+use Rattle.polcert_tables.proofs.Common.{meaning, AddsCells}
 use Rattle.polcert_tables.proofs.dense.push_rewards.Given as goal
 
 abbrev pub invariant-loop : goal.invariant-loop

@@ -1,8 +1,6 @@
 use Rattle.std.proofs.Common.{ℕ, ℤ, ◌/◌, ◌%◌, ◌*◌, ap, refl, arith}
 use Rattle.std.proofs.lemmas.Nat.{div_below}
-use Rattle.polcert_cells.specs.Meaning.{observations_of}
-use Rattle.polcert_cells.specs.Tables.{table_of}
-use Rattle.polcert_tables.specs.Contents.{meaning}
+use Rattle.polcert_tables.proofs.Common.{observations_of, table_of, meaning}
 use Rattle.polcert_tables.proofs.FilledLaws.{four_fit, row_added, rewards_are}
 use Rattle.polcert_tables.proofs.dense.rewards_of.Goals as goal
 

@@ -1,6 +1,5 @@
 use Rattle.std.proofs.Common.{◌≡◌, ℕ, ◌<◌, ◌*◌, ◌/◌, ◌%◌, pos, get_or, length}
-use Rattle.polcert_cells.specs.Meaning.{observations_of}
-use Rattle.polcert_tables.specs.Contents.{meaning}
+use Rattle.polcert_tables.proofs.Common.{observations_of, meaning}
 use Rattle.polcert_tables.proofs.dense.rewards_of.Given as goal
 
 abbrev pub invariant-loop-row : goal.invariant-loop-row

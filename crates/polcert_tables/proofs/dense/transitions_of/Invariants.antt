@@ -1,5 +1,5 @@
 use Rattle.std.proofs.Common.{◌≡◌, ℕ, ◌<◌, ◌/◌, ◌%◌, get_or, length}
-use Rattle.polcert_tables.specs.Contents.{meaning}
+use Rattle.polcert_tables.proofs.Common.{meaning}
 use Rattle.polcert_tables.proofs.dense.transitions_of.Given as goal
 
 abbrev pub invariant-loop-place : goal.invariant-loop-place

@@ -1,11 +1,10 @@
 use Rattle.std.proofs.Common.{◌∙◌, refl, sym}
-use Rattle.polcert_cells.specs.Steps.Drafts.{Draft}
+use Rattle.polcert_tables.proofs.Common.{Draft}
 use Rattle.polcert_tables.specs.Steps.ModelView.{draft_with}
 use Rattle.polcert_rules.proofs.RowLaws.SoundRows.{sound_keyed}
 use Rattle.polcert_cells.specs.declared.elements.Elements.TheVariants.{Count}
 use Rattle.polcert_format.proofs.OrderLaws.{count_of_line}
-use Rattle.polcert_tables.proofs.BuiltModels.{are_sound, is_kept, is_kept_model}
-use Rattle.polcert_tables.proofs.KeptLaws.{AreFew, kept_same}
+use Rattle.polcert_tables.proofs.KeptLaws.{are_sound, is_kept, is_kept_model, AreFew, kept_same}
 use Rattle.polcert_tables.proofs.RowSumLaws.{kept_proper, wrong_transition, wrong_observation}
 use Rattle.polcert_tables.proofs.model.build_model.Goals as goal
 

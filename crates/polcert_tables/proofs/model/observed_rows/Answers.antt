@@ -1,7 +1,5 @@
 use Rattle.std.proofs.Common.{◌≡◌, ◌∙◌, true, false, Option, is_none, unwrap_or, sym, ap}
-use Rattle.polcert_cells.specs.declared.elements.Elements.{Elements}
-use Rattle.polcert_cells.specs.Elements.{count_of}
-use Rattle.polcert_cells.specs.Preamble.{is_mdp}
+use Rattle.polcert_tables.proofs.Common.{Elements, count_of, is_mdp}
 use Rattle.polcert_tables.proofs.RowSumLaws.{of_observations, of_end_states}
 use Rattle.polcert_tables.proofs.model.observed_rows.Goals as goal
 

@@ -1,8 +1,7 @@
 use Rattle.std.proofs.Common.{◌∙◌, ◌+◌, ◌*◌, pos, sym, ap, arith, rules, FitsSigned}
 use Rattle.std.proofs.lemmas.Int.{to_z-of_z}
 use mir.Syntax.{w64}
-use Rattle.std.proofs.lemmas.List.{get_or_read_under}
-use Rattle.polcert_tables.specs.Filled.{Filled, filled_table}
+use Rattle.polcert_tables.proofs.Common.{get_or_read_under, Filled, filled_table}
 use Rattle.polcert_tables.proofs.FilledLaws as filled
 use Rattle.polcert_tables.proofs.dense.DenseModelCells.r.Goals as goal
 

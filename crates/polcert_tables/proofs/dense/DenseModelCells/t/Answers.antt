@@ -1,6 +1,5 @@
 use Rattle.std.proofs.Common.{◌∙◌, ◌+◌, ◌*◌, sym, ap, arith}
-use Rattle.std.proofs.lemmas.List.{get_or_read_under}
-use Rattle.polcert_tables.specs.Filled.{Filled, filled_table}
+use Rattle.polcert_tables.proofs.Common.{get_or_read_under, Filled, filled_table}
 use Rattle.polcert_tables.proofs.FilledLaws as filled
 use Rattle.polcert_tables.proofs.dense.DenseModelCells.t.Goals as goal
 

@@ -1,11 +1,6 @@
 use Rattle.std.proofs.Common.{◌≡◌, ◌∙◌, ◌<◌, List, [], ◌∷◌, FitsSigned, w64, rules, sym, subst}
 use Rattle.std.proofs.lemmas.Int.{to_z-of_z}
-use Rattle.polcert_cells.specs.Cells.{reward}
-use Rattle.polcert_cells.specs.Preamble.{Preamble}
-use Rattle.polcert_cells.specs.declared.entries.Entry.{Entry}
-use Rattle.polcert_rules.specs.Steps.Rewards.{AreRewardsOf}
-use Rattle.polcert_tables.specs.Steps.ModelView.{IsKeptModel}
-use Rattle.polcert_tables.specs.Contents.{Contents}
+use Rattle.polcert_tables.proofs.Common.{reward, Preamble, Entry, AreRewardsOf, IsKeptModel, Contents}
 use Rattle.polcert_tables.proofs.KeptLaws.{model_index, model_reward}
 use Rattle.polcert_tables.proofs.model.Model.r.Goals as goal
 

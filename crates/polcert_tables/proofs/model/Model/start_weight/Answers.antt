@@ -1,8 +1,6 @@
 use Rattle.std.proofs.Common.{◌≡◌, ◌∙◌, sym, ap, arith}
-use Rattle.polcert_cells.specs.Elements.{count_of}
-use Rattle.polcert_cells.specs.Meaning.{states_of, start_weight}
-use Rattle.polcert_tables.specs.Steps.ModelView.{kept_of}
-use Rattle.polcert_tables.specs.Contents.{Contents}
+use Rattle.polcert_tables.proofs.Common.{count_of, states_of, kept_of, Contents}
+use Rattle.polcert_cells.specs.Meaning.{start_weight}
 use Rattle.polcert_tables.specs.Kept.{meaning}
 use Rattle.polcert_cells.proofs.SoundLaws.{alike_weight}
 use Rattle.polcert_tables.proofs.model.Model.start_weight.Goals as goal

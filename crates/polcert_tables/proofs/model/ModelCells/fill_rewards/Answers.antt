@@ -1,11 +1,5 @@
 use Rattle.std.proofs.Common.{◌≡◌, ◌∙◌, ◌+◌, ◌<◌, ℕ, List, [], ◌∷◌, Option, is_none, length, get_or, pos, sym, ap, subst}
-use Rattle.polcert_cells.specs.Cells.{reward}
-use Rattle.polcert_cells.specs.declared.elements.Elements.{Elements}
-use Rattle.polcert_cells.specs.Preamble.{Preamble}
-use Rattle.polcert_cells.specs.declared.entries.Entry.{Entry}
-use Rattle.polcert_rules.specs.Steps.Rewards.{AreRewardsOf}
-use Rattle.polcert_tables.specs.Steps.ModelView.{IsKeptModel}
-use Rattle.polcert_tables.specs.Contents.{Contents}
+use Rattle.polcert_tables.proofs.Common.{reward, Elements, Preamble, Entry, AreRewardsOf, IsKeptModel, Contents}
 use Rattle.polcert_tables.proofs.KeptLaws.{model_index, model_reward, observed_index}
 use Rattle.polcert_tables.proofs.model.ModelCells.fill_rewards.Goals as goal
 

@@ -1,13 +1,5 @@
-use Rattle.std.proofs.Common.{◌≡◌, ◌∙◌, ◌<◌, ℕ, List, [], ◌∷◌, Option, is_none, sym, ap, subst}
-use Rattle.std.specs.Option.{ForSome}
-use Rattle.polcert_cells.specs.Cells.{reward}
-use Rattle.polcert_cells.specs.CommonRewards.{IsCommonReward}
-use Rattle.polcert_cells.specs.declared.elements.Elements.{Elements}
-use Rattle.polcert_cells.specs.Preamble.{Preamble}
-use Rattle.polcert_cells.specs.declared.entries.Entry.{Entry}
-use Rattle.polcert_rules.specs.Steps.Rewards.{AreRewardsOf}
-use Rattle.polcert_tables.specs.Steps.ModelView.{IsKeptModel}
-use Rattle.polcert_tables.specs.Contents.{Contents}
+use Rattle.std.proofs.Common.{◌∙◌, List, [], ◌∷◌, Option, is_none, sym, ap, subst}
+use Rattle.polcert_tables.proofs.Common.{ForSome, reward, IsCommonReward, Elements, Preamble, Entry, AreRewardsOf, IsKeptModel, Contents}
 use Rattle.polcert_tables.proofs.KeptLaws.{model_common_reward}
 use Rattle.polcert_tables.proofs.model.ModelCells.find_rewards.Goals as goal
 

@@ -1,11 +1,5 @@
 use Rattle.std.proofs.Common.{◌≡◌, ◌<◌, ℕ, List, [], ◌∷◌, subst}
-use Rattle.std.specs.Option.{ForSome}
-use Rattle.polcert_cells.specs.Cells.{reward}
-use Rattle.polcert_cells.specs.Preamble.{Preamble}
-use Rattle.polcert_cells.specs.declared.entries.Entry.{Entry}
-use Rattle.polcert_rules.specs.Steps.Rewards.{AreRewardsOf}
-use Rattle.polcert_tables.specs.Steps.ModelView.{IsKeptModel}
-use Rattle.polcert_tables.specs.Contents.{Contents}
+use Rattle.polcert_tables.proofs.Common.{ForSome, reward, Preamble, Entry, AreRewardsOf, IsKeptModel, Contents}
 use Rattle.polcert_tables.proofs.KeptLaws.{model_for_all_ends}
 use Rattle.polcert_tables.proofs.model.ModelCells.r_constant.Goals as goal
 

@@ -1,14 +1,7 @@
 use Rattle.std.proofs.Common.{◌≡◌, ◌∙◌, ◌<◌, ℕ, List, [], ◌∷◌, FitsSigned, w64, rules, Option, is_none, sym, ap, subst}
 use Rattle.std.proofs.lemmas.Int.{to_z-of_z}
 use Rattle.std.proofs.lemmas.Option.{same_Some}
-use Rattle.std.specs.Option.{ForSome}
-use Rattle.polcert_cells.specs.Cells.{reward}
-use Rattle.polcert_cells.specs.declared.elements.Elements.{Elements}
-use Rattle.polcert_cells.specs.Preamble.{Preamble}
-use Rattle.polcert_cells.specs.declared.entries.Entry.{Entry}
-use Rattle.polcert_rules.specs.Steps.Rewards.{AreRewardsOf}
-use Rattle.polcert_tables.specs.Steps.ModelView.{IsKeptModel}
-use Rattle.polcert_tables.specs.Contents.{Contents}
+use Rattle.polcert_tables.proofs.Common.{ForSome, reward, Elements, Preamble, Entry, AreRewardsOf, IsKeptModel, Contents}
 use Rattle.polcert_tables.proofs.KeptLaws.{model_for_all_observations, mdp_reward}
 use Rattle.polcert_tables.proofs.model.ModelCells.r_for_all_z.Goals as goal
 
