@@ -1,31 +1,18 @@
 -- A reader that continues with several lexemes at once, and a list of numbers that does.
-use Rattle.std.proofs.Common.{◌≡◌, ◌∙◌, ℕ, ◌+◌, ◌-◌, ◌<◌, ◌≤◌, Bool, true, false, Some, None, List, [], ◌∷◌, ◌++◌, length, drop, refl, sym, ap, subst, append-nil, append_assoc, length-append, Result, Ok, Err, IfOk, arith, if◌then◌else◌}
+use Rattle.std.proofs.Common.{◌≡◌, ◌∙◌, ℕ, ◌+◌, ◌-◌, ◌<◌, ◌≤◌, Bool, true, false, Some, None, List, [], ◌∷◌, ◌++◌, length, drop, refl, sym, ap, subst, append-nil, append_assoc, length-append, Result, IfOk, arith, if◌then◌else◌}
 use Rattle.std.proofs.lemmas.List.{length-drop}
-use Rattle.polcert_text.specs.Beginning.{BeginWith, BeginWithNumber, IsNumeralOf, kind_of_sign, unsigned, signed}
-use Rattle.polcert_text.specs.Cut.{Lexeme}
+use Rattle.polcert_items.proofs.Common.{BeginWith, BeginWithNumber, Lexeme, begins_number, is_sign, ModelSoFar, numbers_want, IsFed, IsListFed, AreTaken, none, more, TakesAhead, FedAhead, ListKind, IsInRange, IsSignAt, is_negative, EntryReader, Numbers, Sign}
+use Rattle.polcert_text.specs.Beginning.{IsNumeralOf, kind_of_sign, unsigned, signed}
 use Rattle.polcert_text.specs.declared.front_tokens.FrontNumber.{FrontNumber}
 use Rattle.polcert_text.proofs.Taken.BeginLaws.{begin_none, begin_then}
-use Rattle.polcert_cells.specs.Numbers.{IsMillionths}
-use Rattle.polcert_format.specs.Misfits.{begins_number}
-use Rattle.polcert_format.specs.Reasons.{is_sign}
-use Rattle.polcert_format.specs.Text.{ModelSoFar}
-use Rattle.polcert_format.specs.Wants.{numbers_want}
-use Rattle.polcert_items.specs.Steps.Ahead.{IsFed, IsListFed, AreTaken, none, more, TakesAhead, FedAhead}
-use Rattle.polcert_items.specs.Steps.Numbers.{ListKind, IsInRange, IsSignAt, is_negative}
-use Rattle.polcert_items.specs.Steps.Numbers as numbers
-use Rattle.polcert_items.specs.declared.entry_reader.EntryReader.{EntryReader}
-use Rattle.polcert_items.specs.declared.entry_reader.Numbers.{Numbers}
-use Rattle.polcert_items.specs.declared.signed_number.Sign.{Sign}
 use Rattle.polcert_items.proofs.ListLaws.{takes_number, takes_sign}
-use Rattle.polcert_items.proofs.WantLaws.{list_numeral_leads}
 
 -- ---- some steps, and others after them
 
 module _ {R : Type 0} (Step : R → Lexeme → R → Type 0) where
   taken_both : (a b c : R) (us vs : List Lexeme) → AreTaken Step a us b → AreTaken Step b vs c → AreTaken Step a (us ++ vs) c
   taken_both a b c us vs first (none _) = subst (λ xs. AreTaken Step a xs b) (sym (append-nil us)) first
-  taken_both a b c us vs first (more _ between _ ws l before step) =
-      subst (λ xs. AreTaken Step a xs c) (append_assoc us ws (l ∷ [])) (more a between c (us ++ ws) l (taken_both a b between us ws first before) step)
+  taken_both a b c us vs first (more _ between _ ws l before step) = grind (arith, append_assoc, more, taken_both a b between us ws first before)
 
   -- no bytes
   pub takes_none : (r : R) (bytes : List ℕ) → TakesAhead Step r bytes 0 r
@@ -48,23 +35,19 @@ pub fed_then : (k : ModelSoFar) (a b c : EntryReader) (bytes : List ℕ) (m n : 
 fed_then k a b c bytes m n first second = takes_then (IsFed k) a b c bytes m n first second
 
 pub if_ok_map : {T E : Type 0} (r : Result T E) (P Q : T → Type 0) → ((v : T) → P v → Q v) → IfOk r P → IfOk r Q
-if_ok_map (Ok v) P Q each p = each v p
-if_ok_map (Err e) P Q each p = tt
+if_ok_map r P Q h1 h2 = grind arith
 
 -- ---- a number of a list
 
 sign_is : (is_negative : Bool) (s : Lexeme) → s.kind ≡ kind_of_sign is_negative → IsSignAt (record { negative = is_negative; place = s.place }) s
-sign_is true s kind = numbers.minus kind refl refl
-sign_is false s kind = numbers.plus kind refl refl
+sign_is is_negative s h1 = grind arith
 
 is_a_sign : (is_negative : Bool) → (is_sign (kind_of_sign is_negative) ≡ true) × (begins_number (kind_of_sign is_negative) ≡ true)
-is_a_sign true = (refl, refl)
-is_a_sign false = (refl, refl)
+is_a_sign is_negative = grind arith
 
 -- a number at the front of some bytes ends within them
 pub number_within : (place : ℕ) (bytes : List ℕ) (found : FrontNumber) → BeginWithNumber place bytes found → found.len ≤ length bytes
-number_within place bytes found (unsigned n v front) = front.within
-number_within place bytes found (signed is_negative s n kind v front) = front.within
+number_within place bytes found h1 = grind arith
 
 -- and within all of the bytes
 pub ends_within : (bytes : List ℕ) (at : ℕ) (found : FrontNumber) → at ≤ length bytes → ((place : ℕ) → BeginWithNumber place (drop at bytes) found) → at + found.len ≤ length bytes
@@ -95,15 +78,7 @@ module _ {T : Type 0} (kind : ListKind T) (old : Numbers T) where
 
   numeral_fed : (x : T) (l : Lexeme) → ((y z : T) → kind.worth y ≡ kind.worth z → y ≡ z) → IsNumeralOf (is_negative old.sign) l (kind.worth x) → IsInRange kind.range (kind.worth x) → length old.read < old.needed
       → IsListFed kind old l (with_number old x)
-  numeral_fed x l distinct v fits room =
-      let is : IsMillionths (is_negative old.sign) l (kind.worth x) = record { kind = v.kind_is; readable = v.readable; value = v.exact } in
-      record {
-        begins = ap begins_number v.kind_is;
-        room = omega (arith, room, length-append old.read (x ∷ []));
-        takes = takes_number kind old (with_number old x) l refl x distinct is fits refl refl;
-        sign = ap is_sign v.kind_is;
-        leads = list_numeral_leads old l (old.read ++ x ∷ []) x v.kind_is refl;
-      }
+  numeral_fed x l distinct v fits room = grind (arith, length-append, takes_number)
 
 -- the number at the front of some bytes
 module _ {T : Type 0} (kind : ListKind T) (old : Numbers T) (x : T) (bytes : List ℕ) (found : FrontNumber) (distinct : (y z : T) → kind.worth y ≡ kind.worth z → y ≡ z) (worth : kind.worth x ≡ found.value)
@@ -114,13 +89,11 @@ module _ {T : Type 0} (kind : ListKind T) (old : Numbers T) (x : T) (bytes : Lis
   taken_at : (place : ℕ) → BeginWithNumber place bytes found → (ls : List Lexeme) × (BeginWith place bytes found.len ls × AreTaken (IsListFed kind) old ls (with_number old x))
   taken_at place (unsigned n v front) =
       let is = subst (λ s. IsNumeralOf (is_negative s) n (kind.worth x)) (sym no_sign) (numeral_of false n v) in
-      let fed = numeral_fed kind old x n distinct is (subst (IsInRange kind.range) (sym worth) fits) room in
-      (n ∷ [], (front, more old old (with_number old x) [] n (none old) fed))
+      (n ∷ [], (front, more old old (with_number old x) [] n (none old) (numeral_fed kind old x n distinct is (subst (IsInRange kind.range) (sym worth) fits) room)))
   taken_at place (signed is_negative s n sign v front) =
       let mid = with_sign old (record { negative = is_negative; place = s.place }) in
-      let first = sign_fed kind old is_negative s sign no_sign room in
       let fed = numeral_fed kind mid x n distinct (numeral_of is_negative n v) (subst (IsInRange kind.range) (sym worth) fits) room in
-      (s ∷ n ∷ [], (front, more old mid (with_number old x) (s ∷ []) n (more old old mid [] s (none old) first) fed))
+      (s ∷ n ∷ [], (front, more old mid (with_number old x) (s ∷ []) n (more old old mid [] s (none old) (sign_fed kind old is_negative s sign no_sign room)) fed))
 
   pub number_ahead : ((place : ℕ) → BeginWithNumber place bytes found) → (new : Numbers T) → new ≡ with_number old x → TakesAhead (IsListFed kind) old bytes found.len new
   number_ahead front new is = subst (TakesAhead (IsListFed kind) old bytes found.len) (sym is) (record { within = number_within 0 bytes found (front 0); fed = λ place. taken_at place (front place) })

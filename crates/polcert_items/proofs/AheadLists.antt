@@ -1,46 +1,16 @@
 -- An entry whose numbers are taken several at once.
 use Rattle.std.proofs.Common.{◌≡◌, ◌≢◌, ◌∙◌, ◌⊎◌, ⊎_elim, inl, inr, ℕ, ◌<◌, ◌≤◌, true, false, List, [], ◌∷◌, ◌++◌, length, drop, refl, sym, ap, subst, arith}
-use Rattle.polcert_text.specs.Cut.{Lexeme}
-use Rattle.polcert_text.specs.declared.tokens.TokenKind.{TokenKind}
-use Rattle.polcert_text.specs.declared.tokens.TokenKind.TheVariants.{Numeral, Plus, Minus}
-use Rattle.polcert_cells.specs.Entry.{cells_in}
-use Rattle.polcert_cells.specs.Preamble.{Preamble, is_mdp}
-use Rattle.polcert_cells.specs.Words.{begins_item}
-use Rattle.polcert_cells.specs.declared.elements.Elements.{Elements}
-use Rattle.polcert_cells.specs.declared.entries.Place.{Place}
-use Rattle.polcert_cells.specs.declared.entries.Table.{Table}
-use Rattle.polcert_cells.specs.declared.entries.Table.TheVariants.{Transition, Observation, Reward}
-use Rattle.polcert_format.specs.KnownPreamble.{preamble_in, indices_in}
-use Rattle.polcert_format.specs.Misfits.{begins_number}
-use Rattle.polcert_format.specs.Text.{ModelSoFar}
-use Rattle.polcert_format.specs.Wants.{least_written, numbers_want}
-use Rattle.polcert_items.specs.Steps.Ahead.{IsFed, IsListFed, AreTaken, none, more, TakesAhead, FedAhead}
-use Rattle.polcert_items.specs.Steps.Entries.{NumberListGoes, IsStateWithin, AreBegun, HasRoom, no_numbers, entry_sign}
-use Rattle.polcert_items.specs.Steps.Lines.{Takes}
-use Rattle.polcert_items.specs.Steps.Numbers.{ListKind, of_probabilities, of_rewards, SignIs}
-use Rattle.polcert_items.specs.Steps.Wants.{ExpectsNext, list_wants, state_wants}
-use Rattle.polcert_items.specs.declared.entry_reader.EntryReader.{EntryReader}
-use Rattle.polcert_items.specs.declared.entry_reader.EntryState.{EntryState}
+use Rattle.polcert_items.proofs.Common.{Lexeme, TokenKind, cells_in, Preamble, is_mdp, begins_item, Elements, Place, Table, Transition, Observation, Reward, preamble_in, indices_in, begins_number, ModelSoFar, least_written, numbers_want, IsFed, IsListFed, AreTaken, none, more, TakesAhead, FedAhead, NumberListGoes, IsStateWithin, AreBegun, HasRoom, no_numbers, entry_sign, Takes, ListKind, of_probabilities, of_rewards, SignIs, ExpectsNext, list_wants, state_wants, EntryReader, EntryState, Numbers}
 use Rattle.polcert_items.specs.declared.entry_reader.EntryState.TheVariants as states
-use Rattle.polcert_items.specs.declared.entry_reader.Numbers.{Numbers}
 use Rattle.polcert_items.proofs.PatternLaws.{IsStateOf, probability_state, reward_state, list_in, in_state, numbers_begin, number_not_colon, number_not_name, BeginsNumber}
 use Rattle.polcert_items.proofs.WantLaws.{body_leads, numbers_lead, no_numbers_lead}
 
 begins : (kind : TokenKind) → begins_number kind ≡ true → BeginsNumber kind
-begins Numeral e = inl refl
-begins Plus e = inr (inl refl)
-begins Minus e = inr (inr refl)
-begins _ e = absurd (cc)
+begins kind h1 = grind arith
 
 -- what begins a number begins no item
 number_inside : (l : Lexeme) → begins_number l.kind ≡ true → begins_item l ≡ false
-number_inside l e = of l.kind refl e
-  where
-    of : (kind : TokenKind) → l.kind ≡ kind → begins_number kind ≡ true → begins_item l ≡ false
-    of Numeral is e = subst (λ (k : TokenKind). begins_item (record l { kind = k }) ≡ false) (sym is) refl
-    of Plus is e = subst (λ (k : TokenKind). begins_item (record l { kind = k }) ≡ false) (sym is) refl
-    of Minus is e = subst (λ (k : TokenKind). begins_item (record l { kind = k }) ≡ false) (sym is) refl
-    of _ is e = absurd (cc)
+number_inside l e = grind arith
 
 -- a list of such numbers stands in an entry of this table
 pub record StandsIn {T : Type 0} (kind : ListKind T) (state : Numbers T → EntryState) (table : Table) : Type 0 where
@@ -50,31 +20,14 @@ pub record StandsIn {T : Type 0} (kind : ListKind T) (state : Numbers T → Entr
   sign : (n : Numbers T) → entry_sign (state n) ≡ n.sign
   wants : (p : Preamble) (places : List Place) (n : Numbers T) (ls : List Lexeme) → state_wants p table places (state n) ls ≡ list_wants n ls
 
-probabilities_begun : (table : Table) → (table ≢ Reward) → (needed : ℕ) (l : Lexeme) (n : Numbers ℕ) → Takes (NumberListGoes of_probabilities) (no_numbers needed) l n → AreBegun table needed l (states.Probabilities n)
-probabilities_begun Transition other needed l n t = t
-probabilities_begun Observation other needed l n t = t
-probabilities_begun Reward other needed l n t = absurd (other refl)
-
 pub probabilities_stand : (table : Table) → (table ≢ Reward) → StandsIn of_probabilities states.Probabilities table
-probabilities_stand table other = record {
-  is_state = probability_state;
-  begun = probabilities_begun table other;
-  within = λ ds places n room. (other, room);
-  sign = λ n. refl;
-  wants = λ p places n ls. refl;
-}
+probabilities_stand table other = grind (arith, probability_state)
 
 pub no_reward : (table : Table) → (table ≡ Transition) ⊎ (table ≡ Observation) → (table ≢ Reward)
 no_reward table is = ⊎_elim (λ e r. absurd (cc)) (λ e r. absurd (cc)) is
 
 pub rewards_stand : (table : Table) → table ≡ Reward → StandsIn of_rewards states.Rewards table
-rewards_stand table is = record {
-  is_state = reward_state;
-  begun = λ needed l n t. subst (λ u. AreBegun u needed l (states.Rewards n)) (sym is) t;
-  within = λ ds places n room. (is, room);
-  sign = λ n. refl;
-  wants = λ p places n ls. refl;
-}
+rewards_stand table is = grind (arith, reward_state)
 
 module _ {T : Type 0} (kind : ListKind T) (state : Numbers T → EntryState) (k : ModelSoFar) (r : EntryReader) (stands : StandsIn kind state r.table) where
   -- the entry with this list
@@ -99,8 +52,7 @@ module _ {T : Type 0} (kind : ListKind T) (state : Numbers T → EntryState) (k 
   -- the entry continues as its list does
   pub list_goes : (old new : Numbers T) (bytes : List ℕ) (count : ℕ) → r.state ≡ state old → TakesAhead (IsListFed kind) old bytes count new → FedAhead k r bytes count (with_list new)
   list_goes old new bytes count is ahead =
-      let same : with_list old ≡ r = λ i. record { table = r.table; places = r.places; state = sym is i } in
-      subst (λ o. FedAhead k o bytes count (with_list new)) same
+      subst (λ o. FedAhead k o bytes count (with_list new)) (λ i. record { table = r.table; places = r.places; state = sym is i })
       (record { within = ahead.within; fed = λ place. let f = ahead.fed place in (f.0, (f.1.0, lists_fed old new f.0 f.1.1)) })
 
   -- the list begins after the places

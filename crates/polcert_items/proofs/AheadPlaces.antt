@@ -1,44 +1,19 @@
 -- The places of an entry and the first number after them, taken at once.
-use Rattle.std.proofs.Common.{◌≡◌, ◌∙◌, ⊎_elim, ℕ, zero, suc, ◌+◌, ◌<◌, true, false, List, [], ◌∷◌, ◌++◌, length, drop, get_or, refl, sym, ap, subst, length-append, arith, Bool, ◌||◌}
+use Rattle.std.proofs.Common.{◌≡◌, ⊎_elim, ℕ, zero, suc, ◌+◌, ◌<◌, false, List, [], ◌∷◌, ◌++◌, length, drop, get_or, refl, sym, ap, subst, length-append, arith, Bool, ◌||◌}
 use Rattle.std.proofs.lemmas.List.{length-drop}
-use Rattle.polcert_text.specs.Beginning.{BeginWithOne, BeginWithDigits, moved}
-use Rattle.polcert_text.specs.Cut.{Lexeme}
+use Rattle.polcert_items.proofs.Common.{moved, Lexeme, TokenKind, Colon, count_of, StandsFor, IsPlace, Preamble, begins_item, is_reserved, IsName, Elements, Count, Place, Only, Table, preamble_in, indices_in, named_in, is_sign, ModelSoFar, IsFed, none, more, FedAhead, BeginWithPlace, IsFirstPlace, IsWithinIndices, ExpectsNext, EntryReader}
+use Rattle.polcert_text.specs.Beginning.{BeginWithOne, BeginWithDigits}
 use Rattle.polcert_text.specs.declared.front_tokens.FrontDigits.{FrontDigits}
-use Rattle.polcert_text.specs.declared.tokens.TokenKind.{TokenKind}
-use Rattle.polcert_text.specs.declared.tokens.TokenKind.TheVariants.{Colon, Numeral, Star}
 use Rattle.polcert_text.proofs.Taken.BeginLaws.{begin_then}
-use Rattle.polcert_cells.specs.Elements.{count_of, StandsFor, by_number, by_name}
-use Rattle.polcert_cells.specs.Entry.{IsPlace}
-use Rattle.polcert_cells.specs.Numbers.{IsWhole}
-use Rattle.polcert_cells.specs.Preamble.{Preamble}
-use Rattle.polcert_cells.specs.Words.{begins_item, is_reserved, IsName}
-use Rattle.polcert_cells.specs.declared.elements.Elements.{Elements}
-use Rattle.polcert_cells.specs.declared.elements.Elements.TheVariants.{Count}
-use Rattle.polcert_cells.specs.declared.entries.Place.{Place}
-use Rattle.polcert_cells.specs.declared.entries.Place.TheVariants.{Every, Only}
-use Rattle.polcert_cells.specs.declared.entries.Table.{Table}
-use Rattle.polcert_cells.specs.declared.entries.Table.TheVariants.{Transition, Observation, Reward}
-use Rattle.polcert_cells.proofs.EntryLaws.{one_place}
-use Rattle.polcert_format.specs.KnownPreamble.{preamble_in, indices_in, named_in}
-use Rattle.polcert_format.specs.Reasons.{is_sign}
-use Rattle.polcert_format.specs.Text.{ModelSoFar}
-use Rattle.polcert_format.specs.Wants as wants
-use Rattle.polcert_items.specs.Steps.Ahead.{IsFed, none, more, FedAhead, BeginWithPlace, AwaitsColon}
-use Rattle.polcert_items.specs.Steps.Entries.{StateGoes, IsFirstPlace, IsEntryAfter, IsStateWithin, IsWithinIndices}
-use Rattle.polcert_items.specs.Steps.Wants.{ExpectsNext, state_wants, entry_wants}
+use Rattle.polcert_items.specs.Steps.Ahead.{AwaitsColon}
+use Rattle.polcert_items.specs.Steps.Wants.{entry_wants}
 use Rattle.polcert_items.specs.declared.ahead.FrontPlace.{FrontPlace}
-use Rattle.polcert_items.specs.declared.entry_reader.EntryReader.{EntryReader}
 use Rattle.polcert_items.specs.declared.entry_reader.EntryState.TheVariants as states
 use Rattle.polcert_items.proofs.PatternLaws.{in_state, colon_takes}
 use Rattle.polcert_items.proofs.WantLaws.{body_leads, colon_leads}
 
 or_false : (a b : Bool) → (a || b) ≡ false → a ≡ false
-or_false true b e = cc
-or_false false b e = refl
-
--- a numeral begins no item
-numeral_inside : (l : Lexeme) → l.kind ≡ Numeral → begins_item l ≡ false
-numeral_inside l is = subst (λ (kind : TokenKind). begins_item (record l { kind = kind }) ≡ false) (sym is) refl
+or_false a b h1 = grind arith
 
 -- ---- a colon
 
@@ -60,15 +35,9 @@ colon_fed k r l awaits within room kind = record {
     p = preamble_in k
 
     at_colon : r.state ≡ states.Colon → ExpectsNext (entry_wants (preamble_in k) r) l (entry_wants (preamble_in k) (record r { state = states.Place }))
-    at_colon is =
-        let first : r.places ≡ [] = subst (λ s. IsStateWithin (indices_in k r.table) r.table r.places s) is within in
-        record { same = λ ls. ap (λ s. state_wants (preamble_in k) r.table r.places s (l ∷ ls)) is ∙ ap (λ ps. wants.entry_wants (preamble_in k) r.table true (length ps) ls) (sym first) }
+    at_colon is = grind arith
 
 -- ---- a place
-
-one_first_place : (ds : List Elements) (l : Lexeme) (p q : Place) → IsFirstPlace ds l p → IsFirstPlace ds l q → p ≡ q
-one_first_place [] l p q a b = absurd a
-one_first_place (d ∷ ds) l p q a b = one_place d l p q a b
 
 first_place : (ds : List Elements) (n : ℕ) (l : Lexeme) (p : Place) → n < length ds → IsPlace (get_or ds n (Count 0)) l p → IsFirstPlace (drop n ds) l p
 first_place [] n l p inside is = absurd (omega arith)
@@ -77,52 +46,27 @@ first_place (d ∷ ds) (suc n) l p inside is = first_place ds n l p (omega arith
 
 -- as many places may be named as there are
 same_count : (k : ModelSoFar) (table : Table) → length (named_in k table) ≡ length (indices_in k table)
-same_count k Transition = refl
-same_count k Observation = refl
-same_count k Reward = refl
+same_count k table = grind arith
 
 -- a place begins no item, and is no sign
 record IsInside (l : Lexeme) : Type 0 where
   item : begins_item l ≡ false
   sign : is_sign l.kind ≡ false
 
-star_inside : (l : Lexeme) → l.kind ≡ Star → IsInside l
-star_inside l is = subst (λ (kind : TokenKind). IsInside (record l { kind = kind })) (sym is) (record { item = refl; sign = refl })
-
 name_inside : (l : Lexeme) → IsName l → IsInside l
 unfolding is_reserved
 name_inside l n = subst (λ (kind : TokenKind). IsInside (record l { kind = kind })) (sym n.kind) (record { item = or_false _ _ n.free; sign = refl })
 
 place_inside : (ds : List Elements) (l : Lexeme) (p : Place) → IsFirstPlace ds l p → IsInside l
-place_inside [] l p is = absurd is
-place_inside (d ∷ ds) l Every is = star_inside l is
-place_inside (d ∷ ds) l (Only index) (by_number whole below) = record { item = numeral_inside l whole.kind; sign = ap is_sign whole.kind }
-place_inside (d ∷ ds) l (Only index) (by_name name is) = name_inside l name
+place_inside ds l p h1 = grind (arith, name_inside)
 
 -- wherever its token stands
 pub place_moved : (ds : List Elements) (l : Lexeme) (p : Place) (position : ℕ) → IsFirstPlace ds l p → IsFirstPlace ds (moved position l) p
-place_moved [] l p position is = is
-place_moved (d ∷ ds) l Every position is = is
-place_moved (d ∷ ds) l (Only index) position (by_number whole below) = by_number (record { kind = whole.kind; digits = whole.digits; value = whole.value }) below
-place_moved (d ∷ ds) l (Only index) position (by_name name is) = by_name (record { kind = name.kind; free = name.free }) is
+place_moved ds l p position h1 = grind arith
 
 place_fed : (k : ModelSoFar) (r : EntryReader) (l : Lexeme) (p : Place) → r.state ≡ states.Place → length r.places < length (indices_in k r.table) → IsFirstPlace (drop (length r.places) (named_in k r.table)) l p
     → IsFed k r l (record { table = r.table; places = r.places ++ p ∷ []; state = states.Body })
-place_fed k r l p is room first =
-    let inside = place_inside (drop (length r.places) (named_in k r.table)) l p first in
-    record {
-      inside = inside.item;
-      table = refl;
-      within = (omega (arith, length-append r.places (p ∷ [])), omega (arith, room, length-append r.places (p ∷ [])));
-      takes = record {
-        back = λ ls e g. subst (λ s. StateGoes (preamble_in k) r.table r.places s (l ∷ ls) e) (sym is) (p, (first, g));
-        on = λ ls e g.
-            let h : StateGoes (preamble_in k) r.table r.places states.Place (l ∷ ls) e = subst (λ s. StateGoes (preamble_in k) r.table r.places s (l ∷ ls) e) is g in
-            subst (λ q. IsEntryAfter (preamble_in k) r.table (r.places ++ q ∷ []) ls e) (one_first_place (drop (length r.places) (named_in k r.table)) l h.0 p h.1.0 first) h.1.1;
-      };
-      sign = inside.sign;
-      leads = record { same = λ ls. ap (λ s. state_wants (preamble_in k) r.table r.places s (l ∷ ls)) is ∙ ap (λ n. wants.entry_wants (preamble_in k) r.table false n ls) (sym (length-append r.places (p ∷ []))) };
-    }
+place_fed k r l p is room first = grind (arith, length-append, place_inside)
 
 -- a colon and a place
 pub colon_place_fed : (k : ModelSoFar) (r : EntryReader) (bytes : List ℕ) (colon : ℕ) (front : FrontPlace) (new : EntryReader) → AwaitsColon r.state → IsWithinIndices (indices_in k r.table) r → length r.places < length (indices_in k r.table)
@@ -146,8 +90,7 @@ colon_place_fed k r bytes colon front new awaits within room first second is = s
 -- what stands for one of the elements that may be named is a place
 pub element_place : (k : ModelSoFar) (table : Table) (written : ℕ) (l : Lexeme) (elements : Elements) (index : ℕ) → written < length (indices_in k table)
     → get_or (named_in k table) written (Count 0) ≡ elements → StandsFor elements l index → IsFirstPlace (drop written (named_in k table)) l (Only index)
-element_place k table written l elements index inside are stands =
-    first_place (named_in k table) written l (Only index) (omega (arith, same_count k table)) (subst (λ d. IsPlace d l (Only index)) (sym are) stands)
+element_place k table written l elements index inside are stands = grind arith
 
 -- the digits at the front of some bytes are the number of an element
 pub digits_place : (k : ModelSoFar) (table : Table) (written : ℕ) (bytes : List ℕ) (count : ℕ) (index : FrontDigits) → written < length (indices_in k table)
@@ -155,9 +98,4 @@ pub digits_place : (k : ModelSoFar) (table : Table) (written : ℕ) (bytes : Lis
     → (position : ℕ) → BeginWithPlace (drop written (named_in k table)) position bytes (record { len = index.len; place = Only index.value })
 digits_place k table written bytes count index inside front are below position =
     let d = front position in
-    let whole : IsWhole d.token index.value = record { kind = d.kind_is; digits = d.digits; value = d.value } in
-    record {
-      token = d.token;
-      place_is = first_place (named_in k table) written d.token (Only index.value) (omega (arith, same_count k table)) (by_number whole (omega (arith, are)));
-      front = d.front;
-    }
+    grind (arith, first_place, same_count)

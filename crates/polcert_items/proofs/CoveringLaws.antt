@@ -1,32 +1,199 @@
--- What entries give of a large table, counted entry by entry.
-use Rattle.std.proofs.Common.{◌≡◌, ◌∙◌, ℕ, ◌+◌, ◌*◌, ◌<◌, ◌≤◌, ◌==◌, Bool, true, false, cond, nat_lt, count_by, Option, Some, None, List, [], ◌∷◌, ◌++◌, length, drop, slice_get, Fits, w64, refl, sym, ap, subst, arith}
-use Rattle.std.specs.List.{list_any}
-use Rattle.std.proofs.lemmas.Bool.Decides.{nat_tests}
-use Rattle.std.proofs.lemmas.List.Sums.{sum_by_push, count_by-le-length}
-use Rattle.std.proofs.Math.Nat.{mul_assoc, mul-le-mul, mul-one}
-use Rattle.polcert_cells.specs.Elements.{count_of, most_states, most_actions, most_observations}
-use Rattle.polcert_cells.specs.declared.entries.Body.{Body}
-use Rattle.polcert_cells.specs.declared.entries.Place.{Place}
-use Rattle.polcert_cells.specs.declared.entries.Place.TheVariants.{Every, Only}
-use Rattle.polcert_cells.specs.declared.elements.Elements.{Elements}
+-- How many cells an entry covers with a weight above 0, and what entries give of a large table, counted entry by entry.
+use Rattle.std.proofs.Common.{◌≡◌, ◌∙◌, ℕ, zero, suc, ◌+◌, ◌*◌, ◌<◌, ◌≤◌, ◌==◌, ◌⊎◌, inl, inr, ⊎_elim, Bool, true, false, cond, ◌&&◌, nat_lt, count_by, Some, List, [], ◌∷◌, length, drop, get_or, refl, sym, ap, subst, arith, Option, None, ◌++◌, slice_get, Fits, w64}
+use Rattle.polcert_items.proofs.Common.{list_any, nat_tests, sum_by-cons, Elements, Body, Entry, Place, Every, Only, Table, Transition, Observation, Reward, count_of, most_states, most_actions, most_observations, cells_in, Preamble, is_mdp, dimensions, nonzero_cells, most_covered, common_steps}
+use Rattle.std.proofs.lemmas.List.Sums.{sum_by_push}
+use Rattle.std.proofs.Math.Nat.{mul_comm, mul_assoc, add-mul, one-mul, mul-one, mul-pos, mul-le-mul}
 use Rattle.polcert_cells.specs.declared.entries.Body.TheVariants.{Probabilities, Rewards, Uniform, Identity}
-use Rattle.polcert_cells.specs.declared.entries.Entry.{Entry}
-use Rattle.polcert_cells.specs.declared.entries.Table.{Table}
-use Rattle.polcert_cells.specs.declared.entries.Table.TheVariants.{Transition, Observation, Reward}
-use Rattle.polcert_cells.specs.Cells.{is_table}
-use Rattle.polcert_cells.specs.Entry.{cells_in, forms}
-use Rattle.polcert_cells.specs.Preamble.{Preamble, is_mdp, observed, rewarded, dimensions}
-use Rattle.polcert_cells.specs.Steps.Sound.{ArePlacesIn, Fills}
-use Rattle.polcert_format.specs.Limits.{IsLarge, HasFewCells, count_cells, gives_weight, covered, most_cells, most_reward_entries}
+use Rattle.polcert_cells.specs.Cells.{is_table, fit_places, row_major, weight_in, weight_of}
+use Rattle.polcert_cells.specs.Entry.{forms}
+use Rattle.polcert_cells.specs.Meaning.{sum_below}
+use Rattle.polcert_cells.specs.Preamble.{observed, columns, rewarded}
+use Rattle.polcert_cells.specs.Steps.Sound.{ArePlacesIn, Fills, IsSoundEntry}
+use Rattle.polcert_cells.proofs.CellLaws.{sum_of_same}
+use Rattle.polcert_tables.proofs.FilledLaws.{sum_same}
+use Rattle.polcert_tables.proofs.KeptLaws.{sum_at}
+use Rattle.polcert_format.specs.Limits.{count_cells, gives_weight, HasFewCells, covered, most_cells, most_reward_entries}
+use Rattle.polcert_items.specs.Steps.CellBudget.{chosen, covered_by, open_cells, counted, IsCoveringOf, IsNext}
 use Rattle.polcert_items.specs.declared.model_so_far.CellBudget.{CellBudget}
 use Rattle.polcert_items.specs.declared.model_so_far.Sizes.{Sizes}
-use Rattle.polcert_items.specs.Steps.CellBudget.{chosen, open_cells, nonzero_cells, covered_by, most_covered, counted, IsCoveringOf, IsNext}
-use Rattle.polcert_items.proofs.CountedCells.{covered_transitions, covered_observations, not_covered, nothing_written}
 
+-- ---- sums
+
+sum_append : (f : ℕ → ℕ) (m n : ℕ) → sum_below f (m + n) ≡ sum_below f m + sum_below (λ k. f (m + k)) n
+sum_append f m zero = let e : m + 0 ≡ m = omega arith in let same : sum_below f (m + 0) ≡ sum_below f m = ap (sum_below f) e in omega (arith, same)
+sum_append f m (suc n) =
+    let e : m + suc n ≡ suc (m + n) = omega arith in
+    let same : sum_below f (m + suc n) ≡ sum_below f (m + n) + f (m + n) = ap (sum_below f) e in
+    let before = sum_append f m n in
+    omega (arith, same, before)
+
+-- rows one after another
+sum_rows : (f : ℕ → ℕ) (c n : ℕ) → sum_below (λ i. sum_below (λ k. f (i * c + k)) c) n ≡ sum_below f (n * c)
+sum_rows f c zero = grind arith
+sum_rows f c (suc n) = grind (arith, add-mul 1 n c, one-mul c, sum_append f (n * c) c, sum_rows f c n)
+
+sum_front : (f : ℕ → ℕ) (n : ℕ) → sum_below f (suc n) ≡ f 0 + sum_below (λ k. f (suc k)) n
+sum_front f zero = omega arith
+sum_front f (suc n) = grind (arith, sum_front f n)
+
+-- ---- cells
+
+all_cells : (ds : List Elements) → count_cells ds (λ is. true) ≡ cells_in ds
+all_cells [] = refl
+all_cells (d ∷ ds) = sum_of_same _ (cells_in ds) (count_of d) (λ i l. all_cells ds) ∙ mul_comm (cells_in ds) (count_of d)
+
+no_cells : (ds : List Elements) → count_cells ds (λ is. false) ≡ 0
+no_cells [] = refl
+no_cells (d ∷ ds) = sum_of_same _ 0 (count_of d) (λ i l. no_cells ds) ∙ omega arith
+
+-- by the numbers of cells that are covered_at row after row
+by_number : (ds : List Elements) (is_so : ℕ → Bool) → count_cells ds (λ is. is_so (row_major ds is)) ≡ sum_below (λ k. cond (is_so k) 1 0) (cells_in ds)
+by_number [] is_so = omega arith
+by_number (d ∷ ds) is_so =
+    sum_same _ (λ i. sum_below (λ k. cond (is_so (i * cells_in ds + k)) 1 0) (cells_in ds)) (count_of d) (λ i l. by_number ds (λ k. is_so (i * cells_in ds + k)))
+    ∙ sum_rows (λ k. cond (is_so k) 1 0) (cells_in ds) (count_of d)
+
+still_above : (x n : ℕ) → 0 < n → nat_lt 0 (x * n) ≡ nat_lt 0 x
+still_above x n h1 = grind arith
+
+-- numbers above 0 of a list
+numbers_above : (ps : List ℕ) (n : ℕ) → 0 < n → sum_below (λ k. cond (nat_lt 0 (get_or ps k 0 * n)) 1 0) (length ps) ≡ count_by (nat_lt 0) ps
+numbers_above [] n l = refl
+numbers_above (p ∷ ps) n l = grind (arith, sum_front (λ k. cond (nat_lt 0 (get_or (p ∷ ps) k 0 * n)) 1 0) (length ps), still_above p n l, numbers_above ps n l, sum_by-cons (λ x. cond (nat_lt 0 x) 1 0) p ps)
+
+same_number : (i : ℕ) → (i == i) ≡ true
+same_number i = grind (arith, nat_tests)
+
+other_number : (i k : ℕ) → (i ≡ k → ⊥) → (k == i) ≡ false
+other_number i k d = grind (arith, nat_tests)
+
+-- the diagonal of a square
+on_the_diagonal : (d : Elements) (n : ℕ) → 0 < n → count_cells (d ∷ d ∷ []) (λ is. nat_lt 0 (weight_in n Identity (d ∷ d ∷ []) is)) ≡ count_of d
+on_the_diagonal d n l =
+    sum_of_same _ 1 (count_of d) (λ i m. sum_at _ i (count_of d) 1 m (grind (arith, nat_tests, mul-pos)) (λ j k other. grind (arith, nat_tests))) ∙ one-mul (count_of d)
+
+-- ---- places
+
+abbrev every_chosen : List Elements → List Place → ℕ
+every_chosen ds [] = 1
+every_chosen [] (p ∷ ps) = 1
+every_chosen (d ∷ ds) (p ∷ ps) = chosen (Some p) (count_of d) * every_chosen ds ps
+
+swap : (c r n : ℕ) → c * r * n ≡ n * c * r
+swap c r n = mul_comm (c * r) n ∙ sym (mul_assoc n c r)
+
+by_places : (ds : List Elements) (places : List Place) (is_so : List ℕ → Bool) → ArePlacesIn ds places
+    → count_cells ds (λ is. fit_places places is && is_so (drop (length places) is)) ≡ every_chosen ds places * count_cells (drop (length places) ds) is_so
+by_places ds [] is_so a = sym (one-mul (count_cells ds is_so))
+by_places [] (p ∷ ps) is_so a = absurd a
+by_places (d ∷ ds) (Every ∷ ps) is_so a = grind (arith, sum_of_same, swap, by_places ds ps is_so a.1)
+by_places (d ∷ ds) (Only n ∷ ps) is_so a =
+    sum_at (λ i. count_cells ds (inside (n == i))) n (count_of d) (every_chosen ds ps * count_cells (drop (length ps) ds) is_so) a.0
+    (ap (λ b. count_cells ds (inside b)) (same_number n) ∙ by_places ds ps is_so a.1)
+    (λ i l other. ap (λ b. count_cells ds (inside b)) (other_number i n other) ∙ no_cells ds)
+    ∙ ap (λ c. c * count_cells (drop (length ps) ds) is_so) (sym (one-mul (every_chosen ds ps)))
+  where
+    inside : Bool → List ℕ → Bool
+    inside b is = (b && fit_places ps is) && is_so (drop (length ps) is)
+
+-- ---- one entry
+
+-- a cell that is read by the indices left open
+abbrev is_above : ℕ → Body → List Elements → List ℕ → Bool
+is_above n body ds is = nat_lt 0 (weight_in n body ds is)
+
+-- the cells that the body fills
+by_body : (n : ℕ) (body : Body) (ds : List Elements) (cells : ℕ) → 0 < n → (body ≡ Identity → ⊥) → cells ≡ cells_in ds → Fills (cells_in ds) body
+    → (states : ℕ) → count_cells ds (is_above n body ds) ≡ nonzero_cells body states cells
+by_body n (Probabilities ps) ds cells l other e fills states =
+    by_number ds (λ k. nat_lt 0 (get_or ps k 0 * n)) ∙ ap (sum_below (λ k. cond (nat_lt 0 (get_or ps k 0 * n)) 1 0)) (sym fills.0) ∙ numbers_above ps n l
+by_body n (Rewards hs) ds cells l other e fills states = no_cells ds
+by_body n Uniform ds cells l other e fills states = all_cells ds ∙ sym e
+by_body n Identity ds cells l other e fills states = absurd (other refl)
+
+is_identity : (body : Body) → (body ≡ Identity) ⊎ (body ≡ Identity → ⊥)
+is_identity body = grind arith
+
+-- it leaves a square open, of T
+no_square : (mdp : Bool) (n : ℕ) (table : Table) (body : Body) → (n ≡ 2) ⊎ (n ≡ 3) → list_any (λ k. k == n) (forms mdp table body) ≡ true → body ≡ Identity → ⊥
+no_square mdp n table body places e i = grind arith
+
+not_observed : (mdp : Bool) (body : Body) → list_any (λ n. n == 1) (forms mdp Observation body) ≡ true → body ≡ Identity → ⊥
+not_observed mdp body e i = grind arith
+
+pub nothing_written : (mdp : Bool) (table : Table) (body : Body) → list_any (λ n. n == 0) (forms mdp table body) ≡ true → ⊥
+nothing_written mdp table body h1 = grind arith
+
+-- the three indices of a table of rows
+module _ (a s c : Elements) (n : ℕ) (above : 0 < n) (body : Body) where
+  abbrev ds : List Elements
+  ds = a ∷ s ∷ c ∷ []
+
+  abbrev covered_at : List Place → ℕ
+  covered_at places = covered_by (count_of a) (count_of s) (count_of c) places body
+
+  abbrev count : List Place → ℕ
+  count places = count_cells ds (λ is. fit_places places is && is_above n body (drop (length places) ds) (drop (length places) is))
+
+  one_place : (p : Place) → ArePlacesIn ds (p ∷ []) → count_cells (s ∷ c ∷ []) (is_above n body (s ∷ c ∷ [])) ≡ nonzero_cells body (count_of s) (count_of s * count_of c) → count (p ∷ []) ≡ covered_at (p ∷ [])
+  one_place p i e = grind (arith, by_places ds (p ∷ []) (is_above n body (s ∷ c ∷ [])), mul-one)
+
+  two_places : (p q : Place) → ArePlacesIn ds (p ∷ q ∷ []) → count_cells (c ∷ []) (is_above n body (c ∷ [])) ≡ nonzero_cells body (count_of s) (count_of c) → count (p ∷ q ∷ []) ≡ covered_at (p ∷ q ∷ [])
+  two_places p q i e = grind (arith, by_places ds (p ∷ q ∷ []) (is_above n body (c ∷ [])), mul_assoc)
+
+  three_places : (p q r : Place) → ArePlacesIn ds (p ∷ q ∷ r ∷ []) → count_cells [] (is_above n body []) ≡ nonzero_cells body (count_of s) 1 → count (p ∷ q ∷ r ∷ []) ≡ covered_at (p ∷ q ∷ r ∷ [])
+  three_places p q r i e = grind (arith, by_places ds (p ∷ q ∷ r ∷ []) (is_above n body []), mul_assoc)
+
+one_more : (x y : ℕ) → x * y ≡ x * (y * 1)
+one_more x y = ap (λ z. x * z) (sym (mul-one y))
+
+-- the cells of a table of rows that an entry covers with a weight above 0
+in_rows : (mdp : Bool) (table : Table) (a s c : Elements) (n : ℕ) (places : List Place) (body : Body) → 0 < n → (table ≡ Transition → c ≡ s) → (table ≡ Reward → ⊥)
+    → list_any (λ m. m == length places) (forms mdp table body) ≡ true → ArePlacesIn (a ∷ s ∷ c ∷ []) places → Fills (cells_in (drop (length places) (a ∷ s ∷ c ∷ []))) body
+    → count_cells (a ∷ s ∷ c ∷ []) (λ is. fit_places places is && nat_lt 0 (weight_in n body (drop (length places) (a ∷ s ∷ c ∷ [])) (drop (length places) is)))
+    ≡ covered_by (count_of a) (count_of s) (count_of c) places body
+in_rows mdp table a s c n [] body l square other form i fills = absurd (nothing_written mdp table body form)
+in_rows mdp table a s c n (p ∷ []) body l square other form i fills = one_place a s c n l body p i (⊎_elim diagonal filled (is_identity body))
+  where
+    filled : (body ≡ Identity → ⊥) → count_cells (s ∷ c ∷ []) (is_above n body (s ∷ c ∷ [])) ≡ nonzero_cells body (count_of s) (count_of s * count_of c)
+    filled not_identity = by_body n body (s ∷ c ∷ []) (count_of s * count_of c) l not_identity (one_more (count_of s) (count_of c)) fills (count_of s)
+
+    of_transitions : (t : Table) → table ≡ t → body ≡ Identity → c ≡ s
+    of_transitions t h1 h2 = grind (arith, not_observed)
+
+    diagonal : body ≡ Identity → count_cells (s ∷ c ∷ []) (is_above n body (s ∷ c ∷ [])) ≡ nonzero_cells body (count_of s) (count_of s * count_of c)
+    diagonal is =
+        (λ j. count_cells (s ∷ of_transitions table refl is j ∷ []) (is_above n (is j) (s ∷ of_transitions table refl is j ∷ [])))
+        ∙ on_the_diagonal s n l ∙ sym (ap (λ b. nonzero_cells b (count_of s) (count_of s * count_of c)) is)
+in_rows mdp table a s c n (p ∷ q ∷ []) body l square other form i fills =
+    two_places a s c n l body p q i (by_body n body (c ∷ []) (count_of c) l (no_square mdp 2 table body (inl refl) form) (sym (mul-one (count_of c))) fills (count_of s))
+in_rows mdp table a s c n (p ∷ q ∷ r ∷ []) body l square other form i fills =
+    three_places a s c n l body p q r i (by_body n body [] 1 l (no_square mdp 3 table body (inr refl) form) refl fills (count_of s))
+in_rows mdp table a s c n (p ∷ q ∷ r ∷ x ∷ ps) body l square other form i fills = absurd i.1.1.1
+
+pub covered_transitions : (p : Preamble) (e : Entry) → e.table ≡ Transition → IsSoundEntry p e → 1 ≤ count_of p.states
+    → count_cells (dimensions p Transition) (gives_weight p Transition e) ≡ covered_by (count_of p.actions) (count_of p.states) (count_of p.states) e.places e.body
+covered_transitions p e is sound some =
+    (λ i. count_cells (dimensions p Transition) (λ indices. (is_table (is i) Transition && fit_places e.places indices) && nat_lt 0 (weight_in (columns p (is i)) e.body (drop (length e.places) (dimensions p (is i))) (drop (length e.places) indices))))
+    ∙ in_rows (is_mdp p) Transition p.actions p.states p.states (count_of p.states) e.places e.body some (λ same. refl) (λ same. cc)
+    (subst (λ t. list_any (λ m. m == length e.places) (forms (is_mdp p) t e.body) ≡ true) is sound.form) (subst (λ t. ArePlacesIn (dimensions p t) e.places) is sound.places)
+    (subst (λ t. Fills (cells_in (drop (length e.places) (dimensions p t))) e.body) is sound.body)
+
+pub covered_observations : (p : Preamble) (e : Entry) → e.table ≡ Observation → IsSoundEntry p e → 1 ≤ count_of (observed p)
+    → count_cells (dimensions p Observation) (gives_weight p Observation e) ≡ covered_by (count_of p.actions) (count_of p.states) (count_of (observed p)) e.places e.body
+covered_observations p e is sound some =
+    (λ i. count_cells (dimensions p Observation) (λ indices. (is_table (is i) Observation && fit_places e.places indices) && nat_lt 0 (weight_in (columns p (is i)) e.body (drop (length e.places) (dimensions p (is i))) (drop (length e.places) indices))))
+    ∙ in_rows (is_mdp p) Observation p.actions p.states (observed p) (count_of (observed p)) e.places e.body some (λ same. cc) (λ same. cc)
+    (subst (λ t. list_any (λ m. m == length e.places) (forms (is_mdp p) t e.body) ≡ true) is sound.form) (subst (λ t. ArePlacesIn (dimensions p t) e.places) is sound.places)
+    (subst (λ t. Fills (cells_in (drop (length e.places) (dimensions p t))) e.body) is sound.body)
+
+-- an entry of another table covers none of these cells
+pub not_covered : (p : Preamble) (table : Table) (e : Entry) → is_table e.table table ≡ false → count_cells (dimensions p table) (gives_weight p table e) ≡ 0
+not_covered p table e other = ap (λ b. count_cells (dimensions p table) (λ indices. (b && fit_places e.places indices) && nat_lt 0 (weight_of p indices e))) other ∙ no_cells (dimensions p table)
+
+-- ---- what entries give of a large table, counted entry by entry
 chosen_few : (place : Option Place) (count most : ℕ) → 1 ≤ most → count ≤ most → chosen place count ≤ most
-chosen_few (Some Every) count most some l = l
-chosen_few (Some (Only n)) count most some l = some
-chosen_few None count most some l = some
+chosen_few place count most h1 h2 = grind arith
 
 -- the cells that an entry covers fit a word
 pub covered_few : (actions states columns : ℕ) (places : List Place) (body : Body) → actions ≤ most_actions → states ≤ most_states → columns ≤ most_observations
@@ -35,8 +202,7 @@ covered_few actions states columns places body la ls lc few =
     let pairs : states * columns ≤ most_states * most_observations = mul-le-mul ls lc in
     let rows = mul-le-mul (chosen_few (slice_get places 0) actions most_actions (omega arith) la) (chosen_few (slice_get places 1) states most_states (omega arith) ls) in
     let cells = mul-le-mul rows (chosen_few (slice_get places 2) columns most_observations (omega arith) lc) in
-    let body_few : nonzero_cells body states (open_cells states columns (length places)) ≤ most_states * most_observations = omega (arith, few, pairs) in
-    mul-le-mul cells body_few
+    grind (arith, mul-le-mul)
 
 pub covered_fits : (n : ℕ) → n ≤ most_covered → Fits w64 n
 covered_fits n few = record { fits = omega (arith, few) }
@@ -47,64 +213,13 @@ more_fits count n l few = record { fits = omega (arith, l, few) }
 pub rewards_fit : (actions states rewarded : ℕ) → actions ≤ most_actions → states ≤ most_states → rewarded ≤ most_observations → Fits w64 (actions * states * states * rewarded)
 rewards_fit actions states rewarded la ls lr =
     let rows : actions * states * states ≤ most_actions * most_states * most_states = mul-le-mul (mul-le-mul la ls) ls in
-    let cells : actions * states * states * rewarded ≤ most_actions * most_states * most_states * most_observations = mul-le-mul rows lr in
-    record { fits = omega (arith, cells) }
+    grind (arith, mul-le-mul)
 
 -- ---- what an entry covers, within its table
 
-count_few : (ps : List ℕ) → count_by (nat_lt 0) ps ≤ length ps
-count_few ps = count_by-le-length (nat_lt 0) ps
-
-some_cells : (s c : ℕ) → 1 ≤ s → 1 ≤ c → (c ≤ s * c) × (s ≤ s * c) × (1 ≤ s * c)
-some_cells s c ls lc =
-    let columns : 1 * c ≤ s * c = mul-le-mul ls (omega arith) in
-    let states : s * 1 ≤ s * c = mul-le-mul {n₁ = s} {n₂ = s} (omega arith) lc in
-    (omega (arith, columns), omega (arith, states), omega (arith, columns, lc))
-
-open_few : (s c places : ℕ) → 1 ≤ s → 1 ≤ c → open_cells s c places ≤ s * c
-open_few s c places ls lc = at (places == 1) (places == 2)
-  where
-    at : (one two : Bool) → cond one (s * c) (cond two c 1) ≤ s * c
-    at true two = omega arith
-    at false true = (some_cells s c ls lc).0
-    at false false = (some_cells s c ls lc).2
-
--- the numbers fill what the places leave open
-numbers_open : (a s c : Elements) (places : List Place) → ArePlacesIn (a ∷ s ∷ c ∷ []) places → 1 ≤ length places
-    → cells_in (drop (length places) (a ∷ s ∷ c ∷ [])) ≡ open_cells (count_of s) (count_of c) (length places)
-numbers_open a s c [] i some = absurd (omega (arith, some))
-numbers_open a s c (p ∷ []) i some = ap (λ n. count_of s * n) (mul-one (count_of c))
-numbers_open a s c (p ∷ q ∷ []) i some = mul-one (count_of c)
-numbers_open a s c (p ∷ q ∷ r ∷ []) i some = refl
-numbers_open a s c (p ∷ q ∷ r ∷ x ∷ ps) i some = absurd i.1.1.1
-
-weighty_few : (body : Body) (s c cells filled : ℕ) → cells ≤ s * c → s ≤ s * c → filled ≡ cells → Fills filled body → nonzero_cells body s cells ≤ s * c
-weighty_few (Probabilities ps) s c cells filled few states e fills = let n : length ps ≡ filled = fills.0 in omega (arith, count_few ps, n, e, few)
-weighty_few (Rewards hs) s c cells filled few states e fills = omega arith
-weighty_few Uniform s c cells filled few states e fills = few
-weighty_few Identity s c cells filled few states e fills = states
-
-some_written : (mdp : Bool) (table : Table) (body : Body) (places : List Place) → list_any (λ n. n == length places) (forms mdp table body) ≡ true → 1 ≤ length places
-some_written mdp table body [] form = absurd (nothing_written mdp table body form)
-some_written mdp table body (p ∷ ps) form = omega arith
-
-in_table : (mdp : Bool) (table : Table) (a s c : Elements) (places : List Place) (body : Body) → 1 ≤ count_of s → 1 ≤ count_of c
-    → list_any (λ n. n == length places) (forms mdp table body) ≡ true → ArePlacesIn (a ∷ s ∷ c ∷ []) places → Fills (cells_in (drop (length places) (a ∷ s ∷ c ∷ []))) body
-    → nonzero_cells body (count_of s) (open_cells (count_of s) (count_of c) (length places)) ≤ count_of s * count_of c
-in_table mdp table a s c places body ls lc form i fills =
-    weighty_few body (count_of s) (count_of c) _ _ (open_few (count_of s) (count_of c) (length places) ls lc) (some_cells (count_of s) (count_of c) ls lc).1
-    (numbers_open a s c places i (some_written mdp table body places form)) fills
-
 pub observations_few : (p : Preamble) (es : List Entry) (c : CellBudget) (s : Sizes) (e : Entry) → IsNext p es c s e → e.table ≡ Observation
     → nonzero_cells e.body s.states (open_cells s.states s.observed (length e.places)) ≤ s.states * s.observed
-observations_few p es c s e next is =
-    let sizes = next.0 in
-    let sound = next.2 in
-    subst (λ n. nonzero_cells e.body n (open_cells n s.observed (length e.places)) ≤ n * s.observed) (sym sizes.states)
-    (subst (λ n. nonzero_cells e.body (count_of p.states) (open_cells (count_of p.states) n (length e.places)) ≤ count_of p.states * n) (sym sizes.observed)
-    (in_table (is_mdp p) Observation p.actions p.states (observed p) e.places e.body (subst (λ n. 1 ≤ n) sizes.states sizes.few_states.0) (subst (λ n. 1 ≤ n) sizes.observed sizes.few_observed.0)
-    (subst (λ t. list_any (λ m. m == length e.places) (forms (is_mdp p) t e.body) ≡ true) is sound.form) (subst (λ t. ArePlacesIn (dimensions p t) e.places) is sound.places)
-    (subst (λ t. Fills (cells_in (drop (length e.places) (dimensions p t))) e.body) is sound.body)))
+observations_few p es c s e next is = grind (arith, common_steps)
 
 -- ---- one entry more
 
@@ -124,24 +239,12 @@ not_paid : (es : List Entry) (e : Entry) → is_table e.table Reward ≡ false �
 not_paid es e other = let more = paid_push es e in let none : ◌≡◌ {A = ℕ} (cond (is_table e.table Reward) 1 0) 0 = ap (λ b. cond {A = ℕ} b 1 0) other in omega (arith, more, none)
 
 no_push : (es : List Entry) (e : Entry) → es ++ e ∷ [] ≡ [] → ⊥
-no_push [] e same = cc
-no_push (x ∷ es) e same = cc
+no_push es e h1 = grind (arith, common_steps)
 
 -- by the tests: whether the table is large, and whether there are too many
 outcome : (P : Option ℕ → Type 0) (cells most count more : ℕ) → count ≤ most → (most_cells < cells → most < count + more → P None)
     → ((n : ℕ) → (most_cells < cells → n ≡ count + more) → n ≤ most → P (Some n)) → P (counted cells most count more)
-outcome P cells most count more few over room = at (nat_lt most_cells cells) (nat_lt most (count + more)) refl refl
-  where
-    less : (m n : ℕ) → nat_lt m n ≡ true → m < n
-    less m n e = grind (arith, nat_tests)
-
-    not_less : (m n : ℕ) → nat_lt m n ≡ false → n ≤ m
-    not_less m n e = grind (arith, nat_tests)
-
-    at : (large many : Bool) → nat_lt most_cells cells ≡ large → nat_lt most (count + more) ≡ many → P (cond large (cond many None (Some (count + more))) (Some count))
-    at true true e f = over (less _ _ e) (less _ _ f)
-    at true false e f = room (count + more) (λ l. refl) (not_less _ _ f)
-    at false many e f = room count (λ l. let le = not_less _ _ e in absurd (omega (arith, l, le))) few
+outcome P cells most count more few over room = grind arith
 
 -- one of the three counts with the entry
 abbrev pub IsWith : (p : Preamble) (es : List Entry) (e : Entry) → (ℕ → CellBudget) → Option ℕ → Type 0
@@ -151,100 +254,24 @@ IsWith p es e put (Some n) = IsCoveringOf p (es ++ e ∷ []) (put n)
 large_rows : (a s c : ℕ) (cells : ℕ) → cells ≡ a * (s * (c * 1)) → a * s * c ≡ cells
 large_rows a s c cells e = mul_assoc a s c ∙ ap (λ n. a * (s * n)) (sym (mul-one c)) ∙ sym e
 
-large_cells : (a s e z : ℕ) → a * s * e * z ≡ a * (s * (e * (z * 1)))
-large_cells a s e z = mul_assoc (a * s) e z ∙ mul_assoc a s (e * z) ∙ ap (λ n. a * (s * (e * n))) (sym (mul-one z))
-
 pub transitions_with : (p : Preamble) (es : List Entry) (c : CellBudget) (s : Sizes) (e : Entry) → IsNext p es c s e → e.table ≡ Transition
     → IsWith p es e (λ n. record c { transitions = n }) (counted (s.actions * s.states * s.states) most_cells c.transitions (covered_by s.actions s.states s.states e.places e.body))
 transitions_with p es c s e next is =
-    outcome (IsWith p es e (λ n. record c { transitions = n })) _ most_cells c.transitions _ old.few_transitions
-    (λ large over few. let most = few.transitions (is_large large) in let whole = all large in omega (arith, over, most, whole))
-    (λ n is_counted few. record {
-      transitions = λ l. let large = subst (λ m. most_cells < m) (sym cells_are) l in is_counted large ∙ sym (all large);
-      observations = λ l. old.observations l ∙ sym (unlike p Observation es e (ap (λ t. is_table t Observation) is));
-      rewards = λ l. old.rewards l ∙ sym (not_paid es e (ap (λ t. is_table t Reward) is));
-      few_transitions = few;
-      few_observations = old.few_observations;
-      few_rewards = old.few_rewards;
-      nothing = λ none. absurd (no_push es e none);
-    })
+    outcome (IsWith p es e (λ n. record c { transitions = n })) _ most_cells c.transitions _ next.1.few_transitions (λ large over few. grind (arith, all, large_rows))
+    (λ n is_counted few. grind (arith, all, unlike, not_paid, no_push, large_rows))
   where
-    old : IsCoveringOf p es c
-    old = next.1
-
-    cells_are : s.actions * s.states * s.states ≡ cells_in (dimensions p Transition)
-    cells_are = (λ i. next.0.actions i * next.0.states i * next.0.states i) ∙ large_rows (count_of p.actions) (count_of p.states) (count_of p.states) _ refl
-
-    is_large : most_cells < s.actions * s.states * s.states → IsLarge p Transition
-    is_large l = subst (λ n. most_cells < n) cells_are l
-
-    more : count_cells (dimensions p Transition) (gives_weight p Transition e) ≡ covered_by s.actions s.states s.states e.places e.body
-    more =
-        covered_transitions p e is next.2 (subst (λ n. 1 ≤ n) next.0.states next.0.few_states.0)
-        ∙ (λ i. covered_by (sym next.0.actions i) (sym next.0.states i) (sym next.0.states i) e.places e.body)
-
     all : most_cells < s.actions * s.states * s.states → covered p Transition (es ++ e ∷ []) ≡ c.transitions + covered_by s.actions s.states s.states e.places e.body
-    all l = let push = covered_push p Transition es e in let before = old.transitions (is_large l) in omega (arith, push, before, more)
+    all l = grind (arith, covered_push p Transition es e, covered_transitions p e, large_rows)
 
 pub observations_with : (p : Preamble) (es : List Entry) (c : CellBudget) (s : Sizes) (e : Entry) → IsNext p es c s e → e.table ≡ Observation
     → IsWith p es e (λ n. record c { observations = n }) (counted (s.actions * s.states * s.observed) most_cells c.observations (covered_by s.actions s.states s.observed e.places e.body))
 observations_with p es c s e next is =
-    outcome (IsWith p es e (λ n. record c { observations = n })) _ most_cells c.observations _ old.few_observations
-    (λ large over few. let most = few.observations (is_large large) in let whole = all large in omega (arith, over, most, whole))
-    (λ n is_counted few. record {
-      transitions = λ l. old.transitions l ∙ sym (unlike p Transition es e (ap (λ t. is_table t Transition) is));
-      observations = λ l. let large = subst (λ m. most_cells < m) (sym cells_are) l in is_counted large ∙ sym (all large);
-      rewards = λ l. old.rewards l ∙ sym (not_paid es e (ap (λ t. is_table t Reward) is));
-      few_transitions = old.few_transitions;
-      few_observations = few;
-      few_rewards = old.few_rewards;
-      nothing = λ none. absurd (no_push es e none);
-    })
+    outcome (IsWith p es e (λ n. record c { observations = n })) _ most_cells c.observations _ next.1.few_observations (λ large over few. grind (arith, all, large_rows))
+    (λ n is_counted few. grind (arith, all, unlike, not_paid, no_push, large_rows))
   where
-    old : IsCoveringOf p es c
-    old = next.1
-
-    cells_are : s.actions * s.states * s.observed ≡ cells_in (dimensions p Observation)
-    cells_are = (λ i. next.0.actions i * next.0.states i * next.0.observed i) ∙ large_rows (count_of p.actions) (count_of p.states) (count_of (observed p)) _ refl
-
-    is_large : most_cells < s.actions * s.states * s.observed → IsLarge p Observation
-    is_large l = subst (λ n. most_cells < n) cells_are l
-
-    more : count_cells (dimensions p Observation) (gives_weight p Observation e) ≡ covered_by s.actions s.states s.observed e.places e.body
-    more =
-        covered_observations p e is next.2 (subst (λ n. 1 ≤ n) next.0.observed next.0.few_observed.0)
-        ∙ (λ i. covered_by (sym next.0.actions i) (sym next.0.states i) (sym next.0.observed i) e.places e.body)
-
     all : most_cells < s.actions * s.states * s.observed → covered p Observation (es ++ e ∷ []) ≡ c.observations + covered_by s.actions s.states s.observed e.places e.body
-    all l = let push = covered_push p Observation es e in let before = old.observations (is_large l) in omega (arith, push, before, more)
+    all l = grind (arith, covered_push p Observation es e, covered_observations p e, large_rows)
 
 pub rewards_with : (p : Preamble) (es : List Entry) (c : CellBudget) (s : Sizes) (e : Entry) → IsNext p es c s e → e.table ≡ Reward
     → IsWith p es e (λ n. record c { rewards = n }) (counted (s.actions * s.states * s.states * s.rewarded) most_reward_entries c.rewards 1)
-rewards_with p es c s e next is =
-    outcome (IsWith p es e (λ n. record c { rewards = n })) _ most_reward_entries c.rewards 1 old.few_rewards
-    (λ large over few. let most = few.rewards (is_large large) in let whole = all large in omega (arith, over, most, whole))
-    (λ n is_counted few. record {
-      transitions = λ l. old.transitions l ∙ sym (unlike p Transition es e (ap (λ t. is_table t Transition) is));
-      observations = λ l. old.observations l ∙ sym (unlike p Observation es e (ap (λ t. is_table t Observation) is));
-      rewards = λ l. let large = subst (λ m. most_cells < m) (sym cells_are) l in is_counted large ∙ sym (all large);
-      few_transitions = old.few_transitions;
-      few_observations = old.few_observations;
-      few_rewards = few;
-      nothing = λ none. absurd (no_push es e none);
-    })
-  where
-    old : IsCoveringOf p es c
-    old = next.1
-
-    cells_are : s.actions * s.states * s.states * s.rewarded ≡ cells_in (dimensions p Reward)
-    cells_are = (λ i. next.0.actions i * next.0.states i * next.0.states i * next.0.rewarded i) ∙ large_cells (count_of p.actions) (count_of p.states) (count_of p.states) (count_of (rewarded p))
-
-    is_large : most_cells < s.actions * s.states * s.states * s.rewarded → IsLarge p Reward
-    is_large l = subst (λ n. most_cells < n) cells_are l
-
-    all : most_cells < s.actions * s.states * s.states * s.rewarded → paid (es ++ e ∷ []) ≡ c.rewards + 1
-    all l =
-        let push = paid_push es e in
-        let before = old.rewards (is_large l) in
-        let one : ◌≡◌ {A = ℕ} (cond (is_table e.table Reward) 1 0) 1 = ap (λ t. cond {A = ℕ} (is_table t Reward) 1 0) is in
-        omega (arith, push, before, one)
+rewards_with p es c s e next is = grind (arith, paid_push, unlike)

@@ -1,40 +1,21 @@
 -- The form of an item, as its reader continues with it: that of a start item, and of every other what is right.
 use Rattle.std.proofs.Common.{◌≡◌, ◌∙◌, ◌⊎◌, inl, inr, None, List, ◌∷◌, refl, sym, subst, arith}
-use Rattle.polcert_text.specs.Cut.{Lexeme}
-use Rattle.polcert_cells.specs.declared.elements.Elements.{Elements}
-use Rattle.polcert_cells.specs.declared.elements.StartWeights.{StartWeights}
+use Rattle.polcert_items.proofs.Common.{Lexeme, Elements, StartWeights, Start, IsStartBody, IsStart, plain, IsStartBodyForm, IsStartForm, ModelSoFar, ItemReader, Takes, CannotTake, ItemGoes, ItemForms, topic_in, pending_in, IfStart}
 use Rattle.polcert_cells.specs.declared.words.Topic.{Topic}
-use Rattle.polcert_cells.specs.declared.words.Topic.TheVariants.{Start}
-use Rattle.polcert_cells.specs.Numbers.{one}
-use Rattle.polcert_cells.specs.Start.{IsStartBody, IsStart, plain, include, exclude}
-use Rattle.polcert_cells.specs.Start as starts
-use Rattle.polcert_format.specs.Forms.{IsStartBodyForm, IsStartForm}
 use Rattle.polcert_format.specs.Forms as shapes
-use Rattle.polcert_format.specs.Text.{ModelSoFar}
-use Rattle.polcert_items.specs.declared.item.ItemReader.{ItemReader}
 use Rattle.polcert_items.specs.declared.item.ItemReader.TheVariants as items
-use Rattle.polcert_items.specs.Steps.Lines.{Takes, CannotTake}
-use Rattle.polcert_items.specs.Steps.Items.{ItemGoes, ItemForms, topic_in, pending_in}
-use Rattle.polcert_items.specs.Steps.Wants.{IfStart}
 use Rattle.polcert_items.proofs.StartNumbers.{small_ones}
 
 pub is_start : (t : Topic) → (t ≡ Start) ⊎ (t ≡ Start → ⊥)
-is_start Start = inl refl
-is_start _ = inr (λ e. cc)
+is_start t = grind arith
 
 -- ---- what is right has the form
 
 body_form : (states : Elements) (ls : List Lexeme) (v : StartWeights) → IsStartBody states ls v → IsStartBodyForm states ls
-body_form states ls v (starts.uniform w) = shapes.uniform w
-body_form states ls v (starts.name n f) = shapes.name n f
-body_form states ls v (starts.number m w low) = shapes.state_number m w low
-body_form states ls v (starts.only_state c n h) = shapes.one_number n
-body_form states ls v (starts.probabilities ps m n c t) = shapes.probabilities ps m n c (small_ones ps one (omega (arith, t)))
+body_form states ls v h1 = grind (arith, small_ones, shapes.uniform, shapes.name, shapes.state_number, shapes.one_number, shapes.probabilities)
 
 pub start_form : (states : Elements) (ls : List Lexeme) (v : StartWeights) → IsStart states ls v → IsStartForm states ls
-start_form states ls v (plain {ls = body} c b) = shapes.plain c (body_form states body v b)
-start_form states ls v (include ms w d z p) = shapes.listed ms (inl w) d z
-start_form states ls v (exclude ms w d z p) = shapes.listed ms (inr w) d z
+start_form states ls v h1 = grind (arith, body_form, shapes.plain, shapes.listed)
 
 -- ---- of an item that is no start item
 
@@ -48,8 +29,7 @@ forms_right k _ ls other g = g
 
 -- no refusal is held back
 pub nothing_pending : (item : ItemReader) → (topic_in item ≡ Start → ⊥) → pending_in item ≡ None
-nothing_pending (items.Start r) other = absurd (other refl)
-nothing_pending _ other = refl
+nothing_pending item h1 = grind arith
 
 if_start : (t : Topic) (P : Type 0) → t ≡ Start → IfStart t P → P
 if_start t P e h = subst (λ u. IfStart u P) e h

@@ -1,7 +1,7 @@
+mod Common
 pub mod AheadLaws
 pub mod AheadLists
 pub mod AheadPlaces
-pub mod CountedCells
 pub mod CoveringLaws
 pub mod ElementLaws
 pub mod FirstNumberLaws
@@ -9,7 +9,6 @@ pub mod FormLaws
 pub mod ItemReading
 pub mod PreambleLines
 pub mod ListLaws
-pub mod MisfitLaws
 pub mod PatternLaws
 pub mod StartForms
 pub mod StartNumbers

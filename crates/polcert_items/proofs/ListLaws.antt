@@ -1,28 +1,13 @@
 -- Lists of numbers, token by token.
-use Rattle.std.proofs.Common.{◌≡◌, ◌∙◌, ℕ, ◌≤◌, inl, inr, true, false, Option, Some, None, List, [], ◌∷◌, ◌++◌, length, map, ℤ, pos, refl, sym, ap, subst, All, arith, append_assoc, Result, Ok, Err, IfErr}
-use Rattle.std.proofs.lemmas.List.Elements.{All-cons, All-tail, All-map}
-use Rattle.polcert_text.specs.Cut.{Lexeme}
-use Rattle.polcert_cells.specs.declared.entries.Body.{Body}
-use Rattle.polcert_items.specs.declared.entry_reader.Numbers.{Numbers}
-use Rattle.polcert_items.specs.declared.signed_number.Sign.{Sign}
-use Rattle.polcert_items.specs.declared.signed_number.Range.TheVariants.{Probability, Reward}
-use Rattle.polcert_text.specs.declared.tokens.TokenKind.{TokenKind}
-use Rattle.polcert_text.specs.declared.tokens.TokenKind.TheVariants.{Plus, Minus}
-use Rattle.polcert_cells.specs.Numbers.{IsMillionths, AreNumbers, one}
+use Rattle.std.proofs.Common.{◌≡◌, ◌∙◌, ℕ, ◌≤◌, inl, inr, true, false, Option, Some, None, List, [], ◌∷◌, ◌++◌, length, map, ℤ, pos, refl, sym, ap, subst, All, arith, append_assoc, Result, IfErr}
+use Rattle.polcert_items.proofs.Common.{All-cons, All-tail, All-nil, Lexeme, Body, Numbers, Sign, Probability, TokenKind, Plus, Minus, IsMillionths, AreNumbers, one, is_sign, AreNumbersAfter, IsInRange, ListKind, is_negative, IsSignAt, IsNoNumber, Takes, CannotTake, NumberListGoes, IfRefused, FeedError}
+use Rattle.std.proofs.lemmas.List.Elements.{All-map}
+use Rattle.polcert_items.specs.declared.signed_number.Range.TheVariants.{Reward}
 use Rattle.polcert_cells.specs.Numbers as numbers
 use Rattle.polcert_cells.proofs.Basics.{true≢false, cons≢nil, same_head, same_tail}
-use Rattle.polcert_format.specs.Reasons.{is_sign}
 use Rattle.polcert_format.proofs.StillPossible.{a_zero, zero_is}
 use Rattle.polcert_items.specs.Steps.Start.{IsNumberHeld}
-use Rattle.polcert_items.specs.Steps.Numbers.{AreNumbersAfter, IsInRange, ListKind, is_negative, IsSignAt, IsNoNumber}
-use Rattle.polcert_items.specs.Steps.Lines.{Takes, CannotTake}
-use Rattle.polcert_items.specs.Steps.Entries.{NumberListGoes, IfRefused}
-use Rattle.polcert_items.specs.declared.item.FeedError.{FeedError}
-use Rattle.polcert_items.specs.declared.item.FeedError.TheVariants.{Refused, Memory}
 use Rattle.polcert_items.proofs.SignedNumbers.{sign_back, sign_on, value_back, value_on}
-
-pub all_none : {X : Type 0} (P : X → Type 0) → All P []
-all_none P = λ k d h. absurd (omega arith)
 
 module _ {T : Type 0} (kind : ListKind T) where
   pub no_number : (n : Numbers T) (l : Lexeme) → IsNoNumber kind.range n.sign l → CannotTake (NumberListGoes kind) n l
@@ -31,22 +16,7 @@ module _ {T : Type 0} (kind : ListKind T) where
   module _ (old new : Numbers T) (l : Lexeme) (same_needed : new.needed ≡ old.needed) where
     module _ (s : Sign) (at : IsSignAt s l) (was : old.sign ≡ None) (is : new.sign ≡ Some s) (same_read : new.read ≡ old.read) where
       pub takes_sign : Takes (NumberListGoes kind) old l new
-      takes_sign = record {
-        back = λ ls body g. record {
-          further = g.further;
-          numbers = subst (λ x. AreNumbersAfter x (l ∷ ls) (map kind.worth g.further)) (sym was) (sign_back s l ls (map kind.worth g.further) at (subst (λ x. AreNumbersAfter x ls (map kind.worth g.further)) is g.numbers));
-          in_range = g.in_range;
-          enough = ap (λ r. length (r ++ g.further)) (sym same_read) ∙ g.enough ∙ same_needed;
-          body_is = g.body_is ∙ ap (λ r. kind.body (r ++ g.further)) same_read;
-        };
-        on = λ ls body g. record {
-          further = g.further;
-          numbers = subst (λ x. AreNumbersAfter x ls (map kind.worth g.further)) (sym is) (sign_on s l ls (map kind.worth g.further) at (subst (λ x. AreNumbersAfter x (l ∷ ls) (map kind.worth g.further)) was g.numbers));
-          in_range = g.in_range;
-          enough = ap (λ r. length (r ++ g.further)) same_read ∙ g.enough ∙ sym same_needed;
-          body_is = g.body_is ∙ ap (λ r. kind.body (r ++ g.further)) (sym same_read);
-        };
-      }
+      takes_sign = grind (arith, sign_back, sign_on)
 
     module _ (x : T) (distinct : (y z : T) → kind.worth y ≡ kind.worth z → y ≡ z) (v : IsMillionths (is_negative old.sign) l (kind.worth x)) (fits : IsInRange kind.range (kind.worth x)) (is : new.sign ≡ None) (read : new.read ≡ old.read ++ x ∷ []) where
       joined : (further : List T) → new.read ++ further ≡ old.read ++ x ∷ further
@@ -57,8 +27,7 @@ module _ {T : Type 0} (kind : ListKind T) where
       continues ls [] body a all enough is_body = absurd (cons≢nil (sym (value_on old.sign l ls (kind.worth x) [] v a).joined))
       continues ls (y ∷ ys) body a all enough is_body =
           let b = value_on old.sign l ls (kind.worth x) (map kind.worth (y ∷ ys)) v a in
-          let same : y ≡ x = distinct y x (same_head b.joined) in
-          let whole : new.read ++ ys ≡ old.read ++ y ∷ ys = joined ys ∙ ap (λ z. old.read ++ z ∷ ys) (sym same) in
+          let whole : new.read ++ ys ≡ old.read ++ y ∷ ys = joined ys ∙ ap (λ z. old.read ++ z ∷ ys) (sym (distinct y x (same_head b.joined))) in
           record {
             further = ys;
             numbers = subst (λ s. AreNumbersAfter s ls (map kind.worth ys)) (sym is) (subst (AreNumbers ls) (sym (same_tail b.joined)) b.numbers);
@@ -68,36 +37,21 @@ module _ {T : Type 0} (kind : ListKind T) where
           }
 
       pub takes_number : Takes (NumberListGoes kind) old l new
-      takes_number = record {
-        back = λ ls body g. record {
-          further = x ∷ g.further;
-          numbers = value_back old.sign l ls (kind.worth x) (map kind.worth g.further) v (subst (λ s. AreNumbersAfter s ls (map kind.worth g.further)) is g.numbers);
-          in_range = All-cons (λ z. IsInRange kind.range (kind.worth z)) x g.further fits g.in_range;
-          enough = ap length (sym (joined g.further)) ∙ g.enough ∙ same_needed;
-          body_is = g.body_is ∙ ap kind.body (joined g.further);
-        };
-        on = λ ls body g. continues ls g.further body g.numbers g.in_range g.enough g.body_is;
-      }
+      takes_number = grind (arith, value_back, joined, continues)
 
 -- what holds of each error holds of this one
 pub if_err : {T E : Type 0} (r : Result T E) (P : E → Type 0) → ((e : E) → P e) → IfErr r P
-if_err (Ok v) P each = tt
-if_err (Err e) P each = each e
+if_err r P h1 = grind arith
 
 pub if_refused : {P : Type 0} (stop : FeedError) → P → IfRefused stop (λ r. P)
-if_refused (Refused r) p = p
-if_refused Memory p = tt
+if_refused stop h1 = grind arith
 
 -- no two probabilities are worth the same
 pub one_probability : (x y : ℕ) → pos x ≡ pos y → x ≡ y
 one_probability x y e = cc
 
--- a probability lies from 0 to one
-pub fraction_in_range : (p : ℕ) → p ≤ one → IsInRange Probability (pos p)
-fraction_in_range p small = (p, (refl, small))
-
 pub fractions_in_range : (ps : List ℕ) → All (λ p. p ≤ one) ps → All (λ p. IsInRange Probability (pos p)) ps
-fractions_in_range ps small = λ k d h. fraction_in_range _ (small k d h)
+fractions_in_range ps small = grind arith
 
 pub small_fractions : (ps : List ℕ) → All (λ p. IsInRange Probability (pos p)) ps → All (λ p. p ≤ one) ps
 small_fractions ps fit = λ k d h. let f = fit k d h in subst (λ q. q ≤ one) (one_probability _ _ (sym f.1.0)) f.1.1
@@ -105,7 +59,7 @@ small_fractions ps fit = λ k d h. let f = fit k d h in subst (λ q. q ≤ one) 
 -- ---- what continues to a number
 
 any_reward : (h : ℤ) → All (IsInRange Reward) (h ∷ [])
-any_reward h = All-cons (IsInRange Reward) h [] tt (all_none (IsInRange Reward))
+any_reward h = All-cons (IsInRange Reward) h [] tt (All-nil (IsInRange Reward))
 
 sign_continues : (l : Lexeme) → is_sign l.kind ≡ true → IsNoNumber Reward None l → ⊥
 sign_continues l e none = of l.kind refl e

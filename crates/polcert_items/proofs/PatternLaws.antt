@@ -1,62 +1,27 @@
 -- The places and the body of an entry, token by token.
-use Rattle.std.proofs.Common.{◌≡◌, ◌∙◌, ℕ, suc, ◌+◌, ◌≤◌, Bool, true, false, Option, Some, None, List, [], ◌∷◌, ◌++◌, length, drop, map, ℤ, pos, refl, sym, ap, subst, arith, append_assoc, append-nil, length-append, ◌⊎◌, inl, inr, Result, Ok, Err, IfErr, OnOk, zero, All}
+use Rattle.std.proofs.Common.{◌≡◌, ◌∙◌, ℕ, suc, ◌+◌, ◌≤◌, Bool, true, List, [], ◌∷◌, ◌++◌, length, drop, map, ℤ, refl, sym, ap, subst, arith, append_assoc, append-nil, length-append, ◌⊎◌, Result, IfErr, OnOk, zero, All, rules}
+use Rattle.std.proofs.lemmas.Bool.{both_ways}
 use Rattle.std.specs.Prelude.{◌==◌}
-use Rattle.std.specs.List.{list_any}
-use Rattle.std.proofs.lemmas.Bool.Decides.{nat_tests}
+use Rattle.polcert_items.proofs.Common.{list_any, nat_tests, All-tail, All-nil, Lexeme, TokenKind, Name, Numeral, Colon, Plus, Minus, Star, Table, Transition, Observation, Reward, Place, Every, Only, Body, Entry, EntryState, Numbers, EntryReader, ItemFault, Refusal, Probability, FeedError, IsWord, AreNumbers, Elements, count_of, StandsFor, cells_in, IsPlace, ModelSoFar, least_written, Takes, CannotTake, CannotEnd, IsInRange, ListKind, of_probabilities, of_rewards, Preamble, is_mdp, dimensions, preamble_in, indices_in, IsFirstPlace, entry_with, NumberListGoes, ProbabilitiesGo, EntryGoes, IfRefused, IsWordAfter, no_numbers, AreBegun, CannotBegin, IsFull, IsListReason, entry_sign}
 use Rattle.std.proofs.lemmas.List.{drop-drop, drop_all, map-id}
-use Rattle.std.proofs.lemmas.List.Elements.{All-tail}
 use Rattle.std.proofs.Math.Nat.{mul-pos}
-use Rattle.polcert_text.specs.Cut.{Lexeme}
-use Rattle.polcert_text.specs.declared.tokens.TokenKind.{TokenKind}
-use Rattle.polcert_text.specs.declared.tokens.TokenKind.TheVariants.{Name, Numeral, Colon, Plus, Minus, Star}
-use Rattle.polcert_cells.specs.declared.entries.Table.{Table}
-use Rattle.polcert_cells.specs.declared.entries.Table.TheVariants.{Transition, Observation, Reward}
-use Rattle.polcert_cells.specs.declared.entries.Place.{Place}
-use Rattle.polcert_cells.specs.declared.entries.Place.TheVariants.{Every, Only}
-use Rattle.polcert_cells.specs.declared.entries.Body.{Body}
 use Rattle.polcert_cells.specs.declared.entries.Body.TheVariants as bodies
-use Rattle.polcert_cells.specs.declared.entries.Entry.{Entry}
 use Rattle.polcert_items.specs.declared.entry_reader.Word.{Word}
-use Rattle.polcert_items.specs.declared.entry_reader.Word.TheVariants as words
-use Rattle.polcert_items.specs.declared.entry_reader.EntryState.{EntryState}
 use Rattle.polcert_items.specs.declared.entry_reader.EntryState.TheVariants as states
-use Rattle.polcert_items.specs.declared.entry_reader.Numbers.{Numbers}
-use Rattle.polcert_items.specs.declared.entry_reader.EntryReader.{EntryReader}
-use Rattle.polcert_format.specs.declared.fault.ItemFault.{ItemFault}
-use Rattle.polcert_items.specs.declared.signed_number.Refusal.{Refusal}
-use Rattle.polcert_items.specs.declared.signed_number.Sign.{Sign}
-use Rattle.polcert_items.specs.declared.signed_number.Range.TheVariants.{Probability}
-use Rattle.polcert_items.specs.declared.item.FeedError.{FeedError}
-use Rattle.polcert_items.specs.declared.item.FeedError.TheVariants.{Refused, Memory}
-use Rattle.polcert_cells.specs.Words.{IsWord}
-use Rattle.polcert_cells.specs.Numbers.{AreNumbers}
 use Rattle.polcert_cells.specs.Numbers as numbers
-use Rattle.polcert_cells.specs.declared.elements.Elements.{Elements}
-use Rattle.polcert_cells.specs.Elements.{count_of, StandsFor}
-use Rattle.polcert_cells.specs.Entry.{cells_in, IsPlace, ArePlaces, IsBody}
+use Rattle.polcert_cells.specs.Entry.{ArePlaces, IsBody}
 use Rattle.polcert_cells.specs.Entry as entries
-use Rattle.polcert_format.specs.Text.{ModelSoFar}
-use Rattle.polcert_format.specs.Wants.{least_written}
-use Rattle.polcert_items.specs.Steps.Lines.{Takes, CannotTake, CannotEnd}
-use Rattle.polcert_items.specs.Steps.Numbers.{AreNumbersAfter, IsInRange, ListKind, of_probabilities, of_rewards}
 use Rattle.polcert_items.specs.Steps.Entries as reasons
-use Rattle.polcert_items.proofs.ListLaws.{all_none, fractions_in_range, small_fractions}
-use Rattle.polcert_cells.specs.Preamble.{Preamble, is_mdp, dimensions, named}
-use Rattle.polcert_format.specs.KnownPreamble.{preamble_in, indices_in}
-use Rattle.polcert_items.specs.Steps.Entries.{IsEntryAfter, IsFirstPlace, PlaceRest, entry_with, NumberListGoes, ProbabilitiesGo, RewardsGo, BodyIs, StateGoes, EntryGoes, IfRefused, body_of, word_text, MayStand, IsWordAfter, no_numbers, AreBegun, CannotBegin, IsFull, IsListReason, IsEntryReason, entry_sign, AreSome}
+use Rattle.polcert_items.proofs.ListLaws.{small_fractions}
+use Rattle.polcert_cells.specs.Preamble.{named}
+use Rattle.polcert_items.specs.Steps.Entries.{IsEntryAfter, PlaceRest, RewardsGo, BodyIs, StateGoes, body_of, word_text, MayStand, IsEntryReason, AreSome}
 use Rattle.polcert_cells.proofs.Basics.{cons≢nil, same_head, same_tail}
-use Rattle.polcert_cells.proofs.EntryLaws.{NoColonFirst, body_no_colon, uniform_not_identity}
-use Rattle.polcert_format.proofs.FurtherNumbers.{begins_no_number}
+use Rattle.polcert_cells.proofs.EntryLaws.{NoColonFirst, body_no_colon}
 
 module _ (preamble : Preamble) (table : Table) (before : List Place) where
   -- after a colon
   one_more : (d : Elements) (es : List Elements) (p : Place) → drop (length before) (named preamble table) ≡ d ∷ es → drop (length (before ++ p ∷ [])) (named preamble table) ≡ es
-  one_more d es p e =
-      let len : length (before ++ p ∷ []) ≡ length before + 1 = length-append before (p ∷ []) in
-      ap (λ n. drop n (named preamble table)) len ∙ drop_more (length before) (named preamble table) e
-    where
-      drop_more : (n : ℕ) (xs : List Elements) → drop n xs ≡ d ∷ es → drop (n + 1) xs ≡ es
-      drop_more n xs f = sym (drop-drop 1 n xs) ∙ ap (drop 1) f
+  one_more d es p e = grind (arith, length-append, drop-drop 1 (length before) (named preamble table))
 
   module _ (l : Lexeme) (colon : l.kind ≡ Colon) where
     place_then : (ls : List Lexeme) (e : Entry) (further : List Place) (pattern rest : List Lexeme) (es : List Elements) → drop (length before) (named preamble table) ≡ es → ArePlaces es pattern further
@@ -66,19 +31,7 @@ module _ (preamble : Preamble) (table : Table) (before : List Place) where
     place_then ls e further pattern rest es same (entries.more {d} {ds = fs} {colon = c} {l = m} {ls = more} {p} {ps} at place following) whole free places_are table_is form body =
         let tail : ls ≡ m ∷ (more ++ rest) = same_tail whole in
         let next : drop (length (before ++ p ∷ [])) (named preamble table) ≡ fs = one_more d fs p same in
-        let rest_of : IsEntryAfter preamble table (before ++ p ∷ []) (more ++ rest) e = record {
-          further = ps;
-          pattern = more;
-          rest = rest;
-          whole = refl;
-          places_are = places_are ∙ sym (append_assoc before (p ∷ []) ps);
-          table_is = table_is;
-          form = form;
-          places = subst (λ es. ArePlaces es more ps) (sym next) following;
-          body = body;
-        } in
-        let found : PlaceRest preamble table before (m ∷ (more ++ rest)) e = (p, (subst (λ es. IsFirstPlace es m p) (sym same) place, rest_of)) in
-        subst (λ xs. PlaceRest preamble table before xs e) (sym tail) found
+        grind (arith, append_assoc)
 
     pub colon_on : (ls : List Lexeme) (e : Entry) → IsEntryAfter preamble table before (l ∷ ls) e → PlaceRest preamble table before ls e
     colon_on ls e b = place_then ls e b.further b.pattern b.rest _ refl b.places b.whole (body_no_colon b.body) b.places_are b.table_is b.form b.body
@@ -118,52 +71,34 @@ module _ (preamble : Preamble) (table : Table) (before : List Place) where
   here l ls e no_colon b = at b.further b.pattern _ refl b.places b.whole b.places_are
     where
       at : (further : List Place) (pattern : List Lexeme) (es : List Elements) → drop (length before) (named preamble table) ≡ es → ArePlaces es pattern further → l ∷ ls ≡ pattern ++ b.rest → e.places ≡ before ++ further → BodyHere (l ∷ ls) e
-      at further pattern es same entries.none whole places_are =
-          let all : e.places ≡ before = places_are ∙ append-nil before in
-          let count : length e.places ≡ length before = ap length all in
-          record {
-            places_are = all;
-            table_is = b.table_is;
-            form = subst (MayStand (is_mdp preamble) table e.body) count b.form;
-            body = subst (λ xs. IsBody (cells_in (drop (length before) (dimensions preamble table))) xs e.body) (sym whole) (subst (λ n. IsBody (cells_in (drop n (dimensions preamble table))) b.rest e.body) count b.body);
-          }
+      at further pattern es same entries.none whole places_are = grind (arith, append-nil)
       at further pattern es same (entries.more {colon = c} colon place following) whole places_are = absurd (no_colon (subst (λ (m : Lexeme). m.kind ≡ Colon) (sym (same_head whole)) colon))
 
   -- the body itself after the places
   there : (ls : List Lexeme) (e : Entry) → BodyHere ls e → IsEntryAfter preamble table before ls e
-  there ls e h =
-      let count : length before ≡ length e.places = ap length (sym h.places_are) in
-      record {
-        further = [];
-        pattern = [];
-        rest = ls;
-        whole = refl;
-        places_are = h.places_are ∙ sym (append-nil before);
-        table_is = h.table_is;
-        form = subst (MayStand (is_mdp preamble) table e.body) count h.form;
-        places = entries.none;
-        body = subst (λ n. IsBody (cells_in (drop n (dimensions preamble table))) ls e.body) count h.body;
-      }
+  there ls e h = record {
+    further = [];
+    pattern = [];
+    rest = ls;
+    whole = refl;
+    places_are = grind (arith, append-nil);
+    table_is = h.table_is;
+    form = grind arith;
+    places = entries.none;
+    body = grind arith;
+  }
 
   entry_eta : (e : Entry) → e.places ≡ before → e.table ≡ table → (b : Body) → e.body ≡ b → e ≡ entry_with table before b
   entry_eta e p t b s = λ i. record { table = t i; places = p i; body = s i }
 
-no_form : (b : Bool) → b ≡ false → b ≡ true → ⊥
-no_form b e f = cc
-
 -- a body that begins with a numeral or a sign is numbers
 probabilities_of : (mdp : Bool) (cells n : ℕ) (l : Lexeme) (ls : List Lexeme) (table : Table) (b : Body) → IsBody cells (l ∷ ls) b → MayStand mdp table b n → (l.kind ≡ Name → ⊥) → ((hs : List ℤ) → MayStand mdp table (bodies.Rewards hs) n → ⊥)
     → ProbabilitiesGo (no_numbers cells) (l ∷ ls) b
-probabilities_of mdp cells n l ls table b (entries.probabilities {ps} a count all) form no_name no_rewards = record { further = ps; numbers = a; in_range = fractions_in_range ps all; enough = count; body_is = refl }
-probabilities_of mdp cells n l ls table b (entries.rewards {hs} a count) form no_name no_rewards = absurd (no_rewards hs form)
-probabilities_of mdp cells n l ls table b (entries.uniform w) form no_name no_rewards = absurd (no_name w.kind)
-probabilities_of mdp cells n l ls table b (entries.identity w) form no_name no_rewards = absurd (no_name w.kind)
+probabilities_of mdp cells n l ls table b h1 h2 h3 h4 = grind arith
 
 rewards_of : (mdp : Bool) (cells n : ℕ) (l : Lexeme) (ls : List Lexeme) (b : Body) → IsBody cells (l ∷ ls) b → MayStand mdp Reward b n → RewardsGo (no_numbers cells) (l ∷ ls) b
-rewards_of mdp cells n l ls b (entries.probabilities {ps} a count all) form = absurd (no_form _ refl form)
 rewards_of mdp cells n l ls b (entries.rewards {hs} a count) form = record { further = hs; numbers = subst (AreNumbers (l ∷ ls)) (sym (map-id hs)) a; in_range = λ k d h. tt; enough = count; body_is = refl }
-rewards_of mdp cells n l ls b (entries.uniform w) form = absurd (no_form _ refl form)
-rewards_of mdp cells n l ls b (entries.identity w) form = absurd (no_form _ refl form)
+rewards_of mdp cells n l ls b c form = cc
 
 -- a list of such numbers is this state of an entry
 pub record IsStateOf {T : Type 0} (kind : ListKind T) (state : Numbers T → EntryState) : Type 0 where
@@ -210,16 +145,9 @@ module _ (preamble : Preamble) (table : Table) (before : List Place) (l : Lexeme
 pub one_to_three : (n : ℕ) → 1 ≤ n → n ≤ 3 → list_any (λ k. k == n) (1 ∷ 2 ∷ 3 ∷ []) ≡ true
 one_to_three n low high = grind (arith, nat_tests)
 
-pub one_to_four : (n : ℕ) → 1 ≤ n → n ≤ 4 → list_any (λ k. k == n) (1 ∷ 2 ∷ 3 ∷ 4 ∷ []) ≡ true
-one_to_four n low high = grind (arith, nat_tests)
-
-pub two_to_four : (n : ℕ) → 2 ≤ n → n ≤ 4 → list_any (λ k. k == n) (2 ∷ 3 ∷ 4 ∷ []) ≡ true
-two_to_four n low high = grind (arith, nat_tests)
-
 -- rewards may stand after enough places
 pub rewards_may_stand : (mdp : Bool) (n : ℕ) (hs : List ℤ) → least_written mdp Reward ≤ n → n ≤ 4 → MayStand mdp Reward (bodies.Rewards hs) n
-rewards_may_stand true n hs low high = one_to_four n low high
-rewards_may_stand false n hs low high = two_to_four n low high
+rewards_may_stand mdp n hs h1 h2 = grind arith
 
 -- the body's numbers were begun
 pub numbers_begin : (k : ModelSoFar) (table : Table) (before : List Place) (l : Lexeme) (new : EntryState) (needed : ℕ) → (l.kind ≡ Colon → ⊥) → (l.kind ≡ Name → ⊥)
@@ -227,10 +155,10 @@ pub numbers_begin : (k : ModelSoFar) (table : Table) (before : List Place) (l : 
     → AreBegun table needed l new → Takes (StateGoes (preamble_in k) table before) states.Body l new
 numbers_begin k Transition before l (states.Probabilities n) needed no_colon no_name cells low high t =
     list_begins (preamble_in k) Transition before l no_colon needed cells of_probabilities states.Probabilities probability_state probability_body (λ ps. one_to_three (length before) low high)
-    (λ ls b is form. probabilities_of (is_mdp (preamble_in k)) needed (length before) l ls Transition b is form no_name (λ hs form. no_form _ refl form)) n t
+    (λ ls b is form. probabilities_of (is_mdp (preamble_in k)) needed (length before) l ls Transition b is form no_name (λ hs form. both_ways _ refl form)) n t
 numbers_begin k Observation before l (states.Probabilities n) needed no_colon no_name cells low high t =
     list_begins (preamble_in k) Observation before l no_colon needed cells of_probabilities states.Probabilities probability_state probability_body (λ ps. one_to_three (length before) low high)
-    (λ ls b is form. probabilities_of (is_mdp (preamble_in k)) needed (length before) l ls Observation b is form no_name (λ hs form. no_form _ refl form)) n t
+    (λ ls b is form. probabilities_of (is_mdp (preamble_in k)) needed (length before) l ls Observation b is form no_name (λ hs form. both_ways _ refl form)) n t
 numbers_begin k Reward before l (states.Rewards n) needed no_colon no_name cells low high t =
     list_begins (preamble_in k) Reward before l no_colon needed cells of_rewards states.Rewards reward_state reward_body (λ hs. rewards_may_stand (is_mdp (preamble_in k)) (length before) hs low high)
     (λ ls b is form. rewards_of (is_mdp (preamble_in k)) needed (length before) l ls b is form) n t
@@ -241,16 +169,13 @@ pub numbers_stuck : (k : ModelSoFar) (table : Table) (before : List Place) (l : 
     → needed ≡ cells_in (drop (length before) (indices_in k table)) → CannotBegin table needed l → CannotTake (StateGoes (preamble_in k) table before) states.Body l
 numbers_stuck k Transition before l needed no_colon no_name cells stuck = λ ls e b.
     let h = here (preamble_in k) Transition before l ls e no_colon b in
-    stuck ls e.body (probabilities_of (is_mdp (preamble_in k)) needed (length before) l ls Transition e.body (subst (λ c. IsBody c (l ∷ ls) e.body) (sym cells) h.body) h.form no_name (λ hs form. no_form _ refl form))
+    stuck ls e.body (probabilities_of (is_mdp (preamble_in k)) needed (length before) l ls Transition e.body (subst (λ c. IsBody c (l ∷ ls) e.body) (sym cells) h.body) h.form no_name (λ hs form. both_ways _ refl form))
 numbers_stuck k Observation before l needed no_colon no_name cells stuck = λ ls e b.
     let h = here (preamble_in k) Observation before l ls e no_colon b in
-    stuck ls e.body (probabilities_of (is_mdp (preamble_in k)) needed (length before) l ls Observation e.body (subst (λ c. IsBody c (l ∷ ls) e.body) (sym cells) h.body) h.form no_name (λ hs form. no_form _ refl form))
+    stuck ls e.body (probabilities_of (is_mdp (preamble_in k)) needed (length before) l ls Observation e.body (subst (λ c. IsBody c (l ∷ ls) e.body) (sym cells) h.body) h.form no_name (λ hs form. both_ways _ refl form))
 numbers_stuck k Reward before l needed no_colon no_name cells stuck = λ ls e b.
     let h = here (preamble_in k) Reward before l ls e no_colon b in
     stuck ls e.body (rewards_of (is_mdp (preamble_in k)) needed (length before) l ls e.body (subst (λ c. IsBody c (l ∷ ls) e.body) (sym cells) h.body) h.form)
-
-pub name_not_colon : (l : Lexeme) → l.kind ≡ Name → l.kind ≡ Colon → ⊥
-name_not_colon l a b = cc
 
 -- what a name begins as a body: a word
 record WordHere (l : Lexeme) (ls : List Lexeme) (b : Body) : Type 0 where
@@ -260,173 +185,75 @@ record WordHere (l : Lexeme) (ls : List Lexeme) (b : Body) : Type 0 where
   none_left : ls ≡ []
 
 no_numbers_at : (l : Lexeme) (ls : List Lexeme) (hs : List ℤ) → l.kind ≡ Name → AreNumbers (l ∷ ls) hs → ⊥
-no_numbers_at l ls hs name a = begins_no_number (λ e. cc) (λ e. cc) (λ e. cc) a
+no_numbers_at l ls hs name a = grind arith
 
 word_here : (cells : ℕ) (l : Lexeme) (ls : List Lexeme) (b : Body) → ((hs : List ℤ) → AreNumbers (l ∷ ls) hs → ⊥) → IsBody cells (l ∷ ls) b → WordHere l ls b
-word_here cells l ls b none (entries.probabilities {ps} a count all) = absurd (none (map pos ps) a)
-word_here cells l ls b none (entries.rewards {hs} a count) = absurd (none hs a)
-word_here cells l ls b none (entries.uniform w) = record { word = words.Uniform; is_word = w; body_is = refl; none_left = refl }
-word_here cells l ls b none (entries.identity w) = record { word = words.Identity; is_word = w; body_is = refl; none_left = refl }
+word_here cells l ls b h1 h2 = grind arith
 
 word_body : (cells : ℕ) (l : Lexeme) (w : Word) → IsWord (word_text w) l → IsBody cells (l ∷ []) (body_of w)
-word_body cells l words.Uniform w = entries.uniform w
-word_body cells l words.Identity w = entries.identity w
-
-one_word : (l : Lexeme) (v w : Word) → IsWord (word_text v) l → IsWord (word_text w) l → v ≡ w
-one_word l words.Uniform words.Uniform a b = refl
-one_word l words.Identity words.Identity a b = refl
-one_word l words.Uniform words.Identity a b = absurd (uniform_not_identity l a b)
-one_word l words.Identity words.Uniform a b = absurd (uniform_not_identity l b a)
-
-word_kind : (l : Lexeme) (w : Word) → IsWord (word_text w) l → l.kind ≡ Name
-word_kind l words.Uniform w = w.kind
-word_kind l words.Identity w = w.kind
+word_body cells l w h1 = grind (arith, entries.uniform, entries.identity)
 
 pub word_takes : (preamble : Preamble) (table : Table) (before : List Place) (l : Lexeme) (w : Word) → IsWordAfter (is_mdp preamble) table (length before) l w → Takes (StateGoes preamble table before) states.Body l (states.Word w)
-word_takes preamble table before l w is = record {
-  back = λ ls e r.
-      let body_is : e.body ≡ body_of w = ap (λ (x : Entry). x.body) r.1 in
-      let h : BodyHere preamble table before (l ∷ []) e = record {
-        places_are = ap (λ (x : Entry). x.places) r.1;
-        table_is = ap (λ (x : Entry). x.table) r.1;
-        form = subst (λ b. MayStand (is_mdp preamble) table b (length before)) (sym body_is) is.1;
-        body = subst (IsBody (cells_in (drop (length before) (dimensions preamble table))) (l ∷ [])) (sym body_is) (word_body _ l w is.0);
-      } in
-      subst (λ xs. IsEntryAfter preamble table before (l ∷ xs) e) (sym r.0) (there preamble table before (l ∷ []) e h);
-  on = λ ls e b.
-      let name = word_kind l w is.0 in
-      let h = here preamble table before l ls e (name_not_colon l name) b in
-      let x = word_here _ l ls e.body (λ hs a. no_numbers_at l ls hs name a) h.body in
-      let same : e.body ≡ body_of w = x.body_is ∙ ap body_of (one_word l x.word w x.is_word is.0) in
-      (x.none_left, entry_eta preamble table before e h.places_are h.table_is (body_of w) same);
-}
+word_takes preamble table before l w is = grind (arith, here, there, no_numbers_at, word_body)
 
 -- a lexeme that is no colon, no word that may stand here and begins no numbers
 pub nothing_takes : (preamble : Preamble) (table : Table) (before : List Place) (l : Lexeme) → (l.kind ≡ Colon → ⊥) → ((ls : List Lexeme) (hs : List ℤ) → AreNumbers (l ∷ ls) hs → ⊥)
     → ((w : Word) → IsWordAfter (is_mdp preamble) table (length before) l w → ⊥) → CannotTake (StateGoes preamble table before) states.Body l
-nothing_takes preamble table before l no_colon none no_word = λ ls e b.
-    let h = here preamble table before l ls e no_colon b in
-    let x = word_here _ l ls e.body (none ls) h.body in
-    no_word x.word (x.is_word, subst (λ b. MayStand (is_mdp preamble) table b (length before)) x.body_is h.form)
+nothing_takes preamble table before l no_colon none no_word = search (rules, here, word_here)
 
 -- the kind of a token that begins a number
 abbrev pub BeginsNumber : TokenKind → Type 0
 BeginsNumber kind = (kind ≡ Numeral) ⊎ ((kind ≡ Plus) ⊎ (kind ≡ Minus))
 
 pub number_not_colon : (kind : TokenKind) → BeginsNumber kind → kind ≡ Colon → ⊥
-number_not_colon kind (inl e) f = cc
-number_not_colon kind (inr (inl e)) f = cc
-number_not_colon kind (inr (inr e)) f = cc
+number_not_colon kind h1 h2 = grind arith
 
 pub number_not_name : (kind : TokenKind) → BeginsNumber kind → kind ≡ Name → ⊥
-number_not_name kind (inl e) f = cc
-number_not_name kind (inr (inl e)) f = cc
-number_not_name kind (inr (inr e)) f = cc
+number_not_name kind h1 h2 = grind arith
 
 -- as many places as indices
 pub same_length : (preamble : Preamble) (table : Table) → length (named preamble table) ≡ length (dimensions preamble table)
-same_length preamble Transition = refl
-same_length preamble Observation = refl
-same_length preamble Reward = refl
+same_length preamble table = grind arith
 
 -- no colon is taken where all indices have their place
 pub colon_stuck : (preamble : Preamble) (table : Table) (before : List Place) (l : Lexeme) → l.kind ≡ Colon → length (dimensions preamble table) ≤ length before → CannotTake (StateGoes preamble table before) states.Body l
-colon_stuck preamble table before l colon full = λ ls e b. at ls e (colon_on preamble table before l colon ls e b)
-  where
-    none : drop (length before) (named preamble table) ≡ []
-    none = drop_all (length before) (named preamble table) (subst (λ n. n ≤ length before) (sym (same_length preamble table)) full)
-
-    at : (ls : List Lexeme) (e : Entry) → PlaceRest preamble table before ls e → ⊥
-    at [] e r = r
-    at (m ∷ ls) e r = subst (λ es. IsFirstPlace es m r.0) none r.1.0
-
--- numbers stand after a place at least
-some_places : (n : ℕ) → list_any (λ k. k == n) (1 ∷ 2 ∷ 3 ∷ []) ≡ true → 1 ≤ n
-some_places n e = grind (arith, nat_tests)
-
-few_probabilities : (mdp : Bool) (table : Table) (ps : List ℕ) (n : ℕ) → (least_written mdp table ≤ n → ⊥) → MayStand mdp table (bodies.Probabilities ps) n → ⊥
-few_probabilities mdp Transition ps n few form = few (some_places n form)
-few_probabilities mdp Observation ps n few form = few (some_places n form)
-few_probabilities mdp Reward ps n few form = no_form _ refl form
-
-few_rewards : (mdp : Bool) (table : Table) (hs : List ℤ) (n : ℕ) → (least_written mdp table ≤ n → ⊥) → MayStand mdp table (bodies.Rewards hs) n → ⊥
-few_rewards true Reward hs n few form = few (at_least n form)
-  where
-    at_least : (n : ℕ) → list_any (λ k. k == n) (1 ∷ 2 ∷ 3 ∷ 4 ∷ []) ≡ true → 1 ≤ n
-    at_least n e = grind (arith, nat_tests)
-few_rewards false Reward hs n few form = few (at_least n form)
-  where
-    at_least : (n : ℕ) → list_any (λ k. k == n) (2 ∷ 3 ∷ 4 ∷ []) ≡ true → 2 ≤ n
-    at_least n e = grind (arith, nat_tests)
-few_rewards mdp _ hs n few form = no_form _ refl form
-
-few_stuck_at : (mdp : Bool) (cells n : ℕ) (l : Lexeme) (ls : List Lexeme) (table : Table) (b : Body) → (least_written mdp table ≤ n → ⊥) → (l.kind ≡ Name → ⊥) → IsBody cells (l ∷ ls) b → MayStand mdp table b n → ⊥
-few_stuck_at mdp cells n l ls table b few no_name (entries.probabilities {ps} a count all) form = few_probabilities mdp table ps n few form
-few_stuck_at mdp cells n l ls table b few no_name (entries.rewards {hs} a count) form = few_rewards mdp table hs n few form
-few_stuck_at mdp cells n l ls table b few no_name (entries.uniform w) form = no_name w.kind
-few_stuck_at mdp cells n l ls table b few no_name (entries.identity w) form = no_name w.kind
+colon_stuck preamble table before l colon full = λ ls e b. grind (arith, drop_all (length before) (named preamble table), same_length, colon_on preamble table before l colon ls e b)
 
 -- no number is taken after too few places
 pub few_stuck : (preamble : Preamble) (table : Table) (before : List Place) (l : Lexeme) → BeginsNumber l.kind → (least_written (is_mdp preamble) table ≤ length before → ⊥) → CannotTake (StateGoes preamble table before) states.Body l
-few_stuck preamble table before l begins few = λ ls e b.
-    let h = here preamble table before l ls e (number_not_colon l.kind begins) b in
-    few_stuck_at (is_mdp preamble) _ (length before) l ls table e.body few (number_not_name l.kind begins) h.body h.form
+few_stuck preamble table before l begins few = search rules
 
 -- a reader whose state is known
 pub in_state : (preamble : Preamble) (r : EntryReader) (old new : EntryState) (l : Lexeme) → r.state ≡ old → Takes (StateGoes preamble r.table r.places) old l new → Takes (EntryGoes preamble) r l (record r { state = new })
-in_state preamble r old new l is t = record {
-  back = λ ls e goes. subst (λ s. StateGoes preamble r.table r.places s (l ∷ ls) e) (sym is) (t.back ls e goes);
-  on = λ ls e goes. t.on ls e (subst (λ s. StateGoes preamble r.table r.places s (l ∷ ls) e) is goes);
-}
+in_state preamble r old new l is t = grind arith
 
 pub stuck_in_state : (preamble : Preamble) (r : EntryReader) (old : EntryState) (l : Lexeme) → r.state ≡ old → CannotTake (StateGoes preamble r.table r.places) old l → CannotTake (EntryGoes preamble) r l
 stuck_in_state preamble r old l is stuck = λ ls e goes. stuck ls e (subst (λ s. StateGoes preamble r.table r.places s (l ∷ ls) e) is goes)
 
 pub if_err_map : {T E : Type 0} (r : Result T E) (P Q : E → Type 0) → ((e : E) → P e → Q e) → IfErr r P → IfErr r Q
-if_err_map (Ok v) P Q each p = tt
-if_err_map (Err e) P Q each p = each e p
-
-pub if_err_both : {T E : Type 0} (r : Result T E) (P Q R : E → Type 0) → ((e : E) → P e → Q e → R e) → IfErr r P → IfErr r Q → IfErr r R
-if_err_both (Ok v) P Q R both p q = tt
-if_err_both (Err e) P Q R both p q = both e p q
-
-pub refused_map : {P Q : Type 0} (stop : FeedError) → (P → Q) → IfRefused stop (λ r. P) → IfRefused stop (λ r. Q)
-refused_map (Refused r) f p = f p
-refused_map Memory f p = tt
-
-pub each_refused_map : {P Q : Refusal → Type 0} (stop : FeedError) → ((r : Refusal) → P r → Q r) → IfRefused stop P → IfRefused stop Q
-each_refused_map (Refused r) f p = f r p
-each_refused_map Memory f p = tt
-
-pub each_refused_both : {P Q R : Refusal → Type 0} (stop : FeedError) → ((r : Refusal) → P r → Q r → R r) → IfRefused stop P → IfRefused stop Q → IfRefused stop R
-each_refused_both (Refused r) both p q = both r p q
-each_refused_both Memory both p q = tt
+if_err_map r P Q h1 h2 = grind arith
 
 pub on_ok_map : {T E : Type 0} (r : Result T E) {P Q : Type 0} → (P → Q) → OnOk r P → OnOk r Q
-on_ok_map (Ok v) f p = f p
-on_ok_map (Err e) f p = tt
+on_ok_map r h1 h2 = grind arith
+
+pub if_err_both : {T E : Type 0} (r : Result T E) (P Q R : E → Type 0) → ((e : E) → P e → Q e → R e) → IfErr r P → IfErr r Q → IfErr r R
+if_err_both r P Q R h1 h2 h3 = grind arith
+
+pub refused_map : {P Q : Type 0} (stop : FeedError) → (P → Q) → IfRefused stop (λ r. P) → IfRefused stop (λ r. Q)
+refused_map stop h1 h2 = grind arith
+
+pub each_refused_map : {P Q : Refusal → Type 0} (stop : FeedError) → ((r : Refusal) → P r → Q r) → IfRefused stop P → IfRefused stop Q
+each_refused_map stop h1 h2 = grind arith
+
+pub each_refused_both : {P Q R : Refusal → Type 0} (stop : FeedError) → ((r : Refusal) → P r → Q r → R r) → IfRefused stop P → IfRefused stop Q → IfRefused stop R
+each_refused_both stop h1 h2 h3 = grind arith
 
 pub probability_reason : (r : EntryReader) (n : Numbers ℕ) (l : Lexeme) (kind : ItemFault) (place : ℕ) → r.state ≡ states.Probabilities n → (r.table ≡ Reward → ⊥) → IsListReason Probability n.sign l kind place → IsEntryReason r l kind place
 probability_reason r n l kind place is not_reward reason = reasons.no_probability not_reward (subst (λ s. IsListReason Probability (entry_sign s) l kind place) (sym is) reason)
 
 -- a list that is full continues with nothing
 pub full_list : {T : Type 0} (kind : ListKind T) (n : Numbers T) → IsFull n → NumberListGoes kind n [] (kind.body n.read)
-full_list kind n full = record {
-  further = [];
-  numbers = subst (λ s. AreNumbersAfter s [] []) (sym full.sign) numbers.none;
-  in_range = all_none (λ x. IsInRange kind.range (kind.worth x));
-  enough = ap length (append-nil n.read) ∙ full.count;
-  body_is = ap kind.body (sym (append-nil n.read));
-}
-
-record NoMore (sign : Option Sign) (hs : List ℤ) : Type 0 where
-  no_sign : sign ≡ None
-  none : hs ≡ []
-
-none_after : (sign : Option Sign) (hs : List ℤ) → AreNumbersAfter sign [] hs → NoMore sign hs
-none_after None [] a = record { no_sign = refl; none = refl }
-none_after None (h ∷ hs) a = elim a [ ]
-none_after (Some s) hs a = absurd a
+full_list kind n full = grind (arith, append-nil, All-nil, numbers.none)
 
 none_mapped : {X Y : Type 0} (f : X → Y) (xs : List X) → map f xs ≡ [] → xs ≡ []
 none_mapped f [] e = refl
@@ -434,17 +261,11 @@ none_mapped f (x ∷ xs) e = absurd (cons≢nil e)
 
 -- a list that continues with nothing is full
 pub list_full : {T : Type 0} (kind : ListKind T) (n : Numbers T) (body : Body) → NumberListGoes kind n [] body → IsFull n
-list_full kind n body g =
-    let m = none_after n.sign (map kind.worth g.further) g.numbers in
-    let none = none_mapped kind.worth g.further m.none in
-    record { sign = m.no_sign; count = ap length (sym (append-nil n.read)) ∙ ap (λ f. length (n.read ++ f)) (sym none) ∙ g.enough }
+list_full kind n body g = grind (arith, append-nil, none_mapped)
 
 pub cells_some : (ds : List Elements) → AreSome ds → 1 ≤ cells_in ds
 cells_some [] some = omega arith
-cells_some (d ∷ ds) some =
-    let first : 1 ≤ count_of d = some 0 d (omega arith) in
-    let rest = cells_some ds (All-tail (λ d. 1 ≤ count_of d) d ds some) in
-    mul-pos first rest
+cells_some (d ∷ ds) some = grind (arith, mul-pos, some 0 d, cells_some ds (All-tail (λ d. 1 ≤ count_of d) d ds some))
 
 pub some_dropped : (n : ℕ) (ds : List Elements) → AreSome ds → AreSome (drop n ds)
 some_dropped zero ds some = some
@@ -452,23 +273,11 @@ some_dropped (suc n) [] some = some
 some_dropped (suc n) (d ∷ ds) some = some_dropped n ds (All-tail (λ d. 1 ≤ count_of d) d ds some)
 
 no_body : (cells : ℕ) (b : Body) → 1 ≤ cells → IsBody cells [] b → ⊥
-no_body cells b some (entries.probabilities {ps} a count all) =
-    let none = none_mapped pos ps (none_after None (map pos ps) a).none in
-    let zero_long : length ps ≡ 0 = ap length none in
-    omega arith
-no_body cells b some (entries.rewards {hs} a count) =
-    let zero_long : length hs ≡ 0 = ap length (none_after None hs a).none in
-    omega arith
-
-both_empty : {X : Type 0} (xs ys : List X) → [] ≡ xs ++ ys → ys ≡ []
-both_empty [] ys e = sym e
-both_empty (x ∷ xs) ys e = absurd (cons≢nil (sym e))
+no_body cells b h1 h2 = grind (arith, none_mapped)
 
 -- an entry doesn't end after a place
 pub no_end : (preamble : Preamble) (table : Table) (before : List Place) (e : Entry) → AreSome (dimensions preamble table) → IsEntryAfter preamble table before [] e → ⊥
-no_end preamble table before e some b =
-    let none : b.rest ≡ [] = both_empty b.pattern b.rest b.whole in
-    no_body _ e.body (cells_some (drop (length e.places) (dimensions preamble table)) (some_dropped (length e.places) (dimensions preamble table) some)) (subst (λ xs. IsBody (cells_in (drop (length e.places) (dimensions preamble table))) xs e.body) none b.body)
+no_end preamble table before e some b = grind (arith, cells_some, no_body)
 
 pub cannot_end_in : (preamble : Preamble) (r : EntryReader) (old : EntryState) → r.state ≡ old → ((e : Entry) → StateGoes preamble r.table r.places old [] e → ⊥) → CannotEnd (EntryGoes preamble) r
 cannot_end_in preamble r old is none = λ e goes. none e (subst (λ s. StateGoes preamble r.table r.places s [] e) is goes)
@@ -479,10 +288,7 @@ ends_in preamble r old e is goes = subst (λ s. StateGoes preamble r.table r.pla
 -- the numbers of an entry continue
 module _ {T : Type 0} (kind : ListKind T) (state : Numbers T → EntryState) (is_state : IsStateOf kind state) (p : Preamble) (r : EntryReader) (old : Numbers T) (l : Lexeme) (is : r.state ≡ state old) where
   pub list_in : (new : Numbers T) → Takes (NumberListGoes kind) old l new → Takes (EntryGoes p) r l (record r { state = state new })
-  list_in new t = in_state p r (state old) (state new) l is (record {
-    back = λ ls e g. let g' = is_state.out p r.table r.places new ls e g in is_state.into p r.table r.places old (l ∷ ls) e (g'.0, (t.back ls g'.0 g'.1.0, g'.1.1));
-    on = λ ls e g. let g' = is_state.out p r.table r.places old (l ∷ ls) e g in is_state.into p r.table r.places new ls e (g'.0, (t.on ls g'.0 g'.1.0, g'.1.1));
-  })
+  list_in new t = grind arith
 
   pub list_stuck : CannotTake (NumberListGoes kind) old l → CannotTake (EntryGoes p) r l
   list_stuck stuck = stuck_in_state p r (state old) l is (λ ls e g. let g' = is_state.out p r.table r.places old (l ∷ ls) e g in stuck ls g'.0 g'.1.0)

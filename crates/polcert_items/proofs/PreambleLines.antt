@@ -1,15 +1,12 @@
 -- The lines of the preamble, token by token.
-use Rattle.std.proofs.Common.{◌≡◌, ◌∙◌, ℕ, ◌≤◌, Option, Some, None, List, [], ◌∷◌, ℤ, pos, refl, sym, ap, subst, All, arith}
+use Rattle.std.proofs.Common.{◌≡◌, ℕ, ◌≤◌, Option, Some, None, List, [], ◌∷◌, ℤ, pos, refl, sym, subst, All, arith}
 use lib.IntN.{nat_abs}
-use Rattle.std.proofs.lemmas.List.Elements.{All-cons}
-use Rattle.polcert_text.specs.Cut.{Lexeme}
-use Rattle.polcert_items.specs.declared.signed_number.Sign.{Sign}
+use Rattle.polcert_items.proofs.Common.{All-cons, Lexeme, Sign, IsMillionths, AreNumbers, one, AreNumbersAfter, IsInRange, is_negative, IsSignAt, IsNoNumber, Takes, CannotTake}
 use Rattle.polcert_items.specs.declared.signed_number.Range.TheVariants.{Discount}
 use Rattle.polcert_items.specs.declared.preamble_lines.DiscountReader.{DiscountReader}
 use Rattle.polcert_items.specs.declared.preamble_lines.DiscountReader.TheVariants as discount
-use Rattle.polcert_cells.specs.Numbers.{IsMillionths, AreNumbers, none, one}
-use Rattle.polcert_items.specs.Steps.Numbers.{AreNumbersAfter, IsInRange, is_negative, IsSignAt, IsNoNumber}
-use Rattle.polcert_items.specs.Steps.Lines.{Takes, CannotTake, DiscountRest, DiscountGoes}
+use Rattle.polcert_cells.specs.Numbers.{none}
+use Rattle.polcert_items.specs.Steps.Lines.{DiscountRest, DiscountGoes}
 use Rattle.polcert_items.proofs.SignedNumbers.{sign_back, sign_on, value_back, value_on}
 
 all_none : (P : ℤ → Type 0) → All P []
@@ -22,14 +19,10 @@ pub no_discount : (sign : Option Sign) (l : Lexeme) → IsNoNumber Discount sign
 no_discount sign l no_value = λ ls g goes. no_value ls (pos g ∷ []) goes.0 (in_range g goes.1)
 
 takes_sign : (s : Sign) (l : Lexeme) → IsSignAt s l → Takes DiscountGoes (discount.Number None) l (discount.Number (Some s))
-takes_sign s l at = record {
-  back = λ ls g goes. (sign_back s l ls (pos g ∷ []) at goes.0, goes.1);
-  on = λ ls g goes. (sign_on s l ls (pos g ∷ []) at goes.0, goes.1);
-}
+takes_sign s l at = grind (arith, sign_back, sign_on)
 
 pub discount_takes_sign : (reader : DiscountReader) (sign : Option Sign) (s : Sign) (l : Lexeme) → reader ≡ discount.Number sign → sign ≡ None → IsSignAt s l → Takes DiscountGoes reader l (discount.Number (Some s))
-discount_takes_sign reader sign s l is none_before at =
-    subst (λ r. Takes DiscountGoes r l (discount.Number (Some s))) (sym (is ∙ ap discount.Number none_before)) (takes_sign s l at)
+discount_takes_sign reader sign s l is none_before at = grind (arith, takes_sign)
 
 pos_same : (a b : ℕ) → pos a ≡ pos b → a ≡ b
 pos_same a b e = cc
@@ -41,8 +34,7 @@ tail_same : (h k : ℤ) (hs ks : List ℤ) → h ∷ hs ≡ k ∷ ks → hs ≡ 
 tail_same h k hs ks e = cc
 
 no_lexemes : (ls : List Lexeme) (hs : List ℤ) → hs ≡ [] → AreNumbers ls hs → ls ≡ []
-no_lexemes ls hs e none = refl
-no_lexemes ls (h ∷ hs) e a = cc
+no_lexemes ls hs h1 h2 = grind arith
 
 takes_value : (sign : Option Sign) (l : Lexeme) (p : ℕ) → IsMillionths (is_negative sign) l (pos p) → p ≤ one → Takes DiscountGoes (discount.Number sign) l (discount.Done p)
 takes_value sign l p v small = record {
@@ -55,7 +47,4 @@ takes_value sign l p v small = record {
 }
 
 pub discount_takes_value : (reader : DiscountReader) (sign : Option Sign) (l : Lexeme) (h : ℤ) → reader ≡ discount.Number sign → IsMillionths (is_negative sign) l h → IsInRange Discount h → Takes DiscountGoes reader l (discount.Done (nat_abs h))
-discount_takes_value reader sign l h is v range =
-    let small : nat_abs h ≡ range.0 = ap nat_abs range.1.0 in
-    let takes = takes_value sign l range.0 (subst (IsMillionths (is_negative sign) l) range.1.0 v) range.1.1 in
-    subst (λ r. Takes DiscountGoes r l (discount.Done (nat_abs h))) (sym is) (subst (λ n. Takes DiscountGoes (discount.Number sign) l (discount.Done n)) (sym small) takes)
+discount_takes_value reader sign l h is v range = grind (arith, takes_value)

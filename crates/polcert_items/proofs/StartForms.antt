@@ -1,90 +1,39 @@
 -- The forms of a start item, token by token.
-use Rattle.std.proofs.Common.{◌≡◌, ◌∙◌, ℕ, ◌<◌, ◌==◌, ◌||◌, ◌⊎◌, inl, inr, Bool, false, true, Option, Some, None, Result, Ok, Err, List, [], ◌∷◌, length, map, slice_set, bytes_eq, codes, ℤ, pos, refl, sym, ap, subst, arith}
+use Rattle.std.proofs.Common.{◌≡◌, ◌∙◌, ℕ, ◌<◌, ◌==◌, ◌||◌, ◌⊎◌, inl, inr, Bool, false, true, Option, Some, None, Result, Ok, Err, List, [], ◌∷◌, length, map, slice_set, codes, ℤ, pos, refl, sym, ap, subst, arith, rules}
 use Rattle.std.proofs.Math.Bool.{or_assoc}
-use Rattle.std.proofs.lemmas.List.{get_or-set_same, get_or-set_other}
-use Rattle.std.proofs.lemmas.List.Quantifiers.{position-Some}
-use Rattle.std.proofs.lemmas.Bool.Decides.{nat_tests}
 use Rattle.std.specs.List.{AllZip}
-use Rattle.polcert_text.specs.Cut.{Lexeme}
-use Rattle.polcert_text.specs.Lexemes.{are_digits}
-use Rattle.polcert_text.specs.declared.tokens.TokenKind.TheVariants.{Name, Numeral, Colon, Plus, Minus}
-use Rattle.polcert_items.specs.declared.start_reader.Choice.{Choice}
-use Rattle.polcert_items.specs.declared.start_reader.Choice.TheVariants.{Include, Exclude}
-use Rattle.polcert_items.specs.declared.start_reader.Chosen.{Chosen}
-use Rattle.polcert_items.specs.declared.start_reader.StateOrNumber.{StateOrNumber}
-use Rattle.polcert_items.specs.declared.start_reader.StartReader.{StartReader}
+use Rattle.polcert_items.proofs.Common.{Lexeme, are_digits, Name, Numeral, Colon, Plus, Minus, Choice, Include, Exclude, Chosen, StateOrNumber, StartReader, IsWord, IsWhole, IsMillionths, AreNumbers, one, Elements, count_of, StandsFor, StartWeights, all_states, single, IsStartBody, IsStart, plain, IsStartBodyForm, IsStartForm, Takes, CannotTake, marked, AreGiven, NumbersGo, DigitsGo, state_number, first_of_more, StartGoes, Begins, AreDigits, IsValue, NumberFault}
 use Rattle.polcert_items.specs.declared.start_reader.StartReader.TheVariants as reader
-use Rattle.polcert_cells.specs.Words.{IsWord, is_reserved}
-use Rattle.polcert_cells.specs.Numbers.{IsWhole, IsMillionths, AreNumbers, one}
-use Rattle.polcert_cells.specs.declared.elements.Elements.{Elements}
-use Rattle.polcert_cells.specs.declared.elements.Elements.TheVariants.{Count, Names}
-use Rattle.polcert_cells.specs.Elements.{count_of, number_of, StandsFor, by_number, by_name}
-use Rattle.polcert_cells.specs.declared.elements.StartWeights.{StartWeights}
-use Rattle.polcert_cells.specs.Start.{equal_weights, all_states, single, included, IsStartBody, IsStart, plain, include, exclude}
+use Rattle.polcert_cells.specs.Elements.{by_name}
+use Rattle.polcert_cells.specs.Start.{included, include, exclude}
 use Rattle.polcert_cells.specs.Start as forms
-use Rattle.polcert_format.specs.Forms.{IsStartBodyForm, IsStartForm}
 use Rattle.polcert_format.specs.Forms as shapes
-use Rattle.polcert_items.specs.Steps.Lines.{Takes, CannotTake, AfterColon}
-use Rattle.polcert_items.specs.Steps.Start.{marked, picks, chosen_with, listed, AreAsked, AreLeft, ListGoes, AreShares, AreFormed, AreGiven, NumbersGo, DigitsGo, state_number, first_of_more, BodyGoes, FormGoes, StartGoes, StartGives, Begins, AreDigits, IsState, IsValue}
+use Rattle.polcert_items.specs.Steps.Lines.{AfterColon}
+use Rattle.polcert_items.specs.Steps.Start.{chosen_with, listed, AreAsked, ListGoes, AreShares, AreFormed, BodyGoes, IsState}
 use Rattle.polcert_items.specs.Steps.Start as steps
-use Rattle.polcert_cells.proofs.Basics.{true≢false}
-use Rattle.polcert_cells.proofs.EntryLaws.{one_element}
-use Rattle.polcert_format.proofs.FurtherNumbers.{begins_no_number}
-use Rattle.polcert_cells.proofs.NumberLaws.{one_whole, one_millionths}
-use Rattle.polcert_cells.proofs.StartLaws.{name_not_colon, include_not_exclude, uniform_is_reserved}
+use Rattle.polcert_cells.proofs.NumberLaws.{one_millionths}
+use Rattle.polcert_cells.proofs.StartLaws.{name_not_colon, uniform_is_reserved}
 use Rattle.polcert_items.proofs.SignedNumbers.{first_number}
 use Rattle.polcert_items.proofs.StartNumbers.{value_begins}
 use Rattle.polcert_text.proofs.TextLaws.{exact_not_refused}
-use Rattle.polcert_text.specs.declared.number.NumberFault.{NumberFault}
 
 -- ---- the first token
 
 pub colon_begins : (states : Elements) (l : Lexeme) → l.kind ≡ Colon → Takes (StartGoes states) reader.Form l reader.Body
-colon_begins states l colon = record { back = λ ls asked g. back ls asked g; on = λ ls asked g. on ls asked g }
-  where
-    back : (ls : List Lexeme) (asked : Option StartWeights) → BodyGoes states ls asked → FormGoes states (l ∷ ls) asked
-    back ls None g = shapes.plain colon g
-    back ls (Some v) g = plain colon g
-
-    no_list : IsWord (codes "include") l ⊎ IsWord (codes "exclude") l → ⊥
-    no_list (inl w) = name_not_colon _ w.kind colon
-    no_list (inr w) = name_not_colon _ w.kind colon
-
-    of_form : (ls : List Lexeme) → IsStartForm states (l ∷ ls) → IsStartBodyForm states ls
-    of_form ls (shapes.plain c a) = a
-    of_form ls (shapes.listed ms w d z) = absurd (no_list w)
-
-    of_start : (ls : List Lexeme) (v : StartWeights) → IsStart states (l ∷ ls) v → IsStartBody states ls v
-    of_start ls v (plain c a) = a
-    of_start ls v (include ms w d z p) = absurd (no_list (inl w))
-    of_start ls v (exclude ms w d z p) = absurd (no_list (inr w))
-
-    on : (ls : List Lexeme) (asked : Option StartWeights) → FormGoes states (l ∷ ls) asked → BodyGoes states ls asked
-    on ls None g = of_form ls g
-    on ls (Some v) g = of_start ls v g
+colon_begins states l colon = record { back = λ ls asked g. grind (arith, shapes.plain, plain); on = λ ls asked g. grind (arith, name_not_colon) }
 
 -- the word of a list of states
 abbrev IsWordOf : Choice → Lexeme → Type 0
 IsWordOf Include l = IsWord (codes "include") l
 IsWordOf Exclude l = IsWord (codes "exclude") l
 
-either_word : (choice : Choice) (l : Lexeme) → IsWordOf choice l → IsWord (codes "include") l ⊎ IsWord (codes "exclude") l
-either_word Include l word = inl word
-either_word Exclude l word = inr word
-
 -- after it the states are listed
 module _ (states : Elements) (l : Lexeme) where
   list_formed : (choice : Choice) → IsWordOf choice l → (ls : List Lexeme) → AfterColon (ListGoes states choice (λ s. false)) ls None → IsStartForm states (l ∷ ls)
-  list_formed choice word [] g = absurd g
-  list_formed choice word (c ∷ ls) g = shapes.listed g.1.further (either_word choice l word) g.0 g.1.stand
-
-  word_no_colon : (choice : Choice) → IsWordOf choice l → l.kind ≡ Colon → ⊥
-  word_no_colon Include word c = name_not_colon _ word.kind c
-  word_no_colon Exclude word c = name_not_colon _ word.kind c
+  list_formed choice h1 ls h2 = grind (arith, shapes.listed)
 
   form_listed : (choice : Choice) → IsWordOf choice l → (ls : List Lexeme) → IsStartForm states (l ∷ ls) → AfterColon (ListGoes states choice (λ s. false)) ls None
-  form_listed choice word ls (shapes.plain c a) = absurd (word_no_colon choice word c)
-  form_listed choice word ls (shapes.listed ms w d z) = (d, record { further = ms; stand = z; said = tt })
+  form_listed choice h1 ls h2 = grind arith
 
   list_back : (choice : Choice) → IsWordOf choice l → (ls : List Lexeme) (v : StartWeights) → AfterColon (ListGoes states choice (λ s. false)) ls (Some v) → IsStart states (l ∷ ls) v
   list_back choice word [] v g = absurd g
@@ -92,80 +41,29 @@ module _ (states : Elements) (l : Lexeme) where
   list_back Exclude word (c ∷ ls) v g = subst (IsStart states (l ∷ c ∷ ls)) (sym g.1.said.0) (exclude g.1.further word g.0 g.1.stand g.1.said.1)
 
   list_on : (choice : Choice) → IsWordOf choice l → (ls : List Lexeme) (v : StartWeights) → IsStart states (l ∷ ls) v → AfterColon (ListGoes states choice (λ s. false)) ls (Some v)
-  list_on choice word ls v (plain c a) = absurd (word_no_colon choice word c)
-  list_on Include word ls v (include ms w d z p) = (d, record { further = ms; stand = z; said = (refl, p) })
-  list_on Include word ls v (exclude ms w d z p) = absurd (include_not_exclude _ word w)
-  list_on Exclude word ls v (include ms w d z p) = absurd (include_not_exclude _ w word)
-  list_on Exclude word ls v (exclude ms w d z p) = (d, record { further = ms; stand = z; said = (refl, p) })
+  list_on choice h1 ls v h2 = grind arith
 
   pub list_begins : (choice : Choice) → IsWordOf choice l → Takes (StartGoes states) reader.Form l (reader.Colon choice)
-  list_begins choice word = record { back = λ ls asked g. back ls asked g; on = λ ls asked g. on ls asked g }
-    where
-      back : (ls : List Lexeme) (asked : Option StartWeights) → AfterColon (ListGoes states choice (λ s. false)) ls asked → FormGoes states (l ∷ ls) asked
-      back ls None g = list_formed choice word ls g
-      back ls (Some v) g = list_back choice word ls v g
-
-      on : (ls : List Lexeme) (asked : Option StartWeights) → FormGoes states (l ∷ ls) asked → AfterColon (ListGoes states choice (λ s. false)) ls asked
-      on ls None g = form_listed choice word ls g
-      on ls (Some v) g = list_on choice word ls v g
+  list_begins choice word = grind (arith, form_listed choice word, list_on choice word, list_formed choice word, list_back choice word)
 
 -- ---- lists of states
 
 pub list_same : (states : Elements) (choice : Choice) (p q : ℕ → Bool) (ls : List Lexeme) (asked : Option StartWeights) → ((s : ℕ) → p s ≡ q s) → ListGoes states choice p ls asked
     → ListGoes states choice q ls asked
-list_same states choice p q ls asked e g =
-    let same : p ≡ q = λ i s. e s i in
-    subst (λ r. ListGoes states choice r ls asked) same g
-
-equal_or_not : (a b : ℕ) → (a ≡ b) ⊎ (a ≡ b → ⊥)
-equal_or_not a b = grind arith
-
-test_equal : (a b : ℕ) → a ≡ b → (a == b) ≡ true
-test_equal a b e = grind (arith, nat_tests)
-
-pub test_different : (a b : ℕ) → (a ≡ b → ⊥) → (a == b) ≡ false
-test_different a b e = grind (arith, nat_tests)
+list_same states choice p q ls asked e g = grind arith
 
 pub marked_more : (marks : List Bool) (s : ℕ) → s < length marks → (k : ℕ) → marked (slice_set marks s true) k ≡ (marked marks k || (s == k))
-marked_more marks s l k = at (equal_or_not s k)
-  where
-    or_true : (b c : Bool) → c ≡ true → (b || c) ≡ true
-    or_true true c e = refl
-    or_true false c e = e
-
-    or_false : (b c : Bool) → c ≡ false → b ≡ (b || c)
-    or_false true c e = refl
-    or_false false c e = sym e
-
-    at : (s ≡ k) ⊎ (s ≡ k → ⊥) → marked (slice_set marks s true) k ≡ (marked marks k || (s == k))
-    at (inl e) =
-        let here : marked (slice_set marks s true) s ≡ true = get_or-set_same marks s true false l in
-        subst (λ n. marked (slice_set marks s true) n ≡ true) e here ∙ sym (or_true (marked marks k) (s == k) (test_equal s k e))
-    at (inr d) =
-        let other : marked (slice_set marks s true) k ≡ marked marks k = get_or-set_other marks s k true false (λ e. d (sym e)) in
-        other ∙ or_false (marked marks k) (s == k) (test_different s k d)
+marked_more marks s l k = search rules
 
 module _ (states : Elements) (choice : Choice) (old : ℕ → Bool) (l : Lexeme) (s : ℕ) (is : StandsFor states l s) where
   more : (further : List ℕ) → chosen_with (λ k. old k || (s == k)) further ≡ chosen_with old (s ∷ further)
   more further = λ i k. or_assoc (old k) (s == k) (included further k) i
 
   state_back : (ls : List Lexeme) (asked : Option StartWeights) → ListGoes states choice (λ k. old k || (s == k)) ls asked → ListGoes states choice old (l ∷ ls) asked
-  state_back ls asked g = record {
-    further = s ∷ g.further;
-    stand = (is, g.stand);
-    said = subst (λ p. AreLeft (listed states choice p) asked) (more g.further) g.said;
-  }
+  state_back ls asked g = record { further = s ∷ g.further; stand = (is, g.stand); said = grind (arith, more g.further) }
 
   state_on : (ls : List Lexeme) (asked : Option StartWeights) → ListGoes states choice old (l ∷ ls) asked → ListGoes states choice (λ k. old k || (s == k)) ls asked
-  state_on ls asked g = at g.further g.stand g.said
-    where
-      at : (further : List ℕ) → AllZip (StandsFor states) (l ∷ ls) further → AreLeft (listed states choice (chosen_with old further)) asked
-          → ListGoes states choice (λ k. old k || (s == k)) ls asked
-      at [] stand said = absurd stand
-      at (n ∷ ns) stand said =
-          let same : n ≡ s = one_element states l n s stand.0 is in
-          let joined : chosen_with old (n ∷ ns) ≡ chosen_with (λ k. old k || (s == k)) ns = ap (λ m. chosen_with old (m ∷ ns)) same ∙ sym (more ns) in
-          record { further = ns; stand = stand.1; said = subst (λ p. AreLeft (listed states choice p) asked) joined said }
+  state_on ls asked g = grind arith
 
 pub list_takes : (states : Elements) (old : Chosen) (l : Lexeme) (s : ℕ) (marks : List Bool) → StandsFor states l s → s < length old.marks → marks ≡ slice_set old.marks s true
     → Takes (StartGoes states) (reader.List old) l (reader.List (record { choice = old.choice; marks = marks }))
@@ -183,30 +81,9 @@ list_stuck states old l none = λ ls v g. at ls g.further g.stand
     at ls [] stand = stand
     at ls (n ∷ ns) stand = none n stand.0
 
--- a list ends with the shares of what was chosen, if they leave a state
-pub list_ends : (states : Elements) (chosen : Chosen) (v : StartWeights) → length chosen.marks ≡ count_of states → v ≡ equal_weights (length chosen.marks) (picks chosen.choice (marked chosen.marks)) → 0 < v.total
-    → StartGives states (reader.List chosen) [] v
-list_ends states chosen v size is left =
-    let p : ℕ → Bool = marked chosen.marks in
-    let none_further : chosen_with p [] ≡ p = λ i s. no_other (p s) i in
-    let same : v ≡ listed states chosen.choice (chosen_with p []) = is ∙ ap (λ n. equal_weights n (picks chosen.choice p)) size ∙ ap (listed states chosen.choice) (sym none_further) in
-    record { further = []; stand = tt; said = (same, subst (λ (s : StartWeights). 0 < s.total) same left) }
-  where
-    no_other : (b : Bool) → (b || false) ≡ b
-    no_other true = refl
-    no_other false = refl
-
-below_count : (s count n : ℕ) → count ≡ n → s < n → s < count
-below_count s count n e low = omega arith
-
-named_low : (states : Elements) (name : List ℕ) (s : ℕ) → number_of states name ≡ Some s → s < count_of states
-named_low (Count n) name s e = cc
-named_low (Names names) name s e = (position-Some (bytes_eq name) names s [] e).0
-
 -- the number of a state is below their count
 pub stands_low : (states : Elements) (l : Lexeme) (s count : ℕ) → count ≡ count_of states → StandsFor states l s → s < count
-stands_low states l s count e (by_number w low) = below_count s count (count_of states) e low
-stands_low states l s count e (by_name n f) = below_count s count (count_of states) e (named_low states l.bytes s f)
+stands_low states l s count h1 h2 = grind arith
 
 -- ---- the plain form
 
@@ -215,59 +92,30 @@ module _ (states : Elements) (l : Lexeme) (name : l.kind ≡ Name) where
   no_numeral e = cc
 
   no_numbers : {ls : List Lexeme} {hs : List ℤ} → AreNumbers (l ∷ ls) hs → ⊥
-  no_numbers a = begins_no_number (λ e. cc) (λ e. cc) (λ e. cc) a
+  no_numbers a = grind arith
 
   -- nothing stands after a name
   name_alone : (ls : List Lexeme) → IsStartBodyForm states (l ∷ ls) → ls ≡ []
-  name_alone ls (shapes.uniform w) = refl
-  name_alone ls (shapes.name n f) = refl
-  name_alone ls (shapes.state_number m n b) = refl
-  name_alone ls (shapes.one_number n) = absurd (no_numbers n)
-  name_alone ls (shapes.probabilities ps m n c s) = absurd (no_numbers n)
+  name_alone ls h1 = grind arith
 
   pub uniform_begins : IsWord (codes "uniform") l → Takes (StartGoes states) reader.Body l reader.Every
-  uniform_begins word = record { back = λ ls asked g. back ls asked g; on = λ ls asked g. on ls asked g }
+  uniform_begins word = record { back = λ ls asked g. back ls asked g; on = λ ls asked g. grind (arith, name_alone, uniform_is_reserved, no_numbers) }
     where
       back : (ls : List Lexeme) (asked : Option StartWeights) → (ls ≡ []) × AreAsked (all_states states) asked → BodyGoes states (l ∷ ls) asked
       back ls None g = subst (λ xs. IsStartBodyForm states (l ∷ xs)) (sym g.0) (shapes.uniform word)
       back ls (Some v) g = subst (λ xs. IsStartBody states (l ∷ xs) v) (sym g.0) (subst (IsStartBody states (l ∷ [])) (sym g.1) (forms.uniform word))
 
-      of_body : (ls : List Lexeme) (v : StartWeights) → IsStartBody states (l ∷ ls) v → (ls ≡ []) × (v ≡ all_states states)
-      of_body ls v (forms.uniform w) = (refl, refl)
-      of_body ls v (forms.name n f) = absurd (true≢false (ap is_reserved word.bytes ∙ uniform_is_reserved) n.free)
-      of_body ls v (forms.number m n b) = absurd (no_numeral n.kind)
-      of_body ls v (forms.only_state c n h) = absurd (no_numbers n)
-      of_body ls v (forms.probabilities ps m n c s) = absurd (no_numbers n)
-
-      on : (ls : List Lexeme) (asked : Option StartWeights) → BodyGoes states (l ∷ ls) asked → (ls ≡ []) × AreAsked (all_states states) asked
-      on ls None g = (name_alone ls g, tt)
-      on ls (Some v) g = of_body ls v g
-
   named_on : (s : ℕ) → StandsFor states l s → (IsWord (codes "uniform") l → ⊥) → (ls : List Lexeme) (v : StartWeights) → IsStartBody states (l ∷ ls) v → (ls ≡ []) × (v ≡ single states s)
-  named_on s is other ls v (forms.uniform w) = absurd (other w)
-  named_on s is other ls v (forms.name {s = k} n f) = (refl, ap (single states) (one_element states l k s (by_name n f) is))
-  named_on s is other ls v (forms.number m n b) = absurd (no_numeral n.kind)
-  named_on s is other ls v (forms.only_state c n h) = absurd (no_numbers n)
-  named_on s is other ls v (forms.probabilities ps m n c t) = absurd (no_numbers n)
+  named_on s h1 h2 ls v h3 = grind arith
 
   named_back : (s : ℕ) → StandsFor states l s → IsStartBody states (l ∷ []) (single states s)
-  named_back s (by_number w b) = absurd (no_numeral w.kind)
-  named_back s (by_name n f) = forms.name n f
+  named_back s h1 = grind (arith, forms.name)
 
   named_form : (s : ℕ) → StandsFor states l s → IsStartBodyForm states (l ∷ [])
-  named_form s (by_number w b) = absurd (no_numeral w.kind)
-  named_form s (by_name n f) = shapes.name n f
+  named_form s h1 = grind (arith, shapes.name)
 
   pub name_begins : (s : ℕ) → StandsFor states l s → (IsWord (codes "uniform") l → ⊥) → Takes (StartGoes states) reader.Body l (reader.Only s)
-  name_begins s is other = record { back = λ ls asked g. back ls asked g; on = λ ls asked g. on ls asked g }
-    where
-      back : (ls : List Lexeme) (asked : Option StartWeights) → (ls ≡ []) × AreAsked (single states s) asked → BodyGoes states (l ∷ ls) asked
-      back ls None g = subst (λ xs. IsStartBodyForm states (l ∷ xs)) (sym g.0) (named_form s is)
-      back ls (Some v) g = subst (λ xs. IsStartBody states (l ∷ xs) v) (sym g.0) (subst (IsStartBody states (l ∷ [])) (sym g.1) (named_back s is))
-
-      on : (ls : List Lexeme) (asked : Option StartWeights) → BodyGoes states (l ∷ ls) asked → (ls ≡ []) × AreAsked (single states s) asked
-      on ls None g = (name_alone ls g, tt)
-      on ls (Some v) g = named_on s is other ls v g
+  name_begins s is other = grind (arith, named_form s is, named_back s is, name_alone, named_on s is other)
 
   pub name_stuck : ((s : ℕ) → StandsFor states l s → ⊥) → (IsWord (codes "uniform") l → ⊥) → CannotTake (StartGoes states) reader.Body l
   name_stuck none other ls asked g = stuck ls asked g
@@ -287,8 +135,7 @@ module _ (states : Elements) (l : Lexeme) (name : l.kind ≡ Name) where
       of_body ls v (forms.probabilities ps m n c t) = no_numbers n
 
       stuck : (ls : List Lexeme) (asked : Option StartWeights) → BodyGoes states (l ∷ ls) asked → ⊥
-      stuck ls None g = of_form ls g
-      stuck ls (Some v) g = of_body ls v g
+      stuck ls asked h1 = grind (arith, of_form, of_body)
 
 -- a numeral or a sign that stands for no state begins numbers
 module _ (states : Elements) (l : Lexeme) (no_name : l.kind ≡ Name → ⊥) where
@@ -331,8 +178,7 @@ module _ (states : Elements) (l : Lexeme) (no_name : l.kind ≡ Name → ⊥) wh
       of_body ls v (forms.probabilities ps m n c t) = record { further = map pos ps; numbers = n; given = steps.probabilities ps m refl c t refl }
 
       of : (ls : List Lexeme) (asked : Option StartWeights) → BodyGoes states (l ∷ ls) asked → NumbersGo states [] None (l ∷ ls) asked
-      of ls None g = of_form ls g
-      of ls (Some v) g = of_body ls v g
+      of ls asked h1 = grind (arith, of_form, of_body)
 
   pub body_begins : ((s : ℕ) → 1 < count_of states → IsWhole l s → s < count_of states → ⊥) → (r : StartReader) → Begins (NumbersGo states [] None) l (StartGoes states r) → Takes (StartGoes states) reader.Body l r
   body_begins none r b = record {
@@ -350,20 +196,13 @@ module _ (states : Elements) (l : Lexeme) (digits : StateOrNumber) (are : AreDig
   digits_no_name name = let numeral = are.digits_are.0 in cc
 
   state_of : (s : ℕ) (o : Option ℕ) → o ≡ Some s → IsState (count_of states) o l → IsWhole l s × (s < count_of states)
-  state_of s None e is = cc
-  state_of s (Some n) e is =
-      let same : n ≡ s = cc in
-      subst (λ k. IsWhole l k × (k < count_of states)) same is
+  state_of s o h1 h2 = grind arith
 
   of_state : (s : ℕ) (o : Option ℕ) → IsState (count_of states) o l → IsWhole l s → s < count_of states → o ≡ Some s
-  of_state s None is w low = absurd (is s w low)
-  of_state s (Some n) is w low = ap Some (one_whole l n s is.0 w)
+  of_state s o h1 h2 h3 = grind arith
 
   value_of : (h : ℤ) (r : Result ℤ NumberFault) → r ≡ Ok h → IsValue r false l → IsMillionths false l h
-  value_of h (Ok k) e is =
-      let same : k ≡ h = cc in
-      subst (IsMillionths false l) same is
-  value_of h (Err f) e is = cc
+  value_of h r h1 h2 = grind arith
 
   of_value : (h : ℤ) (r : Result ℤ NumberFault) → IsValue r false l → IsMillionths false l h → r ≡ Ok h
   of_value h (Ok k) is v = ap Ok (one_millionths false l k h is v)
@@ -373,9 +212,7 @@ module _ (states : Elements) (l : Lexeme) (digits : StateOrNumber) (are : AreDig
   number_back ls None s none e f =
       let is = state_of s digits.state e are.state in
       subst (λ xs. IsStartBodyForm states (l ∷ xs)) (sym none) (shapes.state_number are.more is.0 is.1)
-  number_back ls (Some v) s none e f =
-      let is = state_of s digits.state e are.state in
-      subst (λ xs. IsStartBody states (l ∷ xs) v) (sym none) (subst (IsStartBody states (l ∷ [])) (sym f) (forms.number are.more is.0 is.1))
+  number_back ls (Some v) s none e f = grind (arith, more, state_of, forms.number)
 
   back : (ls : List Lexeme) (asked : Option StartWeights) → DigitsGo states digits ls asked → BodyGoes states (l ∷ ls) asked
   back ls asked (state_number s none e f) = number_back ls asked s none e f
@@ -410,11 +247,10 @@ module _ (states : Elements) (l : Lexeme) (digits : StateOrNumber) (are : AreDig
 
 -- digits are a state's number where there is more than one state
 pub not_whole : (states : Elements) (l : Lexeme) → (count_of states ≡ 1) ⊎ (are_digits l.bytes ≡ false) → (s : ℕ) → 1 < count_of states → IsWhole l s → s < count_of states → ⊥
-not_whole states l (inl one) s more w low = omega (arith, one, more)
-not_whole states l (inr other) s more w low = true≢false w.digits other
+not_whole states l h1 s h2 h3 h4 = grind arith
 
 pub sign_not_whole : (states : Elements) (l : Lexeme) → (l.kind ≡ Numeral → ⊥) → (s : ℕ) → 1 < count_of states → IsWhole l s → s < count_of states → ⊥
-sign_not_whole states l other s more w low = other w.kind
+sign_not_whole states l other s mores0 w low = grind arith
 
 pub whole_or_one : (states : Elements) (l : Lexeme) (count : ℕ) → count ≡ count_of states → (count ≡ 1) ⊎ (are_digits l.bytes ≡ false) → (count_of states ≡ 1) ⊎ (are_digits l.bytes ≡ false)
 whole_or_one states l count e w = subst (λ n. (n ≡ 1) ⊎ (are_digits l.bytes ≡ false)) e w
@@ -423,5 +259,4 @@ pub numeral_not_name : (l : Lexeme) → l.kind ≡ Numeral → l.kind ≡ Name �
 numeral_not_name l a b = cc
 
 pub plus_or_minus : (l : Lexeme) → (l.kind ≡ Plus) ⊎ (l.kind ≡ Minus) → (l.kind ≡ Numeral → ⊥) × (l.kind ≡ Name → ⊥)
-plus_or_minus l (inl e) = (λ n. cc, λ n. cc)
-plus_or_minus l (inr e) = (λ n. cc, λ n. cc)
+plus_or_minus l h1 = grind arith

@@ -1,18 +1,8 @@
 -- A start item as its reader continues with it.
-use Rattle.std.proofs.Common.{◌≡◌, ◌∙◌, ℕ, List, [], Result, Ok, Err, OnOk, refl}
-use Rattle.polcert_text.specs.Cut.{Lexeme}
-use Rattle.polcert_cells.specs.declared.elements.Elements.{Elements}
-use Rattle.polcert_cells.specs.declared.elements.StartWeights.{StartWeights}
-use Rattle.polcert_cells.specs.Start.{IsStart}
-use Rattle.polcert_cells.specs.Elements.{count_of}
-use Rattle.polcert_items.specs.declared.entry_reader.Numbers.{Numbers}
+use Rattle.std.proofs.Common.{◌≡◌, ℕ, List, [], Result, Ok, Err, OnOk, refl, rules}
+use Rattle.polcert_items.proofs.Common.{Lexeme, Elements, StartWeights, IsStart, Numbers, ProbabilitiesGo, HasRoom, IsStartFed, Takes, SignIs, StartGives, IsStartWithin, HasReadStart, ExpectsNext, list_wants}
 use Rattle.polcert_items.specs.declared.start_reader.StartReader.TheVariants as reader
-use Rattle.polcert_items.specs.Steps.Entries.{ProbabilitiesGo, HasRoom}
-use Rattle.polcert_items.specs.Steps.Feeding.{IsStartFed}
-use Rattle.polcert_items.specs.Steps.Lines.{Takes}
-use Rattle.polcert_items.specs.Steps.Numbers.{SignIs}
-use Rattle.polcert_items.specs.Steps.Start.{StartGives, new_start, IsStartWithin, HasReadStart, AreWithin}
-use Rattle.polcert_items.specs.Steps.Wants.{ExpectsNext, list_wants}
+use Rattle.polcert_items.specs.Steps.Start.{new_start, AreWithin}
 use Rattle.polcert_items.proofs.StartNumbers.{shares_take}
 use Rattle.polcert_items.proofs.StartSeen.{further_seen}
 
@@ -32,10 +22,5 @@ new_start_seen count = record { sign = refl; body_is = refl }
 pub shares_fed : {E : Type 0} (result : Result Unit E) (states : Elements) (old new : Numbers ℕ) (l : Lexeme) → AreWithin states old → new.needed ≡ old.needed → OnOk result (HasRoom new)
     → OnOk result (Takes ProbabilitiesGo old l new) → OnOk result (ExpectsNext (list_wants old) l (list_wants new)) → OnOk result (SignIs new.sign l)
     → OnOk result (IsStartFed states (reader.Probabilities old) l (reader.Probabilities new))
-shares_fed (Ok v) states old new l within needed room takes leads sign = record {
-  within = record { more = within.more; needed = needed ∙ within.needed; room = room };
-  takes = shares_take states old new l takes;
-  seen = λ body seen. further_seen (count_of states) body l old new seen sign;
-  leads = record { same = leads.same };
-}
+shares_fed (Ok v) states old new l within needed room takes leads sign = search (rules, shares_take, further_seen)
 shares_fed (Err e) states old new l within needed room takes leads sign = tt

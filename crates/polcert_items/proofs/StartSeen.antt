@@ -1,51 +1,19 @@
 -- What the body of a start item so far has to do with its reader's state, and where its refusals stand.
-use Rattle.std.specs.Prelude.{if◌then◌else◌, ◌==◌}
-use Rattle.std.proofs.Common.{◌≡◌, ◌∙◌, ℕ, ◌-◌, ◌<◌, ◌++◌, Bool, false, true, Option, Some, None, Result, Ok, Err, IfErr, List, [], ◌∷◌, codes, ℤ, refl, sym, ap, subst, append_assoc, arith}
-use Rattle.polcert_text.specs.Cut.{Lexeme}
-use Rattle.polcert_text.specs.declared.tokens.TokenKind.{TokenKind}
-use Rattle.polcert_text.specs.declared.tokens.TokenKind.TheVariants.{Numeral, Name}
-use Rattle.polcert_format.proofs.FirstNumbers.{digits_numeral}
-use Rattle.polcert_text.specs.declared.number.NumberFault.{NumberFault}
-use Rattle.polcert_format.specs.declared.fault.ItemFault.{ItemFault}
-use Rattle.polcert_format.specs.declared.fault.ItemFault.TheVariants.{Number, BadShape, BadCount, UnknownName, IndexOutOfRange, WrongNumberCount, ProbabilityRange, DiscountRange, Reset, StartSum, StartEmpty}
-use Rattle.polcert_items.specs.declared.signed_number.Sign.{Sign}
-use Rattle.polcert_items.specs.declared.signed_number.Refusal.{Refusal}
+use Rattle.polcert_items.proofs.Common.{IfErr-weaker, Lexeme, Numeral, Name, NumberFault, ItemFault, Number, IndexOutOfRange, ProbabilityRange, Sign, Refusal, FirstNumber, StateOrNumber, StartReader, FeedError, IsMillionths, Elements, Takes, CannotTake, IsStartFed, RefusesInStart, ExpectsNext, start_wants, count_of, Start, IsRefusedNumber, IsNoFraction, is_sign, ends_in_sign, is_negative, number_place, IsSignAt, SignIs, Expected, IsMisfit, BeginsWithNumber, BeginsWithDigits, are_digits, Chosen, Numbers, IfRefused, IsListReason, start_sign, pending_of, pending, IsValue, AreDigits, IsAfterColon, IsListBegun, IsWordBody, IsFraction, HasReadStart, IsOutside, IsDueNumber, IsDueValue, IsStop, due, at_once, IsStartReason, StartGoes, IsStartWithin, first_of}
+use Rattle.std.proofs.Common.{◌≡◌, ◌∙◌, ℕ, ◌-◌, ◌++◌, Bool, false, true, Option, Some, None, Result, Ok, Err, IfErr, List, [], ◌∷◌, ℤ, refl, sym, ap, subst, append_assoc, arith, rules}
 use Rattle.polcert_items.specs.declared.signed_number.Range.TheVariants as ranges
-use Rattle.polcert_items.specs.declared.start_reader.FirstNumber.{FirstNumber}
-use Rattle.polcert_items.specs.declared.start_reader.StateOrNumber.{StateOrNumber}
-use Rattle.polcert_items.specs.declared.start_reader.StartReader.{StartReader}
 use Rattle.polcert_items.specs.declared.start_reader.StartReader.TheVariants as reader
-use Rattle.polcert_items.specs.declared.item.EndError.{EndError}
-use Rattle.polcert_items.specs.declared.item.FeedError.{FeedError}
 use Rattle.polcert_items.specs.declared.item.FeedError.TheVariants as stops
-use Rattle.polcert_cells.specs.Numbers.{IsMillionths}
-use Rattle.polcert_cells.specs.declared.elements.Elements.{Elements}
-use Rattle.polcert_items.specs.Steps.Lines.{Takes, CannotTake, CannotEnd}
-use Rattle.polcert_items.specs.Steps.Feeding.{IsStartFed, RefusesInStart}
-use Rattle.polcert_items.specs.Steps.Wants.{ExpectsNext, start_wants}
-use Rattle.polcert_cells.specs.Elements.{count_of}
-use Rattle.polcert_cells.specs.declared.words.Topic.TheVariants.{Start}
-use Rattle.polcert_cells.specs.Words.{IsWord, IsName}
 use Rattle.polcert_items.specs.Steps.Items.{IsEndReason}
-use Rattle.polcert_format.specs.Reasons.{StandsIn, NumberStandsIn, unsigned, plus, minus, IsRefusedNumber, IsNoFraction, IsDigits, is_sign, ends_in_sign}
-use Rattle.polcert_items.specs.Steps.Numbers.{is_negative, number_place, IsSignAt, SignIs, SignEnds}
+use Rattle.polcert_format.specs.Reasons.{StandsIn, NumberStandsIn, unsigned, plus, minus, IsDigits}
+use Rattle.polcert_items.specs.Steps.Numbers.{SignEnds}
 use Rattle.polcert_items.specs.Steps.Numbers as steps
-use Rattle.polcert_format.specs.Misfits.{Expected, NumberOrEnd, IsMisfit}
-use Rattle.polcert_format.specs.FirstNumber.{BeginsWithNumber, BeginsWithDigits}
+use Rattle.polcert_format.specs.Misfits.{NumberOrEnd}
 use Rattle.polcert_format.specs.FirstNumber as begins
 use Rattle.polcert_format.specs.Wants.{may_be_state, number_end}
-use Rattle.polcert_text.specs.Lexemes.{are_digits}
-use Rattle.polcert_cells.proofs.Basics.{cons≢nil, same_head, same_tail, true≢false}
-use Rattle.polcert_items.specs.declared.start_reader.Chosen.{Chosen}
-use Rattle.polcert_items.specs.declared.entry_reader.Numbers.{Numbers}
-use Rattle.polcert_items.proofs.PatternLaws.{if_err_map, refused_map, each_refused_map}
-use Rattle.polcert_items.proofs.StartForms.{test_different}
+use Rattle.polcert_items.proofs.PatternLaws.{refused_map, each_refused_map}
 use Rattle.polcert_items.proofs.StartNumbers.{digits_stop, digits_stuck, first_is, none_is, valueless_stuck}
-use Rattle.polcert_items.specs.Steps.Entries.{IfRefused, IsListReason, no_number, no_further}
-use Rattle.polcert_items.specs.Steps.Start.{start_sign, pending_of, pending, IsValue, AreDigits, IsFormed, IsKept, IsNumberKept, IsAfterColon, IsListBegun, IsWordBody, IsFraction, HasReadStart, IsReasonAt, IsOutside, IsDueNumber, IsDueValue, IsStop, due, at_once, IsReasonIn, IsStartReason, IsStartEndKind, IfNotMemory, StartGoes, StartGives, IsStartWithin, first_of}
-
-none≢some : {A : Type 0} {x : A} → None ≡ Some x → ⊥
-none≢some e = cc
+use Rattle.polcert_items.specs.Steps.Start.{IsFormed, IsKept, IsNumberKept, IsReasonAt, IsReasonIn, IsStartEndKind}
 
 some_once : {A : Type 0} {x y : A} → Some x ≡ Some y → x ≡ y
 some_once e = cc
@@ -53,13 +21,11 @@ some_once e = cc
 -- ---- one lexeme more
 
 pub last_sign : (body : List Lexeme) (l : Lexeme) → ends_in_sign (body ++ l ∷ []) ≡ is_sign l.kind
-last_sign [] l = refl
-last_sign (x ∷ []) l = refl
 last_sign (x ∷ y ∷ ys) l = last_sign (y ∷ ys) l
+last_sign c l = refl
 
 pub sign_ends : (sign : Option Sign) (body : List Lexeme) (l : Lexeme) → SignIs sign l → SignEnds sign (body ++ l ∷ [])
-sign_ends None body l s = last_sign body l ∙ s
-sign_ends (Some sign) body l s = (body, (l, (refl, s)))
+sign_ends sign body l h1 = grind (arith, last_sign)
 
 stands : (body : List Lexeme) (l : Lexeme) (place : ℕ) (Is : Lexeme → Type 0) → place ≡ l.place → Is l → StandsIn (body ++ l ∷ []) place Is
 stands body l place Is p so = record { before = body; lexeme = l; after = []; whole = refl; place_is = p; holds = so }
@@ -94,9 +60,7 @@ number_map body place Is Other f (minus before s m after whole kind p so) = minu
 
 -- a lexeme stands where a number does
 number_lexeme : (body : List Lexeme) (place : ℕ) (Is : Bool → Lexeme → Type 0) → NumberStandsIn body place Is → StandsIn body place (λ l. Unit {0})
-number_lexeme body place Is (unsigned before m after whole ends p so) = record { before = before; lexeme = m; after = after; whole = whole; place_is = p; holds = tt }
-number_lexeme body place Is (plus before s m after whole kind p so) = record { before = before; lexeme = s; after = m ∷ after; whole = whole; place_is = p; holds = tt }
-number_lexeme body place Is (minus before s m after whole kind p so) = record { before = before; lexeme = s; after = m ∷ after; whole = whole; place_is = p; holds = tt }
+number_lexeme body place Is h1 = grind arith
 
 -- ---- a number that the body begins with
 
@@ -125,15 +89,7 @@ digits_begin count body place Is Other ls f d = begins.unsigned d.colon d.digits
 
 pub digits_more : (count : ℕ) (body : List Lexeme) (place : ℕ) (Is Other : Lexeme → Type 0) (ls further : List Lexeme) → ((l : Lexeme) → Is l → Other l) → BeginsWithDigits count body place Is ls
     → BeginsWithDigits count (body ++ further) place Other (ls ++ further)
-digits_more count body place Is Other ls further f d = record {
-  colon = d.colon;
-  digits = d.digits;
-  whole = ap (λ (b : List Lexeme). b ++ further) d.whole;
-  is_colon = d.is_colon;
-  are_digits = d.are_digits;
-  place_is = d.place_is;
-  holds = f d.digits d.holds;
-}
+digits_more count body place Is Other ls further f d = grind arith
 
 -- ---- what was seen
 
@@ -153,77 +109,41 @@ number_begins (Some sign) body l place Is b p so = at b.4
     at (steps.plus kind negative there) = begins.plus b.0 b.1 l whole b.3 kind (p ∙ there) (subst (λ n. Is n l) negative so)
     at (steps.minus kind negative there) = begins.minus b.0 b.1 l whole b.3 kind (p ∙ there) (subst (λ n. Is n l) negative so)
 
--- the body that begins with a lexeme and digits has these in their places
-second_of : (c l d : Lexeme) (body ls : List Lexeme) → body ≡ c ∷ [] → body ++ l ∷ [] ≡ ls → (x : Lexeme) → ls ≡ x ∷ d ∷ [] → l ≡ d
-second_of c l d body ls e f x g = same_head (same_tail (sym (ap (λ (b : List Lexeme). b ++ l ∷ []) e) ∙ f ∙ g))
-
 no_number_digits : (count : ℕ) (body : List Lexeme) (l : Lexeme) → IsAfterColon None body → may_be_state count l.kind l.bytes ≡ false → (place : ℕ)
     → BeginsWithDigits count (body ++ l ∷ []) place (λ x. Unit {0}) [] → ⊥
-no_number_digits count body l b none place d =
-    let same : l ≡ d.digits = second_of b.0 l d.digits body (body ++ l ∷ []) b.1 refl d.colon d.whole in
-    true≢false d.are_digits (subst (λ (x : Lexeme). may_be_state count x.kind x.bytes ≡ false) same none)
+no_number_digits count body l b none place d = grind arith
 
 -- a signed number is no digits alone
 no_signed_digits : (count : ℕ) (sign : Sign) (body : List Lexeme) (l : Lexeme) → IsAfterColon (Some sign) body → (place : ℕ) → BeginsWithDigits count (body ++ l ∷ []) place (λ x. Unit {0}) [] → ⊥
-no_signed_digits count sign body l b place d = cons≢nil (same_tail (same_tail (sym (ap (λ (c : List Lexeme). c ++ l ∷ []) b.2) ∙ d.whole)))
+no_signed_digits count sign body l b place d = grind arith
 
 first_seen : (count : ℕ) (sign : Option Sign) (body : List Lexeme) (l : Lexeme) (first : FirstNumber) → IsAfterColon sign body → IsNumberKept sign l (reader.Number first)
     → ((place : ℕ) → BeginsWithDigits count (body ++ l ∷ []) place (λ x. Unit {0}) [] → ⊥) → HasReadStart count (body ++ l ∷ []) (reader.Number first)
-first_seen count sign body l first b k none = record {
-  sign = sign_ends None body l (numeral_no_sign l k.1.kind);
-  body_is = record { number = number_begins sign body l first.place (λ negative m. IsMillionths negative m first.value) b k.0 k.1; no_digits = none };
-}
+first_seen count sign body l first b k none = search (rules, sign_ends, numeral_no_sign, number_begins)
 
 sign_seen : (count : ℕ) (body : List Lexeme) (l : Lexeme) (s : Sign) → IsAfterColon None body → IsSignAt s l → HasReadStart count (body ++ l ∷ []) (reader.Sign s)
-sign_seen count body l s b at = record {
-  sign = sign_ends (Some s) body l at;
-  body_is = (b.0, l, ap (λ (c : List Lexeme). c ++ l ∷ []) b.1, b.2, at);
-}
-
-one_state_or_more : (count : ℕ) (l : Lexeme) → 1 < count → IsDigits l → may_be_state count l.kind l.bytes ≡ true
-one_state_or_more count l more d = subst (λ kind. may_be_state count kind l.bytes ≡ true) (sym d.0) (several (count == 1) (test_different count 1 (λ e. omega (arith, more, e))))
-  where
-    several : (one : Bool) → one ≡ false → (if one then false else are_digits l.bytes) ≡ true
-    several false e = d.1
-    several true e = absurd (true≢false refl e)
+sign_seen count body l s b at = grind arith
 
 digits_seen : (count : ℕ) (body : List Lexeme) (l : Lexeme) (d : StateOrNumber) → IsAfterColon None body → AreDigits count l d → HasReadStart count (body ++ l ∷ []) (reader.StateOrNumber d)
-digits_seen count body l d b k = record {
-  sign = sign_ends None body l (numeral_no_sign l k.digits_are.0);
-  body_is = record {
-    colon = b.0;
-    digits = l;
-    whole = ap (λ (c : List Lexeme). c ++ l ∷ []) b.1;
-    is_colon = b.2;
-    are_digits = one_state_or_more count l k.more k.digits_are;
-    place_is = k.place;
-    holds = record { state = k.state; value = k.value };
-  };
-}
+digits_seen count body l d b k = grind arith
 
 word_seen : (body : List Lexeme) (l : Lexeme) → IsAfterColon None body → l.kind ≡ Name → IsWordBody (body ++ l ∷ [])
 word_seen body l b name = (b.0, l, ap (λ (c : List Lexeme). c ++ l ∷ []) b.1, name)
 
 -- after the colon
 pub body_seen : (count : ℕ) (body : List Lexeme) (l : Lexeme) (r : StartReader) → IsAfterColon None body → IsKept count l r → HasReadStart count (body ++ l ∷ []) r
-body_seen count body l reader.Every b k = record { sign = sign_ends None body l (ap is_sign k); body_is = word_seen body l b k }
-body_seen count body l (reader.Only s) b k = record { sign = sign_ends None body l (ap is_sign k); body_is = word_seen body l b k }
 body_seen count body l (reader.StateOrNumber d) b k = digits_seen count body l d b k
-body_seen count body l (reader.Sign s) b k = sign_seen count body l s b k.1.1
 body_seen count body l (reader.Number first) b k = first_seen count None body l first b k.1 (no_number_digits count body l b k.0)
-body_seen count body l _ b k = absurd k.1
+body_seen count body l _ b k = grind (arith, sign_seen, word_seen, last_sign)
 
 -- after the first number's sign
 pub numeral_seen : (count : ℕ) (sign : Sign) (body : List Lexeme) (l : Lexeme) (r : StartReader) → IsAfterColon (Some sign) body → IsNumberKept (Some sign) l r → HasReadStart count (body ++ l ∷ []) r
 numeral_seen count sign body l (reader.Number first) b k = first_seen count (Some sign) body l first b k (no_signed_digits count sign body l b)
-numeral_seen count sign body l (reader.Sign s) b k = absurd (none≢some (sym k.0))
-numeral_seen count sign body l _ b k = absurd k
+numeral_seen count sign body l c b k = grind arith
 
 -- the first lexeme
 pub form_seen : (count : ℕ) (body : List Lexeme) (l : Lexeme) (r : StartReader) → body ≡ [] → IsFormed l r → HasReadStart count (body ++ l ∷ []) r
-form_seen count body l (reader.Colon c) b k = record { sign = sign_ends None body l (ap is_sign k); body_is = (l, [], ap (λ (x : List Lexeme). x ++ l ∷ []) b, k) }
-form_seen count body l reader.Body b k = record { sign = sign_ends None body l (ap is_sign k); body_is = (l, ap (λ (x : List Lexeme). x ++ l ∷ []) b, k) }
-form_seen count body l _ b k = absurd k
+form_seen count body l r h1 h2 = grind arith
 
 -- a list of states
 pub list_seen : (count : ℕ) (body : List Lexeme) (l : Lexeme) (c : Chosen) → IsListBegun body → is_sign l.kind ≡ false → HasReadStart count (body ++ l ∷ []) (reader.List c)
@@ -268,12 +188,7 @@ at_number body place Is kind f n = record { stands = number_lexeme body place Is
 token_reason : (body : List Lexeme) (sign : Option Sign) (l : Lexeme) (kind : ItemFault) (place : ℕ) → SignEnds sign body → IsReasonAt sign l kind place → IsStartReason (body ++ l ∷ []) kind place
 token_reason body sign l (Number fault) place ends r = at_number (body ++ l ∷ []) place (IsRefusedNumber fault) (Number fault) (λ n. n) (number_stands sign body l place (IsRefusedNumber fault) ends r.0 r.1)
 token_reason body sign l ProbabilityRange place ends r = at_number (body ++ l ∷ []) place IsNoFraction ProbabilityRange (λ n. n) (number_stands sign body l place IsNoFraction ends r.0 r.1)
-token_reason body sign l Reset place ends r = record { stands = stands body l place (λ m. Unit {0}) r.0 tt; reason = stands body l place (IsWord (codes "reset")) r.0 r.1 }
-token_reason body sign l UnknownName place ends r = record { stands = stands body l place (λ m. Unit {0}) r.0 tt; reason = stands body l place IsName r.0 r.1 }
-token_reason body sign l IndexOutOfRange place ends r = record { stands = stands body l place (λ m. Unit {0}) r.0 tt; reason = stands body l place IsDigits r.0 r.1 }
-token_reason body sign l BadShape place ends r = record { stands = stands body l place (λ m. Unit {0}) r tt; reason = tt }
-token_reason body sign l WrongNumberCount place ends r = record { stands = stands body l place (λ m. Unit {0}) r tt; reason = tt }
-token_reason body sign l _ place ends r = absurd r
+token_reason body sign l _ place ends r = grind (arith, stands)
 
 range_reason : (body : List Lexeme) (h : ℤ) (kind : ItemFault) (place at : ℕ) → kind ≡ ProbabilityRange → place ≡ at → IsOutside h
     → NumberStandsIn body at (λ negative l. IsMillionths negative l h) → IsStartReason body kind place
@@ -288,8 +203,7 @@ fault_reason body fault kind place at is p n =
 pub number_reason : (count : ℕ) (body : List Lexeme) (f : FirstNumber) (w : Expected) (l : Lexeme) (kind : ItemFault) (place : ℕ) → HasReadStart count body (reader.Number f)
     → IsStop (IsDueNumber f.value f.place l) None w l kind place → IsStartReason (body ++ l ∷ []) kind place
 number_reason count body f w l kind place s (at_once m r) = token_reason body None l kind place s.sign r
-number_reason count body f w l kind place s (due d) =
-    range_reason (body ++ l ∷ []) f.value kind place f.place d.1.1 d.1.2 d.1.0 (number_more body l f.place _ (begins_stands body f.place _ [] s.body_is.number))
+number_reason count body f w l kind place s (due d) = search (rules, number_more, begins_stands, range_reason)
 
 pub digits_reason : (count : ℕ) (body : List Lexeme) (d : StateOrNumber) (w : Expected) (l : Lexeme) (kind : ItemFault) (place : ℕ) → HasReadStart count body (reader.StateOrNumber d)
     → IsStop (IsDueValue d.value d.place l) None w l kind place → IsStartReason (body ++ l ∷ []) kind place
@@ -308,42 +222,23 @@ pub pending_reason : (count : ℕ) (body : List Lexeme) (r : StartReader) (f : R
 pending_reason count body (reader.StateOrNumber d) f s e = of_value d.value refl e
   where
     of_value : (v : Result ℤ NumberFault) → d.value ≡ v → pending_of v d.place ≡ Some f → IsStartReason body f.kind f.place
-    of_value (Ok h) is e = absurd (none≢some e)
+    of_value (Ok h) is e = cc
     of_value (Err g) is e =
         let same = some_once e in
         subst (λ (x : Refusal). IsStartReason body x.kind x.place) same
         (fault_reason body g (Number g) d.place d.place refl refl
         (begins_stands body d.place (IsRefusedNumber g) [] (digits_begin count body d.place _ (IsRefusedNumber g) [] (λ x k. subst (λ v. IsValue v false x) is k.value) s.body_is)))
-pending_reason count body _ f s e = absurd (none≢some e)
-
--- why a token is refused in a list of probabilities
-from_number : (sign : Option Sign) (l : Lexeme) (kind : ItemFault) (place : ℕ) → steps.IsNumberReason ranges.Probability sign l kind place → IsReasonAt sign l kind place
-from_number sign l (Number f) place r = r
-from_number sign l ProbabilityRange place r = (r.1, r.2)
-from_number sign l DiscountRange place r = absurd (different r.0)
-  where
-    different : ranges.Probability ≡ ranges.Discount → ⊥
-    different e = cc
-from_number sign l Reset place r = r
-from_number sign l BadShape place r = r
-from_number sign l _ place r = absurd r
-
-from_after : (sign : Option Sign) (l : Lexeme) (kind : ItemFault) (place : ℕ) → steps.IsAfterNumbers l kind place → IsReasonAt sign l kind place
-from_after sign l WrongNumberCount place r = r
-from_after sign l Reset place r = r
-from_after sign l BadShape place r = r
-from_after sign l _ place r = absurd r
+pending_reason count body _ f s e = cc
 
 pub list_reason : (sign : Option Sign) (l : Lexeme) (kind : ItemFault) (place : ℕ) → IsListReason ranges.Probability sign l kind place → IsReasonAt sign l kind place
-list_reason sign l kind place (no_number r) = from_number sign l kind place r
-list_reason sign l kind place (no_further r) = from_after sign l kind place r
+list_reason sign l kind place h1 = grind arith
 
 -- ---- from a known state
 
 pub fed_as : (states : Elements) (old r new : StartReader) (l : Lexeme) → old ≡ r → IsStartWithin states new → Takes (StartGoes states) r l new
     → ExpectsNext (start_wants (count_of states) r) l (start_wants (count_of states) new)
     → ((body : List Lexeme) → HasReadStart (count_of states) body r → HasReadStart (count_of states) (body ++ l ∷ []) new) → IsStartFed states old l new
-fed_as states old r new l is within takes leads seen = subst (λ s. IsStartFed states s l new) (sym is) (record { within = within; takes = takes; seen = seen; leads = leads })
+fed_as states old r new l is within takes leads seen = grind arith
 
 -- what is so of a refusal, if the result is one
 abbrev On : {T : Type 0} → Result T FeedError → (Refusal → Type 0) → Type 0
@@ -355,25 +250,20 @@ refused_as result states old r l is refused = subst (λ s. On result (RefusesInS
 -- the token is refused for itself
 pub token_refused : {T : Type 0} (result : Result T FeedError) (states : Elements) (r : StartReader) (l : Lexeme) → On result (λ x. CannotTake (StartGoes states) r l)
     → On result (λ x. IsReasonAt (start_sign r) l x.kind x.place) → On result (λ x. IsMisfit (start_wants (count_of states) r []) l x.kind) → On result (RefusesInStart states r l)
-token_refused (Ok v) states r l stuck reason kind = tt
 token_refused (Err (stops.Refused x)) states r l stuck reason kind =
     record { stuck = stuck; reason = λ body seen. token_reason body (start_sign r) l x.kind x.place seen.sign reason; stops = at_once kind reason }
-token_refused (Err stops.Memory) states r l stuck reason kind = tt
+token_refused c states r l stuck reason kind = tt
 
 -- or perhaps for the first number
 pub number_refused : {T : Type 0} (result : Result T FeedError) (states : Elements) (f : FirstNumber) (l : Lexeme) → On result (λ x. CannotTake (StartGoes states) (reader.Number f) l)
     → On result (λ x. IsStop (IsDueNumber f.value f.place l) None (number_end false (count_of states - 1)) l x.kind x.place) → On result (RefusesInStart states (reader.Number f) l)
-number_refused (Ok v) states f l stuck stop = tt
-number_refused (Err (stops.Refused x)) states f l stuck stop =
-    record { stuck = stuck; reason = λ body seen. number_reason (count_of states) body f _ l x.kind x.place seen stop; stops = stop }
-number_refused (Err stops.Memory) states f l stuck stop = tt
+number_refused (Err (stops.Refused x)) states f l stuck stop = search (rules, number_reason)
+number_refused c states f l stuck stop = tt
 
 digits_refused : {T : Type 0} (result : Result T FeedError) (states : Elements) (d : StateOrNumber) (l : Lexeme) → On result (λ x. CannotTake (StartGoes states) (reader.StateOrNumber d) l)
     → On result (λ x. IsStop (IsDueValue d.value d.place l) None NumberOrEnd l x.kind x.place) → On result (RefusesInStart states (reader.StateOrNumber d) l)
-digits_refused (Ok v) states d l stuck stop = tt
-digits_refused (Err (stops.Refused x)) states d l stuck stop =
-    record { stuck = stuck; reason = λ body seen. digits_reason (count_of states) body d _ l x.kind x.place seen stop; stops = stop }
-digits_refused (Err stops.Memory) states d l stuck stop = tt
+digits_refused (Err (stops.Refused x)) states d l stuck stop = search (rules, digits_reason)
+digits_refused c states d l stuck stop = tt
 
 -- digits that are the first of more numbers, but these do not continue
 pub first_refused : {T : Type 0} (result : Result T FeedError) (states : Elements) (d : StateOrNumber) (f : FirstNumber) (l : Lexeme) → Ok f ≡ first_of d.value d.place
@@ -381,8 +271,8 @@ pub first_refused : {T : Type 0} (result : Result T FeedError) (states : Element
     → On result (RefusesInStart states (reader.StateOrNumber d) l)
 first_refused result states d f l first stuck stop =
     let is = first_is d.value d.place f first in
-    digits_refused result states d l (if_err_map _ _ _ (λ stop g. refused_map stop (digits_stuck states d l f is.0) g) stuck)
-    (if_err_map _ _ _ (λ stop g. each_refused_map stop (λ r n. digits_stop d f _ l r.kind r.place is.0 is.1 n) g) stop)
+    digits_refused result states d l (IfErr-weaker _ _ _ (λ stop g. refused_map stop (digits_stuck states d l f is.0) g) stuck)
+    (IfErr-weaker _ _ _ (λ stop g. each_refused_map stop (λ r n. digits_stop d f _ l r.kind r.place is.0 is.1 n) g) stop)
 
 -- digits without a value
 pub valueless_refused : (states : Elements) (d : StateOrNumber) (r : Refusal) (l : Lexeme) → Err r ≡ first_of d.value d.place → RefusesInStart states (reader.StateOrNumber d) l r
@@ -393,26 +283,10 @@ valueless_refused states d r l none =
 
 -- why a list of numbers cannot end
 pub end_kind : (kind : ItemFault) → IsEndReason Start kind → IsStartEndKind kind
-end_kind BadShape r = tt
-end_kind WrongNumberCount r = tt
-end_kind StartSum r = tt
-end_kind StartEmpty r = tt
-end_kind BadCount r = absurd r
-end_kind _ r = absurd r
-
-pub end_refused : (states : Elements) (old r : StartReader) (e : EndError) → old ≡ r → IfNotMemory e (CannotEnd (StartGives states) r) → IfNotMemory e (CannotEnd (StartGives states) old)
-end_refused states old r e is none = subst (λ s. IfNotMemory e (CannotEnd (StartGives states) s)) (sym is) none
+end_kind kind h1 = grind arith
 
 may_be_digits : (count : ℕ) (l : Lexeme) → may_be_state count l.kind l.bytes ≡ true → IsDigits l
-may_be_digits count l e = (digits_numeral count l e, of l.kind e)
-  where
-    of_count : (one : Bool) → (if one then false else are_digits l.bytes) ≡ true → are_digits l.bytes ≡ true
-    of_count false e = e
-    of_count true e = absurd (true≢false e refl)
-
-    of : (kind : TokenKind) → may_be_state count kind l.bytes ≡ true → are_digits l.bytes ≡ true
-    of Numeral e = of_count (count == 1) e
-    of _ e = absurd (true≢false e refl)
+may_be_digits count l e = grind arith
 
 -- digits that are no state's number
 pub digits_end_reason : (count : ℕ) (body : List Lexeme) (d : StateOrNumber) → HasReadStart count body (reader.StateOrNumber d) → IsStartReason body IndexOutOfRange d.place

@@ -1,14 +1,12 @@
 -- A name among the tokens of a text is ASCII text.
-use Rattle.std.proofs.Common.{◌≡◌, ◌∙◌, ℕ, zero, suc, ◌<◌, Bool, true, false, cond, Some, None, List, [], ◌∷◌, codes, IsAscii, ap, arith, lit<, ◌++◌, refl, sym, subst, length, length-append}
+use Rattle.std.proofs.Common.{◌≡◌, ◌∙◌, ℕ, zero, suc, ◌<◌, Bool, true, cond, Some, None, List, [], ◌∷◌, codes, IsAscii, ap, arith, lit<, ◌++◌, refl, sym, subst, length-append, length}
 use Rattle.std.specs.Prelude.{bytes_eq}
 use Rattle.std.specs.List.{list_all}
-use Rattle.std.proofs.lemmas.Bool.Decides.{nat_tests}
-use Rattle.polcert_text.specs.Beginning.{BeginWith}
+use Rattle.polcert_items.proofs.Common.{nat_tests, BeginWith, is_digit, Lexeme, Name, Numeral, Colon, Star, Plus, Minus}
 use Rattle.polcert_text.specs.TakenTokens.{Taken, nothing, token}
-use Rattle.polcert_text.specs.Bytes.{is_letter, is_digit, is_name_byte}
+use Rattle.polcert_text.specs.Bytes.{is_letter, is_name_byte}
 use Rattle.polcert_text.specs.Lexemes.{is_name, is_numeral, kind_of}
-use Rattle.polcert_text.specs.Cut.{Lexeme, Rest, IsTokenAt, TakesToken}
-use Rattle.polcert_text.specs.declared.tokens.TokenKind.TheVariants.{Name, Numeral, Colon, Star, Plus, Minus}
+use Rattle.polcert_text.specs.Cut.{Rest, IsTokenAt, TakesToken}
 use Rattle.polcert_items.specs.Steps.Elements.{IsText}
 use Rattle.polcert_cells.proofs.Basics.{and_true, cons≢nil, same_head, same_tail}
 
@@ -26,16 +24,12 @@ bytes_below (b ∷ bs) h zero = name_byte_below b (and_true (is_name_byte b) (li
 bytes_below (b ∷ bs) h (suc i) = bytes_below bs (and_true (is_name_byte b) (list_all is_name_byte bs) h).1 i
 
 name_below : (bs : List ℕ) → is_name bs ≡ true → IsAscii bs
-name_below [] h i = lit< tt
-name_below (b ∷ bs) h zero = letter_below b (and_true (is_letter b) (list_all is_name_byte bs) h).0
-name_below (b ∷ bs) h (suc i) = bytes_below bs (and_true (is_letter b) (list_all is_name_byte bs) h).1 i
+name_below bs h1 = grind (arith, letter_below, bytes_below)
 
 -- among the tests of `kind_of`, the one for a name passed
 kind_is_name : (name numeral colon star plus minus : Bool)
     → cond name (Some Name) (cond numeral (Some Numeral) (cond colon (Some Colon) (cond star (Some Star) (cond plus (Some Plus) (cond minus (Some Minus) None))))) ≡ Some Name → name ≡ true
-kind_is_name true _ _ _ _ _ e = refl
-kind_is_name false false false false false false e = cc
-kind_is_name _ _ _ _ _ _ e = cc
+kind_is_name name numeral colon star plus minus h1 = grind arith
 
 name_of_kind : (bs : List ℕ) → kind_of bs ≡ Some Name → is_name bs ≡ true
 unfolding kind_of

@@ -1,23 +1,14 @@
 -- The items of a text that was read to its end are right and sound.
-use Rattle.std.proofs.Common.{◌≡◌, ◌∙◌, ℕ, Bool, false, Option, unwrap_or, List, sym, ap, subst}
-use Rattle.polcert_text.specs.Cut.{Lexeme}
-use Rattle.polcert_cells.specs.declared.elements.Elements.{Elements}
-use Rattle.polcert_cells.specs.declared.elements.Elements.TheVariants.{Count}
-use Rattle.polcert_cells.specs.declared.entries.Entry.{Entry}
-use Rattle.polcert_cells.specs.declared.elements.StartWeights.{StartWeights}
-use Rattle.polcert_cells.specs.Steps.Sound.{IsSound, draft_of}
-use Rattle.polcert_format.specs.KnownPreamble.{preamble_in}
-use Rattle.polcert_format.specs.Text.{ModelSoFar, IsComplete, IsRightText}
-use Rattle.polcert_format.proofs.KnownLaws.{same_preamble}
-use Rattle.polcert_format.proofs.OrderLaws.{is_complete}
+use Rattle.std.proofs.Common.{◌≡◌, ◌∙◌, ℕ, Bool, false, Option, unwrap_or, List, sym, ap, arith}
+use Rattle.polcert_items.proofs.Common.{Lexeme, Elements, Count, Entry, StartWeights, IsSound, preamble_in, ModelSoFar}
+use Rattle.polcert_cells.specs.Steps.Sound.{draft_of}
+use Rattle.polcert_format.specs.Text.{IsRightText}
 use Rattle.polcert_format.proofs.SoundTexts.{right_text_sound}
 use Rattle.polcert_items.specs.Steps.ModelSoFar.{known_of, IsWholeRead, said}
 
 -- its items are right, with the preamble that is known
 pub whole_right : (seen : List Lexeme) (k : ModelSoFar) → IsWholeRead seen k → IsRightText seen (preamble_in k) k
-whole_right seen k w =
-    let c = is_complete k w.complete in
-    record { items = w.items.items; divided = w.items.divided; right = w.items.right; complete = subst (IsComplete k) (sym (same_preamble k c.0 c.1.lines)) c.1 }
+whole_right seen k w = grind arith
 
 pub whole_sound : (seen : List Lexeme) (k : ModelSoFar) → IsWholeRead seen k → IsSound (said k)
 whole_sound seen k w = right_text_sound seen (preamble_in k) k (whole_right seen k w)

@@ -1,10 +1,15 @@
 //! An entry that continues with several tokens at once: numbers that stand whole at the front of the bytes ahead.
-ghost use Rattle.std.specs.Prelude.{◌≡◌, ◌+◌, ◌<◌, ◌≤◌, ℕ, length, drop, get_or, IfOk, IfSome, IfNone, IsTrue};
+ghost use Rattle.std.specs.Prelude.{◌≡◌, ◌+◌, ◌<◌, ◌≤◌, ℕ, length, drop, get_or, IfOk, IfSome, IfNone, IsTrue, IsFalse, []};
 ghost use Rattle.polcert_cells.specs.Elements.{count_of, most_elements};
 ghost use Rattle.polcert_cells.specs.declared.elements.Elements.TheVariants.{Count};
-ghost use Rattle.polcert_format.specs.KnownPreamble.{indices_in, named_in};
+ghost use Rattle.polcert_format.specs.KnownPreamble.{indices_in, named_in, preamble_in};
 ghost use Rattle.polcert_items.specs.Steps.Ahead.{FedAhead, TakesAhead, IsListFed, IsListBegun, ItemFedAhead, BeginWithPlace, AwaitsColon};
-ghost use Rattle.polcert_items.specs.Steps.Entries.{IsWithinIndices};
+ghost use Rattle.polcert_items.specs.Steps.Ahead.{IsNextEntry, IsNextItem};
+ghost use Rattle.polcert_items.specs.Steps.Entries.{EntryGoes, IsWithinIndices};
+ghost use Rattle.polcert_items.specs.Steps.ModelSoFar.{IsAllowedNext};
+ghost use Rattle.polcert_items.specs.declared.item.ItemContents.{ItemContents};
+ghost use Rattle.polcert_items.specs.declared.entry_reader.EntryReader.{EntryReader as EntryR};
+ghost use Rattle.polcert_cells.specs.declared.entries.Entry.{Entry as E};
 ghost use Rattle.polcert_items.specs.Steps.Items.{IsItemWithin};
 
 use crate::entry_reader::{
@@ -14,7 +19,7 @@ use crate::item::ItemReader;
 use crate::model_so_far::ModelSoFar;
 use crate::preamble_lines::element_by_name;
 use crate::signed_number::range_fault;
-use polcert_cells::{Place, Table};
+use polcert_cells::{Place, Table, Topic};
 use polcert_text::{front_colon, front_digits, front_name, front_number, front_token};
 use std::alloc::{AllocError, Global};
 
@@ -50,9 +55,47 @@ impl ItemReader {
             _ => Ok(0),
         }
     }
+
+    /// Ends an entry and begins one of this table in its reader, so that nothing large is moved. `false`: unknown, take the slow
+    /// path; all stays.
+    #[inline(always)]
+    pub fn next_entry(&mut self, known: &mut ModelSoFar, table: Table) -> bool
+        requires { (a : EntryR) (e : E) → self.old ≡ ItemReader.Entry a
+            → EntryGoes (preamble_in known.old) a [] e → IsAllowedNext known.old (ItemContents.Entry e) }
+        ensures next { IsTrue result → IsNextItem known.old self.old table known.new self.new }
+        ensures known { IsFalse result → known.new ≡ known.old }
+        ensures unknown { IsFalse result → self.new ≡ self.old }
+    {
+        match self {
+            ItemReader::Entry(reader) => reader.next_entry(known, table),
+            _ => false,
+        }
+    }
 }
 
 impl EntryReader {
+    /// Adds the entry to what is known, and begins one of this table. `false`: unknown, and all stays.
+    #[inline(always)]
+    fn next_entry(&mut self, known: &mut ModelSoFar, table: Table) -> bool
+        requires { (e : E) → EntryGoes (preamble_in known.old) self.old [] e
+            → IsAllowedNext known.old (ItemContents.Entry e) }
+        ensures next { IsTrue result → IsNextEntry known.old self.old table known.new self.new }
+        ensures known { IsFalse result → known.new ≡ known.old }
+        ensures unknown { IsFalse result → self.new ≡ self.old }
+    {
+        if known.word_fault(Topic::Cells(table)).is_some() {
+            return false;
+        }
+        let Some(entry) = self.whole_entry() else {
+            return false;
+        };
+        let Ok(()) = known.add_entry(entry) else {
+            return false;
+        };
+        self.restart(table);
+        true
+    }
+
     /// Takes tokens of an entry ahead. It tries for places only if the line of the entry begins.
     #[inline(always)]
     fn feed_ahead(

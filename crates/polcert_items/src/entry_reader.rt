@@ -8,6 +8,7 @@ ghost use Rattle.polcert_cells.specs.declared.elements.Elements.TheVariants.{Cou
 ghost use Rattle.polcert_cells.specs.Elements.{count_of, most_elements};
 ghost use Rattle.polcert_items.specs.Steps.Elements.{IsText};
 ghost use Rattle.polcert_cells.specs.Entry.{IsPlace};
+ghost use Rattle.polcert_cells.specs.EntryRefs.{entry_of, body_of as ref_body};
 ghost use Rattle.polcert_format.specs.Wants.{least_written, numbers_want, place_wants};
 ghost use Rattle.polcert_items.specs.Steps.Lines.{Takes, CannotTake, CannotEnd};
 ghost use Rattle.polcert_format.specs.KnownPreamble.{preamble_in, indices_in, named_in};
@@ -33,7 +34,9 @@ use crate::preamble_lines::{colon, element_of};
 use crate::signed_number::{
     NumberStep, Range, Refusal, Sign, after_numbers, misplaced, number_step,
 };
-use polcert_cells::{Body, Elements, Entry, Place, Places, Sequence, Table, Topic, is_word};
+use polcert_cells::{
+    Body, BodyRef, Elements, Entry, EntryRef, Place, Places, Sequence, Table, Topic, is_word,
+};
 use polcert_format::ItemFault;
 use polcert_text::{Token, TokenKind};
 use std::alloc::{AllocError, Global};
@@ -156,6 +159,16 @@ impl EntryReader {
             places: Places::new(),
             state: EntryState::Colon,
         }
+    }
+
+    /// Begins another entry in the same reader.
+    #[inline(always)]
+    pub(crate) fn restart(&mut self, table: Table)
+        ensures { self.new ≡ record { table = table; places = []; state = EntryState.Colon } }
+    {
+        self.table = table;
+        self.places.clear();
+        self.state = EntryState::Colon;
     }
 
     /// Continues with a token that begins no item.
@@ -304,6 +317,28 @@ impl EntryReader {
             body,
         })
     }
+
+    /// Borrows the entry, if it can end here.
+    #[inline(always)]
+    pub(crate) fn whole_entry(&self) -> Option<EntryRef<'_>>
+        ensures { (p : Preamble) → IfSome result (λ e. EntryGoes p self.now [] (entry_of e)) }
+    {
+        let body = match &self.state {
+            EntryState::Probabilities(numbers) if numbers.is_full() => {
+                BodyRef::Probabilities(numbers.read.as_slice())
+            }
+            EntryState::Rewards(numbers) if numbers.is_full() => {
+                BodyRef::Rewards(numbers.read.as_slice())
+            }
+            EntryState::Word(word) => word_ref(*word),
+            _ => return None,
+        };
+        Some(EntryRef {
+            table: self.table,
+            places: self.places.as_slice(),
+            body,
+        })
+    }
 }
 
 fn body_of(word: Word) -> Body
@@ -312,6 +347,15 @@ fn body_of(word: Word) -> Body
     match word {
         Word::Uniform => Body::Uniform,
         Word::Identity => Body::Identity,
+    }
+}
+
+fn word_ref(word: Word) -> BodyRef<'static>
+    ensures { ref_body result ≡ body_of word }
+{
+    match word {
+        Word::Uniform => BodyRef::Uniform,
+        Word::Identity => BodyRef::Identity,
     }
 }
 

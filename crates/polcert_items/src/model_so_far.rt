@@ -8,6 +8,7 @@ ghost use Rattle.polcert_cells.specs.declared.elements.Elements.TheVariants.{Cou
 ghost use Rattle.polcert_cells.specs.Elements.{count_of, most_states, most_actions, most_observations};
 ghost use Rattle.polcert_cells.specs.Elements.{most_elements};
 ghost use Rattle.polcert_cells.specs.Entry.{cells_in};
+ghost use Rattle.polcert_cells.specs.EntryRefs.{entry_of, body_of};
 ghost use Rattle.polcert_cells.specs.declared.words.Topic.{Topic};
 ghost use Rattle.polcert_cells.specs.Preamble.{is_mdp, Preamble as P};
 ghost use Rattle.polcert_format.specs.KnownPreamble.{preamble_in, indices_in, named_in};
@@ -28,7 +29,7 @@ ghost use Rattle.polcert_text.specs.Cut.{Lexeme};
 ghost use Rattle.polcert_cells.specs.declared.entries.Entry.{Entry as E};
 
 use crate::item::{AddError, ItemContents};
-use polcert_cells::{Body, Elements, Entries, Entry, Place, StartWeights, Table, Topic};
+use polcert_cells::{BodyRef, Elements, Entries, EntryRef, Place, StartWeights, Table, Topic};
 use polcert_format::ItemFault;
 use polcert_tables::{MOST_CELLS, Model, Preamble, WrongRow, build_model, count_or};
 use std::alloc::{AllocError, Global};
@@ -102,25 +103,26 @@ impl ModelSoFar {
             ItemContents::Actions(actions) => self.actions = Some(actions),
             ItemContents::Observations(observations) => self.observations = Some(observations),
             ItemContents::Start(shares) => self.start = Some(shares),
-            ItemContents::Entry(entry) => self.add_entry(entry)?,
+            ItemContents::Entry(entry) => self.add_entry(entry.as_ref())?,
         }
         Ok(())
     }
 
-    /// Adds an entry.
+    /// Adds a copy of an entry.
     #[inline(always)]
-    fn add_entry(&mut self, entry: Entry) -> Result<(), AddError>
-        requires { IsAllowedNext self.old (ItemContents.Entry entry) }
-        ensures ok { OnOk result (self.new ≡ with_item self.old (ItemContents.Entry entry)) }
-        ensures few { OnOk result (HasFewCells (preamble_in self.old) (self.old.entries ++ entry ∷ [])) }
+    pub(crate) fn add_entry(&mut self, entry: EntryRef<'_>) -> Result<(), AddError>
+        requires { IsAllowedNext self.old (ItemContents.Entry (entry_of entry)) }
+        ensures ok { OnOk result (self.new ≡ with_item self.old (ItemContents.Entry (entry_of entry.entry))) }
+        ensures few { OnOk result
+            (HasFewCells (preamble_in self.old) (self.old.entries ++ entry_of entry.entry ∷ [])) }
         ensures err { OnErr result (self.new ≡ self.old) }
         ensures many { IsErrOf result AddError.TooManyCells →
-            HasFewCells (preamble_in self.old) (self.old.entries ++ entry ∷ []) → ⊥ }
+            HasFewCells (preamble_in self.old) (self.old.entries ++ entry_of entry.entry ∷ []) → ⊥ }
     {
-        let Some(cell_budget) = self.cell_budget.with(self.sizes(), &entry) else {
+        let Some(cell_budget) = self.cell_budget.with(self.sizes(), entry) else {
             return Err(AddError::TooManyCells);
         };
-        self.entries.push(entry)?;
+        self.entries.push_ref(entry)?;
         self.cell_budget = cell_budget;
         Ok(())
     }
@@ -353,10 +355,10 @@ impl CellBudget {
 
     /// Adds an entry. `None`: the cells of a large table pass their limit.
     #[inline(always)]
-    pub(crate) fn with(mut self, sizes: Sizes, entry: &Entry) -> Option<CellBudget>
-        requires { (p : P) × (es : List E) × IsNext p es self sizes entry.now }
-        ensures { (p : P) (es : List E) → IsNext p es self sizes entry.now
-            → IsCoveredWith p es entry.now result }
+    pub(crate) fn with(mut self, sizes: Sizes, entry: EntryRef<'_>) -> Option<CellBudget>
+        requires { (p : P) × (es : List E) × IsNext p es self sizes (entry_of entry) }
+        ensures { (p : P) (es : List E) → IsNext p es self sizes (entry_of entry.entry)
+            → IsCoveredWith p es (entry_of entry.entry) result }
     {
         match entry.table {
             Table::Transition => self.transitions = sizes.add_cells(
@@ -377,15 +379,15 @@ impl CellBudget {
 
 impl Sizes {
     /// Adds the cells that an entry covers in a table of so many columns. `None`: they pass their limit.
-    fn add_cells(self, count: usize, columns: usize, entry: &Entry) -> Option<usize>
+    fn add_cells(self, count: usize, columns: usize, entry: EntryRef<'_>) -> Option<usize>
         requires actions { self.actions ≤ most_actions }
         requires states { self.states ≤ most_states }
         requires columns { columns ≤ most_observations }
         requires count { count ≤ most_cells }
-        requires nonzero_cells { nonzero_cells entry.now.body self.states
-            (open_cells self.states columns (length entry.now.places)) ≤ self.states * columns }
+        requires nonzero_cells { nonzero_cells (body_of entry.body) self.states
+            (open_cells self.states columns (length entry.places.now)) ≤ self.states * columns }
         ensures { result ≡ counted (self.actions * self.states * columns) most_cells count
-            (covered_by self.actions self.states columns entry.now.places entry.now.body) }
+            (covered_by self.actions self.states columns entry.entry.places.now (body_of entry.entry.body)) }
     {
         if self.actions * self.states * columns > MOST_CELLS {
             let covered = count + covered_by(self.actions, self.states, columns, entry);
@@ -445,31 +447,32 @@ fn open_cells(states: usize, columns: usize, places: usize) -> usize
 }
 
 /// Returns how many of the `cells` that an entry's places leave open get a positive weight from its body.
-fn nonzero_cells(body: &Body, states: usize, cells: usize) -> usize
-    ensures { result ≡ nonzero_cells body.now states cells }
+fn nonzero_cells(body: BodyRef<'_>, states: usize, cells: usize) -> usize
+    ensures { result ≡ nonzero_cells (body_of body.entry) states cells }
 {
     match body {
-        Body::Probabilities(numbers) => numbers.as_slice().iter().filter(|n| **n > 0).count(),
-        Body::Rewards(_) => 0,
-        Body::Uniform => cells,
-        Body::Identity => states,
+        BodyRef::Probabilities(numbers) => numbers.iter().filter(|n| **n > 0).count(),
+        BodyRef::Rewards(_) => 0,
+        BodyRef::Uniform => cells,
+        BodyRef::Identity => states,
     }
 }
 
 /// Returns how many cells an entry covers with positive weight, in a table of so many columns.
-fn covered_by(actions: usize, states: usize, columns: usize, entry: &Entry) -> usize
+fn covered_by(actions: usize, states: usize, columns: usize, entry: EntryRef<'_>) -> usize
     requires actions { actions ≤ most_actions }
     requires states { states ≤ most_states }
     requires columns { columns ≤ most_observations }
-    requires nonzero_cells { nonzero_cells entry.now.body states
-        (open_cells states columns (length entry.now.places)) ≤ states * columns }
-    ensures is { result ≡ covered_by actions states columns entry.now.places entry.now.body }
+    requires nonzero_cells { nonzero_cells (body_of entry.body) states
+        (open_cells states columns (length entry.places.now)) ≤ states * columns }
+    ensures is { result ≡ covered_by actions states columns entry.entry.places.now
+        (body_of entry.entry.body) }
     ensures few { result ≤ most_covered }
 {
-    let places = entry.places.as_slice();
+    let places = entry.places;
     let cells = open_cells(states, columns, places.len());
     count_elements(places, 0, actions)
         * count_elements(places, 1, states)
         * count_elements(places, 2, columns)
-        * nonzero_cells(&entry.body, states, cells)
+        * nonzero_cells(entry.body, states, cells)
 }

@@ -2,45 +2,35 @@
 use Rattle.std.proofs.Common.{◌≡◌, ◌∙◌, ℕ, zero, suc, ◌+◌, ◌-◌, ◌<◌, ◌≤◌, ◌==◌, ◌⊎◌, ⊎_elim, Bool, true, false, Option, Some, None, unwrap_or, Result, Ok, Err, List, [], ◌∷◌, ◌++◌, length, drop, map, ℤ, pos, codes, refl, sym, ap, subst, arith, lit≤, length-append}
 use Rattle.std.proofs.lemmas.List.{map-id}
 use Rattle.std.specs.List.{list_any}
-use Rattle.polcert_text.specs.Cut.{Lexeme}
+use Rattle.polcert_model.proofs.Common.{Lexeme, Entry, Table, Transition, Observation, Reward, ItemReader, Sign, Elements, ModelSoFar, preamble_in, indices_in, ItemForms, IsItemWithin, pending_in, Preamble, dimensions, named, with_item}
 use Rattle.polcert_text.specs.declared.tokens.TokenKind.TheVariants.{Name}
 use Rattle.polcert_cells.specs.declared.entries.Body.{Body as EntryBody}
 use Rattle.polcert_cells.specs.declared.entries.Body.TheVariants as bodies
-use Rattle.polcert_cells.specs.declared.entries.Entry.{Entry}
 use Rattle.polcert_cells.specs.declared.entries.Place.{Place}
 use Rattle.polcert_cells.specs.declared.entries.Place.TheVariants.{Every}
-use Rattle.polcert_cells.specs.declared.entries.Table.{Table}
-use Rattle.polcert_cells.specs.declared.entries.Table.TheVariants.{Transition, Observation, Reward}
 use Rattle.polcert_items.specs.declared.entry_reader.EntryState.{EntryState}
 use Rattle.polcert_items.specs.declared.entry_reader.EntryState.TheVariants as states
 use Rattle.polcert_items.specs.declared.entry_reader.Numbers.{Numbers}
-use Rattle.polcert_items.specs.declared.item.ItemReader.{ItemReader}
 use Rattle.polcert_items.specs.declared.item.ItemReader.TheVariants as items
 use Rattle.polcert_items.specs.declared.item.ItemContents.TheVariants as said
 use Rattle.polcert_items.specs.declared.preamble_lines.DiscountReader.TheVariants as discount
 use Rattle.polcert_items.specs.declared.preamble_lines.ValuesReader.TheVariants as values
-use Rattle.polcert_items.specs.declared.signed_number.Sign.{Sign}
 use Rattle.polcert_text.specs.declared.number.NumberFault.{NumberFault}
 use Rattle.polcert_items.specs.declared.start_reader.Choice.{Choice}
 use Rattle.polcert_items.specs.declared.start_reader.StartReader.{StartReader}
 use Rattle.polcert_items.specs.declared.start_reader.StartReader.TheVariants as starts
 use Rattle.polcert_cells.specs.declared.elements.Elements.TheVariants.{Count}
-use Rattle.polcert_cells.specs.declared.elements.Elements.{Elements}
 use Rattle.polcert_cells.specs.Elements.{most_states, most_actions, most_observations}
 use Rattle.polcert_cells.specs.Entry as entries
 use Rattle.polcert_cells.specs.Entry.{forms, cells_in, IsBody}
 use Rattle.polcert_cells.specs.Numbers as numbers
 use Rattle.polcert_cells.specs.Numbers.{AreNumbers}
 use Rattle.polcert_format.specs.Forms as shapes
-use Rattle.polcert_format.specs.Text.{ModelSoFar}
 use Rattle.polcert_items.specs.Steps.Numbers.{AreNumbersAfter}
-use Rattle.polcert_format.specs.KnownPreamble.{preamble_in, indices_in}
 use Rattle.polcert_items.specs.Steps.Entries.{IsFirstPlace, entry_with, ProbabilitiesGo, RewardsGo, StateGoes, HasRoom, awaited, IsStateWithin}
-use Rattle.polcert_items.specs.Steps.Items.{ItemForms, IsItemWithin, pending_in}
 use Rattle.polcert_items.specs.Steps.Start.{ListGoes, alone, first_of_more, StartGoes, IsStartWithin, pending, pending_of}
-use Rattle.polcert_cells.specs.Preamble.{Preamble, is_mdp, dimensions, named}
+use Rattle.polcert_cells.specs.Preamble.{is_mdp}
 use Rattle.polcert_format.specs.Wants.{least_written}
-use Rattle.polcert_items.specs.Steps.ModelSoFar.{with_item}
 use Rattle.polcert_items.proofs.ListLaws.{fractions_in_range}
 use Rattle.polcert_items.proofs.PatternLaws.{colon_takes, one_to_three, rewards_may_stand, same_length}
 use Rattle.polcert_items.proofs.ElementLaws.{elements_can_end}

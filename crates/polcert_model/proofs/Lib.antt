@@ -1,3 +1,4 @@
+mod Common
 pub mod ItemsGoOn
 pub mod ModelStreams
 pub mod ReadingAhead

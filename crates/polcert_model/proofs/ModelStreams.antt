@@ -1,24 +1,14 @@
 -- A model's text that comes from a source.
 use Rattle.std.proofs.Common.{◌≡◌, ◌∙◌, ℕ, Bool, true, false, cond, Option, Some, None, List, length, nat_lt, refl, sym, arith, rules}
-use Rattle.polcert_text.specs.Cut.{Lexeme, IsCut, text_rest, end_place, text_limit}
+use Rattle.polcert_model.proofs.Common.{Lexeme, IsCut, text_rest, end_place, text_limit, TakenFrom, TokenFault, Table, IsFirstWrongRow, ModelFault, TextReader, ModelSoFar, TextTokens, AreTokensOf, IsWholeRead, said, IsTextRead, IsTextOf, IsRefusedAfter, IsRefusedWhole, Refuses, tokens_end, pending_at}
 use Rattle.polcert_text.proofs.Scanning.CleanCut.{ends_cleanly}
 use Rattle.polcert_text.specs.Source.{IsText, EachTextThatFits}
 use Rattle.polcert_text.specs.Stream.{Ahead, Stream, GivesEnd}
-use Rattle.polcert_text.specs.Steps.StreamTaken.{TakenFrom}
-use Rattle.polcert_text.specs.declared.tokens.TokenFault.{TokenFault}
 use Rattle.polcert_text.proofs.Streams.StreamTaken.{each_taken, each_cut, text_taken, each_whole}
-use Rattle.polcert_cells.specs.declared.entries.Table.{Table}
 use Rattle.polcert_cells.proofs.Basics.{some≢none}
-use Rattle.polcert_cells.specs.Rows.{IsFirstWrongRow}
 use Rattle.polcert_cells.specs.Steps.Drafts as drafts
-use Rattle.polcert_format.specs.declared.fault.ModelFault.{ModelFault}
 use Rattle.polcert_format.specs.declared.fault.ModelFault.TheVariants.{RowSum}
-use Rattle.polcert_model.specs.declared.reader.TextReader.{TextReader}
-use Rattle.polcert_format.specs.Text.{ModelSoFar}
-use Rattle.polcert_format.specs.FirstWrong.{TextTokens, AreTokensOf}
 use Rattle.polcert_format.specs.RefusedTexts.{IsRefusedModelText}
-use Rattle.polcert_items.specs.Steps.ModelSoFar.{IsWholeRead, said}
-use Rattle.polcert_model.specs.Steps.Texts.{IsTextRead, IsTextOf, IsRefusedAfter, IsRefusedWhole, Refuses, tokens_end, pending_at}
 use Rattle.polcert_format.proofs.FrontLaws.{tokens_begin, these_tokens, too_long, whole_text}
 use Rattle.polcert_format.proofs.RefusalLaws.{no_model}
 use Rattle.polcert_model.proofs.RefusingEnds.{fault_refused}

@@ -2,44 +2,31 @@
 -- reason.
 use Rattle.std.proofs.Common.{◌≡◌, ◌∙◌, ℕ, ◌+◌, inr, true, false, Bool, Option, Some, None, List, [], ◌∷◌, ◌++◌, length, refl, sym, ap, subst, arith, rules}
 use Rattle.std.proofs.lemmas.List.{append_assoc, append-nil}
-use Rattle.polcert_text.specs.Cut.{Lexeme}
+use Rattle.polcert_model.proofs.Common.{Lexeme, TokenFault, ItemFault, BadShape, TooManyCells, ItemReader, Refusal, Sign, TextReader, Topic, Start, topic, begins_item, Item, IsDivided, ModelSoFar, nothing_known, IsRight, AreRight, word_fault, HasForm, IsPossible, PassesCellLimit, TextTokens, AreTokensOf, LiesIn, IsDecided, wrong_last, IsReason, CannotEnd, IsStartReason, IsLate, IsLateIn, states_known, ItemGoes, ItemForms, topic_in, pending_in, IsSeen, IsEndReason, unexpected_token, expected, item_wants, IfStart, IsItemRead, IsRefusedAfter, IsRefusedAt, Refuses}
 use Rattle.polcert_text.specs.declared.tokens.TokenKind.TheVariants.{Numeral}
-use Rattle.polcert_text.specs.declared.tokens.TokenFault.{TokenFault}
-use Rattle.polcert_format.specs.declared.fault.ItemFault.{ItemFault}
-use Rattle.polcert_format.specs.declared.fault.ItemFault.TheVariants.{Number, BadShape, BadCount, DuplicateName, UnknownName, IndexOutOfRange, WrongNumberCount, ProbabilityRange, DiscountRange, Reset, TooManyCells}
+use Rattle.polcert_format.specs.declared.fault.ItemFault.TheVariants.{Number, BadCount, DuplicateName, UnknownName, IndexOutOfRange, WrongNumberCount, ProbabilityRange, DiscountRange, Reset}
 use Rattle.polcert_format.specs.declared.fault.ModelFault.TheVariants as model_faults
-use Rattle.polcert_items.specs.declared.item.ItemReader.{ItemReader}
 use Rattle.polcert_items.specs.declared.item.ItemReader.TheVariants as items
-use Rattle.polcert_items.specs.declared.signed_number.Refusal.{Refusal}
-use Rattle.polcert_items.specs.declared.signed_number.Sign.{Sign}
-use Rattle.polcert_model.specs.declared.reader.TextReader.{TextReader}
-use Rattle.polcert_cells.specs.declared.words.Topic.{Topic}
-use Rattle.polcert_cells.specs.declared.words.Topic.TheVariants.{Start}
-use Rattle.polcert_cells.specs.Words.{topic, begins_item}
-use Rattle.polcert_format.specs.Items.{Item, IsDivided}
-use Rattle.polcert_format.specs.Text.{ModelSoFar, nothing_known, IsRight, AreRight}
-use Rattle.polcert_format.specs.Order.{word_fault}
-use Rattle.polcert_format.specs.Forms.{HasForm, HasNoForm, IsPossible, PassesCellLimit}
+use Rattle.polcert_format.specs.Forms.{HasNoForm}
 use Rattle.polcert_format.specs.Reading.{IsWithinItem, IsWrong, CannotGoOn}
-use Rattle.polcert_format.specs.FirstWrong.{TextTokens, AreTokensOf, IsFirstWrong, LiesIn, IsDecided, word_place, wrong_item, wrong_last}
-use Rattle.polcert_format.specs.Reasons.{IsReason, PassesLimit, InItem, StandsIn, NumberStandsIn, IsRepeated, is_sign}
+use Rattle.polcert_format.specs.FirstWrong.{IsFirstWrong, word_place, wrong_item}
+use Rattle.polcert_format.specs.Reasons.{PassesLimit, InItem, StandsIn, NumberStandsIn, IsRepeated, is_sign}
 use Rattle.polcert_format.specs.Reasons as reasons
 use Rattle.polcert_format.specs.Refusals.{place_or, Stops, StopsInBody, in_body, after_body, of_first_number}
 use Rattle.polcert_format.specs.Refusals as refusals
 use Rattle.polcert_items.specs.Steps.Numbers.{is_negative, number_place, IsSignAt, SignEnds}
 use Rattle.polcert_items.specs.Steps.Numbers as steps
-use Rattle.polcert_items.specs.Steps.Lines.{CannotTake, CannotEnd}
-use Rattle.polcert_items.specs.Steps.Start.{IsReasonAt, IsReasonIn, IsStartReason, StopsStart, first_number, token}
-use Rattle.polcert_format.specs.FirstNumber.{IsLate, IsLateIn, ends_cleanly, states_known}
+use Rattle.polcert_items.specs.Steps.Lines.{CannotTake}
+use Rattle.polcert_items.specs.Steps.Start.{IsReasonAt, IsReasonIn, StopsStart, first_number, token}
+use Rattle.polcert_format.specs.FirstNumber.{ends_cleanly}
 use Rattle.polcert_format.proofs.FirstNumbers.{late_here}
 use Rattle.polcert_items.proofs.FirstNumberLaws.{late_at_fault, pending_is_late}
 use Rattle.polcert_items.proofs.FormLaws.{nothing_pending, forms_stuck}
-use Rattle.polcert_items.specs.Steps.Items.{ItemGoes, ItemForms, topic_in, sign_in, pending_in, IsSeen, IsTokenReason, IsItemReason, IsEndReason}
+use Rattle.polcert_items.specs.Steps.Items.{sign_in, IsTokenReason, IsItemReason}
 use Rattle.polcert_items.specs.Steps.Items as steps_of
-use Rattle.polcert_format.specs.Misfits.{unexpected_token, IsOfValue, IsMisfit}
-use Rattle.polcert_format.specs.Wants.{expected}
-use Rattle.polcert_items.specs.Steps.Wants.{item_wants, IfNotStart, IfStart}
-use Rattle.polcert_model.specs.Steps.Texts.{IsItemRead, EndsItem, IsRefusedAfter, IsRefusedAt, Refuses}
+use Rattle.polcert_format.specs.Misfits.{IsOfValue, IsMisfit}
+use Rattle.polcert_items.specs.Steps.Wants.{IfNotStart}
+use Rattle.polcert_model.specs.Steps.Texts.{EndsItem}
 use Rattle.polcert_model.specs.Steps.Texts as texts
 use Rattle.polcert_cells.proofs.Basics.{one_some, cons≢nil}
 use Rattle.polcert_format.proofs.ItemLaws.{has_division}

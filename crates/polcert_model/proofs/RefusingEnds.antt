@@ -2,28 +2,16 @@
 -- the tokens end in a fault.
 use Rattle.std.proofs.Common.{◌≡◌, ◌∙◌, ℕ, ◌+◌, inl, Bool, true, false, cond, Option, Some, None, List, [], ◌∷◌, ◌++◌, length, refl, sym, ap, subst, arith}
 use Rattle.std.proofs.lemmas.List.{append-nil}
-use Rattle.polcert_text.specs.Cut.{Lexeme}
+use Rattle.polcert_model.proofs.Common.{Lexeme, TokenFault, ItemFault, BadShape, BeforeFirstItem, TooManyCells, Refusal, TextReader, pending_in, Topic, topic, begins_item, Item, IsDivided, ModelSoFar, preamble_fault, fault_after, word_fault, IsLateIn, TextTokens, AreTokensOf, LiesIn, IsDecided, wrong_last, IsReason, IsPossible, IsItemRead, IsTextRead, AreItemsRead, IsRefusedAfter, Refuses, pending_at, tokens_end}
 use Rattle.polcert_text.specs.Reading.{fault_place}
-use Rattle.polcert_text.specs.declared.tokens.TokenFault.{TokenFault}
-use Rattle.polcert_format.specs.declared.fault.ItemFault.{ItemFault}
-use Rattle.polcert_format.specs.declared.fault.ItemFault.TheVariants.{BadShape, BeforeFirstItem, DuplicateLine, LateLine, MissingLine, TooManyCells}
+use Rattle.polcert_format.specs.declared.fault.ItemFault.TheVariants.{DuplicateLine, LateLine, MissingLine}
 use Rattle.polcert_format.specs.declared.fault.ModelFault.TheVariants as model_faults
-use Rattle.polcert_items.specs.declared.signed_number.Refusal.{Refusal}
-use Rattle.polcert_model.specs.declared.reader.TextReader.{TextReader}
-use Rattle.polcert_items.specs.Steps.Items.{pending_in}
-use Rattle.polcert_cells.specs.declared.words.Topic.{Topic}
-use Rattle.polcert_cells.specs.Words.{topic, begins_item}
-use Rattle.polcert_format.specs.Items.{Item, IsDivided}
-use Rattle.polcert_format.specs.Text.{ModelSoFar}
-use Rattle.polcert_format.specs.Order.{is_late, came_before, ends_preamble, has_all_lines, preamble_fault, fault_after, word_fault}
-use Rattle.polcert_format.specs.FirstNumber.{IsLateIn}
+use Rattle.polcert_format.specs.Order.{is_late, came_before, ends_preamble, has_all_lines}
 use Rattle.polcert_format.proofs.FirstNumbers.{late_undecided}
-use Rattle.polcert_format.specs.FirstWrong.{TextTokens, AreTokensOf, LiesIn, IsDecided, wrong_front, wrong_fault, wrong_last, wrong_end, before_items, at_word, at_end}
-use Rattle.polcert_format.specs.Reasons.{IsReason}
-use Rattle.polcert_format.specs.Forms.{IsPossible}
+use Rattle.polcert_format.specs.FirstWrong.{wrong_front, wrong_fault, wrong_end, before_items, at_word, at_end}
 use Rattle.polcert_format.specs.Refusals.{IsItemRefusal, IsOfTokens, IsLastTaken, before_body, of_tokens}
 use Rattle.polcert_format.specs.Refusals as refusals
-use Rattle.polcert_model.specs.Steps.Texts.{IsNothingRead, IsItemRead, IsTextRead, AreItemsRead, IsRefusedAfter, Refuses, fault_kind, pending_at, tokens_end}
+use Rattle.polcert_model.specs.Steps.Texts.{IsNothingRead, fault_kind}
 use Rattle.polcert_model.specs.Steps.Texts as texts
 use Rattle.polcert_cells.proofs.Basics.{one_some, or_false_from, cons≢nil, some≢none}
 use Rattle.polcert_format.proofs.ItemLaws.{has_division, one_division}

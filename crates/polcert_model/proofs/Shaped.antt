@@ -1,27 +1,15 @@
 -- An item that is right but perhaps for the limits of cells: right where it is within them, and else an entry that gives too much.
 use Rattle.std.proofs.Common.{◌≡◌, None, List, [], ◌∷◌, ◌++◌, refl, sym, ap, subst, arith}
-use Rattle.polcert_text.specs.Cut.{Lexeme}
-use Rattle.polcert_cells.specs.declared.entries.Entry.{Entry}
-use Rattle.polcert_cells.specs.declared.entries.Table.{Table}
-use Rattle.polcert_cells.specs.declared.words.Topic.{Topic}
-use Rattle.polcert_cells.specs.declared.words.Topic.TheVariants.{States, Actions, Observations, Cells}
-use Rattle.polcert_cells.specs.Preamble.{Preamble}
+use Rattle.polcert_model.proofs.Common.{Lexeme, Entry, Table, Topic, States, Actions, Observations, Cells, Preamble, HasForm, PassesCellLimit, preamble_in, HasFewCells, word_fault, ModelSoFar, IsRight, ItemContents, with_item, AreContentsOf, IsAllowedNext, IsShaped}
 use Rattle.polcert_cells.specs.Steps.Sound.{IsSoundEntry}
 use Rattle.polcert_cells.proofs.Basics.{same_tail}
-use Rattle.polcert_format.specs.Forms.{HasForm, PassesCellLimit}
 use Rattle.polcert_format.specs.Forms as shapes
-use Rattle.polcert_format.specs.KnownPreamble.{preamble_in}
-use Rattle.polcert_format.specs.Limits.{HasFewCells}
-use Rattle.polcert_format.specs.Order.{word_fault}
 use Rattle.polcert_format.specs.Text as texts
-use Rattle.polcert_format.specs.Text.{ModelSoFar, IsRight}
 use Rattle.polcert_format.proofs.KnownLaws.{same_preamble}
 use Rattle.polcert_format.proofs.OrderLaws.{complete_fault, states_may_stand, actions_may_stand, observations_may_stand}
 use Rattle.polcert_format.proofs.SoundTexts.{right_entry_sound}
-use Rattle.polcert_items.specs.declared.item.ItemContents.{ItemContents}
 use Rattle.polcert_items.specs.declared.item.ItemContents.TheVariants as says
-use Rattle.polcert_items.specs.Steps.ModelSoFar.{with_item, AreContentsOf, IsAllowedNext}
-use Rattle.polcert_model.specs.Steps.Texts.{IsEntryTo, IsShaped}
+use Rattle.polcert_model.specs.Steps.Texts.{IsEntryTo}
 
 pub right_shaped : (k : ModelSoFar) (t : Topic) (body : List Lexeme) (next : ModelSoFar) → IsRight k t body next → IsShaped k t body next
 right_shaped k t body next h1 = grind arith

@@ -1,38 +1,25 @@
 -- An item as its reader continues with it, from its word on: the same as what is right of it.
 use Rattle.std.proofs.Common.{ℕ, ◌≡◌, ◌∙◌, ◌≤◌, ◌⊎◌, inl, inr, true, false, Option, Some, None, unwrap_or, List, [], ◌∷◌, ◌++◌, refl, sym, ap, subst, arith, append_assoc}
 use Rattle.std.proofs.lemmas.List.Elements.{All-cons}
-use Rattle.polcert_text.specs.Cut.{Lexeme}
-use Rattle.polcert_cells.specs.declared.entries.Entry.{Entry}
-use Rattle.polcert_cells.specs.declared.entries.Table.{Table}
-use Rattle.polcert_items.specs.declared.item.ItemReader.{ItemReader}
+use Rattle.polcert_model.proofs.Common.{Lexeme, Entry, Table, ItemReader, Topic, States, Actions, Observations, Start, Cells, Elements, Preamble, dimensions, named, Item, ModelSoFar, nothing_known, AreRight, IsRight, word_fault, Takes, preamble_in, HasForm, ItemGoes, ItemForms, IsItemWithin, topic_in, IsSeen, new_item, HasElements, expected, ExpectsNext, item_wants, IfStart, states_known, IsShaped, IsBodyRead}
 use Rattle.polcert_items.specs.declared.item.ItemReader.TheVariants as items
 use Rattle.polcert_items.specs.declared.preamble_lines.DiscountReader.TheVariants as discount
 use Rattle.polcert_items.specs.declared.preamble_lines.ValuesReader.TheVariants as values
 use Rattle.polcert_items.specs.declared.preamble_lines.ElementsReader.TheVariants as elements
-use Rattle.polcert_cells.specs.declared.words.Topic.{Topic}
-use Rattle.polcert_cells.specs.declared.words.Topic.TheVariants.{Discount, Values, States, Actions, Observations, Start, Cells}
-use Rattle.polcert_cells.specs.declared.elements.Elements.{Elements}
+use Rattle.polcert_cells.specs.declared.words.Topic.TheVariants.{Discount, Values}
 use Rattle.polcert_cells.specs.Elements.{count_of}
-use Rattle.polcert_cells.specs.Preamble.{Preamble, observed, rewarded, dimensions, named}
+use Rattle.polcert_cells.specs.Preamble.{observed, rewarded}
 use Rattle.polcert_cells.specs.Entry.{IsEntry, ArePlaces}
-use Rattle.polcert_format.specs.Items.{Item}
 use Rattle.polcert_format.specs.Text as texts
-use Rattle.polcert_format.specs.Text.{ModelSoFar, nothing_known, IsComplete, AreRight, IsRight}
-use Rattle.polcert_format.specs.Order.{word_fault}
-use Rattle.polcert_items.specs.Steps.Lines.{Takes}
-use Rattle.polcert_format.specs.KnownPreamble.{preamble_in}
+use Rattle.polcert_format.specs.Text.{IsComplete}
 use Rattle.polcert_items.specs.Steps.Entries.{IsEntryAfter, EntryGoes, AreSome}
 use Rattle.polcert_cells.specs.Start.{IsStart}
 use Rattle.polcert_items.specs.Steps.Start.{new_start, StartGives}
 use Rattle.polcert_cells.specs.declared.elements.StartWeights.{StartWeights}
-use Rattle.polcert_format.specs.Forms.{IsStartForm, HasForm}
+use Rattle.polcert_format.specs.Forms.{IsStartForm}
 use Rattle.polcert_format.specs.Forms as shapes
-use Rattle.polcert_items.specs.Steps.Items.{ItemGoes, ItemForms, IsItemWithin, topic_in, IsSeen, new_item, new_entry, HasElements}
-use Rattle.polcert_format.specs.Wants.{expected}
-use Rattle.polcert_items.specs.Steps.Wants.{ExpectsNext, item_wants, IfStart}
+use Rattle.polcert_items.specs.Steps.Items.{new_entry}
 use Rattle.polcert_items.proofs.FormLaws.{is_start, start_form, right_forms, forms_take}
-use Rattle.polcert_format.specs.FirstNumber.{states_known}
-use Rattle.polcert_model.specs.Steps.Texts.{IsShaped, IsBodyRead}
 use Rattle.polcert_model.proofs.Shaped.{shaped_form}
 use Rattle.polcert_format.proofs.FirstPlaces.{entry_begins}
 use Rattle.polcert_format.proofs.KnownLaws.{same_preamble, same_indices, same_states}

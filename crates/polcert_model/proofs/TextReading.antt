@@ -1,32 +1,11 @@
 -- A text's reader, step by step: what it holds after one more lexeme, and after an item.
 use Rattle.std.proofs.Common.{◌≡◌, ◌∙◌, ℕ, ◌+◌, true, false, Option, Some, None, List, [], ◌∷◌, ◌++◌, refl, sym, ap, subst, append_assoc, length-append, arith}
 use Rattle.std.proofs.lemmas.List.{append-nil}
-use Rattle.polcert_text.specs.Cut.{Lexeme}
-use Rattle.polcert_format.specs.declared.fault.ItemFault.{ItemFault}
-use Rattle.polcert_format.specs.declared.fault.ItemFault.TheVariants.{BeforeFirstItem, TooManyCells}
-use Rattle.polcert_format.specs.declared.fault.ModelFault.{ModelFault}
+use Rattle.polcert_model.proofs.Common.{Lexeme, ItemFault, BeforeFirstItem, TooManyCells, ModelFault, ItemReader, ItemContents, TextReader, Topic, Start, topic, begins_item, IsDivided, ModelSoFar, nothing_known, IsRight, AreRight, preamble_in, HasFewCells, word_fault, preamble_fault, CannotEnd, IsStartReason, ItemGoes, IsItemWithin, IsEndReason, IsSeen, topic_in, pending_in, new_item, HasElements, with_item, AreContentsOf, IsAllowedNext, unexpected_token, item_wants, Refusal, IsLate, states_known, Refuses, IsShaped, IsTextRead, IsItemRead, IsBodyRead, AreItemsRead, IsRefusedAfter, IsRefusedAt, IsRefusedWhole}
 use Rattle.polcert_format.specs.declared.fault.ModelFault.TheVariants as model_faults
-use Rattle.polcert_items.specs.declared.item.ItemReader.{ItemReader}
-use Rattle.polcert_items.specs.declared.item.ItemContents.{ItemContents}
-use Rattle.polcert_model.specs.declared.reader.TextReader.{TextReader}
-use Rattle.polcert_cells.specs.declared.words.Topic.{Topic}
-use Rattle.polcert_cells.specs.declared.words.Topic.TheVariants.{Start}
-use Rattle.polcert_cells.specs.Words.{topic, begins_item}
-use Rattle.polcert_format.specs.Items.{IsDivided}
-use Rattle.polcert_format.specs.Text.{ModelSoFar, nothing_known, IsRight, AreRight}
 use Rattle.polcert_format.specs.Text as texts
-use Rattle.polcert_format.specs.KnownPreamble.{preamble_in}
-use Rattle.polcert_format.specs.Limits.{HasFewCells}
-use Rattle.polcert_format.specs.Order.{word_fault, preamble_fault}
-use Rattle.polcert_items.specs.Steps.Lines.{CannotEnd}
-use Rattle.polcert_items.specs.Steps.Start.{IsStartReason}
-use Rattle.polcert_items.specs.Steps.Items.{ItemGoes, IsItemFed, RefusesInItem, IsItemWithin, IsEndReason, IsSeen, topic_in, pending_in, new_item, HasElements}
-use Rattle.polcert_items.specs.Steps.ModelSoFar.{with_item, AreContentsOf, IsAllowedNext}
-use Rattle.polcert_format.specs.Misfits.{unexpected_token}
-use Rattle.polcert_items.specs.Steps.Wants.{item_wants}
-use Rattle.polcert_items.specs.declared.signed_number.Refusal.{Refusal}
-use Rattle.polcert_format.specs.FirstNumber.{IsLate, states_known}
-use Rattle.polcert_model.specs.Steps.Texts.{Refuses, IsShaped, IsTextRead, IsItemRead, IsBodyRead, AreItemsRead, IsRefusedAfter, IsRefusedAt, IsRefusedWhole, at_word, at_end, nothing, item}
+use Rattle.polcert_items.specs.Steps.Items.{IsItemFed, RefusesInItem}
+use Rattle.polcert_model.specs.Steps.Texts.{at_word, at_end, nothing, item}
 use Rattle.polcert_cells.proofs.Basics.{one_some, some≢none}
 use Rattle.polcert_format.proofs.Dividing.{begins, empty_division}
 use Rattle.polcert_format.proofs.ReadLaws.{item_ends}

@@ -1,19 +1,14 @@
 -- A text that was read to its end, and the model that is made of it.
 use Rattle.std.proofs.Common.{◌≡◌, ◌∙◌, ℕ, None, Result, Ok, Err, IfOk, IfErr, MatchResult, List, sym, subst, arith}
-use Rattle.polcert_text.specs.Cut.{Lexeme, IsCut, text_rest, end_place, text_limit}
+use Rattle.polcert_model.proofs.Common.{Lexeme, IsCut, text_rest, end_place, text_limit, Table, IsFirstWrongRow, ModelSoFar, TextTokens, AreTokensOf, preamble_in, IsWholeRead, said}
 use Rattle.polcert_text.proofs.Scanning.CleanCut.{clean_tokens}
-use Rattle.polcert_cells.specs.declared.entries.Table.{Table}
 use Rattle.polcert_format.specs.declared.fault.ModelFault.TheVariants as model_faults
 use Rattle.polcert_cells.specs.Meaning.{Meaning, IsSame, HasProperRows}
-use Rattle.polcert_cells.specs.Rows.{IsFirstWrongRow}
 use Rattle.polcert_cells.specs.Steps.Drafts as drafts
-use Rattle.polcert_format.specs.Text.{ModelSoFar, IsRightText, Denotes, IsModelText}
-use Rattle.polcert_format.specs.FirstWrong.{TextTokens, AreTokensOf}
+use Rattle.polcert_format.specs.Text.{IsRightText, Denotes, IsModelText}
 use Rattle.polcert_format.specs.Refusals.{IsRefusal}
 use Rattle.polcert_tables.specs.Contents.{Contents, meaning}
 use Rattle.polcert_tables.specs.Steps.KeptOf.{IsKeptOf, DenotesWithinLimits}
-use Rattle.polcert_format.specs.KnownPreamble.{preamble_in}
-use Rattle.polcert_items.specs.Steps.ModelSoFar.{IsWholeRead, said}
 use Rattle.polcert_format.proofs.LimitLaws.{within_limits}
 use Rattle.polcert_format.proofs.FrontLaws.{these_tokens}
 use Rattle.polcert_items.proofs.WholeItems.{whole_right, whole_sound}

@@ -1,5 +1,6 @@
 //! A model's text, read item by item.
 ghost use Rattle.std.specs.Prelude.{None, IfOk, OnOk, IfErr, ◌≡◌, ◌+◌, ◌<◌, ◌≤◌, ◌^◌, ◌++◌, ◌∷◌, [], ℕ, Some, false, List, MatchResult};
+ghost use Rattle.std.specs.Prelude.{IfSome, IfNone, IsTrue, IsFalse};
 ghost use Rattle.polcert_text.specs.ReadTexts.{ReadsText};
 ghost use Rattle.polcert_text.specs.Steps.TakenAhead.{TakesAhead, ArePassed};
 ghost use Rattle.polcert_text.specs.Cut.{Lexeme};
@@ -14,12 +15,13 @@ ghost use Rattle.polcert_tables.specs.Contents.{meaning};
 ghost use Rattle.polcert_items.specs.Steps.ModelSoFar.{IsWholeRead};
 ghost use Rattle.polcert_model.specs.Steps.Texts.{IsTextRead, TextReadsOn, AreItemsRead, IsTextOf, IsRefusedAfter, IsRefusedAt, IsRefusedWhole, Refuses, tokens_end, pending_at};
 
-use polcert_cells::{Topic, begun_topic};
+use polcert_cells::{Table, Topic, begun_topic};
 use polcert_format::{ItemFault, ModelFault};
 use polcert_items::{AddError, EndError, FeedError, ItemReader, ModelSoFar};
 use polcert_tables::{Model, WrongRow};
 use polcert_text::{
     SliceSource, Source, SourceFault, StreamFault, StreamTokens, TEXT_LIMIT, Token, TokenFault,
+    front_name,
 };
 use std::alloc::{AllocError, Global};
 
@@ -96,9 +98,25 @@ impl TextReader {
     }
 
     /// Continues with tokens that stand whole at the front of the bytes, as far as it is known at once that it can, and answers how
-    /// many bytes they are. An error is out of memory.
-    #[inline(always)]
+    /// many bytes they are: the rest of an entry, and entries after it. An error is out of memory.
     fn feed_ahead(&mut self, alloc: Global, bytes: &[u8]) -> Result<usize, AllocError>
+        requires read { (seen : List Lexeme) × IsTextRead seen self.old }
+        requires few { self.old.number < 2 ^ 62 }
+        ensures number { IfOk result (λ count. self.new.number ≤ self.old.number + count) }
+        ensures read { IfOk result (λ count. TakesAhead (TextReadsOn self.old self.new) bytes.now count) }
+    {
+        let mut at = self.feed_item_ahead(alloc, bytes)?;
+        while let Some(len) = self.begin_ahead(&bytes[at..]) {
+            at += len;
+            let more = self.feed_item_ahead(alloc, &bytes[at..])?;
+            at += more;
+        }
+        Ok(at)
+    }
+
+    /// Continues so with the rest of the open item.
+    #[inline(always)]
+    fn feed_item_ahead(&mut self, alloc: Global, bytes: &[u8]) -> Result<usize, AllocError>
         requires { (seen : List Lexeme) × IsTextRead seen self.old }
         ensures number { self.new.number ≡ self.old.number }
         ensures read { IfOk result (λ count. TakesAhead (TextReadsOn self.old self.new) bytes.now count) }
@@ -107,6 +125,50 @@ impl TextReader {
             return Ok(0);
         };
         item.feed_ahead(alloc, &self.known, bytes)
+    }
+
+    /// Begins an entry at the word that the bytes begin with, if it follows an entry, and answers how many bytes the word takes.
+    /// `None`: unknown, take the slow path.
+    #[inline(always)]
+    fn begin_ahead(&mut self, bytes: &[u8]) -> Option<usize>
+        requires read { (seen : List Lexeme) × IsTextRead seen self.old }
+        requires few { self.old.number + 1 < 2 ^ 64 }
+        ensures some { IfSome result (λ len. 0 < len) }
+        ensures number { IfSome result (λ _. self.new.number ≡ self.old.number + 1) }
+        ensures read { IfSome result (λ len. TakesAhead (TextReadsOn self.old self.new) bytes.now len) }
+        ensures none { IfNone result (self.new ≡ self.old) }
+    {
+        let Some(token) = front_name(bytes) else {
+            return None;
+        };
+        let Some(Topic::Cells(table)) = begun_topic(&token) else {
+            return None;
+        };
+        if self.next_entry(table) {
+            Some(token.stop as usize)
+        } else {
+            None
+        }
+    }
+
+    /// Ends the open entry and begins one of this table in its reader. `false`: unknown, and all stays.
+    #[inline(always)]
+    fn next_entry(&mut self, table: Table) -> bool
+        requires read { (seen : List Lexeme) × IsTextRead seen self.old }
+        requires few { self.old.number + 1 < 2 ^ 64 }
+        ensures number { IsTrue result → self.new.number ≡ self.old.number + 1 }
+        ensures read { IsTrue result → (seen : List Lexeme) (word : Lexeme) → IsTextRead seen self.old
+            → topic word ≡ Some (Topic.Cells table) → IsTextRead (seen ++ word ∷ []) self.new }
+        ensures unknown { IsFalse result → self.new ≡ self.old }
+    {
+        let Some(item) = &mut self.item else {
+            return false;
+        };
+        if !item.next_entry(&mut self.known, table) {
+            return false;
+        }
+        self.number += 1;
+        true
     }
 
     /// Ends the item that is open, where the next begins or the text ends.
@@ -199,7 +261,9 @@ fn read_ahead(
 ) -> Result<(), ModelFault>
     requires read { (seen : List Lexeme) × IsTextRead seen reader.old }
     requires continues { tokens.old.stop ≡ None }
-    ensures number { reader.new.number ≡ reader.old.number }
+    requires few { reader.old.number < 2 ^ 62 }
+    ensures number { OnOk result
+        (reader.new.number + tokens.old.ahead.place ≤ reader.old.number + tokens.new.ahead.place) }
     ensures read { OnOk result (ArePassed (TextReadsOn reader.old reader.new) tokens.old tokens.new) }
     ensures refused { IfErr result (λ fault. fault ≡ ModelFault.Memory) }
 {

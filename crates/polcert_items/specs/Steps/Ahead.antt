@@ -1,15 +1,22 @@
 -- An entry that continues with several lexemes at once: those that stand whole at the front of some bytes.
 -- Nobody has to believe this: only contracts of the readers of items and texts cite it.
-use Rattle.std.specs.Prelude.{◌≡◌, ℕ, ◌<◌, ◌≤◌, ◌⊎◌, true, false, List, [], ◌∷◌, ◌++◌, length}
+use Rattle.std.specs.Prelude.{◌≡◌, ℕ, ◌<◌, ◌≤◌, ◌⊎◌, true, false, None, List, [], ◌∷◌, ◌++◌, length}
 use Rattle.polcert_text.specs.Beginning.{BeginWith}
 use Rattle.polcert_text.specs.Cut.{Lexeme}
 use Rattle.polcert_cells.specs.Words.{begins_item}
 use Rattle.polcert_cells.specs.declared.elements.Elements.{Elements}
+use Rattle.polcert_cells.specs.declared.entries.Entry.{Entry}
+use Rattle.polcert_cells.specs.declared.entries.Table.{Table}
+use Rattle.polcert_cells.specs.declared.words.Topic.TheVariants.{Cells}
 use Rattle.polcert_format.specs.KnownPreamble.{preamble_in, indices_in}
+use Rattle.polcert_format.specs.Limits.{HasFewCells}
 use Rattle.polcert_format.specs.Misfits.{begins_number}
+use Rattle.polcert_format.specs.Order.{word_fault}
 use Rattle.polcert_format.specs.Text.{ModelSoFar}
 use Rattle.polcert_items.specs.Steps.Entries.{EntryGoes, NumberListGoes, HasRoom, IsFirstPlace, IsWithinIndices, entry_sign, no_numbers}
+use Rattle.polcert_items.specs.Steps.Items.{new_entry}
 use Rattle.polcert_items.specs.Steps.Lines.{Takes}
+use Rattle.polcert_items.specs.Steps.ModelSoFar.{with_item}
 use Rattle.polcert_items.specs.Steps.Numbers.{ListKind, SignIs}
 use Rattle.polcert_items.specs.Steps.Wants.{ExpectsNext, list_wants, entry_wants}
 use Rattle.polcert_items.specs.declared.ahead.FrontPlace.{FrontPlace}
@@ -18,6 +25,7 @@ use Rattle.polcert_items.specs.declared.entry_reader.EntryReader.{EntryReader}
 use Rattle.polcert_items.specs.declared.entry_reader.EntryState.{EntryState}
 use Rattle.polcert_items.specs.declared.entry_reader.EntryState.TheVariants as states
 use Rattle.polcert_items.specs.declared.entry_reader.Numbers.{Numbers}
+use Rattle.polcert_items.specs.declared.item.ItemContents.TheVariants as says
 use Rattle.polcert_items.specs.declared.item.ItemReader.{ItemReader}
 use Rattle.polcert_items.specs.declared.item.ItemReader.TheVariants as items
 
@@ -60,6 +68,23 @@ FedAhead k old bytes count new = TakesAhead (IsFed k) old bytes count new
 pub data ItemFedAhead (k : ModelSoFar) (old : ItemReader) (bytes : List ℕ) (count : ℕ) (new : ItemReader) : Type 0 where
   nothing : count ≡ 0 → new ≡ old → ItemFedAhead k old bytes count new
   entry : (a b : EntryReader) → old ≡ items.Entry a → new ≡ items.Entry b → FedAhead k a bytes count b → ItemFedAhead k old bytes count new
+
+-- an entry ended, and one of this table began in its reader
+pub record IsNextEntry (k : ModelSoFar) (old : EntryReader) (table : Table) (known : ModelSoFar) (new : EntryReader) : Type 0 where
+  pub e : Entry
+  pub goes : EntryGoes (preamble_in k) old [] e
+  pub few : HasFewCells (preamble_in k) (k.entries ++ e ∷ [])
+  pub free : word_fault k (Cells table) ≡ None
+  pub known_is : known ≡ with_item k (says.Entry e)
+  pub new_is : new ≡ new_entry table
+
+-- an item that is an entry did
+pub record IsNextItem (k : ModelSoFar) (old : ItemReader) (table : Table) (known : ModelSoFar) (new : ItemReader) : Type 0 where
+  pub a : EntryReader
+  pub b : EntryReader
+  pub old_is : old ≡ items.Entry a
+  pub new_is : new ≡ items.Entry b
+  pub next : IsNextEntry k a table known b
 
 -- a token that is a place of the first of these indices is the first of some bytes
 pub record BeginWithPlace (ds : List Elements) (position : ℕ) (bytes : List ℕ) (found : FrontPlace) : Type 0 where

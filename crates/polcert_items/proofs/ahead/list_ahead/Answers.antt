@@ -1,10 +1,6 @@
-use Rattle.std.proofs.Common.{IfSome, sym, subst, arith}
-use Rattle.polcert_items.specs.Steps.Ahead.{IsListBegun, IsListFed, TakesAhead}
+use Rattle.std.proofs.Common.{subst, arith}
+use Rattle.polcert_items.proofs.Common.{IsListFed, TakesAhead}
 use Rattle.polcert_items.proofs.ahead.list_ahead.Goals as goal
-
-pub returns-then-needed-eq1 : goal.returns-then-needed-eq1
-returns-then-needed-eq1 g c =
-    subst (λ n. IfSome c.only_ahead.result (IsListBegun g.T.ListNumber.kind n c.args.bytes.now)) (sym c.if-needed-eq1.true) c.only_ahead.ensures
 
 pub returns : goal.returns
 returns g c = record {

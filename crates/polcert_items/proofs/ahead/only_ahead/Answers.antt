@@ -1,6 +1,5 @@
 use Rattle.std.proofs.Common.{length, rules, refl, ap, FitsSigned, w64, to_z-of_z, arith}
-use Rattle.polcert_items.specs.declared.entry_reader.Numbers.{Numbers}
-use Rattle.polcert_items.specs.Steps.Entries.{no_numbers}
+use Rattle.polcert_items.proofs.Common.{Numbers, no_numbers}
 use Rattle.polcert_items.proofs.AheadLaws.{number_ahead}
 use Rattle.polcert_items.proofs.ahead.only_ahead.Goals as goal
 

@@ -1,10 +1,5 @@
 use Rattle.std.proofs.Common.{◌≡◌, ◌-◌, [], false, rules, subst, arith, IfErr}
-use Rattle.polcert_text.specs.Reading.{lexeme_of}
-use Rattle.polcert_items.specs.Steps.Lines.{CannotTake}
-use Rattle.polcert_items.specs.Steps.Entries.{NumberListGoes, IfRefused}
-use Rattle.polcert_format.specs.Misfits.{IsMisfit}
-use Rattle.polcert_format.specs.Wants.{numbers_want}
-use Rattle.polcert_items.specs.Steps.Wants.{list_wants}
+use Rattle.polcert_items.proofs.Common.{lexeme_of, CannotTake, NumberListGoes, IfRefused, IsMisfit, numbers_want, list_wants}
 use Rattle.polcert_items.proofs.WantLaws.{no_numbers_lead}
 use Rattle.polcert_items.proofs.entry_reader.begin_list.Goals as goal
 

@@ -1,10 +1,6 @@
 use Rattle.std.proofs.Common.{◌≡◌, unwrap_or, ap, sym, subst}
 use Rattle.std.specs.Option.{option_copied}
-use Rattle.std.proofs.lemmas.Result.{err_from_is_err_and}
-use Rattle.polcert_text.specs.Reading.{lexeme_of}
-use Rattle.polcert_cells.specs.declared.elements.Elements.TheVariants.{Count}
-use Rattle.polcert_cells.specs.Entry.{IsPlace}
-use Rattle.polcert_cells.specs.declared.entries.Place.{Place}
+use Rattle.polcert_items.proofs.Common.{err_from_is_err_and, lexeme_of, Count, IsPlace, Place}
 use Rattle.polcert_items.proofs.PatternLaws.{no_place}
 use Rattle.polcert_items.proofs.entry_reader.place_of.Goals as goal
 

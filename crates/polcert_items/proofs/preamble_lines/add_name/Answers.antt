@@ -1,9 +1,8 @@
 use Rattle.std.proofs.Common.{◌≢◌, ◌∙◌, length, rules, subst, sym}
-use Rattle.polcert_text.specs.Reading.{lexeme_of}
-use Rattle.polcert_items.specs.Steps.Elements.{AreNamesRead}
+use Rattle.polcert_items.proofs.Common.{lexeme_of, AreNamesRead}
 use Rattle.polcert_cells.proofs.Basics.{true≢false}
 use Rattle.polcert_items.proofs.ElementLaws.{no_name_stuck, known_stuck, more_read}
-use Rattle.polcert_items.proofs.MisfitLaws.{name_too_many, name_again}
+use Rattle.polcert_items.proofs.WantLaws.{name_too_many, name_again}
 use Rattle.polcert_items.proofs.preamble_lines.add_name.Goals as goal
 
 pub returns-then-not-is_name-clause-refused : goal.returns-then-not-is_name-clause-refused

@@ -1,6 +1,6 @@
-use Rattle.polcert_text.specs.Reading.{lexeme_of}
+use Rattle.polcert_items.proofs.Common.{lexeme_of}
 use Rattle.std.proofs.Common.{◌∙◌, sym}
-use Rattle.polcert_items.proofs.MisfitLaws.{unknown_name}
+use Rattle.polcert_items.proofs.WantLaws.{unknown_name}
 use Rattle.polcert_items.proofs.preamble_lines.element_by_name.Goals as goal
 
 pub returns-in-None-clause-kind : goal.returns-in-None-clause-kind

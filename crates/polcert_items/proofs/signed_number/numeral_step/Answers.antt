@@ -1,7 +1,5 @@
 use Rattle.std.proofs.Common.{rules, FitsSigned, w64, to_z-of_z}
-use Rattle.polcert_text.specs.Reading.{lexeme_of}
-use Rattle.polcert_cells.specs.Numbers.{IsMillionths}
-use Rattle.polcert_items.specs.Steps.Numbers.{is_negative}
+use Rattle.polcert_items.proofs.Common.{lexeme_of, IsMillionths, is_negative}
 use Rattle.polcert_items.proofs.SignedNumbers.{refuses_range}
 use Rattle.polcert_items.proofs.signed_number.numeral_step.Goals as goal
 

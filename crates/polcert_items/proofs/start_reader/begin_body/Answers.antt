@@ -1,14 +1,9 @@
-use Rattle.std.proofs.Common.{inr}
-use Rattle.polcert_text.specs.Reading.{lexeme_of}
-use Rattle.polcert_items.proofs.StartNumbers.{if_ok_map, on_err_map}
+use Rattle.std.proofs.Common.{arith}
+use Rattle.std.proofs.lemmas.Result.{IfOk-weaker, on_err_weaker}
+use Rattle.polcert_items.proofs.Common.{lexeme_of}
 use Rattle.polcert_items.proofs.StartForms.{body_begins, body_stuck, sign_not_whole, plus_or_minus, uniform_begins, name_begins, name_stuck, digits_begin, not_whole, whole_or_one, numeral_not_name}
-use Rattle.polcert_cells.specs.Elements.{count_of}
-use Rattle.polcert_items.proofs.WantLaws.{sign_no_state, body_lead, number_begins, no_state}
 use Rattle.polcert_text.proofs.Printing.Taking.{on_err}
 use Rattle.polcert_cells.proofs.Basics.{true≢false}
-use Rattle.std.proofs.Common.{inl}
-use Rattle.std.proofs.Common.{subst}
-use Rattle.polcert_items.specs.Steps.Start.{AreDigits}
 use Rattle.polcert_items.proofs.start_reader.begin_body.Goals as goal
 
 pub returns-in-Plus-clause-begun : goal.returns-in-Plus-clause-begun
@@ -16,60 +11,31 @@ returns-in-Plus-clause-begun c =
     let states = c.args.states.now in
     let l = lexeme_of c.args.token in
     let other = plus_or_minus l c.in-Plus.is in
-    if_ok_map _ _ _ (λ r b. body_begins states l other.1 (sign_not_whole states l other.0) r b) (c.first_number-in-Plus.ensures.begun states)
-
-pub returns-in-Plus-clause-within : goal.returns-in-Plus-clause-within
-returns-in-Plus-clause-within c = c.first_number-in-Plus.ensures.within c.args.states.now
-
-pub returns-in-Plus-clause-refused : goal.returns-in-Plus-clause-refused
-returns-in-Plus-clause-refused c =
-    let states = c.args.states.now in
-    let l = lexeme_of c.args.token in
-    let other = plus_or_minus l c.in-Plus.is in
-    on_err_map _ (λ stuck. body_stuck states l other.1 (sign_not_whole states l other.0) stuck) (c.first_number-in-Plus.ensures.refused states)
-
-pub returns-in-Plus-clause-leads : goal.returns-in-Plus-clause-leads
-returns-in-Plus-clause-leads c =
-    let states = c.args.states.now in
-    let l = lexeme_of c.args.token in
-    if_ok_map _ _ _ (λ r leads. body_lead (count_of states) l _ (sign_no_state (count_of states) l c.in-Plus.is) (number_begins l.kind (inr c.in-Plus.is)) leads) (c.first_number-in-Plus.ensures.leads (count_of states))
+    IfOk-weaker _ _ _ (λ r b. body_begins states l other.1 (sign_not_whole states l other.0) r b) (c.first_number-in-Plus.ensures.begun states)
 
 pub returns-then-is_word-clause-begun : goal.returns-then-is_word-clause-begun
 returns-then-is_word-clause-begun c = uniform_begins c.args.states.now (lexeme_of c.args.token) c.in-Name.is (c.is_word.ensures.0 c.if-is_word.true)
 
 pub returns-in_err-element_of-in-Name-clause-refused : goal.returns-in_err-element_of-in-Name-clause-refused
-returns-in_err-element_of-in-Name-clause-refused c =
-    on_err _ (name_stuck c.args.states.now (lexeme_of c.args.token) c.in-Name.is c.in_err-element_of-in-Name.ensures.refused (λ w. true≢false (c.is_word.ensures.1 w) c.if-is_word.false))
+returns-in_err-element_of-in-Name-clause-refused c = grind (arith, name_stuck, on_err, true≢false)
 
 pub returns-in_ok-element_of-in-Name-clause-begun : goal.returns-in_ok-element_of-in-Name-clause-begun
 returns-in_ok-element_of-in-Name-clause-begun c =
     name_begins c.args.states.now (lexeme_of c.args.token) c.in-Name.is c.in_ok-element_of-in-Name.field-0 c.in_ok-element_of-in-Name.ensures.element (λ w. true≢false (c.is_word.ensures.1 w) c.if-is_word.false)
 
 pub returns-in-Some-clause-begun : goal.returns-in-Some-clause-begun
-returns-in-Some-clause-begun c =
-    let l = lexeme_of c.args.token in
-    digits_begin c.args.states.now l c.in-Some.digits (subst (λ n. AreDigits n l c.in-Some.digits) c.count.ensures c.in-Some.ensures)
+returns-in-Some-clause-begun c = grind (arith, digits_begin)
 
 pub returns-in-None-clause-begun : goal.returns-in-None-clause-begun
 returns-in-None-clause-begun c =
     let states = c.args.states.now in
     let l = lexeme_of c.args.token in
     let none = not_whole states l (whole_or_one states l c.count.result c.count.ensures c.in-None.ensures) in
-    if_ok_map _ _ _ (λ r b. body_begins states l (numeral_not_name l c.in-Numeral.is) none r b) (c.first_number.ensures.begun states)
-
-pub returns-in-None-clause-within : goal.returns-in-None-clause-within
-returns-in-None-clause-within c = c.first_number.ensures.within c.args.states.now
+    IfOk-weaker _ _ _ (λ r b. body_begins states l (numeral_not_name l c.in-Numeral.is) none r b) (c.first_number.ensures.begun states)
 
 pub returns-in-None-clause-refused : goal.returns-in-None-clause-refused
 returns-in-None-clause-refused c =
     let states = c.args.states.now in
     let l = lexeme_of c.args.token in
     let none = not_whole states l (whole_or_one states l c.count.result c.count.ensures c.in-None.ensures) in
-    on_err_map _ (λ stuck. body_stuck states l (numeral_not_name l c.in-Numeral.is) none stuck) (c.first_number.ensures.refused states)
-
-pub returns-in-None-clause-leads : goal.returns-in-None-clause-leads
-returns-in-None-clause-leads c =
-    let states = c.args.states.now in
-    let l = lexeme_of c.args.token in
-    let none = no_state (count_of states) l c.in-Numeral.is (whole_or_one states l c.count.result c.count.ensures c.in-None.ensures) in
-    if_ok_map _ _ _ (λ r leads. body_lead (count_of states) l _ none (number_begins l.kind (inl c.in-Numeral.is)) leads) (c.first_number.ensures.leads (count_of states))
+    on_err_weaker _ (λ stuck. body_stuck states l (numeral_not_name l c.in-Numeral.is) none stuck) (c.first_number.ensures.refused states)

@@ -1,5 +1,5 @@
 use Rattle.std.proofs.Common.{◌∙◌, sym, ap, sum}
-use Rattle.polcert_cells.specs.declared.words.Topic.TheVariants.{Start}
+use Rattle.polcert_items.proofs.Common.{Start}
 use Rattle.polcert_items.proofs.StartNumbers.{shares_end}
 use Rattle.polcert_items.proofs.StartSeen.{end_kind}
 use Rattle.polcert_items.proofs.start_reader.end_probabilities.Goals as goal

@@ -1,6 +1,5 @@
 use Rattle.std.proofs.Common.{rules, subst, sym, [], FitsSigned, w64, to_z-of_z}
-use Rattle.polcert_text.specs.Reading.{lexeme_of}
-use Rattle.polcert_items.specs.Steps.Start.{Begins, NumbersGo, StartGoes}
+use Rattle.polcert_items.proofs.Common.{lexeme_of, Begins, NumbersGo, StartGoes}
 use Rattle.polcert_items.specs.declared.start_reader.StartReader.TheVariants as reader
 use Rattle.polcert_text.proofs.Printing.Taking.{on_err}
 use Rattle.polcert_items.proofs.ListLaws.{held_not_refused}

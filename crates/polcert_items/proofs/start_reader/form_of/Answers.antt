@@ -1,5 +1,4 @@
-use Rattle.polcert_text.specs.Reading.{lexeme_of}
-use Rattle.polcert_items.specs.declared.start_reader.Choice.TheVariants.{Include, Exclude}
+use Rattle.polcert_items.proofs.Common.{lexeme_of, Include, Exclude}
 use Rattle.polcert_items.proofs.StartForms.{colon_begins, list_begins}
 use Rattle.polcert_items.proofs.start_reader.form_of.Goals as goal
 

@@ -1,5 +1,5 @@
 use Rattle.std.proofs.Common.{◌∙◌, ap}
-use Rattle.polcert_items.specs.Steps.Start.{is_level_at}
+use Rattle.polcert_items.proofs.Common.{is_level_at}
 use Rattle.polcert_items.proofs.StartShares.{level_is}
 use Rattle.polcert_items.proofs.start_reader.is_level.Goals as goal
 

@@ -1,5 +1,5 @@
 use Rattle.std.proofs.Common.{◌∙◌, sym, ap}
-use Rattle.polcert_cells.specs.Start.{is_level}
+use Rattle.polcert_items.proofs.Common.{is_level}
 use Rattle.polcert_items.proofs.StartShares.{level_shares_are}
 use Rattle.polcert_items.proofs.start_reader.shares_of.Goals as goal
 

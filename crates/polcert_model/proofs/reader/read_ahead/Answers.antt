@@ -1,6 +1,13 @@
+use Rattle.std.proofs.Common.{ap, arith}
 use Rattle.polcert_text.proofs.Taken.TakenAhead.{ahead_passed}
 use Rattle.polcert_model.proofs.reader.read_ahead.Goals as goal
 
 pub returns-in-Ok-clause-read : goal.returns-in-Ok-clause-read
 returns-in-Ok-clause-read c =
     ahead_passed c.args.tokens.now c.pass.new.self c.ahead.result.now c.in-Ok.count c.ahead.ensures c.pass.ensures c.in-Ok.ensures.read
+
+pub returns-in-Ok-clause-number : goal.returns-in-Ok-clause-number
+returns-in-Ok-clause-number c =
+    let place = ap (λ s. s.ahead.place) c.pass.ensures in
+    let few = c.in-Ok.ensures.number in
+    omega (arith, place, few)

@@ -1,6 +1,5 @@
 use Rattle.std.proofs.Common.{◌∙◌, ◌++◌, ◌∷◌, ◌≤◌, ◌<◌, [], refl, ap, arith, Ok, Err}
-use Rattle.polcert_text.specs.Cut.{text_limit}
-use Rattle.polcert_text.specs.Reading.{lexeme_of}
+use Rattle.polcert_model.proofs.Common.{text_limit, lexeme_of}
 use Rattle.polcert_text.proofs.Streams.ReadTexts.{value_read, text_refused, read_failed}
 use Rattle.polcert_text.proofs.Streams.StreamTaken.{none_taken, token_taken, place_grows, place_within}
 use Rattle.polcert_text.proofs.Taken.TakenAhead.{all_passed}
@@ -42,11 +41,10 @@ loop-token-preserved g c =
     let ahead = c.in_default-read_ahead.ensures.read in
     let more = c.in_default.ensures.number in
     let same = c.in_default-read_ahead.ensures.number in
-    let place = ap (λ s. s.ahead.place) ahead.tokens_are in
     let few = c.loop-token.invariant.few in
     record {
       seen = ((was.0 ++ lexeme_of c.in-Ok-Some.token ∷ []) ++ ahead.ts, all_passed _ _ _ _ _ _ _ _ taken ahead, ahead.reads_on tt _ (c.in_default.ensures.read was.0 was.2));
-      few = omega (arith, grows, more, same, place, few);
+      few = omega (arith, grows, more, same, few);
     }
 
 pub loop-token-smaller : goal.loop-token-smaller
@@ -60,6 +58,11 @@ loop-token-smaller g c =
     let place = ap (λ s. s.ahead.place) ahead.tokens_are in
     let within : c.read_ahead.new.tokens.ahead.place ≤ text_limit = place_within _ _ _ _ _ c.read_ahead.new.tokens c.next_token.new.source (all_passed _ _ _ _ _ _ _ _ taken ahead) in
     omega (arith, grows, place, within)
+
+pub read_ahead-requires-clause-few : goal.read_ahead-requires-clause-few
+read_ahead-requires-clause-few g c =
+    let within = place_within _ _ _ _ _ c.loop-token.tokens c.loop-token.source c.loop-token.invariant.seen.1 in
+    omega (arith, c.loop-token.invariant.few, within, c.in_default.ensures.number)
 
 pub read_ahead-requires-clause-read : goal.read_ahead-requires-clause-read
 read_ahead-requires-clause-read g c =

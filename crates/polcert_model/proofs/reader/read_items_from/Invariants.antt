@@ -1,7 +1,5 @@
 use Rattle.std.proofs.Common.{List, ◌-◌, ◌≤◌}
-use Rattle.polcert_text.specs.Cut.{Lexeme, text_limit}
-use Rattle.polcert_text.specs.Steps.StreamTaken.{TakenFrom}
-use Rattle.polcert_model.specs.Steps.Texts.{IsTextRead}
+use Rattle.polcert_model.proofs.Common.{Lexeme, text_limit, TakenFrom, IsTextRead}
 use Rattle.polcert_model.proofs.reader.read_items_from.Given as goal
 
 abbrev pub invariant-loop-token : goal.invariant-loop-token

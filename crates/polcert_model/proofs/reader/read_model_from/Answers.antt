@@ -1,4 +1,4 @@
-use Rattle.std.proofs.lemmas.Result.{err_from_is_err_and}
+use Rattle.polcert_model.proofs.Common.{err_from_is_err_and}
 use Rattle.polcert_text.proofs.Streams.ReadTexts.{value_turned, value_refused, fault_passed_on}
 use Rattle.polcert_model.proofs.reader.read_model_from.Goals as goal
 

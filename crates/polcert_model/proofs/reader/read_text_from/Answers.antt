@@ -1,6 +1,6 @@
 use Rattle.std.proofs.Common.{sym, subst}
 use Rattle.polcert_text.proofs.Streams.ReadTexts.{value_turned, fault_passed_on}
-use Rattle.polcert_model.specs.Steps.Texts.{IsTextOf}
+use Rattle.polcert_model.proofs.Common.{IsTextOf}
 use Rattle.polcert_model.proofs.reader.read_text_from.Goals as goal
 
 pub returns-in-Ok : goal.returns-in-Ok

@@ -1,9 +1,5 @@
 use Rattle.std.proofs.Common.{◌≡◌, ◌≤◌, ◌∙◌, length, drop, ap, subst}
-use Rattle.polcert_cells.specs.Entry.{cells_in}
-use Rattle.polcert_format.specs.KnownPreamble.{indices_in}
-use Rattle.polcert_format.specs.Wants.{least_written}
-use Rattle.polcert_items.specs.Steps.Entries.{IsStateWithin}
-use Rattle.polcert_items.specs.Steps.Numbers.{of_probabilities, of_rewards}
+use Rattle.polcert_items.proofs.Common.{cells_in, indices_in, least_written, IsStateWithin, of_probabilities, of_rewards}
 use Rattle.polcert_items.specs.declared.entry_reader.EntryState.TheVariants as states
 use Rattle.polcert_items.proofs.AheadLaws.{fed_none}
 use Rattle.polcert_items.proofs.AheadLists.{list_begins, no_reward, probabilities_stand, rewards_stand}

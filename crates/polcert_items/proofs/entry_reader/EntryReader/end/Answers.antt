@@ -1,12 +1,8 @@
 use Rattle.std.proofs.Common.{◌≤◌, [], ap, drop, length, refl, rules, subst, sym}
-use Rattle.polcert_cells.specs.Preamble.{is_mdp}
-use Rattle.polcert_format.specs.Wants.{least_written}
+use Rattle.polcert_items.proofs.Common.{is_mdp, least_written, preamble_in, indices_in, EntryGoes, entry_with, of_probabilities, of_rewards}
 use Rattle.polcert_items.proofs.WantLaws.{body_ends_in}
 use Rattle.polcert_items.specs.declared.entry_reader.EntryState.TheVariants as states
 use Rattle.polcert_cells.specs.declared.words.Topic.TheVariants.{Cells}
-use Rattle.polcert_format.specs.KnownPreamble.{preamble_in, indices_in}
-use Rattle.polcert_items.specs.Steps.Entries.{EntryGoes, entry_with}
-use Rattle.polcert_items.specs.Steps.Numbers.{of_probabilities, of_rewards}
 use Rattle.polcert_items.proofs.PatternLaws.{cells_some, some_dropped, full_list, list_full, no_end, cannot_end_in, ends_in}
 use Rattle.polcert_items.proofs.entry_reader.EntryReader.end.Goals.{in-Probabilities+in-None, in-Rewards+in-None-end_fault, in-Word, in_default-via-in-Body+else-takes_numbers, in_default-via-in_default}
 use Rattle.polcert_items.proofs.entry_reader.EntryReader.end.Goals as goal

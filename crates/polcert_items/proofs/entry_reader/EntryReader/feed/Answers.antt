@@ -1,9 +1,6 @@
-use Rattle.polcert_text.specs.Reading.{lexeme_of}
-use Rattle.polcert_format.specs.KnownPreamble.{preamble_in, indices_in}
+use Rattle.polcert_items.proofs.Common.{lexeme_of, preamble_in, indices_in, IsStateWithin, of_probabilities, of_rewards}
 use Rattle.polcert_items.proofs.PatternLaws.{list_in, list_stuck, probability_state, reward_state, probability_reason, if_err_map, refused_map, each_refused_map, on_ok_map}
 use Rattle.std.proofs.Common.{subst, rules}
-use Rattle.polcert_items.specs.Steps.Entries.{IsStateWithin}
-use Rattle.polcert_items.specs.Steps.Numbers.{of_probabilities, of_rewards}
 use Rattle.polcert_items.specs.declared.entry_reader.EntryState.TheVariants as states
 use Rattle.polcert_items.proofs.entry_reader.EntryReader.feed.Goals as goal
 

@@ -1,7 +1,5 @@
 use Rattle.std.proofs.Common.{subst}
-use Rattle.polcert_format.specs.KnownPreamble.{indices_in}
-use Rattle.polcert_items.specs.Steps.Entries.{IsStateWithin}
-use Rattle.polcert_items.specs.Steps.Numbers.{of_probabilities, of_rewards}
+use Rattle.polcert_items.proofs.Common.{indices_in, IsStateWithin, of_probabilities, of_rewards}
 use Rattle.polcert_items.specs.declared.entry_reader.EntryState.TheVariants as states
 use Rattle.polcert_items.proofs.AheadLaws.{fed_none, if_ok_map}
 use Rattle.polcert_items.proofs.AheadLists.{list_goes, probabilities_stand, rewards_stand}

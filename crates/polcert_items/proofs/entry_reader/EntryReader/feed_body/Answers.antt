@@ -1,12 +1,5 @@
-use Rattle.polcert_format.specs.Wants.{numbers_want, least_written}
-use Rattle.polcert_items.specs.Steps.Wants.{ExpectsNext, state_wants}
+use Rattle.polcert_items.proofs.Common.{numbers_want, least_written, ExpectsNext, state_wants, lexeme_of, cells_in, is_mdp, preamble_in, indices_in, CannotTake, EntryGoes, IfRefused, CannotBegin, IsWordAfter}
 use Rattle.std.proofs.Common.{false, ◌∙◌, ◌≤◌, drop, length, sym, ap, subst, rules, arith}
-use Rattle.polcert_text.specs.Reading.{lexeme_of}
-use Rattle.polcert_cells.specs.Entry.{cells_in}
-use Rattle.polcert_cells.specs.Preamble.{is_mdp}
-use Rattle.polcert_format.specs.KnownPreamble.{preamble_in, indices_in}
-use Rattle.polcert_items.specs.Steps.Lines.{CannotTake}
-use Rattle.polcert_items.specs.Steps.Entries.{EntryGoes, IfRefused, CannotBegin, IsWordAfter}
 use Rattle.polcert_items.specs.declared.entry_reader.EntryState.TheVariants as states
 use Rattle.polcert_cells.proofs.Basics.{true≢false}
 use Rattle.polcert_format.proofs.FurtherNumbers.{begins_no_number}

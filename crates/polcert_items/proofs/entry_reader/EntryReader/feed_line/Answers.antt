@@ -1,6 +1,6 @@
 use Rattle.std.proofs.Common.{sym, subst, arith}
-use Rattle.std.proofs.lemmas.List.{take_rest, length-drop}
-use Rattle.polcert_items.specs.Steps.Ahead.{FedAhead}
+use Rattle.polcert_items.proofs.Common.{take_rest, FedAhead}
+use Rattle.std.proofs.lemmas.List.{length-drop}
 use Rattle.polcert_items.proofs.AheadLaws.{fed_none, fed_then}
 use Rattle.polcert_items.proofs.entry_reader.EntryReader.feed_line.Goals as goal
 

@@ -1,7 +1,5 @@
 use Rattle.std.proofs.Common.{◌-◌, ◌≤◌, length}
-use Rattle.polcert_format.specs.KnownPreamble.{indices_in}
-use Rattle.polcert_items.specs.Steps.Ahead.{FedAhead}
-use Rattle.polcert_items.specs.Steps.Entries.{IsWithinIndices}
+use Rattle.polcert_items.proofs.Common.{indices_in, FedAhead, IsWithinIndices}
 use Rattle.polcert_items.proofs.entry_reader.EntryReader.feed_line.Given as goal
 
 abbrev pub invariant-loop-len : goal.invariant-loop-len

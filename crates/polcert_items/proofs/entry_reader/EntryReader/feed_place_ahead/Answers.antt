@@ -1,9 +1,6 @@
 use Rattle.std.proofs.Common.{◌≡◌, ◌∙◌, ◌+◌, ◌<◌, ◌≤◌, ℕ, [], ◌∷◌, ◌++◌, length, length-append, drop, rules, sym, ap, subst, arith}
-use Rattle.std.proofs.lemmas.List.{take_rest, length-drop}
-use Rattle.polcert_format.specs.KnownPreamble.{indices_in, named_in}
-use Rattle.polcert_items.specs.Steps.Ahead.{BeginWithPlace}
-use Rattle.polcert_items.specs.Steps.Entries.{IsWithinIndices}
-use Rattle.polcert_items.specs.declared.entry_reader.EntryReader.{EntryReader}
+use Rattle.polcert_items.proofs.Common.{take_rest, indices_in, named_in, BeginWithPlace, IsWithinIndices, EntryReader}
+use Rattle.std.proofs.lemmas.List.{length-drop}
 use Rattle.polcert_items.specs.declared.entry_reader.EntryState.TheVariants as states
 use Rattle.polcert_items.proofs.AheadPlaces.{colon_place_fed}
 use Rattle.polcert_items.proofs.entry_reader.EntryReader.feed_place_ahead.Goals as goal

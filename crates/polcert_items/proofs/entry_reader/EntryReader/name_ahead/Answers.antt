@@ -1,8 +1,5 @@
 use Rattle.std.proofs.Common.{◌≡◌, drop, length, get_or, subst}
-use Rattle.polcert_text.specs.Beginning.{moved}
-use Rattle.polcert_text.specs.Reading.{lexeme_of}
-use Rattle.polcert_cells.specs.declared.elements.Elements.TheVariants.{Count}
-use Rattle.polcert_format.specs.KnownPreamble.{named_in}
+use Rattle.polcert_items.proofs.Common.{moved, lexeme_of, Count, named_in}
 use Rattle.polcert_items.proofs.AheadPlaces.{element_place, place_moved}
 use Rattle.polcert_items.proofs.TokenTexts.{front_is_text}
 use Rattle.polcert_items.proofs.entry_reader.EntryReader.name_ahead.Goals as goal

@@ -1,7 +1,5 @@
 use Rattle.std.proofs.Common.{drop, length}
-use Rattle.polcert_text.specs.Beginning.{moved}
-use Rattle.polcert_text.specs.Reading.{lexeme_of}
-use Rattle.polcert_format.specs.KnownPreamble.{named_in}
+use Rattle.polcert_items.proofs.Common.{moved, lexeme_of, named_in}
 use Rattle.polcert_items.proofs.AheadPlaces.{place_moved}
 use Rattle.polcert_items.proofs.TokenTexts.{front_is_text}
 use Rattle.polcert_items.proofs.entry_reader.EntryReader.token_place_ahead.Goals as goal

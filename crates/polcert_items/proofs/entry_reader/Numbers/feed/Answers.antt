@@ -1,7 +1,5 @@
 use Rattle.std.proofs.Common.{refl, rules, subst, sym, FitsSigned, w64, to_z-of_z}
-use Rattle.polcert_text.specs.Reading.{lexeme_of}
-use Rattle.polcert_items.specs.Steps.Numbers.{IsInRange, is_negative}
-use Rattle.polcert_cells.specs.Numbers.{IsMillionths}
+use Rattle.polcert_items.proofs.Common.{lexeme_of, IsInRange, is_negative, IsMillionths}
 use Rattle.polcert_items.proofs.ListLaws.{no_number, takes_sign, takes_number, if_err, if_refused}
 use Rattle.polcert_items.proofs.WantLaws.{list_numeral_leads}
 use Rattle.polcert_items.proofs.entry_reader.Numbers.feed.Goals as goal

@@ -1,7 +1,5 @@
 use Rattle.std.proofs.Common.{ℕ, ◌≤◌, ◌+◌, length, drop, rules, subst, FitsSigned, w64, to_z-of_z, arith}
-use Rattle.std.proofs.lemmas.List.{take_rest}
-use Rattle.polcert_text.specs.Beginning.{BeginWithNumber}
-use Rattle.polcert_items.specs.Steps.Ahead.{IsListFed}
+use Rattle.polcert_items.proofs.Common.{take_rest, BeginWithNumber, IsListFed}
 use Rattle.polcert_items.proofs.AheadLaws.{takes_none, takes_then, number_ahead, ends_within}
 use Rattle.polcert_items.proofs.entry_reader.Numbers.feed_ahead.Goals as goal
 

@@ -1,5 +1,5 @@
 use Rattle.std.proofs.Common.{◌≡◌, ◌-◌, ◌≤◌, None, length}
-use Rattle.polcert_items.specs.Steps.Ahead.{IsListFed, TakesAhead}
+use Rattle.polcert_items.proofs.Common.{IsListFed, TakesAhead}
 use Rattle.polcert_items.proofs.entry_reader.Numbers.feed_ahead.Given as goal
 
 abbrev pub invariant-loop-self : goal.invariant-loop-self

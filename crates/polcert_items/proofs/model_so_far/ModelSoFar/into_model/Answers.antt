@@ -1,5 +1,5 @@
 use Rattle.std.proofs.Common.{subst}
-use Rattle.polcert_cells.specs.Steps.Sound.{IsSound}
+use Rattle.polcert_items.proofs.Common.{IsSound}
 use Rattle.polcert_tables.specs.Steps.KeptOf.{DenotesWithinLimits}
 use Rattle.polcert_items.proofs.WholeItems.{whole_sound, said_is}
 use Rattle.polcert_items.proofs.model_so_far.ModelSoFar.into_model.Goals as goal

@@ -1,6 +1,5 @@
 use Rattle.std.proofs.Common.{rules, arith}
-use Rattle.std.proofs.lemmas.Grind.{common_steps}
-use Rattle.polcert_text.specs.Reading.{lexeme_of}
+use Rattle.polcert_items.proofs.Common.{common_steps, lexeme_of}
 use Rattle.polcert_items.proofs.ElementLaws.{named_takes, on_ok_both, seen_colon, seen_first}
 use Rattle.polcert_items.proofs.preamble_lines.ElementsReader.feed.Goals as goal
 

@@ -1,5 +1,5 @@
 use Rattle.std.proofs.Common.{length}
-use Rattle.polcert_text.specs.Reading.{lexeme_of}
+use Rattle.polcert_items.proofs.Common.{lexeme_of}
 use Rattle.polcert_text.proofs.Printing.Taking.{on_err}
 use Rattle.polcert_items.proofs.StartForms.{list_takes, list_stuck, stands_low}
 use Rattle.polcert_items.proofs.start_reader.Chosen.feed.Goals as goal

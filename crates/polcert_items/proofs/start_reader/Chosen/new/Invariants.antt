@@ -1,4 +1,4 @@
-use Rattle.polcert_items.specs.Steps.Start.{AreUnmarked}
+use Rattle.polcert_items.proofs.Common.{AreUnmarked}
 use Rattle.polcert_items.proofs.start_reader.Chosen.new.Given as goal
 
 abbrev pub invariant-loop : goal.invariant-loop

@@ -1,4 +1,4 @@
-use Rattle.polcert_items.specs.Steps.Start.{marked, picks}
+use Rattle.polcert_items.proofs.Common.{marked, picks}
 use Rattle.polcert_items.proofs.StartShares.{shares_more}
 use Rattle.polcert_items.proofs.start_reader.Chosen.shares.Goals as goal
 

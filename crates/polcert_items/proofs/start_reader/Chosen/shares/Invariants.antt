@@ -1,5 +1,5 @@
 use Rattle.std.specs.Prelude.{◌≡◌, length}
-use Rattle.polcert_items.specs.Steps.Start.{marked, picks}
+use Rattle.polcert_items.proofs.Common.{marked, picks}
 use Rattle.polcert_items.proofs.StartShares.{AreSharesTo}
 use Rattle.polcert_items.proofs.start_reader.Chosen.shares.Given as goal
 

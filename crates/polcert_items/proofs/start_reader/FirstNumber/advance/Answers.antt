@@ -1,12 +1,7 @@
-use Rattle.std.proofs.Common.{◌∙◌, ℕ, ap, sym, subst, rules, FitsSigned, w64, to_z-of_z}
-use Rattle.polcert_text.specs.Reading.{lexeme_of}
-use Rattle.polcert_cells.specs.Elements.{count_of}
-use Rattle.polcert_items.specs.declared.entry_reader.Numbers.{Numbers}
+use Rattle.std.proofs.Common.{sym, subst, rules, FitsSigned, w64, to_z-of_z}
+use Rattle.polcert_items.proofs.Common.{IfErr-weaker, lexeme_of, count_of, IfRefused, CannotTake, IsOutside, StartGoes}
 use Rattle.polcert_items.specs.declared.start_reader.StartReader.TheVariants as reader
-use Rattle.polcert_items.specs.Steps.Entries.{IfRefused}
-use Rattle.polcert_items.specs.Steps.Lines.{CannotTake}
-use Rattle.polcert_items.specs.Steps.Start.{IsOutside, StartGoes}
-use Rattle.polcert_items.proofs.PatternLaws.{if_err_map, refused_map}
+use Rattle.polcert_items.proofs.PatternLaws.{refused_map}
 use Rattle.polcert_items.proofs.StartNumbers.{fraction, below_outside, above_outside, outside_stuck, one_read, more_states, number_takes, number_stuck}
 use Rattle.polcert_items.proofs.start_reader.FirstNumber.advance.Goals.{then-self-lt0-via-then-self-lt0, then-self-lt0-via-else-self-lt0+then-self}
 use Rattle.polcert_items.proofs.start_reader.FirstNumber.advance.Goals as goal
@@ -31,7 +26,7 @@ returns-in_err-feed-clause-refused c =
     let f = fraction h (simp to_z-of_z at c.if-self-lt0.false) (simp to_z-of_z at c.if-self.false) in
     let more = more_states (count_of c.args.states.now) c.count-count.result c.count-count.ensures c.if-count-eq1.false c.requires.0 in
     let is = one_read c.args.states.now _ c.count-count.result _ (simp to_z-of_z at c.with_first-numbers.ensures) c.count-count.ensures in
-    if_err_map _ _ _ (λ stop h. refused_map stop (number_stuck c.args.states.now c.args.self _ _ (lexeme_of c.args.token) f.value f.small more is) h) (search rules)
+    IfErr-weaker _ _ _ (λ stop h. refused_map stop (number_stuck c.args.states.now c.args.self _ _ (lexeme_of c.args.token) f.value f.small more is) h) (search rules)
 
 pub returns-clause-takes : goal.returns-clause-takes
 returns-clause-takes c =
@@ -41,10 +36,3 @@ returns-clause-takes c =
     let more = more_states (count_of c.args.states.now) c.count-count.result c.count-count.ensures c.if-count-eq1.false c.requires.0 in
     let is = one_read c.args.states.now _ c.count-count.result _ (simp to_z-of_z at c.with_first-numbers.ensures) c.count-count.ensures in
     number_takes c.args.states.now c.args.self _ _ _ (lexeme_of c.args.token) f.value f.small more is c.in_ok-feed.ensures.fed.takes
-
-pub returns-clause-within : goal.returns-clause-within
-returns-clause-within c = record {
-  more = more_states (count_of c.args.states.now) c.count-count.result c.count-count.ensures c.if-count-eq1.false c.requires.0;
-  needed = c.in_ok-feed.ensures.needed ∙ ap (λ (n : Numbers ℕ). n.needed) c.with_first-numbers.ensures ∙ c.count-count.ensures;
-  room = c.in_ok-feed.ensures.room;
-}

@@ -1,33 +1,20 @@
-use Rattle.std.proofs.Common.{OnOk, sym, ap, subst, rules}
-use Rattle.polcert_text.specs.Reading.{lexeme_of}
-use Rattle.polcert_cells.specs.Elements.{count_of}
-use Rattle.polcert_items.specs.Steps.Feeding.{IsStartFed}
-use Rattle.polcert_format.specs.Reasons.{is_sign}
-use Rattle.polcert_items.specs.Steps.Start.{IsStartWithin}
+use Rattle.std.proofs.Common.{ap, rules, arith}
+use Rattle.polcert_items.proofs.Common.{IfErr-weaker, lexeme_of, count_of, is_sign}
 use Rattle.polcert_items.specs.declared.start_reader.StartReader.TheVariants as reader
-use Rattle.polcert_items.proofs.PatternLaws.{if_err_map, refused_map, each_refused_map}
+use Rattle.polcert_items.proofs.PatternLaws.{refused_map, each_refused_map}
 use Rattle.polcert_items.proofs.StartNumbers.{sign_takes, shares_stuck, digits_take, first_is}
 use Rattle.polcert_items.proofs.StartReading.{shares_fed}
 use Rattle.polcert_items.proofs.StartSeen.{fed_as, form_seen, list_seen, body_seen, numeral_seen, number_seen, digits_go_on, list_reason, refused_as, token_refused, number_refused, first_refused, valueless_refused}
 use Rattle.polcert_items.proofs.start_reader.StartReader.feed.Goals as goal
 
 pub returns-in_err-self-in-Body-clause-refused : goal.returns-in_err-self-in-Body-clause-refused
-returns-in_err-self-in-Body-clause-refused c =
-    let result = c.from_residual-in_err-self-in-Body.result in
-    refused_as result c.args.states.now _ _ _ c.in-Body.is
-    (token_refused result c.args.states.now reader.Body (lexeme_of c.args.token) (search rules) (search rules) (search rules))
+returns-in_err-self-in-Body-clause-refused c = grind (arith, refused_as, token_refused)
 
 pub returns-in_err-self-in-Sign-clause-refused : goal.returns-in_err-self-in-Sign-clause-refused
-returns-in_err-self-in-Sign-clause-refused c =
-    let result = c.from_residual-in_err-self-in-Sign.result in
-    refused_as result c.args.states.now _ _ _ c.in-Sign.is
-    (token_refused result c.args.states.now (reader.Sign c.in-Sign.sign) (lexeme_of c.args.token) (search rules) (search rules) (search rules))
+returns-in_err-self-in-Sign-clause-refused c = grind (arith, refused_as, token_refused)
 
 pub returns-in_err-advance-in-Number-clause-refused : goal.returns-in_err-advance-in-Number-clause-refused
-returns-in_err-advance-in-Number-clause-refused c =
-    let result = c.from_residual-in_err-advance-in-Number.result in
-    refused_as result c.args.states.now _ _ _ c.in-Number.is
-    (number_refused result c.args.states.now c.in-Number.first (lexeme_of c.args.token) (search rules) (search rules))
+returns-in_err-advance-in-Number-clause-refused c = grind (arith, refused_as, number_refused)
 
 pub returns-in_err-first-in-StateOrNumber-clause-refused : goal.returns-in_err-first-in-StateOrNumber-clause-refused
 returns-in_err-first-in-StateOrNumber-clause-refused c =
@@ -58,9 +45,7 @@ returns-in_ok-feed-in-List-clause-fed c =
     (λ body seen. list_seen _ body _ c.feed.new.self seen.body_is c.in_ok-feed-in-List.ensures.kept)
 
 pub returns-in_ok-self-in-Body-clause-fed : goal.returns-in_ok-self-in-Body-clause-fed
-returns-in_ok-self-in-Body-clause-fed c =
-    fed_as c.args.states.now _ _ _ _ c.in-Body.is (search rules) (search rules) (search rules)
-    (λ body seen. body_seen _ body _ _ seen.body_is c.in_ok-self-in-Body.ensures.kept)
+returns-in_ok-self-in-Body-clause-fed c = grind (arith, fed_as, body_seen)
 
 pub returns-in_ok-self-in-Sign-clause-fed : goal.returns-in_ok-self-in-Sign-clause-fed
 returns-in_ok-self-in-Sign-clause-fed c =
@@ -85,13 +70,7 @@ returns-in_ok-advance-in-StateOrNumber-clause-fed c =
     (λ body seen. digits_go_on _ body l d f c.in_ok-advance-in-StateOrNumber.field-0 seen is.0 e.inside e.kept)
 
 pub returns-in-Probabilities-clause-fed : goal.returns-in-Probabilities-clause-fed
-returns-in-Probabilities-clause-fed c =
-    let e = c.feed-in-Probabilities.ensures in
-    let states = c.args.states.now in
-    let l = lexeme_of c.args.token in
-    let new = c.feed-in-Probabilities.new.self in
-    subst (λ s. OnOk c.feed-in-Probabilities.result (IsStartFed states s l (reader.Probabilities new))) (sym c.in-Probabilities.is)
-    (shares_fed c.feed-in-Probabilities.result states c.in-Probabilities.numbers new l (subst (IsStartWithin states) c.in-Probabilities.is c.requires.within) e.needed e.room e.fed.takes e.fed.leads e.sign)
+returns-in-Probabilities-clause-fed c = grind (arith, shares_fed)
 
 pub returns-in-Probabilities-clause-refused : goal.returns-in-Probabilities-clause-refused
 returns-in-Probabilities-clause-refused c =
@@ -100,5 +79,5 @@ returns-in-Probabilities-clause-refused c =
     let l = lexeme_of c.args.token in
     let n = c.in-Probabilities.numbers in
     refused_as c.feed-in-Probabilities.result states _ _ _ c.in-Probabilities.is
-    (token_refused c.feed-in-Probabilities.result states (reader.Probabilities n) l (if_err_map _ _ _ (λ stop h. refused_map stop (shares_stuck states n l) h) e.fed.refused)
-    (if_err_map _ _ _ (λ stop h. each_refused_map stop (λ r x. list_reason n.sign l r.kind r.place x) h) e.fed.reason) e.fed.kind)
+    (token_refused c.feed-in-Probabilities.result states (reader.Probabilities n) l (IfErr-weaker _ _ _ (λ stop h. refused_map stop (shares_stuck states n l) h) e.fed.refused)
+    (IfErr-weaker _ _ _ (λ stop h. each_refused_map stop (λ r x. list_reason n.sign l r.kind r.place x) h) e.fed.reason) e.fed.kind)

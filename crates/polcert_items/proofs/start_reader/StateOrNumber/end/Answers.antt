@@ -1,6 +1,5 @@
 use Rattle.std.proofs.Common.{refl}
-use Rattle.polcert_cells.specs.Elements.{count_of}
-use Rattle.polcert_items.specs.Steps.Start.{state_number}
+use Rattle.polcert_items.proofs.Common.{count_of, state_number}
 use Rattle.polcert_items.proofs.StartSeen.{digits_end_reason}
 use Rattle.polcert_items.proofs.start_reader.StateOrNumber.end.Goals as goal
 

@@ -1,5 +1,5 @@
 use Rattle.std.proofs.Common.{◌∙◌, Err, sym, ap, subst}
-use Rattle.polcert_model.specs.Steps.Texts.{Refuses}
+use Rattle.polcert_model.proofs.Common.{Refuses}
 use Rattle.polcert_model.proofs.TextReading.{none_open, open_within, said_may_be_learned, item_ended, item_too_much, item_not_ended, item_not_ended_before}
 use Rattle.polcert_model.proofs.reader.TextReader.close.Goals as goal
 

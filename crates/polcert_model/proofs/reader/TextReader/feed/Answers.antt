@@ -1,6 +1,5 @@
 use Rattle.std.proofs.Common.{sym, subst}
-use Rattle.polcert_text.specs.Reading.{lexeme_of}
-use Rattle.polcert_model.specs.Steps.Texts.{Refuses}
+use Rattle.polcert_model.proofs.Common.{lexeme_of, Refuses}
 use Rattle.polcert_model.proofs.TextReading.{not_begun, item_takes, item_refuses}
 use Rattle.polcert_model.proofs.reader.TextReader.feed.Goals as goal
 

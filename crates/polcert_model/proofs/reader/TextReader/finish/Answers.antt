@@ -1,6 +1,5 @@
 use Rattle.std.proofs.Common.{◌∙◌, sym, subst}
-use Rattle.std.proofs.lemmas.Result.{err_from_is_err_and}
-use Rattle.polcert_model.specs.Steps.Texts.{Refuses}
+use Rattle.polcert_model.proofs.Common.{err_from_is_err_and, Refuses}
 use Rattle.polcert_model.proofs.TextReading.{refused_at_end, whole_refused}
 use Rattle.polcert_model.proofs.reader.TextReader.finish.Goals as goal
 

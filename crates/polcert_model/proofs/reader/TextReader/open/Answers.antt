@@ -1,5 +1,5 @@
 use Rattle.std.proofs.Common.{◌∙◌, sym, subst}
-use Rattle.polcert_model.specs.Steps.Texts.{Refuses}
+use Rattle.polcert_model.proofs.Common.{Refuses}
 use Rattle.polcert_model.proofs.TextReading.{item_opened, item_not_opened}
 use Rattle.polcert_model.proofs.reader.TextReader.open.Goals as goal
 

@@ -1,6 +1,5 @@
 use Rattle.std.proofs.Common.{◌∙◌, is_some, refl, sym, ap}
-use Rattle.std.proofs.lemmas.Result.{err_from_is_err_and}
-use Rattle.polcert_text.specs.Reading.{lexeme_of}
+use Rattle.polcert_model.proofs.Common.{err_from_is_err_and, lexeme_of}
 use Rattle.polcert_model.proofs.TextReading.{refused_at_word}
 use Rattle.polcert_model.proofs.reader.TextReader.take.Goals as goal
 

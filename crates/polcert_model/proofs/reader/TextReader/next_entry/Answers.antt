@@ -1,0 +1,14 @@
+use Rattle.std.proofs.Common.{◌∙◌, Some, ap, refl}
+use Rattle.polcert_items.specs.declared.item.ItemReader.TheVariants.{Entry}
+use Rattle.polcert_items.specs.declared.item.ItemContents.TheVariants as says
+use Rattle.polcert_model.proofs.TextReading.{said_may_be_learned}
+use Rattle.polcert_model.proofs.ReadingAhead.{next_begun}
+use Rattle.polcert_model.proofs.reader.TextReader.next_entry.Goals as goal
+
+pub next_entry-requires : goal.next_entry-requires
+next_entry-requires c = λ a e is goes.
+    said_may_be_learned c.requires.read.0 c.args.self.now (Entry a) (says.Entry e) c.requires.read.1 (c.in-Some.is ∙ ap Some is) (e, (goes, refl)) tt
+
+pub returns-clause-read : goal.returns-clause-read
+returns-clause-read c = λ yes seen word read about.
+    next_begun seen c.args.self.now c.in-Some.item c.next_entry.new.self c.next_entry.new.known c.args.table word read c.in-Some.is (c.if-not-next_entry.ensures.next yes) about
