@@ -1,14 +1,9 @@
 -- The graph whose node a takes action a: one node more, and that it is a proper graph.
-use Rattle.std.proofs.Common.{◌≡◌, ◌∙◌, ℕ, zero, suc, ◌+◌, ◌<◌, ◌≤◌, Option, Some, None, List, [], ◌∷◌, ◌++◌, slice_get, length, replicate, get_or, ap, arith}
-use Rattle.std.specs.List.{range_with_len}
+use Rattle.std.proofs.Common.{◌≡◌, ◌∙◌, ℕ, zero, suc, ◌+◌, ◌<◌, ◌≤◌, Option, Some, None, List, [], ◌∷◌, ◌++◌, slice_get, length, replicate, ap, arith}
+use Rattle.polcert_policy.proofs.Common.{range_with_len, get_or_from_slice_get, most_actions, most_states, nodes, action_of, IsProperGraph, PolicyVectors, AreProperVectors, Up}
 use Rattle.std.proofs.lemmas.List.{length-replicate, get_or-replicate}
 use Rattle.std.proofs.lemmas.List.FromFn.{length-range_with_len, get_or-range_with_len}
-use Rattle.std.proofs.lemmas.Option.{get_or_from_slice_get}
-use Rattle.polcert_cells.specs.Elements.{most_actions, most_states}
-use Rattle.polcert_policy.specs.Graphs.{nodes, action_of, IsProperGraph}
-use Rattle.polcert_policy.specs.Vectors.{PolicyVectors, AreProperVectors}
 use Rattle.polcert_policy.specs.ActionVectors.{action_graph, IsActionVectorsText}
-use Rattle.polcert_text.specs.declared.number.Rounding.TheVariants.{Up}
 use Rattle.polcert_policy.proofs.FlatVectors.{parts_from}
 use Rattle.polcert_policy.proofs.Places.{within_get}
 use Rattle.polcert_policy.proofs.LimitLaws.{vectors_proper}
@@ -36,8 +31,7 @@ no_successor : (actions k m : ℕ) → slice_get (none_of actions) k ≡ Some (S
 no_successor actions k m e =
     let within : k < length (none_of actions) = within_get (none_of actions) k (Some m) e in
     let size : length (none_of actions) ≡ actions = length-replicate actions None in
-    let is : get_or (none_of actions) k None ≡ Some m = get_or_from_slice_get (none_of actions) k (Some m) None e in
-    grind (arith, get_or-replicate)
+    grind (arith, get_or-replicate, get_or_from_slice_get (none_of actions) k (Some m) None e)
 
 pub action_graph_proper : (actions : ℕ) → 1 ≤ actions → actions ≤ most_actions → IsProperGraph (action_graph actions)
 action_graph_proper actions some few = grind (arith, length-replicate, node_count, takes_its_action, no_successor)

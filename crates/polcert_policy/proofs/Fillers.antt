@@ -1,18 +1,14 @@
 -- Tokens that spell an action, and the value 0.
-use Rattle.std.proofs.Common.{◌≡◌, ◌∙◌, ℕ, ◌+◌, ◌*◌, ◌^◌, ◌<◌, ◌≤◌, ◌<◌, Bool, true, false, Some, None, List, [], ◌∷◌, decimal, pos, refl, ap, arith}
+use Rattle.std.proofs.Common.{◌≡◌, ◌∙◌, ℕ, ◌*◌, ◌^◌, ◌<◌, ◌<◌, Bool, true, false, Some, None, List, [], ◌∷◌, decimal, pos, refl, ap, arith}
 use Rattle.std.proofs.lemmas.Fmt.{decimal_is_IsNumeral, decimal_nonempty}
-use Rattle.polcert_text.specs.Bytes.{is_digit, is_point, is_exponent_mark}
+use Rattle.polcert_policy.proofs.Common.{is_digit, size_of, IsRounded, Measures, Lexeme, Numeral, Part, sign_kind, IsActionPart, IsValuePart, Rounding}
+use Rattle.polcert_text.specs.Bytes.{is_point, is_exponent_mark}
 use Rattle.polcert_text.specs.Lexemes.{is_numeral}
-use Rattle.polcert_text.specs.Numbers.{number_of, exponent_size, power_of, size_of, IsRounded}
-use Rattle.polcert_text.specs.Steps.Scaling.{Measures}
+use Rattle.polcert_text.specs.Numbers.{number_of, exponent_size, power_of}
 use Rattle.polcert_text.proofs.Numbers.FrontNumbers.{some_digits}
 use Rattle.polcert_text.proofs.Numbers.SignedLaws.{rounded_whole}
 use Rattle.polcert_text.proofs.Numbers.SizeLaws.{millionth_pos}
 use Rattle.polcert_text.proofs.Printing.PrintLaws.{decimal_digits}
-use Rattle.polcert_text.specs.Cut.{Lexeme}
-use Rattle.polcert_text.specs.declared.tokens.TokenKind.TheVariants.{Numeral}
-use Rattle.polcert_policy.specs.Vectors.{Part, sign_kind, IsActionPart, IsValuePart}
-use Rattle.polcert_text.specs.declared.number.Rounding.{Rounding}
 
 abbrev pub zero_bytes : List ℕ
 zero_bytes = 48 ∷ []
@@ -36,17 +32,11 @@ size_zero : size_of zero_bytes ≡ 0
 unfolding size_of
 size_zero = ap (λ n. n * 10 ^ power_of zero_bytes) number_zero ∙ none_of (10 ^ power_of zero_bytes)
 
-within_largest : (size most : ℕ) → size ≡ 0 → size ≤ most
-within_largest size most e = omega (arith, e)
-
 abbrev pub part_of : List ℕ → Part
 part_of bs = let t : Lexeme = record { kind = Numeral; place = 0; bytes = bs } in record { sign = None; token = t }
 
-zero_sum : (size d : ℕ) → size ≡ 0 → size ≡ 0 * d + 0
-zero_sum size d e = omega (arith, e)
-
 measured : Measures zero_bytes 0 false
-measured = grind (arith, millionth_pos, size_zero, zero_sum)
+measured = grind (arith, millionth_pos, size_zero)
 
 abbrev pub zero_part : Part
 zero_part = part_of zero_bytes
@@ -65,14 +55,11 @@ signed_zero s = let t : Lexeme = record { kind = Numeral; place = 0; bytes = zer
 zero_rounded : (way : Rounding) (b : Bool) → IsRounded way b zero_bytes (pos 0)
 zero_rounded way b = grind (arith, rounded_whole, measured)
 
-same_some : (s u : Lexeme) → Some s ≡ Some u → s ≡ u
-same_some s u e = cc
-
 module _ {way : Rounding} where
   -- the numeral `0` is the value 0
   pub zero_value : IsValuePart way zero_part (pos 0)
-  zero_value = grind (arith, exponent_zero, numeral_zero, size_zero, within_largest, zero_rounded)
+  zero_value = grind (arith, exponent_zero, numeral_zero, size_zero, zero_rounded)
 
   -- so is `0` after a sign
   pub signed_zero_value : (s : Lexeme) → sign_kind s.kind ≡ true → IsValuePart way (signed_zero s) (pos 0)
-  signed_zero_value s sign = grind (arith, zero_rounded, same_some, zero_value)
+  signed_zero_value s sign = grind (arith, zero_rounded, zero_value)

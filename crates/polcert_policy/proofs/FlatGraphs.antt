@@ -1,19 +1,12 @@
 -- The tokens of a graph, field after field, and the same by the index of each token.
-use Rattle.std.proofs.Common.{◌≡◌, ◌∙◌, ℕ, suc, zero, ◌+◌, ◌*◌, ◌<◌, ◌==◌, Bool, true, false, ◌&&◌, Option, Some, None, IfSome, List, [], length, map, codes, slice_get, get_or, refl, sym, ap, subst, arith}
-use Rattle.std.specs.List.{range_with_len}
+use Rattle.std.proofs.Common.{◌≡◌, ◌∙◌, ℕ, suc, zero, ◌+◌, ◌*◌, ◌<◌, Bool, true, false, ◌&&◌, Option, Some, None, IfSome, List, [], length, map, codes, slice_get, get_or, refl, sym, ap, subst, arith}
+use Rattle.polcert_policy.proofs.Common.{range_with_len, length-map-range_with_len, get_or-map-range_with_len, get_or_from_slice_get, slice_get-get_or, Lexeme, IsCut, text_rest, text_limit, are_digits, TokenKind, Name, Numeral, Minus, numeral_kind, minus_kind, is_whole, whole_of, is_successor, is_successor_of, successor_of, number_at, is_joined, PolicyGraph, nodes, action_of, next_of, width, IsLooseGraph, HasNodesOnly, IsGraph, IsGraphText}
 use Rattle.std.proofs.lemmas.Bool.Decides.{nat_tests}
-use Rattle.std.proofs.lemmas.List.FromFn.{length-map-range_with_len, get_or-map-range_with_len}
-use Rattle.std.proofs.lemmas.Option.{get_or_from_slice_get, slice_get-get_or}
-use Rattle.polcert_text.specs.Cut.{Lexeme, IsCut, text_rest, text_limit}
-use Rattle.polcert_text.specs.Lexemes.{are_digits}
-use Rattle.polcert_text.specs.declared.tokens.TokenKind.{TokenKind}
-use Rattle.polcert_text.specs.declared.tokens.TokenKind.TheVariants.{Name, Numeral, Minus}
 use Rattle.polcert_text.proofs.Scanning.CleanCut.{clean_cut, clean_tokens}
 use Rattle.polcert_cells.specs.Numbers.{IsWhole}
-use Rattle.polcert_policy.specs.Fields.{numeral_kind, minus_kind, is_whole, whole_of, is_x, is_successor, is_successor_of, successor_of, number_at, is_joined}
+use Rattle.polcert_policy.specs.Fields.{is_x}
 use Rattle.polcert_policy.specs.Graphs as graphs
-use Rattle.polcert_policy.specs.Graphs.{PolicyGraph, nodes, action_of, next_of, fields_of, IsField, AreGraphTokens, width, IsLooseGraph, HasNodesOnly, IsGraph}
-use Rattle.polcert_policy.specs.GraphText.{IsGraphText}
+use Rattle.polcert_policy.specs.Graphs.{fields_of, IsField, AreGraphTokens}
 use Rattle.polcert_policy.proofs.Places.{row_of, row_below, row_above, some_columns, place_inside, within_get, same_some}
 use Rattle.polcert_policy.proofs.FlatRows.{row_long, row_at, rows_zip}
 
@@ -163,9 +156,7 @@ module _ (a o : ℕ) (ts : List Lexeme) (g : PolicyGraph) where
           subst (λ f. IfSome f (λ m. m < nodes g)) (sym here) (if_some (next_of g row.0 row.1.0) below)
 
       joined : (k : ℕ) (s t : Lexeme) → s.kind ≡ Minus → t.kind ≡ Numeral → t.place ≡ s.place + length s.bytes → is_joined s t ≡ false → ⊥
-      joined k s t e f same free =
-          let apart : (t.place == s.place + length s.bytes) ≡ false = simp (e, f) at free in
-          grind (arith, nat_tests)
+      joined k s t e f same free = grind (arith, nat_tests, at)
 
 -- ---- texts
 

@@ -1,6 +1,6 @@
 -- Lists that are rows of one width, one after another, and what stands at a place of them.
+use Rattle.polcert_policy.proofs.Common.{common_steps, range_with_len, AllZip}
 use Rattle.std.proofs.Common.{◌≡◌, ◌∙◌, ℕ, suc, zero, ◌+◌, ◌*◌, ◌<◌, ◌≤◌, Some, List, [], ◌∷◌, ◌++◌, length, flat_map, slice_get, refl, sym, ap, subst, arith, length-append}
-use Rattle.std.specs.List.{range_with_len, AllZip}
 use Rattle.std.proofs.lemmas.Slice.Zip.{AllZip-long}
 use Rattle.polcert_policy.proofs.Places.{same_some, row_of, row_below, within_get}
 
@@ -34,8 +34,8 @@ module _ {Y : Type 0} (F : ℕ → List Y) (w : ℕ) (wide : (n : ℕ) → lengt
 
   get_row : (m n i j : ℕ) → i < n → j < w → slice_get (rows_from m n) (i * w + j) ≡ slice_get (F (m + i)) j
   get_row m zero i j l k = absurd (omega (arith, l))
-  get_row m (suc n) zero j l k = grind (arith, slice_get, get_front)
-  get_row m (suc n) (suc i) j l k = grind (arith, slice_get, get_after, get_row (m + 1) n i j (omega (arith, l)) k)
+  get_row m (suc n) zero j l k = grind (arith, get_front)
+  get_row m (suc n) (suc i) j l k = grind (arith, get_after, get_row (m + 1) n i j (omega (arith, l)) k)
 
   get_first : (n i j : ℕ) → i < n → j < w → slice_get (rows_from 0 n) (i * w + j) ≡ slice_get (F i) j
   get_first n i j l k = let same : 0 + i ≡ i = omega arith in get_row 0 n i j l k ∙ ap (λ x. slice_get (F x) j) same
@@ -46,8 +46,7 @@ module _ {Y : Type 0} (F : ℕ → List Y) (w : ℕ) (wide : (n : ℕ) → lengt
     row_long are = sym (AllZip-long R xs (rows_from 0 n) are) ∙ length_rows 0 n
 
     pub row_at : AllZip R xs (rows_from 0 n) → (i j : ℕ) (x : X) (y : Y) → j < w → slice_get xs (i * w + j) ≡ Some x → slice_get (F i) j ≡ Some y → R x y
-    row_at are i j x y k at also =
-        zip_at R xs (rows_from 0 n) are (i * w + j) x y at (get_first n i j (row_below w i j n (omega (arith, within_get xs _ x at, row_long are))) k ∙ also)
+    row_at are i j x y k at also = grind (arith, common_steps, slice_get, row_below, within_get, zip_at, get_first, row_long)
 
     pub rows_zip : 1 ≤ w → length xs ≡ n * w → ((i j : ℕ) (x : X) (y : Y) → i < n → j < w → slice_get xs (i * w + j) ≡ Some x → slice_get (F i) j ≡ Some y → R x y)
         → AllZip R xs (rows_from 0 n)

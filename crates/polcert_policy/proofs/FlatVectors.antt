@@ -1,20 +1,10 @@
 -- The tokens of vectors, field after field, and the same by the index of each number.
 use Rattle.std.proofs.Common.{◌≡◌, ◌∙◌, ℕ, ℤ, suc, zero, ◌+◌, ◌*◌, ◌<◌, ◌⊎◌, inl, inr, true, false, Option, Some, None, List, [], ◌∷◌, ◌++◌, length, map, flat_map, pos, slice_get, get_or, refl, sym, ap, subst, arith}
-use Rattle.std.specs.List.{range_with_len, AllZip}
-use Rattle.std.proofs.lemmas.List.FromFn.{length-map-range_with_len, get_or-map-range_with_len}
-use Rattle.std.proofs.lemmas.Option.{get_or_from_slice_get, slice_get-get_or}
-use Rattle.polcert_text.specs.Cut.{Lexeme, IsCut, text_rest, text_limit}
-use Rattle.polcert_text.specs.declared.tokens.TokenKind.{TokenKind}
-use Rattle.polcert_text.specs.declared.tokens.TokenKind.TheVariants.{Numeral, Plus, Minus}
-use Rattle.polcert_text.specs.declared.number.Rounding.{Rounding}
+use Rattle.polcert_policy.proofs.Common.{range_with_len, AllZip, length-map-range_with_len, get_or-map-range_with_len, get_or_from_slice_get, slice_get-get_or, Lexeme, IsCut, text_rest, text_limit, TokenKind, Numeral, Plus, Minus, Rounding, IsRounded, numeral_kind, PolicyGraph, nodes, action_of, PolicyVectors, value_of, sign_kind, Part, with_sign, tokens_of, IsActionPart, IsValuePart, IsRoundedVectors, IsRoundedVectorsText}
 use Rattle.polcert_text.proofs.Scanning.CleanCut.{clean_cut, clean_tokens}
-use Rattle.polcert_text.specs.Numbers.{IsRounded}
 use Rattle.polcert_cells.specs.Numbers.{IsNumeral}
-use Rattle.polcert_policy.specs.Fields.{numeral_kind}
-use Rattle.polcert_policy.specs.Graphs.{PolicyGraph, nodes, action_of}
 use Rattle.polcert_policy.specs.Vectors as vectors
-use Rattle.polcert_policy.specs.Vectors.{PolicyVectors, value_of, sign_kind, Part, with_sign, tokens_of, IsActionPart, IsValuePart, IsRoundedVectors, AreFields, vector_fields, AreVectorTokens}
-use Rattle.polcert_policy.specs.VectorText.{IsRoundedVectorsText}
+use Rattle.polcert_policy.specs.Vectors.{AreFields, vector_fields, AreVectorTokens}
 use Rattle.polcert_policy.proofs.Places.{row_below, place_inside, within_get, same_some}
 use Rattle.polcert_policy.proofs.FlatRows.{row_long, row_at, rows_zip}
 use Rattle.polcert_policy.proofs.FlatGraphs.{whole_is, is_whole_of}
@@ -133,9 +123,7 @@ module _ (way : Rounding) where
     }
       where
         at : (n j : ℕ) (p : Part) (f : ℕ ⊎ ℤ) → n < nodes g → j < 1 + states → slice_get is.parts (n * (1 + states) + j) ≡ Some p → slice_get (vector_fields g v n) j ≡ Some f → PartIs p f
-        at n zero p f l k here also =
-            let was = is.records.action n p (subst (λ i. slice_get is.parts i ≡ Some p) (omega arith) here) in
-            subst (PartIs p) (same_some (inl (action_of g n)) f also) was
+        at n zero p f l k here also = grind (arith, slice_get, same_some)
         at n (suc s) p f l k here also =
             let below : s < states = omega (arith, k) in
             let was = is.records.value n s p below (subst (λ i. slice_get is.parts i ≡ Some p) (omega arith) here) in

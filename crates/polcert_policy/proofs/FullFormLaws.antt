@@ -1,31 +1,18 @@
 -- The full form of vectors, read with their graph, gives the vectors back.
+use Rattle.polcert_policy.proofs.Common.{common_steps, list_all, ints, take_more, slice_get-get_or, is_blank, IsCut, text_rest, text_limit, scaled_text, largest, Measures, Rounding, PolicyGraph, nodes, action_of, IsProperGraph, PolicyVectors, Part, sign_kind, tokens_of, value_of, IsActionPart, IsValuePart, IsRoundedVectors, IsInRange, AreProperVectors, IsRoundedVectorsText, AreVectorsUpTo, after_value, values_text, action_text, vectors_text_up_to}
 use Rattle.std.proofs.Common.{◌≡◌, ◌∙◌, ℕ, ℤ, suc, zero, ◌+◌, ◌-◌, ◌*◌, ◌^◌, ◌<◌, ◌≤◌, Bool, true, false, cond, pos, negsuc, None, List, [], ◌∷◌, ◌++◌, length, take, decimal, codes, refl, sym, ap, subst, arith, append_assoc, append-nil, length-append, take_all}
 use Rattle.std.proofs.Math.Path.{subst₂}
-use Rattle.std.specs.List.{list_all}
 use Rattle.std.specs.Prelude.{◌==◌}
 use Rattle.std.proofs.lemmas.Bool.{le-ltb}
-use Rattle.std.proofs.lemmas.Int.{ints}
-use Rattle.std.proofs.lemmas.List.{take_more}
-use Rattle.std.proofs.lemmas.Option.{slice_get-get_or}
-use Rattle.std.proofs.Math.Nat.{mul-le-mul_right}
-use Rattle.polcert_text.specs.Bytes.{is_blank}
-use Rattle.polcert_text.specs.Cut.{IsCut, text_rest, text_limit}
-use Rattle.polcert_text.specs.Millionths.{unsigned_text, scaled_text}
-use Rattle.polcert_text.specs.Numbers.{largest}
-use Rattle.polcert_text.specs.Steps.Scaling.{Measures}
+use Rattle.polcert_text.specs.Millionths.{unsigned_text}
 use Rattle.polcert_text.proofs.Numbers.SignedLaws.{rounded_whole}
 use Rattle.polcert_text.proofs.Numbers.SizeLaws.{millionth_pos}
-use Rattle.polcert_text.specs.declared.number.Rounding.{Rounding}
-use Rattle.polcert_policy.specs.Graphs.{PolicyGraph, nodes, action_of, IsProperGraph}
-use Rattle.polcert_policy.specs.Vectors.{PolicyVectors, Part, sign_kind, tokens_of, value_of, IsActionPart, IsValuePart, IsRoundedVectors, IsInRange, AreProperVectors}
-use Rattle.polcert_policy.specs.VectorText.{IsRoundedVectorsText}
-use Rattle.polcert_policy.specs.Steps.VectorsRead.{AreVectorsUpTo}
-use Rattle.polcert_policy.specs.FullForm.{after_value, values_text, action_text, vectors_text_up_to, vectors_text}
+use Rattle.polcert_policy.specs.FullForm.{vectors_text}
 use Rattle.polcert_policy.proofs.FlatVectors as flat_vectors
 use Rattle.polcert_policy.proofs.Places.{some_none, same_some}
 use Rattle.polcert_policy.proofs.Fillers.{action_spelled}
 use Rattle.polcert_policy.proofs.GraphLaws.{IsAfter}
-use Rattle.polcert_policy.proofs.VectorSteps.{no_vectors, step_vector_action, step_value}
+use Rattle.polcert_policy.proofs.VectorSteps.{step_vector_action, step_value}
 use Rattle.polcert_text.proofs.Printing.Numerals.{IsPlain, plain_decimal}
 use Rattle.polcert_text.proofs.Printing.PrintedCut.{rest_at}
 use Rattle.polcert_text.proofs.Printing.WrittenNumbers.{size_written, plain_size, readable_written}
@@ -99,7 +86,7 @@ after_either : (b : Bool) → After (cond b (codes "\n\n") (codes " "))
 after_either b = grind (arith, blank_blank, line_ends_blank)
 
 plain_value : (h : ℤ) → IsInRange h → IsPlain (size_text h)
-plain_value h h1 = grind (arith, plain_size, positive_size, negative_size)
+plain_value h h1 = grind (arith, plain_size)
 
 value_is_printed : (h : ℤ) (o s : ℕ) → IsInRange h → IsPrinted (number_printed h (after_value o s))
 value_is_printed h o s r =
@@ -144,7 +131,7 @@ text-all g v (suc n) =
 
 parts-append : (place : ℕ) (us ws : List Printed) → parts_from place (us ++ ws) ≡ parts_from place us ++ parts_from (place + length (texts_of us)) ws
 parts-append place [] ws = ap (λ p. parts_from p ws) (omega arith)
-parts-append place (u ∷ us) ws = grind (arith, length-append, printed_text, texts_of, part_with, parts_from, parts-append (place + length (printed_text u)) us ws)
+parts-append place (u ∷ us) ws = grind (arith, length-append, parts-append (place + length (printed_text u)) us ws)
 
 all-append : (us ws : List Printed) → AllPrinted us → AllPrinted ws → AllPrinted (us ++ ws)
 all-append [] ws a b = b
@@ -152,7 +139,7 @@ all-append (u ∷ us) ws a b = (a.0, all-append us ws a.1 b)
 
 text_short : (us : List Printed) → AllPrinted us → length (texts_of us) ≤ 33 * length us
 text_short [] a = omega arith
-text_short (u ∷ us) a = grind (arith, length-append, printed_text, texts_of, text_short us a.1)
+text_short (u ∷ us) a = grind (arith, length-append, text_short us a.1)
 
 module _ (g : PolicyGraph) (v : PolicyVectors) (proper_g : IsProperGraph g) (proper_v : AreProperVectors v) (same : v.nodes ≡ nodes g) where
   in_place : (n s : ℕ) → n < nodes g → s < v.states → n * v.states + s < length v.values
@@ -170,7 +157,7 @@ module _ (g : PolicyGraph) (v : PolicyVectors) (proper_g : IsProperGraph g) (pro
 
   all_are_printed : (n : ℕ) → n ≤ nodes g → AllPrinted (all_printed g v n)
   all_are_printed zero l = tt
-  all_are_printed (suc n) l = grind (arith, action_is_printed, all-append, values_are_printed, known_action, all_are_printed n (omega (arith, l)))
+  all_are_printed (suc n) l = grind (arith, action_is_printed, all-append, values_are_printed, all_are_printed n (omega (arith, l)))
 
   length-values : (n s : ℕ) → length (values_printed v n s) ≡ s
   length-values n zero = refl
@@ -185,15 +172,13 @@ module _ (g : PolicyGraph) (v : PolicyVectors) (proper_g : IsProperGraph g) (pro
 
   parts_more : (ps : List Part) (n place s : ℕ) → (ps ++ parts_from place (action_printed g n ∷ values_printed v n s)) ++ part_with (place + length (texts_of (action_printed g n ∷ values_printed v n s))) (is_below_zero (value_of v n s)) (size_text (value_of v n s)) ∷ []
       ≡ ps ++ parts_from place (action_printed g n ∷ values_printed v n (suc s))
-  parts_more ps n place s =
-      append_assoc ps (parts_from place (action_printed g n ∷ values_printed v n s)) (part_with (place + length (texts_of (action_printed g n ∷ values_printed v n s))) (is_below_zero (value_of v n s)) (size_text (value_of v n s)) ∷ [])
-      ∙ ap (λ qs. ps ++ qs) (sym (parts-append place (action_printed g n ∷ values_printed v n s) (value_printed v n s ∷ [])))
+  parts_more ps n place s = grind (arith, common_steps, append_assoc, texts_of, part_with, parts_from, parts-append)
 
   abbrev UpTo : Rounding → List Part → ℕ → ℕ → List ℤ → Type 0
   UpTo way ps n c vs = AreVectorsUpTo way g v.states ps n c vs
 
   short_text : length (texts_of (all_printed g v (nodes g))) ≤ text_limit
-  short_text = grind (arith, mul-le-mul_right, texts_of, text_short, all_are_printed, length-all)
+  short_text = grind (arith, text_short, all_are_printed, length-all)
 
   module _ (way : Rounding) where
     -- one value more
@@ -225,15 +210,14 @@ module _ (g : PolicyGraph) (v : PolicyVectors) (proper_g : IsProperGraph g) (pro
         subst₂ (λ c m. UpTo way (ps ++ parts_from place (action_printed g n ∷ values_printed v n c)) (suc n) 0 (take m v.values)) last (omega (arith, last)) read
 
     all_rows : (n : ℕ) → n ≤ nodes g → UpTo way (parts_from 0 (all_printed g v n)) n 0 (take (n * v.states) v.values)
-    all_rows zero l = grind (arith, no_vectors)
+    all_rows zero l = grind arith
     all_rows (suc n) l =
         subst (λ qs. UpTo way qs (suc n) 0 (take (suc n * v.states) v.values)) (sym (parts-append 0 (all_printed g v n) (vector_printed g v n)))
         (whole_row (parts_from 0 (all_printed g v n)) n (0 + length (texts_of (all_printed g v n))) (omega (arith, l)) (all_rows n (omega (arith, l))))
 
     tokens_read_back : IsRoundedVectors way g v.states (tokens_of (parts_from 0 (all_printed g v (nodes g)))) v
     tokens_read_back =
-        let at = all_rows (nodes g) (omega arith) in
-        grind (arith, take_all, parts_from)
+        grind (arith, take_all, parts_from, all_rows (nodes g) (omega arith))
 
     -- the full form reads back
     pub reads_back : IsRoundedVectorsText way g v.states (vectors_text g v) v

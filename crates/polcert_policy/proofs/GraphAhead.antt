@@ -1,14 +1,7 @@
 -- A successor that stands whole at the front of some bytes.
 use Rattle.std.proofs.Common.{◌≡◌, ◌∙◌, ℕ, ◌+◌, ◌≤◌, ◌==◌, min, true, ◌&&◌, Option, Some, None, List, [], ◌∷◌, ◌++◌, length, refl, sym, ap, subst}
-use Rattle.polcert_text.specs.Cut.{Lexeme}
-use Rattle.polcert_text.specs.Lexemes.{are_digits}
+use Rattle.polcert_policy.proofs.Common.{Lexeme, are_digits, ReadsOn, Numeral, numeral_kind, minus_kind, whole_of, is_successor_of, number_at, cap, kept_of, IsRead, IsLastMinus, IsApartFrom, Advanced, GraphReading}
 use Rattle.std.specs.Str.Parse.{digits_value}
-use Rattle.polcert_text.specs.Steps.TakenAhead.{ReadsOn}
-use Rattle.polcert_text.specs.declared.tokens.TokenKind.TheVariants.{Numeral}
-use Rattle.polcert_policy.specs.Fields.{numeral_kind, minus_kind, whole_of, is_successor_of, number_at}
-use Rattle.polcert_policy.specs.Steps.Kept.{cap, kept_of}
-use Rattle.polcert_policy.specs.Steps.GraphRead.{IsRead, IsLastMinus, IsApartFrom, Advanced}
-use Rattle.polcert_policy.specs.declared.graph_reading.GraphReading.{GraphReading}
 use Rattle.polcert_policy.proofs.ReadLaws.{read_successor, last_minus}
 
 -- no `-` is last, so that no token joins on

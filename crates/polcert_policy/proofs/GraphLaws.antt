@@ -1,14 +1,9 @@
 -- How the tokens of a graph are read on, and what can't follow.
 use Rattle.std.proofs.Common.{◌≡◌, ◌∙◌, ℕ, suc, zero, ◌+◌, ◌-◌, ◌*◌, ◌<◌, ◌≤◌, ◌==◌, Bool, true, false, ◌&&◌, ◌⊎◌, ⊎_elim, Option, Some, List, [], ◌∷◌, ◌++◌, length, slice_get, refl, sym, ap, subst, arith, length-append, append_assoc, append-nil, lit<}
 use Rattle.std.proofs.Math.Path.{subst₂}
-use Rattle.polcert_text.specs.Bytes.{is_digit}
-use Rattle.polcert_text.specs.Cut.{Lexeme}
-use Rattle.polcert_text.specs.declared.tokens.TokenKind.{TokenKind}
-use Rattle.polcert_text.specs.declared.tokens.TokenKind.TheVariants.{Name, Numeral}
-use Rattle.polcert_policy.specs.Fields.{numeral_kind, minus_kind, is_whole, whole_of, is_successor, successor_of, is_joined}
-use Rattle.polcert_policy.specs.Graphs.{PolicyGraph, nodes, IsAction, IsSuccessor, AreNodes, IsLooseGraph, IsPossible, width, most_nodes}
-use Rattle.polcert_policy.specs.Steps.GraphRead.{AreNodesUpTo, IsApartFrom}
-use Rattle.polcert_policy.proofs.Places.{some_columns, row_above, order, same_row, same_column, get_snoc, get_more, get_here, get_within, within_get, same_some, same_list, row_of, row_below, below_or_at}
+use Rattle.polcert_policy.proofs.Common.{is_digit, Lexeme, TokenKind, Name, Numeral, numeral_kind, minus_kind, is_whole, whole_of, is_successor, successor_of, is_joined, PolicyGraph, nodes, IsLooseGraph, IsPossible, width, most_nodes, AreNodesUpTo, IsApartFrom}
+use Rattle.polcert_policy.specs.Graphs.{IsAction, IsSuccessor, AreNodes}
+use Rattle.polcert_policy.proofs.Places.{some_columns, row_above, same_row, same_column, get_snoc, get_more, get_here, get_within, within_get, same_some, same_list, row_of, row_below, below_or_at}
 
 -- what a token is at its place
 pub record Fits (actions observations node column : ℕ) (t : Lexeme) (chosen : List ℕ) (successors : List (Option ℕ)) : Type 0 where
@@ -21,7 +16,7 @@ abbrev pub Keeps : {X : Type 0} → List X → List X → Type 0
 Keeps {X} xs ys = (k : ℕ) (x : X) → slice_get xs k ≡ Some x → slice_get ys k ≡ Some x
 
 before_get : (ts : List Lexeme) (t s : Lexeme) (k : ℕ) → slice_get (ts ++ t ∷ []) k ≡ Some s → k < length ts → slice_get ts k ≡ Some s
-before_get ts t s k e l = grind (arith, ⊎_elim, slice_get, get_snoc)
+before_get ts t s k e l = grind (arith, get_snoc)
 
 -- one more token keeps the records
 more_nodes : (a o : ℕ) (ts : List Lexeme) (t : Lexeme) (cs ds : List ℕ) (ss us : List (Option ℕ)) (node column : ℕ)
@@ -225,7 +220,7 @@ needed a o ts more t node column cs ss g old loose =
 -- a graph that continues after whole nodes has more of them
 pub needed_node : (a o : ℕ) (ts more : List Lexeme) (t : Lexeme) (node : ℕ) (cs : List ℕ) (ss : List (Option ℕ)) (g : PolicyGraph)
     → AreNodesUpTo a o ts node 0 cs ss → IsLooseGraph a o (ts ++ t ∷ more) g → node < most_nodes
-needed_node a o ts more t node cs ss g old loose = grind (arith, length-append, row_above, order)
+needed_node a o ts more t node cs ss g old loose = grind (arith, length-append)
 
 pub needed_apart : (a o : ℕ) (ts more : List Lexeme) (t s : Lexeme) (k : ℕ) (g : PolicyGraph)
     → slice_get ts k ≡ Some s → suc k ≡ length ts → IsLooseGraph a o (ts ++ t ∷ more) g → is_joined s t ≡ false
@@ -236,12 +231,7 @@ needed_apart a o ts more t s k g at e loose =
 pub unfinished : (a o : ℕ) (ts : List Lexeme) (node column : ℕ) (cs : List ℕ) (ss : List (Option ℕ)) (g : PolicyGraph)
     → AreNodesUpTo a o ts node column cs ss → 0 < column → IsLooseGraph a o ts g → ⊥
 unfinished a o ts node column cs ss g old begun loose =
-    let col = same_column (width o) node (nodes g) column 0 old.within (omega arith) (omega (arith, loose.tokens, old.count)) in
-    omega (arith, col, begun)
-
-pub no_nodes : (a o : ℕ) (ts : List Lexeme) (cs : List ℕ) (ss : List (Option ℕ)) (g : PolicyGraph)
-    → AreNodesUpTo a o ts 0 0 cs ss → IsLooseGraph a o ts g → ⊥
-no_nodes a o ts cs ss g old loose = grind arith
+    omega (arith, same_column (width o) node (nodes g) column 0 old.within (omega arith) (omega (arith, loose.tokens, old.count)), begun)
 
 same_nodes : (a o : ℕ) (ts : List Lexeme) (g h : PolicyGraph) → IsLooseGraph a o ts g → IsLooseGraph a o ts h → nodes g ≡ nodes h
 same_nodes a o ts g h x y = grind arith
@@ -252,8 +242,7 @@ same_values x y z e f = same_some x z e ∙ sym (same_some y z f)
 same_action : (a o : ℕ) (ts : List Lexeme) (g h : PolicyGraph) → IsLooseGraph a o ts g → IsLooseGraph a o ts h
     → (k : ℕ) (x y : ℕ) → slice_get g.chosen k ≡ Some x → slice_get h.chosen k ≡ Some y → x ≡ y
 same_action a o ts g h p q k x y ex ey =
-    let rows = row_above (width o) k (nodes g) (within_get g.chosen k x ex) in
-    let token = get_within ts (k * width o + 1) (omega (arith, rows, p.tokens)) in
+    let token = get_within ts (k * width o + 1) (omega (arith, row_above (width o) k (nodes g) (within_get g.chosen k x ex), p.tokens)) in
     same_values x y (whole_of token.0) (sym ex ∙ (p.records.action k token.0 token.1).value) (sym ey ∙ (q.records.action k token.0 token.1).value)
 
 same_next : (a o : ℕ) (ts : List Lexeme) (g h : PolicyGraph) → IsLooseGraph a o ts g → IsLooseGraph a o ts h
@@ -264,8 +253,7 @@ same_next a o ts g h p q k x y ex ey =
   where
     named : (n z : ℕ) (t : Lexeme) → z < o → slice_get ts (n * width o + (2 + z)) ≡ Some t
         → slice_get g.successors (n * o + z) ≡ Some x → slice_get h.successors (n * o + z) ≡ Some y → x ≡ y
-    named n z t l e ex ey =
-        same_values x y (successor_of t) (sym ex ∙ (p.records.next n z t l e).value) (sym ey ∙ (q.records.next n z t l e).value)
+    named n z t l e ex ey = grind (arith, same_values)
 
     at : (n z : ℕ) → k ≡ n * o + z → z < o → x ≡ y
     at n z e l =

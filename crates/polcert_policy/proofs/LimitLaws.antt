@@ -1,27 +1,21 @@
 -- What a text denotes is within its limits.
 use Rattle.std.proofs.Common.{◌≡◌, ◌∙◌, ℕ, ◌+◌, ◌*◌, ◌<◌, ◌≤◌, List, Some, None, slice_get, length, sym, ap, subst, arith, rules}
-use Rattle.std.proofs.lemmas.Option.{get_or_from_slice_get, slice_get-get_or}
-use Rattle.polcert_text.specs.Cut.{Lexeme}
-use Rattle.polcert_cells.specs.Elements.{most_states, most_actions, most_observations}
-use Rattle.polcert_policy.specs.Graphs.{PolicyGraph, nodes, action_of, IsLooseGraph, IsGraph, IsProperGraph, width, most_nodes}
-use Rattle.polcert_policy.specs.Vectors.{PolicyVectors, IsRoundedVectors, IsInRange, AreProperVectors, value_of}
+use Rattle.polcert_policy.proofs.Common.{get_or_from_slice_get, slice_get-get_or, Lexeme, most_states, most_actions, PolicyGraph, nodes, action_of, IsLooseGraph, IsGraph, IsProperGraph, width, most_nodes, PolicyVectors, IsRoundedVectors, IsInRange, AreProperVectors, value_of, Rounding}
+use Rattle.polcert_cells.specs.Elements.{most_observations}
 use Rattle.polcert_policy.proofs.Places.{row_above, row_below, row_of, get_within, within_get, place_inside}
 use Rattle.polcert_policy.proofs.VectorEndLaws.{values_in_range}
-use Rattle.polcert_text.specs.declared.number.Rounding.{Rounding}
 
 pub loose_actions : (a o : ℕ) (ts : List Lexeme) (g : PolicyGraph) → IsLooseGraph a o ts g → (n : ℕ) → n < nodes g → action_of g n < a
 loose_actions a o ts g h n l =
-    let rows = row_above (width o) n (nodes g) l in
-    let token = get_within ts (n * width o + 1) (omega (arith, rows, h.tokens)) in
+    let token = get_within ts (n * width o + 1) (omega (arith, row_above (width o) n (nodes g) l, h.tokens)) in
     let action = h.records.action n token.0 token.1 in
     subst (λ x. x < a) (sym (get_or_from_slice_get g.chosen n _ 0 action.value)) action.known
 
 pub graph_proper : (a o : ℕ) (ts : List Lexeme) (g : PolicyGraph) → a ≤ most_actions → 1 ≤ o → o ≤ most_observations → IsGraph a o ts g → IsProperGraph g
 graph_proper a o ts g few_a some_o few_o is =
     let h = is.loose in
-    let first = loose_actions a o ts g h 0 (omega (arith, h.some)) in
     record {
-      some_actions = omega (arith, first, h.actions_are);
+      some_actions = omega (arith, loose_actions a o ts g h 0 (omega (arith, h.some)), h.actions_are);
       few_actions = omega (arith, few_a, h.actions_are);
       some_observations = omega (arith, some_o, h.observations_are);
       few_observations = omega (arith, few_o, h.observations_are);

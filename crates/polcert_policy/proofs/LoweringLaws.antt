@@ -3,7 +3,7 @@ use Rattle.std.proofs.Common.{◌≡◌, ℤ, pos, negsuc, ◌≤ℤ◌, false, 
 use Rattle.std.specs.Int.Signed.{le_z}
 use mir.Syntax.{w64}
 use mir.Val.{to_z, of_z}
-use Rattle.polcert_policy.specs.Vectors.{PolicyVectors, value_of, IsInRange, CanShift}
+use Rattle.polcert_policy.proofs.Common.{PolicyVectors, value_of, IsInRange, CanShift}
 
 pub can_lower_two : (v : PolicyVectors) → v.nodes ≡ 1 → v.states ≡ 2 → negsuc 9_999_999_999_998 ≤ℤ value_of v 0 0 → value_of v 0 0 ≤ℤ pos 10_000_000_000_000
     → negsuc 9_999_999_999_998 ≤ℤ value_of v 0 1 → value_of v 0 1 ≤ℤ pos 10_000_000_000_000 → CanShift v (negsuc 0)

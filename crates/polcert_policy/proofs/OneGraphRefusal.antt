@@ -1,10 +1,7 @@
 -- A text is refused as a graph for one reason.
 use Rattle.std.proofs.Common.{◌≡◌, ◌∙◌, ℕ, ◌+◌, ◌*◌, ◌<◌, inl, inr, true, false, Option, Some, None, List, length, refl, sym, ap, subst, arith}
-use Rattle.polcert_text.specs.Cut.{Lexeme, text_rest, text_limit}
-use Rattle.polcert_text.specs.declared.tokens.TokenFault.{TokenFault}
-use Rattle.polcert_policy.specs.Graphs.{PolicyGraph, nodes, IsLooseGraph, IsFirstBeyond, IsPossible, width, most_nodes}
-use Rattle.polcert_policy.specs.GraphText.{IsColumn, is_shaped, joined_minus, IsMisfit, IsWrong, IsGraphRefusal}
-use Rattle.polcert_policy.specs.declared.fault.GraphFault.{GraphFault}
+use Rattle.polcert_policy.proofs.Common.{Lexeme, text_rest, text_limit, TokenFault, PolicyGraph, nodes, IsLooseGraph, IsFirstBeyond, IsPossible, width, most_nodes, IsColumn, joined_minus, IsMisfit, IsWrong, IsGraphRefusal, GraphFault}
+use Rattle.polcert_policy.specs.GraphText.{is_shaped}
 use Rattle.polcert_policy.specs.declared.fault.GraphFault.TheVariants as faults
 use Rattle.polcert_policy.proofs.Places.{true_false, same_row, same_column}
 use Rattle.polcert_policy.proofs.GraphLaws.{possible_before, possible_loose, one_loose}
@@ -59,8 +56,7 @@ one_end a o text ts (Some e) (faults.Token p) (faults.Token q) x y = ap faults.T
 one_end a o text ts None (faults.Truncated p) (faults.Truncated q) x y = ap faults.Truncated (x.0 ∙ sym y.0)
 one_end a o text ts None (faults.NoNodes p) (faults.NoNodes q) x y = ap faults.NoNodes (x.0 ∙ sym y.0)
 one_end a o text ts None (faults.SuccessorOutOfRange n z) (faults.SuccessorOutOfRange m w) x y =
-    let same = one_loose a o ts y.0 x.0 y.1 x.1 in
-    let e = one_first x.0 n z m w x.2 (subst (λ g. IsFirstBeyond g m w) same y.2) in
+    let e = one_first x.0 n z m w x.2 (subst (λ g. IsFirstBeyond g m w) (one_loose a o ts y.0 x.0 y.1 x.1) y.2) in
     λ i. faults.SuccessorOutOfRange (e.0 i) (e.1 i)
 one_end a o text ts _ _ _ x y = absurd (search (part_or_whole, none_or_some, whole_nodes, x, y))
 

@@ -1,9 +1,8 @@
 -- Where the tokens of a text stop being possible, and that it is refused for one reason.
 use Rattle.std.proofs.Common.{◌≡◌, ◌∙◌, ◌⊎◌, inl, inr, ⊎_elim, Option, List, [], ◌∷◌, ◌++◌, refl, sym, subst, append-nil, arith}
-use Rattle.std.proofs.Math.Path.{subst₂, subst⁻¹}
-use Rattle.polcert_text.specs.Cut.{Lexeme, Rest, TakesToken, IsCut}
-use Rattle.polcert_text.specs.TakenTokens.{Taken, nothing, token}
-use Rattle.polcert_text.specs.declared.tokens.TokenFault.{TokenFault}
+use Rattle.polcert_policy.proofs.Common.{Lexeme, Rest, IsCut, Taken, TokenFault}
+use Rattle.polcert_text.specs.Cut.{TakesToken}
+use Rattle.polcert_text.specs.TakenTokens.{nothing, token}
 use Rattle.polcert_text.proofs.TextLaws.{one_cut, one_next_token}
 use Rattle.polcert_text.proofs.Taken.TakenTokens.{cut_taken}
 use Rattle.polcert_policy.specs.Stops.{FirstBadToken}
@@ -38,14 +37,12 @@ no_middle (u ∷ us) ms m e = cons_not_nil _ _ (sym e)
 front_of_snoc : (us xs : List Lexeme) (m y : Lexeme) (ms : List Lexeme) → xs ++ y ∷ [] ≡ us ++ m ∷ ms → (w : List Lexeme) × (xs ≡ us ++ w)
 front_of_snoc [] xs m y ms e = (xs, refl)
 front_of_snoc (u ∷ us) [] m y ms e = absurd (no_middle us ms m (tail_of y u _ _ e))
-front_of_snoc (u ∷ us) (x ∷ xs) m y ms e = grind (arith, head_of, tail_of, front_of_snoc us xs m y ms (tail_of x u _ _ e))
+front_of_snoc (u ∷ us) (x ∷ xs) m y ms e = grind (arith, front_of_snoc us xs m y ms (tail_of x u _ _ e))
 
 same_snoc : (xs ys : List Lexeme) (x y : Lexeme) → xs ++ x ∷ [] ≡ ys ++ y ∷ [] → (xs ≡ ys) × (x ≡ y)
 same_snoc [] [] x y e = (refl, head_of x y _ _ e)
-same_snoc (z ∷ xs) (w ∷ ys) x y e =
-    let more = same_snoc xs ys x y (tail_of z w _ _ e) in
-    ((λ i. head_of z w _ _ e i ∷ more.0 i), more.1)
-same_snoc c d x y e = grind (arith, tail_of, no_middle)
+same_snoc (z ∷ xs) (w ∷ ys) x y e = grind (arith, same_snoc xs ys x y (tail_of z w _ _ e))
+same_snoc c d x y e = grind (arith, no_middle)
 
 module _ (P : List Lexeme → Type 0) (front : (ts us : List Lexeme) → P (ts ++ us) → P ts) where
   not_longer : (us vs : List Lexeme) (s t : Lexeme) → P vs → (P (us ++ s ∷ []) → ⊥) → (more : List Lexeme) → vs ++ t ∷ [] ≡ (us ++ s ∷ []) ++ more → (us ≡ vs) × (s ≡ t)
@@ -55,7 +52,7 @@ module _ (P : List Lexeme → Type 0) (front : (ts us : List Lexeme) → P (ts +
   -- the tokens of a text stop being possible at one token
   one_stop : (rest x y : Rest) (us vs : List Lexeme) (s t : Lexeme) → Taken rest (us ++ s ∷ []) x → Taken rest (vs ++ t ∷ []) y
       → P us → P vs → (P (us ++ s ∷ []) → ⊥) → (P (vs ++ t ∷ []) → ⊥) → (us ≡ vs) × (s ≡ t)
-  one_stop rest x y us vs s t a b p q none_p none_q = grind (arith, ⊎_elim, taken_from, fronts, not_longer)
+  one_stop rest x y us vs s t a b p q none_p none_q = grind (arith, taken_from, fronts, not_longer)
 
   -- where all of them are possible they stop nowhere
   no_stop : (rest x : Rest) (ts us : List Lexeme) (end : Option TokenFault) → IsCut rest ts end → P ts → Taken rest us x → (P us → ⊥) → ⊥
@@ -72,4 +69,4 @@ module _ (P : List Lexeme → Type 0) (front : (ts us : List Lexeme) → P (ts +
     pub one_reason : ((ts : List Lexeme) (t : Lexeme) (f g : F) → IsWrong ts t f → IsWrong ts t g → f ≡ g)
         → ((ts : List Lexeme) (end : Option TokenFault) (f g : F) → EndsFor ts end f → EndsFor ts end g → f ≡ g)
         → (f g : F) → HasReason f → HasReason g → f ≡ g
-    one_reason h1 h2 f g h3 h4 = grind (arith, subst₂, subst⁻¹, one_cut, one_stop, no_stop)
+    one_reason h1 h2 f g h3 h4 = grind (arith, one_cut, one_stop, no_stop)

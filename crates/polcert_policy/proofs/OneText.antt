@@ -1,22 +1,16 @@
 -- A text is at most one graph, and at most one list of vectors of a graph.
 use Rattle.std.proofs.Common.{◌≡◌, ℕ, List, subst, arith}
 use Rattle.polcert_text.proofs.TextLaws as cuts
-use Rattle.polcert_policy.specs.Graphs.{PolicyGraph}
-use Rattle.polcert_policy.specs.GraphText.{IsGraphText}
-use Rattle.polcert_policy.specs.Vectors.{PolicyVectors, IsRoundedVectors}
-use Rattle.polcert_policy.specs.VectorText.{IsRoundedVectorsText}
+use Rattle.polcert_policy.proofs.Common.{PolicyGraph, IsGraphText, PolicyVectors, IsRoundedVectors, IsRoundedVectorsText, Rounding}
 use Rattle.polcert_policy.proofs.FlatGraphs as flat_graphs
 use Rattle.polcert_policy.proofs.FlatVectors as flat_vectors
 use Rattle.polcert_policy.proofs.GraphLaws as graphs
 use Rattle.polcert_policy.proofs.VectorLaws as vectors
-use Rattle.polcert_text.specs.declared.number.Rounding.{Rounding}
 
 pub one_graph : (actions observations : ℕ) (text : List ℕ) (g h : PolicyGraph)
     → IsGraphText actions observations text g → IsGraphText actions observations text h → g ≡ h
 one_graph actions observations text g h a b =
-    let x = flat_graphs.indexed actions observations text g a in
-    let y = flat_graphs.indexed actions observations text h b in
-    grind (arith, cuts.one_cut, graphs.one_loose)
+    grind (arith, cuts.one_cut, graphs.one_loose, flat_graphs.indexed actions observations text h b, flat_graphs.indexed actions observations text g a)
 
 module _ {way : Rounding} where
   pub one_vectors : (graph : PolicyGraph) (states : ℕ) (text : List ℕ) (v w : PolicyVectors)

@@ -1,17 +1,9 @@
 -- A text is refused as vectors for one reason.
-use Rattle.std.proofs.Common.{◌≡◌, ◌∙◌, ℕ, suc, ◌+◌, ◌*◌, ◌<◌, inl, inr, ⊎_elim, true, false, Option, Some, None, List, ◌++◌, length, refl, sym, ap, subst, arith, append_assoc}
-use Rattle.polcert_text.specs.Cut.{Lexeme, text_rest, text_limit}
-use Rattle.polcert_text.specs.declared.tokens.TokenFault.{TokenFault}
-use Rattle.polcert_text.proofs.TextLaws.{one_number_fault}
-use Rattle.polcert_policy.specs.Fields.{numeral_kind}
-use Rattle.polcert_policy.specs.Graphs.{PolicyGraph, nodes}
-use Rattle.polcert_policy.specs.Vectors.{ArePossible}
-use Rattle.polcert_policy.specs.VectorText.{IsPartColumn, last_sign, is_part_shaped, IsPartMisfit, IsRoundedVectorsRefusal}
-use Rattle.polcert_policy.specs.declared.fault.VectorFault.{VectorFault}
+use Rattle.std.proofs.Common.{◌≡◌, ◌∙◌, ℕ, suc, ◌+◌, ◌*◌, ◌<◌, inl, inr, true, false, Option, Some, None, List, ◌++◌, length, refl, sym, ap, subst, arith, append_assoc}
+use Rattle.polcert_policy.proofs.Common.{Lexeme, text_rest, text_limit, TokenFault, numeral_kind, PolicyGraph, nodes, ArePossible, IsPartColumn, last_sign, is_part_shaped, IsPartMisfit, IsRoundedVectorsRefusal, VectorFault, Rounding}
 use Rattle.polcert_policy.specs.declared.fault.VectorFault.TheVariants as faults
 use Rattle.polcert_policy.proofs.Places.{true_false, same_row, same_column}
 use Rattle.polcert_policy.proofs.OneStop as stops
-use Rattle.polcert_text.specs.declared.number.Rounding.{Rounding}
 
 columns : (o : ℕ) (ts : List Lexeme) (n c m d : ℕ) → IsPartColumn o ts n c → IsPartColumn o ts m d → (n ≡ m) × (c ≡ d)
 columns o ts n c m d x y =
@@ -40,10 +32,7 @@ value_or_action : (o : ℕ) (ts : List Lexeme) (n c m : ℕ) → IsPartColumn o 
 value_or_action o ts n c m x y = other_column o ts n (suc c) m x (omega arith) y
 
 one_misfit : (g : PolicyGraph) (o : ℕ) (ts : List Lexeme) (t : Lexeme) (f h : VectorFault) → IsPartMisfit g o ts t f → IsPartMisfit g o ts t h → f ≡ h
-one_misfit g o ts t (faults.Number a p) (faults.Number b q) x y =
-    let same = one_number_fault t.bytes a b x.3 y.3 in
-    let place = x.0 ∙ sym y.0 in
-    λ i. faults.Number (same i) (place i)
+one_misfit g o ts t (faults.Number a p) (faults.Number b q) x y = grind arith
 one_misfit g o ts t (faults.BadShape p) (faults.BadShape q) x y = ap faults.BadShape (x.0 ∙ sym y.0)
 one_misfit g o ts t (faults.ActionMismatch p) (faults.ActionMismatch q) x y = ap faults.ActionMismatch (x.0 ∙ sym y.0)
 one_misfit g o ts t (faults.WrongVectorCount p) (faults.WrongVectorCount q) x y = ap faults.WrongVectorCount (x.0 ∙ sym y.0)
@@ -73,7 +62,7 @@ module _ (way : Rounding) (g : PolicyGraph) (o : ℕ) (text : List ℕ) where
   reason : (f : VectorFault) → (f ≡ faults.Memory → ⊥) → IsRoundedVectorsRefusal way g o text f → HasReason f
   reason (faults.Token x) no_memory h = inr (h.0, (Some x, h.1, h.2, refl))
   reason (faults.Truncated p) no_memory h = let e = h.1.1 in inr (e.tokens, (None, e.cut, e.possible, (e.place_is, (h.0, (h.1.0, e.column_is, h.1.2)))))
-  reason (faults.WrongVectorCount p) no_memory h = grind (arith, ⊎_elim)
+  reason (faults.WrongVectorCount p) no_memory h = grind arith
   reason faults.Memory no_memory h = absurd (no_memory refl)
   reason f no_memory h = inl h
 

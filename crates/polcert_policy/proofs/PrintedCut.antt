@@ -1,14 +1,10 @@
 -- The tokens of numbers that are written one after another, with blanks or line ends after each.
 use Rattle.std.proofs.Common.{◌≡◌, ◌∙◌, ℕ, ◌+◌, ◌≤◌, Bool, true, false, Some, None, List, [], ◌∷◌, ◌++◌, length, refl, ap, subst, arith, length-append}
-use Rattle.std.specs.List.{list_all}
-use Rattle.polcert_text.specs.Bytes.{is_blank}
-use Rattle.polcert_text.specs.Cut.{Lexeme, IsCut}
-use Rattle.polcert_text.specs.declared.tokens.TokenKind.TheVariants.{Numeral, Minus}
+use Rattle.polcert_policy.proofs.Common.{list_all, is_blank, Lexeme, IsCut, Numeral, Minus, Part, tokens_of}
 use Rattle.polcert_text.proofs.Printing.Numerals.{IsPlain}
 use Rattle.polcert_text.proofs.Printing.PrintedCut as cuts
 use Rattle.polcert_text.proofs.Printing.PrintedCut.{rest_at}
 use Rattle.polcert_text.proofs.Printing.PrintedWords.{Word, plain, minus, word_text, spelled, IsSpelling, text_word, word_printed, numeral_piece}
-use Rattle.polcert_policy.specs.Vectors.{Part, tokens_of}
 
 -- a number as it is written, and what stands after it
 pub record Printed : Type 0 where
@@ -64,8 +60,7 @@ text_pieces (u ∷ us) =
     ∙ (λ i. (text_word (word_of u.negative u.numeral) u.following ∙ ap (λ w. w ++ u.following) (same u.negative)) i ++ text_pieces us i)
   where
     same : (b : Bool) → word_text (word_of b u.numeral) ≡ signed_text b u.numeral
-    same true = refl
-    same false = refl
+    same b = grind arith
 
 pieces_printed : (us : List Printed) → AllPrinted us → cuts.ArePrinted (pieces us)
 pieces_printed [] a = tt
@@ -84,16 +79,7 @@ lexemes_are (u ∷ us) place = at u.negative (λ n. lexemes_are us n)
   where
     at : (b : Bool) → ((n : ℕ) → cuts.lexemes_at n (pieces us) ≡ tokens_of (parts_from n us))
         → cuts.lexemes_at place (spelled (word_of b u.numeral) u.following ++ pieces us) ≡ tokens_of (part_with place b u.numeral ∷ parts_from (place + length (signed_text b u.numeral ++ u.following)) us)
-    at true more =
-        let s : Lexeme = record { kind = Minus; place = place; bytes = 45 ∷ [] } in
-        let t : ℕ → Lexeme = λ n. record { kind = Numeral; place = n; bytes = u.numeral } in
-        let numeral : place + 1 + 0 ≡ place + 1 = omega arith in
-        let next : place + 1 + 0 + length u.numeral + length u.following ≡ place + length (45 ∷ (u.numeral ++ u.following)) = omega (arith, length-append u.numeral u.following) in
-        λ i. s ∷ t (numeral i) ∷ (ap (λ n. cuts.lexemes_at n (pieces us)) next ∙ more _) i
-    at false more =
-        let t : Lexeme = record { kind = Numeral; place = place; bytes = u.numeral } in
-        let next : place + length u.numeral + length u.following ≡ place + length (u.numeral ++ u.following) = omega (arith, length-append u.numeral u.following) in
-        ap (λ ls. t ∷ ls) (ap (λ n. cuts.lexemes_at n (pieces us)) next ∙ more _)
+    at b h1 = grind (arith, length-append, cuts.lexemes_at)
 
 -- the text of the numbers is cut into their tokens
 pub cut_printed : (us : List Printed) (place : ℕ) (gap : List ℕ) → AllPrinted us → list_all is_blank gap ≡ true → IsCut (rest_at place (gap ++ texts_of us)) (tokens_of (parts_from (place + length gap) us)) None

@@ -1,23 +1,38 @@
 -- What is said of the text of a source that ended cleanly after the tokens taken.
-use Rattle.std.proofs.Common.{◌≡◌, ℕ, ◌-◌, ◌<◌, ◌≤◌, Option, None, List, length, ap, arith}
-use Rattle.polcert_text.specs.Cut.{Lexeme, IsCut, text_rest, text_limit}
-use Rattle.polcert_text.specs.Source.{IsText, EachTextThatFits}
+use Rattle.std.proofs.Common.{◌≡◌, ℕ, ◌-◌, ◌<◌, Option, None, List, [], ◌∷◌, ◌++◌, Ok, Err, length, ap, ◌∙◌, arith}
+use Rattle.polcert_policy.proofs.Common.{Lexeme, Rest, IsCut, text_rest, text_limit, ReadsText, Taken, TokenFault, TakenFrom}
+use Rattle.polcert_text.specs.declared.source.SourceFault.TheVariants.{Refused}
 use Rattle.polcert_text.specs.Stream.{Ahead, Stream, GivesToken, GivesEnd}
-use Rattle.polcert_text.specs.Steps.StreamTaken.{TakenFrom}
 use Rattle.polcert_text.specs.Steps.TakenAhead.{ArePassed}
 use Rattle.polcert_text.proofs.Taken.TakenAhead.{all_passed}
-use Rattle.polcert_text.proofs.Streams.StreamTaken.{text_taken, each_whole, token_taken, place_grows, place_within}
+use Rattle.polcert_text.proofs.Streams.StreamTaken.{text_taken, each_whole, each_taken, each_cut, token_taken, place_grows, place_within}
+use Rattle.polcert_text.proofs.Streams.ReadTexts.{value_read, text_refused}
 
-module _ {S : Type 0} (reads : S → ℕ → Option (List ℕ) → S → Type 0) (failures : S → ℕ) (first : S) (ts : List Lexeme) (old : Stream) (s : S) (new : Ahead) (u : S)
-    (taken : TakenFrom reads failures text_limit first ts old s) (ended : GivesEnd reads failures old.ahead s None new u) (P : List ℕ → Type 0)
-    (holds : (text : List ℕ) → IsCut (text_rest text text_limit) ts None → new.place ≡ length text → P text) where
-  pub of_its_text : (text : List ℕ) × IsText reads first text u × P text
-  of_its_text =
-      let text = text_taken reads failures text_limit first ts old s new u taken ended in
-      (text.0, text.1, holds text.0 text.2 text.3)
+module _ {S V F : Type 0} {reads : S → ℕ → Option (List ℕ) → S → Type 0} {failures : S → ℕ} {first : S} (ts : List Lexeme) {old : Stream} {s : S} (taken : TakenFrom reads failures text_limit first ts old s)
+    {Denotes : List ℕ → V → Type 0} {Refuses : F → List ℕ → Type 0} (u : S) where
+  -- a token is refused
+  pub refused_at_token : (fault : F) (t : Lexeme) (new : Stream) → GivesToken reads failures old.ahead s t new.ahead u → new.stop ≡ None → ((text : List ℕ) (rest : Rest) → Taken (text_rest text text_limit) (ts ++ t ∷ []) rest → Refuses fault text)
+      → ReadsText reads failures first u Denotes Refuses (Err (Refused fault))
+  refused_at_token fault t new gives goes_on refuses =
+      let more = token_taken reads failures text_limit first ts old s t new u taken gives goes_on in
+      text_refused fault (each_taken reads failures text_limit first (ts ++ t ∷ []) new u (Refuses fault) more refuses) more.same_count
 
-  pub of_each_text : EachTextThatFits reads first u P
-  of_each_text = each_whole reads first of_its_text.0 u P of_its_text.1 of_its_text.2
+  -- the text is cut at no token
+  pub refused_at_fault : (fault : F) (answer : Option TokenFault) (new : Ahead) → GivesEnd reads failures old.ahead s answer new u → ((text : List ℕ) → IsCut (text_rest text text_limit) ts answer → Refuses fault text)
+      → ReadsText reads failures first u Denotes Refuses (Err (Refused fault))
+  refused_at_fault fault answer new ended refuses = text_refused fault (each_cut reads failures text_limit first ts old s answer new u (Refuses fault) taken ended refuses) (ended.same_count ∙ taken.same_count)
+
+  -- the text ends
+  module _ (new : Ahead) (ended : GivesEnd reads failures old.ahead s None new u) where
+    pub read_at_end : (v : V) → ((text : List ℕ) → IsCut (text_rest text text_limit) ts None → new.place ≡ length text → Denotes text v) → ReadsText reads failures first u Denotes Refuses (Ok v)
+    read_at_end v holds =
+        let text = text_taken reads failures text_limit first ts old s new u taken ended in
+        value_read v (text.0, text.1, holds text.0 text.2 text.3) (ended.same_count ∙ taken.same_count)
+
+    pub refused_at_end : (fault : F) → ((text : List ℕ) → IsCut (text_rest text text_limit) ts None → new.place ≡ length text → Refuses fault text) → ReadsText reads failures first u Denotes Refuses (Err (Refused fault))
+    refused_at_end fault holds =
+        let text = text_taken reads failures text_limit first ts old s new u taken ended in
+        text_refused fault (each_whole reads first text.0 u (Refuses fault) text.1 (holds text.0 text.2 text.3)) (ended.same_count ∙ taken.same_count)
 
 -- after a token, and those that were passed with it, less of the text is left
 pub less_left : {S : Type 0} (reads : S → ℕ → Option (List ℕ) → S → Type 0) (failures : S → ℕ) (first : S) (ts : List Lexeme) (old : Stream) (s : S) (t : Lexeme) (new : Stream) (u : S)
@@ -27,5 +42,4 @@ less_left reads failures first ts old s t new u {Reads} {after} was gives goes_o
     let grows : old.ahead.place < new.ahead.place = place_grows old.ahead new.ahead gives.given t gives.next in
     let taken = token_taken reads failures text_limit first ts old s t new u was gives goes_on in
     let place = ap (λ s. s.ahead.place) ahead.tokens_are in
-    let within : after.ahead.place ≤ text_limit = place_within reads failures text_limit first _ after u (all_passed reads failures text_limit first _ new after u taken ahead) in
-    omega (arith, grows, place, within)
+    omega (arith, grows, place, place_within reads failures text_limit first _ after u (all_passed reads failures text_limit first _ new after u taken ahead))

@@ -1,12 +1,9 @@
 -- What a refused or accepted list of tokens says of the whole text.
 use Rattle.std.proofs.Common.{◌≡◌, ℕ, None, List, length, ◌<◌, ◌+◌, ◌*◌, ◌⊎◌, inl, inr, subst, arith}
-use Rattle.std.proofs.Math.Path.{subst₂, subst₃}
-use Rattle.polcert_text.specs.Cut.{Lexeme, Rest, IsCut, text_rest, text_limit}
-use Rattle.polcert_text.specs.TakenTokens.{Taken}
-use Rattle.polcert_policy.specs.Graphs.{PolicyGraph, IsLooseGraph, IsFirstBeyond, HasNodesOnly, IsPossible}
-use Rattle.polcert_policy.specs.GraphText.{EndsEarly, HasWrongToken, HasFirstBeyond, IsGraphRefusal, IsNoGraphText, NamesSuccessor, IsRefusedGraphText}
-use Rattle.polcert_policy.specs.Steps.GraphRead.{IsTokenRefusal, IsEndRefusal, IsUnfinished}
-use Rattle.polcert_policy.specs.declared.fault.GraphFault.{GraphFault}
+use Rattle.std.proofs.Math.Path.{subst₂}
+use Rattle.polcert_policy.proofs.Common.{Lexeme, Rest, IsCut, text_rest, text_limit, Taken, PolicyGraph, IsLooseGraph, IsFirstBeyond, HasNodesOnly, IsPossible, IsGraphRefusal, IsTokenRefusal, IsUnfinished, GraphFault}
+use Rattle.polcert_policy.specs.GraphText.{EndsEarly, HasWrongToken, HasFirstBeyond, IsNoGraphText, NamesSuccessor, IsRefusedGraphText}
+use Rattle.polcert_policy.specs.Steps.GraphRead.{IsEndRefusal}
 use Rattle.polcert_policy.specs.declared.fault.GraphFault.TheVariants as faults
 use Rattle.polcert_policy.proofs.FlatGraphs.{IsIndexedText, indexed}
 use Rattle.polcert_policy.proofs.GraphLaws.{one_loose}
@@ -98,4 +95,4 @@ refused_text a o text fault r = grind (arith, no_graph, beyond_named)
 
 pub end_refused : (a o b p : ℕ) (text : List ℕ) (ts : List Lexeme) (end : ℕ) (fault : GraphFault)
     → a ≡ b → o ≡ p → IsCut (text_rest text text_limit) ts None → end ≡ length text → IsEndRefusal a o ts end fault → IsRefusedGraphText b p fault text
-end_refused a o b p text ts end fault ea eo cut place h = grind (arith, subst₃, end_refusal, refused_text)
+end_refused a o b p text ts end fault ea eo cut place h = grind (arith, end_refusal, refused_text)

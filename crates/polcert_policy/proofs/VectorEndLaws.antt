@@ -1,30 +1,21 @@
 -- What is read of vectors where the text ends.
 use Rattle.std.proofs.Common.{◌≡◌, ◌∙◌, ℕ, ℤ, ◌+◌, ◌*◌, ◌<◌, ◌≤◌, ◌≤ℤ◌, ◌*ℤ◌, Bool, true, false, pos, neg_ℤ, Option, Some, None, List, [], ◌∷◌, ◌++◌, length, slice_get, get_or, refl, sym, ap, subst, arith, append-nil, length-append}
-use Rattle.std.proofs.Math.Path.{subst⁻¹}
-use Rattle.std.proofs.lemmas.Int.{ints, to_z-of_z, fits_signed_from_abs}
-use Rattle.std.proofs.lemmas.Option.{slice_get-get_or}
+use Rattle.polcert_policy.proofs.Common.{ints, slice_get-get_or, Lexeme, size_of, largest, IsReadable, IsRounded, PolicyGraph, nodes, PolicyVectors, Part, sign_kind, with_sign, tokens_of, AreVectors, IsRoundedVectors, IsInRange, AreProper, IsPartColumn, AreVectorsUpTo, open_of, HasVectors, AreUnfinished, VectorsReading, Rounding, Down, Up}
+use Rattle.std.proofs.lemmas.Int.{to_z-of_z, fits_signed_from_abs}
 use Rattle.std.specs.Prelude.{FitsSigned}
 use mir.Syntax.{w64}
 use mir.Val.{to_z, of_z}
-use Rattle.polcert_text.specs.Cut.{Lexeme}
-use Rattle.polcert_text.specs.Numbers.{millionth, size_of, largest, signed, IsReadable, IsRounded}
+use Rattle.polcert_text.specs.Numbers.{millionth, signed}
 use Rattle.polcert_text.proofs.Numbers.SignedLaws.{signed-mul, le_times_back}
 use Rattle.polcert_text.proofs.Numbers.SizeLaws.{millionth_pos}
-use Rattle.polcert_policy.specs.Graphs.{PolicyGraph, nodes}
-use Rattle.polcert_policy.specs.Vectors.{PolicyVectors, Part, sign_kind, with_sign, tokens_of, AreVectors, IsRoundedVectors, IsInRange, AreProper}
-use Rattle.polcert_policy.specs.VectorText.{IsPartColumn}
-use Rattle.polcert_policy.specs.Steps.VectorsRead.{AreVectorsUpTo, open_of, HasVectors, AreUnfinished}
-use Rattle.polcert_policy.specs.declared.vectors_reading.VectorsReading.{VectorsReading}
-use Rattle.polcert_policy.proofs.Places.{row_above, same_column, same_some}
+use Rattle.polcert_policy.proofs.Places.{row_above, same_column}
 use Rattle.polcert_policy.proofs.VectorLaws.{part_of_value, head_of, tail_of, cons_not_nil, not_sign, front_parts, vector_parts}
 use Rattle.polcert_policy.proofs.VectorSteps.{tokens-append}
 use Rattle.polcert_policy.proofs.VectorReadLaws.{NextPart, drop_same, next_part, possible_seen, column_read, closed_lexeme}
-use Rattle.polcert_text.specs.declared.number.Rounding.{Rounding}
-use Rattle.polcert_text.specs.declared.number.Rounding.TheVariants.{Down, Up}
 
 no_tokens : (ps : List Part) → [] ≡ tokens_of ps → length ps ≡ 0
 no_tokens [] e = refl
-no_tokens (p ∷ ps) e = grind (arith, cons_not_nil)
+no_tokens (p ∷ ps) e = grind arith
 
 low_end : (b : Bool) (size most : ℕ) → size ≤ most → neg_ℤ (pos most) ≤ℤ signed b size
 low_end b size most h1 = grind arith
@@ -61,8 +52,7 @@ kept_in_range x h = subst IsInRange (sym (to_z-of_z w64 x (in_range_fits x h))) 
 
 pub value_in_range : (count o n s : ℕ) (vs : List ℤ) (x d : ℤ) → AreProper count o vs → n < count → s < o → x ≡ get_or vs (n * o + s) d → IsInRange (to_z w64 (of_z w64 x))
 value_in_range count o n s vs x d proper l k e =
-    let above = row_above o n count l in
-    kept_in_range x (proper.in_range (n * o + s) x (slice_get-get_or vs (n * o + s) d (omega (arith, above, k, proper.filled)) ∙ ap Some (sym e)))
+    kept_in_range x (proper.in_range (n * o + s) x (slice_get-get_or vs (n * o + s) d (omega (arith, row_above o n count l, k, proper.filled)) ∙ ap Some (sym e)))
 
 module _ {way : Rounding} where
   -- the parts of whole vectors
@@ -80,8 +70,7 @@ module _ {way : Rounding} where
       n = next_part g o ps node column vs s [] v old all
 
       at : (u : Option Lexeme) → s ∷ [] ≡ with_sign u n.part.token ++ tokens_of n.rest → ⊥
-      at None e = not_sign s n.part.token (head_of s n.part.token _ _ e) sign n.is_part.numeral
-      at (Some u) e = cons_not_nil _ _ (sym (tail_of s u _ _ e))
+      at u h1 = grind (arith, head_of, tail_of, cons_not_nil, not_sign, n)
 
   pub unfinished_vector : (g : PolicyGraph) (seen : List Lexeme) (r : VectorsReading) → 1 ≤ r.states → 0 < r.column → HasVectors way g seen r → AreUnfinished way g r.states seen r.node r.column
   unfinished_vector g seen r some begun h = record {
@@ -98,8 +87,7 @@ module _ {way : Rounding} where
       at (Some s) signed v all = open_ended g r.states h.parts r.node r.column r.values.items s v (signed s refl).0 h.vectors all
 
   pub at_column : (g : PolicyGraph) (seen : List Lexeme) (r : VectorsReading) → r.column ≤ 0 → (h : HasVectors way g seen r) → AreVectorsUpTo way g r.states h.parts r.node 0 r.values.items
-  at_column g seen r e h =
-      subst (λ c. AreVectorsUpTo way g r.states h.parts r.node c r.values.items) (omega (arith, e)) h.vectors
+  at_column g seen r e h = grind arith
 
   -- at a vector's action the tokens are the parts'
   spelled_whole : (g : PolicyGraph) (seen : List Lexeme) (r : VectorsReading) → r.column ≤ 0 → (h : HasVectors way g seen r) → seen ≡ tokens_of h.parts ++ []
@@ -116,7 +104,7 @@ module _ {way : Rounding} where
 
   pub values_in_range : (g : PolicyGraph) (o : ℕ) (ps : List Part) (node : ℕ) (vs : List ℤ) → AreVectors way g o ps vs → length ps ≡ node * (1 + o) → length vs ≡ node * o
       → (k : ℕ) (h : ℤ) → slice_get vs k ≡ Some h → IsInRange h
-  values_in_range g o ps node vs records count filled k h e = grind (arith, slice_get, subst⁻¹, same_some, part_of_value, rounded_in_range)
+  values_in_range g o ps node vs records count filled k h e = grind (arith, part_of_value, rounded_in_range)
 
   -- whole vectors, one for each node
   pub vectors_read : (g : PolicyGraph) (seen : List Lexeme) (r : VectorsReading) → r.column ≤ 0 → nodes g ≤ r.node → HasVectors way g seen r → IsRoundedVectors way g r.states seen (vectors_of r.node r.states r.values.items)

@@ -1,13 +1,7 @@
 -- Tokens are at most one list of vectors.
 use Rattle.std.proofs.Common.{◌≡◌, ◌∙◌, ℕ, ℤ, suc, zero, ◌+◌, ◌*◌, ◌<◌, true, Option, Some, None, List, [], ◌∷◌, ◌++◌, length, slice_get, refl, sym, ap, subst, arith, append-nil}
-use Rattle.polcert_text.specs.Cut.{Lexeme}
-use Rattle.polcert_text.specs.declared.tokens.TokenKind.{TokenKind}
-use Rattle.polcert_text.proofs.TextLaws.{one_rounded}
-use Rattle.polcert_policy.specs.Fields.{numeral_kind}
-use Rattle.polcert_policy.specs.Graphs.{PolicyGraph, nodes}
-use Rattle.polcert_policy.specs.Vectors.{PolicyVectors, Part, sign_kind, with_sign, tokens_of, IsPart, IsActionPart, AreVectors, IsRoundedVectors}
-use Rattle.polcert_policy.proofs.Places.{some_columns, row_above, row_below, row_of, get_within, within_get, same_some, same_list}
-use Rattle.polcert_text.specs.declared.number.Rounding.{Rounding}
+use Rattle.polcert_policy.proofs.Common.{Lexeme, TokenKind, numeral_kind, PolicyGraph, nodes, PolicyVectors, Part, sign_kind, with_sign, tokens_of, IsPart, IsActionPart, AreVectors, IsRoundedVectors, Rounding}
+use Rattle.polcert_policy.proofs.Places.{some_columns, row_above, row_below, row_of, get_within, within_get, same_list}
 
 pub head_of : {X : Type 0} (x y : X) (xs ys : List X) → x ∷ xs ≡ y ∷ ys → x ≡ y
 head_of x y xs ys e = cc
@@ -30,26 +24,19 @@ not_sign s t e sign numeral = no_sign_numeral t.kind numeral (subst (λ x. sign_
 -- parts that begin the tokens of others begin the others
 pub front_parts : (ps qs : List Part) (more : List Lexeme) → AreParts ps → AreParts qs → tokens_of ps ++ more ≡ tokens_of qs → (rest : List Part) × (qs ≡ ps ++ rest)
 front_parts [] qs more a b e = (qs, refl)
-front_parts (p ∷ ps) [] more a b e = grind (arith, cons_not_nil)
+front_parts (p ∷ ps) [] more a b e = grind arith
 front_parts (p ∷ ps) (q ∷ qs) more a b e = at (λ f. front_parts ps qs more (λ k. a (suc k)) (λ k. b (suc k)) f) p.sign q.sign refl refl e
   where
     next : p ≡ q → (rest : List Part) × (qs ≡ ps ++ rest) → (rest : List Part) × (q ∷ qs ≡ (p ∷ ps) ++ rest)
     next same was = (was.0, λ i. sym same i ∷ was.1 i)
 
     at : (tokens_of ps ++ more ≡ tokens_of qs → (rest : List Part) × (qs ≡ ps ++ rest)) → (x y : Option Lexeme) → p.sign ≡ x → q.sign ≡ y → (with_sign x p.token ++ tokens_of ps) ++ more ≡ with_sign y q.token ++ tokens_of qs → (rest : List Part) × (q ∷ qs ≡ (p ∷ ps) ++ rest)
-    at onward None None sx sy e =
-        let tokens = head_of p.token q.token _ _ e in
-        let signs = sx ∙ sym sy in
-        next (λ i. record { sign = signs i; token = tokens i }) (onward (tail_of p.token q.token _ _ e))
+    at onward None None sx sy e = grind (arith, head_of, tail_of, next)
     at onward None (Some t) sx sy e =
         absurd (not_sign t p.token (sym (head_of p.token t _ _ e)) ((b 0 q refl).signed t sy) (a 0 p refl).numeral)
     at onward (Some s) None sx sy e =
         absurd (not_sign s q.token (head_of s q.token _ _ e) ((a 0 p refl).signed s sx) (b 0 q refl).numeral)
-    at onward (Some s) (Some t) sx sy e =
-        let following = tail_of s t _ _ e in
-        let tokens = head_of p.token q.token _ _ following in
-        let signs = sx ∙ ap Some (head_of s t _ _ e) ∙ sym sy in
-        next (λ i. record { sign = signs i; token = tokens i }) (onward (tail_of p.token q.token _ _ following))
+    at onward (Some s) (Some t) sx sy e = grind (arith, head_of, tail_of, next)
 
 action_part : (a : ℕ) (p : Part) → IsActionPart a p → IsPart p
 action_part a p h = grind arith
@@ -65,8 +52,7 @@ pub part_of_value : (o : ℕ) (ps : List Part) (node : ℕ) (vs : List ℤ) (x :
 part_of_value o ps node vs x count filled k e =
     let inside = within_get vs k x e in
     let (n, (s, place, l)) = row_of o k (some_columns node o k (omega (arith, inside, filled))) in
-    let rows = row_above (1 + o) n node (row_below o n s node (omega (arith, inside, filled, place))) in
-    let part = get_within ps (n * (1 + o) + (1 + s)) (omega (arith, rows, count, l)) in
+    let part = get_within ps (n * (1 + o) + (1 + s)) (omega (arith, row_above (1 + o) n node (row_below o n s node (omega (arith, inside, filled, place))), count, l)) in
     (n, s, part.0, place, l, part.1)
 
 module _ {way : Rounding} where
@@ -86,7 +72,7 @@ module _ {way : Rounding} where
 
   same_value : (g : PolicyGraph) (states : ℕ) (ps : List Part) (vs ws : List ℤ) → length ps ≡ nodes g * (1 + states) → length vs ≡ nodes g * states → AreVectors way g states ps vs → AreVectors way g states ps ws
       → (k : ℕ) (x y : ℤ) → slice_get vs k ≡ Some x → slice_get ws k ≡ Some y → x ≡ y
-  same_value g states ps vs ws count filled p q k x y ex ey = grind (arith, slice_get, one_rounded, same_some, part_of_value)
+  same_value g states ps vs ws count filled p q k x y ex ey = grind (arith, part_of_value)
 
   -- tokens are at most one list of vectors
   pub one_list : (g : PolicyGraph) (states : ℕ) (ts : List Lexeme) (v w : PolicyVectors) → IsRoundedVectors way g states ts v → IsRoundedVectors way g states ts w → v ≡ w

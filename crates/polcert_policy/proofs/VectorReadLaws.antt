@@ -1,27 +1,20 @@
 -- What is read of vectors after one more token, and why a token is refused.
-use Rattle.std.proofs.Common.{◌≡◌, ◌∙◌, ℕ, ℤ, suc, ◌+◌, ◌-◌, ◌*◌, ◌^◌, ◌<◌, ◌≤◌, true, false, ◌||◌, if◌then◌else◌, pos, Option, Some, None, Err, List, [], ◌∷◌, ◌++◌, length, slice_get, option_map, refl, sym, ap, subst, arith, append_assoc, append-nil, length-append}
+use Rattle.std.proofs.Common.{◌≡◌, ◌∙◌, ℕ, ℤ, suc, ◌+◌, ◌-◌, ◌*◌, ◌^◌, ◌<◌, ◌≤◌, true, false, if◌then◌else◌, pos, Option, Some, None, Err, List, [], ◌∷◌, ◌++◌, length, slice_get, option_map, refl, sym, ap, subst, arith, append_assoc, append-nil, length-append}
 use Rattle.std.proofs.Math.Path.{transport⁻¹, subst₂, subst⁻¹}
-use Rattle.polcert_text.specs.Cut.{Lexeme}
-use Rattle.polcert_text.specs.Numbers.{IsReadable, IsRounded, IsRefused}
+use Rattle.polcert_policy.proofs.Common.{Lexeme, IsReadable, IsRounded, TokenKind, Numeral, Plus, Minus, numeral_kind, minus_kind, is_whole, whole_of, PolicyGraph, nodes, action_of, IsProperGraph, PolicyVectors, Part, sign_kind, with_sign, tokens_of, IsPart, IsValuePart, AreVectors, IsRoundedVectors, ArePossible, IsPartColumn, last_sign, is_part_shaped, IsPartMisfit, AreVectorsUpTo, open_of, kept_sign, is_minus, HasVectors, IsPartRefusal, AdvancedValue, VectorFault, VectorsReading, Rounding}
+use Rattle.polcert_text.specs.Numbers.{IsRefused}
 use Rattle.polcert_text.specs.declared.number.NumberFault.{NumberFault}
-use Rattle.polcert_text.specs.declared.tokens.TokenKind.{TokenKind}
-use Rattle.polcert_text.specs.declared.tokens.TokenKind.TheVariants.{Numeral, Plus, Minus}
 use Rattle.polcert_text.proofs.TextLaws.{readable_not_refused}
-use Rattle.polcert_policy.specs.Fields.{numeral_kind, minus_kind, is_whole, whole_of}
-use Rattle.polcert_policy.specs.Graphs.{PolicyGraph, nodes, action_of, IsProperGraph}
-use Rattle.polcert_policy.specs.Vectors.{PolicyVectors, Part, sign_kind, with_sign, tokens_of, is_negative, IsPart, IsValuePart, AreVectors, IsRoundedVectors, ArePossible}
-use Rattle.polcert_policy.specs.VectorText.{numbers, IsPartColumn, last_sign, number_place, is_part_shaped, IsPartMisfit, StopVectorsFor}
-use Rattle.polcert_policy.specs.Steps.VectorsRead.{AreVectorsUpTo, open_of, kept_sign, place_after, is_minus, HasVectors, IsPartRefusal, CheckedAction, AdvancedValue}
-use Rattle.polcert_policy.specs.declared.fault.VectorFault.{VectorFault}
+use Rattle.polcert_policy.specs.Vectors.{is_negative}
+use Rattle.polcert_policy.specs.VectorText.{numbers, number_place, StopVectorsFor}
+use Rattle.polcert_policy.specs.Steps.VectorsRead.{place_after, CheckedAction}
 use Rattle.polcert_policy.specs.declared.fault.VectorFault.TheVariants as faults
 use Rattle.polcert_policy.specs.declared.vectors.OpenSign.{OpenSign}
-use Rattle.polcert_policy.specs.declared.vectors_reading.VectorsReading.{VectorsReading}
 use Rattle.polcert_policy.proofs.Places.{true_false, some_none, same_some}
 use Rattle.polcert_policy.proofs.Fillers.{signed_zero, signed_zero_value}
 use Rattle.polcert_policy.proofs.VectorLaws.{head_of, tail_of, cons_not_nil, not_sign, AreParts, front_parts, vector_parts}
 use Rattle.polcert_policy.proofs.VectorSteps.{FitsVectors, no_vectors, value_read, step_vector_action, step_value, some_after, needed_part, can_end, possible_parts, tokens-append}
 use Rattle.polcert_policy.proofs.GraphLaws.{IsAfter}
-use Rattle.polcert_text.specs.declared.number.Rounding.{Rounding}
 
 pub drop_same : {X : Type 0} (xs ys zs : List X) → xs ++ ys ≡ xs ++ zs → ys ≡ zs
 drop_same [] ys zs e = e
@@ -51,8 +44,7 @@ last_open (p ∷ ps) sign parts is = at p.sign sign (last_open ps sign (λ k. pa
     first (Some s) was = after_open p.token s (tokens_of ps) was
 
     at : (u v : Option Lexeme) → last_sign (tokens_of ps ++ open_of v) ≡ v → last_sign ((with_sign u p.token ++ tokens_of ps) ++ open_of v) ≡ v
-    at None v was = first v was
-    at (Some s) v was = first v was
+    at u v h1 = grind (arith, first)
 
 one_number : (t : Lexeme) (ts : List Lexeme) → numeral_kind t.kind ≡ true → numbers (t ∷ ts) ≡ suc (numbers ts)
 one_number t ts e = ap (λ b. if b then suc (numbers ts) else numbers ts) e
@@ -91,7 +83,7 @@ plain_part s t = record { sign = s; token = t }
 -- the tokens of one more part
 pub spelled_more : (seen : List Lexeme) (ps : List Part) (sign : Option Lexeme) (t : Lexeme) → seen ≡ tokens_of ps ++ open_of sign
     → seen ++ t ∷ [] ≡ tokens_of (ps ++ plain_part sign t ∷ []) ++ []
-spelled_more seen ps sign t e = grind (arith, append_assoc, append-nil, tokens-append, open_tokens)
+spelled_more seen ps sign t e = grind (arith, append_assoc, tokens-append)
 
 -- neither a numeral nor a sign
 pub other_kind : (k : TokenKind) → (k ≡ Numeral → ⊥) → (k ≡ Plus → ⊥) → (k ≡ Minus → ⊥) → (numeral_kind k ≡ false) × (sign_kind k ≡ false)
@@ -214,9 +206,7 @@ module _ {way : Rounding} where
     }
       where
         tokens : (more : List Lexeme) → (seen ++ t ∷ []) ++ more ≡ tokens_of h.parts ++ (with_sign h.sign t ++ more)
-        tokens more =
-            ap (λ ts. (ts ++ t ∷ []) ++ more) h.spelled ∙ ap (λ ts. ts ++ more) (append_assoc (tokens_of h.parts) (open_of h.sign) (t ∷ []))
-            ∙ ap (λ ts. (tokens_of h.parts ++ ts) ++ more) (open_tokens h.sign t) ∙ append_assoc (tokens_of h.parts) (with_sign h.sign t) more
+        tokens more = grind (arith, append_assoc, open_tokens)
 
     next : (x : Lexeme) (more : List Lexeme) (v : PolicyVectors) → IsRoundedVectors way g r.states (tokens_of h.parts ++ x ∷ more) v → NextPart way g r.states h.parts r.node r.column v.values x more
     next x more v all = next_part g r.states h.parts r.node r.column r.values.items x more v h.vectors all
@@ -257,8 +247,7 @@ module _ {way : Rounding} where
         true_false (subst (λ x. numeral_kind x.kind ≡ true) (sym p.1) n.is_part.numeral) no_numeral))
       where
         shape : (s : Option Lexeme) → is_part_shaped (suc (r.column - 1)) s t ≡ false
-        shape None = (λ i. no_numeral i || no_sign i)
-        shape (Some s) = no_numeral
+        shape s = grind arith
 
     -- a sign after a sign
     pub refuse_second_sign : (u : OpenSign) → 0 < r.column → r.sign ≡ Some u → sign_kind t.kind ≡ true → StopVectorsFor way g r.states (seen ++ t ∷ []) (faults.BadShape u.place)
@@ -269,8 +258,7 @@ module _ {way : Rounding} where
         (at h.sign h.signed open_one)
       where
         shape : (s : Option Lexeme) → Some u ≡ option_map kept_sign s → is_part_shaped (suc (r.column - 1)) s t ≡ false
-        shape None is = absurd (some_none u (sym is))
-        shape (Some s) is = sign_no_numeral t.kind sign
+        shape s h1 = grind (arith, some_none, sign_no_numeral)
 
         at : (sign : Option Lexeme) → ((s : Lexeme) → sign ≡ Some s → (sign_kind s.kind ≡ true) × (0 < r.column)) → Some u ≡ option_map kept_sign sign → Continues way g r.states h.parts sign t
         at None signed is = absurd (some_none u (sym is))

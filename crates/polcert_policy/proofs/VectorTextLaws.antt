@@ -1,14 +1,8 @@
 -- What a refused or accepted list of tokens says of the whole text of vectors.
 use Rattle.std.proofs.Common.{◌≡◌, ℕ, inr, ⊎_elim, None, List, length, arith}
-use Rattle.std.proofs.Math.Path.{subst₂}
-use Rattle.polcert_text.specs.Cut.{Lexeme, Rest, IsCut, text_rest, text_limit}
-use Rattle.polcert_text.specs.TakenTokens.{Taken}
-use Rattle.polcert_text.specs.declared.number.Rounding.{Rounding}
-use Rattle.polcert_policy.specs.Graphs.{PolicyGraph}
-use Rattle.polcert_policy.specs.Vectors.{PolicyVectors, IsRoundedVectors}
-use Rattle.polcert_policy.specs.VectorText.{EndVectorsEarly, HasWrongPart, IsRoundedVectorsRefusal, IsNoRoundedVectorsText, IsRefusedRoundedVectorsText}
-use Rattle.polcert_policy.specs.Steps.VectorsRead.{IsPartRefusal, AreEndRefusal, AreUnfinished}
-use Rattle.polcert_policy.specs.declared.fault.VectorFault.{VectorFault}
+use Rattle.polcert_policy.proofs.Common.{Lexeme, Rest, IsCut, text_rest, text_limit, Taken, Rounding, PolicyGraph, PolicyVectors, IsRoundedVectors, IsRoundedVectorsRefusal, IsRefusedRoundedVectorsText, IsPartRefusal, AreUnfinished, VectorFault}
+use Rattle.polcert_policy.specs.VectorText.{EndVectorsEarly, HasWrongPart, IsNoRoundedVectorsText}
+use Rattle.polcert_policy.specs.Steps.VectorsRead.{AreEndRefusal}
 use Rattle.polcert_policy.specs.declared.fault.VectorFault.TheVariants as faults
 use Rattle.polcert_policy.proofs.FlatVectors.{indexed}
 use Rattle.polcert_policy.proofs.WholeTexts.{not_stopped, same_tokens, no_token_fault}
@@ -51,4 +45,4 @@ module _ (way : Rounding) where
 
   pub end_refused : (g : PolicyGraph) (o p : ℕ) (text : List ℕ) (ts : List Lexeme) (end : ℕ) (fault : VectorFault)
       → o ≡ p → IsCut (text_rest text text_limit) ts None → end ≡ length text → AreEndRefusal way g o ts end fault → IsRefusedRoundedVectorsText way g p fault text
-  end_refused g o p text ts end fault e cut place h = grind (arith, subst₂, end_refusal, refused_text)
+  end_refused g o p text ts end fault e cut place h = grind (arith, end_refusal, refused_text)

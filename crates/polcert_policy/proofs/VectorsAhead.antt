@@ -1,15 +1,7 @@
 -- Values of vectors that stand whole at the front of some bytes, read together.
 use Rattle.std.proofs.Common.{◌≡◌, ℤ, ◌<◌, true, Option, Some, None, [], ◌∷◌, ◌++◌, refl, sym, ap, subst, append_assoc, arith}
-use Rattle.polcert_text.specs.Cut.{Lexeme}
-use Rattle.polcert_text.specs.FrontValues.{has_minus, with_minus}
-use Rattle.polcert_text.specs.Numbers.{IsReadable, IsRounded}
-use Rattle.polcert_text.specs.Steps.TakenAhead.{ReadsOn}
-use Rattle.polcert_text.specs.declared.tokens.TokenKind.TheVariants.{Numeral, Minus}
-use Rattle.polcert_text.specs.declared.number.Rounding.{Rounding}
-use Rattle.polcert_policy.specs.Fields.{numeral_kind, minus_kind}
-use Rattle.polcert_policy.specs.Vectors.{sign_kind}
-use Rattle.polcert_policy.specs.Steps.VectorsRead.{kept_sign, is_minus, HasVectors, AdvancedValue}
-use Rattle.polcert_policy.specs.declared.vectors_reading.VectorsReading.{VectorsReading}
+use Rattle.polcert_policy.proofs.Common.{Lexeme, with_minus, IsReadable, IsRounded, ReadsOn, Numeral, Minus, Rounding, numeral_kind, minus_kind, sign_kind, kept_sign, is_minus, HasVectors, AdvancedValue, VectorsReading}
+use Rattle.polcert_text.specs.FrontValues.{has_minus}
 use Rattle.polcert_policy.proofs.VectorReadLaws.{read_sign, read_value}
 
 module _ {way : Rounding} (old mid new : VectorsReading) (t : Lexeme) (value : ℤ) (begun : 0 < old.column) (none : old.sign ≡ None) (numeral : t.kind ≡ Numeral) (readable : IsReadable t.bytes)

@@ -1,8 +1,6 @@
 -- What is known of a text whose tokens are right, whatever tokens are.
 use Rattle.std.proofs.Common.{Some, None, List, ◌++◌, subst, ℕ, arith}
-use Rattle.polcert_text.specs.Cut.{Lexeme, Rest, IsCut, text_rest, text_limit}
-use Rattle.polcert_text.specs.TakenTokens.{Taken}
-use Rattle.polcert_text.specs.declared.tokens.TokenFault.{TokenFault}
+use Rattle.polcert_policy.proofs.Common.{Lexeme, Rest, IsCut, text_rest, text_limit, Taken, TokenFault}
 use Rattle.polcert_text.proofs.TextLaws.{one_cut}
 use Rattle.polcert_text.proofs.Taken.TakenTokens.{cut_taken}
 use Rattle.polcert_policy.proofs.Places.{some_none}

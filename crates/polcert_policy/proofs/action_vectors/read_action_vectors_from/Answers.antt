@@ -1,10 +1,7 @@
 use Rattle.std.proofs.Common.{false, [], refl, subst}
-use Rattle.polcert_text.specs.ReadTexts.{ReadsText}
+use Rattle.polcert_policy.proofs.Common.{ReadsText, Up, PolicyGraph, IsRoundedVectorsText, IsRefusedRoundedVectorsText}
 use Rattle.polcert_text.specs.Source as source
-use Rattle.polcert_text.specs.declared.number.Rounding.TheVariants.{Up}
 use Rattle.polcert_text.proofs.Streams.ReadTexts.{text_refused}
-use Rattle.polcert_policy.specs.Graphs.{PolicyGraph}
-use Rattle.polcert_policy.specs.VectorText.{IsRoundedVectorsText, IsRefusedRoundedVectorsText}
 use Rattle.polcert_policy.specs.declared.fault.VectorFault.TheVariants.{Memory}
 use Rattle.polcert_policy.proofs.action_vectors.read_action_vectors_from.Goals as goal
 

@@ -1,23 +1,18 @@
-use Rattle.std.proofs.Common.{◌∙◌, ◌++◌, ◌∷◌, [], ap, Ok, Err}
+use Rattle.std.proofs.Common.{◌∙◌, ◌++◌, ◌∷◌, [], ap, Ok, Err, arith}
 use Rattle.std.proofs.Math.Path.{subst₂}
-use Rattle.polcert_text.specs.Reading.{lexeme_of}
-use Rattle.polcert_text.proofs.Streams.ReadTexts.{value_read, text_refused, read_failed}
-use Rattle.polcert_text.proofs.Streams.StreamTaken.{none_taken, token_taken, each_taken, each_cut}
+use Rattle.polcert_policy.proofs.Common.{lexeme_of, IsGraph}
+use Rattle.polcert_text.proofs.Streams.ReadTexts.{read_failed}
+use Rattle.polcert_text.proofs.Streams.StreamTaken.{none_taken, token_taken}
 use Rattle.polcert_text.proofs.Taken.TakenAhead.{all_passed}
-use Rattle.polcert_policy.specs.Graphs.{IsGraph}
-use Rattle.polcert_policy.specs.GraphText.{IsGraphText, IsRefusedGraphText}
 use Rattle.polcert_policy.specs.declared.fault.GraphFault.TheVariants as faults
 use Rattle.polcert_policy.proofs.ReadLaws.{possible_read}
-use Rattle.polcert_policy.proofs.SourceTexts.{less_left, of_its_text, of_each_text}
+use Rattle.polcert_policy.proofs.SourceTexts.{less_left, refused_at_token, refused_at_fault, read_at_end, refused_at_end}
 use Rattle.polcert_policy.proofs.FlatGraphs.{graph_text}
 use Rattle.polcert_policy.proofs.TextLaws.{token_refusal, refused_text, end_refused, possible_at}
 use Rattle.polcert_policy.proofs.graph.read_graph_from.Goals as goal
 
 pub loop-token-init : goal.loop-token-init
-loop-token-init g c = record {
-  seen = ([], none_taken _ _ _ _ c.new-tokens.result c.new-tokens.ensures.fresh c.new-tokens.ensures.text, c.new-reading.ensures.read);
-  counts = c.new-reading.ensures.counts;
-}
+loop-token-init g c = grind (arith, none_taken)
 
 pub loop-token-preserved : goal.loop-token-preserved
 loop-token-preserved g c =
@@ -35,36 +30,20 @@ loop-token-preserved g c =
 
 pub loop-token-smaller : goal.loop-token-smaller
 loop-token-smaller g c =
-    let was = c.loop-token.invariant.seen in
-    let new = c.next_token.follows.lender-at-none in
     let gives = rw (c.in-Ok-Some.is ∙ ap Ok c.in-Ok-Some.field-0-is) at c.next_token.follows.holds-at-none.answers in
-    less_left _ _ _ was.0 c.loop-token.tokens c.loop-token.source (lexeme_of c.in-Ok-Some.token) new c.next_token.new.source was.1 gives.0 gives.2 c.in_default-read_ahead.ensures.read
+    less_left _ _ _ c.loop-token.invariant.seen.0 _ _ _ c.next_token.follows.lender-at-none _ c.loop-token.invariant.seen.1 gives.0 gives.2 c.in_default-read_ahead.ensures.read
 
 pub returns-in-Err-read_ahead : goal.returns-in-Err-read_ahead
 returns-in-Err-read_ahead g c =
-    let was = c.loop-token.invariant.seen in
-    let new = c.next_token.follows.lender-at-none in
     let gives = rw (c.in-Ok-Some.is ∙ ap Ok c.in-Ok-Some.field-0-is) at c.next_token.follows.holds-at-none.answers in
-    let taken = token_taken _ _ _ _ was.0 c.loop-token.tokens c.loop-token.source (lexeme_of c.in-Ok-Some.token) new c.next_token.new.source was.1 gives.0 gives.2 in
-    record {
-      read = text_refused faults.Memory
-          (each_taken _ _ _ _ _ new c.next_token.new.source (IsRefusedGraphText c.args.actions c.args.observations faults.Memory) taken
-          (λ text rest t. refused_text _ _ text faults.Memory tt))
-          taken.same_count;
-    }
+    record { read = refused_at_token c.loop-token.invariant.seen.0 c.loop-token.invariant.seen.1 _ faults.Memory _ c.next_token.follows.lender-at-none gives.0 gives.2 (λ text rest t. refused_text _ _ text faults.Memory tt) }
 
 pub returns-in-Err : goal.returns-in-Err
 returns-in-Err g c =
-    let was = c.loop-token.invariant.seen in
-    let counts = c.loop-token.invariant.counts in
-    let new = c.next_token.follows.lender-at-none in
     let gives = rw (c.in-Ok-Some.is ∙ ap Ok c.in-Ok-Some.field-0-is) at c.next_token.follows.holds-at-none.answers in
-    let taken = token_taken _ _ _ _ was.0 c.loop-token.tokens c.loop-token.source (lexeme_of c.in-Ok-Some.token) new c.next_token.new.source was.1 gives.0 gives.2 in
     record {
-      read = text_refused c.in-Err.fault
-          (each_taken _ _ _ _ _ new c.next_token.new.source (IsRefusedGraphText c.args.actions c.args.observations c.in-Err.fault) taken
-          (λ text rest t. refused_text _ _ text _ (token_refusal _ _ _ _ text _ rest _ counts.0 counts.1 t (c.in-Err.ensures.read was.0 was.2))))
-          taken.same_count;
+      read = refused_at_token c.loop-token.invariant.seen.0 c.loop-token.invariant.seen.1 _ _ _ c.next_token.follows.lender-at-none gives.0 gives.2 (λ text rest t.
+          refused_text _ _ text _ (token_refusal _ _ _ _ text _ rest _ c.loop-token.invariant.counts.0 c.loop-token.invariant.counts.1 t (c.in-Err.ensures.read c.loop-token.invariant.seen.0 c.loop-token.invariant.seen.2)));
     }
 
 pub returns-in-Ok : goal.returns-in-Ok
@@ -73,22 +52,17 @@ returns-in-Ok g c =
     let counts = c.loop-token.invariant.counts in
     let gives = rw (c.in-Ok-None.is ∙ ap Ok c.in-Ok-None.field-0-is) at c.next_token.follows.holds-at-none.answers in
     record {
-      read = value_read c.in-Ok.graph
-          (of_its_text _ _ _ was.0 _ _ _ _ was.1 gives.0 (λ text. IsGraphText c.args.actions c.args.observations text c.in-Ok.graph)
-          (λ text cut place. graph_text c.args.actions c.args.observations text c.in-Ok.graph was.0 cut (subst₂ (λ a o. IsGraph a o was.0 c.in-Ok.graph) counts.0 counts.1 (c.in-Ok.ensures was.0 was.2))))
-          (gives.0.same_count ∙ was.1.same_count);
+      read = read_at_end was.0 was.1 _ _ gives.0 c.in-Ok.graph (λ text cut place.
+          graph_text c.args.actions c.args.observations text c.in-Ok.graph was.0 cut (subst₂ (λ a o. IsGraph a o was.0 c.in-Ok.graph) counts.0 counts.1 (c.in-Ok.ensures was.0 was.2)));
     }
 
 pub returns-in-Err-finish : goal.returns-in-Err-finish
 returns-in-Err-finish g c =
     let was = c.loop-token.invariant.seen in
-    let counts = c.loop-token.invariant.counts in
     let gives = rw (c.in-Ok-None.is ∙ ap Ok c.in-Ok-None.field-0-is) at c.next_token.follows.holds-at-none.answers in
     record {
-      read = text_refused c.in-Err-finish.fault
-          (of_each_text _ _ _ was.0 _ _ _ _ was.1 gives.0 (IsRefusedGraphText c.args.actions c.args.observations c.in-Err-finish.fault)
-          (λ text cut place. end_refused _ _ _ _ text was.0 c.place.result _ counts.0 counts.1 cut (c.place.ensures ∙ place) (c.in-Err-finish.ensures was.0 was.2)))
-          (gives.0.same_count ∙ was.1.same_count);
+      read = refused_at_end was.0 was.1 _ _ gives.0 _ (λ text cut place.
+          end_refused _ _ _ _ text was.0 _ _ c.loop-token.invariant.counts.0 c.loop-token.invariant.counts.1 cut (c.place.ensures ∙ place) (c.in-Err-finish.ensures was.0 was.2));
     }
 
 pub returns-in-Err-Token : goal.returns-in-Err-Token
@@ -96,17 +70,11 @@ returns-in-Err-Token g c =
     let was = c.loop-token.invariant.seen in
     let counts = c.loop-token.invariant.counts in
     let r = c.loop-token.reading in
-    let new = c.next_token.follows.lender-at-none in
     let gives = rw (c.in-Err-Token.is ∙ ap Err c.in-Err-Token.field-0-is) at c.next_token.follows.holds-at-none.answers in
     record {
-      read = text_refused (faults.Token c.in-Err-Token.fault)
-          (each_cut _ _ _ _ was.0 c.loop-token.tokens c.loop-token.source _ new.ahead c.next_token.new.source (IsRefusedGraphText c.args.actions c.args.observations (faults.Token c.in-Err-Token.fault)) was.1 gives.0
-          (λ text cut. refused_text _ _ text _ (was.0, cut, possible_at _ _ _ _ was.0 counts.0 counts.1 (possible_read was.0 r r.some_actions r.some_observations was.2.nodes))))
-          (gives.0.same_count ∙ was.1.same_count);
+      read = refused_at_fault was.0 was.1 _ (faults.Token c.in-Err-Token.fault) _ c.next_token.follows.lender-at-none.ahead gives.0 (λ text cut.
+          refused_text _ _ text _ (was.0, cut, possible_at _ _ _ _ was.0 counts.0 counts.1 (possible_read was.0 r r.some_actions r.some_observations was.2.nodes)));
     }
 
 pub returns-in-Err-Device : goal.returns-in-Err-Device
-returns-in-Err-Device g c =
-    let was = c.loop-token.invariant.seen in
-    let fails = rw (c.in-Err-Device.is ∙ ap Err c.in-Err-Device.field-0-is) at c.next_token.follows.holds-at-none.answers in
-    record { read = read_failed _ was.0 c.loop-token.tokens c.loop-token.source was.1 (fails.0 was.1.continues) }
+returns-in-Err-Device g c = grind (arith, read_failed)

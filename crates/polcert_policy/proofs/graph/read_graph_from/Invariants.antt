@@ -1,7 +1,5 @@
 use Rattle.std.proofs.Common.{List, ◌-◌}
-use Rattle.polcert_text.specs.Cut.{Lexeme, text_limit}
-use Rattle.polcert_text.specs.Steps.StreamTaken.{TakenFrom}
-use Rattle.polcert_policy.specs.Steps.GraphRead.{IsRead, HasCounts}
+use Rattle.polcert_policy.proofs.Common.{Lexeme, text_limit, TakenFrom, IsRead, HasCounts}
 use Rattle.polcert_policy.proofs.graph.read_graph_from.Given as goal
 
 abbrev pub invariant-loop-token : goal.invariant-loop-token

@@ -1,4 +1,4 @@
-use Rattle.polcert_text.specs.declared.number.Rounding.TheVariants.{Down}
+use Rattle.polcert_policy.proofs.Common.{Down}
 use Rattle.polcert_policy.proofs.OneVectorsRefusal as laws
 use Rattle.polcert_policy.proofs.laws.one_vectors_refusal.Goals as goal
 

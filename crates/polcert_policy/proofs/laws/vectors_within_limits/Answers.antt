@@ -1,4 +1,4 @@
-use Rattle.polcert_text.specs.declared.number.Rounding.TheVariants.{Down}
+use Rattle.polcert_policy.proofs.Common.{Down}
 use Rattle.polcert_policy.proofs.FlatVectors.{parts_from}
 use Rattle.polcert_policy.proofs.LimitLaws as laws
 use Rattle.polcert_policy.proofs.laws.vectors_within_limits.Goals as goal

@@ -1,6 +1,6 @@
 use Rattle.std.proofs.Common.{◌≡◌, rules, codes, decimal, arith}
 use Rattle.polcert_text.proofs.Printing.Taking.{front_then, wrote_front, wrote_next}
-use Rattle.polcert_policy.specs.Graphs.{action_of}
+use Rattle.polcert_policy.proofs.Common.{action_of}
 use Rattle.polcert_policy.proofs.print_vectors.write_action.Goals as goal
 
 pub returns-in_err-write_all : goal.returns-in_err-write_all

@@ -2,10 +2,8 @@ use Rattle.std.proofs.Common.{◌≡◌, ◌∙◌, rules, arith}
 use Rattle.std.proofs.lemmas.Int.{to_z-of_z}
 use mir.Syntax.{w64}
 use mir.Val.{to_z, of_z}
-use Rattle.polcert_text.specs.Millionths.{scaled_text}
+use Rattle.polcert_policy.proofs.Common.{scaled_text, value_of, after_value}
 use Rattle.polcert_text.proofs.Printing.Taking.{front_then, wrote_front, wrote_next}
-use Rattle.polcert_policy.specs.Vectors.{value_of}
-use Rattle.polcert_policy.specs.FullForm.{after_value}
 use Rattle.polcert_policy.proofs.VectorEndLaws.{in_range_fits}
 use Rattle.polcert_policy.proofs.print_vectors.write_value.Goals as goal
 

@@ -1,7 +1,7 @@
 use Rattle.std.proofs.Common.{refl, rules, arith}
-use Rattle.polcert_text.specs.Sink.{nothing}
+use Rattle.polcert_policy.proofs.Common.{nothing, values_text}
 use Rattle.polcert_text.proofs.Printing.Taking.{took_then}
-use Rattle.polcert_policy.specs.FullForm.{values_text, value_text}
+use Rattle.polcert_policy.specs.FullForm.{value_text}
 use Rattle.polcert_text.proofs.Printing.Written.{wrote_part}
 use Rattle.polcert_policy.proofs.print_vectors.write_values.Goals as goal
 

@@ -1,6 +1,5 @@
 use Rattle.std.proofs.Common.{◌≡◌}
-use Rattle.polcert_text.specs.Sink.{Takes}
-use Rattle.polcert_policy.specs.FullForm.{values_text}
+use Rattle.polcert_policy.proofs.Common.{Takes, values_text}
 use Rattle.polcert_policy.proofs.print_vectors.write_values.Given as goal
 
 abbrev pub invariant-loop-state : goal.invariant-loop-state

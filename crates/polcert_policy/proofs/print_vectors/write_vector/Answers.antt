@@ -1,6 +1,6 @@
 use Rattle.std.proofs.Common.{arith}
 use Rattle.polcert_text.proofs.Printing.Taking.{front_then, wrote_front, wrote_next}
-use Rattle.polcert_policy.specs.FullForm.{action_text, values_text}
+use Rattle.polcert_policy.proofs.Common.{action_text, values_text}
 use Rattle.polcert_policy.proofs.print_vectors.write_vector.Goals as goal
 
 pub returns-in_err-write_action : goal.returns-in_err-write_action

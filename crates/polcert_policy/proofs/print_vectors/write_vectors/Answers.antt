@@ -1,9 +1,7 @@
 use Rattle.std.proofs.Common.{◌<◌, refl, sym, rules, arith}
-use Rattle.polcert_text.specs.Sink.{nothing}
+use Rattle.polcert_policy.proofs.Common.{nothing, Down, nodes, vectors_text_up_to}
 use Rattle.polcert_text.proofs.Printing.Taking.{took_then}
-use Rattle.polcert_text.specs.declared.number.Rounding.TheVariants.{Down}
-use Rattle.polcert_policy.specs.Graphs.{nodes}
-use Rattle.polcert_policy.specs.FullForm.{vectors_text_up_to, vector_text}
+use Rattle.polcert_policy.specs.FullForm.{vector_text}
 use Rattle.polcert_policy.proofs.FullFormLaws.{reads_back}
 use Rattle.polcert_text.proofs.Printing.Written.{wrote_part}
 use Rattle.polcert_policy.proofs.print_vectors.write_vectors.Goals as goal
@@ -26,6 +24,4 @@ pub loop-node-preserved : goal.loop-node-preserved
 loop-node-preserved g c = grind (arith, took_then)
 
 pub returns : goal.returns
-returns g c =
-    let back = reads_back c.args.graph.now c.args.vectors.now c.nodes-nodes.ensures.proper c.nodes-vector_count.ensures.proper (sym c.requires) in
-    record { written = search rules; reads_back = back Down; either_way = back }
+returns g c = grind (arith, reads_back)

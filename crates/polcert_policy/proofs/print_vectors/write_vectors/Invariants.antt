@@ -1,6 +1,5 @@
 use Rattle.std.proofs.Common.{◌≡◌}
-use Rattle.polcert_text.specs.Sink.{Takes}
-use Rattle.polcert_policy.specs.FullForm.{vectors_text_up_to}
+use Rattle.polcert_policy.proofs.Common.{Takes, vectors_text_up_to}
 use Rattle.polcert_policy.proofs.print_vectors.write_vectors.Given as goal
 
 abbrev pub invariant-loop-node : goal.invariant-loop-node

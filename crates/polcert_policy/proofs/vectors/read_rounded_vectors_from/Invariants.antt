@@ -1,7 +1,5 @@
 use Rattle.std.proofs.Common.{◌≡◌, List, ◌-◌}
-use Rattle.polcert_text.specs.Cut.{Lexeme, text_limit}
-use Rattle.polcert_text.specs.Steps.StreamTaken.{TakenFrom}
-use Rattle.polcert_policy.specs.Steps.VectorsRead.{HasVectors}
+use Rattle.polcert_policy.proofs.Common.{Lexeme, text_limit, TakenFrom, HasVectors}
 use Rattle.polcert_policy.proofs.vectors.read_rounded_vectors_from.Given as goal
 
 abbrev pub invariant-loop-token : goal.invariant-loop-token

@@ -1,5 +1,5 @@
 use Rattle.std.proofs.Common.{◌≡◌, None, replicate}
-use Rattle.std.specs.List.{range_with_len}
+use Rattle.polcert_policy.proofs.Common.{range_with_len}
 use Rattle.polcert_policy.proofs.graph.Graph.of_actions.Given as goal
 
 -- the nodes so far

@@ -1,8 +1,7 @@
 use Rattle.std.proofs.Common.{◌∙◌, ℕ, ◌≤◌, ◌+◌, ◌∷◌, [], length, Some, rules, arith, refl, ap, subst}
-use Rattle.std.proofs.lemmas.List.{take_rest}
+use Rattle.polcert_policy.proofs.Common.{take_rest, IsRead}
 use Rattle.polcert_text.specs.Beginning.{BeginWithDigits}
 use Rattle.polcert_text.proofs.Taken.TakenAhead.{takes_none, takes_more, front_within}
-use Rattle.polcert_policy.specs.Steps.GraphRead.{IsRead}
 use Rattle.polcert_policy.proofs.GraphAhead.{successor_reads}
 use Rattle.polcert_policy.proofs.Places.{fewer_left}
 use Rattle.polcert_policy.proofs.graph_reading.GraphReading.take_ahead.Goals as goal
@@ -49,10 +48,4 @@ loop-self-preserved c =
     }
 
 pub loop-self-smaller : goal.loop-self-smaller
-loop-self-smaller c =
-    let r = c.loop-self.self in
-    let next = c.advance.ensures in
-    let same = c.loop-self.invariant.counts.1 in
-    fewer_left (1 + c.args.self.now.observations) r.column c.advance.new.self.column (omega (arith, c.loop-self-test.true)) (omega (arith, r.column_within, same))
-    (λ l. (next.inside (omega (arith, l, same))).1)
-    (λ e. (next.last (omega (arith, e, same))).1)
+loop-self-smaller c = grind (arith, fewer_left)

@@ -1,6 +1,5 @@
 use Rattle.std.proofs.Common.{◌≡◌, ◌+◌, None}
-use Rattle.polcert_text.specs.Steps.TakenAhead.{ReadsOn, TakesAhead}
-use Rattle.polcert_policy.specs.Steps.GraphRead.{IsRead, HasCounts}
+use Rattle.polcert_policy.proofs.Common.{ReadsOn, TakesAhead, IsRead, HasCounts}
 use Rattle.polcert_policy.proofs.Places.{places_left}
 use Rattle.polcert_policy.proofs.graph_reading.GraphReading.take_ahead.Given as goal
 

@@ -3,7 +3,7 @@ use Rattle.std.specs.Prelude.{◌+ℤ◌}
 use Rattle.std.proofs.lemmas.Int.{to_z-of_z}
 use mir.Syntax.{w64}
 use mir.Val.{to_z, of_z}
-use Rattle.polcert_policy.specs.Vectors.{PolicyVectors, AreProper, CanShift, shifted_by, value_of}
+use Rattle.polcert_policy.proofs.Common.{PolicyVectors, AreProper, CanShift, shifted_by, value_of}
 use Rattle.polcert_policy.proofs.ShiftLaws.{CanAdd, can_add, proper_shifted, value-shifted_by}
 use Rattle.polcert_policy.proofs.vectors.Vectors.shifted.Goals as goal
 

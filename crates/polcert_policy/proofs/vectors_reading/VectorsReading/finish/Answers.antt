@@ -1,6 +1,5 @@
-use Rattle.std.proofs.Common.{◌<◌, refl, sym, subst, arith}
-use Rattle.polcert_policy.specs.Graphs.{nodes}
-use Rattle.polcert_policy.specs.Vectors.{IsRoundedVectors}
+use Rattle.std.proofs.Common.{◌<◌, refl, arith}
+use Rattle.polcert_policy.proofs.Common.{nodes}
 use Rattle.polcert_policy.proofs.VectorEndLaws.{unfinished_vector, too_few, vectors_read}
 use Rattle.polcert_policy.proofs.LimitLaws.{vectors_proper}
 use Rattle.polcert_policy.proofs.vectors_reading.VectorsReading.finish.Goals as goal
@@ -21,5 +20,4 @@ new-requires c =
     vectors_proper c.args.graph.now r.states c.requires.1.0 _ h.proper.some_nodes h.proper.few_nodes r.some_states r.few_states read
 
 pub returns : goal.returns
-returns c = λ way seen h.
-    subst (λ v. IsRoundedVectors way c.args.graph.now c.args.self.states seen v) (sym c.new.ensures) (vectors_read _ seen c.args.self c.if-self-gt0.false (omega (arith, c.if-self-nodes.false, c.nodes.ensures.count)) h)
+returns c = grind (arith, vectors_read)

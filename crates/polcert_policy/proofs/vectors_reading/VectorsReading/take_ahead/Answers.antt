@@ -1,11 +1,10 @@
-use Rattle.std.proofs.Common.{◌∙◌, ℕ, ◌≤◌, ◌+◌, length, rules, arith, refl, sym, subst}
+use Rattle.std.proofs.Common.{◌∙◌, ℕ, ◌≤◌, ◌+◌, length, rules, arith, refl, subst}
 use Rattle.std.proofs.lemmas.Int.{to_z-of_z}
-use Rattle.std.proofs.lemmas.List.{take_rest}
+use Rattle.polcert_policy.proofs.Common.{take_rest, with_minus, HasVectors}
 use mir.Syntax.{w64}
-use Rattle.polcert_text.specs.FrontValues.{BeginWithValue, with_minus}
+use Rattle.polcert_text.specs.FrontValues.{BeginWithValue}
 use Rattle.polcert_policy.proofs.VectorEndLaws.{rounded_in_range, in_range_fits}
 use Rattle.polcert_text.proofs.Taken.TakenAhead.{takes_none, takes_more, front_within}
-use Rattle.polcert_policy.specs.Steps.VectorsRead.{HasVectors}
 use Rattle.polcert_policy.proofs.Places.{fewer_left}
 use Rattle.polcert_policy.proofs.VectorsAhead.{value_reads}
 use Rattle.polcert_policy.proofs.vectors_reading.VectorsReading.take_ahead.Goals as goal
@@ -52,10 +51,4 @@ loop-self-preserved c =
     }
 
 pub loop-self-smaller : goal.loop-self-smaller
-loop-self-smaller c =
-    let r = c.loop-self.self in
-    let next = c.advance.ensures in
-    let same = c.loop-self.invariant.states in
-    fewer_left c.args.self.now.states r.column c.advance.new.self.column c.loop-self-test.true (omega (arith, r.column_within, same))
-    (λ l. let is = (next.inside (omega (arith, l, same))).1 in omega (arith, is))
-    (λ e. (next.last (e ∙ sym same)).1)
+loop-self-smaller c = grind (arith, fewer_left)

@@ -1,6 +1,5 @@
 use Rattle.std.proofs.Common.{◌≡◌, None}
-use Rattle.polcert_text.specs.Steps.TakenAhead.{ReadsOn, TakesAhead}
-use Rattle.polcert_policy.specs.Steps.VectorsRead.{HasVectors}
+use Rattle.polcert_policy.proofs.Common.{ReadsOn, TakesAhead, HasVectors}
 use Rattle.polcert_policy.proofs.Places.{places_left}
 use Rattle.polcert_policy.proofs.vectors_reading.VectorsReading.take_ahead.Given as goal
 

@@ -1,5 +1,5 @@
-use Rattle.std.proofs.Common.{refl, subst}
-use Rattle.polcert_text.specs.Numbers.{IsRounded}
+use Rattle.std.proofs.Common.{refl, subst, arith}
+use Rattle.polcert_policy.proofs.Common.{IsRounded}
 use Rattle.std.proofs.lemmas.Int.{to_z-of_z}
 use mir.Syntax.{w64}
 use Rattle.polcert_policy.proofs.VectorEndLaws.{rounded_in_range, in_range_fits}
@@ -7,8 +7,7 @@ use Rattle.polcert_policy.proofs.VectorReadLaws.{refuse_numeral, read_value}
 use Rattle.polcert_policy.proofs.vectors_reading.VectorsReading.take_numeral.Goals as goal
 
 pub returns-in-Err-clause-takes : goal.returns-in-Err-clause-takes
-returns-in-Err-clause-takes c = λ graph seen h.
-    refuse_numeral graph seen c.args.self.now _ c.args.self.now.some_states h c.in-Err.fault _ c.requires.column c.number_place.ensures c.requires.numeral c.in-Err.ensures.fault
+returns-in-Err-clause-takes c = grind (arith, refuse_numeral)
 
 pub returns-in_ok-push-in-Ok-clause-takes : goal.returns-in_ok-push-in-Ok-clause-takes
 returns-in_ok-push-in-Ok-clause-takes c = λ graph seen h.
