@@ -1,3 +1,4 @@
+mod Common
 pub mod Certificates
 pub mod Walking
 pub mod Sums

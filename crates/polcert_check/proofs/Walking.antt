@@ -7,6 +7,7 @@ pub mod Found
 pub mod Marking
 pub mod Missing
 pub mod Outcomes
+pub mod Products
 pub mod Sharing
 pub mod Verdicts
 pub mod Walked

@@ -7,6 +7,7 @@ pub mod FollowedCells
 pub mod Leasts
 pub mod Mirrored
 pub mod Node
+pub mod Products
 pub mod Ranges
 pub mod Survey
 pub mod Values

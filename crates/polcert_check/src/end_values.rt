@@ -1,18 +1,20 @@
 //! The values of a node at all end states, computed once for all start states, and what a start state expects of them.
-ghost use Rattle.std.specs.Prelude.{◌≡◌, ◌<◌, ◌^◌, length, unsigned_abs, false, IfSome, ℕ};
+ghost use Rattle.std.specs.Prelude.{◌≡◌, ◌<◌, ◌≤◌, ◌^◌, ◌*ℤ◌, length, unsigned_abs, IfSome, None, ℕ, pos};
 ghost use Rattle.polcert_cells.specs.declared.elements.TheConstants.{MOST_STATES};
 ghost use Rattle.std.specs.Option.{ForSome};
 ghost use Rattle.polcert_cells.specs.BorrowedRows.{IsRowOf, IsStep};
+ghost use Rattle.polcert_cells.specs.Sparse.{IsRow, scaled_cells};
 ghost use Rattle.polcert_check.specs.Steps.Node.{node_controller};
 ghost use Rattle.polcert_check.specs.Steps.Factored.{value_term, IsMissedAt, IsMinOption};
 ghost use Rattle.polcert_check.specs.Steps.Values.{IsCompleteValue, IsEndValue, IsExpectedValue};
 ghost use Rattle.polcert_check.specs.Steps.CheckInput.{controller};
+ghost use Rattle.polcert_check.specs.Steps.Products.{number_term};
 ghost use Rattle.polcert_check.specs.Steps.FollowedCells.{followed, followed_is_proper, followed_is_within};
 
 use crate::check_input::CheckInput;
 use crate::expected_reward::weigh;
 use crate::node::Node;
-use polcert_cells::{MOST_STATES, Row, Step, first_weight};
+use polcert_cells::{Cell, MOST_STATES, Row, Step, first_weight};
 use polcert_model::Cells;
 
 /// A weighted sum of values, and the least observation in it that has no successor.
@@ -70,8 +72,7 @@ pub(crate) fn complete_value<C: Cells>(node: &Node<'_, C>, e: usize) -> Option<i
     match node.input.cells.o_row(node.action(), e) {
         Some(Row::Sparse(cells)) => complete_value_of_row(node, e, Some(Row::Sparse(cells))),
         Some(Row::Scaled { numbers, scale }) => {
-            let row = Row::Scaled { numbers, scale };
-            complete_value_of_row(node, e, Some(row))
+            complete_value_of_numbers(node, e, numbers, scale)
         }
         row => complete_value_of_row(node, e, row),
     }
@@ -102,6 +103,68 @@ fn complete_value_of_row<C: Cells>(
         at = observation.next;
     }
     Some(sum)
+}
+
+/// Returns the product of a number and a value.
+#[inline(always)]
+pub(crate) fn product(number: u32, value: i64) -> i128
+    ensures value { result ≡ pos number *ℤ value }
+    ensures small { unsigned_abs result ≤ 2 ^ 95 }
+{
+    weigh(number as u64, value as i128)
+}
+
+/// Returns what one observation of this number adds to a node's value at end state `e`, before it is scaled. The observation is missing if
+/// the node has no successor for it and the number is above 0.
+#[inline(always)]
+fn number_value<C: Cells>(node: &Node<'_, C>, e: usize, z: usize, number: u32) -> PartialValue
+    requires end { e < (node_controller node.now).cells.states }
+    requires observation { z < (node_controller node.now).cells.observations }
+    ensures value { result.value ≡ number_term (node_controller node.now) node.now.n e number z }
+    ensures small { unsigned_abs result.value ≤ 2 ^ 95 }
+    ensures missing { result.missing ≡ None → (node_controller node.now).next node.now.n z ≡ None
+        → number ≡ 0 }
+{
+    let input = &node.input;
+    let observations = input.cells.observations();
+    prove!(z < observations);
+    match input.graph.next(node.n, z) {
+        Some(m) => PartialValue {
+            value: product(number, input.vectors.at(m, e)),
+            missing: None,
+        },
+        None => PartialValue {
+            value: 0,
+            missing: if number > 0 { Some(z) } else { None },
+        },
+    }
+}
+
+/// Returns the same as `complete_value_of_row`, by a row of O whose weights are these numbers times the scale: the sum is scaled, not each
+/// weight.
+#[inline(always)]
+fn complete_value_of_numbers<C: Cells>(
+    node: &Node<'_, C>,
+    e: usize,
+    numbers: &[u32],
+    scale: u32,
+) -> Option<i128>
+    requires end { e < (node_controller node.now).cells.states }
+    requires row { IsRow (node_controller node.now).cells.observations ((node_controller node.now).cells.o
+        ((node_controller node.now).action node.now.n) e) (scaled_cells scale 0 numbers.now) }
+    ensures { IfSome result (IsCompleteValue (node_controller node.now) node.now.n e) }
+{
+    let observations = node.input.cells.observations();
+    let count = numbers.len().min(observations);
+    let mut sum: i128 = 0;
+    for z in 0..count {
+        let part = number_value(node, e, z, numbers[z]);
+        if part.missing.is_some() {
+            return None;
+        }
+        sum += part.value;
+    }
+    Some(weigh(scale as u64, sum))
 }
 
 /// Returns a node's value at end state `e`: the sum over the row of O, without the weight of reaching `e`.
@@ -200,15 +263,67 @@ pub(crate) fn expected_value<C: Cells, F: Fn(usize) -> PartialValue>(
         → F.post value_of e part → IsEndValue (node_controller node.now) node.now.n e part }
     ensures { IsExpectedValue (node_controller node.now) node.now.n s result }
 {
+    value_by_form(node, s, node.input.cells.t_row(node.action(), s), value_of)
+}
+
+/// Returns the same, by the row of T there; if none is borrowed, each weight is asked for.
+#[inline(always)]
+pub(crate) fn value_by_form<C: Cells, F: Fn(usize) -> PartialValue>(
+    node: &Node<'_, C>,
+    s: usize,
+    row: Option<Row<'_>>,
+    value_of: F,
+) -> PartialValue
+    requires start { s < (node_controller node.now).cells.states }
+    requires row { ForSome row (IsRowOf ((node_controller node.now).cells.t
+        ((node_controller node.now).action node.now.n) s) (node_controller node.now).cells.states) }
+    requires callable { (e : ℕ) → e < (node_controller node.now).cells.states
+        → 0 < (node_controller node.now).cells.t ((node_controller node.now).action node.now.n) s e
+        → F.pre value_of e }
+    requires value { (e : ℕ) (part : _) → e < (node_controller node.now).cells.states
+        → 0 < (node_controller node.now).cells.t ((node_controller node.now).action node.now.n) s e
+        → F.post value_of e part → IsEndValue (node_controller node.now) node.now.n e part }
+    ensures { IsExpectedValue (node_controller node.now) node.now.n s result }
+{
     // A call for each form that most rows have, so that its loop asks for no form.
-    match node.input.cells.t_row(node.action(), s) {
-        Some(Row::Sparse(cells)) => value_of_row(node, s, Some(Row::Sparse(cells)), value_of),
+    match row {
+        Some(Row::Sparse(cells)) => value_of_cells(node, s, cells, value_of),
         Some(Row::Scaled { numbers, scale }) => {
             let row = Row::Scaled { numbers, scale };
             value_of_row(node, s, Some(row), value_of)
         }
         row => value_of_row(node, s, row, value_of),
     }
+}
+
+/// Returns the value that a node expects at state `s`, by the cells of a sparse row of T there: each once, which takes fewer instructions
+/// than steps.
+#[inline(always)]
+fn value_of_cells<C: Cells, F: Fn(usize) -> PartialValue>(
+    node: &Node<'_, C>,
+    s: usize,
+    cells: &[Cell],
+    value_of: F,
+) -> PartialValue
+    requires start { s < (node_controller node.now).cells.states }
+    requires row { IsRow (node_controller node.now).cells.states ((node_controller node.now).cells.t
+        ((node_controller node.now).action node.now.n) s) cells.now }
+    requires callable { (e : ℕ) → e < (node_controller node.now).cells.states
+        → 0 < (node_controller node.now).cells.t ((node_controller node.now).action node.now.n) s e
+        → F.pre value_of e }
+    requires value { (e : ℕ) (part : _) → e < (node_controller node.now).cells.states
+        → 0 < (node_controller node.now).cells.t ((node_controller node.now).action node.now.n) s e
+        → F.post value_of e part → IsEndValue (node_controller node.now) node.now.n e part }
+    ensures { IsExpectedValue (node_controller node.now) node.now.n s result }
+{
+    let mut value: i128 = 0;
+    let mut missing = None;
+    for cell in cells {
+        let part = value_of(cell.column);
+        value += weigh(cell.weight, part.value);
+        missing = min_option(missing, part.missing);
+    }
+    PartialValue { value, missing }
 }
 
 /// Returns the value that a node expects at state `s`, by the row of T there.

@@ -1,12 +1,7 @@
 -- Values that agree at all nodes and states pass alike.
-use Rattle.std.proofs.Common.{◌≡◌, ℕ, ◌<◌, ℤ, pos, ◌+ℤ◌, ◌*ℤ◌, ◌≤ℤ◌, Option, Some, None, sym, refl, ap, subst, neg_ℤ, arith}
-use Rattle.polcert_cells.specs.Tables.{CellTable}
-use Rattle.polcert_policy.specs.Graphs.{PolicyGraph}
-use Rattle.polcert_policy.specs.Vectors.{PolicyVectors, value_of}
-use Rattle.polcert_check.specs.Horizon.{Controller, controller_of, Fits, one, step_weight}
-use Rattle.polcert_check.specs.Shortfall.{backing, short, Passes}
-use Rattle.polcert_check.specs.Steps.Ranges.{IsClosed, IsController}
-use Rattle.polcert_check.specs.Lower.{lowered_by}
+use Rattle.std.proofs.Common.{◌≡◌, ℕ, ◌<◌, ℤ, pos, ◌+ℤ◌, ◌≤ℤ◌, Option, Some, sym, refl, subst, neg_ℤ, arith}
+use Rattle.polcert_check.proofs.Common.{CellTable, PolicyGraph, PolicyVectors, value_of, Controller, controller_of, backing, short, Passes, IsClosed, IsController, lowered_by}
+use Rattle.polcert_check.specs.Horizon.{Fits}
 use Rattle.polcert_check.proofs.Sums.SumLaws.{sum_below_same}
 use Rattle.polcert_check.proofs.Horizons.Kept.{backing_term}
 
@@ -17,16 +12,13 @@ abbrev pub Agrees : Controller → (ℕ → ℕ → ℤ) → Type 0
 Agrees c value = (n s : ℕ) → n < c.nodes → s < c.cells.states → value n s ≡ c.value n s
 
 term_same : (c : Controller) (value : ℕ → ℕ → ℤ) (n s e z : ℕ) → ((m : ℕ) → c.next n z ≡ Some m → value m e ≡ c.value m e) → (at : Option ℕ) → c.next n z ≡ at → backing_term (with_values c value) n s e z at ≡ backing_term c n s e z at
-term_same c value n s e z same None is = refl
-term_same c value n s e z same (Some m) is =
-    ap (λ (x : ℤ). pos (step_weight c n s e z) *ℤ (pos one *ℤ c.cells.r (c.action n) s e z +ℤ pos c.cells.discount *ℤ x)) (same m is)
+term_same c value n s e z h1 at h2 = grind arith
 
 short_same : (c : Controller) → IsClosed c → (value : ℕ → ℕ → ℤ) → Agrees c value → (n s : ℕ) → n < c.nodes → s < c.cells.states → short (with_values c value) n s ≡ short c n s
 short_same c p value agrees n s nl sl =
-    let here : value n s ≡ c.value n s = agrees n s nl sl in
     let backed : backing (with_values c value) n s ≡ backing c n s = sum_below_same _ _ c.cells.states (λ e el. sum_below_same _ _ c.cells.observations (λ z zl.
     term_same c value n s e z (λ m is. agrees m e (p.next_in_range n z m nl zl is) el) (c.next n z) refl)) in
-    rw (here, backed) refl
+    rw (agrees n s nl sl, backed) refl
 
 pub passes_alike : (c : Controller) → IsClosed c → (value : ℕ → ℕ → ℤ) → Agrees c value → Passes c → Passes (with_values c value)
 passes_alike c p value agrees passes n s nl sl =

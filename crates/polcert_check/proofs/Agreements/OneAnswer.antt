@@ -1,19 +1,8 @@
 -- A check has one verdict, lowering one outcome, and a start one best node with one worth.
-use Rattle.std.proofs.Common.{◌≡◌, ◌∙◌, ℕ, ◌<◌, ℤ, pos, ◌≤ℤ◌, ◌<ℤ◌, ◌+ℤ◌, ◌*ℤ◌, Some, None, sym, refl, ap, subst, arith}
-use Rattle.std.proofs.lemmas.Int.{by_lt_z}
-use Rattle.polcert_cells.specs.Meaning.{Meaning, start_total}
-use Rattle.polcert_policy.specs.Vectors.{PolicyVectors}
-use Rattle.polcert_check.specs.declared.fault.LowerFault.{LowerFault}
+use Rattle.std.proofs.Common.{◌≡◌, ◌∙◌, ℕ, ◌<◌, ℤ, pos, ◌≤ℤ◌, ◌<ℤ◌, ◌+ℤ◌, Some, None, sym, refl, ap, subst, arith}
+use Rattle.polcert_check.proofs.Common.{Meaning, start_total, PolicyVectors, LowerFault, Verdict, Yes, Short, NoSuccessor, Controller, short, PairPasses, Passes, IsBefore, IsVerdict, IsLeastLacking, lowered_by, IsLeast, CanLower, IsFirstLack, IsNotMended, IsNotLowered, IsLeastConstant, IsLeastMove, start_sum, IsFirstGreatest, IsFloorQuotient, IsBestStart, IsStartWorth}
 use Rattle.polcert_check.specs.declared.fault.LowerFault.TheVariants as faults
-use Rattle.polcert_check.specs.declared.survey.Verdict.{Verdict}
-use Rattle.polcert_check.specs.declared.survey.Verdict.TheVariants.{Yes, Short, NoSuccessor}
-use Rattle.polcert_check.specs.Horizon.{Controller}
-use Rattle.polcert_check.specs.Shortfall.{short, Lacks, PairPasses, Passes}
-use Rattle.polcert_check.specs.Verdict.{IsBefore, IsVerdict, IsLeastLacking}
-use Rattle.polcert_check.specs.Lower.{lowered_by, IsLeast, CanLower, IsFirstLack, IsFirstShort, IsNotMended, IsNotLowered, IsLeastConstant}
-use Rattle.polcert_check.specs.Steps.Mirrored.{IsLeastMove}
-use Rattle.polcert_check.specs.StartWorth.{start_sum, IsFirstGreatest, IsFloorQuotient, IsBestStart, IsStartWorth}
-use Rattle.polcert_check.proofs.Sums.Ring.{linear, mul_le}
+use Rattle.polcert_check.proofs.Sums.Ring.{linear, below_cancel}
 
 -- ---- the first pair
 
@@ -25,7 +14,7 @@ record IsFirstFailing (Good : ℕ → ℕ → Type 0) (nodes states n s : ℕ) :
   before : (m t : ℕ) → m < nodes → t < states → IsBefore m t n s → Good m t
 
 one_first : (Good : ℕ → ℕ → Type 0) (nodes states n s m t : ℕ) → IsFirstFailing Good nodes states n s → IsFirstFailing Good nodes states m t → (n ≡ m) × (s ≡ t)
-one_first Good nodes states n s m t h g = grind (arith, h.before m t, g.before n s)
+one_first Good nodes states n s m t h g = grind arith
 
 one_least_number : (P : ℕ → Type 0) (a b : ℕ) → P a → ((d : ℕ) → d < a → P d → ⊥) → P b → ((d : ℕ) → d < b → P d → ⊥) → a ≡ b
 one_least_number P a b is least also before = grind arith
@@ -36,13 +25,7 @@ some_not_none : (c : Controller) (n s z : ℕ) → IsLeastLacking c n s (Some z)
 some_not_none c n s z lacks none = none z lacks.0 lacks.1
 
 one_least_lacking : (c : Controller) (n s m t z y : ℕ) → n ≡ m → s ≡ t → IsLeastLacking c n s (Some z) → IsLeastLacking c m t (Some y) → z ≡ y
-one_least_lacking c n s m t z y e f h g =
-    let at_node : IsLeastLacking c m s (Some z) = subst (λ (k : ℕ). IsLeastLacking c k s (Some z)) e h in
-    let here : IsLeastLacking c m t (Some z) = subst (λ (k : ℕ). IsLeastLacking c m k (Some z)) f at_node in
-    one_least_number (Lacks c m t) z y here.1 here.2 g.1 g.2
-
-one_amount : (c : Controller) (n s m t : ℕ) (a b : ℤ) → n ≡ m → s ≡ t → a ≡ short c n s → b ≡ short c m t → a ≡ b
-one_amount c n s m t a b e f h g = h ∙ ap (λ (k : ℕ). short c k s) e ∙ ap (λ (k : ℕ). short c m k) f ∙ sym g
+one_least_lacking c n s m t z y e f h g = grind arith
 
 not_above : (x : ℤ) → x ≤ℤ pos 0 → pos 0 <ℤ x → ⊥
 not_above x l h = omega (arith, linear)
@@ -61,8 +44,7 @@ lack_first c n s z h = record { node = h.0; state = h.1; fails = λ p. p.lacks_n
 not_both : (c : Controller) (n s m t z : ℕ) (a : ℤ) → IsVerdict c (Short n s a) → IsVerdict c (NoSuccessor m t z) → ⊥
 not_both c n s m t z a h g =
     let same = one_first (PairPasses c) c.nodes c.cells.states n s m t (short_first c n s a h) (lack_first c m t z g) in
-    let at_node : IsLeastLacking c m s None = subst (λ (k : ℕ). IsLeastLacking c k s None) same.0 h.3 in
-    some_not_none c m t z g.3 (subst (λ (k : ℕ). IsLeastLacking c m k None) same.1 at_node)
+    some_not_none c m t z g.3 (subst (λ (k : ℕ). IsLeastLacking c m k None) same.1 (subst (λ (k : ℕ). IsLeastLacking c k s None) same.0 h.3))
 
 pub one_verdict : (c : Controller) (x y : Verdict) → IsVerdict c x → IsVerdict c y → x ≡ y
 one_verdict c Yes Yes h g = refl
@@ -72,14 +54,10 @@ one_verdict c (Short n s a) Yes h g = absurd ((short_first c n s a h).fails (g n
 one_verdict c (NoSuccessor n s z) Yes h g = absurd ((lack_first c n s z h).fails (g n s h.0 h.1))
 one_verdict c (Short n s a) (NoSuccessor m t z) h g = absurd (not_both c n s m t z a h g)
 one_verdict c (NoSuccessor m t z) (Short n s a) h g = absurd (not_both c n s m t z a g h)
-one_verdict c (Short n s a) (Short m t b) h g =
-    let same = one_first (PairPasses c) c.nodes c.cells.states n s m t (short_first c n s a h) (short_first c m t b g) in
-    let amount : a ≡ b = one_amount c n s m t a b same.0 same.1 h.4 g.4 in
-    rw (same.0, same.1, amount) refl
+one_verdict c (Short n s a) (Short m t b) h g = grind arith
 one_verdict c (NoSuccessor n s z) (NoSuccessor m t y) h g =
     let same = one_first (PairPasses c) c.nodes c.cells.states n s m t (lack_first c n s z h) (lack_first c m t y g) in
-    let observation : z ≡ y = one_least_lacking c n s m t z y same.0 same.1 h.3 g.3 in
-    rw (same.0, same.1, observation) refl
+    rw (same.0, same.1, one_least_lacking c n s m t z y same.0 same.1 h.3 g.3) refl
 
 -- ---- one outcome of lowering
 
@@ -93,24 +71,17 @@ one_move c Can x y h g = h.1 ∙ ap pos (one_least c h.0 g.0 h.2 g.2) ∙ sym g.
 first_lack : (c : Controller) (n s z : ℕ) → IsFirstLack c n s z → IsFirstFailing (λ m t. IsLeastLacking c m t None) c.nodes c.cells.states n s
 first_lack c n s z h = record { node = h.0; state = h.1; fails = some_not_none c n s z h.2; before = h.3 }
 
-first_short : (c : Controller) (n s : ℕ) (a : ℤ) → IsFirstShort c n s a → IsFirstFailing (λ m t. short c m t ≤ℤ pos 0) c.nodes c.cells.states n s
-first_short c n s a h = record { node = h.0; state = h.1; fails = short_above c n s a h.2 h.3; before = h.4 }
-
 lack_and_none : (c : Controller) (n s z : ℕ) → IsFirstLack c n s z → ((m t : ℕ) → m < c.nodes → t < c.cells.states → IsLeastLacking c m t None) → ⊥
 lack_and_none c n s z h none = some_not_none c n s z h.2 (none n s h.0 h.1)
 
 pub one_fault : (c : Controller) (Can : ℕ → Type 0) (f g : LowerFault) → IsNotMended c Can f → IsNotMended c Can g → f ≡ g
 one_fault c Can (faults.NoSuccessor n s z) (faults.NoSuccessor m t y) h g =
     let same = one_first (λ a b. IsLeastLacking c a b None) c.nodes c.cells.states n s m t (first_lack c n s z h) (first_lack c m t y g) in
-    let observation : z ≡ y = one_least_lacking c n s m t z y same.0 same.1 h.2 g.2 in
-    rw (same.0, same.1, observation) refl
+    rw (same.0, same.1, one_least_lacking c n s m t z y same.0 same.1 h.2 g.2) refl
 one_fault c Can (faults.NoSuccessor n s z) (faults.NoConstant m t a) h g = absurd (lack_and_none c n s z h g.0)
 one_fault c Can (faults.NoSuccessor n s z) faults.OutOfRange h g = absurd (lack_and_none c n s z h g.0)
 one_fault c Can (faults.NoConstant m t a) (faults.NoSuccessor n s z) h g = absurd (lack_and_none c n s z g h.0)
-one_fault c Can (faults.NoConstant n s a) (faults.NoConstant m t b) h g =
-    let same = one_first (λ x y. short c x y ≤ℤ pos 0) c.nodes c.cells.states n s m t (first_short c n s a h.2) (first_short c m t b g.2) in
-    let amount : a ≡ b = one_amount c n s m t a b same.0 same.1 h.2.2 g.2.2 in
-    rw (same.0, same.1, amount) refl
+one_fault c Can (faults.NoConstant n s a) (faults.NoConstant m t b) h g = grind arith
 one_fault c Can (faults.NoConstant n s a) faults.OutOfRange h g = absurd (h.1 g.1.0 g.1.1.0)
 one_fault c Can faults.OutOfRange (faults.NoSuccessor n s z) h g = absurd (lack_and_none c n s z g h.0)
 one_fault c Can faults.OutOfRange (faults.NoConstant n s a) h g = absurd (g.1 h.1.0 h.1.1.0)
@@ -141,16 +112,10 @@ le_antisym : (x y : ℤ) → x ≤ℤ y → y ≤ℤ x → x ≡ y
 le_antisym x y h g = omega (arith, linear)
 
 pub one_best : (f : ℕ → ℤ) (count n m : ℕ) → IsFirstGreatest f count n → IsFirstGreatest f count m → n ≡ m
-one_best f count n m h g = grind (arith, linear, h.none_greater m, h.smaller_before m, g.none_greater n, g.smaller_before n)
+one_best f count n m h g = grind (arith, linear)
 
 quotient_le : (sum : ℤ) (total : ℕ) (p q : ℤ) → IsFloorQuotient sum total p → IsFloorQuotient sum total q → p ≤ℤ q
-quotient_le sum total p q h g =
-    by_lt_z q p
-    (λ less.
-    let next : (q +ℤ pos 1) ≤ℤ p = omega (arith, linear) in
-    let more : (pos total *ℤ (q +ℤ pos 1)) ≤ℤ (pos total *ℤ p) = mul_le total (q +ℤ pos 1) p next in
-    absurd (omega (arith, linear)))
-    (λ le. le)
+quotient_le sum total p q h g = omega (arith, linear, below_cancel total p (q +ℤ pos 1) (omega (arith, linear, h.0, g.1)))
 
 pub one_quotient : (sum : ℤ) (total : ℕ) (p q : ℤ) → IsFloorQuotient sum total p → IsFloorQuotient sum total q → p ≡ q
 one_quotient sum total p q h g = le_antisym p q (quotient_le sum total p q h g) (quotient_le sum total q p g h)

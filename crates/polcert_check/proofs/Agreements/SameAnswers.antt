@@ -1,20 +1,9 @@
 -- What a check says of one table it says of every table with the same cells.
 use Rattle.std.proofs.Common.{◌≡◌, ℕ, ◌<◌, ℤ, Some, None, List, [], ◌∷◌, length, sym, refl, ◌∙◌, subst, arith}
-use Rattle.std.proofs.lemmas.List.Elements.{All-contains}
-use Rattle.polcert_cells.specs.Tables.{CellTable}
-use Rattle.polcert_policy.specs.Graphs.{PolicyGraph, IsProperGraph, nodes}
-use Rattle.polcert_policy.specs.Vectors.{PolicyVectors}
-use Rattle.polcert_check.specs.declared.fault.LowerFault.{LowerFault}
+use Rattle.polcert_check.proofs.Common.{All-contains, CellTable, PolicyGraph, IsProperGraph, nodes, PolicyVectors, LowerFault, Verdict, Controller, controller_of, runs, Promise, RewardPromise, HasCutRun, MeetsHorizon, IsRunInRange, Passes, PassesBefore, IsLeastLacking, IsVerdict, lowered_by, IsLeast, CanLower, NoneLacks, IsFirstLack, IsFirstShort, IsNotMended, IsNotLowered, IsLeastConstant, IsLeastMove, IsClosed, HasSameCells}
 use Rattle.polcert_check.specs.declared.fault.LowerFault.TheVariants as faults
-use Rattle.polcert_check.specs.declared.survey.Verdict.{Verdict}
 use Rattle.polcert_check.specs.declared.survey.Verdict.TheVariants as verdicts
-use Rattle.polcert_check.specs.Horizon.{Controller, controller_of, Fits, runs, Promise, RewardPromise, HasCutRun, MeetsHorizon, IsRunInRange}
-use Rattle.polcert_check.specs.Shortfall.{Passes}
-use Rattle.polcert_check.specs.Verdict.{PassesBefore, IsLeastLacking, IsVerdict}
-use Rattle.polcert_check.specs.Lower.{lowered_by, IsLeast, CanLower, NoneLacks, IsFirstLack, IsFirstShort, IsNotMended, IsNotLowered, IsLeastConstant}
-use Rattle.polcert_check.specs.Steps.Mirrored.{IsLeastMove}
-use Rattle.polcert_check.specs.Steps.Ranges.{IsClosed}
-use Rattle.polcert_cells.specs.SameCells.{HasSameCells}
+use Rattle.polcert_check.specs.Horizon.{Fits}
 use Rattle.polcert_check.proofs.Horizons.Enumerated.{All-runs}
 use Rattle.polcert_check.proofs.Certificates.{closed_is}
 use Rattle.polcert_check.proofs.Agreements.SameCells.{with_cells, runs_same, is_cut_same, weight_same, promise_same, reward_promise_same, short_same, lacks_same, lacks_back, pair_same, passes_same}
@@ -25,17 +14,7 @@ module _ (c : Controller) (p : IsClosed c) (y : CellTable) (same : HasSameCells 
   closed_with = record { actions_in_range = p.actions_in_range; next_in_range = p.next_in_range }
 
   agrees_back : HasSameCells (with_cells c y).cells c.cells
-  agrees_back = record {
-    states = refl;
-    actions = refl;
-    observations = refl;
-    discount = refl;
-    t_scale = refl;
-    o_scale = refl;
-    t = λ a s e al sl el. sym (same.t a s e al sl el);
-    o = λ a e z al el zl. sym (same.o a e z al el zl);
-    r = λ a s e z al sl el zl. sym (same.r a s e z al sl el zl);
-  }
+  agrees_back = grind (arith, same.t, same.o, same.r)
 
   -- ---- the verdict
   before_same : (n s : ℕ) → PassesBefore c n s → PassesBefore (with_cells c y) n s

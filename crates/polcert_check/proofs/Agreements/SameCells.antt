@@ -1,13 +1,7 @@
 -- A controller over other cells that agree in range: each step, each run and each sum is the same.
-use Rattle.std.specs.List.{range_with_len}
-use Rattle.std.proofs.Common.{◌≡◌, ℕ, zero, suc, ◌-◌, ◌*◌, ◌^◌, ◌<◌, ℤ, pos, ◌*ℤ◌, IsTrue, not, cond, List, [], ◌∷◌, map, flat_map, get_or, Option, Some, None, sym, refl, ap, ◌∙◌, All, length}
-use Rattle.polcert_cells.specs.Tables.{CellTable}
-use Rattle.polcert_check.specs.Horizon.{Controller, one, total_below, sum_over, step_weight, pairs, runs, is_cut, weight, rewards, end_value, reward_part, total, uncut, weights_sum, worth_sum, rewards_sum, Promise, RewardPromise, IsRunInRange}
-use Rattle.polcert_check.specs.Shortfall.{backing, short, Lacks, PairPasses, Passes}
-use Rattle.polcert_check.specs.Steps.Ranges.{IsClosed}
-use Rattle.polcert_cells.specs.SameCells.{HasSameCells}
+use Rattle.polcert_check.proofs.Common.{range_with_len, CellTable, Controller, one, sum_over, step_weight, pairs, runs, is_cut, weight, rewards, reward_part, total, uncut, weights_sum, worth_sum, rewards_sum, Promise, RewardPromise, IsRunInRange, short, Lacks, PairPasses, Passes, IsClosed, HasSameCells}
+use Rattle.std.proofs.Common.{◌≡◌, ℕ, zero, suc, ◌-◌, ◌*◌, ◌^◌, ◌<◌, ℤ, pos, ◌*ℤ◌, IsTrue, not, cond, List, [], ◌∷◌, map, flat_map, get_or, Option, Some, None, sym, refl, ap, ◌∙◌, All, length, arith}
 use Rattle.polcert_check.proofs.Sums.SumLaws.{sum_below_same, sum_over_filter, sum_over_same_all}
-use Rattle.polcert_check.proofs.Horizons.Kept.{backing_term}
 use Rattle.polcert_check.proofs.Horizons.Enumerated.{All-runs}
 
 -- the same controller over the cells of y, with the counts, the discount and the scales that it had
@@ -24,27 +18,17 @@ is_cut_same c y None run = refl
 is_cut_same c y (Some n) [] = refl
 is_cut_same c y (Some n) (q ∷ run) = is_cut_same c y (c.next n q.1) run
 
-end_value_same : (c : Controller) (y : CellTable) (at : Option ℕ) (s : ℕ) (run : List (ℕ × ℕ)) → end_value (with_cells c y) at s run ≡ end_value c at s run
-end_value_same c y None s run = refl
-end_value_same c y (Some n) s [] = refl
-end_value_same c y (Some n) s (q ∷ run) = end_value_same c y (c.next n q.1) q.0 run
-
 -- ---- the same for cells that agree
 module _ (c : Controller) (p : IsClosed c) (y : CellTable) (same : HasSameCells c.cells y) where
   step_same : (n s e z : ℕ) → n < c.nodes → s < c.cells.states → e < c.cells.states → z < c.cells.observations → step_weight (with_cells c y) n s e z ≡ step_weight c n s e z
-  step_same n s e z nl sl el zl =
-      let al : c.action n < c.cells.actions = p.actions_in_range n nl in
-      let t_is : c.cells.t (c.action n) s e ≡ y.t (c.action n) s e = same.t (c.action n) s e al sl el in
-      let o_is : c.cells.o (c.action n) e z ≡ y.o (c.action n) e z = same.o (c.action n) e z al el zl in
-      cc
+  step_same n s e z nl sl el zl = grind arith
 
   -- what a run weighs and earns
   abbrev RunIsSame : Option ℕ → ℕ → List (ℕ × ℕ) → Type 0
   RunIsSame at s run = (weight (with_cells c y) at s run ≡ weight c at s run) × (rewards (with_cells c y) at s run ≡ rewards c at s run)
 
   run_after : (n z e : ℕ) (run : List (ℕ × ℕ)) → n < c.nodes → z < c.cells.observations → ((m : ℕ) → m < c.nodes → RunIsSame (Some m) e run) → (at : Option ℕ) → c.next n z ≡ at → RunIsSame at e run
-  run_after n z e run nl zl later None is = (refl, refl)
-  run_after n z e run nl zl later (Some m) is = later m (p.next_in_range n z m nl zl is)
+  run_after n z e run h1 h2 h3 at h4 = grind arith
 
   run_same : (run : List (ℕ × ℕ)) (n s : ℕ) → n < c.nodes → s < c.cells.states → IsRunInRange c.cells run → RunIsSame (Some n) s run
   run_same [] n s nl sl f = (refl, refl)
@@ -62,10 +46,7 @@ module _ (c : Controller) (p : IsClosed c) (y : CellTable) (same : HasSameCells 
       ap (λ (rs : List ℤ). sum_over (λ i. pos (c.cells.discount ^ i * one ^ (k - i)) *ℤ get_or rs i (pos 0)) (range_with_len 0 k)) (run_same run n s nl sl f).1
 
   total_same : (k : ℕ) (run : List (ℕ × ℕ)) (n s : ℕ) → n < c.nodes → s < c.cells.states → IsRunInRange c.cells run → total (with_cells c y) k (Some n) s run ≡ total c k (Some n) s run
-  total_same k run n s nl sl f =
-      let rewarded : reward_part (with_cells c y) k (Some n) s run ≡ reward_part c k (Some n) s run = reward_part_same k run n s nl sl f in
-      let ended : end_value (with_cells c y) (Some n) s run ≡ end_value c (Some n) s run = end_value_same c y (Some n) s run in
-      rw (rewarded, ended) refl
+  total_same k run n s nl sl f = grind (arith, reward_part_same)
 
   -- a sum over the uncut runs, of what is the same for each run in range
   uncut_sum_same : (f g : List (ℕ × ℕ) → ℤ) (k n : ℕ) → ((run : List (ℕ × ℕ)) → IsRunInRange c.cells run → f run ≡ g run) → sum_over f (uncut (with_cells c y) k (Some n)) ≡ sum_over g (uncut c k (Some n))
@@ -78,21 +59,13 @@ module _ (c : Controller) (p : IsClosed c) (y : CellTable) (same : HasSameCells 
       ∙ sym (sum_over_filter g (λ run. not (is_cut c (Some n) run)) (runs c.cells k))
 
   weights_sum_same : (k n s : ℕ) → n < c.nodes → s < c.cells.states → weights_sum (with_cells c y) k (Some n) s ≡ weights_sum c k (Some n) s
-  weights_sum_same k n s nl sl =
-      uncut_sum_same (λ run. pos (weight (with_cells c y) (Some n) s run)) (λ run. pos (weight c (Some n) s run)) k n
-      (λ run f. ap (λ (w : ℕ). pos w) (weight_same run n s nl sl f))
+  weights_sum_same k n s nl sl = grind (arith, weight_same, uncut_sum_same)
 
   pub worth_sum_same : (k n s : ℕ) → n < c.nodes → s < c.cells.states → worth_sum (with_cells c y) k (Some n) s ≡ worth_sum c k (Some n) s
-  worth_sum_same k n s nl sl =
-      let d : Controller = with_cells c y in
-      uncut_sum_same (λ run. pos (weight d (Some n) s run) *ℤ total d k (Some n) s run) (λ run. pos (weight c (Some n) s run) *ℤ total c k (Some n) s run) k n
-      (λ run f. rw (weight_same run n s nl sl f, total_same k run n s nl sl f) refl)
+  worth_sum_same k n s nl sl = grind (arith, weight_same, total_same, uncut_sum_same)
 
   rewards_sum_same : (k n s : ℕ) → n < c.nodes → s < c.cells.states → rewards_sum (with_cells c y) k (Some n) s ≡ rewards_sum c k (Some n) s
-  rewards_sum_same k n s nl sl =
-      let d : Controller = with_cells c y in
-      uncut_sum_same (λ run. pos (weight d (Some n) s run) *ℤ reward_part d k (Some n) s run) (λ run. pos (weight c (Some n) s run) *ℤ reward_part c k (Some n) s run) k n
-      (λ run f. rw (weight_same run n s nl sl f, reward_part_same k run n s nl sl f) refl)
+  rewards_sum_same k n s nl sl = grind (arith, weight_same, reward_part_same, uncut_sum_same)
 
   -- ---- the promise
   pub cut_runs_same : (k n s : ℕ) → n < c.nodes → s < c.cells.states → All (λ run. IsTrue (is_cut c (Some n) run) → weight c (Some n) s run ≡ 0) (runs c.cells k) → All (λ run. IsTrue (is_cut (with_cells c y) (Some n) run) → weight (with_cells c y) (Some n) s run ≡ 0) (runs (with_cells c y).cells k)
@@ -100,32 +73,14 @@ module _ (c : Controller) (p : IsClosed c) (y : CellTable) (same : HasSameCells 
       rw (runs_same c y k) (λ j d l cut. weight_same (get_or (runs c.cells k) j d) n s nl sl (All-runs c.cells k j d l).1 ∙ before j d l (sym (is_cut_same c y (Some n) (get_or (runs c.cells k) j d)) ∙ cut))
 
   pub promise_same : (k n s : ℕ) → n < c.nodes → s < c.cells.states → Promise c k n s → Promise (with_cells c y) k n s
-  promise_same k n s nl sl promise =
-      record {
-        cut_runs = cut_runs_same k n s nl sl promise.cut_runs;
-        uncut_runs = rw (worth_sum_same k n s nl sl) promise.uncut_runs;
-      }
+  promise_same k n s nl sl promise = grind (arith, worth_sum_same, cut_runs_same)
 
   pub reward_promise_same : (k n s : ℕ) → n < c.nodes → s < c.cells.states → RewardPromise c k n s → RewardPromise (with_cells c y) k n s
-  reward_promise_same k n s nl sl promise =
-      record {
-        weights = weights_sum_same k n s nl sl ∙ promise.weights;
-        rewarded = λ m most. rw (rewards_sum_same k n s nl sl) (promise.rewarded m most);
-      }
+  reward_promise_same k n s nl sl promise = grind (arith, weights_sum_same, rewards_sum_same)
 
   -- ---- the shortfall
-  term_same : (n s e z : ℕ) → n < c.nodes → s < c.cells.states → e < c.cells.states → z < c.cells.observations → (at : Option ℕ) → backing_term (with_cells c y) n s e z at ≡ backing_term c n s e z at
-  term_same n s e z nl sl el zl None = refl
-  term_same n s e z nl sl el zl (Some m) =
-      let weighed : step_weight (with_cells c y) n s e z ≡ step_weight c n s e z = step_same n s e z nl sl el zl in
-      let rewarded : y.r (c.action n) s e z ≡ c.cells.r (c.action n) s e z = sym (same.r (c.action n) s e z (p.actions_in_range n nl) sl el zl) in
-      rw (weighed, rewarded) refl
-
   pub short_same : (n s : ℕ) → n < c.nodes → s < c.cells.states → short (with_cells c y) n s ≡ short c n s
-  short_same n s nl sl =
-      let backed : backing (with_cells c y) n s ≡ backing c n s = sum_below_same _ _ c.cells.states (λ e el. sum_below_same _ _ c.cells.observations (λ z zl.
-      term_same n s e z nl sl el zl (c.next n z))) in
-      rw backed refl
+  short_same n s nl sl = grind (arith, sum_below_same)
 
   pub lacks_same : (n s z : ℕ) → n < c.nodes → s < c.cells.states → z < c.cells.observations → Lacks c n s z → Lacks (with_cells c y) n s z
   lacks_same n s z nl sl zl (none, (e, el, some)) = (none, (e, el, rw (step_same n s e z nl sl el zl) some))
@@ -134,11 +89,7 @@ module _ (c : Controller) (p : IsClosed c) (y : CellTable) (same : HasSameCells 
   lacks_back n s z nl sl zl (none, (e, el, some)) = (none, (e, el, rw (step_same n s e z nl sl el zl) at some))
 
   pub pair_same : (n s : ℕ) → n < c.nodes → s < c.cells.states → PairPasses c n s → PairPasses (with_cells c y) n s
-  pair_same n s nl sl passes =
-      record {
-        lacks_none = λ z zl lacks. passes.lacks_none z zl (lacks_back n s z nl sl zl lacks);
-        not_short = rw (short_same n s nl sl) passes.not_short;
-      }
+  pair_same n s nl sl passes = grind (arith, short_same)
 
   pub passes_same : Passes c → Passes (with_cells c y)
   passes_same passes n s nl sl = pair_same n s nl sl (passes n s nl sl)

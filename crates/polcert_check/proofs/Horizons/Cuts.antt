@@ -1,15 +1,11 @@
 -- A run that is cut weighs nothing where no pair lacks an observation.
-use Rattle.std.proofs.Common.{◌≡◌, ℕ, ◌*◌, ◌<◌, true, List, [], ◌∷◌, Option, Some, None, refl, arith, length}
-use Rattle.std.proofs.lemmas.List.Elements.{All-weaker}
-use Rattle.polcert_check.specs.Horizon.{Controller, step_weight, runs, is_cut, weight, IsRunInRange, Promise}
-use Rattle.polcert_check.specs.Shortfall.{Lacks, Passes}
-use Rattle.polcert_check.specs.Steps.Ranges.{IsController}
-use Rattle.polcert_check.proofs.Horizons.Kept.{LacksNone, LacksNone-from_Passes, no_weight, worth_all}
+use Rattle.std.proofs.Common.{◌≡◌, ℕ, ◌*◌, ◌<◌, true, List, [], ◌∷◌, Option, Some, refl, arith, length}
+use Rattle.polcert_check.proofs.Common.{All-weaker, Controller, step_weight, runs, is_cut, weight, IsRunInRange, Promise, Lacks, Passes, IsController}
+use Rattle.polcert_check.proofs.Horizons.Kept.{LacksNone, LacksNone-from_Passes, worth_all}
 use Rattle.polcert_check.proofs.Horizons.Enumerated.{All-runs}
 
 cut_after : (c : Controller) (n s e z : ℕ) (run : List (ℕ × ℕ)) → (Lacks c n s z → ⊥) → e < c.cells.states → (at : Option ℕ) → c.next n z ≡ at → ((m : ℕ) → c.next n z ≡ Some m → is_cut c (Some m) run ≡ true → weight c (Some m) e run ≡ 0) → is_cut c at run ≡ true → step_weight c n s e z * weight c at e run ≡ 0
-cut_after c n s e z run fine el None is later cut = let h : step_weight c n s e z ≡ 0 = no_weight c n s e z fine el is in rw h refl
-cut_after c n s e z run fine el (Some m) is later cut = let h : weight c (Some m) e run ≡ 0 = later m is cut in rw h (omega arith)
+cut_after c n s e z run h1 h2 at h3 h4 h5 = grind arith
 
 pub cut_weighs_nothing : (c : Controller) → IsController c → LacksNone c → (run : List (ℕ × ℕ)) (n s : ℕ) → n < c.nodes → s < c.cells.states → IsRunInRange c.cells run → is_cut c (Some n) run ≡ true → weight c (Some n) s run ≡ 0
 cut_weighs_nothing c p fine [] n s nl sl f cut = cc

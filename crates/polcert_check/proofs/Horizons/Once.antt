@@ -1,11 +1,9 @@
 -- `runs t k` holds no list twice.
 use Rattle.std.proofs.Common.{◌≡◌, ℕ, zero, suc, ◌+◌, ◌<◌, ◌≤◌, ◌⊎◌, inl, inr, ⊎_elim, List, [], ◌∷◌, ◌++◌, map, flat_map, sym, refl, ap, ◌∙◌, subst, arith, Contains}
+use Rattle.polcert_check.proofs.Common.{All-contains, range_with_len, CellTable, pairs, runs}
 use Rattle.std.proofs.lemmas.List.Elements.{Contains-append_cases}
-use Rattle.std.specs.List.{range_with_len}
-use Rattle.polcert_cells.specs.Tables.{CellTable}
-use Rattle.polcert_check.specs.Horizon.{pairs, runs, HasNoRepeat}
+use Rattle.polcert_check.specs.Horizon.{HasNoRepeat}
 use Rattle.polcert_check.proofs.Horizons.Enumerated.{Contains-cons_cases, Contains-cons, Contains-first, All-from}
-use Rattle.std.proofs.lemmas.List.Elements.{All-contains}
 
 Contains-nil : {X : Type 0} (x : X) → Contains [] x → ⊥
 Contains-nil x (k, l, e) = omega arith

@@ -1,28 +1,19 @@
 -- The backing of a pair, from what its action earns and what its node expects.
-use Rattle.std.proofs.Common.{◌≡◌, ℕ, ◌<◌, ℤ, pos, ◌+ℤ◌, ◌*ℤ◌, Option, Some, None, refl, sym, ap, ◌∙◌}
-use Rattle.std.proofs.Math.IntN.{zero-*ℤ, *ℤ-zero}
-use Rattle.polcert_check.specs.Horizon.{Controller, one, total_below, step_weight}
-use Rattle.polcert_check.specs.Shortfall.{at_node, backing}
-use Rattle.polcert_check.specs.Verdict.{IsLeastLacking}
-use Rattle.polcert_check.specs.Steps.Factored.{expected_reward, value_term, value_at_end, expected_value}
-use Rattle.polcert_check.specs.Steps.FollowedCells.{followed}
+use Rattle.std.proofs.Common.{◌≡◌, ℕ, ◌<◌, ℤ, pos, ◌+ℤ◌, ◌*ℤ◌, Option, Some, None, refl, ap, ◌∙◌, arith}
+use Rattle.polcert_check.proofs.Common.{*ℤ-zero, Controller, one, total_below, step_weight, at_node, backing, IsLeastLacking, expected_reward, value_term, value_at_end, expected_value, followed}
 use Rattle.polcert_check.proofs.Sums.Ring.{products, *ℤ_assoc}
 use Rattle.polcert_check.proofs.Sums.SumLaws.{sum_below_same, sum_below_scale, sum_below_add}
-use Rattle.polcert_check.proofs.Horizons.Kept.{backing_term, no_weight}
+use Rattle.polcert_check.proofs.Horizons.Kept.{backing_term}
 
 sum_split : (u g : ℤ) (x y : ℕ → ℤ) (n : ℕ) → total_below (λ i. u *ℤ x i +ℤ g *ℤ y i) n ≡ u *ℤ total_below x n +ℤ g *ℤ total_below y n
 sum_split u g x y n =
-    sum_below_add (λ i. u *ℤ x i) (λ i. g *ℤ y i) n
-    ∙ ap (λ (k : ℤ). k +ℤ total_below (λ i. g *ℤ y i) n) (sum_below_scale u x n)
-    ∙ ap (λ (k : ℤ). u *ℤ total_below x n +ℤ k) (sum_below_scale g y n)
+    cc (sum_below_add (λ i. u *ℤ x i) (λ i. g *ℤ y i) n, sum_below_scale u x n, sum_below_scale g y n)
 
 term_algebra : (t o u g r v : ℤ) → (t *ℤ o) *ℤ (u *ℤ r +ℤ g *ℤ v) ≡ u *ℤ (t *ℤ (o *ℤ r)) +ℤ g *ℤ (t *ℤ (o *ℤ v))
 term_algebra t o u g r v = simp products
 
 nothing_algebra : (t o u g r : ℤ) → (t *ℤ o) *ℤ r ≡ pos 0 → pos 0 ≡ u *ℤ (t *ℤ (o *ℤ r)) +ℤ g *ℤ (t *ℤ pos 0)
-nothing_algebra t o u g r none =
-    let first : t *ℤ (o *ℤ r) ≡ pos 0 = sym (*ℤ_assoc t o r) ∙ none in
-    rw (first, *ℤ-zero t, *ℤ-zero u, *ℤ-zero g) refl
+nothing_algebra t o u g r none = grind (arith, *ℤ-zero, *ℤ_assoc)
 
 -- the reward counts as in the backing: where there is no successor it adds nothing
 abbrev IsCounted : Controller → ℕ → ℕ → ℕ → ℕ → ℤ → Option ℕ → Type 0
@@ -58,16 +49,14 @@ module _ (c : Controller) (n s : ℕ) (rewards : ℕ → ℕ → ℤ) (counted :
 
 -- ---- of a pair that lacks nothing every reward counts
 all_counted : (c : Controller) (n s : ℕ) → IsLeastLacking c n s None → (e z : ℕ) → e < c.cells.states → z < c.cells.observations → (at : Option ℕ) → c.next n z ≡ at → IsCounted c n s e z (c.cells.r (c.action n) s e z) at
-all_counted c n s lacks e z el zl None is = ap (λ (w : ℕ). pos w *ℤ c.cells.r (c.action n) s e z) (no_weight c n s e z (lacks z zl) el is) ∙ zero-*ℤ (c.cells.r (c.action n) s e z)
-all_counted c n s lacks e z el zl (Some m) is = refl
+all_counted c n s h1 e z h2 h3 at h4 = grind arith
 
 pub backing_split : (c : Controller) (n s : ℕ) → IsLeastLacking c n s None → backing c n s ≡ pos one *ℤ expected_reward c.cells (c.action n) s +ℤ pos c.cells.discount *ℤ expected_value c n s
 backing_split c n s lacks = counted_split c n s (λ e z. c.cells.r (c.action n) s e z) (all_counted c n s lacks)
 
 -- ---- of any pair those count that are followed
 followed_counted : (c : Controller) (n s e z : ℕ) (at : Option ℕ) → c.next n z ≡ at → IsCounted c n s e z (at_node (λ m. c.cells.r (c.action n) s e z) (c.next n z)) at
-followed_counted c n s e z None is = rw is (*ℤ-zero (pos (step_weight c n s e z)))
-followed_counted c n s e z (Some m) is = rw is refl
+followed_counted c n s e z at h1 = grind arith
 
 pub followed_split : (c : Controller) (n s : ℕ) → backing c n s ≡ pos one *ℤ expected_reward (followed c n) (c.action n) s +ℤ pos c.cells.discount *ℤ expected_value c n s
 followed_split c n s = counted_split c n s (λ e z. at_node (λ m. c.cells.r (c.action n) s e z) (c.next n z)) (λ e z el zl at is. followed_counted c n s e z at is)

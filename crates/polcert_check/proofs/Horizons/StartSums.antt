@@ -1,20 +1,13 @@
 -- The sums over the start: how large they are, their quotient rounded down, and the promise from the start.
-use Rattle.std.proofs.Common.{◌≡◌, ℕ, ◌+◌, ◌*◌, ◌/◌, ◌^◌, ◌<◌, ◌≤◌, ℤ, pos, negsuc, ◌+ℤ◌, ◌*ℤ◌, ◌≤ℤ◌, unsigned_abs, FitsSigned, to_z, of_z, w64, Some, List, [], ◌∷◌, length, get_or, sum, sym, refl, ap, ◌∙◌, arith, lit<}
-use mir.Syntax.{w128}
+use Rattle.std.proofs.Common.{◌≡◌, ℕ, ◌+◌, ◌*◌, ◌^◌, ◌<◌, ◌≤◌, ℤ, pos, ◌+ℤ◌, ◌*ℤ◌, ◌≤ℤ◌, unsigned_abs, FitsSigned, to_z, of_z, w64, Some, List, [], ◌∷◌, length, get_or, sum, sym, refl, ap, ◌∙◌, arith, lit<}
+use Rattle.polcert_check.proofs.Common.{w128, to_z_pos, fits_signed_from_abs, largest, Meaning, states_of, start_weight, start_total, PolicyVectors, AreProperVectors, value_of, Controller, one, total_below, step_scale, worth_sum, Passes, IsController, start_sum, IsFloorQuotient, IsStartWorth, StartPromise}
 use Rattle.std.specs.Int.{int_div_euclid}
-use Rattle.std.proofs.lemmas.Int.{ints, to_z-of_z, to_z_pos, fits_signed_from_abs}
-use Rattle.std.proofs.Math.Nat.{mul-le-mul_right, mul-div-le, lt-mul-div-succ, div-le_of_le-mul, div-lt_iff_lt-mul}
-use borrow.Author.Differences.{product_is}
+use Rattle.std.proofs.lemmas.Int.{to_z-of_z}
+use Rattle.std.proofs.Math.Nat.{div-le_of_le-mul}
 use Rattle.std.proofs.Math.Numerals.{add-one}
 use Rattle.std.specs.List.{fold}
-use Rattle.polcert_text.specs.Numbers.{largest}
-use Rattle.polcert_cells.specs.Meaning.{Meaning, HasLimitedNumbers, states_of, start_weight, start_total}
-use Rattle.polcert_policy.specs.Vectors.{PolicyVectors, AreProperVectors, value_of}
-use Rattle.polcert_check.specs.Horizon.{Controller, one, total_below, step_scale, worth_sum}
-use Rattle.polcert_check.specs.Shortfall.{Passes}
-use Rattle.polcert_check.specs.Steps.Ranges.{IsController}
-use Rattle.polcert_check.specs.StartWorth.{start_sum, IsFloorQuotient, IsStartWorth, StartPromise}
-use Rattle.polcert_check.proofs.Sums.Ring.{linear, *ℤ-+ℤ, *ℤ_assoc, *ℤ_left_comm, mul_le, ≤ℤ_trans, ≤ℤ_from_eq}
+use Rattle.polcert_cells.specs.Meaning.{HasLimitedNumbers}
+use Rattle.polcert_check.proofs.Sums.Ring.{*ℤ_assoc, *ℤ_left_comm, mul_le, ≤ℤ_trans, ≤ℤ_from_eq}
 use Rattle.polcert_check.proofs.Sums.SumLaws.{sum_below_front, sum_below_le, sum_below_scale}
 use Rattle.polcert_check.proofs.Horizons.Kept.{worth_all}
 use Rattle.polcert_check.proofs.Horizons.Cuts.{promise_all}
@@ -30,8 +23,7 @@ shares_sum : (xs : List ℕ) → total_below (λ s. pos (get_or xs s 0)) (length
 shares_sum [] = refl
 shares_sum (x ∷ xs) =
     let front = sum_below_front (λ s. pos (get_or (x ∷ xs) s 0)) (length xs) in
-    let all : x + sum xs ≡ sum (x ∷ xs) = omega (arith, sum_more (0 + x) xs) in
-    front ∙ ap (λ (r : ℤ). pos x +ℤ r) (shares_sum xs) ∙ ap (λ (k : ℕ). pos k) all
+    front ∙ ap (λ (r : ℤ). pos x +ℤ r) (shares_sum xs) ∙ ap (λ (k : ℕ). pos k) (omega (arith, sum_more (0 + x) xs))
 
 pub start_row : (m : Meaning) → HasLimitedNumbers m → total_below (λ s. pos (start_weight m s)) (states_of m) ≡ pos (start_total m)
 start_row m limits =
@@ -51,69 +43,46 @@ start_part_le m v limits proper same n i nl il =
     (λ s sl. term_small (start_weight m s) (value_of v n s) (value_is_within v proper n s nl (omega (arith, sl, same))))
 
 pub start_fits : (total : ℕ) (x : ℤ) → total ≤ 1000000 → unsigned_abs x ≤ total * largest → FitsSigned w128 x
-start_fits total x few small =
-    fits_128 x 10000000000000000000 (omega (arith, mul-le-mul_right largest few)) (lit< tt)
+start_fits total x few small = grind arith
 
 -- the code's sum takes one more term
 pub start_step : (m : Meaning) (v : PolicyVectors) → HasLimitedNumbers m → AreProperVectors v → v.states ≡ states_of m → (n s share : ℕ) (value x total : ℤ) → n < v.nodes → s < states_of m → share ≡ start_weight m s → value ≡ value_of v n s → FitsSigned w64 value → FitsSigned w128 x → x ≡ pos share *ℤ to_z w64 (of_z w64 value) → total ≡ total_below (λ i. pos (start_weight m i) *ℤ value_of v n i) s → FitsSigned w128 (total +ℤ to_z w128 (of_z w128 x)) × (to_z w128 (of_z w128 (total +ℤ to_z w128 (of_z w128 x))) ≡ total_below (λ i. pos (start_weight m i) *ℤ value_of v n i) (s + 1))
 start_step m v limits proper same n s share value x total nl sl share_is value_is fv fx x_is before =
-    let back : to_z w64 (of_z w64 value) ≡ value = to_z-of_z w64 value fv in
-    let here : to_z w128 (of_z w128 x) ≡ pos (start_weight m s) *ℤ value_of v n s = to_z-of_z w128 x fx ∙ x_is ∙ rw (back, share_is, value_is) refl in
+    let here : to_z w128 (of_z w128 x) ≡ pos (start_weight m s) *ℤ value_of v n s = to_z-of_z w128 x fx ∙ x_is ∙ rw (to_z-of_z w64 value fv, share_is, value_is) refl in
     let next : total +ℤ to_z w128 (of_z w128 x) ≡ total_below (λ i. pos (start_weight m i) *ℤ value_of v n i) (s + 1) = rw add-one (rw (before, here) refl) in
-    let small : unsigned_abs (total_below (λ i. pos (start_weight m i) *ℤ value_of v n i) (s + 1)) ≤ start_total m * largest = start_part_le m v limits proper same n (s + 1) nl (omega (arith, sl)) in
-    let fits : FitsSigned w128 (total +ℤ to_z w128 (of_z w128 x)) = rw next (start_fits (start_total m) _ limits.start_most small) in
-    (fits, to_z-of_z w128 _ fits ∙ next)
+    grind (arith, to_z, of_z, to_z-of_z, start_part_le, start_fits)
 
 -- ---- the quotient
-floor_nat : (a k : ℕ) → 0 < k → (k * (a / k) ≤ a) × (a < k * (a / k + 1))
-floor_nat a k some = (mul-div-le a k, lt-mul-div-succ a some)
-
-add_out : (k : ℕ) (q : ℤ) → pos k *ℤ (q +ℤ pos 1) ≡ pos k *ℤ q +ℤ pos k
-add_out k q = *ℤ-+ℤ (pos k) q (pos 1) ∙ ap (λ (x : ℕ). pos k *ℤ q +ℤ pos x) (omega arith)
-
 pub floor_is : (a : ℤ) (k : ℕ) → 0 < k → IsFloorQuotient a k (int_div_euclid a (pos k))
-floor_is (pos a) k some =
-    let parts = floor_nat a k some in
-    (omega (arith, ints, parts.0), omega (arith, ints, parts.1))
-floor_is (negsuc a) k some =
-    let parts = floor_nat a k some in
-    let is = product_is (pos k) (negsuc (a / k)) in
-    (omega (arith, linear, is, parts.1), rw (add_out k (negsuc (a / k))) (omega (arith, linear, is, parts.0)))
+floor_is a k h1 = grind arith
 
 pub floor_small : (a : ℤ) (k m : ℕ) → 0 < k → unsigned_abs a ≤ k * m → unsigned_abs (int_div_euclid a (pos k)) ≤ m
-floor_small (pos a) k m some small = div-le_of_le-mul k small
-floor_small (negsuc a) k m some small = (div-lt_iff_lt-mul some).1 (omega (arith, small))
+floor_small a k m h1 h2 = grind (arith, div-le_of_le-mul)
 
 -- the code's quotient, which is cast to 64 bits
 pub floor_back : (a : ℤ) (k : ℕ) (q : ℤ) → 0 < k → k ≤ 1000000 → unsigned_abs a ≤ k * largest → FitsSigned w128 a → q ≡ int_div_euclid (to_z w128 (of_z w128 a)) (to_z w128 k)
     → IsFloorQuotient a k (to_z w64 (of_z w64 (to_z w128 (of_z w128 q)))) × (unsigned_abs (to_z w64 (of_z w64 (to_z w128 (of_z w128 q)))) ≤ largest)
 floor_back a k q some few small fa is =
-    let top : to_z w128 (of_z w128 a) ≡ a = to_z-of_z w128 a fa in
-    let below : to_z w128 k ≡ pos k = to_z_pos w128 k (omega arith) in
-    let same : q ≡ int_div_euclid a (pos k) = rw (top, below) at is in
+    let same : q ≡ int_div_euclid a (pos k) = rw (to_z-of_z w128 a fa, to_z_pos w128 k (omega arith)) at is in
     let small_q : unsigned_abs q ≤ largest = rw same (floor_small a k largest some small) in
-    let wide : to_z w128 (of_z w128 q) ≡ q = to_z-of_z w128 q (value_fits q small_q) in
-    let narrow : to_z w64 (of_z w64 q) ≡ q = to_z-of_z w64 q (fits_signed_from_abs w64 q (omega (arith, small_q))) in
-    rw (wide, narrow) (rw same (floor_is a k some), small_q)
+    rw (to_z-of_z w128 q (value_fits q small_q), to_z-of_z w64 q (fits_signed_from_abs w64 q (omega (arith, small_q)))) (rw same (floor_is a k some), small_q)
 
 -- the quotient as it is returned
 pub worth_is : (m : Meaning) (v : PolicyVectors) (n total : ℕ) (x q : ℤ) → FitsSigned w128 x → x ≡ start_sum m v n → total ≡ start_total m → FitsSigned w64 q → IsFloorQuotient (to_z w128 (of_z w128 x)) total q → IsStartWorth m v n (to_z w64 (of_z w64 q))
-worth_is m v n total x q fx x_is total_is fq floor =
-    let sum_back : to_z w128 (of_z w128 x) ≡ start_sum m v n = to_z-of_z w128 x fx ∙ x_is in
-    let back : to_z w64 (of_z w64 q) ≡ q = to_z-of_z w64 q fq in
-    rw back (rw (sum_back, total_is) at floor)
+worth_is m v n total x q fx x_is total_is fq floor = grind (arith, to_z-of_z)
 
 -- ---- the promise
+-- x times a bound on the mean of the values, where each state earns at least x times its value
+pub mean_le : (start : ℕ → ℕ) (total x n : ℕ) (worth : ℤ) (value earned : ℕ → ℤ) → (pos total *ℤ worth) ≤ℤ total_below (λ s. pos (start s) *ℤ value s) n → ((s : ℕ) → s < n → (pos x *ℤ value s) ≤ℤ earned s)
+    → (pos (total * x) *ℤ worth) ≤ℤ total_below (λ s. pos (start s) *ℤ earned s) n
+mean_le start total x n worth value earned mean each =
+    ≤ℤ_trans _ _ _ (≤ℤ_from_eq _ _ (*ℤ_assoc (pos total) (pos x) worth ∙ *ℤ_left_comm (pos total) (pos x) worth))
+    (≤ℤ_trans _ _ _ (mul_le x _ _ mean) (≤ℤ_trans _ _ _ (≤ℤ_from_eq _ _ (sym (sum_below_scale (pos x) (λ s. pos (start s) *ℤ value s) n)))
+    (sum_below_le _ _ n (λ s sl. ≤ℤ_trans _ _ _ (≤ℤ_from_eq _ _ (*ℤ_left_comm (pos x) (pos (start s)) (value s))) (mul_le (start s) _ _ (each s sl))))))
+
 -- `worth` is at most the start-weighted mean of the values of n
 pub start_all : (c : Controller) → IsController c → Passes c → (start : ℕ → ℕ) (start_total : ℕ) (worth : ℤ) (n : ℕ) → n < c.nodes → (pos start_total *ℤ worth) ≤ℤ total_below (λ s. pos (start s) *ℤ c.value n s) c.cells.states → (k : ℕ) → (pos (start_total * (step_scale c ^ k * one ^ k)) *ℤ worth) ≤ℤ total_below (λ s. pos (start s) *ℤ worth_sum c k (Some n) s) c.cells.states
-start_all c p passes start start_total worth n nl mean k =
-    let x : ℕ = step_scale c ^ k * one ^ k in
-    let first : pos (start_total * x) *ℤ worth ≡ pos x *ℤ (pos start_total *ℤ worth) = *ℤ_assoc (pos start_total) (pos x) worth ∙ *ℤ_left_comm (pos start_total) (pos x) worth in
-    let scaled : (pos x *ℤ (pos start_total *ℤ worth)) ≤ℤ (pos x *ℤ total_below (λ s. pos (start s) *ℤ c.value n s) c.cells.states) = mul_le x _ _ mean in
-    let inside : pos x *ℤ total_below (λ s. pos (start s) *ℤ c.value n s) c.cells.states ≡ total_below (λ s. pos x *ℤ (pos (start s) *ℤ c.value n s)) c.cells.states = sym (sum_below_scale (pos x) (λ s. pos (start s) *ℤ c.value n s) c.cells.states) in
-    let each : total_below (λ s. pos x *ℤ (pos (start s) *ℤ c.value n s)) c.cells.states ≤ℤ total_below (λ s. pos (start s) *ℤ worth_sum c k (Some n) s) c.cells.states =
-    sum_below_le _ _ c.cells.states (λ s sl. ≤ℤ_trans _ _ _ (≤ℤ_from_eq _ _ (*ℤ_left_comm (pos x) (pos (start s)) (c.value n s))) (mul_le (start s) _ _ (worth_all c p passes k n s nl sl))) in
-    ≤ℤ_trans _ _ _ (≤ℤ_from_eq _ _ first) (≤ℤ_trans _ _ _ scaled (≤ℤ_trans _ _ _ (≤ℤ_from_eq _ _ inside) each))
+start_all c p passes start start_total worth n nl mean k = mean_le start start_total (step_scale c ^ k * one ^ k) c.cells.states worth (c.value n) (worth_sum c k (Some n)) mean (λ s sl. worth_all c p passes k n s nl sl)
 
 pub start_promise : (m : Meaning) (c : Controller) → c.cells.states ≡ states_of m → IsController c → Passes c → (n : ℕ) (worth : ℤ) → n < c.nodes → IsFloorQuotient (total_below (λ s. pos (start_weight m s) *ℤ c.value n s) (states_of m)) (start_total m) worth → (k : ℕ) → StartPromise m c k n worth
 start_promise m c same proper passes n worth nl floor k =

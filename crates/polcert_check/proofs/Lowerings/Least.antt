@@ -1,22 +1,9 @@
 -- The greatest short, and the least constant that it gives.
-use Rattle.std.proofs.Common.{◌≡◌, ℕ, ◌+◌, ◌-◌, ◌*◌, ◌^◌, ◌<◌, ◌≤◌, ℤ, pos, ◌≤ℤ◌, ◌<ℤ◌, inl, ⊎_elim, sym, refl, subst, arith, lit<, ◌+ℤ◌, ◌-ℤ◌, neg_ℤ, FitsSigned, to_z, of_z, unsigned_abs}
-use mir.Syntax.{w128}
-use Rattle.std.proofs.lemmas.Int.{ints, fits_signed_from_abs}
-use Rattle.polcert_check.proofs.Sums.Bounds.{fits_128, negated_is}
-use Rattle.polcert_text.specs.Numbers.{largest}
-use Rattle.polcert_cells.specs.Tables.{CellTable, IsWithinLimits}
-use Rattle.polcert_check.specs.Horizon.{Controller, one, step_scale}
-use Rattle.polcert_check.specs.Shortfall.{short, Passes}
-use Rattle.polcert_check.specs.Steps.Ranges.{IsController, most_scales, most_sum}
-use Rattle.polcert_check.specs.Lower.{lowered_by, NoneLacks, IsLeast, CanLower}
-use Rattle.polcert_check.specs.Steps.Findings.{IsPair, IsWorstOf}
-use Rattle.std.proofs.Common.{w64}
+use Rattle.std.proofs.Common.{◌≡◌, ℕ, ◌+◌, ◌-◌, ◌*◌, ◌^◌, ◌<◌, ◌≤◌, ℤ, pos, ◌≤ℤ◌, ◌<ℤ◌, inl, ⊎_elim, sym, refl, subst, arith, ◌+ℤ◌, ◌-ℤ◌, neg_ℤ, FitsSigned, to_z, of_z, unsigned_abs, w64}
+use Rattle.polcert_check.proofs.Common.{w128, ints, fits_signed_from_abs, largest, CellTable, IsWithinLimits, Controller, one, step_scale, short, Passes, IsController, most_scales, most_sum, lowered_by, NoneLacks, IsLeast, CanLower, IsPair, IsWorstOf, Side, Below, signed_from, CanMove, PolicyVectors, AreProperVectors, IsInRange}
+use Rattle.polcert_check.proofs.Sums.Bounds.{negated_is}
 use Rattle.std.proofs.Math.Nat.{mul-le-mul}
-use Rattle.polcert_check.specs.declared.findings.Side.{Side}
-use Rattle.polcert_check.specs.declared.findings.Side.TheVariants.{Below, Above}
-use Rattle.polcert_check.specs.Steps.Mirrored.{signed_from, CanMove}
 use Rattle.polcert_check.proofs.Walking.Verdicts.{positive_product}
-use Rattle.polcert_policy.specs.Vectors.{PolicyVectors, AreProperVectors, IsInRange, value_of}
 use Rattle.polcert_check.proofs.Certificates.{value_is_in_range}
 use Rattle.polcert_check.proofs.Sums.Ring.{linear, wider}
 use Rattle.polcert_check.proofs.Horizons.Kept.{LacksNone}
@@ -42,12 +29,8 @@ less_fails c p gl worst d w h passes =
     w.is_reached
 
 -- ---- the value less `by`
-within : (v : ℤ) → IsInRange v → unsigned_abs v ≤ 10000000000000
-within v r = omega (arith, ints, r.0, r.1)
-
 pub low_fits : (v : ℤ) → IsInRange v → FitsSigned w128 v × FitsSigned w128 (v +ℤ pos 10000000000000)
-low_fits v r =
-    (fits_128 v 10000000000000 (within v r) (lit< tt), fits_128 (v +ℤ pos 10000000000000) 20000000000000 (omega (arith, ints, r.0, r.1)) (lit< tt))
+low_fits v r = grind arith
 
 pub low_enough : (v : ℤ) (by : ℕ) → IsInRange v → by ≤ unsigned_abs (v +ℤ pos 10000000000000) → IsInRange (v +ℤ neg_ℤ (pos by))
 low_enough v by r l = (omega (arith, ints, r.0, r.1), omega (arith, ints, r.0, r.1))
@@ -89,21 +72,17 @@ least_zero c p gl none passes =
 -- at a discount of one nothing helps a pair that is short
 pub no_constant : (c : Controller) → IsController c → c.cells.discount ≡ one → (n s : ℕ) → n < c.nodes → s < c.cells.states → pos 0 <ℤ short c n s → (by : ℕ) → Passes (lowered_by c by) → ⊥
 no_constant c p ge n s nl sl h by passes =
-    let le : short c n s ≤ℤ pos (step_scale c * ((one - c.cells.discount) * by)) = from_passes_lowered c p (omega arith) by passes n s nl sl in
     let none : one - c.cells.discount ≡ 0 = omega arith in
-    let zero : step_scale c * ((one - c.cells.discount) * by) ≡ 0 = rw none (omega arith) in
-    positive_not (short c n s) (step_scale c * ((one - c.cells.discount) * by)) zero le h
+    positive_not (short c n s) (step_scale c * ((one - c.cells.discount) * by)) (rw none (omega arith)) (from_passes_lowered c p (omega arith) by passes n s nl sl) h
   where
     positive_not : (x : ℤ) (y : ℕ) → y ≡ 0 → x ≤ℤ pos y → pos 0 <ℤ x → ⊥
     positive_not x y e l h = omega (arith, linear)
 
 turned_in_range : (side : Side) (x : ℤ) → IsInRange x → IsInRange (signed_from side x)
-turned_in_range Below x r = r
-turned_in_range Above x r = (omega (arith, ints, r.0, r.1), omega (arith, ints, r.0, r.1))
+turned_in_range side x h1 = grind arith
 
 constant_small : (side : Side) (v : PolicyVectors) → AreProperVectors v → (by : ℕ) → CanMove side v by → by ≤ 2 * largest
-constant_small side v proper by can =
-    low_is_small (signed_from side (value_of v 0 0)) by (turned_in_range side (value_of v 0 0) (value_is_in_range v proper 0 0 proper.some_nodes proper.some_states)) (can 0 0 proper.some_nodes proper.some_states)
+constant_small side v proper by can = grind (arith, value_is_in_range, low_is_small, turned_in_range)
 
 pub constant_fits : (side : Side) (v : PolicyVectors) → AreProperVectors v → (by : ℕ) → CanMove side v by → FitsSigned w64 (pos by)
 constant_fits side v proper by can = let small : by ≤ 2 * largest = constant_small side v proper by can in record { sfits = omega (arith, ints) }
@@ -111,9 +90,7 @@ constant_fits side v proper by can = let small : by ≤ 2 * largest = constant_s
 pub negated : (v : PolicyVectors) → AreProperVectors v → (by : ℕ) → CanLower v by → (x : ℤ) → x ≡ pos by → to_z w64 (of_z w64 (pos 0 -ℤ to_z w64 (of_z w64 x))) ≡ neg_ℤ (pos by)
 negated v proper by can x e =
     let small : by ≤ 2 * largest = constant_small Below v proper by can in
-    let fits : FitsSigned w64 (pos by) = constant_fits Below v proper by can in
-    let below : FitsSigned w64 (neg_ℤ (pos by)) = fits_signed_from_abs w64 (neg_ℤ (pos by)) (omega (arith, ints)) in
-    rw e (negated_is w64 (pos by) fits below)
+    rw e (negated_is w64 (pos by) (constant_fits Below v proper by can) (fits_signed_from_abs w64 (neg_ℤ (pos by)) (omega (arith, ints))))
 
 pub at_one : (m : CellTable) → IsWithinLimits m → 1000000 ≤ m.discount → m.discount ≡ one
 unfolding one

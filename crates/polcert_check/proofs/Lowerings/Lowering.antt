@@ -1,9 +1,6 @@
 -- What lowering every vector value by one number does to the shorts.
 use Rattle.std.proofs.Common.{◌≡◌, ℕ, ◌+◌, ◌-◌, ◌*◌, ◌<◌, ◌≤◌, ℤ, pos, ◌+ℤ◌, ◌-ℤ◌, ◌*ℤ◌, ◌≤ℤ◌, Option, Some, None, sym, refl, ap, ◌∙◌, arith}
-use Rattle.polcert_check.specs.Horizon.{total_below, Controller, one, step_weight, step_scale}
-use Rattle.polcert_check.specs.Shortfall.{backing, short, Lacks, Passes}
-use Rattle.polcert_check.specs.Steps.Ranges.{IsController}
-use Rattle.polcert_check.specs.Lower.{lowered_by}
+use Rattle.polcert_check.proofs.Common.{total_below, Controller, one, step_weight, step_scale, backing, short, Lacks, Passes, IsController, lowered_by}
 use Rattle.polcert_check.proofs.Sums.Ring.{linear, products, sums, *ℤ-+ℤ, sub_add_cancel}
 use Rattle.polcert_check.proofs.Sums.SumLaws.{sum_below_same, sum_below_add}
 use Rattle.polcert_check.proofs.Horizons.Kept.{backing_term, sum_twice_scale, step_weights_sum, no_weight, LacksNone}
@@ -14,12 +11,8 @@ term_algebra w u r g v b = simp (products, sums)
 lowered_term : (c : Controller) (by n s e z : ℕ) → (Lacks c n s z → ⊥) → e < c.cells.states → (at : Option ℕ) → c.next n z ≡ at → backing_term (lowered_by c by) n s e z at +ℤ pos (c.cells.discount * by) *ℤ pos (step_weight c n s e z) ≡ backing_term c n s e z at
 lowered_term c by n s e z fine el None is = let h : step_weight c n s e z ≡ 0 = no_weight c n s e z fine el is in rw h (ap pos (omega arith))
 lowered_term c by n s e z fine el (Some m) is =
-    let w : ℤ = pos (step_weight c n s e z) in
-    let r : ℤ = c.cells.r (c.action n) s e z in
-    let g : ℤ = pos c.cells.discount in
     let v : ℤ = c.value m e in
-    term_algebra w (pos one) r g (v -ℤ pos by) (pos by)
-    ∙ ap (λ (x : ℤ). w *ℤ (pos one *ℤ r +ℤ g *ℤ x)) (sub_add_cancel v (pos by))
+    cc (term_algebra (pos (step_weight c n s e z)) (pos one) (c.cells.r (c.action n) s e z) (pos c.cells.discount) (v -ℤ pos by) (pos by), sub_add_cancel v (pos by))
 
 pub sum_twice_add : (f g : ℕ → ℕ → ℤ) (m n : ℕ) → total_below (λ e. total_below (λ z. f e z +ℤ g e z) m) n ≡ total_below (λ e. total_below (λ z. f e z) m) n +ℤ total_below (λ e. total_below (λ z. g e z) m) n
 sum_twice_add f g m n =
@@ -30,12 +23,11 @@ pub lowered_backing : (c : Controller) → IsController c → (by n s : ℕ) →
 lowered_backing c p by n s nl sl fine =
     let b : ℤ = pos (c.cells.discount * by) in
     let w = λ (e z : ℕ). pos (step_weight c n s e z) in
-    let m : ℕ = c.cells.observations in
     let new = λ (e z : ℕ). backing_term (lowered_by c by) n s e z (c.next n z) in
     ap (λ (x : ℤ). backing (lowered_by c by) n s +ℤ b *ℤ x) (sym (step_weights_sum c p n s nl sl))
-    ∙ ap (λ (x : ℤ). backing (lowered_by c by) n s +ℤ x) (sym (sum_twice_scale b w m c.cells.states))
-    ∙ sym (sum_twice_add new (λ e z. b *ℤ w e z) m c.cells.states)
-    ∙ sum_below_same _ _ c.cells.states (λ e el. sum_below_same _ _ m (λ z zl. lowered_term c by n s e z (fine z zl) el (c.next n z) refl))
+    ∙ ap (λ (x : ℤ). backing (lowered_by c by) n s +ℤ x) (sym (sum_twice_scale b w c.cells.observations c.cells.states))
+    ∙ sym (sum_twice_add new (λ e z. b *ℤ w e z) c.cells.observations c.cells.states)
+    ∙ sum_below_same _ _ c.cells.states (λ e el. sum_below_same _ _ c.cells.observations (λ z zl. lowered_term c by n s e z (fine z zl) el (c.next n z) refl))
 
 -- lowering by `by` lowers a short by Q * (one - g) * by
 split_nat : (q d g b : ℕ) → q * (d + g) * b ≡ q * (d * b) + g * b * q
@@ -50,12 +42,7 @@ short_algebra x v b = ap (λ (y : ℤ). x *ℤ y) (sym (sub_add_cancel v b)) ∙
 pub lowered_short : (c : Controller) → IsController c → c.cells.discount ≤ one → (by n s : ℕ) → n < c.nodes → s < c.cells.states → ((z : ℕ) → z < c.cells.observations → Lacks c n s z → ⊥) → short c n s ≡ short (lowered_by c by) n s +ℤ pos (step_scale c * ((one - c.cells.discount) * by))
 lowered_short c p gl by n s nl sl fine =
     let q : ℕ = step_scale c in
-    let g : ℕ = c.cells.discount in
-    let v : ℤ = c.value n s in
-    let backs : backing (lowered_by c by) n s +ℤ pos (g * by * q) ≡ backing c n s = lowered_backing c p by n s nl sl fine in
-    let left : pos (q * one) *ℤ v ≡ pos (q * one) *ℤ (v -ℤ pos by) +ℤ pos (q * one * by) = short_algebra (pos (q * one)) v (pos by) in
-    let split : pos (q * one * by) ≡ pos (q * ((one - g) * by)) +ℤ pos (g * by * q) = ap pos (lowered_nat q one g by gl) in
-    omega (arith, linear)
+    omega (arith, linear, ap pos (lowered_nat q one c.cells.discount by gl), short_algebra (pos (q * one)) (c.value n s) (pos by), lowered_backing c p by n s nl sl fine)
 
 -- the vectors less `by` pass just where no pair lacks an observation and no short is above Q * (one - g) * by
 pub passes_lowered : (c : Controller) → IsController c → c.cells.discount ≤ one → (by : ℕ) → LacksNone c → ((n s : ℕ) → n < c.nodes → s < c.cells.states → short c n s ≤ℤ pos (step_scale c * ((one - c.cells.discount) * by))) → Passes (lowered_by c by)
@@ -66,6 +53,4 @@ passes_lowered c p gl by fine most n s nl sl =
 
 pub from_passes_lowered : (c : Controller) → IsController c → c.cells.discount ≤ one → (by : ℕ) → Passes (lowered_by c by) → (n s : ℕ) → n < c.nodes → s < c.cells.states → short c n s ≤ℤ pos (step_scale c * ((one - c.cells.discount) * by))
 from_passes_lowered c p gl by passes n s nl sl =
-    let is : short c n s ≡ short (lowered_by c by) n s +ℤ pos (step_scale c * ((one - c.cells.discount) * by)) = lowered_short c p gl by n s nl sl (passes n s nl sl).lacks_none in
-    let le : short (lowered_by c by) n s ≤ℤ pos 0 = (passes n s nl sl).not_short in
-    omega (arith, linear)
+    omega (arith, linear, (passes n s nl sl).not_short, lowered_short c p gl by n s nl sl (passes n s nl sl).lacks_none)

@@ -1,24 +1,14 @@
 -- What lowers the mirror image raises the controller.
-use Rattle.std.proofs.Common.{◌≡◌, ◌↔◌, ◌∙◌, ℕ, ◌<◌, ℤ, pos, neg_ℤ, ◌+ℤ◌, ◌-ℤ◌, refl, sym, ap, subst, arith}
-use Rattle.std.proofs.lemmas.Int.{ints}
-use Rattle.polcert_cells.specs.Tables.{CellTable}
-use Rattle.polcert_policy.specs.Graphs.{PolicyGraph}
-use Rattle.polcert_policy.specs.Vectors.{PolicyVectors, IsInRange, value_of}
-use Rattle.polcert_check.specs.Horizon.{Controller, Fits, controller_of}
-use Rattle.polcert_check.specs.Shortfall.{short, Passes}
-use Rattle.polcert_check.specs.Steps.Ranges.{IsController}
-use Rattle.polcert_check.specs.Lower.{lowered_by, IsLeast, IsFirstShort, IsNotMended, RefusesSmallAmount}
-use Rattle.polcert_check.specs.Above.{PassesAbove}
-use Rattle.polcert_check.specs.Raise.{raised_by, IsLeastAbove, CanRaise, IsFirstLong, IsNotRaised, IsLeastRaise, RefusesSmallRaise}
-use Rattle.polcert_check.specs.declared.fault.LowerFault.{LowerFault}
+use Rattle.std.proofs.Common.{◌≡◌, ◌↔◌, ℕ, ◌<◌, ℤ, pos, neg_ℤ, ◌+ℤ◌, ◌-ℤ◌, sym, ap, subst, arith}
+use Rattle.polcert_check.proofs.Common.{ints, CellTable, PolicyGraph, PolicyVectors, IsInRange, value_of, Controller, controller_of, Passes, IsController, lowered_by, IsLeast, IsFirstShort, IsNotMended, RefusesSmallAmount, PassesAbove, IsNotRaised, IsLeastRaise, LowerFault, RaiseFault, Above, mirrored, CanMove, IsLeastMove}
+use Rattle.polcert_check.specs.Horizon.{Fits}
+use Rattle.polcert_check.specs.Raise.{raised_by, IsLeastAbove, CanRaise, IsFirstLong, RefusesSmallRaise}
 use Rattle.polcert_check.specs.declared.fault.LowerFault.TheVariants as lower
-use Rattle.polcert_check.specs.declared.fault.RaiseFault.{RaiseFault}
 use Rattle.polcert_check.specs.declared.fault.RaiseFault.TheVariants as raise
-use Rattle.polcert_check.specs.declared.findings.Side.TheVariants.{Above}
-use Rattle.polcert_check.specs.Steps.Mirrored.{mirrored, CanMove, IsLeastMove, raise_of}
+use Rattle.polcert_check.specs.Steps.Mirrored.{raise_of}
 use Rattle.polcert_check.proofs.Sums.Ring.{linear}
 use Rattle.polcert_check.proofs.Mirrors.Mirrored.{mirrored_short}
-use Rattle.polcert_check.proofs.Mirrors.FromAbove.{turn_short, turn_long, passes_above, passes_below}
+use Rattle.polcert_check.proofs.Mirrors.FromAbove.{turn_short, passes_above, passes_below}
 use Rattle.polcert_check.proofs.Agreements.Agreeing.{passes_alike}
 
 turned_sum : (x : ℤ) (by : ℕ) → neg_ℤ x -ℤ pos by ≡ neg_ℤ (x +ℤ pos by)
@@ -52,12 +42,10 @@ pub least_move_is : (c : Controller) (v : PolicyVectors) (x : ℤ) → IsLeastRa
 least_move_is c v x h = (h.0, h.1, (least_moved c h.0).1 h.2, (can_raise v h.0).1 h.3)
 
 first_long : (c : Controller) (n s : ℕ) (amount : ℤ) → IsFirstShort (mirrored c) n s amount → IsFirstLong c n s amount
-first_long c n s amount h =
-    (h.0, h.1, h.2 ∙ mirrored_short c n s, h.3, λ m t ml tl b. turn_short (short (mirrored c) m t) (short c m t) (mirrored_short c m t) (h.4 m t ml tl b))
+first_long c n s amount h = grind (arith, mirrored_short, turn_short)
 
 first_short : (c : Controller) (n s : ℕ) (amount : ℤ) → IsFirstLong c n s amount → IsFirstShort (mirrored c) n s amount
-first_short c n s amount h =
-    (h.0, h.1, h.2 ∙ sym (mirrored_short c n s), h.3, λ m t ml tl b. turn_long (short (mirrored c) m t) (short c m t) (mirrored_short c m t) (h.4 m t ml tl b))
+first_short c n s amount h = grind (arith, linear, mirrored_short)
 
 pub not_raised_is : (c : Controller) (v : PolicyVectors) (fault : LowerFault) → IsNotMended (mirrored c) (CanMove Above v) fault → IsNotRaised c v (raise_of fault)
 not_raised_is c v (lower.NoSuccessor n s z) h = h
@@ -73,10 +61,7 @@ lower_of raise.OutOfRange = lower.OutOfRange
 lower_of raise.Memory = lower.Memory
 
 pub raise_again : (fault : RaiseFault) → raise_of (lower_of fault) ≡ fault
-raise_again (raise.NoSuccessor n s z) = refl
-raise_again (raise.NoConstant n s amount) = refl
-raise_again raise.OutOfRange = refl
-raise_again raise.Memory = refl
+raise_again fault = grind arith
 
 pub not_mended_is : (c : Controller) (v : PolicyVectors) (fault : RaiseFault) → IsNotRaised c v fault → IsNotMended (mirrored c) (CanMove Above v) (lower_of fault)
 not_mended_is c v (raise.NoSuccessor n s z) h = h
@@ -85,10 +70,7 @@ not_mended_is c v raise.OutOfRange h = (h.0, (h.1.0, (least_moved c h.1.0).1 h.1
 not_mended_is c v raise.Memory h = h
 
 pub small_raise : (c : Controller) (fault : LowerFault) → RefusesSmallAmount (mirrored c) fault → RefusesSmallRaise c (raise_of fault)
-small_raise c (lower.NoSuccessor n s z) h = h
-small_raise c (lower.NoConstant n s amount) h = h
-small_raise c lower.OutOfRange h = h
-small_raise c lower.Memory h = h
+small_raise c fault h1 = grind arith
 
 -- ---- the raised vectors
 pub raised_passes : (t : CellTable) (g : PolicyGraph) (v w : PolicyVectors) → Fits t g v → IsController (controller_of t g v) → (by : ℕ) → PassesAbove (raised_by (controller_of t g v) by)

@@ -1,14 +1,6 @@
 -- No shortfall is larger in size than three times the largest value on its scale.
-use Rattle.std.proofs.Common.{◌≡◌, ℕ, ◌*◌, ◌<◌, ◌≤◌, ℤ, pos, ◌+ℤ◌, ◌-ℤ◌, ◌*ℤ◌, unsigned_abs, arith}
-use Rattle.std.proofs.lemmas.Int.{ints}
-use Rattle.std.proofs.Math.Nat.{mul-le-mul_right}
-use Rattle.polcert_text.specs.Numbers.{largest}
-use Rattle.polcert_cells.specs.Tables.{IsWithinLimits}
-use Rattle.polcert_check.specs.Horizon.{Controller, one, step_scale}
-use Rattle.polcert_check.specs.Shortfall.{backing, short, most_short}
-use Rattle.polcert_check.specs.Steps.Ranges.{IsController, ValuesAreWithin, most_scales, most_sum}
-use Rattle.polcert_check.specs.Steps.Factored.{expected_reward, expected_value}
-use Rattle.polcert_check.specs.Steps.FollowedCells.{followed, followed_is_proper, followed_is_within}
+use Rattle.std.proofs.Common.{◌≡◌, ℕ, ◌*◌, ◌<◌, ◌≤◌, ℤ, pos, ◌+ℤ◌, ◌-ℤ◌, ◌*ℤ◌, unsigned_abs, arith, rules}
+use Rattle.polcert_check.proofs.Common.{ints, largest, IsWithinLimits, Controller, one, step_scale, backing, short, most_short, IsController, ValuesAreWithin, most_sum, expected_reward, expected_value, followed, followed_is_proper, followed_is_within}
 use Rattle.polcert_check.proofs.Sums.Bounds.{abs-*ℤ_le}
 use Rattle.polcert_check.proofs.Sums.Scales.{scales_le, discount_le}
 use Rattle.polcert_check.proofs.Walking.Earning.{expected_reward_le}
@@ -18,10 +10,7 @@ use Rattle.polcert_check.proofs.Horizons.Splitting.{followed_split}
 -- in figures
 pub most_short_le : (c : Controller) → IsWithinLimits c.cells → most_short c ≤ 3 * most_sum
 unfolding one
-most_short_le c limits =
-    let b : ℕ = 10000000000000000000 in
-    let bound : step_scale c * b ≤ most_scales * b = mul-le-mul_right b (scales_le c.cells limits) in
-    omega (arith, bound)
+most_short_le c limits = grind (arith, scales_le)
 
 sum_le : (x y : ℤ) (b : ℕ) → unsigned_abs x ≤ b → unsigned_abs y ≤ b → unsigned_abs (x +ℤ y) ≤ 2 * b
 sum_le x y b h k = omega (arith, ints)
@@ -32,9 +21,7 @@ difference_le x y b h k = omega (arith, ints)
 -- what is earned or expected, in millionths of it
 pub part_le : (t o u : ℕ) (x : ℤ) → u ≤ one → unsigned_abs x ≤ t * (o * largest) → unsigned_abs (pos u *ℤ x) ≤ t * o * one * largest
 part_le t o u x ul xl =
-    let q : unsigned_abs (pos u *ℤ x) ≤ one * (t * (o * largest)) = abs-*ℤ_le (pos u) x one (t * (o * largest)) ul xl in
-    let same : one * (t * (o * largest)) ≡ t * o * one * largest = signed_from t o one largest in
-    rw same at q
+    rw (signed_from t o one largest) at (abs-*ℤ_le (pos u) x one (t * (o * largest)) ul xl)
   where
     signed_from : (t o g l : ℕ) → g * (t * (o * l)) ≡ t * o * g * l
     signed_from t o g l = omega arith
@@ -42,15 +29,11 @@ part_le t o u x ul xl =
 -- what backs a value is at most twice the largest value on this scale
 backing_le : (c : Controller) → IsController c → IsWithinLimits c.cells → ValuesAreWithin c → (n s : ℕ) → n < c.nodes → s < c.cells.states → unsigned_abs (backing c n s) ≤ 2 * (step_scale c * one * largest)
 backing_le c p limits values n s nl sl =
-    let al : c.action n < c.cells.actions = p.closed.actions_in_range n nl in
     let earned : unsigned_abs (expected_reward (followed c n) (c.action n) s) ≤ c.cells.t_scale * (c.cells.o_scale * largest) =
-    expected_reward_le (followed c n) (followed_is_proper c n p.cells) (followed_is_within c n limits) (c.action n) s al sl in
-    let expected : unsigned_abs (expected_value c n s) ≤ c.cells.t_scale * (c.cells.o_scale * largest) = expected_value_le c p limits values n s nl sl in
+    expected_reward_le (followed c n) (followed_is_proper c n p.cells) (followed_is_within c n limits) (c.action n) s (p.closed.actions_in_range n nl) sl in
     rw (followed_split c n s) (sum_le (pos one *ℤ expected_reward (followed c n) (c.action n) s) (pos c.cells.discount *ℤ expected_value c n s) (step_scale c * one * largest)
     (part_le c.cells.t_scale c.cells.o_scale one (expected_reward (followed c n) (c.action n) s) (omega arith) earned)
-    (part_le c.cells.t_scale c.cells.o_scale c.cells.discount (expected_value c n s) (discount_le c.cells limits) expected))
+    (part_le c.cells.t_scale c.cells.o_scale c.cells.discount (expected_value c n s) (discount_le c.cells limits) (expected_value_le c p limits values n s nl sl)))
 
 pub short_le : (c : Controller) → IsController c → IsWithinLimits c.cells → ValuesAreWithin c → (n s : ℕ) → n < c.nodes → s < c.cells.states → unsigned_abs (short c n s) ≤ most_short c
-short_le c p limits values n s nl sl =
-    let top : unsigned_abs (pos (step_scale c * one) *ℤ c.value n s) ≤ step_scale c * one * largest = abs-*ℤ_le (pos (step_scale c * one)) (c.value n s) (step_scale c * one) largest (omega arith) (values n s nl sl) in
-    difference_le (pos (step_scale c * one) *ℤ c.value n s) (backing c n s) (step_scale c * one * largest) top (backing_le c p limits values n s nl sl)
+short_le c p limits values n s nl sl = search (rules, abs-*ℤ_le, difference_le, backing_le)

@@ -1,26 +1,15 @@
 -- What passes from below in the mirror image passes from above, and its promises are promises from above.
-use Rattle.std.proofs.Common.{◌≡◌, ◌∙◌, ℕ, ◌*◌, ◌^◌, ◌<◌, ℤ, pos, neg_ℤ, ◌+ℤ◌, ◌*ℤ◌, ◌≤ℤ◌, IsTrue, All, Contains, Some, List, ◌∷◌, [], refl, sym, subst, arith}
-use Rattle.polcert_check.specs.declared.above.AboveVerdict.{AboveVerdict}
+use Rattle.std.proofs.Common.{◌≡◌, ◌∙◌, ℕ, ◌*◌, ◌^◌, ◌<◌, ℤ, pos, neg_ℤ, ◌+ℤ◌, ◌*ℤ◌, ◌≤ℤ◌, IsTrue, Contains, Some, ◌∷◌, [], sym, subst, arith}
+use Rattle.polcert_check.proofs.Common.{AboveVerdict, Verdict, Yes, Short, NoSuccessor, Above, Controller, one, step_scale, Promise, RewardPromise, AtMost, MeetsEveryHorizon, MeetsHorizon, HasCutRun, short, PairPasses, Passes, PassesBefore, IsVerdict, NamesSmallAmount, PromiseAbove, RewardPromiseAbove, MeetsHorizonAbove, PassesAbove, IsAboveVerdict, NamesSmallAmountAbove, mirrored, IsController}
 use Rattle.polcert_check.specs.declared.above.AboveVerdict.TheVariants as above
-use Rattle.polcert_check.specs.declared.survey.Verdict.{Verdict}
-use Rattle.polcert_check.specs.declared.survey.Verdict.TheVariants.{Yes, Short, NoSuccessor}
-use Rattle.polcert_check.specs.declared.findings.Side.TheVariants.{Above}
-use Rattle.polcert_check.specs.Horizon.{Controller, one, step_scale, runs, is_cut, weight, Promise, RewardPromise, AtMost, MeetsEveryHorizon, MeetsHorizon, HasCutRun}
-use Rattle.polcert_check.specs.Shortfall.{short, PairPasses, Passes}
-use Rattle.polcert_check.specs.Verdict.{PassesBefore, IsVerdict, NamesSmallAmount}
-use Rattle.polcert_check.specs.Above.{PromiseAbove, AtLeast, RewardPromiseAbove, MeetsEveryHorizonAbove, MeetsHorizonAbove, PairPassesAbove, PassesAbove, PassesAboveBefore, IsAboveVerdict, NamesSmallAmountAbove}
-use Rattle.polcert_check.specs.Steps.Mirrored.{mirrored, above_of}
-use Rattle.polcert_check.specs.Steps.Ranges.{IsController}
+use Rattle.polcert_check.specs.Above.{AtLeast, MeetsEveryHorizonAbove, PairPassesAbove, PassesAboveBefore}
+use Rattle.polcert_check.specs.Steps.Mirrored.{above_of}
 use Rattle.polcert_check.proofs.Horizons.EveryHorizon.{every_horizon, passes_if_promised}
 use Rattle.polcert_check.proofs.Sums.Ring.{linear, neg_product}
 use Rattle.polcert_check.proofs.Mirrors.Sides.{sided_proper}
 use Rattle.polcert_check.proofs.Mirrors.Mirrored.{mirrored_short, mirrored_runs, mirrored_cut, mirrored_weight, mirrored_weights, mirrored_worth, mirrored_earned}
 
 -- ---- numbers
--- what is at least the negative of a product, and what is at most the product, each with the sum that a reward's promise has
-pub le_above : (x v w w' : ℤ) → w' ≡ neg_ℤ w → (x *ℤ neg_ℤ v) ≤ℤ w' → w ≤ℤ (x *ℤ v)
-le_above x v w w' e h = omega (arith, linear, neg_product x v)
-
 pub le_below : (x v w w' : ℤ) → w' ≡ neg_ℤ w → w ≤ℤ (x *ℤ v) → (x *ℤ neg_ℤ v) ≤ℤ w'
 le_below x v w w' e h = omega (arith, linear, neg_product x v)
 
@@ -68,9 +57,7 @@ below_of (above.Long n s amount) = Short n s amount
 below_of (above.NoSuccessor n s z) = NoSuccessor n s z
 
 pub above_again : (v : AboveVerdict) → above_of (below_of v) ≡ v
-above_again above.Yes = refl
-above_again (above.Long n s amount) = refl
-above_again (above.NoSuccessor n s z) = refl
+above_again v = grind arith
 
 pub verdict_above : (c : Controller) (v : Verdict) → IsVerdict (mirrored c) v → IsAboveVerdict c (above_of v)
 verdict_above c Yes h = passes_above c h
@@ -83,28 +70,14 @@ verdict_below c (above.Long n s amount) h = (h.0, h.1, before_below c n s h.2, h
 verdict_below c (above.NoSuccessor n s z) h = (h.0, h.1, before_below c n s h.2, h.3)
 
 pub small_above : (c : Controller) (v : Verdict) → NamesSmallAmount (mirrored c) v → NamesSmallAmountAbove c (above_of v)
-small_above c Yes h = h
-small_above c (Short n s amount) h = h
-small_above c (NoSuccessor n s z) h = h
+small_above c v h1 = grind arith
 
 -- ---- promises
-abbrev CutsWeighNothing : Controller → ℕ → ℕ → List (ℕ × ℕ) → Type 0
-CutsWeighNothing c n s run = IsTrue (is_cut c (Some n) run) → weight c (Some n) s run ≡ 0
-
-pub cuts_turned : (c : Controller) (k n s : ℕ) → All (CutsWeighNothing (mirrored c) n s) (runs (mirrored c).cells k) ≡ All (CutsWeighNothing c n s) (runs c.cells k)
-cuts_turned c k n s = λ i. All (λ run. IsTrue (mirrored_cut c (Some n) run i) → mirrored_weight c (Some n) s run i ≡ 0) (mirrored_runs c k i)
-
 pub promise_above : (c : Controller) (k n s : ℕ) → Promise (mirrored c) k n s → PromiseAbove c k n s
-promise_above c k n s h = record {
-  cut_runs = subst (λ (T : Type 0). T) (cuts_turned c k n s) h.cut_runs;
-  uncut_runs = le_above (pos (step_scale c ^ k * one ^ k)) (c.value n s) _ _ (mirrored_worth c k (Some n) s) h.uncut_runs;
-}
+promise_above c k n s h = grind (arith, mirrored_worth)
 
 pub promise_below : (c : Controller) (k n s : ℕ) → PromiseAbove c k n s → Promise (mirrored c) k n s
-promise_below c k n s h = record {
-  cut_runs = subst (λ (T : Type 0). T) (sym (cuts_turned c k n s)) h.cut_runs;
-  uncut_runs = le_below (pos (step_scale c ^ k * one ^ k)) (c.value n s) _ _ (mirrored_worth c k (Some n) s) h.uncut_runs;
-}
+promise_below c k n s h = grind (arith, mirrored_worth)
 
 at_most : (c : Controller) (m : ℤ) → AtLeast c m → AtMost (mirrored c) (neg_ℤ m)
 at_most c m h = λ n s nl sl. turn_back (c.value n s) m (h n s nl sl)

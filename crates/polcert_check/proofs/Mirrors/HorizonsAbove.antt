@@ -1,11 +1,6 @@
 -- What a verdict from above says of the promise from above.
 use Rattle.std.proofs.Common.{subst}
-use Rattle.polcert_check.specs.declared.above.AboveVerdict.{AboveVerdict}
-use Rattle.polcert_check.specs.declared.findings.Side.TheVariants.{Above}
-use Rattle.polcert_check.specs.Horizon.{Controller}
-use Rattle.polcert_check.specs.Above.{IsAboveVerdict, MeetsHorizonAbove}
-use Rattle.polcert_check.specs.Steps.Mirrored.{mirrored}
-use Rattle.polcert_check.specs.Steps.Ranges.{IsController}
+use Rattle.polcert_check.proofs.Common.{AboveVerdict, Above, Controller, IsAboveVerdict, MeetsHorizonAbove, mirrored, IsController}
 use Rattle.polcert_check.proofs.Mirrors.FromAbove.{below_of, above_again, verdict_below, horizon_above}
 use Rattle.polcert_check.proofs.Mirrors.Sides.{sided_proper}
 use Rattle.polcert_check.proofs.Walking.Answering.{meets_horizon}

@@ -1,13 +1,8 @@
 -- What passes from below is nowhere above what passes from above, where the discount is below 1.
-use Rattle.std.proofs.Common.{◌≡◌, ℕ, zero, suc, ◌+◌, ◌*◌, ◌<◌, ◌≤◌, ℤ, pos, ◌+ℤ◌, ◌-ℤ◌, ◌*ℤ◌, ◌≤ℤ◌, Option, Some, None, refl, ap, ◌∙◌, arith, ⊎_elim, unsigned_abs}
-use Rattle.std.proofs.lemmas.Bool.{cases_lt}
-use Rattle.std.proofs.lemmas.Int.{ints, by_lt_z}
-use Rattle.std.proofs.Math.Nat.{mul-le-mul_left}
-use Rattle.polcert_check.specs.Horizon.{Controller, one, total_below, step_weight, step_scale}
-use Rattle.polcert_check.specs.Shortfall.{backing, Passes}
-use Rattle.polcert_check.specs.Steps.Ranges.{IsController}
-use Rattle.polcert_check.specs.Above.{PassesAbove}
-use Rattle.polcert_check.proofs.Sums.Ring.{linear, products, sums, *ℤ-+ℤ, mul_le, ≤ℤ_trans, ≤ℤ_from_eq}
+use Rattle.std.proofs.Common.{◌≡◌, ℕ, zero, suc, ◌+◌, ◌*◌, ◌<◌, ◌≤◌, ℤ, pos, ◌+ℤ◌, ◌-ℤ◌, ◌*ℤ◌, ◌≤ℤ◌, Option, Some, None, refl, ap, ◌∙◌, arith, unsigned_abs}
+use Rattle.polcert_check.proofs.Common.{cases_lt, ints, Controller, one, total_below, step_weight, step_scale, backing, Passes, IsController, PassesAbove}
+use Rattle.std.proofs.Math.Nat.{le_trans}
+use Rattle.polcert_check.proofs.Sums.Ring.{linear, below_cancel, products, sums, *ℤ-+ℤ, mul_le, ≤ℤ_trans, ≤ℤ_from_eq}
 use Rattle.polcert_check.proofs.Sums.SumLaws.{sum_below_le}
 use Rattle.polcert_check.proofs.Horizons.Kept.{backing_term, not_short_is, sum_twice_scale, step_weights_sum}
 use Rattle.polcert_check.proofs.Lowerings.Lowering.{sum_twice_add}
@@ -29,27 +24,24 @@ gap_term c low b n s e z h (Some m) is =
     let r : ℤ = pos one *ℤ c.cells.r (c.action n) s e z in
     let g : ℕ = c.cells.discount in
     let later : (pos g *ℤ low m e) ≤ℤ (pos g *ℤ (c.value m e +ℤ pos b)) = mul_le g _ _ (h m is) in
-    let more : (r +ℤ pos g *ℤ low m e) ≤ℤ (r +ℤ pos g *ℤ (c.value m e +ℤ pos b)) = omega (arith, linear) in
-    ≤ℤ_trans _ _ _ (mul_le w _ _ more) (≤ℤ_from_eq _ _ (gap_algebra (pos w) (pos one) (c.cells.r (c.action n) s e z) (pos g) (c.value m e) (pos b)))
+    ≤ℤ_trans _ _ _ (mul_le w _ _ (omega (arith, linear))) (≤ℤ_from_eq _ _ (gap_algebra (pos w) (pos one) (c.cells.r (c.action n) s e z) (pos g) (c.value m e) (pos b)))
 
 gap_backing : (c : Controller) → IsController c → (low : ℕ → ℕ → ℤ) (b n s : ℕ) → n < c.nodes → s < c.cells.states → IsWithin c low b
     → backing (with_values c low) n s ≤ℤ (backing c n s +ℤ pos (c.cells.discount * b) *ℤ pos (step_scale c))
 gap_backing c p low b n s nl sl within =
     let x : ℤ = pos (c.cells.discount * b) in
     let w = λ (e z : ℕ). pos (step_weight c n s e z) in
-    let m : ℕ = c.cells.observations in
     let old = λ (e z : ℕ). backing_term c n s e z (c.next n z) in
     ≤ℤ_trans _ _ _
-    (sum_below_le _ (λ e. total_below (λ z. old e z +ℤ x *ℤ w e z) m) c.cells.states
-    (λ e el. sum_below_le _ _ m (λ z zl. gap_term c low b n s e z (λ i is. within i e (p.closed.next_in_range n z i nl zl is) el) (c.next n z) refl)))
+    (sum_below_le _ (λ e. total_below (λ z. old e z +ℤ x *ℤ w e z) c.cells.observations) c.cells.states
+    (λ e el. sum_below_le _ _ c.cells.observations (λ z zl. gap_term c low b n s e z (λ i is. within i e (p.closed.next_in_range n z i nl zl is) el) (c.next n z) refl)))
     (≤ℤ_from_eq _ _
-    (sum_twice_add old (λ e z. x *ℤ w e z) m c.cells.states
-    ∙ ap (λ (y : ℤ). backing c n s +ℤ y) (sum_twice_scale x w m c.cells.states)
+    (sum_twice_add old (λ e z. x *ℤ w e z) c.cells.observations c.cells.states
+    ∙ ap (λ (y : ℤ). backing c n s +ℤ y) (sum_twice_scale x w c.cells.observations c.cells.states)
     ∙ ap (λ (y : ℤ). backing c n s +ℤ x *ℤ y) (step_weights_sum c p n s nl sl)))
 
 shrink_nat : (q u g b : ℕ) → 0 < q → g < u → g * suc b * q < q * u * suc b
-shrink_nat zero u g b h l = omega arith
-shrink_nat (suc q) u g b h l = let m : suc q * (suc b * suc g) ≤ suc q * (suc b * u) = mul-le-mul_left (suc q) (mul-le-mul_left (suc b) l) in omega arith
+shrink_nat q u g b h1 h2 = grind arith
 
 step_up : (a b d : ℤ) → a ≤ℤ b → (a +ℤ d) ≤ℤ (b +ℤ d)
 step_up a b d h = omega (arith, linear)
@@ -60,14 +52,7 @@ not_long_is a b h = omega (arith, linear)
 -- so a gap of b + 1 is one of b
 shrink : (q u g b : ℕ) (v l : ℤ) → 0 < q → g < u → (pos (q * u) *ℤ l) ≤ℤ (pos (q * u) *ℤ v +ℤ pos (g * suc b * q)) → l ≤ℤ (v +ℤ pos b)
 shrink q u g b v l ql gl h =
-    by_lt_z (v +ℤ pos b) l
-    (λ lt.
-    let next : (v +ℤ pos (suc b)) ≤ℤ l = omega (arith, linear) in
-    let scaled : (pos (q * u) *ℤ (v +ℤ pos (suc b))) ≤ℤ (pos (q * u) *ℤ l) = mul_le (q * u) _ _ next in
-    let apart : pos (q * u) *ℤ (v +ℤ pos (suc b)) ≡ pos (q * u) *ℤ v +ℤ pos (q * u * suc b) = *ℤ-+ℤ (pos (q * u)) v (pos (suc b)) in
-    let less : g * suc b * q < q * u * suc b = shrink_nat q u g b ql gl in
-    absurd (omega (arith, linear)))
-    (λ le. le)
+    omega (arith, linear, below_cancel (q * u) l (v +ℤ pos (suc b)) (omega (arith, linear, h, *ℤ-+ℤ (pos (q * u)) v (pos (suc b)), shrink_nat q u g b ql gl)))
 
 closes : (c : Controller) → IsController c → PassesAbove c → (low : ℕ → ℕ → ℤ) → Passes (with_values c low) → c.cells.discount < one → 0 < step_scale c
     → (b : ℕ) → IsWithin c low b → (n s : ℕ) → n < c.nodes → s < c.cells.states → low n s ≤ℤ (c.value n s +ℤ pos 0)
@@ -79,33 +64,19 @@ closes c p above low below gl ql (suc b) within =
     let upper : backing c n s ≤ℤ (pos (step_scale c * one) *ℤ c.value n s) = not_long_is _ _ (above n s nl sl).not_long in
     shrink (step_scale c) one c.cells.discount b (c.value n s) (low n s) ql gl (≤ℤ_trans _ _ _ lower (≤ℤ_trans _ _ _ gap (step_up _ _ _ upper))))
 
--- ---- any two tables of values are within some bound
-all_below : (ℕ → ℕ) → ℕ → ℕ
-all_below f zero = 0
-all_below f (suc n) = all_below f n + f n
+-- ---- finitely many values are within some bound
+pub some_row : (f : ℕ → ℤ) (n : ℕ) → (b : ℕ) × ((i : ℕ) → i < n → unsigned_abs (f i) ≤ b)
+some_row f zero = (0, (λ i l. absurd (omega arith)))
+some_row f (suc n) = let (b, within) = some_row f n in (b + unsigned_abs (f n), (λ i l. grind (arith, cases_lt i n, within i)))
 
-all_below_le : (f : ℕ → ℕ) (n i : ℕ) → i < n → f i ≤ all_below f n
-unfolding all_below
-all_below_le f zero i l = absurd (omega arith)
-all_below_le f (suc n) i l = ⊎_elim (λ (k : i < n). let h : f i ≤ all_below f n = all_below_le f n i k in omega arith) (λ (k : n ≤ i). let e : i ≡ n = omega arith in rw e (omega arith)) (cases_lt i n)
+pub some_bound : (f : ℕ → ℕ → ℤ) (m n : ℕ) → (b : ℕ) × ((a s : ℕ) → a < m → s < n → unsigned_abs (f a s) ≤ b)
+some_bound f m n = let (b, within) = some_row (λ a. pos (some_row (f a) n).0) m in (b, (λ a s al sl. le_trans ((some_row (f a) n).1 s sl) (within a al)))
 
 within_abs : (x v : ℤ) (b : ℕ) → unsigned_abs (x -ℤ v) ≤ b → x ≤ℤ (v +ℤ pos b)
 within_abs x v b h = omega (arith, ints)
 
-some_bound : (c : Controller) (low : ℕ → ℕ → ℤ) → (b : ℕ) × IsWithin c low b
-some_bound c low =
-    let gap = λ (n s : ℕ). unsigned_abs (low n s -ℤ c.value n s) in
-    let row = λ (n : ℕ). all_below (λ s. gap n s) c.cells.states in (
-      all_below row c.nodes,
-      (λ n s nl sl.
-          let h : gap n s ≤ row n = all_below_le (λ s. gap n s) c.cells.states s sl in
-          let k : row n ≤ all_below row c.nodes = all_below_le row c.nodes n nl in
-          within_abs (low n s) (c.value n s) (all_below row c.nodes) (omega arith)),
-    )
-
 pub never_above : (c : Controller) → IsController c → PassesAbove c → (low : ℕ → ℕ → ℤ) → Passes (with_values c low) → c.cells.discount < one → 0 < step_scale c
     → (n s : ℕ) → n < c.nodes → s < c.cells.states → low n s ≤ℤ c.value n s
 never_above c p above low below gl ql n s nl sl =
-    let bound = some_bound c low in
-    let h : low n s ≤ℤ (c.value n s +ℤ pos 0) = closes c p above low below gl ql bound.0 bound.1 n s nl sl in
-    omega (arith, linear)
+    let (b, within) = some_bound (λ m t. low m t -ℤ c.value m t) c.nodes c.cells.states in
+    omega (arith, linear, closes c p above low below gl ql b (λ m t ml tl. within_abs (low m t) (c.value m t) b (within m t ml tl)) n s nl sl)

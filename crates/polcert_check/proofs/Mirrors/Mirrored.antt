@@ -1,19 +1,13 @@
 -- What is so of a controller, and what of its mirror image: each sum of rewards and values is negated, and weights stay.
-use Rattle.std.proofs.Common.{◌≡◌, ◌∙◌, ℕ, zero, suc, ◌-◌, ◌*◌, ◌^◌, ℤ, pos, neg_ℤ, ◌+ℤ◌, ◌-ℤ◌, ◌*ℤ◌, Bool, not, cond, Option, Some, None, List, [], ◌∷◌, map, filter, flat_map, get_or, refl, sym, ap, arith}
-use Rattle.std.specs.List.{range_with_len}
+use Rattle.std.proofs.Common.{◌≡◌, ◌∙◌, ℕ, zero, suc, ◌-◌, ◌*◌, ℤ, pos, neg_ℤ, ◌+ℤ◌, ◌*ℤ◌, Option, Some, None, List, [], ◌∷◌, map, flat_map, get_or, refl, sym, ap, arith, rules}
 use Rattle.std.proofs.Math.IntN.{neg_ℤ-+ℤ}
-use Rattle.polcert_check.specs.Horizon.{Controller, one, total_below, sum_over, step_weight, step_scale, pairs, runs, is_cut, weight, rewards, end_value, reward_part, total, uncut, weights_sum, worth_sum, rewards_sum}
-use Rattle.polcert_check.specs.Shortfall.{at_node, backing, short}
-use Rattle.polcert_check.specs.Steps.Mirrored.{mirrored}
-use Rattle.polcert_check.proofs.Sums.Ring.{linear, neg_product}
+use Rattle.polcert_check.proofs.Common.{Controller, one, total_below, sum_over, step_weight, pairs, runs, is_cut, weight, rewards, end_value, reward_part, total, uncut, weights_sum, worth_sum, rewards_sum, at_node, backing, short, mirrored}
+use Rattle.polcert_check.proofs.Sums.Ring.{neg_product}
 use Rattle.polcert_check.proofs.Sums.SumLaws.{sum_below_same, sum_over_same}
 
 -- ---- numbers
 neg_sum : (x y : ℤ) → neg_ℤ x +ℤ neg_ℤ y ≡ neg_ℤ (x +ℤ y)
 neg_sum x y = sym (neg_ℤ-+ℤ x y)
-
-neg_difference : (x y : ℤ) → neg_ℤ x -ℤ neg_ℤ y ≡ neg_ℤ (x -ℤ y)
-neg_difference x y = omega (arith, linear)
 
 -- ---- sums
 pub sum_below_neg : (f : ℕ → ℤ) (n : ℕ) → total_below (λ i. neg_ℤ (f i)) n ≡ neg_ℤ (total_below f n)
@@ -44,9 +38,7 @@ mirrored_backing c n s =
     ∙ sum_below_neg (λ e. total_below (term e) c.cells.observations) c.cells.states
 
 pub mirrored_short : (c : Controller) (n s : ℕ) → short (mirrored c) n s ≡ neg_ℤ (short c n s)
-mirrored_short c n s =
-    let backed : backing (mirrored c) n s ≡ neg_ℤ (backing c n s) = mirrored_backing c n s in
-    rw (backed, neg_product) (neg_difference (pos (step_scale c * one) *ℤ c.value n s) (backing c n s))
+mirrored_short c n s = grind (arith, mirrored_backing)
 
 -- ---- runs
 pub mirrored_runs : (c : Controller) (k : ℕ) → runs (mirrored c).cells k ≡ runs c.cells k
@@ -74,34 +66,17 @@ mirrored_end c (Some n) s [] = refl
 mirrored_end c (Some n) s (p ∷ run) = mirrored_end c (c.next n p.1) p.0 run
 
 mirrored_part : (c : Controller) (k : ℕ) (at : Option ℕ) (s : ℕ) (run : List (ℕ × ℕ)) → reward_part (mirrored c) k at s run ≡ neg_ℤ (reward_part c k at s run)
-mirrored_part c k at s run =
-    let factor = λ (i : ℕ). pos (c.cells.discount ^ i * one ^ (k - i)) in
-    let earned = λ (i : ℕ). get_or (rewards c at s run) i (pos 0) in
-    sum_over_same _ (λ i. neg_ℤ (factor i *ℤ earned i)) (range_with_len 0 k)
-    (λ i. ap (λ rs. factor i *ℤ get_or rs i (pos 0)) (mirrored_rewards c at s run) ∙ ap (λ (x : ℤ). factor i *ℤ x) (get_neg (rewards c at s run) i) ∙ neg_product (factor i) (earned i))
-    ∙ sum_over_neg (λ i. factor i *ℤ earned i) (range_with_len 0 k)
+mirrored_part c k at s run = search (rules, neg_product, sum_over_neg, get_neg, mirrored_rewards)
 
 mirrored_total : (c : Controller) (k : ℕ) (at : Option ℕ) (s : ℕ) (run : List (ℕ × ℕ)) → total (mirrored c) k at s run ≡ neg_ℤ (total c k at s run)
-mirrored_total c k at s run =
-    let rewarded : reward_part (mirrored c) k at s run ≡ neg_ℤ (reward_part c k at s run) = mirrored_part c k at s run in
-    let ended : end_value (mirrored c) at s run ≡ neg_ℤ (end_value c at s run) = mirrored_end c at s run in
-    rw (rewarded, ended, neg_product) (neg_sum (reward_part c k at s run) (pos (c.cells.discount ^ k) *ℤ end_value c at s run))
-
--- the same runs are left
-kept_same : {X : Type 0} (p q : X → Bool) (xs : List X) → ((x : X) → p x ≡ q x) → filter p xs ≡ filter q xs
-kept_same p q [] h = refl
-kept_same p q (x ∷ xs) h = ap (λ b. cond b (x ∷ filter p xs) (filter p xs)) (h x) ∙ ap (λ ys. cond (q x) (x ∷ ys) ys) (kept_same p q xs h)
+mirrored_total c k at s run = search (rules, neg_product, neg_sum, mirrored_end, mirrored_part)
 
 mirrored_uncut : (c : Controller) (k : ℕ) (at : Option ℕ) → uncut (mirrored c) k at ≡ uncut c k at
-mirrored_uncut c k at =
-    kept_same (λ run. not (is_cut (mirrored c) at run)) (λ run. not (is_cut c at run)) (runs (mirrored c).cells k) (λ run. ap not (mirrored_cut c at run))
-    ∙ ap (λ rs. filter (λ run. not (is_cut c at run)) rs) (mirrored_runs c k)
+mirrored_uncut c k at = grind arith
 
 -- ---- sums over the runs
 pub mirrored_weights : (c : Controller) (k : ℕ) (at : Option ℕ) (s : ℕ) → weights_sum (mirrored c) k at s ≡ weights_sum c k at s
-mirrored_weights c k at s =
-    ap (λ rs. sum_over (λ run. pos (weight (mirrored c) at s run)) rs) (mirrored_uncut c k at)
-    ∙ sum_over_same _ (λ run. pos (weight c at s run)) (uncut c k at) (λ run. ap pos (mirrored_weight c at s run))
+mirrored_weights c k at s = grind arith
 
 mirrored_mean : (c : Controller) (k : ℕ) (at : Option ℕ) (s : ℕ) (f g : List (ℕ × ℕ) → ℤ) → ((run : List (ℕ × ℕ)) → f run ≡ neg_ℤ (g run))
     → sum_over (λ run. pos (weight (mirrored c) at s run) *ℤ f run) (uncut (mirrored c) k at) ≡ neg_ℤ (sum_over (λ run. pos (weight c at s run) *ℤ g run) (uncut c k at))

@@ -1,36 +1,20 @@
 -- A check from above has one verdict, raising one outcome, and a start one most: each is that of the mirror image from below.
-use Rattle.std.proofs.Common.{◌≡◌, ◌∙◌, ℕ, ℤ, neg_ℤ, sym, ap, subst, arith}
-use Rattle.polcert_cells.specs.Meaning.{Meaning, start_total}
-use Rattle.polcert_policy.specs.Vectors.{PolicyVectors}
-use Rattle.polcert_check.specs.declared.above.AboveVerdict.{AboveVerdict}
-use Rattle.polcert_check.specs.declared.fault.RaiseFault.{RaiseFault}
-use Rattle.polcert_check.specs.declared.findings.Side.TheVariants.{Above}
-use Rattle.polcert_check.specs.Above.{IsAboveVerdict}
-use Rattle.polcert_check.specs.Horizon.{Controller}
-use Rattle.polcert_check.specs.Steps.Mirrored.{mirrored, above_of, raise_of, CanMove}
-use Rattle.polcert_check.specs.Raise.{IsLeastRaise, IsNotRaised}
-use Rattle.polcert_check.specs.StartMost.{IsStartMost}
-use Rattle.polcert_check.specs.StartWorth.{start_sum, IsCeilQuotient}
-use Rattle.polcert_check.proofs.Mirrors.FromAbove.{below_of, above_again, verdict_below}
-use Rattle.polcert_check.proofs.Agreements.OneAnswer.{one_verdict, one_move, one_fault, move_or_fault, one_best_node, one_quotient}
-use Rattle.polcert_check.proofs.Lowerings.Raising.{lower_of, raise_again, least_move_is, not_mended_is}
+use Rattle.std.proofs.Common.{◌≡◌, ℕ, ℤ, neg_ℤ, arith, rules}
+use Rattle.polcert_check.proofs.Common.{Meaning, PolicyVectors, AboveVerdict, RaiseFault, Above, IsAboveVerdict, Controller, mirrored, CanMove, IsLeastRaise, IsNotRaised, IsStartMost, IsCeilQuotient}
+use Rattle.polcert_check.proofs.Mirrors.FromAbove.{verdict_below}
+use Rattle.polcert_check.proofs.Agreements.OneAnswer.{one_verdict, one_move, one_fault, move_or_fault, one_quotient}
+use Rattle.polcert_check.proofs.Lowerings.Raising.{lower_of, least_move_is, not_mended_is}
 use Rattle.polcert_check.proofs.Sums.Ring.{linear}
 use Rattle.polcert_check.proofs.Mirrors.StartMosts.{floor_is_neg}
 
 pub one_above_verdict : (c : Controller) (x y : AboveVerdict) → IsAboveVerdict c x → IsAboveVerdict c y → x ≡ y
-one_above_verdict c x y is also =
-    sym (above_again x)
-    ∙ ap above_of (one_verdict (mirrored c) (below_of x) (below_of y) (verdict_below c x is) (verdict_below c y also))
-    ∙ above_again y
+one_above_verdict c x y is also = grind (arith, verdict_below, one_verdict)
 
 pub one_raise : (c : Controller) (v : PolicyVectors) (x y : ℤ) → IsLeastRaise c v x → IsLeastRaise c v y → x ≡ y
 one_raise c v x y is also = one_move (mirrored c) (CanMove Above v) x y (least_move_is c v x is) (least_move_is c v y also)
 
 pub one_raise_reason : (c : Controller) (v : PolicyVectors) (f g : RaiseFault) → IsNotRaised c v f → IsNotRaised c v g → f ≡ g
-one_raise_reason c v f g is also =
-    sym (raise_again f)
-    ∙ ap raise_of (one_fault (mirrored c) (CanMove Above v) (lower_of f) (lower_of g) (not_mended_is c v f is) (not_mended_is c v g also))
-    ∙ raise_again g
+one_raise_reason c v f g is also = grind (arith, one_fault, not_mended_is)
 
 -- not both a constant and a reason why there is none
 pub raise_or_reason : (c : Controller) (v : PolicyVectors) (x : ℤ) (f : RaiseFault) → IsLeastRaise c v x → IsNotRaised c v f → ⊥
@@ -44,6 +28,4 @@ one_ceil : (sum : ℤ) (total : ℕ) (x y : ℤ) → IsCeilQuotient sum total x 
 one_ceil sum total x y is also = same_negatives x y (one_quotient (neg_ℤ sum) total (neg_ℤ x) (neg_ℤ y) (floor_is_neg sum total x is) (floor_is_neg sum total y also))
 
 pub one_start_most : (m : Meaning) (v : PolicyVectors) (x y : ℤ) → IsStartMost m v x → IsStartMost m v y → x ≡ y
-one_start_most m v x y is also =
-    let same : is.0 ≡ also.0 = one_best_node m v is.0 also.0 is.1 also.1 in
-    one_ceil (start_sum m v also.0) (start_total m) x y (subst (λ (n : ℕ). IsCeilQuotient (start_sum m v n) (start_total m) x) same is.2) also.2
+one_start_most m v x y is also = search (rules, one_ceil)

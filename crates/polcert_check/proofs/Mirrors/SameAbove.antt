@@ -1,24 +1,8 @@
 -- What a check from above says of one table it says of every table with the same cells, and of a start's most likewise.
-use Rattle.std.proofs.Common.{ℕ, ◌<◌, ℤ, neg_ℤ, ap, subst}
-use Rattle.polcert_cells.specs.Meaning.{Meaning, IsSame, start_total}
-use Rattle.polcert_cells.specs.SameCells.{HasSameCells}
-use Rattle.polcert_cells.specs.Tables.{CellTable, table_of}
+use Rattle.std.proofs.Common.{ℕ, ◌<◌, ℤ, neg_ℤ, ap, subst, arith}
+use Rattle.polcert_check.proofs.Common.{Meaning, IsSame, start_total, HasSameCells, CellTable, table_of, PolicyGraph, IsProperGraph, nodes, PolicyVectors, AboveVerdict, RaiseFault, Above, PromiseAbove, RewardPromiseAbove, MeetsHorizonAbove, PassesAbove, IsAboveVerdict, Controller, controller_of, Promise, RewardPromise, MeetsHorizon, mirrored, CanMove, IsLeastMove, IsNotMended, Passes, IsVerdict, IsLeastRaise, IsNotRaised, IsClosed, IsStartMost, StartPromiseAbove, start_sum, IsCeilQuotient, StartPromise}
 use Rattle.polcert_cells.specs.declared.elements.StartWeights.{StartWeights}
-use Rattle.polcert_policy.specs.Graphs.{PolicyGraph, IsProperGraph, nodes}
-use Rattle.polcert_policy.specs.Vectors.{PolicyVectors}
-use Rattle.polcert_check.specs.declared.above.AboveVerdict.{AboveVerdict}
-use Rattle.polcert_check.specs.declared.fault.RaiseFault.{RaiseFault}
-use Rattle.polcert_check.specs.declared.findings.Side.TheVariants.{Above}
-use Rattle.polcert_check.specs.Above.{PromiseAbove, RewardPromiseAbove, MeetsHorizonAbove, PassesAbove, IsAboveVerdict}
-use Rattle.polcert_check.specs.Horizon.{Controller, Fits, controller_of, Promise, RewardPromise, MeetsHorizon}
-use Rattle.polcert_check.specs.Steps.Mirrored.{mirrored, CanMove, IsLeastMove}
-use Rattle.polcert_check.specs.Lower.{IsNotMended}
-use Rattle.polcert_check.specs.Shortfall.{Passes}
-use Rattle.polcert_check.specs.Verdict.{IsVerdict}
-use Rattle.polcert_check.specs.Raise.{IsLeastRaise, IsNotRaised}
-use Rattle.polcert_check.specs.Steps.Ranges.{IsClosed}
-use Rattle.polcert_check.specs.StartMost.{IsStartMost, StartPromiseAbove}
-use Rattle.polcert_check.specs.StartWorth.{start_sum, IsCeilQuotient, StartPromise}
+use Rattle.polcert_check.specs.Horizon.{Fits}
 use Rattle.polcert_check.proofs.Certificates.{closed_is}
 use Rattle.polcert_check.proofs.Mirrors.FromAbove.{below_of, above_again, verdict_above, verdict_below, horizon_above, horizon_below, promise_above, promise_below, rewards_above, rewards_below, passes_above, passes_below}
 use Rattle.polcert_check.proofs.Lowerings.Raising.{lower_of, raise_again, least_raise_is, least_move_is, not_raised_is, not_mended_is}
@@ -44,18 +28,7 @@ module _ (x y : CellTable) (graph : PolicyGraph) (vectors : PolicyVectors) (same
   closed = sided_closed Above of_x (closed_is x graph vectors fits known)
 
   same_turned : HasSameCells (mirrored of_x).cells (turned_cells y)
-  same_turned =
-      record {
-        states = same.states;
-        actions = same.actions;
-        observations = same.observations;
-        discount = same.discount;
-        t_scale = same.t_scale;
-        o_scale = same.o_scale;
-        t = same.t;
-        o = same.o;
-        r = λ a s e z al sl el zl. ap neg_ℤ (same.r a s e z al sl el zl);
-      }
+  same_turned = grind arith
 
   -- what is so just where something is so from below of the mirror image
   by_mirror : (A B : Controller → Type 0) → ((d : Controller) → A d → B (mirrored d)) → ((d : Controller) → B (mirrored d) → A d) → (B (mirrored of_x) → B (with_cells (mirrored of_x) (turned_cells y))) → A of_x → A of_y

@@ -1,11 +1,7 @@
 -- Absolute values, and which sums fit 128 bits.
-use Rattle.std.proofs.Common.{◌≡◌, ℕ, zero, suc, ◌+◌, ◌*◌, ◌^◌, ◌<◌, ◌≤◌, ℤ, pos, ◌+ℤ◌, ◌-ℤ◌, ◌*ℤ◌, ◌≤ℤ◌, neg_ℤ, unsigned_abs, FitsSigned, to_z, of_z, ap, arith, ◌⊎◌, inl, inr}
-use mir.Syntax.{w128}
-use Rattle.std.proofs.lemmas.Int.{ints, unsigned_abs-mul, fits_signed_from_abs, to_z-of_z}
+use Rattle.std.proofs.Common.{◌≡◌, ℕ, zero, suc, ◌+◌, ◌*◌, ◌^◌, ◌<◌, ◌≤◌, ℤ, pos, ◌+ℤ◌, ◌-ℤ◌, ◌*ℤ◌, ◌≤ℤ◌, neg_ℤ, unsigned_abs, FitsSigned, to_z, of_z, ap, arith, ◌⊎◌}
+use Rattle.polcert_check.proofs.Common.{w128, ints, unsigned_abs-mul, fits_signed_from_abs, cases_lt, *ℤ_comm, total_below}
 use Rattle.std.proofs.Math.Nat.{mul-le-mul}
-use Rattle.std.proofs.lemmas.Bool.{cases_lt}
-use Rattle.std.proofs.Math.IntN.{*ℤ_comm}
-use Rattle.polcert_check.specs.Horizon.{total_below}
 use Rattle.polcert_check.proofs.Sums.Ring.{linear, mul_le, +ℤ-*ℤ}
 
 pub abs-+ℤ : (a b : ℤ) → unsigned_abs (a +ℤ b) ≤ unsigned_abs a + unsigned_abs b
@@ -22,9 +18,7 @@ fits_128 z m h k = fits_signed_from_abs w128 z (omega arith)
 
 -- a number that the code negates
 pub negated_is : (w : _) (x : ℤ) → FitsSigned w x → FitsSigned w (neg_ℤ x) → to_z w (of_z w (pos 0 -ℤ to_z w (of_z w x))) ≡ neg_ℤ x
-negated_is w x fits signed_from =
-    let is : pos 0 -ℤ x ≡ neg_ℤ x = omega (arith, linear) in
-    rw (to_z-of_z w x fits, is) (to_z-of_z w (neg_ℤ x) signed_from)
+negated_is w x fits signed_from = grind arith
 
 -- ---- bounds of sums
 pub abs_sum_le : (f : ℕ → ℤ) (w : ℕ → ℕ) (b n : ℕ) → ((i : ℕ) → i < n → unsigned_abs (f i) ≤ w i * b) → pos (unsigned_abs (total_below f n)) ≤ℤ (total_below (λ i. pos (w i)) n *ℤ pos b)
@@ -40,20 +34,14 @@ sum_below_upto w i zero h = let e : i ≡ 0 = omega arith in rw e (omega (arith,
 sum_below_upto w i (suc n) h = go (cases_lt n i) (λ l. sum_below_upto w i n l)
   where
     go : (n < i) ⊎ (i ≤ n) → (i ≤ n → total_below (λ i. pos (w i)) i ≤ℤ total_below (λ i. pos (w i)) n) → total_below (λ i. pos (w i)) i ≤ℤ (total_below (λ i. pos (w i)) n +ℤ pos (w n))
-    go (inl l) before = let e : i ≡ suc n = omega arith in rw e (omega (arith, linear))
-    go (inr l) before = let b : total_below (λ i. pos (w i)) i ≤ℤ total_below (λ i. pos (w i)) n = before l in omega (arith, linear)
+    go h1 h2 = grind (arith, linear)
 
 -- a part of the sum of terms that are at most w times b, where all w sum to the scale
 pub abs_part_le : (f : ℕ → ℤ) (w : ℕ → ℕ) (b i n scale : ℕ) → total_below (λ i. pos (w i)) n ≡ pos scale → i ≤ n → ((i : ℕ) → i < n → unsigned_abs (f i) ≤ w i * b) → unsigned_abs (total_below f i) ≤ scale * b
 abs_part_le f w b i n scale all l h =
     let part : pos (unsigned_abs (total_below f i)) ≤ℤ (total_below (λ i. pos (w i)) i *ℤ pos b) = abs_sum_le f w b i (λ j k. h j (omega arith)) in
-    let up : (pos b *ℤ total_below (λ i. pos (w i)) i) ≤ℤ (pos b *ℤ total_below (λ i. pos (w i)) n) = mul_le b _ _ (sum_below_upto w i n l) in
-    let is : pos b *ℤ total_below (λ i. pos (w i)) n ≡ pos (b * scale) = ap (λ (x : ℤ). pos b *ℤ x) all in
-    let turn : total_below (λ i. pos (w i)) i *ℤ pos b ≡ pos b *ℤ total_below (λ i. pos (w i)) i = *ℤ_comm (total_below (λ i. pos (w i)) i) (pos b) in
-    omega (arith, linear)
+    omega (arith, linear, *ℤ_comm (total_below (λ i. pos (w i)) i) (pos b), ap (λ (x : ℤ). pos b *ℤ x) all, mul_le b _ _ (sum_below_upto w i n l))
 
 pub term_le : (w : ℕ → ℕ) (i n scale : ℕ) → total_below (λ i. pos (w i)) n ≡ pos scale → i < n → w i ≤ scale
 term_le w i n scale all l =
-    let h : (total_below (λ i. pos (w i)) i +ℤ pos (w i)) ≤ℤ total_below (λ i. pos (w i)) n = sum_below_upto w (suc i) n l in
-    let low : pos 0 ≤ℤ total_below (λ i. pos (w i)) i = sum_below_upto w 0 i (omega arith) in
-    omega (arith, linear)
+    omega (arith, linear, sum_below_upto w 0 i (omega arith), sum_below_upto w (suc i) n l)

@@ -1,12 +1,8 @@
 -- The largest amount of a check, in figures.
 use Rattle.std.proofs.Common.{ℕ, ◌*◌, ◌^◌, ◌<◌, ◌≤◌, unsigned_abs, lit<, lit≤}
 use Rattle.std.proofs.Math.Nat.{le_trans}
-use Rattle.polcert_cells.specs.Tables.{CellTable, IsProper, IsWithinLimits}
-use Rattle.polcert_policy.specs.Graphs.{PolicyGraph, IsProperGraph, nodes}
-use Rattle.polcert_policy.specs.Vectors.{PolicyVectors, AreProperVectors}
-use Rattle.polcert_check.specs.Horizon.{Controller, Fits, controller_of}
-use Rattle.polcert_check.specs.Shortfall.{short, most_short, largest_amount}
-use Rattle.polcert_check.specs.Steps.Ranges.{most_sum}
+use Rattle.polcert_check.proofs.Common.{CellTable, IsProper, IsWithinLimits, PolicyGraph, IsProperGraph, nodes, PolicyVectors, AreProperVectors, Controller, controller_of, short, most_short, largest_amount, most_sum}
+use Rattle.polcert_check.specs.Horizon.{Fits}
 use Rattle.polcert_check.proofs.Certificates.{controller_is, values_are_within}
 use Rattle.polcert_check.proofs.Lowerings.Shorts.{most_short_le, short_le}
 

@@ -1,9 +1,7 @@
 -- Rows of weights, summed as whole numbers.
-use Rattle.std.proofs.Common.{◌≡◌, ℕ, zero, suc, ◌<◌, pos, refl, ap, ◌∙◌}
-use Rattle.std.proofs.Common.{ℤ, ◌+ℤ◌}
+use Rattle.std.proofs.Common.{◌≡◌, ℕ, zero, suc, ◌<◌, pos, refl, ap, ◌∙◌, ℤ, ◌+ℤ◌}
 use Rattle.polcert_cells.specs.Meaning as meaning
-use Rattle.polcert_cells.specs.Tables.{CellTable, IsProper}
-use Rattle.polcert_check.specs.Horizon.{total_below}
+use Rattle.polcert_check.proofs.Common.{CellTable, IsProper, total_below}
 
 pub sum_of_pos : (f : ℕ → ℕ) (n : ℕ) → total_below (λ i. pos (f i)) n ≡ pos (meaning.sum_below f n)
 sum_of_pos f zero = refl

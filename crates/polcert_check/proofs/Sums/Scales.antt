@@ -1,11 +1,7 @@
 -- How large the products of the scales are: one number, and the room that it leaves for every sum.
-use Rattle.std.proofs.Common.{◌≡◌, ◌∙◌, ℕ, ◌*◌, ◌^◌, ◌<◌, ◌≤◌, sym, ap, arith}
-use Rattle.std.proofs.Math.Nat.{mul_assoc, mul_comm, mul-le-mul_left, mul-le-mul_right}
-use Rattle.polcert_text.specs.Numbers.{largest}
-use Rattle.polcert_cells.specs.Elements.{most_pairs}
-use Rattle.polcert_cells.specs.Tables.{CellTable, IsWithinLimits}
-use Rattle.polcert_check.specs.Horizon.{one}
-use Rattle.polcert_check.specs.Steps.Ranges.{most_scales, most_sum}
+use Rattle.polcert_check.proofs.Common.{common_steps, largest, CellTable, IsWithinLimits, one, most_scales, most_sum}
+use Rattle.std.proofs.Common.{◌≡◌, ◌∙◌, ℕ, ◌*◌, ◌^◌, ◌<◌, ◌≤◌, sym, ap, arith, rules}
+use Rattle.std.proofs.Math.Nat.{mul_assoc, mul_comm}
 
 pub scales : (m : CellTable) → IsWithinLimits m → (0 < m.t_scale) × (0 < m.o_scale)
 unfolding one
@@ -21,22 +17,15 @@ products_of a b s z = mul_assoc a s (b * z) ∙ ap (λ x. a * x) (sym (mul_assoc
 
 pub scales_le : (m : CellTable) → IsWithinLimits m → m.t_scale * m.o_scale ≤ most_scales
 unfolding one
-scales_le m limits =
-    let pairs : 1000000 * 1000000 * (m.states * m.observations) ≤ 1000000 * 1000000 * most_pairs = mul-le-mul_left (1000000 * 1000000) limits.pairs in
-    rw (limits.t_scale, limits.o_scale, products_of 1000000 1000000 m.states m.observations) pairs
+scales_le m limits = grind (arith, products_of)
 
 -- a row of either table is no larger than a row of both
 row_of_both : (m : CellTable) → IsWithinLimits m → (x b : ℕ) → m.t_scale * (m.o_scale * x) ≤ b → m.o_scale * x ≤ b
-row_of_both m limits x b h =
-    let some : 1 ≤ m.t_scale = (scales m limits).0 in
-    let q : 1 * (m.o_scale * x) ≤ m.t_scale * (m.o_scale * x) = mul-le-mul_right (m.o_scale * x) some in
-    omega (arith, q, h)
+row_of_both m limits x b h = grind (arith, common_steps)
 
 -- ---- sums of rewards or of values
 pub sum_room : (m : CellTable) → IsWithinLimits m → m.t_scale * (m.o_scale * largest) ≤ most_scales * largest
-sum_room m limits =
-    let q : (m.t_scale * m.o_scale) * largest ≤ most_scales * largest = mul-le-mul_right largest (scales_le m limits) in
-    omega (arith, q)
+sum_room m limits = search (rules, scales_le)
 
 pub ahead_room : (m : CellTable) → IsWithinLimits m → m.t_scale * (m.o_scale * largest) ≤ most_sum
 ahead_room m limits = omega (arith, sum_room m limits)

@@ -1,25 +1,19 @@
 -- Laws of sums of integers.
-use Rattle.std.proofs.Common.{◌≡◌, ℕ, zero, suc, ◌+◌, ◌<◌, ℤ, pos, ◌+ℤ◌, ◌*ℤ◌, ◌≤ℤ◌, Bool, true, false, cond, List, [], ◌∷◌, ◌++◌, map, filter, flat_map, sym, refl, ap, ◌∙◌, arith, All}
-use Rattle.std.specs.List.{range_with_len}
-use Rattle.std.proofs.lemmas.List.Elements.{All-head, All-tail}
-use Rattle.std.proofs.Math.IntN.{+ℤ_assoc, +ℤ_idl, *ℤ-zero}
-use Rattle.polcert_check.specs.Horizon.{total_below, sum_over}
-use Rattle.polcert_check.proofs.Sums.Ring.{linear, *ℤ-+ℤ}
+use Rattle.std.proofs.Common.{◌≡◌, ℕ, zero, suc, ◌+◌, ◌<◌, ℤ, pos, ◌+ℤ◌, ◌*ℤ◌, ◌≤ℤ◌, Bool, cond, List, [], ◌∷◌, ◌++◌, map, filter, flat_map, sym, refl, ap, ◌∙◌, arith, All}
+use Rattle.polcert_check.proofs.Common.{range_with_len, All-head, All-tail, +ℤ_assoc, +ℤ_idl, *ℤ-zero, zero-*ℤ, total_below, sum_over}
+use Rattle.std.specs.Prelude.{⊤}
+use Rattle.polcert_check.proofs.Sums.Ring.{linear, products, sums, *ℤ-+ℤ, +ℤ-*ℤ}
 
 -- ---- sums below n
 pub sum_below_same : (f g : ℕ → ℤ) (n : ℕ) → ((i : ℕ) → i < n → f i ≡ g i) → total_below f n ≡ total_below g n
 sum_below_same f g zero h = refl
 sum_below_same f g (suc n) h =
-    let here : f n ≡ g n = h n (omega arith) in
-    let before : total_below f n ≡ total_below g n = sum_below_same f g n (λ i l. h i (omega arith)) in
-    cc
+    cc (sum_below_same f g n (λ i l. h i (omega arith)), h n (omega arith))
 
 pub sum_below_le : (f g : ℕ → ℤ) (n : ℕ) → ((i : ℕ) → i < n → f i ≤ℤ g i) → total_below f n ≤ℤ total_below g n
 sum_below_le f g zero h = omega (arith, linear)
 sum_below_le f g (suc n) h =
-    let here : f n ≤ℤ g n = h n (omega arith) in
-    let before : total_below f n ≤ℤ total_below g n = sum_below_le f g n (λ i l. h i (omega arith)) in
-    omega (arith, linear)
+    omega (arith, linear, sum_below_le f g n (λ i l. h i (omega arith)), h n (omega arith))
 
 pub sum_below_scale : (a : ℤ) (f : ℕ → ℤ) (n : ℕ) → total_below (λ i. a *ℤ f i) n ≡ a *ℤ total_below f n
 sum_below_scale a f zero = sym (*ℤ-zero a)
@@ -31,29 +25,28 @@ sum_below_add f g (suc n) = rw (sum_below_add f g n) (omega (arith, linear))
 
 pub sum_below_front : (f : ℕ → ℤ) (n : ℕ) → total_below f (suc n) ≡ f 0 +ℤ total_below (λ i. f (suc i)) n
 sum_below_front f zero = omega (arith, linear)
-sum_below_front f (suc n) =
-    let e : total_below f (suc n) ≡ f 0 +ℤ total_below (λ i. f (suc i)) n = sum_below_front f n in
-    ap (λ (x : ℤ). x +ℤ f (suc n)) e ∙ +ℤ_assoc (f 0) (total_below (λ i. f (suc i)) n) (f (suc n))
+sum_below_front f (suc n) = grind (arith, +ℤ_assoc, sum_below_front f n)
 
 -- ---- sums over a list
+pub sum_over_same_all : {X : Type 0} (P : X → Type 0) (f g : X → ℤ) (xs : List X) → ((x : X) → P x → f x ≡ g x) → All P xs → sum_over f xs ≡ sum_over g xs
+sum_over_same_all P f g [] h a = refl
+sum_over_same_all P f g (x ∷ xs) h a =
+    cc (sum_over_same_all P f g xs h (All-tail P x xs a), h x (All-head P x xs a))
+
 pub sum_over_same : {X : Type 0} (f g : X → ℤ) (xs : List X) → ((x : X) → f x ≡ g x) → sum_over f xs ≡ sum_over g xs
-sum_over_same f g [] h = refl
-sum_over_same f g (x ∷ xs) h =
-    let here : f x ≡ g x = h x in
-    let rest : sum_over f xs ≡ sum_over g xs = sum_over_same f g xs h in
-    cc
+sum_over_same f g xs h = sum_over_same_all (λ _. ⊤) f g xs (λ x _. h x) (λ i d l. tt)
 
 pub sum_over_scale : {X : Type 0} (a : ℤ) (f : X → ℤ) (xs : List X) → sum_over (λ x. a *ℤ f x) xs ≡ a *ℤ sum_over f xs
 sum_over_scale a f [] = sym (*ℤ-zero a)
 sum_over_scale a f (x ∷ xs) = rw (sum_over_scale a f xs) (sym (*ℤ-+ℤ a (f x) (sum_over f xs)))
 
+pub sum_over_times : {X : Type 0} (m : ℤ) (f : X → ℤ) (xs : List X) → sum_over (λ x. f x *ℤ m) xs ≡ sum_over f xs *ℤ m
+sum_over_times m f [] = sym (zero-*ℤ m)
+sum_over_times m f (x ∷ xs) = rw (sum_over_times m f xs) (sym (+ℤ-*ℤ (f x) (sum_over f xs) m))
+
 pub sum_over_zero : {X : Type 0} (xs : List X) → sum_over (λ x. pos 0) xs ≡ pos 0
 sum_over_zero [] = refl
 sum_over_zero (x ∷ xs) = rw (sum_over_zero xs) refl
-
-pub sum_over_add : {X : Type 0} (f g : X → ℤ) (xs : List X) → sum_over (λ x. f x +ℤ g x) xs ≡ sum_over f xs +ℤ sum_over g xs
-sum_over_add f g [] = refl
-sum_over_add f g (x ∷ xs) = rw (sum_over_add f g xs) (omega (arith, linear))
 
 pub sum_over_append : {X : Type 0} (f : X → ℤ) (xs ys : List X) → sum_over f (xs ++ ys) ≡ sum_over f xs +ℤ sum_over f ys
 sum_over_append f [] ys = sym (+ℤ_idl (sum_over f ys))
@@ -69,20 +62,26 @@ sum_over_flat_map f h (x ∷ xs) = sum_over_append f (h x) (flat_map h xs) ∙ a
 
 pub sum_over_filter : {X : Type 0} (f : X → ℤ) (p : X → Bool) (xs : List X) → sum_over f (filter p xs) ≡ sum_over (λ x. cond (p x) (f x) (pos 0)) xs
 sum_over_filter f p [] = refl
-sum_over_filter {X} f p (x ∷ xs) = go (p x) (sum_over_filter f p xs)
-  where
-    go : (b : Bool) → sum_over f (filter p xs) ≡ sum_over (λ x. cond (p x) (f x) (pos 0)) xs → sum_over f (cond b (x ∷ filter p xs) (filter p xs)) ≡ cond b (f x) (pos 0) +ℤ sum_over (λ x. cond (p x) (f x) (pos 0)) xs
-    go true e = ap (λ (s : ℤ). f x +ℤ s) e
-    go false e = e ∙ sym (+ℤ_idl (sum_over (λ x. cond (p x) (f x) (pos 0)) xs))
+sum_over_filter {X} f p (x ∷ xs) = grind (arith, sum_over_filter f p xs)
+
+factor_algebra : (w a g x t s u : ℤ) → (w *ℤ x) *ℤ (a +ℤ g *ℤ t) +ℤ w *ℤ (a *ℤ s +ℤ g *ℤ u) ≡ w *ℤ (a *ℤ (x +ℤ s) +ℤ g *ℤ (x *ℤ t +ℤ u))
+factor_algebra w a g x t s u = simp (products, sums)
+
+-- a common factor taken out
+pub sum_over_factor : {X : Type 0} (w a g : ℤ) (x t f : X → ℤ) (xs : List X) → ((i : X) → f i ≡ (w *ℤ x i) *ℤ (a +ℤ g *ℤ t i)) → sum_over f xs ≡ w *ℤ (a *ℤ sum_over x xs +ℤ g *ℤ sum_over (λ i. x i *ℤ t i) xs)
+sum_over_factor w a g x t f [] each = rw (*ℤ-zero a, *ℤ-zero g) (sym (*ℤ-zero w))
+sum_over_factor w a g x t f (i ∷ xs) each = rw (each i, sum_over_factor w a g x t f xs each) (factor_algebra w a g (x i) (t i) (sum_over x xs) (sum_over (λ j. x j *ℤ t j) xs))
+
+pub sum_over_parts : {X : Type 0} (h : ℤ) (x r v : X → ℤ) (xs : List X) → sum_over (λ i. x i *ℤ (r i +ℤ h *ℤ v i)) xs ≡ sum_over (λ i. x i *ℤ r i) xs +ℤ h *ℤ sum_over (λ i. x i *ℤ v i) xs
+sum_over_parts h x r v [] = rw (*ℤ-zero h) refl
+sum_over_parts h x r v (i ∷ xs) = rw (sum_over_parts h x r v xs) (simp (products, sums))
 
 -- over n numbers, from a on
 sum_over_from : (f : ℕ → ℤ) (a n : ℕ) → sum_over f (range_with_len a n) ≡ total_below (λ i. f (a + i)) n
 sum_over_from f a zero = refl
 sum_over_from f a (suc n) =
     let first : a ≡ a + 0 = omega arith in
-    ap (λ (s : ℤ). f a +ℤ s) (sum_over_from f (a + 1) n ∙ sum_below_same (λ i. f (a + 1 + i)) (λ i. f (a + suc i)) n (λ i _. ap f (omega arith)))
-    ∙ ap (λ (k : ℕ). f k +ℤ total_below (λ i. f (a + suc i)) n) first
-    ∙ sym (sum_below_front (λ i. f (a + i)) n)
+    cc (sum_over_from f (a + 1) n, sum_below_same (λ i. f (a + 1 + i)) (λ i. f (a + suc i)) n (λ i _. ap f (omega arith)), first, sum_below_front (λ i. f (a + i)) n)
 
 pub sum_over_below : (f : ℕ → ℤ) (n : ℕ) → sum_over f (range_with_len 0 n) ≡ total_below f n
 sum_over_below f n = sum_over_from f 0 n ∙ sum_below_same (λ i. f (0 + i)) f n (λ i _. ap f (omega arith))
@@ -91,13 +90,4 @@ sum_over_below f n = sum_over_from f 0 n ∙ sum_below_same (λ i. f (0 + i)) f 
 pub sum_over_le_all : {X : Type 0} (P : X → Type 0) (f g : X → ℤ) (xs : List X) → ((x : X) → P x → f x ≤ℤ g x) → All P xs → sum_over f xs ≤ℤ sum_over g xs
 sum_over_le_all P f g [] h a = omega (arith, linear)
 sum_over_le_all P f g (x ∷ xs) h a =
-    let here : f x ≤ℤ g x = h x (All-head P x xs a) in
-    let rest : sum_over f xs ≤ℤ sum_over g xs = sum_over_le_all P f g xs h (All-tail P x xs a) in
-    omega (arith, linear)
-
-pub sum_over_same_all : {X : Type 0} (P : X → Type 0) (f g : X → ℤ) (xs : List X) → ((x : X) → P x → f x ≡ g x) → All P xs → sum_over f xs ≡ sum_over g xs
-sum_over_same_all P f g [] h a = refl
-sum_over_same_all P f g (x ∷ xs) h a =
-    let here : f x ≡ g x = h x (All-head P x xs a) in
-    let rest : sum_over f xs ≡ sum_over g xs = sum_over_same_all P f g xs h (All-tail P x xs a) in
-    cc
+    omega (arith, linear, sum_over_le_all P f g xs h (All-tail P x xs a), h x (All-head P x xs a))

@@ -1,11 +1,7 @@
 -- What an action earns at a state: how large it is, and what it is where rewards are the same.
 use Rattle.std.proofs.Common.{◌≡◌, ℕ, ◌*◌, ◌<◌, ◌≤◌, ℤ, pos, ◌*ℤ◌, unsigned_abs, sym, ap, subst, ◌∙◌, arith}
-use Rattle.std.proofs.Math.IntN.{*ℤ_comm}
+use Rattle.polcert_check.proofs.Common.{*ℤ_comm, largest, CellTable, IsProper, IsWithinLimits, most_sum, reward_at_end, expected_reward}
 use Rattle.std.proofs.Math.Nat.{mul-le-mul}
-use Rattle.polcert_text.specs.Numbers.{largest}
-use Rattle.polcert_cells.specs.Tables.{CellTable, IsProper, IsWithinLimits}
-use Rattle.polcert_check.specs.Steps.Ranges.{most_sum}
-use Rattle.polcert_check.specs.Steps.Factored.{reward_at_end, expected_reward}
 use Rattle.polcert_check.proofs.Sums.SumLaws.{sum_below_same, sum_below_scale}
 use Rattle.polcert_check.proofs.Sums.RowTotals.{t_rows, o_rows}
 use Rattle.polcert_check.proofs.Sums.Bounds.{abs-*ℤ_le}
@@ -42,6 +38,4 @@ module _ (m : CellTable) (p : IsProper m) (limits : IsWithinLimits m) where
   common_room a s h al sl same =
       let zl : 0 < m.observations = limits.observations.0 in
       let small : unsigned_abs h ≤ largest = subst (λ (x : ℤ). unsigned_abs x ≤ largest) (same s 0 sl zl) (limits.r a s s 0 al sl sl zl) in
-      let following : unsigned_abs (pos m.o_scale *ℤ h) ≤ m.o_scale * largest = abs-*ℤ_le (pos m.o_scale) h m.o_scale largest (omega arith) small in
-      let ahead : m.t_scale * unsigned_abs (pos m.o_scale *ℤ h) ≤ m.t_scale * (m.o_scale * largest) = mul-le-mul (omega arith) following in
-      omega (arith, ahead, ahead_room m limits)
+      grind (arith, mul-le-mul, abs-*ℤ_le, ahead_room)

@@ -1,21 +1,11 @@
 -- The reward at an end state, from one that observations have in common and from its exceptions.
-use Rattle.std.proofs.Common.{◌≡◌, ◌∙◌, ℕ, zero, suc, ◌+◌, ◌*◌, ◌^◌, ◌<◌, ◌≤◌, Bool, true, false, cond, ◌⊎◌, inl, inr, List, ℤ, pos, negsuc, ◌+ℤ◌, ◌-ℤ◌, ◌*ℤ◌, unsigned_abs, FitsSigned, w64, to_z, of_z, refl, sym, ap, arith, lit<}
-use mir.Syntax.{w128}
+use Rattle.std.proofs.Common.{◌≡◌, ◌∙◌, ℕ, zero, suc, ◌+◌, ◌*◌, ◌^◌, ◌<◌, ◌≤◌, true, false, cond, ◌⊎◌, inl, inr, List, ℤ, pos, ◌+ℤ◌, ◌-ℤ◌, ◌*ℤ◌, unsigned_abs, FitsSigned, w64, to_z, of_z, refl, sym, ap, arith, rules}
+use Rattle.polcert_check.proofs.Common.{w128, ints, *ℤ_comm, *ℤ-zero, +ℤ_idr, largest, CellTable, IsProper, IsWithinLimits, cell_at, IsCommonReward, CommonReward, RewardCell, one, total_below, reward_at_end, most_sum}
 use Rattle.std.specs.Prelude.{◌==◌}
 use Rattle.std.proofs.lemmas.Bool.{cases_eq}
 use Rattle.std.proofs.lemmas.Bool.Decides.{nat_tests}
-use Rattle.std.proofs.lemmas.Int.{ints, to_z-of_z}
-use Rattle.std.proofs.Math.IntN.{*ℤ_comm, *ℤ-zero, +ℤ_idr}
-use Rattle.polcert_text.specs.Numbers.{largest}
-use Rattle.polcert_cells.specs.Tables.{CellTable, IsProper, IsWithinLimits}
-use Rattle.polcert_cells.specs.CommonRewards.{cell_at, IsCommonReward}
-use Rattle.polcert_cells.specs.declared.common_reward.CommonReward.{CommonReward}
-use Rattle.polcert_cells.specs.declared.common_reward.RewardCell.{RewardCell}
-use Rattle.polcert_check.specs.Horizon.{one, total_below}
 use Rattle.polcert_check.specs.Steps.Exceptions.{difference_in}
-use Rattle.polcert_check.specs.Steps.Factored.{reward_at_end}
-use Rattle.polcert_check.specs.Steps.Ranges.{most_sum}
-use Rattle.polcert_check.proofs.Sums.Bounds.{abs-+ℤ, abs-*ℤ_le, fits_128}
+use Rattle.polcert_check.proofs.Sums.Bounds.{abs-+ℤ, abs-*ℤ_le}
 use Rattle.polcert_check.proofs.Sums.Ring.{linear, *ℤ-+ℤ}
 use Rattle.polcert_check.proofs.Sums.RowTotals.{o_rows}
 use Rattle.polcert_check.proofs.Sums.Scales.{scales_small}
@@ -41,17 +31,7 @@ one_term_more f g i x zero l same here = absurd (omega (arith, l))
 one_term_more f g i x (suc n) l same here = at (cases_eq n i) (λ d. one_term_more f g i x n (omega (arith, l, d)) (λ k m. same k (omega (arith, m))) here)
   where
     at : (n ≡ i) ⊎ (n ≡ i → ⊥) → ((n ≡ i → ⊥) → total_below g n ≡ total_below f n +ℤ x) → total_below g n +ℤ g n ≡ (total_below f n +ℤ f n) +ℤ x
-    at (inl e) _ =
-        let before : total_below g n ≡ total_below f n = sum_below_same g f n (λ k m. same k (omega (arith, m)) (λ d. absurd (omega (arith, d, e, m)))) in
-        let last : g n ≡ f n +ℤ x = ap g e ∙ here ∙ ap (λ k. f k +ℤ x) (sym e) in
-        rw (before, last) (omega (arith, linear))
-    at (inr d) earlier =
-        let last : g n ≡ f n = same n (omega arith) d in
-        rw (earlier d, last) (omega (arith, linear))
-
--- the cell of this number names the observation
-abbrev Names : List RewardCell → ℕ → ℕ → Type 0
-Names cells z k = (cell_at cells k).observation ≡ z
+    at h1 h2 = search (rules, linear, sum_below_same)
 
 -- ---- the differences of the first cells
 module _ (r : ℕ → ℤ) (h : ℤ) (cells : List RewardCell) where
@@ -63,28 +43,14 @@ module _ (r : ℕ → ℤ) (h : ℤ) (cells : List RewardCell) where
   cases_difference : (n z : ℕ) → ((k : ℕ) × (k < n) × ((cell_at cells k).observation ≡ z) × (difference_in r h cells n z ≡ r z -ℤ h))
       ⊎ (((k : ℕ) → k < n → (cell_at cells k).observation ≡ z → ⊥) × (difference_in r h cells n z ≡ pos 0))
   cases_difference zero z = inr ((λ k l e. absurd (omega (arith, l))), refl)
-  cases_difference (suc n) z = at (cases_eq (cell_at cells n).observation z) (cases_difference n z)
-    where
-      at : Names cells z n ⊎ (Names cells z n → ⊥) → ((k : ℕ) × (k < n) × Names cells z k × (difference_in r h cells n z ≡ r z -ℤ h)) ⊎ (((k : ℕ) → k < n → Names cells z k → ⊥) × (difference_in r h cells n z ≡ pos 0))
-          → ((k : ℕ) × (k < suc n) × Names cells z k × (difference_in r h cells (suc n) z ≡ r z -ℤ h)) ⊎ (((k : ℕ) → k < suc n → Names cells z k → ⊥) × (difference_in r h cells (suc n) z ≡ pos 0))
-      at (inl e) _ = inl (n, omega arith, e, hit (cell_at cells n).observation z _ _ e)
-      at (inr d) (inl f) = inl (f.0, omega (arith, f.1), f.2, miss (cell_at cells n).observation z _ _ d ∙ f.3)
-      at (inr d) (inr f) = inr ((λ k l e. last k l e (cases_eq k n)), miss (cell_at cells n).observation z _ _ d ∙ f.1)
-        where
-          last : (k : ℕ) → k < suc n → Names cells z k → (k ≡ n) ⊎ (k ≡ n → ⊥) → ⊥
-          last k l e (inl same) = d (ap (λ i. (cell_at cells i).observation) (sym same) ∙ e)
-          last k l e (inr other) = f.0 k (omega (arith, l, other)) e
+  cases_difference (suc n) z = grind (arith, cases_difference n z)
 
 pub small_of : (h : ℤ) → FitsSigned w64 h → unsigned_abs h ≤ 2 ^ 63
-small_of (pos n) f = let l : n < 2 ^ 63 = f.sfits in omega (arith, l)
-small_of (negsuc n) f = let l : n < 2 ^ 63 = f.sfits in omega (arith, l)
+small_of h h1 = grind arith
 
 -- the difference, as the code computes it
 pub difference_is : (x h : ℤ) → FitsSigned w64 x → FitsSigned w64 h → to_z w128 (of_z w128 (to_z w64 (of_z w64 x))) -ℤ to_z w128 (of_z w128 (to_z w64 (of_z w64 h))) ≡ x -ℤ h
-difference_is x h f k =
-    let wide : FitsSigned w128 x = fits_128 x (2 ^ 63) (small_of x f) (lit< tt) in
-    let wide_h : FitsSigned w128 h = fits_128 h (2 ^ 63) (small_of h k) (lit< tt) in
-    rw (to_z-of_z w64 x f, to_z-of_z w64 h k, to_z-of_z w128 x wide, to_z-of_z w128 h wide_h) refl
+difference_is x h f k = grind arith
 
 abs-minus : (x h : ℤ) → unsigned_abs x ≤ largest → unsigned_abs h ≤ 2 ^ 63 → unsigned_abs (x -ℤ h) ≤ 2 ^ 64
 abs-minus x h l m = omega (arith, ints)
@@ -115,25 +81,18 @@ module _ (m : CellTable) (p : IsProper m) (limits : IsWithinLimits m) (a s e : �
   difference_le z zl = abs-minus (m.r a s e z) common.reward (limits.r a s e z al sl el zl) small
 
   differs_le : (n z : ℕ) → z < m.observations → unsigned_abs (differs n z) ≤ 2 ^ 64
-  differs_le n z zl = at (cases_difference (m.r a s e) common.reward cells n z)
-    where
-      at : ((k : ℕ) × (k < n) × ((cell_at cells k).observation ≡ z) × (differs n z ≡ m.r a s e z -ℤ common.reward))
-          ⊎ (((k : ℕ) → k < n → (cell_at cells k).observation ≡ z → ⊥) × (differs n z ≡ pos 0)) → unsigned_abs (differs n z) ≤ 2 ^ 64
-      at (inl f) = rw f.3 (difference_le z zl)
-      at (inr f) = rw f.1 (omega arith)
+  differs_le n z zl = grind (arith, cases_difference)
 
   pub sum_until_le : (n : ℕ) → unsigned_abs (sum_until m a s e common cells n) ≤ most_sum
   unfolding one
   sum_until_le n =
       let first : unsigned_abs (pos m.o_scale *ℤ common.reward) ≤ m.o_scale * 2 ^ 63 = abs-*ℤ_le (pos m.o_scale) common.reward m.o_scale (2 ^ 63) (omega arith) small in
-      let rest : unsigned_abs (total_below (λ z. pos (m.o a e z) *ℤ differs n z) m.observations) ≤ m.o_scale * 2 ^ 64 = part_le wide_row (differs n) (λ z zl. differs_le n z zl) m.observations (omega arith) in
       let both : unsigned_abs (sum_until m a s e common cells n) ≤ _ = abs-+ℤ (pos m.o_scale *ℤ common.reward) (total_below (λ z. pos (m.o a e z) *ℤ differs n z) m.observations) in
-      omega (arith, first, rest, both, limits.o_scale, limits.observations.1)
+      omega (arith, first, part_le wide_row (differs n) (λ z zl. differs_le n z zl) m.observations (omega arith), both, limits.o_scale, limits.observations.1)
 
   pub sum_until_none : pos m.o_scale *ℤ common.reward ≡ sum_until m a s e common cells 0
   sum_until_none =
-      let none : total_below (λ z. pos (m.o a e z) *ℤ pos 0) m.observations ≡ pos 0 =
-      sum_below_same _ (λ z. pos 0) m.observations (λ z l. *ℤ-zero (pos (m.o a e z))) ∙ zeros m.observations in
+      let none : total_below (λ z. pos (m.o a e z) *ℤ pos 0) m.observations ≡ pos 0 = cc (sum_below_same _ (λ z. pos 0) m.observations (λ z l. *ℤ-zero (pos (m.o a e z))), zeros m.observations) in
       sym (ap (λ (x : ℤ). pos m.o_scale *ℤ common.reward +ℤ x) none ∙ +ℤ_idr (pos m.o_scale *ℤ common.reward))
     where
       zeros : (n : ℕ) → total_below (λ z. pos 0) n ≡ pos 0
@@ -148,22 +107,19 @@ module _ (m : CellTable) (p : IsProper m) (limits : IsWithinLimits m) (a s e : �
       let here : differs (suc i) z ≡ m.r a s e z -ℤ common.reward = hit z z _ _ refl in
       let before : differs i z ≡ pos 0 = no_difference (m.r a s e) common.reward cells i z (λ k n f. is.distinct k i n l f) in
       let x = pos (m.o a e z) *ℤ (m.r a s e z -ℤ common.reward) in
-      let last : pos (m.o a e z) *ℤ differs (suc i) z ≡ pos (m.o a e z) *ℤ differs i z +ℤ x =
-      rw (here, before, *ℤ-zero (pos (m.o a e z))) (omega (arith, linear)) in
       let more = one_term_more (λ y. pos (m.o a e y) *ℤ differs i y) (λ y. pos (m.o a e y) *ℤ differs (suc i) y) z x m.observations (is.within i l)
-      (λ k n d. ap (λ (y : ℤ). pos (m.o a e k) *ℤ y) (miss z k _ _ (λ f. d (sym f)))) last in
+      (λ k n d. ap (λ (y : ℤ). pos (m.o a e k) *ℤ y) (miss z k _ _ (λ f. d (sym f)))) (rw (here, before, *ℤ-zero (pos (m.o a e z))) (omega (arith, linear))) in
       rw more (omega (arith, linear))
 
   -- with all exceptions it is the reward
   pub sum_until_all : sum_until m a s e common cells common.exceptions ≡ reward_at_end m a s e
   sum_until_all =
       let h = common.reward in
-      let n = common.exceptions in
       let scaled : pos m.o_scale *ℤ h ≡ total_below (λ z. h *ℤ pos (m.o a e z)) m.observations =
       *ℤ_comm (pos m.o_scale) h ∙ ap (λ (x : ℤ). h *ℤ x) (sym (o_rows m p a e al el)) ∙ sym (sum_below_scale h (λ z. pos (m.o a e z)) m.observations) in
-      ap (λ (x : ℤ). x +ℤ total_below (λ z. pos (m.o a e z) *ℤ differs n z) m.observations) scaled
-      ∙ sym (sum_below_add (λ z. h *ℤ pos (m.o a e z)) (λ z. pos (m.o a e z) *ℤ differs n z) m.observations)
-      ∙ sum_below_same _ _ m.observations (λ z zl. joined z zl (cases_difference (m.r a s e) h cells n z))
+      ap (λ (x : ℤ). x +ℤ total_below (λ z. pos (m.o a e z) *ℤ differs common.exceptions z) m.observations) scaled
+      ∙ sym (sum_below_add (λ z. h *ℤ pos (m.o a e z)) (λ z. pos (m.o a e z) *ℤ differs common.exceptions z) m.observations)
+      ∙ sum_below_same _ _ m.observations (λ z zl. joined z zl (cases_difference (m.r a s e) h cells common.exceptions z))
     where
       joined : (z : ℕ) → z < m.observations
           → ((k : ℕ) × (k < common.exceptions) × ((cell_at cells k).observation ≡ z) × (differs common.exceptions z ≡ m.r a s e z -ℤ common.reward))

@@ -1,26 +1,18 @@
 -- What a node expects after an end state, and ahead of a start state: the steps of the sums, and that they fit.
-use Rattle.std.proofs.Common.{◌≡◌, ℕ, suc, ◌+◌, ◌*◌, ◌<◌, ◌≤◌, ℤ, pos, ◌+ℤ◌, unsigned_abs, FitsSigned, to_z, of_z, Option, Some, None, refl, sym, ◌∙◌, arith, lit<}
-use mir.Syntax.{w128}
-use Rattle.polcert_text.specs.Numbers.{largest}
-use Rattle.polcert_cells.specs.Tables.{IsWithinLimits}
-use Rattle.polcert_check.specs.Horizon.{Controller, total_below}
-use Rattle.polcert_check.specs.Steps.Ranges.{IsController, ValuesAreWithin, most_sum}
-use Rattle.polcert_check.specs.Steps.Factored.{value_term, value_at_end, expected_value}
+use Rattle.polcert_check.proofs.Common.{common_steps, w128, largest, IsWithinLimits, Controller, total_below, IsController, ValuesAreWithin, most_sum, value_term, value_at_end, expected_value}
+use Rattle.std.proofs.Common.{◌≡◌, ℕ, suc, ◌+◌, ◌*◌, ◌<◌, ◌≤◌, ℤ, pos, ◌+ℤ◌, unsigned_abs, FitsSigned, to_z, of_z, Option, refl, arith, lit<}
 use Rattle.polcert_check.proofs.Sums.RowTotals.{o_rows}
-use Rattle.polcert_check.proofs.Sums.Bounds.{abs-*ℤ_le, abs_part_le}
+use Rattle.polcert_check.proofs.Sums.Bounds.{abs_part_le}
 use Rattle.polcert_check.proofs.Sums.Scales.{after_room}
 use Rattle.polcert_check.proofs.Walking.Weighed.{ends_weighed, part_le}
-use Rattle.polcert_check.proofs.Sums.Gaps.{gap, no_weight, cursor_step}
+use Rattle.polcert_check.proofs.Sums.Gaps.{gap, cursor_step}
 
 -- no weight, no value
-no_value : (c : Controller) (n e z : ℕ) (at : Option ℕ) → c.cells.o (c.action n) e z ≡ 0 → value_term c n e z at ≡ pos 0
-no_value c n e z None none = refl
-no_value c n e z (Some m) none = no_weight (c.cells.o (c.action n) e z) (c.value m e) none
+pub no_value : (c : Controller) (n e z : ℕ) (at : Option ℕ) → c.cells.o (c.action n) e z ≡ 0 → value_term c n e z at ≡ pos 0
+no_value c n e z at h1 = grind arith
 
 value_term_le : (c : Controller) → IsController c → ValuesAreWithin c → (n e z : ℕ) → n < c.nodes → e < c.cells.states → z < c.cells.observations → (at : Option ℕ) → c.next n z ≡ at → unsigned_abs (value_term c n e z at) ≤ c.cells.o (c.action n) e z * largest
-value_term_le c p values n e z nl el zl None is = omega arith
-value_term_le c p values n e z nl el zl (Some m) is =
-    abs-*ℤ_le (pos (c.cells.o (c.action n) e z)) (c.value m e) (c.cells.o (c.action n) e z) largest (omega arith) (values m e (p.closed.next_in_range n z m nl zl is) el)
+value_term_le c h1 h2 n e z h3 h4 h5 at h6 = grind (arith, common_steps)
 
 pub value_part_le : (c : Controller) → IsController c → ValuesAreWithin c → (n e i : ℕ) → n < c.nodes → e < c.cells.states → i ≤ c.cells.observations → unsigned_abs (total_below (λ z. value_term c n e z (c.next n z)) i) ≤ c.cells.o_scale * largest
 value_part_le c p values n e i nl el il =
@@ -35,8 +27,7 @@ value_step c p limits values n e from z sum x nl el fl zl none before fx xe =
     (let le : unsigned_abs (total_below (λ z. value_term c n e z (c.next n z)) (suc z)) ≤ c.cells.o_scale * largest = value_part_le c p values n e (suc z) nl el (omega arith) in omega (arith, le, after_room c.cells limits)) (lit< tt)
 
 pub value_done : (c : Controller) (n e from : ℕ) (sum : ℤ) → from ≤ c.cells.observations → ((k : ℕ) → from ≤ k → k < c.cells.observations → c.cells.o (c.action n) e k ≡ 0) → sum ≡ total_below (λ z. value_term c n e z (c.next n z)) from → sum ≡ value_at_end c n e
-value_done c n e from sum fl none before =
-    before ∙ sym (gap (λ z. value_term c n e z (c.next n z)) from c.cells.observations fl (λ k kl kh. no_value c n e k (c.next n k) (none k kl kh)))
+value_done c n e from sum fl none before = grind (arith, gap)
 
 -- what is after an end state is small
 pub value_at_end_le : (c : Controller) → IsController c → ValuesAreWithin c → (n e : ℕ) → n < c.nodes → e < c.cells.states → unsigned_abs (value_at_end c n e) ≤ c.cells.o_scale * largest

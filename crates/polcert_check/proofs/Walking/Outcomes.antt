@@ -1,20 +1,7 @@
 -- What is found over all pairs says: the verdict; and why vectors are not lowered.
 use Rattle.std.proofs.Common.{◌≡◌, ℕ, ◌≤◌, ⊎_elim, ℤ, pos, ◌<ℤ◌, unsigned_abs, sym, subst, arith}
-use Rattle.polcert_cells.specs.Tables.{IsWithinLimits}
-use Rattle.polcert_check.specs.Horizon.{Controller, one}
-use Rattle.polcert_check.specs.Shortfall.{short, most_short}
-use Rattle.polcert_check.specs.Verdict.{IsVerdict}
-use Rattle.polcert_check.specs.Lower.{NoneLacks, IsNotMended, RefusesSmallAmount}
-use Rattle.polcert_check.specs.Steps.Ranges.{IsController, ValuesAreWithin}
-use Rattle.polcert_check.specs.Steps.Factored.{IsPairVerdict}
-use Rattle.polcert_check.specs.Steps.Findings.{IsPair, IsLackVerdict, IsVerdictFor, IsFirstOf, IsWorstOf, IsFound, IsRefused}
-use Rattle.polcert_check.specs.declared.fault.LowerFault.{LowerFault}
-use Rattle.polcert_check.specs.declared.fault.LowerFault.TheVariants as faults
-use Rattle.polcert_check.specs.declared.findings.Mode.{Mode}
-use Rattle.polcert_check.specs.declared.findings.Mode.TheVariants.{Check, Lowering}
-use Rattle.polcert_check.specs.declared.findings.Findings.{Findings}
-use Rattle.polcert_check.specs.declared.survey.Verdict.{Verdict}
-use Rattle.polcert_check.specs.declared.survey.Verdict.TheVariants.{Yes, Short, NoSuccessor}
+use Rattle.polcert_check.proofs.Common.{IsWithinLimits, Controller, one, short, most_short, IsVerdict, NoneLacks, IsNotMended, RefusesSmallAmount, IsController, ValuesAreWithin, IsPairVerdict, IsPair, IsVerdictFor, IsFirstOf, IsWorstOf, IsFound, LowerFault, Mode, Check, Lowering, Findings, Verdict, Yes, Short, NoSuccessor}
+use Rattle.polcert_check.specs.Steps.Findings.{IsLackVerdict, IsRefused}
 use Rattle.polcert_check.proofs.Lowerings.Least.{no_constant}
 use Rattle.polcert_check.proofs.Lowerings.Shorts.{short_le}
 
@@ -53,10 +40,7 @@ module _ (c : Controller) where
   -- ---- how large an amount is
   module _ (p : IsController c) (limits : IsWithinLimits c.cells) (values : ValuesAreWithin c) where
     pub refused_small : (Can : ℕ → Type 0) (fault : LowerFault) → IsNotMended c Can fault → RefusesSmallAmount c fault
-    refused_small Can (faults.NoSuccessor n s z) is = tt
-    refused_small Can (faults.NoConstant n s amount) is = let first = is.2 in subst (λ (x : ℤ). unsigned_abs x ≤ most_short c) (sym first.2) (short_le c p limits values n s first.0 first.1)
-    refused_small Can faults.OutOfRange is = tt
-    refused_small Can faults.Memory is = tt
+    refused_small Can fault h1 = grind (arith, short_le)
 
     reached_small : (x : ℤ) (worst b : ℕ) → pos worst ≡ x → unsigned_abs x ≤ b → worst ≤ b
     reached_small x worst b e l = subst (λ (y : ℤ). unsigned_abs y ≤ b) (sym e) l

@@ -1,32 +1,16 @@
 -- The places of a walk over all pairs: by action, then by node, then by state.
 use Rattle.std.proofs.Common.{◌≡◌, ℕ, ◌+◌, ◌<◌, ◌≤◌, ◌⊎◌, inl, inr, ⊎_elim, subst, arith}
-use Rattle.polcert_check.specs.Horizon.{Controller}
-use Rattle.polcert_check.specs.Steps.Ranges.{IsClosed}
-use Rattle.polcert_check.specs.Steps.Findings.{IsPair, IsWalked, IsVerdictFor, IsFirstOf, NamesUntil, IsFound, IsFoundBefore}
-use Rattle.polcert_check.specs.declared.findings.Findings.{Findings}
-use Rattle.polcert_check.specs.declared.survey.Verdict.{Verdict}
-use Rattle.polcert_check.specs.declared.survey.Verdict.TheVariants.{Yes, Short, NoSuccessor}
-use Rattle.polcert_check.specs.Shortfall.{PairPasses}
-use Rattle.polcert_check.proofs.Walking.Found.{IsNext, IsAfter, found_wider, noted_pass, not_before}
+use Rattle.polcert_check.proofs.Common.{Controller, IsClosed, IsPair, IsWalked, IsFound, IsFoundBefore, Findings, Yes, PairPasses}
+use Rattle.polcert_check.specs.Steps.Findings.{NamesUntil}
+use Rattle.polcert_check.proofs.Walking.Found.{IsNext, IsAfter, found_wider, noted_pass}
 
 module _ (c : Controller) where
   -- ---- one pair more
   pub next_pair : (n s : ℕ) → IsPair c n s → IsNext (IsWalked c (c.action n) n s) (IsWalked c (c.action n) n (s + 1)) n s
-  next_pair n s pair = record {
-    into = λ m t p. grind arith;
-    here = grind arith;
-    from = λ m t p. grind arith;
-    following = λ t p. grind arith;
-  }
+  next_pair n s pair = grind arith
 
   pub pair_passed : (n s : ℕ) (f : Findings) → IsPair c n s → PairPasses c n s → IsFoundBefore c (c.action n) n s f → IsFoundBefore c (c.action n) n (s + 1) f
   pair_passed n s f pair passes is = noted_pass c (IsWalked c (c.action n) n s) (IsWalked c (c.action n) n (s + 1)) n s (next_pair n s pair) f is passes
-
-  -- ---- what the first is before
-  after_first : (Of : ℕ → ℕ → Verdict → Type 0) (P : ℕ → ℕ → Type 0) (x : Verdict) (n m t : ℕ) → IsFirstOf Of P x → NamesUntil x n → n ≤ m → ((j : ℕ) → P m j → j < t) → IsAfter x m t
-  after_first Of P Yes n m t is until l rows = absurd until
-  after_first Of P (Short i j amount) n m t is until l rows = not_before P m t i j is.0 rows (omega (arith, l, until))
-  after_first Of P (NoSuccessor i j z) n m t is until l rows = not_before P m t i j is.0 rows (omega (arith, l, until))
 
   -- ---- the states are done at a node
   -- what is walked with the whole node was walked before, or is one of its pairs from s on
@@ -47,9 +31,7 @@ module _ (c : Controller) where
       node_over a n s f is (λ m t k. let l : s ≤ t = k.2 in let h : t < c.cells.states = k.3 in absurd (omega (arith, l, h, all)))
 
   pub node_settled : (n s : ℕ) (f : Findings) → IsFoundBefore c (c.action n) n s f → NamesUntil f.first n → IsFoundBefore c (c.action n) (n + 1) 0 f
-  node_settled n s f is until_n =
-      node_over (c.action n) n s f is (λ m t k.
-      let same : m ≡ n = k.0 in after_first (IsVerdictFor f.mode c) (IsWalked c (c.action n) n s) f.first n m t is.first until_n (omega (arith, same)) (λ j p. grind arith))
+  node_settled n s f is until_n = grind arith
 
   pub node_passed : (a n : ℕ) (f : Findings) → IsFoundBefore c a n 0 f → (c.action n ≡ a → ⊥) → IsFoundBefore c a (n + 1) 0 f
   node_passed a n f is other =
@@ -62,13 +44,7 @@ module _ (c : Controller) where
 
   -- ---- the beginning and the end
   pub nothing_found : (f : Findings) → f.first ≡ Yes → f.short ≡ Yes → f.worst ≡ 0 → IsFoundBefore c 0 0 0 f
-  nothing_found f first short worst = record {
-    first = rw first (λ m t p. absurd (grind arith));
-    measured = λ mode passed. record {
-      short = rw short (λ m t p. absurd (grind arith));
-      worst = record { bounds = λ m t p. absurd (grind arith); is_reached = inl worst };
-    };
-  }
+  nothing_found f first short worst = grind arith
 
   pub all_walked : IsClosed c → (a : ℕ) (f : Findings) → IsFoundBefore c a 0 0 f → c.cells.actions ≤ a → IsFound c (IsPair c) f
   all_walked closed a f is all =

@@ -1,13 +1,11 @@
 -- A row of weights, each times a number, added up: the steps of the sum, and that they fit.
-use Rattle.std.proofs.Common.{◌≡◌, ℕ, suc, ◌+◌, ◌*◌, ◌^◌, ◌<◌, ◌≤◌, ℤ, pos, ◌+ℤ◌, ◌*ℤ◌, unsigned_abs, FitsSigned, to_z, of_z, sym, ◌∙◌, arith, lit<}
-use mir.Syntax.{w128}
+use Rattle.polcert_check.proofs.Common.{common_steps, slice_get-get_or, Cell, after_cells, IsRow, w128, largest, CellTable, IsProper, IsWithinLimits, total_below, most_sum}
+use Rattle.std.proofs.Common.{◌≡◌, ℕ, suc, ◌+◌, ◌*◌, ◌^◌, ◌<◌, ◌≤◌, ℤ, pos, ◌+ℤ◌, ◌*ℤ◌, unsigned_abs, FitsSigned, to_z, of_z, arith, lit<, List, length, slice_index_or, Some}
+use Rattle.polcert_cells.specs.Cursors.{IsNext}
 use Rattle.std.proofs.Math.Nat.{mul-le-mul}
-use Rattle.polcert_text.specs.Numbers.{largest}
-use Rattle.polcert_cells.specs.Tables.{CellTable, IsProper, IsWithinLimits}
-use Rattle.polcert_check.specs.Horizon.{total_below}
-use Rattle.polcert_check.specs.Steps.Ranges.{most_sum}
+use Rattle.polcert_cells.proofs.RowSteps.{sparse_some}
 use Rattle.polcert_check.proofs.Sums.RowTotals.{t_rows, o_rows}
-use Rattle.polcert_check.proofs.Sums.Bounds.{abs-*ℤ_le, abs_part_le, term_le}
+use Rattle.polcert_check.proofs.Sums.Bounds.{abs_part_le, term_le}
 use Rattle.polcert_check.proofs.Sums.Scales.{scales_small, ahead_room, after_room}
 use Rattle.polcert_check.proofs.Sums.Gaps.{gap, no_weight, cursor_step, weighed_is}
 
@@ -27,18 +25,15 @@ module _ (m : CellTable) (p : IsProper m) (limits : IsWithinLimits m) where
 
 pub weight_room : {w : ℕ → ℕ} {count scale b : ℕ} → IsWeighed w count scale b → (i v : ℕ) (y : ℤ) → i < count → v ≡ w i → unsigned_abs y ≤ b → v * unsigned_abs y ≤ most_sum
 weight_room {w} {count} {scale} {b} row i v y il vi small =
-    let le : w i ≤ scale = term_le w i count scale row.all il in
-    let q : v * unsigned_abs y ≤ scale * b = mul-le-mul (omega (arith, le, vi)) small in
+    let q : v * unsigned_abs y ≤ scale * b = mul-le-mul (omega (arith, term_le w i count scale row.all il, vi)) small in
     omega (arith, q, row.room)
 
 pub weight_small : {w : ℕ → ℕ} {count scale b : ℕ} → IsWeighed w count scale b → (i v : ℕ) → i < count → v ≡ w i → v < 2 ^ 63
 weight_small {w} {count} {scale} {b} row i v il vi =
-    let le : w i ≤ scale = term_le w i count scale row.all il in
-    omega (arith, le, vi, row.small)
+    omega (arith, term_le w i count scale row.all il, vi, row.small)
 
 pub part_le : {w : ℕ → ℕ} {count scale b : ℕ} → IsWeighed w count scale b → (f : ℕ → ℤ) → ((i : ℕ) → i < count → unsigned_abs (f i) ≤ b) → (i : ℕ) → i ≤ count → unsigned_abs (total_below (λ i. pos (w i) *ℤ f i) i) ≤ scale * b
-part_le {w} {count} {scale} {b} row f small i il =
-    abs_part_le (λ i. pos (w i) *ℤ f i) w b i count scale row.all il (λ i l. abs-*ℤ_le (pos (w i)) (f i) (w i) b (omega arith) (small i l))
+part_le h1 f h2 i h3 = grind (arith, common_steps, abs_part_le)
 
 -- one weight more
 pub weighed_step : {w : ℕ → ℕ} {count scale b : ℕ} → IsWeighed w count scale b → (f : ℕ → ℤ) → ((i : ℕ) → i < count → unsigned_abs (f i) ≤ b) → (from i v : ℕ) (sum x y : ℤ) → from ≤ i → i < count → v ≡ w i → ((k : ℕ) → from ≤ k → k < i → w k ≡ 0) → sum ≡ total_below (λ i. pos (w i) *ℤ f i) from → FitsSigned w128 x → FitsSigned w128 y → x ≡ pos v *ℤ to_z w128 (of_z w128 y) → y ≡ f i → FitsSigned w128 (sum +ℤ to_z w128 (of_z w128 x)) × (to_z w128 (of_z w128 (sum +ℤ to_z w128 (of_z w128 x))) ≡ total_below (λ i. pos (w i) *ℤ f i) (i + 1))
@@ -48,5 +43,9 @@ weighed_step {w} {count} {scale} {b} row f small from i v sum x y fl il vi none 
 
 -- no weight up to a place further on
 pub weighed_on : (w : ℕ → ℕ) (f : ℕ → ℤ) (from to : ℕ) (sum : ℤ) → from ≤ to → ((k : ℕ) → from ≤ k → k < to → w k ≡ 0) → sum ≡ total_below (λ i. pos (w i) *ℤ f i) from → sum ≡ total_below (λ i. pos (w i) *ℤ f i) to
-weighed_on w f from to sum fl none before =
-    before ∙ sym (gap (λ i. pos (w i) *ℤ f i) from to fl (λ k kl kh. no_weight (w k) (f k) (none k kl kh)))
+weighed_on w f from to sum fl none before = grind (arith, gap)
+
+-- the cell of this number is the next of a sparse row
+pub next_cell : (w : ℕ → ℕ) (count : ℕ) (cells : List Cell) → IsRow count w cells → (i : ℕ) → i < length cells
+    → let x = slice_index_or cells i (record { column = 0; weight = 0 }) in IsNext w count (after_cells 0 cells i) (Some (x.column, x.weight)) × (after_cells 0 cells (i + 1) ≡ x.column + 1)
+next_cell w count cells row i l = sparse_some w count cells row i _ (slice_get-get_or cells i _ l)

@@ -1,11 +1,8 @@
 use Rattle.std.proofs.Common.{rules, arith, ◌≡◌, ◌∙◌, ℕ, Option, Some, None, false, to_z, refl, sym}
 use Rattle.std.specs.Option.{is_some}
-use mir.Syntax.{w128}
-use Rattle.polcert_check.specs.Steps.Node.{node_controller}
-use Rattle.polcert_check.specs.Horizon.{Controller}
+use Rattle.polcert_check.proofs.Common.{w128, node_controller, Controller, reached}
 use Rattle.polcert_check.proofs.Walking.Expecting.{value_step, value_done}
 use Rattle.polcert_check.proofs.Walking.Missing.{end_more}
-use Rattle.polcert_cells.specs.BorrowedRows.{reached}
 use Rattle.polcert_check.proofs.end_values.complete_value_of_row.Goals as goal
 
 none_is : (o : Option ℕ) → is_some o ≡ false → None ≡ o
@@ -14,10 +11,8 @@ none_is (Some x) e = absurd (cc)
 
 pub overflow_add-sum : goal.overflow_add-sum
 overflow_add-sum g c =
-    let k : Controller = node_controller c.args.node.now in
-    let same : c.action-a.result ≡ k.action c.args.node.now.n = c.action-a.ensures.value in
-    let next = rw same at c.in-Some.ensures.0 in
-    (value_step k c.args.node.now.input.proper (g.met.C.Cells.is_within_limits c.args.node.now.input.cells.now) c.args.node.now.input.values c.args.node.now.n c.args.e (reached c.args.row c.loop-observation.at) c.in-Some.observation.column (to_z w128 c.loop-observation.sum-bits) c.observation_value-part.result.value c.args.node.now.within c.requires.end next.0 next.1 next.4 c.loop-observation.invariant.sum (search rules) c.observation_value-part.ensures.value).0
+    let next = rw c.action-a.ensures.value at c.in-Some.ensures.0 in
+    (value_step _ c.args.node.now.input.proper (g.met.C.Cells.is_within_limits c.args.node.now.input.cells.now) c.args.node.now.input.values _ _ _ _ _ _ c.args.node.now.within c.requires.end next.0 next.1 next.4 c.loop-observation.invariant.sum (search rules) c.observation_value-part.ensures.value).0
 
 pub loop-observation-preserved : goal.loop-observation-preserved
 loop-observation-preserved g c =

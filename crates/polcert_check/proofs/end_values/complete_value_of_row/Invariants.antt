@@ -1,8 +1,5 @@
 use Rattle.std.proofs.Common.{◌≡◌, ◌-◌, ◌≤◌, None}
-use Rattle.polcert_check.specs.Steps.Node.{node_controller}
-use Rattle.polcert_check.specs.Horizon.{total_below}
-use Rattle.polcert_check.specs.Steps.Factored.{value_term, IsLeastOf, Misses}
-use Rattle.polcert_cells.specs.BorrowedRows.{reached}
+use Rattle.polcert_check.proofs.Common.{node_controller, total_below, value_term, IsLeastOf, Misses, reached}
 use Rattle.polcert_check.proofs.end_values.complete_value_of_row.Given as goal
 
 -- the sum so far, in which no observation lacks a successor

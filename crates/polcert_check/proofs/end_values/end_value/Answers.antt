@@ -1,18 +1,13 @@
 use Rattle.std.proofs.Common.{rules, arith, ◌≡◌, to_z}
-use mir.Syntax.{w128}
-use Rattle.polcert_check.specs.Steps.Node.{node_controller}
-use Rattle.polcert_check.specs.Horizon.{Controller}
+use Rattle.polcert_check.proofs.Common.{w128, node_controller, Controller, reached}
 use Rattle.polcert_check.proofs.Walking.Expecting.{value_step, value_done}
 use Rattle.polcert_check.proofs.Walking.Missing.{end_more}
-use Rattle.polcert_cells.specs.BorrowedRows.{reached}
 use Rattle.polcert_check.proofs.end_values.end_value.Goals as goal
 
 pub overflow_add-value : goal.overflow_add-value
 overflow_add-value g c =
-    let k : Controller = node_controller c.args.node.now in
-    let same : c.action-a.result ≡ k.action c.args.node.now.n = c.action-a.ensures.value in
-    let next = rw same at c.in-Some.ensures.0 in
-    (value_step k c.args.node.now.input.proper (g.met.C.Cells.is_within_limits c.args.node.now.input.cells.now) c.args.node.now.input.values c.args.node.now.n c.args.e (reached c.o_row-row.result c.loop-observation.at) c.in-Some.observation.column (to_z w128 c.loop-observation.value-bits) c.observation_value-part.result.value c.args.node.now.within c.requires.end next.0 next.1 next.4 c.loop-observation.invariant.sum (search rules) c.observation_value-part.ensures.value).0
+    let next = rw c.action-a.ensures.value at c.in-Some.ensures.0 in
+    (value_step _ c.args.node.now.input.proper (g.met.C.Cells.is_within_limits c.args.node.now.input.cells.now) c.args.node.now.input.values _ _ _ _ _ _ c.args.node.now.within c.requires.end next.0 next.1 next.4 c.loop-observation.invariant.sum (search rules) c.observation_value-part.ensures.value).0
 
 pub loop-observation-preserved : goal.loop-observation-preserved
 loop-observation-preserved g c =

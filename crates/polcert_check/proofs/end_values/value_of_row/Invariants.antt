@@ -1,9 +1,5 @@
 use Rattle.std.proofs.Common.{◌≡◌, ◌-◌, ◌≤◌, pos, ◌*ℤ◌}
-use Rattle.polcert_check.specs.Steps.Node.{node_controller}
-use Rattle.polcert_check.specs.Horizon.{total_below}
-use Rattle.polcert_check.specs.Steps.Factored.{value_at_end, IsLeastOf}
-use Rattle.polcert_check.specs.Steps.Values.{IsMissedBefore}
-use Rattle.polcert_cells.specs.BorrowedRows.{reached}
+use Rattle.polcert_check.proofs.Common.{node_controller, total_below, value_at_end, IsLeastOf, IsMissedBefore, reached}
 use Rattle.polcert_check.proofs.end_values.value_of_row.Given as goal
 
 -- the sum so far, and the least observation so far that is missed

@@ -1,7 +1,6 @@
 use Rattle.std.proofs.Common.{◌≡◌, ℕ, ◌-◌, ◌<◌, ◌≤◌, pos}
 use Rattle.std.specs.Prelude.{slice_index_or}
-use Rattle.polcert_cells.specs.BorrowedRows.{reached}
-use Rattle.polcert_check.specs.Steps.Factored.{reward_at_end, AreKnown}
+use Rattle.polcert_check.proofs.Common.{reached, reward_at_end, AreKnown}
 use Rattle.polcert_check.proofs.expected_reward.find_at_ends.Given as goal
 
 -- what is found so far

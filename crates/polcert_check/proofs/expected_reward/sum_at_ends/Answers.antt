@@ -1,19 +1,12 @@
 use Rattle.std.proofs.Common.{rules, arith, ◌≡◌, ◌≤◌, ◌*◌, unsigned_abs, to_z, of_z}
-use mir.Syntax.{w128}
+use Rattle.polcert_check.proofs.Common.{w128, largest, CellTable, reward_at_end, reached}
 use Rattle.std.proofs.lemmas.Int.{to_z-of_z}
-use Rattle.polcert_text.specs.Numbers.{largest}
-use Rattle.polcert_cells.specs.Tables.{CellTable}
-use Rattle.polcert_check.specs.Steps.Factored.{reward_at_end}
 use Rattle.polcert_check.proofs.Walking.Weighed.{ends_weighed, weight_room, weight_small, weighed_step, weighed_on}
 use Rattle.polcert_check.proofs.Walking.Earning.{reward_at_end_le}
-use Rattle.polcert_cells.specs.BorrowedRows.{reached}
 use Rattle.polcert_check.proofs.expected_reward.sum_at_ends.Goals as goal
 
 pub weigh-sum-requires-clause-weight : goal.weigh-sum-requires-clause-weight
-weigh-sum-requires-clause-weight g c =
-    let m : CellTable = g.C.Cells.table c.args.cells.now in
-    let next = c.in-Some.ensures.0 in
-    weight_small (ends_weighed m (g.met.C.Cells.is_proper c.args.cells.now) (g.met.C.Cells.is_within_limits c.args.cells.now) c.args.a c.args.s c.requires.action c.requires.start) c.in-Some.end.column c.in-Some.end.weight next.1 next.2
+weigh-sum-requires-clause-weight g c = weight_small (ends_weighed _ (g.met.C.Cells.is_proper c.args.cells.now) (g.met.C.Cells.is_within_limits c.args.cells.now) _ _ c.requires.action c.requires.start) _ _ c.in-Some.ensures.0.1 c.in-Some.ensures.0.2
 
 pub weigh-sum-requires-clause-product : goal.weigh-sum-requires-clause-product
 weigh-sum-requires-clause-product g c =

@@ -1,7 +1,5 @@
 use Rattle.std.proofs.Common.{◌≡◌, ◌-◌, ◌≤◌, pos, ◌*ℤ◌}
-use Rattle.polcert_check.specs.Horizon.{total_below}
-use Rattle.polcert_check.specs.Steps.Factored.{reward_at_end}
-use Rattle.polcert_cells.specs.BorrowedRows.{reached}
+use Rattle.polcert_check.proofs.Common.{total_below, reward_at_end, reached}
 use Rattle.polcert_check.proofs.expected_reward.sum_at_ends.Given as goal
 
 -- the sum so far

@@ -1,6 +1,5 @@
 use Rattle.std.proofs.Common.{◌≡◌, ◌-◌, ◌≤◌, pos, ◌*ℤ◌}
-use Rattle.polcert_check.specs.Horizon.{total_below}
-use Rattle.polcert_cells.specs.BorrowedRows.{reached}
+use Rattle.polcert_check.proofs.Common.{total_below, reached}
 use Rattle.polcert_check.proofs.expected_reward.sum_over_observations.Given as goal
 
 -- the sum so far

@@ -1,5 +1,4 @@
-use Rattle.polcert_policy.specs.Vectors.{value_of}
-use Rattle.polcert_check.specs.Horizon.{controller_of}
+use Rattle.polcert_check.proofs.Common.{value_of, controller_of}
 use Rattle.polcert_check.proofs.Certificates.{controller_is}
 use Rattle.polcert_check.proofs.Sums.Scales.{scales}
 use Rattle.polcert_check.proofs.Walking.Verdicts.{positive_product}

@@ -1,8 +1,5 @@
-use Rattle.std.proofs.Common.{◌≡◌, pos, FitsSigned, w64, refl, true, false}
-use Rattle.std.proofs.lemmas.Int.{to_z_pos}
-use Rattle.std.proofs.lemmas.Result.{err_from_is_err_and}
-use Rattle.polcert_check.specs.Steps.Mirrored.{CanMove}
-use Rattle.polcert_check.specs.Steps.CheckInput.{controller, checked_controller}
+use Rattle.std.proofs.Common.{pos, FitsSigned, w64, refl}
+use Rattle.polcert_check.proofs.Common.{to_z_pos, err_from_is_err_and, CanMove, controller, checked_controller}
 use Rattle.polcert_check.proofs.Mirrors.Sides.{sided_proper, sided_limits, sided_values}
 use Rattle.polcert_check.proofs.Lowerings.Least.{constant_fits}
 use Rattle.polcert_check.proofs.Walking.Outcomes.{refused_small}
@@ -20,7 +17,3 @@ pub returns-then-stays_in_range-clause-least : goal.returns-then-stays_in_range-
 returns-then-stays_in_range-clause-least g c =
     let fits : FitsSigned w64 (pos c.in_ok-by.by) = constant_fits c.args.input.now.side c.args.input.now.vectors.now c.args.input.now.are_proper c.in_ok-by.by (c.if-stays_in_range.ensures.0 refl) in
     (c.in_ok-by.by, to_z_pos w64 c.in_ok-by.by fits.sfits, c.in_ok-by.ensures.least, c.if-stays_in_range.ensures.0 refl)
-
-pub returns-else-stays_in_range-clause-refused : goal.returns-else-stays_in_range-clause-refused
-returns-else-stays_in_range-clause-refused g c =
-    (c.in_ok-by.ensures.none, (c.in_ok-by.by, c.in_ok-by.ensures.least, (λ h. let e : false ≡ true = c.if-stays_in_range.ensures.1 h in cc)))

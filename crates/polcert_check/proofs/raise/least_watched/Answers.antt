@@ -1,7 +1,6 @@
 use Rattle.std.proofs.Common.{◌≡◌, rules, subst, to_z, of_z, w64}
 use Rattle.std.proofs.lemmas.Int.{to_z-of_z}
-use Rattle.polcert_check.specs.Horizon.{Controller, controller_of}
-use Rattle.polcert_check.specs.Steps.Mirrored.{CanMove, IsLeastMove}
+use Rattle.polcert_check.proofs.Common.{Controller, controller_of, CanMove, IsLeastMove}
 use Rattle.polcert_check.proofs.Lowerings.Raising.{least_raise_is, not_raised_is, small_raise}
 use Rattle.polcert_check.proofs.raise.least_watched.Goals as goal
 

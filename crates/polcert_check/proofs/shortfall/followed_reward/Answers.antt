@@ -1,9 +1,6 @@
 use Rattle.std.proofs.Common.{rules, ◌∙◌, ap, ℕ}
-use mir.Syntax.{w128}
+use Rattle.polcert_check.proofs.Common.{w128, node_controller, expected_reward, followed}
 use Rattle.std.proofs.lemmas.Int.{to_z-of_z}
-use Rattle.polcert_check.specs.Steps.Node.{node_controller}
-use Rattle.polcert_check.specs.Steps.Factored.{expected_reward}
-use Rattle.polcert_check.specs.Steps.FollowedCells.{followed}
 use Rattle.polcert_check.proofs.shortfall.followed_reward.Goals as goal
 
 pub returns : goal.returns

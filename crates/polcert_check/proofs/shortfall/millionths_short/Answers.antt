@@ -1,12 +1,8 @@
 use Rattle.std.proofs.Common.{◌≡◌, ◌∙◌, ℕ, ◌*◌, ◌≤◌, ℤ, pos, negsuc, ◌<ℤ◌, unsigned_abs, arith, refl, ap, subst, rules, to_z, of_z, w64, to_z-of_z, FitsSigned}
 use Rattle.std.specs.Int.{w128}
-use Rattle.std.proofs.lemmas.Int.{ints}
+use Rattle.polcert_check.proofs.Common.{ints, largest, one, IsCeilQuotient}
 use Rattle.std.proofs.Math.Nat.{mul-le-mul_right}
-use Rattle.polcert_text.specs.Numbers.{largest}
-use Rattle.polcert_check.specs.Steps.Ranges.{most_scales}
 use Rattle.polcert_check.proofs.Sums.Scales.{scales_le}
-use Rattle.polcert_check.specs.Horizon.{one}
-use Rattle.polcert_check.specs.StartWorth.{IsCeilQuotient}
 use Rattle.polcert_check.proofs.shortfall.millionths_short.Goals as goal
 
 small_enough : (amount t o : ℕ) → amount ≤ 3 * (t * o * one) * largest → amount ≤ t * o * 1000000 * 30000000000000
@@ -22,20 +18,13 @@ unfolding one
 quotient amount t o q some is = subst (λ a. IsCeilQuotient a (t * o * 1000000) q) (positive amount some) is
 
 pub small_quotient-requires-clause-small : goal.small_quotient-requires-clause-small
-small_quotient-requires-clause-small g c =
-    let fits : FitsSigned w128 c.args.amount = search rules in
-    let same = c.unsigned_abs.ensures.value ∙ ap unsigned_abs (to_z-of_z {w = w128} fits) in
-    rw (same, c.t_scale.ensures, c.o_scale.ensures) (small_enough _ _ _ c.requires.small)
+small_quotient-requires-clause-small g c = grind (arith, to_z-of_z, small_enough)
 
 pub overflow_mul-scale : goal.overflow_mul-scale
-overflow_mul-scale g c =
-    let product : c.t_scale.result * c.o_scale.result ≤ most_scales = rw (c.t_scale.ensures, c.o_scale.ensures) (scales_le (g.C.Cells.table c.args.cells.now) (g.met.C.Cells.is_within_limits c.args.cells.now)) in
-    record { fits = omega (arith, product) }
+overflow_mul-scale g c = grind (arith, scales_le)
 
 pub small_quotient-requires-clause-room : goal.small_quotient-requires-clause-room
-small_quotient-requires-clause-room g c =
-    let product : c.t_scale.result * c.o_scale.result ≤ most_scales = rw (c.t_scale.ensures, c.o_scale.ensures) (scales_le (g.C.Cells.table c.args.cells.now) (g.met.C.Cells.is_within_limits c.args.cells.now)) in
-    mul-le-mul_right 1000000 product
+small_quotient-requires-clause-room g c = grind (arith, mul-le-mul_right, scales_le)
 
 pub returns : goal.returns
 returns g c =

@@ -1,12 +1,6 @@
 use Rattle.std.proofs.Common.{rules, arith, ◌≡◌, ◌≤◌, ◌<◌, ◌^◌, ◌*◌, None, ℕ, ℤ, pos, ◌+ℤ◌, ◌-ℤ◌, ◌*ℤ◌, ◌<ℤ◌, FitsSigned, to_z, of_z, w64, refl, sym, ap, subst, ◌∙◌}
-use mir.Syntax.{w128}
+use Rattle.polcert_check.proofs.Common.{w128, node_controller, Controller, one, short, largest_amount, signed_from, IsLeastLacking, expected_reward, expected_value}
 use Rattle.std.proofs.lemmas.Int.{to_z-of_z}
-use Rattle.polcert_check.specs.Steps.Node.{node_controller}
-use Rattle.polcert_check.specs.Horizon.{Controller, one}
-use Rattle.polcert_check.specs.Shortfall.{short, largest_amount}
-use Rattle.polcert_check.specs.Steps.Mirrored.{signed_from}
-use Rattle.polcert_check.specs.Verdict.{IsLeastLacking}
-use Rattle.polcert_check.specs.Steps.Factored.{expected_reward, expected_value}
 use Rattle.polcert_check.proofs.Walking.Earning.{expected_reward_le}
 use Rattle.polcert_check.proofs.Walking.Expecting.{expected_value_le}
 use Rattle.polcert_check.proofs.Walking.Missing.{pair_lacking}
@@ -33,20 +27,10 @@ pub shortfall_of-above-requires-clause-scale : goal.shortfall_of-above-requires-
 shortfall_of-above-requires-clause-scale g c = rw c.args.node.now.input.is_step_scale (scales_le (node_controller c.args.node.now).cells (g.met.C.Cells.is_within_limits c.args.node.now.input.cells.now))
 
 pub shortfall_of-above-requires-clause-reward : goal.shortfall_of-above-requires-clause-reward
-shortfall_of-above-requires-clause-reward g c =
-    let k : Controller = node_controller c.args.node.now in
-    let limits = g.met.C.Cells.is_within_limits c.args.node.now.input.cells.now in
-    let same : to_z w128 (of_z w128 c.args.reward) ≡ expected_reward k.cells (k.action c.args.node.now.n) c.args.s = to_z-of_z w128 c.args.reward c.ranges.reward ∙ c.requires.reward in
-    let le = expected_reward_le k.cells c.args.node.now.input.proper.cells limits (k.action c.args.node.now.n) c.args.s (c.args.node.now.input.proper.closed.actions_in_range c.args.node.now.n c.args.node.now.within) c.requires.start in
-    rw same (omega (arith, le, sum_room k.cells limits))
+shortfall_of-above-requires-clause-reward g c = grind (arith, to_z, of_z, to_z-of_z, expected_reward_le, sum_room)
 
 pub shortfall_of-above-requires-clause-expected : goal.shortfall_of-above-requires-clause-expected
-shortfall_of-above-requires-clause-expected g c =
-    let k : Controller = node_controller c.args.node.now in
-    let limits = g.met.C.Cells.is_within_limits c.args.node.now.input.cells.now in
-    let same = to_z-of_z w128 c.args.expected.value (search rules) ∙ c.requires.expected.value in
-    let le = expected_value_le k c.args.node.now.input.proper limits c.args.node.now.input.values c.args.node.now.n c.args.s c.args.node.now.within c.requires.start in
-    rw same (omega (arith, le, sum_room k.cells limits))
+shortfall_of-above-requires-clause-expected g c = grind (arith, to_z-of_z, expected_value_le, sum_room)
 
 pub excess-requires : goal.excess-requires
 excess-requires g c =
@@ -70,5 +54,4 @@ returns-in-None g c =
     let k : Controller = node_controller c.args.node.now in
     let lacks : IsLeastLacking k c.args.node.now.n c.args.s None = rw c.in_default.is at (pair_lacking k c.args.node.now.n c.args.s c.args.expected.missing c.requires.expected.missing) in
     let above : to_z w128 (of_z w128 c.shortfall_of-above.result) ≡ short k c.args.node.now.n c.args.s = above_is k c.args.node.now.n c.args.s c.args.node.now.input.step_scale c.args.node.now.input.discount c.shortfall_of-above.result _ _ _ lacks c.args.node.now.input.is_step_scale c.args.node.now.input.is_discount c.shortfall_of-above.ensures (to_z-of_z w64 c.args.value c.ranges.value ∙ c.requires.value) (to_z-of_z w128 c.args.reward c.ranges.reward ∙ c.requires.reward) (to_z-of_z w128 c.args.expected.value (search rules) ∙ c.requires.expected.value) (search rules) in
-    let none = rw (c.in-None.is, above) at c.excess.ensures.none in
-    record { lacks_none = lacks; not_short = rw (sided_short c.args.node.now.input.side k c.args.node.now.n c.args.s) none }
+    record { lacks_none = lacks; not_short = rw (sided_short c.args.node.now.input.side k c.args.node.now.n c.args.s) (rw (c.in-None.is, above) at c.excess.ensures.none) }

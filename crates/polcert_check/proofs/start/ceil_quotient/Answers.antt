@@ -1,5 +1,5 @@
 use Rattle.std.proofs.Common.{subst, sym}
-use Rattle.polcert_check.specs.StartWorth.{IsFloorQuotient, IsCeilQuotient}
+use Rattle.polcert_check.proofs.Common.{IsFloorQuotient, IsCeilQuotient}
 use Rattle.polcert_check.proofs.Mirrors.StartMosts.{ceil_is, neg_sum_is, neg_quotient_is}
 use Rattle.polcert_check.proofs.start.ceil_quotient.Goals as goal
 

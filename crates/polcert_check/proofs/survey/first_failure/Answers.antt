@@ -1,16 +1,14 @@
 use Rattle.std.proofs.Common.{rules, arith}
-use Rattle.polcert_check.specs.Horizon.{Controller}
-use Rattle.polcert_check.specs.Steps.CheckInput.{checked_controller}
+use Rattle.polcert_check.proofs.Common.{checked_controller}
 use Rattle.polcert_check.proofs.Walking.Walked.{pair_passed}
 use Rattle.polcert_check.proofs.survey.first_failure.Goals as goal
 
 pub pairs-preserved : goal.pairs-preserved
 pairs-preserved g c =
-    let j : Controller = checked_controller c.args.node.now.input in
     record {
       from = omega (arith, c.pairs.invariant.from);
       within = search rules;
-      passed = λ f is. pair_passed j c.args.node.now.n c.pairs.state f (c.args.node.now.within, c.pairs.invariant.within) (rw c.in-Yes.is at c.pair_verdict-verdict.ensures) (c.pairs.invariant.passed f is);
+      passed = λ f is. pair_passed _ _ _ f (c.args.node.now.within, c.pairs.invariant.within) (rw c.in-Yes.is at c.pair_verdict-verdict.ensures) (c.pairs.invariant.passed f is);
     }
 
 pub returns-then-reward-clause-passed : goal.returns-then-reward-clause-passed

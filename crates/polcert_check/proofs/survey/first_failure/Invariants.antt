@@ -1,7 +1,6 @@
 use Rattle.std.proofs.Common.{◌-◌, ◌<◌, ◌≤◌}
-use Rattle.polcert_check.specs.Steps.CheckInput.{checked_controller}
+use Rattle.polcert_check.proofs.Common.{checked_controller, node_controller}
 use Rattle.polcert_check.specs.Steps.Findings.{PassUntil}
-use Rattle.polcert_check.specs.Steps.Node.{node_controller}
 use Rattle.polcert_check.proofs.survey.first_failure.Given as goal
 
 -- the pairs so far pass

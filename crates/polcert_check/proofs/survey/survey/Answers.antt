@@ -1,14 +1,11 @@
 use Rattle.std.proofs.Common.{arith}
-use Rattle.polcert_check.specs.Steps.CheckInput.{controller, checked_controller}
+use Rattle.polcert_check.proofs.Common.{controller, checked_controller}
 use Rattle.polcert_check.proofs.Mirrors.Sides.{sided_proper}
 use Rattle.polcert_check.proofs.Walking.Walked.{nothing_found, all_walked}
 use Rattle.polcert_check.proofs.survey.survey.Goals as goal
 
 pub loop-a-init : goal.loop-a-init
-loop-a-init g c = record {
-  found = nothing_found (checked_controller c.args.input.now) c.new-findings.result c.new-findings.ensures.first c.new-findings.ensures.short c.new-findings.ensures.worst;
-  mode = c.new-findings.ensures.mode;
-}
+loop-a-init g c = grind (arith, nothing_found)
 
 pub returns-clause-found : goal.returns-clause-found
 returns-clause-found g c =

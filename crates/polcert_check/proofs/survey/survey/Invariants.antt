@@ -1,6 +1,5 @@
 use Rattle.std.proofs.Common.{◌≡◌}
-use Rattle.polcert_check.specs.Steps.CheckInput.{checked_controller}
-use Rattle.polcert_check.specs.Steps.Findings.{IsFoundBefore}
+use Rattle.polcert_check.proofs.Common.{checked_controller, IsFoundBefore}
 use Rattle.polcert_check.proofs.survey.survey.Given as goal
 
 abbrev pub invariant-loop-a : goal.invariant-loop-a

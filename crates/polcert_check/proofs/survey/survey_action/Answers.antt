@@ -1,18 +1,8 @@
-use Rattle.std.proofs.Common.{arith, ◌≡◌, ◌+◌, ◌∙◌, ℕ, refl, sym, subst}
-use Rattle.polcert_check.specs.Steps.CheckInput.{controller, checked_controller}
-use Rattle.polcert_check.specs.Horizon.{Controller}
-use Rattle.polcert_check.specs.Steps.Findings.{IsFoundBefore}
-use Rattle.polcert_check.specs.Steps.Survey.{IsOfAction}
+use Rattle.std.proofs.Common.{arith, ◌≡◌, ◌+◌, ◌∙◌, ℕ, sym, subst}
+use Rattle.polcert_check.proofs.Common.{controller, checked_controller, Controller, IsFoundBefore, IsOfAction}
 use Rattle.polcert_check.proofs.Walking.Walked.{node_passed, action_done}
 use Rattle.polcert_check.proofs.survey.survey_action.Goals.{then-action-a, else-action-a}
 use Rattle.polcert_check.proofs.survey.survey_action.Goals as goal
-
-pub loop-n-init : goal.loop-n-init
-loop-n-init g c = record {
-  of_action = λ known. absurd (cc);
-  found = c.requires.found;
-  mode = refl;
-}
 
 pub loop-n-preserved : goal.loop-n-preserved
 loop-n-preserved g c =

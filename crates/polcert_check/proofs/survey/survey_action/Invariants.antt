@@ -1,7 +1,5 @@
 use Rattle.std.proofs.Common.{◌≡◌}
-use Rattle.polcert_check.specs.Steps.CheckInput.{controller, checked_controller}
-use Rattle.polcert_check.specs.Steps.Findings.{IsFoundBefore}
-use Rattle.polcert_check.specs.Steps.Survey.{IsOfAction}
+use Rattle.polcert_check.proofs.Common.{controller, checked_controller, IsFoundBefore, IsOfAction}
 use Rattle.polcert_check.proofs.survey.survey_action.Given as goal
 
 abbrev pub invariant-loop-n : goal.invariant-loop-n

@@ -1,17 +1,11 @@
-use Rattle.std.proofs.Common.{arith, ◌+◌, ◌∙◌, refl, sym, ap, subst}
-use Rattle.polcert_check.specs.Steps.CheckInput.{checked_controller}
-use Rattle.polcert_check.specs.Steps.Findings.{IsFoundBefore}
-use Rattle.polcert_check.specs.Steps.Node.{node_controller}
-use Rattle.polcert_check.specs.Steps.Values.{AreEndValues}
-use Rattle.polcert_check.specs.Horizon.{Controller}
+use Rattle.std.proofs.Common.{arith, ◌+◌, ◌∙◌, sym, ap, subst}
+use Rattle.polcert_check.proofs.Common.{checked_controller, IsFoundBefore, node_controller, AreEndValues, Controller, Findings}
 use Rattle.polcert_check.specs.declared.ends.EndValues.{EndValues}
-use Rattle.polcert_check.specs.declared.findings.Findings.{Findings}
 use Rattle.polcert_check.proofs.Walking.Walked.{node_done, node_settled}
 use Rattle.polcert_check.proofs.survey.survey_node.Goals as goal
 
 pub returns-then-is_settled-clause-found : goal.returns-then-is_settled-clause-found
-returns-then-is_settled-clause-found g c =
-    node_settled (checked_controller c.args.node.now.input) c.args.node.now.n 0 c.args.survey.now.findings c.requires.found (c.if-is_settled.ensures.0 refl)
+returns-then-is_settled-clause-found g c = grind (arith, node_settled)
 
 pub pairs-preserved-then-s-states : goal.pairs-preserved-then-s-states
 pairs-preserved-then-s-states g c =
@@ -41,6 +35,4 @@ returns-then-note-clause-found g c =
     node_settled j c.args.node.now.n (s + 1) c.note.new.self (c.note.ensures.found j s (c.args.node.now.within, omega (arith, c.if-s-states.true, c.states-states.ensures)) c.verdict_at-verdict.ensures.verdict passed) (c.note.ensures.settled c.if-note.true)
 
 pub returns-clause-found : goal.returns-clause-found
-returns-clause-found g c =
-    let j : Controller = checked_controller c.args.node.now.input in
-    node_done j (j.action c.args.node.now.n) c.args.node.now.n c.pairs.s c.pairs.survey.findings c.pairs.invariant.found (omega (arith, c.pairs-test.false, c.states-states.ensures))
+returns-clause-found g c = node_done _ _ _ _ _ c.pairs.invariant.found (omega (arith, c.pairs-test.false, c.states-states.ensures))

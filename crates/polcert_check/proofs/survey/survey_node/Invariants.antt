@@ -1,9 +1,6 @@
 use Rattle.std.proofs.Common.{◌≡◌, ◌-◌}
-use Rattle.polcert_check.specs.Steps.CheckInput.{checked_controller}
-use Rattle.polcert_check.specs.Steps.Node.{node_controller}
-use Rattle.polcert_check.specs.Steps.Findings.{IsFoundBefore}
+use Rattle.polcert_check.proofs.Common.{checked_controller, node_controller, IsFoundBefore, AreEndValues}
 use Rattle.polcert_check.specs.Steps.Survey.{IsPrepared}
-use Rattle.polcert_check.specs.Steps.Values.{AreEndValues}
 use Rattle.polcert_check.proofs.survey.survey_node.Given as goal
 
 abbrev pub invariant-pairs : goal.invariant-pairs

@@ -4,9 +4,7 @@ use Rattle.polcert_check.proofs.Sums.Scales.{scales_le}
 use Rattle.polcert_check.proofs.check_input.CheckInput.new.Goals as goal
 
 pub overflow_mul-step_scale : goal.overflow_mul-step_scale
-overflow_mul-step_scale g c =
-    let le = scales_le (g.C.Cells.table c.args.cells.now) (g.met.C.Cells.is_within_limits c.args.cells.now) in
-    rw (c.t_scale.ensures, c.o_scale.ensures) (record { fits = omega (arith, le) })
+overflow_mul-step_scale g c = grind (arith, scales_le)
 
 pub invariant_of-result : goal.invariant_of-result
 invariant_of-result g c = record {

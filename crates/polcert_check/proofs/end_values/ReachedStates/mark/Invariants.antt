@@ -1,6 +1,6 @@
 use Rattle.std.proofs.Common.{◌≡◌, ℕ, ◌-◌, ◌<◌, ◌≤◌, true, false}
 use Rattle.std.specs.Prelude.{slice_index_or}
-use Rattle.polcert_cells.specs.BorrowedRows.{reached}
+use Rattle.polcert_check.proofs.Common.{reached}
 use Rattle.polcert_check.proofs.end_values.ReachedStates.mark.Given as goal
 
 abbrev pub invariant-loop-end : goal.invariant-loop-end

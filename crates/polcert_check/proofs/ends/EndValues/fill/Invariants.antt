@@ -1,5 +1,4 @@
-use Rattle.polcert_check.specs.Steps.Node.{node_controller}
-use Rattle.polcert_check.specs.Steps.Values.{AreEndValues}
+use Rattle.polcert_check.proofs.Common.{node_controller, AreEndValues}
 use Rattle.polcert_check.proofs.ends.EndValues.fill.Given as goal
 
 abbrev pub invariant-loop-e : goal.invariant-loop-e

@@ -1,4 +1,4 @@
-use Rattle.polcert_check.specs.Steps.Factored.{reward_at_end, expected_reward, AreKnown}
+use Rattle.polcert_check.proofs.Common.{reward_at_end, expected_reward, AreKnown}
 use Rattle.polcert_check.proofs.expected_reward.Earnings.share.Given as goal
 
 abbrev pub invariant-loop-s : goal.invariant-loop-s

@@ -1,7 +1,6 @@
-use Rattle.std.proofs.Common.{rules, ◌+◌, ◌∙◌, ap, unsigned_abs}
-use mir.Syntax.{w128}
+use Rattle.std.proofs.Common.{rules, ◌+◌, ◌∙◌, ap, unsigned_abs, arith}
+use Rattle.polcert_check.proofs.Common.{w128, IsWalked}
 use Rattle.std.proofs.lemmas.Int.{to_z-of_z}
-use Rattle.polcert_check.specs.Steps.Findings.{IsWalked}
 use Rattle.polcert_check.proofs.Walking.Found.{noted_failure, noted_lack, noted_short}
 use Rattle.polcert_check.proofs.Walking.Walked.{next_pair, pair_passed}
 use Rattle.polcert_check.proofs.findings.Findings.keep.Goals as goal
@@ -11,9 +10,7 @@ returns-in-Yes-clause-found c = λ k s pair checked_controller is.
     pair_passed k c.args.n s c.args.self.now pair (rw c.in-Yes.is at checked_controller) is
 
 pub returns-in-Check-clause-found : goal.returns-in-Check-clause-found
-returns-in-Check-clause-found c = λ k s pair checked_controller is.
-    noted_failure k (IsWalked k (k.action c.args.n) c.args.n s) (IsWalked k (k.action c.args.n) c.args.n (s + 1)) c.args.n s (next_pair k c.args.n s pair) c.args.self.now is c.in-Short.node c.in-Short.state c.in-Short.amount c.earlier-self.result c.in-Check.is
-    (rw c.in-Short.is at checked_controller) c.earlier-self.ensures
+returns-in-Check-clause-found c = grind (arith, noted_failure, next_pair)
 
 pub returns-in-Lowering-clause-found : goal.returns-in-Lowering-clause-found
 returns-in-Lowering-clause-found c = λ k s pair checked_controller is.
@@ -21,6 +18,4 @@ returns-in-Lowering-clause-found c = λ k s pair checked_controller is.
     (rw c.in-Short.is at checked_controller) c.earlier-self-in-Lowering.ensures (c.unsigned_abs.ensures.value ∙ ap unsigned_abs (to_z-of_z w128 c.in-Short.amount (search rules))) c.greater-self.ensures.left c.greater-self.ensures.right c.greater-self.ensures.is_one
 
 pub returns-in-NoSuccessor-clause-found : goal.returns-in-NoSuccessor-clause-found
-returns-in-NoSuccessor-clause-found c = λ k s pair checked_controller is.
-    noted_lack k (IsWalked k (k.action c.args.n) c.args.n s) (IsWalked k (k.action c.args.n) c.args.n (s + 1)) c.args.n s (next_pair k c.args.n s pair) c.args.self.now is c.in-NoSuccessor.node c.in-NoSuccessor.state c.in-NoSuccessor.observation c.earlier-self-in-NoSuccessor.result
-    (rw c.in-NoSuccessor.is at checked_controller) (rw c.in-NoSuccessor.is at c.earlier-self-in-NoSuccessor.ensures)
+returns-in-NoSuccessor-clause-found c = grind (arith, noted_lack, next_pair)

@@ -1,0 +1,10 @@
+use Rattle.std.proofs.Common.{rules, ◌≡◌, refl, subst}
+use Rattle.polcert_check.proofs.Common.{Row, Scaled, IsRowOf, Controller, node_controller}
+use Rattle.polcert_check.proofs.ends.EndValues.narrow_value.Goals as goal
+
+pub value_of_numbers-requires-clause-row : goal.value_of_numbers-requires-clause-row
+value_of_numbers-requires-clause-row g c =
+    let k : Controller = node_controller c.args.node.now in
+    let row = rw c.action.ensures.value at c.in-Some-Scaled.ensures in
+    let is : c.in-Some-Scaled.field-0 ≡ Scaled c.in-Some-Scaled.numbers c.in-Some-Scaled.scale = search rules in
+    subst (λ (r : Row). IsRowOf (k.cells.t (k.action c.args.node.now.n) c.args.s) k.cells.states r) is (row c.in-Some-Scaled.field-0 refl)
