@@ -1,6 +1,7 @@
 -- The definitions at small controllers, computed.
 use Rattle.std.proofs.Common.{◌≡◌, ◌*◌, ◌^◌, pos, neg_ℤ, true, Some, [], ◌∷◌, refl}
-use Rattle.polcert_check.specs.Horizon.{one, runs, is_cut, weight, weights_sum, worth_sum}
+use Rattle.polcert_examples.proofs.Common.{one}
+use Rattle.polcert_check.specs.Horizon.{runs, is_cut, weight, weights_sum, worth_sum}
 use Rattle.polcert_check.specs.Shortfall.{short}
 use Rattle.polcert_check.specs.Lower.{lowered_by}
 use Rattle.polcert_examples.specs.Worked.Controllers.{one_state, one_node, half_followed}

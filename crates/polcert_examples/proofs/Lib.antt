@@ -1,3 +1,4 @@
+mod Common
 pub mod Computed
 pub mod Controllers
 pub mod FormExamples

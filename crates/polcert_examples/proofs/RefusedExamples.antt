@@ -1,18 +1,15 @@
 -- A discount above one is refused: kind, item and place are what one expects.
 use Rattle.std.proofs.Common.{◌≡◌, ℕ, ◌≤◌, [], ◌∷◌, pos, codes, refl, subst, arith, lit≤}
-use Rattle.std.proofs.lemmas.List.Elements.{All-from_recursion}
+use Rattle.polcert_examples.proofs.Common.{All-from_recursion, Discount, topic_of, none, unsigned, Item, IsDivided, nothing_known, numeral_at}
 use Rattle.polcert_format.specs.declared.fault.ItemFault.TheVariants.{DiscountRange}
-use Rattle.polcert_cells.specs.declared.words.Topic.TheVariants.{Discount}
-use Rattle.polcert_cells.specs.Words.{topic_of}
-use Rattle.polcert_cells.specs.Numbers.{none, unsigned, one}
-use Rattle.polcert_format.specs.Items.{Item, IsItem, IsDivided}
+use Rattle.polcert_cells.specs.Numbers.{one}
+use Rattle.polcert_format.specs.Items.{IsItem}
 use Rattle.polcert_format.specs.Text as texts
-use Rattle.polcert_format.specs.Text.{nothing_known}
 use Rattle.polcert_format.specs.Reading.{IsWrong}
 use Rattle.polcert_format.specs.FirstWrong.{wrong_item}
 use Rattle.polcert_format.specs.Reasons.{unsigned as unsigned_number}
 use Rattle.polcert_format.specs.Refusals.{IsItemRefusal}
-use Rattle.polcert_examples.specs.Worked.RefusedExamples.{name_at, numeral_at, colon_at, above_one}
+use Rattle.polcert_examples.specs.Worked.RefusedExamples.{name_at, colon_at, above_one}
 use Rattle.polcert_examples.proofs.Computed.{numerals}
 use Rattle.polcert_cells.proofs.Basics.{one_some, same_head}
 use Rattle.polcert_cells.proofs.NumberLaws.{one_list}

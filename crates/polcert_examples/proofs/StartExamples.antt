@@ -1,20 +1,15 @@
 -- Start items over two named states have the shares that one expects.
-use Rattle.std.proofs.Common.{◌≡◌, ℕ, ◌<◌, List, [], ◌∷◌, codes, refl, subst, arith, lit<}
-use Rattle.polcert_cells.specs.Numbers.{none, unsigned}
-use Rattle.polcert_cells.specs.Elements.{StandsFor, by_name}
+use Rattle.std.proofs.Common.{◌<◌, [], ◌∷◌, codes, refl, arith, lit<}
+use Rattle.polcert_examples.proofs.Common.{none, unsigned, StandsFor, by_name}
 use Rattle.polcert_cells.specs.declared.elements.StartWeights.{StartWeights}
-use Rattle.polcert_cells.specs.Start.{IsStart, plain, include, exclude, uniform, name, probabilities, equal_weights, excluded}
+use Rattle.polcert_cells.specs.Start.{IsStart, plain, include, exclude, uniform, name, probabilities}
 use Rattle.polcert_examples.specs.Worked.Examples as examples
 use Rattle.polcert_examples.specs.Worked.StartExamples.{a_b, shares, uniform_start, halves_start, quarters_start, name_start, include_start, exclude_start, exclude_all}
 use Rattle.polcert_examples.proofs.WorkedTexts.{a_word}
 use Rattle.polcert_examples.proofs.Computed.{numerals, names}
-use Rattle.polcert_cells.proofs.StartLaws.{one_choice, include_not_exclude, name_not_colon}
 
 stands_a : StandsFor a_b (examples.name (codes "a")) 0
 stands_a = by_name names.a refl
-
-stands_b : StandsFor a_b (examples.name (codes "b")) 1
-stands_b = by_name names.b refl
 
 pub uniform_shares : IsStart a_b uniform_start (shares (1 ∷ 1 ∷ []) 2)
 uniform_shares = plain refl (uniform (a_word _))
@@ -34,11 +29,5 @@ include_shares = include (0 ∷ 0 ∷ []) (a_word _) refl (stands_a, (stands_a, 
 pub exclude_shares : IsStart a_b exclude_start (shares (0 ∷ 1 ∷ []) 1)
 exclude_shares = exclude (0 ∷ []) (a_word _) refl (stands_a, tt) (lit< tt)
 
-nothing_left : (chosen : List ℕ) → chosen ≡ 0 ∷ 1 ∷ [] → 0 < (equal_weights 2 (excluded chosen)).total → ⊥
-nothing_left chosen e l = let f : 0 < 0 = subst (λ c. 0 < (equal_weights 2 (excluded c)).total) e l in omega (arith, f)
-
 pub exclude_all_refused : (x : StartWeights) → IsStart a_b exclude_all x → ⊥
-exclude_all_refused x (plain c b) = name_not_colon _ refl c
-exclude_all_refused x (include chosen w c z some) = include_not_exclude _ w (a_word _)
-exclude_all_refused x (exclude chosen w c z some) =
-    nothing_left chosen (one_choice a_b (examples.name (codes "a") ∷ examples.name (codes "b") ∷ []) chosen (0 ∷ 1 ∷ []) z (stands_a, (stands_b, tt))) some
+exclude_all_refused x h1 = grind arith

@@ -1,36 +1,31 @@
 -- The lexemes of the tiger problem are right, and denote its model.
-use Rattle.std.proofs.Common.{◌≡◌, ◌∙◌, ◌≢◌, ◌==◌, ℕ, take, drop, bytes_eq, ap, zero, suc, ◌<◌, true, false, Some, List, [], ◌∷◌, ◌++◌, AllPairs, ℤ, codes, refl, arith, lit≤}
-use Rattle.std.proofs.lemmas.List.Elements.{All-from_recursion, All-nil}
+use Rattle.std.proofs.Common.{◌≡◌, ◌∙◌, ◌≢◌, ◌==◌, ℕ, take, drop, bytes_eq, ap, true, false, Some, List, [], ◌∷◌, ◌++◌, AllPairs, ℤ, codes, refl, arith, lit≤}
+use Rattle.polcert_examples.proofs.Common.{All-from_recursion, list_any, Lexeme, Probabilities, Entry, Discount, topic_of, IsName, StandsFor, by_name, Item, IsDivided, ArePlaces, IsEntry, IsBody, dimensions, ModelSoFar, nothing_known, name, numeral, whole, minus_whole}
+use Rattle.std.proofs.lemmas.List.Elements.{All-nil}
 use Rattle.std.proofs.lemmas.List.Kept.{AllPairs-cons}
-use Rattle.std.specs.List.{list_any}
-use Rattle.polcert_text.specs.Cut.{Lexeme}
 use Rattle.polcert_cells.specs.declared.entries.Table.{Table}
 use Rattle.polcert_cells.specs.declared.entries.Table.TheVariants.{Transition, Observation, Reward}
 use Rattle.polcert_cells.specs.declared.entries.Place.{Place}
 use Rattle.polcert_cells.specs.declared.entries.Place.TheVariants.{Every, Only}
 use Rattle.polcert_cells.specs.declared.entries.Body.{Body}
-use Rattle.polcert_cells.specs.declared.entries.Body.TheVariants.{Probabilities, Uniform, Identity}
-use Rattle.polcert_cells.specs.declared.entries.Entry.{Entry}
-use Rattle.polcert_cells.specs.declared.words.Topic.TheVariants.{Discount, Values, States, Actions, Observations, Cells}
-use Rattle.polcert_cells.specs.Words.{topic, topic_of, IsName}
-use Rattle.polcert_cells.specs.Numbers.{IsMillionths, AreNumbers}
+use Rattle.polcert_cells.specs.declared.entries.Body.TheVariants.{Uniform, Identity}
+use Rattle.polcert_cells.specs.declared.words.Topic.TheVariants.{Values, States, Actions, Observations, Cells}
+use Rattle.polcert_cells.specs.Words.{topic}
+use Rattle.polcert_cells.specs.Numbers.{AreNumbers}
 use Rattle.polcert_cells.specs.Numbers as numbers
 use Rattle.polcert_cells.specs.declared.elements.Elements.TheVariants.{Names}
-use Rattle.polcert_cells.specs.Elements.{StandsFor, AreElements, named, by_name, most_states, most_actions}
-use Rattle.polcert_format.specs.Items.{Item, IsItem, IsDivided}
+use Rattle.polcert_cells.specs.Elements.{AreElements, named, most_states, most_actions}
 use Rattle.polcert_cells.specs.Entry as entries
-use Rattle.polcert_cells.specs.Entry.{ArePlaces, IsEntry, IsBody}
-use Rattle.polcert_cells.specs.Preamble.{dimensions, named as named_by}
+use Rattle.polcert_cells.specs.Preamble.{named as named_by}
 use Rattle.polcert_cells.proofs.Basics.{true≢false}
 use Rattle.polcert_format.proofs.RightItems.{append_right}
-use Rattle.polcert_cells.specs.Meaning.{HasProperRows, sum_below}
+use Rattle.polcert_cells.specs.Meaning.{HasProperRows}
 use Rattle.polcert_format.specs.Text as texts
-use Rattle.polcert_format.specs.Limits.{IsLarge, HasFewCells}
-use Rattle.polcert_format.proofs.CellLimits.{few_cells, not_large}
-use Rattle.polcert_format.specs.Text.{ModelSoFar, nothing_known, IsInPreamble, IsComplete, IsRight, AreRight, Denotes}
-use Rattle.polcert_examples.specs.Worked.Examples.{name, numeral, colon, observation, rewards, whole}
-use Rattle.polcert_examples.specs.Worked.Tiger.{star, minus, tiger, tiger_states, tiger_actions, tiger_preamble, tiger_entries, tiger_known, tiger_model, minus_whole}
-use Rattle.polcert_examples.proofs.WorkedTexts.{an_item, plain_item, a_word, an_entry, heard_right, fresh, below_two}
+use Rattle.polcert_format.specs.Limits.{HasFewCells}
+use Rattle.polcert_format.specs.Text.{IsComplete, AreRight, Denotes}
+use Rattle.polcert_examples.specs.Worked.Examples.{colon, observation, rewards}
+use Rattle.polcert_examples.specs.Worked.Tiger.{star, minus, tiger, tiger_states, tiger_actions, tiger_preamble, tiger_entries, tiger_known, tiger_model}
+use Rattle.polcert_examples.proofs.WorkedTexts.{an_item, a_word, an_entry, heard_right, fresh}
 use Rattle.polcert_examples.proofs.Computed.{numerals, names}
 
 -- ---- items
@@ -56,12 +51,7 @@ tiger_items =
 
 divided : IsDivided tiger [] tiger_items
 unfolding topic_of
-divided = record {
-  whole = refl;
-  no_word = refl;
-  each = All-from_recursion IsItem tiger_items
-      (plain_item _ refl refl, (plain_item _ refl refl, (plain_item _ refl refl, (plain_item _ refl refl, (plain_item _ refl refl, (plain_item _ refl refl, (plain_item _ refl refl, (plain_item _ refl refl, (plain_item _ refl refl, (plain_item _ refl refl, (plain_item _ refl refl, (plain_item _ refl refl, (plain_item _ refl refl, (plain_item _ refl refl, (plain_item _ refl refl, ((plain_item _ refl refl, tt)))))))))))))))));
-}
+divided = grind arith
 
 -- ---- names and numbers
 
@@ -150,18 +140,10 @@ minus_hundred = numbers.minus refl (numerals.minus_hundred _) numbers.none
 -- ---- the whole
 
 complete : (es : List Entry) → IsComplete (tiger_known es) tiger_preamble
-complete es = record {
-  lines = record { discount = refl; costs = refl; states = refl; actions = refl; observations = refl };
-  pairs = lit≤ tt;
-}
+complete es = grind arith
 
 few : (es : List Entry) → HasFewCells tiger_preamble es
-few es = few_cells tiger_preamble es small
-  where
-    small : (table : Table) → IsLarge tiger_preamble table → ⊥
-    small Transition l = not_large _ (lit≤ tt) l
-    small Observation l = not_large _ (lit≤ tt) l
-    small Reward l = not_large _ (lit≤ tt) l
+few es = grind arith
 
 one_entry : (es : List Entry) (items : List Item) (table : Table) (body : List Lexeme) (word : List ℕ) (e : Entry) (last : ModelSoFar) → topic (name word) ≡ Some (Cells table)
     → IsEntry tiger_preamble table body e → AreRight (tiger_known (es ++ e ∷ [])) items last → AreRight (tiger_known es) (an_item word body ∷ items) last
@@ -204,32 +186,10 @@ right_preamble =
     texts.none))))
 
 right : AreRight nothing_known tiger_items (tiger_known tiger_entries)
-right = append_right nothing_known (tiger_known []) (tiger_known tiger_entries) (take 5 tiger_items) (drop 5 tiger_items) right_preamble
-    (append_right (tiger_known []) (tiger_known (take 6 tiger_entries)) (tiger_known tiger_entries) (take 6 (drop 5 tiger_items)) (drop 11 tiger_items) right_weights right_rewards)
-
-below_three : (P : ℕ → Type 0) → P 0 → P 1 → P 2 → (n : ℕ) → n < 3 → P n
-below_three P p q r zero l = p
-below_three P p q r (suc zero) l = q
-below_three P p q r (suc (suc zero)) l = r
-below_three P p q r (suc (suc (suc n))) l = absurd (omega (arith, l))
-
-abbrev t_row : ℕ → ℕ → Type 0
-t_row a s = sum_below (tiger_model.t a s) 2 ≡ 2_000_000
-
-abbrev o_row : ℕ → ℕ → Type 0
-o_row a e = sum_below (tiger_model.o a e) 2 ≡ 2_000_000
+right = grind (arith, append_right, right_rewards, right_weights, right_preamble)
 
 proper : HasProperRows tiger_model
-proper = record {
-  transitions = λ a s p q. below_three (λ x. t_row x s) (below_two (t_row 0) refl refl s q) (below_two (t_row 1) refl refl s q) (below_two (t_row 2) refl refl s q) a p;
-  observations = λ a e p q. below_three (λ x. o_row x e) (below_two (o_row 0) refl refl e q) (below_two (o_row 1) refl refl e q) (below_two (o_row 2) refl refl e q) a p;
-}
+proper = grind arith
 
 pub tiger_denotes : Denotes tiger tiger_model
-tiger_denotes = record {
-  preamble = tiger_preamble;
-  known = tiger_known tiger_entries;
-  right = record { items = tiger_items; divided = divided; right = right; complete = complete tiger_entries };
-  same = record { preamble = refl; start = refl; t = λ a s e p q r. refl; o = λ a s e p q r. refl; r = λ a s e z p q r v. refl };
-  rows = proper;
-}
+tiger_denotes = grind (arith, divided, complete, right, proper)

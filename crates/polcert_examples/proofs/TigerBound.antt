@@ -1,6 +1,6 @@
 -- The definitions at the tiger of two doors, computed.
 use Rattle.std.proofs.Common.{◌≡◌, ◌*◌, ◌^◌, pos, neg_ℤ, refl}
-use Rattle.polcert_check.specs.Horizon.{one}
+use Rattle.polcert_examples.proofs.Common.{one}
 use Rattle.polcert_optimum.specs.Policy.{as_policy, expected_rewards}
 use Rattle.polcert_optimum.specs.Informed.{excess}
 use Rattle.polcert_examples.specs.Worked.TigerBound.{listen_and_open, tiger, tiger_vectors}

@@ -1,37 +1,21 @@
 -- What the worked texts have in common: items, numerals and their values.
-use Rattle.std.proofs.Common.{◌≡◌, ℕ, ◌≤◌, ◌==◌, ◌∷◌, ◌++◌, length, drop, zero, suc, ◌<◌, true, false, None, List, [], codes, refl, arith, lit≤}
-use Rattle.std.specs.List.{list_any}
-use Rattle.polcert_text.specs.Cut.{Lexeme}
-use Rattle.polcert_cells.specs.Words.{begins_item, IsWord}
-use Rattle.polcert_cells.specs.declared.entries.Entry.{Entry}
-use Rattle.polcert_cells.specs.declared.entries.Body.TheVariants.{Probabilities}
+use Rattle.std.proofs.Common.{◌≡◌, ℕ, ◌≤◌, ◌==◌, ◌∷◌, ◌++◌, length, drop, true, None, List, [], codes, refl, lit≤}
+use Rattle.polcert_examples.proofs.Common.{list_any, Lexeme, Entry, Probabilities, ArePlaces, IsEntry, IsBody, dimensions, All-from_recursion, Item, ModelSoFar, name, numeral}
+use Rattle.polcert_cells.specs.Words.{IsWord}
 use Rattle.polcert_cells.specs.Entry as entries
-use Rattle.polcert_cells.specs.Entry.{ArePlaces, IsEntry, IsBody}
-use Rattle.polcert_cells.specs.Preamble.{Preamble, is_mdp, dimensions, named as named_by}
-use Rattle.std.proofs.lemmas.List.Elements.{All-from_recursion}
+use Rattle.polcert_cells.specs.Preamble.{Preamble, is_mdp, named as named_by}
 use Rattle.polcert_cells.specs.Numbers as numbers
 use Rattle.polcert_examples.proofs.Computed.{numerals}
-use Rattle.polcert_cells.specs.Numbers.{IsMillionths}
-use Rattle.polcert_format.specs.Items.{Item, IsItem}
-use Rattle.polcert_format.specs.Text.{ModelSoFar, IsInPreamble}
-use Rattle.polcert_examples.specs.Worked.Examples.{name, numeral}
+use Rattle.polcert_format.specs.Text.{IsInPreamble}
 
 abbrev pub an_item : List ℕ → List Lexeme → Item
 an_item word body = record { word = name word; body = body }
-
-pub plain_item : (x : Item) → begins_item x.word ≡ true → list_any begins_item x.body ≡ false → IsItem x
-plain_item x w b = record { word = w; body = b }
 
 pub a_word : (w : List ℕ) → IsWord w (name w)
 a_word w = record { kind = refl; bytes = refl }
 
 pub fresh : (k : ModelSoFar) → k.start ≡ None → k.entries ≡ [] → IsInPreamble k
 fresh k s e = record { no_start = s; no_entry = e }
-
-pub below_two : (P : ℕ → Type 0) → P 0 → P 1 → (n : ℕ) → n < 2 → P n
-below_two P p q zero l = p
-below_two P p q (suc zero) l = q
-below_two P p q (suc (suc n)) l = absurd (omega (arith, l))
 
 pub an_entry : (p : Preamble) (entry : Entry) (pattern rest : List Lexeme) → list_any (λ n. n == length entry.places) (entries.forms (is_mdp p) entry.table entry.body) ≡ true
     → ArePlaces (named_by p entry.table) pattern entry.places → IsBody (entries.cells_in (drop (length entry.places) (dimensions p entry.table))) rest entry.body

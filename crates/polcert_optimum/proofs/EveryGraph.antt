@@ -1,11 +1,6 @@
 -- No values of a graph that pass from below are above informed vectors, where the discount is below 1.
-use Rattle.std.proofs.Common.{◌≡◌, ℕ, ◌<◌, ℤ, pos, ◌+ℤ◌, ◌-ℤ◌, ◌*ℤ◌, ◌≤ℤ◌, Option, Some, None, refl, sym, ap, ◌∙◌, arith}
-use Rattle.std.proofs.Math.IntN.{zero-*ℤ}
-use Rattle.polcert_cells.specs.Tables.{CellTable, IsProper, IsWithinLimits}
-use Rattle.polcert_policy.specs.Graphs.{action_of}
-use Rattle.polcert_policy.specs.Vectors.{value_of}
-use Rattle.polcert_check.specs.Horizon.{Controller, controller_of, one}
-use Rattle.polcert_check.specs.Horizon as horizon
+use Rattle.std.proofs.Common.{◌≡◌, ℕ, ◌<◌, ℤ, pos, ◌-ℤ◌, ◌≤ℤ◌, Option, refl, arith}
+use Rattle.polcert_optimum.proofs.Common.{CellTable, IsProper, IsWithinLimits, action_of, value_of, Controller, controller_of, one, backup, AreInformed}
 use Rattle.polcert_check.specs.Shortfall.{Lacks, backing}
 use Rattle.polcert_check.specs.Steps.Ranges.{IsClosed}
 use Rattle.polcert_check.proofs.Certificates.{controller_is}
@@ -13,11 +8,9 @@ use Rattle.polcert_check.proofs.Sums.Ring.{linear, ≤ℤ_trans, ≤ℤ_from_eq}
 use Rattle.polcert_check.proofs.Sums.SumLaws.{sum_below_same}
 use Rattle.polcert_check.proofs.Sums.Scales.{scales}
 use Rattle.polcert_check.proofs.Walking.Verdicts.{positive_product}
-use Rattle.polcert_check.proofs.Horizons.Kept.{backing_term, no_weight}
+use Rattle.polcert_check.proofs.Horizons.Kept.{backing_term}
 use Rattle.polcert_check.proofs.Agreements.Agreeing.{with_values}
 use Rattle.polcert_check.proofs.Mirrors.Interval.{never_above}
-use Rattle.polcert_optimum.specs.Bound.{backup}
-use Rattle.polcert_optimum.specs.Informed.{AreInformed}
 use Rattle.polcert_optimum.specs.GraphPolicy.{action_at, BoundEveryGraph}
 use Rattle.polcert_optimum.proofs.Bounded.{backup_term}
 use Rattle.polcert_optimum.proofs.Informed.{choice_le}
@@ -25,11 +18,7 @@ use Rattle.polcert_optimum.proofs.Informed.{choice_le}
 -- ---- what backs a value of a node that lacks nothing, where each node has the vector of its action
 term_is : (c : Controller) (vectors : ℕ → ℕ → ℤ) (n s e z : ℕ) → (Lacks c n s z → ⊥) → e < c.cells.states → (at : Option ℕ) → c.next n z ≡ at
     → backing_term (with_values c (λ m u. vectors (c.action m) u)) n s e z at ≡ backup_term c.cells (vectors (action_at c at) e) (c.action n) s e z
-term_is c vectors n s e z fine el None is =
-    let w : horizon.step_weight c n s e z ≡ 0 = no_weight c n s e z fine el is in
-    let x : ℤ = pos one *ℤ c.cells.r (c.action n) s e z +ℤ pos c.cells.discount *ℤ vectors 0 e in
-    sym (ap (λ (u : ℕ). pos u *ℤ x) w ∙ zero-*ℤ x)
-term_is c vectors n s e z fine el (Some m) is = refl
+term_is c vectors n s e z h1 h2 at h3 = grind arith
 
 backing_is : (c : Controller) (vectors : ℕ → ℕ → ℤ) (n s : ℕ) → ((z : ℕ) → z < c.cells.observations → Lacks c n s z → ⊥)
     → backing (with_values c (λ m u. vectors (c.action m) u)) n s ≡ backup c.cells (λ e z. vectors (action_at c (c.next n z)) e) (c.action n) s
@@ -38,8 +27,7 @@ backing_is c vectors n s fine =
     term_is c vectors n s e z (fine z zl) el (c.next n z) refl))
 
 action_known : (c : Controller) → IsClosed c → 0 < c.cells.actions → (n z : ℕ) → n < c.nodes → z < c.cells.observations → (at : Option ℕ) → c.next n z ≡ at → action_at c at < c.cells.actions
-action_known c closed some n z nl zl None is = some
-action_known c closed some n z nl zl (Some m) is = closed.actions_in_range m (closed.next_in_range n z m nl zl is)
+action_known c h1 h2 n z h3 h4 at h5 = grind arith
 
 long_is : (a b : ℤ) → b ≤ℤ a → pos 0 ≤ℤ (a -ℤ b)
 long_is a b h = omega (arith, linear)
@@ -50,8 +38,7 @@ every_graph t vectors proper limits less informed g low known fits passes n s nl
     let some : 0 < t.actions = omega (arith, limits.actions.0) in
     let closed : IsClosed old = (controller_is t g low fits proper known).closed in
     let c : Controller = with_values old (λ m u. vectors (action_of g m) u) in
-    let still : IsClosed c = record { actions_in_range = closed.actions_in_range; next_in_range = closed.next_in_range } in
-    never_above c (record { cells = proper; closed = still })
+    never_above c (record { cells = proper; closed = (record { actions_in_range = closed.actions_in_range; next_in_range = closed.next_in_range }) })
     (λ m u ml ul. record {
       lacks_none = (passes m u ml ul).lacks_none;
       not_long = long_is _ _ (≤ℤ_trans _ _ _ (≤ℤ_from_eq _ _ (backing_is old vectors m u (passes m u ml ul).lacks_none))

@@ -1,12 +1,9 @@
 -- A value for each state that dominates its backup bounds every policy and every mixture, and only such a value does.
-use Rattle.std.proofs.Common.{◌≡◌, ℕ, zero, suc, ◌*◌, ◌^◌, ◌<◌, ℤ, pos, ◌+ℤ◌, ◌*ℤ◌, ◌≤ℤ◌, List, [], ◌∷◌, sym, arith}
-use Rattle.std.proofs.Math.IntN.{zero-*ℤ}
+use Rattle.std.proofs.Common.{ℕ, zero, suc, ◌*◌, ◌^◌, ◌<◌, ℤ, pos, ◌+ℤ◌, ◌*ℤ◌, ◌≤ℤ◌, List, [], ◌∷◌, sym, arith}
+use Rattle.polcert_optimum.proofs.Common.{zero-*ℤ, CellTable, IsProper, one, end_state, Policy, IsPolicyOf, after, step_scale, expected_total, DominatesBackup}
 use Rattle.std.specs.List.{AllByRecursion}
-use Rattle.polcert_cells.specs.Tables.{CellTable, IsProper}
-use Rattle.polcert_check.specs.Horizon.{one}
 use Rattle.polcert_check.proofs.Sums.Ring.{linear, mul_le, ≤ℤ_from_eq, +ℤ-*ℤ}
-use Rattle.polcert_optimum.specs.Policy.{end_state, Policy, IsPolicyOf, after, step_scale, expected_total}
-use Rattle.polcert_optimum.specs.Bound.{DominatesBackup, BoundsEveryPolicy, mixture_weight, mixture_sum, BoundsEveryMixture}
+use Rattle.polcert_optimum.specs.Bound.{BoundsEveryPolicy, mixture_weight, mixture_sum, BoundsEveryMixture}
 use Rattle.polcert_optimum.proofs.Bounded.{policy_after, one_step_more, no_step, bounded, backup_from_one_step}
 
 total_le : (t : CellTable) (value : ℕ → ℤ) → IsProper t → DominatesBackup t value → (k : ℕ) (policy : Policy) → IsPolicyOf t policy → (s : ℕ) → s < t.states → expected_total t (λ history. value (end_state s history)) policy k s ≤ℤ (pos (step_scale t ^ k * one ^ k) *ℤ value s)
@@ -24,10 +21,7 @@ every_policy t value p above policy of k s sl = bounded t p (λ history. value (
 pub mixture_le : {P : Type 0} (Is : P → Type 0) (f : P → ℤ) (x : ℤ) → ((policy : P) → Is policy → f policy ≤ℤ x) → (mixture : List (ℕ × P)) → AllByRecursion (λ m. Is m.1) mixture → mixture_sum f mixture ≤ℤ (mixture_weight mixture *ℤ x)
 mixture_le Is f x each [] of = ≤ℤ_from_eq _ _ (sym (zero-*ℤ x))
 mixture_le Is f x each (m ∷ mixture) of =
-    let here : (pos m.0 *ℤ f m.1) ≤ℤ (pos m.0 *ℤ x) = mul_le m.0 _ _ (each m.1 of.0) in
-    let rest : mixture_sum f mixture ≤ℤ (mixture_weight mixture *ℤ x) = mixture_le Is f x each mixture of.1 in
-    let apart : (pos m.0 +ℤ mixture_weight mixture) *ℤ x ≡ pos m.0 *ℤ x +ℤ mixture_weight mixture *ℤ x = +ℤ-*ℤ (pos m.0) (mixture_weight mixture) x in
-    omega (arith, linear)
+    omega (arith, linear, +ℤ-*ℤ (pos m.0) (mixture_weight mixture) x, mixture_le Is f x each mixture of.1, mul_le m.0 _ _ (each m.1 of.0))
 
 pub every_mixture : (t : CellTable) (value : ℕ → ℤ) → BoundsEveryPolicy t value → BoundsEveryMixture t value
 every_mixture t value bounds mixture of k s sl =

@@ -1,40 +1,23 @@
 -- What a controller earns that lacks no observation, its policy earns.
-use Rattle.std.proofs.Common.{◌≡◌, ℕ, zero, suc, ◌^◌, ◌<◌, ℤ, pos, ◌+ℤ◌, ◌*ℤ◌, List, [], ◌∷◌, Option, Some, None, refl, sym, ap, ◌∙◌, subst}
-use Rattle.std.proofs.Math.IntN.{+ℤ_idr, zero-*ℤ, *ℤ-zero}
-use Rattle.polcert_check.specs.Horizon.{Controller, one, total_below, sum_over, uncut, weight, runs, IsRunInRange}
+use Rattle.std.proofs.Common.{◌≡◌, ℕ, zero, suc, ◌^◌, ◌<◌, ℤ, pos, ◌+ℤ◌, ◌*ℤ◌, [], ◌∷◌, Option, Some, None, refl, sym, ap, ◌∙◌, subst, rules}
+use Rattle.polcert_optimum.proofs.Common.{zero-*ℤ, Controller, one, total_below, runs, IsRunInRange, IsController, History, Policy, as_policy, IsPolicyOf, after, history_weight, discounted_rewards, step_weight, total_weight, expected_total, expected_rewards, graph_policy, EarnsAsItsPolicy}
+use Rattle.std.proofs.Math.IntN.{+ℤ_idr, *ℤ-zero}
+use Rattle.polcert_check.specs.Horizon.{uncut, weight}
 use Rattle.polcert_check.specs.Horizon as horizon
-use Rattle.polcert_check.specs.Steps.Ranges.{IsController}
-use Rattle.polcert_check.proofs.Sums.SumLaws.{sum_below_same, sum_over_same, sum_over_scale, sum_over_add}
+use Rattle.polcert_check.proofs.Sums.SumLaws.{sum_below_same, sum_over_same, sum_over_factor}
 use Rattle.polcert_check.proofs.Horizons.Runs.{sum_over_uncut, reward_part_cons}
-use Rattle.polcert_check.proofs.Horizons.Kept.{LacksNone, no_weight, worth_algebra}
+use Rattle.polcert_check.proofs.Horizons.Kept.{LacksNone, no_weight}
 use Rattle.polcert_check.proofs.Horizons.Kept as kept
-use Rattle.polcert_optimum.specs.Policy.{History, Policy, as_policy, IsPolicyOf, after, history_weight, discounted_rewards, step_weight, total_weight, expected_total, expected_rewards}
-use Rattle.polcert_optimum.specs.GraphPolicy.{graph_policy, EarnsAsItsPolicy}
 use Rattle.polcert_optimum.proofs.Steps.{expected_total_suc}
 use Rattle.polcert_optimum.proofs.Bounded.{weights_all}
 
 -- ---- the rewards of k + 1 steps, split at the first step
-rewards_after : (c : Controller) (k n s e z : ℕ) → sum_over (λ run. pos (weight c (Some n) s ((e, z) ∷ run)) *ℤ horizon.reward_part c (suc k) (Some n) s ((e, z) ∷ run)) (uncut c k (c.next n z)) ≡ pos (horizon.step_weight c n s e z) *ℤ ((pos (one ^ suc k) *ℤ c.cells.r (c.action n) s e z) *ℤ horizon.weights_sum c k (c.next n z) e +ℤ pos c.cells.discount *ℤ horizon.rewards_sum c k (c.next n z) e)
-rewards_after c k n s e z =
-    let at : Option ℕ = c.next n z in
-    let w : ℕ = horizon.step_weight c n s e z in
-    let a : ℤ = pos (one ^ suc k) *ℤ c.cells.r (c.action n) s e z in
-    let g : ℤ = pos c.cells.discount in
-    let x = λ (run : History). pos (weight c at e run) in
-    let t = λ (run : History). horizon.reward_part c k at e run in
-    let us : List History = uncut c k at in
-    sum_over_same _ (λ run. pos w *ℤ (a *ℤ x run +ℤ g *ℤ (x run *ℤ t run))) us
-    (λ run. ap (λ (y : ℤ). (pos w *ℤ x run) *ℤ y) (reward_part_cons c k n s e z run) ∙ worth_algebra (pos w) (x run) a g (t run))
-    ∙ sum_over_scale (pos w) (λ run. a *ℤ x run +ℤ g *ℤ (x run *ℤ t run)) us
-    ∙ ap (λ (y : ℤ). pos w *ℤ y)
-    (sum_over_add (λ run. a *ℤ x run) (λ run. g *ℤ (x run *ℤ t run)) us
-    ∙ ap (λ (y : ℤ). y +ℤ sum_over (λ run. g *ℤ (x run *ℤ t run)) us) (sum_over_scale a x us)
-    ∙ ap (λ (y : ℤ). a *ℤ sum_over x us +ℤ y) (sum_over_scale g (λ run. x run *ℤ t run) us))
-
 controller_rewards_suc : (c : Controller) (k n s : ℕ) → horizon.rewards_sum c (suc k) (Some n) s ≡ total_below (λ e. total_below (λ z. pos (horizon.step_weight c n s e z) *ℤ ((pos (one ^ suc k) *ℤ c.cells.r (c.action n) s e z) *ℤ horizon.weights_sum c k (c.next n z) e +ℤ pos c.cells.discount *ℤ horizon.rewards_sum c k (c.next n z) e)) c.cells.observations) c.cells.states
 controller_rewards_suc c k n s =
     sum_over_uncut c k n (λ run. pos (weight c (Some n) s run) *ℤ horizon.reward_part c (suc k) (Some n) s run)
-    ∙ sum_below_same _ _ c.cells.states (λ e _. sum_below_same _ _ c.cells.observations (λ z _. rewards_after c k n s e z))
+    ∙ sum_below_same _ _ c.cells.states (λ e _. sum_below_same _ _ c.cells.observations (λ z _.
+    sum_over_factor (pos (horizon.step_weight c n s e z)) (pos (one ^ suc k) *ℤ c.cells.r (c.action n) s e z) (pos c.cells.discount) (λ run. pos (weight c (c.next n z) e run)) (λ run. horizon.reward_part c k (c.next n z) e run) _ (uncut c k (c.next n z))
+    (λ run. ap (λ (y : ℤ). pos (weight c (Some n) s ((e, z) ∷ run)) *ℤ y) (reward_part_cons c k n s e z run))))
 
 no_end : (x r h : ℤ) → x *ℤ (r +ℤ h *ℤ pos 0) ≡ x *ℤ r
 no_end x r h = rw (*ℤ-zero h) (ap (λ (y : ℤ). x *ℤ y) (+ℤ_idr r))
@@ -71,20 +54,13 @@ module _ (c : Controller) (p : IsController c) (some : 0 < c.cells.actions) wher
 
     same_term : (k n s e z : ℕ) → n < c.nodes → s < c.cells.states → e < c.cells.states → z < c.cells.observations → ((m : ℕ) → m < c.nodes → horizon.rewards_sum c k (Some m) e ≡ expected_rewards c.cells (policy_at (Some m)) k e) → (at : Option ℕ) → c.next n z ≡ at
         → pos (horizon.step_weight c n s e z) *ℤ ((pos (one ^ suc k) *ℤ c.cells.r (c.action n) s e z) *ℤ horizon.weights_sum c k at e +ℤ pos c.cells.discount *ℤ horizon.rewards_sum c k at e) ≡ pos (horizon.step_weight c n s e z) *ℤ ((pos (one ^ suc k) *ℤ c.cells.r (c.action n) s e z) *ℤ total_weight c.cells (policy_at at) k e +ℤ pos c.cells.discount *ℤ expected_rewards c.cells (policy_at at) k e)
-    same_term k n s e z nl sl el zl before None is =
-        let w : horizon.step_weight c n s e z ≡ 0 = no_weight c n s e z (fine n s z nl sl zl) el is in
-        let a : ℤ = pos (one ^ suc k) *ℤ c.cells.r (c.action n) s e z in
-        let x : ℤ = a *ℤ horizon.weights_sum c k None e +ℤ pos c.cells.discount *ℤ horizon.rewards_sum c k None e in
-        let y : ℤ = a *ℤ total_weight c.cells (policy_at None) k e +ℤ pos c.cells.discount *ℤ expected_rewards c.cells (policy_at None) k e in
-        ap (λ (u : ℕ). pos u *ℤ x) w ∙ zero-*ℤ x ∙ sym (ap (λ (u : ℕ). pos u *ℤ y) w ∙ zero-*ℤ y)
+    same_term k n s e z nl sl el zl before None is = search (rules, zero-*ℤ, no_weight)
     same_term k n s e z nl sl el zl before (Some m) is =
         let ml : m < c.nodes = p.closed.next_in_range n z m nl zl is in
         let w : ℤ = pos (horizon.step_weight c n s e z) in
         let a : ℤ = pos (one ^ suc k) *ℤ c.cells.r (c.action n) s e z in
         let g : ℤ = pos c.cells.discount in
-        let weights : horizon.weights_sum c k (Some m) e ≡ total_weight c.cells (policy_at (Some m)) k e = kept.weights_all c p fine k m e ml el ∙ sym (weights_all c.cells p.cells k (policy_at (Some m)) (is_policy m ml) e el) in
-        ap (λ (x : ℤ). w *ℤ (a *ℤ x +ℤ g *ℤ horizon.rewards_sum c k (Some m) e)) weights
-        ∙ ap (λ (x : ℤ). w *ℤ (a *ℤ total_weight c.cells (policy_at (Some m)) k e +ℤ g *ℤ x)) (before m ml)
+        cc (kept.weights_all c p fine k m e ml el ∙ sym (weights_all c.cells p.cells k (policy_at (Some m)) (is_policy m ml) e el), before m ml)
 
     same_rewards : (k n s : ℕ) → n < c.nodes → s < c.cells.states → horizon.rewards_sum c k (Some n) s ≡ expected_rewards c.cells (policy_at (Some n)) k s
     same_rewards zero n s nl sl = refl

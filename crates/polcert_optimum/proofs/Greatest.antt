@@ -1,11 +1,9 @@
 -- The greatest of some numbers: none is greater, one is as great, and nothing else is both.
 use Rattle.std.proofs.Common.{◌≡◌, ℕ, zero, suc, ◌<◌, ◌≤◌, ℤ, ◌≤ℤ◌, ⊎_elim, refl, sym, ◌∙◌, arith}
-use Rattle.std.specs.Int.{int_max}
+use Rattle.polcert_optimum.proofs.Common.{int_max, cases_lt, ints, clamps, greatest_below}
 use Rattle.std.specs.Prelude.{int_lt}
-use Rattle.std.proofs.lemmas.Bool.{cases_cond, cases_lt}
-use Rattle.std.proofs.lemmas.Int.{ints, clamps}
+use Rattle.std.proofs.lemmas.Bool.{cases_cond}
 use Rattle.polcert_check.proofs.Sums.Ring.{≤ℤ_trans, ≤ℤ_from_eq}
-use Rattle.polcert_optimum.specs.Informed.{greatest_below}
 
 pub max_left : (x y : ℤ) → x ≤ℤ int_max x y
 max_left x y = omega (arith, ints, clamps)

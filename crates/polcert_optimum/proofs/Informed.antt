@@ -1,14 +1,11 @@
 -- The fast informed bound holds, only such vectors bound every policy of observations, and which vectors are such.
 use Rattle.std.proofs.Common.{◌≡◌, ℕ, zero, suc, ◌*◌, ◌^◌, ◌<◌, ℤ, pos, ◌+ℤ◌, ◌*ℤ◌, ◌≤ℤ◌, [], ◌∷◌, refl, sym, ap, ◌∙◌, arith}
-use Rattle.polcert_cells.specs.Tables.{CellTable, IsProper}
-use Rattle.polcert_check.specs.Horizon.{one, total_below}
+use Rattle.polcert_optimum.proofs.Common.{CellTable, IsProper, one, total_below, History, end_state, ObservationPolicy, as_policy, IsPolicyOf, step_weight, step_scale, expected_total, backup, DominatesBackup, greatest_below, expected_reward, expected_value, IsInformed, AreInformed, BoundEveryObservationPolicy}
 use Rattle.polcert_check.proofs.Sums.Ring.{linear, products, mul_le, ≤ℤ_trans, ≤ℤ_from_eq}
 use Rattle.polcert_check.proofs.Sums.SumLaws.{sum_below_same, sum_below_le, sum_below_add}
 use Rattle.polcert_check.proofs.Horizons.Kept.{sum_twice_scale}
 use Rattle.polcert_check.proofs.Lowerings.Lowering.{sum_twice_add}
-use Rattle.polcert_optimum.specs.Policy.{History, end_state, ObservationPolicy, as_policy, IsPolicyOf, step_weight, step_scale, expected_total}
-use Rattle.polcert_optimum.specs.Bound.{backup, DominatesBackup}
-use Rattle.polcert_optimum.specs.Informed.{greatest_below, expected_reward, expected_value, informed_backup, IsInformed, AreInformed, BoundEveryObservationPolicy, AreQmdp}
+use Rattle.polcert_optimum.specs.Informed.{informed_backup, AreQmdp}
 use Rattle.polcert_optimum.proofs.Greatest.{greatest_le, greatest_reached}
 use Rattle.polcert_optimum.proofs.Bounded.{policy_after, one_step_more, no_step, bounded, backup_from_one_step}
 
@@ -41,8 +38,7 @@ pub backup_le : (t : CellTable) (vectors : ℕ → ℕ → ℤ) (a s : ℕ) (cho
 backup_le t vectors a s choice known =
     let best : total_below (λ z. expected_value t a s z (vectors (choice z))) t.observations ≤ℤ total_below (λ z. greatest_below (λ b. expected_value t a s z (vectors b)) t.actions) t.observations =
     sum_below_le _ _ t.observations (λ z zl. greatest_le (λ b. expected_value t a s z (vectors b)) t.actions (choice z) (known z zl)) in
-    let later = mul_le t.discount _ _ best in
-    rw (backup_parts t (λ e z. vectors (choice z) e) a s) (omega (arith, linear, later))
+    rw (backup_parts t (λ e z. vectors (choice z) e) a s) (omega (arith, linear, mul_le t.discount _ _ best))
 
 pub best_choice : (t : CellTable) (vectors : ℕ → ℕ → ℤ) (a s : ℕ) → a < t.actions → (choice : ℕ → ℕ) × ((z : ℕ) → choice z < t.actions) × (backup t (λ e z. vectors (choice z) e) a s ≡ informed_backup t vectors a s)
 best_choice t vectors a s al =
@@ -82,8 +78,7 @@ two_actions a choice [] = a
 two_actions a choice (z ∷ observations) = choice z
 
 two_actions_known : (t : CellTable) (a : ℕ) (choice : ℕ → ℕ) → a < t.actions → ((z : ℕ) → choice z < t.actions) → (history : History) → as_policy (two_actions a choice) history < t.actions
-two_actions_known t a choice al known [] = al
-two_actions_known t a choice al known (p ∷ history) = known p.1
+two_actions_known t a choice h1 h2 history = grind arith
 
 pub informed_only_then : (t : CellTable) (vectors : ℕ → ℕ → ℤ) → BoundEveryObservationPolicy t vectors → AreInformed t vectors
 informed_only_then t vectors bound a s al sl =
@@ -105,13 +100,10 @@ to_one_vector t value informed a s al sl = choice_le t (λ b e. value e) a s (in
 term_le : (g w : ℕ) (r x y : ℤ) → x ≤ℤ y → (pos w *ℤ (r +ℤ pos g *ℤ x)) ≤ℤ (pos w *ℤ (r +ℤ pos g *ℤ y))
 term_le g w r x y h =
     let later : (pos g *ℤ x) ≤ℤ (pos g *ℤ y) = mul_le g x y h in
-    let more : (r +ℤ pos g *ℤ x) ≤ℤ (r +ℤ pos g *ℤ y) = omega (arith, linear) in
-    mul_le w _ _ more
+    mul_le w _ _ (omega (arith, linear))
 
 backup_mono : (t : CellTable) (x y : ℕ → ℕ → ℤ) (a s : ℕ) → ((e z : ℕ) → e < t.states → z < t.observations → x e z ≤ℤ y e z) → backup t x a s ≤ℤ backup t y a s
-backup_mono t x y a s h =
-    sum_below_le _ _ t.states (λ e el. sum_below_le _ _ t.observations (λ z zl.
-    term_le t.discount (step_weight t a s e z) (pos one *ℤ t.r a s e z) (x e z) (y e z) (h e z el zl)))
+backup_mono t x y a s h = grind (arith, sum_below_le, term_le)
 
 pub of_qmdp : (t : CellTable) (value : ℕ → ℤ) (vectors : ℕ → ℕ → ℤ) → AreQmdp t value vectors → AreInformed t vectors
 of_qmdp t value vectors are a s al sl =

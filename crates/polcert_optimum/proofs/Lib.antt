@@ -1,3 +1,4 @@
+mod Common
 pub mod Steps
 pub mod Bounded
 pub mod EveryPolicy

@@ -1,41 +1,28 @@
 -- What policies earn from a model's start in the long run, where the discount is below 1.
-use Rattle.std.proofs.Common.{◌≡◌, ℕ, ◌*◌, ◌^◌, ◌<◌, ◌≤◌, suc, ℤ, pos, neg_ℤ, ◌+ℤ◌, ◌*ℤ◌, ◌≤ℤ◌, Some, refl, sym, ap, ◌∙◌, subst, arith}
+use Rattle.std.proofs.Common.{◌≡◌, ℕ, ◌*◌, ◌^◌, ◌<◌, ◌≤◌, suc, ℤ, pos, neg_ℤ, ◌+ℤ◌, ◌*ℤ◌, ◌≤ℤ◌, Some, sym, ap, subst, arith}
 use Rattle.std.proofs.Math.Nat.{mul-le-mul_left}
-use Rattle.std.proofs.lemmas.Int.{by_lt_z}
-use Rattle.polcert_cells.specs.Meaning.{Meaning, HasLimitedNumbers, states_of, actions_of, start_weight, start_total}
-use Rattle.polcert_cells.specs.Tables.{CellTable, IsProper, IsWithinLimits, table_of}
-use Rattle.polcert_policy.specs.Graphs.{PolicyGraph, IsProperGraph, nodes, action_of}
-use Rattle.polcert_policy.specs.Vectors.{PolicyVectors, value_of}
-use Rattle.polcert_check.specs.Horizon.{Controller, Fits, controller_of, one, total_below, IsRunInRange}
+use Rattle.polcert_optimum.proofs.Common.{Meaning, HasLimitedNumbers, states_of, start_weight, start_total, CellTable, IsProper, IsWithinLimits, table_of, action_of, PolicyVectors, value_of, Controller, controller_of, one, IsRunInRange, History, end_state, Policy, ObservationPolicy, as_policy, IsPolicyOf, step_scale, expected_rewards, AreInformed, graph_policy, EarnsAsItsPolicy, sum_over_start, start_scale, AreAtMostFromStart, IsBoundedFromStart, BoundsEveryPolicyFromStart, BoundEveryObservationPolicyFromStart}
+use Rattle.polcert_cells.specs.Meaning.{actions_of}
+use Rattle.polcert_policy.specs.Graphs.{PolicyGraph, IsProperGraph, nodes}
+use Rattle.polcert_check.specs.Horizon.{Fits}
 use Rattle.polcert_check.specs.Shortfall.{Passes}
 use Rattle.polcert_check.specs.StartWorth.{IsStartWorth}
 use Rattle.polcert_check.proofs.Certificates.{controller_is}
-use Rattle.polcert_check.proofs.Sums.Ring.{linear, *ℤ-+ℤ, *ℤ_assoc, *ℤ_left_comm, mul_le, ≤ℤ_trans, ≤ℤ_from_eq, neg_product}
-use Rattle.polcert_check.proofs.Sums.SumLaws.{sum_below_le, sum_below_scale}
+use Rattle.polcert_check.proofs.Sums.Ring.{linear, below_cancel, *ℤ-+ℤ, *ℤ_assoc, mul_le, ≤ℤ_trans, ≤ℤ_from_eq, neg_product}
+use Rattle.polcert_check.proofs.Sums.SumLaws.{sum_below_le}
 use Rattle.polcert_check.proofs.Horizons.EveryHorizon.{promised}
+use Rattle.polcert_check.proofs.Horizons.StartSums.{mean_le}
+use Rattle.polcert_check.proofs.Mirrors.Interval.{some_row, some_bound}
 use Rattle.polcert_check.proofs.Horizons.Kept.{LacksNone-from_Passes}
-use Rattle.polcert_optimum.specs.Policy.{History, end_state, Policy, ObservationPolicy, as_policy, IsPolicyOf, step_scale, expected_rewards}
-use Rattle.polcert_optimum.specs.Informed.{AreInformed}
-use Rattle.polcert_optimum.specs.GraphPolicy.{graph_policy, EarnsAsItsPolicy}
-use Rattle.polcert_optimum.specs.Start.{sum_over_start, start_scale, AreAtMostFromStart, IsBoundedFromStart, BoundsEveryPolicyFromStart, BoundEveryObservationPolicyFromStart}
 use Rattle.polcert_optimum.specs.Optimum.{start_rewards, EarnsAtLeast, EarnsAtMost, EncloseOptimum}
 use Rattle.polcert_optimum.proofs.Bounded.{end_state_in_range}
 use Rattle.polcert_optimum.proofs.EveryGraph.{every_graph}
 use Rattle.polcert_optimum.proofs.GraphPolicies.{earns_as_policy}
 use Rattle.polcert_optimum.proofs.Start.{sum_more, informed_from_start}
-use Rattle.polcert_optimum.proofs.Vanishing.{vanishes, some_row, some_bound, at_least, at_most}
+use Rattle.polcert_optimum.proofs.Vanishing.{vanishes, at_least, at_most}
 
 pub table_within : (m : Meaning) → HasLimitedNumbers m → IsWithinLimits (table_of m)
-table_within m limits = record {
-  states = limits.states;
-  actions = limits.actions;
-  observations = limits.observations;
-  pairs = limits.pairs;
-  discount = limits.discount;
-  t_scale = refl;
-  o_scale = refl;
-  r = limits.r;
-}
+table_within m limits = grind arith
 
 -- ---- the remainder
 -- the total of the start times what is left of the discount, for a tolerance of 1 / d and values within b
@@ -46,25 +33,20 @@ upper_algebra : (d a b scale : ℕ) (rewards bound : ℤ) → (rewards +ℤ pos 
 upper_algebra d a b scale rewards bound h less =
     let negated : pos a *ℤ neg_ℤ (pos b) ≡ neg_ℤ (pos (a * b)) = neg_product (pos a) (pos b) in
     let below : rewards ≤ℤ (bound +ℤ pos (a * b)) = omega (arith, linear, h, negated) in
-    let scaled : (pos d *ℤ rewards) ≤ℤ (pos d *ℤ (bound +ℤ pos (a * b))) = mul_le d _ _ below in
-    let apart : pos d *ℤ (bound +ℤ pos (a * b)) ≡ pos d *ℤ bound +ℤ pos (d * (a * b)) = *ℤ-+ℤ (pos d) bound (pos (a * b)) in
-    omega (arith, linear)
+    omega (arith, linear, *ℤ-+ℤ (pos d) bound (pos (a * b)), mul_le d _ _ below)
 
 lower_algebra : (d a b scale : ℕ) (rewards bound : ℤ) → bound ≤ℤ (rewards +ℤ pos (a * b)) → d * (a * b) ≤ scale → (pos d *ℤ bound) ≤ℤ (pos d *ℤ rewards +ℤ pos scale)
 lower_algebra d a b scale rewards bound h less =
-    let scaled : (pos d *ℤ bound) ≤ℤ (pos d *ℤ (rewards +ℤ pos (a * b))) = mul_le d _ _ h in
-    let apart : pos d *ℤ (rewards +ℤ pos (a * b)) ≡ pos d *ℤ rewards +ℤ pos (d * (a * b)) = *ℤ-+ℤ (pos d) rewards (pos (a * b)) in
-    omega (arith, linear)
+    omega (arith, linear, *ℤ-+ℤ (pos d) rewards (pos (a * b)), mul_le d _ _ h)
 
 -- ---- at most what the bound is worth
 at_most_if_bounded : (m : Meaning) (policy : Policy) (end : ℕ → History → ℤ) (b : ℕ) (most : ℤ) → m.preamble.discount < one → ((s : ℕ) (history : History) → s < states_of m → IsRunInRange (table_of m) history → neg_ℤ (pos b) ≤ℤ end s history)
     → ((k : ℕ) → IsBoundedFromStart m end (λ s. policy) k most) → EarnsAtMost m policy most
 at_most_if_bounded m policy end b most less least bounds d some =
-    let t : CellTable = table_of m in
     let g : ℕ = m.preamble.discount in (
       suc (g * (d * b)),
       (λ k late.
-          let q : ℕ = step_scale t ^ k in
+          let q : ℕ = step_scale (table_of m) ^ k in
           let a : ℕ = start_total m * (g ^ k * q) in
           let small : d * (a * b) ≤ start_scale m k = remainder (start_total m) d b (g ^ k) q (one ^ k) (vanishes g one (d * b) k less late) in
           ≤ℤ_trans _ _ _
@@ -94,15 +76,9 @@ every_policy_earns_at_most m value most less bound policy of =
 mean_ge : (m : Meaning) → HasLimitedNumbers m → (x y b : ℕ) (value rewards : ℕ → ℤ) (worth : ℤ) → (pos (start_total m) *ℤ worth) ≤ℤ sum_over_start m value
     → ((s : ℕ) → s < states_of m → (pos x *ℤ value s) ≤ℤ (rewards s +ℤ pos y *ℤ pos b)) → (pos (start_total m * x) *ℤ worth) ≤ℤ (sum_over_start m rewards +ℤ pos (start_total m * y * b))
 mean_ge m limits x y b value rewards worth mean each =
-    let total : ℕ = start_total m in
-    let first : pos (total * x) *ℤ worth ≡ pos x *ℤ (pos total *ℤ worth) = *ℤ_assoc (pos total) (pos x) worth ∙ *ℤ_left_comm (pos total) (pos x) worth in
-    let more : (pos x *ℤ (pos total *ℤ worth)) ≤ℤ (pos x *ℤ sum_over_start m value) = mul_le x _ _ mean in
-    let inside : pos x *ℤ sum_over_start m value ≡ total_below (λ s. pos x *ℤ (pos (start_weight m s) *ℤ value s)) (states_of m) = sym (sum_below_scale (pos x) (λ s. pos (start_weight m s) *ℤ value s) (states_of m)) in
-    let terms : total_below (λ s. pos x *ℤ (pos (start_weight m s) *ℤ value s)) (states_of m) ≤ℤ sum_over_start m (λ s. rewards s +ℤ pos (y * b)) =
-    sum_below_le _ _ (states_of m) (λ s sl. ≤ℤ_trans _ _ _ (≤ℤ_from_eq _ _ (*ℤ_left_comm (pos x) (pos (start_weight m s)) (value s))) (mul_le (start_weight m s) _ _ (each s sl))) in
-    let signed_from : total * (y * b) ≡ total * y * b = omega arith in
-    let apart : sum_over_start m (λ s. rewards s +ℤ pos (y * b)) ≡ sum_over_start m rewards +ℤ pos (total * y * b) = sum_more m limits rewards (pos (y * b)) ∙ ap (λ (n : ℕ). sum_over_start m rewards +ℤ pos n) signed_from in
-    ≤ℤ_trans _ _ _ (≤ℤ_from_eq _ _ first) (≤ℤ_trans _ _ _ more (≤ℤ_trans _ _ _ (≤ℤ_from_eq _ _ inside) (≤ℤ_trans _ _ _ terms (≤ℤ_from_eq _ _ apart))))
+    let apart : sum_over_start m (λ s. rewards s +ℤ pos (y * b)) ≡ sum_over_start m rewards +ℤ pos (start_total m * (y * b)) = sum_more m limits rewards (pos (y * b)) in
+    let same : start_total m * (y * b) ≡ start_total m * y * b = omega arith in
+    rw (sym same, sym apart) (mean_le (start_weight m) (start_total m) x (states_of m) worth value (λ s. rewards s +ℤ pos (y * b)) mean each)
 
 module _ (m : Meaning) (limits : HasLimitedNumbers m) (g : PolicyGraph) (v : PolicyVectors) (proper : IsProper (table_of m)) (known : IsProperGraph g) (fits : Fits (table_of m) g v)
     (passes : Passes (controller_of (table_of m) g v)) (less : m.preamble.discount < one) (n : ℕ) (nl : n < nodes g) (worth : ℤ) (is_worth : IsStartWorth m v n worth) where
@@ -114,8 +90,7 @@ module _ (m : Meaning) (limits : HasLimitedNumbers m) (g : PolicyGraph) (v : Pol
 
   pub earns : EarnsAsItsPolicy c n
   earns =
-      let some : 0 < actions_of m = omega (arith, limits.actions.0) in
-      earns_as_policy c (controller_is (table_of m) g v fits proper known) some (LacksNone-from_Passes c passes) n nl
+      earns_as_policy c (controller_is (table_of m) g v fits proper known) (omega (arith, limits.actions.0)) (LacksNone-from_Passes c passes) n nl
 
   pub earns_at_least : EarnsAtLeast m (as_policy node_policy) worth
   earns_at_least d some =
@@ -140,14 +115,7 @@ module _ (m : Meaning) (limits : HasLimitedNumbers m) (g : PolicyGraph) (v : Pol
 
   -- ---- the optimum between both
   cancel : (t : ℕ) (x y : ℤ) → 0 < t → (pos t *ℤ x) ≤ℤ (pos t *ℤ y) → x ≤ℤ y
-  cancel t x y some h =
-      by_lt_z y x
-      (λ lt.
-      let next : (y +ℤ pos 1) ≤ℤ x = omega (arith, linear) in
-      let scaled : (pos t *ℤ (y +ℤ pos 1)) ≤ℤ (pos t *ℤ x) = mul_le t _ _ next in
-      let apart : pos t *ℤ (y +ℤ pos 1) ≡ pos t *ℤ y +ℤ pos (t * 1) = *ℤ-+ℤ (pos t) y (pos 1) in
-      absurd (omega (arith, linear)))
-      (λ le. le)
+  cancel t x y some h = omega (arith, linear, below_cancel t x (y +ℤ pos 1) (omega (arith, linear, *ℤ-+ℤ (pos t) y (pos 1))))
 
   pub encloses : (vectors : ℕ → ℕ → ℤ) → AreInformed (table_of m) vectors → (most : ℤ) → AreAtMostFromStart m vectors most → EncloseOptimum m worth most
   encloses vectors informed most mean =

@@ -1,16 +1,10 @@
 -- The bounds from a model's start.
-use Rattle.std.proofs.Common.{◌≡◌, ℕ, ◌*◌, ◌^◌, ◌<◌, ℤ, pos, ◌+ℤ◌, ◌*ℤ◌, ◌≤ℤ◌, [], sym, ap, ◌∙◌}
-use Rattle.std.proofs.Math.IntN.{*ℤ_comm}
-use Rattle.polcert_cells.specs.Meaning.{Meaning, HasLimitedNumbers, states_of, start_weight, start_total}
-use Rattle.polcert_cells.specs.Tables.{CellTable, IsProper, table_of}
-use Rattle.polcert_check.specs.Horizon.{one, total_below}
+use Rattle.std.proofs.Common.{◌≡◌, ℕ, ◌*◌, ◌<◌, ℤ, pos, ◌+ℤ◌, ◌*ℤ◌, ◌≤ℤ◌, [], sym, ap, ◌∙◌, arith}
+use Rattle.polcert_optimum.proofs.Common.{*ℤ_comm, Meaning, HasLimitedNumbers, states_of, start_weight, start_total, IsProper, table_of, total_below, History, end_state, Policy, as_policy, IsPolicyOf, expected_total, DominatesBackup, IsBounded, AreInformed, sum_over_start, start_scale, AreAtMostFromStart, IsBoundedFromStart, BoundsEveryPolicyFromStart, BoundEveryObservationPolicyFromStart}
 use Rattle.polcert_check.proofs.Sums.Ring.{products, mul_le, ≤ℤ_trans, ≤ℤ_from_eq, *ℤ_assoc, *ℤ_left_comm}
 use Rattle.polcert_check.proofs.Sums.SumLaws.{sum_below_same, sum_below_le, sum_below_scale, sum_below_add}
 use Rattle.polcert_check.proofs.Horizons.StartSums.{start_row}
-use Rattle.polcert_optimum.specs.Policy.{History, end_state, Policy, as_policy, IsPolicyOf, step_scale, expected_total}
-use Rattle.polcert_optimum.specs.Bound.{DominatesBackup, IsBounded}
-use Rattle.polcert_optimum.specs.Informed.{AreInformed}
-use Rattle.polcert_optimum.specs.Start.{sum_over_start, start_scale, IsAtMostFromStart, AreAtMostFromStart, IsBoundedFromStart, BoundsEveryPolicyFromStart, BoundEveryObservationPolicyFromStart, BoundEveryObservationMixtureFromStart}
+use Rattle.polcert_optimum.specs.Start.{IsAtMostFromStart, BoundEveryObservationMixtureFromStart}
 use Rattle.polcert_optimum.proofs.EveryPolicy.{every_policy, mixture_le}
 use Rattle.polcert_optimum.proofs.Informed.{every_observation_policy}
 
@@ -21,9 +15,8 @@ sum_le m x worth value most each mean =
     let terms : sum_over_start m worth ≤ℤ total_below (λ s. pos x *ℤ (pos (start_weight m s) *ℤ value s)) (states_of m) =
     sum_below_le _ _ (states_of m) (λ s sl. ≤ℤ_trans _ _ _ (mul_le (start_weight m s) _ _ (each s sl)) (≤ℤ_from_eq _ _ (*ℤ_left_comm (pos (start_weight m s)) (pos x) (value s)))) in
     let scaled : total_below (λ s. pos x *ℤ (pos (start_weight m s) *ℤ value s)) (states_of m) ≡ pos x *ℤ sum_over_start m value = sum_below_scale (pos x) (λ s. pos (start_weight m s) *ℤ value s) (states_of m) in
-    let more : (pos x *ℤ sum_over_start m value) ≤ℤ (pos x *ℤ (pos total *ℤ most)) = mul_le x _ _ mean in
     let signed_from : pos x *ℤ (pos total *ℤ most) ≡ pos (total * x) *ℤ most = *ℤ_left_comm (pos x) (pos total) most ∙ sym (*ℤ_assoc (pos total) (pos x) most) in
-    ≤ℤ_trans _ _ _ terms (≤ℤ_trans _ _ _ (≤ℤ_from_eq _ _ scaled) (≤ℤ_trans _ _ _ more (≤ℤ_from_eq _ _ signed_from)))
+    ≤ℤ_trans _ _ _ terms (≤ℤ_trans _ _ _ (≤ℤ_from_eq _ _ scaled) (≤ℤ_trans _ _ _ (mul_le x _ _ mean) (≤ℤ_from_eq _ _ signed_from)))
 
 -- one number more at each state is that number in the mean
 pub sum_more : (m : Meaning) → HasLimitedNumbers m → (f : ℕ → ℤ) (x : ℤ) → sum_over_start m (λ s. f s +ℤ x) ≡ sum_over_start m f +ℤ pos (start_total m) *ℤ x
@@ -35,19 +28,13 @@ sum_more m limits f x =
 rewards_le : (m : Meaning) → HasLimitedNumbers m → (x y : ℕ) (low : ℤ) (rewards value : ℕ → ℤ) (most : ℤ) → ((s : ℕ) → s < states_of m → (rewards s +ℤ pos y *ℤ low) ≤ℤ (pos x *ℤ value s)) → IsAtMostFromStart m value most
     → (sum_over_start m rewards +ℤ pos (start_total m * y) *ℤ low) ≤ℤ (pos (start_total m * x) *ℤ most)
 rewards_le m limits x y low rewards value most each mean =
-    let all : sum_over_start m (λ s. rewards s +ℤ pos y *ℤ low) ≤ℤ (pos (start_total m * x) *ℤ most) = sum_le m x (λ s. rewards s +ℤ pos y *ℤ low) value most each mean in
     let apart : sum_over_start m rewards +ℤ pos (start_total m * y) *ℤ low ≡ sum_over_start m (λ s. rewards s +ℤ pos y *ℤ low) = ap (λ (z : ℤ). sum_over_start m rewards +ℤ z) (*ℤ_assoc (pos (start_total m)) (pos y) low) ∙ sym (sum_more m limits rewards (pos y *ℤ low)) in
-    ≤ℤ_trans _ _ _ (≤ℤ_from_eq _ _ apart) all
+    ≤ℤ_trans _ _ _ (≤ℤ_from_eq _ _ apart) (sum_le m x (λ s. rewards s +ℤ pos y *ℤ low) value most each mean)
 
 -- a bound from each state is one from the start
 from_each : (m : Meaning) → HasLimitedNumbers m → (end : ℕ → History → ℤ) (value : ℕ → ℤ) (policy : ℕ → Policy) (k : ℕ) (most : ℤ) → ((s : ℕ) → s < states_of m → IsBounded (table_of m) (end s) (value s) (policy s) k s) → IsAtMostFromStart m value most
     → IsBoundedFromStart m end policy k most
-from_each m limits end value policy k most each mean =
-    let t : CellTable = table_of m in
-    record {
-      total = sum_le m (step_scale t ^ k * one ^ k) _ value most (λ s sl. (each s sl).total) mean;
-      rewards = λ low least. rewards_le m limits (step_scale t ^ k * one ^ k) (t.discount ^ k * step_scale t ^ k) low _ value most (λ s sl. (each s sl).rewards low (λ history f. least s history sl f)) mean;
-    }
+from_each m limits end value policy k most each mean = grind (arith, sum_le, rewards_le)
 
 pub from_start : (m : Meaning) → HasLimitedNumbers m → (value : ℕ → ℤ) → IsProper (table_of m) → DominatesBackup (table_of m) value → (most : ℤ) → IsAtMostFromStart m value most → BoundsEveryPolicyFromStart m value most
 from_start m limits value p above most mean policy of k =

@@ -1,11 +1,7 @@
 -- The amount by which an informed backup is above a vector, and how large it is.
-use Rattle.std.proofs.Common.{◌≡◌, ℕ, ◌*◌, ◌<◌, ◌≤◌, ℤ, pos, neg_ℤ, ◌+ℤ◌, ◌-ℤ◌, ◌*ℤ◌, unsigned_abs, refl, sym, ap, subst, ◌∙◌, arith}
-use Rattle.std.proofs.lemmas.Int.{ints}
-use Rattle.polcert_text.specs.Numbers.{largest}
-use Rattle.polcert_cells.specs.Tables.{CellTable, IsProper, IsWithinLimits}
-use Rattle.polcert_check.specs.Horizon.{one}
+use Rattle.std.proofs.Common.{◌≡◌, ℕ, ◌*◌, ◌<◌, ◌≤◌, ℤ, pos, neg_ℤ, ◌+ℤ◌, ◌-ℤ◌, ◌*ℤ◌, unsigned_abs, sym, subst, ◌∙◌, arith}
+use Rattle.polcert_optimum.proofs.Common.{ints, largest, CellTable, IsProper, IsWithinLimits, one, largest_amount, step_scale, expected_reward, excess, most_excess, best_value}
 use Rattle.polcert_check.specs.Steps.Factored as factored
-use Rattle.polcert_check.specs.Shortfall.{largest_amount}
 use Rattle.polcert_check.proofs.Sums.Ring.{linear, *ℤ_assoc}
 use Rattle.polcert_check.proofs.Sums.SumLaws.{sum_below_same, sum_below_scale}
 use Rattle.polcert_check.proofs.Sums.Scales.{discount_le}
@@ -13,10 +9,6 @@ use Rattle.polcert_check.proofs.Sums.Bounds.{abs-*ℤ_le}
 use Rattle.polcert_check.proofs.Walking.Earning.{expected_reward_le}
 use Rattle.polcert_check.proofs.Lowerings.Shorts.{part_le}
 use Rattle.polcert_check.proofs.Sums.Figures.{most_amount}
-use Rattle.polcert_optimum.specs.Policy.{step_scale}
-use Rattle.polcert_optimum.specs.Informed.{expected_reward, excess}
-use Rattle.polcert_optimum.specs.InformedCheck.{most_excess}
-use Rattle.polcert_optimum.specs.Steps.Sums.{best_value}
 use Rattle.polcert_optimum.proofs.Checking.Best.{taking, best_value_le}
 
 -- the expected reward, summed over the end states first
@@ -32,11 +24,7 @@ signed_from x y = omega (arith, linear)
 -- a shortfall, turned, is the excess
 pub excess_is : (t : CellTable) (vectors : ℕ → ℕ → ℤ) (a s : ℕ) (short v reward best : ℤ) → short ≡ pos (t.t_scale * t.o_scale * one) *ℤ v -ℤ (pos one *ℤ reward +ℤ pos t.discount *ℤ best)
     → v ≡ vectors a s → reward ≡ factored.expected_reward t a s → best ≡ best_value t vectors a s → neg_ℤ short ≡ excess t vectors a s
-excess_is t vectors a s short v reward best is ve re be =
-    let earned : reward ≡ expected_reward t a s = re ∙ reward_is t a s in
-    let same : short ≡ pos (t.t_scale * t.o_scale * one) *ℤ vectors a s -ℤ (pos one *ℤ expected_reward t a s +ℤ pos t.discount *ℤ best_value t vectors a s) = is ∙ rw (ve, earned, be) refl in
-    ap neg_ℤ same
-    ∙ signed_from (pos (t.t_scale * t.o_scale * one) *ℤ vectors a s) (pos one *ℤ expected_reward t a s +ℤ pos t.discount *ℤ best_value t vectors a s)
+excess_is t vectors a s short v reward best is ve re be = grind (arith, reward_is, signed_from)
 
 sum_le : (x y z : ℤ) (b : ℕ) → unsigned_abs x ≤ b → unsigned_abs y ≤ b → unsigned_abs z ≤ b → unsigned_abs ((x +ℤ y) -ℤ z) ≤ 3 * b
 sum_le x y z b xl yl zl = omega (arith, ints)

@@ -1,41 +1,24 @@
 -- The greatest expected value after each observation: one vector more at a time, and how large their sums are.
-use Rattle.std.proofs.Common.{◌≡◌, ℕ, zero, suc, ◌+◌, ◌*◌, ◌<◌, ◌≤◌, ℤ, pos, ◌*ℤ◌, ◌≤ℤ◌, unsigned_abs, None, List, refl, sym, ap, ◌∙◌, subst, arith}
-use Rattle.std.specs.Int.{int_max}
+use Rattle.std.proofs.Common.{◌≡◌, ℕ, ◌+◌, ◌*◌, ◌<◌, ◌≤◌, ℤ, pos, ◌*ℤ◌, ◌≤ℤ◌, unsigned_abs, None, List, sym, ◌∙◌, subst, arith}
+use Rattle.polcert_optimum.proofs.Common.{int_max, largest, CellTable, IsProper, IsWithinLimits, Controller, total_below, most_sum, IsController, step_weight, greatest_below, expected_value, sum_of, AreValuesUntil, AreGreatestValues, AreSmallSums, best_value}
 use Rattle.std.proofs.Math.Nat.{le_trans}
-use Rattle.polcert_text.specs.Numbers.{largest}
 use Rattle.polcert_cells.specs.Meaning.{sum_below}
-use Rattle.polcert_cells.specs.Tables.{CellTable, IsProper, IsWithinLimits}
-use Rattle.polcert_check.specs.Horizon.{Controller, total_below}
-use Rattle.polcert_check.specs.Steps.Ranges.{most_sum, IsController}
 use Rattle.polcert_check.proofs.Sums.Ring.{linear}
 use Rattle.polcert_check.proofs.Sums.SumLaws.{sum_below_same}
 use Rattle.polcert_check.proofs.Sums.RowTotals.{sum_of_pos}
 use Rattle.polcert_check.proofs.Sums.Scales.{ahead_room}
 use Rattle.polcert_check.proofs.Sums.Bounds.{abs-*ℤ_le, abs_sum_le, abs_part_le}
 use Rattle.polcert_check.proofs.Horizons.Kept.{step_weights_sum}
-use Rattle.polcert_optimum.specs.Policy.{step_weight}
-use Rattle.polcert_optimum.specs.Informed.{greatest_below, expected_value}
-use Rattle.polcert_optimum.specs.Steps.Sums.{sum_of, AreValuesUntil, AreGreatestValues, AreSmallSums, best_value}
 use Rattle.polcert_optimum.proofs.Greatest.{greatest_reached}
 use Rattle.polcert_optimum.proofs.Informed.{swapped}
 
 -- ---- one vector more
-greatest_more : (f : ℕ → ℤ) (n : ℕ) → 1 ≤ n → greatest_below f (n + 1) ≡ int_max (greatest_below f n) (f n)
-greatest_more f zero some = absurd (omega arith)
-greatest_more f (suc n) some = let e : suc n + 1 ≡ suc (suc n) = omega arith in rw e refl
-
 module _ (t : CellTable) (vectors : ℕ → ℕ → ℤ) (a s : ℕ) where
   pub first_vector : (xs : List ℤ) → AreValuesUntil t (vectors 0) a s t.states xs → AreGreatestValues t vectors a s 1 xs
   first_vector xs is = record { each = λ z zl. is.each z zl }
 
   pub vector_more : (xs ys new : List ℤ) (n : ℕ) → 1 ≤ n → AreGreatestValues t vectors a s n xs → AreValuesUntil t (vectors n) a s t.states ys → ((z : ℕ) → z < t.observations → sum_of new z ≡ int_max (sum_of xs z) (sum_of ys z)) → AreGreatestValues t vectors a s (n + 1) new
-  vector_more xs ys new n some before more is = record {
-    each = λ z zl.
-        is z zl
-        ∙ ap (λ (x : ℤ). int_max x (sum_of ys z)) (before.each z zl)
-        ∙ ap (λ (y : ℤ). int_max (greatest_below (λ b. expected_value t a s z (vectors b)) n) y) (more.each z zl)
-        ∙ sym (greatest_more (λ b. expected_value t a s z (vectors b)) n some);
-  }
+  vector_more xs ys new n some before more is = grind arith
 
 -- ---- the weight with which an observation is received
 abbrev pub observation_weight : CellTable → ℕ → ℕ → ℕ → ℕ
@@ -46,10 +29,7 @@ abbrev pub taking : CellTable → ℕ → Controller
 taking t a = record { cells = t; nodes = 1; action = λ n. a; next = λ n z. None; value = λ n u. pos 0 }
 
 taking_is : (t : CellTable) → IsProper t → (a : ℕ) → a < t.actions → IsController (taking t a)
-taking_is t p a al = record {
-  cells = p;
-  closed = record { actions_in_range = λ n nl. al; next_in_range = λ n z m nl zl is. absurd (cc) };
-}
+taking_is t p a al = grind arith
 
 pub weights_all : (t : CellTable) → IsProper t → (a s : ℕ) → a < t.actions → s < t.states → total_below (λ z. pos (observation_weight t a s z)) t.observations ≡ pos (t.t_scale * t.o_scale)
 weights_all t p a s al sl =
@@ -75,9 +55,7 @@ module _ (t : CellTable) (p : IsProper t) (limits : IsWithinLimits t) (vectors :
   part_small k kl = abs_part_le (λ z. greatest_below (λ b. expected_value t a s z (vectors b)) t.actions) (observation_weight t a s) largest k t.observations (t.t_scale * t.o_scale) (weights_all t p a s al sl) kl (λ z zl. greatest_small z)
 
   pub best_value_le : unsigned_abs (best_value t vectors a s) ≤ t.t_scale * (t.o_scale * largest)
-  best_value_le =
-      let le : unsigned_abs (best_value t vectors a s) ≤ t.t_scale * t.o_scale * largest = part_small t.observations (omega arith) in
-      omega (arith, le)
+  best_value_le = grind (arith, part_small)
 
   pub small_sums : (xs : List ℤ) → AreGreatestValues t vectors a s t.actions xs → AreSmallSums t.observations xs
   small_sums xs are = record {

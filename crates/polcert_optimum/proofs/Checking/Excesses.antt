@@ -1,22 +1,10 @@
 -- The greatest excess of the actions and states so far: one more at a time.
-use Rattle.std.proofs.Common.{◌≡◌, ℕ, ◌+◌, ◌<◌, ◌≤◌, ◌⊎◌, inl, inr, ⊎_elim, ℤ, pos, ◌≤ℤ◌, unsigned_abs, refl, sym, ◌∙◌, subst, arith}
-use Rattle.std.specs.Prelude.{int_lt}
-use Rattle.std.specs.Int.{int_max}
-use Rattle.std.proofs.lemmas.Bool.{cases_cond, cases_lt}
-use Rattle.std.proofs.lemmas.Int.{ints}
-use Rattle.polcert_cells.specs.Tables.{CellTable}
-use Rattle.polcert_text.specs.Numbers.{largest}
-use Rattle.polcert_cells.specs.Tables.{IsProper, IsWithinLimits}
+use Rattle.std.proofs.Common.{◌≡◌, ℕ, ◌+◌, ◌<◌, ◌≤◌, ◌⊎◌, inl, inr, ⊎_elim, ℤ, pos, ◌≤ℤ◌, unsigned_abs, sym, subst, arith}
+use Rattle.polcert_optimum.proofs.Common.{int_max, cases_lt, ints, CellTable, IsProper, IsWithinLimits, largest, excess, most_excess, IsGreatestExcess}
 use Rattle.polcert_check.specs.Verdict.{IsBefore}
 use Rattle.polcert_check.proofs.Sums.Ring.{≤ℤ_trans}
-use Rattle.polcert_optimum.specs.Informed.{excess}
-use Rattle.polcert_optimum.specs.InformedCheck.{most_excess}
-use Rattle.polcert_optimum.specs.Steps.Sums.{IsGreatestExcess}
 use Rattle.polcert_optimum.proofs.Checking.Amounts.{excess_le}
 use Rattle.polcert_optimum.proofs.Greatest.{max_left, max_right}
-
-max_is_one : (x y : ℤ) → (int_max x y ≡ x) ⊎ (int_max x y ≡ y)
-max_is_one x y = cases_cond (int_lt y x) x y _ refl
 
 module _ (t : CellTable) (vectors : ℕ → ℕ → ℤ) where
   module _ (a s : ℕ) (x : ℤ) (before : IsGreatestExcess t vectors a s x) where
@@ -33,21 +21,11 @@ module _ (t : CellTable) (vectors : ℕ → ℕ → ℤ) where
         earlier
 
     pub one_more : (y : ℤ) → y ≡ excess t vectors a s → a < t.actions → s < t.states → IsGreatestExcess t vectors a (s + 1) (int_max x y)
-    one_more y is al sl = record {
-      some = ≤ℤ_trans _ _ _ before.some (max_left x y);
-      bounds = above y is;
-      is_reached = ⊎_elim
-          (λ (e : int_max x y ≡ x). ⊎_elim (λ (o : x ≡ pos 0). inl (e ∙ o)) (λ (r : (b : ℕ) × (u : ℕ) × (b < t.actions) × (u < t.states) × (x ≡ excess t vectors b u)). inr (r.0, r.1, r.2, r.3, e ∙ r.4)) before.is_reached)
-          (λ (e : int_max x y ≡ y). inr (a, s, al, sl, e ∙ is))
-          (max_is_one x y);
-    }
+    one_more y is al sl = grind (arith, above)
 
 -- how large it is
 pub greatest_small : (t : CellTable) → IsProper t → IsWithinLimits t → (vectors : ℕ → ℕ → ℤ) → ((b e : ℕ) → b < t.actions → e < t.states → unsigned_abs (vectors b e) ≤ largest) → (a s : ℕ) (x : ℤ) → IsGreatestExcess t vectors a s x → unsigned_abs x ≤ most_excess t
-greatest_small t p limits vectors small a s x is =
-    ⊎_elim (λ (e : x ≡ pos 0). subst (λ (y : ℤ). unsigned_abs y ≤ most_excess t) (sym e) (omega arith))
-    (λ (r : (b : ℕ) × (u : ℕ) × (b < t.actions) × (u < t.states) × (x ≡ excess t vectors b u)). subst (λ (y : ℤ). unsigned_abs y ≤ most_excess t) (sym r.4) (excess_le t p limits vectors small r.0 r.1 r.2 r.3))
-    is.is_reached
+greatest_small t p limits vectors small a s x is = grind (arith, excess_le)
 
 pub pos_abs : (x : ℤ) → pos 0 ≤ℤ x → x ≡ pos (unsigned_abs x)
 pos_abs x some = omega (arith, ints)

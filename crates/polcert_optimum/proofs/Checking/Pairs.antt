@@ -1,13 +1,9 @@
 -- What is known of vectors that fit, and of the actions and states that are checked so far.
-use Rattle.std.proofs.Common.{◌≡◌, ℕ, ◌+◌, ◌*◌, ◌<◌, ◌≤◌, ⊎_elim, ℤ, pos, ◌≤ℤ◌, ◌<ℤ◌, unsigned_abs, sym, subst, arith}
-use Rattle.std.proofs.lemmas.Bool.{cases_lt}
-use Rattle.std.proofs.lemmas.Int.{ints}
-use Rattle.polcert_text.specs.Numbers.{largest}
-use Rattle.polcert_cells.specs.Tables.{CellTable}
-use Rattle.polcert_policy.specs.Vectors.{PolicyVectors, AreProperVectors, CanShift, value_of}
+use Rattle.std.proofs.Common.{◌≡◌, ℕ, ◌+◌, ◌*◌, ◌<◌, ◌≤◌, ⊎_elim, ℤ, pos, ◌<ℤ◌, unsigned_abs, subst, arith}
+use Rattle.polcert_optimum.proofs.Common.{cases_lt, ints, largest, CellTable, PolicyVectors, value_of, excess, IsInformed, BoundEveryObservationPolicy}
+use Rattle.polcert_policy.specs.Vectors.{AreProperVectors, CanShift}
 use Rattle.polcert_check.proofs.Certificates.{value_is_in_range, value_is_within}
 use Rattle.polcert_check.proofs.Sums.Ring.{linear}
-use Rattle.polcert_optimum.specs.Informed.{excess, IsInformed, BoundEveryObservationPolicy}
 use Rattle.polcert_optimum.specs.InformedCheck.{FitActions, AreInformedBefore}
 use Rattle.polcert_optimum.proofs.Informed.{informed_only_then}
 
@@ -24,14 +20,12 @@ module _ (t : CellTable) (vectors : ℕ → ℕ → ℤ) where
   action_more a before here b u bl ul = ⊎_elim (λ (l : b < a). before b u l ul) (λ (h : a ≤ b). let e : a ≡ b = omega arith in subst (λ (x : ℕ). IsInformed t vectors x u) e (here u ul)) (cases_lt b a)
 
   pub all_before : (a s : ℕ) → ((b u : ℕ) → b < a → u < t.states → IsInformed t vectors b u) → ((u : ℕ) → u < s → IsInformed t vectors a u) → AreInformedBefore t vectors a s
-  all_before a s actions states b u bl ul before =
-      ⊎_elim (λ (l : b < a). actions b u l ul) (λ (h : (b ≡ a) × (u < s)). subst (λ (x : ℕ). IsInformed t vectors x u) (sym h.0) (states u h.1)) before
+  all_before a s actions states b u bl ul before = grind arith
 
   -- vectors that are exceeded somewhere don't bound every policy
   pub no_bound : (a s : ℕ) → a < t.actions → s < t.states → pos 0 <ℤ excess t vectors a s → BoundEveryObservationPolicy t vectors → ⊥
   no_bound a s al sl above bound =
-      let informed : excess t vectors a s ≤ℤ pos 0 = informed_only_then t vectors bound a s al sl in
-      omega (arith, linear)
+      omega (arith, linear, informed_only_then t vectors bound a s al sl)
 
 -- a constant that leaves all values in range is small
 pub constant_small : (v : PolicyVectors) → AreProperVectors v → (by : ℕ) → CanShift v (pos by) → by ≤ 2 * largest

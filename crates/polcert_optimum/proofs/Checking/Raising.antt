@@ -1,17 +1,10 @@
 -- What raising every vector by one constant does to the excesses, and the least constant.
-use Rattle.std.proofs.Common.{◌≡◌, ℕ, zero, suc, ◌+◌, ◌-◌, ◌*◌, ◌<◌, ◌≤◌, inl, ⊎_elim, ℤ, pos, ◌+ℤ◌, ◌*ℤ◌, ◌≤ℤ◌, ◌<ℤ◌, refl, sym, ap, ◌∙◌, subst, arith}
-use Rattle.std.specs.Int.{int_max}
-use Rattle.std.proofs.Math.IntN.{*ℤ_comm}
-use Rattle.std.proofs.lemmas.Int.{ints, clamps}
-use Rattle.polcert_cells.specs.Tables.{CellTable, IsProper}
-use Rattle.polcert_check.specs.Horizon.{one, total_below}
-use Rattle.polcert_check.proofs.Sums.Ring.{linear, *ℤ-+ℤ, wider}
+use Rattle.std.proofs.Common.{◌≡◌, ℕ, zero, suc, ◌+◌, ◌-◌, ◌*◌, ◌<◌, ◌≤◌, ⊎_elim, ℤ, pos, ◌+ℤ◌, ◌*ℤ◌, ◌≤ℤ◌, ◌<ℤ◌, refl, sym, ap, ◌∙◌, subst, arith}
+use Rattle.polcert_optimum.proofs.Common.{int_max, *ℤ_comm, ints, clamps, CellTable, IsProper, one, total_below, step_weight, step_scale, greatest_below, expected_value, excess, AreInformed, best_value, IsGreatestExcess}
+use Rattle.polcert_check.proofs.Sums.Ring.{linear, *ℤ-+ℤ}
 use Rattle.polcert_check.proofs.Sums.SumLaws.{sum_below_same, sum_below_scale, sum_below_add}
 use Rattle.polcert_check.proofs.Sums.RowTotals.{sum_of_pos}
-use Rattle.polcert_optimum.specs.Policy.{step_weight, step_scale}
-use Rattle.polcert_optimum.specs.Informed.{greatest_below, expected_value, excess, AreInformed}
 use Rattle.polcert_optimum.specs.InformedRaise.{raised_by, IsLeastRaise}
-use Rattle.polcert_optimum.specs.Steps.Sums.{best_value, IsGreatestExcess}
 use Rattle.polcert_optimum.proofs.Checking.Best.{observation_weight, weights_all}
 
 -- ---- the same number added to every vector
@@ -56,29 +49,22 @@ module _ (t : CellTable) (p : IsProper t) (vectors : ℕ → ℕ → ℤ) (by a 
   excess_raised gl =
       let later : pos t.discount *ℤ best_value t (raised_by vectors by) a s ≡ pos t.discount *ℤ best_value t vectors a s +ℤ pos (t.discount * (by * step_scale t)) =
       ap (λ (x : ℤ). pos t.discount *ℤ x) best_raised ∙ *ℤ-+ℤ (pos t.discount) (best_value t vectors a s) (pos (by * step_scale t)) in
-      let own : pos (step_scale t * one) *ℤ (vectors a s +ℤ pos by) ≡ pos (step_scale t * one) *ℤ vectors a s +ℤ pos (step_scale t * one * by) = *ℤ-+ℤ (pos (step_scale t * one)) (vectors a s) (pos by) in
-      let split : pos (step_scale t * one * by) ≡ pos (step_scale t * ((one - t.discount) * by)) +ℤ pos (t.discount * (by * step_scale t)) = ap pos (raised_nat (step_scale t) one t.discount by gl) in
-      omega (arith, linear)
+      omega (arith, linear, ap pos (raised_nat (step_scale t) one t.discount by gl), *ℤ-+ℤ (pos (step_scale t * one)) (vectors a s) (pos by))
 
 -- ---- which constants serve
 module _ (t : CellTable) (p : IsProper t) (gl : t.discount ≤ one) (vectors : ℕ → ℕ → ℤ) where
   pub informed_raised : (by : ℕ) → ((a s : ℕ) → a < t.actions → s < t.states → excess t vectors a s ≤ℤ pos (step_scale t * ((one - t.discount) * by))) → AreInformed t (raised_by vectors by)
   informed_raised by most a s al sl =
-      let is : excess t vectors a s ≡ excess t (raised_by vectors by) a s +ℤ pos (step_scale t * ((one - t.discount) * by)) = excess_raised t p vectors by a s al sl gl in
-      let le : excess t vectors a s ≤ℤ pos (step_scale t * ((one - t.discount) * by)) = most a s al sl in
-      omega (arith, linear)
+      omega (arith, linear, most a s al sl, excess_raised t p vectors by a s al sl gl)
 
   pub from_informed_raised : (by : ℕ) → AreInformed t (raised_by vectors by) → (a s : ℕ) → a < t.actions → s < t.states → excess t vectors a s ≤ℤ pos (step_scale t * ((one - t.discount) * by))
   from_informed_raised by informed a s al sl =
-      let is : excess t vectors a s ≡ excess t (raised_by vectors by) a s +ℤ pos (step_scale t * ((one - t.discount) * by)) = excess_raised t p vectors by a s al sl gl in
-      let le : excess t (raised_by vectors by) a s ≤ℤ pos 0 = informed a s al sl in
-      omega (arith, linear)
+      omega (arith, linear, informed a s al sl, excess_raised t p vectors by a s al sl gl)
 
   -- the least constant, if the discount is below 1: the greatest excess over the factor, rounded up
   module _ (x : ℤ) (greatest : ℕ) (w : IsGreatestExcess t vectors t.actions 0 x) (xe : x ≡ pos greatest) where
     enough_passes : (by : ℕ) → greatest ≤ step_scale t * (one - t.discount) * by → AreInformed t (raised_by vectors by)
-    enough_passes by h =
-        informed_raised by (λ a s al sl. wider (excess t vectors a s) greatest (step_scale t * ((one - t.discount) * by)) (subst (λ (y : ℤ). excess t vectors a s ≤ℤ y) xe (w.bounds a s al sl (inl al))) (omega (arith, h)))
+    enough_passes by h = grind (arith, linear, informed_raised)
 
     less_fails : (d : ℕ) → step_scale t * (one - t.discount) * d < greatest → AreInformed t (raised_by vectors d) → ⊥
     less_fails d h informed =
@@ -98,19 +84,14 @@ module _ (t : CellTable) (p : IsProper t) (gl : t.discount ≤ one) (vectors : �
   -- at a discount of 1 nothing helps
   pub no_constant : t.discount ≡ one → (a s : ℕ) → a < t.actions → s < t.states → pos 0 <ℤ excess t vectors a s → (by : ℕ) → AreInformed t (raised_by vectors by) → ⊥
   no_constant is_one a s al sl h by informed =
-      let le : excess t vectors a s ≤ℤ pos (step_scale t * ((one - t.discount) * by)) = from_informed_raised by informed a s al sl in
       let none : one - t.discount ≡ 0 = omega (arith, is_one) in
-      let nothing : step_scale t * ((one - t.discount) * by) ≡ 0 = rw none (omega arith) in
-      positive_not (excess t vectors a s) (step_scale t * ((one - t.discount) * by)) nothing le h
+      positive_not (excess t vectors a s) (step_scale t * ((one - t.discount) * by)) (rw none (omega arith)) (from_informed_raised by informed a s al sl) h
     where
       positive_not : (x : ℤ) (y : ℕ) → y ≡ 0 → x ≤ℤ pos y → pos 0 <ℤ x → ⊥
       positive_not x y e l h = omega (arith, linear)
 
   pub least_zero : AreInformed t vectors → IsLeastRaise t vectors 0
-  least_zero informed = (
-    informed_raised 0 (λ a s al sl. let le : excess t vectors a s ≤ℤ pos 0 = informed a s al sl in wider (excess t vectors a s) 0 (step_scale t * ((one - t.discount) * 0)) le (omega arith)),
-    (λ d dl. absurd (omega arith)),
-  )
+  least_zero informed = grind (arith, informed_raised)
 
 -- in the numbers of the code
 pub candidate_least : (t : CellTable) → IsProper t → (vectors : ℕ → ℕ → ℤ) (ts os d greatest by : ℕ) (x : ℤ) → t.discount ≤ one → IsGreatestExcess t vectors t.actions 0 x → x ≡ pos greatest → ts ≡ t.t_scale → os ≡ t.o_scale → d ≡ t.discount

@@ -1,5 +1,5 @@
 use Rattle.std.proofs.Common.{◌<◌, arith}
-use Rattle.polcert_check.specs.Horizon.{controller_of}
+use Rattle.polcert_optimum.proofs.Common.{controller_of}
 use Rattle.polcert_check.proofs.Certificates.{controller_is}
 use Rattle.polcert_check.proofs.Horizons.Kept.{LacksNone-from_Passes}
 use Rattle.polcert_optimum.proofs.GraphPolicies.{earns_as_policy}

@@ -1,6 +1,7 @@
 use Rattle.std.proofs.Common.{ℕ, ◌<◌, pos}
 use Rattle.std.specs.Prelude.{◌+ℤ◌}
-use Rattle.polcert_policy.specs.Vectors.{IsInRange, value_of}
+use Rattle.polcert_optimum.proofs.Common.{value_of}
+use Rattle.polcert_policy.specs.Vectors.{IsInRange}
 use Rattle.polcert_optimum.proofs.raise.can_raise.Given as goal
 
 abbrev pub invariant-loop-n : goal.invariant-loop-n

@@ -1,9 +1,6 @@
 use Rattle.std.proofs.Common.{rules, arith, ◌+◌, ◌∙◌, ℤ, to_z, of_z, sym, subst}
-use mir.Syntax.{w128}
+use Rattle.polcert_optimum.proofs.Common.{w128, CellTable, value_of, IsGreatestExcess}
 use Rattle.std.proofs.lemmas.Int.{to_z-of_z}
-use Rattle.polcert_cells.specs.Tables.{CellTable}
-use Rattle.polcert_policy.specs.Vectors.{value_of}
-use Rattle.polcert_optimum.specs.Steps.Sums.{IsGreatestExcess}
 use Rattle.polcert_optimum.proofs.Checking.Excesses.{one_more}
 use Rattle.polcert_optimum.proofs.raise.greatest_excess.Goals as goal
 

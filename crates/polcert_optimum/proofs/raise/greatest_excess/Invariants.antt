@@ -1,5 +1,4 @@
-use Rattle.polcert_policy.specs.Vectors.{value_of}
-use Rattle.polcert_optimum.specs.Steps.Sums.{IsGreatestExcess}
+use Rattle.polcert_optimum.proofs.Common.{value_of, IsGreatestExcess}
 use Rattle.polcert_optimum.proofs.raise.greatest_excess.Given as goal
 
 abbrev pub invariant-loop-action : goal.invariant-loop-action

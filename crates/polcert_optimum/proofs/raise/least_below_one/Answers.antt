@@ -1,15 +1,10 @@
 use Rattle.std.proofs.Common.{rules, arith, ◌≡◌, ◌∙◌, ℕ, ◌*◌, ◌≤◌, pos, unsigned_abs, sym, ap, subst}
-use mir.Syntax.{w128}
+use Rattle.polcert_optimum.proofs.Common.{w128, CellTable, IsProper, IsWithinLimits, value_of, one, most_scales, most_sum, most_excess}
 use Rattle.std.proofs.Math.Nat.{le_trans}
 use Rattle.std.proofs.lemmas.Int.{to_z-of_z}
-use Rattle.polcert_cells.specs.Tables.{CellTable, IsProper, IsWithinLimits}
-use Rattle.polcert_policy.specs.Vectors.{value_of}
-use Rattle.polcert_check.specs.Horizon.{one}
-use Rattle.polcert_check.specs.Steps.Ranges.{most_scales, most_sum}
 use Rattle.polcert_check.proofs.Sums.Scales.{scales, scales_le, discount_le}
 use Rattle.polcert_check.proofs.Lowerings.Least.{factor_room, factor_positive}
 use Rattle.polcert_check.proofs.Lowerings.Shorts.{most_short_le}
-use Rattle.polcert_optimum.specs.InformedCheck.{most_excess}
 use Rattle.polcert_optimum.proofs.Checking.Best.{taking}
 use Rattle.polcert_optimum.proofs.Checking.Pairs.{vectors_small}
 use Rattle.polcert_optimum.proofs.Checking.Excesses.{greatest_small, pos_abs}
@@ -17,19 +12,11 @@ use Rattle.polcert_optimum.proofs.Checking.Raising.{candidate_least}
 use Rattle.polcert_optimum.proofs.raise.least_below_one.Goals as goal
 
 pub overflow_mul-scale : goal.overflow_mul-scale
-overflow_mul-scale g c =
-    let t : CellTable = g.C.Cells.table c.args.cells.now in
-    let limits : IsWithinLimits t = g.met.C.Cells.is_within_limits c.args.cells.now in
-    let q : c.t_scale.result * c.o_scale.result ≤ most_scales = rw (c.t_scale.ensures, c.o_scale.ensures) (scales_le t limits) in
-    record { fits = (factor_room c.t_scale.result c.o_scale.result 0 0 q (omega arith)).0 }
+overflow_mul-scale g c = grind (arith, scales_le, factor_room)
 
 pub ceil_quotient-requires-clause-some : goal.ceil_quotient-requires-clause-some
 unfolding one
-ceil_quotient-requires-clause-some g c =
-    let t : CellTable = g.C.Cells.table c.args.cells.now in
-    let limits : IsWithinLimits t = g.met.C.Cells.is_within_limits c.args.cells.now in
-    let positive = scales t limits in
-    factor_positive c.t_scale.result c.o_scale.result c.discount.result (rw c.t_scale.ensures positive.0) (rw c.o_scale.ensures positive.1) (omega (arith, c.discount.ensures, c.requires.discount))
+ceil_quotient-requires-clause-some g c = grind (arith, scales, factor_positive)
 
 pub ceil_quotient-requires-clause-room : goal.ceil_quotient-requires-clause-room
 ceil_quotient-requires-clause-room g c =

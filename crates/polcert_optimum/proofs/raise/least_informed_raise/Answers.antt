@@ -1,6 +1,6 @@
 use Rattle.std.proofs.Common.{arith, ◌*◌, ◌≤◌, pos, FitsSigned, w64, refl}
-use Rattle.std.proofs.lemmas.Int.{ints, to_z_pos}
-use Rattle.polcert_text.specs.Numbers.{largest}
+use Rattle.polcert_optimum.proofs.Common.{ints, largest}
+use Rattle.std.proofs.lemmas.Int.{to_z_pos}
 use Rattle.polcert_optimum.proofs.Checking.Pairs.{constant_small}
 use Rattle.polcert_optimum.proofs.raise.least_informed_raise.Goals as goal
 

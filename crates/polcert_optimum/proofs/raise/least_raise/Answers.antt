@@ -1,9 +1,6 @@
 use Rattle.std.proofs.Common.{rules, arith, ℤ, pos, ◌<ℤ◌, subst}
-use mir.Syntax.{w128}
+use Rattle.polcert_optimum.proofs.Common.{w128, CellTable, IsWithinLimits, value_of, one}
 use Rattle.std.proofs.lemmas.Int.{to_z-of_z}
-use Rattle.polcert_cells.specs.Tables.{CellTable, IsWithinLimits}
-use Rattle.polcert_policy.specs.Vectors.{value_of}
-use Rattle.polcert_check.specs.Horizon.{one}
 use Rattle.polcert_check.proofs.Sums.Scales.{discount_le}
 use Rattle.polcert_check.proofs.Lowerings.Least.{at_one}
 use Rattle.polcert_optimum.proofs.Checking.Raising.{least_zero, no_constant}

@@ -1,27 +1,15 @@
-use Rattle.std.proofs.Common.{rules, arith, ◌∙◌, ℤ, pos, ◌≤ℤ◌, ◌<ℤ◌, refl, subst}
-use mir.Syntax.{w128}
+use Rattle.std.proofs.Common.{rules, arith, ◌∙◌, ℤ, pos, ◌<ℤ◌, refl, subst}
+use Rattle.polcert_optimum.proofs.Common.{w128, CellTable, IsProper, value_of, AreInformed}
 use Rattle.std.proofs.lemmas.Int.{to_z-of_z}
-use Rattle.polcert_cells.specs.Tables.{CellTable, IsProper}
-use Rattle.polcert_policy.specs.Vectors.{value_of}
-use Rattle.polcert_optimum.specs.Informed.{IsInformed, AreInformed}
 use Rattle.polcert_optimum.proofs.Informed.{every_observation_policy}
 use Rattle.polcert_optimum.proofs.Checking.Pairs.{state_more, action_more, all_before, no_bound}
 use Rattle.polcert_optimum.proofs.verdict.check_informed.Goals as goal
 
 pub loop-state-preserved : goal.loop-state-preserved
-loop-state-preserved g c =
-    let t : CellTable = g.C.Cells.table c.args.cells.now in
-    let same = to_z-of_z w128 c.excess-amount.result (search rules) ∙ c.excess-amount.ensures.value in
-    let here : IsInformed t (value_of c.args.vectors.now) c.loop-action.action c.loop-state.state = subst (λ (x : ℤ). x ≤ℤ pos 0) same (c.if-is_above.ensures.not_above refl) in
-    record {
-      actions = c.loop-state.invariant.actions;
-      states = state_more t (value_of c.args.vectors.now) c.loop-action.action c.loop-state.state c.loop-state.invariant.states here;
-    }
+loop-state-preserved g c = grind (arith, to_z-of_z, state_more)
 
 pub loop-action-preserved : goal.loop-action-preserved
-loop-action-preserved g c =
-    let t : CellTable = g.C.Cells.table c.args.cells.now in
-    action_more t (value_of c.args.vectors.now) c.loop-action.action c.loop-state.invariant.actions (λ u ul. c.loop-state.invariant.states u (omega (arith, ul, c.loop-state-test.false, c.states-state-end.ensures)))
+loop-action-preserved g c = grind (arith, action_more)
 
 pub returns-then-is_above : goal.returns-then-is_above
 returns-then-is_above g c =

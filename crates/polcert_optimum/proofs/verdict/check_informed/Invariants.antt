@@ -1,6 +1,5 @@
 use Rattle.std.proofs.Common.{ℕ, ◌<◌}
-use Rattle.polcert_policy.specs.Vectors.{value_of}
-use Rattle.polcert_optimum.specs.Informed.{IsInformed}
+use Rattle.polcert_optimum.proofs.Common.{value_of, IsInformed}
 use Rattle.polcert_optimum.proofs.verdict.check_informed.Given as goal
 
 abbrev pub invariant-loop-action : goal.invariant-loop-action

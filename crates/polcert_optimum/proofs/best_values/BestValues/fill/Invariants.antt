@@ -1,5 +1,4 @@
-use Rattle.polcert_policy.specs.Vectors.{value_of}
-use Rattle.polcert_optimum.specs.Steps.Sums.{AreGreatestValues}
+use Rattle.polcert_optimum.proofs.Common.{value_of, AreGreatestValues}
 use Rattle.polcert_optimum.proofs.best_values.BestValues.fill.Given as goal
 
 -- the greatest values of the vectors so far

@@ -1,10 +1,6 @@
-use Rattle.std.proofs.Common.{rules, ◌∙◌, ℕ, ap, subst, sym}
-use mir.Syntax.{w128}
+use Rattle.std.proofs.Common.{ℕ, subst, sym, arith}
 use Rattle.std.proofs.lemmas.Int.{to_z-of_z}
-use Rattle.polcert_cells.specs.Tables.{CellTable, IsProper, IsWithinLimits}
-use Rattle.polcert_policy.specs.Vectors.{value_of}
-use Rattle.polcert_check.specs.Horizon.{total_below}
-use Rattle.polcert_optimum.specs.Steps.Sums.{sum_of, AreSmallSums}
+use Rattle.polcert_optimum.proofs.Common.{CellTable, IsProper, IsWithinLimits, value_of, AreSmallSums}
 use Rattle.polcert_optimum.proofs.Checking.Best.{small_sums, best_is}
 use Rattle.polcert_optimum.proofs.Checking.Pairs.{vectors_small}
 use Rattle.polcert_optimum.proofs.best_values.BestValues.sum.Goals as goal
@@ -18,9 +14,4 @@ total-requires-clause-small g c =
     (small_sums t p limits (value_of c.args.pair.now.vectors.now) (vectors_small t c.args.pair.now.vectors.now c.args.pair.now.fit c.args.pair.now.proper) c.args.pair.now.action c.args.pair.now.state c.args.pair.now.action_within c.args.pair.now.state_within c.fill.new.self.greatest.sums c.fill.ensures)
 
 pub returns : goal.returns
-returns g c =
-    let t : CellTable = g.C.Cells.table c.args.pair.now.cells.now in
-    to_z-of_z w128 c.total.result (search rules)
-    ∙ c.total.ensures
-    ∙ ap (λ (n : ℕ). total_below (sum_of c.fill.new.self.greatest.sums) n) c.observations.ensures
-    ∙ best_is t (value_of c.args.pair.now.vectors.now) c.args.pair.now.action c.args.pair.now.state c.fill.new.self.greatest.sums c.fill.ensures
+returns g c = grind (arith, to_z-of_z, best_is)

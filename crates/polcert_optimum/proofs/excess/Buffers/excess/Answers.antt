@@ -1,26 +1,16 @@
 use Rattle.std.proofs.Common.{rules, arith, ◌≡◌, ℕ, ℤ, ◌<◌, ◌≤◌, ◌^◌, neg_ℤ, unsigned_abs, to_z, of_z, w64, sym, ap, subst, ◌∙◌}
-use mir.Syntax.{w128}
+use Rattle.polcert_optimum.proofs.Common.{w128, CellTable, IsProper, IsWithinLimits, value_of, largest_amount, excess, most_excess}
 use Rattle.std.proofs.lemmas.Int.{to_z-of_z}
-use Rattle.polcert_cells.specs.Tables.{CellTable, IsProper, IsWithinLimits}
-use Rattle.polcert_policy.specs.Vectors.{value_of}
-use Rattle.polcert_check.specs.Shortfall.{largest_amount}
 use Rattle.polcert_check.proofs.Sums.Bounds.{abs_neg}
 use Rattle.polcert_check.proofs.Sums.Figures.{amount_fits_128}
 use Rattle.polcert_check.proofs.Walking.Earning.{expected_reward_le}
-use Rattle.polcert_optimum.specs.Informed.{excess}
-use Rattle.polcert_optimum.specs.InformedCheck.{most_excess}
 use Rattle.polcert_optimum.proofs.Checking.Best.{best_value_le}
 use Rattle.polcert_optimum.proofs.Checking.Amounts.{excess_is, excess_le, most_excess_le}
 use Rattle.polcert_optimum.proofs.Checking.Pairs.{vectors_small}
 use Rattle.polcert_optimum.proofs.excess.Buffers.excess.Goals as goal
 
 pub shortfall-above-requires-clause-reward : goal.shortfall-above-requires-clause-reward
-shortfall-above-requires-clause-reward g c =
-    let t : CellTable = g.C.Cells.table c.args.pair.now.cells.now in
-    let p : IsProper t = g.met.C.Cells.is_proper c.args.pair.now.cells.now in
-    let limits : IsWithinLimits t = g.met.C.Cells.is_within_limits c.args.pair.now.cells.now in
-    let same = to_z-of_z w128 c.expected_reward-reward.result (search rules) ∙ c.expected_reward-reward.ensures in
-    rw same (expected_reward_le t p limits c.args.pair.now.action c.args.pair.now.state c.args.pair.now.action_within c.args.pair.now.state_within)
+shortfall-above-requires-clause-reward g c = grind (arith, to_z-of_z, expected_reward_le)
 
 pub shortfall-above-requires-clause-expected : goal.shortfall-above-requires-clause-expected
 shortfall-above-requires-clause-expected g c =

@@ -1,45 +1,18 @@
-use Rattle.std.proofs.Common.{rules, arith, ◌≡◌, ◌∙◌, ℕ, ◌*◌, ◌<◌, ◌≤◌, ℤ, unsigned_abs, to_z, of_z, w64, length, sym, subst}
-use mir.Syntax.{w128}
+use Rattle.std.proofs.Common.{rules, arith, ◌∙◌, ℕ, ◌*◌, ◌<◌, ℤ, to_z, of_z, w64, length}
+use Rattle.polcert_optimum.proofs.Common.{w128, reached, CellTable, IsProper, IsWithinLimits, value_of, sum_of}
 use Rattle.std.proofs.lemmas.Int.{to_z-of_z}
-use Rattle.polcert_text.specs.Numbers.{largest}
-use Rattle.polcert_cells.specs.BorrowedRows.{reached}
-use Rattle.polcert_cells.specs.Tables.{CellTable, IsProper, IsWithinLimits}
-use Rattle.polcert_policy.specs.Vectors.{value_of}
-use Rattle.polcert_check.specs.Steps.Ranges.{most_scales}
-use Rattle.polcert_optimum.specs.Steps.Sums.{sum_of}
 use Rattle.polcert_optimum.proofs.Checking.Adding.{weight_le, term_room, add_value, done_more, rest_more, all_done}
 use Rattle.polcert_optimum.proofs.Checking.Pairs.{vectors_small}
 use Rattle.polcert_optimum.proofs.observation_sums.ObservationSums.add_end.Goals as goal
 
 pub overflow_mul-step_weight : goal.overflow_mul-step_weight
-overflow_mul-step_weight g c =
-    let t : CellTable = g.C.Cells.table c.args.pair.now.cells.now in
-    let p : IsProper t = g.met.C.Cells.is_proper c.args.pair.now.cells.now in
-    let limits : IsWithinLimits t = g.met.C.Cells.is_within_limits c.args.pair.now.cells.now in
-    let next = c.in-Some.ensures.0 in
-    let q : c.args.weight * c.in-Some.observation.weight ≤ most_scales = weight_le t p limits c.args.pair.now.action c.args.pair.now.state c.args.pair.now.action_within c.args.pair.now.state_within c.args.end c.in-Some.observation.column c.args.weight c.in-Some.observation.weight c.requires.end next.1 c.requires.weight next.2 in
-    record { fits = omega (arith, q) }
+overflow_mul-step_weight g c = grind (arith, weight_le)
 
 pub weigh-part-requires-clause-weight : goal.weigh-part-requires-clause-weight
-weigh-part-requires-clause-weight g c =
-    let t : CellTable = g.C.Cells.table c.args.pair.now.cells.now in
-    let p : IsProper t = g.met.C.Cells.is_proper c.args.pair.now.cells.now in
-    let limits : IsWithinLimits t = g.met.C.Cells.is_within_limits c.args.pair.now.cells.now in
-    let next = c.in-Some.ensures.0 in
-    let q : c.args.weight * c.in-Some.observation.weight ≤ most_scales = weight_le t p limits c.args.pair.now.action c.args.pair.now.state c.args.pair.now.action_within c.args.pair.now.state_within c.args.end c.in-Some.observation.column c.args.weight c.in-Some.observation.weight c.requires.end next.1 c.requires.weight next.2 in
-    omega (arith, q)
+weigh-part-requires-clause-weight g c = grind (arith, weight_le)
 
 pub weigh-part-requires-clause-product : goal.weigh-part-requires-clause-product
-weigh-part-requires-clause-product g c =
-    let t : CellTable = g.C.Cells.table c.args.pair.now.cells.now in
-    let p : IsProper t = g.met.C.Cells.is_proper c.args.pair.now.cells.now in
-    let limits : IsWithinLimits t = g.met.C.Cells.is_within_limits c.args.pair.now.cells.now in
-    let next = c.in-Some.ensures.0 in
-    let q : c.args.weight * c.in-Some.observation.weight ≤ most_scales = weight_le t p limits c.args.pair.now.action c.args.pair.now.state c.args.pair.now.action_within c.args.pair.now.state_within c.args.end c.in-Some.observation.column c.args.weight c.in-Some.observation.weight c.requires.end next.1 c.requires.weight next.2 in
-    let small : unsigned_abs c.at-value.result ≤ largest = subst (λ (x : ℤ). unsigned_abs x ≤ largest) (sym c.at-value.ensures.value) (vectors_small t c.args.pair.now.vectors.now c.args.pair.now.fit c.args.pair.now.proper c.args.next c.args.end c.requires.next c.requires.end) in
-    let h : ℤ = to_z w64 (of_z w64 c.at-value.result) in
-    let is : to_z w128 (of_z w128 h) ≡ c.at-value.result = to_z-of_z w128 h (search rules) ∙ to_z-of_z w64 c.at-value.result (search rules) in
-    rw is (term_room (c.args.weight * c.in-Some.observation.weight) c.at-value.result q small)
+weigh-part-requires-clause-product g c = grind (arith, to_z, of_z, to_z-of_z, weight_le, term_room, vectors_small)
 
 pub overflow_add-sum : goal.overflow_add-sum
 overflow_add-sum g c =
@@ -69,6 +42,4 @@ loop-observation-preserved g c =
     })
 
 pub returns : goal.returns
-returns g c =
-    let t : CellTable = g.C.Cells.table c.args.pair.now.cells.now in
-    all_done t (value_of c.args.pair.now.vectors.now c.args.next) c.args.pair.now.action c.args.pair.now.state c.loop-observation.self.sums c.args.end (reached c.o_row-row.result c.loop-observation.at) c.in_default.ensures c.loop-observation.invariant.done c.loop-observation.invariant.rest
+returns g c = grind (arith, all_done)

@@ -1,7 +1,5 @@
 use Rattle.std.proofs.Common.{◌≡◌, ℕ, ◌+◌, ◌-◌, ◌<◌, ◌≤◌}
-use Rattle.polcert_cells.specs.BorrowedRows.{reached}
-use Rattle.polcert_policy.specs.Vectors.{value_of}
-use Rattle.polcert_optimum.specs.Steps.Sums.{sum_of, value_until}
+use Rattle.polcert_optimum.proofs.Common.{reached, value_of, sum_of, value_until}
 use Rattle.polcert_optimum.proofs.observation_sums.ObservationSums.add_end.Given as goal
 
 -- the end state is added to the sums of the observations that are reached

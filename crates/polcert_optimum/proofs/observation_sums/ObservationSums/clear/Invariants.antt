@@ -1,5 +1,5 @@
 use Rattle.std.proofs.Common.{◌≡◌, ℕ, ◌<◌, pos}
-use Rattle.polcert_optimum.specs.Steps.Sums.{sum_of}
+use Rattle.polcert_optimum.proofs.Common.{sum_of}
 use Rattle.polcert_optimum.proofs.observation_sums.ObservationSums.clear.Given as goal
 
 abbrev pub invariant-loop-z : goal.invariant-loop-z

@@ -1,7 +1,5 @@
 use Rattle.std.proofs.Common.{◌-◌, ◌≤◌}
-use Rattle.polcert_cells.specs.BorrowedRows.{reached}
-use Rattle.polcert_policy.specs.Vectors.{value_of}
-use Rattle.polcert_optimum.specs.Steps.Sums.{AreValuesUntil}
+use Rattle.polcert_optimum.proofs.Common.{reached, value_of, AreValuesUntil}
 use Rattle.polcert_optimum.proofs.observation_sums.ObservationSums.fill.Given as goal
 
 -- the end states that are reached are added

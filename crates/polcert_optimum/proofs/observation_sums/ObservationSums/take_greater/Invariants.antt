@@ -1,6 +1,5 @@
 use Rattle.std.proofs.Common.{◌≡◌, ℕ, ◌<◌, ◌≤◌}
-use Rattle.std.specs.Int.{int_max}
-use Rattle.polcert_optimum.specs.Steps.Sums.{sum_of}
+use Rattle.polcert_optimum.proofs.Common.{int_max, sum_of}
 use Rattle.polcert_optimum.proofs.observation_sums.ObservationSums.take_greater.Given as goal
 
 abbrev pub invariant-loop-z : goal.invariant-loop-z

@@ -1,5 +1,5 @@
 use Rattle.std.proofs.Common.{rules, to_z}
-use mir.Syntax.{w128}
+use Rattle.polcert_optimum.proofs.Common.{w128}
 use Rattle.polcert_optimum.proofs.Checking.Adding.{total_fits}
 use Rattle.polcert_optimum.proofs.observation_sums.ObservationSums.total.Goals as goal
 

@@ -1,6 +1,5 @@
 use Rattle.std.proofs.Common.{◌≡◌}
-use Rattle.polcert_check.specs.Horizon.{total_below}
-use Rattle.polcert_optimum.specs.Steps.Sums.{sum_of}
+use Rattle.polcert_optimum.proofs.Common.{total_below, sum_of}
 use Rattle.polcert_optimum.proofs.observation_sums.ObservationSums.total.Given as goal
 
 abbrev pub invariant-loop-z : goal.invariant-loop-z
