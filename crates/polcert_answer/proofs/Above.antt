@@ -1,23 +1,18 @@
 -- The side from above: what a yes promises, that certified texts are answered yes, the interval, and the laws of the side.
-use Rattle.std.proofs.Common.{◌≡◌, ℕ, ◌*◌, ◌<◌, ℤ, ◌≤ℤ◌, List, ◌⊎◌, inl, inr, Result, Ok, Err, IfErr, ap₂, refl, subst}
-use Rattle.polcert_text.specs.declared.number.Rounding.TheVariants.{Up}
-use Rattle.polcert_cells.specs.Meaning.{Meaning, IsSame, states_of}
-use Rattle.polcert_cells.specs.Preamble.{Preamble}
-use Rattle.polcert_cells.specs.Tables.{CellTable, IsWithinLimits, table_of}
+use Rattle.std.proofs.Common.{◌≡◌, ℕ, ◌<◌, ℤ, ◌≤ℤ◌, List, Result, Ok, IfErr, arith, rules}
+use Rattle.polcert_answer.proofs.Common.{Up, Meaning, IsSame, states_of, CellTable, table_of, PolicyGraph, IsProperGraph, nodes, PolicyVectors, IsRoundedVectorsText, Yes, controller_of, Write, Certificate, controller, IsAboveVerdictLine, HasGraph, IsAnswer, SideLaws}
 use Rattle.polcert_model.proofs.LimitLaws.{within_limits}
-use Rattle.polcert_policy.specs.Graphs.{PolicyGraph, IsProperGraph, nodes}
-use Rattle.polcert_policy.specs.Vectors.{PolicyVectors, value_of}
-use Rattle.polcert_policy.specs.VectorText.{IsVectorsText, IsRoundedVectorsText}
+use Rattle.polcert_policy.specs.Vectors.{value_of}
+use Rattle.polcert_policy.specs.VectorText.{IsVectorsText}
 use Rattle.polcert_check.specs.declared.above.AboveVerdict.{AboveVerdict}
-use Rattle.polcert_check.specs.declared.above.AboveVerdict.TheVariants.{Yes, Long, NoSuccessor}
+use Rattle.polcert_check.specs.declared.above.AboveVerdict.TheVariants.{Long, NoSuccessor}
 use Rattle.polcert_check.specs.declared.fault.RaiseFault.{RaiseFault}
 use Rattle.polcert_check.specs.declared.fault.RaiseFault.TheVariants as faults
 use Rattle.polcert_check.specs.declared.survey.Verdict.TheVariants as verdicts
-use Rattle.polcert_check.specs.Horizon.{Controller, controller_of, Fits, one, step_scale}
+use Rattle.polcert_check.specs.Horizon.{Fits, one, step_scale}
 use Rattle.polcert_check.specs.Above.{PromiseAbove}
-use Rattle.polcert_check.specs.Raise.{HasLeastRaise, IsNotRaised, RefusesToRaise}
+use Rattle.polcert_check.specs.Raise.{RefusesToRaise}
 use Rattle.polcert_check.specs.StartMost.{IsStartMost, StartPromiseAbove}
-use Rattle.polcert_check.specs.StartWorth.{IsCeilQuotient}
 use Rattle.polcert_check.proofs.Mirrors.FromAbove.{passes_if_promised_above}
 use Rattle.polcert_check.proofs.Mirrors.HorizonsAbove.{meets_horizon_above}
 use Rattle.polcert_check.proofs.Mirrors.Interval.{never_above}
@@ -27,33 +22,16 @@ use Rattle.polcert_check.proofs.Mirrors.StartMosts.{start_above}
 use Rattle.polcert_check.proofs.Agreements.SameModels as models_same
 use Rattle.polcert_check.proofs.Sums.Scales.{scales}
 use Rattle.polcert_check.proofs.Walking.Verdicts.{positive_product}
-use Rattle.polcert_answer.specs.declared.fault.RunFault.TheVariants.{Raise, Write}
-use Rattle.polcert_answer.specs.Headline.{Certificate, controller}
+use Rattle.polcert_answer.specs.declared.fault.RunFault.TheVariants.{Raise}
 use Rattle.polcert_answer.specs.HeadlineAbove.{CertificateAbove, IsCertifiedAbove, AreRewardsCertifiedAbove, BoundLowerVectors}
-use Rattle.polcert_answer.specs.Lines.{IsAboveVerdictLine}
-use Rattle.polcert_answer.specs.Answer.{HasGraph, IsAnswer, IsAnswerAbove}
+use Rattle.polcert_answer.specs.Answer.{IsAnswerAbove}
 use Rattle.polcert_answer.specs.Run.{HasStartPromiseAbove}
 use Rattle.polcert_answer.specs.Side.{IsWhyNotRaised, above}
-use Rattle.polcert_answer.specs.Steps.Laws.{SideLaws}
-use Rattle.polcert_answer.proofs.Denoted.{of_each, of_parts, same_states, same_graph, graph_is, fits_is, controller_proper}
+use Rattle.polcert_answer.proofs.Denoted.{of_each, of_parts, same_graph, graph_is, fits_is, controller_proper}
 use Rattle.polcert_answer.proofs.Passing.{read_in_raise}
 
 some_scale : {model graph vectors : List ℕ} (c : CertificateAbove model graph vectors) → 0 < step_scale (controller c)
-some_scale c =
-    let limits = within_limits c.is_model.lexemes c.meaning c.is_model.denotes in
-    let x = table_of c.meaning in
-    let of_table : IsWithinLimits x = record {
-      states = limits.states;
-      actions = limits.actions;
-      observations = limits.observations;
-      pairs = limits.pairs;
-      discount = limits.discount;
-      t_scale = refl;
-      o_scale = refl;
-      r = limits.r;
-    } in
-    let both = scales x of_table in
-    positive_product x.t_scale x.o_scale both.0 both.1
+some_scale c = grind (arith, scales (table_of c.meaning), positive_product, within_limits c.is_model.lexemes c.meaning c.is_model.denotes)
 
 -- ---- a yes from above certifies the texts, with the vectors at the end and for the rewards alone
 module _ (model graph vectors : List ℕ) (answer : IsAnswerAbove model graph vectors (Ok Yes)) where
@@ -88,20 +66,15 @@ pub interval : (model graph low high : List ℕ) → IsAnswer model graph low (O
     → (n s : ℕ) → n < nodes c.policy → s < states_of c.meaning → value_of c.values n s ≤ℤ value_of d.values n s
 interval model graph low high below above c d less n s nl sl =
     let both = same_graph c.meaning d.meaning c.policy d.policy (graph_is c) (graph_is d) in
-    let moved : IsVectorsText d.policy (states_of d.meaning) low c.values = subst (λ (h : PolicyGraph). IsVectorsText h (states_of d.meaning) low c.values) both.1
-    (subst (λ states. IsVectorsText c.policy states low c.values) (same_states both.0) c.are_vectors) in
+    let moved : IsVectorsText d.policy (states_of d.meaning) low c.values = grind arith in
     let lower : Certificate model graph low = record { meaning = d.meaning; policy = d.policy; values = c.values; is_model = d.is_model; is_graph = d.is_graph; are_vectors = moved } in
-    never_above (controller d) (controller_proper d) (above.1 d) (value_of c.values) (below.1 lower) (subst (λ (p : Preamble). p.discount < one) both.0.preamble less)
-    (some_scale d) n s (subst (λ (h : PolicyGraph). n < nodes h) both.1 nl) (subst (λ states. s < states) (same_states both.0) sl)
+    never_above (controller d) (controller_proper d) (above.1 d) (value_of c.values) (below.1 lower) (grind arith) (some_scale d) n s (grind arith) (grind arith)
 
 -- ---- the laws of the side
 module _ (m n : Meaning) (same : IsSame m n) (g : PolicyGraph) (v : PolicyVectors) where
   line_for : (verdict : AboveVerdict) (line : List ℕ) → IsAboveVerdictLine m (of_parts m g v) v verdict line → IsAboveVerdictLine n (of_parts n g v) v verdict line
   line_for Yes line (most, is_most, is) = (most, answers.same_start_most m n same v most is_most, is)
-  line_for (Long node s amount) line (by, quotient, is) =
-      let cells = models_same.same_cells m n same in
-      let scales : step_scale (of_parts m g v) ≡ step_scale (of_parts n g v) = ap₂ (λ t o. t * o) cells.t_scale cells.o_scale in
-      (by, subst (λ q. IsCeilQuotient amount (q * one) by) scales quotient, is)
+  line_for (Long node s amount) line (by, quotient, is) = grind (arith, models_same.same_cells, scales, of_parts)
   line_for (NoSuccessor node s z) line is = is
 
   reason_for : IsProperGraph g → Fits (table_of m) g v → (fault : RaiseFault) → IsWhyNotRaised (of_parts m g v) v fault → IsWhyNotRaised (of_parts n g v) v fault
@@ -115,12 +88,7 @@ yes_line_promised : (model graph vectors : List ℕ) → IsAnswerAbove model gra
 yes_line_promised model graph vectors answer m g v has are line (most, is_most, spelled) =
     let each : (c : CertificateAbove model graph vectors) → IsStartMost c.meaning c.values most =
     of_each m g v has are (λ o h w. IsStartMost o w most) (λ o same. answers.same_start_most m o same v most is_most) in
-    record {
-      most = most;
-      is_line = spelled;
-      is_most = each;
-      promise = λ c k n nl. yes_started model graph vectors answer c k n most nl (each c);
-    }
+    record { most = most; is_line = spelled; is_most = each; promise = λ c k n nl. yes_started model graph vectors answer c k n most nl (each c) }
 
 one_raise : (x y : RaiseFault) → Raise x ≡ Raise y → x ≡ y
 one_raise x y same = cc
@@ -129,32 +97,7 @@ no_write : (x : RaiseFault) → Raise x ≡ Write → ⊥
 no_write x same = cc
 
 pub above_laws : SideLaws above
-above_laws = record {
-  one_verdict = one_above_verdict;
-  meets = meets_horizon_above;
-  same = λ m n same g v proper fits. record {
-    verdict = answers.same_above_verdict (table_of m) (table_of n) g v (models_same.same_cells m n same) proper fits;
-    line = line_for m n same g v;
-    least = answers.same_least_raise (table_of m) (table_of n) g v (models_same.same_cells m n same) proper fits;
-    reason = reason_for m n same g v proper fits;
-  };
-  promised = λ model graph vectors answer.
-      (yes_certified model graph vectors answer, yes_rewarded model graph vectors answer, yes_bounds_lower model graph vectors answer);
-  started = yes_line_promised;
-  one_fault = one_raise;
-  no_write = no_write;
-  own_fault = λ x. (tt, tt);
-  write_fault = tt;
-  read_fault = read_in_raise;
-}
-
--- why vectors are not raised
-why_of : (c : Controller) (v : PolicyVectors) (fault : RaiseFault) → ((fault ≡ faults.Memory) × HasLeastRaise c v) ⊎ IsNotRaised c v fault → IsWhyNotRaised c v fault
-why_of c v faults.Memory (inl (is, least)) = least
-why_of c v faults.Memory (inr refused) = absurd refused
-why_of c v _ (inl (is, least)) = cc
-why_of c v _ (inr refused) = refused
+above_laws = search (rules, meets_horizon_above, one_above_verdict, answers.same_above_verdict, answers.same_least_raise, models_same.same_cells, read_in_raise, yes_certified, yes_rewarded, yes_bounds_lower, line_for, reason_for, yes_line_promised, one_raise, no_write)
 
 pub whys : {T : Type 0} (t : CellTable) (g : PolicyGraph) (v : PolicyVectors) (r : Result T RaiseFault) → IfErr r (RefusesToRaise t g v) → IfErr r (IsWhyNotRaised (controller_of t g v) v)
-whys t g v (Ok x) refused = tt
-whys t g v (Err fault) refused = why_of (controller_of t g v) v fault refused.refused
+whys t g v r h1 = grind arith

@@ -1,14 +1,8 @@
 -- What a run says of the texts of three sources, from what its calls say of what these denote, on either side.
-use Rattle.std.proofs.Common.{◌≡◌, ◌∙◌, ℕ, ℤ, List, Ok, ap}
-use Rattle.polcert_cells.specs.Meaning.{Meaning}
-use Rattle.polcert_policy.specs.Graphs.{PolicyGraph}
-use Rattle.polcert_policy.specs.Vectors.{PolicyVectors, shifted_by}
-use Rattle.polcert_policy.specs.FullForm.{vectors_text}
-use Rattle.polcert_answer.specs.Answer.{IsRoundedAnswer}
-use Rattle.polcert_answer.specs.Run.{HoldsOfTexts}
-use Rattle.polcert_answer.specs.Side.{Side, HasVerdict, HasHorizon, HasMoved, IsNotMovable}
-use Rattle.polcert_answer.specs.Steps.Reading.{AreDenoted, IsAnswerLine, AreWrittenMoved}
-use Rattle.polcert_answer.specs.Steps.Laws.{SideLaws}
+use Rattle.std.proofs.Common.{◌∙◌, ℕ, ℤ, List, Ok, ap, rules}
+use Rattle.polcert_answer.proofs.Common.{Meaning, PolicyGraph, PolicyVectors, vectors_text, IsRoundedAnswer, HoldsOfTexts, Side, AreDenoted, AreWrittenMoved, SideLaws}
+use Rattle.polcert_answer.specs.Side.{HasVerdict, HasHorizon, HasMoved, IsNotMovable}
+use Rattle.polcert_answer.specs.Steps.Reading.{IsAnswerLine}
 use Rattle.polcert_answer.proofs.Denoted.{of_parts, answer_is, meets_each, line_of_each, least_of_each, reason_of_each, text_of_each}
 use Rattle.polcert_answer.proofs.OfSources.{holds_of}
 use Rattle.polcert_answer.proofs.OneAnswer.{but_for_memory}
@@ -23,8 +17,7 @@ module _ {V F : Type 0} {side : Side V F} (laws : SideLaws side) {of_model of_gr
   answered x line is = answer_is laws m g v d.has_graph d.are_vectors x is.verdict_is
 
   pub has_verdict : (x : V) (line : List ℕ) → IsAnswerLine side m g v x line → Hold (HasVerdict side x line)
-  has_verdict x line is =
-      holds_of m g v d (HasVerdict side x line) (record { answer = answered x line is; is_line = line_of_each laws m g v d.has_graph d.are_vectors x line is.line_is })
+  has_verdict x line is = search (rules, line_of_each, answered)
 
   pub has_horizon : (x : V) (line : List ℕ) → IsAnswerLine side m g v x line → Hold (HasHorizon side x)
   has_horizon x line is = holds_of m g v d (HasHorizon side x) (meets_each laws m g v d.has_graph d.are_vectors x is.verdict_is)
@@ -41,10 +34,9 @@ module _ {V F : Type 0} {side : Side V F} (laws : SideLaws side) {of_model of_gr
   pub has_moved : (by : ℤ) (text : List ℕ) → AreWrittenMoved side m g v by text → Hold (HasMoved side by text)
   has_moved by text are =
       let passed : IsRoundedAnswer side.rounding side.Is d.first d.second text (Ok side.yes) = answer_is laws m g are.other d.has_graph are.reads_back side.yes are.moved.passes in
-      let spelled : text ≡ vectors_text g (shifted_by v (side.added by)) = are.text_is ∙ ap (λ w. vectors_text g w) are.moved.shifted in
       holds_of m g v d (HasMoved side by text) (record {
         least = least_of_each laws m g v d.has_graph d.are_vectors by are.moved.least;
-        is_text = λ c. spelled ∙ text_of_each m g v d.has_graph d.are_vectors (side.added by) c;
+        is_text = λ c. (are.text_is ∙ ap (λ w. vectors_text g w) are.moved.shifted) ∙ text_of_each m g v d.has_graph d.are_vectors (side.added by) c;
         answer = passed;
         only_yes = but_for_memory side.rounding side.Is laws.one_verdict d.first d.second text side.yes passed;
         promise = laws.promised d.first d.second text passed;

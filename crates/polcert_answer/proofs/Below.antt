@@ -1,31 +1,23 @@
 -- The side from below: what a yes promises, that certified texts are answered yes, and the laws of the side.
-use Rattle.std.proofs.Common.{◌≡◌, ℕ, ◌*◌, ◌<◌, ℤ, List, ◌⊎◌, inl, inr, Result, Ok, Err, IfErr, ap₂, refl, subst}
-use Rattle.polcert_text.specs.declared.number.Rounding.TheVariants.{Down}
-use Rattle.polcert_cells.specs.Meaning.{Meaning, IsSame, states_of}
-use Rattle.polcert_cells.specs.Tables.{CellTable, table_of}
-use Rattle.polcert_policy.specs.Graphs.{PolicyGraph, IsProperGraph, nodes}
-use Rattle.polcert_policy.specs.Vectors.{PolicyVectors}
-use Rattle.polcert_policy.specs.VectorText.{IsRoundedVectorsText}
+use Rattle.std.proofs.Common.{◌≡◌, ℕ, ◌<◌, ℤ, List, Result, Ok, IfErr, refl, subst, rules, arith}
+use Rattle.polcert_answer.proofs.Common.{Down, Meaning, IsSame, states_of, CellTable, table_of, PolicyGraph, IsProperGraph, nodes, PolicyVectors, IsRoundedVectorsText, controller_of, Write, Certificate, controller, IsVerdictLine, HasGraph, IsAnswer, SideLaws}
 use Rattle.polcert_check.specs.declared.fault.LowerFault.{LowerFault}
 use Rattle.polcert_check.specs.declared.fault.LowerFault.TheVariants as faults
 use Rattle.polcert_check.specs.declared.survey.Verdict.{Verdict}
 use Rattle.polcert_check.specs.declared.survey.Verdict.TheVariants.{Yes, Short, NoSuccessor}
-use Rattle.polcert_check.specs.Horizon.{Controller, controller_of, Fits, Promise, one, step_scale}
-use Rattle.polcert_check.specs.Lower.{HasLeastConstant, IsNotLowered, RefusesToLower}
-use Rattle.polcert_check.specs.StartWorth.{IsCeilQuotient, IsBestStart, IsStartWorth, StartPromise}
+use Rattle.polcert_check.specs.Horizon.{Fits, Promise}
+use Rattle.polcert_check.specs.Lower.{RefusesToLower}
+use Rattle.polcert_check.specs.StartWorth.{IsBestStart, IsStartWorth, StartPromise}
 use Rattle.polcert_check.proofs.Agreements.OneAnswer.{one_verdict}
 use Rattle.polcert_check.proofs.Agreements.SameAnswers as answers
 use Rattle.polcert_check.proofs.Agreements.SameModels as models_same
 use Rattle.polcert_check.proofs.Horizons.EveryHorizon.{passes_if_promised}
 use Rattle.polcert_check.proofs.Horizons.StartSums.{start_promise}
 use Rattle.polcert_check.proofs.Walking.Answering.{meets_horizon}
-use Rattle.polcert_answer.specs.declared.fault.RunFault.TheVariants.{Lower, Write}
-use Rattle.polcert_answer.specs.Headline.{Certificate, controller, IsCertified, AreRewardsCertified}
-use Rattle.polcert_answer.specs.Lines.{IsVerdictLine}
-use Rattle.polcert_answer.specs.Answer.{HasGraph, IsAnswer}
+use Rattle.polcert_answer.specs.declared.fault.RunFault.TheVariants.{Lower}
+use Rattle.polcert_answer.specs.Headline.{IsCertified, AreRewardsCertified}
 use Rattle.polcert_answer.specs.Run.{HasStartPromise}
 use Rattle.polcert_answer.specs.Side.{IsWhy, below}
-use Rattle.polcert_answer.specs.Steps.Laws.{SideLaws}
 use Rattle.polcert_answer.proofs.Denoted.{of_each, of_parts, controller_proper}
 use Rattle.polcert_answer.proofs.Passing.{read_in_lowering}
 
@@ -54,12 +46,8 @@ yes_if_certified model graph vectors certified = yes_if_one_step model graph vec
 -- ---- the laws of the side
 module _ (m n : Meaning) (same : IsSame m n) (g : PolicyGraph) (v : PolicyVectors) where
   line_for : (verdict : Verdict) (line : List ℕ) → IsVerdictLine m (of_parts m g v) v verdict line → IsVerdictLine n (of_parts n g v) v verdict line
-  line_for Yes line (node, worth, best, is_worth, is) =
-      (node, worth, models_same.same_best_start m n same v node best, models_same.same_worth m n same v node worth is_worth, is)
-  line_for (Short node s amount) line (by, quotient, is) =
-      let cells = models_same.same_cells m n same in
-      let scales : step_scale (of_parts m g v) ≡ step_scale (of_parts n g v) = ap₂ (λ t o. t * o) cells.t_scale cells.o_scale in
-      (by, subst (λ q. IsCeilQuotient amount (q * one) by) scales quotient, is)
+  line_for Yes line (node, worth, best, is_worth, is) = search (rules, models_same.same_best_start, models_same.same_worth)
+  line_for (Short node s amount) line (by, quotient, is) = grind (arith, models_same.same_cells, of_parts)
   line_for (NoSuccessor node s z) line is = is
 
   reason_for : IsProperGraph g → Fits (table_of m) g v → (fault : LowerFault) → IsWhy (of_parts m g v) v fault → IsWhy (of_parts n g v) v fault
@@ -91,31 +79,7 @@ no_write : (x : LowerFault) → Lower x ≡ Write → ⊥
 no_write x same = cc
 
 pub below_laws : SideLaws below
-below_laws = record {
-  one_verdict = one_verdict;
-  meets = meets_horizon;
-  same = λ m n same g v proper fits. record {
-    verdict = answers.same_verdict (table_of m) (table_of n) g v (models_same.same_cells m n same) proper fits;
-    line = line_for m n same g v;
-    least = answers.same_least_constant (table_of m) (table_of n) g v (models_same.same_cells m n same) proper fits;
-    reason = reason_for m n same g v proper fits;
-  };
-  promised = λ model graph vectors answer. (yes_certified model graph vectors answer, yes_rewarded model graph vectors answer);
-  started = yes_line_promised;
-  one_fault = one_lower;
-  no_write = no_write;
-  own_fault = λ x. (tt, tt);
-  write_fault = tt;
-  read_fault = read_in_lowering;
-}
-
--- why vectors are not lowered
-why_of : (c : Controller) (v : PolicyVectors) (fault : LowerFault) → ((fault ≡ faults.Memory) × HasLeastConstant c v) ⊎ IsNotLowered c v fault → IsWhy c v fault
-why_of c v faults.Memory (inl (is, least)) = least
-why_of c v faults.Memory (inr refused) = absurd refused
-why_of c v _ (inl (is, least)) = cc
-why_of c v _ (inr refused) = refused
+below_laws = search (rules, one_verdict, answers.same_verdict, answers.same_least_constant, models_same.same_cells, meets_horizon, read_in_lowering, yes_certified, yes_rewarded, line_for, reason_for, yes_line_promised, one_lower, no_write)
 
 pub whys : {T : Type 0} (t : CellTable) (g : PolicyGraph) (v : PolicyVectors) (r : Result T LowerFault) → IfErr r (RefusesToLower t g v) → IfErr r (IsWhy (controller_of t g v) v)
-whys t g v (Ok x) refused = tt
-whys t g v (Err fault) refused = why_of (controller_of t g v) v fault refused.refused
+whys t g v r h1 = grind arith

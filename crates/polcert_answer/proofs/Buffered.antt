@@ -1,7 +1,8 @@
 -- What is written of a text through a buffer that held nothing before.
 use Rattle.std.proofs.Common.{◌≡◌, ℕ, List, [], Option, Result, subst}
 use Rattle.std.specs.Result.{IsErr}
-use Rattle.polcert_text.specs.Sink.{Takes, TakesFront, WritesText}
+use Rattle.polcert_answer.proofs.Common.{Takes}
+use Rattle.polcert_text.specs.Sink.{TakesFront, WritesText}
 use Rattle.polcert_text.proofs.Printing.Taking.{wrote_front}
 use Rattle.polcert_text.proofs.Printing.Buffering.{through, flushed, same_name, stopped, stopped_count, stopped_name}
 

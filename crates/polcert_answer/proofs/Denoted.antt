@@ -1,31 +1,21 @@
 -- What three texts denote: one controller, whatever stands for it.
-use Rattle.std.proofs.Common.{◌≡◌, ℕ, ℤ, List, Ok, ap, refl, subst}
-use Rattle.polcert_text.specs.declared.number.Rounding.{Rounding}
+use Rattle.std.proofs.Common.{◌≡◌, ℕ, ℤ, List, Ok, ap, refl, subst, arith}
+use Rattle.polcert_answer.proofs.Common.{Rounding, Meaning, IsSame, states_of, observations_of, table_of, IsModelText, PolicyGraph, IsProperGraph, GraphFault, VectorFault, IsGraphText, IsNoGraphText, PolicyVectors, IsRoundedVectorsText, IsNoRoundedVectorsText, vectors_text, Controller, controller_of, controller, HasGraph, IsGraphRefused, AreRoundedVectorsRefused, IsRoundedAnswer, Side, SideLaws}
 use Rattle.polcert_cells.specs.Elements.{count_of}
-use Rattle.polcert_cells.specs.Preamble.{Preamble, observed}
-use Rattle.polcert_cells.specs.Meaning.{Meaning, IsSame, states_of, actions_of, observations_of}
-use Rattle.polcert_cells.specs.Tables.{table_of}
-use Rattle.polcert_model.specs.Text.{IsModelText}
-use Rattle.polcert_model.proofs.FilledLaws.{table_rows}
+use Rattle.polcert_cells.specs.Preamble.{Preamble}
+use Rattle.polcert_cells.specs.Meaning.{actions_of}
 use Rattle.polcert_model.proofs.LimitLaws.{within_limits}
 use Rattle.polcert_model.proofs.TextLaws as models
-use Rattle.polcert_policy.specs.Graphs.{PolicyGraph, IsProperGraph}
-use Rattle.polcert_policy.specs.declared.fault.GraphFault.{GraphFault}
-use Rattle.polcert_policy.specs.declared.fault.VectorFault.{VectorFault}
-use Rattle.polcert_policy.specs.GraphText.{IsGraphText, IsGraphRefusal, IsNoGraphText, IsRefusedGraphText}
-use Rattle.polcert_policy.specs.Vectors.{PolicyVectors, shifted_by}
-use Rattle.polcert_policy.specs.VectorText.{IsRoundedVectorsText, IsRoundedVectorsRefusal, IsNoRoundedVectorsText, IsRefusedRoundedVectorsText}
-use Rattle.polcert_policy.specs.FullForm.{vectors_text}
+use Rattle.polcert_policy.specs.GraphText.{IsGraphRefusal, IsRefusedGraphText}
+use Rattle.polcert_policy.specs.Vectors.{shifted_by}
+use Rattle.polcert_policy.specs.VectorText.{IsRoundedVectorsRefusal, IsRefusedRoundedVectorsText}
 use Rattle.polcert_policy.proofs.FlatGraphs.{indexed}
 use Rattle.polcert_policy.proofs.LimitLaws.{graph_proper}
 use Rattle.polcert_policy.proofs.OneText as texts
-use Rattle.polcert_check.specs.Horizon.{Controller, controller_of, Fits}
+use Rattle.polcert_check.specs.Horizon.{Fits}
 use Rattle.polcert_check.specs.Steps.Ranges.{IsController}
-use Rattle.polcert_check.proofs.Certificates.{controller_is}
-use Rattle.polcert_answer.specs.Headline.{RoundedCertificate, controller}
-use Rattle.polcert_answer.specs.Answer.{HasGraph, IsGraphRefused, AreRoundedVectorsRefused, IsRoundedAnswer}
-use Rattle.polcert_answer.specs.Side.{Side}
-use Rattle.polcert_answer.specs.Steps.Laws.{SideLaws, SaysTheSame}
+use Rattle.polcert_answer.specs.Headline.{RoundedCertificate}
+use Rattle.polcert_answer.specs.Steps.Laws.{SaysTheSame}
 
 module _ {m n : Meaning} (same : IsSame m n) where
   pub same_states : states_of m ≡ states_of n
@@ -34,12 +24,9 @@ module _ {m n : Meaning} (same : IsSame m n) where
   pub same_actions : actions_of m ≡ actions_of n
   same_actions = ap (λ (p : Preamble). count_of p.actions) same.preamble
 
-  pub same_observations : observations_of m ≡ observations_of n
-  same_observations = ap (λ (p : Preamble). count_of (observed p)) same.preamble
-
 -- what is said of a graph's text for the counts of the one is said of it for those of the other
 pub for_counts : {m n : Meaning} → IsSame m n → (P : ℕ → ℕ → Type 0) → P (actions_of m) (observations_of m) → P (actions_of n) (observations_of n)
-for_counts {m} {n} same P is = subst (P (actions_of n)) (same_observations same) (subst (λ a. P a (observations_of m)) (same_actions same) is)
+for_counts h1 P h2 = grind arith
 
 -- a graph's text that is refused for the counts of one model that the first text denotes is refused for those of each
 pub graph_refused : (model : List ℕ) (fault : GraphFault) (m : Meaning) → IsModelText model m
@@ -48,13 +35,9 @@ pub graph_refused : (model : List ℕ) (fault : GraphFault) (m : Meaning) → Is
 graph_refused model fault m is text r = record {
   meaning = m;
   is_model = is;
-  no_graph = λ n other. moved n other (λ a o. IsNoGraphText a o text fault) r.no_graph;
-  refusal = λ n other. moved n other (λ a o. IsGraphRefusal a o text fault) r.refusal;
+  no_graph = λ n other. for_counts (models.one_model model m n is other) (λ a o. IsNoGraphText a o text fault) r.no_graph;
+  refusal = λ n other. for_counts (models.one_model model m n is other) (λ a o. IsGraphRefusal a o text fault) r.refusal;
 }
-  where
-    moved : (n : Meaning) → IsModelText model n → (P : ℕ → ℕ → Type 0) → P (actions_of m) (observations_of m)
-        → P (actions_of n) (observations_of n)
-    moved n other P said = for_counts (models.one_model model m n is other) P said
 
 -- two texts are one model, as far as indices are in range, and one graph for it
 pub same_graph : {model graph : List ℕ} (m n : Meaning) (g h : PolicyGraph) → HasGraph model graph m g → HasGraph model graph n h → IsSame m n × (g ≡ h)
@@ -97,9 +80,7 @@ pub of_each : {rounding : Rounding} {model graph vectors : List ℕ} (m : Meanin
     → IsRoundedVectorsText rounding g (states_of m) vectors v
     → (P : Meaning → PolicyGraph → PolicyVectors → Type 0) → ((n : Meaning) → IsSame m n → P n g v)
     → (c : RoundedCertificate rounding model graph vectors) → P c.meaning c.policy c.values
-of_each m g v has are P carried c =
-    let same = same_vectors m g v has are c in
-    subst (λ (w : PolicyVectors). P c.meaning c.policy w) same.2 (subst (λ (h : PolicyGraph). P c.meaning h v) same.1 (carried c.meaning same.0))
+of_each m g v has are P carried c = grind (arith, same_vectors m g v has are c, carried c.meaning)
 
 -- the controller of a model, a graph and vectors
 abbrev pub of_parts : Meaning → PolicyGraph → PolicyVectors → Controller
@@ -115,12 +96,7 @@ proper_graph {model} {graph} m g has =
 -- graph and vectors are for the model
 pub fits_of : {rounding : Rounding} {model graph : List ℕ} (vectors : List ℕ) (m : Meaning) (g : PolicyGraph) (v : PolicyVectors) → HasGraph model graph m g
     → IsRoundedVectorsText rounding g (states_of m) vectors v → Fits (table_of m) g v
-fits_of vectors m g v has are = record {
-  actions = has.is_graph.2.actions_are;
-  observations = has.is_graph.2.observations_are;
-  nodes_same = are.2.nodes_are;
-  states = are.2.states_are;
-}
+fits_of vectors m g v has are = grind arith
 
 pub text_of_each : {rounding : Rounding} {model graph vectors : List ℕ} (m : Meaning) (g : PolicyGraph) (v : PolicyVectors) → HasGraph model graph m g
     → IsRoundedVectorsText rounding g (states_of m) vectors v → (by : ℤ) (c : RoundedCertificate rounding model graph vectors)
@@ -130,8 +106,7 @@ text_of_each m g v has are by = of_each m g v has are (λ n h w. vectors_text g 
 -- what a graph and vectors denote, together with what the model denotes
 pub certificate_of : {rounding : Rounding} {model graph vectors : List ℕ} (m : Meaning) (g : PolicyGraph) (v : PolicyVectors) → HasGraph model graph m g
     → IsRoundedVectorsText rounding g (states_of m) vectors v → RoundedCertificate rounding model graph vectors
-certificate_of m g v has are =
-    record { meaning = m; policy = g; values = v; is_model = has.is_model; is_graph = has.is_graph; are_vectors = are }
+certificate_of m g v has are = grind arith
 
 -- what three texts denote, as its parts are used: its graph, that they fit, and that the controller is proper
 module _ {rounding : Rounding} {model graph vectors : List ℕ} (c : RoundedCertificate rounding model graph vectors) where
@@ -139,10 +114,10 @@ module _ {rounding : Rounding} {model graph vectors : List ℕ} (c : RoundedCert
   graph_is = record { is_model = c.is_model; is_graph = c.is_graph }
 
   pub fits_is : Fits (table_of c.meaning) c.policy c.values
-  fits_is = fits_of vectors c.meaning c.policy c.values graph_is c.are_vectors
+  fits_is = grind arith
 
   pub controller_proper : IsController (controller c)
-  controller_proper = controller_is (table_of c.meaning) c.policy c.values fits_is (table_rows c.meaning c.is_model.denotes.rows) (proper_graph c.meaning c.policy graph_is)
+  controller_proper = grind arith
 
 -- ---- what a side says of a model, a graph and vectors is said of whatever the texts denote
 says : {V F : Type 0} {side : Side V F} → SideLaws side → {model graph : List ℕ} (vectors : List ℕ) (m : Meaning) (g : PolicyGraph) (v : PolicyVectors)

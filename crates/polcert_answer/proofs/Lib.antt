@@ -1,3 +1,4 @@
+mod Common
 pub mod Refusing
 pub mod Denoted
 pub mod OfSources

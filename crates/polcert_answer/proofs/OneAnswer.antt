@@ -1,27 +1,13 @@
 -- Three texts have one answer, out of memory aside.
-use Rattle.std.proofs.Common.{◌≡◌, ℕ, List, Result, Ok, Err, refl, sym, subst}
-use Rattle.polcert_format.specs.declared.fault.ModelFault.{ModelFault}
+use Rattle.std.proofs.Common.{◌≡◌, ℕ, List, Result, Ok, Err, refl, sym, subst, arith}
+use Rattle.polcert_answer.proofs.Common.{ModelFault, Meaning, IsModelText, SaysOfText, PolicyGraph, GraphFault, VectorFault, Rounding, IsGraphText, IsNoGraphText, PolicyVectors, IsRoundedVectorsText, IsNoRoundedVectorsText, Controller, Fault, Model, Graph, Vectors, controller, HasGraph, IsModelFault, IsRoundedAnswer}
 use Rattle.polcert_format.specs.declared.fault.ModelFault.TheVariants as models
-use Rattle.polcert_cells.specs.Meaning.{Meaning}
-use Rattle.polcert_model.specs.Text.{IsModelText}
-use Rattle.polcert_model.specs.Refusals.{SaysOfText}
-use Rattle.polcert_policy.specs.Graphs.{PolicyGraph}
-use Rattle.polcert_policy.specs.declared.fault.GraphFault.{GraphFault}
 use Rattle.polcert_policy.specs.declared.fault.GraphFault.TheVariants as graphs
-use Rattle.polcert_policy.specs.declared.fault.VectorFault.{VectorFault}
 use Rattle.polcert_policy.specs.declared.fault.VectorFault.TheVariants as values
-use Rattle.polcert_text.specs.declared.number.Rounding.{Rounding}
-use Rattle.polcert_policy.specs.GraphText.{IsGraphText, IsNoGraphText}
-use Rattle.polcert_policy.specs.Vectors.{PolicyVectors}
-use Rattle.polcert_policy.specs.VectorText.{IsRoundedVectorsText, IsNoRoundedVectorsText}
 use Rattle.polcert_format.proofs.OneRefusal as model_refusals
 use Rattle.polcert_policy.proofs.OneGraphRefusal as graph_refusals
 use Rattle.polcert_policy.proofs.OneVectorsRefusal as vectors_refusals
-use Rattle.polcert_check.specs.Horizon.{Controller}
-use Rattle.polcert_answer.specs.declared.fault.Fault.{Fault}
-use Rattle.polcert_answer.specs.declared.fault.Fault.TheVariants.{Model, Graph, Vectors}
-use Rattle.polcert_answer.specs.Headline.{controller}
-use Rattle.polcert_answer.specs.Answer.{HasGraph, IsModelFault, IsRoundedAnswer, IsOutOfMemory, IsButForMemory}
+use Rattle.polcert_answer.specs.Answer.{IsOutOfMemory, IsButForMemory}
 use Rattle.polcert_answer.specs.OneAnswer.{HasOneVerdict, RefusesTheFirst, HasOneRefusal}
 use Rattle.polcert_format.specs.RefusedTexts.{IsRefusedModelText}
 use Rattle.polcert_answer.proofs.Refusing.{refused_of}
@@ -42,17 +28,11 @@ no_model model f m says refused is = (refused_of f model says refused).no_model 
 
 -- what is said of a model's refused text, except out of memory
 refused_text : (model : List ℕ) (f : ModelFault) → SaysOfText f → IsModelFault model f → IsRefusedModelText f model
-refused_text model models.Memory says h = absurd says
-refused_text model (models.Item kind item place) says h = record { no_model = h.no_model; refusal = h.refusal; placed = h.placed }
-refused_text model (models.RowSum table action row) says h = record { no_model = h.no_model; refusal = h.refusal; placed = h.placed }
-
-not_memory : (f : ModelFault) → SaysOfText f → f ≡ models.Memory → ⊥
-not_memory f says same = subst SaysOfText same says
+refused_text model f h1 h2 = grind arith
 
 -- a model is refused for one reason, at one place
 pub one_model_refusal : (model : List ℕ) (f g : ModelFault) → SaysOfText f → SaysOfText g → IsModelFault model f → IsModelFault model g → f ≡ g
-one_model_refusal model f g f_says g_says h other =
-    model_refusals.one_refusal model f g (not_memory f f_says) (not_memory g g_says) (refused_text model f f_says h) (refused_text model g g_says other)
+one_model_refusal model f g f_says g_says h other = grind (arith, model_refusals.one_refusal, refused_text)
 
 -- Where values are rounded this way, these are the verdicts, and a controller has one of them.
 module _ {V : Type 0} (rounding : Rounding) (Is : Controller → V → Type 0) (one : (c : Controller) (x y : V) → Is c x → Is c y → x ≡ y) (model graph vectors : List ℕ) where
@@ -90,8 +70,7 @@ module _ {V : Type 0} (rounding : Rounding) (Is : Controller → V → Type 0) (
   no_refusal x (Model (models.Item kind item place)) h refused = absurd (no_model model (models.Item kind item place) h.0.meaning tt refused h.0.is_model)
   no_refusal x (Model (models.RowSum table action row)) h refused = absurd (no_model model (models.RowSum table action row) h.0.meaning tt refused h.0.is_model)
   no_refusal x (Graph f) h refused =
-      let memory = graph_memory _ _ graph f h.0.policy (refused.no_graph h.0.meaning h.0.is_model) h.0.is_graph in
-      subst (λ (g : GraphFault). IsOutOfMemory (Graph g)) (sym memory) tt
+      subst (λ (g : GraphFault). IsOutOfMemory (Graph g)) (sym (graph_memory _ _ graph f h.0.policy (refused.no_graph h.0.meaning h.0.is_model) h.0.is_graph)) tt
   no_refusal x (Vectors f) h refused =
       let has : HasGraph model graph h.0.meaning h.0.policy = record { is_model = h.0.is_model; is_graph = h.0.is_graph } in
       let memory = vectors_memory rounding _ _ vectors f h.0.values (refused.no_vectors h.0.meaning h.0.policy has) h.0.are_vectors in

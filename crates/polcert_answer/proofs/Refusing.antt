@@ -1,30 +1,21 @@
 -- A refused text, what is said of each text that fits what was read, and which source is named.
-use Rattle.std.proofs.Common.{◌≡◌, ℕ, List, Option, Result, Ok, Err, IfErr, IsErrOf, subst, sym}
+use Rattle.std.proofs.Common.{◌≡◌, ℕ, List, Option, Result, IfErr, IsErrOf, arith}
 use Rattle.std.specs.Result.{IsErrAnd}
 use Rattle.polcert_text.specs.Source.{EachTextThatFits}
 use Rattle.polcert_text.specs.ReadTexts.{ReadsText}
 use Rattle.polcert_text.specs.declared.source.SourceFault.{SourceFault}
 use Rattle.polcert_text.specs.declared.source.SourceFault.TheVariants.{Device}
-use Rattle.polcert_format.specs.declared.fault.ModelFault.{ModelFault}
-use Rattle.polcert_format.specs.declared.fault.ModelFault.TheVariants as faults
+use Rattle.polcert_answer.proofs.Common.{ModelFault, SaysOfText, RunFault, IsModelFault, IsNamedRightly, ReadsInOrder, IsGraphReadFault}
 use Rattle.polcert_model.specs.RefusedTexts.{IsRefusedModelText}
-use Rattle.polcert_model.specs.Refusals.{SaysOfText}
-use Rattle.polcert_answer.specs.declared.fault.Fault.TheVariants as texts
-use Rattle.polcert_answer.specs.declared.fault.RunFault.{RunFault}
-use Rattle.polcert_answer.specs.declared.fault.RunFault.TheVariants as runs
-use Rattle.polcert_answer.specs.Answer.{IsRefused, IsModelFault}
-use Rattle.polcert_answer.specs.Run.{IsNamedRightly, ReadsInOrder}
-use Rattle.polcert_answer.specs.Steps.Reading.{IsGraphReadFault}
+use Rattle.polcert_answer.specs.Answer.{IsRefused}
 
 -- what is promised of a refused text of a model
 pub model_refused : (fault : ModelFault) (text : List ℕ) → IsRefusedModelText fault text → IsModelFault text fault
-model_refused faults.Memory text r = tt
-model_refused _ text r = record { no_model = r.no_model; refusal = r.refusal; placed = r.placed }
+model_refused fault text h1 = grind arith
 
 -- out of memory aside, what is said of a model's refused text is that it is refused
 pub refused_of : (fault : ModelFault) (text : List ℕ) → SaysOfText fault → IsModelFault text fault → IsRefused fault text
-refused_of faults.Memory text says refused = absurd says
-refused_of _ text says refused = refused
+refused_of fault text h1 h2 = grind arith
 
 -- what follows for each text follows for those that fit
 pub each_text : {S : Type 0} {reads : S → ℕ → Option (List ℕ) → S → Type 0} {old new : S} {P Q : List ℕ → Type 0}
@@ -36,21 +27,10 @@ pub named_rightly : {S V F Named : Type 0} {reads : S → ℕ → Option (List �
     {Denotes : List ℕ → V → Type 0} {Refuses : F → List ℕ → Type 0} {result : Result V (SourceFault F)}
     → ReadsText reads failures old new Denotes Refuses result → (Named → IsErrOf result Device) → (IsErrOf result Device → Named)
     → IsNamedRightly Named (failures old) (failures new)
-named_rightly was named failed = record {
-  failed = λ is. was.device (named is);
-  passed_over = λ unnamed. was.same_count (λ is. unnamed (failed is));
-}
+named_rightly was named failed = grind arith
 
 -- ---- a fault of the graph's text or of its source
-of_graph_in_order : {G V : Type 0} (given : RunFault) (graph graph' : G) (vectors vectors' : V) → IsGraphReadFault given → vectors' ≡ vectors
-    → ReadsInOrder given graph graph' vectors vectors'
-of_graph_in_order (runs.Text (texts.Graph f)) graph graph' vectors vectors' of same = same
-of_graph_in_order runs.ReadGraph graph graph' vectors vectors' of same = same
-of_graph_in_order _ graph graph' vectors vectors' of same = absurd of
-
 -- after it the source of the vectors is as it was
 pub graph_in_order : {T G V : Type 0} (r : Result T RunFault) (given : RunFault) (graph graph' : G) (vectors vectors' : V) → IsErrAnd r (λ f. f ≡ given)
     → IsGraphReadFault given → vectors' ≡ vectors → IfErr r (λ fault. ReadsInOrder fault graph graph' vectors vectors')
-graph_in_order (Ok v) given graph graph' vectors vectors' is of same = tt
-graph_in_order (Err f) given graph graph' vectors vectors' is of same =
-    subst (λ (x : RunFault). ReadsInOrder x graph graph' vectors vectors') (sym is) (of_graph_in_order given graph graph' vectors vectors' of same)
+graph_in_order r given graph graph' vectors vectors' h1 h2 h3 = grind arith

@@ -1,13 +1,8 @@
 -- What a run says of the texts of two sources, from what its calls say of what these denote.
 use Rattle.std.proofs.Common.{ℕ, List, Ok}
-use Rattle.polcert_cells.specs.Meaning.{Meaning}
-use Rattle.polcert_cells.specs.Tables.{table_of}
-use Rattle.polcert_policy.specs.Vectors.{PolicyVectors, value_of}
-use Rattle.polcert_optimum.specs.declared.verdict.InformedVerdict.{InformedVerdict}
-use Rattle.polcert_optimum.specs.declared.verdict.InformedVerdict.TheVariants.{Yes}
-use Rattle.polcert_bound_answer.specs.Answer.{IsBoundAnswer}
+use Rattle.polcert_bound_answer.proofs.Common.{Meaning, table_of, PolicyVectors, value_of, InformedVerdict, Yes, IsBoundAnswer, AreBoundDenoted}
 use Rattle.polcert_bound_answer.specs.Run.{AreBoundTexts, HasBoundVerdict, HasBoundPromise, HasBoundStartPromise, HasBoundHorizon}
-use Rattle.polcert_bound_answer.specs.Steps.Reading.{AreBoundDenoted, IsBoundAnswerLine}
+use Rattle.polcert_bound_answer.specs.Steps.Reading.{IsBoundAnswerLine}
 use Rattle.polcert_bound_answer.proofs.OneInformed.{meets}
 use Rattle.polcert_bound_answer.proofs.Denoted.{certificate_of, verdict_of_each, line_of_each, most_of_each, table_proper, yes_certified}
 

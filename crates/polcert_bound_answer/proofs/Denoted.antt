@@ -1,32 +1,21 @@
 -- What two texts denote: one model and one list of vectors, whatever stands for them.
-use Rattle.std.proofs.Common.{◌≡◌, ℕ, ◌*◌, ◌<◌, ℤ, List, Ok, sym, ap₂, subst}
-use Rattle.polcert_cells.specs.Meaning.{Meaning, IsSame, HasLimitedNumbers, states_of, actions_of}
-use Rattle.polcert_cells.specs.Tables.{IsProper, table_of}
-use Rattle.polcert_model.specs.Text.{IsModelText}
+use Rattle.std.proofs.Common.{◌≡◌, ℕ, ◌<◌, ℤ, List, Ok, sym, subst, arith}
+use Rattle.polcert_bound_answer.proofs.Common.{Meaning, IsSame, states_of, actions_of, IsProper, table_of, IsModelText, VectorFault, PolicyVectors, value_of, action_graph, IsActionVectorsText, IsNoActionVectorsText, IsStartMost, InformedVerdict, Yes, Exceeded, FitActions, IsInformedVerdict, BoundCertificate, AreActionVectorsRefused, IsBoundAnswer}
+use Rattle.polcert_cells.specs.Meaning.{HasLimitedNumbers}
 use Rattle.polcert_model.proofs.FilledLaws.{table_rows}
 use Rattle.polcert_model.proofs.LimitLaws.{within_limits}
 use Rattle.polcert_model.proofs.TextLaws as models
-use Rattle.polcert_policy.specs.declared.fault.VectorFault.{VectorFault}
-use Rattle.polcert_policy.specs.Vectors.{PolicyVectors, value_of}
-use Rattle.polcert_policy.specs.ActionVectors.{action_graph, IsActionVectorsText, IsNoActionVectorsText, IsActionVectorsRefusal, IsRefusedActionVectorsText}
+use Rattle.polcert_policy.specs.ActionVectors.{IsActionVectorsRefusal, IsRefusedActionVectorsText}
 use Rattle.polcert_policy.proofs.ActionGraphs.{action_counts}
 use Rattle.polcert_policy.proofs.OneText as texts
-use Rattle.polcert_check.specs.Horizon.{one}
-use Rattle.polcert_check.specs.StartWorth.{IsCeilQuotient}
-use Rattle.polcert_check.specs.StartMost.{IsStartMost}
 use Rattle.polcert_check.proofs.Agreements.SameModels.{same_cells}
 use Rattle.polcert_check.proofs.Mirrors.SameAbove.{same_start_most}
 use Rattle.polcert_check.proofs.Sums.Ring.{≤ℤ_trans}
-use Rattle.polcert_optimum.specs.Policy.{step_scale}
 use Rattle.polcert_optimum.specs.Start.{AreAtMostFromStart}
-use Rattle.polcert_optimum.specs.declared.verdict.InformedVerdict.{InformedVerdict}
-use Rattle.polcert_optimum.specs.declared.verdict.InformedVerdict.TheVariants.{Yes, Exceeded}
-use Rattle.polcert_optimum.specs.InformedCheck.{FitActions, IsInformedVerdict}
 use Rattle.polcert_optimum.proofs.Informed.{every_observation_policy, informed_only_then}
 use Rattle.polcert_optimum.proofs.Start.{informed_from_start, mixtures_from_start}
 use Rattle.polcert_answer.proofs.Denoted.{same_states, same_actions}
-use Rattle.polcert_bound_answer.specs.Headline.{BoundCertificate, IsCertifiedBound}
-use Rattle.polcert_bound_answer.specs.Answer.{AreActionVectorsRefused, IsBoundAnswer}
+use Rattle.polcert_bound_answer.specs.Headline.{IsCertifiedBound}
 use Rattle.polcert_bound_answer.specs.Lines.{IsBoundLine}
 use Rattle.polcert_bound_answer.proofs.SameInformed.{verdict_there}
 
@@ -40,12 +29,9 @@ pub vectors_refused : (model : List ℕ) (fault : VectorFault) (m : Meaning) →
 vectors_refused model fault m is text r = record {
   meaning = m;
   is_model = is;
-  no_vectors = λ n other. moved n other (λ a s. IsNoActionVectorsText a s text fault) r.no_vectors;
-  refusal = λ n other. moved n other (λ a s. IsActionVectorsRefusal a s text fault) r.refusal;
+  no_vectors = λ n other. for_sizes (models.one_model model m n is other) (λ a s. IsNoActionVectorsText a s text fault) r.no_vectors;
+  refusal = λ n other. for_sizes (models.one_model model m n is other) (λ a s. IsActionVectorsRefusal a s text fault) r.refusal;
 }
-  where
-    moved : (n : Meaning) → IsModelText model n → (P : ℕ → ℕ → Type 0) → P (actions_of m) (states_of m) → P (actions_of n) (states_of n)
-    moved n other P said = for_sizes (models.one_model model m n is other) P said
 
 -- there is a vector for each action of the model
 pub fit_of : (m : Meaning) (v : PolicyVectors) (vectors : List ℕ) → IsActionVectorsText (actions_of m) (states_of m) vectors v → FitActions (table_of m) v
@@ -54,10 +40,7 @@ fit_of m v vectors are = let counts = action_counts (actions_of m) (states_of m)
 -- the line of a verdict on one model is its line on every same one
 line_there : (m n : Meaning) (v : PolicyVectors) → IsSame m n → (verdict : InformedVerdict) (line : List ℕ) → IsBoundLine m v verdict line → IsBoundLine n v verdict line
 line_there m n v same Yes line (most, is_most, spelled) = (most, same_start_most m n same v most is_most, spelled)
-line_there m n v same (Exceeded a s amount) line (by, quotient, spelled) =
-    let cells = same_cells m n same in
-    let scales : step_scale (table_of m) ≡ step_scale (table_of n) = ap₂ (λ t o. t * o) cells.t_scale cells.o_scale in
-    (by, subst (λ q. IsCeilQuotient amount (q * one) by) scales quotient, spelled)
+line_there m n v same (Exceeded a s amount) line (by, quotient, spelled) = grind (arith, same_cells)
 
 module _ {model vectors : List ℕ} (m : Meaning) (v : PolicyVectors) (is : IsModelText model m) (are : IsActionVectorsText (actions_of m) (states_of m) vectors v) where
   -- what a model and vectors denote

@@ -1,25 +1,19 @@
 -- Two yeses enclose the optimum: one to the vectors of a graph, and one to vectors of the actions of the same model.
 use Rattle.std.proofs.Common.{ℕ, ◌<◌, ℤ, List, Ok, subst}
-use Rattle.polcert_cells.specs.Meaning.{IsSame}
+use Rattle.polcert_bound_answer.proofs.Common.{IsSame, IsActionVectorsText, value_of, IsStartMost, Yes, IsBoundAnswer, BoundCertificate}
 use Rattle.polcert_model.proofs.FilledLaws.{table_rows}
 use Rattle.polcert_model.proofs.LimitLaws.{within_limits}
 use Rattle.polcert_model.proofs.TextLaws as models
-use Rattle.polcert_policy.specs.ActionVectors.{IsActionVectorsText}
 use Rattle.polcert_policy.specs.Graphs.{nodes}
-use Rattle.polcert_policy.specs.Vectors.{value_of}
 use Rattle.polcert_check.specs.declared.survey.Verdict.TheVariants as verdicts
 use Rattle.polcert_check.specs.Horizon.{one}
 use Rattle.polcert_check.specs.StartWorth.{IsBestStart, IsStartWorth}
-use Rattle.polcert_check.specs.StartMost.{IsStartMost}
 use Rattle.polcert_check.proofs.Mirrors.SameAbove.{same_start_most}
 use Rattle.polcert_optimum.specs.Optimum.{EncloseOptimum}
-use Rattle.polcert_optimum.specs.declared.verdict.InformedVerdict.TheVariants.{Yes}
 use Rattle.polcert_optimum.proofs.Optimum.{encloses}
 use Rattle.polcert_answer.specs.Answer.{IsAnswer}
 use Rattle.polcert_answer.specs.Headline.{Certificate}
 use Rattle.polcert_answer.proofs.Denoted.{fits_is, graph_is, proper_graph}
-use Rattle.polcert_bound_answer.specs.Answer.{IsBoundAnswer}
-use Rattle.polcert_bound_answer.specs.Headline.{BoundCertificate}
 use Rattle.polcert_bound_answer.proofs.Denoted.{for_sizes, mean_of}
 
 pub texts_enclose : (model graph low high : List ℕ) → IsAnswer model graph low (Ok verdicts.Yes) → IsBoundAnswer model high (Ok Yes) → (c : Certificate model graph low) (d : BoundCertificate model high)

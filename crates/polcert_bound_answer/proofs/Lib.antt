@@ -1,3 +1,4 @@
+mod Common
 pub mod SameInformed
 pub mod OneInformed
 pub mod Denoted

@@ -1,23 +1,14 @@
 -- Two texts have one answer, unless memory ran out.
-use Rattle.std.proofs.Common.{◌≡◌, ℕ, List, Result, Ok, Err, refl, sym, subst}
+use Rattle.std.proofs.Common.{◌≡◌, ℕ, List, Result, Ok, Err, refl, sym, subst, arith}
 use Rattle.std.specs.Result.{IsErrAnd}
-use Rattle.polcert_text.specs.declared.number.Rounding.TheVariants.{Up}
+use Rattle.polcert_bound_answer.proofs.Common.{Up, states_of, actions_of, table_of, VectorFault, PolicyVectors, value_of, action_graph, IsActionVectorsText, IsNoActionVectorsText, InformedVerdict, Fault, Model, Graph, Vectors, IsBoundFault, IsBoundAnswer}
 use Rattle.polcert_format.specs.declared.fault.ModelFault.{ModelFault}
 use Rattle.polcert_format.specs.declared.fault.ModelFault.TheVariants as models
-use Rattle.polcert_cells.specs.Meaning.{states_of, actions_of}
-use Rattle.polcert_cells.specs.Tables.{table_of}
 use Rattle.polcert_model.specs.Refusals.{SaysOfText}
-use Rattle.polcert_policy.specs.declared.fault.VectorFault.{VectorFault}
 use Rattle.polcert_policy.specs.declared.fault.VectorFault.TheVariants as values
-use Rattle.polcert_policy.specs.Vectors.{PolicyVectors, value_of}
-use Rattle.polcert_policy.specs.ActionVectors.{action_graph, IsActionVectorsText, IsNoActionVectorsText}
 use Rattle.polcert_policy.proofs.OneVectorsRefusal as vectors_refusals
-use Rattle.polcert_optimum.specs.declared.verdict.InformedVerdict.{InformedVerdict}
-use Rattle.polcert_answer.specs.declared.fault.Fault.{Fault}
-use Rattle.polcert_answer.specs.declared.fault.Fault.TheVariants.{Model, Graph, Vectors}
 use Rattle.polcert_answer.specs.Answer.{IsOutOfMemory, IsButForMemory}
 use Rattle.polcert_answer.proofs.OneAnswer.{no_model}
-use Rattle.polcert_bound_answer.specs.Answer.{IsBoundFault, IsBoundAnswer}
 use Rattle.polcert_bound_answer.proofs.OneInformed.{one_informed_verdict}
 
 -- what is refused as vectors are none, or memory ran out
@@ -53,5 +44,4 @@ module _ (model vectors : List ℕ) where
 -- ---- an answer that is a fault that is handed on
 pub refused_answer : (model vectors : List ℕ) (r : Result InformedVerdict Fault) (given : Fault) → IsErrAnd r (λ fault. fault ≡ given)
     → IsBoundFault model vectors given → IsBoundAnswer model vectors r
-refused_answer model vectors (Ok verdict) given is fault = absurd is
-refused_answer model vectors (Err f) given is fault = rw is fault
+refused_answer model vectors r given h1 h2 = grind arith

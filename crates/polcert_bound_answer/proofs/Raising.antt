@@ -1,38 +1,23 @@
 -- What the run that raises says, from what its calls say of what the texts of two sources denote.
-use Rattle.std.proofs.Common.{◌≡◌, ◌∙◌, ℕ, ◌*◌, ◌<◌, ◌≤◌, ℤ, ◌+ℤ◌, List, Result, Ok, Err, IfErr, unsigned_abs, refl, sym, ap, ap₂, subst}
-use Rattle.polcert_text.specs.Numbers.{largest}
-use Rattle.polcert_text.specs.declared.number.Rounding.TheVariants.{Up}
-use Rattle.polcert_cells.specs.Meaning.{Meaning, IsSame, states_of, actions_of}
-use Rattle.polcert_cells.specs.SameCells.{HasSameCells}
-use Rattle.polcert_cells.specs.Tables.{CellTable, table_of}
-use Rattle.polcert_model.specs.Text.{IsModelText}
+use Rattle.std.proofs.Common.{◌≡◌, ◌∙◌, ℕ, ◌<◌, ℤ, ◌+ℤ◌, List, Result, Ok, Err, IfErr, sym, ap, subst, arith}
+use Rattle.polcert_bound_answer.proofs.Common.{Up, Meaning, IsSame, states_of, actions_of, HasSameCells, CellTable, table_of, IsModelText, PolicyVectors, value_of, shifted_by, action_graph, IsActionVectorsText, InformedVerdict, Yes, Exceeded, FitActions, AreInformed, RunFault, BoundCertificate, IsBoundAnswer, AreBoundDenoted, IsBoundReadFault, IsBoundWriteFault}
 use Rattle.polcert_policy.specs.Graphs.{PolicyGraph}
-use Rattle.polcert_policy.specs.Vectors.{PolicyVectors, value_of, shifted_by, CanShift}
+use Rattle.polcert_policy.specs.Vectors.{CanShift}
 use Rattle.polcert_policy.specs.VectorText.{IsRoundedVectorsText}
-use Rattle.polcert_policy.specs.ActionVectors.{action_graph, IsActionVectorsText}
 use Rattle.polcert_policy.specs.FullForm.{vectors_text}
-use Rattle.polcert_check.specs.Horizon.{one}
 use Rattle.polcert_check.specs.declared.fault.RaiseFault.{RaiseFault}
 use Rattle.polcert_check.specs.declared.fault.RaiseFault.TheVariants as faults
 use Rattle.polcert_check.proofs.Agreements.SameModels.{same_cells}
-use Rattle.polcert_optimum.specs.declared.verdict.InformedVerdict.{InformedVerdict}
-use Rattle.polcert_optimum.specs.declared.verdict.InformedVerdict.TheVariants.{Yes, Exceeded}
 use Rattle.polcert_optimum.specs.declared.fault.InformedRaiseFault.{InformedRaiseFault}
 use Rattle.polcert_optimum.specs.declared.fault.InformedRaiseFault.TheVariants.{NoConstant, OutOfRange}
-use Rattle.polcert_optimum.specs.InformedCheck.{FitActions, NamesSmallExcess}
-use Rattle.polcert_optimum.specs.Informed.{AreInformed}
+use Rattle.polcert_optimum.specs.InformedCheck.{NamesSmallExcess}
 use Rattle.polcert_optimum.specs.InformedRaise.{raised_by, IsLeastRaise, IsRaiseConstant, IsNotRaised}
-use Rattle.polcert_answer.specs.declared.fault.Fault.TheVariants.{Model, Vectors}
-use Rattle.polcert_answer.specs.declared.fault.RunFault.{RunFault}
-use Rattle.polcert_answer.specs.declared.fault.RunFault.TheVariants.{Text, ReadModel, ReadVectors, Write, Raise}
+use Rattle.polcert_answer.specs.declared.fault.RunFault.TheVariants.{Raise}
 use Rattle.polcert_answer.proofs.Denoted.{same_actions}
-use Rattle.polcert_bound_answer.specs.Headline.{BoundCertificate}
-use Rattle.polcert_bound_answer.specs.Answer.{IsBoundAnswer}
 use Rattle.polcert_bound_answer.specs.Raise.{HasRaisedBound, IsBoundNotRaisable, IsBoundRaiseFault, IsWhyNotRaised, raise_fault}
-use Rattle.polcert_bound_answer.specs.Steps.Reading.{AreBoundDenoted, IsBoundReadFault, IsBoundWriteFault}
 use Rattle.polcert_bound_answer.specs.Steps.Raising.{AreBoundRaised}
 use Rattle.polcert_bound_answer.proofs.OneAnswer.{but_for_memory}
-use Rattle.polcert_bound_answer.proofs.SameInformed.{scale_same, all_there, all_back, verdict_there, informed_of}
+use Rattle.polcert_bound_answer.proofs.SameInformed.{all_there, all_back, verdict_there, informed_of}
 use Rattle.polcert_bound_answer.proofs.Denoted.{certificate_of, of_each, verdict_of_each, yes_certified}
 use Rattle.polcert_bound_answer.proofs.Passing.{each_fault}
 use Rattle.polcert_bound_answer.proofs.Answering.{texts_of}
@@ -46,8 +31,7 @@ module _ (t u : CellTable) (same : HasSameCells t u) where
   constant_there v x (by, is, least, room) = (by, is, least_there (value_of v) by least, room)
 
   small_there : (verdict : InformedVerdict) → NamesSmallExcess t verdict → NamesSmallExcess u verdict
-  small_there Yes h = tt
-  small_there (Exceeded a s amount) h = subst (λ (q : ℕ). unsigned_abs amount ≤ q) (ap (λ (q : ℕ). 3 * (q * one * largest)) (scale_same t u same)) h
+  small_there verdict h1 = grind arith
 
   reason_there : (v : PolicyVectors) (fault : InformedRaiseFault) → IsNotRaised t v fault → IsNotRaised u v fault
   reason_there v (NoConstant a s amount) (none, is, small) =
@@ -93,8 +77,7 @@ module _ (of_model of_vectors : List ℕ → Type 0) (m : Meaning) (v : PolicyVe
 
 -- why vectors are not raised
 pub why_of : (t : CellTable) (v : PolicyVectors) (informed : InformedRaiseFault) → IsNotRaised t v informed → IsWhyNotRaised t v (raise_fault informed)
-why_of t v (NoConstant a s amount) why = (NoConstant a s amount, refl, why)
-why_of t v OutOfRange why = (OutOfRange, refl, why)
+why_of t v informed h1 = grind arith
 
 -- the least constant leaves every value in range
 pub can_shift : (t : CellTable) (v : PolicyVectors) (by : ℤ) → IsRaiseConstant t v by → CanShift v by
@@ -111,29 +94,14 @@ raised_informed t v by fit (k, is, least, room) shifted =
 -- what is known of raised vectors and of their full form, written for the graph of actions
 pub raised_text : (m : Meaning) (v : PolicyVectors) (by : ℤ) (w : PolicyVectors) (g : PolicyGraph) → g ≡ action_graph (actions_of m) → w ≡ shifted_by v by → v.states ≡ states_of m → IsRaiseConstant (table_of m) v by
     → AreInformed (table_of m) (value_of w) → IsRoundedVectorsText Up g w.states (vectors_text g w) w → AreBoundRaised m v by (vectors_text g w)
-raised_text m v by w g graph_is shifted states constant informed reads_back = record {
-  constant = constant;
-  text_is = ap₂ (λ h x. vectors_text h x) graph_is shifted;
-  informed = subst (λ (x : PolicyVectors). AreInformed (table_of m) (value_of x)) shifted informed;
-  reads_back =
-      let counted : w.states ≡ states_of m = ap (λ (x : PolicyVectors). x.states) shifted ∙ states in
-      let there : IsRoundedVectorsText Up g (states_of m) (vectors_text g w) w = subst (λ s. IsRoundedVectorsText Up g s (vectors_text g w) w) counted reads_back in
-      let for_graph : IsRoundedVectorsText Up (action_graph (actions_of m)) (states_of m) (vectors_text g w) w = subst (λ (h : PolicyGraph). IsRoundedVectorsText Up h (states_of m) (vectors_text g w) w) graph_is there in
-      subst (λ (x : PolicyVectors). IsActionVectorsText (actions_of m) (states_of m) (vectors_text g w) x) shifted for_graph;
-}
+raised_text m v by w g graph_is shifted states constant informed reads_back = grind arith
 
 -- ---- kinds of faults
 pub read_in_raise : (f : RunFault) → IsBoundReadFault f → IsBoundRaiseFault f
-read_in_raise (Text (Model fault)) of = tt
-read_in_raise (Text (Vectors fault)) of = tt
-read_in_raise ReadModel of = tt
-read_in_raise ReadVectors of = tt
-read_in_raise _ of = absurd of
+read_in_raise f h1 = grind arith
 
 written_in_raise : (f : RunFault) → IsBoundWriteFault f → IsBoundRaiseFault f
-written_in_raise Write of = tt
-written_in_raise (Raise fault) of = tt
-written_in_raise _ of = absurd of
+written_in_raise f h1 = grind arith
 
 pub raised_in_raise : {T : Type 0} (r : Result T RunFault) → IfErr r IsBoundWriteFault → IfErr r IsBoundRaiseFault
 raised_in_raise r of = each_fault IsBoundWriteFault IsBoundRaiseFault written_in_raise r of

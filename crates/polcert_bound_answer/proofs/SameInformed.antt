@@ -1,15 +1,11 @@
 -- Tables with the same cells have the same excesses and verdicts.
-use Rattle.std.proofs.Common.{◌≡◌, ◌∙◌, ℕ, zero, suc, ◌*◌, ◌<◌, ℤ, pos, ◌+ℤ◌, ◌-ℤ◌, ◌*ℤ◌, ◌≤ℤ◌, refl, sym, ap, ap₂, subst, arith}
+use Rattle.std.proofs.Common.{◌≡◌, ℕ, zero, suc, ◌*◌, ◌<◌, ℤ, pos, ◌*ℤ◌, ◌≤ℤ◌, refl, sym, ap, ap₂, subst, arith}
 use Rattle.std.specs.Int.{int_max}
-use Rattle.polcert_cells.specs.Tables.{CellTable}
-use Rattle.polcert_cells.specs.SameCells.{HasSameCells}
-use Rattle.polcert_check.specs.Horizon.{one, total_below}
+use Rattle.polcert_bound_answer.proofs.Common.{CellTable, HasSameCells, IsInformed, AreInformed, InformedVerdict, IsInformedVerdict}
+use Rattle.polcert_check.specs.Horizon.{total_below}
 use Rattle.polcert_check.proofs.Sums.SumLaws.{sum_below_same}
 use Rattle.polcert_optimum.specs.Policy.{step_weight, step_scale}
-use Rattle.polcert_optimum.specs.Informed.{greatest_below, expected_reward, expected_value, excess, IsInformed, AreInformed}
-use Rattle.polcert_optimum.specs.declared.verdict.InformedVerdict.{InformedVerdict}
-use Rattle.polcert_optimum.specs.declared.verdict.InformedVerdict.TheVariants.{Yes, Exceeded}
-use Rattle.polcert_optimum.specs.InformedCheck.{IsInformedVerdict}
+use Rattle.polcert_optimum.specs.Informed.{greatest_below, expected_reward, expected_value, excess}
 
 pub greatest_same : (f g : ℕ → ℤ) (n : ℕ) → ((i : ℕ) → i < n → f i ≡ g i) → greatest_below f n ≡ greatest_below g n
 greatest_same f g zero same = refl
@@ -25,35 +21,21 @@ module _ (t u : CellTable) (same : HasSameCells t u) where
   scale_same = ap₂ (λ x y. x * y) same.t_scale same.o_scale
 
   reward_same : (a s : ℕ) → a < t.actions → s < t.states → expected_reward t a s ≡ expected_reward u a s
-  reward_same a s al sl =
-      sum_below_same _ (λ e. total_below (λ z. pos (step_weight u a s e z) *ℤ u.r a s e z) t.observations) t.states
-      (λ e el. sum_below_same _ (λ z. pos (step_weight u a s e z) *ℤ u.r a s e z) t.observations
-      (λ z zl. ap₂ (λ w r. pos w *ℤ r) (weight_same a s e z al sl el zl) (same.r a s e z al sl el zl)))
-      ∙ ap₂ (λ zs es. total_below (λ e. total_below (λ z. pos (step_weight u a s e z) *ℤ u.r a s e z) zs) es) same.observations same.states
+  reward_same a s al sl = grind (arith, sum_below_same, weight_same)
 
   value_same : (a s z : ℕ) (vector : ℕ → ℤ) → a < t.actions → s < t.states → z < t.observations → expected_value t a s z vector ≡ expected_value u a s z vector
-  value_same a s z vector al sl zl =
-      sum_below_same _ (λ e. pos (step_weight u a s e z) *ℤ vector e) t.states
-      (λ e el. ap (λ (w : ℕ). pos w *ℤ vector e) (weight_same a s e z al sl el zl))
-      ∙ ap (λ (es : ℕ). total_below (λ e. pos (step_weight u a s e z) *ℤ vector e) es) same.states
+  value_same a s z vector al sl zl = grind (arith, sum_below_same, weight_same)
 
   best_same : (vectors : ℕ → ℕ → ℤ) (a s z : ℕ) → a < t.actions → s < t.states → z < t.observations
       → greatest_below (λ b. expected_value t a s z (vectors b)) t.actions ≡ greatest_below (λ b. expected_value u a s z (vectors b)) u.actions
-  best_same vectors a s z al sl zl =
-      greatest_same _ (λ b. expected_value u a s z (vectors b)) t.actions (λ b _. value_same a s z (vectors b) al sl zl)
-      ∙ ap (λ (n : ℕ). greatest_below (λ b. expected_value u a s z (vectors b)) n) same.actions
+  best_same vectors a s z al sl zl = grind (arith, greatest_same, value_same)
 
   bests_same : (vectors : ℕ → ℕ → ℤ) (a s : ℕ) → a < t.actions → s < t.states
       → total_below (λ z. greatest_below (λ b. expected_value t a s z (vectors b)) t.actions) t.observations ≡ total_below (λ z. greatest_below (λ b. expected_value u a s z (vectors b)) u.actions) u.observations
-  bests_same vectors a s al sl =
-      sum_below_same _ (λ z. greatest_below (λ b. expected_value u a s z (vectors b)) u.actions) t.observations (λ z zl. best_same vectors a s z al sl zl)
-      ∙ ap (λ (n : ℕ). total_below (λ z. greatest_below (λ b. expected_value u a s z (vectors b)) u.actions) n) same.observations
+  bests_same vectors a s al sl = grind (arith, sum_below_same, best_same)
 
   pub excess_same : (vectors : ℕ → ℕ → ℤ) (a s : ℕ) → a < t.actions → s < t.states → excess t vectors a s ≡ excess u vectors a s
-  excess_same vectors a s al sl =
-      let later = ap₂ (λ g x. pos g *ℤ x) same.discount (bests_same vectors a s al sl) in
-      let backup = ap₂ (λ x y. pos one *ℤ x +ℤ y) (reward_same a s al sl) later in
-      ap₂ (λ x q. x -ℤ pos (q * one) *ℤ vectors a s) backup scale_same
+  excess_same vectors a s al sl = grind (arith, scale_same, reward_same, bests_same)
 
   pub informed_there : (vectors : ℕ → ℕ → ℤ) (a s : ℕ) → a < t.actions → s < t.states → IsInformed t vectors a s → IsInformed u vectors a s
   informed_there vectors a s al sl h = subst (λ (x : ℤ). x ≤ℤ pos 0) (excess_same vectors a s al sl) h
@@ -75,14 +57,7 @@ module _ (t u : CellTable) (same : HasSameCells t u) where
   all_back vectors h a s al sl = informed_back vectors a s al sl (h a s (subst (λ (n : ℕ). a < n) same.actions al) (subst (λ (n : ℕ). s < n) same.states sl))
 
   pub verdict_there : (vectors : ℕ → ℕ → ℤ) (verdict : InformedVerdict) → IsInformedVerdict t vectors verdict → IsInformedVerdict u vectors verdict
-  verdict_there vectors Yes h = all_there vectors h
-  verdict_there vectors (Exceeded a s amount) h = (
-    subst (λ (n : ℕ). a < n) same.actions h.0,
-    subst (λ (n : ℕ). s < n) same.states h.1,
-    (λ b x bl xl before. informed_there vectors b x (action_back b bl) (state_back x xl) (h.2 b x (action_back b bl) (state_back x xl) before)),
-    h.3 ∙ excess_same vectors a s h.0 h.1,
-    h.4,
-  )
+  verdict_there vectors verdict h1 = grind (arith, excess_same, informed_there, action_back, state_back, all_there)
 
 -- ---- vectors that are the same in range
 module _ (t : CellTable) (xs ys : ℕ → ℕ → ℤ) (same : (a s : ℕ) → a < t.actions → s < t.states → xs a s ≡ ys a s) where
@@ -93,7 +68,4 @@ module _ (t : CellTable) (xs ys : ℕ → ℕ → ℤ) (same : (a s : ℕ) → a
       (λ b bl. sum_below_same _ (λ e. pos (step_weight t a s e z) *ℤ ys b e) t.states (λ e el. ap (λ (x : ℤ). pos (step_weight t a s e z) *ℤ x) (same b e bl el))))
 
   pub informed_of : AreInformed t xs → AreInformed t ys
-  informed_of h a s al sl =
-      subst (λ (x : ℤ). x ≤ℤ pos 0)
-      (ap₂ (λ x y. pos one *ℤ expected_reward t a s +ℤ pos t.discount *ℤ x -ℤ pos (step_scale t * one) *ℤ y) (expected_same a s) (same a s al sl))
-      (h a s al sl)
+  informed_of h a s al sl = grind (arith, expected_same)

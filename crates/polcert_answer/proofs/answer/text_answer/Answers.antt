@@ -1,14 +1,11 @@
-use Rattle.std.proofs.Common.{Ok, subst}
-use Rattle.polcert_model.specs.Contents.{meaning}
-use Rattle.polcert_answer.specs.Answer.{IsRoundedAnswer}
+use Rattle.std.proofs.Common.{subst, arith}
+use Rattle.polcert_answer.proofs.Common.{meaning, IsRoundedAnswer}
 use Rattle.polcert_answer.proofs.OfTexts.{refused_answer}
 use Rattle.polcert_answer.proofs.Denoted.{fits_of, answer_is, meets_each}
 use Rattle.polcert_answer.proofs.answer.text_answer.Goals as goal
 
 pub check-requires : goal.check-requires
-check-requires g c =
-    let read = c.in_ok-read.ensures in
-    fits_of _ (meaning c.in_ok-read.read.model) c.in_ok-read.read.graph c.in_ok-read.read.vectors read.graph_accepted read.vectors_accepted
+check-requires g c = grind (arith, fits_of)
 
 pub returns-in_err-read : goal.returns-in_err-read
 returns-in_err-read g c = refused_answer g.B.Bound.side _ _ _ c.from_residual.result _ c.from_residual.ensures.1 (rw c.rounding.ensures at c.in_err-read.ensures.refused)

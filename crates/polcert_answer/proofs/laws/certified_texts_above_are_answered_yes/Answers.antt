@@ -1,6 +1,4 @@
-use Rattle.polcert_text.specs.declared.number.Rounding.TheVariants.{Up}
-use Rattle.polcert_check.specs.Above.{IsAboveVerdict}
-use Rattle.polcert_check.specs.declared.above.AboveVerdict.TheVariants.{Yes}
+use Rattle.polcert_answer.proofs.Common.{Up, IsAboveVerdict, Yes}
 use Rattle.polcert_check.proofs.Mirrors.OneAbove.{one_above_verdict}
 use Rattle.polcert_answer.proofs.OneAnswer.{but_for_memory}
 use Rattle.polcert_answer.proofs.Above.{yes_if_one_step, yes_if_certified}

@@ -1,5 +1,4 @@
-use Rattle.polcert_text.specs.declared.number.Rounding.TheVariants.{Down}
-use Rattle.polcert_check.specs.Verdict.{IsVerdict}
+use Rattle.polcert_answer.proofs.Common.{Down, IsVerdict}
 use Rattle.polcert_check.specs.declared.survey.Verdict.TheVariants.{Yes}
 use Rattle.polcert_check.proofs.Agreements.OneAnswer.{one_verdict}
 use Rattle.polcert_answer.proofs.OneAnswer.{but_for_memory}

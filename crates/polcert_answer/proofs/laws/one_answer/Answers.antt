@@ -1,5 +1,4 @@
-use Rattle.polcert_text.specs.declared.number.Rounding.TheVariants.{Down}
-use Rattle.polcert_check.specs.Verdict.{IsVerdict}
+use Rattle.polcert_answer.proofs.Common.{Down, IsVerdict}
 use Rattle.polcert_check.proofs.Agreements.OneAnswer as checks
 use Rattle.polcert_answer.proofs.OneAnswer as answers
 use Rattle.polcert_answer.proofs.laws.one_answer.Goals as goal

@@ -1,5 +1,4 @@
-use Rattle.polcert_text.specs.declared.number.Rounding.TheVariants.{Up}
-use Rattle.polcert_check.specs.Above.{IsAboveVerdict}
+use Rattle.polcert_answer.proofs.Common.{Up, IsAboveVerdict}
 use Rattle.polcert_check.proofs.Mirrors.OneAbove.{one_above_verdict}
 use Rattle.polcert_answer.proofs.OneAnswer as answers
 use Rattle.polcert_answer.proofs.laws.one_answer_above.Goals as goal

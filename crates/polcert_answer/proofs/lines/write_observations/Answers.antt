@@ -1,9 +1,8 @@
 use Rattle.std.proofs.Common.{◌∙◌, cond, List, [], ℕ, ap, codes, sym}
 use Rattle.polcert_text.proofs.Printing.Written.{as_text}
-use Rattle.polcert_model.specs.Contents.{Contents, meaning}
+use Rattle.polcert_answer.proofs.Common.{meaning, observations_of, counted}
+use Rattle.polcert_model.specs.Contents.{Contents}
 use Rattle.polcert_model.proofs.WrittenParts.{wrote_nothing}
-use Rattle.polcert_cells.specs.Meaning.{observations_of}
-use Rattle.polcert_answer.specs.Lines.{counted}
 use Rattle.polcert_answer.proofs.lines.write_observations.Goals as goal
 
 abbrev count : Contents → List ℕ

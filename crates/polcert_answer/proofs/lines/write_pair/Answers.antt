@@ -1,5 +1,5 @@
 use Rattle.std.proofs.Common.{rules, codes}
-use Rattle.polcert_answer.specs.Lines.{counted}
+use Rattle.polcert_answer.proofs.Common.{counted}
 use Rattle.polcert_text.proofs.Printing.Written.{and_then, unwritten, stopped}
 use Rattle.polcert_answer.proofs.lines.write_pair.Goals as goal
 

@@ -1,6 +1,6 @@
 use Rattle.std.proofs.Common.{rules}
 use Rattle.polcert_text.proofs.Printing.Buffering.{left_after}
-use Rattle.polcert_model.specs.Contents.{meaning}
+use Rattle.polcert_answer.proofs.Common.{meaning}
 use Rattle.polcert_answer.specs.Lines.{summary_line}
 use Rattle.polcert_answer.proofs.Buffered.{stopped_through, flushed_through}
 use Rattle.polcert_answer.proofs.lines.write_summary.Goals as goal

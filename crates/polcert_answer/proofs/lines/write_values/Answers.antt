@@ -1,9 +1,8 @@
 use Rattle.std.proofs.Common.{◌≡◌, ◌∙◌, ◌<◌, ◌^◌, ℕ, pos, ap, arith, rules, to_z, w64}
 use Rattle.std.proofs.lemmas.Int.{to_z_pos}
-use Rattle.polcert_text.specs.Millionths.{scaled_text}
+use Rattle.polcert_answer.proofs.Common.{scaled_text, meaning}
 use Rattle.polcert_answer.specs.Lines.{earnings_word}
 use Rattle.polcert_text.proofs.Printing.Written.{and_then, unwritten, stopped}
-use Rattle.polcert_model.specs.Contents.{meaning}
 use Rattle.polcert_answer.proofs.lines.write_values.Goals as goal
 
 -- a small number keeps its value where it is cast

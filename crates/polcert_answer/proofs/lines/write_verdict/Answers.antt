@@ -1,6 +1,6 @@
 use Rattle.std.proofs.Common.{rules}
 use Rattle.polcert_text.proofs.Printing.Buffering.{left_after}
-use Rattle.polcert_answer.specs.Lines.{line_text}
+use Rattle.polcert_answer.proofs.Common.{line_text}
 use Rattle.polcert_answer.proofs.Buffered.{stopped_through, flushed_through}
 use Rattle.polcert_answer.proofs.lines.write_verdict.Goals as goal
 

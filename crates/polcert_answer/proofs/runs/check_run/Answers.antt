@@ -1,6 +1,5 @@
-use Rattle.polcert_model.specs.Contents.{meaning}
-use Rattle.polcert_answer.specs.Run.{IsCheckRunFault}
-use Rattle.polcert_answer.specs.Steps.Reading.{IsNoReadFault}
+use Rattle.std.proofs.Common.{arith}
+use Rattle.polcert_answer.proofs.Common.{meaning, IsCheckRunFault, IsNoReadFault}
 use Rattle.polcert_answer.proofs.Denoted.{fits_of}
 use Rattle.polcert_answer.proofs.OfSources.{wrote_mapped, text_of_answer, answered_with}
 use Rattle.polcert_answer.proofs.Answering.{has_verdict, has_promise, has_start_promise, has_horizon}
@@ -8,23 +7,11 @@ use Rattle.polcert_answer.proofs.Passing.{is_err, not_ok, no_ok, of_fault, nothi
 use Rattle.polcert_answer.proofs.runs.check_run.Goals as goal
 
 pub write_answer-requires : goal.write_answer-requires
-write_answer-requires g c =
-    let d = c.in_ok-read.ensures.accepted in
-    fits_of _ (meaning c.in_ok-read.read.model) c.in_ok-read.read.graph c.in_ok-read.read.vectors d.has_graph d.are_vectors
+write_answer-requires g c = grind (arith, fits_of)
 
 -- the fault of a read is handed on
 pub returns-in_err-read : goal.returns-in_err-read
-returns-in_err-read g c =
-    let same = is_err _ _ c.from_residual.ensures.1 in
-    let read = c.in_err-read.ensures in
-    record {
-      answered = nothing_written _ _ same read.of_reading _ _ _;
-      promise = λ yes. absurd (not_ok _ _ same _ yes);
-      start_promise = λ yes. absurd (not_ok _ _ same _ yes);
-      horizon = no_ok _ _ same _;
-      stops = stops_again _ _ same read.of_reading (rw c.rounding.ensures at read.refused) read.read read.in_order;
-      of_a_check = of_fault _ _ same _ (read_in_check _ read.of_reading);
-    }
+returns-in_err-read g c = grind (arith, is_err, not_ok, no_ok, of_fault, nothing_written, stops_again, read_in_check)
 
 -- all three texts are accepted
 pub returns : goal.returns

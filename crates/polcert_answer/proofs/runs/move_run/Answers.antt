@@ -1,5 +1,5 @@
-use Rattle.polcert_model.specs.Contents.{meaning}
-use Rattle.polcert_answer.specs.Steps.Reading.{IsReadFault}
+use Rattle.std.proofs.Common.{arith}
+use Rattle.polcert_answer.proofs.Common.{meaning}
 use Rattle.polcert_answer.proofs.Denoted.{fits_of}
 use Rattle.polcert_answer.proofs.OfSources.{wrote_mapped}
 use Rattle.polcert_answer.proofs.Answering.{has_moved, not_movable}
@@ -7,21 +7,11 @@ use Rattle.polcert_answer.proofs.Passing.{is_err, of_fault, said, no_read_fault,
 use Rattle.polcert_answer.proofs.runs.move_run.Goals as goal
 
 pub write_moved-requires : goal.write_moved-requires
-write_moved-requires g c =
-    let d = c.in_ok-given.ensures.accepted in
-    fits_of _ (meaning c.in_ok-given.given.model) c.in_ok-given.given.graph c.in_ok-given.given.vectors d.has_graph d.are_vectors
+write_moved-requires g c = grind (arith, fits_of)
 
 -- the fault of a read is handed on
 pub returns-in_err-given : goal.returns-in_err-given
-returns-in_err-given g c =
-    let same = is_err _ _ c.from_residual.ensures.1 in
-    let read = c.in_err-given.ensures in
-    record {
-      moved = nothing_written _ _ same read.of_reading _ _ _;
-      not_moved = λ fault is. absurd (no_read_fault _ (said _ _ same IsReadFault read.of_reading _ is) (c.laws.ensures.own_fault fault).1);
-      stops = stops_again _ _ same read.of_reading (rw c.rounding.ensures at read.refused) read.read read.in_order;
-      of_a_move = of_fault _ _ same _ (c.laws.ensures.read_fault _ read.of_reading);
-    }
+returns-in_err-given g c = grind (arith, is_err, of_fault, said, no_read_fault, nothing_written, stops_again)
 
 -- all three texts are accepted
 pub returns : goal.returns

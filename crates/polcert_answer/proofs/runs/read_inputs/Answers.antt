@@ -1,10 +1,6 @@
-use Rattle.std.proofs.Common.{refl}
-use Rattle.polcert_model.specs.Contents.{meaning}
-use Rattle.polcert_answer.specs.declared.fault.Fault.TheVariants.{Model, Graph, Vectors}
-use Rattle.polcert_answer.specs.declared.fault.RunFault.TheVariants.{Text, ReadModel, ReadGraph, ReadVectors}
-use Rattle.polcert_answer.specs.Answer.{HasGraph}
-use Rattle.polcert_answer.specs.Run.{IsModelReadFault}
-use Rattle.polcert_answer.specs.Steps.Reading.{IsGraphReadFault, IsVectorsReadFault}
+use Rattle.std.proofs.Common.{refl, arith}
+use Rattle.polcert_answer.proofs.Common.{meaning, Model, Graph, Vectors, Text, HasGraph, IsGraphReadFault}
+use Rattle.polcert_answer.specs.Steps.Reading.{IsVectorsReadFault}
 use Rattle.polcert_answer.proofs.Refusing.{graph_in_order}
 use Rattle.polcert_answer.proofs.Passing.{is_err, of_read, named_again, said}
 use Rattle.polcert_answer.proofs.ReadInTurn.{answered_well, unnamed, not_named}
@@ -13,14 +9,7 @@ use Rattle.polcert_answer.proofs.runs.read_inputs.Goals as goal
 -- ---- which text is refused
 
 pub returns-in_err-model-clause-refused : goal.returns-in_err-model-clause-refused
-returns-in_err-model-clause-refused g c =
-    let same = is_err _ _ c.from_residual.ensures.1 in
-    let of = c.in_err-model.ensures.of_a_model in
-    record {
-      of_model = λ fault is. c.in_err-model.ensures.refused fault (of_read _ _ same (Text (Model fault)) is);
-      of_graph = λ fault is. absurd (said _ _ same IsModelReadFault of (Text (Graph fault)) is);
-      of_vectors = λ fault is. absurd (said _ _ same IsModelReadFault of (Text (Vectors fault)) is);
-    }
+returns-in_err-model-clause-refused g c = grind (arith, is_err, of_read, said)
 
 pub returns-in_err-graph-clause-refused : goal.returns-in_err-graph-clause-refused
 returns-in_err-graph-clause-refused g c =
@@ -48,50 +37,21 @@ returns-in_err-vectors-clause-refused g c =
     }
 
 pub returns-clause-refused : goal.returns-clause-refused
-returns-clause-refused g c = record {
-  of_model = λ fault is. absurd (answered_well _ (Text (Model fault)) is);
-  of_graph = λ fault is. absurd (answered_well _ (Text (Graph fault)) is);
-  of_vectors = λ fault is. absurd (answered_well _ (Text (Vectors fault)) is);
-}
+returns-clause-refused g c = grind (arith, answered_well)
 
 -- ---- which source is named
 
 pub returns-in_err-model-clause-read : goal.returns-in_err-model-clause-read
-returns-in_err-model-clause-read g c =
-    let same = is_err _ _ c.from_residual.ensures.1 in
-    let of = c.in_err-model.ensures.of_a_model in
-    record {
-      of_model = named_again _ _ same ReadModel _ _ c.in_err-model.ensures.read;
-      of_graph = not_named _ _ (said _ _ same IsModelReadFault of ReadGraph) refl;
-      of_vectors = not_named _ _ (said _ _ same IsModelReadFault of ReadVectors) refl;
-    }
+returns-in_err-model-clause-read g c = grind (arith, is_err, named_again, said, not_named)
 
 pub returns-in_err-graph-clause-read : goal.returns-in_err-graph-clause-read
-returns-in_err-graph-clause-read g c =
-    let same = is_err _ _ c.from_residual-in_err-graph.ensures.1 in
-    let of = c.in_err-graph.ensures.of_a_graph in
-    record {
-      of_model = not_named _ _ (said _ _ same IsGraphReadFault of ReadModel) (unnamed _ ReadModel _ _ c.in_ok-model.ensures.read);
-      of_graph = named_again _ _ same ReadGraph _ _ c.in_err-graph.ensures.read;
-      of_vectors = not_named _ _ (said _ _ same IsGraphReadFault of ReadVectors) refl;
-    }
+returns-in_err-graph-clause-read g c = grind (arith, is_err, named_again, said, unnamed, not_named)
 
 pub returns-in_err-vectors-clause-read : goal.returns-in_err-vectors-clause-read
-returns-in_err-vectors-clause-read g c =
-    let same = is_err _ _ c.from_residual-in_err-vectors.ensures.1 in
-    let of = c.in_err-vectors.ensures.of_vectors in
-    record {
-      of_model = not_named _ _ (said _ _ same IsVectorsReadFault of ReadModel) (unnamed _ ReadModel _ _ c.in_ok-model.ensures.read);
-      of_graph = not_named _ _ (said _ _ same IsVectorsReadFault of ReadGraph) (unnamed _ ReadGraph _ _ c.in_ok-graph.ensures.read);
-      of_vectors = named_again _ _ same ReadVectors _ _ c.in_err-vectors.ensures.read;
-    }
+returns-in_err-vectors-clause-read g c = grind (arith, is_err, named_again, said, unnamed, not_named)
 
 pub returns-clause-read : goal.returns-clause-read
-returns-clause-read g c = record {
-  of_model = not_named _ _ (answered_well _ ReadModel) (unnamed _ ReadModel _ _ c.in_ok-model.ensures.read);
-  of_graph = not_named _ _ (answered_well _ ReadGraph) (unnamed _ ReadGraph _ _ c.in_ok-graph.ensures.read);
-  of_vectors = not_named _ _ (answered_well _ ReadVectors) (unnamed _ ReadVectors _ _ c.in_ok-vectors.ensures.read);
-}
+returns-clause-read g c = grind (arith, answered_well, unnamed, not_named)
 
 -- ---- the rest
 
@@ -100,17 +60,4 @@ returns-in_err-graph-clause-in_order g c =
     graph_in_order c.from_residual-in_err-graph.result _ _ _ _ _ c.from_residual-in_err-graph.ensures.1 c.in_err-graph.ensures.of_a_graph refl
 
 pub returns-clause-accepted : goal.returns-clause-accepted
-returns-clause-accepted g c =
-    let first = c.in_ok-model.ensures.accepted in
-    let second = c.in_ok-graph.ensures.accepted in
-    let third = c.in_ok-vectors.ensures.accepted in
-    record {
-      first = first.0;
-      second = second.0;
-      third = third.0;
-      model_read = first.1;
-      graph_read = second.1;
-      vectors_read = third.1;
-      has_graph = record { is_model = first.2; is_graph = second.2 };
-      are_vectors = third.2;
-    }
+returns-clause-accepted g c = grind arith

@@ -1,5 +1,5 @@
 use Rattle.std.proofs.Common.{refl}
-use Rattle.polcert_model.specs.Contents.{meaning}
+use Rattle.polcert_answer.proofs.Common.{meaning}
 use Rattle.polcert_answer.proofs.Denoted.{vectors_refused}
 use Rattle.polcert_answer.proofs.Refusing.{each_text, named_rightly}
 use Rattle.polcert_answer.proofs.runs.vectors_of_run.Goals as goal

@@ -1,4 +1,5 @@
-use Rattle.polcert_answer.specs.Lines.{line_text}
+use Rattle.std.proofs.Common.{arith}
+use Rattle.polcert_answer.proofs.Common.{line_text}
 use Rattle.polcert_answer.proofs.runs.write_answer.Goals as goal
 
 pub returns-in-Ok-clause-answered : goal.returns-in-Ok-clause-answered
@@ -6,7 +7,4 @@ returns-in-Ok-clause-answered g c =
     record { took = (line_text c.line.result, record { verdict_is = c.check-verdict.ensures.verdict; line_is = c.line.ensures }, c.in-Ok.ensures.ok); begun = λ failed. absurd (cc) }
 
 pub returns-in-Err-clause-answered : goal.returns-in-Err-clause-answered
-returns-in-Err-clause-answered g c = record {
-  took = tt;
-  begun = λ failed. (c.check-verdict.result, line_text c.line.result, record { verdict_is = c.check-verdict.ensures.verdict; line_is = c.line.ensures }, c.in-Err.ensures.err);
-}
+returns-in-Err-clause-answered g c = grind arith

@@ -1,6 +1,6 @@
 use Rattle.std.proofs.Common.{rules}
 use Rattle.polcert_text.proofs.Printing.Buffering.{left_after}
-use Rattle.polcert_model.specs.Contents.{meaning}
+use Rattle.polcert_answer.proofs.Common.{meaning}
 use Rattle.polcert_model.specs.FullForm.{full_form}
 use Rattle.polcert_answer.proofs.Buffered.{stopped_through, flushed_through}
 use Rattle.polcert_answer.proofs.runs.write_full_form.Goals as goal

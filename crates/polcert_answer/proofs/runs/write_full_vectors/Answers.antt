@@ -1,6 +1,6 @@
 use Rattle.std.proofs.Common.{rules}
 use Rattle.polcert_text.proofs.Printing.Buffering.{left_after}
-use Rattle.polcert_policy.specs.FullForm.{vectors_text}
+use Rattle.polcert_answer.proofs.Common.{vectors_text}
 use Rattle.polcert_answer.proofs.Buffered.{stopped_through, flushed_through}
 use Rattle.polcert_answer.proofs.runs.write_full_vectors.Goals as goal
 

@@ -1,8 +1,5 @@
 use Rattle.std.proofs.Common.{Ok, subst}
-use Rattle.polcert_model.specs.Contents.{meaning}
-use Rattle.polcert_cells.specs.Tables.{table_of}
-use Rattle.polcert_policy.specs.Vectors.{value_of}
-use Rattle.polcert_bound_answer.specs.Answer.{IsBoundAnswer}
+use Rattle.polcert_bound_answer.proofs.Common.{meaning, table_of, value_of, IsBoundAnswer}
 use Rattle.polcert_bound_answer.proofs.OneInformed.{meets}
 use Rattle.polcert_bound_answer.proofs.OneAnswer.{refused_answer}
 use Rattle.polcert_bound_answer.proofs.Denoted.{certificate_of, fit_of, verdict_of_each, table_proper, yes_certified}

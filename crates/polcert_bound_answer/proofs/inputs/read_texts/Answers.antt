@@ -1,6 +1,5 @@
 use Rattle.std.proofs.Common.{◌≡◌, subst}
-use Rattle.polcert_answer.specs.declared.fault.RunFault.TheVariants.{Text}
-use Rattle.polcert_bound_answer.specs.Steps.Reading.{IsBoundReadFault}
+use Rattle.polcert_bound_answer.proofs.Common.{Text, IsBoundReadFault}
 use Rattle.polcert_bound_answer.proofs.OfTexts.{denoted_slices, refused_slices}
 use Rattle.polcert_bound_answer.proofs.inputs.read_texts.Goals as goal
 

@@ -1,16 +1,11 @@
-use Rattle.std.proofs.Common.{refl}
-use Rattle.polcert_model.specs.Contents.{meaning}
+use Rattle.std.proofs.Common.{refl, arith}
+use Rattle.polcert_bound_answer.proofs.Common.{meaning}
 use Rattle.polcert_answer.proofs.Refusing.{each_text, named_rightly}
 use Rattle.polcert_bound_answer.proofs.Denoted.{vectors_refused}
 use Rattle.polcert_bound_answer.proofs.inputs.vectors_of_run.Goals as goal
 
 pub read_action_vectors_from-requires : goal.read_action_vectors_from-requires
-read_action_vectors_from-requires g c = record {
-  some_actions = c.actions.ensures.count.0;
-  few_actions = c.actions.ensures.count.1;
-  some_states = c.states.ensures.count.0;
-  few_states = c.states.ensures.count.1;
-}
+read_action_vectors_from-requires g c = grind arith
 
 pub returns-in-Ok-clause-accepted : goal.returns-in-Ok-clause-accepted
 returns-in-Ok-clause-accepted g c = rw (c.actions.ensures.elements, c.states.ensures.elements) at c.in-Ok.ensures.read.accepted

@@ -1,7 +1,7 @@
 use Rattle.std.proofs.Common.{rules, codes}
 use Rattle.std.proofs.lemmas.Int.{to_z-of_z}
 use mir.Syntax.{w64}
-use Rattle.polcert_text.specs.Millionths.{scaled_text}
+use Rattle.polcert_bound_answer.proofs.Common.{scaled_text}
 use Rattle.polcert_text.proofs.Printing.Written.{and_then, unwritten, stopped}
 use Rattle.polcert_bound_answer.proofs.lines.write_at_most.Goals as goal
 

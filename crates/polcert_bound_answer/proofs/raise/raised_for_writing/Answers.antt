@@ -1,12 +1,7 @@
 use Rattle.std.proofs.Common.{◌≡◌, ◌∙◌, ℕ, ap, sym}
-use Rattle.std.proofs.Math.Path.{subst⁻¹}
+use Rattle.polcert_bound_answer.proofs.Common.{subst⁻¹, table_of, meaning, action_graph, PolicyVectors, value_of, shifted_by, AreInformed}
 use Rattle.std.proofs.lemmas.Int.{to_z-of_z}
 use mir.Syntax.{w64}
-use Rattle.polcert_cells.specs.Tables.{table_of}
-use Rattle.polcert_model.specs.Contents.{meaning}
-use Rattle.polcert_policy.specs.ActionVectors.{action_graph}
-use Rattle.polcert_policy.specs.Vectors.{PolicyVectors, value_of, shifted_by}
-use Rattle.polcert_optimum.specs.Informed.{AreInformed}
 use Rattle.polcert_bound_answer.proofs.Raising.{raised_informed, can_shift}
 use Rattle.polcert_bound_answer.proofs.raise.raised_for_writing.Goals as goal
 

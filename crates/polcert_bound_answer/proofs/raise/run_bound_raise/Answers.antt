@@ -1,8 +1,7 @@
-use Rattle.polcert_model.specs.Contents.{meaning}
-use Rattle.polcert_answer.specs.declared.fault.RunFault.TheVariants.{Raise}
+use Rattle.std.proofs.Common.{arith}
+use Rattle.polcert_bound_answer.proofs.Common.{meaning}
 use Rattle.polcert_answer.proofs.OfSources.{wrote_mapped}
 use Rattle.polcert_answer.proofs.Passing.{is_err, of_fault, said, nothing_written}
-use Rattle.polcert_bound_answer.specs.Steps.Reading.{IsBoundReadFault}
 use Rattle.polcert_bound_answer.proofs.Denoted.{fit_of}
 use Rattle.polcert_bound_answer.proofs.Raising.{has_raised, not_raisable, read_in_raise, raised_in_raise}
 use Rattle.polcert_bound_answer.proofs.Passing.{is_read, stops_again, stops_after}
@@ -15,15 +14,7 @@ write_raised_vectors-requires g c =
 
 -- the fault of a read is handed on
 pub returns-in_err-given : goal.returns-in_err-given
-returns-in_err-given g c =
-    let same = is_err _ _ c.from_residual.ensures.1 in
-    let read = c.in_err-given.ensures in
-    record {
-      raised = nothing_written _ _ same (is_read _ read.of_reading) _ _ _;
-      not_raised = λ fault is. absurd (said _ _ same IsBoundReadFault read.of_reading (Raise fault) is);
-      stops = stops_again _ _ same read.of_reading read.refused read.read read.in_order;
-      of_a_raise = of_fault _ _ same _ (read_in_raise _ read.of_reading);
-    }
+returns-in_err-given g c = grind (arith, is_err, of_fault, said, nothing_written, read_in_raise, is_read, stops_again)
 
 -- both texts are accepted
 pub returns : goal.returns

@@ -1,9 +1,7 @@
-use Rattle.polcert_model.specs.Contents.{meaning}
-use Rattle.polcert_optimum.specs.declared.verdict.InformedVerdict.TheVariants.{Yes}
+use Rattle.std.proofs.Common.{arith}
+use Rattle.polcert_bound_answer.proofs.Common.{meaning, Yes, IsBoundCheckFault, IsBoundWriteFault}
 use Rattle.polcert_answer.proofs.OfSources.{wrote_mapped, text_of_answer, answered_with}
 use Rattle.polcert_answer.proofs.Passing.{is_err, not_ok, no_ok, of_fault, nothing_written, of_writing, is_write}
-use Rattle.polcert_bound_answer.specs.Run.{IsBoundCheckFault}
-use Rattle.polcert_bound_answer.specs.Steps.Reading.{IsBoundWriteFault}
 use Rattle.polcert_bound_answer.proofs.Denoted.{fit_of}
 use Rattle.polcert_bound_answer.proofs.Answering.{has_verdict, has_promise, has_start_promise, has_horizon}
 use Rattle.polcert_bound_answer.proofs.Passing.{is_read, read_in_check, stops_again, stops_after}
@@ -16,17 +14,7 @@ write_answer-requires g c =
 
 -- the fault of a read is handed on
 pub returns-in_err-read : goal.returns-in_err-read
-returns-in_err-read g c =
-    let same = is_err _ _ c.from_residual.ensures.1 in
-    let read = c.in_err-read.ensures in
-    record {
-      answered = nothing_written _ _ same (is_read _ read.of_reading) _ _ _;
-      promise = λ yes. absurd (not_ok _ _ same _ yes);
-      start_promise = λ yes. absurd (not_ok _ _ same _ yes);
-      horizon = no_ok _ _ same _;
-      stops = stops_again _ _ same read.of_reading read.refused read.read read.in_order;
-      of_a_check = of_fault _ _ same _ (read_in_check _ read.of_reading);
-    }
+returns-in_err-read g c = grind (arith, is_err, not_ok, no_ok, of_fault, nothing_written, is_read, read_in_check, stops_again)
 
 -- both texts are accepted
 pub returns : goal.returns

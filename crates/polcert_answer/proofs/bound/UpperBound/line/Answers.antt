@@ -1,9 +1,6 @@
 use Rattle.std.proofs.Common.{◌≡◌, refl, rules, to_z, of_z, w64, to_z-of_z, FitsSigned}
-use Rattle.std.proofs.Math.Path.{subst⁻¹}
-use Rattle.polcert_cells.specs.Tables.{table_of}
-use Rattle.polcert_model.specs.Contents.{meaning}
-use Rattle.polcert_check.specs.Horizon.{controller_of}
-use Rattle.polcert_answer.specs.Lines.{yes_above_line, IsAboveVerdictLine}
+use Rattle.polcert_answer.proofs.Common.{subst⁻¹, table_of, meaning, controller_of, IsAboveVerdictLine}
+use Rattle.polcert_answer.specs.Lines.{yes_above_line}
 use Rattle.polcert_answer.proofs.bound.UpperBound.line.Goals as goal
 
 pub returns-in-Yes : goal.returns-in-Yes
