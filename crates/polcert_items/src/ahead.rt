@@ -15,7 +15,7 @@ ghost use Rattle.polcert_items.specs.Steps.Items.{IsItemWithin};
 use crate::entry_reader::{
     EntryReader, EntryState, ListNumber, Numbers, indices_of, takes_numbers,
 };
-use crate::item::ItemReader;
+use crate::item::{AddError, ItemReader};
 use crate::model_so_far::ModelSoFar;
 use crate::preamble_lines::element_by_name;
 use crate::signed_number::range_fault;
@@ -57,43 +57,47 @@ impl ItemReader {
     }
 
     /// Ends an entry and begins one of this table in its reader, so that nothing large is moved. `false`: unknown, take the slow
-    /// path; all stays.
+    /// path; all stays. An error is out of memory.
     #[inline(always)]
-    pub fn next_entry(&mut self, known: &mut ModelSoFar, table: Table) -> bool
+    pub fn next_entry(&mut self, known: &mut ModelSoFar, table: Table) -> Result<bool, AllocError>
         requires { (a : EntryR) (e : E) → self.old ≡ ItemReader.Entry a
             → EntryGoes (preamble_in known.old) a [] e → IsAllowedNext known.old (ItemContents.Entry e) }
-        ensures next { IsTrue result → IsNextItem known.old self.old table known.new self.new }
-        ensures known { IsFalse result → known.new ≡ known.old }
-        ensures unknown { IsFalse result → self.new ≡ self.old }
+        ensures next { IfOk result (λ begun. IsTrue begun
+            → IsNextItem known.old self.old table known.new self.new) }
+        ensures known { IfOk result (λ begun. IsFalse begun → known.new ≡ known.old) }
+        ensures unknown { IfOk result (λ begun. IsFalse begun → self.new ≡ self.old) }
     {
         match self {
             ItemReader::Entry(reader) => reader.next_entry(known, table),
-            _ => false,
+            _ => Ok(false),
         }
     }
 }
 
 impl EntryReader {
-    /// Adds the entry to what is known, and begins one of this table. `false`: unknown, and all stays.
+    /// Adds the entry to what is known, and begins one of this table. `false`: unknown, and all stays. An error is out of memory.
     #[inline(always)]
-    fn next_entry(&mut self, known: &mut ModelSoFar, table: Table) -> bool
+    fn next_entry(&mut self, known: &mut ModelSoFar, table: Table) -> Result<bool, AllocError>
         requires { (e : E) → EntryGoes (preamble_in known.old) self.old [] e
             → IsAllowedNext known.old (ItemContents.Entry e) }
-        ensures next { IsTrue result → IsNextEntry known.old self.old table known.new self.new }
-        ensures known { IsFalse result → known.new ≡ known.old }
-        ensures unknown { IsFalse result → self.new ≡ self.old }
+        ensures next { IfOk result (λ begun. IsTrue begun
+            → IsNextEntry known.old self.old table known.new self.new) }
+        ensures known { IfOk result (λ begun. IsFalse begun → known.new ≡ known.old) }
+        ensures unknown { IfOk result (λ begun. IsFalse begun → self.new ≡ self.old) }
     {
         if known.word_fault(Topic::Cells(table)).is_some() {
-            return false;
+            return Ok(false);
         }
         let Some(entry) = self.whole_entry() else {
-            return false;
+            return Ok(false);
         };
-        let Ok(()) = known.add_entry(entry) else {
-            return false;
-        };
+        match known.add_entry(entry) {
+            Ok(()) => {}
+            Err(AddError::TooManyCells) => return Ok(false),
+            Err(AddError::Memory) => return Err(AllocError),
+        }
         self.restart(table);
-        true
+        Ok(true)
     }
 
     /// Takes tokens of an entry ahead. It tries for places only if the line of the entry begins.

@@ -1,6 +1,6 @@
 -- A text that was read to its end, and the model that is made of it.
-use Rattle.std.proofs.Common.{◌≡◌, ◌∙◌, ℕ, None, Result, Ok, Err, IfOk, IfErr, MatchResult, List, sym, subst, arith}
-use Rattle.polcert_model.proofs.Common.{Lexeme, IsCut, text_rest, end_place, text_limit, Table, IsFirstWrongRow, ModelSoFar, TextTokens, AreTokensOf, preamble_in, IsWholeRead, said}
+use Rattle.std.proofs.Common.{ℕ, None, List, sym, subst}
+use Rattle.polcert_model.proofs.Common.{Lexeme, IsCut, text_rest, text_limit, Table, IsFirstWrongRow, ModelSoFar, TextTokens, AreTokensOf, preamble_in, IsWholeRead, said}
 use Rattle.polcert_text.proofs.Scanning.CleanCut.{clean_tokens}
 use Rattle.polcert_format.specs.declared.fault.ModelFault.TheVariants as model_faults
 use Rattle.polcert_cells.specs.Meaning.{Meaning, IsSame, HasProperRows}
@@ -11,7 +11,7 @@ use Rattle.polcert_tables.specs.Contents.{Contents, meaning}
 use Rattle.polcert_tables.specs.Steps.KeptOf.{IsKeptOf, DenotesWithinLimits}
 use Rattle.polcert_format.proofs.LimitLaws.{within_limits}
 use Rattle.polcert_format.proofs.FrontLaws.{these_tokens}
-use Rattle.polcert_items.proofs.WholeItems.{whole_right, whole_sound}
+use Rattle.polcert_items.proofs.WholeItems.{whole_right}
 use Rattle.polcert_tables.proofs.KeptLaws.{kept_same}
 use Rattle.polcert_full_form.proofs.Writable.WritableTexts.{text_writable}
 

@@ -106,12 +106,15 @@ impl TextReader {
         ensures read { IfOk result (λ count. TakesAhead (TextReadsOn self.old self.new) bytes.now count) }
     {
         let mut at = self.feed_item_ahead(alloc, bytes)?;
-        while let Some(len) = self.begin_ahead(&bytes[at..]) {
-            at += len;
+        loop {
+            let word = self.begin_ahead(&bytes[at..])?;
+            at += word;
+            if word == 0 {
+                return Ok(at);
+            }
             let more = self.feed_item_ahead(alloc, &bytes[at..])?;
             at += more;
         }
-        Ok(at)
     }
 
     /// Continues so with the rest of the open item.
@@ -128,47 +131,47 @@ impl TextReader {
     }
 
     /// Begins an entry at the word that the bytes begin with, if it follows an entry, and answers how many bytes the word takes.
-    /// `None`: unknown, take the slow path.
+    /// 0: unknown, take the slow path. An error is out of memory.
     #[inline(always)]
-    fn begin_ahead(&mut self, bytes: &[u8]) -> Option<usize>
+    fn begin_ahead(&mut self, bytes: &[u8]) -> Result<usize, AllocError>
         requires read { (seen : List Lexeme) × IsTextRead seen self.old }
         requires few { self.old.number + 1 < 2 ^ 64 }
-        ensures some { IfSome result (λ len. 0 < len) }
-        ensures number { IfSome result (λ _. self.new.number ≡ self.old.number + 1) }
-        ensures read { IfSome result (λ len. TakesAhead (TextReadsOn self.old self.new) bytes.now len) }
-        ensures none { IfNone result (self.new ≡ self.old) }
+        ensures number { IfOk result (λ count. self.new.number ≤ self.old.number + count) }
+        ensures read { IfOk result (λ count. TakesAhead (TextReadsOn self.old self.new) bytes.now count) }
     {
         let Some(token) = front_name(bytes) else {
-            return None;
+            return Ok(0);
         };
         let Some(Topic::Cells(table)) = begun_topic(&token) else {
-            return None;
+            return Ok(0);
         };
-        if self.next_entry(table) {
-            Some(token.stop as usize)
+        if self.next_entry(table)? {
+            Ok(token.stop as usize)
         } else {
-            None
+            Ok(0)
         }
     }
 
-    /// Ends the open entry and begins one of this table in its reader. `false`: unknown, and all stays.
+    /// Ends the open entry and begins one of this table in its reader. `false`: unknown, and all stays. An error is out of memory.
     #[inline(always)]
-    fn next_entry(&mut self, table: Table) -> bool
+    fn next_entry(&mut self, table: Table) -> Result<bool, AllocError>
         requires read { (seen : List Lexeme) × IsTextRead seen self.old }
         requires few { self.old.number + 1 < 2 ^ 64 }
-        ensures number { IsTrue result → self.new.number ≡ self.old.number + 1 }
-        ensures read { IsTrue result → (seen : List Lexeme) (word : Lexeme) → IsTextRead seen self.old
-            → topic word ≡ Some (Topic.Cells table) → IsTextRead (seen ++ word ∷ []) self.new }
-        ensures unknown { IsFalse result → self.new ≡ self.old }
+        ensures number { IfOk result (λ begun. IsTrue begun → self.new.number ≡ self.old.number + 1) }
+        ensures read { IfOk result (λ begun. IsTrue begun → (seen : List Lexeme) (word : Lexeme)
+            → IsTextRead seen self.old → topic word ≡ Some (Topic.Cells table)
+            → IsTextRead (seen ++ word ∷ []) self.new) }
+        ensures unknown { IfOk result (λ begun. IsFalse begun → self.new ≡ self.old) }
     {
         let Some(item) = &mut self.item else {
-            return false;
+            return Ok(false);
         };
-        if !item.next_entry(&mut self.known, table) {
-            return false;
+        if item.next_entry(&mut self.known, table)? {
+            self.number += 1;
+            Ok(true)
+        } else {
+            Ok(false)
         }
-        self.number += 1;
-        true
     }
 
     /// Ends the item that is open, where the next begins or the text ends.
