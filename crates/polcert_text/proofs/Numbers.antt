@@ -8,3 +8,4 @@ pub mod Plain
 pub mod PlainWhole
 pub mod SignedLaws
 pub mod SizeLaws
+pub mod SixDigits

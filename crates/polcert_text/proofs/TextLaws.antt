@@ -1,5 +1,5 @@
 -- The laws of the definitions that proofs of the crates above may cite. Each is the contract of a public function.
-use Rattle.std.proofs.Common.{◌≡◌, ◌∙◌, ℕ, ◌≤◌, Bool, Option, Some, None, Result, Ok, Err, List, refl, sym, subst, arith, ℤ, ◌≤ℤ◌, rules}
+use Rattle.std.proofs.Common.{◌≡◌, ◌∙◌, ℕ, Bool, Option, Some, None, Result, Ok, Err, List, refl, sym, subst, arith, ℤ, ◌≤ℤ◌, rules}
 use Rattle.polcert_text.proofs.Common.{ints, Lexeme, Rest, TakesToken, Ends, IsCut, lexeme_of, millionth, IsReadable, IsExact, IsFloor, IsCeil, IsRounded, TokenFault, Rounding}
 use Rattle.polcert_text.specs.Reading.{GivesNext}
 use Rattle.polcert_text.specs.Numbers.{IsRefused, IsRefusedExactly}

@@ -8,15 +8,13 @@ ghost use Rattle.polcert_text.specs.Reading.{lexeme_of};
 ghost use Rattle.polcert_text.specs.Steps.ScanOf.{EndsAsNumber, EndsAsDigits, IsNumberFrom};
 ghost use Rattle.std.specs.Str.Parse.{digits_value};
 ghost use Rattle.polcert_text.specs.FrontValues.{BeginWithValue};
-ghost use Rattle.polcert_text.specs.Steps.FrontSizes.{AreDigitsFrom, IsTail, EndsAsSize};
+ghost use Rattle.polcert_text.specs.Steps.FrontSizes.{AreDigitsFrom, AreSixDigits, IsTail, EndsAsSize};
 
 use crate::bytes::{
     quick_is_blank, quick_is_colon, quick_is_digit, quick_is_letter, quick_is_minus,
     quick_is_point, quick_sign,
 };
-use crate::number::{
-    LARGEST, MILLION, Rounding, Size, few_digits, power_of_ten, signed, with_zeros,
-};
+use crate::number::{MILLION, Rounding, Size, few_digits, power_of_ten, signed, with_zeros};
 use crate::tokens::{Gap, LONGEST_TOKEN, Token, TokenKind, ended_name, ended_name_or_mark};
 
 /// An unsigned number at the front of some bytes: its value, and how many bytes it takes with the blanks before it.
@@ -186,26 +184,14 @@ pub(crate) fn blanks(bytes: &[u8]) -> usize
     at
 }
 
-/// Returns the same, without a loop if there is one or none.
-#[inline(always)]
-fn few_blanks(bytes: &[u8]) -> usize
-    ensures within { result ≤ length bytes.now }
-    ensures gap { gap_through Gap.Between (take result bytes.now) ≡ Gap.Between }
-{
-    let start = one_blank(bytes);
-    if start < bytes.len() && !quick_is_blank(bytes[start]) {
-        return start;
-    }
-    blanks(bytes)
-}
-
-/// Numerals with more digits before the point are rare, and read the general way; and so are those with more after it.
+/// Numerals with more digits before the point are rare (no number that is allowed needs them, except the largest), and read the general
+/// way.
 const MOST_WHOLE: usize = 7;
 
 const MOST_DECIMALS: usize = 6;
 
-/// The longest numeral that is read here, with the blank after it.
-const ROOM: usize = MOST_WHOLE + 1 + MOST_DECIMALS + 1;
+/// The longest numeral without decimals after the sixth, with two bytes after it. Fewer bytes are read the general way.
+const ROOM: usize = MOST_WHOLE + 1 + MOST_DECIMALS + 2;
 
 #[inline(always)]
 fn ended_digits(bytes: &[u8]) -> Option<FrontDigits>
@@ -241,7 +227,7 @@ fn ended_number(bytes: &[u8]) -> Option<FrontDigits>
             value: whole * MILLION,
         });
     }
-    let (number, len) = few_digits(whole, bytes, point + 1, MOST_DECIMALS);
+    let (number, len) = decimals(whole, bytes, point + 1);
     if !quick_is_blank(bytes[len]) {
         return None;
     }
@@ -279,7 +265,27 @@ struct Tail {
 pub fn front_value(rounding: Rounding, bytes: &[u8]) -> Option<FrontValue>
     ensures { IfSome result (λ value. (place : ℕ) → BeginWithValue rounding place bytes.now value) }
 {
-    let start = few_blanks(bytes);
+    match value_from(rounding, bytes, one_blank(bytes)) {
+        Some(value) => Some(value),
+        None => far_value(rounding, bytes),
+    }
+}
+
+/// Does the same after any number of blanks. Most values follow one blank or none.
+#[inline(never)]
+fn far_value(rounding: Rounding, bytes: &[u8]) -> Option<FrontValue>
+    ensures { IfSome result (λ value. (place : ℕ) → BeginWithValue rounding place bytes.now value) }
+{
+    value_from(rounding, bytes, blanks(bytes))
+}
+
+/// Returns the value that begins at this index, after blanks. `None`: unknown.
+#[inline(always)]
+fn value_from(rounding: Rounding, bytes: &[u8], start: usize) -> Option<FrontValue>
+    requires within { start ≤ length bytes.now }
+    requires gap { gap_through Gap.Between (take start bytes.now) ≡ Gap.Between }
+    ensures { IfSome result (λ value. (place : ℕ) → BeginWithValue rounding place bytes.now value) }
+{
     let rest = &bytes[start..];
     if !rest.is_empty() && quick_is_minus(rest[0]) {
         let Some(numeral) = ended_size(&rest[1..]) else {
@@ -299,14 +305,8 @@ pub fn front_value(rounding: Rounding, bytes: &[u8]) -> Option<FrontValue>
     })
 }
 
-/// More digits before the point are rare, and read the general way.
-const MOST_DIGITS: usize = 9;
-
 /// A point, and the decimals of a millionth.
-const DECIMALS: usize = 7;
-
-/// The longest numeral without decimals after the sixth, and a byte after it. Fewer bytes are read the general way.
-const VALUE_ROOM: usize = MOST_DIGITS + DECIMALS + 1;
+const DECIMALS: usize = 1 + MOST_DECIMALS;
 
 /// More decimals after the sixth are rare, and read the general way.
 const LONGEST_TAIL: usize = 300;
@@ -317,17 +317,14 @@ const LONGEST_TAIL: usize = 300;
 fn ended_size(bytes: &[u8]) -> Option<FrontSize>
     ensures { IfSome result (EndsAsSize bytes.now) }
 {
-    if bytes.len() < VALUE_ROOM {
+    if bytes.len() < ROOM {
         return None;
     }
-    let (whole, point) = digits_until(0, bytes, 0, MOST_DIGITS);
+    let (whole, point) = digits_until(0, bytes, 0, MOST_WHOLE);
     if point == 0 {
         return None;
     }
     if quick_is_blank(bytes[point]) {
-        if whole >= LARGEST / MILLION {
-            return None;
-        }
         return Some(FrontSize {
             len: point,
             size: Size {
@@ -336,25 +333,91 @@ fn ended_size(bytes: &[u8]) -> Option<FrontSize>
             },
         });
     }
-    let full = point + DECIMALS;
-    let (number, kept) = digits_until(whole, bytes, point + 1, full);
-    if !quick_is_point(bytes[point]) || number > LARGEST {
+    if !quick_is_point(bytes[point]) {
         return None;
     }
+    let full = point + DECIMALS;
+    let (number, kept) = decimals(whole, bytes, point + 1);
     let Some(tail) = tail_from(bytes, kept, full) else {
         return None;
     };
-    let floor = with_zeros(number, full - kept);
-    if floor >= LARGEST {
-        return None;
-    }
     Some(FrontSize {
         len: tail.end,
         size: Size {
-            floor,
+            floor: with_zeros(number, full - kept),
             is_inexact: tail.is_inexact,
         },
     })
+}
+
+/// Returns the number that the digits of `number` and at most six from `from` on spell, up to the first byte that is no digit, and where
+/// that is. Most numbers have six decimals, which are read at once.
+#[inline(always)]
+fn decimals(number: u64, bytes: &[u8], from: usize) -> (u64, usize)
+    requires within { from + 8 ≤ length bytes.now }
+    requires few { number < 1_000_000_000 }
+    ensures within { (from ≤ result.1) × (result.1 ≤ from + 6) }
+    ensures digits { AreDigitsFrom bytes.now from result.1 }
+    ensures value { (front : List ℕ) → number ≡ digits_value 10 front
+        → result.0 ≡ digits_value 10 (front ++ take (result.1 - from) (drop from bytes.now)) }
+    ensures few { (m : ℕ) → number < 10 ^ m → result.0 < 10 ^ (m + (result.1 - from)) }
+{
+    match six_digits(bytes, from) {
+        Some(six) => (number * MILLION + six, from + MOST_DECIMALS),
+        None => fewer_decimals(number, bytes, from),
+    }
+}
+
+/// Does the same digit by digit. (Apart, so that the six bytes above are loaded once.)
+#[inline(never)]
+fn fewer_decimals(number: u64, bytes: &[u8], from: usize) -> (u64, usize)
+    requires within { from + 8 ≤ length bytes.now }
+    requires few { number < 1_000_000_000 }
+    ensures within { (from ≤ result.1) × (result.1 ≤ from + 6) }
+    ensures digits { AreDigitsFrom bytes.now from result.1 }
+    ensures value { (front : List ℕ) → number ≡ digits_value 10 front
+        → result.0 ≡ digits_value 10 (front ++ take (result.1 - from) (drop from bytes.now)) }
+    ensures few { (m : ℕ) → number < 10 ^ m → result.0 < 10 ^ (m + (result.1 - from)) }
+{
+    digits_until(number, bytes, from, from + MOST_DECIMALS)
+}
+
+/// The digit 0 in each of six bytes.
+const SIX_ZEROS: u64 = 0x3030_3030_3030;
+
+/// Added to a byte that is less than 128, it gives 128 or more unless the byte is 9 or less.
+const SIX_ABOVE: u64 = 0x7676_7676_7676;
+
+/// The highest bit of each byte.
+const HIGH_BITS: u64 = 0x8080_8080_8080_8080;
+
+/// How many bits are not of the first six bytes.
+const OTHER_BITS: u32 = 16;
+
+/// Returns the number that six digits from `from` on spell. `None`: one of the bytes is no digit.
+#[inline(always)]
+fn six_digits(bytes: &[u8], from: usize) -> Option<u64>
+    requires { from + 8 ≤ length bytes.now }
+    ensures { IfSome result (AreSixDigits bytes.now from) }
+{
+    // (Two bytes more, since eight are read at once.)
+    let word = u64::from_le_bytes([
+        bytes[from],
+        bytes[from + 1],
+        bytes[from + 2],
+        bytes[from + 3],
+        bytes[from + 4],
+        bytes[from + 5],
+        bytes[from + 6],
+        bytes[from + 7],
+    ]);
+    let digits = (word << OTHER_BITS >> OTHER_BITS).wrapping_sub(SIX_ZEROS);
+    if digits & HIGH_BITS != 0 || (digits + SIX_ABOVE) & HIGH_BITS != 0 {
+        return None;
+    }
+    // (The first, third and fifth byte of the sum are two digits each.)
+    let pairs = digits * 10 + (digits >> 8);
+    Some((pairs & 0xFF) * 10_000 + (pairs >> 16 & 0xFF) * 100 + (pairs >> 32 & 0xFF))
 }
 
 /// The first digit.

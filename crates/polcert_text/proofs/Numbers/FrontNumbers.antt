@@ -1,7 +1,7 @@
 -- Numerals that end within some bytes, and their values.
 use Rattle.std.proofs.Common.{◌≡◌, ◌∙◌, ◌⊎◌, ⊎_elim, ℕ, suc, ◌+◌, ◌-◌, ◌*◌, ◌^◌, ◌<◌, ◌≤◌, ◌&&◌, ◌||◌, min, true, false, List, [], ◌∷◌, ◌++◌, length, take, drop, get_or, pos, refl, sym, ap, arith}
 use Rattle.polcert_text.proofs.Common.{pow-le-pow_right, drop-take, drop_all, list_all, list_any, digits_value, is_digit, class_of, glue_class, is_glued, are_digits, largest, IsReadable, IsExact, cap, is_nonzero, Measures, state_through, ByteClass, Digit, Point, Start, Whole, Fraction, Numeral}
-use Rattle.std.proofs.Math.Nat.{mul_assoc, suc-mul, mul-le-mul, mul-le-mul_right}
+use Rattle.std.proofs.Math.Nat.{suc-mul, mul-le-mul_right}
 use Rattle.std.proofs.lemmas.Nat.{pow-add}
 use Rattle.std.proofs.lemmas.List.{get_or-take, get_or-drop, length-take-le, length-drop, take-take}
 use Rattle.polcert_text.specs.declared.bytes.ByteClass.TheVariants.{Blank, LineEnd}
@@ -109,16 +109,17 @@ small_step read number k d digit small = grind (arith, pow_next)
 pub small_whole : (whole p : ℕ) → p ≤ 7 → whole < (0 + 1) * 10 ^ (p - 0) → whole < 10000000
 small_whole whole p few small = grind (arith, pow-le-pow_right)
 
+pub few_whole : (whole p : ℕ) → p ≤ 7 → whole < 10 ^ (0 + (p - 0)) → whole < 10000000
+few_whole whole p few small = grind (arith, pow-le-pow_right)
+
 -- and with six digits more
-pub small_read : (read number k : ℕ) → number < 10000000 → k ≤ 6 → read < (number + 1) * 10 ^ k → read < largest
-small_read read number k few high small = grind (arith, mul-le-mul, pow-le-pow_right)
+pub small_read : (read k : ℕ) → k ≤ 6 → read < 10 ^ (7 + k) → read < largest
+small_read read k few small = grind (arith, pow-le-pow_right)
 
 -- a number with its decimals, in millionths
-pub small_scaled : (number whole k j : ℕ) → whole < 10000000 → k + j ≡ 6 → number < (whole + 1) * 10 ^ k → number * 10 ^ j < largest
-small_scaled number whole k j few sum small =
-    let powers : 10 ^ k * 10 ^ j ≡ 10 ^ 6 = sym (pow-add 10 k j) ∙ ap (λ n. 10 ^ n) sum in
-    let parts : (whole + 1) * 10 ^ k * 10 ^ j ≡ (whole + 1) * (10 ^ k * 10 ^ j) = mul_assoc (whole + 1) (10 ^ k) (10 ^ j) in
-    let all : (whole + 1) * 10 ^ k * 10 ^ j ≡ (whole + 1) * 10 ^ 6 = parts ∙ ap (λ n. (whole + 1) * n) powers in
-    let above : suc number ≤ (whole + 1) * 10 ^ k = omega arith in
-    let scaled : suc number * 10 ^ j ≤ (whole + 1) * 10 ^ k * 10 ^ j = mul-le-mul_right (10 ^ j) above in
-    omega (arith, few, all, scaled, suc-mul number (10 ^ j), ten_pos j)
+pub small_scaled : (number k j : ℕ) → k + j ≡ 6 → number < 10 ^ (7 + k) → number * 10 ^ j < largest
+small_scaled number k j sum small =
+    let all : 7 + k + j ≡ 13 = omega (arith, sum) in
+    let powers : 10 ^ (7 + k) * 10 ^ j ≡ 10 ^ 13 = sym (pow-add 10 (7 + k) j) ∙ ap (λ n. 10 ^ n) all in
+    let scaled : suc number * 10 ^ j ≤ 10 ^ (7 + k) * 10 ^ j = mul-le-mul_right (10 ^ j) small in
+    omega (arith, powers, scaled, suc-mul number (10 ^ j), ten_pos j)

@@ -1,5 +1,5 @@
 -- What the class of a byte tells of it: the tests of bytes agree with the classes.
-use Rattle.std.proofs.Common.{◌≡◌, ◌∙◌, ℕ, ◌<◌, ◌==◌, ◌&&◌, ◌||◌, ◌⊎◌, ⊎_elim, Bool, true, false, not, cond, Option, Some, None, List, [], ◌∷◌, codes, refl, sym, ap, arith}
+use Rattle.std.proofs.Common.{◌≡◌, ◌∙◌, ℕ, ◌<◌, ◌==◌, ◌&&◌, ◌||◌, ◌⊎◌, ⊎_elim, Bool, true, false, not, cond, Option, Some, None, List, ◌∷◌, codes, refl, sym, ap, arith}
 use Rattle.std.specs.Prelude.{bytes_eq}
 use Rattle.std.specs.Char.{is_ascii_digit, is_ascii_alphabetic}
 use Rattle.polcert_text.proofs.Common.{list_all, nat_tests, is_blank, is_line_end, is_hash, is_letter, is_digit, is_exponent_mark, is_point, is_name_byte, is_numeral, is_empty, kind_of, class_of, blank_class, hash_class, letter_class, digit_class, point_class, glue_class, mark_kind, ByteClass, TokenKind}

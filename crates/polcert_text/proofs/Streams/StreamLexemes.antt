@@ -1,5 +1,5 @@
 -- The lexeme that a stream scans, in pieces.
-use Rattle.std.proofs.Common.{◌≡◌, ◌-◌, ◌<◌, ◌≤◌, ◌⊎◌, inl, inr, ℕ, true, false, Option, Some, List, [], ◌++◌, length, take, append-nil, Bool, arith}
+use Rattle.std.proofs.Common.{◌≡◌, ◌<◌, ◌≤◌, ◌⊎◌, inl, inr, ℕ, true, false, Option, Some, List, [], ◌++◌, length, take, append-nil, Bool, arith}
 use Rattle.polcert_text.proofs.Common.{take-append-le, IsScanOf, is_over, is_stuck, front_len, EndsWithin, Ahead, visible, IsComplete, IsSeen, Fills, ReadsOn, ScansLexeme, LexemePrefix, LexemeScan}
 use Rattle.std.proofs.lemmas.List.{take-take, length-take}
 use Rattle.polcert_text.specs.Steps.Streaming.{with_read}

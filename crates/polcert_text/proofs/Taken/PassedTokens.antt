@@ -1,5 +1,5 @@
 -- Tokens that stand whole at the front of what is ahead, taken from a source together.
-use Rattle.std.proofs.Common.{◌+◌, ◌++◌, ℕ, Option, List, arith}
+use Rattle.std.proofs.Common.{◌++◌, ℕ, Option, List, arith}
 use Rattle.polcert_text.proofs.Common.{drop-append-le, BeginWith, passed, Lexeme, Stream, visible, TakenFrom}
 use Rattle.std.proofs.lemmas.List.{length-drop}
 use Rattle.polcert_text.proofs.Taken.BeginLaws.{taken_both}

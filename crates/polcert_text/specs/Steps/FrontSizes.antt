@@ -1,7 +1,8 @@
 -- A numeral at the front of some bytes, measured.
 -- Nobody has to believe this: only contracts of private functions cite it.
-use Rattle.std.specs.Prelude.{◌≡◌, ℕ, ◌+◌, ◌-◌, ◌<◌, ◌≤◌, ◌⊎◌, false, List, length, take, drop, get_or, slice_index}
+use Rattle.std.specs.Prelude.{◌≡◌, ℕ, ◌+◌, ◌-◌, ◌*◌, ◌<◌, ◌≤◌, ◌⊎◌, false, List, ◌++◌, length, take, drop, get_or, slice_index}
 use Rattle.std.specs.List.{list_any}
+use Rattle.std.specs.Str.Parse.{digits_value}
 use Rattle.polcert_text.specs.Steps.Classes.{class_of}
 use Rattle.polcert_text.specs.Cut.{is_glued}
 use Rattle.polcert_text.specs.Numbers.{largest, IsReadable}
@@ -15,6 +16,12 @@ use Rattle.polcert_text.specs.declared.tokens.TokenKind.TheVariants.{Numeral}
 -- each byte of these is a digit
 abbrev pub AreDigitsFrom : List ℕ → ℕ → ℕ → Type 0
 AreDigitsFrom bytes from until = (k : ℕ) → from ≤ k → k < until → class_of (get_or bytes k 0) ≡ Digit
+
+-- six digits spell this number
+pub record AreSixDigits (bytes : List ℕ) (from : ℕ) (six : ℕ) : Type 0 where
+  pub digits : AreDigitsFrom bytes from (from + 6)
+  pub value : (front : List ℕ) (number : ℕ) → number ≡ digits_value 10 front → number * 1_000_000 + six ≡ digits_value 10 (front ++ take 6 (drop from bytes))
+  pub few : six < 1_000_000
 
 -- from here on the bytes are digits up to the end of the tail, which has one that isn't 0 or none; a blank or a line end follows
 pub record IsTail (bytes : List ℕ) (from full : ℕ) (tail : Tail) : Type 0 where

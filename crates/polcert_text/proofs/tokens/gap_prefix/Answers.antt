@@ -1,5 +1,5 @@
 use Rattle.std.proofs.Common.{◌∙◌, ◌<◌, ⊎_elim, length, ap, arith}
-use Rattle.polcert_text.proofs.Common.{take_rest, class_of, gap_after}
+use Rattle.polcert_text.proofs.Common.{take_rest, gap_after}
 use Rattle.std.proofs.lemmas.List.{length-drop}
 use Rattle.polcert_text.proofs.Scanning.Runs.{gap_joined, in_between}
 use Rattle.polcert_text.proofs.Streams.StreamLaws.{skipped_step}

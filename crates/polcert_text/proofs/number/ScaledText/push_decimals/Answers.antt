@@ -1,4 +1,4 @@
-use Rattle.std.proofs.Common.{◌≡◌, ◌∙◌, ◌+◌, ◌-◌, ◌++◌, [], length-append, sym, ap, arith, append-nil}
+use Rattle.std.proofs.Common.{◌≡◌, ◌∙◌, ◌-◌, ◌++◌, length-append, sym, ap, arith, append-nil}
 use Rattle.std.proofs.Math.Nat.{mod-lt}
 use Rattle.polcert_text.proofs.Common.{decimals}
 use Rattle.polcert_text.proofs.Numbers.DecimalLaws.{ten_pos, decimals-zero, some_places, decimals-step, digit_below, one_digit}

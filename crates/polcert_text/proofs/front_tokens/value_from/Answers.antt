@@ -5,12 +5,12 @@ use mir.Val.{SFits, to_z, of_z}
 use mir.Syntax.{w64}
 use Rattle.polcert_text.specs.declared.bytes.ByteClass.TheVariants.{Minus}
 use Rattle.polcert_text.proofs.Taken.ValueLaws.{plain_begins, minus_begins}
-use Rattle.polcert_text.proofs.front_tokens.front_value.Goals as goal
+use Rattle.polcert_text.proofs.front_tokens.value_from.Goals as goal
 
 pub returns-then-quick_is_minus : goal.returns-then-quick_is_minus
 returns-then-quick_is_minus c = λ place.
     let bs = c.args.bytes.now in
-    let gap = c.few_blanks-start.result in
+    let gap = c.args.start in
     let numeral = c.in-Some.numeral in
     let rest : take (length bs - gap) (drop gap bs) ≡ drop gap bs = take_rest bs gap in
     let following = take_rest (take (length bs - gap) (drop gap bs)) 1 ∙ ap (drop 1) rest in
@@ -19,15 +19,15 @@ returns-then-quick_is_minus c = λ place.
     let fits : SFits w64 c.value.result = record { sfits = c.value.type_inv } in
     let same : to_z w64 (of_z w64 c.value.result) ≡ c.value.result = to_z-of_z w64 c.value.result fits in
     subst (λ value. BeginWithValue c.args.rounding place bs (record { len = gap + 1 + numeral.len; value = value })) (sym same)
-    (minus_begins c.args.rounding place bs gap numeral c.few_blanks-start.ensures.gap c.value.result minus ends (c.value.ensures _ ends.measures))
+    (minus_begins c.args.rounding place bs gap numeral c.requires.gap c.value.result minus ends (c.value.ensures _ ends.measures))
 
 pub returns : goal.returns
 returns c = λ place.
     let bs = c.args.bytes.now in
-    let gap = c.few_blanks-start.result in
+    let gap = c.args.start in
     let numeral = c.in-Some-ended_size.numeral in
     let ends = subst (λ xs. EndsAsSize xs numeral) (take_rest bs gap) c.in-Some-ended_size.ensures in
     let fits : SFits w64 c.value-2.result = record { sfits = c.value-2.type_inv } in
     let same : to_z w64 (of_z w64 c.value-2.result) ≡ c.value-2.result = to_z-of_z w64 c.value-2.result fits in
     subst (λ value. BeginWithValue c.args.rounding place bs (record { len = gap + numeral.len; value = value })) (sym same)
-    (plain_begins c.args.rounding place bs gap numeral c.few_blanks-start.ensures.gap c.value-2.result ends (c.value-2.ensures _ ends.measures))
+    (plain_begins c.args.rounding place bs gap numeral c.requires.gap c.value-2.result ends (c.value-2.ensures _ ends.measures))
