@@ -275,3 +275,7 @@ observations_with p es c s e next is =
 pub rewards_with : (p : Preamble) (es : List Entry) (c : CellBudget) (s : Sizes) (e : Entry) → IsNext p es c s e → e.table ≡ Reward
     → IsWith p es e (λ n. record c { rewards = n }) (counted (s.actions * s.states * s.states * s.rewarded) most_reward_entries c.rewards 1)
 rewards_with p es c s e next is = grind (arith, paid_push, unlike)
+
+pub reward_more : (p : Preamble) (es : List Entry) (c : CellBudget) (e : Entry) → c.rewards < most_reward_entries → IsCoveringOf p es c → e.table ≡ Reward
+    → IsCoveringOf p (es ++ e ∷ []) (record c { rewards = c.rewards + 1 })
+reward_more p es c e few covering is = grind (arith, paid_push, unlike, no_push)

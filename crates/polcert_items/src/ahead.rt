@@ -85,12 +85,12 @@ impl EntryReader {
         ensures known { IfOk result (λ begun. IsFalse begun → known.new ≡ known.old) }
         ensures unknown { IfOk result (λ begun. IsFalse begun → self.new ≡ self.old) }
     {
-        if known.word_fault(Topic::Cells(table)).is_some() {
-            return Ok(false);
-        }
         let Some(entry) = self.whole_entry() else {
             return Ok(false);
         };
+        if known.table_fault(table).is_some() {
+            return Ok(false);
+        }
         match known.add_entry(entry) {
             Ok(()) => {}
             Err(AddError::TooManyCells) => return Ok(false),

@@ -1,7 +1,7 @@
 //! What the items of a text have said so far.
 ghost use Rattle.std.specs.Prelude.{◌≡◌, ◌<◌, ◌≤◌, ◌++◌, ◌∷◌, [], length, drop, get_or, List, Some, None};
 ghost use Rattle.std.specs.Prelude.{unwrap_or, OnOk, OnErr, IfOk, MatchResult, IsErrOf, if◌then◌else◌, ◌*◌};
-ghost use Rattle.std.specs.Prelude.{◌+◌, slice_get};
+ghost use Rattle.std.specs.Prelude.{◌+◌, slice_get, IsTrue};
 ghost use Rattle.std.specs.Option.{option_copied};
 ghost use Rattle.polcert_cells.specs.declared.elements.Elements.{Elements};
 ghost use Rattle.polcert_cells.specs.declared.elements.Elements.TheVariants.{Count};
@@ -10,11 +10,11 @@ ghost use Rattle.polcert_cells.specs.Elements.{most_elements};
 ghost use Rattle.polcert_cells.specs.Entry.{cells_in};
 ghost use Rattle.polcert_cells.specs.EntryRefs.{entry_of, body_of};
 ghost use Rattle.polcert_cells.specs.declared.words.Topic.{Topic};
-ghost use Rattle.polcert_cells.specs.Preamble.{is_mdp, Preamble as P};
+ghost use Rattle.polcert_cells.specs.Preamble.{is_mdp, dimensions, Preamble as P};
 ghost use Rattle.polcert_format.specs.KnownPreamble.{preamble_in, indices_in, named_in};
 ghost use Rattle.polcert_format.specs.Wants.{least_written};
 ghost use Rattle.polcert_format.specs.Limits.{HasFewCells, most_cells, most_reward_entries};
-ghost use Rattle.polcert_items.specs.Steps.CellBudget.{AreSizesOf, IsNext, IsCoveredWith, chosen, covered_by};
+ghost use Rattle.polcert_items.specs.Steps.CellBudget.{AreSizesOf, IsNext, IsCoveredWith, IsCoveringOf, chosen, covered_by};
 ghost use Rattle.polcert_items.specs.Steps.CellBudget.{open_cells, nonzero_cells, counted, most_covered};
 ghost use Rattle.polcert_items.specs.Steps.ModelSoFar.{with_item, AreContentsWithin, IsAllowedNext};
 ghost use Rattle.polcert_items.specs.Steps.ModelSoFar.{IsWholeRead, said};
@@ -119,12 +119,26 @@ impl ModelSoFar {
         ensures many { IsErrOf result AddError.TooManyCells →
             HasFewCells (preamble_in self.old) (self.old.entries ++ entry_of entry.entry ∷ []) → ⊥ }
     {
-        let Some(cell_budget) = self.cell_budget.with(self.sizes(), entry) else {
+        let Some(cell_budget) = self.budget_with(entry) else {
             return Err(AddError::TooManyCells);
         };
         self.entries.push_ref(entry)?;
         self.cell_budget = cell_budget;
         Ok(())
+    }
+
+    /// Returns the budget with one more entry. `None`: the cells of a large table pass their limit.
+    #[inline(always)]
+    fn budget_with(&self, entry: EntryRef<'_>) -> Option<CellBudget>
+        requires { IsAllowedNext self.now (ItemContents.Entry (entry_of entry)) }
+        ensures { IsCoveredWith (preamble_in self.now) self.now.entries (entry_of entry.entry) result }
+    {
+        match entry.table {
+            Table::Reward if self.cell_budget.rewards < MOST_REWARD_ENTRIES => {
+                Some(self.cell_budget.with_reward())
+            }
+            _ => self.cell_budget.with(self.sizes(), entry),
+        }
     }
 
     /// Returns how many elements the indices of the tables run over.
@@ -203,6 +217,9 @@ impl ModelSoFar {
         requires { least_written (is_mdp (preamble_in self.now)) table ≤ written }
         ensures { result ≡ cells_in (drop written (indices_in self.now table)) }
     {
+        if is_whole(table, written) {
+            return 1;
+        }
         let states = count_in(&self.states);
         let observed = count_or(states, &self.observations);
         let rewarded = count_or(1, &self.observations);
@@ -246,7 +263,7 @@ impl ModelSoFar {
     }
 
     /// Returns the fault if the table has no entries: an MDP's observation is the end state.
-    fn table_fault(&self, table: Table) -> Option<ItemFault>
+    pub(crate) fn table_fault(&self, table: Table) -> Option<ItemFault>
         ensures { result ≡
             (if is_unobserved self.now (Topic.Cells table) then Some ItemFault.BadShape else None) }
     {
@@ -296,6 +313,17 @@ impl ModelSoFar {
             }
             _ => Some(ItemFault::MissingLine),
         }
+    }
+}
+
+/// Returns whether so many places leave one cell open. (Most entries have as many, and then no count is looked at.)
+#[inline(always)]
+fn is_whole(table: Table, written: usize) -> bool
+    ensures { IsTrue result → (p : P) → cells_in (drop written (dimensions p table)) ≡ 1 }
+{
+    match table {
+        Table::Reward => written > 3,
+        Table::Transition | Table::Observation => written > 2,
     }
 }
 
@@ -353,8 +381,18 @@ impl CellBudget {
         }
     }
 
-    /// Adds an entry. `None`: the cells of a large table pass their limit.
+    /// Adds an entry of R where there is room for one, however large the table is.
     #[inline(always)]
+    fn with_reward(mut self) -> CellBudget
+        requires { self.rewards < most_reward_entries }
+        ensures { (p : P) (es : List E) (e : E) → IsCoveringOf p es self → e.table ≡ Table.Reward
+            → IsCoveringOf p (es ++ e ∷ []) result }
+    {
+        self.rewards += 1;
+        self
+    }
+
+    /// Adds an entry. `None`: the cells of a large table pass their limit.
     pub(crate) fn with(mut self, sizes: Sizes, entry: EntryRef<'_>) -> Option<CellBudget>
         requires { (p : P) × (es : List E) × IsNext p es self sizes (entry_of entry) }
         ensures { (p : P) (es : List E) → IsNext p es self sizes (entry_of entry.entry)
