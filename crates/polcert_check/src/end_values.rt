@@ -360,7 +360,7 @@ fn value_of_row<C: Cells, F: Fn(usize) -> PartialValue>(
 }
 
 /// Returns the next end state of positive weight when action `a` is taken in state `s`, from a place in the row on. If no row is
-/// lent, places are end states.
+/// given, places are end states.
 #[inline(always)]
 pub fn next_end<C: Cells>(
     cells: &C,
@@ -381,7 +381,7 @@ pub fn next_end<C: Cells>(
 }
 
 /// Returns the next observation of positive weight when action `a` ends in state `e`, from a place in the row on. If no row is
-/// lent, places are observations.
+/// given, places are observations.
 #[inline(always)]
 pub fn next_observation<C: Cells>(
     cells: &C,
