@@ -1,5 +1,6 @@
 -- Rewards that observations have in common, except a few that are listed.
-use Rattle.std.specs.Prelude.{◌≡◌, ℕ, ◌<◌, ◌≤◌, ℤ, pos, List, length, slice_index_or}
+use Rattle.std.specs.Prelude.{◌≡◌, ℕ, ◌/◌, ◌%◌, ◌<◌, ◌≤◌, ℤ, pos, List, length, slice_index_or}
+use Rattle.polcert_cells.specs.Tables.{CellTable}
 use Rattle.polcert_cells.specs.declared.common_reward.RewardCell.{RewardCell}
 use Rattle.polcert_cells.specs.declared.common_reward.CommonReward.{CommonReward}
 
@@ -14,3 +15,7 @@ pub record IsCommonReward (r : ℕ → ℤ) (count : ℕ) (common : CommonReward
   pub within : (k : ℕ) → k < common.exceptions → (cell_at cells k).observation < count
   pub each : (k : ℕ) → k < common.exceptions → r (cell_at cells k).observation ≡ (cell_at cells k).reward
   pub others : (z : ℕ) → z < count → ((k : ℕ) → k < common.exceptions → (cell_at cells k).observation ≡ z → ⊥) → r z ≡ common.reward
+
+-- The rewards of an action and a start state, numbered as a text lists them: end state after end state, in each by observation.
+abbrev pub row_reward : CellTable → ℕ → ℕ → ℕ → ℤ
+row_reward m a s k = m.r a s (k / m.observations) (k % m.observations)

@@ -2,7 +2,7 @@
 ghost use Rattle.std.specs.Prelude.{◌≡◌, ℕ, ◌<◌, ◌+◌, IsTrue, length, pos, slice_index_or, ◌*◌, None};
 ghost use Rattle.std.specs.Prelude.{slice_index};
 ghost use Rattle.std.specs.Option.{ForSome};
-ghost use Rattle.polcert_cells.specs.CommonRewards.{IsCommonReward};
+ghost use Rattle.polcert_cells.specs.CommonRewards.{IsCommonReward, row_reward};
 ghost use Rattle.polcert_cells.specs.Tables.{CellTable, IsProper, IsWithinLimits};
 ghost use Rattle.polcert_cells.specs.BorrowedRows.{IsRowOf, IsStep};
 
@@ -130,6 +130,23 @@ pub trait Cells {
             }),
             None => None,
         }
+    }
+
+    /// Returns the reward that all end states and observations but a few have when action `a` is taken in state `s`, and fills in the
+    /// rewards of these few, each numbered by its end state times the number of observations plus its observation, if they are known at
+    /// once. `None`: unknown.
+    fn find_row_rewards(
+        &self,
+        a: usize,
+        s: usize,
+        exceptions: &mut [RewardCell],
+    ) -> Option<CommonReward>
+        requires action { a < (table self.now).actions }
+        requires start { s < (table self.now).states }
+        ensures { ForSome result (λ common. IsCommonReward (row_reward (table self.now) a s)
+            ((table self.now).states * (table self.now).observations) common exceptions.new) }
+    {
+        None
     }
 
     /// Returns the reward when action `a` is taken in state `s`, if one look-up shows that it is the same for

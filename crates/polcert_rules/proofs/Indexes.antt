@@ -1,6 +1,7 @@
 -- Indexes of entries: how they are built, and what they find.
 pub mod Building
 pub mod BuiltLaws
+pub mod CellLaws
 pub mod Greatest
 pub mod KeptLaws
 pub mod ListLaws

@@ -1,4 +1,5 @@
 -- Rewards.
+pub mod CellRewards
 pub mod RewardAlike
 pub mod RewardAt
 pub mod RewardCells

@@ -11,6 +11,8 @@ ghost use Rattle.polcert_cells.specs.Steps.Sound.{IsSoundEntry};
 ghost use Rattle.polcert_cells.specs.Cells.{reward};
 ghost use Rattle.polcert_cells.specs.CommonRewards.{IsCommonReward};
 ghost use Rattle.polcert_rules.specs.Steps.NamedCells.{AreNewestAt, AreNamedCells};
+ghost use Rattle.polcert_rules.specs.Steps.CellRules.{AreCellRules, AreCellsOf, AreProperCells};
+ghost use Rattle.std.specs.Prelude.{◌*◌, ◌/◌, ◌%◌};
 ghost use Rattle.polcert_rules.specs.Steps.Meeting.{meets_row};
 ghost use Rattle.polcert_rules.specs.Keys.{key_base, AreIndices, Fits, most_places, table_key};
 ghost use Rattle.polcert_rules.specs.Steps.Newest.{AreKeyed, IsIndexOf, IsNewest, IsLastNumber, IsRising};
@@ -20,7 +22,7 @@ ghost use Rattle.polcert_rules.specs.Steps.RewardSearch.{AreFilled, AreWithin, I
 use crate::index::{KEY_BASE, MOST_PLACES, max_option, newest, some_begins};
 use crate::named_rules::NamedRules;
 use crate::reward_bodies::{RewardBodies, cell_in, indices_after};
-use crate::row_rules::{REWARD_KEYS, RowRules};
+use crate::row_rules::{CellRules, REWARD_KEYS, RowRules, cell_named};
 use crate::{Index, Rule};
 use polcert_cells::{CommonReward, Entries, RewardCell, Table};
 use std::alloc::{AllocError, Global};
@@ -248,6 +250,80 @@ impl Rewards {
                 observation,
                 reward,
             };
+        }
+        true
+    }
+
+    /// Returns the reward that all end states and observations but a few have if this action is taken in the start state, and fills in those
+    /// of these few, each numbered by its end state times the number of observations plus its observation. `None`: entries name more than
+    /// there is room for, or give more than one number.
+    pub fn find_row(
+        &self,
+        action: usize,
+        start: usize,
+        exceptions: &mut [RewardCell],
+    ) -> Option<CommonReward>
+        requires action { action < self.now.shape.actions }
+        requires start { start < self.now.shape.states }
+        ensures { (p : Preamble) (entries : List E) → AreRewardsOf p entries self.now →
+            ForSome result (λ common. IsCommonReward (λ k. reward p entries
+            (action ∷ start ∷ (k / self.now.shape.observations) ∷ (k % self.now.shape.observations) ∷ []))
+            (self.now.shape.states * self.now.shape.observations) common exceptions.new) }
+    {
+        let Some(list) = self.rules.cell_rules(action, start) else {
+            return None;
+        };
+        let Some(reward) = self.single_number(self.body_of(list.whole)) else {
+            return None;
+        };
+        if !self.fill_cells(action, start, list, exceptions) {
+            return None;
+        }
+        Some(CommonReward {
+            reward,
+            exceptions: list.named.len(),
+        })
+    }
+
+    /// Fills in the cells that these rules name. Returns whether there is room, and each names one.
+    fn fill_cells(
+        &self,
+        action: usize,
+        start: usize,
+        list: CellRules<'_>,
+        cells: &mut [RewardCell],
+    ) -> bool
+        requires action { action < self.now.shape.actions }
+        requires start { start < self.now.shape.states }
+        requires proper { AreProperCells list }
+        ensures room { IsTrue result → length list.entry.named.now ≤ length cells.new }
+        ensures cells { IsTrue result → (next : ℕ) × AreCellsOf self.now action start list.entry
+            (length list.entry.named.now) next cells.new }
+    {
+        if cells.len() < list.named.len() {
+            return false;
+        }
+        let observations = self.shape.observations;
+        let mut next = 0;
+        for i in 0..list.named.len() {
+            let rule = list.named[i];
+            let Some(at) = cell_named(rule.key, list.low, observations) else {
+                return false;
+            };
+            if at.end >= self.shape.states || at.observation >= observations {
+                return false;
+            }
+            let number = at.end * observations + at.observation;
+            if number < next {
+                return false;
+            }
+            let covering = self.body_of(max_option(list.whole, Some(rule.number)));
+            let reward = self.reward_of_body(covering, &[action, start, at.end, at.observation]);
+            cells[i] = RewardCell {
+                observation: number,
+                reward,
+            };
+            next = number + 1;
         }
         true
     }

@@ -10,11 +10,13 @@ ghost use Rattle.polcert_rules.specs.Steps.Noting.{AreNoted, IsNoted, IsLastPlac
 ghost use Rattle.polcert_rules.specs.Steps.RewardSearch.{Begins, IsAnswer, NamesStart, NamesStartAfter};
 ghost use Rattle.polcert_rules.specs.Steps.Rewards.{IsSmall};
 ghost use Rattle.polcert_rules.specs.Matching.{max_option};
+ghost use Rattle.polcert_rules.specs.Steps.CellRules.{AreCellRules, AreJoined, AreProperCells, NamesEnd};
+ghost use Rattle.std.specs.Prelude.{IfSome};
 
 use crate::Rule;
 use crate::index::{
-    RuleSpan, TABLE, first_at, max_option, newest, next_place, none_below, place_of, rules_between,
-    rules_between_at, rules_from, some_begins, span, span_of,
+    KEY_BASE, RuleSpan, TABLE, first_at, max_option, newest, next_place, none_below, place_of,
+    rules_between, rules_between_at, rules_from, some_begins, span, span_of,
 };
 use crate::named_noting::note_ends;
 use crate::named_rules::NamedRules;
@@ -258,6 +260,43 @@ impl RowRules {
             || some_begins(of_only, only, PLACES_LEFT, rest, least)
     }
 
+    /// Returns the rules that fit an action and a start state, if those that name a cell follow one key.
+    pub(crate) fn cell_rules(&self, action: usize, start: usize) -> Option<CellRules<'_>>
+        requires rising { IsRising self.now.rules.items }
+        requires indices { AreIndices most_places (action ∷ start ∷ []) }
+        ensures newest { IfSome result (AreCellRules self.now.rules.items
+            (λ e z. Fits most_places (table_key Reward) (action ∷ start ∷ e ∷ z ∷ []))) }
+        ensures proper { IfSome result AreProperCells }
+    {
+        let step = span(3);
+        let only = REWARD_KEYS + (action as u64 + 2) * step;
+        let here = first_at(
+            self.rules_after(NO_PLACE, NO_PLACE, REWARD_KEYS),
+            REWARD_KEYS,
+        );
+        let of_every = self.cell_rules_after(EVERY, REWARD_KEYS + step, start)?;
+        let of_only = self.cell_rules_after(action + INDICES, only, start)?;
+        Some(of_every.join(of_only)?.with_whole(here))
+    }
+
+    /// Returns the same after a first place, which has this digit.
+    fn cell_rules_after(&self, digit: usize, low: u64, start: usize) -> Option<CellRules<'_>>
+        requires rising { IsRising self.now.rules.items }
+        requires room { low + key_base ^ 3 < 2 ^ 64 }
+        requires index { start + 2 < key_base }
+        ensures newest { IfSome result (AreCellRules self.now.rules.items
+            (λ e z. Fits 3 low (start ∷ e ∷ z ∷ []))) }
+        ensures proper { IfSome result AreProperCells }
+    {
+        let step = span(PLACES_LEFT);
+        let every = low + step;
+        let only = low + (start as u64 + 2) * step;
+        let here = first_at(self.rules_after(digit, NO_PLACE, low), low);
+        let of_every = cell_rules_of(self.rules_after(digit, EVERY, every), every)?;
+        let of_only = cell_rules_of(self.rules_after(digit, start + INDICES, only), only)?;
+        Some(of_every.join(of_only)?.with_whole(here))
+    }
+
     /// Returns whether one of the rules that fit an action has no place for a start state, or names this one.
     pub(crate) fn names_start(&self, action: usize, start: usize) -> bool
         requires rising { IsRising self.now.rules.items }
@@ -313,6 +352,102 @@ impl RowRules {
             None => rules_between(rules, low, high),
         }
     }
+}
+
+/// Rules of which each names an end state, after the key `low`, and the number of the newest of those that cover all cells.
+#[derive(Clone, Copy)]
+pub(crate) struct CellRules<'a> {
+    pub whole: Option<usize>,
+    pub low: u64,
+    pub named: &'a [Rule],
+}
+
+/// Returns the rules whose keys follow that of two places, if none names an observation for every end state.
+fn cell_rules_of(rules: &[Rule], low: u64) -> Option<CellRules<'_>>
+    requires rising { IsRising rules.now }
+    requires from { (r : R) → Contains rules.now r → low ≤ r.key }
+    requires room { low + key_base ^ 2 < 2 ^ 64 }
+    ensures newest { IfSome result (AreCellRules rules.now (λ e z. Fits 2 low (e ∷ z ∷ []))) }
+    ensures proper { IfSome result AreProperCells }
+{
+    let every = low + KEY_BASE;
+    let open = rules_from(rules, every);
+    let both = rules_from(open, every + 1);
+    let named = rules_from(both, every + 2);
+    if !none_below(named, every + KEY_BASE) {
+        return None;
+    }
+    let here = max_option(first_at(open, every), first_at(both, every + 1));
+    Some(CellRules {
+        whole: max_option(first_at(rules, low), here),
+        low,
+        named,
+    })
+}
+
+impl<'a> CellRules<'a> {
+    /// Returns the rules of both, if one of the two names no end state.
+    fn join(self, other: CellRules<'a>) -> Option<CellRules<'a>>
+        ensures { IfSome result (AreJoined self.entry other.entry) }
+    {
+        let whole = max_option(self.whole, other.whole);
+        if other.named.is_empty() {
+            return Some(CellRules { whole, ..self });
+        }
+        if self.named.is_empty() {
+            return Some(CellRules { whole, ..other });
+        }
+        None
+    }
+
+    /// Adds a rule, if one, that covers all cells.
+    fn with_whole(self, number: Option<usize>) -> CellRules<'a>
+        ensures whole { result.whole ≡ max_option number self.entry.whole }
+        ensures low { result.low ≡ self.entry.low }
+        ensures named { result.named ≡ self.entry.named }
+    {
+        CellRules {
+            whole: max_option(number, self.whole),
+            ..self
+        }
+    }
+}
+
+/// An end state and an observation.
+#[derive(Clone, Copy)]
+pub(crate) struct CellPlace {
+    pub end: usize,
+    pub observation: usize,
+}
+
+/// Returns the cell that a key names after the key `low` of two places, of so many observations: all of an end state, if there is one. `None`:
+/// not one cell.
+pub(crate) fn cell_named(key: u64, low: u64, observations: usize) -> Option<CellPlace>
+    requires room { low + key_base ^ 2 < 2 ^ 64 }
+    requires few { observations + 2 < key_base }
+    ensures names { IfSome result (λ cell. NamesEnd low cell.end cell.observation key) }
+    ensures alone { IfSome result (λ cell. (e z : ℕ) → z < observations → NamesEnd low e z key
+        → (e ≡ cell.end) × (z ≡ cell.observation)) }
+{
+    let first = low + 2 * KEY_BASE;
+    if key < first {
+        return None;
+    }
+    let end = (key - first) / KEY_BASE;
+    let last = (key - first) % KEY_BASE;
+    if last >= 2 {
+        return Some(CellPlace {
+            end: end as usize,
+            observation: (last - 2) as usize,
+        });
+    }
+    if observations == 1 {
+        return Some(CellPlace {
+            end: end as usize,
+            observation: 0,
+        });
+    }
+    None
 }
 
 /// Notes, for as many numbers from `first` on as there is room for, each as the last index after these, the newest rule that fits,

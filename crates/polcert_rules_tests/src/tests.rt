@@ -2,7 +2,7 @@
 ghost use Rattle.std.specs.Prelude.{◌≡◌, ◌<◌, IfOk};
 ghost use Rattle.polcert_rules.specs.Keys.{key_base, AreDigits, digit, most_places};
 
-use polcert_cells::{Body, Entries, Entry, Place, Places, Sequence, Table};
+use polcert_cells::{Body, Entries, Entry, Place, Places, RewardCell, Sequence, Table};
 use polcert_rules::{Index, RewardShape, Rewards};
 use std::alloc::{AllocError, Global};
 
@@ -396,6 +396,65 @@ fn the_same_in_two_states(rt: HostRuntime) {
     assert_eq!(rt;
         same_at(alloc, &[(&[ANY], &[1, 2, 3, 4, 5, 6, 7, 8])], 1, 0, 1),
         Some(false)
+    );
+}
+
+/// The common reward of a row, how many differ, and the first two that do.
+type FoundRow = (i64, usize, [(usize, i64); 2]);
+
+fn row_at(
+    alloc: Global,
+    lines: &[(&[usize], &[i64])],
+    action: usize,
+    start: usize,
+) -> Option<Option<FoundRow>>
+    requires action { action < 2 }
+    requires start { start < 2 }
+{
+    let rewards = match rewards(alloc, false, lines) {
+        Ok(rewards) => rewards,
+        Err(_) => return None,
+    };
+    let mut cells = [RewardCell {
+        observation: 0,
+        reward: 99,
+    }; 2];
+    match rewards.find_row(action, start, &mut cells) {
+        None => Some(None),
+        Some(common) => {
+            let pairs = cells.map(|cell| (cell.observation, cell.reward));
+            Some(Some((common.reward, common.exceptions, pairs)))
+        }
+    }
+}
+
+#[test]
+fn rewards_of_a_row(rt: HostRuntime) {
+    let alloc = rt.alloc();
+    let common: (&[usize], &[i64]) = (&[ANY, ANY, ANY, ANY], &[5]);
+    let one: (&[usize], &[i64]) = (&[1, 0, 1, 0], &[7]);
+    let other: (&[usize], &[i64]) = (&[1, 0, 0, 1], &[8]);
+    assert_eq!(rt;
+        row_at(alloc, &[common, one, other], 1, 0),
+        Some(Some((5, 2, [(1, 8), (2, 7)])))
+    );
+    assert_eq!(rt;
+        row_at(alloc, &[one, common], 1, 0),
+        Some(Some((5, 1, [(2, 5), (0, 99)])))
+    );
+    assert_eq!(rt;
+        row_at(alloc, &[common, one, other], 1, 1),
+        Some(Some((5, 0, [(0, 99), (0, 99)])))
+    );
+    // (There is no room for three.)
+    assert_eq!(rt;
+        row_at(alloc, &[one, other, (&[1, 0, 0, 0], &[9])], 1, 0),
+        Some(None)
+    );
+    // (One names all observations of an end state.)
+    assert_eq!(rt;
+        row_at(alloc, &[one, (&[1, 0, 0, ANY], &[9])], 1, 0),
+        Some(None)
     );
 }
 

@@ -1,5 +1,5 @@
 -- What a model keeps has the meaning of the items of its text.
-use Rattle.std.proofs.Common.{◌≡◌, ◌∙◌, ℕ, zero, suc, ◌<◌, ◌≤◌, ◌==◌, false, cond, List, [], ◌∷◌, ℤ, pos, true, Option, sym, ap, subst, arith, refl}
+use Rattle.std.proofs.Common.{◌≡◌, ◌∙◌, ℕ, zero, suc, ◌<◌, ◌≤◌, ◌==◌, false, cond, List, [], ◌∷◌, ℤ, pos, true, Option, sym, ap, subst, arith, refl, ◌*◌, ◌/◌, ◌%◌, div-lt_iff_lt-mul, mod-lt}
 use Rattle.polcert_tables.proofs.Common.{ForSome, Entry, Table, count_of, most_states, most_actions, most_observations, Preamble, is_mdp, observed, weight, reward, IsCommonReward, sum_below, AreRewardsOf, Kept, IsKeptOf, IsKeptModel, Transition, Draft}
 use Rattle.std.proofs.lemmas.Bool.Decides.{nat_tests}
 use Rattle.polcert_cells.specs.Preamble.{rewarded, columns}
@@ -8,6 +8,7 @@ use Rattle.polcert_cells.specs.declared.common_reward.CommonReward.{CommonReward
 use Rattle.polcert_cells.specs.declared.common_reward.RewardCell.{RewardCell}
 use Rattle.polcert_cells.specs.Meaning.{observation_weight, reward_index, IsSame}
 use Rattle.polcert_cells.specs.Sparse.{weight_at}
+use Rattle.polcert_rules.proofs.RewardLaws.CellRewards.{some_factor}
 use Rattle.polcert_rules.specs.RowTables.{RowTable, row_at, AreRowsOf}
 use Rattle.polcert_rules.specs.RewardAt.{reward_at, RewardRules}
 use Rattle.polcert_cells.proofs.CellLaws.{sum_of_same}
@@ -116,6 +117,36 @@ module _ (k : Kept) (d : IsKeptModel k) where
         within = within;
         each = λ n m. there (cell_at cells n).observation (within n m) ∙ c.each n m;
         others = λ z m unnamed. there z m ∙ c.others z (subst (λ size. z < size) (sym same) m) unnamed;
+      }
+
+  -- the same of all end states
+  pub model_row_reward : (a s : ℕ) (found : Option CommonReward) (cells : List RewardCell) → a < count_of k.preamble.actions → s < count_of k.preamble.states
+      → is_mdp k.preamble ≡ false
+      → ((p : Preamble) (entries : List Entry) → AreRewardsOf p entries k.rewards
+      → ForSome found (λ common. IsCommonReward (λ n. reward p entries (a ∷ s ∷ n / k.rewards.shape.observations ∷ n % k.rewards.shape.observations ∷ []))
+      (k.rewards.shape.states * k.rewards.shape.observations) common cells))
+      → ForSome found (λ common. IsCommonReward (λ n. (meaning k).r a s (n / count_of (observed k.preamble)) (n % count_of (observed k.preamble)))
+      (count_of k.preamble.states * count_of (observed k.preamble)) common cells)
+  model_row_reward a s found cells i j pomdp given = λ common is.
+      let given_here = given d.items.preamble d.items.entries d.said.rewards common is in
+      let states : k.rewards.shape.states ≡ count_of k.preamble.states = sym d.r_counts.states in
+      let c = subst (λ (z : ℕ). IsCommonReward (λ n. reward d.items.preamble d.items.entries (a ∷ s ∷ n / z ∷ n % z ∷ [])) (count_of k.preamble.states * z) common cells) (rewards_seen pomdp)
+      (subst (λ (e : ℕ). IsCommonReward (λ n. reward d.items.preamble d.items.entries (a ∷ s ∷ n / k.rewards.shape.observations ∷ n % k.rewards.shape.observations ∷ []))
+      (e * k.rewards.shape.observations) common cells) states given_here) in
+      let there : (n : ℕ) → n < count_of k.preamble.states * count_of (observed k.preamble)
+      → (meaning k).r a s (n / count_of (observed k.preamble)) (n % count_of (observed k.preamble)) ≡ reward d.items.preamble d.items.entries (a ∷ s ∷ n / count_of (observed k.preamble) ∷ n % count_of (observed k.preamble) ∷ []) = λ n m.
+      let some = some_factor n (count_of k.preamble.states) (count_of (observed k.preamble)) m in
+      let e = n / count_of (observed k.preamble) in
+      let z = n % count_of (observed k.preamble) in
+      (kept_same d.items k (few_in k d) d.said).r a s e z i j ((div-lt_iff_lt-mul some).1 m) (mod-lt n some)
+      ∙ ap (λ (p : Preamble). reward d.items.preamble d.items.entries (a ∷ s ∷ e ∷ reward_index p z ∷ [])) (sym d.said.preamble)
+      ∙ ap (λ y. reward d.items.preamble d.items.entries (a ∷ s ∷ e ∷ y ∷ [])) (observed_index k.preamble z pomdp) in
+      record {
+        room = c.room;
+        distinct = c.distinct;
+        within = c.within;
+        each = λ n m. there (cell_at cells n).observation (c.within n m) ∙ c.each n m;
+        others = λ n m unnamed. there n m ∙ c.others n m unnamed;
       }
 
   pub model_for_all_ends : (a s : ℕ) (found : Option ℤ) → a < count_of k.preamble.actions → s < count_of k.preamble.states

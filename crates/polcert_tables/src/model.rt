@@ -417,6 +417,18 @@ impl Cells for Model {
         }
     }
 
+    fn find_row_rewards(
+        &self,
+        a: usize,
+        s: usize,
+        exceptions: &mut [RewardCell],
+    ) -> Option<CommonReward> {
+        match &self.preamble.observations {
+            None => None,
+            Some(_) => self.rewards.find_row(a, s, exceptions),
+        }
+    }
+
     fn r_constant(&self, a: usize, s: usize) -> Option<i64> {
         self.rewards.for_all_ends(a, s)
     }

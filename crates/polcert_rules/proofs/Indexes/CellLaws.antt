@@ -1,0 +1,117 @@
+-- Rules of which each names a cell: what the newest is, from parts that have it.
+use Rattle.std.proofs.Common.{◌≡◌, ◌∙◌, ⊎_elim, ℕ, suc, ◌+◌, ◌*◌, ◌^◌, ◌<◌, ◌≤◌, ◌↔◌, ◌⊎◌, inl, inr, Option, Some, None, List, [], ◌∷◌, Contains, refl, sym, ap, subst, arith}
+use Rattle.polcert_rules.proofs.Common.{Rule, IsNewest, max_option, key_base}
+use Rattle.polcert_rules.specs.Keys.{Fits}
+use Rattle.polcert_rules.specs.declared.row_rules.CellRules.{CellRules}
+use Rattle.polcert_rules.specs.Steps.CellRules.{NamesEnd, AreCellRules, AreJoined}
+use Rattle.polcert_rules.proofs.Keyed.Fitting.{fits_low, fits_high, fits_end, fits_here, fits_next, fits_every, fits_only}
+use Rattle.polcert_rules.proofs.Indexes.Newer.{IsSpan, newest_as, newest_of_part, newest_of_two, newest_of_three, newest_end}
+use Rattle.polcert_rules.proofs.Indexes.NotedLaws.{later_none, later_of_later}
+
+-- the rules from a key on
+abbrev pub IsFrom : List Rule → List Rule → ℕ → Type 0
+IsFrom rules part low = (r : Rule) → Contains part r ↔ (Contains rules r × (low ≤ r.key))
+
+part_here : (rules part : List Rule) (low : ℕ) (here : Option ℕ) → IsFrom rules part low → IsNewest part (λ k. k ≡ low) here → IsNewest rules (λ k. k ≡ low) here
+part_here rules part low here from n = newest_of_part rules part (λ k. k ≡ low) here (λ r c. ((from r).0 c).0) (λ r c e. (from r).1 (c, omega (arith, e))) n
+
+later_three : (h o b x : Option ℕ) → max_option h (max_option (max_option o (max_option b None)) x) ≡ max_option (max_option h (max_option o b)) x
+later_three h o b x = grind (arith, later_none, later_of_later)
+
+-- after two places
+pub named_cells : (rules starred both named : List Rule) (low e z : ℕ) (h o b x : Option ℕ) → z + 2 < key_base
+    → IsFrom rules starred (low + key_base) → IsFrom starred both (low + key_base + 1) → IsFrom both named (low + key_base + 2)
+    → ((r : Rule) → Contains named r → low + key_base + key_base ≤ r.key)
+    → IsNewest rules (λ k. k ≡ low) h → IsNewest starred (λ k. k ≡ low + key_base) o → IsNewest both (λ k. k ≡ low + key_base + 1) b
+    → IsNewest named (NamesEnd low e z) x → IsNewest rules (Fits 2 low (e ∷ z ∷ [])) (max_option (max_option h (max_option o b)) x)
+named_cells rules starred both named low e z h o b x zl from_starred from_both from_named far here at_open at_both n =
+    let every = low + key_base in
+    let all_both : (r : Rule) → Contains rules r → every + 1 ≤ r.key → Contains both r = λ r c l. (from_both r).1 ((from_starred r).1 (c, omega (arith, l)), l) in
+    let all_named : (r : Rule) → Contains rules r → every + 2 ≤ r.key → Contains named r = λ r c l. (from_named r).1 (all_both r c (omega (arith, l)), l) in
+    let sub : (r : Rule) → Contains named r → Contains rules r = λ r c. ((from_starred r).0 ((from_both r).0 ((from_named r).0 c).0).0).0 in
+    let only : IsNewest rules (NamesEnd low e z) x = newest_of_part rules named (NamesEnd low e z) x sub
+    (λ r c f. let l = fits_low 1 (low + (e + 2) * key_base ^ 1) (z ∷ []) r.key f in all_named r c (omega (arith, l))) n in
+    let star : IsNewest rules (λ k. k ≡ every) o = part_here rules starred every o from_starred at_open in
+    let stars : IsNewest rules (λ k. k ≡ every + 1) b = newest_of_part rules both (λ k. k ≡ every + 1) b (λ r c. ((from_starred r).0 ((from_both r).0 c).0).0) (λ r c f. all_both r c (omega (arith, f))) at_both in
+    let seen : IsNewest rules (Fits 0 (every + (z + 2) * key_base ^ 0) []) None = λ r c f.
+    let is = fits_end 0 (every + (z + 2) * key_base ^ 0) r.key f in
+    let l = far r (all_named r c (omega (arith, is))) in
+    absurd (omega (arith, is, l, zl)) in
+    let of_every : IsNewest rules (Fits 1 every (z ∷ [])) (max_option o (max_option b None)) =
+    newest_of_three rules 0 every z [] o b None star (newest_end rules 0 (every + 1) b stars) seen in
+    subst (IsNewest rules (Fits 2 low (e ∷ z ∷ []))) (later_three h o b x)
+    (newest_of_three rules 1 low e (z ∷ []) h (max_option o (max_option b None)) x here of_every only)
+
+-- ---- from parts
+-- a part of the rules that has all that pass
+pub cells_of_part : (rules part : List Rule) (P : ℕ → ℕ → ℕ → Type 0) (cells : CellRules) → ((r : Rule) → Contains part r → Contains rules r)
+    → ((e z : ℕ) (r : Rule) → e + 2 < key_base → z + 2 < key_base → Contains rules r → P e z r.key → Contains part r) → AreCellRules part P cells → AreCellRules rules P cells
+cells_of_part rules part P cells sub all are = λ e z el zl x n. newest_of_part rules part (P e z) _ sub (λ r c f. all e z r el zl c f) (are e z el zl x n)
+
+-- a span of keys
+pub cells_of_span : (rules part : List Rule) (low : ℕ) (cells : CellRules) → IsSpan rules part low (key_base ^ 2) → AreCellRules part (λ e z. Fits 2 low (e ∷ z ∷ [])) cells
+    → AreCellRules rules (λ e z. Fits 2 low (e ∷ z ∷ [])) cells
+cells_of_span rules part low cells span are =
+    cells_of_part rules part (λ e z. Fits 2 low (e ∷ z ∷ [])) cells (λ r c. ((span r).0 c).0)
+    (λ e z r el zl c f. (span r).1 (c, fits_low 2 low (e ∷ z ∷ []) r.key f, fits_high 2 low (e ∷ z ∷ []) r.key (el, (zl, tt)) f)) are
+
+later_joined : (v w x : Option ℕ) → max_option (max_option v x) (max_option w None) ≡ max_option (max_option v w) x
+later_joined v w x = grind (arith, later_none, later_of_later)
+
+later_joined_2 : (v w x : Option ℕ) → max_option (max_option v None) (max_option w x) ≡ max_option (max_option v w) x
+later_joined_2 v w x = grind (arith, later_none, later_of_later)
+
+none_named : (cells : CellRules) (e z : ℕ) → cells.named.now ≡ [] → IsNewest cells.named.now (NamesEnd cells.low e z) None
+none_named cells e z none r c f = let is : Contains [] r = subst (λ (rs : List Rule). Contains rs r) none c in grind (arith, is)
+
+pub joined_cells : (rules : List Rule) (P Q : ℕ → ℕ → ℕ → Type 0) (a b joined : CellRules) → AreCellRules rules P a → AreCellRules rules Q b → AreJoined a b joined
+    → AreCellRules rules (λ e z k. P e z k ⊎ Q e z k) joined
+joined_cells rules P Q a b joined p q (whole, inl is) = λ e z el zl x n.
+    let here = subst (λ (l : ℕ). IsNewest a.named.now (NamesEnd l e z) x) is.2 (subst (λ named. IsNewest named.now (NamesEnd joined.low e z) x) is.1 n) in
+    subst (IsNewest rules (λ k. P e z k ⊎ Q e z k)) (later_joined a.whole b.whole x ∙ ap (λ (w : Option ℕ). max_option w x) (sym whole))
+    (newest_of_two rules (P e z) (Q e z) _ _ (p e z el zl x here) (q e z el zl None (none_named b e z is.0)))
+joined_cells rules P Q a b joined p q (whole, inr is) = λ e z el zl x n.
+    let here = subst (λ (l : ℕ). IsNewest b.named.now (NamesEnd l e z) x) is.2 (subst (λ named. IsNewest named.now (NamesEnd joined.low e z) x) is.1 n) in
+    subst (IsNewest rules (λ k. P e z k ⊎ Q e z k)) (later_joined_2 a.whole b.whole x ∙ ap (λ (w : Option ℕ). max_option w x) (sym whole))
+    (newest_of_two rules (P e z) (Q e z) _ _ (p e z el zl None (none_named a e z is.0)) (q e z el zl x here))
+
+-- a rule that covers all cells
+pub whole_cells : (rules : List Rule) (P : ℕ → ℕ → ℕ → Type 0) (key : ℕ) (number : Option ℕ) (cells with_whole : CellRules) → AreCellRules rules P cells → IsNewest rules (λ k. k ≡ key) number
+    → with_whole.whole ≡ max_option number cells.whole → with_whole.low ≡ cells.low → with_whole.named ≡ cells.named → AreCellRules rules (λ e z k. (k ≡ key) ⊎ P e z k) with_whole
+whole_cells rules P key number cells with_whole p here whole low named = λ e z el zl x n.
+    let old = subst (λ (l : ℕ). IsNewest cells.named.now (NamesEnd l e z) x) low (subst (λ ns. IsNewest ns.now (NamesEnd with_whole.low e z) x) named n) in
+    subst (IsNewest rules (λ k. (k ≡ key) ⊎ P e z k)) (sym (ap (λ (w : Option ℕ). max_option w x) whole ∙ later_of_later number cells.whole x))
+    (newest_of_two rules (λ k. k ≡ key) (P e z) number (max_option cells.whole x) here (p e z el zl x old))
+
+-- one place more: no place, `*`, or the index
+pub placed_cells : (rules : List Rule) (m low i : ℕ) (cells : CellRules)
+    → AreCellRules rules (λ e z k. (k ≡ low) ⊎ (Fits m (low + key_base ^ m) (e ∷ z ∷ []) k ⊎ Fits m (low + (i + 2) * key_base ^ m) (e ∷ z ∷ []) k)) cells
+    → AreCellRules rules (λ e z. Fits (suc m) low (i ∷ e ∷ z ∷ [])) cells
+placed_cells rules m low i cells are = λ e z el zl x n.
+    newest_as rules (λ k. (k ≡ low) ⊎ (Fits m (low + key_base ^ m) (e ∷ z ∷ []) k ⊎ Fits m (low + (i + 2) * key_base ^ m) (e ∷ z ∷ []) k)) (Fits (suc m) low (i ∷ e ∷ z ∷ [])) _
+    (λ k f. ⊎_elim (fits_here (suc m) low k (i ∷ e ∷ z ∷ [])) (λ g. ⊎_elim (fits_every m low i (e ∷ z ∷ []) k) (fits_only m low i (e ∷ z ∷ []) k) g) f)
+    (λ k f. fits_next m low i (e ∷ z ∷ []) k f) (are e z el zl x n)
+
+pub placed_start : (rules : List Rule) (m low a s : ℕ) (cells : CellRules)
+    → AreCellRules rules (λ e z k. (k ≡ low) ⊎ (Fits m (low + key_base ^ m) (s ∷ e ∷ z ∷ []) k ⊎ Fits m (low + (a + 2) * key_base ^ m) (s ∷ e ∷ z ∷ []) k)) cells
+    → AreCellRules rules (λ e z. Fits (suc m) low (a ∷ s ∷ e ∷ z ∷ [])) cells
+placed_start rules m low a s cells are = λ e z el zl x n.
+    newest_as rules (λ k. (k ≡ low) ⊎ (Fits m (low + key_base ^ m) (s ∷ e ∷ z ∷ []) k ⊎ Fits m (low + (a + 2) * key_base ^ m) (s ∷ e ∷ z ∷ []) k)) (Fits (suc m) low (a ∷ s ∷ e ∷ z ∷ [])) _
+    (λ k f. ⊎_elim (fits_here (suc m) low k (a ∷ s ∷ e ∷ z ∷ [])) (λ g. ⊎_elim (fits_every m low a (s ∷ e ∷ z ∷ []) k) (fits_only m low a (s ∷ e ∷ z ∷ []) k) g) f)
+    (λ k f. fits_next m low a (s ∷ e ∷ z ∷ []) k f) (are e z el zl x n)
+
+-- ---- one cell
+-- no place, `*`, or the observation
+abbrev pub IsLast : ℕ → ℕ → ℕ → Type 0
+IsLast base z key = (key ≡ base) ⊎ ((key ≡ base + 1) ⊎ (key ≡ base + (z + 2)))
+
+pub last_place : (base z key : ℕ) → Fits 1 base (z ∷ []) key → IsLast base z key
+last_place base z key f = ⊎_elim (λ is. inl is) (λ g. inr (⊎_elim (λ h. inl (fits_end 0 (base + key_base ^ 0) key h)) (λ h. inr (let is = fits_end 0 (base + (z + 2) * key_base ^ 0) key h in omega (arith, is))) g)) (fits_next 0 base z [] key f)
+
+pub place_last : (base z key : ℕ) → IsLast base z key → Fits 1 base (z ∷ []) key
+place_last base z key (inl is) = fits_here 1 base key (z ∷ []) is
+place_last base z key (inr (inl is)) = fits_every 0 base z [] key (fits_here 0 (base + key_base ^ 0) key [] is)
+place_last base z key (inr (inr is)) = fits_only 0 base z [] key (fits_here 0 (base + (z + 2) * key_base ^ 0) key [] (omega (arith, is)))
+
+pub below_two : (n : ℕ) → n < 2 → (n ≡ 0) ⊎ (n ≡ 1)
+below_two n l = grind arith

@@ -1,0 +1,37 @@
+use Rattle.std.proofs.Common.{◌≡◌, ◌∙◌, ◌<◌, ◌+◌, ◌*◌, ℕ, [], ◌∷◌, Some, map, length, slice_get, FitsSigned, to_z, of_z, w64, sym, ap, refl, subst, arith, rules}
+use Rattle.std.proofs.lemmas.Int.{to_z-of_z}
+use Rattle.std.proofs.lemmas.Option.{slice_get-get_or}
+use Rattle.polcert_rules.proofs.Common.{Rule, count_of, dimensions, reward, Reward, AreIndices, table_key, most_places, max_option, IsNewest, AreWithin}
+use Rattle.polcert_cells.specs.declared.common_reward.RewardCell.{RewardCell}
+use Rattle.polcert_rules.specs.Keys.{Fits}
+use Rattle.polcert_rules.specs.Steps.CellRules.{IsCellOf}
+use Rattle.polcert_rules.proofs.RewardLaws.CellRewards.{cells_more}
+use Rattle.polcert_rules.proofs.rewards.Rewards.fill_cells.Goals as goal
+
+pub loop-i-preserved : goal.loop-i-preserved
+loop-i-preserved c =
+    let i = c.loop-i.i in
+    let a = c.args.action in
+    let s = c.args.start in
+    let at = c.in-Some.at in
+    let list = c.args.list in
+    let x : RewardCell = record { observation = at.end * c.self.inside.shape.observations + at.observation; reward = to_z w64 (of_z w64 c.reward_of_body-reward.result) } in
+    let get = slice_get-get_or list.named.now i (record { key = 0; number = 0 }) c.loop-i-test.true in
+    let shape : c.args.self.now.shape.observations ≡ c.self.inside.shape.observations = search rules in
+    let small : AreIndices most_places (a ∷ s ∷ at.end ∷ at.observation ∷ []) = search rules in
+    let fits : FitsSigned w64 c.reward_of_body-reward.result = search rules in
+    cells_more c.args.self.now a s list i c.loop-i.next c.loop-i.cells x _ c.loop-i.invariant (omega (arith, c.loop-i-test.true, c.if-cells-list.false, c.loop-i.auto.cells)) (omega (arith, c.if-number-next.false)) get
+    (record {
+      end = at.end;
+      observation = at.observation;
+      number = search rules;
+      end_within = search rules;
+      within = search rules;
+      names = c.in-Some.ensures.names;
+      alone = λ e z l f. c.in-Some.ensures.alone e z (omega (arith, l, shape)) f;
+      earns = λ newest p entries are.
+          let within : AreWithin (map count_of (dimensions p Reward)) (a ∷ s ∷ at.end ∷ at.observation ∷ []) = search rules in
+          sym (to_z-of_z w64 c.reward_of_body-reward.result fits ∙ c.reward_of_body-reward.ensures p entries are within
+          (c.body_of-covering.ensures (a ∷ s ∷ at.end ∷ at.observation ∷ []) p entries small are
+          (subst (IsNewest c.args.self.now.rules (Fits most_places (table_key Reward) (a ∷ s ∷ at.end ∷ at.observation ∷ []))) (sym c.max_option.ensures) newest)));
+    })
