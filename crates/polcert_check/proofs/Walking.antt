@@ -8,6 +8,7 @@ pub mod Marking
 pub mod Missing
 pub mod Outcomes
 pub mod Products
+pub mod RowOfBoth
 pub mod Sharing
 pub mod Verdicts
 pub mod Walked

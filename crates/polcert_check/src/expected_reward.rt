@@ -1,10 +1,11 @@
 //! The reward that an action expects at a state, shared by start states that no reward tells apart.
-ghost use Rattle.std.specs.Prelude.{◌≡◌, ℕ, ◌*◌, ◌^◌, ◌<◌, ◌≤◌, pos, ◌*ℤ◌, unsigned_abs, length};
+ghost use Rattle.std.specs.Prelude.{◌≡◌, ℕ, ◌*◌, ◌^◌, ◌<◌, ◌≤◌, ℤ, pos, ◌*ℤ◌, unsigned_abs, length};
 ghost use Rattle.std.specs.Prelude.{slice_index_or};
+ghost use Rattle.polcert_check.specs.Steps.Exceptions.{AreExcepted, row_weight, weighed_total};
 ghost use Rattle.polcert_check.specs.Steps.Ranges.{most_sum};
 ghost use Rattle.polcert_check.specs.Steps.Factored.{reward_at_end, expected_reward, AreKnown, AreAtEnds};
 ghost use Rattle.polcert_cells.specs.declared.elements.TheConstants.{MOST_STATES, MOST_OBSERVATIONS};
-ghost use Rattle.polcert_cells.specs.CommonRewards.{IsCommonReward};
+ghost use Rattle.polcert_cells.specs.CommonRewards.{cell_at};
 ghost use Rattle.std.specs.Option.{ForSome};
 
 use crate::end_values::{next_end, next_observation};
@@ -93,10 +94,56 @@ pub(crate) fn reward_at_end<C: Cells>(
     requires end { e < (C.table cells.now).states }
     ensures { result ≡ reward_at_end (C.table cells.now) a s e }
 {
-    match cells.find_rewards(a, s, e, &mut buffer.exceptions) {
-        Some(common) => buffer.sum_exceptions(cells, a, s, e, common),
+    match sum_few(cells, a, s, e, &mut buffer.exceptions) {
+        Some(sum) => sum,
         None => sum_rewards(cells, a, s, e, buffer),
     }
+}
+
+/// Returns the same, if few observations have another reward than the one that most have in common.
+fn sum_few<C: Cells>(
+    cells: &C,
+    a: usize,
+    s: usize,
+    e: usize,
+    exceptions: &mut [RewardCell],
+) -> Option<i128>
+    requires action { a < (C.table cells.now).actions }
+    requires start { s < (C.table cells.now).states }
+    requires end { e < (C.table cells.now).states }
+    ensures { ForSome result (λ sum. sum ≡ reward_at_end (C.table cells.now) a s e) }
+{
+    let most = exceptions.len().min(MOST_EXCEPTIONS);
+    let few = &mut exceptions[..most];
+    let common = cells.find_rewards(a, s, e, few)?;
+    Some(sum_excepted(cells.o_scale(), common, few, |z| cells.o(a, e, z)))
+}
+
+/// Returns the sum of weighted rewards, which most have in common: `weight_of` gives the weight of a number, and all weights sum to `scale`.
+fn sum_excepted<F: Fn(usize) -> u64>(
+    scale: u64,
+    common: CommonReward,
+    exceptions: &[RewardCell],
+    weight_of: F,
+) -> i128
+    requires callable { (k : ℕ) → k < common.exceptions
+        → F.pre weight_of (cell_at exceptions.now k).observation }
+    requires rewards { (w : ℕ → ℕ) × (r : ℕ → ℤ) × (count : ℕ) × (b : ℕ)
+        × AreExcepted (F.post weight_of) scale common exceptions.now w r count b }
+    ensures { (w : ℕ → ℕ) (r : ℕ → ℤ) (count b : ℕ)
+        → AreExcepted (F.post weight_of) scale common exceptions.now w r count b
+        → result ≡ weighed_total w r count }
+{
+    let shared = weigh(scale, common.reward as i128);
+    let mut sum = shared;
+    for i in 0..common.exceptions {
+        let cell = exceptions[i];
+        let weight = weight_of(cell.observation);
+        let difference = cell.reward as i128 - common.reward as i128;
+        let part = weigh(weight, difference);
+        sum += part;
+    }
+    sum
 }
 
 /// Returns the reward that action `a` expects at state `s`, summed over its end states.
@@ -115,6 +162,57 @@ fn sum_over_ends<C: Cells>(cells: &C, a: usize, s: usize, buffer: &mut RewardBuf
     sum
 }
 
+/// Returns the weight of the end state and the observation of this number, after action `a` in state `s`, on the scale of one step.
+fn row_weight<C: Cells>(cells: &C, a: usize, s: usize, k: usize) -> u64
+    requires action { a < (C.table cells.now).actions }
+    requires start { s < (C.table cells.now).states }
+    requires number { k < (C.table cells.now).states * (C.table cells.now).observations }
+    ensures { result ≡ row_weight (C.table cells.now) a s k }
+{
+    let observations = cells.observations();
+    let e = k / observations;
+    cells.t(a, s, e) * cells.o(a, e, k % observations)
+}
+
+/// Returns how many end states the row of T at action `a` and state `s` may have.
+fn count_ends<C: Cells>(cells: &C, a: usize, s: usize) -> usize
+    requires action { a < (C.table cells.now).actions }
+    requires start { s < (C.table cells.now).states }
+{
+    match cells.t_row(a, s) {
+        Some(Row::Sparse(row)) => row.len(),
+        Some(Row::Filled(weights)) => weights.len(),
+        Some(Row::Scaled { numbers, .. }) => numbers.len(),
+        Some(Row::Single(_)) => 1,
+        None => cells.states(),
+    }
+}
+
+/// Returns the reward that action `a` expects at state `s`, if few end states and observations have another reward than the one that most
+/// have in common.
+fn sum_row<C: Cells>(cells: &C, a: usize, s: usize, exceptions: &mut [RewardCell]) -> Option<i128>
+    requires action { a < (C.table cells.now).actions }
+    requires start { s < (C.table cells.now).states }
+    ensures { ForSome result (λ sum. sum ≡ expected_reward (C.table cells.now) a s) }
+{
+    let ends = count_ends(cells, a, s);
+    // (The rewards at one end state are asked for as fast.)
+    if ends < 2 {
+        return None;
+    }
+    let most = exceptions
+        .len()
+        .min(ends.saturating_mul(EXCEPTIONS_PER_END));
+    let few = &mut exceptions[..most];
+    let common = cells.find_row_rewards(a, s, few)?;
+    // (If all differ, the common one may be any number.)
+    if common.reward.unsigned_abs() > LARGEST {
+        return None;
+    }
+    let scale = cells.t_scale() * cells.o_scale();
+    Some(sum_excepted(scale, common, few, |k| row_weight(cells, a, s, k)))
+}
+
 /// Returns the reward that action `a` expects at state `s`, on the scale of the weights of one step.
 pub fn expected_reward<C: Cells>(cells: &C, a: usize, s: usize, buffer: &mut RewardBuffer) -> i128
     requires action { a < (C.table cells.now).actions }
@@ -126,7 +224,10 @@ pub fn expected_reward<C: Cells>(cells: &C, a: usize, s: usize, buffer: &mut Rew
             let at_end = weigh(cells.o_scale(), reward as i128);
             weigh(cells.t_scale(), at_end)
         }
-        None => sum_over_ends(cells, a, s, buffer),
+        None => match sum_row(cells, a, s, &mut buffer.exceptions) {
+            Some(sum) => sum,
+            None => sum_over_ends(cells, a, s, buffer),
+        },
     }
 }
 
@@ -203,14 +304,23 @@ impl Earnings {
     }
 }
 
-/// So many exceptions of a common reward are added up one by one.
+/// So many exceptions of the reward that an end state's observations have in common are added up one by one.
 const MOST_EXCEPTIONS: usize = 64;
+
+/// So many of the reward that all end states of a start state have in common.
+const MOST_IN_ROW: usize = 1_024;
+
+/// So many for each of its end states: adding them up takes about as long as asking for the rewards at one.
+const EXCEPTIONS_PER_END: usize = 8;
+
+/// No reward is larger, in millionths.
+const LARGEST: u64 = 10_000_000_000_000;
 
 /// Buffers for the rewards of all observations, given an action, a start state and an end state.
 #[derive(Drop)]
 pub struct RewardBuffer {
     rewards: [i64; MOST_OBSERVATIONS],
-    pub(crate) exceptions: [RewardCell; MOST_EXCEPTIONS],
+    exceptions: [RewardCell; MOST_IN_ROW],
     ghost room: { length rewards ≡ MOST_OBSERVATIONS },
 }
 
@@ -221,36 +331,8 @@ impl RewardBuffer {
             exceptions: [RewardCell {
                 observation: 0,
                 reward: 0,
-            }; MOST_EXCEPTIONS],
+            }; MOST_IN_ROW],
         }
-    }
-
-    /// Returns the weighted sum of the rewards at end state `e`, which observations have in common, except a few.
-    pub(crate) fn sum_exceptions<C: Cells>(
-        &self,
-        cells: &C,
-        a: usize,
-        s: usize,
-        e: usize,
-        common: CommonReward,
-    ) -> i128
-        requires action { a < (C.table cells.now).actions }
-        requires start { s < (C.table cells.now).states }
-        requires end { e < (C.table cells.now).states }
-        requires common { IsCommonReward ((C.table cells.now).r a s e) (C.table cells.now).observations
-            common self.now.exceptions }
-        ensures { result ≡ reward_at_end (C.table cells.now) a s e }
-    {
-        let shared = weigh(cells.o_scale(), common.reward as i128);
-        let mut sum = shared;
-        for i in 0..common.exceptions {
-            let cell = self.exceptions[i];
-            let weight = cells.o(a, e, cell.observation);
-            let difference = cell.reward as i128 - common.reward as i128;
-            let part = weigh(weight, difference);
-            sum += part;
-        }
-        sum
     }
 
     /// Returns the weighted sum of the rewards at end state `e`, which are read all at once.

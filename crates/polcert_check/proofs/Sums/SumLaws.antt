@@ -1,6 +1,6 @@
 -- Laws of sums of integers.
-use Rattle.std.proofs.Common.{◌≡◌, ℕ, zero, suc, ◌+◌, ◌<◌, ℤ, pos, ◌+ℤ◌, ◌*ℤ◌, ◌≤ℤ◌, Bool, cond, List, [], ◌∷◌, ◌++◌, map, filter, flat_map, sym, refl, ap, ◌∙◌, arith, All}
-use Rattle.polcert_check.proofs.Common.{range_with_len, All-head, All-tail, +ℤ_assoc, +ℤ_idl, *ℤ-zero, zero-*ℤ, total_below, sum_over}
+use Rattle.std.proofs.Common.{◌≡◌, ℕ, zero, suc, ◌+◌, ◌*◌, ◌<◌, ℤ, pos, ◌+ℤ◌, ◌*ℤ◌, ◌≤ℤ◌, Bool, cond, List, [], ◌∷◌, ◌++◌, map, filter, flat_map, sym, refl, ap, ◌∙◌, arith, All}
+use Rattle.polcert_check.proofs.Common.{range_with_len, All-head, All-tail, +ℤ_assoc, +ℤ_idl, +ℤ_idr, *ℤ-zero, zero-*ℤ, total_below, sum_over}
 use Rattle.std.specs.Prelude.{⊤}
 use Rattle.polcert_check.proofs.Sums.Ring.{linear, products, sums, *ℤ-+ℤ, +ℤ-*ℤ}
 
@@ -26,6 +26,23 @@ sum_below_add f g (suc n) = rw (sum_below_add f g n) (omega (arith, linear))
 pub sum_below_front : (f : ℕ → ℤ) (n : ℕ) → total_below f (suc n) ≡ f 0 +ℤ total_below (λ i. f (suc i)) n
 sum_below_front f zero = omega (arith, linear)
 sum_below_front f (suc n) = grind (arith, +ℤ_assoc, sum_below_front f n)
+
+pub sum_below_split : (f : ℕ → ℤ) (a n : ℕ) → total_below f (a + n) ≡ total_below f a +ℤ total_below (λ i. f (a + i)) n
+sum_below_split f a zero =
+    let none : a + 0 ≡ a = omega arith in
+    rw none (sym (+ℤ_idr (total_below f a)))
+sum_below_split f a (suc n) =
+    let more : a + suc n ≡ suc (a + n) = omega arith in
+    rw (more, sum_below_split f a n) (+ℤ_assoc (total_below f a) (total_below (λ i. f (a + i)) n) (f (a + n)))
+
+-- row after row
+pub sum_below_rows : (f : ℕ → ℤ) (rows width : ℕ) → total_below f (rows * width) ≡ total_below (λ e. total_below (λ z. f (e * width + z)) width) rows
+sum_below_rows f zero width =
+    let none : 0 * width ≡ 0 = omega arith in
+    rw none refl
+sum_below_rows f (suc n) width =
+    let more : suc n * width ≡ n * width + width = omega arith in
+    rw (more, sum_below_split f (n * width) width, sum_below_rows f n width) refl
 
 -- ---- sums over a list
 pub sum_over_same_all : {X : Type 0} (P : X → Type 0) (f g : X → ℤ) (xs : List X) → ((x : X) → P x → f x ≡ g x) → All P xs → sum_over f xs ≡ sum_over g xs

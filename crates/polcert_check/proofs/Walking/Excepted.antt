@@ -1,16 +1,16 @@
--- The reward at an end state, from one that observations have in common and from its exceptions.
-use Rattle.std.proofs.Common.{◌≡◌, ◌∙◌, ℕ, zero, suc, ◌+◌, ◌*◌, ◌^◌, ◌<◌, ◌≤◌, true, false, cond, ◌⊎◌, inl, inr, List, ℤ, pos, ◌+ℤ◌, ◌-ℤ◌, ◌*ℤ◌, unsigned_abs, FitsSigned, w64, to_z, of_z, refl, sym, ap, arith, rules}
-use Rattle.polcert_check.proofs.Common.{w128, ints, *ℤ_comm, *ℤ-zero, +ℤ_idr, largest, CellTable, IsProper, IsWithinLimits, cell_at, IsCommonReward, CommonReward, RewardCell, one, total_below, reward_at_end, most_sum}
+-- Weighted rewards, summed from one that most have in common and from its exceptions.
+use Rattle.std.proofs.Common.{◌≡◌, ◌∙◌, ℕ, zero, suc, ◌+◌, ◌*◌, ◌^◌, ◌<◌, ◌≤◌, true, false, cond, ◌⊎◌, inl, inr, List, ℤ, pos, ◌+ℤ◌, ◌-ℤ◌, ◌*ℤ◌, unsigned_abs, FitsSigned, w64, to_z, of_z, refl, sym, ap, arith, rules, lit<, add-one}
+use Rattle.polcert_check.proofs.Common.{w128, ints, fits_signed_from_abs, *ℤ_comm, *ℤ-zero, +ℤ_idr, largest, cell_at, CommonReward, RewardCell, total_below, most_sum}
 use Rattle.std.specs.Prelude.{◌==◌}
 use Rattle.std.proofs.lemmas.Bool.{cases_eq}
+use Rattle.std.proofs.lemmas.Int.{to_z-of_z}
 use Rattle.std.proofs.lemmas.Bool.Decides.{nat_tests}
-use Rattle.polcert_check.specs.Steps.Exceptions.{difference_in}
+use Rattle.polcert_check.specs.Steps.Exceptions.{difference_in, AreExcepted, weighed_total}
 use Rattle.polcert_check.proofs.Sums.Bounds.{abs-+ℤ, abs-*ℤ_le}
 use Rattle.polcert_check.proofs.Sums.Ring.{linear, *ℤ-+ℤ}
-use Rattle.polcert_check.proofs.Sums.RowTotals.{o_rows}
-use Rattle.polcert_check.proofs.Sums.Scales.{scales_small}
 use Rattle.polcert_check.proofs.Sums.SumLaws.{sum_below_same, sum_below_scale, sum_below_add}
-use Rattle.polcert_check.proofs.Walking.Weighed.{IsWeighed, part_le}
+use Rattle.polcert_check.proofs.Sums.Gaps.{add_step, weighed_is}
+use Rattle.polcert_check.proofs.Walking.Weighed.{part_le, weight_room, weight_small}
 
 -- ---- tests of numbers
 other_number : (a b : ℕ) → (a ≡ b → ⊥) → (a == b) ≡ false
@@ -52,89 +52,105 @@ small_of h h1 = grind arith
 pub difference_is : (x h : ℤ) → FitsSigned w64 x → FitsSigned w64 h → to_z w128 (of_z w128 (to_z w64 (of_z w64 x))) -ℤ to_z w128 (of_z w128 (to_z w64 (of_z w64 h))) ≡ x -ℤ h
 difference_is x h f k = grind arith
 
-abs-minus : (x h : ℤ) → unsigned_abs x ≤ largest → unsigned_abs h ≤ 2 ^ 63 → unsigned_abs (x -ℤ h) ≤ 2 ^ 64
-abs-minus x h l m = omega (arith, ints)
+abs-minus : (x h : ℤ) (b : ℕ) → unsigned_abs x ≤ largest → unsigned_abs h + largest ≤ b → unsigned_abs (x -ℤ h) ≤ b
+abs-minus x h b l m = omega (arith, ints)
 
 whole_part : (x h : ℤ) → x ≡ h +ℤ (x -ℤ h)
 whole_part x h = omega (arith, linear)
 
+-- the reward of an exception has 64 bits
+exception_fits : (r x : ℤ) → r ≡ x → unsigned_abs r ≤ largest → FitsSigned w64 x
+exception_fits r x is small = rw (sym is) (fits_signed_from_abs w64 r (omega (arith, small)))
+
 -- the sum of the common reward and the first exceptions
-abbrev pub sum_until : CellTable → ℕ → ℕ → ℕ → CommonReward → List RewardCell → ℕ → ℤ
-sum_until m a s e common cells n =
-    pos m.o_scale *ℤ common.reward +ℤ total_below (λ z. pos (m.o a e z) *ℤ difference_in (m.r a s e) common.reward cells n z) m.observations
+abbrev pub sum_until : (ℕ → ℕ) → (ℕ → ℤ) → ℕ → ℕ → CommonReward → List RewardCell → ℕ → ℤ
+sum_until w r count scale common cells n =
+    pos scale *ℤ common.reward +ℤ total_below (λ k. pos (w k) *ℤ difference_in r common.reward cells n k) count
 
-module _ (m : CellTable) (p : IsProper m) (limits : IsWithinLimits m) (a s e : ℕ) (al : a < m.actions) (sl : s < m.states) (el : e < m.states)
-    (common : CommonReward) (cells : List RewardCell) (small : unsigned_abs common.reward ≤ 2 ^ 63) (is : IsCommonReward (m.r a s e) m.observations common cells) where
+module _ (answers : ℕ → ℕ → Type 0) (scale : ℕ) (common : CommonReward) (cells : List RewardCell) (w : ℕ → ℕ) (r : ℕ → ℤ) (count b : ℕ) (are : AreExcepted answers scale common cells w r count b) where
   abbrev differs : ℕ → ℕ → ℤ
-  differs n z = difference_in (m.r a s e) common.reward cells n z
+  differs n k = difference_in r common.reward cells n k
 
-  -- a row of O has room for 64 bits
-  pub wide_row : IsWeighed (m.o a e) m.observations m.o_scale (2 ^ 64)
-  unfolding one
-  wide_row = record {
-    all = o_rows m p a e al el;
-    small = (scales_small m limits).1;
-    room = omega (arith, limits.o_scale, limits.observations.1);
-  }
+  abbrev until : ℕ → ℤ
+  until n = sum_until w r count scale common cells n
 
-  pub difference_le : (z : ℕ) → z < m.observations → unsigned_abs (m.r a s e z -ℤ common.reward) ≤ 2 ^ 64
-  difference_le z zl = abs-minus (m.r a s e z) common.reward (limits.r a s e z al sl el zl) small
+  difference_le : (k : ℕ) → k < count → unsigned_abs (r k -ℤ common.reward) ≤ b
+  difference_le k l = abs-minus (r k) common.reward b (are.limited k l) are.small
 
-  differs_le : (n z : ℕ) → z < m.observations → unsigned_abs (differs n z) ≤ 2 ^ 64
-  differs_le n z zl = grind (arith, cases_difference)
+  differs_le : (n k : ℕ) → k < count → unsigned_abs (differs n k) ≤ b
+  differs_le n k l = grind (arith, cases_difference, difference_le)
 
-  pub sum_until_le : (n : ℕ) → unsigned_abs (sum_until m a s e common cells n) ≤ most_sum
-  unfolding one
+  sum_until_le : (n : ℕ) → unsigned_abs (until n) ≤ 2 * most_sum
   sum_until_le n =
-      let first : unsigned_abs (pos m.o_scale *ℤ common.reward) ≤ m.o_scale * 2 ^ 63 = abs-*ℤ_le (pos m.o_scale) common.reward m.o_scale (2 ^ 63) (omega arith) small in
-      let both : unsigned_abs (sum_until m a s e common cells n) ≤ _ = abs-+ℤ (pos m.o_scale *ℤ common.reward) (total_below (λ z. pos (m.o a e z) *ℤ differs n z) m.observations) in
-      omega (arith, first, part_le wide_row (differs n) (λ z zl. differs_le n z zl) m.observations (omega arith), both, limits.o_scale, limits.observations.1)
+      let first : unsigned_abs (pos scale *ℤ common.reward) ≤ scale * b = abs-*ℤ_le (pos scale) common.reward scale b (omega arith) (omega (arith, are.small)) in
+      let both : unsigned_abs (until n) ≤ _ = abs-+ℤ (pos scale *ℤ common.reward) (total_below (λ k. pos (w k) *ℤ differs n k) count) in
+      omega (arith, first, part_le are.weighed (differs n) (λ k l. differs_le n k l) count (omega arith), both, are.weighed.room)
 
-  pub sum_until_none : pos m.o_scale *ℤ common.reward ≡ sum_until m a s e common cells 0
+  pub sum_until_none : pos scale *ℤ common.reward ≡ until 0
   sum_until_none =
-      let none : total_below (λ z. pos (m.o a e z) *ℤ pos 0) m.observations ≡ pos 0 = cc (sum_below_same _ (λ z. pos 0) m.observations (λ z l. *ℤ-zero (pos (m.o a e z))), zeros m.observations) in
-      sym (ap (λ (x : ℤ). pos m.o_scale *ℤ common.reward +ℤ x) none ∙ +ℤ_idr (pos m.o_scale *ℤ common.reward))
+      let none : total_below (λ k. pos (w k) *ℤ pos 0) count ≡ pos 0 = cc (sum_below_same _ (λ k. pos 0) count (λ k l. *ℤ-zero (pos (w k))), zeros count) in
+      sym (ap (λ (x : ℤ). pos scale *ℤ common.reward +ℤ x) none ∙ +ℤ_idr (pos scale *ℤ common.reward))
     where
       zeros : (n : ℕ) → total_below (λ z. pos 0) n ≡ pos 0
       zeros zero = refl
       zeros (suc n) = rw (zeros n) refl
 
   -- one exception more
-  pub sum_until_more : (i : ℕ) → i < common.exceptions
-      → sum_until m a s e common cells i +ℤ pos (m.o a e (cell_at cells i).observation) *ℤ (m.r a s e (cell_at cells i).observation -ℤ common.reward) ≡ sum_until m a s e common cells (suc i)
+  sum_until_more : (i : ℕ) → i < common.exceptions
+      → until i +ℤ pos (w (cell_at cells i).observation) *ℤ (r (cell_at cells i).observation -ℤ common.reward) ≡ until (suc i)
   sum_until_more i l =
       let z = (cell_at cells i).observation in
-      let here : differs (suc i) z ≡ m.r a s e z -ℤ common.reward = hit z z _ _ refl in
-      let before : differs i z ≡ pos 0 = no_difference (m.r a s e) common.reward cells i z (λ k n f. is.distinct k i n l f) in
-      let x = pos (m.o a e z) *ℤ (m.r a s e z -ℤ common.reward) in
-      let more = one_term_more (λ y. pos (m.o a e y) *ℤ differs i y) (λ y. pos (m.o a e y) *ℤ differs (suc i) y) z x m.observations (is.within i l)
-      (λ k n d. ap (λ (y : ℤ). pos (m.o a e k) *ℤ y) (miss z k _ _ (λ f. d (sym f)))) (rw (here, before, *ℤ-zero (pos (m.o a e z))) (omega (arith, linear))) in
+      let here : differs (suc i) z ≡ r z -ℤ common.reward = hit z z _ _ refl in
+      let before : differs i z ≡ pos 0 = no_difference r common.reward cells i z (λ k n f. are.rewards.distinct k i n l f) in
+      let x = pos (w z) *ℤ (r z -ℤ common.reward) in
+      let more = one_term_more (λ y. pos (w y) *ℤ differs i y) (λ y. pos (w y) *ℤ differs (suc i) y) z x count (are.rewards.within i l)
+      (λ k n d. ap (λ (y : ℤ). pos (w k) *ℤ y) (miss z k _ _ (λ f. d (sym f)))) (rw (here, before, *ℤ-zero (pos (w z))) (omega (arith, linear))) in
       rw more (omega (arith, linear))
 
   -- with all exceptions it is the reward
-  pub sum_until_all : sum_until m a s e common cells common.exceptions ≡ reward_at_end m a s e
+  pub sum_until_all : until common.exceptions ≡ weighed_total w r count
   sum_until_all =
       let h = common.reward in
-      let scaled : pos m.o_scale *ℤ h ≡ total_below (λ z. h *ℤ pos (m.o a e z)) m.observations =
-      *ℤ_comm (pos m.o_scale) h ∙ ap (λ (x : ℤ). h *ℤ x) (sym (o_rows m p a e al el)) ∙ sym (sum_below_scale h (λ z. pos (m.o a e z)) m.observations) in
-      ap (λ (x : ℤ). x +ℤ total_below (λ z. pos (m.o a e z) *ℤ differs common.exceptions z) m.observations) scaled
-      ∙ sym (sum_below_add (λ z. h *ℤ pos (m.o a e z)) (λ z. pos (m.o a e z) *ℤ differs common.exceptions z) m.observations)
-      ∙ sum_below_same _ _ m.observations (λ z zl. joined z zl (cases_difference (m.r a s e) h cells common.exceptions z))
+      let scaled : pos scale *ℤ h ≡ total_below (λ k. h *ℤ pos (w k)) count =
+      *ℤ_comm (pos scale) h ∙ ap (λ (x : ℤ). h *ℤ x) (sym are.weighed.all) ∙ sym (sum_below_scale h (λ k. pos (w k)) count) in
+      ap (λ (x : ℤ). x +ℤ total_below (λ k. pos (w k) *ℤ differs common.exceptions k) count) scaled
+      ∙ sym (sum_below_add (λ k. h *ℤ pos (w k)) (λ k. pos (w k) *ℤ differs common.exceptions k) count)
+      ∙ sum_below_same _ _ count (λ k l. whole k (is_sum k l (cases_difference r h cells common.exceptions k)))
     where
-      joined : (z : ℕ) → z < m.observations
-          → ((k : ℕ) × (k < common.exceptions) × ((cell_at cells k).observation ≡ z) × (differs common.exceptions z ≡ m.r a s e z -ℤ common.reward))
-          ⊎ (((k : ℕ) → k < common.exceptions → (cell_at cells k).observation ≡ z → ⊥) × (differs common.exceptions z ≡ pos 0))
-          → common.reward *ℤ pos (m.o a e z) +ℤ pos (m.o a e z) *ℤ differs common.exceptions z ≡ pos (m.o a e z) *ℤ m.r a s e z
-      joined z zl x = whole z (is_sum x)
-        where
-          is_sum : ((k : ℕ) × (k < common.exceptions) × ((cell_at cells k).observation ≡ z) × (differs common.exceptions z ≡ m.r a s e z -ℤ common.reward))
-              ⊎ (((k : ℕ) → k < common.exceptions → (cell_at cells k).observation ≡ z → ⊥) × (differs common.exceptions z ≡ pos 0))
-              → common.reward +ℤ differs common.exceptions z ≡ m.r a s e z
-          is_sum (inl f) = ap (λ (y : ℤ). common.reward +ℤ y) f.3 ∙ sym (whole_part (m.r a s e z) common.reward)
-          is_sum (inr f) = ap (λ (y : ℤ). common.reward +ℤ y) f.1 ∙ +ℤ_idr common.reward ∙ sym (is.others z zl f.0)
+      is_sum : (k : ℕ) → k < count → ((i : ℕ) × (i < common.exceptions) × ((cell_at cells i).observation ≡ k) × (differs common.exceptions k ≡ r k -ℤ common.reward))
+          ⊎ (((i : ℕ) → i < common.exceptions → (cell_at cells i).observation ≡ k → ⊥) × (differs common.exceptions k ≡ pos 0))
+          → common.reward +ℤ differs common.exceptions k ≡ r k
+      is_sum k l (inl f) = ap (λ (y : ℤ). common.reward +ℤ y) f.3 ∙ sym (whole_part (r k) common.reward)
+      is_sum k l (inr f) = ap (λ (y : ℤ). common.reward +ℤ y) f.1 ∙ +ℤ_idr common.reward ∙ sym (are.rewards.others k l f.0)
 
-          whole : (z : ℕ) → common.reward +ℤ differs common.exceptions z ≡ m.r a s e z
-              → common.reward *ℤ pos (m.o a e z) +ℤ pos (m.o a e z) *ℤ differs common.exceptions z ≡ pos (m.o a e z) *ℤ m.r a s e z
-          whole z f =
-              ap (λ (y : ℤ). y +ℤ pos (m.o a e z) *ℤ differs common.exceptions z) (*ℤ_comm common.reward (pos (m.o a e z)))
-              ∙ sym (*ℤ-+ℤ (pos (m.o a e z)) common.reward (differs common.exceptions z)) ∙ ap (λ (y : ℤ). pos (m.o a e z) *ℤ y) f
+      whole : (k : ℕ) → common.reward +ℤ differs common.exceptions k ≡ r k
+          → common.reward *ℤ pos (w k) +ℤ pos (w k) *ℤ differs common.exceptions k ≡ pos (w k) *ℤ r k
+      whole k f =
+          ap (λ (y : ℤ). y +ℤ pos (w k) *ℤ differs common.exceptions k) (*ℤ_comm common.reward (pos (w k)))
+          ∙ sym (*ℤ-+ℤ (pos (w k)) common.reward (differs common.exceptions k)) ∙ ap (λ (y : ℤ). pos (w k) *ℤ y) f
+
+  -- ---- the steps in the code
+  module _ (fits : FitsSigned w64 common.reward) (i : ℕ) (il : i < common.exceptions) (weight : ℕ) (answer : answers (cell_at cells i).observation weight) where
+    abbrev pub computed : ℤ
+    computed = to_z w128 (of_z w128 (to_z w64 (of_z w64 (cell_at cells i).reward))) -ℤ to_z w128 (of_z w128 (to_z w64 (of_z w64 common.reward)))
+
+    weight_is : weight ≡ w (cell_at cells i).observation
+    weight_is = are.answer _ _ (are.rewards.within i il) answer
+
+    computed_is : computed ≡ r (cell_at cells i).observation -ℤ common.reward
+    computed_is = rw (are.rewards.each i il) (difference_is _ _ (exception_fits _ _ (are.rewards.each i il) (are.limited _ (are.rewards.within i il))) fits)
+
+    pub exception_small : weight < 2 ^ 63
+    exception_small = weight_small are.weighed _ weight (are.rewards.within i il) weight_is
+
+    pub exception_room : FitsSigned w128 computed → weight * unsigned_abs (to_z w128 (of_z w128 computed)) ≤ most_sum
+    exception_room f =
+        rw (to_z-of_z w128 computed f, computed_is) (weight_room are.weighed (cell_at cells i).observation weight (r (cell_at cells i).observation -ℤ common.reward) (are.rewards.within i il) weight_is
+        (difference_le (cell_at cells i).observation (are.rewards.within i il)))
+
+    -- the sum after one exception more
+    pub exception_more : (sum x : ℤ) → FitsSigned w128 x → FitsSigned w128 computed → x ≡ pos weight *ℤ to_z w128 (of_z w128 computed) → sum ≡ until i
+        → FitsSigned w128 (sum +ℤ to_z w128 (of_z w128 x)) × (to_z w128 (of_z w128 (sum +ℤ to_z w128 (of_z w128 x))) ≡ until (i + 1))
+    exception_more sum x fx fd xe before =
+        let part = weighed_is weight _ x computed _ fd xe weight_is computed_is in
+        rw add-one (add_step sum x (until (suc i)) (2 * most_sum) fx (rw (before, part) (sum_until_more i il)) (sum_until_le (suc i)) (lit< tt))

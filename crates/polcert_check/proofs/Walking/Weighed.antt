@@ -2,18 +2,13 @@
 use Rattle.polcert_check.proofs.Common.{common_steps, slice_get-get_or, Cell, after_cells, IsRow, w128, largest, CellTable, IsProper, IsWithinLimits, total_below, most_sum}
 use Rattle.std.proofs.Common.{◌≡◌, ℕ, suc, ◌+◌, ◌*◌, ◌^◌, ◌<◌, ◌≤◌, ℤ, pos, ◌+ℤ◌, ◌*ℤ◌, unsigned_abs, FitsSigned, to_z, of_z, arith, lit<, List, length, slice_index_or, Some}
 use Rattle.polcert_cells.specs.Cursors.{IsNext}
+use Rattle.polcert_check.specs.Steps.Exceptions.{IsWeighed}
 use Rattle.std.proofs.Math.Nat.{mul-le-mul}
 use Rattle.polcert_cells.proofs.RowSteps.{sparse_some}
 use Rattle.polcert_check.proofs.Sums.RowTotals.{t_rows, o_rows}
 use Rattle.polcert_check.proofs.Sums.Bounds.{abs_part_le, term_le}
 use Rattle.polcert_check.proofs.Sums.Scales.{scales_small, ahead_room, after_room}
 use Rattle.polcert_check.proofs.Sums.Gaps.{gap, no_weight, cursor_step, weighed_is}
-
--- the weights sum to their scale, which has 63 bits, and there is room for a sum of numbers up to b
-pub record IsWeighed (w : ℕ → ℕ) (count scale b : ℕ) : Type 0 where
-  pub all : total_below (λ i. pos (w i)) count ≡ pos scale
-  pub small : scale < 2 ^ 63
-  pub room : scale * b ≤ most_sum
 
 -- the end states of a step, and the observations after one of them
 module _ (m : CellTable) (p : IsProper m) (limits : IsWithinLimits m) where
