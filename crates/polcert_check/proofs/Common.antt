@@ -1,6 +1,6 @@
 -- The names of std and of specs that several proofs of this crate cite, passed on from one place. Declares nothing.
 pub use Rattle.polcert_cells.specs.BorrowedRows.{IsRowOf, after_cells, reached}
-pub use Rattle.polcert_cells.specs.CommonRewards.{IsCommonReward, cell_at}
+pub use Rattle.polcert_cells.specs.CommonRewards.{row_reward}
 pub use Rattle.polcert_cells.specs.Meaning.{IsSame, Meaning, start_total, start_weight, states_of}
 pub use Rattle.polcert_cells.specs.SameCells.{HasSameCells}
 pub use Rattle.polcert_cells.specs.Sparse.{IsRow}
@@ -20,6 +20,7 @@ unfoldable pub use Rattle.polcert_check.specs.Shortfall.{largest_amount}
 pub use Rattle.polcert_check.specs.StartMost.{IsStartMost, StartPromiseAbove}
 pub use Rattle.polcert_check.specs.StartWorth.{IsBestStart, IsCeilQuotient, IsFirstGreatest, IsFloorQuotient, IsStartWorth, StartPromise, start_sum}
 pub use Rattle.polcert_check.specs.Steps.CheckInput.{checked_controller, controller}
+pub use Rattle.polcert_check.specs.Steps.Exceptions.{AreExcepted, IsWeighed, row_weight, weighed_total}
 pub use Rattle.polcert_check.specs.Steps.Factored.{AreKnown, IsLeastOf, IsPairVerdict, Misses, expected_reward, expected_value, reward_at_end, value_at_end, value_term}
 pub use Rattle.polcert_check.specs.Steps.Findings.{IsFirstOf, IsFound, IsFoundBefore, IsPair, IsVerdictFor, IsWalked, IsWorstOf}
 pub use Rattle.polcert_check.specs.Steps.FollowedCells.{followed, followed_is_proper, followed_is_within}

@@ -3,10 +3,10 @@ use Rattle.std.proofs.Common.{◌≡◌, ⊎_elim, ℕ, zero, suc, ◌+◌, ◌<
 use Rattle.std.proofs.lemmas.List.{length-drop}
 use Rattle.polcert_items.proofs.Common.{moved, Lexeme, TokenKind, Colon, count_of, StandsFor, IsPlace, Preamble, begins_item, is_reserved, IsName, Elements, Count, Place, Only, Table, preamble_in, indices_in, named_in, is_sign, ModelSoFar, IsFed, none, more, FedAhead, BeginWithPlace, IsFirstPlace, IsWithinIndices, ExpectsNext, EntryReader}
 use Rattle.polcert_text.specs.Beginning.{BeginWithOne, BeginWithDigits}
-use Rattle.polcert_text.specs.declared.front_tokens.FrontDigits.{FrontDigits}
-use Rattle.polcert_text.proofs.Taken.BeginLaws.{begin_then}
 use Rattle.polcert_items.specs.Steps.Ahead.{AwaitsColon}
 use Rattle.polcert_items.specs.Steps.Wants.{entry_wants}
+use Rattle.polcert_text.specs.declared.front_tokens.FrontDigits.{FrontDigits}
+use Rattle.polcert_text.proofs.Taken.BeginLaws.{begin_then}
 use Rattle.polcert_items.specs.declared.ahead.FrontPlace.{FrontPlace}
 use Rattle.polcert_items.specs.declared.entry_reader.EntryState.TheVariants as states
 use Rattle.polcert_items.proofs.PatternLaws.{in_state, colon_takes}

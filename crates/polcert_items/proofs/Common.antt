@@ -1,7 +1,7 @@
 -- The names of std and of specs that several proofs of this crate cite, passed on from one place. Declares nothing.
 pub use Rattle.polcert_cells.specs.Elements.{StandsFor, count_of, most_actions, most_observations, most_states}
 pub use Rattle.polcert_cells.specs.Entry.{IsPlace, cells_in}
-pub use Rattle.polcert_cells.specs.EntryRefs.{body_of}
+pub use Rattle.polcert_cells.specs.EntryRefs.{body_of, entry_of}
 pub use Rattle.polcert_cells.specs.Numbers.{AreNumbers, IsMillionths, IsWhole, one}
 pub use Rattle.polcert_cells.specs.Preamble.{Preamble, dimensions, is_mdp}
 pub use Rattle.polcert_cells.specs.Start.{IsStart, IsStartBody, all_states, is_level, plain, shares_of, single}
@@ -28,7 +28,7 @@ pub use Rattle.polcert_format.specs.Wants.{least_written, numbers_want}
 pub use Rattle.polcert_format.specs.declared.fault.ItemFault.{ItemFault}
 pub use Rattle.polcert_format.specs.declared.fault.ItemFault.TheVariants.{DuplicateName, IndexOutOfRange, Number, ProbabilityRange}
 pub use Rattle.polcert_items.specs.Steps.Ahead.{AreTaken, BeginWithPlace, FedAhead, IsFed, IsListFed, TakesAhead, more, none}
-pub use Rattle.polcert_items.specs.Steps.CellBudget.{most_covered, nonzero_cells}
+pub use Rattle.polcert_items.specs.Steps.CellBudget.{IsCoveringOf, most_covered, nonzero_cells}
 pub use Rattle.polcert_items.specs.Steps.Elements.{AreElementsSeen, AreNamesRead, ElementsReason, NamesGo}
 pub use Rattle.polcert_items.specs.Steps.Entries.{AreBegun, CannotBegin, EntryGoes, HasRoom, IfRefused, IsFirstPlace, IsFull, IsListReason, IsStateWithin, IsWithinIndices, IsWordAfter, NumberListGoes, ProbabilitiesGo, entry_sign, entry_with, no_numbers}
 pub use Rattle.polcert_items.specs.Steps.Feeding.{IsStartFed, RefusesInStart}

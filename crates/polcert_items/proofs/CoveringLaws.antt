@@ -1,19 +1,19 @@
 -- How many cells an entry covers with a weight above 0, and what entries give of a large table, counted entry by entry.
 use Rattle.std.proofs.Common.{◌≡◌, ◌∙◌, ℕ, zero, suc, ◌+◌, ◌*◌, ◌<◌, ◌≤◌, ◌==◌, ◌⊎◌, inl, inr, ⊎_elim, Bool, true, false, cond, ◌&&◌, nat_lt, count_by, Some, List, [], ◌∷◌, length, drop, get_or, refl, sym, ap, subst, arith, Option, None, ◌++◌, slice_get, Fits, w64}
-use Rattle.polcert_items.proofs.Common.{list_any, nat_tests, sum_by-cons, Elements, Body, Entry, Place, Every, Only, Table, Transition, Observation, Reward, count_of, most_states, most_actions, most_observations, cells_in, Preamble, is_mdp, dimensions, nonzero_cells, most_covered, common_steps}
+use Rattle.polcert_items.proofs.Common.{list_any, nat_tests, sum_by-cons, Elements, Body, Entry, Place, Every, Only, Table, Transition, Observation, Reward, count_of, most_states, most_actions, most_observations, cells_in, Preamble, is_mdp, dimensions, nonzero_cells, most_covered, IsCoveringOf, common_steps}
 use Rattle.std.proofs.lemmas.List.Sums.{sum_by_push}
+use Rattle.polcert_cells.specs.Entry.{forms}
+use Rattle.polcert_cells.specs.Preamble.{observed, columns, rewarded}
+use Rattle.polcert_items.specs.Steps.CellBudget.{chosen, covered_by, open_cells, counted, IsNext}
 use Rattle.std.proofs.Math.Nat.{mul_comm, mul_assoc, add-mul, one-mul, mul-one, mul-pos, mul-le-mul}
 use Rattle.polcert_cells.specs.declared.entries.Body.TheVariants.{Probabilities, Rewards, Uniform, Identity}
 use Rattle.polcert_cells.specs.Cells.{is_table, fit_places, row_major, weight_in, weight_of}
-use Rattle.polcert_cells.specs.Entry.{forms}
 use Rattle.polcert_cells.specs.Meaning.{sum_below}
-use Rattle.polcert_cells.specs.Preamble.{observed, columns, rewarded}
 use Rattle.polcert_cells.specs.Steps.Sound.{ArePlacesIn, Fills, IsSoundEntry}
 use Rattle.polcert_cells.proofs.CellLaws.{sum_of_same}
 use Rattle.polcert_tables.proofs.FilledLaws.{sum_same}
 use Rattle.polcert_tables.proofs.KeptLaws.{sum_at}
 use Rattle.polcert_format.specs.Limits.{count_cells, gives_weight, HasFewCells, covered, most_cells, most_reward_entries}
-use Rattle.polcert_items.specs.Steps.CellBudget.{chosen, covered_by, open_cells, counted, IsCoveringOf, IsNext}
 use Rattle.polcert_items.specs.declared.model_so_far.CellBudget.{CellBudget}
 use Rattle.polcert_items.specs.declared.model_so_far.Sizes.{Sizes}
 

@@ -1,16 +1,16 @@
 -- Elements, token by token.
 use Rattle.std.proofs.Common.{◌≡◌, ◌≢◌, ℕ, ◌≤◌, true, false, List, [], ◌∷◌, ◌++◌, length, get_or, map, AllPairs, bytes_eq, codes, Result, OnOk, refl, sym, ap, subst, arith, lit≤, append_assoc, length-append}
 use Rattle.polcert_items.proofs.Common.{common_steps, list_any, All-cons, All-nil, All-tail, is_digit, Lexeme, Numeral, ItemFault, DuplicateName, ElementsReader, IsName, IsWhole, Elements, Count, Takes, CannotTake, NamesGo, AreNamesRead, ElementsReason, AreElementsSeen}
+use Rattle.polcert_cells.specs.declared.elements.Elements.TheVariants.{Names}
+use Rattle.polcert_items.specs.Steps.Elements.{names_with, ElementsGo, IsElementsRead, IsCountOf}
 use Rattle.std.proofs.lemmas.List.{append-nil, get_or_append_left, length-map}
 use Rattle.std.proofs.lemmas.Cmp.{nat_list_eq_equiv}
 use Rattle.std.proofs.lemmas.List.Folds.{Any-from_list_any, list_any_at}
 use Rattle.std.proofs.lemmas.List.Quantifiers.{all_pairs_push}
 use Rattle.std.proofs.lemmas.Slice.Eq.{bytes_eq-Decides}
 use Rattle.polcert_items.specs.declared.preamble_lines.ElementsReader.TheVariants as readers
-use Rattle.polcert_cells.specs.declared.elements.Elements.TheVariants.{Names}
 use Rattle.polcert_cells.specs.Elements.{AreElements, counted, named}
 use Rattle.polcert_format.specs.Reasons.{IsRepeated}
-use Rattle.polcert_items.specs.Steps.Elements.{names_with, ElementsGo, IsElementsRead, IsCountOf}
 use Rattle.polcert_format.proofs.StillPossible.{a_colon}
 
 -- ---- a count

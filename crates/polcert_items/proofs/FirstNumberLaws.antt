@@ -2,13 +2,13 @@
 use Rattle.std.proofs.Common.{◌≡◌, ◌∙◌, ℕ, ◌++◌, ◌⊎◌, Bool, false, true, Option, Some, None, Result, Ok, Err, List, [], ◌∷◌, ℤ, refl, sym, ap, subst, arith, rules}
 use Rattle.std.proofs.lemmas.List.{append-nil}
 use Rattle.polcert_items.proofs.Common.{Lexeme, Colon, NumberFault, IsMillionths, ItemFault, Number, IndexOutOfRange, ProbabilityRange, BeginsWithNumber, BeginsWithDigits, IsLate, Expected, begins_number, IsRefusedNumber, IsNoFraction, Refusal, Sign, FirstNumber, StateOrNumber, StartReader, EndError, start_sign, pending, pending_of, IsValue, IsOutside, IsFraction, IsAfterColon, IsListBegun, IsWordBody, HasReadStart, IsDue, IsDueNumber, IsDueValue, CanStillBeRight, IsStop, due, at_once, IsEndDue, IsLateEnd, StopsStart}
+use Rattle.polcert_format.specs.FirstNumber.{IsNoState, no_value, no_state, out_of_range}
+use Rattle.polcert_items.specs.Steps.Start.{IsNumberBody, IsDigitsKept, IsFurtherBody, first_number, token}
 use Rattle.polcert_text.proofs.TextLaws.{one_exact_fault}
 use Rattle.polcert_cells.proofs.Basics.{cons≢nil, same_head}
 use Rattle.polcert_cells.proofs.NumberLaws.{one_millionths}
-use Rattle.polcert_format.specs.FirstNumber.{IsNoState, no_value, no_state, out_of_range}
 use Rattle.polcert_format.proofs.FirstNumbers.{OfNumerals, same_digits, same_number, digits_are_number, value_not_refused, no_fraction_numeral}
 use Rattle.polcert_items.specs.declared.start_reader.StartReader.TheVariants as reader
-use Rattle.polcert_items.specs.Steps.Start.{IsNumberBody, IsDigitsKept, IsFurtherBody, first_number, token}
 use Rattle.polcert_items.proofs.StartSeen.{begins_map, begins_more, digits_begin, digits_more}
 
 -- ---- what is due stands so in the whole body

@@ -1,15 +1,15 @@
 -- An item's reader, token by token: what it keeps of the body, and why a token is refused.
 use Rattle.std.proofs.Common.{◌≡◌, ℕ, ◌⊎◌, Bool, true, false, Some, List, [], ◌∷◌, ◌++◌, Result, Err, OnOk, IfErr, unwrap_or, refl, sym, ap, subst, arith}
 use Rattle.polcert_items.proofs.Common.{Lexeme, ElementsReader, ItemFault, ItemReader, EndError, StartReader, Start, Elements, Count, count_of, IsMisfit, ExpectsNext, start_wants, IfStart, FeedError, Refusal, IsLate, states_known, ModelSoFar, Takes, CannotTake, CannotEnd, preamble_in, IfRefused, is_sign, ends_in_sign, ElementsReason, AreElementsSeen, StartGoes, StartGives, start_sign, pending, HasReadStart, IsStartReason, IsStop, IsDue, CanStillBeRight, IsEndDue, IsLateEnd, StopsStart, ItemGoes, ItemForms, IsItemWithin, IsSeen, topic_in, pending_in, IsStartFed, RefusesInStart}
-use Rattle.polcert_items.specs.declared.item.ItemReader.TheVariants as items
-use Rattle.polcert_items.specs.declared.item.EndError.TheVariants as ends
 use Rattle.polcert_items.specs.Steps.Wants.{item_wants, IfNotStart}
-use Rattle.polcert_items.specs.declared.item.FeedError.TheVariants as stops
-use Rattle.polcert_items.proofs.FirstNumberLaws as laws
-use Rattle.polcert_items.proofs.PatternLaws.{each_refused_map}
 use Rattle.polcert_format.specs.Reasons.{IsOfElements}
 use Rattle.polcert_items.specs.Steps.Start.{IfNotMemory}
 use Rattle.polcert_items.specs.Steps.Items.{IsItemFed, RefusesInItem, IsItemReason, of_start}
+use Rattle.polcert_items.specs.declared.item.ItemReader.TheVariants as items
+use Rattle.polcert_items.specs.declared.item.EndError.TheVariants as ends
+use Rattle.polcert_items.specs.declared.item.FeedError.TheVariants as stops
+use Rattle.polcert_items.proofs.FirstNumberLaws as laws
+use Rattle.polcert_items.proofs.PatternLaws.{each_refused_map}
 use Rattle.polcert_items.proofs.ElementLaws.{repeated_name}
 use Rattle.polcert_items.proofs.StartSeen.{last_sign}
 pub use Rattle.polcert_items.proofs.StartSeen.{sign_ends}

@@ -3,18 +3,18 @@ use Rattle.std.proofs.Common.{◌≡◌, ◌∙◌, ℕ, suc, ◌+◌, ◌≤◌
 use Rattle.std.proofs.lemmas.Bool.{both_ways}
 use Rattle.std.specs.Prelude.{◌==◌}
 use Rattle.polcert_items.proofs.Common.{list_any, nat_tests, All-tail, All-nil, Lexeme, TokenKind, Name, Numeral, Colon, Plus, Minus, Star, Table, Transition, Observation, Reward, Place, Every, Only, Body, Entry, EntryState, Numbers, EntryReader, ItemFault, Refusal, Probability, FeedError, IsWord, AreNumbers, Elements, count_of, StandsFor, cells_in, IsPlace, ModelSoFar, least_written, Takes, CannotTake, CannotEnd, IsInRange, ListKind, of_probabilities, of_rewards, Preamble, is_mdp, dimensions, preamble_in, indices_in, IsFirstPlace, entry_with, NumberListGoes, ProbabilitiesGo, EntryGoes, IfRefused, IsWordAfter, no_numbers, AreBegun, CannotBegin, IsFull, IsListReason, entry_sign}
+use Rattle.polcert_cells.specs.Entry.{ArePlaces, IsBody}
+use Rattle.polcert_cells.specs.Preamble.{named}
+use Rattle.polcert_items.specs.Steps.Entries.{IsEntryAfter, PlaceRest, RewardsGo, BodyIs, StateGoes, body_of, word_text, MayStand, IsEntryReason, AreSome}
 use Rattle.std.proofs.lemmas.List.{drop-drop, drop_all, map-id}
 use Rattle.std.proofs.Math.Nat.{mul-pos}
 use Rattle.polcert_cells.specs.declared.entries.Body.TheVariants as bodies
 use Rattle.polcert_items.specs.declared.entry_reader.Word.{Word}
 use Rattle.polcert_items.specs.declared.entry_reader.EntryState.TheVariants as states
 use Rattle.polcert_cells.specs.Numbers as numbers
-use Rattle.polcert_cells.specs.Entry.{ArePlaces, IsBody}
 use Rattle.polcert_cells.specs.Entry as entries
 use Rattle.polcert_items.specs.Steps.Entries as reasons
 use Rattle.polcert_items.proofs.ListLaws.{small_fractions}
-use Rattle.polcert_cells.specs.Preamble.{named}
-use Rattle.polcert_items.specs.Steps.Entries.{IsEntryAfter, PlaceRest, RewardsGo, BodyIs, StateGoes, body_of, word_text, MayStand, IsEntryReason, AreSome}
 use Rattle.polcert_cells.proofs.Basics.{cons≢nil, same_head, same_tail}
 use Rattle.polcert_cells.proofs.EntryLaws.{NoColonFirst, body_no_colon}
 

@@ -2,11 +2,11 @@
 use Rattle.std.proofs.Common.{◌≡◌, ℕ, ◌≤◌, Option, Some, None, List, [], ◌∷◌, ℤ, pos, refl, sym, subst, All, arith}
 use lib.IntN.{nat_abs}
 use Rattle.polcert_items.proofs.Common.{All-cons, Lexeme, Sign, IsMillionths, AreNumbers, one, AreNumbersAfter, IsInRange, is_negative, IsSignAt, IsNoNumber, Takes, CannotTake}
+use Rattle.polcert_cells.specs.Numbers.{none}
+use Rattle.polcert_items.specs.Steps.Lines.{DiscountRest, DiscountGoes}
 use Rattle.polcert_items.specs.declared.signed_number.Range.TheVariants.{Discount}
 use Rattle.polcert_items.specs.declared.preamble_lines.DiscountReader.{DiscountReader}
 use Rattle.polcert_items.specs.declared.preamble_lines.DiscountReader.TheVariants as discount
-use Rattle.polcert_cells.specs.Numbers.{none}
-use Rattle.polcert_items.specs.Steps.Lines.{DiscountRest, DiscountGoes}
 use Rattle.polcert_items.proofs.SignedNumbers.{sign_back, sign_on, value_back, value_on}
 
 all_none : (P : ℤ → Type 0) → All P []

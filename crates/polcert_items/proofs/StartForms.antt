@@ -3,13 +3,13 @@ use Rattle.std.proofs.Common.{◌≡◌, ◌∙◌, ℕ, ◌<◌, ◌==◌, ◌|
 use Rattle.std.proofs.Math.Bool.{or_assoc}
 use Rattle.std.specs.List.{AllZip}
 use Rattle.polcert_items.proofs.Common.{Lexeme, are_digits, Name, Numeral, Colon, Plus, Minus, Choice, Include, Exclude, Chosen, StateOrNumber, StartReader, IsWord, IsWhole, IsMillionths, AreNumbers, one, Elements, count_of, StandsFor, StartWeights, all_states, single, IsStartBody, IsStart, plain, IsStartBodyForm, IsStartForm, Takes, CannotTake, marked, AreGiven, NumbersGo, DigitsGo, state_number, first_of_more, StartGoes, Begins, AreDigits, IsValue, NumberFault}
-use Rattle.polcert_items.specs.declared.start_reader.StartReader.TheVariants as reader
 use Rattle.polcert_cells.specs.Elements.{by_name}
 use Rattle.polcert_cells.specs.Start.{included, include, exclude}
-use Rattle.polcert_cells.specs.Start as forms
-use Rattle.polcert_format.specs.Forms as shapes
 use Rattle.polcert_items.specs.Steps.Lines.{AfterColon}
 use Rattle.polcert_items.specs.Steps.Start.{chosen_with, listed, AreAsked, ListGoes, AreShares, AreFormed, BodyGoes, IsState}
+use Rattle.polcert_items.specs.declared.start_reader.StartReader.TheVariants as reader
+use Rattle.polcert_cells.specs.Start as forms
+use Rattle.polcert_format.specs.Forms as shapes
 use Rattle.polcert_items.specs.Steps.Start as steps
 use Rattle.polcert_cells.proofs.NumberLaws.{one_millionths}
 use Rattle.polcert_cells.proofs.StartLaws.{name_not_colon, uniform_is_reserved}

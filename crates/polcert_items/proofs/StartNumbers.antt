@@ -2,13 +2,13 @@
 use Rattle.std.proofs.Common.{◌≡◌, ℕ, ◌+◌, ◌<◌, ◌≤◌, ◌⊎◌, false, true, Option, Some, None, Result, Ok, Err, List, [], ◌∷◌, ◌++◌, length, map, sum, ℤ, pos, sym, ap, subst, All, arith, append_assoc}
 use lib.IntN.{nat_abs}
 use Rattle.polcert_items.proofs.Common.{sum_by-cons, All-cons, All-head, All-tail, All-nil, Lexeme, NumberFault, Numbers, ItemFault, Number, Refusal, Sign, FirstNumber, StateOrNumber, StartReader, IsMillionths, AreNumbers, one, of_probabilities, is_negative, IsSignAt, Elements, count_of, StartWeights, all_states, shares_of, Takes, CannotTake, ProbabilitiesGo, IsFull, AreGiven, NumbersGo, DigitsGo, first_of_more, StartGoes, StartGives, Begins, IsOutside, IsDueNumber, IsDueValue, IsStop, first_of, Expected}
+use Rattle.polcert_items.specs.Steps.Entries.{one_number}
+use Rattle.polcert_items.specs.Steps.Start.{probabilities, each, AreWhole, SharesGo, refused}
 use Rattle.std.specs.Int.Signed.{lt_z}
 use borrow.Author.Tests.{ltb-true}
 use Rattle.polcert_cells.specs.declared.entries.Body.TheVariants as bodies
 use Rattle.polcert_items.specs.declared.start_reader.StartReader.TheVariants as reader
 use Rattle.polcert_cells.specs.Numbers as numbers
-use Rattle.polcert_items.specs.Steps.Entries.{one_number}
-use Rattle.polcert_items.specs.Steps.Start.{probabilities, each, AreWhole, SharesGo, refused}
 use Rattle.polcert_cells.proofs.Basics.{cons≢nil, same_head, same_tail}
 use Rattle.polcert_items.proofs.ListLaws.{fractions_in_range, small_fractions}
 use Rattle.polcert_items.proofs.PatternLaws.{full_list}

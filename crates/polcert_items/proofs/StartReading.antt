@@ -1,8 +1,8 @@
 -- A start item as its reader continues with it.
 use Rattle.std.proofs.Common.{◌≡◌, ℕ, List, [], Result, Ok, Err, OnOk, refl, rules}
 use Rattle.polcert_items.proofs.Common.{Lexeme, Elements, StartWeights, IsStart, Numbers, ProbabilitiesGo, HasRoom, IsStartFed, Takes, SignIs, StartGives, IsStartWithin, HasReadStart, ExpectsNext, list_wants}
-use Rattle.polcert_items.specs.declared.start_reader.StartReader.TheVariants as reader
 use Rattle.polcert_items.specs.Steps.Start.{new_start, AreWithin}
+use Rattle.polcert_items.specs.declared.start_reader.StartReader.TheVariants as reader
 use Rattle.polcert_items.proofs.StartNumbers.{shares_take}
 use Rattle.polcert_items.proofs.StartSeen.{further_seen}
 

@@ -1,19 +1,19 @@
 -- What the body of a start item so far has to do with its reader's state, and where its refusals stand.
 use Rattle.polcert_items.proofs.Common.{IfErr-weaker, Lexeme, Numeral, Name, NumberFault, ItemFault, Number, IndexOutOfRange, ProbabilityRange, Sign, Refusal, FirstNumber, StateOrNumber, StartReader, FeedError, IsMillionths, Elements, Takes, CannotTake, IsStartFed, RefusesInStart, ExpectsNext, start_wants, count_of, Start, IsRefusedNumber, IsNoFraction, is_sign, ends_in_sign, is_negative, number_place, IsSignAt, SignIs, Expected, IsMisfit, BeginsWithNumber, BeginsWithDigits, are_digits, Chosen, Numbers, IfRefused, IsListReason, start_sign, pending_of, pending, IsValue, AreDigits, IsAfterColon, IsListBegun, IsWordBody, IsFraction, HasReadStart, IsOutside, IsDueNumber, IsDueValue, IsStop, due, at_once, IsStartReason, StartGoes, IsStartWithin, first_of}
+use Rattle.polcert_format.specs.Reasons.{StandsIn, NumberStandsIn, unsigned, plus, minus, IsDigits}
+use Rattle.polcert_items.specs.Steps.Numbers.{SignEnds}
+use Rattle.polcert_format.specs.Misfits.{NumberOrEnd}
+use Rattle.polcert_items.specs.Steps.Start.{IsFormed, IsKept, IsNumberKept, IsReasonAt, IsReasonIn, IsStartEndKind}
 use Rattle.std.proofs.Common.{◌≡◌, ◌∙◌, ℕ, ◌-◌, ◌++◌, Bool, false, true, Option, Some, None, Result, Ok, Err, IfErr, List, [], ◌∷◌, ℤ, refl, sym, ap, subst, append_assoc, arith, rules}
 use Rattle.polcert_items.specs.declared.signed_number.Range.TheVariants as ranges
 use Rattle.polcert_items.specs.declared.start_reader.StartReader.TheVariants as reader
 use Rattle.polcert_items.specs.declared.item.FeedError.TheVariants as stops
 use Rattle.polcert_items.specs.Steps.Items.{IsEndReason}
-use Rattle.polcert_format.specs.Reasons.{StandsIn, NumberStandsIn, unsigned, plus, minus, IsDigits}
-use Rattle.polcert_items.specs.Steps.Numbers.{SignEnds}
 use Rattle.polcert_items.specs.Steps.Numbers as steps
-use Rattle.polcert_format.specs.Misfits.{NumberOrEnd}
 use Rattle.polcert_format.specs.FirstNumber as begins
 use Rattle.polcert_format.specs.Wants.{may_be_state, number_end}
 use Rattle.polcert_items.proofs.PatternLaws.{refused_map, each_refused_map}
 use Rattle.polcert_items.proofs.StartNumbers.{digits_stop, digits_stuck, first_is, none_is, valueless_stuck}
-use Rattle.polcert_items.specs.Steps.Start.{IsFormed, IsKept, IsNumberKept, IsReasonAt, IsReasonIn, IsStartEndKind}
 
 some_once : {A : Type 0} {x y : A} → Some x ≡ Some y → x ≡ y
 some_once e = cc

@@ -3,10 +3,10 @@ use Rattle.std.proofs.Common.{◌≡◌, ◌∙◌, ℕ, zero, suc, ◌<◌, Boo
 use Rattle.std.specs.Prelude.{bytes_eq}
 use Rattle.std.specs.List.{list_all}
 use Rattle.polcert_items.proofs.Common.{nat_tests, BeginWith, is_digit, Lexeme, Name, Numeral, Colon, Star, Plus, Minus}
-use Rattle.polcert_text.specs.TakenTokens.{Taken, nothing, token}
 use Rattle.polcert_text.specs.Bytes.{is_letter, is_name_byte}
-use Rattle.polcert_text.specs.Lexemes.{is_name, is_numeral, kind_of}
 use Rattle.polcert_text.specs.Cut.{Rest, IsTokenAt, TakesToken}
+use Rattle.polcert_text.specs.TakenTokens.{Taken, nothing, token}
+use Rattle.polcert_text.specs.Lexemes.{is_name, is_numeral, kind_of}
 use Rattle.polcert_items.specs.Steps.Elements.{IsText}
 use Rattle.polcert_cells.proofs.Basics.{and_true, cons≢nil, same_head, same_tail}
 

@@ -4,8 +4,8 @@ use Rattle.polcert_items.proofs.Common.{Lexeme, TokenKind, DuplicateName, Table,
 use Rattle.polcert_format.specs.declared.fault.ItemFault.TheVariants.{WrongNumberCount, BadCount, UnknownName}
 use Rattle.polcert_format.specs.Wants.{by_kind, entry_wants}
 use Rattle.polcert_format.specs.Misfits.{unexpected_token, Index, FurtherName, CountOrName}
-use Rattle.polcert_items.proofs.PatternLaws.{BeginsNumber}
 use Rattle.polcert_items.specs.Steps.Wants.{entry_wants as reader_wants}
+use Rattle.polcert_items.proofs.PatternLaws.{BeginsNumber}
 use Rattle.polcert_items.specs.declared.preamble_lines.ElementsReader.TheVariants.{Named}
 use Rattle.polcert_text.specs.declared.tokens.TokenKind.TheVariants as kinds
 use Rattle.polcert_items.specs.declared.entry_reader.EntryState.TheVariants as states

@@ -1,5 +1,6 @@
 -- The names of std and of specs that several proofs of this crate cite, passed on from one place. Declares nothing.
 pub use Rattle.polcert_cells.specs.Cells.{IsLastCovering, covers, fit_places, fits_place, is_table, last, last_covering, reward, reward_of, value_or, weight, weight_of}
+pub use Rattle.polcert_cells.specs.CommonRewards.{IsCommonReward, cell_at}
 pub use Rattle.polcert_cells.specs.Elements.{count_of, most_actions, most_elements, most_observations, most_states}
 pub use Rattle.polcert_cells.specs.Entry.{forms}
 pub use Rattle.polcert_cells.specs.EntryRefs.{all_rewards, body_of, entry_of}
@@ -9,6 +10,8 @@ pub use Rattle.polcert_cells.specs.Preamble.{Preamble, dimensions, rewarded}
 pub use Rattle.polcert_cells.specs.Rows.{IsWeighted}
 pub use Rattle.polcert_cells.specs.Sparse.{IsRow, IsSparse, scaled_cells, weight_at}
 pub use Rattle.polcert_cells.specs.Steps.Sound.{Fills, IsSoundEntry}
+pub use Rattle.polcert_cells.specs.declared.common_reward.CommonReward.{CommonReward}
+pub use Rattle.polcert_cells.specs.declared.common_reward.RewardCell.{RewardCell}
 pub use Rattle.polcert_cells.specs.declared.elements.Cell.{Cell}
 pub use Rattle.polcert_cells.specs.declared.elements.Elements.{Elements}
 pub use Rattle.polcert_cells.specs.declared.entries.Body.{Body}
@@ -21,6 +24,7 @@ pub use Rattle.polcert_cells.specs.declared.entries.Table.TheVariants.{Reward}
 pub use Rattle.polcert_rules.specs.Keys.{AreDigits, AreIndices, digit, key_base, key_in, key_of, most_places, table_key}
 pub use Rattle.polcert_rules.specs.Matching.{max_option, newest_in}
 pub use Rattle.polcert_rules.specs.RewardAt.{RewardRules, body_at, cell_in}
+pub use Rattle.polcert_rules.specs.Steps.CellRules.{AreCellRules, AreCellsOf, AreJoined, IsCellOf, NamesEnd}
 pub use Rattle.polcert_rules.specs.Steps.Distinct.{rule_at}
 pub use Rattle.polcert_rules.specs.Steps.Given.{FitsShape, IsWithin, given}
 pub use Rattle.polcert_rules.specs.Steps.Lists.{part_in, row_in, stored_cells}
@@ -39,6 +43,7 @@ pub use Rattle.polcert_rules.specs.declared.named_rules.NamedRule.{NamedRule}
 pub use Rattle.polcert_rules.specs.declared.rewards.RewardBody.{RewardBody}
 pub use Rattle.polcert_rules.specs.declared.rewards.RewardShape.{RewardShape}
 pub use Rattle.polcert_rules.specs.declared.row.Row.{Row}
+pub use Rattle.polcert_rules.specs.declared.row_rules.CellRules.{CellRules}
 pub use Rattle.polcert_rules.specs.declared.row_store.Part.{Part}
 pub use Rattle.polcert_rules.specs.declared.row_store.RowOrigin.{RowOrigin}
 pub use Rattle.polcert_rules.specs.declared.row_store.SharedRow.{SharedRow}
@@ -53,6 +58,7 @@ pub use Rattle.std.proofs.lemmas.List.{drop_all, drop_more, get_or-replicate, ge
 pub use Rattle.std.proofs.lemmas.List.Elements.{All-cons, All-head, All-nil, All-push, All-tail, Contains-append_cases, Contains-append_left, Contains-append_right, Contains-get_or}
 pub use Rattle.std.proofs.lemmas.List.Kept.{AllPairs-cons}
 pub use Rattle.std.proofs.lemmas.List.Sorted.{Contains-permutation, IsNonDecreasingBy-from_sort_by_key, IsPartitionPoint-from_clause, IsPartitionedBy-ltb, IsPermutation-sym}
+pub use Rattle.std.proofs.lemmas.Nat.{div-mul-add, mod-mul-add, mul-add-lt}
 pub use Rattle.std.proofs.lemmas.Option.{get_or_from_slice_get, same_Some, slice_get-get_or, slice_get-map, slice_get_within}
 pub use Rattle.std.specs.List.{list_any}
 pub use Rattle.std.specs.List.Sorted.{IsNonDecreasingBy, IsPartitionedBy}

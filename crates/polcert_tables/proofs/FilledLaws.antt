@@ -3,13 +3,13 @@ use Rattle.std.proofs.Common.{◌≡◌, ◌∙◌, ℕ, ◌+◌, ◌*◌, ◌/�
 use Rattle.std.proofs.lemmas.Nat.{div-mul-add, mod-mul-add, mul-add-lt}
 use Rattle.polcert_tables.proofs.Common.{length_push, most_states, most_actions, most_observations, HasProperRows, table_of, Filled, filled_table, AddsCells}
 use Rattle.std.proofs.lemmas.List.{get_or_push, get_or_append_left}
-use Rattle.std.proofs.Math.Nat.{mul-le-mul_left, mul-le-mul_right}
-use Rattle.polcert_cells.specs.Meaning as meanings
 use Rattle.polcert_cells.specs.Meaning.{Meaning}
 use Rattle.polcert_cells.specs.Tables.{CellTable, IsProper, IsWithinLimits}
+use Rattle.polcert_tables.specs.Filled.{Lists, AreTransitions, AreObservations, AreRewards}
+use Rattle.std.proofs.Math.Nat.{mul-le-mul_left, mul-le-mul_right}
+use Rattle.polcert_cells.specs.Meaning as meanings
 use Rattle.polcert_cells.specs.SameCells.{HasSameCells}
 pub use Rattle.polcert_rules.proofs.RowLaws.SumLaws.{sum_same}
-use Rattle.polcert_tables.specs.Filled.{Lists, AreTransitions, AreObservations, AreRewards}
 
 -- the place of this row and column, where so many rows have so many columns
 pub place_below : (row column rows columns : ℕ) → row < rows → column < columns → row * columns + column < rows * columns

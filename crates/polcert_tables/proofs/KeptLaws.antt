@@ -1,12 +1,14 @@
 -- What a model keeps has the meaning of the items of its text.
 use Rattle.std.proofs.Common.{◌≡◌, ◌∙◌, ℕ, zero, suc, ◌<◌, ◌≤◌, ◌==◌, false, cond, List, [], ◌∷◌, ℤ, pos, true, Option, sym, ap, subst, arith, refl, ◌*◌, ◌/◌, ◌%◌, div-lt_iff_lt-mul, mod-lt}
 use Rattle.polcert_tables.proofs.Common.{ForSome, Entry, Table, count_of, most_states, most_actions, most_observations, Preamble, is_mdp, observed, weight, reward, IsCommonReward, sum_below, AreRewardsOf, Kept, IsKeptOf, IsKeptModel, Transition, Draft}
-use Rattle.std.proofs.lemmas.Bool.Decides.{nat_tests}
 use Rattle.polcert_cells.specs.Preamble.{rewarded, columns}
 use Rattle.polcert_cells.specs.CommonRewards.{cell_at}
+use Rattle.polcert_cells.specs.Meaning.{observation_weight, reward_index, IsSame}
+use Rattle.polcert_tables.specs.Kept.{observed_at, meaning}
+use Rattle.polcert_tables.specs.Steps.KeptOf.{AreObservationsOf}
+use Rattle.std.proofs.lemmas.Bool.Decides.{nat_tests}
 use Rattle.polcert_cells.specs.declared.common_reward.CommonReward.{CommonReward}
 use Rattle.polcert_cells.specs.declared.common_reward.RewardCell.{RewardCell}
-use Rattle.polcert_cells.specs.Meaning.{observation_weight, reward_index, IsSame}
 use Rattle.polcert_cells.specs.Sparse.{weight_at}
 use Rattle.polcert_rules.proofs.RewardLaws.CellRewards.{some_factor}
 use Rattle.polcert_rules.specs.RowTables.{RowTable, row_at, AreRowsOf}
@@ -14,8 +16,6 @@ use Rattle.polcert_rules.specs.RewardAt.{reward_at, RewardRules}
 use Rattle.polcert_cells.proofs.CellLaws.{sum_of_same}
 use Rattle.polcert_cells.proofs.SoundLaws.{rewarded_few}
 use Rattle.polcert_rules.proofs.RewardLaws.RewardAt.{reward_is}
-use Rattle.polcert_tables.specs.Kept.{observed_at, meaning}
-use Rattle.polcert_tables.specs.Steps.KeptOf.{AreObservationsOf}
 use Rattle.polcert_cells.specs.Steps.Sound.{IsSound}
 use Rattle.polcert_rules.specs.Steps.Shapes.{AreSound}
 use Rattle.polcert_cells.specs.Steps.Drafts as drafts

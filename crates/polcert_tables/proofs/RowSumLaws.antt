@@ -2,13 +2,13 @@
 use Rattle.std.proofs.Common.{◌≡◌, ◌∙◌, ℕ, ◌*◌, ◌<◌, ◌==◌, Bool, true, false, cond, List, [], ◌∷◌, sym, ap, subst, rules}
 use Rattle.polcert_tables.proofs.Common.{Entry, Table, Transition, count_of, Preamble, is_mdp, observed, weight, HasProperRows, states_of, observations_of, sum_below, Kept, IsKeptOf}
 use Rattle.polcert_cells.specs.declared.entries.Table.TheVariants.{Observation}
+use Rattle.polcert_tables.specs.Kept.{meaning}
 use Rattle.polcert_cells.specs.Numbers.{one}
 use Rattle.polcert_cells.specs.Rows.{IsFirstWrongRow}
 use Rattle.polcert_cells.specs.Steps.Drafts as drafts
 use Rattle.polcert_rules.specs.declared.rows.WrongRow.{WrongRow}
 use Rattle.polcert_rules.specs.RowTables.{AreProperRows, IsFirstWrong}
 use Rattle.polcert_rules.proofs.RowLaws.SumLaws.{sum_same}
-use Rattle.polcert_tables.specs.Kept.{meaning}
 use Rattle.polcert_tables.specs.Steps.RowSums.{AreProperObservations}
 use Rattle.polcert_tables.proofs.KeptLaws.{AreFew, kept_same, sum_of_one, states_seen}
 

@@ -18,7 +18,7 @@ pub use Rattle.polcert_text.specs.Sink.{Takes, TakesFront, WritesText}
 pub use Rattle.polcert_text.specs.Source.{EachTextThatFits, Gives, IsText, more, nothing}
 pub use Rattle.polcert_text.specs.Steps.Classes.{blank_class, digit_class, glue_class, hash_class, letter_class, mark_kind, point_class}
 unfoldable pub use Rattle.polcert_text.specs.Steps.Classes.{class_of}
-pub use Rattle.polcert_text.specs.Steps.FrontSizes.{AreDigitsFrom, AreSixDigits, EndsAsSize}
+pub use Rattle.polcert_text.specs.Steps.FrontSizes.{AreDigitsFrom, EndsAsSize}
 pub use Rattle.polcert_text.specs.Steps.Scaling.{IsScaled, Measures, cap, ceiling, is_away, is_nonzero, rounded, separates}
 pub use Rattle.polcert_text.specs.Steps.Scan.{gap_after, gap_through, is_numeral_kind, kind_at, state_after, state_through}
 pub use Rattle.polcert_text.specs.Steps.ScanOf.{EndsAsDigits, EndsWithin, IsFrontOf, IsNameOrMark, IsScanOf, front_len, is_over, is_stuck, pending}

@@ -1,9 +1,9 @@
 -- What a check says of one table it says of every table with the same cells.
 use Rattle.std.proofs.Common.{◌≡◌, ℕ, ◌<◌, ℤ, Some, None, List, [], ◌∷◌, length, sym, refl, ◌∙◌, subst, arith}
 use Rattle.polcert_check.proofs.Common.{All-contains, CellTable, PolicyGraph, IsProperGraph, nodes, PolicyVectors, LowerFault, Verdict, Controller, controller_of, runs, Promise, RewardPromise, HasCutRun, MeetsHorizon, IsRunInRange, Passes, PassesBefore, IsLeastLacking, IsVerdict, lowered_by, IsLeast, CanLower, NoneLacks, IsFirstLack, IsFirstShort, IsNotMended, IsNotLowered, IsLeastConstant, IsLeastMove, IsClosed, HasSameCells}
+use Rattle.polcert_check.specs.Horizon.{Fits}
 use Rattle.polcert_check.specs.declared.fault.LowerFault.TheVariants as faults
 use Rattle.polcert_check.specs.declared.survey.Verdict.TheVariants as verdicts
-use Rattle.polcert_check.specs.Horizon.{Fits}
 use Rattle.polcert_check.proofs.Horizons.Enumerated.{All-runs}
 use Rattle.polcert_check.proofs.Certificates.{closed_is}
 use Rattle.polcert_check.proofs.Agreements.SameCells.{with_cells, runs_same, is_cut_same, weight_same, promise_same, reward_promise_same, short_same, lacks_same, lacks_back, pair_same, passes_same}

@@ -1,12 +1,12 @@
 -- The sums over the start: how large they are, their quotient rounded down, and the promise from the start.
 use Rattle.std.proofs.Common.{◌≡◌, ℕ, ◌+◌, ◌*◌, ◌^◌, ◌<◌, ◌≤◌, ℤ, pos, ◌+ℤ◌, ◌*ℤ◌, ◌≤ℤ◌, unsigned_abs, FitsSigned, to_z, of_z, w64, Some, List, [], ◌∷◌, length, get_or, sum, sym, refl, ap, ◌∙◌, arith, lit<}
 use Rattle.polcert_check.proofs.Common.{w128, to_z_pos, fits_signed_from_abs, largest, Meaning, states_of, start_weight, start_total, PolicyVectors, AreProperVectors, value_of, Controller, one, total_below, step_scale, worth_sum, Passes, IsController, start_sum, IsFloorQuotient, IsStartWorth, StartPromise}
-use Rattle.std.specs.Int.{int_div_euclid}
 use Rattle.std.proofs.lemmas.Int.{to_z-of_z}
+use Rattle.polcert_cells.specs.Meaning.{HasLimitedNumbers}
+use Rattle.std.specs.Int.{int_div_euclid}
 use Rattle.std.proofs.Math.Nat.{div-le_of_le-mul}
 use Rattle.std.proofs.Math.Numerals.{add-one}
 use Rattle.std.specs.List.{fold}
-use Rattle.polcert_cells.specs.Meaning.{HasLimitedNumbers}
 use Rattle.polcert_check.proofs.Sums.Ring.{*ℤ_assoc, *ℤ_left_comm, mul_le, ≤ℤ_trans, ≤ℤ_from_eq}
 use Rattle.polcert_check.proofs.Sums.SumLaws.{sum_below_front, sum_below_le, sum_below_scale}
 use Rattle.polcert_check.proofs.Horizons.Kept.{worth_all}

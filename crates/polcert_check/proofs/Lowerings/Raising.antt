@@ -3,9 +3,9 @@ use Rattle.std.proofs.Common.{◌≡◌, ◌↔◌, ℕ, ◌<◌, ℤ, pos, neg_
 use Rattle.polcert_check.proofs.Common.{ints, CellTable, PolicyGraph, PolicyVectors, IsInRange, value_of, Controller, controller_of, Passes, IsController, lowered_by, IsLeast, IsFirstShort, IsNotMended, RefusesSmallAmount, PassesAbove, IsNotRaised, IsLeastRaise, LowerFault, RaiseFault, Above, mirrored, CanMove, IsLeastMove}
 use Rattle.polcert_check.specs.Horizon.{Fits}
 use Rattle.polcert_check.specs.Raise.{raised_by, IsLeastAbove, CanRaise, IsFirstLong, RefusesSmallRaise}
+use Rattle.polcert_check.specs.Steps.Mirrored.{raise_of}
 use Rattle.polcert_check.specs.declared.fault.LowerFault.TheVariants as lower
 use Rattle.polcert_check.specs.declared.fault.RaiseFault.TheVariants as raise
-use Rattle.polcert_check.specs.Steps.Mirrored.{raise_of}
 use Rattle.polcert_check.proofs.Sums.Ring.{linear}
 use Rattle.polcert_check.proofs.Mirrors.Mirrored.{mirrored_short}
 use Rattle.polcert_check.proofs.Mirrors.FromAbove.{turn_short, passes_above, passes_below}

@@ -1,9 +1,9 @@
 -- What passes from below in the mirror image passes from above, and its promises are promises from above.
 use Rattle.std.proofs.Common.{◌≡◌, ◌∙◌, ℕ, ◌*◌, ◌^◌, ◌<◌, ℤ, pos, neg_ℤ, ◌+ℤ◌, ◌*ℤ◌, ◌≤ℤ◌, IsTrue, Contains, Some, ◌∷◌, [], sym, subst, arith}
 use Rattle.polcert_check.proofs.Common.{AboveVerdict, Verdict, Yes, Short, NoSuccessor, Above, Controller, one, step_scale, Promise, RewardPromise, AtMost, MeetsEveryHorizon, MeetsHorizon, HasCutRun, short, PairPasses, Passes, PassesBefore, IsVerdict, NamesSmallAmount, PromiseAbove, RewardPromiseAbove, MeetsHorizonAbove, PassesAbove, IsAboveVerdict, NamesSmallAmountAbove, mirrored, IsController}
-use Rattle.polcert_check.specs.declared.above.AboveVerdict.TheVariants as above
 use Rattle.polcert_check.specs.Above.{AtLeast, MeetsEveryHorizonAbove, PairPassesAbove, PassesAboveBefore}
 use Rattle.polcert_check.specs.Steps.Mirrored.{above_of}
+use Rattle.polcert_check.specs.declared.above.AboveVerdict.TheVariants as above
 use Rattle.polcert_check.proofs.Horizons.EveryHorizon.{every_horizon, passes_if_promised}
 use Rattle.polcert_check.proofs.Sums.Ring.{linear, neg_product}
 use Rattle.polcert_check.proofs.Mirrors.Sides.{sided_proper}

@@ -1,8 +1,8 @@
 -- What a check from above says of one table it says of every table with the same cells, and of a start's most likewise.
 use Rattle.std.proofs.Common.{ℕ, ◌<◌, ℤ, neg_ℤ, ap, subst, arith}
 use Rattle.polcert_check.proofs.Common.{Meaning, IsSame, start_total, HasSameCells, CellTable, table_of, PolicyGraph, IsProperGraph, nodes, PolicyVectors, AboveVerdict, RaiseFault, Above, PromiseAbove, RewardPromiseAbove, MeetsHorizonAbove, PassesAbove, IsAboveVerdict, Controller, controller_of, Promise, RewardPromise, MeetsHorizon, mirrored, CanMove, IsLeastMove, IsNotMended, Passes, IsVerdict, IsLeastRaise, IsNotRaised, IsClosed, IsStartMost, StartPromiseAbove, start_sum, IsCeilQuotient, StartPromise}
-use Rattle.polcert_cells.specs.declared.elements.StartWeights.{StartWeights}
 use Rattle.polcert_check.specs.Horizon.{Fits}
+use Rattle.polcert_cells.specs.declared.elements.StartWeights.{StartWeights}
 use Rattle.polcert_check.proofs.Certificates.{closed_is}
 use Rattle.polcert_check.proofs.Mirrors.FromAbove.{below_of, above_again, verdict_above, verdict_below, horizon_above, horizon_below, promise_above, promise_below, rewards_above, rewards_below, passes_above, passes_below}
 use Rattle.polcert_check.proofs.Lowerings.Raising.{lower_of, raise_again, least_raise_is, least_move_is, not_raised_is, not_mended_is}

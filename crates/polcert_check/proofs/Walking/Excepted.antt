@@ -1,11 +1,12 @@
 -- Weighted rewards, summed from one that most have in common and from its exceptions.
 use Rattle.std.proofs.Common.{◌≡◌, ◌∙◌, ℕ, zero, suc, ◌+◌, ◌*◌, ◌^◌, ◌<◌, ◌≤◌, true, false, cond, ◌⊎◌, inl, inr, List, ℤ, pos, ◌+ℤ◌, ◌-ℤ◌, ◌*ℤ◌, unsigned_abs, FitsSigned, w64, to_z, of_z, refl, sym, ap, arith, rules, lit<, add-one}
-use Rattle.polcert_check.proofs.Common.{w128, ints, fits_signed_from_abs, *ℤ_comm, *ℤ-zero, +ℤ_idr, largest, cell_at, CommonReward, RewardCell, total_below, most_sum}
+use Rattle.polcert_check.proofs.Common.{w128, ints, fits_signed_from_abs, *ℤ_comm, *ℤ-zero, +ℤ_idr, largest, CommonReward, RewardCell, total_below, most_sum, AreExcepted, weighed_total}
+use Rattle.std.proofs.lemmas.Int.{to_z-of_z}
+use Rattle.polcert_cells.specs.CommonRewards.{cell_at}
 use Rattle.std.specs.Prelude.{◌==◌}
 use Rattle.std.proofs.lemmas.Bool.{cases_eq}
-use Rattle.std.proofs.lemmas.Int.{to_z-of_z}
 use Rattle.std.proofs.lemmas.Bool.Decides.{nat_tests}
-use Rattle.polcert_check.specs.Steps.Exceptions.{difference_in, AreExcepted, weighed_total}
+use Rattle.polcert_check.specs.Steps.Exceptions.{difference_in}
 use Rattle.polcert_check.proofs.Sums.Bounds.{abs-+ℤ, abs-*ℤ_le}
 use Rattle.polcert_check.proofs.Sums.Ring.{linear, *ℤ-+ℤ}
 use Rattle.polcert_check.proofs.Sums.SumLaws.{sum_below_same, sum_below_scale, sum_below_add}

@@ -1,9 +1,9 @@
 -- Rows that are numbers times a scale, added up before they are scaled.
 use Rattle.std.proofs.Common.{◌≡◌, ℕ, zero, suc, ◌+◌, ◌*◌, ◌^◌, ◌<◌, ◌≤◌, ⊎_elim, ℤ, pos, ◌+ℤ◌, ◌*ℤ◌, unsigned_abs, FitsSigned, to_z, of_z, Option, Some, None, List, length, slice_index, refl, sym, ap, subst, ◌∙◌, arith, add-one}
 use Rattle.polcert_check.proofs.Common.{w128, cases_lt, unsigned_abs-mul, *ℤ-zero, zero-*ℤ, IsRow, Controller, total_below, at_node, value_term, value_at_end, IsLeastOf, Misses, successors_below}
+use Rattle.polcert_cells.specs.Sparse.{scaled_cells}
 use Rattle.std.proofs.lemmas.List.{get_or_past}
 use Rattle.std.proofs.Math.Nat.{mul_comm, mul-le-mul}
-use Rattle.polcert_cells.specs.Sparse.{scaled_cells}
 use Rattle.polcert_cells.proofs.ScaledRows.{scaled_weight}
 use Rattle.polcert_check.proofs.Sums.Bounds.{abs-+ℤ}
 use Rattle.polcert_check.proofs.Sums.Gaps.{gap, no_weight, add_step}

@@ -1,8 +1,7 @@
 -- A row of T and the rows of O at its end states as one row of weights, end state after end state.
 use Rattle.std.proofs.Common.{◌≡◌, ◌∙◌, ℕ, ◌+◌, ◌*◌, ◌/◌, ◌%◌, ◌^◌, ◌<◌, ◌≤◌, ℤ, pos, ◌*ℤ◌, unsigned_abs, List, refl, ap, arith}
-use Rattle.polcert_check.proofs.Common.{*ℤ_comm, largest, CellTable, IsProper, IsWithinLimits, CommonReward, RewardCell, IsCommonReward, one, total_below, expected_reward, reward_at_end, most_scales}
-use Rattle.polcert_cells.specs.CommonRewards.{row_reward}
-use Rattle.polcert_check.specs.Steps.Exceptions.{AreExcepted, IsWeighed, row_weight, weighed_total}
+use Rattle.polcert_check.proofs.Common.{*ℤ_comm, largest, CellTable, IsProper, IsWithinLimits, CommonReward, RewardCell, row_reward, one, total_below, expected_reward, reward_at_end, most_scales, AreExcepted, IsWeighed, row_weight, weighed_total}
+use Rattle.polcert_cells.specs.CommonRewards.{IsCommonReward}
 use Rattle.std.proofs.Math.Nat.{mul-le-mul, div-lt_iff_lt-mul, mod-lt}
 use Rattle.std.proofs.lemmas.Nat.{div-mul-add, mod-mul-add}
 use Rattle.polcert_check.proofs.Sums.Bounds.{term_le}

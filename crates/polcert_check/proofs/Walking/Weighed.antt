@@ -1,8 +1,7 @@
 -- A row of weights, each times a number, added up: the steps of the sum, and that they fit.
-use Rattle.polcert_check.proofs.Common.{common_steps, slice_get-get_or, Cell, after_cells, IsRow, w128, largest, CellTable, IsProper, IsWithinLimits, total_below, most_sum}
+use Rattle.polcert_check.proofs.Common.{common_steps, slice_get-get_or, Cell, after_cells, IsRow, w128, largest, CellTable, IsProper, IsWithinLimits, total_below, most_sum, IsWeighed}
 use Rattle.std.proofs.Common.{◌≡◌, ℕ, suc, ◌+◌, ◌*◌, ◌^◌, ◌<◌, ◌≤◌, ℤ, pos, ◌+ℤ◌, ◌*ℤ◌, unsigned_abs, FitsSigned, to_z, of_z, arith, lit<, List, length, slice_index_or, Some}
 use Rattle.polcert_cells.specs.Cursors.{IsNext}
-use Rattle.polcert_check.specs.Steps.Exceptions.{IsWeighed}
 use Rattle.std.proofs.Math.Nat.{mul-le-mul}
 use Rattle.polcert_cells.proofs.RowSteps.{sparse_some}
 use Rattle.polcert_check.proofs.Sums.RowTotals.{t_rows, o_rows}

@@ -2,13 +2,13 @@
 use Rattle.std.proofs.Common.{◌≡◌, ◌∙◌, ℕ, ◌+◌, ◌-◌, ◌^◌, ◌<◌, ◌≤◌, ◌↔◌, Contains, ⊎_elim, List, [], ◌∷◌, ◌++◌, length, get_or, slice_index, slice_index_or, All, sym, ap, subst, arith, rules}
 use Rattle.polcert_rules.proofs.Common.{cases_lt, get_or_append_left, get_or_default, All-push, get_or_from_slice_get, Cell, Preamble, weight, IsSparse, IsRow, key_base, table_key, most_places, Rule, IsRising, IsIndexOf, zeros_of, others_of, others_in, IsWeighted, IsShapeOf, AreSound, IsKeptRow, Stays, AreLine, AreLines}
 use Rattle.std.proofs.lemmas.List.{length-append}
+use Rattle.polcert_rules.specs.Steps.Sources.{AreGiven, weights_at, HasScale, HasRows, IsFirstWrongIn}
 use Rattle.std.proofs.Math.Seq.{get_or-append_seam}
 use Rattle.polcert_cells.proofs.SparseLaws.{row_same}
 use Rattle.polcert_rules.specs.declared.rows.TableEntries.{TableEntries}
 use Rattle.polcert_rules.specs.declared.rows.WrongRow.{WrongRow}
 use Rattle.polcert_rules.specs.RowTables.{IsProperRow, AreProperRows, IsFirstWrong}
 use Rattle.polcert_rules.specs.Steps.Repeats.{IsAsBefore}
-use Rattle.polcert_rules.specs.Steps.Sources.{AreGiven, weights_at, HasScale, HasRows, IsFirstWrongIn}
 use Rattle.polcert_rules.proofs.RowLaws.SumLaws.{sum_same}
 use Rattle.polcert_rules.proofs.RowLaws.SplitLaws.{split_is}
 use Rattle.polcert_rules.proofs.RowLaws.RepeatLaws.{as_named}

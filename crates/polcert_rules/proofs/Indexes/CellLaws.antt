@@ -1,9 +1,7 @@
 -- Rules of which each names a cell: what the newest is, from parts that have it.
 use Rattle.std.proofs.Common.{◌≡◌, ◌∙◌, ⊎_elim, ℕ, suc, ◌+◌, ◌*◌, ◌^◌, ◌<◌, ◌≤◌, ◌↔◌, ◌⊎◌, inl, inr, Option, Some, None, List, [], ◌∷◌, Contains, refl, sym, ap, subst, arith}
-use Rattle.polcert_rules.proofs.Common.{Rule, IsNewest, max_option, key_base}
+use Rattle.polcert_rules.proofs.Common.{Rule, IsNewest, max_option, key_base, CellRules, NamesEnd, AreCellRules, AreJoined}
 use Rattle.polcert_rules.specs.Keys.{Fits}
-use Rattle.polcert_rules.specs.declared.row_rules.CellRules.{CellRules}
-use Rattle.polcert_rules.specs.Steps.CellRules.{NamesEnd, AreCellRules, AreJoined}
 use Rattle.polcert_rules.proofs.Keyed.Fitting.{fits_low, fits_high, fits_end, fits_here, fits_next, fits_every, fits_only}
 use Rattle.polcert_rules.proofs.Indexes.Newer.{IsSpan, newest_as, newest_of_part, newest_of_two, newest_of_three, newest_end}
 use Rattle.polcert_rules.proofs.Indexes.NotedLaws.{later_none, later_of_later}

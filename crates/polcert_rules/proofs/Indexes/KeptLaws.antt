@@ -1,17 +1,17 @@
 -- Rows that are kept, and what they are made of.
 use Rattle.std.proofs.Common.{◌≡◌, ◌∙◌, ℕ, zero, suc, ◌*◌, ◌<◌, ◌≤◌, ◌==◌, ◌↔◌, ⊎_elim, Bool, cond, eqb, IsTrue, Option, Some, List, [], ◌∷◌, ◌++◌, length, map, get_or, slice_index, All, refl, sym, ap, subst, arith, rules, tests}
 use Rattle.std.specs.Option.{option_map}
-use Rattle.polcert_rules.proofs.Common.{map-append, cases_lt, get_or_past, All-push, slice_get_within, slice_get-get_or, slice_get-map, get_or_from_slice_get, same_Some, Place, Body, Entry, one, Fills, Cell, Shape, RowOrigin, SharedRow, IsWithin, FitsShape, given, sum_below, scaled_cells, IsSparse, IsRow, given_at, IsFrom, IsWhole, AreKept, IsKeptRow, IsShared, IsAfter, Stays}
+use Rattle.polcert_rules.proofs.Common.{map-append, get_or_past, cases_lt, All-push, slice_get_within, slice_get-get_or, slice_get-map, get_or_from_slice_get, same_Some, Place, Body, Entry, one, Fills, Cell, Shape, RowOrigin, SharedRow, IsWithin, FitsShape, given, sum_below, scaled_cells, IsSparse, IsRow, given_at, IsFrom, IsWhole, AreKept, IsKeptRow, IsShared, IsAfter, Stays}
+use Rattle.std.proofs.lemmas.List.Elements.{All-weaker}
+use Rattle.polcert_rules.specs.Steps.Given.{given_by}
+use Rattle.polcert_rules.specs.Steps.Sources.{source_of, IsSharedRow, is_proper}
 use Rattle.std.specs.List.{slice_get}
 use Rattle.std.proofs.Math.Nat.{mul-le-mul_left, mul_comm}
-use Rattle.std.proofs.lemmas.List.Elements.{All-weaker}
 use Rattle.polcert_rules.specs.declared.row_store.RowOrigin.TheVariants.{Nothing, Even, Diagonal, Line}
 use Rattle.polcert_rules.specs.declared.row_store.RowStore.{RowStore}
-use Rattle.polcert_rules.specs.Steps.Given.{given_by}
 use Rattle.polcert_cells.proofs.SparseLaws.{row_same}
 use Rattle.polcert_cells.proofs.ScaledRows.{scaled_row}
 use Rattle.polcert_rules.specs.Steps.Lists.{IsFullLine}
-use Rattle.polcert_rules.specs.Steps.Sources.{source_of, IsSharedRow, is_proper}
 use Rattle.polcert_rules.proofs.RowLaws.SumLaws.{sum_is, sum_same}
 
 -- ---- lists

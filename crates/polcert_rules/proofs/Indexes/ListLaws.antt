@@ -2,9 +2,9 @@
 use Rattle.std.proofs.Common.{◌≡◌, ◌∙◌, ℕ, ◌+◌, ◌-◌, ◌≤◌, List, [], ◌∷◌, ◌++◌, length, map, All, refl, ap, subst, arith}
 use Rattle.polcert_rules.proofs.Common.{map-append, All-head, All-tail, Part, part_in, row_in, scaled_cells, Cell, Sparse, Full, RowPart}
 use Rattle.std.proofs.lemmas.List.{append-nil, drop-append-le, take-append-le, length-drop, take_all}
+use Rattle.polcert_rules.specs.Steps.Lists.{LiesIn, cells_in, HasRoom, IsHeld}
 use Rattle.std.specs.List.{slice_range}
 use Rattle.std.proofs.Math.Seq.{drop-append_seam}
-use Rattle.polcert_rules.specs.Steps.Lists.{LiesIn, cells_in, HasRoom, IsHeld}
 use Rattle.polcert_rules.specs.declared.rows.RowForm.{RowForm}
 
 module _ {X : Type 0} (xs ys : List X) where

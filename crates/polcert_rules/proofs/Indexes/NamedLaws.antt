@@ -2,8 +2,8 @@
 use Rattle.std.proofs.Common.{◌≡◌, ◌∙◌, ℕ, zero, suc, ◌+◌, ◌<◌, false, cond, ◌⊎◌, inl, Option, Some, None, List, [], length, set, refl, sym, ap, arith, get_or-set_other}
 use Rattle.std.specs.Prelude.{◌==◌}
 use Rattle.polcert_rules.proofs.Common.{nat_tests, NamedRule, max_option, rule_at}
-use Rattle.std.proofs.lemmas.Grind.{get_or-set_at}
 use Rattle.polcert_rules.specs.Steps.Distinct.{AreDistinct}
+use Rattle.std.proofs.lemmas.Grind.{get_or-set_at}
 use Rattle.polcert_rules.specs.Steps.Named.{number_in}
 use Rattle.polcert_rules.proofs.Keyed.Fitting.{equal_numbers}
 use Rattle.polcert_rules.proofs.Indexes.NotedLaws.{later_none, later_of_later, same_or_not}

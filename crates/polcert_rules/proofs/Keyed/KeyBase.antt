@@ -1,8 +1,8 @@
 -- The base of the keys has what is needed of it; and so each element has a digit.
 use Rattle.std.proofs.Common.{ℕ, ◌+◌, ◌<◌, ◌≤◌, arith}
 use Rattle.polcert_rules.proofs.Common.{Elements, Place, count_of, most_actions, most_elements, key_base, digit}
-use Rattle.polcert_cells.specs.Steps.Sound.{IsPlaceIn}
 use Rattle.polcert_rules.specs.Keys.{IsKeyBase}
+use Rattle.polcert_cells.specs.Steps.Sound.{IsPlaceIn}
 
 pub key_base_is : IsKeyBase key_base
 key_base_is = record { actions = omega arith; elements = omega arith; room = omega arith }

@@ -3,8 +3,8 @@ use Rattle.std.proofs.Common.{◌≡◌, ℕ, ◌-◌, ◌<◌, ◌≤◌, ◌�
 use Rattle.std.specs.List.{slice_get}
 use Rattle.polcert_rules.proofs.Common.{IsPartitionedBy, IsNonDecreasingBy, cases_lt, Contains-append_left, Contains-append_right, Contains-append_cases, IsPartitionedBy-ltb, get_or_from_slice_get, Rule, IsRising}
 use Rattle.std.specs.List.Sorted.{IsPartitionPoint}
-use Rattle.std.proofs.lemmas.List.{take-append-drop}
 use Rattle.polcert_rules.specs.Steps.Newest.{IsCut}
+use Rattle.std.proofs.lemmas.List.{take-append-drop}
 use Rattle.polcert_rules.proofs.Indexes.Newer.{after_first}
 
 pub rising_drop : (n : ℕ) (xs : List Rule) → IsRising xs → IsRising (drop n xs)

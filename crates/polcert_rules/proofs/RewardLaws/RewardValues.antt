@@ -3,13 +3,13 @@ use Rattle.std.proofs.Common.{◌≡◌, ◌∙◌, ℕ, zero, suc, ◌+◌, ◌
 use Rattle.std.specs.Prelude.{◌==◌}
 use Rattle.polcert_rules.proofs.Common.{list_any, drop_all, All-cons, All-nil, slice_get-get_or, get_or_from_slice_get, Reward, Body, Entry, count_of, forms, Preamble, dimensions, rewarded, IsSoundEntry, Fills, reward_of, reward, value_or, RewardBody, key_base, AreIndices, IsLastNumber, entry_at, worth, IsBodyOf, AreRewardsOf, cell_in, RewardRules, AreWithin, IsLastBody}
 use Rattle.std.specs.List.{slice_get}
-use Rattle.polcert_text.specs.Numbers.{largest}
 use Rattle.polcert_cells.specs.Entry.{cells_in}
 use Rattle.polcert_cells.specs.Preamble.{is_mdp}
 use Rattle.polcert_cells.specs.Cells.{row_major, reward_in}
+use Rattle.polcert_rules.specs.Steps.Rewards.{rewards_in}
+use Rattle.polcert_text.specs.Numbers.{largest}
 use Rattle.polcert_cells.proofs.CellLaws.{last_is_one}
 use Rattle.polcert_cells.proofs.SoundLaws.{covered_table}
-use Rattle.polcert_rules.specs.Steps.Rewards.{rewards_in}
 use Rattle.polcert_rules.proofs.Keyed.Covering.{last_is, keyed_at}
 
 -- ---- the reward of a cell is what the entry of its last number gives

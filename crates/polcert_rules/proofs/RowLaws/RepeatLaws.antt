@@ -1,8 +1,8 @@
 -- Rows of actions that no entry names.
 use Rattle.std.proofs.Common.{◌≡◌, ◌∙◌, ℕ, ◌+◌, ◌*◌, ◌^◌, ◌<◌, ⊎_elim, Option, List, [], ◌∷◌, Contains, sym, ap, arith}
 use Rattle.polcert_rules.proofs.Common.{Table, Entry, last_covering, value_or, Rule, key_base, table_key, most_places, IsNewest, IsIndexOf, AreKeyed, entry_at, newest_in, given, weight_in}
-use Rattle.polcert_cells.proofs.CellLaws as cells
 use Rattle.polcert_rules.specs.Keys.{Fits}
+use Rattle.polcert_cells.proofs.CellLaws as cells
 use Rattle.polcert_rules.specs.Steps.Repeats.{NamesNoAction}
 use Rattle.polcert_rules.proofs.Keyed.Fitting.{fits_low, fits_high, fits_here, fits_next, fits_every}
 use Rattle.polcert_rules.proofs.Indexes.Matching.{newest_is}

@@ -5,11 +5,11 @@ use Rattle.polcert_rules.proofs.Common.{Table, Reward, Place, Only, Entry, Eleme
 use Rattle.polcert_cells.specs.declared.entries.Table.TheVariants.{Transition, Observation}
 use Rattle.polcert_cells.specs.Preamble.{observed}
 use Rattle.polcert_cells.specs.Steps.Sound.{ArePlacesIn}
+use Rattle.polcert_rules.specs.Steps.Given.{HasColumn}
+use Rattle.polcert_rules.specs.Steps.Sources.{IsNumber}
 use Rattle.polcert_cells.proofs.CellLaws as cells
 use Rattle.polcert_cells.proofs.SoundLaws.{rewarded_few}
 use Rattle.polcert_rules.specs.Steps.Repeats.{IsWholeNumber}
-use Rattle.polcert_rules.specs.Steps.Given.{HasColumn}
-use Rattle.polcert_rules.specs.Steps.Sources.{IsNumber}
 use Rattle.polcert_rules.proofs.Keyed.Fitting.{and_true}
 use Rattle.polcert_rules.proofs.Keyed.KeyBase.{action_digit, element_digit, place_digit}
 use Rattle.polcert_rules.proofs.Keyed.Covering.{same_table, last_is}

@@ -2,8 +2,8 @@
 use Rattle.std.proofs.Common.{◌≡◌, ◌∙◌, ℕ, ◌+◌, ◌*◌, ◌<◌, ◌≤◌, ◌↔◌, ◌⊎◌, ⊎_elim, true, Option, None, List, Contains, refl, ap, subst, arith}
 use Rattle.std.specs.Prelude.{◌==◌}
 use Rattle.polcert_rules.proofs.Common.{Place, Every, Only, fits_place, Rule, RowZeros, key_base, digit, IsNewest, IsSingle, newest_zero}
-use Rattle.polcert_rules.specs.declared.zeros.ZeroColumns.{ZeroColumns}
 use Rattle.polcert_rules.specs.Steps.Zeros.{AreColumnsFrom, at_key, zero_in}
+use Rattle.polcert_rules.specs.declared.zeros.ZeroColumns.{ZeroColumns}
 use Rattle.polcert_rules.proofs.Keyed.Fitting.{same_number, equal_numbers}
 use Rattle.polcert_rules.proofs.Indexes.Newer.{newest_as, newest_of_part, newest_of_two}
 use Rattle.polcert_rules.proofs.Indexes.Matching.{newest_by_is, one_newest}

@@ -2,9 +2,9 @@
 use Rattle.std.proofs.Common.{◌≡◌, ◌∙◌, ◌⊎◌, ⊎_elim, ℕ, suc, ◌+◌, ◌-◌, ◌*◌, ◌^◌, ◌<◌, ◌≤◌, ◌&&◌, ◌||◌, min, true, false, List, [], ◌∷◌, ◌++◌, length, take, drop, get_or, pos, refl, sym, ap, arith}
 use Rattle.polcert_text.proofs.Common.{pow-le-pow_right, drop-take, drop_all, list_all, list_any, digits_value, is_digit, class_of, glue_class, is_glued, are_digits, largest, IsReadable, IsExact, cap, is_nonzero, Measures, state_through, ByteClass, Digit, Point, Start, Whole, Fraction, Numeral}
 use Rattle.std.proofs.Math.Nat.{suc-mul, mul-le-mul_right}
-use Rattle.std.proofs.lemmas.Nat.{pow-add}
 use Rattle.std.proofs.lemmas.List.{get_or-take, get_or-drop, length-take-le, length-drop, take-take}
 use Rattle.polcert_text.specs.declared.bytes.ByteClass.TheVariants.{Blank, LineEnd}
+use Rattle.std.proofs.lemmas.Nat.{pow-add}
 use Rattle.polcert_text.proofs.Numbers.MeasureLaws.{ten_pos, and-true_left}
 use Rattle.polcert_text.proofs.Numbers.NumberLaws.{pow_next}
 use Rattle.polcert_text.proofs.Numbers.Plain.{IsPlain, plain_measures, run}

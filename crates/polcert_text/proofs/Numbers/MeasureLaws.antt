@@ -4,9 +4,9 @@ use Rattle.std.specs.Prelude.{◌==◌}
 use Rattle.polcert_text.proofs.Common.{nat_tests, digit_value, list_all, list_any, digits_value, digits_value_after, pow-le-pow_right, one-le-pow, drop_all, list_all-append, is_digit, is_nonzero}
 use Rattle.std.specs.Str.Parse.{AllDigits}
 use Rattle.std.proofs.Math.Nat.{pow-suc, mul-pos, mul-lt-mul_of_pos_right, mul_assoc}
+use Rattle.std.proofs.lemmas.List.{take-append-drop, length-drop, take_all}
 use Rattle.std.proofs.lemmas.Nat.{pow-add}
 use Rattle.std.proofs.lemmas.Int.Digits.{digits_value-lt}
-use Rattle.std.proofs.lemmas.List.{take-append-drop, length-drop, take_all}
 use Rattle.polcert_text.proofs.Numbers.NumberLaws.{true≢false, digit_from, digit_to, digit_is}
 
 pub order : (m n : ℕ) → (m ≤ n) ⊎ (n < m)

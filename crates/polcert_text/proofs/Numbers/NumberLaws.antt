@@ -2,10 +2,10 @@
 use Rattle.std.proofs.Common.{◌≡◌, ◌∙◌, ℕ, ◌+◌, ◌-◌, ◌*◌, ◌^◌, ◌<◌, ◌≤◌, min, Bool, true, false, cond, ◌&&◌, Option, Some, None, List, [], ◌∷◌, ◌++◌, length, take, drop, get_or, sym, ap, arith}
 use Rattle.polcert_text.proofs.Common.{nat_tests, digit_value, digits_value_push, take_more, drop_all, list_all, before_first, after_first, digits_value, is_letter, is_digit, is_point, is_numeral, kind_of, mark_kind, cap, IsScaled, ByteClass, TokenKind, state_through, kind_at, is_numeral_kind, State, Start}
 use Rattle.std.proofs.lemmas.Int.Digits.{digits_value_more}
-use Rattle.std.proofs.lemmas.Grind.{pow_more}
-use Rattle.std.proofs.lemmas.List.Sums.{AllPass-from_list_all, position_or_len_is}
 use Rattle.std.proofs.lemmas.List.{take_all, length-append, append_assoc}
 use Rattle.polcert_text.specs.Lexemes.{is_name}
+use Rattle.std.proofs.lemmas.Grind.{pow_more}
+use Rattle.std.proofs.lemmas.List.Sums.{AllPass-from_list_all, position_or_len_is}
 use Rattle.polcert_text.specs.declared.tokens.TokenKind.TheVariants as kinds
 use Rattle.polcert_text.specs.declared.number.Scaling.{Scaling}
 use Rattle.polcert_text.proofs.Scanning.LexemeLaws.{no_numeral, none_empty, kind_of-through}

@@ -1,6 +1,6 @@
 -- A numeral of digits, a point and digits, read without its exponent.
 use Rattle.std.proofs.Common.{◌≡◌, ◌∙◌, ◌⊎◌, ⊎_elim, ℕ, zero, suc, ◌+◌, ◌-◌, ◌*◌, ◌^◌, ◌<◌, ◌≤◌, min, Bool, true, false, List, [], ◌∷◌, ◌++◌, length, take, drop, take_all, get_or, refl, sym, ap, length-append, arith}
-use Rattle.polcert_text.proofs.Common.{take-append-add, drop_all, take_more, digits_value_push, list_all, list_any, before_first, after_first, digits_value, is_digit, is_exponent_mark, is_point, class_of, is_numeral, whole_of, fraction_of, exponent_of, is_lowering, exponent_size, largest, IsReadable, without_sign, cap, is_nonzero, ceiling, Measures, state_after, state_through, Digit, Point, State}
+use Rattle.polcert_text.proofs.Common.{take-append-add, drop_all, take_more, digits_value_push, list_all, list_any, before_first, after_first, digits_value, is_digit, is_exponent_mark, is_point, class_of, is_numeral, without_sign, whole_of, fraction_of, exponent_of, is_lowering, exponent_size, largest, IsReadable, cap, is_nonzero, ceiling, Measures, state_after, state_through, Digit, Point, State}
 use Rattle.std.proofs.Math.Seq.{drop-append-add}
 use Rattle.std.proofs.lemmas.List.{length-take-le, length-drop, append_assoc, get_or-drop, drop-drop}
 use Rattle.std.proofs.lemmas.List.Folds.{list_all_at}

@@ -1,6 +1,6 @@
 -- A numeral of digits alone, read without a point and an exponent.
 use Rattle.std.proofs.Common.{◌≡◌, ◌∙◌, ℕ, ◌+◌, ◌-◌, ◌*◌, ◌^◌, ◌<◌, ◌≤◌, true, false, List, [], ◌++◌, length, take, drop, take_all, append-nil, get_or, refl, sym, ap, subst, arith}
-use Rattle.polcert_text.proofs.Common.{drop_all, list_any, before_first, after_first, digits_value, is_exponent_mark, is_point, class_of, is_numeral, whole_of, fraction_of, exponent_of, is_lowering, exponent_size, largest, IsReadable, without_sign, is_nonzero, ceiling, Measures, state_through, Digit}
+use Rattle.polcert_text.proofs.Common.{drop_all, list_any, before_first, after_first, digits_value, is_exponent_mark, is_point, class_of, is_numeral, without_sign, whole_of, fraction_of, exponent_of, is_lowering, exponent_size, largest, IsReadable, is_nonzero, ceiling, Measures, state_through, Digit}
 use Rattle.std.specs.Prelude.{Option, IfSome}
 use Rattle.polcert_text.specs.declared.number.Size.{Size}
 use Rattle.polcert_text.specs.declared.tokens.State.TheVariants as states

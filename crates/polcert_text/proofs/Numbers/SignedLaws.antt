@@ -1,8 +1,8 @@
 -- A sign and a size as a whole number.
 use Rattle.std.proofs.Common.{◌≡◌, ◌∙◌, ℕ, suc, ◌+◌, ◌*◌, ◌/◌, ◌<◌, ◌≤◌, Bool, true, false, not, List, ◌⊎◌, ⊎_elim, ℤ, pos, negsuc, neg_ℤ, ◌*ℤ◌, ◌≤ℤ◌, refl, sym, ap, subst, arith, rules}
 use Rattle.polcert_text.proofs.Common.{ints, pos-*ℤ-pos, millionth, size_of, signed, IsExact, IsFloor, IsCeil, IsRounded, Rounding, ceiling, rounded, is_away, Measures}
-use Rattle.std.proofs.Math.Nat.{mul-le-mul_right, mul-div_cancel, mul-pos}
 use Rattle.std.proofs.Math.IntN.{negsuc-*ℤ-pos}
+use Rattle.std.proofs.Math.Nat.{mul-le-mul_right, mul-div_cancel, mul-pos}
 use Rattle.polcert_text.specs.declared.number.Rounding.TheVariants.{Down, Up}
 
 -- without its sign

@@ -1,7 +1,8 @@
 -- Six digits that are read at once, as one number of which each byte is one of them.
 use Rattle.std.proofs.Common.{◌≡◌, ◌∙◌, ℕ, zero, suc, ◌+◌, ◌-◌, ◌*◌, ◌/◌, ◌%◌, ◌^◌, ◌<◌, ◌≤◌, ◌⊎◌, inl, inr, ⊎_elim, List, ◌++◌, length, take, drop, get_or, sym, ap, subst, append-nil, bit_and, arith}
 use Rattle.std.proofs.lemmas.Nat.{and_block, and_mask}
-use Rattle.polcert_text.proofs.Common.{digits_value, class_of, Digit, AreDigitsFrom, AreSixDigits}
+use Rattle.polcert_text.proofs.Common.{digits_value, class_of, Digit, AreDigitsFrom}
+use Rattle.polcert_text.specs.Steps.FrontSizes.{AreSixDigits}
 use Rattle.polcert_text.proofs.Numbers.Plain.{after_more, at_or_after}
 use Rattle.polcert_text.proofs.Scanning.Classes.{digit_between}
 

@@ -2,8 +2,8 @@
 use Rattle.std.proofs.Common.{◌≡◌, ◌∙◌, ℕ, ◌+◌, ◌-◌, ◌*◌, ◌^◌, ◌<◌, ◌≤◌, min, Bool, true, false, ◌&&◌, inl, List, [], ◌∷◌, ◌++◌, length, take, drop, refl, ap, subst, arith, length-append}
 use Rattle.std.specs.Prelude.{if◌then◌else◌}
 use Rattle.polcert_text.proofs.Common.{list_all, list_any, before_first, after_first, position_or_len, digits_value, one-le-pow, list_all-append, is_digit, is_exponent_mark, is_point, without_sign, is_numeral, whole_of, fraction_of, exponent_of, is_lowering, number_of, exponent_size, power_of, size_of, millionth, largest, cap, is_nonzero, IsScaled, ceiling, Measures}
-use Rattle.std.proofs.lemmas.List.{length-take, length-drop}
 use Rattle.std.proofs.Math.Nat.{mul-le-mul_right}
+use Rattle.std.proofs.lemmas.List.{length-take, length-drop}
 use Rattle.polcert_text.proofs.Scanning.BeforeFirst.{after_first-pass}
 use Rattle.polcert_text.proofs.Numbers.MeasureLaws.{and-true_left, and-true_right, Fits, measure}
 

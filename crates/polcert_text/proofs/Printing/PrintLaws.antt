@@ -1,15 +1,15 @@
 -- The text of a number of millionths is a numeral of just that value.
 use Rattle.std.proofs.Common.{◌≡◌, ◌∙◌, ℕ, suc, zero, ◌+◌, ◌-◌, ◌*◌, ◌/◌, ◌%◌, ◌^◌, ◌<◌, ◌≤◌, Bool, true, false, cond, ◌&&◌, ◌||◌, List, [], ◌∷◌, ◌++◌, length, refl, sym, ap, subst, arith, decimal, append-nil, ℤ, pos, negsuc}
 use Rattle.polcert_text.proofs.Common.{ints, digit_value, list_all, list_any, before_first, after_first, digits_value, digits_value_after, nat_tests, list_all-append, list_any-append, decimal_nonempty, is_digit, is_point, is_exponent_mark, without_sign, is_numeral, whole_of, fraction_of, exponent_of, is_lowering, number_of, exponent_size, power_of, size_of, millionth, signed, IsExact, decimals, fraction_text, unsigned_text}
+use Rattle.std.proofs.lemmas.Fmt.{decimal_by_steps, decimal_is_IsNumeral}
+use Rattle.polcert_text.specs.Numbers.{Denotes}
+use Rattle.polcert_text.specs.Millionths.{scaled_text}
 use mir.Val.{SFits}
 use mir.Syntax.{w64}
 use Rattle.std.specs.Prelude.{◌==◌}
-use Rattle.std.proofs.lemmas.Fmt.{decimal_by_steps, decimal_is_IsNumeral}
 use Rattle.std.proofs.lemmas.Nat.{pow-add, div-add-mod'}
 use Rattle.std.proofs.Math.Nat.{mod-lt, mul_assoc}
-use Rattle.polcert_text.specs.Numbers.{Denotes}
 use Rattle.polcert_text.proofs.Scanning.BeforeFirst.{before_first-stop, before_first-pass, after_first-stop, after_first-pass}
-use Rattle.polcert_text.specs.Millionths.{scaled_text}
 use Rattle.polcert_text.proofs.Numbers.MeasureLaws.{and-true_left, and-true_right, value_after, value-append, ten_pos}
 use Rattle.polcert_text.proofs.Numbers.SizeLaws.{after-none}
 use Rattle.polcert_text.proofs.Numbers.SignedLaws.{signed-mul}

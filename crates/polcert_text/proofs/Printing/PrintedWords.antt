@@ -1,10 +1,10 @@
 -- The lexemes of lines of words.
 use Rattle.std.proofs.Common.{◌≡◌, ◌∙◌, ℕ, ◌≤◌, true, false, Some, List, [], ◌∷◌, ◌++◌, length, map, codes, refl, sym, ap, arith, append_assoc, append-nil, rules}
 use Rattle.polcert_text.proofs.Common.{list_all, is_blank, is_letter, is_digit, is_point, is_exponent_mark, class_of, blank_class, kind_of, is_glued, state_after, state_through, kind_at, State, TokenKind, Numeral, Colon, Minus}
+use Rattle.polcert_text.specs.declared.tokens.TokenKind.TheVariants.{Name}
 use Rattle.polcert_text.specs.Lines.{line}
 use Rattle.polcert_text.specs.declared.bytes.ByteClass.TheVariants as classes
 use Rattle.polcert_text.specs.declared.tokens.State.TheVariants as states
-use Rattle.polcert_text.specs.declared.tokens.TokenKind.TheVariants.{Name}
 use Rattle.polcert_text.proofs.Scanning.LexemeLaws.{kind_of-through}
 use Rattle.polcert_text.proofs.Numbers.MeasureLaws.{and-true_left}
 use Rattle.polcert_text.proofs.Scanning.Tests.{blank_by, glue_by}

@@ -1,12 +1,11 @@
 -- Reading a gap byte by byte finds its longest front.
-use Rattle.std.proofs.Common.{◌≡◌, ◌∙◌, ℕ, ◌+◌, Bool, true, false, List, [], ◌∷◌, ◌++◌, take, drop, refl, ap, arith}
-use Rattle.std.proofs.Common.{◌<◌, ◌≤◌, length, get_or, sym, append-nil}
+use Rattle.std.proofs.Common.{◌≡◌, ◌∙◌, ℕ, ◌+◌, Bool, true, false, List, [], ◌∷◌, ◌++◌, take, drop, refl, ap, arith, ◌<◌, ◌≤◌, length, get_or, sym, append-nil}
 use Rattle.polcert_text.proofs.Common.{take_more, IsLongestGap, list_all, is_blank, is_hash, is_line_end, class_of, is_gap, gap_after, gap_through, ByteClass, Gap, Between, Comment, Ended}
 use Rattle.std.proofs.lemmas.List.{take-take, take-append-drop}
 use Rattle.std.specs.List.{slice_split, onto_first}
+use Rattle.polcert_text.specs.Gaps.{is_gap_line}
 use Rattle.polcert_text.proofs.Scanning.Tests.{blank_by, hash_by, line_end_by}
 use Rattle.polcert_text.proofs.Scanning.BeforeFirst.{before_first-pass}
-use Rattle.polcert_text.specs.Gaps.{is_gap_line}
 
 -- all lines but the first are right
 abbrev others_right : List (List ℕ) → Bool

@@ -1,11 +1,10 @@
 -- Reading a lexeme byte by byte tells what kind of lexeme each front is.
-use Rattle.std.proofs.Common.{◌≡◌, ◌∙◌, ℕ, ◌+◌, Bool, true, false, not, ◌&&◌, ◌||◌, cond, Option, Some, None, List, [], ◌∷◌, ◌++◌, take, drop, refl, sym, ap, append-nil, arith}
-use Rattle.std.proofs.Common.{◌<◌, ◌≤◌, length, get_or, ◌⊎◌, ⊎_elim, take_all, append_assoc, subst}
-use Rattle.polcert_text.proofs.Common.{take_more, take-append-le, is_stuck, IsFrontOf, list_all, list_any, LexemePrefix, is_digit, is_exponent_mark, is_point, is_name_byte, class_of, point_class, digit_class, letter_class, are_digits, without_sign, is_numeral, kind_of, is_empty, mark_kind, state_after, state_through, kind_at, ByteClass, TokenKind, State, Start, Name, Whole, Fraction, Single, Stuck}
+use Rattle.std.proofs.Common.{◌≡◌, ◌∙◌, ℕ, ◌+◌, Bool, true, false, not, ◌&&◌, ◌||◌, cond, Option, Some, None, List, [], ◌∷◌, ◌++◌, take, drop, refl, sym, ap, append-nil, arith, ◌<◌, ◌≤◌, length, get_or, ◌⊎◌, ⊎_elim, take_all, append_assoc, subst}
+use Rattle.polcert_text.proofs.Common.{take_more, take-append-le, is_stuck, IsFrontOf, list_all, list_any, LexemePrefix, is_digit, is_exponent_mark, is_point, is_name_byte, class_of, point_class, digit_class, letter_class, mark_kind, are_digits, without_sign, is_numeral, kind_of, is_empty, state_after, state_through, kind_at, ByteClass, TokenKind, State, Start, Name, Whole, Fraction, Single, Stuck}
 use Rattle.std.proofs.lemmas.List.{take-take, take-append-drop, take_at, length-append}
+use Rattle.polcert_text.specs.declared.tokens.State.TheVariants.{Point, Mark, Sign, Exponent}
 use Rattle.polcert_text.specs.declared.bytes.ByteClass.TheVariants as classes
 use Rattle.polcert_text.specs.declared.tokens.TokenKind.TheVariants as kinds
-use Rattle.polcert_text.specs.declared.tokens.State.TheVariants.{Point, Mark, Sign, Exponent}
 use Rattle.polcert_text.proofs.Scanning.BeforeFirst.{before, after, before_is, after_is}
 use Rattle.polcert_text.proofs.Scanning.Tests.{digit_by, mark_by, point_by, sign_by, name_by, kind_by}
 

@@ -4,10 +4,10 @@ use Rattle.std.proofs.Math.ListN.{get_or-append}
 use Rattle.polcert_text.proofs.Common.{take-append-le, drop-append-le, BeginWith, EndsAsDigits, EndsWithin, IsNameOrMark, class_of, Lexeme, Rest, TakesToken, is_glued, IsLongestLexeme, gap_after, gap_through, state_after, signed, IsReadable, IsExact, Taken, token, LexemePrefix, Between, Ended, Start, Single, TokenKind, Numeral, Colon, TokenFault}
 use Rattle.std.proofs.lemmas.List.{length-take-le, length-drop, get_or-drop, drop-drop}
 use Rattle.polcert_text.specs.Beginning.{rest_at, BeginWithOne, BeginWithNumber, BeginWithDigits, IsNumeralOf, kind_of_sign, unsigned}
-use Rattle.polcert_text.specs.Beginning as begin
 use Rattle.polcert_text.specs.Steps.ScanOf.{IsNumberFrom}
 use Rattle.polcert_text.specs.Steps.Classes.{class_of_sign}
 use Rattle.polcert_text.specs.TakenTokens.{nothing}
+use Rattle.polcert_text.specs.Beginning as begin
 use Rattle.polcert_text.specs.declared.front_tokens.FrontDigits.{FrontDigits}
 use Rattle.polcert_text.specs.declared.front_tokens.FrontNumber.{FrontNumber}
 use Rattle.polcert_text.specs.declared.bytes.ByteClass.TheVariants as classes

@@ -1,5 +1,5 @@
 use Rattle.std.proofs.Common.{◌≡◌, ℕ, ℤ}
-use Rattle.polcert_check.specs.Steps.Exceptions.{AreExcepted}
+use Rattle.polcert_check.proofs.Common.{AreExcepted}
 use Rattle.polcert_check.proofs.Walking.Excepted.{sum_until}
 use Rattle.polcert_check.proofs.expected_reward.sum_excepted.Given as goal
 

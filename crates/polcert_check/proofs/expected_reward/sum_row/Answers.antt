@@ -1,8 +1,6 @@
 use Rattle.std.proofs.Common.{arith, rules, ◌≡◌, ◌∙◌, ◌*◌, to_z, of_z}
 use Rattle.std.proofs.lemmas.Int.{to_z-of_z}
-use Rattle.polcert_cells.specs.CommonRewards.{row_reward}
-use Rattle.polcert_check.proofs.Common.{w128, CellTable, largest, expected_reward}
-use Rattle.polcert_check.specs.Steps.Exceptions.{row_weight}
+use Rattle.polcert_check.proofs.Common.{row_reward, w128, CellTable, largest, expected_reward, row_weight}
 use Rattle.polcert_check.proofs.Sums.Scales.{scales_le}
 use Rattle.polcert_check.proofs.Walking.RowOfBoth.{row_excepted, row_total}
 use Rattle.polcert_check.proofs.expected_reward.sum_row.Goals as goal

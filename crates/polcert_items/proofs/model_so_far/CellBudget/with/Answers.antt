@@ -1,5 +1,5 @@
 use Rattle.std.proofs.Common.{◌∙◌, sym, subst}
-use Rattle.polcert_cells.specs.EntryRefs.{entry_of}
+use Rattle.polcert_items.proofs.Common.{entry_of}
 use Rattle.polcert_items.specs.Steps.CellBudget.{IsCoveredWith}
 use Rattle.polcert_items.proofs.CoveringLaws.{IsWith, observations_few, transitions_with, observations_with, rewards_with}
 use Rattle.polcert_items.proofs.model_so_far.CellBudget.with.Goals as goal

@@ -1,7 +1,5 @@
 use Rattle.std.proofs.Common.{◌++◌, ◌∷◌, [], sym, subst}
-use Rattle.polcert_cells.specs.EntryRefs.{entry_of}
-use Rattle.polcert_format.specs.KnownPreamble.{preamble_in}
-use Rattle.polcert_items.specs.Steps.CellBudget.{IsCoveringOf}
+use Rattle.polcert_items.proofs.Common.{entry_of, preamble_in, IsCoveringOf}
 use Rattle.polcert_items.proofs.model_so_far.ModelSoFar.budget_with.Goals as goal
 
 pub returns-in-Reward : goal.returns-in-Reward

@@ -1,10 +1,7 @@
 use Rattle.std.proofs.Common.{◌≡◌, ◌∙◌, ◌<◌, ◌+◌, ◌*◌, ℕ, [], ◌∷◌, Some, map, length, slice_get, FitsSigned, to_z, of_z, w64, sym, ap, refl, subst, arith, rules}
 use Rattle.std.proofs.lemmas.Int.{to_z-of_z}
-use Rattle.std.proofs.lemmas.Option.{slice_get-get_or}
-use Rattle.polcert_rules.proofs.Common.{Rule, count_of, dimensions, reward, Reward, AreIndices, table_key, most_places, max_option, IsNewest, AreWithin}
-use Rattle.polcert_cells.specs.declared.common_reward.RewardCell.{RewardCell}
+use Rattle.polcert_rules.proofs.Common.{slice_get-get_or, Rule, count_of, dimensions, reward, Reward, AreIndices, table_key, most_places, max_option, IsNewest, AreWithin, RewardCell, IsCellOf}
 use Rattle.polcert_rules.specs.Keys.{Fits}
-use Rattle.polcert_rules.specs.Steps.CellRules.{IsCellOf}
 use Rattle.polcert_rules.proofs.RewardLaws.CellRewards.{cells_more}
 use Rattle.polcert_rules.proofs.rewards.Rewards.fill_cells.Goals as goal
 

@@ -1,4 +1,4 @@
-use Rattle.polcert_rules.specs.Steps.CellRules.{AreCellsOf}
+use Rattle.polcert_rules.proofs.Common.{AreCellsOf}
 use Rattle.polcert_rules.proofs.rewards.Rewards.fill_cells.Given as goal
 
 -- the cells so far

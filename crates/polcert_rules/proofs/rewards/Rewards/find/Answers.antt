@@ -1,8 +1,6 @@
 use Rattle.std.proofs.Common.{◌∙◌, ℕ, [], ◌∷◌, map, FitsSigned, w64, sym, ap, subst, arith, rules}
 use Rattle.std.proofs.lemmas.Int.{to_z-of_z}
-use Rattle.polcert_rules.proofs.Common.{same_Some, count_of, dimensions, reward, Reward, AreIndices, table_key, most_places, max_option, RewardRules, noted_at, IsNewest, AreWithin}
-use Rattle.polcert_cells.specs.CommonRewards.{IsCommonReward}
-use Rattle.polcert_cells.specs.declared.common_reward.CommonReward.{CommonReward}
+use Rattle.polcert_rules.proofs.Common.{same_Some, count_of, dimensions, reward, Reward, AreIndices, table_key, most_places, max_option, RewardRules, noted_at, IsNewest, AreWithin, IsCommonReward, CommonReward}
 use Rattle.polcert_rules.specs.Keys.{Fits}
 use Rattle.polcert_rules.specs.Steps.NamedCells.{AreNewestAt}
 use Rattle.polcert_rules.proofs.Indexes.NotedLaws.{noted_first, later_none}

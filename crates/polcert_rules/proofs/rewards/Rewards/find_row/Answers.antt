@@ -1,13 +1,7 @@
 use Rattle.std.proofs.Common.{◌≡◌, ◌∙◌, ◌<◌, ◌+◌, ◌*◌, ◌/◌, ◌%◌, ℕ, [], ◌∷◌, Some, None, List, map, length, slice_get, FitsSigned, w64, sym, ap, refl, subst, arith, rules, div-lt_iff_lt-mul, mod-lt, div-add-mod', mul_comm, Option}
 use Rattle.std.proofs.lemmas.Int.{to_z-of_z}
-use Rattle.std.proofs.lemmas.Nat.{div-mul-add, mod-mul-add, mul-add-lt}
-use Rattle.std.proofs.lemmas.Option.{same_Some, slice_get-get_or}
-use Rattle.polcert_rules.proofs.Common.{Rule, count_of, dimensions, reward, Reward, AreIndices, table_key, most_places, max_option, IsNewest, AreWithin}
-use Rattle.polcert_cells.specs.CommonRewards.{IsCommonReward, cell_at}
-use Rattle.polcert_cells.specs.declared.common_reward.CommonReward.{CommonReward}
+use Rattle.polcert_rules.proofs.Common.{div-mul-add, mod-mul-add, mul-add-lt, same_Some, slice_get-get_or, Rule, count_of, dimensions, reward, Reward, AreIndices, table_key, most_places, max_option, IsNewest, AreWithin, IsCommonReward, cell_at, CommonReward, RewardRules, NamesEnd}
 use Rattle.polcert_rules.specs.Keys.{Fits}
-use Rattle.polcert_rules.specs.RewardAt.{RewardRules}
-use Rattle.polcert_rules.specs.Steps.CellRules.{NamesEnd}
 use Rattle.polcert_rules.proofs.Indexes.NotedLaws.{later_none}
 use Rattle.polcert_rules.proofs.RewardLaws.CellRewards.{some_factor, newest_named, none_named}
 use Rattle.polcert_rules.proofs.rewards.Rewards.find_row.Goals as goal

@@ -1,8 +1,6 @@
 use Rattle.std.proofs.Common.{rules, ◌⊎◌, ◌≡◌, ◌+◌, ◌*◌, ◌^◌, ◌∷◌, [], ℕ, subst, sym, arith}
-use Rattle.polcert_cells.specs.declared.entries.Table.TheVariants.{Reward}
-use Rattle.polcert_rules.proofs.Common.{key_base, table_key}
+use Rattle.polcert_rules.proofs.Common.{Reward, key_base, table_key, AreCellRules, AreJoined}
 use Rattle.polcert_rules.specs.Keys.{Fits}
-use Rattle.polcert_rules.specs.Steps.CellRules.{AreCellRules, AreJoined}
 use Rattle.polcert_rules.proofs.Indexes.Newer.{newest_here}
 use Rattle.polcert_rules.proofs.Indexes.CellLaws.{joined_cells, whole_cells, placed_start}
 use Rattle.polcert_rules.proofs.row_rules.RowRules.cell_rules.Goals as goal

@@ -1,7 +1,6 @@
 use Rattle.std.proofs.Common.{rules, ◌⊎◌, ◌≡◌, ◌+◌, ◌*◌, ◌^◌, ◌∷◌, [], ℕ, subst, sym, arith}
-use Rattle.polcert_rules.proofs.Common.{key_base}
+use Rattle.polcert_rules.proofs.Common.{key_base, AreCellRules, AreJoined}
 use Rattle.polcert_rules.specs.Keys.{Fits}
-use Rattle.polcert_rules.specs.Steps.CellRules.{AreCellRules, AreJoined}
 use Rattle.polcert_rules.proofs.Indexes.Newer.{newest_here}
 use Rattle.polcert_rules.proofs.Indexes.CellLaws.{cells_of_span, joined_cells, whole_cells, placed_cells}
 use Rattle.polcert_rules.proofs.row_rules.RowRules.cell_rules_after.Goals as goal
