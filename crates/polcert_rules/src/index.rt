@@ -354,6 +354,18 @@ fn is_cut(rules: &[Rule], key: u64, place: usize) -> bool
     none_below(&rules[place..], key)
 }
 
+/// Tests whether those before this place are all before one key, and no other is before another: none is between.
+#[inline(always)]
+pub(crate) fn has_gap(rules: &[Rule], place: usize, low: u64, high: u64) -> bool
+    requires { IsRising rules.now }
+    ensures { IsTrue result → (r : R) → Contains rules.now r → low ≤ r.key → r.key < high → ⊥ }
+{
+    if place > rules.len() {
+        return false;
+    }
+    all_below(&rules[..place], low) && none_below(&rules[place..], high)
+}
+
 /// Tests whether all rules are before this key.
 fn all_below(rules: &[Rule], key: u64) -> bool
     requires { IsRising rules.now }

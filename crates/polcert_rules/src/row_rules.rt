@@ -15,8 +15,8 @@ ghost use Rattle.std.specs.Prelude.{IfSome};
 
 use crate::Rule;
 use crate::index::{
-    KEY_BASE, RuleSpan, TABLE, first_at, max_option, newest, next_place, none_below, place_of,
-    rules_between, rules_between_at, rules_from, some_begins, span, span_of,
+    KEY_BASE, RuleSpan, TABLE, first_at, has_gap, max_option, newest, next_place, none_below,
+    place_of, rules_between, rules_between_at, rules_from, some_begins, span, span_of,
 };
 use crate::named_noting::note_ends;
 use crate::named_rules::NamedRules;
@@ -110,19 +110,25 @@ impl RowRules {
         requires indices { AreIndices 3 (start ∷ rest.now) }
         ensures { IsNewest self.now.rules.items (Fits 3 low (start ∷ rest.now)) result }
     {
+        if self.lacks_keys(digit, low, low + span(3)) {
+            return None;
+        }
         let step = span(PLACES_LEFT);
         let every = low + step;
         let only = low + (start as u64 + 2) * step;
+        let of_only = newest(
+            self.rules_after(digit, start + INDICES, only),
+            only,
+            PLACES_LEFT,
+            rest,
+        );
+        if self.lacks_keys(digit, low, every + step) {
+            return of_only;
+        }
         let here = first_at(self.rules_after(digit, NO_PLACE, low), low);
         let of_every = newest(
             self.rules_after(digit, EVERY, every),
             every,
-            PLACES_LEFT,
-            rest,
-        );
-        let of_only = newest(
-            self.rules_after(digit, start + INDICES, only),
-            only,
             PLACES_LEFT,
             rest,
         );
@@ -331,6 +337,20 @@ impl RowRules {
             return true;
         }
         !self.rules_after(digit, start + INDICES, only).is_empty()
+    }
+
+    /// Returns whether no rule has a key from `low`, that of one place with this digit, up to another. `false`: unknown. (Most texts have
+    /// no rule for every action, and none for every start state.)
+    #[inline(always)]
+    fn lacks_keys(&self, first: usize, low: u64, high: u64) -> bool
+        requires rising { IsRising self.now.rules.items }
+        ensures { IsTrue result → (r : R) → Contains self.now.rules.items r → low ≤ r.key
+            → r.key < high → ⊥ }
+    {
+        match self.spans.get(first.wrapping_mul(self.seconds)) {
+            Some(place) => has_gap(self.rules.as_slice(), place.start as usize, low, high),
+            None => false,
+        }
     }
 
     /// Returns the rules whose keys follow `low`, the key of two places with these digits.

@@ -1,5 +1,5 @@
 -- Rules of which each names a cell: what the newest is, from parts that have it.
-use Rattle.std.proofs.Common.{◌≡◌, ◌∙◌, ⊎_elim, ℕ, suc, ◌+◌, ◌*◌, ◌^◌, ◌<◌, ◌≤◌, ◌↔◌, ◌⊎◌, inl, inr, Option, Some, None, List, [], ◌∷◌, Contains, refl, sym, ap, subst, arith}
+use Rattle.std.proofs.Common.{◌≡◌, ◌∙◌, ⊎_elim, ℕ, suc, ◌+◌, ◌*◌, ◌^◌, ◌<◌, ◌≤◌, ◌↔◌, ◌⊎◌, inl, inr, Option, None, List, [], ◌∷◌, Contains, sym, ap, subst, arith}
 use Rattle.polcert_rules.proofs.Common.{Rule, IsNewest, max_option, key_base, CellRules, NamesEnd, AreCellRules, AreJoined}
 use Rattle.polcert_rules.specs.Keys.{Fits}
 use Rattle.polcert_rules.proofs.Keyed.Fitting.{fits_low, fits_high, fits_end, fits_here, fits_next, fits_every, fits_only}

@@ -1,5 +1,5 @@
 -- Lists that stand one after another in one list.
-use Rattle.std.proofs.Common.{◌≡◌, ◌∙◌, ℕ, ◌+◌, ◌-◌, ◌≤◌, List, [], ◌∷◌, ◌++◌, length, map, All, refl, ap, subst, arith}
+use Rattle.std.proofs.Common.{◌≡◌, ◌∙◌, ℕ, ◌+◌, ◌≤◌, List, [], ◌∷◌, ◌++◌, length, map, All, refl, ap, subst, arith}
 use Rattle.polcert_rules.proofs.Common.{map-append, All-head, All-tail, Part, part_in, row_in, scaled_cells, Cell, Sparse, Full, RowPart}
 use Rattle.std.proofs.lemmas.List.{append-nil, drop-append-le, take-append-le, length-drop, take_all}
 use Rattle.polcert_rules.specs.Steps.Lists.{LiesIn, cells_in, HasRoom, IsHeld}

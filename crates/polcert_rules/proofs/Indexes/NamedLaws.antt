@@ -1,5 +1,5 @@
 -- Rules of few observations, one after another.
-use Rattle.std.proofs.Common.{◌≡◌, ◌∙◌, ℕ, zero, suc, ◌+◌, ◌<◌, false, cond, ◌⊎◌, inl, Option, Some, None, List, [], length, set, refl, sym, ap, arith, get_or-set_other}
+use Rattle.std.proofs.Common.{◌≡◌, ◌∙◌, ℕ, zero, suc, ◌+◌, ◌<◌, false, cond, ◌⊎◌, inl, Option, Some, None, List, length, set, refl, sym, ap, arith, get_or-set_other}
 use Rattle.std.specs.Prelude.{◌==◌}
 use Rattle.polcert_rules.proofs.Common.{nat_tests, NamedRule, max_option, rule_at}
 use Rattle.polcert_rules.specs.Steps.Distinct.{AreDistinct}

@@ -28,6 +28,10 @@ newest_of_span rules part m low indices x a span n =
     (λ r c f. (span r).1 (c, fits_low m low indices r.key f, fits_high m low indices r.key a f)) n
 
 -- one place more: no place, `*`, or the index
+-- none fits if no key is in the span
+pub newest_of_none : (rules : List Rule) (m low : ℕ) (indices : List ℕ) → AreIndices m indices → ((r : Rule) → Contains rules r → low ≤ r.key → r.key < low + key_base ^ m → ⊥) → IsNewest rules (Fits m low indices) None
+newest_of_none rs m low indices a none = λ r c f. none r c (fits_low m low indices r.key f) (fits_high m low indices r.key a f)
+
 pub newest_of_three : (rules : List Rule) (m low i : ℕ) (indices : List ℕ) (here every only : Option ℕ) → IsNewest rules (λ k. k ≡ low) here
     → IsNewest rules (Fits m (low + key_base ^ m) indices) every → IsNewest rules (Fits m (low + (i + 2) * key_base ^ m) indices) only
     → IsNewest rules (Fits (suc m) low (i ∷ indices)) (max_option here (max_option every only))
@@ -98,6 +102,17 @@ newest_deeper rules evens onlys m low i indices step here every only d h spanned
     (subst (λ s. IsNewest evens (Fits (m - 1) (low + s) indices) every) d.step_is e)
     (subst (λ s. IsSpan rules onlys (low + (i + 2) * s) s) d.step_is spanned_only)
     (subst (λ s. IsNewest onlys (Fits (m - 1) (low + (i + 2) * s) indices) only) d.step_is o))
+
+-- no key ends before this place or is for every index
+pub newest_of_only : (rules onlys : List Rule) (m low i : ℕ) (indices : List ℕ) (step : ℕ) (only : Option ℕ) → IsDeeper m low i indices step
+    → ((r : Rule) → Contains rules r → low ≤ r.key → r.key < low + step + step → ⊥)
+    → IsSpan rules onlys (low + (i + 2) * step) step → IsNewest onlys (Fits (m - 1) (low + (i + 2) * step) indices) only
+    → IsNewest rules (Fits m low (i ∷ indices)) only
+newest_of_only rs onlys m low i indices step only d none spanned o =
+    newest_deeper rs [] onlys m low i indices step None None only d
+    (λ r c e. none r c (omega (arith, e)) (omega (arith, e, d.some)))
+    (λ r. ((λ c. absurd (omega (arith, c.1))), (λ h. absurd (none r h.0 (omega (arith, h.1)) (omega (arith, h.2))))))
+    (λ r c f. absurd (omega (arith, c.1))) spanned o
 
 pub no_more : (indices : List ℕ) → length indices ≡ 0 → indices ≡ []
 no_more [] e = refl

@@ -50,6 +50,12 @@ pub cut_rest : (rules : List Rule) (key place : ℕ) → IsCut rules key place �
 cut_rest rules key place cut r =
     ((λ c. (of_rest rules place r c, cut.rest r c)), (λ h. ⊎_elim (λ c. let low = cut.front r c in let high = h.1 in absurd (omega arith)) (λ c. c) (front_or_rest rules place r h.0)))
 
+-- those in front are below one key, and the others not below another
+pub gap_between : (rules : List Rule) (low high place : ℕ) → ((r : Rule) → Contains (take place rules) r → r.key < low) → ((r : Rule) → Contains (drop place rules) r → high ≤ r.key)
+    → (r : Rule) → Contains rules r → low ≤ r.key → r.key < high → ⊥
+gap_between rules low high place front rest r among from below =
+    ⊎_elim (λ c. let under = front r c in absurd (omega (arith, under, from))) (λ c. let over = rest r c in absurd (omega (arith, over, below))) (front_or_rest rules place r among)
+
 -- where the others are not below the key, those in front are all that are
 pub near_front : (rules : List Rule) (key place : ℕ) → ((r : Rule) → Contains (drop place rules) r → key ≤ r.key) → (r : Rule)
     → (Contains (take place rules) r × (r.key < key)) ↔ (Contains rules r × (r.key < key))

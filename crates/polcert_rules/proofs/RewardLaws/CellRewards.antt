@@ -1,6 +1,6 @@
 -- The cells that rules name, one more; and that with all of them the rewards are a common one and its exceptions.
-use Rattle.std.proofs.Common.{◌≡◌, ◌∙◌, ⊎_elim, ℕ, zero, suc, ◌+◌, ◌*◌, ◌<◌, ◌≤◌, ◌⊎◌, Some, None, List, Contains, length, set, slice_get, refl, sym, ap, subst, arith, get_or-set_other, get_or-set_same, mul-zero}
-use Rattle.polcert_rules.proofs.Common.{same_Some, slice_get-get_or, slice_get_within, get_or_from_slice_get, div-mul-add, mod-mul-add, mul-add-lt, cases_lt, cell_at, RewardCell, Rule, IsNewest, RewardRules, CellRules, NamesEnd, IsCellOf, AreCellsOf}
+use Rattle.std.proofs.Common.{◌≡◌, ◌∙◌, ⊎_elim, ℕ, zero, suc, ◌+◌, ◌*◌, ◌<◌, ◌≤◌, Some, None, List, Contains, length, set, slice_get, refl, sym, ap, subst, arith, get_or-set_other, get_or-set_same, mul-zero}
+use Rattle.polcert_rules.proofs.Common.{same_Some, slice_get-get_or, get_or_from_slice_get, cases_lt, cell_at, RewardCell, Rule, IsNewest, RewardRules, CellRules, NamesEnd, IsCellOf, AreCellsOf}
 
 module _ (rewards : RewardRules) (a s : ℕ) (list : CellRules) (i next : ℕ) (cells : List RewardCell) (x : RewardCell) (rule : Rule) (are : AreCellsOf rewards a s list i next cells)
     (room : i < length cells) (above : next ≤ x.observation) (at : slice_get list.named.now i ≡ Some rule) (is : IsCellOf rewards a s list rule x) where

@@ -1,5 +1,5 @@
 -- What the body of an entry gives a row.
-use Rattle.std.proofs.Common.{◌≡◌, ℕ, ◌+◌, ◌*◌, ◌<◌, ◌≤◌, List, [], length, subst, arith}
+use Rattle.std.proofs.Common.{◌≡◌, ℕ, ◌+◌, ◌*◌, ◌<◌, ◌≤◌, List, length, subst, arith}
 use Rattle.polcert_rules.proofs.Common.{Place, Probabilities, Entry, Fills, Shape, FitsShape}
 use Rattle.polcert_rules.specs.Steps.Given.{open_cells}
 

@@ -1,5 +1,5 @@
 -- A list that is filled part by part.
-use Rattle.std.proofs.Common.{◌≡◌, ◌∙◌, ℕ, ◌+◌, ◌-◌, ◌<◌, ◌≤◌, ⊎_elim, List, ◌++◌, length, get_or, take, sym, ap, refl, arith}
+use Rattle.std.proofs.Common.{◌≡◌, ◌∙◌, ℕ, ◌+◌, ◌<◌, ◌≤◌, ⊎_elim, List, ◌++◌, length, get_or, take, sym, ap, refl, arith}
 use Rattle.polcert_rules.proofs.Common.{cases_lt, get_or_append_left}
 use Rattle.std.proofs.lemmas.List.{get_or-take, get_or-append_right, length-take-le}
 use Rattle.std.proofs.lemmas.Slice.{take-put_mid}

@@ -2,7 +2,6 @@
 use Rattle.std.proofs.Common.{◌≡◌, ℕ, ◌≤◌, ◌==◌, true, false, List, [], ◌∷◌, length, All, refl, arith}
 use Rattle.polcert_rules.proofs.Common.{list_any, All-head, Table, Place, Body, Probabilities, Entry, forms, weight_of, one, Preamble, IsWeighted, Fills, IsSoundEntry, Shape, FitsShape, given, IsShapeOf}
 use Rattle.polcert_cells.specs.declared.entries.Body.TheVariants.{Rewards, Uniform, Identity}
-use Rattle.polcert_cells.specs.Preamble.{columns}
 
 -- how many places may stand before such a body
 abbrev Lens : Body → ℕ → Type 0

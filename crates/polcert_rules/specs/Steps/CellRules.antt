@@ -1,6 +1,6 @@
 -- Rules of which each names a cell, and the newest of those that cover all cells.
 -- Nobody has to believe this file: only private functions cite it.
-use Rattle.std.specs.Prelude.{◌≡◌, ℕ, ◌+◌, ◌*◌, ◌^◌, ◌<◌, ◌⊎◌, ℤ, List, [], ◌∷◌, Option, Some, slice_get, Contains}
+use Rattle.std.specs.Prelude.{◌≡◌, ℕ, ◌+◌, ◌*◌, ◌^◌, ◌<◌, ◌⊎◌, List, [], ◌∷◌, Option, Some, slice_get}
 use Rattle.polcert_rules.specs.declared.index.Rule.{Rule}
 use Rattle.polcert_rules.specs.declared.row_rules.CellRules.{CellRules}
 use Rattle.polcert_rules.specs.Keys.{key_base, Fits}

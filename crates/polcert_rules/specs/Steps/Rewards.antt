@@ -1,6 +1,6 @@
 -- The rewards of a model as rules: what is seen of them, and what ties them to the entries that they come from.
 -- Nobody has to believe this file: what rewards are made from and what they answer are stated by the entries alone.
-use Rattle.std.specs.Prelude.{◌≡◌, ℕ, ◌+◌, ◌^◌, ◌<◌, ◌≤◌, ◌↔◌, Bool, List, [], length, All, Contains, slice_get, Some, ℤ, if◌then◌else◌}
+use Rattle.std.specs.Prelude.{◌≡◌, ℕ, ◌+◌, ◌^◌, ◌<◌, ◌≤◌, ◌↔◌, Bool, List, length, All, Contains, slice_get, Some, ℤ, if◌then◌else◌}
 use Rattle.std.specs.Int.{w64, int_wrapping_neg}
 use Rattle.std.specs.Option.{IsSomeAnd}
 use Rattle.polcert_cells.specs.declared.entries.Table.TheVariants.{Reward}

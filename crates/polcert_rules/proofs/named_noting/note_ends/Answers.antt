@@ -1,4 +1,4 @@
-use Rattle.std.proofs.Common.{◌+◌, ◌-◌, ◌^◌, ◌≤◌, [], ◌∷◌, refl, subst, arith}
+use Rattle.std.proofs.Common.{◌+◌, ◌^◌, ◌≤◌, [], ◌∷◌, refl, subst, arith}
 use Rattle.polcert_rules.proofs.Common.{key_base, noted_at, IsNoted}
 use Rattle.polcert_rules.specs.Keys.{Fits}
 use Rattle.polcert_rules.proofs.Indexes.NextPlaces.{goes_deeper}

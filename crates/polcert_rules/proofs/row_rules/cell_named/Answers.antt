@@ -1,4 +1,4 @@
-use Rattle.std.proofs.Common.{◌+◌, ◌*◌, ◌-◌, ◌/◌, ◌%◌, ⊎_elim, inl, inr, arith}
+use Rattle.std.proofs.Common.{◌+◌, ◌*◌, ◌-◌, ◌%◌, ⊎_elim, inl, inr, arith}
 use Rattle.polcert_rules.proofs.Indexes.CellLaws.{last_place, place_last, below_two}
 use Rattle.polcert_rules.proofs.row_rules.cell_named.Goals as goal
 

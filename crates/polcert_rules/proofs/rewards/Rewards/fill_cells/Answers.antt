@@ -1,6 +1,6 @@
-use Rattle.std.proofs.Common.{◌≡◌, ◌∙◌, ◌<◌, ◌+◌, ◌*◌, ℕ, [], ◌∷◌, Some, map, length, slice_get, FitsSigned, to_z, of_z, w64, sym, ap, refl, subst, arith, rules}
+use Rattle.std.proofs.Common.{◌≡◌, ◌∙◌, ◌+◌, ◌*◌, [], ◌∷◌, map, FitsSigned, to_z, of_z, w64, sym, subst, arith, rules}
 use Rattle.std.proofs.lemmas.Int.{to_z-of_z}
-use Rattle.polcert_rules.proofs.Common.{slice_get-get_or, Rule, count_of, dimensions, reward, Reward, AreIndices, table_key, most_places, max_option, IsNewest, AreWithin, RewardCell, IsCellOf}
+use Rattle.polcert_rules.proofs.Common.{slice_get-get_or, count_of, dimensions, Reward, AreIndices, table_key, most_places, IsNewest, AreWithin, RewardCell}
 use Rattle.polcert_rules.specs.Keys.{Fits}
 use Rattle.polcert_rules.proofs.RewardLaws.CellRewards.{cells_more}
 use Rattle.polcert_rules.proofs.rewards.Rewards.fill_cells.Goals as goal

@@ -1,4 +1,4 @@
-use Rattle.std.proofs.Common.{◌≡◌, ◌∙◌, ◌<◌, ℕ, [], map, length, set, FitsSigned, to_z, of_z, w64, sym, ap, refl, subst, arith, rules, below_more, get_or-set_other, get_or-set_same}
+use Rattle.std.proofs.Common.{◌≡◌, ◌∙◌, ◌<◌, ℕ, map, length, set, FitsSigned, to_z, of_z, w64, sym, ap, refl, subst, arith, rules, below_more, get_or-set_other, get_or-set_same}
 use Rattle.std.proofs.lemmas.Int.{to_z-of_z}
 use Rattle.polcert_rules.proofs.Common.{count_of, dimensions, reward, Reward, AreIndices, table_key, most_places, max_option, rule_at, IsNewest, AreWithin, cell_at, RewardCell}
 use Rattle.polcert_rules.specs.Keys.{Fits}

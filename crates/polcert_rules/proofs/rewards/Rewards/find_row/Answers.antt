@@ -1,6 +1,6 @@
-use Rattle.std.proofs.Common.{◌≡◌, ◌∙◌, ◌<◌, ◌+◌, ◌*◌, ◌/◌, ◌%◌, ℕ, [], ◌∷◌, Some, None, List, map, length, slice_get, FitsSigned, w64, sym, ap, refl, subst, arith, rules, div-lt_iff_lt-mul, mod-lt, div-add-mod', mul_comm, Option}
+use Rattle.std.proofs.Common.{◌≡◌, ◌∙◌, ◌<◌, ◌+◌, ◌*◌, ◌/◌, ◌%◌, ℕ, [], ◌∷◌, Some, None, map, length, slice_get, FitsSigned, w64, sym, ap, subst, arith, rules, div-lt_iff_lt-mul, mod-lt, div-add-mod', mul_comm, Option}
 use Rattle.std.proofs.lemmas.Int.{to_z-of_z}
-use Rattle.polcert_rules.proofs.Common.{div-mul-add, mod-mul-add, mul-add-lt, same_Some, slice_get-get_or, Rule, count_of, dimensions, reward, Reward, AreIndices, table_key, most_places, max_option, IsNewest, AreWithin, IsCommonReward, cell_at, CommonReward, RewardRules, NamesEnd}
+use Rattle.polcert_rules.proofs.Common.{div-mul-add, mod-mul-add, mul-add-lt, same_Some, slice_get-get_or, count_of, dimensions, reward, Reward, AreIndices, table_key, most_places, max_option, IsNewest, AreWithin, IsCommonReward, cell_at, CommonReward, RewardRules, NamesEnd}
 use Rattle.polcert_rules.specs.Keys.{Fits}
 use Rattle.polcert_rules.proofs.Indexes.NotedLaws.{later_none}
 use Rattle.polcert_rules.proofs.RewardLaws.CellRewards.{some_factor, newest_named, none_named}

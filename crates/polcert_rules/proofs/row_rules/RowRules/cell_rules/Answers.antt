@@ -1,4 +1,4 @@
-use Rattle.std.proofs.Common.{rules, ◌⊎◌, ◌≡◌, ◌+◌, ◌*◌, ◌^◌, ◌∷◌, [], ℕ, subst, sym, arith}
+use Rattle.std.proofs.Common.{rules, ◌⊎◌, ◌≡◌, ◌+◌, ◌*◌, ◌^◌, ◌∷◌, [], ℕ, subst, arith}
 use Rattle.polcert_rules.proofs.Common.{Reward, key_base, table_key, AreCellRules, AreJoined}
 use Rattle.polcert_rules.specs.Keys.{Fits}
 use Rattle.polcert_rules.proofs.Indexes.Newer.{newest_here}
