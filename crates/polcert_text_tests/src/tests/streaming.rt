@@ -5,6 +5,57 @@ use polcert_text::{
 };
 use std::process::Abort;
 
+/// The first of these tokens, if any, that isn't the next one.
+fn first_wrong<S: Source>(
+    found: &mut StreamTokens,
+    source: &mut S,
+    tokens: &[(TokenKind, u64, &[u8])],
+) -> Option<u64> {
+    for &(kind, place, bytes) in tokens {
+        let is_next = match found.next_token(source) {
+            Ok(Some(it)) => {
+                (it.kind, it.place, it.bytes) == (kind, place, bytes)
+                    && it.stop.saturating_sub(place) == bytes.len() as u64
+            }
+            _ => false,
+        };
+        if !is_next {
+            return Some(place);
+        }
+    }
+    None
+}
+
+/// The end that comes next, or the place of a token that comes in its place.
+type End = Result<Option<StreamFault>, u64>;
+
+fn next_end<S: Source>(found: &mut StreamTokens, source: &mut S) -> End {
+    match found.next_token(source) {
+        Ok(None) => Ok(None),
+        Err(fault) => Ok(Some(fault)),
+        Ok(Some(token)) => Err(token.place),
+    }
+}
+
+/// The first of these tokens, if any, that isn't the next one, what three further calls answer, and how often the source was
+/// read by the first of these, and by all.
+fn cut(
+    source: &mut Pieces<'_>,
+    limit: u64,
+    tokens: &[(TokenKind, u64, &[u8])],
+) -> (Option<u64>, [End; 3], [u64; 2]) {
+    let mut found = StreamTokens::new(limit);
+    let wrong = first_wrong(&mut found, source, tokens);
+    let first = next_end(&mut found, source);
+    let reads = source.reads;
+    let ends = [
+        first,
+        next_end(&mut found, source),
+        next_end(&mut found, source),
+    ];
+    (wrong, ends, [reads, source.reads])
+}
+
 /// The tokens of the source are these, and then comes this end, in so many reads. Two further calls answer the same, with no
 /// read.
 fn assert_tokens(
@@ -14,36 +65,10 @@ fn assert_tokens(
     end: Option<StreamFault>,
     reads: u64,
 ) {
-    let mut found = StreamTokens::new(TEXT_LIMIT);
-    for (kind, place, bytes) in tokens {
-        match found.next_token(source) {
-            Ok(Some(token)) => {
-                assert_eq!(rt; token.kind, *kind);
-                assert_eq!(rt; token.place, *place);
-                assert_eq!(rt; token.bytes, *bytes);
-                assert_eq!(rt; token.stop.saturating_sub(token.place), bytes.len() as u64);
-            }
-            _ => panic!(rt; "a token at {place}"),
-        }
-    }
-    assert_end(rt, &mut found, source, end);
-    assert_eq!(rt; source.reads, reads);
-    assert_end(rt, &mut found, source, end);
-    assert_end(rt, &mut found, source, end);
-    assert_eq!(rt; source.reads, reads);
-}
-
-fn assert_end<S: Source>(
-    rt: &impl Abort,
-    found: &mut StreamTokens,
-    source: &mut S,
-    end: Option<StreamFault>,
-) {
-    match found.next_token(source) {
-        Ok(None) => assert_eq!(rt; None, end),
-        Err(fault) => assert_eq!(rt; Some(fault), end),
-        Ok(Some(token)) => panic!(rt; "the end, and no token at {}", token.place),
-    }
+    assert_eq!(rt;
+        cut(source, TEXT_LIMIT, tokens),
+        (None, [Ok(end); 3], [reads; 2])
+    );
 }
 
 /// 38 bytes.
@@ -146,19 +171,22 @@ const MARKS: [(&[u8], TokenKind); 4] = [
     (b"-", TokenKind::Minus),
 ];
 
+/// Whether the mark is given after one read, and the next call names the read after it, which fails.
+fn is_given_with_its_byte(text: &[u8], kind: TokenKind) -> bool {
+    let mut found = StreamTokens::new(TEXT_LIMIT);
+    let mut source = Pieces::new(text, 1, true);
+    let wrong = first_wrong(&mut found, &mut source, &[(kind, 0, text)]);
+    let given = (source.reads, source.failures);
+    let end = next_end(&mut found, &mut source);
+    let ended = (source.reads, source.failures);
+    (wrong, given, end, ended) == (None, (1, 0), Ok(Some(StreamFault::Device)), (2, 1))
+}
+
 /// Nothing prolongs a mark: it is given with its byte, and the read after it, which fails, comes with the next call.
 #[test]
 fn a_mark_is_given_with_its_byte(rt: HostRuntime) {
     for (text, kind) in MARKS {
-        let mut found = StreamTokens::new(TEXT_LIMIT);
-        let mut source = Pieces::new(text, 1, true);
-        match found.next_token(&mut source) {
-            Ok(Some(token)) => assert_eq!(rt; token.kind, kind),
-            _ => panic!(rt; "a mark"),
-        }
-        assert_eq!(rt; (source.reads, source.failures), (1, 0));
-        assert_end(&rt, &mut found, &mut source, Some(StreamFault::Device));
-        assert_eq!(rt; (source.reads, source.failures), (2, 1));
+        assert!(rt; is_given_with_its_byte(text, kind), "{kind:?}");
     }
 }
 
@@ -218,41 +246,37 @@ fn a_comment_longer_than_the_buffer(rt: HostRuntime) {
     }
 }
 
+/// The ends that tokens of at most 10,000 bytes of the same byte for ever come to, twice, and the reads.
+fn ends_of_endless(byte: u8) -> ([End; 2], u64) {
+    let mut source = ReaderSource::new(Endless::new(byte));
+    let mut found = StreamTokens::new(10_000);
+    let first = next_end(&mut found, &mut source);
+    let ends = [first, next_end(&mut found, &mut source)];
+    (ends, source.reader.reads)
+}
+
 /// A read gives 4,096 bytes, and the byte at the limit comes with the third.
 #[test]
 fn a_source_that_never_ends(rt: HostRuntime) {
-    let at_limit = Some(StreamFault::Token(TokenFault::TextTooLong(10_000)));
-    for byte in [b' ', b'#'] {
-        let mut source = ReaderSource::new(Endless::new(byte));
-        let mut found = StreamTokens::new(10_000);
-        assert_end(&rt, &mut found, &mut source, at_limit);
-        assert_end(&rt, &mut found, &mut source, at_limit);
-        assert_eq!(rt; source.reader.reads, 3);
+    for (byte, fault, reads) in [
+        (b' ', TokenFault::TextTooLong(10_000), 3),
+        (b'#', TokenFault::TextTooLong(10_000), 3),
+        (b'1', TokenFault::TokenTooLong(0), 1),
+    ] {
+        let end = Ok(Some(StreamFault::Token(fault)));
+        assert_eq!(rt; ends_of_endless(byte), ([end; 2], reads));
     }
-    let too_long = Some(StreamFault::Token(TokenFault::TokenTooLong(0)));
-    let mut digits = ReaderSource::new(Endless::new(b'1'));
-    assert_end(&rt, &mut StreamTokens::new(10_000), &mut digits, too_long);
-    assert_eq!(rt; digits.reader.reads, 1);
 }
 
 #[test]
 fn a_token_ends_at_the_limit(rt: HostRuntime) {
-    let mut found = StreamTokens::new(3);
-    let mut source = Pieces::new(b"abcd", 4, false);
-    match found.next_token(&mut source) {
-        Ok(Some(token)) => assert_eq!(rt; token.bytes, b"abc".as_slice()),
-        _ => panic!(rt; "a token"),
-    }
     let too_long = Some(StreamFault::Token(TokenFault::TextTooLong(3)));
-    assert_end(&rt, &mut found, &mut source, too_long);
-    assert_eq!(rt; source.reads, 1);
-    let mut found = StreamTokens::new(3);
-    let mut source = Pieces::new(b"abc", 1, false);
-    match found.next_token(&mut source) {
-        Ok(Some(token)) => assert_eq!(rt; token.bytes, b"abc".as_slice()),
-        _ => panic!(rt; "a token"),
+    for (text, most, end, reads) in [(b"abcd".as_slice(), 4, too_long, 1), (b"abc", 1, None, 4)] {
+        let found = cut(
+            &mut Pieces::new(text, most, false),
+            3,
+            &[(TokenKind::Name, 0, b"abc")],
+        );
+        assert_eq!(rt; found, (None, [Ok(end); 3], [reads; 2]));
     }
-    assert_end(&rt, &mut found, &mut source, None);
-    assert_end(&rt, &mut found, &mut source, None);
-    assert_eq!(rt; source.reads, 4);
 }

@@ -2,6 +2,32 @@
 use polcert_text::{TEXT_LIMIT, TokenFault, TokenKind, Tokens};
 use std::process::Abort;
 
+/// The first of these tokens, if any, that isn't the next one.
+fn first_wrong(found: &mut Tokens<'_>, tokens: &[(TokenKind, u64, &[u8])]) -> Option<u64> {
+    for &(kind, place, bytes) in tokens {
+        let is_next = match found.next_token() {
+            Some(Ok(it)) => {
+                (it.kind, it.place, it.bytes) == (kind, place, bytes)
+                    && it.stop.saturating_sub(place) == bytes.len() as u64
+            }
+            _ => false,
+        };
+        if !is_next {
+            return Some(place);
+        }
+    }
+    None
+}
+
+/// The end that comes next, or the place of a token that comes in its place.
+fn next_end(found: &mut Tokens<'_>) -> Result<Option<TokenFault>, u64> {
+    match found.next_token() {
+        None => Ok(None),
+        Some(Err(fault)) => Ok(Some(fault)),
+        Some(Ok(token)) => Err(token.place),
+    }
+}
+
 /// The tokens of the text are these, with their places, and then comes this end, again at each further call.
 fn assert_cut(
     rt: &impl Abort,
@@ -11,23 +37,9 @@ fn assert_cut(
     end: Option<TokenFault>,
 ) {
     let mut found = Tokens::new(text, limit);
-    for (kind, place, bytes) in tokens {
-        match found.next_token() {
-            Some(Ok(token)) => {
-                assert_eq!(rt; token.kind, *kind);
-                assert_eq!(rt; token.place, *place);
-                assert_eq!(rt; token.bytes, *bytes);
-                assert_eq!(rt; token.stop.saturating_sub(token.place), bytes.len() as u64);
-            }
-            _ => panic!(rt; "a token at {place}"),
-        }
-    }
+    assert_eq!(rt; first_wrong(&mut found, tokens), None);
     for _ in 0..3 {
-        match found.next_token() {
-            None => assert_eq!(rt; None, end),
-            Some(Err(fault)) => assert_eq!(rt; Some(fault), end),
-            Some(Ok(token)) => panic!(rt; "the end, and no token at {}", token.place),
-        }
+        assert_eq!(rt; next_end(&mut found), Ok(end));
     }
 }
 
@@ -62,20 +74,21 @@ fn tokens(rt: HostRuntime) {
     assert_cut(&rt, b"# T\n a#b\n#", TEXT_LIMIT, &[(Name, 5, b"a")], None);
 }
 
+const REFUSED: &[(&[u8], TokenFault)] = &[
+    (b"1e", TokenFault::Glued(0)),
+    (b"1e5x", TokenFault::Glued(0)),
+    (b"5e+", TokenFault::Glued(0)),
+    (b"1.2.3", TokenFault::Glued(0)),
+    (b"2_", TokenFault::Glued(0)),
+    (b".", TokenFault::BadByte(0)),
+    (b" ;", TokenFault::BadByte(1)),
+    (b"_a", TokenFault::BadByte(0)),
+];
+
 #[test]
 fn refusals(rt: HostRuntime) {
     use TokenKind::{Name, Numeral};
-    let rows = [
-        (b"1e".as_slice(), TokenFault::Glued(0)),
-        (b"1e5x".as_slice(), TokenFault::Glued(0)),
-        (b"5e+".as_slice(), TokenFault::Glued(0)),
-        (b"1.2.3".as_slice(), TokenFault::Glued(0)),
-        (b"2_".as_slice(), TokenFault::Glued(0)),
-        (b".".as_slice(), TokenFault::BadByte(0)),
-        (b" ;".as_slice(), TokenFault::BadByte(1)),
-        (b"_a".as_slice(), TokenFault::BadByte(0)),
-    ];
-    for (text, fault) in rows {
+    for &(text, fault) in REFUSED {
         assert_cut(&rt, text, TEXT_LIMIT, &[], Some(fault));
     }
     assert_cut(

@@ -1,7 +1,21 @@
 //! Sinks that take a byte at a time, fail or take nothing.
 use polcert_testing::{Failing, Taker};
 use polcert_text::{BUFFER_SIZE, BufferedSink, Sink, SinkFailed, SliceSink, WriterSink, write_all};
+use std::alloc::Global;
 use std::test::Fail;
+
+/// Writes the text to a taker: the answer, whether the taker took just these bytes, its failures and its writes.
+fn write_through(
+    alloc: Global,
+    failing: Failing,
+    text: &[u8],
+    taken: &[u8],
+) -> (Result<(), SinkFailed>, bool, u64, u64) {
+    let mut sink = WriterSink::new(Taker::new(alloc, failing));
+    let answer = write_all(&mut sink, text);
+    let is_taken = sink.writer.taken.as_slice() == taken;
+    (answer, is_taken, sink.failures(), sink.writer.writes)
+}
 
 /// What a sink took before it failed is a beginning of the bytes. The failure was counted once, and the write is not tried
 /// again, though it would succeed then.
@@ -9,28 +23,29 @@ use std::test::Fail;
 fn fails_at_each_write(rt: HostRuntime) {
     let text = b"yes: start node 0";
     for failing in 0..17usize {
-        let mut sink = WriterSink::new(Taker::new(rt.alloc(), Failing::Fails(failing as u64)));
-        assert_eq!(rt; write_all(&mut sink, text), Err(SinkFailed));
-        assert_eq!(rt; sink.writer.taken.as_slice(), &text[..failing]);
-        assert_eq!(rt; sink.failures(), 1);
-        assert_eq!(rt; sink.writer.writes, failing as u64 + 1);
+        let number = failing as u64;
+        let found = write_through(rt.alloc(), Failing::Fails(number), text, &text[..failing]);
+        assert_eq!(rt; found, (Err(SinkFailed), true, 1, number + 1));
     }
-    let mut sink = WriterSink::new(Taker::new(rt.alloc(), Failing::Never));
-    assert_eq!(rt; write_all(&mut sink, text), Ok(()));
-    assert_eq!(rt; sink.writer.taken.as_slice(), text.as_slice());
-    assert_eq!(rt; sink.failures(), 0);
-    assert_eq!(rt; sink.writer.writes, 17);
+    let found = write_through(rt.alloc(), Failing::Never, text, text);
+    assert_eq!(rt; found, (Ok(()), true, 0, 17));
 }
 
 #[test]
 fn a_full_slice_fails(rt: HostRuntime) {
     let mut bytes = [0u8; 4];
     let mut sink = SliceSink::new(&mut bytes);
-    assert_eq!(rt; write_all(&mut sink, b"ab"), Ok(()));
-    assert_eq!(rt; write_all(&mut sink, b"cde"), Err(SinkFailed));
+    for (text, answer, failures) in [
+        (b"ab".as_slice(), Ok(()), 0),
+        (b"cde", Err(SinkFailed), 1),
+        (b"", Ok(()), 1),
+    ] {
+        assert_eq!(rt;
+            (write_all(&mut sink, text), sink.failures()),
+            (answer, failures)
+        );
+    }
     assert_eq!(rt; sink.written(), b"abcd".as_slice());
-    assert_eq!(rt; sink.failures(), 1);
-    assert_eq!(rt; write_all(&mut sink, b""), Ok(()));
 }
 
 #[test]
@@ -43,28 +58,43 @@ fn writes_to_a_writer_of_std(rt: HostRuntime) -> Result<(), Fail> {
     Ok(())
 }
 
+/// Writes the text: the answer, and how often the sink failed and was written to until then.
+fn write_on(sink: &mut WriterSink<Taker>, text: &[u8]) -> (Result<(), SinkFailed>, u64, u64) {
+    let answer = write_all(sink, text);
+    (answer, sink.failures(), sink.writer.writes)
+}
+
 /// A write that took nothing failed: it is not tried again, though it would succeed then. Nothing is written in no write.
 #[test]
 fn a_write_of_nothing_fails(rt: HostRuntime) {
     let mut sink = WriterSink::new(Taker::new(rt.alloc(), Failing::TakesNothing(0)));
-    assert_eq!(rt; write_all(&mut sink, b"a"), Err(SinkFailed));
-    assert_eq!(rt; (sink.failures(), sink.writer.writes), (1, 1));
-    assert_eq!(rt; write_all(&mut sink, b""), Ok(()));
-    assert_eq!(rt; (sink.failures(), sink.writer.writes), (1, 1));
-    assert_eq!(rt; write_all(&mut sink, b"b"), Ok(()));
-    assert_eq!(rt; (sink.failures(), sink.writer.writes), (1, 2));
+    for (text, found) in [
+        (b"a".as_slice(), (Err(SinkFailed), 1, 1)),
+        (b"", (Ok(()), 1, 1)),
+        (b"b", (Ok(()), 1, 2)),
+    ] {
+        assert_eq!(rt; write_on(&mut sink, text), found);
+    }
+}
+
+/// Writes the piece once: the answer, and how often the sink failed and was written to until then.
+fn write_once(sink: &mut WriterSink<Taker>, piece: &[u8]) -> (Result<usize, SinkFailed>, u64, u64) {
+    let answer = sink.write(piece);
+    (answer, sink.failures(), sink.writer.writes)
 }
 
 /// One write of a sink over a writer of std is one write of the writer, also of an empty piece, of which nothing is taken.
 #[test]
 fn one_write_for_one_write(rt: HostRuntime) {
     let mut sink = WriterSink::new(Taker::new(rt.alloc(), Failing::TakesNothing(0)));
-    assert_eq!(rt; sink.write(b""), Ok(0));
-    assert_eq!(rt; (sink.failures(), sink.writer.writes), (0, 1));
+    assert_eq!(rt; write_once(&mut sink, b""), (Ok(0), 0, 1));
     let mut sink = WriterSink::new(Taker::new(rt.alloc(), Failing::Fails(1)));
-    assert_eq!(rt; sink.write(b"ab"), Ok(1));
-    assert_eq!(rt; sink.write(b"b"), Err(SinkFailed));
-    assert_eq!(rt; (sink.failures(), sink.writer.writes), (1, 2));
+    for (piece, found) in [
+        (b"ab".as_slice(), (Ok(1), 0, 1)),
+        (b"b", (Err(SinkFailed), 1, 2)),
+    ] {
+        assert_eq!(rt; write_once(&mut sink, piece), found);
+    }
     assert_eq!(rt; sink.writer.taken.as_slice(), b"a".as_slice());
 }
 
@@ -132,25 +162,49 @@ fn a_buffer_writes_whole_pieces(rt: HostRuntime) {
     }
 }
 
+/// Writes the bytes, or flushes: the answer, how much was written to the sink below, whether these bytes are held, and the
+/// failures.
+fn call_buffer(
+    buffered: &mut BufferedSink<'_, SliceSink<'_>>,
+    bytes: Option<&[u8]>,
+    held: &[u8],
+) -> (Result<(), SinkFailed>, usize, bool, u64) {
+    let answer = match bytes {
+        Some(bytes) => write_all(buffered, bytes),
+        None => buffered.flush(),
+    };
+    let is_held = buffered.held.as_bytes() == held;
+    (
+        answer,
+        buffered.sink.written().len(),
+        is_held,
+        buffered.failures(),
+    )
+}
+
 /// A piece longer than the buffer goes through it in parts; nothing is written to the sink below before it is flushed or
 /// full, and a flush of nothing writes nothing.
 #[test]
 fn a_buffer_holds_back(rt: HostRuntime) {
+    let many = [b'x'; 4990];
+    let calls = [
+        (
+            Some(b"a line".as_slice()),
+            b"a line".as_slice(),
+            (Ok(()), 0, true, 0),
+        ),
+        (None, b"", (Ok(()), 6, true, 0)),
+        (None, b"", (Ok(()), 6, true, 0)),
+        (Some(&many), &many[..894], (Ok(()), 6 + 4096, true, 0)),
+        (None, b"", (Ok(()), 4996, true, 0)),
+        (Some(b"12345"), b"12345", (Ok(()), 4996, true, 0)),
+        (None, b"", (Err(SinkFailed), 5000, true, 1)),
+    ];
     let mut room = [0u8; 5000];
     let mut sink = SliceSink::new(&mut room);
     let mut buffered = BufferedSink::new(&mut sink);
-    assert_eq!(rt; write_all(&mut buffered, b"a line"), Ok(()));
-    assert_eq!(rt; buffered.sink.written().len(), 0);
-    assert_eq!(rt; buffered.held.as_bytes(), b"a line".as_slice());
-    assert_eq!(rt; buffered.flush(), Ok(()));
-    assert_eq!(rt; buffered.sink.written(), b"a line".as_slice());
-    assert_eq!(rt; buffered.flush(), Ok(()));
-    assert_eq!(rt; write_all(&mut buffered, &[b'x'; 4990]), Ok(()));
-    assert_eq!(rt; buffered.sink.written().len(), 6 + 4096);
-    assert_eq!(rt; buffered.flush(), Ok(()));
-    assert_eq!(rt; write_all(&mut buffered, b"12345"), Ok(()));
-    assert_eq!(rt; buffered.flush(), Err(SinkFailed));
-    assert_eq!(rt; buffered.failures(), 1);
-    assert_eq!(rt; buffered.held.as_bytes().len(), 0);
-    assert_eq!(rt; buffered.sink.written().len(), 5000);
+    for (bytes, held, found) in calls {
+        assert_eq!(rt; call_buffer(&mut buffered, bytes, held), found);
+    }
+    assert_eq!(rt; &room[..6], b"a line".as_slice());
 }
