@@ -1,5 +1,4 @@
-ghost use Rattle.std.specs.Prelude.{◌≤◌, IsTrue, negsuc};
-ghost use Rattle.polcert_cells.specs.Elements.{most_actions, most_observations};
+ghost use Rattle.std.specs.Prelude.{IsTrue, negsuc};
 ghost use Rattle.polcert_policy.specs.Vectors.{CanShift};
 
 mod actions;
@@ -10,32 +9,97 @@ use polcert_policy::{
     write_vectors,
 };
 use polcert_text::{NumberFault, SliceSink, TokenFault};
-use std::alloc::Global;
-use std::test::Fail;
+use std::alloc::{AllocError, Global};
 
-/// How the text is refused as a graph.
-fn graph_fault(
-    alloc: Global,
-    text: &[u8],
-    actions: usize,
-    observations: usize,
-) -> Option<GraphFault>
-    requires some_actions { 1 ≤ actions }
-    requires few_actions { actions ≤ most_actions }
-    requires some_observations { 1 ≤ observations }
-    requires few_observations { observations ≤ most_observations }
-{
-    read_graph(alloc, text, actions, observations).err()
+/// How the text is refused as a graph of three actions and two observations.
+fn graph_fault(alloc: Global, text: &[u8]) -> Option<GraphFault> {
+    read_graph(alloc, text, 3, 2).err()
 }
 
-/// How the text is refused as vectors over two states of a graph with one node of action 0.
-fn vector_fault(alloc: Global, text: &[u8]) -> Result<Option<VectorFault>, GraphFault> {
-    let graph = read_graph(alloc, b"0 0 0 0", 3, 2)?;
-    Ok(read_vectors(alloc, text, &graph, 2).err())
+/// The same of a graph of one action.
+fn single_action_fault(alloc: Global, text: &[u8]) -> Option<GraphFault> {
+    read_graph(alloc, text, 1, 2).err()
+}
+
+/// The same of a graph of one action and one observation.
+fn single_fault(alloc: Global, text: &[u8]) -> Option<GraphFault> {
+    read_graph(alloc, text, 1, 1).err()
+}
+
+/// A value of the vectors, if there are such a node and state.
+fn value_at(vectors: &Vectors, node: usize, state: usize) -> Option<i64> {
+    if node < vectors.nodes() && state < vectors.states() {
+        Some(vectors.at(node, state))
+    } else {
+        None
+    }
+}
+
+/// The successor of a node after an observation, if there are these.
+fn next_of(graph: &Graph, node: usize, observation: usize) -> Option<Option<usize>> {
+    if node < graph.nodes() && observation < graph.observations() {
+        Some(graph.next(node, observation))
+    } else {
+        None
+    }
+}
+
+/// The action of a node, if there is this node.
+fn action_of(graph: &Graph, node: usize) -> Option<usize> {
+    if node < graph.nodes() {
+        Some(graph.action(node))
+    } else {
+        None
+    }
+}
+
+/// The two values of a single vector over two states.
+fn two_values(vectors: &Vectors) -> Option<[i64; 2]> {
+    if vectors.nodes() == 1 && vectors.states() == 2 {
+        Some([value_at(vectors, 0, 0)?, value_at(vectors, 0, 1)?])
+    } else {
+        None
+    }
+}
+
+/// The two values that the text has over two states for a graph with one node of action 0, or how it is refused.
+type Found = Option<Result<Option<[i64; 2]>, VectorFault>>;
+
+/// What the text is as such vectors, whose values are rounded down.
+fn read_down(alloc: Global, text: &[u8]) -> Found {
+    let graph = read_graph(alloc, b"0 0 0 0", 3, 2).ok()?;
+    match read_vectors(alloc, text, &graph, 2) {
+        Ok(vectors) => Some(Ok(two_values(&vectors))),
+        Err(fault) => Some(Err(fault)),
+    }
+}
+
+/// The same of values rounded up.
+fn read_up(alloc: Global, text: &[u8]) -> Found {
+    let graph = read_graph(alloc, b"0 0 0 0", 3, 2).ok()?;
+    match read_vectors_up(alloc, text, &graph, 2) {
+        Ok(vectors) => Some(Ok(two_values(&vectors))),
+        Err(fault) => Some(Err(fault)),
+    }
+}
+
+/// Whether writing the vectors to the sink ends so, and this stands in it then.
+fn is_written(
+    graph: &Graph,
+    vectors: &Vectors,
+    sink: &mut SliceSink<'_>,
+    ends_well: bool,
+    want: &[u8],
+) -> bool {
+    if graph.nodes() == vectors.nodes() {
+        write_vectors(graph, vectors, sink).is_ok() == ends_well && sink.written() == want
+    } else {
+        false
+    }
 }
 
 /// A graph text of so many nodes, each of which leads to node 0.
-fn nodes_text(alloc: Global, count: usize) -> Result<String, Fail> {
+fn nodes_text(alloc: Global, count: usize) -> Result<String, AllocError> {
     let mut text = String::new(alloc);
     for node in 0..count {
         text.push_str(format!(in alloc; "{node} 0 0 ")?.as_str())?;
@@ -43,238 +107,235 @@ fn nodes_text(alloc: Global, count: usize) -> Result<String, Fail> {
     Ok(text)
 }
 
-#[test]
-fn refused_graphs(rt: HostRuntime) -> Result<(), Fail> {
-    let alloc = rt.alloc();
-    for (text, want) in [
-        (b"0 0 -1 0".as_slice(), GraphFault::BadShape(4)),
-        (
-            b"0 0 0 1",
-            GraphFault::SuccessorOutOfRange {
-                node: 0,
-                observation: 1,
-            },
-        ),
-        (
-            b"0 0 0 0 1 0 0 3 2 0 1 99999999999999999999",
-            GraphFault::SuccessorOutOfRange {
-                node: 1,
-                observation: 1,
-            },
-        ),
-        (b"0 0 0 0 0 0 0 0", GraphFault::NodeOutOfOrder(8)),
-        (b"0 0 0 0 2", GraphFault::NodeOutOfOrder(8)),
-        (b"", GraphFault::NoNodes(0)),
-        (b" # nothing\n", GraphFault::NoNodes(11)),
-        (b"0 0 0", GraphFault::Truncated(5)),
-        (b"0 0 0 0 1\n", GraphFault::Truncated(10)),
-        (b"0 3 0 0", GraphFault::ActionOutOfRange(2)),
-        (b"0 0 0 ;", GraphFault::Token(TokenFault::BadByte(6))),
-        (b"0 0 0 -0x", GraphFault::Token(TokenFault::Glued(7))),
-        (b"0 0 0 x", GraphFault::BadShape(6)),
-        (b"0 0 0 1.5", GraphFault::BadShape(6)),
-        (b"0 0 0 +", GraphFault::BadShape(6)),
-        (b"0 0 0 0 - 0", GraphFault::BadShape(8)),
-        (b"0 0 0 -0", GraphFault::BadShape(6)),
-        (b"0 0 - x", GraphFault::BadShape(6)),
-        (b"0 X 0 0", GraphFault::BadShape(2)),
-    ] {
-        assert_eq!(rt; graph_fault(alloc, text, 3, 2), Some(want));
-    }
-    Ok(())
-}
+const REFUSED_GRAPHS: &[(&[u8], GraphFault)] = &[
+    (b"0 0 -1 0", GraphFault::BadShape(4)),
+    (
+        b"0 0 0 1",
+        GraphFault::SuccessorOutOfRange {
+            node: 0,
+            observation: 1,
+        },
+    ),
+    (
+        b"0 0 0 0 1 0 0 3 2 0 1 99999999999999999999",
+        GraphFault::SuccessorOutOfRange {
+            node: 1,
+            observation: 1,
+        },
+    ),
+    (b"0 0 0 0 0 0 0 0", GraphFault::NodeOutOfOrder(8)),
+    (b"0 0 0 0 2", GraphFault::NodeOutOfOrder(8)),
+    (b"", GraphFault::NoNodes(0)),
+    (b" # nothing\n", GraphFault::NoNodes(11)),
+    (b"0 0 0", GraphFault::Truncated(5)),
+    (b"0 0 0 0 1\n", GraphFault::Truncated(10)),
+    (b"0 3 0 0", GraphFault::ActionOutOfRange(2)),
+    (b"0 0 0 ;", GraphFault::Token(TokenFault::BadByte(6))),
+    (b"0 0 0 -0x", GraphFault::Token(TokenFault::Glued(7))),
+    (b"0 0 0 x", GraphFault::BadShape(6)),
+    (b"0 0 0 1.5", GraphFault::BadShape(6)),
+    (b"0 0 0 +", GraphFault::BadShape(6)),
+    (b"0 0 0 0 - 0", GraphFault::BadShape(8)),
+    (b"0 0 0 -0", GraphFault::BadShape(6)),
+    (b"0 0 - x", GraphFault::BadShape(6)),
+    (b"0 X 0 0", GraphFault::BadShape(2)),
+];
 
 #[test]
-fn accepted_graphs(rt: HostRuntime) -> Result<(), Fail> {
-    let alloc = rt.alloc();
-    for text in [
-        b"0 0 0 -".as_slice(),
-        b"0 0 0 X",
-        b"0 0 - 0",
-        b"0 0 - # none\n0 # trailing",
-        b"0\n0\n0\n0",
-        b"00 0 000 - \n",
-    ] {
-        assert_eq!(rt; graph_fault(alloc, text, 1, 2), None);
-    }
-    Ok(())
-}
-
-/// Whether a node of a graph with two observations has this action and these successors.
-fn leads(graph: &Graph, node: usize, action: usize, next: [Option<usize>; 2]) -> bool {
-    if node < graph.nodes() && graph.observations() == 2 {
-        graph.action(node) == action && [graph.next(node, 0), graph.next(node, 1)] == next
-    } else {
-        false
+fn refused_graphs(rt: HostRuntime) {
+    for &(text, want) in REFUSED_GRAPHS {
+        assert_eq!(rt; graph_fault(rt.alloc(), text), Some(want));
     }
 }
 
+const ACCEPTED_GRAPHS: &[&[u8]] = &[
+    b"0 0 0 -",
+    b"0 0 0 X",
+    b"0 0 - 0",
+    b"0 0 - # none\n0 # trailing",
+    b"0\n0\n0\n0",
+    b"00 0 000 - \n",
+];
+
 #[test]
-fn graph_readers(rt: HostRuntime) -> Result<(), Fail> {
-    let graph = read_graph(rt.alloc(), b"0 2 - X\n1 0 0 001 # end", 3, 2)?;
-    assert_eq!(rt; graph.nodes(), 2);
-    assert_eq!(rt; graph.actions(), 3);
-    assert_eq!(rt; graph.observations(), 2);
-    assert!(rt; leads(&graph, 0, 2, [None, None]));
-    assert!(rt; leads(&graph, 1, 0, [Some(0), Some(1)]));
-    Ok(())
+fn accepted_graphs(rt: HostRuntime) {
+    for text in ACCEPTED_GRAPHS {
+        assert_eq!(rt; single_action_fault(rt.alloc(), text), None);
+    }
+}
+
+/// The action of a node and its successors after two observations.
+type Node = (Option<usize>, [Option<Option<usize>>; 2]);
+
+fn node_of(graph: &Graph, node: usize) -> Node {
+    let next = [next_of(graph, node, 0), next_of(graph, node, 1)];
+    (action_of(graph, node), next)
+}
+
+/// The counts of nodes, actions and observations of a graph, and its first two nodes.
+fn read_nodes(alloc: Global, text: &[u8]) -> Option<([usize; 3], [Node; 2])> {
+    let graph = read_graph(alloc, text, 3, 2).ok()?;
+    let counts = [graph.nodes(), graph.actions(), graph.observations()];
+    Some((counts, [node_of(&graph, 0), node_of(&graph, 1)]))
 }
 
 #[test]
-fn most_nodes(rt: HostRuntime) -> Result<(), Fail> {
-    let alloc = rt.alloc();
-    let enough = nodes_text(alloc, 10_000)?;
-    assert_eq!(rt; enough.len(), 88_890);
-    assert_eq!(rt; graph_fault(alloc, enough.as_bytes(), 1, 1), None);
-    let further = nodes_text(alloc, 10_001)?;
+fn graph_readers(rt: HostRuntime) {
+    let nodes = [
+        (Some(2), [Some(None), Some(None)]),
+        (Some(0), [Some(Some(0)), Some(Some(1))]),
+    ];
     assert_eq!(rt;
-        graph_fault(alloc, further.as_bytes(), 1, 1),
-        Some(GraphFault::TooManyNodes(88_890))
+        read_nodes(rt.alloc(), b"0 2 - X\n1 0 0 001 # end"),
+        Some(([2, 3, 2], nodes))
     );
-    Ok(())
+}
+
+/// The length of the text of so many nodes, and how it is refused.
+fn fault_of_nodes(alloc: Global, count: usize) -> Option<(usize, Option<GraphFault>)> {
+    let text = nodes_text(alloc, count).ok()?;
+    Some((text.len(), single_fault(alloc, text.as_bytes())))
 }
 
 #[test]
-fn refused_vectors(rt: HostRuntime) -> Result<(), Fail> {
-    let alloc = rt.alloc();
-    for (text, want) in [
-        (b"0 -20 -".as_slice(), VectorFault::Truncated(7)),
-        (b"0 1.3333333", VectorFault::Truncated(11)),
-        (b"0 -20 -20 0 -20 -20", VectorFault::WrongVectorCount(10)),
-        (b"0 -20 -20 x", VectorFault::WrongVectorCount(10)),
-        (b"", VectorFault::WrongVectorCount(0)),
-        (b"\n", VectorFault::WrongVectorCount(1)),
-        (b"1 -20 -20", VectorFault::ActionMismatch(0)),
-        (b"- 0 -20 -20", VectorFault::BadShape(0)),
-        (b"0.0 -20 -20", VectorFault::BadShape(0)),
-        (b"0 -20 x", VectorFault::BadShape(6)),
-        (b"0 -20 - x", VectorFault::BadShape(6)),
-        (b"0 -20 - + 5", VectorFault::BadShape(6)),
-        (b"0 -20 ;", VectorFault::Token(TokenFault::BadByte(6))),
-        (b"0 -20 -;", VectorFault::Token(TokenFault::BadByte(7))),
-        (
-            b"0 -20 -1e8",
-            VectorFault::Number {
-                fault: NumberFault::TooLarge,
-                place: 6,
-            },
-        ),
-        (
-            b"0 -20 1e401",
-            VectorFault::Number {
-                fault: NumberFault::TooLong,
-                place: 6,
-            },
-        ),
+fn most_nodes(rt: HostRuntime) {
+    for (count, len, fault) in [
+        (10_000, 88_890, None),
+        (10_001, 88_900, Some(GraphFault::TooManyNodes(88_890))),
     ] {
-        assert_eq!(rt; vector_fault(alloc, text)?, Some(want));
+        assert_eq!(rt; fault_of_nodes(rt.alloc(), count), Some((len, fault)));
     }
-    Ok(())
 }
 
-/// Whether the first vector has these two values.
-fn begins(vectors: &Vectors, values: [i64; 2]) -> bool {
-    if vectors.nodes() > 0 && vectors.states() == 2 {
-        [vectors.at(0, 0), vectors.at(0, 1)] == values
-    } else {
-        false
-    }
-}
+const REFUSED_VECTORS: &[(&[u8], VectorFault)] = &[
+    (b"0 -20 -", VectorFault::Truncated(7)),
+    (b"0 1.3333333", VectorFault::Truncated(11)),
+    (b"0 -20 -20 0 -20 -20", VectorFault::WrongVectorCount(10)),
+    (b"0 -20 -20 x", VectorFault::WrongVectorCount(10)),
+    (b"", VectorFault::WrongVectorCount(0)),
+    (b"\n", VectorFault::WrongVectorCount(1)),
+    (b"1 -20 -20", VectorFault::ActionMismatch(0)),
+    (b"- 0 -20 -20", VectorFault::BadShape(0)),
+    (b"0.0 -20 -20", VectorFault::BadShape(0)),
+    (b"0 -20 x", VectorFault::BadShape(6)),
+    (b"0 -20 - x", VectorFault::BadShape(6)),
+    (b"0 -20 - + 5", VectorFault::BadShape(6)),
+    (b"0 -20 ;", VectorFault::Token(TokenFault::BadByte(6))),
+    (b"0 -20 -;", VectorFault::Token(TokenFault::BadByte(7))),
+    (
+        b"0 -20 -1e8",
+        VectorFault::Number {
+            fault: NumberFault::TooLarge,
+            place: 6,
+        },
+    ),
+    (
+        b"0 -20 1e401",
+        VectorFault::Number {
+            fault: NumberFault::TooLong,
+            place: 6,
+        },
+    ),
+];
 
 #[test]
-fn accepted_vectors(rt: HostRuntime) -> Result<(), Fail> {
-    let alloc = rt.alloc();
-    let graph = read_graph(alloc, b"0 0 0 0", 3, 2)?;
-    for (text, want) in [
-        (b"0 - 20 + 5".as_slice(), [-20_000_000, 5_000_000]),
-        (b"0 1.3333333 0.6666667", [1_333_333, 666_666]),
-        (
-            b"0 -19.9999999999999964 -19.9999999999999964",
-            [-20_000_000, -20_000_000],
-        ),
-        (
-            b"0\n19.3713683559737184225468809 19.3713683559737184225468809 \n\n",
-            [19_371_368, 19_371_368],
-        ),
-        (
-            b"0 # listen\n-1e-25 - # minus\n 0.0000000000000000000000001",
-            [-1, -1],
-        ),
-        (
-            b"0 10000000 -10000000",
-            [10_000_000_000_000, -10_000_000_000_000],
-        ),
-        (b"00 -0.0 .5", [0, 500_000]),
-    ] {
-        let vectors = read_vectors(alloc, text, &graph, 2)?;
-        assert_eq!(rt; vectors.nodes(), 1);
-        assert_eq!(rt; vectors.states(), 2);
-        assert!(rt; begins(&vectors, want));
+fn refused_vectors(rt: HostRuntime) {
+    for &(text, want) in REFUSED_VECTORS {
+        assert_eq!(rt; read_down(rt.alloc(), text), Some(Err(want)));
     }
-    Ok(())
 }
 
-#[test]
-fn vectors_rounded_up(rt: HostRuntime) -> Result<(), Fail> {
-    let alloc = rt.alloc();
-    let graph = read_graph(alloc, b"0 0 0 0", 3, 2)?;
-    for (text, want) in [
-        (b"0 1.3333333 0.6666667".as_slice(), [1_333_334, 666_667]),
-        (
-            b"0 -19.9999999999999964 -1.9999999",
-            [-19_999_999, -1_999_999],
-        ),
-        (b"0 - 20 + 5", [-20_000_000, 5_000_000]),
-        (b"0 -1e-25 1e-25", [0, 1]),
-        (
-            b"0 10000000 -10000000",
-            [10_000_000_000_000, -10_000_000_000_000],
-        ),
-    ] {
-        let vectors = read_vectors_up(alloc, text, &graph, 2)?;
-        assert_eq!(rt; vectors.nodes(), 1);
-        assert_eq!(rt; vectors.states(), 2);
-        assert!(rt; begins(&vectors, want));
-    }
-    for (text, want) in [
-        (b"0 -20 -".as_slice(), VectorFault::Truncated(7)),
-        (
-            b"0 1 -10000000.0000001",
-            VectorFault::Number {
-                fault: NumberFault::TooLarge,
-                place: 4,
-            },
-        ),
-    ] {
-        assert_eq!(rt; read_vectors_up(alloc, text, &graph, 2).err(), Some(want));
-    }
-    Ok(())
-}
+/// Texts of vectors over two states, and their values rounded down.
+const ACCEPTED_VECTORS: &[(&[u8], [i64; 2])] = &[
+    (b"0 - 20 + 5", [-20_000_000, 5_000_000]),
+    (b"0 1.3333333 0.6666667", [1_333_333, 666_666]),
+    (
+        b"0 -19.9999999999999964 -19.9999999999999964",
+        [-20_000_000, -20_000_000],
+    ),
+    (
+        b"0\n19.3713683559737184225468809 19.3713683559737184225468809 \n\n",
+        [19_371_368, 19_371_368],
+    ),
+    (
+        b"0 # listen\n-1e-25 - # minus\n 0.0000000000000000000000001",
+        [-1, -1],
+    ),
+    (
+        b"0 10000000 -10000000",
+        [10_000_000_000_000, -10_000_000_000_000],
+    ),
+    (b"00 -0.0 .5", [0, 500_000]),
+];
 
 #[test]
-fn written_vectors(rt: HostRuntime) -> Result<(), Fail> {
-    let alloc = rt.alloc();
-    let graph = read_graph(alloc, b"0 0 0 - 1 2 - -", 3, 2)?;
-    for (text, want) in [
-        (
-            b"0 - 20 + 5 2 .5 0.0000019".as_slice(),
-            b"0\n-20 5\n\n2\n0.5 0.000001\n\n".as_slice(),
-        ),
-        (
-            b"0 1e7 -1e7 2 0 -0.25",
-            b"0\n10000000 -10000000\n\n2\n0 -0.25\n\n",
-        ),
-    ] {
-        let vectors = read_vectors(alloc, text, &graph, 2)?;
-        let mut buffer = [0u8; 64];
-        let mut sink = SliceSink::new(&mut buffer);
-        if graph.nodes() == vectors.nodes() {
-            assert!(rt; write_vectors(&graph, &vectors, &mut sink).is_ok());
-        }
-        assert_eq!(rt; sink.len, want.len());
-        assert_eq!(rt; &buffer[..want.len().min(64)], want);
+fn accepted_vectors(rt: HostRuntime) {
+    for &(text, want) in ACCEPTED_VECTORS {
+        assert_eq!(rt; read_down(rt.alloc(), text), Some(Ok(Some(want))));
     }
-    Ok(())
+}
+
+/// The same of values rounded up.
+const ROUNDED_UP: &[(&[u8], [i64; 2])] = &[
+    (b"0 1.3333333 0.6666667", [1_333_334, 666_667]),
+    (
+        b"0 -19.9999999999999964 -1.9999999",
+        [-19_999_999, -1_999_999],
+    ),
+    (b"0 - 20 + 5", [-20_000_000, 5_000_000]),
+    (b"0 -1e-25 1e-25", [0, 1]),
+    (
+        b"0 10000000 -10000000",
+        [10_000_000_000_000, -10_000_000_000_000],
+    ),
+];
+
+const REFUSED_UP: &[(&[u8], VectorFault)] = &[
+    (b"0 -20 -", VectorFault::Truncated(7)),
+    (
+        b"0 1 -10000000.0000001",
+        VectorFault::Number {
+            fault: NumberFault::TooLarge,
+            place: 4,
+        },
+    ),
+];
+
+#[test]
+fn vectors_rounded_up(rt: HostRuntime) {
+    for &(text, want) in ROUNDED_UP {
+        assert_eq!(rt; read_up(rt.alloc(), text), Some(Ok(Some(want))));
+    }
+    for &(text, want) in REFUSED_UP {
+        assert_eq!(rt; read_up(rt.alloc(), text), Some(Err(want)));
+    }
+}
+
+/// Whether the vectors of a graph of two nodes are written as this text.
+fn writes(alloc: Global, text: &[u8], want: &[u8]) -> Option<bool> {
+    let graph = read_graph(alloc, b"0 0 0 - 1 2 - -", 3, 2).ok()?;
+    let vectors = read_vectors(alloc, text, &graph, 2).ok()?;
+    let mut buffer = [0u8; 64];
+    let mut sink = SliceSink::new(&mut buffer);
+    Some(is_written(&graph, &vectors, &mut sink, true, want))
+}
+
+const WRITTEN: &[(&[u8], &[u8])] = &[
+    (
+        b"0 - 20 + 5 2 .5 0.0000019",
+        b"0\n-20 5\n\n2\n0.5 0.000001\n\n",
+    ),
+    (
+        b"0 1e7 -1e7 2 0 -0.25",
+        b"0\n10000000 -10000000\n\n2\n0 -0.25\n\n",
+    ),
+];
+
+#[test]
+fn written_vectors(rt: HostRuntime) {
+    for &(text, want) in WRITTEN {
+        assert_eq!(rt; writes(rt.alloc(), text, want), Some(true), "{text:?}");
+    }
 }
 
 /// Whether these are one vector of two values that may be lowered by a millionth.
@@ -298,32 +359,39 @@ fn can_lower(vectors: &Vectors) -> bool
     true
 }
 
-#[test]
-fn shifted_vectors(rt: HostRuntime) -> Result<(), Fail> {
-    let alloc = rt.alloc();
-    let graph = read_graph(alloc, b"0 0 0 0", 3, 2)?;
-    let vectors = read_vectors(alloc, b"0 -19.999999 5", &graph, 2)?;
-    if can_lower(&vectors) {
-        let lowered = vectors.shifted(alloc, -1)?;
-        assert_eq!(rt; lowered.nodes(), 1);
-        assert!(rt; begins(&lowered, [-20_000_000, 4_999_999]));
-        assert!(rt; begins(&vectors, [-19_999_999, 5_000_000]));
+/// The values less a millionth, and the values as they are.
+fn lowered_values(alloc: Global, vectors: &Vectors) -> Option<[[i64; 2]; 2]> {
+    if can_lower(vectors) {
+        let lowered = vectors.shifted(alloc, -1).ok()?;
+        Some([two_values(&lowered)?, two_values(vectors)?])
     } else {
-        assert!(rt; false, "the values are small");
+        None
     }
-    Ok(())
+}
+
+/// The same of a text of vectors.
+fn lowered_text(alloc: Global, text: &[u8]) -> Option<[[i64; 2]; 2]> {
+    let graph = read_graph(alloc, b"0 0 0 0", 3, 2).ok()?;
+    let vectors = read_vectors(alloc, text, &graph, 2).ok()?;
+    lowered_values(alloc, &vectors)
 }
 
 #[test]
-fn full_sink(rt: HostRuntime) -> Result<(), Fail> {
-    let alloc = rt.alloc();
-    let graph = read_graph(alloc, b"0 0 0 0", 3, 2)?;
-    let vectors = read_vectors(alloc, b"0 -20 5", &graph, 2)?;
+fn shifted_vectors(rt: HostRuntime) {
+    let want = [[-20_000_000, 4_999_999], [-19_999_999, 5_000_000]];
+    assert_eq!(rt; lowered_text(rt.alloc(), b"0 -19.999999 5"), Some(want));
+}
+
+/// Whether writing the vectors to a sink of five bytes fails after these.
+fn fails_after(alloc: Global, text: &[u8], front: &[u8]) -> Option<bool> {
+    let graph = read_graph(alloc, b"0 0 0 0", 3, 2).ok()?;
+    let vectors = read_vectors(alloc, text, &graph, 2).ok()?;
     let mut buffer = [0u8; 5];
     let mut sink = SliceSink::new(&mut buffer);
-    if graph.nodes() == vectors.nodes() {
-        assert!(rt; write_vectors(&graph, &vectors, &mut sink).is_err());
-    }
-    assert_eq!(rt; &buffer, b"0\n-20");
-    Ok(())
+    Some(is_written(&graph, &vectors, &mut sink, false, front))
+}
+
+#[test]
+fn full_sink(rt: HostRuntime) {
+    assert_eq!(rt; fails_after(rt.alloc(), b"0 -20 5", b"0\n-20"), Some(true));
 }

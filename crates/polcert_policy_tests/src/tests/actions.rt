@@ -1,12 +1,10 @@
 //! Vectors of which there is one for each action, from slices and from sources.
 
-use polcert_policy::{
-    Graph, VectorFault, Vectors, read_action_vectors, read_action_vectors_from, write_vectors,
-};
+use super::{action_of, is_written, value_at};
+use polcert_policy::{Graph, VectorFault, Vectors, read_action_vectors, read_action_vectors_from};
 use polcert_testing::Pieces;
 use polcert_text::{NumberFault, SliceSink, SourceFault, TokenFault};
 use std::alloc::Global;
-use std::test::Fail;
 
 /// Two actions and two states, 30 bytes.
 const VECTORS: &[u8] = b"0\n1.5 -2.25\n\n1 # last\n- 3 +.5\n";
@@ -16,8 +14,8 @@ type Values = [i64; 4];
 
 fn values_of(vectors: &Vectors) -> Option<Values> {
     if vectors.nodes() == 2 && vectors.states() == 2 {
-        let first = [vectors.at(0, 0), vectors.at(0, 1)];
-        let second = [vectors.at(1, 0), vectors.at(1, 1)];
+        let first = [value_at(vectors, 0, 0)?, value_at(vectors, 0, 1)?];
+        let second = [value_at(vectors, 1, 0)?, value_at(vectors, 1, 1)?];
         Some([first[0], first[1], second[0], second[1]])
     } else {
         None
@@ -32,75 +30,85 @@ fn read(alloc: Global, text: &[u8]) -> Result<Option<Values>, VectorFault> {
     }
 }
 
-/// The same of a source.
+/// The same of a source in pieces, and how often it failed and was read.
 fn read_from(
     alloc: Global,
-    source: &mut Pieces<'_>,
-) -> Result<Option<Values>, SourceFault<VectorFault>> {
-    match read_action_vectors_from(alloc, source, 2, 2) {
+    mut source: Pieces<'_>,
+) -> (Result<Option<Values>, SourceFault<VectorFault>>, (u64, u64)) {
+    let found = match read_action_vectors_from(alloc, &mut source, 2, 2) {
         Ok(vectors) => Ok(values_of(&vectors)),
         Err(fault) => Err(fault),
-    }
+    };
+    (found, (source.failures, source.reads))
 }
+
+/// Texts of vectors for two actions and two states, and their values.
+const ACCEPTED: &[(&[u8], Values)] = &[
+    (b"0 1 2 1 3 4", [1_000_000, 2_000_000, 3_000_000, 4_000_000]),
+    (VECTORS, [1_500_000, -2_250_000, -3_000_000, 500_000]),
+    (
+        b"0 1.3333333 -1.9999999\n01 1e-25 -1e-25",
+        [1_333_334, -1_999_999, 1, 0],
+    ),
+    (
+        b"0 10000000 -10000000 1 0 0 # no more",
+        [10_000_000_000_000, -10_000_000_000_000, 0, 0],
+    ),
+];
 
 #[test]
 fn one_vector_for_each_action(rt: HostRuntime) {
-    for (text, want) in [
-        (
-            b"0 1 2 1 3 4".as_slice(),
-            [1_000_000, 2_000_000, 3_000_000, 4_000_000],
-        ),
-        (VECTORS, [1_500_000, -2_250_000, -3_000_000, 500_000]),
-        (
-            b"0 1.3333333 -1.9999999\n01 1e-25 -1e-25",
-            [1_333_334, -1_999_999, 1, 0],
-        ),
-        (
-            b"0 10000000 -10000000 1 0 0 # no more",
-            [10_000_000_000_000, -10_000_000_000_000, 0, 0],
-        ),
-    ] {
+    for &(text, want) in ACCEPTED {
         assert_eq!(rt; read(rt.alloc(), text), Ok(Some(want)));
     }
 }
 
+const REFUSED: &[(&[u8], VectorFault)] = &[
+    (b"0 1 2 1 3 ;", VectorFault::Token(TokenFault::BadByte(10))),
+    (b"0 1 2 1 3 4x", VectorFault::Token(TokenFault::Glued(10))),
+    (
+        b"0 1 2 1 3 1e8",
+        VectorFault::Number {
+            fault: NumberFault::TooLarge,
+            place: 10,
+        },
+    ),
+    (
+        b"0 1 -10000000.0000001 1 3 4",
+        VectorFault::Number {
+            fault: NumberFault::TooLarge,
+            place: 4,
+        },
+    ),
+    (b"listen 1 2 1 3 4", VectorFault::BadShape(0)),
+    (b"0 1 2 -1 3 4", VectorFault::BadShape(6)),
+    (b"0 1 x 1 3 4", VectorFault::BadShape(4)),
+    (b"1 3 4 0 1 2", VectorFault::ActionMismatch(0)),
+    (b"0 1 2 0 1 2", VectorFault::ActionMismatch(6)),
+    (b"0 1 2 2 3 4", VectorFault::ActionMismatch(6)),
+    (b"0 1 2 1 3", VectorFault::Truncated(9)),
+    (b"0 1 2 1\n", VectorFault::Truncated(8)),
+    (b"", VectorFault::WrongVectorCount(0)),
+    (b"0 1 2", VectorFault::WrongVectorCount(5)),
+    (b"0 1 2 1 3 4 2 5 6", VectorFault::WrongVectorCount(12)),
+    (b"0 1 2 1 3 4 x", VectorFault::WrongVectorCount(12)),
+];
+
 #[test]
 fn refused_action_vectors(rt: HostRuntime) {
-    for (text, want) in [
-        (
-            b"0 1 2 1 3 ;".as_slice(),
-            VectorFault::Token(TokenFault::BadByte(10)),
-        ),
-        (b"0 1 2 1 3 4x", VectorFault::Token(TokenFault::Glued(10))),
-        (
-            b"0 1 2 1 3 1e8",
-            VectorFault::Number {
-                fault: NumberFault::TooLarge,
-                place: 10,
-            },
-        ),
-        (
-            b"0 1 -10000000.0000001 1 3 4",
-            VectorFault::Number {
-                fault: NumberFault::TooLarge,
-                place: 4,
-            },
-        ),
-        (b"listen 1 2 1 3 4", VectorFault::BadShape(0)),
-        (b"0 1 2 -1 3 4", VectorFault::BadShape(6)),
-        (b"0 1 x 1 3 4", VectorFault::BadShape(4)),
-        (b"1 3 4 0 1 2", VectorFault::ActionMismatch(0)),
-        (b"0 1 2 0 1 2", VectorFault::ActionMismatch(6)),
-        (b"0 1 2 2 3 4", VectorFault::ActionMismatch(6)),
-        (b"0 1 2 1 3", VectorFault::Truncated(9)),
-        (b"0 1 2 1\n", VectorFault::Truncated(8)),
-        (b"", VectorFault::WrongVectorCount(0)),
-        (b"0 1 2", VectorFault::WrongVectorCount(5)),
-        (b"0 1 2 1 3 4 2 5 6", VectorFault::WrongVectorCount(12)),
-        (b"0 1 2 1 3 4 x", VectorFault::WrongVectorCount(12)),
-    ] {
+    for &(text, want) in REFUSED {
         assert_eq!(rt; read(rt.alloc(), text), Err(want));
     }
+}
+
+/// Whether the text is read in pieces of this size as it is whole, and no read fails.
+fn is_alike(alloc: Global, text: &[u8], most: usize) -> bool {
+    let slice = match read(alloc, text) {
+        Ok(values) => Ok(values),
+        Err(fault) => Err(SourceFault::Refused(fault)),
+    };
+    let (found, (failures, _)) = read_from(alloc, Pieces::new(text, most, false));
+    found == slice && failures == 0
 }
 
 /// In pieces of any size, and cut at any length, a source is read as a slice is.
@@ -108,68 +116,57 @@ fn refused_action_vectors(rt: HostRuntime) {
 fn action_vectors_cut_anywhere(rt: HostRuntime) {
     for len in 0..=VECTORS.len() {
         let (front, _) = VECTORS.split_at(len);
-        let slice = match read(rt.alloc(), front) {
-            Ok(values) => Ok(values),
-            Err(fault) => Err(SourceFault::Refused(fault)),
-        };
         for most in [1usize, 3, 4096] {
-            let mut source = Pieces::new(front, most, false);
-            assert_eq!(rt; read_from(rt.alloc(), &mut source), slice, "cut at {len}");
-            assert_eq!(rt; source.failures, 0);
+            assert!(rt; is_alike(rt.alloc(), front, most), "cut at {len}");
         }
     }
 }
+
+const MISMATCH: SourceFault<VectorFault> = SourceFault::Refused(VectorFault::ActionMismatch(0));
+
+/// Texts, and the fault, failures and reads where their source fails after them, in pieces of one byte and whole.
+const FAILED: &[(&[u8], SourceFault<VectorFault>, u64, u64, u64)] = &[
+    (b"0 1 2 1 3", SourceFault::Device, 1, 10, 2),
+    (VECTORS, SourceFault::Device, 1, 31, 2),
+    (b"", SourceFault::Device, 1, 1, 1),
+    (b"1 2", MISMATCH, 0, 2, 1),
+];
 
 /// A read that fails midway, or at the end, is named, and the source isn't read again; a text that is refused before is refused.
 #[test]
 fn failed_action_vectors(rt: HostRuntime) {
-    let mismatch = SourceFault::Refused(VectorFault::ActionMismatch(0));
-    for (text, fault, failures, single_reads, whole_reads) in [
-        (
-            b"0 1 2 1 3".as_slice(),
-            SourceFault::Device,
-            1u64,
-            10u64,
-            2u64,
-        ),
-        (VECTORS, SourceFault::Device, 1, 31, 2),
-        (b"", SourceFault::Device, 1, 1, 1),
-        (b"1 2", mismatch, 0, 2, 1),
-    ] {
+    for &(text, fault, failures, single_reads, whole_reads) in FAILED {
         for (most, reads) in [(1usize, single_reads), (4096, whole_reads)] {
-            let mut source = Pieces::new(text, most, true);
-            assert_eq!(rt; read_from(rt.alloc(), &mut source), Err(fault));
-            assert_eq!(rt; (source.failures, source.reads), (failures, reads));
+            let found = read_from(rt.alloc(), Pieces::new(text, most, true));
+            assert_eq!(rt; found, (Err(fault), (failures, reads)));
         }
     }
 }
 
+/// The counts of the graph of so many actions, and the action of its node 999.
+fn graph_of(alloc: Global) -> Option<([usize; 3], Option<usize>)> {
+    let graph = Graph::of_actions(alloc, 1000).ok()?;
+    let counts = [graph.nodes(), graph.actions(), graph.observations()];
+    Some((counts, action_of(&graph, 999)))
+}
+
 /// As many actions as a model may have: each has a node that takes it.
 #[test]
-fn most_actions(rt: HostRuntime) -> Result<(), Fail> {
-    let graph = Graph::of_actions(rt.alloc(), 1000)?;
-    assert_eq!(rt; graph.nodes(), 1000);
-    assert_eq!(rt; graph.actions(), 1000);
-    assert_eq!(rt; graph.observations(), 1);
-    let last = if graph.nodes() == 1000 {
-        graph.action(999)
-    } else {
-        0
-    };
-    assert_eq!(rt; last, 999);
-    Ok(())
+fn most_actions(rt: HostRuntime) {
+    assert_eq!(rt; graph_of(rt.alloc()), Some(([1000, 1000, 1], Some(999))));
+}
+
+/// Whether VECTORS is written as this text.
+fn writes(alloc: Global, want: &[u8]) -> Option<bool> {
+    let graph = Graph::of_actions(alloc, 2).ok()?;
+    let vectors = read_action_vectors(alloc, VECTORS, 2, 2).ok()?;
+    let mut buffer = [0u8; 64];
+    let mut sink = SliceSink::new(&mut buffer);
+    Some(is_written(&graph, &vectors, &mut sink, true, want))
 }
 
 #[test]
-fn written_action_vectors(rt: HostRuntime) -> Result<(), Fail> {
-    let graph = Graph::of_actions(rt.alloc(), 2)?;
-    let vectors = read_action_vectors(rt.alloc(), VECTORS, 2, 2)?;
+fn written_action_vectors(rt: HostRuntime) {
     let want = b"0\n1.5 -2.25\n\n1\n-3 0.5\n\n".as_slice();
-    let mut buffer = [0u8; 64];
-    let mut sink = SliceSink::new(&mut buffer);
-    if graph.nodes() == vectors.nodes() {
-        assert!(rt; write_vectors(&graph, &vectors, &mut sink).is_ok());
-    }
-    assert_eq!(rt; sink.written(), want);
-    Ok(())
+    assert_eq!(rt; writes(rt.alloc(), want), Some(true));
 }

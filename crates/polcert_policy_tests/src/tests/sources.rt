@@ -1,5 +1,6 @@
 //! Policy files that come from a source, in any pieces.
 
+use super::{action_of, next_of, value_at};
 use polcert_policy::{
     Graph, GraphFault, VectorFault, Vectors, read_graph, read_graph_from, read_vectors,
     read_vectors_from, read_vectors_up, read_vectors_up_from,
@@ -15,120 +16,112 @@ const GRAPH: &[u8] = b"0 1 1 - # the first\n1 0 0 X";
 const VECTORS: &[u8] = b"1\n-1.5 2\n\n0\n0 0.25\n";
 
 /// The count of nodes, and the action and the successors of the first.
-type Node = (usize, usize, Option<usize>, Option<usize>);
-
-/// The first node of the graph over two actions and two observations, or how the text is refused.
-fn first_node(alloc: Global, source: &mut Pieces<'_>) -> Result<Node, SourceFault<GraphFault>> {
-    match read_graph_from(alloc, source, 2, 2) {
-        Ok(graph) => Ok(node_of(&graph)),
-        Err(fault) => Err(fault),
-    }
-}
+type Node = (usize, Option<usize>, [Option<Option<usize>>; 2]);
 
 fn node_of(graph: &Graph) -> Node {
-    if 0 < graph.nodes() && graph.observations() == 2 {
-        (
-            graph.nodes(),
-            graph.action(0),
-            graph.next(0, 0),
-            graph.next(0, 1),
-        )
-    } else {
-        (0, 0, None, None)
-    }
+    let next = [next_of(graph, 0, 0), next_of(graph, 0, 1)];
+    (graph.nodes(), action_of(graph, 0), next)
+}
+
+/// The first node of the graph over two actions and two observations, or how the text is refused, and how often its source
+/// failed and was read.
+fn first_node(
+    alloc: Global,
+    mut source: Pieces<'_>,
+) -> (Result<Node, SourceFault<GraphFault>>, (u64, u64)) {
+    let found = match read_graph_from(alloc, &mut source, 2, 2) {
+        Ok(graph) => Ok(node_of(&graph)),
+        Err(fault) => Err(fault),
+    };
+    (found, (source.failures, source.reads))
 }
 
 /// The first value of the vectors of `GRAPH` over two states, or how the text is refused.
-fn first_value(
-    alloc: Global,
-    source: &mut Pieces<'_>,
-) -> Option<Result<i64, SourceFault<VectorFault>>> {
-    let Ok(graph) = read_graph_from(alloc, &mut Pieces::new(GRAPH, 4096, false), 2, 2) else {
-        return None;
+type Value = Result<Option<i64>, SourceFault<VectorFault>>;
+
+/// Such a value, and how often the source failed and was read.
+fn first_value(alloc: Global, mut source: Pieces<'_>) -> Option<(Value, (u64, u64))> {
+    let graph = read_graph(alloc, GRAPH, 2, 2).ok()?;
+    let found = match read_vectors_from(alloc, &mut source, &graph, 2) {
+        Ok(vectors) => Ok(value_at(&vectors, 0, 0)),
+        Err(fault) => Err(fault),
     };
-    match read_vectors_from(alloc, source, &graph, 2) {
-        Ok(vectors) => Some(Ok(value_of(&vectors))),
-        Err(fault) => Some(Err(fault)),
-    }
+    Some((found, (source.failures, source.reads)))
 }
 
 /// The same where values are rounded up.
-fn first_value_up(
-    alloc: Global,
-    source: &mut Pieces<'_>,
-) -> Option<Result<i64, SourceFault<VectorFault>>> {
-    let Ok(graph) = read_graph_from(alloc, &mut Pieces::new(GRAPH, 4096, false), 2, 2) else {
-        return None;
+fn first_value_up(alloc: Global, mut source: Pieces<'_>) -> Option<(Value, (u64, u64))> {
+    let graph = read_graph(alloc, GRAPH, 2, 2).ok()?;
+    let found = match read_vectors_up_from(alloc, &mut source, &graph, 2) {
+        Ok(vectors) => Ok(value_at(&vectors, 0, 0)),
+        Err(fault) => Err(fault),
     };
-    match read_vectors_up_from(alloc, source, &graph, 2) {
-        Ok(vectors) => Some(Ok(value_of(&vectors))),
-        Err(fault) => Some(Err(fault)),
-    }
+    Some((found, (source.failures, source.reads)))
 }
 
-fn value_of(vectors: &Vectors) -> i64 {
-    if 0 < vectors.nodes() && 0 < vectors.states() {
-        vectors.at(0, 0)
-    } else {
-        0
-    }
-}
+/// The sizes of pieces, and the reads of GRAPH and of VECTORS.
+const READS: &[(usize, u64, u64)] = &[
+    (1, 28, 20),
+    (2, 15, 11),
+    (3, 10, 8),
+    (399, 2, 2),
+    (400, 2, 2),
+    (401, 2, 2),
+    (4095, 2, 2),
+    (4096, 2, 2),
+    (4097, 2, 2),
+];
 
 /// Each byte is read once, and after the last a read finds the end.
 #[test]
 fn the_same_in_any_pieces(rt: HostRuntime) {
-    for (most, graph_reads, vector_reads) in [
-        (1usize, 28u64, 20u64),
-        (2, 15, 11),
-        (3, 10, 8),
-        (399, 2, 2),
-        (400, 2, 2),
-        (401, 2, 2),
-        (4095, 2, 2),
-        (4096, 2, 2),
-        (4097, 2, 2),
-    ] {
-        let mut source = Pieces::new(GRAPH, most, false);
-        assert_eq!(rt;
-            first_node(rt.alloc(), &mut source),
-            Ok((2, 1, Some(1), None))
-        );
-        assert_eq!(rt; source.reads, graph_reads);
-        let mut source = Pieces::new(VECTORS, most, false);
-        assert_eq!(rt; first_value(rt.alloc(), &mut source), Some(Ok(-1_500_000)));
-        assert_eq!(rt; source.reads, vector_reads);
+    let node = (2, Some(1), [Some(Some(1)), Some(None)]);
+    for &(most, graph_reads, vector_reads) in READS {
+        let found = first_node(rt.alloc(), Pieces::new(GRAPH, most, false));
+        assert_eq!(rt; found, (Ok(node), (0, graph_reads)));
+        let found = first_value(rt.alloc(), Pieces::new(VECTORS, most, false));
+        assert_eq!(rt; found, Some((Ok(Some(-1_500_000)), (0, vector_reads))));
     }
 }
+
+const GLUED: SourceFault<GraphFault> = SourceFault::Refused(GraphFault::Token(TokenFault::Glued(
+    2,
+)));
+
+const EARLY: SourceFault<GraphFault> = SourceFault::Refused(GraphFault::Truncated(6));
+
+/// Texts of graphs, whether their source fails after them, and the fault, failures and reads, in pieces of one byte and whole.
+const FAILED_GRAPHS: &[(&[u8], bool, SourceFault<GraphFault>, u64, u64, u64)] = &[
+    (b"0 1x 1 -", true, GLUED, 0, 4, 1),
+    (GRAPH, true, SourceFault::Device, 1, 28, 2),
+    (b"0 1 1\n", false, EARLY, 0, 7, 2),
+];
 
 /// A text that is refused is read no further than to the token that is wrong, and a source that failed is not read again.
 #[test]
 fn refused_or_failed_graphs(rt: HostRuntime) {
-    let glued = SourceFault::Refused(GraphFault::Token(TokenFault::Glued(2)));
-    let early = SourceFault::Refused(GraphFault::Truncated(6));
-    for (text, fails, fault, failures, single_reads, whole_reads) in [
-        (b"0 1x 1 -".as_slice(), true, glued, 0u64, 4u64, 1u64),
-        (GRAPH, true, SourceFault::Device, 1, 28, 2),
-        (b"0 1 1\n", false, early, 0, 7, 2),
-    ] {
+    for &(text, fails, fault, failures, single_reads, whole_reads) in FAILED_GRAPHS {
         for (most, reads) in [(1usize, single_reads), (4096, whole_reads)] {
-            let mut source = Pieces::new(text, most, fails);
-            assert_eq!(rt; first_node(rt.alloc(), &mut source), Err(fault));
-            assert_eq!(rt; (source.failures, source.reads), (failures, reads));
+            let found = first_node(rt.alloc(), Pieces::new(text, most, fails));
+            assert_eq!(rt; found, (Err(fault), (failures, reads)));
         }
     }
 }
 
+const MISMATCH: SourceFault<VectorFault> = SourceFault::Refused(VectorFault::ActionMismatch(0));
+
+/// The same of texts of vectors, whose source fails.
+const FAILED_VECTORS: &[(&[u8], SourceFault<VectorFault>, u64, u64, u64)] = &[
+    (b"1 2", SourceFault::Device, 1, 4, 2),
+    (b"0 2", MISMATCH, 0, 2, 1),
+];
+
 #[test]
 fn refused_or_failed_vectors(rt: HostRuntime) {
-    let mismatch = SourceFault::Refused(VectorFault::ActionMismatch(0));
-    for (text, fault, failures, single_reads, whole_reads) in [
-        (b"1 2".as_slice(), SourceFault::Device, 1u64, 4u64, 2u64),
-        (b"0 2", mismatch, 0, 2, 1),
-    ] {
+    for &(text, fault, failures, single_reads, whole_reads) in FAILED_VECTORS {
         for (most, reads) in [(1usize, single_reads), (4096, whole_reads)] {
-            let mut source = Pieces::new(text, most, true);
-            assert_eq!(rt; first_value(rt.alloc(), &mut source), Some(Err(fault)));
-            assert_eq!(rt; (source.failures, source.reads), (failures, reads));
+            let found = first_value(rt.alloc(), Pieces::new(text, most, true));
+            assert_eq!(rt; found, Some((Err(fault), (failures, reads))));
         }
     }
 }
@@ -137,20 +130,26 @@ fn refused_or_failed_vectors(rt: HostRuntime) {
 #[test]
 fn rounded_up_in_any_pieces(rt: HostRuntime) {
     let text = b"1 -1.5000009 0 0 0 0".as_slice();
-    for most in [1usize, 3, 4096] {
-        let mut source = Pieces::new(text, most, false);
-        assert_eq!(rt; first_value(rt.alloc(), &mut source), Some(Ok(-1_500_001)));
-        let mut source = Pieces::new(text, most, false);
-        assert_eq!(rt;
-            first_value_up(rt.alloc(), &mut source),
-            Some(Ok(-1_500_000))
-        );
-        let mut source = Pieces::new(text, most, true);
-        assert_eq!(rt;
-            first_value_up(rt.alloc(), &mut source),
-            Some(Err(SourceFault::Device))
-        );
-        assert_eq!(rt; source.failures, 1);
+    for (most, reads) in [(1usize, 21u64), (3, 8), (4096, 2)] {
+        let found = [
+            first_value(rt.alloc(), Pieces::new(text, most, false)),
+            first_value_up(rt.alloc(), Pieces::new(text, most, false)),
+            first_value_up(rt.alloc(), Pieces::new(text, most, true)),
+        ];
+        let want = [
+            Some((Ok(Some(-1_500_001)), (0, reads))),
+            Some((Ok(Some(-1_500_000)), (0, reads))),
+            Some((Err(SourceFault::Device), (1, reads))),
+        ];
+        assert_eq!(rt; found, want);
+    }
+}
+
+/// The first node of the graph that the slice is, or how it is refused.
+fn slice_node(alloc: Global, text: &[u8]) -> Result<Node, SourceFault<GraphFault>> {
+    match read_graph(alloc, text, 2, 2) {
+        Ok(graph) => Ok(node_of(&graph)),
+        Err(fault) => Err(SourceFault::Refused(fault)),
     }
 }
 
@@ -160,16 +159,37 @@ fn rounded_up_in_any_pieces(rt: HostRuntime) {
 fn graphs_cut_anywhere(rt: HostRuntime) {
     for len in 0..=GRAPH.len() {
         let (front, _) = GRAPH.split_at(len);
-        let slice = match read_graph(rt.alloc(), front, 2, 2) {
-            Ok(graph) => Ok(node_of(&graph)),
-            Err(fault) => Err(SourceFault::Refused(fault)),
-        };
+        let slice = slice_node(rt.alloc(), front);
         for most in [1usize, 3, 4096] {
-            let mut source = Pieces::new(front, most, false);
-            assert_eq!(rt; first_node(rt.alloc(), &mut source), slice, "cut at {len}");
-            assert_eq!(rt; source.failures, 0);
+            let (found, (failures, _)) = first_node(rt.alloc(), Pieces::new(front, most, false));
+            assert_eq!(rt; (found, failures), (slice, 0), "cut at {len}");
         }
     }
+}
+
+/// The first value of the vectors that the slice is, or how it is refused.
+fn slice_value(alloc: Global, text: &[u8], graph: &Graph) -> Value {
+    match read_vectors(alloc, text, graph, 2) {
+        Ok(vectors) => Ok(value_at(&vectors, 0, 0)),
+        Err(fault) => Err(SourceFault::Refused(fault)),
+    }
+}
+
+/// The same where values are rounded up.
+fn slice_value_up(alloc: Global, text: &[u8], graph: &Graph) -> Value {
+    match read_vectors_up(alloc, text, graph, 2) {
+        Ok(vectors) => Ok(value_at(&vectors, 0, 0)),
+        Err(fault) => Err(SourceFault::Refused(fault)),
+    }
+}
+
+/// Whether the text is read in pieces of this size as its slice is, rounded down and up.
+fn is_alike(alloc: Global, text: &[u8], most: usize) -> Option<bool> {
+    let graph = read_graph(alloc, GRAPH, 2, 2).ok()?;
+    let (down, _) = first_value(alloc, Pieces::new(text, most, false))?;
+    let (up, _) = first_value_up(alloc, Pieces::new(text, most, false))?;
+    let is_down = down == slice_value(alloc, text, &graph);
+    Some(is_down && up == slice_value_up(alloc, text, &graph))
 }
 
 /// The same of vectors, rounded down and up.
@@ -177,74 +197,44 @@ fn graphs_cut_anywhere(rt: HostRuntime) {
 fn vectors_cut_anywhere(rt: HostRuntime) {
     for len in 0..=VECTORS.len() {
         let (front, _) = VECTORS.split_at(len);
-        let Ok(graph) = read_graph(rt.alloc(), GRAPH, 2, 2) else {
-            panic!(rt; "the graph is right");
-        };
-        let down = match read_vectors(rt.alloc(), front, &graph, 2) {
-            Ok(vectors) => Ok(value_of(&vectors)),
-            Err(fault) => Err(SourceFault::Refused(fault)),
-        };
-        let up = match read_vectors_up(rt.alloc(), front, &graph, 2) {
-            Ok(vectors) => Ok(value_of(&vectors)),
-            Err(fault) => Err(SourceFault::Refused(fault)),
-        };
         for most in [1usize, 3, 4096] {
-            let mut source = Pieces::new(front, most, false);
             assert_eq!(rt;
-                first_value(rt.alloc(), &mut source),
-                Some(down),
-                "cut at {len}"
-            );
-            let mut source = Pieces::new(front, most, false);
-            assert_eq!(rt;
-                first_value_up(rt.alloc(), &mut source),
-                Some(up),
+                is_alike(rt.alloc(), front, most),
+                Some(true),
                 "cut at {len}"
             );
         }
     }
 }
 
+const WHOLE_IN_THE_BUFFER: &[&[u8]] = &[
+    b"1 -12.3456789012345678901 0 0 0 0",
+    b"1 12.3456780000000000000 0 0 0 0",
+    b"1\n12.3456780000000000001\n0\n0 0 0\n",
+    b"1 -0.0000001 0 0 0 0",
+    b"1 -7 0 0 0 0",
+    b"1  2.5 0 0 0 0",
+    b"1 - 2.5 0 0 0 0",
+    b"1 -2.\t0 0 0 0",
+    b"1 +2.5e-3 0 0 0 0",
+    b"1 -9999999.9999999 0 0 0 0",
+    b"1 9999999 0 0 0 0",
+    b"1 10000000 0 0 0 0",
+    b"1 -10000000.0000001 0 0 0 0",
+    b"1 123456789012.5 0 0 0 0",
+    b"1 0.1234567x 0 0 0 0",
+    b"1 0.1.2 0 0 0 0",
+    b"1 --1 0 0 0 0",
+    b"1 1 0 1 0 0",
+    b"1 1 0 0 0 0 0",
+];
+
 /// Values that stand whole in the buffer, which are taken together, are read and refused as they are token by token.
 #[test]
 fn values_whole_in_the_buffer(rt: HostRuntime) {
-    let Ok(graph) = read_graph(rt.alloc(), GRAPH, 2, 2) else {
-        panic!(rt; "the graph is right");
-    };
-    for text in [
-        b"1 -12.3456789012345678901 0 0 0 0".as_slice(),
-        b"1 12.3456780000000000000 0 0 0 0",
-        b"1\n12.3456780000000000001\n0\n0 0 0\n",
-        b"1 -0.0000001 0 0 0 0",
-        b"1 -7 0 0 0 0",
-        b"1  2.5 0 0 0 0",
-        b"1 - 2.5 0 0 0 0",
-        b"1 -2.\t0 0 0 0",
-        b"1 +2.5e-3 0 0 0 0",
-        b"1 -9999999.9999999 0 0 0 0",
-        b"1 9999999 0 0 0 0",
-        b"1 10000000 0 0 0 0",
-        b"1 -10000000.0000001 0 0 0 0",
-        b"1 123456789012.5 0 0 0 0",
-        b"1 0.1234567x 0 0 0 0",
-        b"1 0.1.2 0 0 0 0",
-        b"1 --1 0 0 0 0",
-        b"1 1 0 1 0 0",
-        b"1 1 0 0 0 0 0",
-    ] {
-        let down = match read_vectors(rt.alloc(), text, &graph, 2) {
-            Ok(vectors) => Ok(value_of(&vectors)),
-            Err(fault) => Err(SourceFault::Refused(fault)),
-        };
-        let up = match read_vectors_up(rt.alloc(), text, &graph, 2) {
-            Ok(vectors) => Ok(value_of(&vectors)),
-            Err(fault) => Err(SourceFault::Refused(fault)),
-        };
+    for text in WHOLE_IN_THE_BUFFER {
         for most in [1usize, 7, 4096] {
-            let mut source = Pieces::new(text, most, false);
-            assert_eq!(rt; first_value(rt.alloc(), &mut source), Some(down));
-            let mut source = Pieces::new(text, most, false);
-            assert_eq!(rt; first_value_up(rt.alloc(), &mut source), Some(up));
+            assert_eq!(rt; is_alike(rt.alloc(), text, most), Some(true), "{text:?}");
         }
     }
 }
