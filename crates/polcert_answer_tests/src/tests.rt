@@ -9,6 +9,7 @@ use std::test::Fail;
 
 mod above;
 mod answers;
+mod bound;
 mod progress;
 mod runs;
 mod streams;

@@ -1,6 +1,6 @@
 //! The least constant by which vectors are raised.
 
-use crate::tests::{MOVES, vectors_of};
+use super::{MOVES, vectors_of};
 use polcert_model::{Model, read_model};
 use polcert_optimum::{InformedRaiseFault, fit_actions, least_informed_raise};
 use polcert_policy::Vectors;
