@@ -10,6 +10,7 @@ use std::test::Fail;
 mod above;
 mod answers;
 mod bound;
+mod lines;
 mod progress;
 mod runs;
 mod streams;
