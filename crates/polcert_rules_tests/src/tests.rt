@@ -86,18 +86,28 @@ fn filled(alloc: Global, costs: bool, lines: &[(&[usize], &[i64])]) -> Option<[i
     };
     let mut all = [0; CELLS];
     for step in 0..CELLS / 2 {
-        let mut seen = [99; 3];
-        let mut following = [99; 1];
-        rewards.fill(step / 4, step / 2 % 2, step % 2, 0, &mut seen);
-        rewards.fill(step / 4, step / 2 % 2, step % 2, 1, &mut following);
-        all[step * 2] = seen[0];
-        all[step * 2 + 1] = if seen[1] == following[0] {
-            following[0]
-        } else {
-            99
-        };
+        let [first, second] = filled_at(&rewards, step / 4, step / 2 % 2, step % 2);
+        all[step * 2] = first;
+        all[step * 2 + 1] = second;
     }
     Some(all)
+}
+
+fn filled_at(rewards: &Rewards, action: usize, start: usize, end: usize) -> [i64; 2]
+    requires shape { rewards.now.shape ≡ SHAPE }
+    requires action { action < 2 }
+    requires start { start < 2 }
+    requires end { end < 2 }
+{
+    let mut seen = [99; 3];
+    let mut following = [99; 1];
+    rewards.fill(action, start, end, 0, &mut seen);
+    rewards.fill(action, start, end, 1, &mut following);
+    if seen[1] == following[0] {
+        [seen[0], following[0]]
+    } else {
+        [seen[0], 99]
+    }
 }
 
 /// Each of the 28 patterns alone, with the rewards of all cells: by action, start state, end state and observation.
@@ -342,61 +352,45 @@ fn rewards_alike(rt: HostRuntime) {
     assert_eq!(rt; alike_at(alloc, &lines, 0, 1, 1), Some(Some(0)));
 }
 
-fn same_at(
-    alloc: Global,
-    lines: &[(&[usize], &[i64])],
-    action: usize,
-    start: usize,
-    other: usize,
-) -> Option<bool>
-    requires action { action < 2 }
-    requires start { start < 2 }
-    requires other { other < 2 }
-{
+fn same_at(alloc: Global, lines: &[Line], at: [usize; 3]) -> Option<bool> {
+    let [action, start, other] = at;
+    if action > 1 || start > 1 || other > 1 {
+        return None;
+    }
     match rewards(alloc, false, lines) {
         Ok(rewards) => Some(rewards.has_same(action, start, other)),
         Err(_) => None,
     }
 }
 
+/// A pattern and what is written.
+type Line = (&'static [usize], &'static [i64]);
+
+const SHARED: Line = (&[ANY, ANY, 1], &[1, 2]);
+
+const NAMED: Line = (&[0, 1, ANY, 1], &[3]);
+
+const OF_ONE_ACTION: Line = (&[0], &[1, 2, 3, 4, 5, 6, 7, 8]);
+
+/// Lines, an action and two states, and whether the rewards there are known to be the same.
+const SAME: &[(&[Line], [usize; 3], bool)] = &[
+    (&[], [0, 0, 1], true),
+    (&[SHARED], [0, 0, 1], true),
+    (&[SHARED, NAMED], [0, 0, 1], false),
+    (&[SHARED, NAMED], [0, 1, 0], false),
+    (&[SHARED, NAMED], [0, 0, 0], true),
+    (&[SHARED, NAMED], [1, 0, 1], true),
+    (&[SHARED, (&[ANY, 0], &[3, 4, 5, 6])], [1, 0, 1], false),
+    (&[OF_ONE_ACTION], [0, 0, 1], false),
+    (&[OF_ONE_ACTION], [1, 0, 1], true),
+    (&[(&[ANY], &[1, 2, 3, 4, 5, 6, 7, 8])], [1, 0, 1], false),
+];
+
 #[test]
 fn the_same_in_two_states(rt: HostRuntime) {
-    let alloc = rt.alloc();
-    let shared: (&[usize], &[i64]) = (&[ANY, ANY, 1], &[1, 2]);
-    assert_eq!(rt; same_at(alloc, &[], 0, 0, 1), Some(true));
-    assert_eq!(rt; same_at(alloc, &[shared], 0, 0, 1), Some(true));
-    assert_eq!(rt;
-        same_at(alloc, &[shared, (&[0, 1, ANY, 1], &[3])], 0, 0, 1),
-        Some(false)
-    );
-    assert_eq!(rt;
-        same_at(alloc, &[shared, (&[0, 1, ANY, 1], &[3])], 0, 1, 0),
-        Some(false)
-    );
-    assert_eq!(rt;
-        same_at(alloc, &[shared, (&[0, 1, ANY, 1], &[3])], 0, 0, 0),
-        Some(true)
-    );
-    assert_eq!(rt;
-        same_at(alloc, &[shared, (&[0, 1, ANY, 1], &[3])], 1, 0, 1),
-        Some(true)
-    );
-    assert_eq!(rt;
-        same_at(alloc, &[shared, (&[ANY, 0], &[3, 4, 5, 6])], 1, 0, 1),
-        Some(false)
-    );
-    assert_eq!(rt;
-        same_at(alloc, &[(&[0], &[1, 2, 3, 4, 5, 6, 7, 8])], 0, 0, 1),
-        Some(false)
-    );
-    assert_eq!(rt;
-        same_at(alloc, &[(&[0], &[1, 2, 3, 4, 5, 6, 7, 8])], 1, 0, 1),
-        Some(true)
-    );
-    assert_eq!(rt;
-        same_at(alloc, &[(&[ANY], &[1, 2, 3, 4, 5, 6, 7, 8])], 1, 0, 1),
-        Some(false)
-    );
+    for &(lines, at, is_same) in SAME {
+        assert_eq!(rt; same_at(rt.alloc(), lines, at), Some(is_same));
+    }
 }
 
 /// The common reward of a row, how many differ, and the first two that do.
@@ -422,7 +416,11 @@ fn row_at(
     match rewards.find_row(action, start, &mut cells) {
         None => Some(None),
         Some(common) => {
-            let pairs = cells.map(|cell| (cell.observation, cell.reward));
+            let [first, second] = cells;
+            let pairs = [
+                (first.observation, first.reward),
+                (second.observation, second.reward),
+            ];
             Some(Some((common.reward, common.exceptions, pairs)))
         }
     }
