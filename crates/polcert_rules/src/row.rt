@@ -1,13 +1,14 @@
 //! A row of T or O: the numbers of its entries, its single cells above 0, and both merged.
 ghost use Rattle.std.specs.Prelude.{◌≡◌, ◌+◌, ◌-◌, ◌*◌, ◌<◌, ◌≤◌, ◌↔◌, ◌⊎◌, ◌++◌, ◌^◌, ℕ, List, All};
-ghost use Rattle.std.specs.Prelude.{Contains, IfSome, OnOk, IfOk, Some, length, ◌==◌, slice_index};
+ghost use Rattle.std.specs.Prelude.{Contains, IfSome, IsTrue, OnOk, IfOk, Some, length, ◌==◌, slice_index};
 ghost use Rattle.std.specs.Prelude.{if◌then◌else◌};
 ghost use Rattle.polcert_rules.specs.declared.index.Rule.{Rule as R};
 ghost use Rattle.polcert_cells.specs.declared.entries.Entry.{Entry as E};
 ghost use Rattle.polcert_rules.specs.Keys.{key_base};
 ghost use Rattle.polcert_rules.specs.Steps.Newest.{AreKeyed, IsIndexOf, IsRising, IsNewest};
 ghost use Rattle.polcert_rules.specs.Steps.Rows.{HaveColumns, IsSingle, IsColumn, IsCell, columns_of};
-ghost use Rattle.polcert_rules.specs.Steps.Rows.{at_column};
+ghost use Rattle.polcert_rules.specs.Steps.Rows.{at_column, AreExact, HasSharedColumns, IsTableKey};
+ghost use Rattle.polcert_rules.specs.Steps.Zeros.{others_in};
 ghost use Rattle.polcert_rules.specs.Steps.Repeats.{IsWholeNumber};
 ghost use Rattle.polcert_rules.specs.Steps.Zeros.{AreOrdered, IsSplit, IsRowOf, covering_entry, newest_zero};
 ghost use Rattle.polcert_rules.specs.Steps.Zeros.{overrides, shown, shown_under};
@@ -60,7 +61,7 @@ impl<'a> Row<'a> {
             IsWholeNumber rules table action state whole → IsRowOf entries table action state row) }
     {
         let low = table_digit(table) * span(MOST_PLACES);
-        let cells = cells(alloc, split.nonzero_rules(), low, action, state)?;
+        let cells = cells(alloc, split, low, action, state)?;
         let zeros = row_zeros(split.zeros.as_slice(), low, action, state);
         Ok(Row {
             whole,
@@ -86,30 +87,55 @@ impl<'a> Row<'a> {
 /// Returns the single cells of the row at this action and state, by column: of each column the newest.
 pub(crate) fn cells(
     alloc: Global,
-    rules: &[Rule],
+    split: &SplitRules<'_>,
     low: u64,
     action: usize,
     state: usize,
 ) -> Result<Vec<Rule>, AllocError>
-    requires rising { IsRising rules.now }
-    requires room { low + key_base ^ 4 < 2 ^ 64 }
+    requires rising { IsRising (others_in split.now.others) }
+    requires exact { IsTrue split.now.is_exact → AreExact (others_in split.now.others) }
+    requires low { IsTableKey low }
     requires action { action + 2 < key_base }
     requires state { state + 2 < key_base }
     ensures rising { IfOk result (λ cells. IsRising cells.items) }
     ensures newest { IfOk result (λ cells. (c : ℕ) → c + 2 < key_base →
-        IsNewest rules.now (IsSingle low action state c) (at_column cells.items c)) }
-    ensures each { IfOk result (λ cells. All (IsCell rules.now low action state) cells.items) }
+        IsNewest (others_in split.now.others) (IsSingle low action state c) (at_column cells.items c)) }
+    ensures each { IfOk result (λ cells.
+        All (IsCell (others_in split.now.others) low action state) cells.items) }
 {
     let mut cells = Vec::new(alloc);
-    let action = action as u64 + 2;
-    let state = state as u64 + 2;
-    add_columns(&mut cells, rules, first_column(low, 1, 1))?;
-    add_columns(&mut cells, rules, first_column(low, 1, state))?;
-    add_columns(&mut cells, rules, first_column(low, action, 1))?;
-    add_columns(&mut cells, rules, first_column(low, action, state))?;
+    add_shared_columns(&mut cells, split, low, action, state)?;
+    let start = first_column(low, action as u64 + 2, state as u64 + 2);
+    add_columns(&mut cells, split.nonzero_rules(), start)?;
     cells.sort_unstable_by_key(|cell| cell.key);
     keep_newest_of_each(&mut cells);
     Ok(cells)
+}
+
+/// Puts the single cells of each action or of each state, in the row at this action and state, after the others.
+fn add_shared_columns(
+    cells: &mut Vec<Rule>,
+    split: &SplitRules<'_>,
+    low: u64,
+    action: usize,
+    state: usize,
+) -> Result<(), AllocError>
+    requires rising { IsRising (others_in split.now.others) }
+    requires exact { IsTrue split.now.is_exact → AreExact (others_in split.now.others) }
+    requires low { IsTableKey low }
+    requires action { action + 2 < key_base }
+    requires state { state + 2 < key_base }
+    ensures { OnOk result (HasSharedColumns (others_in split.now.others) low action state cells.old.items
+        cells.new.items) }
+{
+    if split.is_exact {
+        return Ok(());
+    }
+    let rules = split.nonzero_rules();
+    add_columns(cells, rules, first_column(low, 1, 1))?;
+    add_columns(cells, rules, first_column(low, 1, state as u64 + 2))?;
+    add_columns(cells, rules, first_column(low, action as u64 + 2, 1))?;
+    Ok(())
 }
 
 /// Puts the single cells that begin at this key after the others.

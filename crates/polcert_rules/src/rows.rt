@@ -7,7 +7,7 @@ ghost use Rattle.polcert_cells.specs.declared.elements.Cell.{Cell as C};
 ghost use Rattle.polcert_rules.specs.Keys.{key_base};
 ghost use Rattle.polcert_rules.specs.Steps.Newest.{IsIndexOf};
 ghost use Rattle.polcert_rules.specs.Steps.Shapes.{IsShapeOf, AreSound};
-ghost use Rattle.polcert_rules.specs.Steps.Repeats.{IsAsBefore};
+ghost use Rattle.polcert_rules.specs.Steps.Repeats.{IsAsBefore, IsWholeNumber};
 ghost use Rattle.polcert_cells.specs.BorrowedRows.{IsRowOf};
 ghost use Rattle.polcert_cells.specs.Sparse.{weight_at, IsSparse, scaled_cells};
 ghost use Rattle.polcert_rules.specs.Steps.Lists.{stored_cells, row_in, IsHeld};
@@ -197,9 +197,7 @@ fn action_rows(
 {
     let mut numbers = Vec::with_capacity(alloc, given.bodies.shape.states)?;
     for state in 0..given.bodies.shape.states {
-        let whole = given
-            .index
-            .newest_rule(given.table, &[action, state, NO_COLUMN]);
+        let whole = newest_whole(given, action, state);
         let row = Row::of(alloc, whole, given.split, given.table, action, state)?;
         let near = Near {
             here: numbers.as_slice(),
@@ -216,6 +214,21 @@ fn action_rows(
         numbers.extend_from_slice(&[number])?;
     }
     Ok(Ok(numbers))
+}
+
+/// Returns the number of the newest entry that covers the whole row, if one does.
+fn newest_whole(given: TableEntries<'_>, action: usize, state: usize) -> Option<usize>
+    requires given { AreGiven given }
+    requires action { action < given.bodies.shape.actions }
+    requires state { state < given.bodies.shape.states }
+    ensures { IsWholeNumber given.entry.index.now given.entry.table action state result }
+{
+    if given.split.is_exact {
+        return None;
+    }
+    given
+        .index
+        .newest_rule(given.table, &[action, state, NO_COLUMN])
 }
 
 /// Returns whether the rows of this action are known to be those of the action before it: no entry names one of the two.

@@ -3,7 +3,7 @@ ghost use Rattle.std.specs.Prelude.{◌≡◌, ◌+◌, ◌*◌, ◌-◌, ◌<�
 ghost use Rattle.std.specs.Prelude.{IfOk, length, slice_index};
 ghost use Rattle.polcert_rules.specs.Keys.{key_base};
 ghost use Rattle.polcert_rules.specs.Steps.Newest.{IsRising, IsNewest};
-ghost use Rattle.polcert_rules.specs.Steps.Rows.{IsSingle};
+ghost use Rattle.polcert_rules.specs.Steps.Rows.{AreExact, IsExactKey, IsSingle};
 ghost use Rattle.polcert_rules.specs.Steps.Zeros.{IsOrdered, AreOrdered, AreColumnsFrom, zero_in};
 ghost use Rattle.polcert_rules.specs.Steps.Zeros.{newest_zero, zero_of, gives_zero, is_zero, zeros_of};
 ghost use Rattle.polcert_rules.specs.Steps.Zeros.{others_of, others_in};
@@ -12,7 +12,8 @@ ghost use Rattle.polcert_cells.specs.EntryRefs.{entry_of};
 
 use crate::Rule;
 use crate::index::{
-    COLUMN, COLUMN_KEYS, first_at, first_column, max_option, rules_between, rules_from,
+    ACTION, COLUMN, COLUMN_KEYS, KEY_BASE, ROW, first_at, first_column, max_option, rules_between,
+    rules_from,
 };
 use polcert_cells::{BodyRef, Entries, EntryRef};
 use std::alloc::{AllocError, Global};
@@ -122,6 +123,8 @@ const CELL_PLACES: usize = 3;
 pub(crate) struct SplitRules<'a> {
     pub zeros: Vec<Rule>,
     pub others: Others<'a>,
+    /// Whether each rule names an action, a state and a column, so that it gives one cell of one row.
+    pub is_exact: bool,
 }
 
 /// The rules that are no zeros.
@@ -143,14 +146,23 @@ impl<'a> SplitRules<'a> {
         requires { All (λ (r : R). r.number < length entries.now) rules.now }
         ensures zeros { IfOk result (λ split. split.zeros.items ≡ zeros_of entries.now rules.now) }
         ensures others { IfOk result (λ split. others_in split.others ≡ others_of entries.now rules.now) }
+        ensures exact { IfOk result (λ split. IsTrue split.is_exact → AreExact rules.now) }
     {
         let zeros = zeros_of(alloc, rules, entries)?;
+        let is_exact = are_exact(rules);
         if zeros.is_empty() {
-            let others = Others::Borrowed(rules);
-            return Ok(SplitRules { zeros, others });
+            return Ok(SplitRules {
+                zeros,
+                others: Others::Borrowed(rules),
+                is_exact,
+            });
         }
         let others = Others::Listed(others_of(alloc, rules, entries)?);
-        Ok(SplitRules { zeros, others })
+        Ok(SplitRules {
+            zeros,
+            others,
+            is_exact,
+        })
     }
 
     /// Returns the rules that are no zeros.
@@ -162,6 +174,29 @@ impl<'a> SplitRules<'a> {
             Others::Listed(rules) => rules.as_slice(),
         }
     }
+}
+
+/// Returns whether each rule names an action, a state and a column.
+fn are_exact(rules: &[Rule]) -> bool
+    ensures { IsTrue result → AreExact rules.now }
+{
+    for rule in rules {
+        if !is_exact(rule.key) {
+            return false;
+        }
+    }
+    true
+}
+
+/// Tests whether the key names an action, a state and a column that a row may have.
+#[inline(always)]
+fn is_exact(key: u64) -> bool
+    ensures { IsTrue result → IsExactKey key }
+{
+    let column = key / COLUMN % KEY_BASE;
+    let state = key / ROW % KEY_BASE;
+    let action = key / ACTION % KEY_BASE;
+    column >= 2 && column < KEY_BASE - 1 && state >= 2 && action >= 2
 }
 
 /// Returns the zeros among these rules.

@@ -1,5 +1,5 @@
 -- Rows as they are built, action by action and state by state.
-use Rattle.std.proofs.Common.{◌≡◌, ◌∙◌, ℕ, ◌+◌, ◌-◌, ◌^◌, ◌<◌, ◌≤◌, ◌↔◌, Contains, ⊎_elim, List, [], ◌∷◌, ◌++◌, length, get_or, slice_index, slice_index_or, All, sym, ap, subst, arith, rules}
+use Rattle.std.proofs.Common.{◌≡◌, ◌∙◌, ℕ, ◌+◌, ◌-◌, ◌^◌, ◌<◌, ◌≤◌, ◌↔◌, Contains, ⊎_elim, true, List, [], ◌∷◌, ◌++◌, length, get_or, slice_index, slice_index_or, All, sym, ap, subst, arith, rules}
 use Rattle.polcert_rules.proofs.Common.{cases_lt, get_or_append_left, get_or_default, All-push, get_or_from_slice_get, Cell, Preamble, weight, IsSparse, IsRow, key_base, table_key, most_places, Rule, IsRising, IsIndexOf, zeros_of, others_of, others_in, IsWeighted, IsShapeOf, AreSound, IsKeptRow, Stays, AreLine, AreLines}
 use Rattle.std.proofs.lemmas.List.{length-append}
 use Rattle.polcert_rules.specs.Steps.Sources.{AreGiven, weights_at, HasScale, HasRows, IsFirstWrongIn}
@@ -10,6 +10,7 @@ use Rattle.polcert_rules.specs.declared.rows.WrongRow.{WrongRow}
 use Rattle.polcert_rules.specs.RowTables.{IsProperRow, AreProperRows, IsFirstWrong}
 use Rattle.polcert_rules.specs.Steps.Repeats.{IsAsBefore}
 use Rattle.polcert_rules.proofs.RowLaws.SumLaws.{sum_same}
+use Rattle.polcert_rules.specs.Steps.Rows.{AreExact}
 use Rattle.polcert_rules.proofs.RowLaws.SplitLaws.{split_is}
 use Rattle.polcert_rules.proofs.RowLaws.RepeatLaws.{as_named}
 use Rattle.polcert_rules.proofs.RowLaws.SoundRows.{sound_keyed, sound_within, weight_is}
@@ -149,8 +150,8 @@ module _ (given : TableEntries) where
 pub given_is : (given : TableEntries) (part : List Rule) → IsWeighted given.table → (p : Preamble) × IsShapeOf p given.table given.bodies.shape × AreSound p given.bodies.entries.now
     → IsIndexOf given.bodies.entries.now given.index.now → IsRising part
     → ((r : Rule) → Contains part r ↔ (Contains given.index.now r × (table_key given.table ≤ r.key) × (r.key < table_key given.table + key_base ^ most_places)))
-    → given.split.now.zeros.items ≡ zeros_of given.bodies.entries.now part → others_in given.split.now.others ≡ others_of given.bodies.entries.now part → AreGiven given
-given_is given part weighted sound index rising kept zeros others = search (rules, split_is)
+    → given.split.now.zeros.items ≡ zeros_of given.bodies.entries.now part → others_in given.split.now.others ≡ others_of given.bodies.entries.now part → (given.split.now.is_exact ≡ true → AreExact part) → AreGiven given
+given_is given part weighted sound index rising kept zeros others exact = search (rules, split_is)
 
 -- the numbers of the rows so far are those of rows
 pub all_below : (given : TableEntries) (count : ℕ) (rows : List (List Cell)) (numbers : List (List ℕ)) → AreLines given count rows numbers → All (All (λ n. n < length rows)) numbers

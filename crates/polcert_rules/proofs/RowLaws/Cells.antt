@@ -1,8 +1,8 @@
 -- The single cells of a row.
-use Rattle.std.proofs.Common.{◌≡◌, ◌∙◌, ℕ, ◌+◌, ◌-◌, ◌*◌, ◌/◌, ◌%◌, ◌^◌, ◌<◌, ◌≤◌, ◌↔◌, ◌⊎◌, inl, inr, ⊎_elim, Bool, true, false, cond, eqb, Option, Some, None, List, [], ◌∷◌, ◌++◌, get_or, Contains, All, refl, sym, ap, subst, arith}
+use Rattle.std.proofs.Common.{◌≡◌, ◌∙◌, ℕ, ◌+◌, ◌-◌, ◌*◌, ◌/◌, ◌%◌, ◌<◌, ◌≤◌, ◌↔◌, ◌⊎◌, inl, inr, ⊎_elim, Bool, true, false, cond, eqb, Option, Some, None, List, [], ◌∷◌, ◌++◌, get_or, Contains, All, refl, sym, ap, subst, arith}
 use Rattle.std.specs.List.Sorted.{IsPermutation}
 use Rattle.polcert_rules.proofs.Common.{cases_lt, nat_tests, get_or_default, Contains-permutation, IsPermutation-sym, Contains-append_left, Contains-append_right, Contains-append_cases, Contains-get_or, Place, Every, Only, fits_place, Rule, key_base, digit, IsRising, IsNewest, newest_of_each, IsSingle, IsCell, columns_of, at_column}
-use Rattle.polcert_rules.specs.Steps.Rows.{IsColumn}
+use Rattle.polcert_rules.specs.Steps.Rows.{HasSharedColumns, IsColumn, start_of}
 use Rattle.polcert_rules.proofs.Keyed.Fitting.{equal_numbers}
 use Rattle.polcert_rules.proofs.Indexes.Building.{Among, Stands, among_from, contains_from, each_old, each_kept, rule_of}
 
@@ -67,9 +67,6 @@ with_columns rules part old new start between is x = (
 )
 
 -- ---- the four kinds of single cells
-abbrev pub start_of : ℕ → ℕ → ℕ → ℕ
-start_of low first second = low + first * key_base ^ 3 + second * key_base ^ 2 + 2 * key_base
-
 cell_from : (rules : List Rule) (low action state start : ℕ) (p q : Place) (x : Rule) → start ≡ start_of low (digit p) (digit q) → fits_place p action ≡ true → fits_place q state ≡ true
     → IsColumn rules start x → IsCell rules low action state x
 cell_from rs0 low action state start p q x is a s c = grind arith
@@ -84,10 +81,9 @@ two_digits p i h1 = grind arith
 abbrev pub IsStep : List Rule → List Rule → List Rule → ℕ → Type 0
 IsStep rules old new start = (x : Rule) → Contains new x ↔ (Contains old x ⊎ IsColumn rules start x)
 
-pub gathered_are : (rules v0 v1 v2 v3 v4 : List Rule) (low action state s1 s2 s3 s4 : ℕ) → v0 ≡ [] → s1 ≡ start_of low 1 1 → s2 ≡ start_of low 1 (state + 2)
-    → s3 ≡ start_of low (action + 2) 1 → s4 ≡ start_of low (action + 2) (state + 2) → IsStep rules v0 v1 s1 → IsStep rules v1 v2 s2 → IsStep rules v2 v3 s3 → IsStep rules v3 v4 s4
-    → (x : Rule) → Contains v4 x ↔ IsCell rules low action state x
-gathered_are rules v0 v1 v2 v3 v4 low action state s1 s2 s3 s4 empty i1 i2 i3 i4 step1 step2 step3 step4 x = (forth, back)
+pub gathered_are : (rules v0 v3 v4 : List Rule) (low action state s4 : ℕ) → v0 ≡ [] → s4 ≡ start_of low (action + 2) (state + 2)
+    → HasSharedColumns rules low action state v0 v3 → IsStep rules v3 v4 s4 → (x : Rule) → Contains v4 x ↔ IsCell rules low action state x
+gathered_are rules v0 v3 v4 low action state s4 empty i4 shared step4 x = (forth, back)
   where
     fit : (i : ℕ) → fits_place (Only i) i ≡ true
     fit i = equal_numbers i
@@ -97,10 +93,10 @@ gathered_are rules v0 v1 v2 v3 v4 low action state s1 s2 s3 s4 empty i1 i2 i3 i4
 
     forth : Contains v4 x → IsCell rules low action state x
     forth c4 =
-        ⊎_elim (λ c3. ⊎_elim (λ c2. ⊎_elim (λ c1. ⊎_elim nothing
-        (cell_from rules low action state s1 Every Every x i1 refl refl) ((step1 x).0 c1))
-        (cell_from rules low action state s2 Every (Only state) x i2 refl (fit state)) ((step2 x).0 c2))
-        (cell_from rules low action state s3 (Only action) Every x i3 (fit action) refl) ((step3 x).0 c3))
+        ⊎_elim (λ c3. ⊎_elim (⊎_elim (⊎_elim nothing
+        (cell_from rules low action state (start_of low 1 1) Every Every x refl refl refl))
+        (cell_from rules low action state (start_of low 1 (state + 2)) Every (Only state) x refl refl (fit state)))
+        (cell_from rules low action state (start_of low (action + 2) 1) (Only action) Every x refl (fit action) refl) ((shared x).0 c3))
         (cell_from rules low action state s4 (Only action) (Only state) x i4 (fit action) (fit state)) ((step4 x).0 c4)
 
     to : (c : IsCell rules low action state x) (start a b : ℕ) → start ≡ start_of low a b → digit c.single.first ≡ a → digit c.single.second ≡ b → IsColumn rules start x
@@ -112,10 +108,10 @@ gathered_are rules v0 v1 v2 v3 v4 low action state s1 s2 s3 s4 empty i1 i2 i3 i4
         let second = two_digits c.single.second state c.single.fits_state in
         ⊎_elim
         (λ every. ⊎_elim
-        (λ all. (step4 x).1 (inl ((step3 x).1 (inl ((step2 x).1 (inl ((step1 x).1 (inr (to c s1 1 1 i1 every all)))))))))
-        (λ one. (step4 x).1 (inl ((step3 x).1 (inl ((step2 x).1 (inr (to c s2 1 (state + 2) i2 every one))))))) second)
+        (λ all. (step4 x).1 (inl ((shared x).1 (inl (inl (inr (to c (start_of low 1 1) 1 1 refl every all)))))))
+        (λ one. (step4 x).1 (inl ((shared x).1 (inl (inr (to c (start_of low 1 (state + 2)) 1 (state + 2) refl every one)))))) second)
         (λ only. ⊎_elim
-        (λ all. (step4 x).1 (inl ((step3 x).1 (inr (to c s3 (action + 2) 1 i3 only all)))))
+        (λ all. (step4 x).1 (inl ((shared x).1 (inr (to c (start_of low (action + 2) 1) (action + 2) 1 refl only all)))))
         (λ one. (step4 x).1 (inr (to c s4 (action + 2) (state + 2) i4 only one))) second) first
 
 -- ---- the newest in each column

@@ -1,6 +1,7 @@
 -- The rules of a table in two lists.
 use Rattle.std.proofs.Common.{◌≡◌, ◌∙◌, ◌==◌, suc, ◌+◌, ◌^◌, ◌<◌, ◌≤◌, ◌↔◌, ◌⊎◌, inl, inr, ⊎_elim, Bool, true, false, cond, List, [], ◌∷◌, All, Contains, length, refl, sym, subst, arith}
 use Rattle.polcert_rules.proofs.Common.{nat_tests, AllPairs-cons, slice_get_within, Table, Entry, Rule, SplitRules, key_base, most_places, table_key, IsRising, IsIndexOf, IsSplit, others_in, is_zero, zeros_of, others_of}
+use Rattle.polcert_rules.specs.Steps.Rows.{AreExact}
 use Rattle.polcert_rules.proofs.Indexes.Building.{Among, among_from, contains_from}
 use Rattle.polcert_rules.proofs.RowLaws.Cells.{all_of}
 
@@ -47,12 +48,13 @@ module _ (entries : List Entry) where
 
   pub split_is : (table : Table) (rules part : List Rule) (split : SplitRules) → IsRising part
       → ((r : Rule) → Contains part r ↔ (Contains rules r × (table_key table ≤ r.key) × (r.key < table_key table + key_base ^ most_places)))
-      → split.zeros.items ≡ zeros_of entries part → others_in split.others ≡ others_of entries part → IsSplit entries table rules split
-  split_is table rules part split up kept z o = record {
+      → split.zeros.items ≡ zeros_of entries part → others_in split.others ≡ others_of entries part → (split.is_exact ≡ true → AreExact part) → IsSplit entries table rules split
+  split_is table rules part split up kept z o exact = record {
     zeros_rise = subst IsRising (sym z) (zeros_rise part up);
     others_rise = subst IsRising (sym o) (others_rise part up);
     each = λ r. ((λ e. (kept r).0 (⊎_elim (λ c. contains_from part r (old_zero r c).0) (λ c. contains_from part r (old_other r c)) e)), (λ b. new r ((kept r).1 b)));
     zero = λ r c. (old_zero r c).1;
+    exact = λ t r c low high. exact t r ((kept r).1 (c, low, high));
   }
     where
       old_zero : (r : Rule) → Contains split.zeros.items r → Among r part × (is_zero entries r.number ≡ true)

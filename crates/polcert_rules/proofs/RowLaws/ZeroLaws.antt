@@ -7,7 +7,8 @@ use Rattle.polcert_rules.specs.declared.zeros.ZeroColumns.{ZeroColumns}
 use Rattle.polcert_rules.proofs.Keyed.Fitting.{same_number, equal_numbers}
 use Rattle.polcert_rules.proofs.Indexes.Newer.{newest_as, newest_of_part, newest_of_two}
 use Rattle.polcert_rules.proofs.Indexes.Matching.{newest_by_is, one_newest}
-use Rattle.polcert_rules.proofs.RowLaws.Cells.{start_of, two_digits}
+use Rattle.polcert_rules.proofs.RowLaws.Cells.{two_digits}
+use Rattle.polcert_rules.specs.Steps.Rows.{start_of}
 
 -- ---- one key
 key_is : (rules : List Rule) (key : ℕ) → IsNewest rules (λ k. k ≡ key) (at_key rules key)

@@ -1,5 +1,5 @@
 -- The rows of T and O, as an index gives them.
-use Rattle.std.specs.Prelude.{◌≡◌, ℕ, ◌+◌, ◌-◌, ◌*◌, ◌/◌, ◌%◌, ◌<◌, ◌==◌, true, List, [], ◌∷◌, Option, Some, None, All, Contains, slice_get, if◌then◌else◌}
+use Rattle.std.specs.Prelude.{◌≡◌, ℕ, ◌+◌, ◌-◌, ◌*◌, ◌/◌, ◌%◌, ◌^◌, ◌<◌, ◌≤◌, ◌==◌, ◌↔◌, ◌⊎◌, true, List, [], ◌∷◌, Option, Some, None, All, Contains, slice_get, if◌then◌else◌}
 use Rattle.polcert_cells.specs.declared.entries.Table.{Table}
 use Rattle.polcert_cells.specs.declared.entries.Place.{Place}
 use Rattle.polcert_cells.specs.declared.entries.Place.TheVariants.{Only}
@@ -29,6 +29,16 @@ pub record IsSingle (low action state column key : ℕ) : Type 0 where
   pub fits_state : fits_place second state ≡ true
   pub is : key ≡ key_in most_places low (first ∷ second ∷ Only column ∷ [])
 
+-- the key names an action, a state and a column
+pub record IsExactKey (key : ℕ) : Type 0 where
+  pub action : 2 ≤ (key / key_base ^ 3) % key_base
+  pub state : 2 ≤ (key / key_base ^ 2) % key_base
+  pub column : 2 ≤ (key / key_base) % key_base
+  pub known : (key / key_base) % key_base < no_column + 2
+
+abbrev pub AreExact : List Rule → Type 0
+AreExact rules = (r : Rule) → Contains rules r → IsExactKey r.key
+
 -- a rule stands for an entry of the table that gives a single cell of each row that it concerns, in the rule's column
 pub record IsSingleEntry (entries : List Entry) (table : Table) (r : Rule) : Type 0 where
   pub entry : Entry
@@ -51,6 +61,19 @@ pub record IsColumn (rules : List Rule) (start : ℕ) (cell : Rule) : Type 0 whe
   pub key_is : rule.key ≡ start + cell.key * key_base
   pub column : cell.key + 2 < key_base
   pub number_is : rule.number ≡ cell.number
+
+-- the first key of a table
+abbrev pub IsTableKey : ℕ → Type 0
+IsTableKey low = (d : ℕ) × (d ≤ 2) × (low ≡ d * key_base ^ most_places)
+
+-- the key of the first column of a row, by the digits of its places
+abbrev pub start_of : ℕ → ℕ → ℕ → ℕ
+start_of low first second = low + first * key_base ^ 3 + second * key_base ^ 2 + 2 * key_base
+
+-- after the old cells the new ones have those of each action or of each state in the row at this action and state
+abbrev pub HasSharedColumns : List Rule → ℕ → ℕ → ℕ → List Rule → List Rule → Type 0
+HasSharedColumns rules low action state old new =
+    (x : Rule) → Contains new x ↔ (((Contains old x ⊎ IsColumn rules (start_of low 1 1) x) ⊎ IsColumn rules (start_of low 1 (state + 2)) x) ⊎ IsColumn rules (start_of low (action + 2) 1) x)
 
 -- the same of a row
 pub record IsCell (rules : List Rule) (low action state : ℕ) (cell : Rule) : Type 0 where

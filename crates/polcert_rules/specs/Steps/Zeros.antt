@@ -17,7 +17,7 @@ use Rattle.polcert_rules.specs.Keys.{key_base, most_places, table_key}
 use Rattle.polcert_rules.specs.Steps.Newest.{IsRising, IsLastNumber}
 use Rattle.polcert_rules.specs.Matching.{max_option, newest_by}
 use Rattle.polcert_rules.specs.Steps.Merging.{is_newer}
-use Rattle.polcert_rules.specs.Steps.Rows.{IsSingleEntry, no_column, number_in}
+use Rattle.polcert_rules.specs.Steps.Rows.{IsExactKey, IsSingleEntry, no_column, number_in}
 
 -- ---- which rules are zeros
 -- the body of an entry of so many places gives single cells the weight 0
@@ -57,6 +57,7 @@ pub record IsSplit (entries : List Entry) (table : Table) (rules : List Rule) (s
   pub each : (r : Rule) → (Contains split.zeros.items r ⊎ Contains (others_in split.others) r)
       ↔ (Contains rules r × (table_key table ≤ r.key) × (r.key < table_key table + key_base ^ most_places))
   pub zero : (r : Rule) → Contains split.zeros.items r → is_zero entries r.number ≡ true
+  pub exact : split.is_exact ≡ true → (r : Rule) → Contains rules r → table_key table ≤ r.key → r.key < table_key table + key_base ^ most_places → IsExactKey r.key
 
 -- ---- the zeros of a row
 -- the number of the rule with this key

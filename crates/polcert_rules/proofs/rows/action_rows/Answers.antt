@@ -1,22 +1,12 @@
 use Rattle.std.proofs.Common.{◌≡◌, ◌<◌, ℕ, List, All, length, subst, sym, arith, refl, rules}
 use Rattle.polcert_rules.proofs.Common.{AreLine}
-use Rattle.polcert_rules.proofs.RowLaws.SoundRows.{sound_within, row_numbers}
+use Rattle.polcert_rules.proofs.RowLaws.SoundRows.{row_numbers}
 use Rattle.polcert_rules.proofs.Indexes.KeptLaws.{numbers_stay, row_within}
 use Rattle.polcert_rules.proofs.Indexes.BuiltLaws.{line_none, line_more}
 use Rattle.polcert_rules.proofs.rows.action_rows.Goals as goal
 
 pub loop-state-init : goal.loop-state-init
 loop-state-init c = (line_none c.args.given c.args.action _ _ (search rules), c.requires.kept, λ n row e. e)
-
-pub newest_rule-whole-requires : goal.newest_rule-whole-requires
-newest_rule-whole-requires c =
-    let g = c.requires.given in
-    let within = sound_within g.preamble c.args.given.table c.args.given.bodies.shape c.args.given.bodies.entries.now g.weighted g.shape g.sound in
-    let actions = within.actions.1 in
-    let states = within.states.1 in
-    let la = c.requires.action in
-    let ls = c.loop-state-test.true in
-    (omega (arith, actions, la), (omega (arith, states, ls), (omega arith, tt)))
 
 pub of-requires-clause-split : goal.of-requires-clause-split
 of-requires-clause-split c = (c.args.given.bodies.entries.now, c.args.given.index.now, c.requires.given.split)
@@ -32,22 +22,22 @@ row_number-requires-clause-row c =
     let g = c.requires.given in (
       c.args.given.table,
       c.args.action,
-      row_numbers g.preamble c.args.given.table c.args.given.bodies.shape c.args.given.bodies.entries.now c.args.given.index.now c.args.given.split.now c.args.action c.loop-state.state c.newest_rule-whole.result c.in_ok-row.row
-          g.weighted g.shape g.sound g.index g.split c.newest_rule-whole.ensures c.in_ok-row.ensures,
+      row_numbers g.preamble c.args.given.table c.args.given.bodies.shape c.args.given.bodies.entries.now c.args.given.index.now c.args.given.split.now c.args.action c.loop-state.state c.newest_whole-whole.result c.in_ok-row.row
+          g.weighted g.shape g.sound g.index g.split c.newest_whole-whole.ensures c.in_ok-row.ensures,
     )
 
 pub is_proper-requires : goal.is_proper-requires
 is_proper-requires c =
     let g = c.requires.given in
-    let row = row_numbers g.preamble c.args.given.table c.args.given.bodies.shape c.args.given.bodies.entries.now c.args.given.index.now c.args.given.split.now c.args.action c.loop-state.state c.newest_rule-whole.result c.in_ok-row.row
-    g.weighted g.shape g.sound g.index g.split c.newest_rule-whole.ensures c.in_ok-row.ensures in
+    let row = row_numbers g.preamble c.args.given.table c.args.given.bodies.shape c.args.given.bodies.entries.now c.args.given.index.now c.args.given.split.now c.args.action c.loop-state.state c.newest_whole-whole.result c.in_ok-row.row
+    g.weighted g.shape g.sound g.index g.split c.newest_whole-whole.ensures c.in_ok-row.ensures in
     record { number = row_within c.args.given.bodies.shape.columns _ _ _ (c.in_ok-number.ensures.row c.args.given.table c.args.action row) }
 
 pub loop-state-preserved : goal.loop-state-preserved
 loop-state-preserved c =
     let g = c.requires.given in
-    let row = row_numbers g.preamble c.args.given.table c.args.given.bodies.shape c.args.given.bodies.entries.now c.args.given.index.now c.args.given.split.now c.args.action c.loop-state.state c.newest_rule-whole.result c.in_ok-row.row
-    g.weighted g.shape g.sound g.index g.split c.newest_rule-whole.ensures c.in_ok-row.ensures in
+    let row = row_numbers g.preamble c.args.given.table c.args.given.bodies.shape c.args.given.bodies.entries.now c.args.given.index.now c.args.given.split.now c.args.action c.loop-state.state c.newest_whole-whole.result c.in_ok-row.row
+    g.weighted g.shape g.sound g.index g.split c.newest_whole-whole.ensures c.in_ok-row.ensures in
     let here = c.in_ok-number.ensures.row c.args.given.table c.args.action row in
     let scale = (c.is_proper.ensures c.args.given.bodies.shape.columns c.args.given.bodies.entries.now _ c.in_ok-number.ensures.kept here).0 (search rules) in (
       line_more c.args.given c.args.action c.loop-state.state c.in_ok-number.number _ _ _ _ c.loop-state.invariant.0 c.in_ok-number.ensures.stays here scale c.in_ok-extend_from_slice.ensures.items,
@@ -58,8 +48,8 @@ loop-state-preserved c =
 pub returns-then-not-is_proper-clause-rows : goal.returns-then-not-is_proper-clause-rows
 returns-then-not-is_proper-clause-rows c =
     let g = c.requires.given in
-    let row = row_numbers g.preamble c.args.given.table c.args.given.bodies.shape c.args.given.bodies.entries.now c.args.given.index.now c.args.given.split.now c.args.action c.loop-state.state c.newest_rule-whole.result c.in_ok-row.row
-    g.weighted g.shape g.sound g.index g.split c.newest_rule-whole.ensures c.in_ok-row.ensures in
+    let row = row_numbers g.preamble c.args.given.table c.args.given.bodies.shape c.args.given.bodies.entries.now c.args.given.index.now c.args.given.split.now c.args.action c.loop-state.state c.newest_whole-whole.result c.in_ok-row.row
+    g.weighted g.shape g.sound g.index g.split c.newest_whole-whole.ensures c.in_ok-row.ensures in
     let here = c.in_ok-number.ensures.row c.args.given.table c.args.action row in
     let scale = c.is_proper.ensures c.args.given.bodies.shape.columns c.args.given.bodies.entries.now _ c.in_ok-number.ensures.kept here in
     record {
