@@ -9,6 +9,7 @@ pub mod Missing
 pub mod Outcomes
 pub mod Products
 pub mod RowOfBoth
+pub mod SameRows
 pub mod Sharing
 pub mod Verdicts
 pub mod Walked

@@ -1,11 +1,11 @@
 //! The values of a node at all end states, computed once for all start states, and what a start state expects of them.
-ghost use Rattle.std.specs.Prelude.{◌≡◌, ◌<◌, ◌≤◌, ◌^◌, ◌*ℤ◌, length, unsigned_abs, IfSome, None, ℕ, pos};
+ghost use Rattle.std.specs.Prelude.{◌≡◌, ◌<◌, ◌≤◌, ◌^◌, ◌*ℤ◌, length, unsigned_abs, IfSome, None, ℕ, pos, IsTrue};
 ghost use Rattle.polcert_cells.specs.declared.elements.TheConstants.{MOST_STATES};
 ghost use Rattle.std.specs.Option.{ForSome};
 ghost use Rattle.polcert_cells.specs.BorrowedRows.{IsRowOf, IsStep};
 ghost use Rattle.polcert_cells.specs.Sparse.{IsRow, scaled_cells};
 ghost use Rattle.polcert_check.specs.Steps.Node.{node_controller};
-ghost use Rattle.polcert_check.specs.Steps.Factored.{value_term, IsMissedAt, IsMinOption};
+ghost use Rattle.polcert_check.specs.Steps.Factored.{value_term, IsMissedAt, IsMinOption, HasSameRows};
 ghost use Rattle.polcert_check.specs.Steps.Values.{IsCompleteValue, IsEndValue, IsExpectedValue};
 ghost use Rattle.polcert_check.specs.Steps.CheckInput.{controller};
 ghost use Rattle.polcert_check.specs.Steps.Products.{number_term};
@@ -192,17 +192,21 @@ pub(crate) fn end_value<C: Cells>(node: &Node<'_, C>, e: usize) -> PartialValue
 pub(crate) struct ReachedStates {
     /// Whether the marks are those of the action.
     pub is_known: bool,
+    /// Whether it is known that each start state has the same row of T.
+    pub has_same_rows: bool,
     pub marks: [bool; MOST_STATES],
     ghost room: { length marks ≡ MOST_STATES },
 }
 
 impl ReachedStates {
     ghost use Rattle.std.specs.Prelude.{◌<◌, ℕ, false, true, slice_index_or};
-    ghost use Rattle.polcert_check.specs.Steps.Factored.{AreMarked};
+    ghost use Rattle.std.specs.Prelude.{IsTrue};
+    ghost use Rattle.polcert_check.specs.Steps.Factored.{AreMarked, HasSameRows};
 
     pub(crate) fn new() -> Self {
         ReachedStates {
             is_known: false,
+            has_same_rows: false,
             marks: [false; MOST_STATES],
         }
     }
@@ -217,15 +221,23 @@ impl ReachedStates {
     /// Marks the end states that action `a` reaches.
     pub(crate) fn find<C: Cells>(&mut self, cells: &C, a: usize)
         requires action { a < (C.table cells.now).actions }
-        ensures { AreMarked (C.table cells.now) a (C.table cells.now).states self.new.marks }
+        ensures marks { AreMarked (C.table cells.now) a (C.table cells.now).states self.new.marks }
+        ensures same { IsTrue self.new.has_same_rows → HasSameRows (C.table cells.now) a }
     {
         // (A mark too many would cost time alone.)
         for e in 0..cells.states() {
             self.marks[e] = false;
         }
+        if has_same_rows(cells, a) {
+            self.mark(cells, a, 0);
+            self.has_same_rows = true;
+            self.is_known = true;
+            return;
+        }
         for s in 0..cells.states() {
             self.mark(cells, a, s);
         }
+        self.has_same_rows = false;
         self.is_known = true;
     }
 
@@ -244,6 +256,30 @@ impl ReachedStates {
             self.marks[end.column] = true;
             at = end.next;
         }
+    }
+}
+
+/// Returns whether it is known that each start state has the same row of T when action `a` is taken.
+fn has_same_rows<C: Cells>(cells: &C, a: usize) -> bool
+    requires action { a < (C.table cells.now).actions }
+    ensures { IsTrue result → HasSameRows (C.table cells.now) a }
+{
+    for s in 1..cells.states() {
+        if !is_same_row(cells.t_row(a, 0), cells.t_row(a, s)) {
+            return false;
+        }
+    }
+    true
+}
+
+/// Returns whether two rows are known to have the same weights.
+fn is_same_row(one: Option<Row<'_>>, other: Option<Row<'_>>) -> bool
+    ensures { (f g : ℕ → ℕ) (count : ℕ) → IsTrue result → ForSome one.entry (IsRowOf f count)
+        → ForSome other.entry (IsRowOf g count) → (c : ℕ) → c < count → f c ≡ g c }
+{
+    match (one, other) {
+        (Some(Row::Sparse(cells)), Some(Row::Sparse(own))) => cells == own,
+        _ => false,
     }
 }
 

@@ -1,18 +1,18 @@
 //! The check of a policy certificate: its verdict, and the walk over all pairs of a node and a state.
 ghost use Rattle.polcert_check.specs.Horizon.{Fits, controller_of, MeetsHorizon};
 ghost use Rattle.polcert_check.specs.Verdict.{IsVerdict, NamesSmallAmount};
-ghost use Rattle.std.specs.Prelude.{◌≡◌, ◌+◌, ◌<◌, ◌*◌, ◌≤◌, IfSome, None, false, length};
+ghost use Rattle.std.specs.Prelude.{◌≡◌, ◌+◌, ◌<◌, ◌*◌, ◌≤◌, IfSome, None, ℕ, length};
 ghost use Rattle.polcert_check.specs.Steps.CheckInput.{controller, checked_controller};
 ghost use Rattle.polcert_check.specs.Steps.Findings.{IsFound, IsFoundBefore, IsPair, PassUntil};
 ghost use Rattle.polcert_check.specs.Steps.Node.{node_controller};
 ghost use Rattle.polcert_check.specs.Steps.Survey.{IsOfAction};
 ghost use Rattle.polcert_policy.specs.Vectors.{AreProperVectors};
 ghost use Rattle.polcert_check.specs.Steps.Ranges.{IsController, ValuesAreWithin};
-ghost use Rattle.polcert_check.specs.Steps.Factored.{expected_reward, AreKnown, IsPairVerdict};
-ghost use Rattle.polcert_check.specs.Steps.Values.{AreEndValues};
+ghost use Rattle.polcert_check.specs.Steps.Factored.{expected_reward, AreKnown, HasSameRows, IsPairVerdict};
+ghost use Rattle.polcert_check.specs.Steps.Values.{AreEndValues, IsExpectedValue};
 
 use crate::check_input::CheckInput;
-use crate::end_values::ReachedStates;
+use crate::end_values::{PartialValue, ReachedStates};
 use crate::ends::EndValues;
 use crate::expected_reward::{Earnings, UNKNOWN};
 use crate::findings::{Findings, Mode, Side};
@@ -120,11 +120,21 @@ impl SurveyState {
         ensures verdict { IfSome result.verdict
             (IsPairVerdict (checked_controller node.now.input) node.now.n result.state) }
     {
-        if self.ends.are_narrow() && self.earnings.rewards[from] != UNKNOWN {
-            first_failure(node, from, &self.earnings.rewards, &self.ends)
-        } else {
-            StateVerdict::unknown(from)
+        let rewards = &self.earnings.rewards;
+        let ends = &self.ends;
+        if !ends.are_narrow() || rewards[from] == UNKNOWN {
+            return StateVerdict::unknown(from);
         }
+        if self.reached.has_same_rows {
+            let expected = ends.narrow_value(node, from);
+            return first_failure(
+                node,
+                from,
+                rewards,
+                |s| value_of_same_row(node, from, expected, s),
+            );
+        }
+        first_failure(node, from, rewards, |s| ends.narrow_value(node, s))
     }
 
     /// Returns the verdict on the pair of the node and a state, which is computed unless it is known.
@@ -158,6 +168,24 @@ impl SurveyState {
         let expected = self.ends.expected_value(node, s);
         pair_verdict(node, s, node.value_at(s), reward, expected)
     }
+}
+
+/// Returns the value that a node expects at state `s` if each state has the same row of T: that at another state.
+#[inline(always)]
+fn value_of_same_row<C: Cells>(
+    node: &Node<'_, C>,
+    other: usize,
+    value: PartialValue,
+    s: usize,
+) -> PartialValue
+    requires same { HasSameRows (node_controller node.now).cells
+        ((node_controller node.now).action node.now.n) }
+    requires other { other < (node_controller node.now).cells.states }
+    requires value { IsExpectedValue (node_controller node.now) node.now.n other value }
+    requires start { s < (node_controller node.now).cells.states }
+    ensures { IsExpectedValue (node_controller node.now) node.now.n s result }
+{
+    value
 }
 
 /// Checks the pairs of a node, until none of the rest can be the first that is looked for.
@@ -274,23 +302,22 @@ impl StateVerdict {
     }
 }
 
-/// Returns the first state from `from` on whose pair with the node does not pass; with no verdict the first whose reward is not known yet,
-/// or the number of states.
+/// Returns the first state from `from` on whose pair with the node does not pass, where `value_of` gives what the node expects; with no
+/// verdict the first whose reward is not known yet, or the number of states.
 #[inline(never)]
-pub(crate) fn first_failure<C: Cells>(
+pub(crate) fn first_failure<C: Cells, F: Fn(usize) -> PartialValue>(
     node: &Node<'_, C>,
     from: usize,
     rewards: &[i128],
-    ends: &EndValues,
+    value_of: F,
 ) -> StateVerdict
     requires from { from < (node_controller node.now).cells.states }
     requires room { (node_controller node.now).cells.states ≤ length rewards.now }
     requires rewards { AreKnown (expected_reward (node_controller node.now).cells
         ((node_controller node.now).action node.now.n)) (node_controller node.now).cells.states rewards.now }
-    requires ends { AreEndValues (node_controller node.now) node.now.n
-        (node_controller node.now).cells.states ends.now }
-    requires complete { ends.now.lacks_any ≡ false }
-    requires narrow { ends.now.has_wide ≡ false }
+    requires callable { (s : ℕ) → s < (node_controller node.now).cells.states → F.pre value_of s }
+    requires value { (s : ℕ) (part : _) → s < (node_controller node.now).cells.states
+        → F.post value_of s part → IsExpectedValue (node_controller node.now) node.now.n s part }
     ensures from { from ≤ result.state }
     ensures within { result.state ≤ (node_controller node.now).cells.states }
     ensures passed { PassUntil (checked_controller node.now.input) node.now.n from result.state }
@@ -302,7 +329,7 @@ pub(crate) fn first_failure<C: Cells>(
     'pairs: loop {
         // (These come first: what they have in common for all states is read once only if each iteration reads it.)
         let value = node.value_at(state);
-        let expected = ends.narrow_value(node, state);
+        let expected = value_of(state);
         let reward = rewards[state];
         if reward == UNKNOWN {
             return StateVerdict::unknown(state);

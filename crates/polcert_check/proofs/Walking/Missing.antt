@@ -5,7 +5,7 @@ use Rattle.polcert_check.specs.Steps.Factored.{IsMissedAt, IsMinOption}
 use Rattle.polcert_check.proofs.Walking.Verdicts.{positive_product}
 
 -- ---- the least of two least numbers
-least_same : (P R : ℕ → Type 0) (x : Option ℕ) → IsLeastOf P x → ((z : ℕ) → R z → P z) → ((z : ℕ) → P z → R z) → IsLeastOf R x
+pub least_same : (P R : ℕ → Type 0) (x : Option ℕ) → IsLeastOf P x → ((z : ℕ) → R z → P z) → ((z : ℕ) → P z → R z) → IsLeastOf R x
 least_same P R x h1 h2 h3 = grind arith
 
 least_or : (P Q R : ℕ → Type 0) (x y r : Option ℕ) → IsLeastOf P x → IsLeastOf Q y → IsMinOption x y r → ((z : ℕ) → R z → P z ⊎ Q z) → ((z : ℕ) → P z → R z) → ((z : ℕ) → Q z → R z) → IsLeastOf R r

@@ -31,6 +31,10 @@ pub record AreAtEnds (m : CellTable) (a s : ℕ) (at_ends : List ℤ) : Type 0 w
 pub record AreMarked (m : CellTable) (a count : ℕ) (marks : List Bool) : Type 0 where
   pub each : (s e : ℕ) → s < count → e < m.states → 0 < m.t a s e → slice_index_or marks e false ≡ true
 
+-- each start state has the same row of T
+abbrev pub HasSameRows : CellTable → ℕ → Type 0
+HasSameRows m a = (s e : ℕ) → s < m.states → e < m.states → m.t a s e ≡ m.t a 0 e
+
 -- ---- values, for each node and end state
 
 -- what observation z adds to the value at end state e

@@ -13,7 +13,7 @@ pairs-preserved-then-s-states g c =
     let s = c.first_failure-failure.result.state in
     let passed = subst (λ (f : Findings). IsFoundBefore j (j.action c.args.node.now.n) c.args.node.now.n s f) (sym c.verdict_at-verdict.ensures.findings) (c.first_failure-failure.ensures.passed c.pairs.survey.findings c.pairs.invariant.found) in
     record {
-      prepared = record { rewards = c.verdict_at-verdict.ensures.prepared.rewards; marks = c.verdict_at-verdict.ensures.prepared.marks };
+      prepared = record { rewards = c.verdict_at-verdict.ensures.prepared.rewards; marks = c.verdict_at-verdict.ensures.prepared.marks; same = c.verdict_at-verdict.ensures.prepared.same };
       ends = subst (λ (ends : EndValues). AreEndValues (node_controller c.args.node.now) c.args.node.now.n (node_controller c.args.node.now).cells.states ends) (sym c.verdict_at-verdict.ensures.ends) c.pairs.invariant.ends;
       found = c.note.ensures.found j s (c.args.node.now.within, omega (arith, c.if-s-states.true, c.states-states.ensures)) c.verdict_at-verdict.ensures.verdict passed;
       mode = c.note.ensures.mode ∙ ap (λ (f : Findings). f.mode) c.verdict_at-verdict.ensures.findings ∙ c.pairs.invariant.mode;
