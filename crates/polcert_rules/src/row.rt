@@ -183,7 +183,7 @@ pub(crate) fn newer_cells(
     ensures { IfOk result (λ newer. (s : ℕ) →
         newer.items ≡ newer_cells columns entries.now (covering_entry row.now) s row.now.cells.items) }
 {
-    let mut newer = Vec::new(alloc);
+    let mut newer = Vec::with_capacity(alloc, row.cells.len())?;
     for rule in &row.cells {
         let column = rule.key as usize;
         if is_newer(row.covering_entry(column), rule.number) {

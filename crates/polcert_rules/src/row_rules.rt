@@ -275,13 +275,17 @@ impl RowRules {
         ensures proper { IfSome result AreProperCells }
     {
         let step = span(3);
+        let every = REWARD_KEYS + step;
         let only = REWARD_KEYS + (action as u64 + 2) * step;
+        let of_only = self.cell_rules_after(action + INDICES, only, start)?;
+        if none_below(self.rules.as_slice(), every + step) {
+            return Some(of_only);
+        }
         let here = first_at(
             self.rules_after(NO_PLACE, NO_PLACE, REWARD_KEYS),
             REWARD_KEYS,
         );
-        let of_every = self.cell_rules_after(EVERY, REWARD_KEYS + step, start)?;
-        let of_only = self.cell_rules_after(action + INDICES, only, start)?;
+        let of_every = self.cell_rules_after(EVERY, every, start)?;
         Some(of_every.join(of_only)?.with_whole(here))
     }
 
@@ -297,9 +301,13 @@ impl RowRules {
         let step = span(PLACES_LEFT);
         let every = low + step;
         let only = low + (start as u64 + 2) * step;
+        let of_only = cell_rules_of(self.rules_after(digit, start + INDICES, only), only)?;
+        let first_only = every + step;
+        if self.lacks_keys(digit, low, first_only) {
+            return Some(of_only);
+        }
         let here = first_at(self.rules_after(digit, NO_PLACE, low), low);
         let of_every = cell_rules_of(self.rules_after(digit, EVERY, every), every)?;
-        let of_only = cell_rules_of(self.rules_after(digit, start + INDICES, only), only)?;
         Some(of_every.join(of_only)?.with_whole(here))
     }
 
@@ -312,16 +320,18 @@ impl RowRules {
     {
         let step = span(3);
         let only = REWARD_KEYS + (action as u64 + 2) * step;
-        if first_at(
+        // (In most texts an entry names the action.)
+        if self.names_start_after(action + INDICES, only, start) {
+            return true;
+        }
+        if self.names_start_after(EVERY, REWARD_KEYS + step, start) {
+            return true;
+        }
+        first_at(
             self.rules_after(NO_PLACE, NO_PLACE, REWARD_KEYS),
             REWARD_KEYS,
         )
         .is_some()
-        {
-            return true;
-        }
-        self.names_start_after(EVERY, REWARD_KEYS + step, start)
-            || self.names_start_after(action + INDICES, only, start)
     }
 
     /// Returns the same after a first place, which has this digit.
@@ -333,10 +343,10 @@ impl RowRules {
             → ⊥ }
     {
         let only = low + (start as u64 + 2) * span(PLACES_LEFT);
-        if first_at(self.rules_after(digit, NO_PLACE, low), low).is_some() {
+        if !self.rules_after(digit, start + INDICES, only).is_empty() {
             return true;
         }
-        !self.rules_after(digit, start + INDICES, only).is_empty()
+        first_at(self.rules_after(digit, NO_PLACE, low), low).is_some()
     }
 
     /// Returns whether no rule has a key from `low`, that of one place with this digit, up to another. `false`: unknown. (Most texts have

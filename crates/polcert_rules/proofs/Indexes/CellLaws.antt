@@ -1,9 +1,9 @@
 -- Rules of which each names a cell: what the newest is, from parts that have it.
 use Rattle.std.proofs.Common.{◌≡◌, ◌∙◌, ⊎_elim, ℕ, suc, ◌+◌, ◌*◌, ◌^◌, ◌<◌, ◌≤◌, ◌↔◌, ◌⊎◌, inl, inr, Option, None, List, [], ◌∷◌, Contains, sym, ap, subst, arith}
-use Rattle.polcert_rules.proofs.Common.{Rule, IsNewest, max_option, key_base, CellRules, NamesEnd, AreCellRules, AreJoined}
+use Rattle.polcert_rules.proofs.Common.{Rule, IsNewest, max_option, key_base, AreIndices, CellRules, NamesEnd, AreCellRules, AreJoined}
 use Rattle.polcert_rules.specs.Keys.{Fits}
 use Rattle.polcert_rules.proofs.Keyed.Fitting.{fits_low, fits_high, fits_end, fits_here, fits_next, fits_every, fits_only}
-use Rattle.polcert_rules.proofs.Indexes.Newer.{IsSpan, newest_as, newest_of_part, newest_of_two, newest_of_three, newest_end}
+use Rattle.polcert_rules.proofs.Indexes.Newer.{IsSpan, newest_as, newest_of_part, newest_of_two, newest_of_three, newest_only, newest_end}
 use Rattle.polcert_rules.proofs.Indexes.NotedLaws.{later_none, later_of_later}
 
 -- the rules from a key on
@@ -82,21 +82,19 @@ whole_cells rules P key number cells with_whole p here whole low named = λ e z 
     (newest_of_two rules (λ k. k ≡ key) (P e z) number (max_option cells.whole x) here (p e z el zl x old))
 
 -- one place more: no place, `*`, or the index
-pub placed_cells : (rules : List Rule) (m low i : ℕ) (cells : CellRules)
-    → AreCellRules rules (λ e z k. (k ≡ low) ⊎ (Fits m (low + key_base ^ m) (e ∷ z ∷ []) k ⊎ Fits m (low + (i + 2) * key_base ^ m) (e ∷ z ∷ []) k)) cells
-    → AreCellRules rules (λ e z. Fits (suc m) low (i ∷ e ∷ z ∷ [])) cells
-placed_cells rules m low i cells are = λ e z el zl x n.
-    newest_as rules (λ k. (k ≡ low) ⊎ (Fits m (low + key_base ^ m) (e ∷ z ∷ []) k ⊎ Fits m (low + (i + 2) * key_base ^ m) (e ∷ z ∷ []) k)) (Fits (suc m) low (i ∷ e ∷ z ∷ [])) _
-    (λ k f. ⊎_elim (fits_here (suc m) low k (i ∷ e ∷ z ∷ [])) (λ g. ⊎_elim (fits_every m low i (e ∷ z ∷ []) k) (fits_only m low i (e ∷ z ∷ []) k) g) f)
-    (λ k f. fits_next m low i (e ∷ z ∷ []) k f) (are e z el zl x n)
+pub placed_cells : (rules : List Rule) (m low i : ℕ) (rest : ℕ → ℕ → List ℕ) (cells : CellRules)
+    → AreCellRules rules (λ e z k. (k ≡ low) ⊎ (Fits m (low + key_base ^ m) (rest e z) k ⊎ Fits m (low + (i + 2) * key_base ^ m) (rest e z) k)) cells
+    → AreCellRules rules (λ e z. Fits (suc m) low (i ∷ rest e z)) cells
+placed_cells rules m low i rest cells are = λ e z el zl x n.
+    newest_as rules (λ k. (k ≡ low) ⊎ (Fits m (low + key_base ^ m) (rest e z) k ⊎ Fits m (low + (i + 2) * key_base ^ m) (rest e z) k)) (Fits (suc m) low (i ∷ rest e z)) _
+    (λ k f. ⊎_elim (fits_here (suc m) low k (i ∷ rest e z)) (λ g. ⊎_elim (fits_every m low i (rest e z) k) (fits_only m low i (rest e z) k) g) f)
+    (λ k f. fits_next m low i (rest e z) k f) (are e z el zl x n)
 
-pub placed_start : (rules : List Rule) (m low a s : ℕ) (cells : CellRules)
-    → AreCellRules rules (λ e z k. (k ≡ low) ⊎ (Fits m (low + key_base ^ m) (s ∷ e ∷ z ∷ []) k ⊎ Fits m (low + (a + 2) * key_base ^ m) (s ∷ e ∷ z ∷ []) k)) cells
-    → AreCellRules rules (λ e z. Fits (suc m) low (a ∷ s ∷ e ∷ z ∷ [])) cells
-placed_start rules m low a s cells are = λ e z el zl x n.
-    newest_as rules (λ k. (k ≡ low) ⊎ (Fits m (low + key_base ^ m) (s ∷ e ∷ z ∷ []) k ⊎ Fits m (low + (a + 2) * key_base ^ m) (s ∷ e ∷ z ∷ []) k)) (Fits (suc m) low (a ∷ s ∷ e ∷ z ∷ [])) _
-    (λ k f. ⊎_elim (fits_here (suc m) low k (a ∷ s ∷ e ∷ z ∷ [])) (λ g. ⊎_elim (fits_every m low a (s ∷ e ∷ z ∷ []) k) (fits_only m low a (s ∷ e ∷ z ∷ []) k) g) f)
-    (λ k f. fits_next m low a (s ∷ e ∷ z ∷ []) k f) (are e z el zl x n)
+-- no key ends before this place or is for every index
+pub cells_of_only : (rules : List Rule) (m low i step : ℕ) (rest : ℕ → ℕ → List ℕ) (cells : CellRules) → step ≡ key_base ^ m
+    → ((e z : ℕ) → e + 2 < key_base → z + 2 < key_base → AreIndices m (rest e z)) → ((r : Rule) → Contains rules r → low ≤ r.key → r.key < low + step + step → ⊥)
+    → AreCellRules rules (λ e z. Fits m (low + (i + 2) * step) (rest e z)) cells → AreCellRules rules (λ e z. Fits (suc m) low (i ∷ rest e z)) cells
+cells_of_only rules m low i step rest cells is small none are = λ e z el zl x n. newest_only rules m low i step (rest e z) _ is (small e z el zl) none (are e z el zl x n)
 
 -- ---- one cell
 -- no place, `*`, or the observation

@@ -104,6 +104,14 @@ newest_deeper rules evens onlys m low i indices step here every only d h spanned
     (subst (λ s. IsNewest onlys (Fits (m - 1) (low + (i + 2) * s) indices) only) d.step_is o))
 
 -- no key ends before this place or is for every index
+pub newest_only : (rules : List Rule) (m low i step : ℕ) (indices : List ℕ) (x : Option ℕ) → step ≡ key_base ^ m → AreIndices m indices
+    → ((r : Rule) → Contains rules r → low ≤ r.key → r.key < low + step + step → ⊥) → IsNewest rules (Fits m (low + (i + 2) * step) indices) x → IsNewest rules (Fits (suc m) low (i ∷ indices)) x
+newest_only rules m low i step indices x is small none only =
+    newest_of_three rules m low i indices None None x (λ r c e. none r c (omega (arith, e)) (omega (arith, e, is, power_some m)))
+    (newest_of_none rules m (low + key_base ^ m) indices small (λ r c l h. none r c (omega (arith, l)) (omega (arith, h, is))))
+    (subst (λ (t : ℕ). IsNewest rules (Fits m (low + (i + 2) * t) indices) x) is only)
+
+-- the same, from a part
 pub newest_of_only : (rules onlys : List Rule) (m low i : ℕ) (indices : List ℕ) (step : ℕ) (only : Option ℕ) → IsDeeper m low i indices step
     → ((r : Rule) → Contains rules r → low ≤ r.key → r.key < low + step + step → ⊥)
     → IsSpan rules onlys (low + (i + 2) * step) step → IsNewest onlys (Fits (m - 1) (low + (i + 2) * step) indices) only

@@ -15,13 +15,16 @@ use Rattle.polcert_rules.proofs.RewardLaws.RewardValues.{number_reward}
 pub false_of : (b : Bool) → IsTrue (not b) → b ≡ false
 false_of b h1 = grind arith
 
+pub is_false : (b : Bool) → IsFalse b → b ≡ false
+is_false b h = grind arith
+
 -- ---- what the search finds
 none_here : (rules part : List Rule) (low : ℕ) (here : Option ℕ) → IsSpan rules part low (key_base ^ 2) → IsNewest part (λ k. k ≡ low) here → false ≡ is_some here
     → (r : Rule) → Contains rules r → r.key ≡ low → ⊥
 none_here rules part low None span newest none = newest_here rules part low (key_base ^ 2) None (omega arith) span newest
 none_here rules part low (Some n) span newest none = cc
 
-none_within : (rules part : List Rule) (low : ℕ) (empty : Bool) → IsSpan rules part low (key_base ^ 2) → empty ≡ (length part == 0) → IsFalse (not empty)
+none_within : (rules part : List Rule) (low : ℕ) (empty : Bool) → IsSpan rules part low (key_base ^ 2) → empty ≡ (length part == 0) → empty ≡ true
     → (r : Rule) → Contains rules r → low ≤ r.key → r.key < low + key_base ^ 2 → ⊥
 none_within rules [] low empty span is some_left r among from to =
     let inside = (span r).1 (among, from, to) in
@@ -31,7 +34,7 @@ none_within rules-0 (x ∷ xs) low empty span is some_left r among from to = gri
 
 pub unnamed_after : (rules first second : List Rule) (low s : ℕ) (here : Option ℕ) (empty : Bool) → IsSpan rules first low (key_base ^ 2)
     → IsNewest first (λ k. k ≡ low) here → false ≡ is_some here → IsSpan rules second (low + (s + 2) * key_base ^ 2) (key_base ^ 2) → empty ≡ (length second == 0)
-    → IsFalse (not empty) → (r : Rule) → Contains rules r → NamesStartAfter low s r.key → ⊥
+    → empty ≡ true → (r : Rule) → Contains rules r → NamesStartAfter low s r.key → ⊥
 unnamed_after rules first second low s here empty span newest none named is some_left r among (inl at) = none_here rules first low here span newest none r among at
 unnamed_after rules-0 first second low s here empty span newest none named is some_left r among (inr within) = search (rules, none_within)
 
