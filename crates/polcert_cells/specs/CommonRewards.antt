@@ -19,3 +19,11 @@ pub record IsCommonReward (r : ℕ → ℤ) (count : ℕ) (common : CommonReward
 -- The rewards of an action and a start state, numbered as a text lists them: end state after end state, in each by observation.
 abbrev pub row_reward : CellTable → ℕ → ℕ → ℕ → ℤ
 row_reward m a s k = m.r a s (k / m.observations) (k % m.observations)
+
+-- the numbers of the first cells rise
+abbrev pub AreOrdered : CommonReward → List RewardCell → Type 0
+AreOrdered common cells = (j k : ℕ) → j < k → k < common.exceptions → (cell_at cells j).observation < (cell_at cells k).observation
+
+-- whatever is observed, all end states have the reward in common except those of the first cells, in order
+abbrev pub AreEndRewards : CellTable → ℕ → ℕ → CommonReward → List RewardCell → Type 0
+AreEndRewards m a s common cells = ((z : ℕ) → z < m.observations → IsCommonReward (λ e. m.r a s e z) m.states common cells) × AreOrdered common cells

@@ -2,7 +2,7 @@
 ghost use Rattle.std.specs.Prelude.{◌≡◌, ℕ, ◌<◌, ◌+◌, IsTrue, length, pos, slice_index_or, ◌*◌, None};
 ghost use Rattle.std.specs.Prelude.{slice_index};
 ghost use Rattle.std.specs.Option.{ForSome};
-ghost use Rattle.polcert_cells.specs.CommonRewards.{IsCommonReward, row_reward};
+ghost use Rattle.polcert_cells.specs.CommonRewards.{IsCommonReward, AreEndRewards, row_reward};
 ghost use Rattle.polcert_cells.specs.Tables.{CellTable, IsProper, IsWithinLimits};
 ghost use Rattle.polcert_cells.specs.BorrowedRows.{IsRowOf, IsStep};
 
@@ -145,6 +145,21 @@ pub trait Cells {
         requires start { s < (table self.now).states }
         ensures { ForSome result (λ common. IsCommonReward (row_reward (table self.now) a s)
             ((table self.now).states * (table self.now).observations) common exceptions.new) }
+    {
+        None
+    }
+
+    /// Returns the reward that all end states but a few have when action `a` is taken in state `s`, whatever is observed, and fills in
+    /// the rewards of these few, each numbered by its end state, in order, if they are known at once. `None`: unknown.
+    fn find_end_rewards(
+        &self,
+        a: usize,
+        s: usize,
+        exceptions: &mut [RewardCell],
+    ) -> Option<CommonReward>
+        requires action { a < (table self.now).actions }
+        requires start { s < (table self.now).states }
+        ensures { ForSome result (λ common. AreEndRewards (table self.now) a s common exceptions.new) }
     {
         None
     }

@@ -20,7 +20,7 @@ unfoldable pub use Rattle.polcert_check.specs.Shortfall.{largest_amount}
 pub use Rattle.polcert_check.specs.StartMost.{IsStartMost, StartPromiseAbove}
 pub use Rattle.polcert_check.specs.StartWorth.{IsBestStart, IsCeilQuotient, IsFirstGreatest, IsFloorQuotient, IsStartWorth, StartPromise, start_sum}
 pub use Rattle.polcert_check.specs.Steps.CheckInput.{checked_controller, controller}
-pub use Rattle.polcert_check.specs.Steps.Exceptions.{AreExcepted, IsWeighed, row_weight, weighed_total}
+pub use Rattle.polcert_check.specs.Steps.Exceptions.{AreBefore, AreExcepted, IsWeighed, row_weight, weighed_total}
 pub use Rattle.polcert_check.specs.Steps.Factored.{AreKnown, IsLeastOf, IsPairVerdict, Misses, expected_reward, expected_value, reward_at_end, value_at_end, value_term}
 pub use Rattle.polcert_check.specs.Steps.Findings.{IsFirstOf, IsFound, IsFoundBefore, IsPair, IsVerdictFor, IsWalked, IsWorstOf}
 pub use Rattle.polcert_check.specs.Steps.FollowedCells.{followed, followed_is_proper, followed_is_within}

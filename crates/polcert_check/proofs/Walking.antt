@@ -4,6 +4,7 @@ pub mod Earning
 pub mod Excepted
 pub mod Expecting
 pub mod Found
+pub mod Listed
 pub mod Marking
 pub mod Missing
 pub mod Outcomes

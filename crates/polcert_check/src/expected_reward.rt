@@ -1,11 +1,11 @@
 //! The reward that an action expects at a state, shared by start states that no reward tells apart.
 ghost use Rattle.std.specs.Prelude.{◌≡◌, ℕ, ◌*◌, ◌^◌, ◌<◌, ◌≤◌, ℤ, pos, ◌*ℤ◌, unsigned_abs, length};
 ghost use Rattle.std.specs.Prelude.{slice_index_or};
-ghost use Rattle.polcert_check.specs.Steps.Exceptions.{AreExcepted, row_weight, weighed_total};
+ghost use Rattle.polcert_check.specs.Steps.Exceptions.{AreBefore, AreExcepted, row_weight, weighed_total};
 ghost use Rattle.polcert_check.specs.Steps.Ranges.{most_sum};
 ghost use Rattle.polcert_check.specs.Steps.Factored.{reward_at_end, expected_reward, AreKnown, AreAtEnds};
 ghost use Rattle.polcert_cells.specs.declared.elements.TheConstants.{MOST_STATES, MOST_OBSERVATIONS};
-ghost use Rattle.polcert_cells.specs.CommonRewards.{cell_at};
+ghost use Rattle.polcert_cells.specs.CommonRewards.{cell_at, AreEndRewards, AreOrdered, IsCommonReward};
 ghost use Rattle.std.specs.Option.{ForSome};
 
 use crate::end_values::{next_end, next_observation};
@@ -213,8 +213,95 @@ fn sum_row<C: Cells>(cells: &C, a: usize, s: usize, exceptions: &mut [RewardCell
     Some(sum_excepted(scale, common, few, |k| row_weight(cells, a, s, k)))
 }
 
+/// Returns the same, if few end states have another reward, whatever is observed, than the one that most have in common.
+fn sum_ends<C: Cells>(cells: &C, a: usize, s: usize, exceptions: &mut [RewardCell]) -> Option<i128>
+    requires action { a < (C.table cells.now).actions }
+    requires start { s < (C.table cells.now).states }
+    ensures { ForSome result (λ sum. sum ≡ expected_reward (C.table cells.now) a s) }
+{
+    let most = exceptions
+        .len()
+        .min(count_ends(cells, a, s).saturating_mul(EXCEPTIONS_PER_END));
+    let few = &mut exceptions[..most];
+    let common = cells.find_end_rewards(a, s, few)?;
+    Some(sum_listed(cells, a, s, common, few))
+}
+
+/// Returns the reward that action `a` expects at state `s`, by the end states whose rewards differ from the common one.
+fn sum_listed<C: Cells>(
+    cells: &C,
+    a: usize,
+    s: usize,
+    common: CommonReward,
+    listed: &[RewardCell],
+) -> i128
+    requires action { a < (C.table cells.now).actions }
+    requires start { s < (C.table cells.now).states }
+    requires rewards { AreEndRewards (C.table cells.now) a s common listed.now }
+    ensures { result ≡ expected_reward (C.table cells.now) a s }
+{
+    let scale = cells.o_scale();
+    let mut sum: i128 = 0;
+    let mut next = 0;
+    let row = cells.t_row(a, s);
+    let mut at = 0;
+    while let Some(end) = next_end(cells, a, s, row, at) {
+        next = skip_listed(common, listed, next, end.column);
+        let reward = listed_reward(common, listed, next, end.column);
+        let at_end = weigh(scale, reward as i128);
+        sum += weigh(end.weight, at_end);
+        at = end.next;
+    }
+    sum
+}
+
+/// Returns the place of the first listed end state from place `from` on that is not before end state `e`.
+#[inline(always)]
+fn skip_listed(common: CommonReward, listed: &[RewardCell], from: usize, e: usize) -> usize
+    requires room { common.exceptions ≤ length listed.now }
+    requires before { AreBefore listed.now from e }
+    requires from { from ≤ common.exceptions }
+    ensures before { AreBefore listed.now result e }
+    ensures within { result ≤ common.exceptions }
+    ensures reached { result < common.exceptions → e ≤ (cell_at listed.now result).observation }
+{
+    let mut place = from;
+    while place < common.exceptions && listed[place].observation < e {
+        place += 1;
+    }
+    place
+}
+
+/// Returns the reward at end state `e`: that of the listed one at this place, if it is that end state, or the common one.
+#[inline(always)]
+fn listed_reward(common: CommonReward, listed: &[RewardCell], place: usize, e: usize) -> i64
+    requires room { common.exceptions ≤ length listed.now }
+    requires before { AreBefore listed.now place e }
+    requires reached { place < common.exceptions → e ≤ (cell_at listed.now place).observation }
+    ensures { (r : ℕ → ℤ) (count : ℕ) → e < count → IsCommonReward r count common listed.now
+        → AreOrdered common listed.now → result ≡ r e }
+{
+    if place < common.exceptions && listed[place].observation == e {
+        listed[place].reward
+    } else {
+        common.reward
+    }
+}
+
 /// Returns the reward that action `a` expects at state `s`, on the scale of the weights of one step.
 pub fn expected_reward<C: Cells>(cells: &C, a: usize, s: usize, buffer: &mut RewardBuffer) -> i128
+    requires action { a < (C.table cells.now).actions }
+    requires start { s < (C.table cells.now).states }
+    ensures { result ≡ expected_reward (C.table cells.now) a s }
+{
+    match sum_ends(cells, a, s, &mut buffer.exceptions) {
+        Some(sum) => sum,
+        None => sum_by_observation(cells, a, s, buffer),
+    }
+}
+
+/// Returns the same, where a reward may depend on what is observed.
+fn sum_by_observation<C: Cells>(cells: &C, a: usize, s: usize, buffer: &mut RewardBuffer) -> i128
     requires action { a < (C.table cells.now).actions }
     requires start { s < (C.table cells.now).states }
     ensures { result ≡ expected_reward (C.table cells.now) a s }

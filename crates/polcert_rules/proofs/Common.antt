@@ -1,6 +1,6 @@
 -- The names of std and of specs that several proofs of this crate cite, passed on from one place. Declares nothing.
 pub use Rattle.polcert_cells.specs.Cells.{IsLastCovering, covers, fit_places, fits_place, is_table, last, last_covering, reward, reward_of, value_or, weight, weight_of}
-pub use Rattle.polcert_cells.specs.CommonRewards.{IsCommonReward, cell_at}
+pub use Rattle.polcert_cells.specs.CommonRewards.{AreOrdered, IsCommonReward, cell_at}
 pub use Rattle.polcert_cells.specs.Elements.{count_of, most_actions, most_elements, most_observations, most_states}
 pub use Rattle.polcert_cells.specs.Entry.{forms}
 pub use Rattle.polcert_cells.specs.EntryRefs.{all_rewards, body_of, entry_of}

@@ -9,7 +9,7 @@ ghost use Rattle.polcert_cells.specs.Elements.{count_of};
 ghost use Rattle.polcert_cells.specs.Preamble.{Preamble, dimensions};
 ghost use Rattle.polcert_cells.specs.Steps.Sound.{IsSoundEntry};
 ghost use Rattle.polcert_cells.specs.Cells.{reward};
-ghost use Rattle.polcert_cells.specs.CommonRewards.{IsCommonReward};
+ghost use Rattle.polcert_cells.specs.CommonRewards.{IsCommonReward, AreOrdered};
 ghost use Rattle.polcert_rules.specs.Steps.NamedCells.{AreNewestAt, AreNamedCells};
 ghost use Rattle.polcert_rules.specs.Steps.CellRules.{AreCellRules, AreCellsOf, AreProperCells};
 ghost use Rattle.std.specs.Prelude.{◌*◌, ◌/◌, ◌%◌};
@@ -255,8 +255,8 @@ impl Rewards {
     }
 
     /// Returns the reward that all end states and observations but a few have if this action is taken in the start state, and fills in those
-    /// of these few, each numbered by its end state times the number of observations plus its observation. `None`: entries name more than
-    /// there is room for, or give more than one number.
+    /// of these few, each numbered by its end state times the number of observations plus its observation, in order. `None`: entries name
+    /// more than there is room for, or give more than one number.
     pub fn find_row(
         &self,
         action: usize,
@@ -265,10 +265,11 @@ impl Rewards {
     ) -> Option<CommonReward>
         requires action { action < self.now.shape.actions }
         requires start { start < self.now.shape.states }
-        ensures { (p : Preamble) (entries : List E) → AreRewardsOf p entries self.now →
+        ensures common { (p : Preamble) (entries : List E) → AreRewardsOf p entries self.now →
             ForSome result (λ common. IsCommonReward (λ k. reward p entries
             (action ∷ start ∷ (k / self.now.shape.observations) ∷ (k % self.now.shape.observations) ∷ []))
             (self.now.shape.states * self.now.shape.observations) common exceptions.new) }
+        ensures rising { ForSome result (λ common. AreOrdered common exceptions.new) }
     {
         let Some(list) = self.rules.cell_rules(action, start) else {
             return None;

@@ -6,6 +6,7 @@ use Rattle.polcert_cells.specs.CommonRewards.{cell_at}
 use Rattle.polcert_cells.specs.Meaning.{observation_weight, reward_index, IsSame}
 use Rattle.polcert_tables.specs.Kept.{observed_at, meaning}
 use Rattle.polcert_tables.specs.Steps.KeptOf.{AreObservationsOf}
+use Rattle.std.proofs.Math.Nat.{div-one, mod-one, mul-one}
 use Rattle.std.proofs.lemmas.Bool.Decides.{nat_tests}
 use Rattle.polcert_cells.specs.declared.common_reward.CommonReward.{CommonReward}
 use Rattle.polcert_cells.specs.declared.common_reward.RewardCell.{RewardCell}
@@ -74,6 +75,10 @@ states_seen p = grind arith
 -- otherwise rewards run over what is observed
 same_count : (p : Preamble) → is_mdp p ≡ false → count_of (rewarded p) ≡ count_of (observed p)
 same_count p = grind arith
+
+-- in an MDP rewards run over nothing else
+one_rewarded : (p : Preamble) → is_mdp p ≡ true → count_of (rewarded p) ≡ 1
+one_rewarded p = grind arith
 
 -- ---- of what a model keeps
 few_in : (k : Kept) → IsKeptModel k → AreFew k.preamble
@@ -147,6 +152,32 @@ module _ (k : Kept) (d : IsKeptModel k) where
         within = c.within;
         each = λ n m. there (cell_at cells n).observation (c.within n m) ∙ c.each n m;
         others = λ n m unnamed. there n m ∙ c.others n m unnamed;
+      }
+
+  -- the same in an MDP, of end states alone
+  pub model_end_reward : (a s z : ℕ) (found : Option CommonReward) (cells : List RewardCell) → a < count_of k.preamble.actions → s < count_of k.preamble.states → z < count_of (observed k.preamble)
+      → is_mdp k.preamble ≡ true
+      → ((p : Preamble) (entries : List Entry) → AreRewardsOf p entries k.rewards
+      → ForSome found (λ common. IsCommonReward (λ n. reward p entries (a ∷ s ∷ n / k.rewards.shape.observations ∷ n % k.rewards.shape.observations ∷ []))
+      (k.rewards.shape.states * k.rewards.shape.observations) common cells))
+      → ForSome found (λ common. IsCommonReward (λ e. (meaning k).r a s e z) (count_of k.preamble.states) common cells)
+  model_end_reward a s z found cells i j l mdp given = λ common is.
+      let states : k.rewards.shape.states ≡ count_of k.preamble.states = sym d.r_counts.states in
+      let one : k.rewards.shape.observations ≡ 1 = sym d.r_counts.observations ∙ one_rewarded k.preamble mdp in
+      let c = subst (λ (n : ℕ). IsCommonReward (λ e. reward d.items.preamble d.items.entries (a ∷ s ∷ e / n ∷ e % n ∷ [])) (count_of k.preamble.states * n) common cells) one
+      (subst (λ (n : ℕ). IsCommonReward (λ e. reward d.items.preamble d.items.entries (a ∷ s ∷ e / k.rewards.shape.observations ∷ e % k.rewards.shape.observations ∷ []))
+      (n * k.rewards.shape.observations) common cells) states (given d.items.preamble d.items.entries d.said.rewards common is)) in
+      let there : (e : ℕ) → e < count_of k.preamble.states → (meaning k).r a s e z ≡ reward d.items.preamble d.items.entries (a ∷ s ∷ e / 1 ∷ e % 1 ∷ []) = λ e m.
+      (kept_same d.items k (few_in k d) d.said).r a s e z i j m l
+      ∙ ap (λ (p : Preamble). reward d.items.preamble d.items.entries (a ∷ s ∷ e ∷ reward_index p z ∷ [])) (sym d.said.preamble)
+      ∙ ap (λ b. reward d.items.preamble d.items.entries (a ∷ s ∷ e ∷ cond b 0 z ∷ [])) mdp
+      ∙ rw (div-one e, mod-one e) refl in
+      record {
+        room = c.room;
+        distinct = c.distinct;
+        within = λ n m. rw (sym (mul-one (count_of k.preamble.states))) (c.within n m);
+        each = λ n m. there (cell_at cells n).observation (rw (sym (mul-one (count_of k.preamble.states))) (c.within n m)) ∙ c.each n m;
+        others = λ e m unnamed. there e m ∙ c.others e (rw (mul-one (count_of k.preamble.states)) m) unnamed;
       }
 
   pub model_for_all_ends : (a s : ℕ) (found : Option ℤ) → a < count_of k.preamble.actions → s < count_of k.preamble.states

@@ -429,6 +429,18 @@ impl Cells for Model {
         }
     }
 
+    fn find_end_rewards(
+        &self,
+        a: usize,
+        s: usize,
+        exceptions: &mut [RewardCell],
+    ) -> Option<CommonReward> {
+        match &self.preamble.observations {
+            None => self.rewards.find_row(a, s, exceptions),
+            Some(_) => None,
+        }
+    }
+
     fn r_constant(&self, a: usize, s: usize) -> Option<i64> {
         self.rewards.for_all_ends(a, s)
     }

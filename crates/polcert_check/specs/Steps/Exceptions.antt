@@ -28,6 +28,10 @@ pub record AreExcepted (answers : ℕ → ℕ → Type 0) (scale : ℕ) (common 
   pub small : unsigned_abs common.reward + largest ≤ b
   pub limited : (k : ℕ) → k < count → unsigned_abs (r k) ≤ largest
 
+-- the first cells, up to this place, have numbers below n
+abbrev pub AreBefore : List RewardCell → ℕ → ℕ → Type 0
+AreBefore cells place n = (k : ℕ) → k < place → (cell_at cells k).observation < n
+
 -- the weighted sum of rewards
 abbrev pub weighed_total : (ℕ → ℕ) → (ℕ → ℤ) → ℕ → ℤ
 weighed_total w r count = total_below (λ k. pos (w k) *ℤ r k) count

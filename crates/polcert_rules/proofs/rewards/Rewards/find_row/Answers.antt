@@ -1,13 +1,13 @@
 use Rattle.std.proofs.Common.{◌≡◌, ◌∙◌, ◌<◌, ◌+◌, ◌*◌, ◌/◌, ◌%◌, ℕ, [], ◌∷◌, Some, None, map, length, slice_get, FitsSigned, w64, sym, ap, subst, arith, rules, div-lt_iff_lt-mul, mod-lt, div-add-mod', mul_comm, Option}
 use Rattle.std.proofs.lemmas.Int.{to_z-of_z}
-use Rattle.polcert_rules.proofs.Common.{div-mul-add, mod-mul-add, mul-add-lt, same_Some, slice_get-get_or, count_of, dimensions, reward, Reward, AreIndices, table_key, most_places, max_option, IsNewest, AreWithin, IsCommonReward, cell_at, CommonReward, RewardRules, NamesEnd}
+use Rattle.polcert_rules.proofs.Common.{div-mul-add, mod-mul-add, mul-add-lt, same_Some, slice_get-get_or, count_of, dimensions, reward, Reward, AreIndices, table_key, most_places, max_option, IsNewest, AreWithin, IsCommonReward, AreOrdered, cell_at, CommonReward, RewardRules, NamesEnd}
 use Rattle.polcert_rules.specs.Keys.{Fits}
 use Rattle.polcert_rules.proofs.Indexes.NotedLaws.{later_none}
 use Rattle.polcert_rules.proofs.RewardLaws.CellRewards.{some_factor, newest_named, none_named}
 use Rattle.polcert_rules.proofs.rewards.Rewards.find_row.Goals as goal
 
-pub returns : goal.returns
-returns c p entries are common is =
+pub returns-clause-common : goal.returns-clause-common
+returns-clause-common c p entries are common is =
     let a = c.args.action in
     let s = c.args.start in
     let list = c.in-Some.list in
@@ -47,3 +47,7 @@ returns c p entries are common is =
           c.single_number.ensures p entries are c.in-Some-single_number.reward c.in-Some-single_number.is (a ∷ s ∷ e ∷ z ∷ []) within (c.body_of.ensures (a ∷ s ∷ e ∷ z ∷ []) p entries small are whole)
           ∙ sym (to_z-of_z w64 c.in-Some-single_number.reward fits);
     })
+
+pub returns-clause-rising : goal.returns-clause-rising
+returns-clause-rising c = λ common is.
+    subst (λ (x : CommonReward). AreOrdered x c.fill_cells.new.cells) (same_Some _ _ is) (c.fill_cells.ensures.cells c.if-not-fill_cells.false).1.rising

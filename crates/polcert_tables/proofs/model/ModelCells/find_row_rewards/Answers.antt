@@ -9,4 +9,4 @@ returns-in-Some c =
     model_row_reward c.args.self.now.kept (subst (λ (m : Contents). IsKeptModel m.kept) c.self.view_is c.self.invariant) c.args.a c.args.s c.find_row.result c.find_row.new.exceptions c.requires.action c.requires.start pomdp
     (subst (λ (m : Contents). (p : Preamble) (entries : List Entry) → AreRewardsOf p entries m.kept.rewards
     → ForSome c.find_row.result (λ common. IsCommonReward (λ k. reward p entries (c.args.a ∷ c.args.s ∷ k / m.kept.rewards.shape.observations ∷ k % m.kept.rewards.shape.observations ∷ []))
-    (m.kept.rewards.shape.states * m.kept.rewards.shape.observations) common c.find_row.new.exceptions)) c.self.view_is c.find_row.ensures)
+    (m.kept.rewards.shape.states * m.kept.rewards.shape.observations) common c.find_row.new.exceptions)) c.self.view_is c.find_row.ensures.common)

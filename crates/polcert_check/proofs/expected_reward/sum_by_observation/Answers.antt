@@ -4,7 +4,7 @@ use Rattle.std.proofs.lemmas.Int.{to_z-of_z}
 use Rattle.polcert_check.proofs.Sums.Gaps.{weighed_is}
 use Rattle.polcert_check.proofs.Sums.Scales.{scales_small}
 use Rattle.polcert_check.proofs.Walking.Earning.{common, common_room}
-use Rattle.polcert_check.proofs.expected_reward.expected_reward.Goals as goal
+use Rattle.polcert_check.proofs.expected_reward.sum_by_observation.Goals as goal
 
 pub weigh-at_end-requires-clause-weight : goal.weigh-at_end-requires-clause-weight
 weigh-at_end-requires-clause-weight g c = rw c.o_scale.ensures (scales_small (g.C.Cells.table c.args.cells.now) (g.met.C.Cells.is_within_limits c.args.cells.now)).1
