@@ -1,5 +1,5 @@
 //! Tokens and rounded values that stand whole at the front of some bytes, cut without going through a stream.
-ghost use Rattle.std.specs.Prelude.{◌≡◌, ◌≤◌, ◌∷◌, [], ℕ, length, take, IfSome, ◌+◌, ◌-◌, ◌^◌, ◌<◌, ◌++◌};
+ghost use Rattle.std.specs.Prelude.{◌≡◌, ◌≤◌, ◌∷◌, [], ℕ, length, take, get_or, IfSome, ◌+◌, ◌-◌, ◌*◌, ◌^◌, ◌<◌, ◌++◌};
 ghost use Rattle.std.specs.Prelude.{List, drop};
 ghost use Rattle.polcert_text.specs.Steps.Scan.{gap_through};
 ghost use Rattle.polcert_text.specs.Beginning.{BeginWith, BeginWithOne, BeginWithNumber, BeginWithDigits};
@@ -8,13 +8,13 @@ ghost use Rattle.polcert_text.specs.Reading.{lexeme_of};
 ghost use Rattle.polcert_text.specs.Steps.ScanOf.{EndsAsNumber, EndsAsDigits, IsNumberFrom};
 ghost use Rattle.std.specs.Str.Parse.{digits_value};
 ghost use Rattle.polcert_text.specs.FrontValues.{BeginWithValue};
-ghost use Rattle.polcert_text.specs.Steps.FrontSizes.{AreDigitsFrom, AreSixDigits, IsTail, EndsAsSize};
+ghost use Rattle.polcert_text.specs.Steps.FrontSizes.{AreDigitsFrom, AreDecimals, AreDigits, packed, IsTail, EndsAsSize};
 
 use crate::bytes::{
     quick_is_blank, quick_is_colon, quick_is_digit, quick_is_letter, quick_is_minus,
     quick_is_point, quick_sign,
 };
-use crate::number::{MILLION, Rounding, Size, few_digits, power_of_ten, signed, with_zeros};
+use crate::number::{MILLION, Rounding, Size, signed};
 use crate::tokens::{Gap, LONGEST_TOKEN, Token, TokenKind, ended_name, ended_name_or_mark};
 
 /// An unsigned number at the front of some bytes: its value, and how many bytes it takes with the blanks before it.
@@ -190,8 +190,31 @@ const MOST_WHOLE: usize = 7;
 
 const MOST_DECIMALS: usize = 6;
 
-/// The longest numeral without decimals after the sixth, with two bytes after it. Fewer bytes are read the general way.
-const ROOM: usize = MOST_WHOLE + 1 + MOST_DECIMALS + 2;
+/// The longest numeral without decimals after the sixth, with a byte after it. Fewer bytes are read the general way.
+const ROOM: usize = MOST_WHOLE + 1 + MOST_DECIMALS + 1;
+
+/// The first digit.
+const ZERO: u64 = b'0' as u64;
+
+/// Returns the number that at most seven digits at the front spell, up to the first byte that is no digit, and where that is.
+#[inline(always)]
+fn whole_digits(bytes: &[u8]) -> (u64, usize)
+    requires { 7 < length bytes.now }
+    ensures within { result.1 ≤ 7 }
+    ensures digits { AreDigitsFrom bytes.now 0 result.1 }
+    ensures value { result.0 ≡ digits_value 10 (take result.1 bytes.now) }
+    ensures few { result.0 < 10_000_000 }
+{
+    let mut number: u64 = 0;
+    let mut at: usize = 0;
+    while at < MOST_WHOLE && quick_is_digit(bytes[at]) {
+        // (The digit in 64 bits, as it is added: a difference of bytes would be widened once more.)
+        let digit = u64::from(bytes[at]) - ZERO;
+        number = number * 10 + digit;
+        at += 1;
+    }
+    (number, at)
+}
 
 #[inline(always)]
 fn ended_digits(bytes: &[u8]) -> Option<FrontDigits>
@@ -200,7 +223,7 @@ fn ended_digits(bytes: &[u8]) -> Option<FrontDigits>
     if bytes.len() <= MOST_WHOLE {
         return None;
     }
-    let (value, len) = few_digits(0, bytes, 0, MOST_WHOLE);
+    let (value, len) = whole_digits(bytes);
     if len == 0 || !quick_is_blank(bytes[len]) {
         return None;
     }
@@ -214,7 +237,7 @@ fn ended_number(bytes: &[u8]) -> Option<FrontDigits>
     if bytes.len() < ROOM {
         return None;
     }
-    let (whole, point) = few_digits(0, bytes, 0, MOST_WHOLE);
+    let (whole, point) = whole_digits(bytes);
     if point == 0 {
         return None;
     }
@@ -227,13 +250,13 @@ fn ended_number(bytes: &[u8]) -> Option<FrontDigits>
             value: whole * MILLION,
         });
     }
-    let (number, len) = decimals(whole, bytes, point + 1);
-    if !quick_is_blank(bytes[len]) {
+    let fraction = decimals(bytes, point + 1);
+    if !quick_is_blank(bytes[fraction.end]) {
         return None;
     }
     Some(FrontDigits {
-        len,
-        value: number * power_of_ten(point + 1 + MOST_DECIMALS - len),
+        len: fraction.end,
+        value: whole * MILLION + fraction.millionths,
     })
 }
 
@@ -320,7 +343,7 @@ fn ended_size(bytes: &[u8]) -> Option<FrontSize>
     if bytes.len() < ROOM {
         return None;
     }
-    let (whole, point) = digits_until(0, bytes, 0, MOST_WHOLE);
+    let (whole, point) = whole_digits(bytes);
     if point == 0 {
         return None;
     }
@@ -337,49 +360,24 @@ fn ended_size(bytes: &[u8]) -> Option<FrontSize>
         return None;
     }
     let full = point + DECIMALS;
-    let (number, kept) = decimals(whole, bytes, point + 1);
-    let Some(tail) = tail_from(bytes, kept, full) else {
+    let fraction = decimals(bytes, point + 1);
+    let Some(tail) = tail_from(bytes, fraction.end, full) else {
         return None;
     };
     Some(FrontSize {
         len: tail.end,
         size: Size {
-            floor: with_zeros(number, full - kept),
+            floor: whole * MILLION + fraction.millionths,
             is_inexact: tail.is_inexact,
         },
     })
 }
 
-/// Returns the number that the digits of `number` and at most six from `from` on spell, up to the first byte that is no digit, and where
-/// that is. Most numbers have six decimals, which are read at once.
-#[inline(always)]
-fn decimals(number: u64, bytes: &[u8], from: usize) -> (u64, usize)
-    requires within { from + 8 ≤ length bytes.now }
-    requires few { number < 1_000_000_000 }
-    ensures within { (from ≤ result.1) × (result.1 ≤ from + 6) }
-    ensures digits { AreDigitsFrom bytes.now from result.1 }
-    ensures value { (front : List ℕ) → number ≡ digits_value 10 front
-        → result.0 ≡ digits_value 10 (front ++ take (result.1 - from) (drop from bytes.now)) }
-    ensures few { (m : ℕ) → number < 10 ^ m → result.0 < 10 ^ (m + (result.1 - from)) }
-{
-    match six_digits(bytes, from) {
-        Some(six) => (number * MILLION + six, from + MOST_DECIMALS),
-        None => fewer_decimals(number, bytes, from),
-    }
-}
-
-/// Does the same digit by digit. (Apart, so that the six bytes above are loaded once.)
-#[inline(never)]
-fn fewer_decimals(number: u64, bytes: &[u8], from: usize) -> (u64, usize)
-    requires within { from + 8 ≤ length bytes.now }
-    requires few { number < 1_000_000_000 }
-    ensures within { (from ≤ result.1) × (result.1 ≤ from + 6) }
-    ensures digits { AreDigitsFrom bytes.now from result.1 }
-    ensures value { (front : List ℕ) → number ≡ digits_value 10 front
-        → result.0 ≡ digits_value 10 (front ++ take (result.1 - from) (drop from bytes.now)) }
-    ensures few { (m : ℕ) → number < 10 ^ m → result.0 < 10 ^ (m + (result.1 - from)) }
-{
-    digits_until(number, bytes, from, from + MOST_DECIMALS)
+/// The decimals of a number: the millionths that they are, and where they end.
+#[derive(Clone, Copy)]
+struct FrontDecimals {
+    millionths: u64,
+    end: usize,
 }
 
 /// The digit 0 in each of six bytes.
@@ -388,64 +386,62 @@ const SIX_ZEROS: u64 = 0x3030_3030_3030;
 /// Added to a byte that is less than 128, it gives 128 or more unless the byte is 9 or less.
 const SIX_ABOVE: u64 = 0x7676_7676_7676;
 
-/// The highest bit of each byte.
-const HIGH_BITS: u64 = 0x8080_8080_8080_8080;
+/// The highest bit of each of six bytes.
+const SIX_HIGH_BITS: u64 = 0x8080_8080_8080;
 
-/// How many bits are not of the first six bytes.
-const OTHER_BITS: u32 = 16;
+const SIX_BYTES: u64 = 0xFFFF_FFFF_FFFF;
 
-/// Returns the number that six digits from `from` on spell. `None`: one of the bytes is no digit.
+const BYTE_BITS: u32 = 8;
+
+/// Returns the decimals from `from` on, up to the first byte that is no digit, and at most six.
 #[inline(always)]
-fn six_digits(bytes: &[u8], from: usize) -> Option<u64>
-    requires { from + 8 ≤ length bytes.now }
-    ensures { IfSome result (AreSixDigits bytes.now from) }
+fn decimals(bytes: &[u8], from: usize) -> FrontDecimals
+    requires { from + 6 ≤ length bytes.now }
+    ensures { AreDecimals bytes.now from result }
 {
-    // (Two bytes more, since eight are read at once.)
-    let word = u64::from_le_bytes([
+    let digits = six_bytes(bytes, from).wrapping_sub(SIX_ZEROS);
+    let others = (digits | digits.wrapping_add(SIX_ABOVE)) & SIX_HIGH_BITS;
+    if others == 0 {
+        return FrontDecimals {
+            millionths: six_digits_value(digits & SIX_BYTES),
+            end: from + MOST_DECIMALS,
+        };
+    }
+    let count = others.trailing_zeros() / BYTE_BITS;
+    FrontDecimals {
+        millionths: six_digits_value(digits & (1 << BYTE_BITS * count) - 1),
+        end: from + count as usize,
+    }
+}
+
+/// Returns six bytes from `from` on as one word, the first the lowest.
+#[inline(always)]
+fn six_bytes(bytes: &[u8], from: usize) -> u64
+    requires { from + 6 ≤ length bytes.now }
+    ensures { result ≡ packed (get_or bytes.now from 0) (get_or bytes.now (from + 1) 0)
+        (get_or bytes.now (from + 2) 0) (get_or bytes.now (from + 3) 0)
+        (get_or bytes.now (from + 4) 0) (get_or bytes.now (from + 5) 0) }
+{
+    let four = u32::from_le_bytes([
         bytes[from],
         bytes[from + 1],
         bytes[from + 2],
         bytes[from + 3],
-        bytes[from + 4],
-        bytes[from + 5],
-        bytes[from + 6],
-        bytes[from + 7],
     ]);
-    let digits = (word << OTHER_BITS >> OTHER_BITS).wrapping_sub(SIX_ZEROS);
-    if digits & HIGH_BITS != 0 || (digits + SIX_ABOVE) & HIGH_BITS != 0 {
-        return None;
-    }
-    // (The first, third and fifth byte of the sum are two digits each.)
-    let pairs = digits * 10 + (digits >> 8);
-    Some((pairs & 0xFF) * 10_000 + (pairs >> 16 & 0xFF) * 100 + (pairs >> 32 & 0xFF))
+    let two = u16::from_le_bytes([bytes[from + 4], bytes[from + 5]]);
+    u64::from(four) + (u64::from(two) << 32)
 }
 
-/// The first digit.
-const ZERO: u64 = b'0' as u64;
-
-/// Returns the number that the digits of `number` and those from `from` up to `until` spell, up to the first
-/// byte that is no digit, and where that is. They are so few that no test is needed for a number that is too
-/// large.
+/// Returns the number that six digits spell, each of them a byte, the first the lowest.
 #[inline(always)]
-fn digits_until(number: u64, bytes: &[u8], from: usize, until: usize) -> (u64, usize)
-    requires range { from ≤ until }
-    requires within { until ≤ length bytes.now }
-    requires few { (m : ℕ) × (number < 10 ^ m) × (m + (until - from) ≤ 18) }
-    ensures within { (from ≤ result.1) × (result.1 ≤ until) }
-    ensures digits { AreDigitsFrom bytes.now from result.1 }
-    ensures value { (front : List ℕ) → number ≡ digits_value 10 front
-        → result.0 ≡ digits_value 10 (front ++ take (result.1 - from) (drop from bytes.now)) }
-    ensures few { (m : ℕ) → number < 10 ^ m → result.0 < 10 ^ (m + (result.1 - from)) }
+fn six_digits_value(digits: u64) -> u64
+    requires { digits < 2 ^ 48 }
+    ensures { (a b c d e f : ℕ) → AreDigits a b c d e f → digits ≡ packed a b c d e f
+        → result ≡ ((((a * 10 + b) * 10 + c) * 10 + d) * 10 + e) * 10 + f }
 {
-    let mut read = number;
-    let mut at = from;
-    while at < until && quick_is_digit(bytes[at]) {
-        // (The digit in 64 bits, as it is added: a difference of bytes would be widened once more.)
-        let digit = u64::from(bytes[at]) - ZERO;
-        read = read * 10 + digit;
-        at += 1;
-    }
-    (read, at)
+    // (The first, third and fifth byte of the sum are two digits each.)
+    let pairs = digits * 10 + (digits >> BYTE_BITS);
+    (pairs & 0xFF) * 10_000 + (pairs >> 16 & 0xFF) * 100 + (pairs >> 32 & 0xFF)
 }
 
 /// Returns the decimals from `from` on, if those before are six, which end at `full`, and if a blank or a line end follows. `None`:

@@ -368,45 +368,6 @@ pub fn digits_after(number: u64, bytes: &[u8], from: usize, until: usize) -> (u6
     (read, at)
 }
 
-/// Returns the number that the digits of `number` and at most so many from `from` on spell, up to the first
-/// byte that is no digit, and where that is.
-#[inline(always)]
-pub(crate) fn few_digits(number: u64, bytes: &[u8], from: usize, most: usize) -> (u64, usize)
-    requires small { number < 10000000 }
-    requires few { most ≤ 7 }
-    requires within { from + most < length bytes.now }
-    ensures within { (from ≤ result.1) × (result.1 ≤ from + most) }
-    ensures digits { (k : ℕ) → from ≤ k → k < result.1 → class_of (get_or bytes.now k 0) ≡ ByteClass.Digit }
-    ensures value { (front : List ℕ) → number ≡ digits_value 10 front
-        → result.0 ≡ digits_value 10 (front ++ take (result.1 - from) (drop from bytes.now)) }
-    ensures small { result.0 < (number + 1) * 10 ^ (result.1 - from) }
-{
-    let mut read = number;
-    let mut count: usize = 0;
-    while count < most && quick_is_digit(bytes[from + count]) {
-        read = read * 10 + u64::from(bytes[from + count] - b'0');
-        count += 1;
-    }
-    (read, from + count)
-}
-
-/// Returns a power of ten up to a million.
-#[inline(always)]
-pub(crate) fn power_of_ten(exponent: usize) -> u64
-    requires { exponent ≤ 6 }
-    ensures { result ≡ 10 ^ exponent }
-{
-    match exponent {
-        0 => 1,
-        1 => 10,
-        2 => 100,
-        3 => 1_000,
-        4 => 10_000,
-        5 => 100_000,
-        _ => MILLION,
-    }
-}
-
 /// Tests whether a digit isn't 0.
 #[inline(always)]
 fn has_nonzero(digits: &[u8]) -> bool

@@ -1,12 +1,9 @@
 -- Numerals that end within some bytes, and their values.
 use Rattle.std.proofs.Common.{◌≡◌, ◌∙◌, ◌⊎◌, ⊎_elim, ℕ, suc, ◌+◌, ◌-◌, ◌*◌, ◌^◌, ◌<◌, ◌≤◌, ◌&&◌, ◌||◌, min, true, false, List, [], ◌∷◌, ◌++◌, length, take, drop, get_or, pos, refl, sym, ap, arith}
-use Rattle.polcert_text.proofs.Common.{pow-le-pow_right, drop-take, drop_all, list_all, list_any, digits_value, is_digit, class_of, glue_class, is_glued, are_digits, largest, IsReadable, IsExact, cap, is_nonzero, Measures, state_through, ByteClass, Digit, Point, Start, Whole, Fraction, Numeral}
-use Rattle.std.proofs.Math.Nat.{suc-mul, mul-le-mul_right}
+use Rattle.polcert_text.proofs.Common.{drop-take, drop_all, list_all, list_any, digits_value, is_digit, class_of, glue_class, is_glued, are_digits, largest, IsReadable, IsExact, cap, is_nonzero, Measures, state_through, ByteClass, Digit, Point, Start, Whole, Fraction, Numeral}
 use Rattle.std.proofs.lemmas.List.{get_or-take, get_or-drop, length-take-le, length-drop, take-take}
 use Rattle.polcert_text.specs.declared.bytes.ByteClass.TheVariants.{Blank, LineEnd}
-use Rattle.std.proofs.lemmas.Nat.{pow-add}
 use Rattle.polcert_text.proofs.Numbers.MeasureLaws.{ten_pos, and-true_left}
-use Rattle.polcert_text.proofs.Numbers.NumberLaws.{pow_next}
 use Rattle.polcert_text.proofs.Numbers.Plain.{IsPlain, plain_measures, run}
 use Rattle.polcert_text.proofs.Numbers.PlainWhole.{whole_measures}
 use Rattle.polcert_text.proofs.Scanning.Runs.{begins_whole, at_point}
@@ -67,19 +64,24 @@ whole_exact bs n number some short high digits value small =
     let m = whole_measures (take n bs) (omega (arith, len)) (λ k low below. digits_in_front bs n 0 n (omega arith) digits k low (omega (arith, len))) number (omega (arith, len)) value small in
     (m.0, measured_exactly (take n bs) (number * 1000000) m.1)
 
+-- a number is at most what it is with zeros at its end
+pub below_scaled : (number k floor : ℕ) → floor ≡ number * 10 ^ k → floor < largest → number ≤ largest
+below_scaled number k floor scaled small = grind (arith, ten_pos)
+
 -- a number below the limit, with zeros at its end
-unscaled : (number zeros floor : ℕ) → number ≤ largest → floor ≡ number * 10 ^ zeros → floor < largest → (m : ℕ) → number ≡ min cap m → floor ≡ min cap (m * 10 ^ zeros)
+pub unscaled : (number zeros floor : ℕ) → number ≤ largest → floor ≡ number * 10 ^ zeros → floor < largest → (m : ℕ) → number ≡ min cap m → floor ≡ min cap (m * 10 ^ zeros)
 unscaled number zeros floor below is small m capped =
     let same : m ≡ number = omega arith in
     let here : floor ≡ min cap (number * 10 ^ zeros) = omega arith in
     here ∙ ap (λ k. min cap (k * 10 ^ zeros)) (sym same)
 
 -- the number of a numeral of digits, a point and at most six digits
-pub decimal_exact : (bs : List ℕ) (p n number floor : ℕ) → 0 < p → p + 1 ≤ n → n ≤ p + 7 → n ≤ 400 → n ≤ length bs → AreDigitsAt bs 0 p → class_of (get_or bs p 0) ≡ Point → AreDigitsAt bs (p + 1) n
-    → number ≡ digits_value 10 (take p bs ++ take (n - (p + 1)) (drop (p + 1) bs)) → number ≤ largest
-    → floor ≡ number * 10 ^ (p + 7 - n) → floor < largest
+pub decimal_exact : (bs : List ℕ) (p n floor : ℕ) → 0 < p → p + 1 ≤ n → n ≤ p + 7 → n ≤ 400 → n ≤ length bs → AreDigitsAt bs 0 p → class_of (get_or bs p 0) ≡ Point → AreDigitsAt bs (p + 1) n
+    → floor ≡ digits_value 10 (take p bs ++ take (n - (p + 1)) (drop (p + 1) bs)) * 10 ^ (p + 7 - n) → floor < largest
     → IsReadable (take n bs) × IsExact false (take n bs) (pos floor)
-decimal_exact bs p n number floor some low few short high first point second value below scaled small =
+decimal_exact bs p n floor some low few short high first point second scaled small =
+    let number = digits_value 10 (take p bs ++ take (n - (p + 1)) (drop (p + 1) bs)) in
+    let below = below_scaled number (p + 7 - n) floor scaled small in
     let ns : List ℕ = take n bs in
     let len : length ns ≡ n = length-take-le n bs high in
     let plain : IsPlain ns p = record {
@@ -96,30 +98,5 @@ decimal_exact bs p n number floor some low few short high first point second val
     ap (λ m. take rest (drop (p + 1) (take m bs))) (sym all) ∙ ap (take rest) (drop-take (p + 1) rest bs) ∙ take-take rest rest (drop (p + 1) bs) (omega arith) in
     let none : drop n ns ≡ [] = drop_all n ns (omega (arith, len)) in
     let m = plain_measures ns p plain number floor n false (omega (arith, len)) (omega (arith, len))
-    (value ∙ ap (digits_value 10) (λ i. sym front i ++ sym following i)) below (unscaled number (p + 7 - n) floor below scaled small) small (sym (ap (list_any is_nonzero) none)) in
+    (ap (digits_value 10) (λ i. sym front i ++ sym following i)) below (unscaled number (p + 7 - n) floor below scaled small) small (sym (ap (list_any is_nonzero) none)) in
     (m.0, measured_exactly ns floor m.1)
-
--- ---- numbers of few digits
-
--- one digit more is less than ten times as much
-pub small_step : (read number k d : ℕ) → d ≤ 57 → read < (number + 1) * 10 ^ k → read * 10 + (d - 48) < (number + 1) * 10 ^ (k + 1)
-small_step read number k d digit small = grind (arith, pow_next)
-
--- a number of at most seven digits
-pub small_whole : (whole p : ℕ) → p ≤ 7 → whole < (0 + 1) * 10 ^ (p - 0) → whole < 10000000
-small_whole whole p few small = grind (arith, pow-le-pow_right)
-
-pub few_whole : (whole p : ℕ) → p ≤ 7 → whole < 10 ^ (0 + (p - 0)) → whole < 10000000
-few_whole whole p few small = grind (arith, pow-le-pow_right)
-
--- and with six digits more
-pub small_read : (read k : ℕ) → k ≤ 6 → read < 10 ^ (7 + k) → read < largest
-small_read read k few small = grind (arith, pow-le-pow_right)
-
--- a number with its decimals, in millionths
-pub small_scaled : (number k j : ℕ) → k + j ≡ 6 → number < 10 ^ (7 + k) → number * 10 ^ j < largest
-small_scaled number k j sum small =
-    let all : 7 + k + j ≡ 13 = omega (arith, sum) in
-    let powers : 10 ^ (7 + k) * 10 ^ j ≡ 10 ^ 13 = sym (pow-add 10 (7 + k) j) ∙ ap (λ n. 10 ^ n) all in
-    let scaled : suc number * 10 ^ j ≤ 10 ^ (7 + k) * 10 ^ j = mul-le-mul_right (10 ^ j) small in
-    omega (arith, powers, scaled, suc-mul number (10 ^ j), ten_pos j)

@@ -1,10 +1,10 @@
 -- Numerals that end within some bytes, measured: digits, a point, and however many decimals.
-use Rattle.std.proofs.Common.{◌≡◌, ◌∙◌, ⊎_elim, ℕ, suc, ◌+◌, ◌-◌, ◌*◌, ◌^◌, ◌<◌, ◌≤◌, ◌||◌, min, nat_lt, Bool, true, false, List, ◌++◌, length, take, drop, get_or, sym, ap, arith}
-use Rattle.polcert_text.proofs.Common.{pow-le-pow_right, drop-take, list_any, digits_value, class_of, largest, IsReadable, AreDigitsFrom, cap, is_nonzero, ceiling, Measures, Point}
-use Rattle.std.proofs.Math.Nat.{pow-suc}
+use Rattle.std.proofs.Common.{◌≡◌, ◌∙◌, ⊎_elim, ℕ, ◌+◌, ◌-◌, ◌*◌, ◌^◌, ◌<◌, ◌≤◌, ◌||◌, min, nat_lt, Bool, true, false, List, ◌++◌, length, take, drop, get_or, sym, ap, arith}
+use Rattle.polcert_text.proofs.Common.{drop-take, list_any, digits_value, class_of, largest, IsReadable, AreDigitsFrom, is_nonzero, ceiling, Measures, Point}
 use Rattle.std.proofs.lemmas.List.{get_or-take, get_or-drop, length-take-le, length-drop, take-take}
 use Rattle.std.proofs.lemmas.List.Folds.{list_any_at, list_any_more}
 use Rattle.std.proofs.lemmas.Bool.{lt-ltb, le-ltb}
+use Rattle.polcert_text.proofs.Numbers.FrontNumbers.{below_scaled, unscaled}
 use Rattle.polcert_text.proofs.Numbers.Plain.{IsPlain, plain_measures, at_or_after}
 use Rattle.polcert_text.proofs.Numbers.PlainWhole.{whole_measures}
 
@@ -19,13 +19,14 @@ digits_measure bs n number some short high digits value small =
     whole_measures (take n bs) (omega (arith, len)) (λ k low below. in_front bs n 0 n (omega arith) digits k low (omega (arith, len))) number (omega (arith, len)) value small
 
 -- the size of a numeral of digits, a point and decimals, of which those after the sixth are not kept
-pub decimal_measures : (bs : List ℕ) (p kept n number floor : ℕ) (is_inexact : Bool) → 0 < p → p + 1 ≤ kept → kept ≤ n → kept ≡ min n (p + 7) → n ≤ 400 → n ≤ length bs
+pub decimal_measures : (bs : List ℕ) (p kept n floor : ℕ) (is_inexact : Bool) → 0 < p → p + 1 ≤ kept → kept ≤ n → kept ≡ min n (p + 7) → n ≤ 400 → n ≤ length bs
     → AreDigitsFrom bs 0 p → class_of (get_or bs p 0) ≡ Point → AreDigitsFrom bs (p + 1) n
-    → number ≡ digits_value 10 (take p bs ++ take (kept - (p + 1)) (drop (p + 1) bs)) → number ≤ largest
-    → ((m : ℕ) → number ≡ min cap m → floor ≡ min cap (m * 10 ^ (p + 7 - kept))) → floor < largest
+    → floor ≡ digits_value 10 (take p bs ++ take (kept - (p + 1)) (drop (p + 1) bs)) * 10 ^ (p + 7 - kept) → floor < largest
     → is_inexact ≡ list_any is_nonzero (take (n - kept) (drop kept bs))
     → IsReadable (take n bs) × Measures (take n bs) floor is_inexact × (ceiling floor is_inexact ≤ largest)
-decimal_measures bs p kept n number floor is_inexact some low few kept_is short high first point second value below zeros small inexact =
+decimal_measures bs p kept n floor is_inexact some low few kept_is short high first point second scaled small inexact =
+    let number = digits_value 10 (take p bs ++ take (kept - (p + 1)) (drop (p + 1) bs)) in
+    let below = below_scaled number (p + 7 - kept) floor scaled small in
     let ns : List ℕ = take n bs in
     let len : length ns ≡ n = length-take-le n bs high in
     let plain : IsPlain ns p = record {
@@ -42,7 +43,7 @@ decimal_measures bs p kept n number floor is_inexact some low few kept_is short 
     ap (λ m. take (kept - (p + 1)) (drop (p + 1) (take m bs))) (sym all) ∙ ap (take (kept - (p + 1))) (drop-take (p + 1) (n - (p + 1)) bs) ∙ take-take (kept - (p + 1)) (n - (p + 1)) (drop (p + 1) bs) (omega arith) in
     let left : drop kept ns ≡ take (n - kept) (drop kept bs) = ap (λ m. drop kept (take m bs)) (sym rest) ∙ drop-take kept (n - kept) bs in
     plain_measures ns p plain number floor kept is_inexact (omega (arith, len)) (kept_is ∙ ap (λ m. min m (p + 7)) (sym len))
-    (value ∙ ap (digits_value 10) (λ i. sym front i ++ sym following i)) below zeros small (inexact ∙ ap (list_any is_nonzero) (sym left))
+    (ap (digits_value 10) (λ i. sym front i ++ sym following i)) below (unscaled number (p + 7 - kept) floor below scaled small) small (inexact ∙ ap (list_any is_nonzero) (sym left))
 
 zero_digit : (b : ℕ) → b ≡ 48 → is_nonzero b ≡ false
 zero_digit b e = ap is_nonzero e
@@ -80,16 +81,3 @@ tail_inexact bs from zeros end low on high none stops = ⊎_elim
     (λ below. lt-ltb zeros end below ∙ sym (nonzero_there bs from zeros end low below high (nonzero_byte (get_or bs zeros 0) (stops below))))
     (λ same. let is : zeros ≡ end = omega (arith, on, same) in le-ltb zeros end same ∙ sym none ∙ ap (λ n. list_any is_nonzero (take (n - from) (drop from bs))) is)
     (at_or_after zeros end)
-
--- ---- few digits
-
--- one more digit
-pub few_more : (read d m from at : ℕ) → from ≤ at → d ≤ 9 → read < 10 ^ (m + (at - from)) → read * 10 + d < 10 ^ (m + (at + 1 - from))
-few_more read d m from at low small was =
-    let next : m + (at + 1 - from) ≡ suc (m + (at - from)) = omega arith in
-    let more : 10 ^ (m + (at + 1 - from)) ≡ 10 ^ (m + (at - from)) * 10 = ap (λ k. 10 ^ k) next ∙ pow-suc 10 (m + (at - from)) in
-    omega (arith, more, small, was)
-
--- and it fits
-pub few_fit : (read m from at until : ℕ) → m + (until - from) ≤ 18 → from ≤ at → at < until → read < 10 ^ (m + (at - from)) → read < 10 ^ 17
-few_fit read m from at until few low below was = grind (arith, pow-le-pow_right)

@@ -1,6 +1,6 @@
 -- A numeral at the front of some bytes, measured.
 -- Nobody has to believe this: only contracts of private functions cite it.
-use Rattle.std.specs.Prelude.{◌≡◌, ℕ, ◌+◌, ◌-◌, ◌*◌, ◌<◌, ◌≤◌, ◌⊎◌, false, List, ◌++◌, length, take, drop, get_or, slice_index}
+use Rattle.std.specs.Prelude.{◌≡◌, ℕ, ◌+◌, ◌-◌, ◌*◌, ◌^◌, ◌<◌, ◌≤◌, ◌⊎◌, false, List, ◌++◌, length, take, drop, get_or, slice_index}
 use Rattle.std.specs.List.{list_any}
 use Rattle.std.specs.Str.Parse.{digits_value}
 use Rattle.polcert_text.specs.Steps.Classes.{class_of}
@@ -9,6 +9,7 @@ use Rattle.polcert_text.specs.Numbers.{largest, IsReadable}
 use Rattle.polcert_text.specs.Steps.Scaling.{is_nonzero, ceiling, Measures}
 use Rattle.polcert_text.specs.Steps.ScanOf.{EndsWithin}
 use Rattle.polcert_text.specs.declared.bytes.ByteClass.TheVariants.{Digit, Blank, LineEnd}
+use Rattle.polcert_text.specs.declared.front_tokens.FrontDecimals.{FrontDecimals}
 use Rattle.polcert_text.specs.declared.front_tokens.FrontSize.{FrontSize}
 use Rattle.polcert_text.specs.declared.front_tokens.Tail.{Tail}
 use Rattle.polcert_text.specs.declared.tokens.TokenKind.TheVariants.{Numeral}
@@ -17,11 +18,26 @@ use Rattle.polcert_text.specs.declared.tokens.TokenKind.TheVariants.{Numeral}
 abbrev pub AreDigitsFrom : List ℕ → ℕ → ℕ → Type 0
 AreDigitsFrom bytes from until = (k : ℕ) → from ≤ k → k < until → class_of (get_or bytes k 0) ≡ Digit
 
--- six digits spell this number
-pub record AreSixDigits (bytes : List ℕ) (from : ℕ) (six : ℕ) : Type 0 where
-  pub digits : AreDigitsFrom bytes from (from + 6)
-  pub value : (front : List ℕ) (number : ℕ) → number ≡ digits_value 10 front → number * 1_000_000 + six ≡ digits_value 10 (front ++ take 6 (drop from bytes))
-  pub few : six < 1_000_000
+-- the digits from here on, at most six, are so many millionths
+pub record AreDecimals (bytes : List ℕ) (from : ℕ) (decimals : FrontDecimals) : Type 0 where
+  pub low : from ≤ decimals.end
+  pub high : decimals.end ≤ from + 6
+  pub digits : AreDigitsFrom bytes from decimals.end
+  pub value : (front : List ℕ) (number : ℕ) → number ≡ digits_value 10 front
+      → number * 1_000_000 + decimals.millionths ≡ digits_value 10 (front ++ take (decimals.end - from) (drop from bytes)) * 10 ^ (from + 6 - decimals.end)
+  pub few : decimals.millionths < 1_000_000
+
+-- the number whose six bytes are these, the lowest first
+abbrev pub packed : ℕ → ℕ → ℕ → ℕ → ℕ → ℕ → ℕ
+packed a b c d e f = ((((f * 256 + e) * 256 + d) * 256 + c) * 256 + b) * 256 + a
+
+pub record AreDigits (a b c d e f : ℕ) : Type 0 where
+  pub a_is : a ≤ 9
+  pub b_is : b ≤ 9
+  pub c_is : c ≤ 9
+  pub d_is : d ≤ 9
+  pub e_is : e ≤ 9
+  pub f_is : f ≤ 9
 
 -- from here on the bytes are digits up to the end of the tail, which has one that isn't 0 or none; a blank or a line end follows
 pub record IsTail (bytes : List ℕ) (from full : ℕ) (tail : Tail) : Type 0 where

@@ -1,9 +1,30 @@
-use Rattle.std.proofs.Common.{◌≡◌, ◌∙◌, ◌+◌, ◌-◌, ◌*◌, ◌^◌, ap, arith}
-use Rattle.std.proofs.lemmas.Nat.{pow-add}
+use Rattle.std.proofs.Common.{◌≡◌, ℕ, ◌<◌, get_or}
+use Rattle.polcert_text.proofs.Numbers.SixDigits.{word, word_is, six, fewer_bytes, fewer}
 use Rattle.polcert_text.proofs.front_tokens.decimals.Goals as goal
 
-pub returns-in-Some-clause-few : goal.returns-in-Some-clause-few
-returns-in-Some-clause-few c = λ m small.
-    let six : m + (c.args.from + 6 - c.args.from) ≡ m + 6 = omega arith in
-    let powers : 10 ^ (m + (c.args.from + 6 - c.args.from)) ≡ 10 ^ m * 10 ^ 6 = ap (λ k. 10 ^ k) six ∙ pow-add 10 m 6 in
-    omega (arith, powers, small, c.in-Some.ensures.few)
+pub returns-then-others-eq0 : goal.returns-then-others-eq0
+returns-then-others-eq0 c =
+    let bs = c.args.bytes.now in
+    let from = c.args.from in
+    let w = c.six_bytes-digits.result in
+    let bytes : (k : ℕ) → get_or bs k 0 < 256 = λ k. (c.type_inv.bytes k).fits in
+    let is : w ≡ word bs from c.requires bytes 0 6 = word_is bs from c.requires bytes w c.six_bytes-digits.ensures in
+    six bs from c.requires bytes w is c.six_bytes-digits.type_inv c.if-others-eq0.true c.six_digits_value.result c.six_digits_value.ensures
+
+pub six_digits_value-requires-2 : goal.six_digits_value-requires-2
+six_digits_value-requires-2 c =
+    let bs = c.args.bytes.now in
+    let from = c.args.from in
+    let w = c.six_bytes-digits.result in
+    let bytes : (k : ℕ) → get_or bs k 0 < 256 = λ k. (c.type_inv.bytes k).fits in
+    let is : w ≡ word bs from c.requires bytes 0 6 = word_is bs from c.requires bytes w c.six_bytes-digits.ensures in
+    fewer_bytes bs from c.requires bytes w is c.six_bytes-digits.type_inv c.if-others-eq0.false
+
+pub returns : goal.returns
+returns c =
+    let bs = c.args.bytes.now in
+    let from = c.args.from in
+    let w = c.six_bytes-digits.result in
+    let bytes : (k : ℕ) → get_or bs k 0 < 256 = λ k. (c.type_inv.bytes k).fits in
+    let is : w ≡ word bs from c.requires bytes 0 6 = word_is bs from c.requires bytes w c.six_bytes-digits.ensures in
+    fewer bs from c.requires bytes w is c.six_bytes-digits.type_inv c.if-others-eq0.false c.six_digits_value-2.result c.six_digits_value-2.ensures
