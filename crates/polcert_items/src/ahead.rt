@@ -1,5 +1,5 @@
 //! An entry that continues with several tokens at once: numbers that stand whole at the front of the bytes ahead.
-ghost use Rattle.std.specs.Prelude.{◌≡◌, ◌+◌, ◌<◌, ◌≤◌, ℕ, length, drop, get_or, IfOk, IfSome, IfNone, IsTrue, IsFalse, []};
+ghost use Rattle.std.specs.Prelude.{◌≡◌, ◌+◌, ◌<◌, ◌≤◌, ℕ, length, drop, get_or, IfOk, OnErr, IfSome, IfNone, IsTrue, IsFalse, []};
 ghost use Rattle.polcert_cells.specs.Elements.{count_of, most_elements};
 ghost use Rattle.polcert_cells.specs.declared.elements.Elements.TheVariants.{Count};
 ghost use Rattle.polcert_format.specs.KnownPreamble.{indices_in, named_in, preamble_in};
@@ -57,7 +57,7 @@ impl ItemReader {
     }
 
     /// Ends an entry and begins one of this table in its reader, so that nothing large is moved. `false`: unknown, take the slow
-    /// path; all stays. An error is out of memory.
+    /// path. An error is out of memory. In both cases all stays.
     #[inline(always)]
     pub fn next_entry(&mut self, known: &mut ModelSoFar, table: Table) -> Result<bool, AllocError>
         requires { (a : EntryR) (e : E) → self.old ≡ ItemReader.Entry a
@@ -66,6 +66,7 @@ impl ItemReader {
             → IsNextItem known.old self.old table known.new self.new) }
         ensures known { IfOk result (λ begun. IsFalse begun → known.new ≡ known.old) }
         ensures unknown { IfOk result (λ begun. IsFalse begun → self.new ≡ self.old) }
+        ensures no_memory { OnErr result ((known.new ≡ known.old) × (self.new ≡ self.old)) }
     {
         match self {
             ItemReader::Entry(reader) => reader.next_entry(known, table),
@@ -75,7 +76,8 @@ impl ItemReader {
 }
 
 impl EntryReader {
-    /// Adds the entry to what is known, and begins one of this table. `false`: unknown, and all stays. An error is out of memory.
+    /// Adds the entry to what is known, and begins one of this table. `false`: unknown. An error is out of memory. In both
+    /// cases all stays.
     #[inline(always)]
     fn next_entry(&mut self, known: &mut ModelSoFar, table: Table) -> Result<bool, AllocError>
         requires { (e : E) → EntryGoes (preamble_in known.old) self.old [] e
@@ -84,6 +86,7 @@ impl EntryReader {
             → IsNextEntry known.old self.old table known.new self.new) }
         ensures known { IfOk result (λ begun. IsFalse begun → known.new ≡ known.old) }
         ensures unknown { IfOk result (λ begun. IsFalse begun → self.new ≡ self.old) }
+        ensures no_memory { OnErr result ((known.new ≡ known.old) × (self.new ≡ self.old)) }
     {
         let Some(entry) = self.whole_entry() else {
             return Ok(false);
