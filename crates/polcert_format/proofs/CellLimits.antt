@@ -123,9 +123,6 @@ few_pairs p s o = let product : count_of p.states * count_of (observed p) ≤ 10
 pub few_cells : (p : Preamble) (es : List Entry) → ((table : Table) → IsLarge p table → ⊥) → HasFewCells p es
 few_cells p es small = record { transitions = λ l. absurd (small Transition l); observations = λ l. absurd (small Observation l); rewards = λ l. absurd (small Reward l) }
 
-pub not_large : (cells : ℕ) → cells ≤ most_cells → most_cells < cells → ⊥
-not_large cells few l = omega (arith, few, l)
-
 -- no table of what can be printed is large
 printable_small : (p : Preamble) → IsPrintable p → (table : Table) → IsLarge p table → ⊥
 printable_small p h1 table h2 = grind arith

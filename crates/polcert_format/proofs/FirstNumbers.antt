@@ -11,10 +11,6 @@ use Rattle.polcert_format.proofs.TextLaws.{one_known}
 
 -- ---- lexemes
 
--- digits alone are a numeral
-pub digits_numeral : (count : ℕ) (l : Lexeme) → may_be_state count l.kind l.bytes ≡ true → l.kind ≡ Numeral
-digits_numeral count l e = grind arith
-
 -- a numeral has a value or is refused
 pub value_not_refused : (negative : Bool) (l : Lexeme) (h : ℤ) (f : NumberFault) → IsMillionths negative l h → IsRefusedNumber f negative l → ⊥
 value_not_refused negative l h f v r = exact_not_refused negative l.bytes f h v.readable v.value r.1

@@ -35,7 +35,3 @@ short_text text true e =
     let len : length (take text_limit text) ≡ text_limit = length-take-le text_limit text (omega (arith, below)) in
     omega (arith, len)
 short_text text false e = grind (arith, nat_tests)
-
--- what is read of a text is at most as long as it may be
-pub text_is_short : (text : List ℕ) → length (text_rest text text_limit).bytes ≤ text_limit
-text_is_short text = short_text text (nat_lt text_limit (length text)) refl

@@ -53,9 +53,6 @@ one_floor negative bs h k a b = grind arith
 pub one_ceil : (negative : Bool) (bs : List ℕ) (h k : ℤ) → IsCeil negative bs h → IsCeil negative bs k → h ≡ k
 one_ceil negative bs h k a b = grind arith
 
-pub one_rounded : (rounding : Rounding) (negative : Bool) (bs : List ℕ) (h k : ℤ) → IsRounded rounding negative bs h → IsRounded rounding negative bs k → h ≡ k
-one_rounded rounding negative bs h k h1 h2 = grind arith
-
 le_refl : (x y : ℤ) → x ≡ y → x ≤ℤ y
 le_refl x y e = omega (arith, ints)
 
@@ -70,9 +67,6 @@ floor_below_ceil negative bs h k f c = search (rules, millionth_pos, le_times_ba
 
 pub readable_not_refused : (bs : List ℕ) (f : NumberFault) → IsReadable bs → IsRefused bs f → ⊥
 readable_not_refused bs f h1 h2 = grind arith
-
-pub one_number_fault : (bs : List ℕ) (f g : NumberFault) → IsRefused bs f → IsRefused bs g → f ≡ g
-one_number_fault bs f g h1 h2 = grind arith
 
 pub exact_not_refused : (negative : Bool) (bs : List ℕ) (f : NumberFault) (h : ℤ) → IsReadable bs → IsExact negative bs h → IsRefusedExactly negative bs f → ⊥
 exact_not_refused negative bs f h h1 h2 h3 = grind arith
