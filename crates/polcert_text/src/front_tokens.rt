@@ -149,7 +149,20 @@ fn number_from(bytes: &[u8], from: usize, is_negative: bool) -> Option<FrontNumb
 pub fn front_digits(bytes: &[u8]) -> Option<FrontDigits>
     ensures { IfSome result (λ number. (place : ℕ) → BeginWithDigits place bytes.now number) }
 {
-    let start = blanks(bytes);
+    // (Most follow one blank or none.)
+    match digits_from(bytes, one_blank(bytes)) {
+        Some(number) => Some(number),
+        None => digits_from(bytes, blanks(bytes)),
+    }
+}
+
+/// Returns the digits that begin at this index, after blanks. `None`: unknown.
+#[inline(always)]
+fn digits_from(bytes: &[u8], start: usize) -> Option<FrontDigits>
+    requires within { start ≤ length bytes.now }
+    requires gap { gap_through Gap.Between (take start bytes.now) ≡ Gap.Between }
+    ensures { IfSome result (λ number. (place : ℕ) → BeginWithDigits place bytes.now number) }
+{
     match ended_digits(&bytes[start..]) {
         Some(number) => Some(FrontDigits {
             len: start + number.len,
@@ -288,18 +301,11 @@ struct Tail {
 pub fn front_value(rounding: Rounding, bytes: &[u8]) -> Option<FrontValue>
     ensures { IfSome result (λ value. (place : ℕ) → BeginWithValue rounding place bytes.now value) }
 {
+    // (Most values follow one blank or none.)
     match value_from(rounding, bytes, one_blank(bytes)) {
         Some(value) => Some(value),
-        None => far_value(rounding, bytes),
+        None => value_from(rounding, bytes, blanks(bytes)),
     }
-}
-
-/// Does the same after any number of blanks. Most values follow one blank or none.
-#[inline(never)]
-fn far_value(rounding: Rounding, bytes: &[u8]) -> Option<FrontValue>
-    ensures { IfSome result (λ value. (place : ℕ) → BeginWithValue rounding place bytes.now value) }
-{
-    value_from(rounding, bytes, blanks(bytes))
 }
 
 /// Returns the value that begins at this index, after blanks. `None`: unknown.

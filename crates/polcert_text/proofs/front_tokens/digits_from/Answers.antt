@@ -1,0 +1,10 @@
+use Rattle.std.proofs.Common.{subst}
+use Rattle.polcert_text.proofs.Common.{take_rest, EndsAsDigits}
+use Rattle.polcert_text.proofs.Taken.BeginLaws.{digits_begin}
+use Rattle.polcert_text.proofs.front_tokens.digits_from.Goals as goal
+
+pub returns-in-Some : goal.returns-in-Some
+returns-in-Some c = λ place.
+    let bs = c.args.bytes.now in
+    let gap = c.args.start in
+    digits_begin place bs gap c.in-Some.number c.requires.gap (subst (λ xs. EndsAsDigits xs c.in-Some.number) (take_rest bs gap) c.in-Some.ensures)
