@@ -56,6 +56,7 @@ impl Elements {
 
     /// Returns the number of the element of this name; `None` if no element has it or the elements have no
     /// names.
+    #[inline(always)]
     pub fn number_of(&self, name: &[u8]) -> Option<usize>
         requires { IsAscii name.now }
         ensures { result ≡ number_of self.now name.now }
@@ -159,6 +160,7 @@ impl Names {
     }
 
     /// Returns the number of this name, if it is among the names.
+    #[inline(always)]
     pub fn number_of(&self, name: &[u8]) -> Option<usize>
         requires { IsAscii name.now }
         ensures { result ≡ position (bytes_eq name.now) self.now }
