@@ -1,6 +1,6 @@
 -- The form of an item, as its reader continues with it: that of a start item, and of every other what is right.
 use Rattle.std.proofs.Common.{◌≡◌, ◌∙◌, ◌⊎◌, inl, inr, None, List, ◌∷◌, refl, sym, subst, arith}
-use Rattle.polcert_items.proofs.Common.{Lexeme, Elements, StartWeights, Start, IsStartBody, IsStart, plain, IsStartBodyForm, IsStartForm, ModelSoFar, ItemReader, Takes, CannotTake, ItemGoes, ItemForms, topic_in, pending_in, IfStart}
+use Rattle.polcert_items.proofs.Common.{Lexeme, Elements, StartWeights, Start, IsStartBody, IsStart, IsStartBodyForm, IsStartForm, ModelSoFar, ItemReader, Takes, CannotTake, ItemGoes, ItemForms, topic_in, pending_in, IfStart}
 use Rattle.polcert_cells.specs.declared.words.Topic.{Topic}
 use Rattle.polcert_format.specs.Forms as shapes
 use Rattle.polcert_items.specs.declared.item.ItemReader.TheVariants as items

@@ -6,7 +6,6 @@ use Rattle.polcert_format.specs.Reasons.{IsOfElements}
 use Rattle.polcert_items.specs.Steps.Start.{IfNotMemory}
 use Rattle.polcert_items.specs.Steps.Items.{IsItemFed, RefusesInItem, IsItemReason, of_start}
 use Rattle.polcert_items.specs.declared.item.ItemReader.TheVariants as items
-use Rattle.polcert_items.specs.declared.item.EndError.TheVariants as ends
 use Rattle.polcert_items.specs.declared.item.FeedError.TheVariants as stops
 use Rattle.polcert_items.proofs.FirstNumberLaws as laws
 use Rattle.polcert_items.proofs.PatternLaws.{each_refused_map}

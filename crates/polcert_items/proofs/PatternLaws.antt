@@ -1,5 +1,5 @@
 -- The places and the body of an entry, token by token.
-use Rattle.std.proofs.Common.{◌≡◌, ◌∙◌, ℕ, suc, ◌+◌, ◌≤◌, Bool, true, List, [], ◌∷◌, ◌++◌, length, drop, map, ℤ, refl, sym, ap, subst, arith, append_assoc, append-nil, length-append, ◌⊎◌, Result, IfErr, OnOk, zero, All, rules}
+use Rattle.std.proofs.Common.{◌≡◌, ◌∙◌, ℕ, suc, ◌≤◌, Bool, true, List, [], ◌∷◌, ◌++◌, length, drop, map, ℤ, refl, sym, ap, subst, arith, append_assoc, append-nil, length-append, ◌⊎◌, Result, IfErr, OnOk, zero, All, rules}
 use Rattle.std.proofs.lemmas.Bool.{both_ways}
 use Rattle.std.specs.Prelude.{◌==◌}
 use Rattle.polcert_items.proofs.Common.{list_any, nat_tests, All-tail, All-nil, Lexeme, TokenKind, Name, Numeral, Colon, Plus, Minus, Star, Table, Transition, Observation, Reward, Place, Every, Only, Body, Entry, EntryState, Numbers, EntryReader, ItemFault, Refusal, Probability, FeedError, IsWord, AreNumbers, Elements, count_of, StandsFor, cells_in, IsPlace, ModelSoFar, least_written, Takes, CannotTake, CannotEnd, IsInRange, ListKind, of_probabilities, of_rewards, Preamble, is_mdp, dimensions, preamble_in, indices_in, IsFirstPlace, entry_with, NumberListGoes, ProbabilitiesGo, EntryGoes, IfRefused, IsWordAfter, no_numbers, AreBegun, CannotBegin, IsFull, IsListReason, entry_sign}

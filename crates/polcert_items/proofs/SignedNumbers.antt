@@ -1,5 +1,5 @@
 -- A number of an item, token by token.
-use Rattle.std.proofs.Common.{◌≡◌, ◌∙◌, ℕ, Bool, true, false, Option, Some, List, [], ◌∷◌, ℤ, sym, ap, subst, All, arith}
+use Rattle.std.proofs.Common.{◌≡◌, ◌∙◌, ℕ, Bool, true, false, Option, Some, List, ◌∷◌, ℤ, sym, ap, subst, All, arith}
 use Rattle.polcert_items.proofs.Common.{All-head, Lexeme, Numeral, Plus, Minus, ItemFault, Sign, IsMillionths, AreNumbers, AreNumbersAfter, IsInRange, is_negative, number_place, IsSignAt}
 use Rattle.polcert_cells.specs.Numbers.{unsigned, plus, minus}
 use Rattle.polcert_items.specs.Steps.Numbers.{IsNumberReason, RefusesNumber, IsRangeFault}

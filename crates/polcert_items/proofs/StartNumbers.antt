@@ -1,5 +1,5 @@
 -- The numbers of a start item, token by token.
-use Rattle.std.proofs.Common.{◌≡◌, ℕ, ◌+◌, ◌<◌, ◌≤◌, ◌⊎◌, false, true, Option, Some, None, Result, Ok, Err, List, [], ◌∷◌, ◌++◌, length, map, sum, ℤ, pos, sym, ap, subst, All, arith, append_assoc}
+use Rattle.std.proofs.Common.{◌≡◌, ℕ, ◌<◌, ◌≤◌, ◌⊎◌, false, true, Option, Some, None, Result, Ok, Err, List, [], ◌∷◌, ◌++◌, length, map, sum, ℤ, pos, sym, ap, subst, All, arith, append_assoc}
 use lib.IntN.{nat_abs}
 use Rattle.polcert_items.proofs.Common.{sum_by-cons, All-cons, All-head, All-tail, All-nil, Lexeme, NumberFault, Numbers, ItemFault, Number, Refusal, Sign, FirstNumber, StateOrNumber, StartReader, IsMillionths, AreNumbers, one, of_probabilities, is_negative, IsSignAt, Elements, count_of, StartWeights, all_states, shares_of, Takes, CannotTake, ProbabilitiesGo, IsFull, AreGiven, NumbersGo, DigitsGo, first_of_more, StartGoes, StartGives, Begins, IsOutside, IsDueNumber, IsDueValue, IsStop, first_of, Expected}
 use Rattle.polcert_items.specs.Steps.Entries.{one_number}

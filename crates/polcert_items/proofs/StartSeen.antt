@@ -1,5 +1,5 @@
 -- What the body of a start item so far has to do with its reader's state, and where its refusals stand.
-use Rattle.polcert_items.proofs.Common.{IfErr-weaker, Lexeme, Numeral, Name, NumberFault, ItemFault, Number, IndexOutOfRange, ProbabilityRange, Sign, Refusal, FirstNumber, StateOrNumber, StartReader, FeedError, IsMillionths, Elements, Takes, CannotTake, IsStartFed, RefusesInStart, ExpectsNext, start_wants, count_of, Start, IsRefusedNumber, IsNoFraction, is_sign, ends_in_sign, is_negative, number_place, IsSignAt, SignIs, Expected, IsMisfit, BeginsWithNumber, BeginsWithDigits, are_digits, Chosen, Numbers, IfRefused, IsListReason, start_sign, pending_of, pending, IsValue, AreDigits, IsAfterColon, IsListBegun, IsWordBody, IsFraction, HasReadStart, IsOutside, IsDueNumber, IsDueValue, IsStop, due, at_once, IsStartReason, StartGoes, IsStartWithin, first_of}
+use Rattle.polcert_items.proofs.Common.{IfErr-weaker, Lexeme, Numeral, Name, NumberFault, ItemFault, Number, IndexOutOfRange, ProbabilityRange, Sign, Refusal, FirstNumber, StateOrNumber, StartReader, FeedError, IsMillionths, Elements, Takes, CannotTake, IsStartFed, RefusesInStart, ExpectsNext, start_wants, count_of, Start, IsRefusedNumber, IsNoFraction, is_sign, ends_in_sign, is_negative, number_place, IsSignAt, SignIs, Expected, IsMisfit, BeginsWithNumber, BeginsWithDigits, Chosen, Numbers, IfRefused, IsListReason, start_sign, pending_of, pending, IsValue, AreDigits, IsAfterColon, IsListBegun, IsWordBody, IsFraction, HasReadStart, IsOutside, IsDueNumber, IsDueValue, IsStop, due, at_once, IsStartReason, StartGoes, IsStartWithin, first_of}
 use Rattle.polcert_format.specs.Reasons.{StandsIn, NumberStandsIn, unsigned, plus, minus, IsDigits}
 use Rattle.polcert_items.specs.Steps.Numbers.{SignEnds}
 use Rattle.polcert_format.specs.Misfits.{NumberOrEnd}

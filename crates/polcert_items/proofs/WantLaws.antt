@@ -1,5 +1,5 @@
 -- What the places of numbers and entries are for, step by step, and the kind of a refusal where something else is found.
-use Rattle.std.proofs.Common.{◌≡◌, ℕ, ◌+◌, ◌-◌, ◌≤◌, true, false, None, List, [], ◌∷◌, ◌++◌, length, drop, sym, subst, arith, length-append, ◌≢◌, bytes_eq, Some, codes}
+use Rattle.std.proofs.Common.{◌≡◌, ℕ, ◌≤◌, true, false, None, List, [], ◌∷◌, ◌++◌, length, drop, sym, subst, arith, length-append, ◌≢◌, bytes_eq, Some, codes}
 use Rattle.polcert_items.proofs.Common.{Lexeme, TokenKind, DuplicateName, Table, Numbers, EntryReader, Preamble, is_mdp, dimensions, cells_in, least_written, numbers_want, no_numbers, Expected, begins_number, IsMisfit, ExpectsNext, list_wants, state_wants, Name, Numeral, ItemFault, is_reserved, IsName, ElementsReason}
 use Rattle.polcert_format.specs.declared.fault.ItemFault.TheVariants.{WrongNumberCount, BadCount, UnknownName}
 use Rattle.polcert_format.specs.Wants.{by_kind, entry_wants}

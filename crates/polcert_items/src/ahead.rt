@@ -4,6 +4,8 @@ ghost use Rattle.polcert_cells.specs.Elements.{count_of, most_elements};
 ghost use Rattle.polcert_cells.specs.declared.elements.Elements.TheVariants.{Count};
 ghost use Rattle.polcert_format.specs.KnownPreamble.{indices_in, named_in, preamble_in};
 ghost use Rattle.polcert_items.specs.Steps.Ahead.{FedAhead, TakesAhead, IsListFed, IsListBegun, ItemFedAhead, BeginWithPlace, AwaitsColon};
+ghost use Rattle.polcert_items.specs.Steps.Ahead.{with_state};
+ghost use Rattle.polcert_items.specs.declared.entry_reader.EntryState.{EntryState as State};
 ghost use Rattle.polcert_items.specs.Steps.Ahead.{IsNextEntry, IsNextItem};
 ghost use Rattle.polcert_items.specs.Steps.Entries.{EntryGoes, IsWithinIndices};
 ghost use Rattle.polcert_items.specs.Steps.ModelSoFar.{IsAllowedNext};
@@ -122,7 +124,7 @@ impl EntryReader {
         }
     }
 
-    /// Continues with places, each after a colon, and then with numbers.
+    /// Continues with places, each after a colon, and then with numbers. The state is large, so it is written once.
     #[inline(never)]
     fn feed_line(
         &mut self,
@@ -130,30 +132,45 @@ impl EntryReader {
         known: &ModelSoFar,
         bytes: &[u8],
     ) -> Result<usize, AllocError>
-        requires { IsWithinIndices (indices_in known.now self.old.table) self.old }
+        requires within { IsWithinIndices (indices_in known.now self.old.table) self.old }
+        requires state { self.old.state ≡ EntryState.Colon }
         ensures { IfOk result (λ count. FedAhead known.now self.old bytes.now count self.new) }
     {
         let mut at: usize = 0;
+        let mut has_place = false;
         while let Some(len) = self.feed_place_ahead(known, &bytes[at..]) {
             at += len;
+            has_place = true;
         }
-        let len = self.begin_ahead(alloc, known, &bytes[at..])?;
-        Ok(at + len)
+        if !has_place {
+            return Ok(at);
+        }
+        match self.begin_ahead(alloc, known, &bytes[at..])? {
+            Some(len) => Ok(at + len),
+            None => {
+                self.state = EntryState::Body;
+                Ok(at)
+            }
+        }
     }
 
-    /// Continues with a colon and a place, and answers how many bytes they are, if they come next.
+    /// Continues with a colon and a place, and answers how many bytes they are, if they come next. The state is left to the caller.
     #[inline(always)]
     fn feed_place_ahead(&mut self, known: &ModelSoFar, bytes: &[u8]) -> Option<usize>
-        requires { IsWithinIndices (indices_in known.now self.old.table) self.old }
-        ensures fed { IfSome result (λ count. FedAhead known.now self.old bytes.now count self.new) }
-        ensures within { IsWithinIndices (indices_in known.now self.new.table) self.new }
+        ensures fed { IfSome result (λ count. (s : State) → AwaitsColon s
+            → IsWithinIndices (indices_in known.now self.old.table) (with_state self.old s)
+            → FedAhead known.now (with_state self.old s) bytes.now count
+            (with_state self.new EntryState.Body)) }
+        ensures within { IfSome result (λ _.
+            IsWithinIndices (indices_in known.now self.new.table) (with_state self.new EntryState.Body)) }
         ensures room { IfSome result
             (λ _. length self.old.places < length (indices_in known.now self.old.table)) }
         ensures grows { IfSome result (λ _. length self.new.places ≡ length self.old.places + 1) }
+        ensures state { self.new.state ≡ self.old.state }
         ensures table { self.new.table ≡ self.old.table }
         ensures none { IfNone result (self.new ≡ self.old) }
     {
-        if self.places.len() >= indices_of(self.table) || !self.awaits_colon() {
+        if self.places.len() >= indices_of(self.table) {
             return None;
         }
         let Some(colon) = front_colon(bytes) else {
@@ -163,44 +180,8 @@ impl EntryReader {
             return None;
         };
         match self.places.push(front.place) {
-            Ok(()) => {
-                self.await_body();
-                Some(colon + front.len)
-            }
+            Ok(()) => Some(colon + front.len),
             Err(AllocError) => None,
-        }
-    }
-
-    /// Goes on to the body or a further colon. The state is large, so it is written only if it changes.
-    #[inline(always)]
-    fn await_body(&mut self)
-        ensures state { self.new.state ≡ EntryState.Body }
-        ensures places { self.new.places ≡ self.old.places }
-        ensures table { self.new.table ≡ self.old.table }
-    {
-        if !self.awaits_body() {
-            self.state = EntryState::Body;
-        }
-    }
-
-    #[inline(always)]
-    fn awaits_colon(&self) -> bool
-        ensures { IsTrue result → AwaitsColon self.now.state }
-    {
-        match self.state {
-            EntryState::Colon => true,
-            EntryState::Body => true,
-            _ => false,
-        }
-    }
-
-    #[inline(always)]
-    fn awaits_body(&self) -> bool
-        ensures { IsTrue result → self.now.state ≡ EntryState.Body }
-    {
-        match self.state {
-            EntryState::Body => true,
-            _ => false,
         }
     }
 
@@ -281,36 +262,78 @@ impl EntryReader {
         }
     }
 
-    /// Continues with the body's numbers, if the first of them comes next.
+    /// Continues with the body's numbers after a place, and answers how many bytes they are, if the first of them comes next.
     #[inline(always)]
     fn begin_ahead(
         &mut self,
         alloc: Global,
         known: &ModelSoFar,
         bytes: &[u8],
-    ) -> Result<usize, AllocError>
-        requires { IsWithinIndices (indices_in known.now self.old.table) self.old }
-        ensures { IfOk result (λ count. FedAhead known.now self.old bytes.now count self.new) }
+    ) -> Result<Option<usize>, AllocError>
+        requires { IsWithinIndices (indices_in known.now self.old.table)
+            (with_state self.old EntryState.Body) }
+        ensures begun { IfOk result (λ begun. IfSome begun (λ count.
+            FedAhead known.now (with_state self.old EntryState.Body) bytes.now count self.new)) }
+        ensures none { IfOk result (λ begun. IfNone begun (self.new ≡ self.old)) }
     {
         let written = self.places.len();
-        if !self.awaits_body() || !takes_numbers(known.is_mdp(), self.table, written) {
-            return Ok(0);
+        if !takes_numbers(known.is_mdp(), self.table, written) {
+            return Ok(None);
+        }
+        if known.cells_after(self.table, written) != 1 {
+            return self.begin_list(alloc, known, bytes);
+        }
+        match self.table {
+            Table::Reward => {
+                let Some(only) = only_ahead(alloc, bytes) else {
+                    return Ok(None);
+                };
+                self.state = EntryState::Rewards(only.numbers);
+                Ok(Some(only.len))
+            }
+            Table::Transition | Table::Observation => {
+                let Some(only) = only_ahead(alloc, bytes) else {
+                    return Ok(None);
+                };
+                self.state = EntryState::Probabilities(only.numbers);
+                Ok(Some(only.len))
+            }
+        }
+    }
+
+    /// Does the same for any count of numbers. (Apart, since a list that may be moved costs room in the caller.)
+    #[inline(never)]
+    fn begin_list(
+        &mut self,
+        alloc: Global,
+        known: &ModelSoFar,
+        bytes: &[u8],
+    ) -> Result<Option<usize>, AllocError>
+        requires { IsWithinIndices (indices_in known.now self.old.table)
+            (with_state self.old EntryState.Body) }
+        ensures begun { IfOk result (λ begun. IfSome begun (λ count.
+            FedAhead known.now (with_state self.old EntryState.Body) bytes.now count self.new)) }
+        ensures none { IfOk result (λ begun. IfNone begun (self.new ≡ self.old)) }
+    {
+        let written = self.places.len();
+        if !takes_numbers(known.is_mdp(), self.table, written) {
+            return Ok(None);
         }
         let needed = known.cells_after(self.table, written);
         match self.table {
             Table::Reward => {
                 let Some(begun) = list_ahead(alloc, needed, bytes)? else {
-                    return Ok(0);
+                    return Ok(None);
                 };
                 self.state = EntryState::Rewards(begun.numbers);
-                Ok(begun.len)
+                Ok(Some(begun.len))
             }
             Table::Transition | Table::Observation => {
                 let Some(begun) = list_ahead(alloc, needed, bytes)? else {
-                    return Ok(0);
+                    return Ok(None);
                 };
                 self.state = EntryState::Probabilities(begun.numbers);
-                Ok(begun.len)
+                Ok(Some(begun.len))
             }
         }
     }
@@ -325,9 +348,6 @@ fn list_ahead<T: ListNumber>(
 ) -> Result<Option<ListAhead<T>>, AllocError>
     ensures { IfOk result (λ begun. IfSome begun (IsListBegun T.kind needed bytes.now)) }
 {
-    if needed == 1 {
-        return Ok(only_ahead(alloc, bytes));
-    }
     let mut numbers = Numbers::new(alloc, needed);
     let len = numbers.feed_ahead(bytes)?;
     if numbers.read.len() == 0 {

@@ -92,6 +92,10 @@ pub record BeginWithPlace (ds : List Elements) (position : ℕ) (bytes : List �
   pub place_is : IsFirstPlace ds token found.place
   pub front : BeginWith position bytes found.len (token ∷ [])
 
+-- the reader in such a state
+abbrev pub with_state : EntryReader → EntryState → EntryReader
+with_state r s = record { table = r.table; places = r.places; state = s }
+
 -- a colon may come next
 abbrev pub AwaitsColon : EntryState → Type 0
 AwaitsColon s = (s ≡ states.Colon) ⊎ (s ≡ states.Body)

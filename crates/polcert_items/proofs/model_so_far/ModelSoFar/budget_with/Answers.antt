@@ -1,4 +1,4 @@
-use Rattle.std.proofs.Common.{◌++◌, ◌∷◌, [], sym, subst}
+use Rattle.std.proofs.Common.{◌++◌, ◌∷◌, [], subst}
 use Rattle.polcert_items.proofs.Common.{entry_of, preamble_in, IsCoveringOf}
 use Rattle.polcert_items.proofs.model_so_far.ModelSoFar.budget_with.Goals as goal
 
