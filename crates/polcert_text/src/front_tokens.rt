@@ -1,6 +1,10 @@
 //! Tokens and rounded values that stand whole at the front of some bytes, cut without going through a stream.
 ghost use Rattle.std.specs.Prelude.{◌≡◌, ◌≤◌, ◌∷◌, [], ℕ, length, take, get_or, IfSome, ◌+◌, ◌-◌, ◌*◌, ◌^◌, ◌<◌, ◌++◌};
-ghost use Rattle.std.specs.Prelude.{List, drop};
+ghost use Rattle.std.specs.Prelude.{List, drop, IsTrue, true, false};
+ghost use Rattle.std.specs.List.{list_any};
+ghost use Rattle.polcert_text.specs.Steps.Classes.{class_of};
+ghost use Rattle.polcert_text.specs.declared.bytes.ByteClass.{ByteClass};
+ghost use Rattle.polcert_text.specs.Steps.Scaling.{is_nonzero};
 ghost use Rattle.polcert_text.specs.Steps.Scan.{gap_through};
 ghost use Rattle.polcert_text.specs.Beginning.{BeginWith, BeginWithOne, BeginWithNumber, BeginWithDigits};
 ghost use Rattle.polcert_text.specs.Beginning.{moved};
@@ -467,11 +471,27 @@ fn tail_from(bytes: &[u8], from: usize, full: usize) -> Option<Tail>
     if from < full {
         return None;
     }
-    let until = bytes.len().min(from + LONGEST_TAIL);
-    let mut zeros = from;
-    while zeros < until && bytes[zeros] == b'0' {
-        zeros += 1;
+    // (Most are at most seven, and do not begin with 0.)
+    if from + MOST_DECIMALS + 1 < bytes.len() && is_digit_above_zero(bytes[from]) {
+        let end = decimals(bytes, from + 1).end;
+        if quick_is_blank(bytes[end]) {
+            return Some(Tail {
+                end,
+                is_inexact: true,
+            });
+        }
     }
+    long_tail(bytes, from)
+}
+
+/// Returns the decimals from `from` on, however many, if a blank or a line end follows. `None`: unknown.
+#[inline(always)]
+fn long_tail(bytes: &[u8], from: usize) -> Option<Tail>
+    requires { from < length bytes.now }
+    ensures { IfSome result (IsTail bytes.now from from) }
+{
+    let until = bytes.len().min(from + LONGEST_TAIL);
+    let zeros = zeros_end(bytes, from, until);
     let end = digits_end(bytes, zeros, until);
     if end == bytes.len() || !quick_is_blank(bytes[end]) {
         return None;
@@ -480,6 +500,31 @@ fn tail_from(bytes: &[u8], from: usize, full: usize) -> Option<Tail>
         end,
         is_inexact: zeros < end,
     })
+}
+
+#[inline(always)]
+fn is_digit_above_zero(byte: u8) -> bool
+    ensures digit { IsTrue result → class_of byte ≡ ByteClass.Digit }
+    ensures above { IsTrue result → is_nonzero byte ≡ true }
+{
+    quick_is_digit(byte) && byte != b'0'
+}
+
+/// Returns where the zeros from `from` on end, or `until` if they continue there.
+#[inline(always)]
+fn zeros_end(bytes: &[u8], from: usize, until: usize) -> usize
+    requires range { from ≤ until }
+    requires within { until ≤ length bytes.now }
+    ensures within { (from ≤ result) × (result ≤ until) }
+    ensures digits { AreDigitsFrom bytes.now from result }
+    ensures none { list_any is_nonzero (take (result - from) (drop from bytes.now)) ≡ false }
+    ensures stops { result < until → is_nonzero (get_or bytes.now result 0) ≡ true }
+{
+    let mut at = from;
+    while at < until && bytes[at] == b'0' {
+        at += 1;
+    }
+    at
 }
 
 /// Returns where the digits from `from` on end, or `until` if they continue there.

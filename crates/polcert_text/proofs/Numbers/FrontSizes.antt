@@ -71,13 +71,10 @@ nonzero_there bs from at end low below high nonzero =
     let here : get_or (take (end - from) (drop from bs)) n 0 ≡ get_or bs at 0 = get_or-take (end - from) (drop from bs) n 0 (omega arith) ∙ get_or-drop from bs n 0 ∙ ap (λ k. get_or bs k 0) place in
     list_any_at is_nonzero (take (end - from) (drop from bs)) n 0 (omega (arith, long)) (ap is_nonzero here ∙ nonzero)
 
-nonzero_byte : (b : ℕ) → (b ≡ 48 → ⊥) → is_nonzero b ≡ true
-nonzero_byte b not = grind arith
-
 -- after the zeros all are digits: one that isn't 0 is there if they go on
 pub tail_inexact : (bs : List ℕ) (from zeros end : ℕ) → from ≤ zeros → zeros ≤ end → end ≤ length bs → list_any is_nonzero (take (zeros - from) (drop from bs)) ≡ false
-    → (zeros < end → get_or bs zeros 0 ≡ 48 → ⊥) → nat_lt zeros end ≡ list_any is_nonzero (take (end - from) (drop from bs))
+    → (zeros < end → is_nonzero (get_or bs zeros 0) ≡ true) → nat_lt zeros end ≡ list_any is_nonzero (take (end - from) (drop from bs))
 tail_inexact bs from zeros end low on high none stops = ⊎_elim
-    (λ below. lt-ltb zeros end below ∙ sym (nonzero_there bs from zeros end low below high (nonzero_byte (get_or bs zeros 0) (stops below))))
+    (λ below. lt-ltb zeros end below ∙ sym (nonzero_there bs from zeros end low below high (stops below)))
     (λ same. let is : zeros ≡ end = omega (arith, on, same) in le-ltb zeros end same ∙ sym none ∙ ap (λ n. list_any is_nonzero (take (n - from) (drop from bs))) is)
     (at_or_after zeros end)

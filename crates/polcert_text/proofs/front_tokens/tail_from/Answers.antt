@@ -1,26 +1,9 @@
-use Rattle.std.proofs.Common.{◌≡◌, ◌∙◌, ◌-◌, ◌<◌, ⊎_elim, ℕ, List, false, take, drop, get_or, length, refl, ap, arith}
-use Rattle.polcert_text.proofs.Common.{list_any, is_nonzero, class_of, Digit}
-use Rattle.polcert_text.proofs.Numbers.FrontSizes.{zeros_more, tail_inexact}
-use Rattle.polcert_text.proofs.Numbers.Plain.{below_or_at, at_or_after}
+use Rattle.std.proofs.Common.{◌≡◌, Option, Some, None, IfSome, ◌⊎◌, ◌+◌, ◌≤◌, sym, ◌∙◌, ◌-◌, ⊎_elim, ℕ, List, false, take, drop, get_or, refl, ap, arith}
+use Rattle.polcert_text.proofs.Common.{list_any, is_nonzero, class_of}
+use Rattle.polcert_text.proofs.Numbers.FrontSizes.{nonzero_there}
+use Rattle.polcert_text.specs.Steps.FrontSizes.{IsTail}
+use Rattle.polcert_text.specs.declared.front_tokens.Tail.{Tail}
 use Rattle.polcert_text.proofs.front_tokens.tail_from.Goals as goal
-use Rattle.polcert_text.proofs.front_tokens.tail_from.Goals.{then-loop-zeros-test+else-bytes-zeros-eq48, else-loop-zeros-test}
-
-digit_at_48 : class_of 48 ≡ Digit
-unfolding class_of
-digit_at_48 = refl
-
-pub loop-zeros-preserved : goal.loop-zeros-preserved
-loop-zeros-preserved c =
-    let bs = c.args.bytes.now in
-    let at = c.loop-zeros.zeros in
-    let zero : get_or bs at 0 ≡ 48 = c.if-bytes-zeros-eq48.true in
-    let inside : at < length bs = omega arith in
-    record {
-      low = omega arith;
-      high = omega arith;
-      digits = λ k low below. ⊎_elim (λ before. c.loop-zeros.invariant.digits k low before) (λ here. ap (λ i. class_of (get_or bs i 0)) here ∙ ap class_of zero ∙ digit_at_48) (below_or_at k at below);
-      none = zeros_more bs c.args.from at c.loop-zeros.invariant.low inside zero c.loop-zeros.invariant.none;
-    }
 
 none_yet : (bs : List ℕ) (from : ℕ) → false ≡ list_any is_nonzero (take (from - from) (drop from bs))
 none_yet bs from =
@@ -41,24 +24,36 @@ returns-then-quick_is_blank c =
       is_inexact = none_yet bs from;
     }
 
-pub returns : goal.returns
-returns c =
+first_or_after : (k from : ℕ) → from ≤ k → (k ≡ from) ⊎ (from + 1 ≤ k)
+first_or_after k from h = grind arith
+
+pub returns-then-quick_is_blank-2 : goal.returns-then-quick_is_blank-2
+returns-then-quick_is_blank-2 c =
     let bs = c.args.bytes.now in
     let from = c.args.from in
-    let zeros = c.loop-zeros.zeros in
-    let end = c.digits_end-end.result in
-    let was = c.loop-zeros.invariant in
-    let within = c.digits_end-end.ensures.within in
-    let stops : zeros < end → get_or bs zeros 0 ≡ 48 → ⊥ = elim c.loop-zeros-test.branch [
-      | then-loop-zeros-test+else-bytes-zeros-eq48 w ↦ λ below zero. w.if-bytes-zeros-eq48.false zero
-      | else-loop-zeros-test w ↦ λ below zero. omega (arith, below, within.1, w.loop-zeros-test.false)
-    ] in
+    let first = c.is_digit_above_zero.ensures in
+    let more = c.decimals-end.ensures in
     record {
-      low = omega (arith, was.low, within.0);
-      high = omega (arith, within.1);
-      blank = c.quick_is_blank-else-end-bytes.ensures c.if-not-quick_is_blank.false;
-      none = λ below. absurd (omega (arith, below, c.if-from-full.false));
-      short = omega (arith, within.1);
-      digits = λ k low below. ⊎_elim (λ before. was.digits k low before) (λ following. c.digits_end-end.ensures.digits k following below) (at_or_after k zeros);
-      is_inexact = tail_inexact bs from zeros end was.low within.0 (omega (arith, within.1)) was.none stops;
+      low = omega (arith, more.low);
+      high = omega (arith, more.high);
+      blank = c.quick_is_blank-then-is_digit_above_zero.ensures c.if-quick_is_blank-2.true;
+      none = λ below. absurd (omega (arith, below));
+      short = omega (arith, more.high);
+      digits = λ k low below. ⊎_elim (λ here. ap (λ i. class_of (get_or bs i 0)) here ∙ first.digit c.if-is_digit_above_zero.true) (λ after. more.digits k after below) (first_or_after k from low);
+      is_inexact = sym (nonzero_there bs from from _ (omega arith) (omega (arith, more.low)) (omega (arith, more.high)) (first.above c.if-is_digit_above_zero.true));
     }
+
+all_six : (bs : List ℕ) (from full : ℕ) → full ≤ from → (tail : Option Tail) → IfSome tail (IsTail bs from from) → IfSome tail (IsTail bs from full)
+all_six bs from full six None is = is
+all_six bs from full six (Some tail) is = record {
+  low = is.low;
+  high = is.high;
+  blank = is.blank;
+  none = λ below. absurd (omega (arith, below, six));
+  short = is.short;
+  digits = is.digits;
+  is_inexact = is.is_inexact;
+}
+
+pub returns : goal.returns
+returns c = all_six c.args.bytes.now c.args.from c.args.full c.if-from-full.false c.long_tail.result c.long_tail.ensures
