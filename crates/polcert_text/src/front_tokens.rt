@@ -16,7 +16,7 @@ ghost use Rattle.polcert_text.specs.Steps.FrontSizes.{AreDigitsFrom, AreDecimals
 
 use crate::bytes::{
     quick_is_blank, quick_is_colon, quick_is_digit, quick_is_letter, quick_is_minus,
-    quick_is_point, quick_sign,
+    quick_is_point, quick_is_space, quick_sign,
 };
 use crate::number::{MILLION, Rounding, Size, signed};
 use crate::tokens::{Gap, LONGEST_TOKEN, Token, TokenKind, ended_name, ended_name_or_mark};
@@ -41,13 +41,21 @@ pub struct FrontNumber {
 pub fn front_colon(bytes: &[u8]) -> Option<usize>
     ensures { IfSome result (λ len. (place : ℕ) → BeginWithOne place bytes.now len TokenKind.Colon) }
 {
-    match colon_at(bytes, one_blank(bytes)) {
+    match near_colon(bytes) {
         Some(len) => Some(len),
         None => far_colon(bytes),
     }
 }
 
-/// Does the same after any number of blanks. Most colons follow one blank or none.
+/// Does the same after one space at most.
+#[inline(always)]
+pub fn near_colon(bytes: &[u8]) -> Option<usize>
+    ensures { IfSome result (λ len. (place : ℕ) → BeginWithOne place bytes.now len TokenKind.Colon) }
+{
+    colon_at(bytes, one_space(bytes))
+}
+
+/// Does the same after any number of blanks. Most colons follow one space or none.
 #[inline(never)]
 fn far_colon(bytes: &[u8]) -> Option<usize>
     ensures { IfSome result (λ len. (place : ℕ) → BeginWithOne place bytes.now len TokenKind.Colon) }
@@ -174,6 +182,52 @@ fn digits_from(bytes: &[u8], start: usize) -> Option<FrontDigits>
         }),
         None => None,
     }
+}
+
+/// A colon and an unsigned number after it at the front of some bytes: how many bytes the colon takes with the blank before it, and
+/// the number in what follows.
+#[derive(Clone, Copy)]
+pub struct FrontIndex {
+    pub colon: usize,
+    pub digits: FrontDigits,
+}
+
+/// Returns the colon and the digits after it that the bytes begin with, each after one space at most. `None`: unknown, take the
+/// slow path.
+#[inline(always)]
+pub fn front_index(bytes: &[u8]) -> Option<FrontIndex>
+    ensures colon { IfSome result (λ index. (place : ℕ) →
+        BeginWithOne place bytes.now index.colon TokenKind.Colon) }
+    ensures digits { IfSome result (λ index. (place : ℕ) →
+        BeginWithDigits place (drop index.colon bytes.now) index.digits) }
+{
+    // (Tested once for all that follow.)
+    if bytes.len() < INDEX_ROOM {
+        return None;
+    }
+    let Some(colon) = near_colon(bytes) else {
+        return None;
+    };
+    let rest = &bytes[colon..];
+    match digits_from(rest, one_space(rest)) {
+        Some(digits) => Some(FrontIndex { colon, digits }),
+        None => None,
+    }
+}
+
+/// Two spaces, a colon, the digits, and a byte after them.
+const INDEX_ROOM: usize = 3 + MOST_WHOLE + 1;
+
+/// Returns 1 if the bytes begin with a space, and else 0.
+#[inline(always)]
+fn one_space(bytes: &[u8]) -> usize
+    ensures within { result ≤ length bytes.now }
+    ensures gap { gap_through Gap.Between (take result bytes.now) ≡ Gap.Between }
+{
+    if 0 < bytes.len() && quick_is_space(bytes[0]) {
+        return 1;
+    }
+    0
 }
 
 /// Returns 1 if the bytes begin with a blank or a line end, and else 0.

@@ -681,6 +681,13 @@ pub fn ended_name(bytes: &[u8]) -> Option<LexemePrefix>
     ensures word { IfSome result (IsNameOrMark bytes.now) }
     ensures kind { IfSome result (λ front. front.kind ≡ TokenKind.Name) }
 {
+    // (The word of an entry is mostly one letter before a colon.)
+    if bytes.len() > 1 && quick_is_colon(bytes[1]) {
+        return Some(LexemePrefix {
+            kind: TokenKind::Name,
+            len: 1,
+        });
+    }
     let end = name_end(bytes, 1);
     if end == bytes.len() {
         return None;
