@@ -1,14 +1,15 @@
 -- The places of an entry and the first number after them, taken at once.
-use Rattle.std.proofs.Common.{◌≡◌, ⊎_elim, ℕ, zero, suc, ◌+◌, ◌<◌, false, List, [], ◌∷◌, ◌++◌, length, drop, get_or, refl, sym, ap, subst, length-append, arith, Bool, ◌||◌}
+use Rattle.std.proofs.Common.{◌≡◌, ◌∙◌, inl, inr, ⊎_elim, ℕ, zero, suc, ◌+◌, ◌<◌, true, false, List, [], ◌∷◌, ◌++◌, length, drop, get_or, refl, sym, ap, subst, length-append, arith, Bool, ◌||◌}
 use Rattle.std.proofs.lemmas.List.{length-drop}
 use Rattle.polcert_items.proofs.Common.{moved, Lexeme, TokenKind, Colon, count_of, StandsFor, IsPlace, Preamble, begins_item, is_reserved, IsName, Elements, Count, Place, Only, Table, preamble_in, indices_in, named_in, is_sign, ModelSoFar, IsFed, none, more, FedAhead, BeginWithPlace, IsFirstPlace, IsWithinIndices, ExpectsNext, EntryReader}
 use Rattle.polcert_text.specs.Beginning.{BeginWithOne, BeginWithDigits}
-use Rattle.polcert_items.specs.Steps.Ahead.{AwaitsColon}
+use Rattle.polcert_items.specs.Steps.Ahead.{AwaitsColon, PlacesFed, with_state}
 use Rattle.polcert_items.specs.Steps.Wants.{entry_wants}
 use Rattle.polcert_text.specs.declared.front_tokens.FrontDigits.{FrontDigits}
 use Rattle.polcert_text.proofs.Taken.BeginLaws.{begin_then}
 use Rattle.polcert_items.specs.declared.ahead.FrontPlace.{FrontPlace}
 use Rattle.polcert_items.specs.declared.entry_reader.EntryState.TheVariants as states
+use Rattle.polcert_items.proofs.AheadLaws.{fed_then}
 use Rattle.polcert_items.proofs.PatternLaws.{in_state, colon_takes}
 use Rattle.polcert_items.proofs.WantLaws.{body_leads, colon_leads}
 
@@ -69,10 +70,10 @@ place_fed : (k : ModelSoFar) (r : EntryReader) (l : Lexeme) (p : Place) → r.st
 place_fed k r l p is room first = grind (arith, length-append, place_inside)
 
 -- a colon and a place
-pub colon_place_fed : (k : ModelSoFar) (r : EntryReader) (bytes : List ℕ) (colon : ℕ) (front : FrontPlace) (new : EntryReader) → AwaitsColon r.state → IsWithinIndices (indices_in k r.table) r → length r.places < length (indices_in k r.table)
+colon_place_fed : (k : ModelSoFar) (r : EntryReader) (bytes : List ℕ) (colon : ℕ) (front : FrontPlace) → AwaitsColon r.state → IsWithinIndices (indices_in k r.table) r → length r.places < length (indices_in k r.table)
     → ((position : ℕ) → BeginWithOne position bytes colon Colon) → ((position : ℕ) → BeginWithPlace (drop (length r.places) (named_in k r.table)) position (drop colon bytes) front)
-    → new ≡ (record { table = r.table; places = r.places ++ front.place ∷ []; state = states.Body }) → FedAhead k r bytes (colon + front.len) new
-colon_place_fed k r bytes colon front new awaits within room first second is = subst (FedAhead k r bytes (colon + front.len)) (sym is) (record {
+    → FedAhead k r bytes (colon + front.len) (record { table = r.table; places = r.places ++ front.place ∷ []; state = states.Body })
+colon_place_fed k r bytes colon front awaits within room first second = record {
   within = omega (arith, (first 0).front.within, (second 0).front.within, length-drop colon bytes);
   fed = λ position.
       let c = first position in
@@ -85,7 +86,45 @@ colon_place_fed k r bytes colon front new awaits within room first second is = s
           more r mid next (c.token ∷ []) p.token (more r r mid [] c.token (none r) (colon_fed k r c.token awaits within room c.kind_is)) (place_fed k mid p.token front.place refl room p.place_is),
         ),
       );
+}
+
+-- whatever the state says of what came before
+pub place_is_fed : (k : ModelSoFar) (r : EntryReader) (bytes : List ℕ) (colon : ℕ) (front : FrontPlace) (places : List Place) → length r.places < length (indices_in k r.table)
+    → ((position : ℕ) → BeginWithOne position bytes colon Colon) → ((position : ℕ) → BeginWithPlace (drop (length r.places) (named_in k r.table)) position (drop colon bytes) front)
+    → places ≡ r.places ++ front.place ∷ [] → PlacesFed k r bytes (colon + front.len) (record r { places = places })
+place_is_fed k r bytes colon front places room first second are = subst (λ ps. PlacesFed k r bytes (colon + front.len) (record r { places = ps })) (sym are) (record {
+  high = omega (arith, (first 0).front.within, (second 0).front.within, length-drop colon bytes);
+  fed = λ s awaits within. colon_place_fed k (with_state r s) bytes colon front awaits within room first second;
+  within = let len = length-append r.places (front.place ∷ []) in (omega (arith, len), omega (arith, len, room));
+  state = refl;
+  table = refl;
 })
+
+-- some places, and others after them
+pub places_then : (k : ModelSoFar) (a b c : EntryReader) (bytes : List ℕ) (m n : ℕ) → PlacesFed k a bytes m b → PlacesFed k b (drop m bytes) n c → PlacesFed k a bytes (m + n) c
+places_then k a b c bytes m n first second = record {
+  high = omega (arith, first.high, second.high, length-drop m bytes);
+  fed = λ s awaits within. fed_then k (with_state a s) (with_state b states.Body) (with_state c states.Body) bytes m n (first.fed s awaits within) (second.fed states.Body (inr refl) first.within);
+  within = second.within;
+  state = second.state ∙ first.state;
+  table = second.table ∙ first.table;
+}
+
+pub places_more : (k : ModelSoFar) (a b c : EntryReader) (bytes : List ℕ) (m n : ℕ) (has_place : Bool) → (has_place ≡ true → PlacesFed k a bytes m b) → (has_place ≡ false → (m ≡ 0) × (b ≡ a))
+    → PlacesFed k b (drop m bytes) n c → PlacesFed k a bytes (m + n) c
+places_more k a b c bytes m n true some same next = places_then k a b c bytes m n (some refl) next
+places_more k a b c bytes m n false some same next =
+    let first : m ≡ 0 = (same refl).0 in
+    let here = subst (λ j. PlacesFed k b (drop j bytes) n c) first next in
+    let count : n ≡ m + n = omega (arith, first) in
+    subst (λ r. PlacesFed k r bytes (m + n) c) (same refl).1 (subst (λ j. PlacesFed k b bytes j c) count here)
+
+-- places after the word of the table
+pub places_taken : (k : ModelSoFar) (r new : EntryReader) (bytes : List ℕ) (count : ℕ) → r.state ≡ states.Colon → IsWithinIndices (indices_in k r.table) r → PlacesFed k r bytes count new
+    → FedAhead k r bytes count (with_state new states.Body)
+places_taken k r new bytes count is within fed =
+    let at_colon = subst (λ s. IsWithinIndices (indices_in k r.table) (with_state r s)) is within in
+    subst (λ s. FedAhead k (with_state r s) bytes count (with_state new states.Body)) (sym is) (fed.fed states.Colon (inl refl) at_colon)
 
 -- what stands for one of the elements that may be named is a place
 pub element_place : (k : ModelSoFar) (table : Table) (written : ℕ) (l : Lexeme) (elements : Elements) (index : ℕ) → written < length (indices_in k table)

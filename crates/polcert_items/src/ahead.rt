@@ -1,11 +1,11 @@
 //! An entry that continues with several tokens at once: numbers that stand whole at the front of the bytes ahead.
 ghost use Rattle.std.specs.Prelude.{◌≡◌, ◌+◌, ◌<◌, ◌≤◌, ℕ, length, drop, get_or, IfOk, OnErr, IfSome, IfNone, IsTrue, IsFalse, []};
+ghost use Rattle.polcert_text.specs.Beginning.{BeginWithOne, BeginWithDigits};
 ghost use Rattle.polcert_cells.specs.Elements.{count_of, most_elements};
 ghost use Rattle.polcert_cells.specs.declared.elements.Elements.TheVariants.{Count};
 ghost use Rattle.polcert_format.specs.KnownPreamble.{indices_in, named_in, preamble_in};
-ghost use Rattle.polcert_items.specs.Steps.Ahead.{FedAhead, TakesAhead, IsListFed, IsListBegun, ItemFedAhead, BeginWithPlace, AwaitsColon};
+ghost use Rattle.polcert_items.specs.Steps.Ahead.{FedAhead, TakesAhead, IsListFed, IsListBegun, ItemFedAhead, BeginWithPlace, PlacesFed, AreCounts};
 ghost use Rattle.polcert_items.specs.Steps.Ahead.{with_state};
-ghost use Rattle.polcert_items.specs.declared.entry_reader.EntryState.{EntryState as State};
 ghost use Rattle.polcert_items.specs.Steps.Ahead.{IsNextEntry, IsNextItem};
 ghost use Rattle.polcert_items.specs.Steps.Entries.{EntryGoes, IsWithinIndices};
 ghost use Rattle.polcert_items.specs.Steps.ModelSoFar.{IsAllowedNext};
@@ -15,14 +15,17 @@ ghost use Rattle.polcert_cells.specs.declared.entries.Entry.{Entry as E};
 ghost use Rattle.polcert_items.specs.Steps.Items.{IsItemWithin};
 
 use crate::entry_reader::{
-    EntryReader, EntryState, ListNumber, Numbers, indices_of, takes_numbers,
+    EntryReader, EntryState, ListNumber, MOST_INDICES, Numbers, indices_of, takes_numbers,
 };
 use crate::item::{AddError, ItemReader};
 use crate::model_so_far::ModelSoFar;
 use crate::preamble_lines::element_by_name;
 use crate::signed_number::range_fault;
 use polcert_cells::{Place, Table, Topic};
-use polcert_text::{front_colon, front_digits, front_name, front_number, front_token};
+use polcert_text::{
+    FrontIndex, TokenKind, front_colon, front_digits, front_index, front_name, front_number,
+    front_token, near_colon,
+};
 use std::alloc::{AllocError, Global};
 
 /// A place at the front of some bytes, and how many bytes it takes with the blanks before it.
@@ -136,15 +139,9 @@ impl EntryReader {
         requires state { self.old.state ≡ EntryState.Colon }
         ensures { IfOk result (λ count. FedAhead known.now self.old bytes.now count self.new) }
     {
-        let mut at: usize = 0;
-        let mut has_place = false;
-        while let Some(len) = self.feed_place_ahead(known, &bytes[at..]) {
-            at += len;
-            has_place = true;
-        }
-        if !has_place {
-            return Ok(at);
-        }
+        let Some(at) = self.feed_places_ahead(known, bytes) else {
+            return Ok(0);
+        };
         match self.begin_ahead(alloc, known, &bytes[at..])? {
             Some(len) => Ok(at + len),
             None => {
@@ -154,20 +151,99 @@ impl EntryReader {
         }
     }
 
+    /// Continues with the places that come next, each after a colon, and answers how many bytes they are, if there is one. The state
+    /// is left to the caller. Indices in digits are tried first, by a shorter way.
+    #[inline(always)]
+    fn feed_places_ahead(&mut self, known: &ModelSoFar, bytes: &[u8]) -> Option<usize>
+        ensures fed { IfSome result (λ count. PlacesFed known.now self.old bytes.now count self.new) }
+        ensures none { IfNone result (self.new ≡ self.old) }
+    {
+        let Some(at) = self.feed_indices_ahead(known, bytes) else {
+            return self.feed_any_places_ahead(known, bytes);
+        };
+        if near_colon(&bytes[at..]).is_none() {
+            return Some(at);
+        }
+        match self.feed_any_places_ahead(known, &bytes[at..]) {
+            Some(len) => Some(at + len),
+            None => Some(at),
+        }
+    }
+
+    /// Does the same, up to the first place that is no index in digits.
+    #[inline(always)]
+    fn feed_indices_ahead(&mut self, known: &ModelSoFar, bytes: &[u8]) -> Option<usize>
+        ensures fed { IfSome result (λ count. PlacesFed known.now self.old bytes.now count self.new) }
+        ensures none { IfNone result (self.new ≡ self.old) }
+    {
+        let front = front_index(bytes)?;
+        let most = indices_of(self.table);
+        let counts = known.counts(self.table);
+        let mut at = self.put_index(known, most, &counts, bytes, front)?;
+        while self.places.len() < most {
+            let Some(front) = front_index(&bytes[at..]) else {
+                return Some(at);
+            };
+            let Some(len) = self.put_index(known, most, &counts, &bytes[at..], front) else {
+                return Some(at);
+            };
+            at += len;
+        }
+        Some(at)
+    }
+
+    /// Puts the index that the bytes begin with after the other places, if it may be the next, and answers how many bytes it takes with
+    /// its colon. The state is left to the caller.
+    #[inline(always)]
+    fn put_index(
+        &mut self,
+        known: &ModelSoFar,
+        most: usize,
+        counts: &[usize; MOST_INDICES],
+        bytes: &[u8],
+        front: FrontIndex,
+    ) -> Option<usize>
+        requires most { most ≡ length (indices_in known.now self.old.table) }
+        requires counts { AreCounts known.now self.old.table counts.now }
+        requires colon { (place : ℕ) → BeginWithOne place bytes.now front.colon TokenKind.Colon }
+        requires digits { (place : ℕ) → BeginWithDigits place (drop front.colon bytes.now) front.digits }
+        ensures fed { IfSome result (λ count. PlacesFed known.now self.old bytes.now count self.new) }
+        ensures grows { IfSome result (λ _. length self.new.places ≡ length self.old.places + 1) }
+        ensures none { IfNone result (self.new ≡ self.old) }
+    {
+        let written = self.places.len();
+        let index = front.digits.value;
+        if written >= most || index >= counts[written] as u64 {
+            return None;
+        }
+        match self.places.push(Place::Only(index as u16)) {
+            Ok(()) => Some(front.colon + front.digits.len),
+            Err(AllocError) => None,
+        }
+    }
+
+    /// Continues with the places that come next, whatever they are.
+    #[inline(never)]
+    fn feed_any_places_ahead(&mut self, known: &ModelSoFar, bytes: &[u8]) -> Option<usize>
+        ensures fed { IfSome result (λ count. PlacesFed known.now self.old bytes.now count self.new) }
+        ensures none { IfNone result (self.new ≡ self.old) }
+    {
+        let mut at: usize = 0;
+        let mut has_place = false;
+        while let Some(len) = self.feed_place_ahead(known, &bytes[at..]) {
+            at += len;
+            has_place = true;
+        }
+        if has_place { Some(at) } else { None }
+    }
+
     /// Continues with a colon and a place, and answers how many bytes they are, if they come next. The state is left to the caller.
     #[inline(always)]
     fn feed_place_ahead(&mut self, known: &ModelSoFar, bytes: &[u8]) -> Option<usize>
-        ensures fed { IfSome result (λ count. (s : State) → AwaitsColon s
-            → IsWithinIndices (indices_in known.now self.old.table) (with_state self.old s)
-            → FedAhead known.now (with_state self.old s) bytes.now count
-            (with_state self.new EntryState.Body)) }
-        ensures within { IfSome result (λ _.
-            IsWithinIndices (indices_in known.now self.new.table) (with_state self.new EntryState.Body)) }
+        ensures fed { IfSome result (λ count. PlacesFed known.now self.old bytes.now count self.new) }
         ensures room { IfSome result
             (λ _. length self.old.places < length (indices_in known.now self.old.table)) }
         ensures grows { IfSome result (λ _. length self.new.places ≡ length self.old.places + 1) }
-        ensures state { self.new.state ≡ self.old.state }
-        ensures table { self.new.table ≡ self.old.table }
         ensures none { IfNone result (self.new ≡ self.old) }
     {
         if self.places.len() >= indices_of(self.table) {
@@ -201,8 +277,20 @@ impl EntryReader {
                 len: index.len,
                 place: Place::Only(index.value as u16),
             }),
-            _ => self.token_place_ahead(known, bytes),
+            _ => self.other_place_ahead(known, bytes),
         }
+    }
+
+    /// Returns the next place, if a name or `*` that is one comes next. (The room for the result of a call is made where the function
+    /// begins that calls: here, not in each iteration.)
+    #[inline(always)]
+    fn other_place_ahead(&self, known: &ModelSoFar, bytes: &[u8]) -> Option<FrontPlace>
+        requires { length self.now.places < length (indices_in known.now self.now.table) }
+        ensures { IfSome result (λ front. (position : ℕ) →
+            BeginWithPlace (drop (length self.now.places) (named_in known.now self.now.table)) position
+            bytes.now front) }
+    {
+        self.token_place_ahead(known, bytes)
     }
 
     /// Returns the next place, if a name comes next that stands for one.

@@ -442,6 +442,9 @@ fn star_place(token: Token<'_>) -> Result<Place, Refusal>
     }
 }
 
+/// The most indices that the cells of a table have: those of rewards.
+pub(crate) const MOST_INDICES: usize = 4;
+
 /// Returns how many indices the cells of a table have.
 #[inline(always)]
 pub(crate) fn indices_of(table: Table) -> usize

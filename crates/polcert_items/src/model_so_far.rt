@@ -16,6 +16,7 @@ ghost use Rattle.polcert_format.specs.Wants.{least_written};
 ghost use Rattle.polcert_format.specs.Limits.{HasFewCells, most_cells, most_reward_entries};
 ghost use Rattle.polcert_items.specs.Steps.CellBudget.{AreSizesOf, IsNext, IsCoveredWith, IsCoveringOf, chosen, covered_by};
 ghost use Rattle.polcert_items.specs.Steps.CellBudget.{open_cells, nonzero_cells, counted, most_covered};
+ghost use Rattle.polcert_items.specs.Steps.Ahead.{AreCounts};
 ghost use Rattle.polcert_items.specs.Steps.ModelSoFar.{with_item, AreContentsWithin, IsAllowedNext};
 ghost use Rattle.polcert_items.specs.Steps.ModelSoFar.{IsWholeRead, said};
 ghost use Rattle.polcert_cells.specs.Meaning.{IsCount};
@@ -28,6 +29,7 @@ ghost use Rattle.polcert_format.specs.Text.{nothing_known};
 ghost use Rattle.polcert_text.specs.Cut.{Lexeme};
 ghost use Rattle.polcert_cells.specs.declared.entries.Entry.{Entry as E};
 
+use crate::entry_reader::MOST_INDICES;
 use crate::item::{AddError, ItemContents};
 use polcert_cells::{BodyRef, Elements, Entries, EntryRef, Place, StartWeights, Table, Topic};
 use polcert_format::ItemFault;
@@ -200,6 +202,20 @@ impl ModelSoFar {
             },
             (Table::Reward, 3) => self.observations.as_ref(),
             _ => self.states.as_ref(),
+        }
+    }
+
+    /// Returns how many elements each place may name in an entry of the table.
+    #[inline(always)]
+    pub(crate) fn counts(&self, table: Table) -> [usize; MOST_INDICES]
+        ensures { AreCounts self.now table result }
+    {
+        let actions = count_in(&self.actions);
+        let states = count_in(&self.states);
+        match table {
+            Table::Transition => [actions, states, states, 0],
+            Table::Observation => [actions, states, count_or(states, &self.observations), 0],
+            Table::Reward => [actions, states, states, count_in(&self.observations)],
         }
     }
 
@@ -393,6 +409,7 @@ impl CellBudget {
     }
 
     /// Adds an entry. `None`: the cells of a large table pass their limit.
+    #[inline(always)]
     pub(crate) fn with(mut self, sizes: Sizes, entry: EntryRef<'_>) -> Option<CellBudget>
         requires { (p : P) × (es : List E) × IsNext p es self sizes (entry_of entry) }
         ensures { (p : P) (es : List E) → IsNext p es self sizes (entry_of entry.entry)
@@ -417,6 +434,7 @@ impl CellBudget {
 
 impl Sizes {
     /// Adds the cells that an entry covers in a table of so many columns. `None`: they pass their limit.
+    #[inline(always)]
     fn add_cells(self, count: usize, columns: usize, entry: EntryRef<'_>) -> Option<usize>
         requires actions { self.actions ≤ most_actions }
         requires states { self.states ≤ most_states }
@@ -440,6 +458,7 @@ impl Sizes {
     }
 
     /// Adds one entry of R. `None`: the entries pass their limit.
+    #[inline(never)]
     fn count_reward_entry(self, count: usize) -> Option<usize>
         requires actions { self.actions ≤ most_actions }
         requires states { self.states ≤ most_states }
@@ -496,7 +515,8 @@ fn nonzero_cells(body: BodyRef<'_>, states: usize, cells: usize) -> usize
     }
 }
 
-/// Returns how many cells an entry covers with positive weight, in a table of so many columns.
+/// Returns how many cells an entry covers with positive weight, in a table of so many columns. (Apart, since few tables are large.)
+#[inline(never)]
 fn covered_by(actions: usize, states: usize, columns: usize, entry: EntryRef<'_>) -> usize
     requires actions { actions ≤ most_actions }
     requires states { states ≤ most_states }

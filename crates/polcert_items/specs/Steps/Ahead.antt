@@ -1,14 +1,16 @@
 -- An entry that continues with several lexemes at once: those that stand whole at the front of some bytes.
 -- Nobody has to believe this: only contracts of the readers of items and texts cite it.
-use Rattle.std.specs.Prelude.{◌≡◌, ℕ, ◌<◌, ◌≤◌, ◌⊎◌, true, false, None, List, [], ◌∷◌, ◌++◌, length}
+use Rattle.std.specs.Prelude.{◌≡◌, ℕ, ◌<◌, ◌≤◌, ◌⊎◌, true, false, None, List, [], ◌∷◌, ◌++◌, length, get_or}
 use Rattle.polcert_text.specs.Beginning.{BeginWith}
 use Rattle.polcert_text.specs.Cut.{Lexeme}
 use Rattle.polcert_cells.specs.Words.{begins_item}
+use Rattle.polcert_cells.specs.Elements.{count_of, most_elements}
 use Rattle.polcert_cells.specs.declared.elements.Elements.{Elements}
+use Rattle.polcert_cells.specs.declared.elements.Elements.TheVariants.{Count}
 use Rattle.polcert_cells.specs.declared.entries.Entry.{Entry}
 use Rattle.polcert_cells.specs.declared.entries.Table.{Table}
 use Rattle.polcert_cells.specs.declared.words.Topic.TheVariants.{Cells}
-use Rattle.polcert_format.specs.KnownPreamble.{preamble_in, indices_in}
+use Rattle.polcert_format.specs.KnownPreamble.{preamble_in, indices_in, named_in}
 use Rattle.polcert_format.specs.Limits.{HasFewCells}
 use Rattle.polcert_format.specs.Misfits.{begins_number}
 use Rattle.polcert_format.specs.Order.{word_fault}
@@ -99,3 +101,17 @@ with_state r s = record { table = r.table; places = r.places; state = s }
 -- a colon may come next
 abbrev pub AwaitsColon : EntryState → Type 0
 AwaitsColon s = (s ≡ states.Colon) ⊎ (s ≡ states.Body)
+
+-- places were taken, each after a colon, where one may come next; the state is left to the caller
+pub record PlacesFed (k : ModelSoFar) (old : EntryReader) (bytes : List ℕ) (count : ℕ) (new : EntryReader) : Type 0 where
+  pub high : count ≤ length bytes
+  pub fed : (s : EntryState) → AwaitsColon s → IsWithinIndices (indices_in k old.table) (with_state old s)
+      → FedAhead k (with_state old s) bytes count (with_state new states.Body)
+  pub within : IsWithinIndices (indices_in k new.table) (with_state new states.Body)
+  pub state : new.state ≡ old.state
+  pub table : new.table ≡ old.table
+
+-- as many elements as each place of the table may name
+abbrev pub AreCounts : ModelSoFar → Table → List ℕ → Type 0
+AreCounts k table counts = (n : ℕ) → n < length (indices_in k table)
+    → (get_or counts n 0 ≡ count_of (get_or (named_in k table) n (Count 0))) × (get_or counts n 0 ≤ most_elements)

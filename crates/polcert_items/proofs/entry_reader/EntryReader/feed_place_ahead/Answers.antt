@@ -1,28 +1,18 @@
-use Rattle.std.proofs.Common.{◌∙◌, ◌+◌, ◌<◌, ◌≤◌, ℕ, [], ◌∷◌, ◌++◌, length, length-append, drop, rules, sym, ap, subst, arith}
-use Rattle.polcert_items.proofs.Common.{take_rest, indices_in, named_in, BeginWithPlace, IsWithinIndices, EntryReader}
+use Rattle.std.proofs.Common.{◌∙◌, ◌+◌, ◌<◌, ◌≤◌, ℕ, [], ◌∷◌, length, length-append, drop, rules, ap, subst, arith}
+use Rattle.polcert_items.proofs.Common.{take_rest, indices_in, named_in, BeginWithPlace}
 use Rattle.std.proofs.lemmas.List.{length-drop}
-use Rattle.polcert_items.specs.Steps.Ahead.{with_state}
-use Rattle.polcert_items.specs.declared.entry_reader.EntryState.TheVariants as states
-use Rattle.polcert_items.proofs.AheadPlaces.{colon_place_fed}
+use Rattle.polcert_items.proofs.AheadPlaces.{place_is_fed}
 use Rattle.polcert_items.proofs.entry_reader.EntryReader.feed_place_ahead.Goals as goal
 
 pub returns-in-Ok-clause-fed : goal.returns-in-Ok-clause-fed
-returns-in-Ok-clause-fed c = λ s awaits within.
+returns-in-Ok-clause-fed c =
     let k = c.args.known.now in
     let r = c.args.self.now in
     let bs = c.args.bytes.now in
     let colon = c.in-Some.colon in
     let room : length r.places < length (indices_in k r.table) = omega (arith, c.indices_of.ensures k, c.len.ensures) in
     let second = subst (λ xs. (position : ℕ) → BeginWithPlace (drop (length r.places) (named_in k r.table)) position xs c.in-Some-place_ahead.front) (take_rest bs colon) c.in-Some-place_ahead.ensures in
-    colon_place_fed k (with_state r s) bs colon c.in-Some-place_ahead.front _ awaits within room c.in-Some.ensures second (λ i. record { table = r.table; places = c.in-Ok.ensures.ok i; state = states.Body })
-
-pub returns-in-Ok-clause-within : goal.returns-in-Ok-clause-within
-returns-in-Ok-clause-within c =
-    let k = c.args.known.now in
-    let r = c.args.self.now in
-    let new : EntryReader = record { table = r.table; places = r.places ++ c.in-Some-place_ahead.front.place ∷ []; state = states.Body } in
-    let len = length-append r.places (c.in-Some-place_ahead.front.place ∷ []) in
-    subst (λ ps. IsWithinIndices (indices_in k r.table) (record new { places = ps })) (sym c.in-Ok.ensures.ok) (omega (arith, len), omega (arith, len, c.indices_of.ensures k, c.len.ensures))
+    place_is_fed k r bs colon c.in-Some-place_ahead.front _ room c.in-Some.ensures second c.in-Ok.ensures.ok
 
 pub returns-in-Ok-clause-grows : goal.returns-in-Ok-clause-grows
 returns-in-Ok-clause-grows c = ap length c.in-Ok.ensures.ok ∙ length-append c.args.self.now.places (c.in-Some-place_ahead.front.place ∷ [])
