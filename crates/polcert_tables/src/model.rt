@@ -45,13 +45,25 @@ const EQUAL_WEIGHT: u64 = 1;
 
 /// The lines of a text before the start item and the entries: the discount in millionths, whether rewards are written
 /// as costs, and the elements. An MDP has no line of observations.
-#[derive(Drop)]
 pub struct Preamble {
     pub discount: u32,
     pub costs: bool,
     pub states: Elements,
     pub actions: Elements,
     pub observations: Option<Elements>,
+}
+
+// (Written by hand so that callers prove one drop.)
+impl Drop for Preamble {
+    fn drop(self) {
+        let Preamble {
+            discount: _,
+            costs: _,
+            states: _,
+            actions: _,
+            observations: _,
+        } = self;
+    }
 }
 
 /// A model of a partially observable Markov decision process, or of one whose states are observed (an MDP):
