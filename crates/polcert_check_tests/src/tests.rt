@@ -6,7 +6,9 @@ use polcert_policy::{Graph, Vectors, read_graph, read_vectors};
 use std::alloc::Global;
 use std::test::Fail;
 
+mod model;
 mod optimum;
+mod policy;
 mod worked;
 
 /// Two states, each as likely as the other after every step; one action; two observations, of which the first always

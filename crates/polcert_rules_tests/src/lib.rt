@@ -1,6 +1,10 @@
-//! The tests of what `polcert_rules` makes public, in a crate of their own: so they are proved without proving rows and rewards
-//! once more.
+//! The tests of what `polcert_text`, `polcert_cells` and `polcert_rules` make public, in a crate of their own: so they are proved
+//! without proving those crates once more.
 #![tactic(auto)]
 
 #[cfg(test)]
+mod entries;
+#[cfg(test)]
 mod tests;
+#[cfg(test)]
+mod text;

@@ -1,5 +1,5 @@
 //! The limits of elements and of cells.
-use crate::tests::numbers::{counts_and_printable, first_wrong_refusal};
+use super::numbers::{counts_and_printable, first_wrong_refusal};
 use polcert_model::ItemFault;
 use polcert_testing::RefusedModel;
 

@@ -1,6 +1,6 @@
 //! The cells of a model in filled tables.
-use crate::tests::numbers::{o, r, t};
-use crate::tests::texts::{GENERAL_FIRST, GENERAL_LAST, SINGLE};
+use super::numbers::{o, r, t};
+use super::texts::{GENERAL_FIRST, GENERAL_LAST, SINGLE};
 use polcert_model::{Cells, DenseModel, Model, Row, dense_of, read_model};
 use polcert_testing::TIGER;
 use std::alloc::Global;

@@ -1,6 +1,6 @@
 //! Texts that are accepted, and their cells.
-use crate::tests::numbers::{Number, first_wrong, read_is_cost, refusal};
-use crate::tests::texts::{GENERAL_FIRST, GENERAL_LAST, SINGLE};
+use super::numbers::{Number, first_wrong, read_is_cost, refusal};
+use super::texts::{GENERAL_FIRST, GENERAL_LAST, SINGLE};
 use polcert_model::{ModelFault, Table};
 use polcert_testing::FIRST;
 use std::alloc::Global;

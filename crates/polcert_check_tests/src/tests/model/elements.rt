@@ -1,5 +1,5 @@
 //! The lines that name elements, or count them.
-use crate::tests::numbers::{Number, first_wrong, refusal, refusal_in_memory};
+use super::numbers::{Number, first_wrong, refusal, refusal_in_memory};
 use polcert_model::{ItemFault, ModelFault};
 use std::alloc::Global;
 use std::test::Fail;

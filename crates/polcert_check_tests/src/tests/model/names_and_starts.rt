@@ -1,5 +1,5 @@
 //! Names and start items: texts that are accepted, and what they say.
-use crate::tests::numbers::{Number, first_wrong, is_named, read_is_cost, starts_with};
+use super::numbers::{Number, first_wrong, is_named, read_is_cost, starts_with};
 use polcert_model::Kind;
 use polcert_testing::TIGER;
 

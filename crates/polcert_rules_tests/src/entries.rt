@@ -66,29 +66,34 @@ fn places_of(items: &[Place]) -> Result<Places, AllocError> {
     Ok(places)
 }
 
-fn entry(table: Table, places: &[Place], body: Body) -> Result<Entry, AllocError> {
-    Ok(Entry {
+/// Adds an entry.
+fn put(
+    entries: &mut Entries,
+    table: Table,
+    places: &[Place],
+    body: Body,
+) -> Result<(), AllocError> {
+    let places = places_of(places)?;
+    entries.push(Entry {
         table,
-        places: places_of(places)?,
+        places,
         body,
     })
 }
 
-/// One entry of each body.
-fn entries(alloc: Global) -> Result<Entries, AllocError> {
+/// Adds one entry of each body.
+fn put_each_body(alloc: Global, entries: &mut Entries) -> Result<(), AllocError> {
     let one = [Place::Only(1)];
     let two = [Place::Every, Place::Only(2)];
     let four = [Place::Only(0), Place::Every, Place::Every, Place::Only(999)];
-    let mut entries = Entries::new(alloc);
-    entries.push(entry(Table::Transition, &one, Body::Identity)?)?;
+    put(entries, Table::Transition, &one, Body::Identity)?;
     let numbers = Body::Probabilities(sequence(alloc, &[1_000_000, 0])?);
-    entries.push(entry(Table::Observation, &two, numbers)?)?;
+    put(entries, Table::Observation, &two, numbers)?;
     let numbers = Body::Rewards(sequence(alloc, &[-5])?);
-    entries.push(entry(Table::Reward, &four, numbers)?)?;
-    entries.push(entry(Table::Transition, &one, Body::Uniform)?)?;
+    put(entries, Table::Reward, &four, numbers)?;
+    put(entries, Table::Transition, &one, Body::Uniform)?;
     let numbers = Body::Probabilities(sequence(alloc, &[7])?);
-    entries.push(entry(Table::Transition, &two, numbers)?)?;
-    Ok(entries)
+    put(entries, Table::Transition, &two, numbers)
 }
 
 fn probabilities(body: BodyRef<'_>) -> Option<&[u32]> {
@@ -107,7 +112,8 @@ fn rewards(body: BodyRef<'_>) -> Option<&[i64]> {
 
 #[test]
 fn entries_are_borrowed_as_they_were_put(rt: HostRuntime) -> Result<(), Fail> {
-    let entries = entries(rt.alloc())?;
+    let mut entries = Entries::new(rt.alloc());
+    put_each_body(rt.alloc(), &mut entries)?;
     assert!(rt; entries.len() == 5);
     let borrowed = entries.at(0);
     assert_eq!(rt; borrowed.table, Table::Transition);

@@ -1,5 +1,5 @@
 //! Texts that are refused, and where.
-use crate::tests::numbers::{first_wrong_refusal, refusal};
+use super::numbers::{first_wrong_refusal, refusal};
 use polcert_model::{ItemFault, ModelFault, Table};
 use polcert_testing::{RefusedModel, refused_models};
 use polcert_text::{NumberFault, TokenFault};

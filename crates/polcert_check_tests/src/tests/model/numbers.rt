@@ -1,5 +1,5 @@
 //! What the tests read of a text: plain values, so that no model lives on in a test. Such tests are proved quickest.
-use crate::tests::sources::refusal_in_pieces;
+use super::sources::refusal_in_pieces;
 use polcert_model::{Cells, Kind, Model, ModelFault, read_model};
 use polcert_testing::RefusedModel;
 use std::alloc::Global;

@@ -1,6 +1,6 @@
 use Rattle.std.proofs.Common.{◌∙◌, sym}
 use Rattle.polcert_policy.proofs.LoweringLaws.{can_lower_two, above_least}
-use Rattle.polcert_policy_tests.proofs.tests.can_lower.Goals as goal
+use Rattle.polcert_check_tests.proofs.tests.policy.can_lower.Goals as goal
 
 pub returns : goal.returns
 returns c = λ holds.

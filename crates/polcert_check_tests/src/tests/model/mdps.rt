@@ -1,7 +1,5 @@
 //! Texts without a line of observations: the end state is observed.
-use crate::tests::numbers::{
-    Number, first_wrong, first_wrong_refusal, is_named, read_is_mdp, refusal,
-};
+use super::numbers::{Number, first_wrong, first_wrong_refusal, is_named, read_is_mdp, refusal};
 use polcert_model::{ItemFault, Kind, ModelFault, Table};
 use polcert_testing::RefusedModel;
 use polcert_text::TokenFault;
