@@ -1,20 +1,13 @@
 //! Reads a model, a policy graph and its value vectors, and checks exactly what the policy promises.
 #![tactic(auto)]
 
-mod choice;
-#[cfg(test)]
-mod fake_terminal;
-mod help;
 mod program;
-mod progress;
-#[cfg(test)]
-mod tests;
 
-pub use choice::{Choice, choose};
 pub use polcert_answer::{
     Fault, Outcome, RunFault, Task, check_texts, check_texts_above, run_check, run_check_above,
     run_lower, run_model, run_print, run_raise, run_task, status_of,
 };
+pub use polcert_terminal::controller::{Choice, choose};
 use std::io::IsTerminal;
 use std::process::ExitCode;
 

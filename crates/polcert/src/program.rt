@@ -1,11 +1,11 @@
 //! The program, over the runtime that it is given.
-use crate::choice::{Choice, FileNames, Job, choose};
-use crate::progress::{CheckProgress, InputText, WatchedSource};
 use polcert_answer::{
     Outcome, RunFault, Task, run_model, run_print, run_task, status_of, status_of_outcome,
 };
-use polcert_lines::{
-    DONE, LoweredLine, MEMORY, REFUSED, RaisedLine, RefusalLine, print_clap_error, refuse,
+use polcert_lines::{LoweredLine, RaisedLine, RefusalLine};
+use polcert_terminal::controller::{Choice, FileNames, Job, choose};
+use polcert_terminal::{
+    CheckProgress, DONE, InputText, MEMORY, REFUSED, WatchedSource, print_clap_error, refuse,
 };
 use polcert_text::{ReaderSource, Source, WriterSink};
 use std::alloc::AllocError;

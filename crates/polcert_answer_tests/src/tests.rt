@@ -10,9 +10,13 @@ use std::test::Fail;
 mod above;
 mod answers;
 mod bound;
+mod controller_words;
+mod every_policy_words;
+mod fake_terminal;
 mod lines;
 mod progress;
 mod runs;
+mod shown_progress;
 mod streams;
 mod trials;
 

@@ -1,13 +1,9 @@
 //! Checks that vectors, one for each action of a model, bound what every policy earns, or raises them so that they do.
 #![tactic(auto)]
 
-mod choice;
-mod help;
 mod program;
-#[cfg(test)]
-mod tests;
 
-pub use choice::{Choice, choose};
+pub use polcert_terminal::every_policy::{Choice, choose};
 use std::process::ExitCode;
 
 fn main(rt: HostRuntime) -> ExitCode {

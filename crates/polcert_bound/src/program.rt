@@ -1,10 +1,9 @@
 //! The program, over the runtime that it is given.
-use crate::choice::{Choice, FileNames, choose};
 use polcert_answer::{RunFault, status_of};
 use polcert_bound_answer::{run_bound_check, run_bound_raise, status_of_bound_verdict};
-use polcert_lines::{
-    BoundRefusalLine, DONE, MEMORY, REFUSED, RaisedLine, print_clap_error, refuse,
-};
+use polcert_lines::{BoundRefusalLine, RaisedLine};
+use polcert_terminal::every_policy::{Choice, FileNames, choose};
+use polcert_terminal::{DONE, MEMORY, REFUSED, print_clap_error, refuse};
 use polcert_text::{ReaderSource, WriterSink};
 use std::alloc::AllocError;
 use std::rt::{Env, Files};

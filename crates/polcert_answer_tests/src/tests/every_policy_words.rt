@@ -1,0 +1,74 @@
+//! What the words of the command line of `polcert_bound` ask for.
+use clap::error::ErrorKind;
+use polcert_terminal::every_policy::{Choice, FileNames, choose};
+use std::alloc::Global;
+
+/// Returns what is chosen, or the kind of fault with which the words are refused.
+fn chosen<'a>(alloc: Global, words: &'a [&'a str]) -> Result<Option<Choice<'a>>, ErrorKind> {
+    match choose(alloc, words) {
+        Ok(choice) => Ok(choice),
+        Err(error) => Err(error.kind()),
+    }
+}
+
+const NAMES: FileNames<'static> = FileNames {
+    model: "a",
+    vectors: "b",
+};
+
+/// Words, and what is chosen.
+const CHOICES: [(&[&str], Option<Choice<'static>>); 9] = [
+    (&[], None),
+    (&["polcert_bound"], None),
+    (&["polcert_bound", "check"], None),
+    (&["polcert_bound", "check", "a"], None),
+    (
+        &["polcert_bound", "check", "a", "b"],
+        Some(Choice::Check(NAMES)),
+    ),
+    (
+        &["polcert_bound", "check", "--", "a", "b"],
+        Some(Choice::Check(NAMES)),
+    ),
+    (&["polcert_bound", "raise"], None),
+    (&["polcert_bound", "raise", "a"], None),
+    (
+        &["polcert_bound", "raise", "a", "b"],
+        Some(Choice::Raise(NAMES)),
+    ),
+];
+
+#[test]
+fn chooses(rt: HostRuntime) {
+    for (words, choice) in CHOICES {
+        assert_eq!(rt; chosen(rt.alloc(), words), Ok(choice));
+    }
+}
+
+#[test]
+fn refuses(rt: HostRuntime) {
+    let rows: [(&[&str], ErrorKind); 7] = [
+        (&["polcert_bound", "lower"], ErrorKind::InvalidSubcommand),
+        (
+            &["polcert_bound", "check", "a", "b", "c"],
+            ErrorKind::UnknownArgument,
+        ),
+        (
+            &["polcert_bound", "check", "--at-most", "a", "b"],
+            ErrorKind::UnknownArgument,
+        ),
+        (
+            &["polcert_bound", "raise", "a", "b", "c"],
+            ErrorKind::UnknownArgument,
+        ),
+        (&["polcert_bound", "--help"], ErrorKind::DisplayHelp),
+        (&["polcert_bound", "--version"], ErrorKind::DisplayVersion),
+        (
+            &["polcert_bound", "raise", "--help"],
+            ErrorKind::DisplayHelp,
+        ),
+    ];
+    for (words, kind) in rows {
+        assert_eq!(rt; chosen(rt.alloc(), words), Err(kind));
+    }
+}

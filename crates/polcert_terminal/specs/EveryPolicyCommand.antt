@@ -1,0 +1,54 @@
+-- The command line: its grammar as clap sees it, and the choice of a subcommand and its values. Our own.
+--
+--     polcert_bound check FILE ALPHA
+--     polcert_bound raise FILE ALPHA
+use Rattle.std.specs.Prelude.{List, [], Option, Some, None, option_map, option_and_then, codes, true, if◌then◌else◌}
+use Rattle.std.specs.Str.{bytes_eq}
+use Rattle.clap.specs.Words.{App, Rule, Row, Text, new_app, with_rule, with_subcommand, first_of}
+use Rattle.polcert_terminal.specs.Command.{file_rule, one_file}
+use Rattle.polcert_terminal.specs.declared.every_policy.FileNames.{FileNames}
+use Rattle.polcert_terminal.specs.declared.every_policy.Choice.{Choice}
+use Rattle.polcert_terminal.specs.declared.every_policy.Choice.TheVariants.{Check, Raise}
+
+abbrev pub two_files : Text → App
+two_files name = with_rule (one_file name) (file_rule (codes "ALPHA"))
+
+-- the program's name and version, with no subcommand
+abbrev pub bare_app : App
+bare_app = record { top = record (new_app (codes "polcert_bound")).top { has_version = true }; subs = [] }
+
+-- the program's command
+abbrev pub the_app : App
+the_app = with_subcommand (with_subcommand bare_app (two_files (codes "check")).top) (two_files (codes "raise")).top
+
+-- the texts of two names
+pub record Texts : Type 0 where
+  pub model : Text
+  pub vectors : Text
+
+-- a choice, with the texts of its names
+pub data Chosen : Type 0 where
+  check : Texts → Chosen
+  raise : Texts → Chosen
+
+abbrev pub names_view : FileNames → Texts
+names_view names = record { model = names.model.now; vectors = names.vectors.now }
+
+abbrev pub view_of : Choice → Chosen
+view_of (Check names) = check (names_view names)
+view_of (Raise names) = raise (names_view names)
+
+-- the two names among the matches of a subcommand
+abbrev pub names_in : List Row → Option Texts
+names_in rows = option_and_then (λ f. option_map (λ v. record { model = f; vectors = v }) (first_of (codes "ALPHA") rows)) (first_of (codes "FILE") rows)
+
+-- the choice of a subcommand and its matches
+abbrev pub chosen_of : Text → List Row → Option Chosen
+chosen_of name rows =
+    if bytes_eq name (codes "check") then option_map check (names_in rows)
+    else (if bytes_eq name (codes "raise") then option_map raise (names_in rows) else None)
+
+-- no subcommand is no choice
+abbrev pub chosen : Option (Text × List Row) → Option Chosen
+chosen None = None
+chosen (Some found) = chosen_of found.0 found.1

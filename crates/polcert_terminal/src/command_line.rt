@@ -1,0 +1,82 @@
+//! What the command lines of both programs share: help texts, arguments, values, and how a program ends whose command line is refused.
+ghost use Rattle.std.specs.Prelude.{◌≡◌, false, IfOk, option_map};
+ghost use Rattle.clap.specs.Words.{app_of, first_of, found_of, rows_of, rule_of};
+ghost use Rattle.clap.specs.declared.builder.Command.TheViews.{out-Command};
+ghost use Rattle.polcert_terminal.specs.Command.{file_rule, one_file};
+
+use clap::error::ErrorKind;
+use clap::{Arg, ArgAction, ArgMatches, Command};
+use std::alloc::{AllocError, Global};
+
+/// What the help of a subcommand says.
+#[derive(Clone, Copy, Debug)]
+pub struct HelpTexts<'a> {
+    /// One line, which the list of commands shows too.
+    pub about: &'a str,
+    /// The usage line. clap's own would have brackets around the files: the parser requires none of them.
+    pub usage: &'a str,
+    /// What follows the options: the files, notes and an example.
+    pub details: &'a str,
+}
+
+/// Returns an argument that takes the name of a file. The help's details describe it, so clap lists it nowhere.
+pub fn file<'a>(alloc: Global, id: &'a str) -> Arg<'a>
+    ensures rule { rule_of result ≡ file_rule id.entry.now }
+    ensures local { result.global ≡ false }
+{
+    Arg::new(alloc, id).action(ArgAction::Set).hide(true)
+}
+
+/// Returns a subcommand that takes the name of a model's file.
+pub fn command_with_file<'a>(
+    alloc: Global,
+    name: &'a str,
+    texts: HelpTexts<'a>,
+) -> Result<Command<'a>, AllocError>
+    ensures app { IfOk result (λ command. app_of command ≡ one_file name.entry.now) }
+    ensures local { IfOk result (λ command. (out-Command command).has_globals ≡ false) }
+{
+    Command::new(alloc, name)
+        .about(texts.about)
+        .override_usage(texts.usage)
+        .after_help(texts.details)
+        .arg(file(alloc, "FILE"))
+}
+
+/// Returns the value of an argument.
+pub fn value_of<'a>(inner: &ArgMatches<'a>, id: &str) -> Option<&'a str>
+    ensures { option_map (λ text. text.now) result ≡ first_of id.now (rows_of (found_of inner.now)) }
+{
+    inner.get_str(id)
+}
+
+/// The exit status if all went well and there is no verdict.
+pub const DONE: u8 = 0;
+
+/// The exit status of a command line that is refused.
+pub const REFUSED: u8 = 2;
+
+/// The exit status if help can't be written.
+const CANNOT_WRITE: u8 = 3;
+
+/// The exit status if there is no memory for the command line.
+pub const MEMORY: u8 = 4;
+
+/// Prints why the program stops, and returns its status.
+pub fn refuse<R: Eprint>(rt: &R, line: &str, status: u8) -> u8
+    ensures { result ≡ status }
+{
+    let _ = rt.eprintln(line);
+    status
+}
+
+/// Prints help or the version to standard output, or else why clap refuses the words to standard error, and returns the exit status.
+pub fn print_clap_error<R: Print + Eprint>(rt: &R, error: &clap::Error) -> u8 {
+    if error.kind() == ErrorKind::OutOfMemory {
+        return refuse(rt, "out of memory", MEMORY);
+    }
+    match error.print(rt) {
+        Ok(()) => error.exit_code() as u8,
+        Err(_) => refuse(rt, "cannot write", CANNOT_WRITE),
+    }
+}

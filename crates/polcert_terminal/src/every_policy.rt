@@ -1,0 +1,114 @@
+//! What the words of the command line of `polcert_bound` ask for.
+ghost use Rattle.std.specs.Prelude.{◌≡◌, List, false, IfOk, map, option_map};
+ghost use Rattle.clap.specs.Words.{FailsBy, app_of, fault_of, found_of, rows_of, subcommand_of, subcommand_rows_of, with_subcommand};
+ghost use Rattle.clap.specs.declared.builder.Command.TheViews.{out-Command};
+ghost use Rattle.polcert_terminal.specs.EveryPolicyCommand.{the_app, two_files, chosen, chosen_of, names_in, names_view, view_of};
+
+mod help;
+
+use crate::command_line::{HelpTexts, command_with_file, file, value_of};
+use clap::{ArgMatches, Command, Error};
+use std::alloc::{AllocError, Global};
+
+/// The names of the files of a model and of vectors, one for each of its actions.
+#[derive(Clone, Copy, Debug, PartialEq, Eq)]
+pub struct FileNames<'a> {
+    pub model: &'a str,
+    pub vectors: &'a str,
+}
+
+/// What the words ask for.
+#[derive(Clone, Copy, Debug, PartialEq, Eq)]
+pub enum Choice<'a> {
+    /// Check that the vectors bound what every policy earns.
+    Check(FileNames<'a>),
+    /// Raise the vectors so that they pass the check.
+    Raise(FileNames<'a>),
+}
+
+/// Returns what the words ask for, of which the first is the program's name, or `None` if the command or a file's name is missing.
+///
+/// # Errors
+///
+/// clap's, with its text: the words are no command line, or they ask for help or the version, or memory ran out.
+pub fn choose<'a>(alloc: Global, words: &'a [&'a str]) -> Result<Option<Choice<'a>>, Error>
+    // The row of the subcommand and the values that clap's promise for simple commands gives for these words.
+    ensures choice { IfOk result (λ choice.
+        option_map view_of choice ≡ chosen (subcommand_of the_app (map (λ word. word.now) words.entry.now))) }
+
+    // An error comes exactly if clap's promise has a fault for the words, and has one of its kinds, out of
+    // memory aside.
+    ensures faults { FailsBy (fault_of the_app (map (λ word. word.now) words.entry.now)) result }
+{
+    let command = program_command(alloc)?;
+    let matches = command.try_get_matches_from(words)?;
+    Ok(choice_of(&matches))
+}
+
+/// Returns the program's command, with its subcommands.
+fn program_command<'a>(alloc: Global) -> Result<Command<'a>, AllocError>
+    ensures { IfOk result (λ command. app_of command ≡ the_app) }
+{
+    let command = Command::new(alloc, "polcert_bound")
+        .version("1.0.0")
+        .about(help::ABOUT)
+        .after_help(help::DETAILS);
+    let command = add_command_with_files(alloc, command, "check", help::CHECK)?;
+    add_command_with_files(alloc, command, "raise", help::RAISE)
+}
+
+/// Adds a subcommand that takes the names of the files of a model and of vectors.
+fn add_command_with_files<'a>(
+    alloc: Global,
+    command: Command<'a>,
+    name: &'a str,
+    texts: HelpTexts<'a>,
+) -> Result<Command<'a>, AllocError>
+    ensures { IfOk result (λ more.
+        app_of more ≡ with_subcommand (app_of command.entry) (two_files name.entry.now).top) }
+{
+    let added = command_with_files(alloc, name, texts)?;
+    command.subcommand(added)
+}
+
+/// Returns a subcommand that takes the names of the files of a model and of vectors.
+fn command_with_files<'a>(
+    alloc: Global,
+    name: &'a str,
+    texts: HelpTexts<'a>,
+) -> Result<Command<'a>, AllocError>
+    ensures app { IfOk result (λ command. app_of command ≡ two_files name.entry.now) }
+    ensures local { IfOk result (λ command. (out-Command command).has_globals ≡ false) }
+{
+    command_with_file(alloc, name, texts)?.arg(file(alloc, "ALPHA"))
+}
+
+/// Returns the choice of a subcommand and its matches.
+fn choice_of<'a>(matches: &ArgMatches<'a>) -> Option<Choice<'a>>
+    ensures { option_map view_of result ≡ chosen (subcommand_rows_of matches.now) }
+{
+    match matches.subcommand() {
+        None => None,
+        Some((name, inner)) => choice_by_name(name, inner),
+    }
+}
+
+/// Returns the choice of a subcommand's name and its matches.
+fn choice_by_name<'a>(name: &str, inner: &ArgMatches<'a>) -> Option<Choice<'a>>
+    ensures { option_map view_of result ≡ chosen_of name.now (rows_of (found_of inner.now)) }
+{
+    match name {
+        "check" => Some(Choice::Check(file_names_of(inner)?)),
+        "raise" => Some(Choice::Raise(file_names_of(inner)?)),
+        _ => None,
+    }
+}
+
+fn file_names_of<'a>(inner: &ArgMatches<'a>) -> Option<FileNames<'a>>
+    ensures { option_map names_view result ≡ names_in (rows_of (found_of inner.now)) }
+{
+    Some(FileNames {
+        model: value_of(inner, "FILE")?,
+        vectors: value_of(inner, "ALPHA")?,
+    })
+}

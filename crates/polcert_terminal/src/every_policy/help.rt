@@ -1,0 +1,72 @@
+//! The texts of the help of `polcert_bound`.
+
+use crate::command_line::HelpTexts;
+
+pub const ABOUT: &str =
+    "Certify in exact arithmetic an upper bound on what every policy of a POMDP earns";
+
+pub const DETAILS: &str = "The bound is one vector for each action of the model, in the order of the
+actions: the fast informed bound. A yes means: for every policy that sees the
+observations alone, for every number of steps and from every state, the expected
+discounted reward of these steps, plus the discounted value of the next action's
+vector where they end, is at most the value of the first action's vector.
+
+From a model to a bound on every policy:
+  polcert-bound-vectors stock.POMDP -o bound.alpha
+  polcert_bound raise stock.POMDP bound.alpha > bound.raised.alpha
+  polcert_bound check stock.POMDP bound.raised.alpha
+
+With a yes of polcert check and a discount below 1, both numbers enclose what the
+best policy is worth in the long run. man polcert lists the refusals.
+
+Exit status:
+  0  yes, or done
+  1  no, or no constant raises the vectors so that they pass
+  2  a file or the command line is refused
+  3  a file cannot be read, or the output cannot be written
+  4  out of memory";
+
+/// The details of a subcommand that takes a model and vectors.
+macro_rules! with_two_files {
+    ($rest:literal) => {
+        concat!(
+            "Files:
+  FILE   The model, in Cassandra's .POMDP format
+  ALPHA  One vector for each action of the model (.alpha), in the order of the
+         actions: the action's number, and then a value for each state
+
+",
+            $rest
+        )
+    };
+}
+
+pub const CHECK: HelpTexts<'static> = HelpTexts {
+    about: "Check that the vectors, rounded up, bound what every policy earns",
+    usage: "polcert_bound check <FILE> <ALPHA>",
+    details: with_two_files!(
+        "A no names the first action and state that fail, and by how much.
+
+Under `values: cost` a worth is minus a cost, so an upper bound on the worth is a
+lower bound on the costs.
+
+Example:
+  $ polcert_bound check stock.POMDP bound.alpha
+  no: action 0, state 0, exceeded by 0.000001
+  $ polcert_bound check stock.POMDP bound.raised.alpha
+  yes: every policy, at most 68.55"
+    ),
+};
+
+pub const RAISE: HelpTexts<'static> = HelpTexts {
+    about: "Print the vectors, raised just enough to pass `check`",
+    usage: "polcert_bound raise <FILE> <ALPHA>",
+    details: with_two_files!(
+        "Every value is raised by the same constant, the least with which all vectors
+pass. The vectors go to standard output, the constant to standard error.
+
+Example:
+  $ polcert_bound raise stock.POMDP bound.alpha > bound.raised.alpha
+  raised by 0.00001"
+    ),
+};
