@@ -1,5 +1,5 @@
 -- Entries as they are kept: what stands in lists that continue stays, and an entry that is put after them stands there.
-use Rattle.std.proofs.Common.{◌≡◌, ◌∙◌, ◌+◌, ◌-◌, List, [], ◌∷◌, ◌++◌, length, take, map, All, refl, sym, ap, subst, arith, length-append, append_assoc, take_all, rules}
+use Rattle.std.proofs.Common.{◌≡◌, ◌∙◌, List, [], ◌∷◌, ◌++◌, length, take, map, All, refl, sym, ap, subst, arith, length-append, append_assoc, take_all, rules}
 use Rattle.polcert_cells.proofs.Common.{map-append, All-head, All-tail, All-cons, All-nil, EntryStore, Entry, AreHeldIn}
 use Rattle.std.proofs.lemmas.List.{append-nil, drop-append-le, take-append-le, length-drop}
 use Rattle.std.proofs.lemmas.List.Elements.{All-append, All-weaker}
@@ -7,7 +7,7 @@ use Rattle.polcert_cells.specs.declared.entries.BodyTag.{BodyTag}
 use Rattle.polcert_cells.specs.declared.entries.BodyTag.TheVariants.{Probabilities, Rewards}
 use Rattle.polcert_cells.specs.declared.entries.EntryHeader.{EntryHeader}
 use Rattle.polcert_cells.specs.declared.entries.Span.{Span}
-use Rattle.polcert_cells.specs.Steps.EntryLists.{part, places_of, body_in, entry_in, LiesIn, HasNumbers, IsWithin, Continues, GoOn, IsPut}
+use Rattle.polcert_cells.specs.Steps.EntryLists.{part, body_in, entry_in, LiesIn, HasNumbers, IsWithin, Continues, GoOn, IsPut}
 use Rattle.polcert_cells.specs.EntryRefs.{rewards_of, all_rewards}
 
 -- ---- a part of a list
@@ -30,9 +30,7 @@ within_stays : (p q : EntryStore) → GoOn p q → (h : EntryHeader) → IsWithi
 within_stays p q g h w = search (rules, lies_stays, numbers_stay)
 
 entry_stays : (p q : EntryStore) → GoOn p q → (h : EntryHeader) → IsWithin p h → entry_in q h ≡ entry_in p h
-entry_stays p q g h w =
-    let places = part_stays p.places.items q.places.items (places_of h) g.places w.has_places in
-    grind (arith, body_stays)
+entry_stays p q g h w = grind (arith, body_stays)
 
 -- ---- all entries
 pub all_stay : (p q : EntryStore) (hs : List EntryHeader) → GoOn p q → All (IsWithin p) hs → All (IsWithin q) hs
@@ -69,12 +67,12 @@ listed_more p q old new entry g a put = ap (map (entry_in q)) put.heads ∙ one_
 dropped : (p q : EntryStore) → GoOn p q → take (length p.rewards.items) q.rewards.items ≡ p.rewards.items
 dropped p q g = ap (take (length p.rewards.items)) g.rewards.whole ∙ take-append-le (length p.rewards.items) p.rewards.items g.rewards.more (omega arith) ∙ take_all (length p.rewards.items) p.rewards.items (omega arith)
 
-go_on_dropped : (p q r : EntryStore) → GoOn p q → r.places ≡ q.places → r.probabilities ≡ q.probabilities → r.rewards.items ≡ take (length p.rewards.items) q.rewards.items → GoOn p r
-go_on_dropped p q r g places probabilities rewards = grind (arith, append-nil, dropped)
+go_on_dropped : (p q r : EntryStore) → GoOn p q → r.probabilities ≡ q.probabilities → r.rewards.items ≡ take (length p.rewards.items) q.rewards.items → GoOn p r
+go_on_dropped p q r g probabilities rewards = grind (arith, append-nil, dropped)
 
-module _ (p q r : EntryStore) (g : GoOn p q) (places : r.places ≡ q.places) (probabilities : r.probabilities ≡ q.probabilities) (rewards : r.rewards.items ≡ take (length p.rewards.items) q.rewards.items) where
+module _ (p q r : EntryStore) (g : GoOn p q) (probabilities : r.probabilities ≡ q.probabilities) (rewards : r.rewards.items ≡ take (length p.rewards.items) q.rewards.items) where
   pub listed_still : (hs : List EntryHeader) → AreHeldIn p hs → map (entry_in r) hs ≡ map (entry_in p) hs
-  listed_still hs a = list_stays p r hs (go_on_dropped p q r g places probabilities rewards) a.within
+  listed_still hs a = list_stays p r hs (go_on_dropped p q r g probabilities rewards) a.within
 
   pub held_still : (hs : List EntryHeader) → AreHeldIn p hs → AreHeldIn r hs
   held_still hs a = grind (arith, all_stay, dropped, go_on_dropped, listed_still)

@@ -1,7 +1,7 @@
 //! Entries: the lines of T, O and R, as a model keeps them.
 ghost use Rattle.std.specs.Prelude.{◌≡◌, ◌<◌, ◌++◌, ◌∷◌, [], length, slice_get, slice_set, OnOk, OnErr, ◌≤◌};
-ghost use Rattle.std.specs.Prelude.{◌+◌, Some, List, IfOk};
-ghost use Rattle.polcert_cells.specs.Steps.EntryLists.{part, entry_in, places_in, body_in, HasNumbers};
+ghost use Rattle.std.specs.Prelude.{◌+◌, Some, List, IfOk, take};
+ghost use Rattle.polcert_cells.specs.Steps.EntryLists.{part, entry_in, body_in, HasNumbers};
 ghost use Rattle.polcert_cells.specs.Steps.EntryLists.{IsWithin, Continues, GoOn, IsPut};
 ghost use Rattle.polcert_cells.specs.EntryRefs.{entry_of, body_of, rewards_of, all_rewards, AreRewardsFrom};
 
@@ -284,13 +284,13 @@ pub(crate) enum BodyTag {
     Identity,
 }
 
-/// An entry, by where its places begin and how many there are, and by where its numbers stand.
+/// An entry, by its places, of which so many count, and by where its numbers stand.
 #[derive(Clone, Copy)]
 pub(crate) struct EntryHeader {
     pub table: Table,
     pub filling: BodyTag,
     pub count: u8,
-    pub places: u32,
+    pub places: [Place; MOST_PLACES],
     pub numbers: Span,
 }
 
@@ -311,10 +311,9 @@ pub struct EntryRef<'a> {
     pub body: BodyRef<'a>,
 }
 
-/// The places of all entries, and their numbers.
+/// The numbers of all entries.
 #[derive(Drop)]
 pub(crate) struct EntryStore {
-    pub places: Vec<Place>,
     pub probabilities: Vec<u32>,
     pub rewards: Vec<i64>,
 }
@@ -324,14 +323,13 @@ impl EntryStore {
         ensures { result.rewards.items ≡ [] }
     {
         EntryStore {
-            places: Vec::new(alloc),
             probabilities: Vec::new(alloc),
             rewards: Vec::new(alloc),
         }
     }
 
-    /// Puts the places and numbers of an entry after the others, and says where they stand. If memory runs out
-    /// some may stand there.
+    /// Puts the numbers of an entry after the others, and says where they stand. If memory runs out some may
+    /// stand there.
     #[inline(always)]
     fn put(&mut self, entry: EntryRef<'_>) -> Result<EntryHeader, AllocError>
         ensures go_on { GoOn self.old self.new }
@@ -340,14 +338,13 @@ impl EntryStore {
         ensures rewards { OnOk result
             (self.new.rewards.items ≡ self.old.rewards.items ++ rewards_of (body_of entry.entry.body)) }
     {
-        let places = put(&mut self.places, entry.places)?;
-        let count = in_a_byte(entry.places.len())?;
+        let places = kept_places(entry.places)?;
         let (filling, numbers) = self.put_body(entry.body)?;
         Ok(EntryHeader {
             table: entry.table,
             filling,
-            count,
-            places: places.start,
+            count: entry.places.len() as u8,
+            places,
             numbers,
         })
     }
@@ -355,7 +352,6 @@ impl EntryStore {
     /// Puts the numbers of a body after the others.
     #[inline(always)]
     fn put_body(&mut self, body: BodyRef<'_>) -> Result<(BodyTag, Span), AllocError>
-        ensures places { self.new.places ≡ self.old.places }
         ensures go_on { GoOn self.old self.new }
         ensures within { IfOk result (λ head. HasNumbers self.new head.0 head.1) }
         ensures body { IfOk result (λ head. body_in self.new head.0 head.1 ≡ body_of body.entry) }
@@ -377,13 +373,13 @@ impl EntryStore {
     }
 
     /// Returns the entry of this header.
-    fn entry(&self, head: EntryHeader) -> EntryRef<'_>
-        requires { IsWithin self.now head }
-        ensures { entry_of result ≡ entry_in self.now head }
+    fn entry<'a>(&'a self, head: &'a EntryHeader) -> EntryRef<'a>
+        requires { IsWithin self.now head.now }
+        ensures { entry_of result ≡ entry_in self.now head.now }
     {
         EntryRef {
             table: head.table,
-            places: self.places_of(head),
+            places: &head.places[..head.count as usize],
             body: match head.filling {
                 BodyTag::Probabilities => {
                     BodyRef::Probabilities(part(self.probabilities.as_slice(), head.numbers))
@@ -393,15 +389,6 @@ impl EntryStore {
                 BodyTag::Identity => BodyRef::Identity,
             },
         }
-    }
-
-    /// Returns the places of an entry.
-    fn places_of(&self, head: EntryHeader) -> &[Place]
-        requires { IsWithin self.now head }
-        ensures { result.now ≡ places_in self.now head }
-    {
-        let start = head.places as usize;
-        &self.places[start..start + head.count as usize]
     }
 }
 
@@ -447,7 +434,7 @@ impl Entries {
         requires { number < length self.now }
         ensures { slice_get self.now number ≡ Some (entry_of result) }
     {
-        self.pools.entry(self.heads[number])
+        self.pools.entry(&self.heads[number])
     }
 
     /// Puts the entry after the others. If memory runs out the list stays as it was.
@@ -488,7 +475,6 @@ impl Entries {
     {
         let Entries { heads: _, pools } = self;
         let EntryStore {
-            places: _,
             probabilities: _,
             rewards,
         } = pools;
@@ -496,7 +482,7 @@ impl Entries {
     }
 }
 
-/// Puts an entry after the others. If memory runs out, some of its places and numbers may stand after those of the others.
+/// Puts an entry after the others. If memory runs out, some of its numbers may stand after those of the others.
 fn put_entry(
     heads: &mut Vec<EntryHeader>,
     pools: &mut EntryStore,
@@ -512,15 +498,21 @@ fn put_entry(
     Ok(())
 }
 
-/// Returns the count as a byte. A larger one counts as out of memory: no entry has so many places.
+/// Returns an array that begins with these places. More than an entry has count as out of memory.
 #[inline(always)]
-fn in_a_byte(count: usize) -> Result<u8, AllocError>
-    ensures { IfOk result (λ n. n ≡ count) }
+fn kept_places(places: &[Place]) -> Result<[Place; MOST_PLACES], AllocError>
+    ensures places { IfOk result (λ kept. take (length places.now) kept ≡ places.now) }
+    ensures few { IfOk result (λ kept. length places.now ≤ 4) }
 {
-    if count > u8::MAX as usize {
-        return Err(AllocError);
+    let every = Place::Every;
+    match places {
+        [first, second, third] => Ok([*first, *second, *third, every]),
+        [first, second, third, last] => Ok([*first, *second, *third, *last]),
+        [first, second] => Ok([*first, *second, every, every]),
+        [first] => Ok([*first, every, every, every]),
+        [] => Ok([every; MOST_PLACES]),
+        _ => Err(AllocError),
     }
-    Ok(count as u8)
 }
 
 /// Returns the items of this part.

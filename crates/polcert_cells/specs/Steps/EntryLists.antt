@@ -1,8 +1,7 @@
--- Entries as they are kept: the places and the numbers of all in one list each, and of each entry where its own stand.
+-- Entries as they are kept: of each its places, and where its numbers stand among those of all.
 -- Nobody has to believe this file: a list of entries is the list.
-use Rattle.std.specs.Prelude.{◌≡◌, ℕ, ◌+◌, ◌≤◌, All, List, [], ◌∷◌, ◌++◌, length, map}
+use Rattle.std.specs.Prelude.{◌≡◌, ℕ, ◌≤◌, All, List, [], ◌∷◌, ◌++◌, length, map, take}
 use Rattle.std.specs.List.{slice_range}
-use Rattle.polcert_cells.specs.declared.entries.Place.{Place}
 use Rattle.polcert_cells.specs.declared.entries.Body.{Body}
 use Rattle.polcert_cells.specs.declared.entries.Body.TheVariants as bodies
 use Rattle.polcert_cells.specs.declared.entries.Entry.{Entry}
@@ -23,15 +22,8 @@ body_in p fillings.Rewards numbers = bodies.Rewards (part numbers p.rewards.item
 body_in p fillings.Uniform numbers = bodies.Uniform
 body_in p fillings.Identity numbers = bodies.Identity
 
--- where the places of an entry stand
-abbrev pub places_of : EntryHeader → Span
-places_of h = record { start = h.places; end = h.places + h.count }
-
-abbrev pub places_in : EntryStore → EntryHeader → List Place
-places_in p h = part (places_of h) p.places.items
-
 abbrev pub entry_in : EntryStore → EntryHeader → Entry
-entry_in p h = record { table = h.table; places = places_in p h; body = body_in p h.filling h.numbers }
+entry_in p h = record { table = h.table; places = take h.count h.places; body = body_in p h.filling h.numbers }
 
 -- the part lies in a list of this length
 pub record LiesIn (len : ℕ) (span : Span) : Type 0 where
@@ -44,9 +36,9 @@ HasNumbers p fillings.Rewards numbers = LiesIn (length p.rewards.items) numbers
 HasNumbers p fillings.Uniform numbers = Unit {0}
 HasNumbers p fillings.Identity numbers = Unit {0}
 
--- its places and numbers are there
+-- so many places are there, and its numbers
 pub record IsWithin (p : EntryStore) (h : EntryHeader) : Type 0 where
-  pub has_places : LiesIn (length p.places.items) (places_of h)
+  pub few : h.count ≤ 4
   pub has_numbers : HasNumbers p h.filling h.numbers
 
 -- the list continues with more
@@ -56,7 +48,6 @@ pub record Continues {X : Type 0} (xs ys : List X) : Type 0 where
 
 -- each list continues
 pub record GoOn (p q : EntryStore) : Type 0 where
-  pub places : Continues p.places.items q.places.items
   pub probabilities : Continues p.probabilities.items q.probabilities.items
   pub rewards : Continues p.rewards.items q.rewards.items
 

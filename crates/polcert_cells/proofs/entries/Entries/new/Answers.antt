@@ -1,4 +1,4 @@
-use Rattle.std.proofs.Common.{[], arith}
+use Rattle.std.proofs.Common.{arith}
 use Rattle.polcert_cells.proofs.entries.Entries.new.Goals as goal
 
 pub invariant_of-result : goal.invariant_of-result
