@@ -1,6 +1,6 @@
 //! The index of a list of entries.
 ghost use Rattle.std.specs.Prelude.{◌≡◌, ℕ, ◌+◌, ◌*◌, ◌^◌, ◌<◌, ◌≤◌, ◌↔◌, List, [], ◌∷◌, All, Contains, IfOk};
-ghost use Rattle.std.specs.Prelude.{IsTrue, take, ◌-◌};
+ghost use Rattle.std.specs.Prelude.{IsTrue, take, ◌-◌, ◌++◌, OnOk};
 ghost use Rattle.polcert_rules.specs.declared.index.Rule.{Rule as R};
 ghost use Rattle.polcert_rules.specs.Steps.Rows.{HaveColumns, IsSingleEntry, no_column, number_in};
 ghost use Rattle.polcert_cells.specs.declared.entries.Entry.{Entry as E};
@@ -45,8 +45,6 @@ impl Index {
         ensures { IfOk result (IsIndexOf entries.now) }
     {
         let mut rules = rules_of_entries(alloc, entries)?;
-        // (First by table: in most texts the rules of each are then in order already.)
-        rules.sort_by_key(|rule| rule.key / TABLE)?;
         rules.sort_unstable_by_key(|rule| rule.key);
         keep_newest_of_each(&mut rules);
         Ok(Index { rules })
@@ -100,17 +98,32 @@ impl Index {
     }
 }
 
-/// Returns a rule for each entry.
-pub(crate) fn rules_of_entries(alloc: Global, entries: &Entries) -> Result<Vec<Rule>, AllocError>
+/// Returns a rule for each entry, table by table. (In most texts those of each table are then in order already.)
+fn rules_of_entries(alloc: Global, entries: &Entries) -> Result<Vec<Rule>, AllocError>
     requires { AreKeyed entries.now }
-    ensures { IfOk result (λ rules. rules.items ≡ rules_from 0 entries.now) }
+    ensures { IfOk result (λ rules. rules.items
+        ≡ rules_from 0 0 entries.now ++ rules_from 1 0 entries.now ++ rules_from 2 0 entries.now) }
 {
     let mut rules = Vec::with_capacity(alloc, entries.len())?;
-    for number in 0..entries.len() {
-        let key = key_of(entries.at(number));
-        rules.push(Rule { key, number })?;
-    }
+    add_rules(&mut rules, entries, 0)?;
+    add_rules(&mut rules, entries, 1)?;
+    add_rules(&mut rules, entries, 2)?;
     Ok(rules)
+}
+
+/// Puts a rule for each entry of the table with this digit after the others.
+fn add_rules(rules: &mut Vec<Rule>, entries: &Entries, digit: u64) -> Result<(), AllocError>
+    requires { AreKeyed entries.now }
+    ensures { OnOk result (rules.new.items ≡ rules.old.items ++ rules_from digit 0 entries.now) }
+{
+    for number in 0..entries.len() {
+        let entry = entries.at(number);
+        if table_digit(entry.table) == digit {
+            let key = key_of(entry);
+            rules.push(Rule { key, number })?;
+        }
+    }
+    Ok(())
 }
 
 /// Keeps of neighbours with the same key the one with the greatest number.
@@ -149,13 +162,19 @@ fn key_of(entry: EntryRef<'_>) -> u64
     requires { AreDigits most_places entry.places.now }
     ensures { result ≡ key_of (entry_of entry.entry) }
 {
-    let mut key = table_digit(entry.table) * span(MOST_PLACES);
-    let mut levels = MOST_PLACES;
-    for place in entry.places {
-        levels -= 1;
-        key += digit(*place) * span(levels);
+    let low = table_digit(entry.table) * TABLE;
+    match entry.places {
+        [first] => low + digit(*first) * ACTION,
+        [first, second] => low + digit(*first) * ACTION + digit(*second) * ROW,
+        [first, second, third] => {
+            low + digit(*first) * ACTION + digit(*second) * ROW + digit(*third) * COLUMN
+        }
+        [first, second, third, last] => {
+            let row = low + digit(*first) * ACTION + digit(*second) * ROW;
+            row + digit(*third) * COLUMN + digit(*last)
+        }
+        _ => low,
     }
-    key
 }
 
 /// Returns a place as a digit; 0 stands for no place.
@@ -287,7 +306,7 @@ pub(crate) fn rules_from(rules: &[Rule], low: u64) -> &[Rule]
 }
 
 /// Returns the rules from this key on: at once, if the rules before this place are those before the key.
-fn rules_from_at(rules: &[Rule], low: u64, place: usize) -> &[Rule]
+pub(crate) fn rules_from_at(rules: &[Rule], low: u64, place: usize) -> &[Rule]
     requires { IsRising rules.now }
     ensures rising { IsRising result.now }
     ensures kept { (r : R) → Contains result.now r ↔ (Contains rules.now r × (low ≤ r.key)) }
@@ -299,7 +318,7 @@ fn rules_from_at(rules: &[Rule], low: u64, place: usize) -> &[Rule]
 }
 
 /// Returns the rules before this key.
-fn rules_before(rules: &[Rule], high: u64) -> &[Rule]
+pub(crate) fn rules_before(rules: &[Rule], high: u64) -> &[Rule]
     requires { IsRising rules.now }
     ensures rising { IsRising result.now }
     ensures kept { (r : R) → Contains result.now r ↔ (Contains rules.now r × (r.key < high)) }

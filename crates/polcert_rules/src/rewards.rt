@@ -319,7 +319,9 @@ impl Rewards {
                 return false;
             }
             let covering = self.body_of(max_option(list.whole, Some(rule.number)));
-            let reward = self.reward_of_body(covering, &[action, start, at.end, at.observation]);
+            let single = self.single_number(covering);
+            let indices = [action, start, at.end, at.observation];
+            let reward = self.single_or_given(single, covering, &indices);
             cells[i] = RewardCell {
                 observation: number,
                 reward,
@@ -445,10 +447,10 @@ impl Rewards {
     {
         match body {
             None => Some(0),
-            Some(body) => if body.places < MOST_PLACES {
-                None
-            } else {
+            Some(body) => if is_single(body.places, self.shape.observations) {
                 Some(self.bodies.number_at(body, 0))
+            } else {
+                None
             },
         }
     }

@@ -14,7 +14,7 @@ ghost use Rattle.polcert_rules.specs.Steps.Zeros.{AreOrdered, IsSplit, IsRowOf, 
 ghost use Rattle.polcert_rules.specs.Steps.Zeros.{overrides, shown, shown_under};
 ghost use Rattle.polcert_cells.specs.Elements.{most_elements};
 ghost use Rattle.polcert_rules.specs.Steps.Merging.{given_at, is_newer, newer_cells, merged, before};
-ghost use Rattle.polcert_rules.specs.Steps.Merging.{following};
+ghost use Rattle.polcert_rules.specs.Steps.Merging.{following, are_positive};
 ghost use Rattle.polcert_rules.specs.Steps.Sources.{IsNumber, IsColumnOf};
 ghost use Rattle.polcert_cells.specs.declared.elements.Cell.{Cell as C};
 ghost use Rattle.polcert_rules.specs.Steps.Lists.{stored_cells, IsFullLine};
@@ -24,8 +24,8 @@ ghost use Rattle.polcert_rules.specs.Steps.Given.{IsWithin, FitsShape, given};
 ghost use Rattle.polcert_cells.specs.Sparse.{IsRow};
 
 use crate::index::{
-    COLUMN, COLUMN_KEYS, MOST_PLACES, first_column, keep_newest_of_each, max_option, rules_between,
-    span, table_digit,
+    COLUMN, COLUMN_KEYS, MOST_PLACES, first_column, keep_newest_of_each, max_option, rules_before,
+    rules_between, rules_from_at, span, table_digit,
 };
 use crate::rows::{StoredRow, cells_of};
 use crate::zeros::{RowZeros, SplitRules, row_zeros};
@@ -38,15 +38,32 @@ use std::alloc::{AllocError, Global};
 #[derive(Drop)]
 pub(crate) struct Row<'a> {
     pub whole: Option<usize>,
-    pub cells: Vec<Rule>,
+    pub cells: RowCells,
     pub zeros: Option<RowZeros<'a>>,
 }
 
+/// The single cells of a row, and where the rules of the next row may begin. No answer depends on where they may.
+#[derive(Drop)]
+pub(crate) struct RowCells {
+    pub rules: Vec<Rule>,
+    pub next: usize,
+}
+
+impl RowCells {
+    pub(crate) fn new(alloc: Global) -> RowCells {
+        RowCells {
+            rules: Vec::new(alloc),
+            next: 0,
+        }
+    }
+}
+
 impl<'a> Row<'a> {
-    /// The row of a table at this action and state, if the entry of this number covers the whole row.
+    /// The row of a table at this action and state, if the entry of this number covers the whole row. The cells of the row before
+    /// are given up.
     // (Six parameters: three numbers that say which row it is, and what it is made of.)
     pub(crate) fn of(
-        alloc: Global,
+        last: RowCells,
         whole: Option<usize>,
         split: &'a SplitRules<'a>,
         table: Table,
@@ -61,7 +78,7 @@ impl<'a> Row<'a> {
             IsWholeNumber rules table action state whole → IsRowOf entries table action state row) }
     {
         let low = table_digit(table) * span(MOST_PLACES);
-        let cells = cells(alloc, split, low, action, state)?;
+        let cells = cells(last, split, low, action, state)?;
         let zeros = row_zeros(split.zeros.as_slice(), low, action, state);
         Ok(Row {
             whole,
@@ -84,32 +101,37 @@ impl<'a> Row<'a> {
     }
 }
 
-/// Returns the single cells of the row at this action and state, by column: of each column the newest.
+/// Returns the single cells of the row at this action and state, by column: of each column the newest. Those of the row before are
+/// given up.
 pub(crate) fn cells(
-    alloc: Global,
+    last: RowCells,
     split: &SplitRules<'_>,
     low: u64,
     action: usize,
     state: usize,
-) -> Result<Vec<Rule>, AllocError>
+) -> Result<RowCells, AllocError>
     requires rising { IsRising (others_in split.now.others) }
     requires exact { IsTrue split.now.is_exact → AreExact (others_in split.now.others) }
     requires low { IsTableKey low }
     requires action { action + 2 < key_base }
     requires state { state + 2 < key_base }
-    ensures rising { IfOk result (λ cells. IsRising cells.items) }
+    ensures rising { IfOk result (λ cells. IsRising cells.rules.items) }
     ensures newest { IfOk result (λ cells. (c : ℕ) → c + 2 < key_base →
-        IsNewest (others_in split.now.others) (IsSingle low action state c) (at_column cells.items c)) }
+        IsNewest (others_in split.now.others) (IsSingle low action state c) (at_column cells.rules.items c)) }
     ensures each { IfOk result (λ cells.
-        All (IsCell (others_in split.now.others) low action state) cells.items) }
+        All (IsCell (others_in split.now.others) low action state) cells.rules.items) }
 {
-    let mut cells = Vec::new(alloc);
+    let RowCells {
+        rules: mut cells,
+        next,
+    } = last;
+    cells.clear();
     add_shared_columns(&mut cells, split, low, action, state)?;
     let start = first_column(low, action as u64 + 2, state as u64 + 2);
-    add_columns(&mut cells, split.nonzero_rules(), start)?;
+    let next = add_columns_at(&mut cells, split.nonzero_rules(), start, next)?;
     cells.sort_unstable_by_key(|cell| cell.key);
     keep_newest_of_each(&mut cells);
-    Ok(cells)
+    Ok(RowCells { rules: cells, next })
 }
 
 /// Puts the single cells of each action or of each state, in the row at this action and state, after the others.
@@ -153,6 +175,25 @@ fn add_columns(cells: &mut Vec<Rule>, rules: &[Rule], start: u64) -> Result<(), 
     Ok(())
 }
 
+/// Puts the same after the others, at once if they begin at this place of the rules, and returns where what follows them may begin.
+fn add_columns_at(
+    cells: &mut Vec<Rule>,
+    rules: &[Rule],
+    start: u64,
+    place: usize,
+) -> Result<usize, AllocError>
+    requires rising { IsRising rules.now }
+    requires room { start + (key_base - 2) * key_base < 2 ^ 64 }
+    ensures { OnOk result ((x : R) →
+        Contains cells.new.items x ↔ (Contains cells.old.items x ⊎ IsColumn rules.now start x)) }
+{
+    let rest = rules_from_at(rules, start, place);
+    let part = rules_before(rest, start + COLUMN_KEYS);
+    add_part(cells, part, start)?;
+    let before = rules.len().saturating_sub(rest.len());
+    Ok(before.saturating_add(part.len()))
+}
+
 /// Adds the cells of a part that has no others.
 fn add_part(cells: &mut Vec<Rule>, part: &[Rule], start: u64) -> Result<(), AllocError>
     requires { All (λ (r : R). start ≤ r.key) part.now }
@@ -178,13 +219,13 @@ pub(crate) fn newer_cells(
     columns: usize,
 ) -> Result<Vec<Cell>, AllocError>
     requires few { columns ≤ most_elements }
-    requires cells { All (IsColumnOf columns entries.now) row.now.cells.items }
+    requires cells { All (IsColumnOf columns entries.now) row.now.cells.rules.items }
     requires ordered { IfSome row.now.zeros AreOrdered }
     ensures { IfOk result (λ newer. (s : ℕ) →
-        newer.items ≡ newer_cells columns entries.now (covering_entry row.now) s row.now.cells.items) }
+        newer.items ≡ newer_cells columns entries.now (covering_entry row.now) s row.now.cells.rules.items) }
 {
-    let mut newer = Vec::with_capacity(alloc, row.cells.len())?;
-    for rule in &row.cells {
+    let mut newer = Vec::with_capacity(alloc, row.cells.rules.len())?;
+    for rule in &row.cells.rules {
         let column = rule.key as usize;
         if is_newer(row.covering_entry(column), rule.number) {
             let weight = single_weight(entries, rule.number, columns);
@@ -218,11 +259,7 @@ fn single_weight(entries: &Entries, number: usize, columns: usize) -> u64
 
 /// Returns newer cells over a row, both rising by column: each hides the row's cell in its column, and one of
 /// weight 0 leaves nothing there.
-pub(crate) fn merge_cells(
-    alloc: Global,
-    base: &[Cell],
-    newer: &[Cell],
-) -> Result<Vec<Cell>, AllocError>
+fn merge_cells(alloc: Global, base: &[Cell], newer: &[Cell]) -> Result<Vec<Cell>, AllocError>
     ensures { IfOk result (λ cells. cells.items ≡ merged base.now newer.now) }
 {
     let mut cells = Vec::with_capacity(alloc, base.len() + count_nonzero(newer))?;
@@ -235,6 +272,28 @@ pub(crate) fn merge_cells(
     }
     cells.extend_from_slice(rest)?;
     Ok(cells)
+}
+
+/// Returns the same, and makes no other list if there is no row below cells that all have a weight.
+fn put_over(alloc: Global, base: &[Cell], newer: Vec<Cell>) -> Result<Vec<Cell>, AllocError>
+    ensures { IfOk result (λ cells. cells.items ≡ merged base.now newer.items) }
+{
+    if base.is_empty() && are_positive(newer.as_slice()) {
+        return Ok(newer);
+    }
+    merge_cells(alloc, base, newer.as_slice())
+}
+
+/// Tests whether all cells have a weight above 0.
+fn are_positive(cells: &[Cell]) -> bool
+    ensures { result ≡ are_positive cells.now }
+{
+    for cell in cells {
+        if cell.weight == 0 {
+            return false;
+        }
+    }
+    true
 }
 
 /// Puts the cells before a column after the others, and gives those after it.
@@ -272,18 +331,18 @@ fn row_cells(
     alloc: Global,
     row: &Row<'_>,
     base: &[Cell],
-    newer: &[Cell],
+    newer: Vec<Cell>,
 ) -> Result<Vec<Cell>, AllocError>
     requires columns { All (λ (x : C). x.column + 2 < key_base) base.now }
     requires ordered { IfSome row.now.zeros AreOrdered }
     ensures { IfOk result (λ cells.
-        cells.items ≡ merged (shown_under row.now.whole row.now.zeros base.now) newer.now) }
+        cells.items ≡ merged (shown_under row.now.whole row.now.zeros base.now) newer.items) }
 {
     match row.zeros {
-        None => Ok(merge_cells(alloc, base, newer)?),
+        None => Ok(put_over(alloc, base, newer)?),
         Some(zeros) => {
             let shown = visible_cells(alloc, row.whole, zeros, base)?;
-            Ok(merge_cells(alloc, shown.as_slice(), newer)?)
+            Ok(put_over(alloc, shown.as_slice(), newer)?)
         }
     }
 }
@@ -293,12 +352,12 @@ pub(crate) fn cells_over(
     alloc: Global,
     row: &Row<'_>,
     base: StoredRow<'_>,
-    newer: &[Cell],
+    newer: Vec<Cell>,
 ) -> Result<Vec<Cell>, AllocError>
     requires columns { All (λ (x : C). x.column + 2 < key_base) (stored_cells base) }
     requires ordered { IfSome row.now.zeros AreOrdered }
     ensures { IfOk result (λ cells. cells.items
-        ≡ merged (shown_under row.now.whole row.now.zeros (stored_cells base.entry)) newer.now) }
+        ≡ merged (shown_under row.now.whole row.now.zeros (stored_cells base.entry)) newer.items) }
 {
     match base {
         StoredRow::Sparse(cells) => Ok(row_cells(alloc, row, cells, newer)?),

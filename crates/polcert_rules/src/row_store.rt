@@ -16,11 +16,11 @@ ghost use Rattle.polcert_rules.specs.Steps.Sources.{source_of, source_in, IsWhol
 ghost use Rattle.polcert_rules.specs.Steps.Sources.{AreNumbersOf, IsKeptRow, IsShared, IsAfter, IsRowAfter};
 ghost use Rattle.polcert_rules.specs.Steps.Sources.{Stays, AreNear, total};
 
-use crate::Shape;
 use crate::index::half_width;
 use crate::row::{Row, body_line, body_row, cells_over, newer_cells};
 use crate::rows::{StoredRow, StoredRows};
-use polcert_cells::{BodyRef, Cell, Entries, EntryRef, ONE, Place, Table};
+use crate::{Rule, Shape};
+use polcert_cells::{BodyRef, Cell, Entries, EntryRef, ONE, Place};
 use std::alloc::{AllocError, Global};
 use std::marker::Model;
 
@@ -70,16 +70,16 @@ pub(crate) struct RowStore {
 }
 
 impl RowStore {
-    /// Makes the store before its first row, for this table of so many states.
+    /// Makes the store before its first row, for the table of these rules with so many states.
     pub(crate) fn of(
         alloc: Global,
         entries: &Entries,
-        table: Table,
+        rules: &[Rule],
         states: usize,
     ) -> Result<RowStore, AllocError>
         ensures { IfOk result (λ keeper. (columns : ℕ) → AreKept columns entries.now keeper) }
     {
-        let slots = RowCache::of(alloc, entries, table, states)?;
+        let slots = RowCache::of(alloc, entries, rules, states)?;
         Ok(RowStore {
             rows: StoredRows::new(alloc),
             proper: Vec::new(alloc),
@@ -130,7 +130,7 @@ impl RowStore {
         if row.zeros.is_none() && newer.is_empty() {
             return Ok(base);
         }
-        let cells = cells_over(alloc, row, self.rows.at(base), newer.as_slice())?;
+        let cells = cells_over(alloc, row, self.rows.at(base), newer)?;
         Ok(self.own_row(bodies, near, cells.as_slice())?)
     }
 
@@ -423,18 +423,21 @@ pub(crate) struct RowCache {
 }
 
 impl RowCache {
-    /// Returns slots for the rows of this table. A row whose slot lies beyond 32 bits is made anew at each use.
+    /// Returns slots for the rows of the entries of these rules. A row whose slot lies beyond 32 bits is made anew at each use.
     pub(crate) fn of(
         alloc: Global,
         entries: &Entries,
-        table: Table,
+        rules: &[Rule],
         states: usize,
     ) -> Result<RowCache, AllocError> {
-        let mut starts = Vec::with_capacity(alloc, entries.len())?;
+        let mut starts = vec![in alloc; 0; entries.len()]?;
         let mut end = states.saturating_add(FIRST_DIAGONAL);
-        for number in 0..entries.len() {
-            starts.push(half_width(end))?;
-            end = end.saturating_add(lines_of(entries.at(number), table, states));
+        for rule in rules {
+            let number = rule.number;
+            if number < entries.len() && number < starts.len() {
+                starts[number] = half_width(end);
+                end = end.saturating_add(lines_of(entries.at(number), states));
+            }
         }
         let places = vec![in alloc; 0; half_width(end) as usize]?;
         Ok(RowCache { starts, places })
@@ -471,11 +474,8 @@ impl RowCache {
     }
 }
 
-/// Returns how many rows of this table the numbers of an entry's body give, each its own line.
-fn lines_of(entry: EntryRef<'_>, table: Table, states: usize) -> usize {
-    if entry.table != table {
-        return 0;
-    }
+/// Returns how many rows the numbers of an entry's body give, each its own line.
+fn lines_of(entry: EntryRef<'_>, states: usize) -> usize {
     match entry.body {
         BodyRef::Probabilities(_) => match entry.places {
             [_] => states,

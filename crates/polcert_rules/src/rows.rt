@@ -18,7 +18,7 @@ ghost use Rattle.polcert_cells.specs.Elements.{most_elements};
 
 use crate::Index;
 use crate::index::KEY_BASE;
-use crate::row::Row;
+use crate::row::{Row, RowCells};
 use crate::row_store::{Bodies, Lists, Near, RowStore};
 use crate::zeros::SplitRules;
 use polcert_cells::{Cell, Entries, Row as BorrowedRow, Table};
@@ -86,9 +86,10 @@ impl Rows {
             MatchResult found (λ rows. AreRowsOf p entries.now table rows × AreProperRows p entries.now table)
             (IsFirstWrong p entries.now table)) }
     {
-        let split = SplitRules::of(alloc, index.of_table(table), entries)?;
+        let rules = index.of_table(table);
+        let split = SplitRules::of(alloc, rules, entries)?;
         let mut numbers = Lists::new(alloc);
-        let mut keeper = RowStore::of(alloc, entries, table, shape.states)?;
+        let mut keeper = RowStore::of(alloc, entries, rules, shape.states)?;
         let given = TableEntries {
             bodies: Bodies { entries, shape },
             table,
@@ -196,14 +197,16 @@ fn action_rows(
         (IsFirstWrongIn given.entry action)) }
 {
     let mut numbers = Vec::with_capacity(alloc, given.bodies.shape.states)?;
+    let mut cells = RowCells::new(alloc);
     for state in 0..given.bodies.shape.states {
         let whole = newest_whole(given, action, state);
-        let row = Row::of(alloc, whole, given.split, given.table, action, state)?;
+        let row = Row::of(cells, whole, given.split, given.table, action, state)?;
         let near = Near {
             here: numbers.as_slice(),
             before,
         };
         let number = keeper.row_number(alloc, given.bodies, near, &row, state)?;
+        cells = row.cells;
         if !keeper.is_proper(number) {
             return Ok(Err(WrongRow {
                 table: given.table,

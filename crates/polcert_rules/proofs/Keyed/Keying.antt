@@ -1,8 +1,8 @@
--- The key of an entry, place by place; and that a key is that of one pattern.
-use Rattle.std.proofs.Common.{◌≡◌, ◌∙◌, ℕ, zero, suc, ◌+◌, ◌-◌, ◌*◌, ◌^◌, ◌<◌, ◌≤◌, ⊎_elim, List, [], ◌∷◌, length, drop, get_or, refl, sym, ap, subst, arith, suc-mul}
+-- That a key is that of one pattern.
+use Rattle.std.proofs.Common.{◌≡◌, ◌∙◌, ℕ, zero, suc, ◌+◌, ◌*◌, ◌^◌, ◌<◌, ◌≤◌, ⊎_elim, List, [], ◌∷◌, refl, sym, ap, arith, suc-mul}
 use Rattle.std.proofs.Math.Nat.{mul-le-mul_right}
-use Rattle.polcert_rules.proofs.Common.{cases_lt, drop_more, Place, key_base, digit, key_in, AreDigits, most_places}
-use Rattle.polcert_rules.proofs.Keyed.Fitting.{digit_below, power_next, power_some, key_low, key_high}
+use Rattle.polcert_rules.proofs.Common.{cases_lt, Place, key_base, digit, key_in, AreDigits}
+use Rattle.polcert_rules.proofs.Keyed.Fitting.{power_some, key_low, key_high}
 
 pub digit_some : (p : Place) → 1 ≤ digit p
 digit_some p = grind arith
@@ -23,33 +23,6 @@ lower_digit m low c d ps qs a l = grind (arith, key_low, key_high, next_digit)
 
 pub same_digit : (m low c d : ℕ) (ps qs : List Place) → AreDigits m ps → AreDigits m qs → key_in m (low + c * key_base ^ m) ps ≡ key_in m (low + d * key_base ^ m) qs → c ≡ d
 same_digit m low c d ps qs a b e = grind (arith, ⊎_elim, cases_lt, lower_digit)
-
--- the key so far, and the places that are still to come
-pub record IsUnderWay (whole levels key : ℕ) (places : List Place) : Type 0 where
-  pub key_is : key_in levels key places ≡ whole
-  pub digits : AreDigits levels places
-  pub few : levels ≤ most_places
-  pub room : key + key_base ^ levels ≤ 3 * key_base ^ most_places
-
--- what is known where a place is still to come
-pub record IsNextPlace (whole levels key : ℕ) (p : Place) (places : List Place) : Type 0 where
-  pub some : 1 ≤ levels
-  pub small : digit p < key_base
-  pub room : key + digit p * key_base ^ (levels - 1) + key_base ^ (levels - 1) ≤ 3 * key_base ^ most_places
-  pub next : IsUnderWay whole (levels - 1) (key + digit p * key_base ^ (levels - 1)) places
-
-next_place : (whole levels key : ℕ) (p : Place) (places : List Place) → IsUnderWay whole levels key (p ∷ places) → IsNextPlace whole levels key p places
-next_place whole levels key p places h1 = grind (arith, digit_below, power_next)
-
-pub place_at : (whole levels key : ℕ) (d : Place) (places : List Place) (k : ℕ) → k < length places → IsUnderWay whole levels key (drop k places)
-    → IsNextPlace whole levels key (get_or places k d) (drop (k + 1) places)
-place_at whole levels key d places k l u =
-    next_place whole levels key (get_or places k d) (drop (k + 1) places) (subst (IsUnderWay whole levels key) (drop_more places k d l) u)
-
--- at the code's numbers
-pub on_at : (whole levels key d step : ℕ) (p : Place) (places : List Place) → IsNextPlace whole levels key p places → d ≡ digit p → step ≡ key_base ^ (levels - 1)
-    → IsUnderWay whole (levels - 1) (key + d * step) places
-on_at whole levels key d step p places n e f = grind arith
 
 -- the same key comes from the same places
 pub same_places : (m low : ℕ) (ps qs : List Place) → AreDigits m ps → AreDigits m qs → key_in m low ps ≡ key_in m low qs → ps ≡ qs

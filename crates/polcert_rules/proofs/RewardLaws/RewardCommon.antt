@@ -1,11 +1,11 @@
 -- Where no entry names an end state or an observation.
-use Rattle.std.proofs.Common.{◌≡◌, ◌∙◌, ℕ, ◌+◌, ◌<◌, true, ◌&&◌, Option, Some, None, List, [], ◌∷◌, drop, get_or, refl, sym, ap, subst, arith, pos}
+use Rattle.std.proofs.Common.{◌≡◌, ◌∙◌, ℕ, ◌+◌, ◌<◌, true, ◌&&◌, Option, Some, None, List, [], ◌∷◌, get_or, refl, sym, ap, subst, arith, pos}
 use Rattle.std.specs.List.{slice_get}
-use Rattle.polcert_rules.proofs.Common.{drop_all, Reward, Place, Every, Only, Entry, Preamble, fit_places, is_table, covers, reward, RewardBody, key_base, key_in, table_key, AreDigits, most_places, IsLastNumber, AreRewardsOf, RewardRules, cell_in, Begins, IsLastBody}
+use Rattle.polcert_rules.proofs.Common.{Reward, Place, Every, Only, Entry, Preamble, fit_places, is_table, covers, reward, RewardBody, key_base, key_in, table_key, AreDigits, most_places, IsLastNumber, AreRewardsOf, RewardRules, Begins, IsLastBody}
 use Rattle.polcert_rules.specs.Steps.RewardSearch.{IsSingle}
 use Rattle.polcert_rules.proofs.RewardLaws.RewardKeys.{begins_after}
 use Rattle.polcert_rules.proofs.RewardLaws.RewardAlike.{NoneBegins, covering}
-use Rattle.polcert_rules.proofs.RewardLaws.RewardValues.{is_open, body_reward, no_reward}
+use Rattle.polcert_rules.proofs.RewardLaws.RewardValues.{is_open, body_reward, no_reward, only_cell}
 
 -- what names an end state begins with the action and the start state, and continues with a key that is no lower
 end_begins : (low a s e z : ℕ) (p q : Place) (n : ℕ) (rest : List Place) (key : ℕ) → fit_places (p ∷ q ∷ Only n ∷ rest) (a ∷ s ∷ e ∷ z ∷ []) ≡ true
@@ -67,11 +67,6 @@ module _ (p : Preamble) (entries : List Entry) (rewards : RewardRules) (a s : �
   pub common_none : (e y f z : ℕ) → IsLastBody p.costs entries rewards.numbers (a ∷ s ∷ e ∷ y ∷ []) None → reward p entries (a ∷ s ∷ f ∷ z ∷ []) ≡ pos 0
   common_none e y f z last = sym (no_reward p entries (a ∷ s ∷ f ∷ z ∷ []) (number_moved e y f z None last))
 
-  -- the one number of a body
-  only_cell : (places f z : ℕ) → IsSingle rewards.shape.observations places → z < rewards.shape.observations
-      → cell_in rewards.shape.states rewards.shape.observations (drop places (a ∷ s ∷ f ∷ z ∷ [])) ≡ 0
-  only_cell places f z h1 h2 = grind (arith, drop_all)
-
   pub common_some : (e y f z : ℕ) (b : RewardBody) → s < rewards.shape.states → f < rewards.shape.states → z < rewards.shape.observations → IsSingle rewards.shape.observations b.places
       → IsLastBody p.costs entries rewards.numbers (a ∷ s ∷ e ∷ y ∷ []) (Some b) → reward p entries (a ∷ s ∷ f ∷ z ∷ []) ≡ get_or rewards.numbers (b.start + 0) (pos 0)
   common_some e y f z b ls lf lz single last =
@@ -79,4 +74,4 @@ module _ (p : Preamble) (entries : List Entry) (rewards : RewardRules) (a s : �
       let observations = are.shape.observations in
       let here : IsLastBody p.costs entries rewards.numbers (a ∷ s ∷ f ∷ z ∷ []) (Some b) = record { number = last.number; last = number_moved e y f z (Some last.number) last.last; body = last.body } in
       sym (body_reward p entries rewards (a ∷ s ∷ f ∷ z ∷ []) b are (λ n g. is_open p n a s f z g (omega arith) (omega arith) (omega arith)) here)
-      ∙ ap (λ k. get_or rewards.numbers (b.start + k) (pos 0)) (only_cell b.places f z single lz)
+      ∙ ap (λ k. get_or rewards.numbers (b.start + k) (pos 0)) (only_cell rewards.shape.states rewards.shape.observations b.places a s f z single lz)

@@ -1,5 +1,5 @@
 -- The number that a body has for a cell is what the entry gives it.
-use Rattle.std.proofs.Common.{◌≡◌, ◌∙◌, ℕ, zero, suc, ◌+◌, ◌<◌, ◌≤◌, Bool, true, ◌⊎◌, Option, Some, None, List, [], ◌∷◌, length, drop, map, get_or, All, sym, ap, arith, ℤ, pos, neg_ℤ, unsigned_abs, if◌then◌else◌}
+use Rattle.std.proofs.Common.{◌≡◌, ◌∙◌, ℕ, zero, suc, ◌+◌, ◌<◌, ◌≤◌, Bool, true, ◌⊎◌, Option, Some, None, List, [], ◌∷◌, length, drop, map, get_or, All, sym, ap, subst, arith, ℤ, pos, neg_ℤ, unsigned_abs, if◌then◌else◌}
 use Rattle.std.specs.Prelude.{◌==◌}
 use Rattle.polcert_rules.proofs.Common.{list_any, drop_all, All-cons, All-nil, slice_get-get_or, get_or_from_slice_get, Reward, Body, Entry, count_of, forms, Preamble, dimensions, rewarded, IsSoundEntry, Fills, reward_of, reward, value_or, RewardBody, key_base, AreIndices, IsLastNumber, entry_at, worth, IsBodyOf, AreRewardsOf, cell_in, RewardRules, AreWithin, IsLastBody}
 use Rattle.std.specs.List.{slice_get}
@@ -7,6 +7,7 @@ use Rattle.polcert_cells.specs.Entry.{cells_in}
 use Rattle.polcert_cells.specs.Preamble.{is_mdp}
 use Rattle.polcert_cells.specs.Cells.{row_major, reward_in}
 use Rattle.polcert_rules.specs.Steps.Rewards.{rewards_in}
+use Rattle.polcert_rules.specs.Steps.RewardSearch.{IsSingle}
 use Rattle.polcert_text.specs.Numbers.{largest}
 use Rattle.polcert_cells.proofs.CellLaws.{last_is_one}
 use Rattle.polcert_cells.proofs.SoundLaws.{covered_table}
@@ -87,15 +88,24 @@ pub no_reward : (p : Preamble) (entries : List Entry) (indices : List ℕ) → I
 no_reward p entries indices last = sym (number_reward p entries indices None last)
 
 -- ---- a body with a single number
-no_index_left : (p : Preamble) (indices : List ℕ) (n : ℕ) → AreWithin (map count_of (dimensions p Reward)) indices → 4 ≤ n → drop n indices ≡ []
-no_index_left p indices n h1 h2 = grind (arith, drop_all)
+pub only_cell : (states observations places a s e z : ℕ) → IsSingle observations places → z < observations → cell_in states observations (drop places (a ∷ s ∷ e ∷ z ∷ [])) ≡ 0
+only_cell states observations places a s e z h1 h2 = grind (arith, drop_all)
+
+only_cell_of : (p : Preamble) (states observations n : ℕ) (indices : List ℕ) → AreWithin (map count_of (dimensions p Reward)) indices → count_of (rewarded p) ≡ observations → IsSingle observations n
+    → cell_in states observations (drop n indices) ≡ 0
+only_cell_of p states observations n [] w is single = absurd w
+only_cell_of p states observations n (a ∷ []) w is single = absurd w.1
+only_cell_of p states observations n (a ∷ s ∷ []) w is single = absurd w.1.1
+only_cell_of p states observations n (a ∷ s ∷ e ∷ []) w is single = absurd w.1.1.1
+only_cell_of p states observations n (a ∷ s ∷ e ∷ z ∷ []) w is single = only_cell states observations n a s e z single (subst (λ c. z < c) is w.1.1.1.0)
+only_cell_of p states observations n (a ∷ s ∷ e ∷ z ∷ x ∷ xs) w is single = absurd w.1.1.1.1
 
 pub single_reward : (p : Preamble) (entries : List Entry) (rewards : RewardRules) (indices : List ℕ) (b : RewardBody) → AreRewardsOf p entries rewards
-    → AreWithin (map count_of (dimensions p Reward)) indices → 4 ≤ b.places → IsLastBody p.costs entries rewards.numbers indices (Some b)
+    → AreWithin (map count_of (dimensions p Reward)) indices → IsSingle rewards.shape.observations b.places → IsLastBody p.costs entries rewards.numbers indices (Some b)
     → reward p entries indices ≡ get_or rewards.numbers (b.start + 0) (pos 0)
 single_reward p entries rewards indices b are within single last =
     sym (body_reward p entries rewards indices b are (all_open p indices within) last)
-    ∙ ap (λ is. get_or rewards.numbers (b.start + cell_in rewards.shape.states rewards.shape.observations is) (pos 0)) (no_index_left p indices b.places within single)
+    ∙ ap (λ k. get_or rewards.numbers (b.start + k) (pos 0)) (only_cell_of p rewards.shape.states rewards.shape.observations b.places indices within are.shape.observations single)
 
 -- ---- indices
 pub small_indices : (m : ℕ) (indices : List ℕ) → AreIndices m indices → All (λ i. i < key_base) indices

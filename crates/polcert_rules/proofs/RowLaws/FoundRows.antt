@@ -67,17 +67,17 @@ module _ (entries : List Entry) (rules : List Rule) (table : Table) (a s : ℕ) 
   zero_is : (c n : ℕ) (o : Option ℕ) → o ≡ Some n → IsNewest split.zeros.items (IsSingle (table_key table) a s c) o → is_zero entries n ≡ true
   zero_is c n o h1 h2 = grind arith
 
-  pub row_is : (row : Row) → IsNewest rules (Fits most_places (table_key table) (a ∷ s ∷ no_column ∷ [])) row.whole → IsRising row.cells.items
-      → ((c : ℕ) → c + 2 < key_base → IsNewest (others_in split.others) (IsSingle (table_key table) a s c) (at_column row.cells.items c))
-      → All (IsCell (others_in split.others) (table_key table) a s) row.cells.items → IfSome row.zeros AreOrdered
+  pub row_is : (row : Row) → IsNewest rules (Fits most_places (table_key table) (a ∷ s ∷ no_column ∷ [])) row.whole → IsRising row.cells.rules.items
+      → ((c : ℕ) → c + 2 < key_base → IsNewest (others_in split.others) (IsSingle (table_key table) a s c) (at_column row.cells.rules.items c))
+      → All (IsCell (others_in split.others) (table_key table) a s) row.cells.rules.items → IfSome row.zeros AreOrdered
       → ((c : ℕ) → c + 2 < key_base → IsNewest split.zeros.items (IsSingle (table_key table) a s c) (zero_of row.zeros c)) → IsRowOf entries table a s row
   row_is row w up newest each ordered zeros = record {
     rising = up;
     ordered = ordered;
-    single = single_entries entries rules table a s row.cells.items keyed index la ls (λ k d l. of_index _ (each k d l));
+    single = single_entries entries rules table a s row.cells.rules.items keyed index la ls (λ k d l. of_index _ (each k d l));
     zeros = λ c n l e. zero_is c n (zero_of row.zeros c) e (zeros c (omega arith));
     whole = last_number entries rules table (a ∷ s ∷ no_column ∷ []) row.whole keyed index (omega arith, (omega arith, (omega arith, tt))) w;
     last = λ c l.
-        subst (λ u. IsLastNumber entries table (a ∷ s ∷ c ∷ []) (max_option u (at_column row.cells.items c))) (sym (under_is row.whole row.zeros c))
-        (row_number c row.whole (zero_of row.zeros c) (at_column row.cells.items c) l w (zeros c (omega arith)) (newest c (omega arith)));
+        subst (λ u. IsLastNumber entries table (a ∷ s ∷ c ∷ []) (max_option u (at_column row.cells.rules.items c))) (sym (under_is row.whole row.zeros c))
+        (row_number c row.whole (zero_of row.zeros c) (at_column row.cells.rules.items c) l w (zeros c (omega arith)) (newest c (omega arith)));
   }

@@ -15,10 +15,10 @@ no_zeros whole zeros c e = ap (λ z. number_under whole z c) e
 
 -- the newer cells of a row
 module _ (shape : Shape) (entries : List Entry) (table : Table) (a s : ℕ) (row : Row) (newer : List Cell) (h : AreNumbersOf shape entries table a s row)
-    (newer_are : newer ≡ newer_cells shape.columns entries (covering_entry row) s row.cells.items) where
+    (newer_are : newer ≡ newer_cells shape.columns entries (covering_entry row) s row.cells.rules.items) where
   newer_weights : (c : ℕ) → c < shape.columns → weight_over newer (λ i. given_at shape.columns entries (covering_entry row i) s i) c ≡ weight_in shape.columns entries table a s c
   newer_weights c l =
-      ap (λ xs. weight_over xs (λ i. given_at shape.columns entries (covering_entry row i) s i) c) newer_are ∙ newer_over shape.columns entries s (covering_entry row) c row.cells.items h.rising
+      ap (λ xs. weight_over xs (λ i. given_at shape.columns entries (covering_entry row i) s i) c) newer_are ∙ newer_over shape.columns entries s (covering_entry row) c row.cells.rules.items h.rising
       ∙ ap (value_or 0 (λ e. given shape.columns e s c)) (sym (h.last c l))
 
   newer_rises : Rises 0 shape.columns newer

@@ -117,7 +117,7 @@ module _ (p : Preamble) (table : Table) (shape : Shape) (entries : List Entry) (
           zeros = λ c n l e. h.zeros c n (omega arith) e;
           covering = whole_is row.whole h.whole;
           last = λ c l.
-              let number = number_in (covering_entry row c) row.cells.items c in
+              let number = number_in (covering_entry row c) row.cells.rules.items c in
               sym (cells.last_is_one entries table (a ∷ s ∷ c ∷ []) (entry_at entries number) (last_is entries table (a ∷ s ∷ c ∷ []) number (h.last c (omega arith))));
           small = λ c l. small_is c;
         }

@@ -4,7 +4,7 @@ use Rattle.polcert_cells.specs.declared.entries.Table.{Table}
 use Rattle.polcert_cells.specs.declared.entries.Entry.{Entry}
 use Rattle.polcert_cells.specs.Cells.{covers}
 use Rattle.polcert_rules.specs.declared.index.Rule.{Rule}
-use Rattle.polcert_rules.specs.Keys.{key_of, AreDigits, most_places}
+use Rattle.polcert_rules.specs.Keys.{key_of, table_digit, AreDigits, most_places}
 
 -- each key once, and the keys rise
 abbrev pub IsRising : List Rule → Type 0
@@ -29,10 +29,11 @@ pub record IsIndexOf (entries : List Entry) (rules : List Rule) : Type 0 where
 abbrev pub AreKeyed : List Entry → Type 0
 AreKeyed entries = All (λ (e : Entry). AreDigits most_places e.places) entries
 
--- a rule for each entry, numbered from here on
-abbrev pub rules_from : ℕ → List Entry → List Rule
-rules_from number [] = []
-rules_from number (e ∷ es) = record { key = key_of e; number = number } ∷ rules_from (number + 1) es
+-- a rule for each entry of the table with this digit, where entries are numbered from here on
+abbrev pub rules_from : ℕ → ℕ → List Entry → List Rule
+rules_from digit number [] = []
+rules_from digit number (e ∷ es) =
+    if table_digit e.table == digit then (record { key = key_of e; number = number } ∷ rules_from digit (number + 1) es) else rules_from digit (number + 1) es
 
 -- of neighbours with the same key the greatest number, where this rule stands in front
 abbrev pub newest_from : Rule → List Rule → List Rule

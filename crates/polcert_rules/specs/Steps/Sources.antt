@@ -69,12 +69,12 @@ IsWhole shape entries (Some n) = (e : Entry) × (slice_get entries n ≡ Some e)
 
 -- the numbers of a row: that of what covers the whole row, those of its single cells, and those of its zeros
 pub record AreNumbersOf (shape : Shape) (entries : List Entry) (table : Table) (a s : ℕ) (row : Row) : Type 0 where
-  pub rising : IsRising row.cells.items
+  pub rising : IsRising row.cells.rules.items
   pub ordered : IfSome row.zeros AreOrdered
-  pub cells : All (IsColumnOf shape.columns entries) row.cells.items
+  pub cells : All (IsColumnOf shape.columns entries) row.cells.rules.items
   pub zeros : (c n : ℕ) → c < shape.columns → zero_of row.zeros c ≡ Some n → is_zero entries n ≡ true
   pub covering : IsWhole shape entries row.whole
-  pub last : (c : ℕ) → c < shape.columns → last_covering entries table (a ∷ s ∷ c ∷ []) ≡ entry_at entries (number_in (covering_entry row c) row.cells.items c)
+  pub last : (c : ℕ) → c < shape.columns → last_covering entries table (a ∷ s ∷ c ∷ []) ≡ entry_at entries (number_in (covering_entry row c) row.cells.rules.items c)
   pub small : (c : ℕ) → c < shape.columns → weight_in shape.columns entries table a s c ≤ one * shape.columns
 
 -- ---- rows as they are kept

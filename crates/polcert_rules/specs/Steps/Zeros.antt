@@ -121,9 +121,9 @@ shown_under whole (Some z) base = shown (λ c. overrides whole (newest_zero z c)
 -- The cells are single cells of the table; and in each column the last entry that covers the cell is that of the greatest number
 -- among what covers the whole row, the newest zero, and the cell.
 pub record IsRowOf (entries : List Entry) (table : Table) (a s : ℕ) (row : Row) : Type 0 where
-  pub rising : IsRising row.cells.items
+  pub rising : IsRising row.cells.rules.items
   pub ordered : IfSome row.zeros AreOrdered
-  pub single : All (IsSingleEntry entries table) row.cells.items
+  pub single : All (IsSingleEntry entries table) row.cells.rules.items
   pub zeros : (c n : ℕ) → c < no_column → zero_of row.zeros c ≡ Some n → is_zero entries n ≡ true
   pub whole : IsLastNumber entries table (a ∷ s ∷ no_column ∷ []) row.whole
-  pub last : (c : ℕ) → c < no_column → IsLastNumber entries table (a ∷ s ∷ c ∷ []) (number_in (covering_entry row c) row.cells.items c)
+  pub last : (c : ℕ) → c < no_column → IsLastNumber entries table (a ∷ s ∷ c ∷ []) (number_in (covering_entry row c) row.cells.rules.items c)

@@ -1,13 +1,14 @@
-use Rattle.polcert_rules.proofs.Common.{Every}
-use Rattle.polcert_rules.proofs.Keyed.Keying.{place_at, on_at}
+use Rattle.std.proofs.Common.{◌≤◌, List, [], ◌∷◌, length, arith}
+use Rattle.polcert_rules.proofs.Common.{Place, AreDigits, most_places}
 use Rattle.polcert_rules.proofs.index.key_of.Goals as goal
 
-pub overflow_sub-levels : goal.overflow_sub-levels
-overflow_sub-levels c =
-    let n = place_at _ _ _ Every c.args.entry.places.now c.loop-place.place-index c.loop-place-test.true c.loop-place.invariant in
-    n.some
+few : (ps : List Place) → AreDigits most_places ps → 5 ≤ length ps → ⊥
+few [] digits l = omega arith
+few (p ∷ []) digits l = omega arith
+few (p ∷ q ∷ []) digits l = omega arith
+few (p ∷ q ∷ r ∷ []) digits l = omega arith
+few (p ∷ q ∷ r ∷ s ∷ []) digits l = omega arith
+few (p ∷ q ∷ r ∷ s ∷ t ∷ ps) digits l = digits.1.1.1.1
 
-pub loop-place-preserved : goal.loop-place-preserved
-loop-place-preserved c =
-    let n = place_at _ _ _ Every c.args.entry.places.now c.loop-place.place-index c.loop-place-test.true c.loop-place.invariant in
-    on_at _ _ _ _ _ _ _ n c.digit.ensures c.span-in-loop-place.ensures
+pub returns-in_default-2 : goal.returns-in_default-2
+returns-in_default-2 c = absurd (few c.args.entry.places.now c.requires c.in_default.len_at_least)

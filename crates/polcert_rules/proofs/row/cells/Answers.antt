@@ -12,8 +12,8 @@ returns-clause-rising c =
 
 pub returns-clause-newest : goal.returns-clause-newest
 returns-clause-newest c =
-    let gathered = gathered_are (others_in c.args.split.now.others) c.new-cells.result.items c.add_shared_columns.new.cells.items c.add_columns.new.cells.items c.args.low c.args.action c.args.state
-    _ c.new-cells.ensures.items c.first_column-start.ensures.is c.in_ok-add_shared_columns.ensures (rw c.nonzero_rules.ensures at c.in_ok-add_columns.ensures) in
+    let gathered = gathered_are (others_in c.args.split.now.others) c.clear.new.self.items c.add_shared_columns.new.cells.items c.add_columns_at.new.cells.items c.args.low c.args.action c.args.state
+    _ c.clear.ensures.items c.first_column-start.ensures.is c.in_ok-add_shared_columns.ensures (rw c.nonzero_rules.ensures at c.in_ok-next.ensures) in
     let ordered = IsNonDecreasingBy-from_sort_by_key (λ (r : Rule). r.key) _ c.sort_unstable_by_key.ensures.sorted (λ a r q k. search rules) in
     let is = c.keep_newest_of_each.ensures in
     let all = newest_at (others_in c.args.split.now.others) _ _ c.args.low c.args.action c.args.state gathered c.sort_unstable_by_key.ensures.permutation (each_rises _ ordered) in
@@ -21,8 +21,8 @@ returns-clause-newest c =
 
 pub returns-clause-each : goal.returns-clause-each
 returns-clause-each c =
-    let gathered = gathered_are (others_in c.args.split.now.others) c.new-cells.result.items c.add_shared_columns.new.cells.items c.add_columns.new.cells.items c.args.low c.args.action c.args.state
-    _ c.new-cells.ensures.items c.first_column-start.ensures.is c.in_ok-add_shared_columns.ensures (rw c.nonzero_rules.ensures at c.in_ok-add_columns.ensures) in
+    let gathered = gathered_are (others_in c.args.split.now.others) c.clear.new.self.items c.add_shared_columns.new.cells.items c.add_columns_at.new.cells.items c.args.low c.args.action c.args.state
+    _ c.clear.ensures.items c.first_column-start.ensures.is c.in_ok-add_shared_columns.ensures (rw c.nonzero_rules.ensures at c.in_ok-next.ensures) in
     let is = c.keep_newest_of_each.ensures in
     let all = each_cell (others_in c.args.split.now.others) _ _ c.args.low c.args.action c.args.state gathered c.sort_unstable_by_key.ensures.permutation in
     subst (λ (xs : List Rule). All (IsCell (others_in c.args.split.now.others) c.args.low c.args.action c.args.state) xs) (sym is) all

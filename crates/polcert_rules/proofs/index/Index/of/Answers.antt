@@ -1,7 +1,6 @@
 use Rattle.std.proofs.Common.{List, subst, sym, rules}
 use Rattle.std.specs.List.Sorted.{IsPermutation}
 use Rattle.polcert_rules.proofs.Common.{IsNonDecreasingBy-from_sort_by_key, Rule, IsRising, IsIndexOf}
-use Rattle.std.proofs.lemmas.List.Sorted.{IsPermutation-trans}
 use Rattle.polcert_rules.proofs.Indexes.Building.{each_rises, is_index}
 use Rattle.polcert_rules.proofs.index.Index.of.Goals as goal
 
@@ -14,6 +13,5 @@ invariant_of-result c =
 pub returns : goal.returns
 returns c =
     let is = c.keep_newest_of_each.ensures in
-    let grouped = subst (λ (xs : List Rule). IsPermutation xs c.sort_by_key.new.self.items) c.in_ok-rules.ensures c.sort_by_key.ensures.permutation in
-    let moved = IsPermutation-trans _ _ _ grouped c.sort_unstable_by_key.ensures.permutation in
+    let moved = subst (λ (xs : List Rule). IsPermutation xs c.sort_unstable_by_key.new.self.items) c.in_ok-rules.ensures c.sort_unstable_by_key.ensures.permutation in
     subst (IsIndexOf c.args.entries.now) (sym is) (is_index c.args.entries.now _ moved)

@@ -1,6 +1,7 @@
-use Rattle.std.proofs.Common.{◌∙◌, ◌+◌, pos, get_or, FitsSigned, w64, subst, sym, ap, rules}
+use Rattle.std.proofs.Common.{◌∙◌, ◌+◌, pos, get_or, FitsSigned, w64, subst, sym, ap, rules, refl}
 use Rattle.std.proofs.lemmas.Int.{to_z-of_z}
 use Rattle.polcert_rules.proofs.Common.{same_Some, RewardRules, IsLastBody}
+use Rattle.polcert_rules.specs.Steps.RewardSearch.{IsSingle}
 use Rattle.polcert_rules.proofs.RewardLaws.RewardValues.{single_reward, no_reward}
 use Rattle.polcert_rules.proofs.rewards.Rewards.single_number.Goals as goal
 
@@ -8,9 +9,10 @@ pub returns-in-None : goal.returns-in-None
 returns-in-None c p entries are h is cell within last =
     sym (no_reward p entries cell (subst (IsLastBody p.costs entries c.args.self.now.numbers cell) c.in-None.is last)) ∙ same_Some _ _ is
 
-pub returns-else-body-lt-MOST_PLACES : goal.returns-else-body-lt-MOST_PLACES
-returns-else-body-lt-MOST_PLACES c p entries are h is cell within last =
+pub returns-then-is_single : goal.returns-then-is_single
+returns-then-is_single c p entries are h is cell within last =
     let fits : FitsSigned w64 c.number_at.result = search rules in
     let read = c.number_at.ensures ∙ ap (λ (rewards : RewardRules). get_or rewards.numbers (c.in-Some.body.start + 0) (pos 0)) c.self.view_is in
-    single_reward p entries c.args.self.now cell c.in-Some.body are within c.if-body-lt-MOST_PLACES.false (subst (IsLastBody p.costs entries c.args.self.now.numbers cell) c.in-Some.is last)
+    let single = subst (λ (rewards : RewardRules). IsSingle rewards.shape.observations c.in-Some.body.places) c.self.view_is (c.if-is_single.ensures refl) in
+    single_reward p entries c.args.self.now cell c.in-Some.body are within single (subst (IsLastBody p.costs entries c.args.self.now.numbers cell) c.in-Some.is last)
     ∙ sym (to_z-of_z w64 c.number_at.result fits ∙ read) ∙ same_Some _ _ is

@@ -11,7 +11,7 @@ pub returns : goal.returns
 returns c entries rules keyed columns index parted covering =
     let a = c.args.action in
     let s = c.args.state in
-    let found = c.in_ok-cells.cells.items in
+    let found = c.in_ok-cells.cells.rules.items in
     let zeros = c.row_zeros-zeros.result in
     let table = table_key c.args.table in
     let low = ap (λ x. c.table_digit.result * x) c.span.ensures ∙ ap (λ d. d * key_base ^ 4) c.table_digit.ensures in

@@ -32,8 +32,8 @@ own_row-requires-clause-sparse c =
     let entries = c.args.bodies.entries.now in
     let below = cells_row n entries (stored_cells c.at.result) _ _ c.in_ok-base.base c.in_ok-base.ensures.kept c.in_ok-base.ensures.row c.at.ensures in
     let row = finished c.args.bodies.shape entries c.requires.row.0 c.requires.row.1 c.args.state c.args.row.now c.in_ok-newer.newer.items c.requires.row.2 (c.in_ok-newer.ensures c.args.state)
-    (stored_cells c.at.result) _ _ c.in_ok-cells.cells.items below refl c.as_slice.ensures.value c.in_ok-cells.ensures in
-    subst (IsSparse n) (sym c.as_slice-2.ensures.value) row.sparse
+    (stored_cells c.at.result) _ _ c.in_ok-cells.cells.items below refl refl c.in_ok-cells.ensures in
+    subst (IsSparse n) (sym c.as_slice.ensures.value) row.sparse
 
 pub own_row-requires-clause-small : goal.own_row-requires-clause-small
 own_row-requires-clause-small c i l =
@@ -41,8 +41,8 @@ own_row-requires-clause-small c i l =
     let entries = c.args.bodies.entries.now in
     let below = cells_row n entries (stored_cells c.at.result) _ _ c.in_ok-base.base c.in_ok-base.ensures.kept c.in_ok-base.ensures.row c.at.ensures in
     let row = finished c.args.bodies.shape entries c.requires.row.0 c.requires.row.1 c.args.state c.args.row.now c.in_ok-newer.newer.items c.requires.row.2 (c.in_ok-newer.ensures c.args.state)
-    (stored_cells c.at.result) _ _ c.in_ok-cells.cells.items below refl c.as_slice.ensures.value c.in_ok-cells.ensures in
-    subst (λ (xs : List Cell). weight_at xs i ≤ one * n) (sym c.as_slice-2.ensures.value)
+    (stored_cells c.at.result) _ _ c.in_ok-cells.cells.items below refl refl c.in_ok-cells.ensures in
+    subst (λ (xs : List Cell). weight_at xs i ≤ one * n) (sym c.as_slice.ensures.value)
     (finished_small c.args.bodies.shape entries c.requires.row.0 c.requires.row.1 c.args.state c.args.row.now c.in_ok-newer.newer.items c.requires.row.2 (c.in_ok-newer.ensures c.args.state) c.in_ok-cells.cells.items row i l)
 
 pub returns-clause-stays : goal.returns-clause-stays
@@ -54,5 +54,5 @@ returns-clause-row c table a h =
     let entries = c.args.bodies.entries.now in
     let below = cells_row n entries (stored_cells c.at.result) _ _ c.in_ok-base.base c.in_ok-base.ensures.kept c.in_ok-base.ensures.row c.at.ensures in
     let row = finished c.args.bodies.shape entries table a c.args.state c.args.row.now c.in_ok-newer.newer.items h (c.in_ok-newer.ensures c.args.state)
-    (stored_cells c.at.result) _ _ c.in_ok-cells.cells.items below refl c.as_slice.ensures.value c.in_ok-cells.ensures in
-    weighed_row n entries c.as_slice-2.result.now _ _ _ c.in_ok-own_row.ensures.row (subst (λ (xs : List Cell). IsRow n (weight_in n entries table a c.args.state) xs) (sym c.as_slice-2.ensures.value) row)
+    (stored_cells c.at.result) _ _ c.in_ok-cells.cells.items below refl refl c.in_ok-cells.ensures in
+    weighed_row n entries c.as_slice.result.now _ _ _ c.in_ok-own_row.ensures.row (subst (λ (xs : List Cell). IsRow n (weight_in n entries table a c.args.state) xs) (sym c.as_slice.ensures.value) row)

@@ -6,14 +6,14 @@ use Rattle.polcert_rules.proofs.Indexes.BuiltLaws.{given_is, lines_none, lines_m
 use Rattle.polcert_rules.proofs.rows.Rows.of.Goals as goal
 
 pub of-requires : goal.of-requires
-of-requires c = numbers_within c.args.entries.now c.args.table c.args.index.now c.of_table.result.now c.requires.index c.of_table.ensures.kept
+of-requires c = numbers_within c.args.entries.now c.args.table c.args.index.now c.of_table-rules.result.now c.requires.index c.of_table-rules.ensures.kept
 
 pub loop-action-init : goal.loop-action-init
 loop-action-init c = (lines_none _ _ _ c.new-numbers.ensures, c.in_ok-keeper.ensures c.args.shape.columns)
 
 pub action_rows-requires-clause-given : goal.action_rows-requires-clause-given
 action_rows-requires-clause-given c =
-    given_is _ c.of_table.result.now c.requires.weighted c.requires.sound c.requires.index c.of_table.ensures.rising c.of_table.ensures.kept c.in_ok-split.ensures.zeros c.in_ok-split.ensures.others c.in_ok-split.ensures.exact
+    given_is _ c.of_table-rules.result.now c.requires.weighted c.requires.sound c.requires.index c.of_table-rules.ensures.rising c.of_table-rules.ensures.kept c.in_ok-split.ensures.zeros c.in_ok-split.ensures.others c.in_ok-split.ensures.exact
 
 pub action_rows-requires-clause-before : goal.action_rows-requires-clause-before
 action_rows-requires-clause-before c = c.last.ensures _ (all_below _ c.loop-action.action _ _ c.loop-action.invariant.0)
@@ -24,7 +24,7 @@ loop-action-preserved-then-is_as_before c =
     let most = within.actions.1 in
     let less = c.loop-action-test.true in
     let small : c.loop-action.action + 2 < key_base = omega (arith, most, less) in (
-      lines_before _ (given_is _ c.of_table.result.now c.requires.weighted c.requires.sound c.requires.index c.of_table.ensures.rising c.of_table.ensures.kept c.in_ok-split.ensures.zeros c.in_ok-split.ensures.others c.in_ok-split.ensures.exact)
+      lines_before _ (given_is _ c.of_table-rules.result.now c.requires.weighted c.requires.sound c.requires.index c.of_table-rules.ensures.rising c.of_table-rules.ensures.kept c.in_ok-split.ensures.zeros c.in_ok-split.ensures.others c.in_ok-split.ensures.exact)
           c.loop-action.action _ _ _ (c.is_as_before.ensures c.if-is_as_before.true) small c.loop-action.invariant.0 c.in_ok-repeat_last.ensures,
       c.loop-action.invariant.1,
     )
@@ -39,7 +39,7 @@ loop-action-preserved c =
 
 pub returns-in-Err : goal.returns-in-Err
 returns-in-Err c p is =
-    wrong_row _ (given_is _ c.of_table.result.now c.requires.weighted c.requires.sound c.requires.index c.of_table.ensures.rising c.of_table.ensures.kept c.in_ok-split.ensures.zeros c.in_ok-split.ensures.others c.in_ok-split.ensures.exact)
+    wrong_row _ (given_is _ c.of_table-rules.result.now c.requires.weighted c.requires.sound c.requires.index c.of_table-rules.ensures.rising c.of_table-rules.ensures.kept c.in_ok-split.ensures.zeros c.in_ok-split.ensures.others c.in_ok-split.ensures.exact)
     p is c.loop-action.action _ _ c.in-Err.wrong c.loop-action.invariant.0 c.loop-action-test.true (rw c.in-Err.is at c.in_ok-line.ensures.rows)
 
 pub returns : goal.returns
@@ -51,9 +51,9 @@ returns c p is =
         actions = is.actions;
         states = is.states;
         width = is.columns;
-        each = lines_rows _ (given_is _ c.of_table.result.now c.requires.weighted c.requires.sound c.requires.index c.of_table.ensures.rising c.of_table.ensures.kept c.in_ok-split.ensures.zeros c.in_ok-split.ensures.others c.in_ok-split.ensures.exact)
+        each = lines_rows _ (given_is _ c.of_table-rules.result.now c.requires.weighted c.requires.sound c.requires.index c.of_table-rules.ensures.rising c.of_table-rules.ensures.kept c.in_ok-split.ensures.zeros c.in_ok-split.ensures.others c.in_ok-split.ensures.exact)
             p is c.loop-action.action _ _ all c.loop-action.invariant.0 c.loop-action.invariant.1.sparse;
       },
-      lines_proper _ (given_is _ c.of_table.result.now c.requires.weighted c.requires.sound c.requires.index c.of_table.ensures.rising c.of_table.ensures.kept c.in_ok-split.ensures.zeros c.in_ok-split.ensures.others c.in_ok-split.ensures.exact)
+      lines_proper _ (given_is _ c.of_table-rules.result.now c.requires.weighted c.requires.sound c.requires.index c.of_table-rules.ensures.rising c.of_table-rules.ensures.kept c.in_ok-split.ensures.zeros c.in_ok-split.ensures.others c.in_ok-split.ensures.exact)
           p is c.loop-action.action _ _ all c.loop-action.invariant.0,
     )

@@ -1,6 +1,0 @@
-use Rattle.std.proofs.Common.{◌≡◌, ◌++◌, drop}
-use Rattle.polcert_rules.proofs.Common.{rules_from}
-use Rattle.polcert_rules.proofs.index.rules_of_entries.Given as goal
-
-abbrev pub invariant-loop-number : goal.invariant-loop-number
-invariant-loop-number l = l.rules.items ++ rules_from l.number (drop l.number l.entries) ≡ rules_from 0 l.entries
