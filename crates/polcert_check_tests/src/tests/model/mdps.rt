@@ -1,8 +1,10 @@
 //! Texts without a line of observations: the end state is observed.
 use super::numbers::{Number, first_wrong, first_wrong_refusal, is_named, read_is_mdp, refusal};
-use polcert_model::{ItemFault, Kind, ModelFault, Table};
+use polcert_cells::RewardCell;
+use polcert_model::{Cells, ItemFault, Kind, ModelFault, Table, read_model};
 use polcert_testing::RefusedModel;
 use polcert_text::TokenFault;
+use std::alloc::Global;
 
 /// The same model of two states, by each form of its one reward.
 const TEXTS: [&[u8]; 4] = [
@@ -71,6 +73,48 @@ fn a_cost_and_a_pomdp(rt: HostRuntime) {
     assert_eq!(rt; read_is_mdp(rt.alloc(), POMDP), Some(false));
     let seen = [(Number::O(0, 1, 0), 1_000_000)];
     assert_eq!(rt; first_wrong(rt.alloc(), POMDP, &seen), None);
+}
+
+/// A reward, how many end states have another, and the first two of these with theirs.
+type EndRewards = (i64, usize, [(usize, i64); 2]);
+
+/// The rewards of the end states of a start state after action 0, if they are known at once and there is room.
+fn end_rewards(alloc: Global, text: &[u8], start: usize) -> Option<EndRewards> {
+    let model = read_model(alloc, text).ok()?;
+    if start >= model.states() {
+        return None;
+    }
+    let mut cells = [RewardCell {
+        observation: 9,
+        reward: 9,
+    }; 2];
+    let common = model.find_end_rewards(0, start, &mut cells)?;
+    let [first, second] = cells;
+    let listed = [
+        (first.observation, first.reward),
+        (second.observation, second.reward),
+    ];
+    Some((common.reward, common.exceptions, listed))
+}
+
+const THREE: &[u8] =
+    b"discount: 0.5 values: reward states: 3 actions: 1 T: 0 identity R: * : * : * 4 \
+    R: 0 : 1 : 2 -1 R: 0 : 1 : 0 : * 2 R: 0 : 2 : 0 1 R: 0 : 2 : 1 1 R: 0 : 2 : 2 1";
+
+#[test]
+fn rewards_of_end_states(rt: HostRuntime) {
+    let alloc = rt.alloc();
+    assert_eq!(rt;
+        end_rewards(alloc, THREE, 0),
+        Some((4_000_000, 0, [(9, 9), (9, 9)]))
+    );
+    assert_eq!(rt;
+        end_rewards(alloc, THREE, 1),
+        Some((4_000_000, 2, [(0, 2_000_000), (2, -1_000_000)]))
+    );
+    // (There is no room for three, and in a model with observations they may differ by these.)
+    assert_eq!(rt; end_rewards(alloc, THREE, 2), None);
+    assert_eq!(rt; end_rewards(alloc, POMDP, 0), None);
 }
 
 /// Texts, why each is refused, the item, and the place.
