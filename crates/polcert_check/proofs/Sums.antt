@@ -7,3 +7,4 @@ pub mod Ring
 pub mod RowTotals
 pub mod Scales
 pub mod SumLaws
+pub mod UpperBits

@@ -1,12 +1,13 @@
 //! The three parts of a certificate, which belong together.
 ghost use Rattle.std.specs.Prelude.{◌≡◌, ◌*◌};
+ghost use Rattle.polcert_policy.specs.Graphs.{IsProperGraph};
 ghost use Rattle.polcert_policy.specs.Vectors.{AreProperVectors};
 ghost use Rattle.polcert_check.specs.Horizon.{Fits, controller_of};
 ghost use Rattle.polcert_check.specs.Steps.Ranges.{IsController, ValuesAreWithin};
 
 use crate::findings::Side;
 use polcert_model::Cells;
-use polcert_policy::{Graph, Vectors};
+use polcert_policy::{Graph, Successor, Vectors};
 
 /// A model's cells, a policy graph and its vectors, which fit, and from which side the values are bounds.
 #[derive(Drop)]
@@ -15,13 +16,23 @@ pub(crate) struct CheckInput<'a, C: Cells> {
     pub graph: &'a Graph,
     pub vectors: &'a Vectors,
     pub side: Side,
+    /// Of the graph and the vectors: a loop that writes reads again whatever lies elsewhere, and not what it has a copy of.
+    pub successor_list: &'a [Successor],
+    pub value_list: &'a [i64],
+    pub observations: usize,
+    pub states: usize,
     /// What the weights of all steps from a node and a state sum to; kept, with the discount, so that no pair computes it anew.
     pub step_scale: u64,
     pub discount: u32,
     ghost fits: { Fits (C.table cells.now) graph.now vectors.now },
     ghost proper: { IsController (controller_of (C.table cells.now) graph.now vectors.now) },
     ghost values: { ValuesAreWithin (controller_of (C.table cells.now) graph.now vectors.now) },
+    ghost is_proper_graph: { IsProperGraph graph.now },
     ghost are_proper: { AreProperVectors vectors.now },
+    ghost are_successors: { successor_list.now ≡ graph.now.successors },
+    ghost are_values: { value_list.now ≡ vectors.now.values },
+    ghost is_observations: { observations ≡ (C.table cells.now).observations },
+    ghost is_states: { states ≡ (C.table cells.now).states },
     ghost is_step_scale: { step_scale ≡ (C.table cells.now).t_scale * (C.table cells.now).o_scale },
     ghost is_discount: { discount ≡ (C.table cells.now).discount },
 }
@@ -49,6 +60,10 @@ impl<'a, C: Cells> CheckInput<'a, C> {
             graph,
             vectors,
             side,
+            successor_list: graph.successors(),
+            value_list: vectors.values(),
+            observations: cells.observations(),
+            states: cells.states(),
             step_scale,
             discount,
         }

@@ -46,13 +46,10 @@ fn observation_value<C: Cells>(node: &Node<'_, C>, e: usize, step: Step) -> Part
         ((node_controller node.now).next node.now.n step.column) }
     ensures missing { IsMissedAt (node_controller node.now) node.now.n step.column result.missing }
 {
-    let input = &node.input;
-    let observations = input.cells.observations();
     let observation = step.column;
-    prove!(observation < observations);
-    match input.graph.next(node.n, observation) {
+    match node.next(observation) {
         Some(m) => PartialValue {
-            value: weigh(step.weight, input.vectors.at(m, e) as i128),
+            value: weigh(step.weight, node.value_of(m, e) as i128),
             missing: None,
         },
         None => PartialValue {
@@ -75,6 +72,32 @@ pub(crate) fn complete_value<C: Cells>(node: &Node<'_, C>, e: usize) -> Option<i
             complete_value_of_numbers(node, e, numbers, scale)
         }
         row => complete_value_of_row(node, e, row),
+    }
+}
+
+/// Numbers below this, and not below its negative, have 64 bits with their sign.
+const NARROW: i128 = 9_223_372_036_854_775_808;
+
+/// Returns the same number if 64 bits are enough for it.
+#[inline(always)]
+fn narrow(number: i128) -> Option<i64>
+    ensures { IfSome result (λ same. same ≡ number) }
+{
+    if number >= NARROW || number < -NARROW {
+        return None;
+    }
+    Some(number as i64)
+}
+
+/// Returns a node's value at end state `e` if 64 bits are enough for it, and the node has a successor for each observation there.
+#[inline(always)]
+pub(crate) fn narrow_end_value<C: Cells>(node: &Node<'_, C>, e: usize) -> Option<i64>
+    requires end { e < (node_controller node.now).cells.states }
+    ensures { IfSome result (IsCompleteValue (node_controller node.now) node.now.n e) }
+{
+    match complete_value(node, e) {
+        Some(value) => narrow(value),
+        None => None,
     }
 }
 
@@ -125,12 +148,9 @@ fn number_value<C: Cells>(node: &Node<'_, C>, e: usize, z: usize, number: u32) -
     ensures missing { result.missing ≡ None → (node_controller node.now).next node.now.n z ≡ None
         → number ≡ 0 }
 {
-    let input = &node.input;
-    let observations = input.cells.observations();
-    prove!(z < observations);
-    match input.graph.next(node.n, z) {
+    match node.next(z) {
         Some(m) => PartialValue {
-            value: product(number, input.vectors.at(m, e)),
+            value: product(number, node.value_of(m, e)),
             missing: None,
         },
         None => PartialValue {
@@ -354,10 +374,16 @@ fn value_of_cells<C: Cells, F: Fn(usize) -> PartialValue>(
 {
     let mut value: i128 = 0;
     let mut missing = None;
-    for cell in cells {
+    let mut left = node.input.cells.t_scale();
+    let mut place = 0;
+    // (Ended by the weights, which sum to the scale: a loop over places is unrolled, which costs rows of a few cells more than it gains.)
+    'row: while left > 0 {
+        let cell = cells[place];
         let part = value_of(cell.column);
         value += weigh(cell.weight, part.value);
         missing = min_option(missing, part.missing);
+        left -= cell.weight;
+        place += 1;
     }
     PartialValue { value, missing }
 }

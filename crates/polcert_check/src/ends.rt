@@ -1,35 +1,18 @@
 //! The values of a node at all end states, computed once for all start states.
-ghost use Rattle.std.specs.Prelude.{◌≡◌, ◌<◌, ◌≤◌, ◌^◌, length, unsigned_abs, false};
+ghost use Rattle.std.specs.Prelude.{◌≡◌, ◌≤◌, length};
 ghost use Rattle.polcert_cells.specs.Elements.{most_elements};
 ghost use Rattle.polcert_cells.specs.declared.elements.TheConstants.{MOST_STATES};
 ghost use Rattle.polcert_check.specs.Steps.Products.{products_below};
 
+use crate::check_input::CheckInput;
 use crate::end_values::{
-    PartialValue, ReachedStates, complete_value, end_value, expected_value, product, value_by_form,
+    PartialValue, ReachedStates, complete_value, end_value, expected_value, narrow_end_value,
+    product, value_by_form,
 };
 use crate::expected_reward::weigh;
 use crate::node::Node;
 use polcert_cells::{MOST_STATES, Row};
 use polcert_model::Cells;
-
-/// Numbers smaller than this, in size, have 64 bits with their sign.
-const NARROW: i128 = 9_223_372_036_854_775_808;
-
-/// Returns whether a number may need more than 64 bits.
-fn is_wide(number: i128) -> bool
-    ensures { result ≡ false → unsigned_abs number < 2 ^ 63 }
-{
-    number >= NARROW || number <= -NARROW
-}
-
-/// Returns the same number, which has 64 bits.
-#[inline(always)]
-fn narrow(number: i128) -> i64
-    requires { unsigned_abs number < 2 ^ 63 }
-    ensures { result ≡ number }
-{
-    number as i64
-}
 
 /// Returns the sum of the first numbers, each times the value at its place.
 #[inline]
@@ -49,24 +32,24 @@ fn sum_of_products(numbers: &[u32], values: &[i64], count: usize) -> i128
 /// The values of a node at the end states that its action reaches.
 #[derive(Drop)]
 pub(crate) struct EndValues {
+    /// The values, if 64 bits are enough for each, and the node has a successor for each observation.
+    pub narrow: [i64; MOST_STATES],
+    /// Whether it is so. If not, the other fields have them.
+    pub are_narrow: bool,
     /// Unless the node lacks a successor there.
     pub values: [i128; MOST_STATES],
-    /// The same in 64 bits, where they are enough.
-    pub narrow: [i64; MOST_STATES],
     /// Whether the node lacks a successor for an observation there. Which one is computed only at a pair that reaches such an end
     /// state: that pair settles the node.
     pub lacks_successor: [bool; MOST_STATES],
     /// Whether it lacks one at any of them.
     pub lacks_any: bool,
-    /// Whether any of the values may need more than 64 bits.
-    pub has_wide: bool,
     ghost room_for_values: { length values ≡ MOST_STATES },
     ghost room_for_narrow: { length narrow ≡ MOST_STATES },
     ghost room_for_marks: { length lacks_successor ≡ MOST_STATES },
 }
 
 impl EndValues {
-    ghost use Rattle.std.specs.Prelude.{◌≡◌, ◌<◌, ◌+◌, ℕ, IsTrue, IfSome, false};
+    ghost use Rattle.std.specs.Prelude.{◌≡◌, ◌<◌, ◌+◌, ℕ, IsTrue, IfSome, false, true};
     ghost use Rattle.polcert_cells.specs.Sparse.{IsRow, scaled_cells};
     ghost use Rattle.polcert_check.specs.Steps.Node.{node_controller};
     ghost use Rattle.polcert_check.specs.Steps.Factored.{AreMarked};
@@ -74,11 +57,11 @@ impl EndValues {
 
     pub(crate) fn new() -> Self {
         EndValues {
-            values: [0; MOST_STATES],
             narrow: [0; MOST_STATES],
+            are_narrow: false,
+            values: [0; MOST_STATES],
             lacks_successor: [false; MOST_STATES],
             lacks_any: false,
-            has_wide: false,
         }
     }
 
@@ -89,9 +72,68 @@ impl EndValues {
         ensures { AreEndValues (node_controller node.now) node.now.n
             (node_controller node.now).cells.states self.new }
     {
+        if !self.fill_narrow(node, reached) {
+            self.fill_wide(node, reached);
+        }
+    }
+
+    /// Computes them in 64 bits. Returns whether that is enough for each, and the node has all successors.
+    fn fill_narrow<C: Cells>(&mut self, node: &Node<'_, C>, reached: &ReachedStates) -> bool
+        requires { AreMarked (node_controller node.now).cells ((node_controller node.now).action node.now.n)
+            (node_controller node.now).cells.states reached.now.marks }
+        ensures { IsTrue result → AreEndValues (node_controller node.now) node.now.n
+            (node_controller node.now).cells.states self.new }
+    {
+        // (A copy of its own: a loop that writes reads again whatever it borrows.)
+        let input = CheckInput {
+            cells: node.input.cells,
+            graph: node.input.graph,
+            vectors: node.input.vectors,
+            side: node.input.side,
+            successor_list: node.input.successor_list,
+            value_list: node.input.value_list,
+            observations: node.input.observations,
+            states: node.input.states,
+            step_scale: node.input.step_scale,
+            discount: node.input.discount,
+        };
+        let node = &Node { input, n: node.n };
+        self.are_narrow = true;
+        for e in 0..node.input.states {
+            if !reached.marks[e] {
+                continue;
+            }
+            match narrow_end_value(node, e) {
+                Some(value) => self.note_narrow(node, e, value),
+                None => return false,
+            }
+        }
+        true
+    }
+
+    /// Notes a value in 64 bits at end state `e`.
+    #[inline(always)]
+    fn note_narrow<C: Cells>(&mut self, node: &Node<'_, C>, e: usize, value: i64)
+        requires end { e < (node_controller node.now).cells.states }
+        requires before { AreEndValues (node_controller node.now) node.now.n e self.old }
+        requires narrow { self.old.are_narrow ≡ true }
+        requires value { IsCompleteValue (node_controller node.now) node.now.n e value }
+        ensures narrow { self.new.are_narrow ≡ true }
+        ensures values { AreEndValues (node_controller node.now) node.now.n (e + 1) self.new }
+    {
+        self.narrow[e] = value;
+    }
+
+    /// Computes them, however large, and notes where a successor is missing.
+    fn fill_wide<C: Cells>(&mut self, node: &Node<'_, C>, reached: &ReachedStates)
+        requires { AreMarked (node_controller node.now).cells ((node_controller node.now).action node.now.n)
+            (node_controller node.now).cells.states reached.now.marks }
+        ensures { AreEndValues (node_controller node.now) node.now.n
+            (node_controller node.now).cells.states self.new }
+    {
+        self.are_narrow = false;
         self.lacks_any = false;
-        self.has_wide = false;
-        for e in 0..node.input.cells.states() {
+        for e in 0..node.input.states {
             if !reached.marks[e] {
                 continue;
             }
@@ -104,18 +146,15 @@ impl EndValues {
     fn note<C: Cells>(&mut self, node: &Node<'_, C>, e: usize, value: Option<i128>)
         requires end { e < (node_controller node.now).cells.states }
         requires before { AreEndValues (node_controller node.now) node.now.n e self.old }
+        requires wide { self.old.are_narrow ≡ false }
         requires value { IfSome value (IsCompleteValue (node_controller node.now) node.now.n e) }
-        ensures { AreEndValues (node_controller node.now) node.now.n (e + 1) self.new }
+        ensures wide { self.new.are_narrow ≡ false }
+        ensures values { AreEndValues (node_controller node.now) node.now.n (e + 1) self.new }
     {
         match value {
             Some(value) => {
                 self.values[e] = value;
                 self.lacks_successor[e] = false;
-                if is_wide(value) {
-                    self.has_wide = true;
-                } else {
-                    self.narrow[e] = narrow(value);
-                }
             }
             None => {
                 self.lacks_successor[e] = true;
@@ -124,22 +163,13 @@ impl EndValues {
         }
     }
 
-    /// Returns whether `narrow_value` can be asked for.
-    pub(crate) fn are_narrow(&self) -> bool
-        ensures complete { IsTrue result → self.now.lacks_any ≡ false }
-        ensures narrow { IsTrue result → self.now.has_wide ≡ false }
-    {
-        !(self.lacks_any || self.has_wide)
-    }
-
-    /// Returns the value that a node expects at state `s`, where 64 bits are enough for each value and the node lacks no successor.
+    /// Returns the value that a node expects at state `s`, if its values are kept in 64 bits.
     #[inline(always)]
     pub(crate) fn narrow_value<C: Cells>(&self, node: &Node<'_, C>, s: usize) -> PartialValue
         requires start { s < (node_controller node.now).cells.states }
         requires ends { AreEndValues (node_controller node.now) node.now.n
             (node_controller node.now).cells.states self.now }
-        requires complete { self.now.lacks_any ≡ false }
-        requires narrow { self.now.has_wide ≡ false }
+        requires narrow { self.now.are_narrow ≡ true }
         ensures { IsExpectedValue (node_controller node.now) node.now.n s result }
     {
         let values = &self.narrow;
@@ -173,8 +203,7 @@ impl EndValues {
             ((node_controller node.now).action node.now.n) s) (scaled_cells scale 0 numbers.now) }
         requires ends { AreEndValues (node_controller node.now) node.now.n
             (node_controller node.now).cells.states self.now }
-        requires complete { self.now.lacks_any ≡ false }
-        requires narrow { self.now.has_wide ≡ false }
+        requires narrow { self.now.are_narrow ≡ true }
         ensures { IsExpectedValue (node_controller node.now) node.now.n s result }
     {
         let count = numbers.len().min(node.input.cells.states());
@@ -192,6 +221,9 @@ impl EndValues {
             (node_controller node.now).cells.states self.now }
         ensures { IsExpectedValue (node_controller node.now) node.now.n s result }
     {
+        if self.are_narrow {
+            return self.narrow_value(node, s);
+        }
         if self.lacks_any {
             return expected_value(node, s, |e| self.value_at(node, e));
         }
@@ -209,6 +241,7 @@ impl EndValues {
     /// Returns the value at end state `e` if a state reaches it.
     fn value_at<C: Cells>(&self, node: &Node<'_, C>, e: usize) -> PartialValue
         requires end { e < (node_controller node.now).cells.states }
+        requires wide { self.now.are_narrow ≡ false }
         requires ends { AreEndValues (node_controller node.now) node.now.n
             (node_controller node.now).cells.states self.now }
         ensures { (s : ℕ) → s < (node_controller node.now).cells.states →

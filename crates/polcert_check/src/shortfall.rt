@@ -1,5 +1,7 @@
 //! How far a value is above what the next step gives, in exact units and in millionths.
-ghost use Rattle.std.specs.Prelude.{◌≡◌, ◌<◌, ◌≤◌, unsigned_abs, ℕ, ◌+◌, ◌^◌, ◌*◌, pos, ◌+ℤ◌, ◌-ℤ◌, ◌*ℤ◌, ◌<ℤ◌};
+ghost use Rattle.std.specs.Prelude.{◌≡◌, ◌<◌, ◌≤◌, unsigned_abs, ℕ, ◌+◌, ◌^◌, ◌*◌, pos, ◌+ℤ◌, ◌-ℤ◌, ◌*ℤ◌, ◌<ℤ◌, ◌≤ℤ◌};
+ghost use Rattle.std.specs.Prelude.{IsTrue};
+ghost use Rattle.polcert_check.specs.Steps.Mirrored.{signed_from};
 ghost use Rattle.polcert_policy.specs.Graphs.{nodes};
 ghost use Rattle.polcert_check.specs.Horizon.{Fits, controller_of, one};
 ghost use Rattle.polcert_check.specs.Shortfall.{most_short, short};
@@ -86,6 +88,57 @@ fn shortfall_of(step_scale: u64, discount: u32, value: i64, reward: i128, expect
     scaled - (earned + later)
 }
 
+/// Returns a number without its lower 64 bits, rounded down.
+#[inline(always)]
+fn upper_bits(number: i128) -> i64
+    requires { unsigned_abs number ≤ 2 ^ 107 }
+    ensures small { unsigned_abs result ≤ 2 ^ 43 }
+    ensures below { (pos (2 ^ 64) *ℤ result) ≤ℤ number }
+    ensures above { number <ℤ (pos (2 ^ 64) *ℤ (result +ℤ pos 1)) }
+{
+    (number >> 64) as i64
+}
+
+/// Returns whether a weight times a number is at most another weight times another number.
+#[inline(always)]
+fn is_at_most(weight: u32, number: i64, other_weight: u32, other: i64) -> bool
+    requires weight { weight ≤ 1_000_000 }
+    requires number { unsigned_abs number ≤ 2 ^ 43 + 1 }
+    requires other_weight { other_weight ≤ 1_000_000 }
+    requires other { unsigned_abs other ≤ 2 ^ 43 + 1 }
+    ensures { IsTrue result → (pos weight *ℤ number) ≤ℤ (pos other_weight *ℤ other) }
+{
+    i64::from(weight) * number <= i64::from(other_weight) * other
+}
+
+/// Returns whether the upper bits alone show that a value is not on the wrong side of what backs it. (Most values are so far from it,
+/// and the exact amount takes 12 instructions more.)
+// (Six parameters: three that are the same for all pairs, and three of one.)
+#[inline(always)]
+fn is_clearly_backed(
+    side: Side,
+    step_scale: u64,
+    discount: u32,
+    value: i64,
+    reward: i128,
+    expected: i128,
+) -> bool
+    requires scale { step_scale ≤ most_scales }
+    requires discount { discount ≤ 1_000_000 }
+    requires value { unsigned_abs value ≤ largest }
+    requires reward { unsigned_abs reward ≤ most_scales * largest }
+    requires expected { unsigned_abs expected ≤ most_scales * largest }
+    ensures { IsTrue result → signed_from side (pos (step_scale * one) *ℤ value
+        -ℤ (pos one *ℤ reward +ℤ pos discount *ℤ expected)) ≤ℤ pos 0 }
+{
+    let lead = upper_bits(weigh(step_scale, value as i128) - reward);
+    let later = upper_bits(expected);
+    match side {
+        Side::Below => is_at_most(1_000_000, lead + 1, discount, later),
+        Side::Above => is_at_most(discount, later + 1, 1_000_000, lead),
+    }
+}
+
 /// Returns how far a value is above what backs it: the expected reward, and the discounted value that is expected.
 pub fn shortfall<C: Cells>(cells: &C, value: i64, reward: i128, expected: i128) -> i128
     requires value { unsigned_abs value ≤ largest }
@@ -123,6 +176,16 @@ pub(crate) fn pair_verdict<C: Cells>(
         };
     }
     let input = &node.input;
+    if is_clearly_backed(
+        input.side,
+        input.step_scale,
+        input.discount,
+        value,
+        reward,
+        expected.value,
+    ) {
+        return Verdict::Yes;
+    }
     let above = shortfall_of(
         input.step_scale,
         input.discount,

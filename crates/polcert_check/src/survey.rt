@@ -122,7 +122,7 @@ impl SurveyState {
     {
         let rewards = &self.earnings.rewards;
         let ends = &self.ends;
-        if !ends.are_narrow() || rewards[from] == UNKNOWN {
+        if !ends.are_narrow || rewards[from] == UNKNOWN {
             return StateVerdict::unknown(from);
         }
         if self.reached.has_same_rows {
@@ -248,6 +248,10 @@ fn survey_action<C: Cells, W: Progress>(
                 graph: input.graph,
                 vectors: input.vectors,
                 side: input.side,
+                successor_list: input.successor_list,
+                value_list: input.value_list,
+                observations: input.observations,
+                states: input.states,
                 step_scale: input.step_scale,
                 discount: input.discount,
             };

@@ -1,5 +1,5 @@
 -- Models that are the same in range have the same cells, and are worth the same from the start.
-use Rattle.std.proofs.Common.{◌≡◌, ℕ, ◌*◌, ◌<◌, ℤ, pos, ◌*ℤ◌, Some, arith}
+use Rattle.std.proofs.Common.{◌≡◌, ℕ, ◌<◌, ℤ, pos, ◌*ℤ◌, Some, arith}
 use Rattle.polcert_check.proofs.Common.{Meaning, IsSame, start_weight, CellTable, table_of, PolicyGraph, IsProperGraph, nodes, PolicyVectors, Controller, controller_of, total_below, worth_sum, IsClosed, start_sum, IsBestStart, IsStartWorth, StartPromise, HasSameCells}
 use Rattle.polcert_check.specs.Horizon.{Fits}
 use Rattle.polcert_check.proofs.Sums.SumLaws.{sum_below_same}

@@ -1,5 +1,5 @@
 -- What is so of a controller, and what of its mirror image: each sum of rewards and values is negated, and weights stay.
-use Rattle.std.proofs.Common.{◌≡◌, ◌∙◌, ℕ, zero, suc, ◌-◌, ◌*◌, ℤ, pos, neg_ℤ, ◌+ℤ◌, ◌*ℤ◌, Option, Some, None, List, [], ◌∷◌, map, flat_map, get_or, refl, sym, ap, arith, rules}
+use Rattle.std.proofs.Common.{◌≡◌, ◌∙◌, ℕ, zero, suc, ◌*◌, ℤ, pos, neg_ℤ, ◌+ℤ◌, ◌*ℤ◌, Option, Some, None, List, [], ◌∷◌, map, flat_map, get_or, refl, sym, ap, arith, rules}
 use Rattle.std.proofs.Math.IntN.{neg_ℤ-+ℤ}
 use Rattle.polcert_check.proofs.Common.{Controller, one, total_below, sum_over, step_weight, pairs, runs, is_cut, weight, rewards, end_value, reward_part, total, uncut, weights_sum, worth_sum, rewards_sum, at_node, backing, short, mirrored}
 use Rattle.polcert_check.proofs.Sums.Ring.{neg_product}

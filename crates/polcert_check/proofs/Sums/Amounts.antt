@@ -1,6 +1,6 @@
 -- The amount by which a value is above its backing, computed in 128 bits.
 use Rattle.polcert_check.proofs.Common.{common_steps, w128, largest, Controller, one, backing, short, most_scales, most_sum}
-use Rattle.std.proofs.Common.{◌≡◌, ℕ, ◌*◌, ◌≤◌, ℤ, pos, ◌+ℤ◌, ◌-ℤ◌, ◌*ℤ◌, unsigned_abs, FitsSigned, to_z, of_z, refl, ◌∙◌, arith}
+use Rattle.std.proofs.Common.{◌≡◌, ℕ, ◌*◌, ◌^◌, ◌≤◌, ℤ, pos, ◌+ℤ◌, ◌-ℤ◌, ◌*ℤ◌, unsigned_abs, FitsSigned, to_z, of_z, refl, ◌∙◌, arith}
 use Rattle.std.proofs.lemmas.Int.{to_z-of_z}
 use Rattle.polcert_check.proofs.Sums.Bounds.{abs-*ℤ_le}
 
@@ -21,6 +21,17 @@ scaled_is q v x y xe ye = grind arith
 pub amount_fits : (x y z : ℤ) → FitsSigned w128 x → FitsSigned w128 y → FitsSigned w128 z → unsigned_abs x ≤ most_sum → unsigned_abs y ≤ most_sum → unsigned_abs z ≤ most_sum
     → FitsSigned w128 (to_z w128 (of_z w128 x) -ℤ to_z w128 (of_z w128 (to_z w128 (of_z w128 y) +ℤ to_z w128 (of_z w128 z)))) × (to_z w128 (of_z w128 (to_z w128 (of_z w128 x) -ℤ to_z w128 (of_z w128 (to_z w128 (of_z w128 y) +ℤ to_z w128 (of_z w128 z))))) ≡ x -ℤ (y +ℤ z))
 amount_fits x y z fx fy fz xl yl zl = grind (arith, back)
+
+lead_fits : (x y : ℤ) → FitsSigned w128 x → FitsSigned w128 y → unsigned_abs x ≤ most_scales * largest → unsigned_abs y ≤ most_scales * largest
+    → (unsigned_abs (to_z w128 (of_z w128 (to_z w128 (of_z w128 x) -ℤ to_z w128 (of_z w128 y)))) ≤ 2 ^ 107) × (to_z w128 (of_z w128 (to_z w128 (of_z w128 x) -ℤ to_z w128 (of_z w128 y))) ≡ x -ℤ y)
+lead_fits x y fx fy xl yl = grind (arith, back)
+
+-- how far a value is above the reward
+pub lead_is : (q : ℕ) (v r x : ℤ) → q ≤ most_scales → unsigned_abs v ≤ largest → unsigned_abs r ≤ most_scales * largest → FitsSigned w128 x → FitsSigned w128 r → x ≡ pos q *ℤ v
+    → (unsigned_abs (to_z w128 (of_z w128 (to_z w128 (of_z w128 x) -ℤ to_z w128 (of_z w128 r)))) ≤ 2 ^ 107) × (to_z w128 (of_z w128 (to_z w128 (of_z w128 x) -ℤ to_z w128 (of_z w128 r))) ≡ pos q *ℤ v -ℤ r)
+lead_is q v r x ql vl rl fx fr is =
+    let (small, back_is) = lead_fits x r fx fr (at_scale_small q v x ql vl is) rl in
+    (small, back_is ∙ rw is refl)
 
 -- how far a value is above what backs it, as the code computes it
 pub amount_from : (q d : ℕ) (v r e at scaled earned later : ℤ) → q ≤ most_scales → d ≤ 1000000 → unsigned_abs v ≤ largest → unsigned_abs r ≤ most_scales * largest → unsigned_abs e ≤ most_scales * largest

@@ -1,11 +1,13 @@
 -- A row of weights, each times a number, added up: the steps of the sum, and that they fit.
-use Rattle.polcert_check.proofs.Common.{common_steps, slice_get-get_or, Cell, after_cells, IsRow, w128, largest, CellTable, IsProper, IsWithinLimits, total_below, most_sum, IsWeighed}
-use Rattle.std.proofs.Common.{◌≡◌, ℕ, suc, ◌+◌, ◌*◌, ◌^◌, ◌<◌, ◌≤◌, ℤ, pos, ◌+ℤ◌, ◌*ℤ◌, unsigned_abs, FitsSigned, to_z, of_z, arith, lit<, List, length, slice_index_or, Some}
+use Rattle.polcert_check.proofs.Common.{cases_lt, common_steps, slice_get-get_or, Cell, after_cells, IsRow, w128, largest, CellTable, IsProper, IsWithinLimits, total_below, most_sum, IsWeighed}
+use Rattle.std.proofs.Common.{add-one, ap, inl, inr, ◌⊎◌, ◌-◌, ◌≡◌, ℕ, suc, ◌+◌, ◌*◌, ◌^◌, ◌<◌, ◌≤◌, ℤ, pos, ◌+ℤ◌, ◌*ℤ◌, unsigned_abs, FitsSigned, to_z, of_z, arith, lit<, List, length, slice_index_or, Some}
 use Rattle.polcert_cells.specs.Cursors.{IsNext}
 use Rattle.std.proofs.Math.Nat.{mul-le-mul}
-use Rattle.polcert_cells.proofs.RowSteps.{sparse_some}
+use Rattle.polcert_cells.proofs.RowSteps.{sparse_none, sparse_some}
 use Rattle.polcert_check.proofs.Sums.RowTotals.{t_rows, o_rows}
-use Rattle.polcert_check.proofs.Sums.Bounds.{abs_part_le, term_le}
+use Rattle.polcert_check.proofs.Sums.Bounds.{abs_part_le, sum_below_upto, term_le}
+use Rattle.polcert_check.proofs.Sums.Ring.{linear}
+use Rattle.std.proofs.lemmas.Option.{slice_get_past}
 use Rattle.polcert_check.proofs.Sums.Scales.{scales_small, ahead_room, after_room}
 use Rattle.polcert_check.proofs.Sums.Gaps.{gap, no_weight, cursor_step, weighed_is}
 
@@ -43,3 +45,29 @@ weighed_on w f from to sum fl none before = grind (arith, gap)
 pub next_cell : (w : ℕ → ℕ) (count : ℕ) (cells : List Cell) → IsRow count w cells → (i : ℕ) → i < length cells
     → let x = slice_index_or cells i (record { column = 0; weight = 0 }) in IsNext w count (after_cells 0 cells i) (Some (x.column, x.weight)) × (after_cells 0 cells (i + 1) ≡ x.column + 1)
 next_cell w count cells row i l = sparse_some w count cells row i _ (slice_get-get_or cells i _ l)
+
+-- ---- what the weights from a place on sum to
+-- while some is left, there is a cell more
+pub more_cells : (w : ℕ → ℕ) (count scale : ℕ) (cells : List Cell) → IsRow count w cells → total_below (λ i. pos (w i)) count ≡ pos scale → (i left : ℕ) → after_cells 0 cells i ≤ count → total_below (λ k. pos (w k)) (after_cells 0 cells i) +ℤ pos left ≡ pos scale → 0 < left → i < length cells
+more_cells w count scale cells row all i left within is some = go (cases_lt i (length cells))
+  where
+    go : (i < length cells) ⊎ (length cells ≤ i) → i < length cells
+    go (inl less) = less
+    go (inr past) =
+        let none = sparse_none w count cells row i (slice_get_past cells i past) in
+        let same = gap (λ k. pos (w k)) (after_cells 0 cells i) count within (λ k kl kh. ap pos (none k kl kh)) in
+        absurd (omega (arith, linear, is, all, same, some))
+
+-- one weight less is left
+pub left_step : (w : ℕ → ℕ) (count scale : ℕ) → total_below (λ i. pos (w i)) count ≡ pos scale → (from i v left : ℕ) → from ≤ i → i < count → v ≡ w i → ((k : ℕ) → from ≤ k → k < i → w k ≡ 0) → total_below (λ k. pos (w k)) from +ℤ pos left ≡ pos scale
+    → (v ≤ left) × (total_below (λ k. pos (w k)) (i + 1) +ℤ pos (left - v) ≡ pos scale)
+left_step w count scale all from i v left fl il vi none is =
+    let same = gap (λ k. pos (w k)) from i fl (λ k kl kh. ap pos (none k kl kh)) in
+    let upto = sum_below_upto w (suc i) count il in
+    let enough : v ≤ left = omega (arith, linear, same, upto, all, is, vi) in
+    (enough, rw add-one (omega (arith, linear, same, is, vi, enough)))
+
+-- if nothing is left, no weight is
+pub nothing_left : (w : ℕ → ℕ) (count scale : ℕ) → total_below (λ i. pos (w i)) count ≡ pos scale → (from : ℕ) → total_below (λ k. pos (w k)) from +ℤ pos 0 ≡ pos scale → (k : ℕ) → from ≤ k → k < count → w k ≡ 0
+nothing_left w count scale all from is k fl kl =
+    omega (arith, linear, all, is, sum_below_upto w from k fl, sum_below_upto w (suc k) count kl)

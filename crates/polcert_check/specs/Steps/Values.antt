@@ -1,6 +1,6 @@
 -- Helper definitions of private functions: the values of a node at end states, and what it expects at a start state. Nobody has to
 -- believe them.
-use Rattle.std.specs.Prelude.{◌≡◌, ℕ, ℤ, ◌<◌, pos, false, None, slice_index_or}
+use Rattle.std.specs.Prelude.{◌≡◌, ℕ, ℤ, ◌<◌, pos, true, false, None, slice_index_or}
 use Rattle.polcert_check.specs.Horizon.{Controller}
 use Rattle.polcert_check.specs.Steps.Factored.{expected_value, value_at_end, IsLeastOf, Misses}
 use Rattle.polcert_check.specs.declared.end_values.PartialValue.{PartialValue}
@@ -15,12 +15,11 @@ pub record IsEndValue (c : Controller) (n e : ℕ) (part : PartialValue) : Type 
 abbrev pub IsCompleteValue : Controller → ℕ → ℕ → ℤ → Type 0
 IsCompleteValue c n e value = IsEndValue c n e (record { value = value; missing = None })
 
--- the values of node n at the first end states, as far as a state reaches them and n lacks no successor there; and the same in 64 bits,
--- unless one needs more
+-- the values of node n at the first end states, as far as a state reaches them: in 64 bits, or as far as n lacks no successor there
 pub record AreEndValues (c : Controller) (n count : ℕ) (ends : EndValues) : Type 0 where
-  pub complete : (s e : ℕ) → s < c.cells.states → e < count → 0 < c.cells.t (c.action n) s e → slice_index_or ends.lacks_successor e false ≡ false → IsCompleteValue c n e (slice_index_or ends.values e (pos 0))
-  pub narrow : ends.has_wide ≡ false → (s e : ℕ) → s < c.cells.states → e < count → 0 < c.cells.t (c.action n) s e → slice_index_or ends.lacks_successor e false ≡ false → slice_index_or ends.narrow e (pos 0) ≡ value_at_end c n e
-  pub none : ends.lacks_any ≡ false → (s e : ℕ) → s < c.cells.states → e < count → 0 < c.cells.t (c.action n) s e → slice_index_or ends.lacks_successor e false ≡ false
+  pub narrow : ends.are_narrow ≡ true → (s e : ℕ) → s < c.cells.states → e < count → 0 < c.cells.t (c.action n) s e → IsCompleteValue c n e (slice_index_or ends.narrow e (pos 0))
+  pub complete : ends.are_narrow ≡ false → (s e : ℕ) → s < c.cells.states → e < count → 0 < c.cells.t (c.action n) s e → slice_index_or ends.lacks_successor e false ≡ false → IsCompleteValue c n e (slice_index_or ends.values e (pos 0))
+  pub none : ends.are_narrow ≡ false → ends.lacks_any ≡ false → (s e : ℕ) → s < c.cells.states → e < count → 0 < c.cells.t (c.action n) s e → slice_index_or ends.lacks_successor e false ≡ false
 
 -- observation z can be received in one of the end states before `count`, and n has no successor for it
 abbrev pub IsMissedBefore : Controller → ℕ → ℕ → ℕ → ℕ → Type 0

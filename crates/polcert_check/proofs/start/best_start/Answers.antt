@@ -1,4 +1,4 @@
-use Rattle.std.proofs.Common.{rules, arith, ℕ, ◌+◌, ◌<◌, ◌≤◌, ℤ, ◌≤ℤ◌, ◌<ℤ◌, to_z, of_z, ◌∙◌}
+use Rattle.std.proofs.Common.{rules, arith, ℕ, ◌+◌, ℤ, ◌≤ℤ◌, ◌<ℤ◌, to_z, of_z, ◌∙◌}
 use Rattle.polcert_check.proofs.Common.{w128, cases_lt, ints, IsFirstGreatest}
 use Rattle.std.proofs.lemmas.Int.{to_z-of_z}
 use Rattle.polcert_check.proofs.Sums.Ring.{linear}

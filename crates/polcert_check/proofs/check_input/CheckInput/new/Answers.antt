@@ -11,7 +11,12 @@ invariant_of-result g c = record {
   fits = c.requires;
   proper = controller_is _ _ _ c.requires (g.met.C.Cells.is_proper c.args.cells.now) c.nodes-nodes.ensures.proper;
   values = values_are_within _ _ _ c.requires c.nodes-vector_count.ensures.proper;
+  is_proper_graph = c.nodes-nodes.ensures.proper;
   are_proper = c.nodes-vector_count.ensures.proper;
+  are_successors = c.successors.ensures;
+  are_values = c.values.ensures;
+  is_observations = c.observations.ensures;
+  is_states = c.states.ensures;
   is_step_scale = rw (c.t_scale.ensures, c.o_scale.ensures) refl;
   is_discount = c.discount-discount.ensures;
 }

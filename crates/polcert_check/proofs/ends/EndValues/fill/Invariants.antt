@@ -1,5 +1,0 @@
-use Rattle.polcert_check.proofs.Common.{node_controller, AreEndValues}
-use Rattle.polcert_check.proofs.ends.EndValues.fill.Given as goal
-
-abbrev pub invariant-loop-e : goal.invariant-loop-e
-invariant-loop-e g l = AreEndValues (node_controller l.node) l.node.n l.e l.self
