@@ -111,8 +111,7 @@ fn is_at_most(weight: u32, number: i64, other_weight: u32, other: i64) -> bool
     i64::from(weight) * number <= i64::from(other_weight) * other
 }
 
-/// Returns whether the upper bits alone show that a value is not on the wrong side of what backs it. (Most values are so far from it,
-/// and the exact amount takes 12 instructions more.)
+/// Returns whether the upper bits alone show that a value is not on the wrong side of what backs it. (Most values are so far from it.)
 // (Six parameters: three that are the same for all pairs, and three of one.)
 #[inline(always)]
 fn is_clearly_backed(
