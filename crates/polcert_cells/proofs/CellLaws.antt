@@ -1,5 +1,5 @@
 -- A cell has the value of the last entry that covers it.
-use Rattle.std.proofs.Common.{◌≡◌, ◌∙◌, ℕ, pos, zero, suc, ◌+◌, ◌*◌, ◌<◌, Bool, true, false, cond, ◌&&◌, ⊎_elim, Option, Some, None, List, [], ◌∷◌, ◌++◌, reverse, mul-suc, refl, sym, ap, subst, arith}
+use Rattle.std.proofs.Common.{◌≡◌, ◌∙◌, ℕ, pos, zero, suc, ◌*◌, ◌<◌, Bool, true, false, cond, ◌&&◌, ⊎_elim, Option, Some, None, List, [], ◌∷◌, ◌++◌, reverse, mul-suc, refl, sym, ap, subst, arith}
 use Rattle.std.proofs.lemmas.List.{reverse-append, append_assoc, append-nil}
 use Rattle.polcert_cells.proofs.Common.{list_any, Table, Preamble, Place, Entry, covers, fit_places}
 use Rattle.std.specs.List.{find}

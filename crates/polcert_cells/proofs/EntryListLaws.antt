@@ -1,14 +1,17 @@
 -- Entries as they are kept: what stands in lists that continue stays, and an entry that is put after them stands there.
-use Rattle.std.proofs.Common.{◌≡◌, ◌∙◌, List, [], ◌∷◌, ◌++◌, length, take, map, All, refl, sym, ap, subst, arith, length-append, append_assoc, take_all, rules}
-use Rattle.polcert_cells.proofs.Common.{map-append, All-head, All-tail, All-cons, All-nil, EntryStore, Entry, AreHeldIn}
-use Rattle.std.proofs.lemmas.List.{append-nil, drop-append-le, take-append-le, length-drop}
+use Rattle.std.proofs.Common.{◌≡◌, ◌∙◌, ℕ, zero, suc, ◌+◌, ◌-◌, ◌≤◌, ℤ, List, [], ◌∷◌, ◌++◌, Option, Some, None, length, take, drop, map, All, refl, sym, ap, subst, arith, length-append, append_assoc, take_all, rules}
+use Rattle.polcert_cells.proofs.Common.{map-append, All-head, All-tail, All-cons, All-nil, EntryStore, Entry, AreHeldIn, length-map}
+use Rattle.std.proofs.lemmas.List.{append-nil, drop-append-le, take-append-le, length-drop, length-take-le}
 use Rattle.std.proofs.lemmas.List.Elements.{All-append, All-weaker}
+use Rattle.std.proofs.lemmas.Option.{get_or_from_slice_get, same_Some, slice_get-map, slice_get_within}
+use Rattle.std.specs.List.{slice_get}
+use Rattle.std.specs.Option.{IsSomeAnd, option_map}
 use Rattle.polcert_cells.specs.declared.entries.BodyTag.{BodyTag}
 use Rattle.polcert_cells.specs.declared.entries.BodyTag.TheVariants.{Probabilities, Rewards}
 use Rattle.polcert_cells.specs.declared.entries.EntryHeader.{EntryHeader}
 use Rattle.polcert_cells.specs.declared.entries.Span.{Span}
-use Rattle.polcert_cells.specs.Steps.EntryLists.{part, body_in, entry_in, LiesIn, HasNumbers, IsWithin, Continues, GoOn, IsPut}
-use Rattle.polcert_cells.specs.EntryRefs.{rewards_of, all_rewards}
+use Rattle.polcert_cells.specs.Steps.EntryLists.{part, place_of, reward_body, body_in, entry_in, LiesIn, HasNumbers, IsWithin, Continues, GoOn, IsPut}
+use Rattle.polcert_cells.specs.EntryRefs.{rewards_of, all_rewards, AreEntryBodies, AreRewardsFrom}
 
 -- ---- a part of a list
 lies_stays : {X : Type 0} (xs ys : List X) (span : Span) → Continues xs ys → LiesIn (length xs) span → LiesIn (length ys) span
@@ -76,3 +79,40 @@ module _ (p q r : EntryStore) (g : GoOn p q) (probabilities : r.probabilities �
 
   pub held_still : (hs : List EntryHeader) → AreHeldIn p hs → AreHeldIn r hs
   held_still hs a = grind (arith, all_stay, dropped, go_on_dropped, listed_still)
+
+-- ---- the bodies of the entries
+read_after : {X : Type 0} (n k : ℕ) (xs : List X) → slice_get (drop n xs) k ≡ slice_get xs (n + k)
+read_after zero k xs = let e : k ≡ 0 + k = omega arith in ap (slice_get xs) e
+read_after (suc n) k [] = refl
+read_after (suc n) k (x ∷ xs) = let e : suc (n + k) ≡ suc n + k = omega arith in read_after n k xs ∙ ap (slice_get (x ∷ xs)) e
+
+read_before : {X : Type 0} (n k : ℕ) (xs : List X) (x : X) → slice_get (take n xs) k ≡ Some x → slice_get xs k ≡ Some x
+read_before zero k xs x is = cc
+read_before (suc n) k [] x is = is
+read_before (suc n) zero (y ∷ xs) x is = is
+read_before (suc n) (suc k) (y ∷ xs) x is = read_before n k xs x is
+
+-- the rewards of an entry stand from its start on
+read_from : (p : EntryStore) (f : BodyTag) (n : Span) (k : ℕ) (x : ℤ) → slice_get (rewards_of (body_in p f n)) k ≡ Some x → slice_get p.rewards.items (n.start + k) ≡ Some x
+read_from p Rewards n k x is = sym (read_after n.start k p.rewards.items) ∙ read_before (n.end - n.start) k (drop n.start p.rewards.items) x is
+read_from p f n k x is = cc
+
+pub bodies_stand : (p : EntryStore) (hs : List EntryHeader) → AreHeldIn p hs → AreEntryBodies (map (entry_in p) hs) (map reward_body hs)
+bodies_stand p hs a n e is = at (slice_get hs n) refl
+  where
+    entries : List Entry
+    entries = map (entry_in p) hs
+
+    at : (o : Option EntryHeader) → slice_get hs n ≡ o → IsSomeAnd (slice_get (map reward_body hs) n) (λ b. (b.places ≡ length e.places) × AreRewardsFrom entries n b.start)
+    at None none = grind (arith, slice_get-map)
+    at (Some h) found =
+        let here : slice_get entries n ≡ Some (entry_in p h) = slice_get-map (entry_in p) hs n ∙ ap (option_map (entry_in p)) found in
+        let same : entry_in p h ≡ e = same_Some _ _ (sym here ∙ is) in
+        let within : IsWithin p h = subst (IsWithin p) (get_or_from_slice_get hs n h h found) (a.within n h (slice_get_within hs n h found)) in
+        let kept = within.few in
+        let few : h.count ≤ length (map place_of h.places) = grind (arith, length-map) in
+        let places : h.count ≡ length e.places = sym (length-take-le h.count (map place_of h.places) few) ∙ ap (λ (y : Entry). length y.places) same in
+        let from : AreRewardsFrom entries n h.numbers.start =
+        λ x x_is k r r_is. subst (λ rs. slice_get rs (h.numbers.start + k) ≡ Some r) a.rewards
+        (read_from p h.filling h.numbers k r (subst (λ (y : Entry). slice_get (rewards_of y.body) k ≡ Some r) (same_Some _ _ (sym x_is ∙ here)) r_is)) in
+        subst (λ o. IsSomeAnd o (λ b. (b.places ≡ length e.places) × AreRewardsFrom entries n b.start)) (sym (slice_get-map reward_body hs n ∙ ap (option_map reward_body) found)) (places, from)

@@ -1,11 +1,15 @@
 -- An entry that is borrowed: the entry that it is; and the rewards of all entries.
-use Rattle.std.specs.Prelude.{◌≡◌, ℕ, ◌+◌, ℤ, List, [], ◌∷◌, ◌++◌, Some, slice_get}
+use Rattle.std.specs.Prelude.{◌≡◌, ℕ, ◌+◌, ℤ, List, [], ◌∷◌, ◌++◌, Some, length, slice_get, take}
 use Rattle.polcert_cells.specs.declared.entries.Body.{Body}
 use Rattle.polcert_cells.specs.declared.entries.Body.TheVariants as bodies
 use Rattle.polcert_cells.specs.declared.entries.Entry.{Entry}
 use Rattle.polcert_cells.specs.declared.entries.BodyRef.{BodyRef}
 use Rattle.polcert_cells.specs.declared.entries.BodyRef.TheVariants as refs
+use Rattle.polcert_cells.specs.declared.entries.EntryPlaces.{EntryPlaces}
 use Rattle.polcert_cells.specs.declared.entries.EntryRef.{EntryRef}
+use Rattle.polcert_cells.specs.declared.entries.Place.{Place}
+use Rattle.polcert_cells.specs.declared.entries.RewardBody.{RewardBody}
+use Rattle.std.specs.Option.{IsSomeAnd}
 
 abbrev pub body_of : BodyRef → Body
 body_of (refs.Probabilities ps) = bodies.Probabilities ps.now
@@ -13,8 +17,11 @@ body_of (refs.Rewards hs) = bodies.Rewards hs.now
 body_of refs.Uniform = bodies.Uniform
 body_of refs.Identity = bodies.Identity
 
+abbrev pub places_in : EntryPlaces → List Place
+places_in p = take p.count p.items
+
 abbrev pub entry_of : EntryRef → Entry
-entry_of e = record { table = e.table; places = e.places.now; body = body_of e.body }
+entry_of e = record { table = e.table; places = places_in e.places; body = body_of e.body }
 
 abbrev pub rewards_of : Body → List ℤ
 rewards_of (bodies.Rewards hs) = hs
@@ -29,3 +36,8 @@ all_rewards (e ∷ es) = rewards_of e.body ++ all_rewards es
 abbrev pub AreRewardsFrom : List Entry → ℕ → ℕ → Type 0
 AreRewardsFrom entries number start =
     (e : Entry) → slice_get entries number ≡ Some e → (k : ℕ) (h : ℤ) → slice_get (rewards_of e.body) k ≡ Some h → slice_get (all_rewards entries) (start + k) ≡ Some h
+
+-- these say of each entry where its rewards begin, and how many places it has
+abbrev pub AreEntryBodies : List Entry → List RewardBody → Type 0
+AreEntryBodies entries bodies =
+    (n : ℕ) (e : Entry) → slice_get entries n ≡ Some e → IsSomeAnd (slice_get bodies n) (λ b. (b.places ≡ length e.places) × AreRewardsFrom entries n b.start)

@@ -1,9 +1,10 @@
 //! Entries: the lines of T, O and R, as a model keeps them.
 ghost use Rattle.std.specs.Prelude.{◌≡◌, ◌<◌, ◌++◌, ◌∷◌, [], length, slice_get, slice_set, OnOk, OnErr, ◌≤◌};
-ghost use Rattle.std.specs.Prelude.{◌+◌, Some, List, IfOk, take};
-ghost use Rattle.polcert_cells.specs.Steps.EntryLists.{part, entry_in, body_in, HasNumbers};
+ghost use Rattle.std.specs.Prelude.{◌+◌, Some, List, IfOk, map, take};
+ghost use Rattle.polcert_cells.specs.Steps.EntryLists.{part, place_of, entry_in, body_in, HasNumbers};
 ghost use Rattle.polcert_cells.specs.Steps.EntryLists.{IsWithin, Continues, GoOn, IsPut};
-ghost use Rattle.polcert_cells.specs.EntryRefs.{entry_of, body_of, rewards_of, all_rewards, AreRewardsFrom};
+ghost use Rattle.polcert_cells.specs.declared.entries.Entry.{Entry as E};
+ghost use Rattle.polcert_cells.specs.EntryRefs.{places_in, entry_of, body_of, rewards_of, all_rewards, AreEntryBodies};
 
 use std::alloc::{AllocError, Global};
 use std::fmt;
@@ -191,6 +192,17 @@ impl Places {
         &self.items[..self.count]
     }
 
+    /// Returns a copy of the places.
+    #[inline(always)]
+    pub fn copied(&self) -> EntryPlaces
+        ensures { places_in result ≡ self.now }
+    {
+        EntryPlaces {
+            items: self.items,
+            count: self.count,
+        }
+    }
+
     /// Puts the place after the others. One more than an entry has counts as out of memory, and they stay as they were.
     #[inline(always)]
     pub fn push(&mut self, place: Place) -> Result<(), AllocError>
@@ -259,7 +271,7 @@ impl Entry {
     {
         EntryRef {
             table: self.table,
-            places: self.places.as_slice(),
+            places: self.places.copied(),
             body: self.body.as_ref(),
         }
     }
@@ -284,13 +296,16 @@ pub(crate) enum BodyTag {
     Identity,
 }
 
-/// An entry, by its places, of which so many count, and by where its numbers stand.
+/// A place in 16 bits: this number stands for `*`, and any other for the element of this number.
+const EVERY: u16 = u16::MAX;
+
+/// An entry, by its places in 16 bits, of which so many count, and by where its numbers stand.
 #[derive(Clone, Copy)]
 pub(crate) struct EntryHeader {
     pub table: Table,
     pub filling: BodyTag,
     pub count: u8,
-    pub places: [Place; MOST_PLACES],
+    pub places: [u16; MOST_PLACES],
     pub numbers: Span,
 }
 
@@ -303,11 +318,36 @@ pub enum BodyRef<'a> {
     Identity,
 }
 
-/// An entry whose places and body are borrowed.
+/// The places of a borrowed entry: so many of these.
+#[derive(Clone, Copy)]
+pub struct EntryPlaces {
+    items: [Place; MOST_PLACES],
+    count: usize,
+}
+
+impl EntryPlaces {
+    /// Returns the number of places.
+    #[inline(always)]
+    pub fn len(&self) -> usize
+        ensures { result ≡ length (places_in self.now) }
+    {
+        self.as_slice().len()
+    }
+
+    /// Returns the places, first to last.
+    #[inline(always)]
+    pub fn as_slice(&self) -> &[Place]
+        ensures { result.now ≡ places_in self.now }
+    {
+        &self.items[..self.count.min(MOST_PLACES)]
+    }
+}
+
+/// An entry whose body is borrowed.
 #[derive(Clone, Copy)]
 pub struct EntryRef<'a> {
     pub table: Table,
-    pub places: &'a [Place],
+    pub places: EntryPlaces,
     pub body: BodyRef<'a>,
 }
 
@@ -373,13 +413,16 @@ impl EntryStore {
     }
 
     /// Returns the entry of this header.
-    fn entry<'a>(&'a self, head: &'a EntryHeader) -> EntryRef<'a>
-        requires { IsWithin self.now head.now }
-        ensures { entry_of result ≡ entry_in self.now head.now }
+    fn entry(&self, head: EntryHeader) -> EntryRef<'_>
+        requires { IsWithin self.now head }
+        ensures { entry_of result ≡ entry_in self.now head }
     {
         EntryRef {
             table: head.table,
-            places: &head.places[..head.count as usize],
+            places: EntryPlaces {
+                items: places_of(head.places),
+                count: head.count as usize,
+            },
             body: match head.filling {
                 BodyTag::Probabilities => {
                     BodyRef::Probabilities(part(self.probabilities.as_slice(), head.numbers))
@@ -434,10 +477,19 @@ impl Entries {
         requires { number < length self.now }
         ensures { slice_get self.now number ≡ Some (entry_of result) }
     {
-        self.pools.entry(&self.heads[number])
+        self.pools.entry(self.heads[number])
     }
 
-    /// Puts the entry after the others. If memory runs out the list stays as it was.
+    /// Returns the table of the entry of this number, counted from 0.
+    #[inline(always)]
+    pub fn table_of(&self, number: usize) -> Table
+        requires { number < length self.now }
+        ensures { (e : E) × (slice_get self.now number ≡ Some e) × (e.table ≡ result) }
+    {
+        self.heads[number].table
+    }
+
+    /// Puts the entry after the others. If memory runs out the list stays as it was; so it does if an element's number passes 65,534.
     pub fn push(&mut self, entry: Entry) -> Result<(), AllocError>
         ensures ok { OnOk result (self.new ≡ self.old ++ entry ∷ []) }
         ensures err { OnErr result (self.new ≡ self.old) }
@@ -445,7 +497,8 @@ impl Entries {
         self.push_ref(entry.as_ref())
     }
 
-    /// Puts a copy of the entry after the others. If memory runs out the list stays as it was.
+    /// Puts a copy of the entry after the others. If memory runs out the list stays as it was; so it does if an element's number
+    /// passes 65,534.
     #[inline(always)]
     pub fn push_ref(&mut self, entry: EntryRef<'_>) -> Result<(), AllocError>
         ensures ok { OnOk result (self.new ≡ self.old ++ entry_of entry.entry ∷ []) }
@@ -461,25 +514,58 @@ impl Entries {
         }
     }
 
-    /// Returns where the rewards of the entry of this number begin among those of all entries.
-    pub fn rewards_start(&self, number: usize) -> usize
-        requires { number < length self.now }
-        ensures { AreRewardsFrom self.now number result }
+    /// Takes the entries apart: where the rewards of each begin, and the rewards of all entries, one after another.
+    pub fn into_rewards(self) -> (EntryBodies, Vec<i64>)
+        ensures bodies { AreEntryBodies self result.0 }
+        ensures rewards { result.1.items ≡ all_rewards self }
     {
-        self.heads[number].numbers.start as usize
-    }
-
-    /// Returns the rewards of all entries, one after another.
-    pub fn into_rewards(self) -> Vec<i64>
-        ensures { result.items ≡ all_rewards self }
-    {
-        let Entries { heads: _, pools } = self;
+        let Entries { heads, pools } = self;
         let EntryStore {
             probabilities: _,
             rewards,
         } = pools;
-        rewards
+        (EntryBodies { heads }, rewards)
     }
+}
+
+/// Of each entry of a model where its rewards begin among those of all, and how many places it has. Contracts see the list.
+#[derive(Drop)]
+pub struct EntryBodies {
+    heads: Vec<EntryHeader>,
+}
+
+impl Model for EntryBodies {
+    ghost use Rattle.std.specs.Prelude.{List, map};
+    ghost use Rattle.polcert_cells.specs.declared.entries.RewardBody.{RewardBody as B};
+    ghost use Rattle.polcert_cells.specs.Steps.EntryLists.{reward_body};
+
+    ghost Value = { List B };
+
+    ghost view = { λ b. map reward_body b.heads.items };
+}
+
+impl EntryBodies {
+    /// Returns the body of the entry of this number, counted from 0, if there are so many.
+    #[inline(always)]
+    pub fn find(&self, number: usize) -> Option<RewardBody>
+        ensures { result ≡ slice_get self.now number }
+    {
+        match self.heads.get(number) {
+            Some(head) => Some(RewardBody {
+                start: head.numbers.start as usize,
+                places: head.count as usize,
+            }),
+            None => None,
+        }
+    }
+}
+
+/// The body of an entry of R: where its numbers begin among those of all entries, and how many places it has. The fewer places, the
+/// more numbers: one, a row of observations, a matrix of end states by observations, or such a matrix for each start state.
+#[derive(Clone, Copy)]
+pub struct RewardBody {
+    pub start: usize,
+    pub places: usize,
 }
 
 /// Puts an entry after the others. If memory runs out, some of its numbers may stand after those of the others.
@@ -498,20 +584,58 @@ fn put_entry(
     Ok(())
 }
 
-/// Returns an array that begins with these places. More than an entry has count as out of memory.
+/// Returns these places, each in 16 bits. An element beyond these counts as out of memory.
 #[inline(always)]
-fn kept_places(places: &[Place]) -> Result<[Place; MOST_PLACES], AllocError>
-    ensures places { IfOk result (λ kept. take (length places.now) kept ≡ places.now) }
-    ensures few { IfOk result (λ kept. length places.now ≤ 4) }
+fn kept_places(places: EntryPlaces) -> Result<[u16; MOST_PLACES], AllocError>
+    ensures { IfOk result (λ kept. map place_of kept ≡ places.items) }
 {
-    let every = Place::Every;
-    match places {
-        [first, second, third] => Ok([*first, *second, *third, every]),
-        [first, second, third, last] => Ok([*first, *second, *third, *last]),
-        [first, second] => Ok([*first, *second, every, every]),
-        [first] => Ok([*first, every, every, every]),
-        [] => Ok([every; MOST_PLACES]),
-        _ => Err(AllocError),
+    let [first, second, third, last] = places.items;
+    Ok([
+        kept_place(first)?,
+        kept_place(second)?,
+        kept_place(third)?,
+        kept_place(last)?,
+    ])
+}
+
+/// Returns the place in 16 bits.
+#[inline(always)]
+fn kept_place(place: Place) -> Result<u16, AllocError>
+    ensures { IfOk result (λ kept. place_of kept ≡ place) }
+{
+    match place {
+        Place::Every => Ok(EVERY),
+        Place::Only(index) => if index == EVERY {
+            Err(AllocError)
+        } else {
+            Ok(index)
+        },
+    }
+}
+
+/// Returns the places that are kept so.
+#[inline(always)]
+fn places_of(kept: [u16; MOST_PLACES]) -> [Place; MOST_PLACES]
+    ensures { result ≡ map place_of kept }
+{
+    let [first, second, third, last] = kept;
+    [
+        place_of(first),
+        place_of(second),
+        place_of(third),
+        place_of(last),
+    ]
+}
+
+/// Returns the place that is kept so.
+#[inline(always)]
+fn place_of(kept: u16) -> Place
+    ensures { result ≡ place_of kept }
+{
+    if kept == EVERY {
+        Place::Every
+    } else {
+        Place::Only(kept)
     }
 }
 

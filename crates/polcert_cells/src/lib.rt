@@ -13,5 +13,8 @@ pub use elements::{
     Cell, Elements, Kind, MOST_ACTIONS, MOST_ELEMENTS, MOST_OBSERVATIONS, MOST_STATES, Names, ONE,
     StartWeights,
 };
-pub use entries::{Body, BodyRef, Entries, Entry, EntryRef, Place, Places, Sequence, Table};
+pub use entries::{
+    Body, BodyRef, Entries, Entry, EntryBodies, EntryPlaces, EntryRef, Place, Places, RewardBody,
+    Sequence, Table,
+};
 pub use words::{Topic, begun_topic, is_reserved, is_word};

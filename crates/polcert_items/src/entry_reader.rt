@@ -335,7 +335,7 @@ impl EntryReader {
         };
         Some(EntryRef {
             table: self.table,
-            places: self.places.as_slice(),
+            places: self.places.copied(),
             body,
         })
     }

@@ -441,9 +441,10 @@ impl Sizes {
         requires columns { columns ≤ most_observations }
         requires count { count ≤ most_cells }
         requires nonzero_cells { nonzero_cells (body_of entry.body) self.states
-            (open_cells self.states columns (length entry.places.now)) ≤ self.states * columns }
+            (open_cells self.states columns (length (entry_of entry).places)) ≤ self.states * columns }
         ensures { result ≡ counted (self.actions * self.states * columns) most_cells count
-            (covered_by self.actions self.states columns entry.entry.places.now (body_of entry.entry.body)) }
+            (covered_by self.actions self.states columns (entry_of entry.entry).places
+            (body_of entry.entry.body)) }
     {
         if self.actions * self.states * columns > MOST_CELLS {
             let covered = count + covered_by(self.actions, self.states, columns, entry);
@@ -522,12 +523,12 @@ fn covered_by(actions: usize, states: usize, columns: usize, entry: EntryRef<'_>
     requires states { states ≤ most_states }
     requires columns { columns ≤ most_observations }
     requires nonzero_cells { nonzero_cells (body_of entry.body) states
-        (open_cells states columns (length entry.places.now)) ≤ states * columns }
-    ensures is { result ≡ covered_by actions states columns entry.entry.places.now
+        (open_cells states columns (length (entry_of entry).places)) ≤ states * columns }
+    ensures is { result ≡ covered_by actions states columns (entry_of entry.entry).places
         (body_of entry.entry.body) }
     ensures few { result ≤ most_covered }
 {
-    let places = entry.places;
+    let places = entry.places.as_slice();
     let cells = open_cells(states, columns, places.len());
     count_elements(places, 0, actions)
         * count_elements(places, 1, states)

@@ -23,7 +23,7 @@ pub use Rattle.polcert_cells.specs.declared.entries.Table.{Table}
 pub use Rattle.polcert_cells.specs.declared.entries.Table.TheVariants.{Reward}
 pub use Rattle.polcert_rules.specs.Keys.{AreDigits, AreIndices, digit, key_base, key_in, key_of, most_places, table_key}
 pub use Rattle.polcert_rules.specs.Matching.{max_option, newest_in}
-pub use Rattle.polcert_rules.specs.RewardAt.{RewardRules, body_at, cell_in}
+pub use Rattle.polcert_rules.specs.RewardAt.{RewardRules, cell_in}
 pub use Rattle.polcert_rules.specs.Steps.CellRules.{AreCellRules, AreCellsOf, AreJoined, IsCellOf, NamesEnd}
 pub use Rattle.polcert_rules.specs.Steps.Distinct.{rule_at}
 pub use Rattle.polcert_rules.specs.Steps.Given.{FitsShape, IsWithin, given}
@@ -40,7 +40,7 @@ pub use Rattle.polcert_rules.specs.Steps.Sources.{AreKept, AreLine, AreLines, Ar
 pub use Rattle.polcert_rules.specs.Steps.Zeros.{IsRowOf, IsSplit, covering_entry, is_zero, newest_zero, number_under, others_in, others_of, overrides, shown, shown_under, zero_of, zeros_of}
 pub use Rattle.polcert_rules.specs.declared.index.Rule.{Rule}
 pub use Rattle.polcert_rules.specs.declared.named_rules.NamedRule.{NamedRule}
-pub use Rattle.polcert_rules.specs.declared.rewards.RewardBody.{RewardBody}
+pub use Rattle.polcert_cells.specs.declared.entries.RewardBody.{RewardBody}
 pub use Rattle.polcert_rules.specs.declared.rewards.RewardShape.{RewardShape}
 pub use Rattle.polcert_rules.specs.declared.row.Row.{Row}
 pub use Rattle.polcert_rules.specs.declared.row_rules.CellRules.{CellRules}

@@ -1,25 +1,19 @@
 -- The reward of a cell, by the rules: what the body of the newest rule that fits its indices gives it, or 0.
-use Rattle.std.specs.Prelude.{ℕ, ◌+◌, ◌-◌, ◌*◌, List, [], ◌∷◌, Option, Some, None, drop, get_or, ℤ, pos}
+use Rattle.std.specs.Prelude.{ℕ, ◌+◌, ◌*◌, List, [], ◌∷◌, Option, Some, None, drop, get_or, ℤ, pos}
 use Rattle.polcert_cells.specs.declared.entries.Table.TheVariants.{Reward}
 use Rattle.std.specs.List.{slice_get}
 use Rattle.polcert_rules.specs.declared.index.Rule.{Rule}
-use Rattle.polcert_rules.specs.declared.rewards.RewardBody.{RewardBody}
+use Rattle.polcert_cells.specs.declared.entries.RewardBody.{RewardBody}
 use Rattle.polcert_rules.specs.declared.rewards.RewardShape.{RewardShape}
 use Rattle.polcert_rules.specs.Keys.{table_key, most_places}
 use Rattle.polcert_rules.specs.Matching.{newest_in}
 
--- the rules of R by their keys, the bodies of their entries by the entries' numbers, from the first of these on, and the
--- numbers of all bodies
+-- the rules of R by their keys, the bodies of all entries by their numbers, and the numbers of all bodies
 pub record RewardRules : Type 0 where
   pub shape : RewardShape
   pub rules : List Rule
-  pub first : ℕ
   pub bodies : List RewardBody
   pub numbers : List ℤ
-
--- the body of the entry of this number, where the first of the bodies is that of the entry `first`
-abbrev pub body_at : ℕ → List RewardBody → ℕ → Option RewardBody
-body_at first bodies number = slice_get bodies (number - first)
 
 -- the number of a cell in a body, by the indices that are left for it, in a table with so many rows and columns
 abbrev pub cell_in : ℕ → ℕ → List ℕ → ℕ
@@ -36,7 +30,7 @@ given rewards indices (Some b) = get_or rewards.numbers (b.start + cell_in rewar
 -- what the rule of this number gives it
 abbrev pub given_by : RewardRules → List ℕ → Option ℕ → ℤ
 given_by rewards indices None = pos 0
-given_by rewards indices (Some number) = given rewards indices (body_at rewards.first rewards.bodies number)
+given_by rewards indices (Some number) = given rewards indices (slice_get rewards.bodies number)
 
 abbrev pub reward_in : RewardRules → List ℕ → ℤ
 reward_in rewards indices = given_by rewards indices (newest_in most_places (table_key Reward) rewards.rules indices)

@@ -1,6 +1,6 @@
-//! The index of a list of entries.
+//! The index of the entries of a table.
 ghost use Rattle.std.specs.Prelude.{◌≡◌, ℕ, ◌+◌, ◌*◌, ◌^◌, ◌<◌, ◌≤◌, ◌↔◌, List, [], ◌∷◌, All, Contains, IfOk};
-ghost use Rattle.std.specs.Prelude.{IsTrue, take, ◌-◌, ◌++◌, OnOk};
+ghost use Rattle.std.specs.Prelude.{IsTrue, take, ◌-◌};
 ghost use Rattle.polcert_rules.specs.declared.index.Rule.{Rule as R};
 ghost use Rattle.polcert_rules.specs.Steps.Rows.{HaveColumns, IsSingleEntry, no_column, number_in};
 ghost use Rattle.polcert_cells.specs.declared.entries.Entry.{Entry as E};
@@ -20,7 +20,7 @@ use polcert_cells::{Entries, EntryRef, Place, Table};
 use std::alloc::{AllocError, Global};
 use std::marker::Model;
 
-/// The patterns of a list of entries, in order, each with the number of the last entry that has it.
+/// The patterns of the entries of a table, in order, each with the number of the last entry that has it.
 #[derive(Drop)]
 pub struct Index {
     rules: Vec<Rule>,
@@ -39,12 +39,12 @@ impl Model for Index {
 }
 
 impl Index {
-    /// Builds the index of these entries.
-    pub fn of(alloc: Global, entries: &Entries) -> Result<Index, AllocError>
+    /// Builds the index of the entries of this table.
+    pub fn of(alloc: Global, entries: &Entries, table: Table) -> Result<Index, AllocError>
         requires { AreKeyed entries.now }
-        ensures { IfOk result (IsIndexOf entries.now) }
+        ensures { IfOk result (IsIndexOf table entries.now) }
     {
-        let mut rules = rules_of_entries(alloc, entries)?;
+        let mut rules = rules_of_table(alloc, entries, table)?;
         rules.sort_unstable_by_key(|rule| rule.key);
         keep_newest_of_each(&mut rules);
         Ok(Index { rules })
@@ -53,22 +53,28 @@ impl Index {
     /// Returns the number of the last entry that covers the cell of this table at these indices, if one does.
     pub fn newest(&self, table: Table, indices: &[usize]) -> Option<usize>
         requires { AreIndices most_places indices.now }
-        ensures number { (entries : List E) → AreKeyed entries → IsIndexOf entries self.now →
+        ensures number { (entries : List E) → IsIndexOf table entries self.now →
             IsLastNumber entries table indices.now result }
-        ensures last { (entries : List E) → AreKeyed entries → IsIndexOf entries self.now →
+        ensures last { (entries : List E) → IsIndexOf table entries self.now →
             IsLastCovering entries table indices.now (entry_at entries result) }
     {
         self.newest_rule(table, indices)
     }
 
-    /// Returns the rules of this table.
-    pub(crate) fn of_table(&self, table: Table) -> &[Rule]
-        ensures rising { IsRising result.now }
-        ensures kept { (r : R) → Contains result.now r ↔ (Contains self.now r × (table_key table ≤ r.key)
-            × (r.key < table_key table + key_base ^ most_places)) }
+    /// Gives up the index, and returns its rules.
+    pub(crate) fn into_rules(self) -> Vec<Rule>
+        ensures rising { IsRising result.items }
+        ensures is { result.items ≡ self }
     {
-        let low = table_digit(table) * span(4);
-        rules_between(self.rules.as_slice(), low, low + span(4))
+        self.rules
+    }
+
+    /// Returns the rules, in the order of their keys.
+    pub(crate) fn as_slice(&self) -> &[Rule]
+        ensures rising { IsRising result.now }
+        ensures is { result.now ≡ self.now }
+    {
+        self.rules.as_slice()
     }
 
     /// Tests whether no rule of this table begins with this action.
@@ -98,32 +104,31 @@ impl Index {
     }
 }
 
-/// Returns a rule for each entry, table by table. (In most texts those of each table are then in order already.)
-fn rules_of_entries(alloc: Global, entries: &Entries) -> Result<Vec<Rule>, AllocError>
+/// Returns a rule for each entry of this table, in the order of the file. (In most texts their keys are then in order already.)
+fn rules_of_table(alloc: Global, entries: &Entries, table: Table) -> Result<Vec<Rule>, AllocError>
     requires { AreKeyed entries.now }
-    ensures { IfOk result (λ rules. rules.items
-        ≡ rules_from 0 0 entries.now ++ rules_from 1 0 entries.now ++ rules_from 2 0 entries.now) }
+    ensures { IfOk result (λ rules. rules.items ≡ rules_from (table_digit table) 0 entries.now) }
 {
-    let mut rules = Vec::with_capacity(alloc, entries.len())?;
-    add_rules(&mut rules, entries, 0)?;
-    add_rules(&mut rules, entries, 1)?;
-    add_rules(&mut rules, entries, 2)?;
-    Ok(rules)
-}
-
-/// Puts a rule for each entry of the table with this digit after the others.
-fn add_rules(rules: &mut Vec<Rule>, entries: &Entries, digit: u64) -> Result<(), AllocError>
-    requires { AreKeyed entries.now }
-    ensures { OnOk result (rules.new.items ≡ rules.old.items ++ rules_from digit 0 entries.now) }
-{
+    let digit = table_digit(table);
+    let mut rules = Vec::with_capacity(alloc, count_of_table(entries, table))?;
     for number in 0..entries.len() {
-        let entry = entries.at(number);
-        if table_digit(entry.table) == digit {
-            let key = key_of(entry);
+        if table_digit(entries.table_of(number)) == digit {
+            let key = key_of(entries.at(number));
             rules.push(Rule { key, number })?;
         }
     }
-    Ok(())
+    Ok(rules)
+}
+
+/// Returns how many entries are of this table.
+fn count_of_table(entries: &Entries, table: Table) -> usize {
+    let mut count = 0;
+    for number in 0..entries.len() {
+        if entries.table_of(number) == table {
+            count += 1;
+        }
+    }
+    count
 }
 
 /// Keeps of neighbours with the same key the one with the greatest number.
@@ -159,11 +164,11 @@ fn move_newest_to_front(rules: &mut [Rule]) -> usize
 
 /// Returns the key of an entry's pattern, its table in front.
 fn key_of(entry: EntryRef<'_>) -> u64
-    requires { AreDigits most_places entry.places.now }
+    requires { AreDigits most_places (entry_of entry).places }
     ensures { result ≡ key_of (entry_of entry.entry) }
 {
     let low = table_digit(entry.table) * TABLE;
-    match entry.places {
+    match entry.places.as_slice() {
         [first] => low + digit(*first) * ACTION,
         [first, second] => low + digit(*first) * ACTION + digit(*second) * ROW,
         [first, second, third] => {

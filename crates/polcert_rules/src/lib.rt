@@ -13,5 +13,5 @@ mod rows;
 mod zeros;
 
 pub use index::{Index, Rule};
-pub use rewards::{RewardBody, RewardShape, Rewards};
+pub use rewards::{RewardShape, Rewards};
 pub use rows::{Rows, Shape, WrongRow};

@@ -1,59 +1,39 @@
 //! The bodies of entries of R, in one list of numbers.
-ghost use Rattle.std.specs.Prelude.{◌≡◌, ◌<◌, ◌≤◌, ◌+◌, ◌++◌, All, Bool, Contains, map, get_or, length, drop, pos, IfOk, OnOk};
+ghost use Rattle.std.specs.Prelude.{◌≡◌, ◌<◌, ◌≤◌, ◌+◌, ◌++◌, All, map, get_or, drop, pos, IfOk, OnOk, slice_get};
 ghost use Rattle.polcert_cells.specs.Elements.{most_states, most_elements};
-ghost use Rattle.polcert_cells.specs.EntryRefs.{all_rewards};
-ghost use Rattle.polcert_rules.specs.declared.index.Rule.{Rule as R};
 ghost use Rattle.polcert_rules.specs.Keys.{key_base};
 ghost use Rattle.polcert_rules.specs.Steps.Rewards.{worth, AreBodiesOf};
-ghost use Rattle.polcert_rules.specs.RewardAt.{body_at, cell_in};
+ghost use Rattle.polcert_rules.specs.RewardAt.{cell_in};
 
-use crate::Rule;
-use crate::rewards::RewardBody;
-use polcert_cells::Entries;
+use polcert_cells::{Entries, EntryBodies, RewardBody};
 use std::alloc::{AllocError, Global};
 
-/// What stands where an entry has no rule.
-const NO_BODY: RewardBody = RewardBody {
-    start: 0,
-    places: 0,
-};
-
-/// The bodies of some entries of R, each as far after the first as its entry is after the entry `first`, and the numbers of
-/// all of them.
+/// The bodies of all entries, by their numbers, and the numbers of all bodies of R.
 #[derive(Drop)]
 pub(crate) struct RewardBodies {
-    pub first: usize,
-    pub bodies: Vec<RewardBody>,
+    pub bodies: EntryBodies,
     pub numbers: Vec<i64>,
 }
 
 impl RewardBodies {
-    /// Returns the bodies of the entries that these rules name. The entries are given up, and their numbers stay where they are.
+    /// Returns the bodies of these entries, which are given up: their numbers stay where they are.
     pub(crate) fn of(
         alloc: Global,
         costs: bool,
         entries: Entries,
-        rules: &[Rule],
     ) -> Result<RewardBodies, AllocError>
-        requires { (r : R) → Contains rules.now r → r.number < length entries }
-        ensures { IfOk result (λ kept. AreBodiesOf costs entries rules.now kept.first kept.numbers.items
-            kept.bodies.items) }
+        ensures { IfOk result (λ kept. AreBodiesOf costs entries kept.numbers.items kept.bodies) }
     {
-        let first = first_number(rules);
-        let bodies = bodies_of(alloc, &entries, rules, first)?;
-        let numbers = rewards_of(alloc, costs, entries.into_rewards())?;
-        Ok(RewardBodies {
-            first,
-            bodies,
-            numbers,
-        })
+        let (bodies, written) = entries.into_rewards();
+        let numbers = rewards_of(alloc, costs, written)?;
+        Ok(RewardBodies { bodies, numbers })
     }
 
     /// Returns the body of the entry of this number.
     pub(crate) fn find(&self, number: usize) -> Option<RewardBody>
-        ensures { result ≡ body_at self.now.first self.now.bodies.items number }
+        ensures { result ≡ slice_get self.now.bodies number }
     {
-        self.bodies.get(number.saturating_sub(self.first)).copied()
+        self.bodies.find(number)
     }
 
     /// Returns the number of this cell of a body.
@@ -67,30 +47,6 @@ impl RewardBodies {
     }
 }
 
-/// Returns the bodies of the entries that these rules name, where the rewards of all entries are the numbers.
-fn bodies_of(
-    alloc: Global,
-    entries: &Entries,
-    rules: &[Rule],
-    first: usize,
-) -> Result<Vec<RewardBody>, AllocError>
-    requires rules { (r : R) → Contains rules.now r → r.number < length entries.now }
-    requires first { (r : R) → Contains rules.now r → first ≤ r.number }
-    ensures { IfOk result (λ bodies. (costs : Bool) → AreBodiesOf costs entries.now rules.now first
-        (map (worth costs) (all_rewards entries.now)) bodies.items) }
-{
-    let room = after_last(rules, entries.len()).saturating_sub(first);
-    let mut bodies = vec![in alloc; NO_BODY; room]?;
-    for rule in rules {
-        let number = rule.number;
-        bodies[number - first] = RewardBody {
-            start: entries.rewards_start(number),
-            places: entries.at(number).places.len(),
-        };
-    }
-    Ok(bodies)
-}
-
 /// Returns what these numbers are worth that are written as rewards, or as costs.
 fn rewards_of(alloc: Global, costs: bool, written: Vec<i64>) -> Result<Vec<i64>, AllocError>
     ensures { IfOk result (λ numbers. numbers.items ≡ map (worth costs) written.items) }
@@ -101,31 +57,6 @@ fn rewards_of(alloc: Global, costs: bool, written: Vec<i64>) -> Result<Vec<i64>,
     let mut numbers = Vec::with_capacity(alloc, written.len())?;
     add_numbers(&mut numbers, costs, written.as_slice())?;
     Ok(numbers)
-}
-
-/// Returns a number that no rule's is below.
-fn first_number(rules: &[Rule]) -> usize
-    ensures { (r : R) → Contains rules.now r → result ≤ r.number }
-{
-    let mut first = usize::MAX;
-    for rule in rules {
-        first = first.min(rule.number);
-    }
-    first
-}
-
-/// Returns a number that each rule's is below, if each is below the limit.
-fn after_last(rules: &[Rule], limit: usize) -> usize
-    requires { (r : R) → Contains rules.now r → r.number < limit }
-    ensures { (r : R) → Contains rules.now r → r.number < result }
-{
-    let mut end = 0;
-    for rule in rules {
-        if end <= rule.number {
-            end = rule.number + 1;
-        }
-    }
-    end
 }
 
 /// Puts these rewards after the others, each as it is worth.

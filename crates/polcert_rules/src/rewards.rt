@@ -15,16 +15,16 @@ ghost use Rattle.polcert_rules.specs.Steps.CellRules.{AreCellRules, AreCellsOf, 
 ghost use Rattle.std.specs.Prelude.{◌*◌, ◌/◌, ◌%◌};
 ghost use Rattle.polcert_rules.specs.Steps.Meeting.{meets_row};
 ghost use Rattle.polcert_rules.specs.Keys.{key_base, AreIndices, Fits, most_places, table_key};
-ghost use Rattle.polcert_rules.specs.Steps.Newest.{AreKeyed, IsIndexOf, IsNewest, IsLastNumber, IsRising};
+ghost use Rattle.polcert_rules.specs.Steps.Newest.{AreKeyed, IsIndexOf, IsNewest, IsLastNumber};
 ghost use Rattle.polcert_rules.specs.Steps.Rewards.{IsShapeOf, IsSmall, AreRewardsOf};
 ghost use Rattle.polcert_rules.specs.Steps.RewardSearch.{AreFilled, AreWithin, IsLastBody, IsSingle};
 
+use crate::Index;
 use crate::index::{KEY_BASE, MOST_PLACES, max_option, newest, some_begins};
 use crate::named_rules::NamedRules;
 use crate::reward_bodies::{RewardBodies, cell_in, indices_after};
 use crate::row_rules::{CellRules, REWARD_KEYS, RowRules, cell_named};
-use crate::{Index, Rule};
-use polcert_cells::{CommonReward, Entries, RewardCell, Table};
+use polcert_cells::{CommonReward, Entries, RewardBody, RewardCell};
 use std::alloc::{AllocError, Global};
 use std::marker::Model;
 
@@ -55,15 +55,14 @@ impl Model for Rewards {
 
     ghost Value = { RewardRules };
 
-    ghost view = { λ r. reward_rules r.shape
-        r.rules.rules.items r.bodies.first r.bodies.bodies.items r.bodies.numbers.items };
+    ghost view = { λ r. reward_rules r.shape r.rules.rules.items r.bodies.bodies r.bodies.numbers.items };
 
     ghost invariant = { λ r. AreRewardRules (reward_rules r.shape
-        r.rules.rules.items r.bodies.first r.bodies.bodies.items r.bodies.numbers.items) };
+        r.rules.rules.items r.bodies.bodies r.bodies.numbers.items) };
 }
 
 impl Rewards {
-    /// Builds the rewards of these entries, of which `index` is the index, in a model of this shape. Entries and index
+    /// Builds the rewards of these entries, of which `index` is the index of R, in a model of this shape. Entries and index
     /// are given up. An error is out of memory.
     pub fn of(
         alloc: Global,
@@ -73,14 +72,14 @@ impl Rewards {
         index: Index,
     ) -> Result<Rewards, AllocError>
         requires shape { IsSmall shape }
-        requires index { IsIndexOf entries index }
+        requires index { IsIndexOf RewardTable entries index }
         ensures shape { IfOk result (λ rewards. rewards.shape ≡ shape) }
         ensures rewards { IfOk result
             (λ rewards. (p : Preamble) → IsShapeOf p shape → p.costs ≡ costs → AreKeyed entries →
             All (IsSoundEntry p) entries → AreRewardsOf p entries rewards) }
     {
-        let rules = rules_of(alloc, index)?;
-        let bodies = RewardBodies::of(alloc, costs, entries, rules.as_slice())?;
+        let rules = index.into_rules();
+        let bodies = RewardBodies::of(alloc, costs, entries)?;
         let rules = RowRules::of(alloc, shape, rules)?;
         Ok(Rewards {
             shape,
@@ -539,17 +538,6 @@ fn is_same(one: Option<usize>, other: Option<usize>) -> bool
     }
 }
 
-/// Returns the rules of R in an index, which is given up: nothing else of it is kept.
-fn rules_of(alloc: Global, index: Index) -> Result<Vec<Rule>, AllocError>
-    ensures rising { IfOk result (λ rules. IsRising rules.items) }
-    ensures kept { IfOk result (λ rules. (r : R) →
-        Contains rules.items r ↔ (Contains index r × (table_key RewardTable ≤ r.key)
-        × (r.key < table_key RewardTable + key_base ^ most_places))) }
-{
-    let rules = index.of_table(Table::Reward).to_vec(alloc)?;
-    Ok(rules)
-}
-
 /// How many elements each index of a reward runs over: in an MDP, where nothing but the end state is
 /// observed, there is one observation.
 #[derive(Clone, Copy)]
@@ -557,15 +545,6 @@ pub struct RewardShape {
     pub actions: usize,
     pub states: usize,
     pub observations: usize,
-}
-
-/// The body of an entry of R: where its numbers begin among those of all entries, and how many places it has.
-/// The fewer places, the more numbers: one, a row of observations, a matrix of end states by observations, or
-/// such a matrix for each start state.
-#[derive(Clone, Copy)]
-pub struct RewardBody {
-    pub start: usize,
-    pub places: usize,
 }
 
 /// An action that is taken in a start state, and ends in an end state.

@@ -2,10 +2,11 @@
 ghost use Rattle.std.specs.Prelude.{◌≡◌, ◌+◌, ◌-◌, ◌*◌, ◌<◌, ◌≤◌, ◌↔◌, ◌⊎◌, ◌++◌, ◌^◌, ℕ, List, All};
 ghost use Rattle.std.specs.Prelude.{Contains, IfSome, IsTrue, OnOk, IfOk, Some, length, ◌==◌, slice_index};
 ghost use Rattle.std.specs.Prelude.{if◌then◌else◌};
+ghost use Rattle.std.specs.List.{list_all};
 ghost use Rattle.polcert_rules.specs.declared.index.Rule.{Rule as R};
 ghost use Rattle.polcert_cells.specs.declared.entries.Entry.{Entry as E};
 ghost use Rattle.polcert_rules.specs.Keys.{key_base};
-ghost use Rattle.polcert_rules.specs.Steps.Newest.{AreKeyed, IsIndexOf, IsRising, IsNewest};
+ghost use Rattle.polcert_rules.specs.Steps.Newest.{IsIndexOf, IsRising, IsNewest};
 ghost use Rattle.polcert_rules.specs.Steps.Rows.{HaveColumns, IsSingle, IsColumn, IsCell, columns_of};
 ghost use Rattle.polcert_rules.specs.Steps.Rows.{at_column, AreExact, HasSharedColumns, IsTableKey};
 ghost use Rattle.polcert_rules.specs.Steps.Zeros.{others_in};
@@ -14,7 +15,7 @@ ghost use Rattle.polcert_rules.specs.Steps.Zeros.{AreOrdered, IsSplit, IsRowOf, 
 ghost use Rattle.polcert_rules.specs.Steps.Zeros.{overrides, shown, shown_under};
 ghost use Rattle.polcert_cells.specs.Elements.{most_elements};
 ghost use Rattle.polcert_rules.specs.Steps.Merging.{given_at, is_newer, newer_cells, merged, before};
-ghost use Rattle.polcert_rules.specs.Steps.Merging.{following, are_positive};
+ghost use Rattle.polcert_rules.specs.Steps.Merging.{following, is_positive};
 ghost use Rattle.polcert_rules.specs.Steps.Sources.{IsNumber, IsColumnOf};
 ghost use Rattle.polcert_cells.specs.declared.elements.Cell.{Cell as C};
 ghost use Rattle.polcert_rules.specs.Steps.Lists.{stored_cells, IsFullLine};
@@ -72,9 +73,9 @@ impl<'a> Row<'a> {
     ) -> Result<Row<'a>, AllocError>
         requires action { action + 2 < key_base }
         requires state { state + 2 < key_base }
-        requires split { (entries : List E) × (rules : List R) × IsSplit entries table rules split.now }
-        ensures { IfOk result (λ row. (entries : List E) (rules : List R) → AreKeyed entries →
-            HaveColumns entries → IsIndexOf entries rules → IsSplit entries table rules split.now →
+        requires split { (entries : List E) × (rules : List R) × IsSplit entries rules split.now }
+        ensures { IfOk result (λ row. (entries : List E) (rules : List R) →
+            HaveColumns entries → IsIndexOf table entries rules → IsSplit entries rules split.now →
             IsWholeNumber rules table action state whole → IsRowOf entries table action state row) }
     {
         let low = table_digit(table) * span(MOST_PLACES);
@@ -286,14 +287,9 @@ fn put_over(alloc: Global, base: &[Cell], newer: Vec<Cell>) -> Result<Vec<Cell>,
 
 /// Tests whether all cells have a weight above 0.
 fn are_positive(cells: &[Cell]) -> bool
-    ensures { result ≡ are_positive cells.now }
+    ensures { result ≡ list_all is_positive cells.now }
 {
-    for cell in cells {
-        if cell.weight == 0 {
-            return false;
-        }
-    }
-    true
+    cells.iter().all(|cell| cell.weight > 0)
 }
 
 /// Puts the cells before a column after the others, and gives those after it.

@@ -416,7 +416,7 @@ const FIRST_DIAGONAL: usize = 2;
 /// A slot for each row that one entry may give alone.
 #[derive(Drop)]
 pub(crate) struct RowCache {
-    /// Of each entry the slot of the first line of its body.
+    /// Of each entry the slot of the first line of its body. Empty if no body has lines.
     starts: Vec<u32>,
     /// In each slot the place of a row.
     places: Vec<u32>,
@@ -430,7 +430,12 @@ impl RowCache {
         rules: &[Rule],
         states: usize,
     ) -> Result<RowCache, AllocError> {
-        let mut starts = vec![in alloc; 0; entries.len()]?;
+        let count = if have_lines(entries, rules, states) {
+            entries.len()
+        } else {
+            0
+        };
+        let mut starts = vec![in alloc; 0; count]?;
         let mut end = states.saturating_add(FIRST_DIAGONAL);
         for rule in rules {
             let number = rule.number;
@@ -474,10 +479,20 @@ impl RowCache {
     }
 }
 
+/// Tests whether the numbers of any entry of these rules give rows, each its own line.
+fn have_lines(entries: &Entries, rules: &[Rule], states: usize) -> bool {
+    for rule in rules {
+        if rule.number < entries.len() && lines_of(entries.at(rule.number), states) > 0 {
+            return true;
+        }
+    }
+    false
+}
+
 /// Returns how many rows the numbers of an entry's body give, each its own line.
 fn lines_of(entry: EntryRef<'_>, states: usize) -> usize {
     match entry.body {
-        BodyRef::Probabilities(_) => match entry.places {
+        BodyRef::Probabilities(_) => match entry.places.as_slice() {
             [_] => states,
             [_, _] => 1,
             [_, _, Place::Every] => 1,

@@ -5,7 +5,6 @@ ghost use Rattle.polcert_cells.specs.Preamble.{Preamble};
 ghost use Rattle.polcert_cells.specs.Rows.{IsWeighted};
 ghost use Rattle.polcert_cells.specs.declared.elements.Cell.{Cell as C};
 ghost use Rattle.polcert_rules.specs.Keys.{key_base};
-ghost use Rattle.polcert_rules.specs.Steps.Newest.{IsIndexOf};
 ghost use Rattle.polcert_rules.specs.Steps.Shapes.{IsShapeOf, AreSound};
 ghost use Rattle.polcert_rules.specs.Steps.Repeats.{IsAsBefore, IsWholeNumber};
 ghost use Rattle.polcert_cells.specs.BorrowedRows.{IsRowOf};
@@ -70,34 +69,33 @@ pub(crate) struct TableEntries<'a> {
 }
 
 impl Rows {
-    /// Builds the rows of a table of weights, from the index of its entries, if each sums to its scale, or else the first that does not.
-    /// An error is out of memory.
+    /// Builds the rows of a table of weights, if each sums to its scale, or else returns the first that does not. The index of its
+    /// entries lives only during the call. An error is out of memory.
     pub fn of(
         alloc: Global,
         shape: Shape,
         table: Table,
         entries: &Entries,
-        index: &Index,
     ) -> Result<Result<Rows, WrongRow>, AllocError>
         requires weighted { IsWeighted table }
         requires sound { (p : Preamble) × IsShapeOf p table shape × AreSound p entries.now }
-        requires index { IsIndexOf entries.now index.now }
         ensures { IfOk result (λ found. (p : Preamble) → IsShapeOf p table shape →
             MatchResult found (λ rows. AreRowsOf p entries.now table rows × AreProperRows p entries.now table)
             (IsFirstWrong p entries.now table)) }
     {
-        let rules = index.of_table(table);
+        let index = Index::of(alloc, entries, table)?;
+        let rules = index.as_slice();
         let split = SplitRules::of(alloc, rules, entries)?;
         let mut numbers = Lists::new(alloc);
         let mut keeper = RowStore::of(alloc, entries, rules, shape.states)?;
         let given = TableEntries {
             bodies: Bodies { entries, shape },
             table,
-            index,
+            index: &index,
             split: &split,
         };
         for action in 0..shape.actions {
-            if is_as_before(index, table, action) {
+            if is_as_before(&index, table, action) {
                 numbers.repeat_last()?;
                 continue;
             }

@@ -111,17 +111,33 @@ fn rewards(body: BodyRef<'_>) -> Option<&[i64]> {
 }
 
 #[test]
+fn elements_up_to_65534_are_kept(rt: HostRuntime) -> Result<(), Fail> {
+    let mut entries = Entries::new(rt.alloc());
+    let last = [Place::Only(65_534), Place::Only(0)];
+    put(&mut entries, Table::Transition, &last, Body::Uniform)?;
+    let beyond = [Place::Every, Place::Only(65_535)];
+    let refused = put(&mut entries, Table::Transition, &beyond, Body::Uniform);
+    assert!(rt; refused.is_err());
+    assert!(rt; entries.len() == 1);
+    assert_eq!(rt; entries.at(0).places.as_slice(), last.as_slice());
+    Ok(())
+}
+
+#[test]
 fn entries_are_borrowed_as_they_were_put(rt: HostRuntime) -> Result<(), Fail> {
     let mut entries = Entries::new(rt.alloc());
     put_each_body(rt.alloc(), &mut entries)?;
     assert!(rt; entries.len() == 5);
     let borrowed = entries.at(0);
     assert_eq!(rt; borrowed.table, Table::Transition);
-    assert_eq!(rt; borrowed.places, [Place::Only(1)].as_slice());
+    assert_eq!(rt; borrowed.places.as_slice(), [Place::Only(1)].as_slice());
     assert!(rt; matches!(borrowed.body, BodyRef::Identity));
     let borrowed = entries.at(1);
     assert_eq!(rt; borrowed.table, Table::Observation);
-    assert_eq!(rt; borrowed.places, [Place::Every, Place::Only(2)].as_slice());
+    assert_eq!(rt;
+        borrowed.places.as_slice(),
+        [Place::Every, Place::Only(2)].as_slice()
+    );
     assert_eq!(rt;
         probabilities(borrowed.body),
         Some([1_000_000, 0].as_slice())
@@ -129,13 +145,16 @@ fn entries_are_borrowed_as_they_were_put(rt: HostRuntime) -> Result<(), Fail> {
     let borrowed = entries.at(2);
     assert_eq!(rt; borrowed.table, Table::Reward);
     assert_eq!(rt;
-        borrowed.places,
+        borrowed.places.as_slice(),
         [Place::Only(0), Place::Every, Place::Every, Place::Only(999)].as_slice()
     );
     assert_eq!(rt; rewards(borrowed.body), Some([-5].as_slice()));
     assert!(rt; matches!(entries.at(3).body, BodyRef::Uniform));
     let borrowed = entries.at(4);
-    assert_eq!(rt; borrowed.places, [Place::Every, Place::Only(2)].as_slice());
+    assert_eq!(rt;
+        borrowed.places.as_slice(),
+        [Place::Every, Place::Only(2)].as_slice()
+    );
     assert_eq!(rt; probabilities(borrowed.body), Some([7].as_slice()));
     Ok(())
 }

@@ -62,7 +62,7 @@ fn rewards(alloc: Global, costs: bool, lines: &[(&[usize], &[i64])]) -> Result<R
     for (pattern, written) in lines {
         entries.push(entry(alloc, pattern, written)?)?;
     }
-    let index = Index::of(alloc, &entries)?;
+    let index = Index::of(alloc, &entries, Table::Reward)?;
     Rewards::of(alloc, SHAPE, costs, entries, index)
 }
 

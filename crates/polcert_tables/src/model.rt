@@ -17,7 +17,6 @@ ghost use Rattle.polcert_cells.specs.Tables.{table_of};
 ghost use Rattle.polcert_format.specs.Order.{count_or};
 ghost use Rattle.polcert_format.specs.Printable.{IsPrintable};
 ghost use Rattle.polcert_format.specs.Writable.{IsWritable};
-ghost use Rattle.polcert_rules.specs.Steps.Newest.{IsIndexOf};
 ghost use Rattle.polcert_rules.specs.Steps.Shapes.{IsShapeOf, AreSound};
 ghost use Rattle.polcert_rules.specs.RowTables.{IsFirstWrong};
 ghost use Rattle.polcert_tables.specs.Contents.{meaning};
@@ -480,18 +479,16 @@ pub fn build_model(
         (λ w. IsFirstWrongRow (drafts.meaning (draft_with preamble start entries))
         w.table w.action w.row)) }
 {
-    let index = Index::of(alloc, &entries)?;
     let shape = Shape {
         actions: preamble.actions.count(),
         states: preamble.states.count(),
         columns: preamble.states.count(),
     };
-    let transitions = match Rows::of(alloc, shape, Table::Transition, &entries, &index)? {
+    let transitions = match Rows::of(alloc, shape, Table::Transition, &entries)? {
         Ok(rows) => rows,
         Err(wrong) => return Ok(Err(wrong)),
     };
-    let observations = &preamble.observations;
-    let observed = match observed_rows(alloc, shape, observations, &entries, &index)? {
+    let observed = match observed_rows(alloc, shape, &preamble.observations, &entries)? {
         Ok(rows) => rows,
         Err(wrong) => return Ok(Err(wrong)),
     };
@@ -500,6 +497,7 @@ pub fn build_model(
         states: preamble.states.count(),
         observations: count_or(ONE_OBSERVATION, &preamble.observations),
     };
+    let index = Index::of(alloc, &entries, Table::Reward)?;
     let rewards = Rewards::of(alloc, shape, preamble.costs, entries, index)?;
     Ok(Ok(Model {
         preamble,
@@ -540,11 +538,9 @@ fn observed_rows(
     shape: Shape,
     observations: &Option<Elements>,
     entries: &Entries,
-    index: &Index,
 ) -> Result<Result<Option<Rows>, WrongRow>, AllocError>
-    requires sound { (p : P) × (p.observations ≡ observations.now) × IsShapeOf p Transition shape
+    requires { (p : P) × (p.observations ≡ observations.now) × IsShapeOf p Transition shape
         × AreSound p entries.now }
-    requires index { IsIndexOf entries.now index.now }
     ensures { IfOk result
         (λ found. (p : P) → p.observations ≡ observations.now → IsShapeOf p Transition shape →
         MatchResult found (λ rows. AreObservationsOf p entries.now rows × AreProperObservations p entries.now)
@@ -558,7 +554,7 @@ fn observed_rows(
         states: shape.states,
         columns: elements.count(),
     };
-    match Rows::of(alloc, shape, Table::Observation, entries, index)? {
+    match Rows::of(alloc, shape, Table::Observation, entries)? {
         Ok(rows) => Ok(Ok(Some(rows))),
         Err(wrong) => Ok(Err(wrong)),
     }

@@ -1,6 +1,6 @@
 -- Entries as they are kept: of each its places, and where its numbers stand among those of all.
 -- Nobody has to believe this file: a list of entries is the list.
-use Rattle.std.specs.Prelude.{◌≡◌, ℕ, ◌≤◌, All, List, [], ◌∷◌, ◌++◌, length, map, take}
+use Rattle.std.specs.Prelude.{◌≡◌, ℕ, ◌≤◌, ◌==◌, All, List, [], ◌∷◌, ◌++◌, length, map, take, if◌then◌else◌}
 use Rattle.std.specs.List.{slice_range}
 use Rattle.polcert_cells.specs.declared.entries.Body.{Body}
 use Rattle.polcert_cells.specs.declared.entries.Body.TheVariants as bodies
@@ -9,6 +9,9 @@ use Rattle.polcert_cells.specs.declared.entries.BodyTag.{BodyTag}
 use Rattle.polcert_cells.specs.declared.entries.BodyTag.TheVariants as fillings
 use Rattle.polcert_cells.specs.declared.entries.EntryHeader.{EntryHeader}
 use Rattle.polcert_cells.specs.declared.entries.EntryStore.{EntryStore}
+use Rattle.polcert_cells.specs.declared.entries.Place.{Place}
+use Rattle.polcert_cells.specs.declared.entries.Place.TheVariants.{Every, Only}
+use Rattle.polcert_cells.specs.declared.entries.RewardBody.{RewardBody}
 use Rattle.polcert_cells.specs.declared.entries.Span.{Span}
 use Rattle.polcert_cells.specs.EntryRefs.{rewards_of, all_rewards}
 
@@ -22,8 +25,15 @@ body_in p fillings.Rewards numbers = bodies.Rewards (part numbers p.rewards.item
 body_in p fillings.Uniform numbers = bodies.Uniform
 body_in p fillings.Identity numbers = bodies.Identity
 
+-- a place in 16 bits
+abbrev pub place_of : ℕ → Place
+place_of n = if n == 65535 then Every else Only n
+
 abbrev pub entry_in : EntryStore → EntryHeader → Entry
-entry_in p h = record { table = h.table; places = take h.count h.places; body = body_in p h.filling h.numbers }
+entry_in p h = record { table = h.table; places = take h.count (map place_of h.places); body = body_in p h.filling h.numbers }
+
+abbrev pub reward_body : EntryHeader → RewardBody
+reward_body h = record { start = h.numbers.start; places = h.count }
 
 -- the part lies in a list of this length
 pub record LiesIn (len : ℕ) (span : Span) : Type 0 where
@@ -38,7 +48,7 @@ HasNumbers p fillings.Identity numbers = Unit {0}
 
 -- so many places are there, and its numbers
 pub record IsWithin (p : EntryStore) (h : EntryHeader) : Type 0 where
-  pub few : h.count ≤ 4
+  pub few : h.count ≤ length h.places
   pub has_numbers : HasNumbers p h.filling h.numbers
 
 -- the list continues with more

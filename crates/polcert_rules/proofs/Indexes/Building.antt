@@ -1,10 +1,10 @@
 -- Building an index.
-use Rattle.std.proofs.Common.{◌≡◌, ◌∙◌, ℕ, zero, suc, ◌+◌, ◌<◌, ◌≤◌, ◌⊎◌, inl, inr, ⊎_elim, Bool, true, false, cond, eqb, max, Some, List, [], ◌∷◌, ◌++◌, length, get_or, Contains, All, refl, sym, ap, subst, arith}
+use Rattle.std.proofs.Common.{◌≡◌, ◌∙◌, ℕ, zero, suc, ◌+◌, ◌<◌, ◌≤◌, ◌⊎◌, inl, inr, ⊎_elim, Bool, true, false, cond, eqb, max, Some, List, [], ◌∷◌, length, get_or, Contains, All, refl, sym, ap, subst, arith}
 use Rattle.std.specs.List.{slice_get}
-use Rattle.polcert_rules.proofs.Common.{IsNonDecreasingBy, Contains-append_left, Contains-append_right, Contains-append_cases, Table, Reward, nat_tests, AllPairs-cons, All-nil, All-cons, Contains-permutation, IsPermutation-sym, Entry, Rule, key_of, IsRising, IsEntry, IsIndexOf, rules_from, newest_from, newest_of_each}
+use Rattle.polcert_rules.proofs.Common.{IsNonDecreasingBy, Table, nat_tests, AllPairs-cons, All-nil, All-cons, Contains-permutation, IsPermutation-sym, Entry, Rule, key_of, AreDigits, most_places, AreKeyed, IsRising, IsEntry, IsIndexOf, rules_from, newest_from, newest_of_each}
 use Rattle.std.specs.List.Sorted.{IsPermutation}
-use Rattle.polcert_cells.specs.declared.entries.Table.TheVariants.{Transition, Observation}
 use Rattle.polcert_rules.specs.Keys.{table_digit}
+use Rattle.polcert_rules.proofs.Keyed.Covering.{keyed_at, table_of_digit}
 
 -- ---- being one of a list, by recursion on it
 abbrev pub Among : Rule → List Rule → Type 0
@@ -28,49 +28,34 @@ abbrev pub rule_of : ℕ → ℕ → Rule
 rule_of key number = record { key = key; number = number }
 
 -- ---- a rule for each entry of a table
-rules_sound : (d n : ℕ) (es : List Entry) (r : Rule) → Among r (rules_from d n es) → (k : ℕ) × (e : Entry) × (r.number ≡ n + k) × (slice_get es k ≡ Some e) × (key_of e ≡ r.key)
-rules_sound d n [] r a = absurd a
-rules_sound d n (e ∷ es) r a = at (eqb (table_digit e.table) d) (rules_sound d (n + 1) es r) a
-  where
-    later : (k : ℕ) × (x : Entry) × (r.number ≡ n + 1 + k) × (slice_get es k ≡ Some x) × (key_of x ≡ r.key) → (k : ℕ) × (x : Entry) × (r.number ≡ n + k) × (slice_get (e ∷ es) k ≡ Some x) × (key_of x ≡ r.key)
-    later i = (suc i.0, i.1, (let f = i.2 in omega arith), i.3, i.4)
+-- the rule of an entry, where entries are numbered from here on
+record IsRuleOf (d n : ℕ) (es : List Entry) (r : Rule) : Type 0 where
+  place : ℕ
+  entry : Entry
+  number : r.number ≡ n + place
+  is : slice_get es place ≡ Some entry
+  key : key_of entry ≡ r.key
+  of_table : table_digit entry.table ≡ d
 
-    at : (b : Bool) → (Among r (rules_from d (n + 1) es) → (k : ℕ) × (x : Entry) × (r.number ≡ n + 1 + k) × (slice_get es k ≡ Some x) × (key_of x ≡ r.key))
-        → Among r (cond b (record { key = key_of e; number = n } ∷ rules_from d (n + 1) es) (rules_from d (n + 1) es))
-        → (k : ℕ) × (x : Entry) × (r.number ≡ n + k) × (slice_get (e ∷ es) k ≡ Some x) × (key_of x ≡ r.key)
-    at true ih a = ⊎_elim (λ is. (0, e, (let f : n ≡ r.number = ap (λ (x : Rule). x.number) is in omega arith), refl, ap (λ (x : Rule). x.key) is)) (λ b. later (ih b)) a
-    at false ih a = later (ih a)
+rules_sound : (d n : ℕ) (es : List Entry) (r : Rule) → Among r (rules_from d n es) → IsRuleOf d n es r
+rules_sound d n [] r a = absurd a
+rules_sound d n (e ∷ es) r a = at (eqb (table_digit e.table) d) refl (rules_sound d (n + 1) es r) a
+  where
+    later : IsRuleOf d (n + 1) es r → IsRuleOf d n (e ∷ es) r
+    later i = record { place = suc i.place; entry = i.entry; number = (let f = i.number in omega arith); is = i.is; key = i.key; of_table = i.of_table }
+
+    here : table_digit e.table ≡ d → record { key = key_of e; number = n } ≡ r → IsRuleOf d n (e ∷ es) r
+    here t is = record { place = 0; entry = e; number = (let f : n ≡ r.number = ap (λ (x : Rule). x.number) is in omega arith); is = refl; key = ap (λ (x : Rule). x.key) is; of_table = t }
+
+    at : (b : Bool) → eqb (table_digit e.table) d ≡ b → (Among r (rules_from d (n + 1) es) → IsRuleOf d (n + 1) es r)
+        → Among r (cond b (record { key = key_of e; number = n } ∷ rules_from d (n + 1) es) (rules_from d (n + 1) es)) → IsRuleOf d n (e ∷ es) r
+    at true t ih a = ⊎_elim (here (grind (arith, nat_tests))) (λ b. later (ih b)) a
+    at false t ih a = later (ih a)
 
 rules_complete : (d n : ℕ) (es : List Entry) (k : ℕ) (e : Entry) → slice_get es k ≡ Some e → table_digit e.table ≡ d → Among (record { key = key_of e; number = n + k }) (rules_from d n es)
 rules_complete d n [] k e is t = cc
 rules_complete d n (x ∷ es) zero e is t = grind (arith, nat_tests)
 rules_complete d n (x ∷ es) (suc k) e is t = grind (arith, nat_tests, rules_complete d (n + 1) es k e is t)
-
--- ---- those of all tables
-abbrev pub all_rules : List Entry → List Rule
-all_rules es = rules_from 0 0 es ++ rules_from 1 0 es ++ rules_from 2 0 es
-
-all_sound : (es : List Entry) (r : Rule) → Contains (all_rules es) r → IsEntry es r
-all_sound es r c = ⊎_elim
-    (λ front. ⊎_elim (of 0) (of 1) (Contains-append_cases (rules_from 0 0 es) (rules_from 1 0 es) r front))
-    (of 2) (Contains-append_cases (rules_from 0 0 es ++ rules_from 1 0 es) (rules_from 2 0 es) r c)
-  where
-    of : (d : ℕ) → Contains (rules_from d 0 es) r → IsEntry es r
-    of d c =
-        let found = rules_sound d 0 es r (among_from (rules_from d 0 es) r c) in
-        let at : found.0 ≡ r.number = let e = found.2 in omega arith in
-        (found.1, subst (λ k. slice_get es k ≡ Some found.1) at found.3, found.4)
-
-all_complete : (es : List Entry) (n : ℕ) (e : Entry) → slice_get es n ≡ Some e → Contains (all_rules es) (rule_of (key_of e) (0 + n))
-all_complete es n e is = at e.table refl
-  where
-    here : (d : ℕ) → table_digit e.table ≡ d → Contains (rules_from d 0 es) (rule_of (key_of e) (0 + n))
-    here d t = contains_from (rules_from d 0 es) _ (rules_complete d 0 es n e is t)
-
-    at : (t : Table) → e.table ≡ t → Contains (all_rules es) (rule_of (key_of e) (0 + n))
-    at Transition t = Contains-append_left (rules_from 0 0 es ++ rules_from 1 0 es) (rules_from 2 0 es) _ (Contains-append_left (rules_from 0 0 es) (rules_from 1 0 es) _ (here 0 (ap table_digit t)))
-    at Observation t = Contains-append_left (rules_from 0 0 es ++ rules_from 1 0 es) (rules_from 2 0 es) _ (Contains-append_right (rules_from 0 0 es) (rules_from 1 0 es) _ (here 1 (ap table_digit t)))
-    at Reward t = Contains-append_right (rules_from 0 0 es ++ rules_from 1 0 es) (rules_from 2 0 es) _ (here 2 (ap table_digit t))
 
 -- ---- of each key the newest
 -- a rule with the same key, and a number as great
@@ -181,16 +166,21 @@ each_old xs r h1 = grind (arith, none_new)
 pub each_kept : (xs : List Rule) (r : Rule) → Among r xs → Stands (newest_of_each xs) r
 each_kept xs r h1 = grind (arith, none_lost)
 
-pub is_index : (entries : List Entry) (sorted : List Rule) → IsPermutation (all_rules entries) sorted → IsIndexOf entries (newest_of_each sorted)
-is_index entries sorted p = record { sound = sound; complete = complete }
+pub is_index : (table : Table) (entries : List Entry) (sorted : List Rule) → AreKeyed entries → IsPermutation (rules_from (table_digit table) 0 entries) sorted
+    → IsIndexOf table entries (newest_of_each sorted)
+is_index table entries sorted keyed p = record { sound = sound; complete = complete }
   where
-    sound : (r : Rule) → Contains (newest_of_each sorted) r → IsEntry entries r
+    sound : (r : Rule) → Contains (newest_of_each sorted) r → IsEntry table entries r
     sound r c =
         let old : Contains sorted r = contains_from sorted r (each_old sorted r (among_from (newest_of_each sorted) r c)) in
-        all_sound entries r (Contains-permutation sorted (all_rules entries) r (IsPermutation-sym (all_rules entries) sorted p) old)
+        let found = rules_sound (table_digit table) 0 entries r (among_from _ r (Contains-permutation sorted _ r (IsPermutation-sym _ sorted p) old)) in
+        let at : found.place ≡ r.number = let e = found.number in omega arith in
+        let is = subst (λ k. slice_get entries k ≡ Some found.entry) at found.is in
+        (found.entry, is, found.key, table_of_digit found.entry.table table found.of_table, keyed_at (λ (e : Entry). AreDigits most_places e.places) entries r.number found.entry keyed is)
 
-    complete : (n : ℕ) (e : Entry) → slice_get entries n ≡ Some e → (r : Rule) × Contains (newest_of_each sorted) r × (r.key ≡ key_of e) × (n ≤ r.number)
-    complete n e is =
-        let old : Contains sorted (rule_of (key_of e) (0 + n)) = Contains-permutation (all_rules entries) sorted _ p (all_complete entries n e is) in
-        let stands = each_kept sorted (rule_of (key_of e) (0 + n)) (among_from sorted _ old) in
+    complete : (n : ℕ) (e : Entry) → slice_get entries n ≡ Some e → e.table ≡ table → (r : Rule) × Contains (newest_of_each sorted) r × (r.key ≡ key_of e) × (n ≤ r.number)
+    complete n e is t =
+        let rule = rule_of (key_of e) (0 + n) in
+        let old : Contains sorted rule = Contains-permutation _ sorted rule p (contains_from _ rule (rules_complete (table_digit table) 0 entries n e is (ap table_digit t))) in
+        let stands = each_kept sorted rule (among_from sorted _ old) in
         (stands.rule, contains_from (newest_of_each sorted) stands.rule stands.among, stands.key, (let l = stands.number in omega arith))

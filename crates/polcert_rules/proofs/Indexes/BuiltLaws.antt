@@ -1,6 +1,6 @@
 -- Rows as they are built, action by action and state by state.
-use Rattle.std.proofs.Common.{◌≡◌, ◌∙◌, ℕ, ◌+◌, ◌-◌, ◌^◌, ◌<◌, ◌≤◌, ◌↔◌, Contains, ⊎_elim, true, List, [], ◌∷◌, ◌++◌, length, get_or, slice_index, slice_index_or, All, sym, ap, subst, arith, rules}
-use Rattle.polcert_rules.proofs.Common.{cases_lt, get_or_append_left, get_or_default, All-push, get_or_from_slice_get, Cell, Preamble, weight, IsSparse, IsRow, key_base, table_key, most_places, Rule, IsRising, IsIndexOf, zeros_of, others_of, others_in, IsWeighted, IsShapeOf, AreSound, IsKeptRow, Stays, AreLine, AreLines}
+use Rattle.std.proofs.Common.{◌≡◌, ◌∙◌, ℕ, ◌+◌, ◌-◌, ◌<◌, ⊎_elim, true, List, [], ◌∷◌, ◌++◌, length, get_or, slice_index, slice_index_or, All, sym, ap, subst, arith}
+use Rattle.polcert_rules.proofs.Common.{cases_lt, get_or_append_left, get_or_default, All-push, get_or_from_slice_get, Cell, Preamble, weight, IsSparse, IsRow, key_base, Rule, IsRising, IsIndexOf, IsSplit, zeros_of, others_of, others_in, IsWeighted, IsShapeOf, AreSound, IsKeptRow, Stays, AreLine, AreLines}
 use Rattle.std.proofs.lemmas.List.{length-append}
 use Rattle.polcert_rules.specs.Steps.Sources.{AreGiven, weights_at, HasScale, HasRows, IsFirstWrongIn}
 use Rattle.std.proofs.Math.Seq.{get_or-append_seam}
@@ -13,7 +13,7 @@ use Rattle.polcert_rules.proofs.RowLaws.SumLaws.{sum_same}
 use Rattle.polcert_rules.specs.Steps.Rows.{AreExact}
 use Rattle.polcert_rules.proofs.RowLaws.SplitLaws.{split_is}
 use Rattle.polcert_rules.proofs.RowLaws.RepeatLaws.{as_named}
-use Rattle.polcert_rules.proofs.RowLaws.SoundRows.{sound_keyed, sound_within, weight_is}
+use Rattle.polcert_rules.proofs.RowLaws.SoundRows.{sound_within, weight_is}
 use Rattle.polcert_rules.proofs.Indexes.KeptLaws.{at_number, numbers_stay, row_within}
 
 module _ (given : TableEntries) where
@@ -95,7 +95,7 @@ module _ (given : TableEntries) where
     }
       where
         as_before : (s c : ℕ) → s < given.bodies.shape.states → c < width → weights_at given (a - 1) s c ≡ weights_at given a s c
-        as_before s c l m = grind (arith, as_named, sound_keyed, sound_within)
+        as_before s c l m = grind (arith, as_named, sound_within)
 
     pub lines_before : (a : ℕ) (rows : List (List Cell)) (numbers longer : List (List ℕ)) → IsAsBefore given.index.now given.table a → a + 2 < key_base → AreLines given a rows numbers
         → longer ≡ numbers ++ slice_index_or numbers (length numbers - 1) [] ∷ [] → AreLines given (a + 1) rows longer
@@ -147,11 +147,17 @@ module _ (given : TableEntries) where
           to_proper a s ((h.each a (omega (arith, e, l, actions))).proper s (omega (arith, m, states)))
 
 -- sound entries, and what is found among them
-pub given_is : (given : TableEntries) (part : List Rule) → IsWeighted given.table → (p : Preamble) × IsShapeOf p given.table given.bodies.shape × AreSound p given.bodies.entries.now
-    → IsIndexOf given.bodies.entries.now given.index.now → IsRising part
-    → ((r : Rule) → Contains part r ↔ (Contains given.index.now r × (table_key given.table ≤ r.key) × (r.key < table_key given.table + key_base ^ most_places)))
-    → given.split.now.zeros.items ≡ zeros_of given.bodies.entries.now part → others_in given.split.now.others ≡ others_of given.bodies.entries.now part → (given.split.now.is_exact ≡ true → AreExact part) → AreGiven given
-given_is given part weighted sound index rising kept zeros others exact = search (rules, split_is)
+pub given_is : (given : TableEntries) (rules : List Rule) → IsWeighted given.table → (p : Preamble) × IsShapeOf p given.table given.bodies.shape × AreSound p given.bodies.entries.now
+    → IsIndexOf given.table given.bodies.entries.now given.index.now → rules ≡ given.index.now → IsRising rules
+    → given.split.now.zeros.items ≡ zeros_of given.bodies.entries.now rules → others_in given.split.now.others ≡ others_of given.bodies.entries.now rules → (given.split.now.is_exact ≡ true → AreExact rules) → AreGiven given
+given_is given rs weighted sound index same rising zeros others exact = record {
+  weighted = weighted;
+  preamble = sound.0;
+  shape = sound.1;
+  sound = sound.2;
+  index = index;
+  split = subst (λ (xs : List Rule). IsSplit given.bodies.entries.now xs given.split.now) same (split_is given.bodies.entries.now rs given.split.now rising zeros others exact);
+}
 
 -- the numbers of the rows so far are those of rows
 pub all_below : (given : TableEntries) (count : ℕ) (rows : List (List Cell)) (numbers : List (List ℕ)) → AreLines given count rows numbers → All (All (λ n. n < length rows)) numbers

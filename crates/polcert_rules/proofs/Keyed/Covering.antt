@@ -1,11 +1,11 @@
 -- An entry covers a cell exactly where its key fits the indices: the newest that fits is the last that covers.
-use Rattle.std.proofs.Common.{◌≡◌, ◌∙◌, ℕ, zero, suc, ◌+◌, ◌*◌, ◌^◌, ◌≤◌, Bool, true, false, ◌&&◌, ◌||◌, Option, Some, None, List, [], ◌∷◌, ◌++◌, take, drop, All, refl, sym, ap, subst, arith}
-use Rattle.polcert_rules.proofs.Common.{list_any, drop_more, slice_get_within, get_or_from_slice_get, Table, Place, Entry, is_table, fit_places, covers, IsLastCovering, last, Rule, key_base, key_in, key_of, table_key, AreDigits, AreIndices, most_places, IsNewest, IsIndexOf, AreKeyed, IsLastNumber, entry_at}
+use Rattle.std.proofs.Common.{◌≡◌, ◌∙◌, ℕ, zero, suc, ◌+◌, ◌*◌, ◌^◌, ◌<◌, ◌≤◌, Bool, true, false, ◌&&◌, ◌||◌, Option, Some, None, List, [], ◌∷◌, ◌++◌, take, drop, length, All, Contains, refl, sym, ap, subst, arith}
+use Rattle.polcert_rules.proofs.Common.{list_any, drop_more, slice_get_within, get_or_from_slice_get, Table, Place, Entry, is_table, fit_places, covers, IsLastCovering, last, Rule, key_base, key_in, key_of, table_key, AreDigits, AreIndices, most_places, IsNewest, IsIndexOf, IsLastNumber, entry_at}
 use Rattle.std.specs.List.{slice_get}
 use Rattle.std.proofs.lemmas.List.{take-append-drop}
 use Rattle.polcert_cells.specs.Cells.{none}
 use Rattle.polcert_rules.specs.Keys.{table_digit, Fits}
-use Rattle.polcert_rules.proofs.Keyed.Fitting.{fit_digits}
+use Rattle.polcert_rules.proofs.Keyed.Fitting.{fit_digits, and_true}
 use Rattle.polcert_rules.proofs.Keyed.Keying.{same_digit, same_places}
 use Rattle.polcert_rules.proofs.Indexes.Newer.{IsSpan, newest_of_span}
 
@@ -15,7 +15,7 @@ same_table t u h1 = grind arith
 equal_table : (t : Table) → is_table t t ≡ true
 equal_table t = grind arith
 
-table_of_digit : (t u : Table) → table_digit t ≡ table_digit u → t ≡ u
+pub table_of_digit : (t u : Table) → table_digit t ≡ table_digit u → t ≡ u
 table_of_digit t u h1 = grind arith
 
 -- the one fact: what covers fits, and what fits covers
@@ -73,19 +73,25 @@ last_is entries table indices (Some n) l = grind (arith, last_at)
 pub keyed_at : (P : Entry → Type 0) (entries : List Entry) (k : ℕ) (e : Entry) → All P entries → slice_get entries k ≡ Some e → P e
 keyed_at P entries k e keyed is = subst P (get_or_from_slice_get entries k e e is) (keyed k e (slice_get_within entries k e is))
 
-pub last_number : (entries : List Entry) (rules : List Rule) (table : Table) (indices : List ℕ) (result : Option ℕ) → AreKeyed entries → IsIndexOf entries rules
+pub number_within : (table : Table) (entries : List Entry) (rules : List Rule) → IsIndexOf table entries rules → (r : Rule) → Contains rules r → r.number < length entries
+number_within table entries rules index r among = let e = index.sound r among in slice_get_within entries r.number e.0 e.1
+
+-- what covers a cell is an entry of the table
+pub covers_own : (table : Table) (indices : List ℕ) (e : Entry) → covers table indices e ≡ true → e.table ≡ table
+covers_own table indices e c = same_table e.table table (and_true (is_table e.table table) (fit_places e.places indices) c).0
+
+pub last_number : (entries : List Entry) (rules : List Rule) (table : Table) (indices : List ℕ) (result : Option ℕ) → IsIndexOf table entries rules
     → AreIndices most_places indices → IsNewest rules (Fits most_places (table_key table) indices) result → IsLastNumber entries table indices result
-last_number entries rules table indices None keyed index a n = λ k e is c.
-    let r = index.complete k e is in
+last_number entries rules table indices None index a n = λ k e is c.
+    let r = index.complete k e is (covers_own table indices e c) in
     n r.0 r.1 (subst (Fits most_places (table_key table) indices) (sym r.2) (covered_fits table indices e c))
-last_number entries rules table indices (Some m) keyed index a n =
+last_number entries rules table indices (Some m) index a n =
     let entry = index.sound n.0.rule n.0.among in
     let is : slice_get entries m ≡ Some entry.0 = subst (λ k. slice_get entries k ≡ Some entry.0) n.0.is entry.1 in
-    let digits : AreDigits most_places entry.0.places = keyed_at (λ (e : Entry). AreDigits most_places e.places) entries m entry.0 keyed is in
-    let covered : covers table indices entry.0 ≡ true = fits_covered table indices entry.0 digits a (subst (Fits most_places (table_key table) indices) (sym entry.2) n.0.passes) in (
+    let covered : covers table indices entry.0 ≡ true = fits_covered table indices entry.0 entry.4 a (subst (Fits most_places (table_key table) indices) (sym entry.2) n.0.passes) in (
       (entry.0, is, covered),
       λ k x found c.
-          let r = index.complete k x found in
+          let r = index.complete k x found (covers_own table indices x c) in
           let l = n.1 r.0 r.1 (subst (Fits most_places (table_key table) indices) (sym r.2) (covered_fits table indices x c)) in
           let low = r.3 in omega arith,
     )

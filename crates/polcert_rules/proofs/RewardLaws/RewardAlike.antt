@@ -2,7 +2,7 @@
 use Rattle.std.proofs.Common.{◌≡◌, ◌∙◌, ℕ, true, ◌&&◌, Option, Some, None, List, [], ◌∷◌, Contains, refl, sym, ap, subst, arith}
 use Rattle.std.specs.List.{slice_get}
 use Rattle.polcert_rules.proofs.Common.{Reward, Place, Every, Only, Entry, Preamble, IsSoundEntry, fit_places, is_table, covers, Rule, RewardBody, key_in, table_key, AreDigits, most_places, IsLastNumber, AreRewardsOf, RewardRules, Begins, IsLastBody}
-use Rattle.polcert_rules.proofs.Keyed.Fitting.{and_true, key_low, key_high}
+use Rattle.polcert_rules.proofs.Keyed.Fitting.{and_true}
 use Rattle.polcert_rules.proofs.Keyed.Covering.{keyed_at, same_table}
 use Rattle.polcert_rules.proofs.RewardLaws.RewardKeys.{begins_after}
 
@@ -23,18 +23,15 @@ covering p entries rewards indices k x a is c =
     let both = and_true (is_table x.table Reward) (fit_places x.places indices) c in
     let t = same_table x.table Reward both.0 in
     let digits : AreDigits most_places x.places = keyed_at (λ (e : Entry). AreDigits most_places e.places) entries k x a.keyed is in
-    let r = a.index_is.complete k x is in
-    let key : r.0.key ≡ key_in most_places (table_key Reward) x.places = r.2 ∙ ap (λ u. key_in most_places (table_key u) x.places) t in
-    let low = key_low most_places (table_key Reward) x.places in
-    let high = key_high most_places (table_key Reward) x.places digits in
+    let r = a.index.complete k x is t in
     record {
       table = t;
       fits = both.1;
       digits = digits;
       sound = keyed_at (IsSoundEntry p) entries k x a.sound is;
       rule = r.0;
-      among = (a.rules r.0).1 (r.1, omega arith, omega arith);
-      key = key;
+      among = r.1;
+      key = r.2 ∙ ap (λ u. key_in most_places (table_key u) x.places) t;
     }
 
 -- ---- no entry names an observation

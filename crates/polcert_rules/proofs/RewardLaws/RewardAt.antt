@@ -1,6 +1,6 @@
 -- The reward of a cell by the rules is what the last entry that covers it gives.
-use Rattle.std.proofs.Common.{◌≡◌, ℕ, ◌<◌, ◌≤◌, Option, Some, None, List, [], ◌∷◌, map, arith}
-use Rattle.polcert_rules.proofs.Common.{Entry, Reward, count_of, most_states, most_actions, most_observations, Preamble, rewarded, dimensions, reward, RewardBody, AreIndices, table_key, most_places, IsNewest, AreRewardsOf, RewardRules, body_at, AreWithin, IsLastBody, newest_in}
+use Rattle.std.proofs.Common.{◌≡◌, ℕ, ◌<◌, ◌≤◌, Option, Some, None, List, [], ◌∷◌, map, slice_get, arith}
+use Rattle.polcert_rules.proofs.Common.{Entry, Reward, count_of, most_states, most_actions, most_observations, Preamble, rewarded, dimensions, reward, RewardBody, AreIndices, table_key, most_places, IsNewest, AreRewardsOf, RewardRules, AreWithin, IsLastBody, newest_in}
 use Rattle.polcert_rules.specs.Keys.{Fits}
 use Rattle.polcert_rules.specs.RewardAt.{given, given_by, reward_in, reward_at}
 use Rattle.polcert_rules.proofs.Indexes.Matching.{newest_is}
@@ -15,7 +15,7 @@ module _ (p : Preamble) (entries : List Entry) (rewards : RewardRules) (indices 
 
   of_number : (number : Option ℕ) → IsNewest rewards.rules (Fits most_places (table_key Reward) indices) number → given_by rewards indices number ≡ reward p entries indices
   of_number None n = no_reward p entries indices (last_of_rules p entries rewards indices None are small n)
-  of_number (Some number) n = of_body (body_at rewards.first rewards.bodies number) (last_body p entries rewards indices number are small n)
+  of_number (Some number) n = of_body (slice_get rewards.bodies number) (last_body p entries rewards indices number are small n)
 
   pub cell_is : reward_in rewards indices ≡ reward p entries indices
   cell_is = of_number (newest_in most_places (table_key Reward) rewards.rules indices) (newest_is most_places (table_key Reward) rewards.rules indices)

@@ -1,30 +1,28 @@
 -- What the rules of R and their bodies give a cell.
-use Rattle.std.proofs.Common.{◌≡◌, ◌∙◌, ℕ, ◌^◌, Option, Some, None, List, refl, sym, ap, subst}
+use Rattle.std.proofs.Common.{◌≡◌, ◌∙◌, ℕ, Option, Some, None, List, refl, sym, ap, subst}
 use Rattle.std.specs.List.{slice_get}
 use Rattle.std.specs.Option.{IsSomeAnd}
-use Rattle.polcert_rules.proofs.Common.{same_Some, Reward, Entry, Preamble, RewardBody, key_base, AreIndices, table_key, most_places, IsEntry, IsNewest, IsLastNumber, AreRewardsOf, IsBodyOf, RewardRules, body_at, IsLastBody}
+use Rattle.polcert_rules.proofs.Common.{same_Some, Reward, Entry, Preamble, RewardBody, AreIndices, table_key, most_places, IsEntry, IsNewest, IsLastNumber, AreRewardsOf, IsBodyOf, RewardRules, IsLastBody}
 use Rattle.polcert_rules.specs.Keys.{Fits}
-use Rattle.polcert_rules.proofs.Keyed.Covering.{last_number, newest_in}
+use Rattle.polcert_rules.proofs.Keyed.Covering.{last_number}
 
 -- the newest of the rules is the last of all entries
 pub last_of_rules : (p : Preamble) (entries : List Entry) (rewards : RewardRules) (indices : List ℕ) (result : Option ℕ) → AreRewardsOf p entries rewards
     → AreIndices most_places indices → IsNewest rewards.rules (Fits most_places (table_key Reward) indices) result → IsLastNumber entries Reward indices result
-last_of_rules p entries rewards indices result a is n =
-    last_number entries a.index Reward indices result a.keyed a.index_is is
-    (newest_in a.index rewards.rules Reward indices (table_key Reward) (key_base ^ most_places) result refl refl is a.rules n)
+last_of_rules p entries rewards indices result a is n = last_number entries rewards.rules Reward indices result a.index is n
 
 -- its entry has a body, and that is found
 pub last_body : (p : Preamble) (entries : List Entry) (rewards : RewardRules) (indices : List ℕ) (number : ℕ) → AreRewardsOf p entries rewards → AreIndices most_places indices
-    → IsNewest rewards.rules (Fits most_places (table_key Reward) indices) (Some number) → IsLastBody p.costs entries rewards.numbers indices (body_at rewards.first rewards.bodies number)
-last_body p entries rewards indices number a is n = at (body_at rewards.first rewards.bodies number) refl
+    → IsNewest rewards.rules (Fits most_places (table_key Reward) indices) (Some number) → IsLastBody p.costs entries rewards.numbers indices (slice_get rewards.bodies number)
+last_body p entries rewards indices number a is n = at (slice_get rewards.bodies number) refl
   where
-    entry : IsEntry entries n.0.rule
-    entry = a.index_is.sound n.0.rule ((a.rules n.0.rule).0 n.0.among).0
+    entry : IsEntry Reward entries n.0.rule
+    entry = a.index.sound n.0.rule n.0.among
 
-    found : IsSomeAnd (body_at rewards.first rewards.bodies number) (IsBodyOf p.costs entry.0 rewards.numbers)
-    found = subst (λ k. IsSomeAnd (body_at rewards.first rewards.bodies k) (IsBodyOf p.costs entry.0 rewards.numbers)) n.0.is (a.bodies n.0.rule n.0.among entry.0 entry.1)
+    found : IsSomeAnd (slice_get rewards.bodies number) (IsBodyOf p.costs entry.0 rewards.numbers)
+    found = subst (λ k. IsSomeAnd (slice_get rewards.bodies k) (IsBodyOf p.costs entry.0 rewards.numbers)) n.0.is (a.bodies n.0.rule.number entry.0 entry.1)
 
-    at : (body : Option RewardBody) → body_at rewards.first rewards.bodies number ≡ body → IsLastBody p.costs entries rewards.numbers indices body
+    at : (body : Option RewardBody) → slice_get rewards.bodies number ≡ body → IsLastBody p.costs entries rewards.numbers indices body
     at None e = absurd (subst (λ x. IsSomeAnd x (IsBodyOf p.costs entry.0 rewards.numbers)) e found)
     at (Some b) e = record {
       number = number;

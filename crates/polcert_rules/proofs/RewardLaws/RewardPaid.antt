@@ -2,11 +2,10 @@
 use Rattle.std.proofs.Common.{◌≡◌, ◌∙◌, ℕ, zero, suc, ◌+◌, ◌-◌, ◌*◌, ◌^◌, ◌<◌, ◌≤◌, true, false, ◌&&◌, ⊎_elim, Some, None, List, [], ◌∷◌, length, take, Contains, refl, sym, ap, subst, arith, pos, rules}
 use Rattle.std.specs.List.{slice_get}
 use Rattle.std.proofs.Math.Nat.{mul-le-mul_right}
-use Rattle.polcert_rules.proofs.Common.{cases_lt, Table, Reward, Place, Entry, Preamble, fits_place, fit_places, is_table, covers, reward, Rule, key_base, digit, key_in, table_key, AreDigits, most_places, AreRewardsOf, RewardRules, IsLastNumber, Begins}
+use Rattle.polcert_rules.proofs.Common.{cases_lt, Reward, Place, Entry, Preamble, fits_place, fit_places, is_table, covers, reward, Rule, key_base, digit, key_in, table_key, AreDigits, most_places, AreRewardsOf, RewardRules, IsLastNumber, Begins}
 use Rattle.polcert_rules.specs.Steps.Meeting.{fits_at, meets_row}
 use Rattle.polcert_cells.proofs.Basics.{true≢false}
 use Rattle.polcert_rules.proofs.Keyed.Fitting.{and_true, key_low, key_high, power_some, fit_digits}
-use Rattle.polcert_rules.proofs.Keyed.Covering.{keyed_at}
 use Rattle.polcert_rules.proofs.Keyed.Keying.{digit_some, same_place, next_digit}
 use Rattle.polcert_rules.proofs.RewardLaws.RewardKeys.{key_room, begins_after}
 use Rattle.polcert_rules.proofs.RewardLaws.RewardAlike.{NoneBegins, covering}
@@ -74,9 +73,6 @@ begins_with (suc m) low (p ∷ ps) (q ∷ qs) a b from to = ⊎_elim
     (cases_lt (digit p) (digit q))
 
 -- ---- an entry is
-table_of : (t : Table) (ps : List Place) → AreDigits most_places ps → table_key Reward ≤ key_in most_places (table_key t) ps → t ≡ Reward
-table_of t ps h1 h2 = grind (arith, key_high)
-
 meets : (a s : ℕ) (ps qs : List Place) → length ps ≡ 2 → fit_places ps (a ∷ s ∷ []) ≡ true → take (length ps) qs ≡ ps → (fits_at qs 0 a ≡ true) × (fits_at qs 1 s ≡ true)
 meets a s ps qs h1 h2 h3 = grind arith
 
@@ -96,19 +92,16 @@ paid_by_all entries a s n last = grind (arith, and_true, meets_all)
 pub paid : (p : Preamble) (entries : List Entry) (rewards : RewardRules) (a s : ℕ) (r : Rule) → AreRewardsOf p entries rewards → a + 2 < key_base → s + 2 < key_base
     → Contains rewards.rules r → Begins most_places (table_key Reward) (a ∷ s ∷ []) 0 r.key → IsPaidBy entries a s
 paid p entries rewards a s r are small_a small_s among b =
-    let k = (are.rules r).0 among in
-    let e = are.index_is.sound r k.0 in
+    let e = are.index.sound r among in
     let x = e.0 in
-    let digits : AreDigits most_places x.places = keyed_at (λ (y : Entry). AreDigits most_places y.places) entries r.number x are.keyed e.1 in
-    let t = table_of x.table x.places digits (subst (λ key. table_key Reward ≤ key) (sym e.2) k.1) in
-    let key : key_in most_places (table_key Reward) x.places ≡ r.key = ap (λ u. key_in most_places (table_key u) x.places) (sym t) ∙ e.2 in
+    let key : key_in most_places (table_key Reward) x.places ≡ r.key = ap (λ u. key_in most_places (table_key u) x.places) (sym e.3) ∙ e.2 in
     let from = b.from in
     let to = subst (λ n. r.key < key_in most_places (table_key Reward) b.places + key_base ^ (most_places - n)) (sym b.all) b.to in
-    let with = begins_with most_places (table_key Reward) b.places x.places (fit_digits most_places b.places (a ∷ s ∷ []) (small_a, (small_s, tt)) b.fits) digits (omega arith)
+    let with = begins_with most_places (table_key Reward) b.places x.places (fit_digits most_places b.places (a ∷ s ∷ []) (small_a, (small_s, tt)) b.fits) e.4 (omega arith)
     (subst (λ n. n < key_in most_places (table_key Reward) b.places + key_base ^ (most_places - length b.places)) (sym key) to) in
     let both = meets a s b.places x.places b.all b.fits with in (
       r.number,
       x,
       e.1,
-      ap (λ u. is_table u Reward && fits_at x.places 0 a && fits_at x.places 1 s) t ∙ ap (λ v. true && v && fits_at x.places 1 s) both.0 ∙ both.1,
+      ap (λ u. is_table u Reward && fits_at x.places 0 a && fits_at x.places 1 s) e.3 ∙ ap (λ v. true && v && fits_at x.places 1 s) both.0 ∙ both.1,
     )

@@ -1,18 +1,19 @@
 -- The rewards of entries: from the rules of R and the bodies of their entries.
-use Rattle.std.proofs.Common.{◌≡◌, ℕ, ◌^◌, ◌<◌, Bool, List, length, All, Contains, ℤ, arith}
-use Rattle.polcert_rules.proofs.Common.{slice_get_within, Reward, Entry, Preamble, IsSoundEntry, Rule, RewardShape, RewardBody, key_base, table_key, most_places, AreKeyed, IsIndexOf, AreBodiesOf, AreRewardsOf, reward_rules}
-use Rattle.polcert_rules.specs.Steps.Rewards.{IsShapeOf}
-use Rattle.polcert_rules.proofs.Indexes.Newer.{IsSpan}
+use Rattle.std.proofs.Common.{◌≡◌, ◌∙◌, Bool, List, All, Contains, ℤ, sym, ap, arith}
+use Rattle.polcert_rules.proofs.Common.{Reward, Entry, Preamble, IsSoundEntry, Rule, RewardShape, RewardBody, key_in, table_key, most_places, AreKeyed, IsIndexOf, AreBodiesOf, AreRewardsOf, reward_rules}
+use Rattle.polcert_rules.specs.Steps.Rewards.{IsShapeOf, IsOfRewards}
+use Rattle.polcert_rules.proofs.Keyed.Fitting.{key_low, key_high}
 
 -- ---- the rules of R
-pub number_within : (entries : List Entry) (index part : List Rule) (low size : ℕ) → IsIndexOf entries index → IsSpan index part low size
-    → (r : Rule) → Contains part r → r.number < length entries
-number_within entries index part low size is span r among =
-    let e = is.sound r ((span r).0 among).0 in
-    slice_get_within entries r.number e.0 e.1
+pub of_rewards : (entries : List Entry) (rules : List Rule) → IsIndexOf Reward entries rules → (r : Rule) → Contains rules r → IsOfRewards r
+of_rewards entries rules is r among =
+    let e = is.sound r among in
+    let key : key_in most_places (table_key Reward) e.0.places ≡ r.key = ap (λ t. key_in most_places (table_key t) e.0.places) (sym e.3) ∙ e.2 in
+    let low = key_low most_places (table_key Reward) e.0.places in
+    let high = key_high most_places (table_key Reward) e.0.places e.4 in
+    record { low = omega (arith, key, low); high = omega (arith, key, high) }
 
-pub are_rewards : (p : Preamble) (entries : List Entry) (shape : RewardShape) (costs : Bool) (index rules : List Rule) (first : ℕ) (bodies : List RewardBody) (numbers : List ℤ)
-    → IsShapeOf p shape → p.costs ≡ costs → AreKeyed entries → All (IsSoundEntry p) entries → IsIndexOf entries index
-    → IsSpan index rules (table_key Reward) (key_base ^ most_places) → AreBodiesOf costs entries rules first numbers bodies
-    → AreRewardsOf p entries (reward_rules shape rules first bodies numbers)
-are_rewards p entries shape costs index rs0 first bodies numbers shape_is costs_are keyed sound is span each = grind arith
+pub are_rewards : (p : Preamble) (entries : List Entry) (shape : RewardShape) (costs : Bool) (rules : List Rule) (bodies : List RewardBody) (numbers : List ℤ)
+    → IsShapeOf p shape → p.costs ≡ costs → AreKeyed entries → All (IsSoundEntry p) entries → IsIndexOf Reward entries rules → AreBodiesOf costs entries numbers bodies
+    → AreRewardsOf p entries (reward_rules shape rules bodies numbers)
+are_rewards p entries shape costs rs0 bodies numbers shape_is costs_are keyed sound is each = grind arith

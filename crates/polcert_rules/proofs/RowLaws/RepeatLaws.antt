@@ -1,6 +1,6 @@
 -- Rows of actions that no entry names.
 use Rattle.std.proofs.Common.{◌≡◌, ◌∙◌, ℕ, ◌+◌, ◌*◌, ◌^◌, ◌<◌, ⊎_elim, Option, List, [], ◌∷◌, Contains, sym, ap, arith}
-use Rattle.polcert_rules.proofs.Common.{Table, Entry, last_covering, value_or, Rule, key_base, table_key, most_places, IsNewest, IsIndexOf, AreKeyed, entry_at, newest_in, given, weight_in}
+use Rattle.polcert_rules.proofs.Common.{Table, Entry, last_covering, value_or, Rule, key_base, table_key, most_places, IsNewest, IsIndexOf, entry_at, newest_in, given, weight_in}
 use Rattle.polcert_rules.specs.Keys.{Fits}
 use Rattle.polcert_cells.proofs.CellLaws as cells
 use Rattle.polcert_rules.specs.Steps.Repeats.{NamesNoAction}
@@ -23,12 +23,12 @@ other_fits rules table a b s c r among none ls lc f = ⊎_elim
     (fits_next 3 (table_key table) a (s ∷ c ∷ []) r.key f)
 
 -- ---- the rows of two such actions
-module _ (entries : List Entry) (rules : List Rule) (table : Table) (keyed : AreKeyed entries) (index : IsIndexOf entries rules) where
+module _ (entries : List Entry) (rules : List Rule) (table : Table) (index : IsIndexOf table entries rules) where
   covering_is : (d e c : ℕ) (found : Option ℕ) → d + 2 < key_base → e + 2 < key_base → c + 2 < key_base → IsNewest rules (Fits most_places (table_key table) (d ∷ e ∷ c ∷ [])) found
       → last_covering entries table (d ∷ e ∷ c ∷ []) ≡ entry_at entries found
   covering_is d e c found ld le lc n =
       sym (cells.last_is_one entries table (d ∷ e ∷ c ∷ []) (entry_at entries found)
-      (last_is entries table (d ∷ e ∷ c ∷ []) found (last_number entries rules table (d ∷ e ∷ c ∷ []) found keyed index (ld, (le, (lc, tt))) n)))
+      (last_is entries table (d ∷ e ∷ c ∷ []) found (last_number entries rules table (d ∷ e ∷ c ∷ []) found index (ld, (le, (lc, tt))) n)))
 
   -- an action that no pattern names, and another
   pub as_named : (a b s columns c : ℕ) → NamesNoAction rules table a → NamesNoAction rules table b → a + 2 < key_base → b + 2 < key_base → s + 2 < key_base → c + 2 < key_base

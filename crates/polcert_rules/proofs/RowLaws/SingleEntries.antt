@@ -1,20 +1,19 @@
 -- The entries of single cells.
 use Rattle.std.proofs.Common.{◌≡◌, ◌∙◌, ℕ, ◌+◌, ◌<◌, List, [], ◌∷◌, All, Some, subst, arith}
 use Rattle.std.specs.List.{slice_get}
-use Rattle.polcert_rules.proofs.Common.{Table, Place, Only, Entry, Rule, key_base, table_key, AreDigits, most_places, IsIndexOf, AreKeyed, IsCell, IsSingleEntry}
+use Rattle.polcert_rules.proofs.Common.{Table, Place, Only, Entry, Rule, key_base, table_key, most_places, IsIndexOf, IsCell, IsSingleEntry}
 use Rattle.polcert_rules.proofs.Keyed.Fitting.{fit_digits}
-use Rattle.polcert_rules.proofs.Keyed.Covering.{same_keys, keyed_at}
+use Rattle.polcert_rules.proofs.Keyed.Covering.{same_keys}
 use Rattle.polcert_rules.proofs.RowLaws.RowNumbers.{single_fit}
 
-pub single_entry : (entries : List Entry) (rules : List Rule) (table : Table) (a s : ℕ) → AreKeyed entries → IsIndexOf entries rules → a + 2 < key_base → s + 2 < key_base
+pub single_entry : (entries : List Entry) (rules : List Rule) (table : Table) (a s : ℕ) → IsIndexOf table entries rules → a + 2 < key_base → s + 2 < key_base
     → (x : Rule) → IsCell rules (table_key table) a s x → IsSingleEntry entries table x
-single_entry entries rules table a s keyed index la ls x c =
+single_entry entries rules table a s index la ls x c =
     let entry = index.sound c.rule c.among in
     let places : List Place = c.single.first ∷ c.single.second ∷ Only x.key ∷ [] in
     let small = c.column in
     let named = fit_digits most_places places (a ∷ s ∷ x.key ∷ []) (omega arith, (omega arith, (omega arith, tt))) (single_fit (table_key table) a s x.key c.rule.key c.single) in
-    let digits = keyed_at (λ (e : Entry). AreDigits most_places e.places) entries c.rule.number entry.0 keyed entry.1 in
-    let same = same_keys entry.0.table table entry.0.places places digits named (entry.2 ∙ c.single.is) in
+    let same = same_keys entry.0.table table entry.0.places places entry.4 named (entry.2 ∙ c.single.is) in
     record {
       entry = entry.0;
       is = subst (λ n. slice_get entries n ≡ Some entry.0) c.number_is entry.1;
@@ -24,6 +23,6 @@ single_entry entries rules table a s keyed index la ls x c =
       places = same.1;
     }
 
-pub single_entries : (entries : List Entry) (rules : List Rule) (table : Table) (a s : ℕ) (xs : List Rule) → AreKeyed entries → IsIndexOf entries rules → a + 2 < key_base → s + 2 < key_base
+pub single_entries : (entries : List Entry) (rules : List Rule) (table : Table) (a s : ℕ) (xs : List Rule) → IsIndexOf table entries rules → a + 2 < key_base → s + 2 < key_base
     → All (IsCell rules (table_key table) a s) xs → All (IsSingleEntry entries table) xs
-single_entries entries rules table a s xs keyed index la ls h k d l = single_entry entries rules table a s keyed index la ls _ (h k d l)
+single_entries entries rules table a s xs index la ls h k d l = single_entry entries rules table a s index la ls _ (h k d l)

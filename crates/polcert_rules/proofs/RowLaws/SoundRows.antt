@@ -128,7 +128,7 @@ sound_within p table shape entries h1 h2 h3 = grind arith
 
 -- the numbers of a row, by what the index says of it
 pub row_numbers : (p : Preamble) (table : Table) (shape : Shape) (entries : List Entry) (rules : List Rule) (split : SplitRules) (a s : ℕ) (whole : Option ℕ) (row : Row)
-    → IsWeighted table → IsShapeOf p table shape → AreSound p entries → IsIndexOf entries rules → IsSplit entries table rules split → IsWholeNumber rules table a s whole
-    → ((es : List Entry) (rs : List Rule) → AreKeyed es → HaveColumns es → IsIndexOf es rs → IsSplit es table rs split → IsWholeNumber rs table a s whole → IsRowOf es table a s row)
+    → IsWeighted table → IsShapeOf p table shape → AreSound p entries → IsIndexOf table entries rules → IsSplit entries rules split → IsWholeNumber rules table a s whole
+    → ((es : List Entry) (rs : List Rule) → HaveColumns es → IsIndexOf table es rs → IsSplit es rs split → IsWholeNumber rs table a s whole → IsRowOf es table a s row)
     → AreNumbersOf shape entries table a s row
-row_numbers p table shape entries rs0 split a s whole row w is sound index parted coverings0 of_row = search (rules, keyed, sound_keyed, sound_columns, covering, numbers_are, sound_within)
+row_numbers p table shape entries rs0 split a s whole row w is sound index parted coverings0 of_row = search (rules, sound_columns, covering, numbers_are, sound_within)

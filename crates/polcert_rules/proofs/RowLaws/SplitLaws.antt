@@ -1,6 +1,6 @@
 -- The rules of a table in two lists.
-use Rattle.std.proofs.Common.{◌≡◌, ◌∙◌, ◌==◌, suc, ◌+◌, ◌^◌, ◌<◌, ◌≤◌, ◌↔◌, ◌⊎◌, inl, inr, ⊎_elim, Bool, true, false, cond, List, [], ◌∷◌, All, Contains, length, refl, sym, subst, arith}
-use Rattle.polcert_rules.proofs.Common.{nat_tests, AllPairs-cons, slice_get_within, Table, Entry, Rule, SplitRules, key_base, most_places, table_key, IsRising, IsIndexOf, IsSplit, others_in, is_zero, zeros_of, others_of}
+use Rattle.std.proofs.Common.{◌≡◌, ◌∙◌, ◌==◌, suc, ◌<◌, ◌⊎◌, inl, inr, ⊎_elim, Bool, true, false, cond, List, [], ◌∷◌, Contains, length, refl, sym, subst, arith}
+use Rattle.polcert_rules.proofs.Common.{nat_tests, AllPairs-cons, Entry, Rule, SplitRules, IsRising, IsSplit, others_in, is_zero, zeros_of, others_of}
 use Rattle.polcert_rules.specs.Steps.Rows.{AreExact}
 use Rattle.polcert_rules.proofs.Indexes.Building.{Among, among_from, contains_from}
 use Rattle.polcert_rules.proofs.RowLaws.Cells.{all_of}
@@ -46,34 +46,27 @@ module _ (entries : List Entry) where
       at false ih = AllPairs-cons (λ x y. x.key < y.key) r (others_of entries rs)
           (all_of (λ q. r.key < q.key) (others_of entries rs) (λ q c. below_rest r rs q up (others_old rs q (among_from (others_of entries rs) q c)))) ih
 
-  pub split_is : (table : Table) (rules part : List Rule) (split : SplitRules) → IsRising part
-      → ((r : Rule) → Contains part r ↔ (Contains rules r × (table_key table ≤ r.key) × (r.key < table_key table + key_base ^ most_places)))
-      → split.zeros.items ≡ zeros_of entries part → others_in split.others ≡ others_of entries part → (split.is_exact ≡ true → AreExact part) → IsSplit entries table rules split
-  split_is table rules part split up kept z o exact = record {
-    zeros_rise = subst IsRising (sym z) (zeros_rise part up);
-    others_rise = subst IsRising (sym o) (others_rise part up);
-    each = λ r. ((λ e. (kept r).0 (⊎_elim (λ c. contains_from part r (old_zero r c).0) (λ c. contains_from part r (old_other r c)) e)), (λ b. new r ((kept r).1 b)));
+  pub split_is : (rules : List Rule) (split : SplitRules) → IsRising rules → split.zeros.items ≡ zeros_of entries rules → others_in split.others ≡ others_of entries rules
+      → (split.is_exact ≡ true → AreExact rules) → IsSplit entries rules split
+  split_is rules split up z o exact = record {
+    zeros_rise = subst IsRising (sym z) (zeros_rise rules up);
+    others_rise = subst IsRising (sym o) (others_rise rules up);
+    each = λ r. (⊎_elim (λ c. contains_from rules r (old_zero r c).0) (λ c. contains_from rules r (old_other r c)), new r);
     zero = λ r c. (old_zero r c).1;
-    exact = λ t r c low high. exact t r ((kept r).1 (c, low, high));
+    exact = exact;
   }
     where
-      old_zero : (r : Rule) → Contains split.zeros.items r → Among r part × (is_zero entries r.number ≡ true)
-      old_zero r c = zeros_old part r (among_from (zeros_of entries part) r (subst (λ (xs : List Rule). Contains xs r) z c))
+      old_zero : (r : Rule) → Contains split.zeros.items r → Among r rules × (is_zero entries r.number ≡ true)
+      old_zero r c = zeros_old rules r (among_from (zeros_of entries rules) r (subst (λ (xs : List Rule). Contains xs r) z c))
 
-      old_other : (r : Rule) → Contains (others_in split.others) r → Among r part
-      old_other r c = others_old part r (among_from (others_of entries part) r (subst (λ (xs : List Rule). Contains xs r) o c))
+      old_other : (r : Rule) → Contains (others_in split.others) r → Among r rules
+      old_other r c = others_old rules r (among_from (others_of entries rules) r (subst (λ (xs : List Rule). Contains xs r) o c))
 
-      new : (r : Rule) → Contains part r → Contains split.zeros.items r ⊎ Contains (others_in split.others) r
+      new : (r : Rule) → Contains rules r → Contains split.zeros.items r ⊎ Contains (others_in split.others) r
       new r c = ⊎_elim
-          (λ a. inl (subst (λ (xs : List Rule). Contains xs r) (sym z) (contains_from (zeros_of entries part) r a)))
-          (λ a. inr (subst (λ (xs : List Rule). Contains xs r) (sym o) (contains_from (others_of entries part) r a)))
-          (none_lost part r (among_from part r c))
-
-  -- each number is that of an entry
-  pub numbers_within : (table : Table) (rules part : List Rule) → IsIndexOf entries rules
-      → ((r : Rule) → Contains part r ↔ (Contains rules r × (table_key table ≤ r.key) × (r.key < table_key table + key_base ^ most_places))) → All (λ (r : Rule). r.number < length entries) part
-  numbers_within table rules part index kept = all_of (λ (r : Rule). r.number < length entries) part
-      (λ r c. let i = index.sound r ((kept r).0 c).0 in slice_get_within entries r.number i.0 i.1)
+          (λ a. inl (subst (λ (xs : List Rule). Contains xs r) (sym z) (contains_from (zeros_of entries rules) r a)))
+          (λ a. inr (subst (λ (xs : List Rule). Contains xs r) (sym o) (contains_from (others_of entries rules) r a)))
+          (none_lost rules r (among_from rules r c))
 
   -- without zeros the others are all rules
   all_others : (rs : List Rule) → zeros_of entries rs ≡ [] → others_of entries rs ≡ rs

@@ -1,5 +1,5 @@
 -- A row's single cells over what covers the whole row. Nobody has to believe this file: only private functions cite it.
-use Rattle.std.specs.Prelude.{ℕ, ◌+◌, ◌<◌, ◌≤◌, ◌==◌, Bool, true, false, List, [], ◌∷◌, ◌++◌, Option, Some, None, nat_lt, if◌then◌else◌}
+use Rattle.std.specs.Prelude.{ℕ, ◌+◌, ◌<◌, ◌≤◌, ◌==◌, Bool, true, List, [], ◌∷◌, ◌++◌, Option, Some, None, nat_lt, if◌then◌else◌}
 use Rattle.polcert_cells.specs.declared.entries.Table.{Table}
 use Rattle.polcert_cells.specs.declared.entries.Entry.{Entry}
 use Rattle.polcert_cells.specs.Cells.{last_covering, value_or}
@@ -42,19 +42,18 @@ abbrev pub following : ℕ → List Cell → List Cell
 following column [] = []
 following column (x ∷ xs) = if nat_lt x.column column then following column xs else (if x.column == column then xs else (x ∷ xs))
 
+-- the cell has a weight
+abbrev pub is_positive : Cell → Bool
+is_positive cell = nat_lt 0 cell.weight
+
 -- with a cell in front, if it has a weight
 abbrev pub with_cell : Cell → List Cell → List Cell
-with_cell x xs = if nat_lt 0 x.weight then (x ∷ xs) else xs
+with_cell x xs = if is_positive x then (x ∷ xs) else xs
 
 -- newer cells over a row: each hides the row's cell in its column
 abbrev pub merged : List Cell → List Cell → List Cell
 merged base [] = base
 merged base (x ∷ xs) = before x.column base ++ with_cell x (merged (following x.column base) xs)
-
--- each cell has a weight
-abbrev pub are_positive : List Cell → Bool
-are_positive [] = true
-are_positive (x ∷ xs) = if x.weight == 0 then false else are_positive xs
 
 -- the weight of a column: that of a newer cell, or else this one
 abbrev pub weight_over : List Cell → (ℕ → ℕ) → ℕ → ℕ

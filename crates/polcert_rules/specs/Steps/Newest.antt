@@ -1,4 +1,4 @@
--- The index of a list of entries, and what it finds.
+-- The index of the entries of a table, and what it finds.
 use Rattle.std.specs.Prelude.{◌≡◌, ℕ, ◌+◌, ◌<◌, ◌≤◌, ◌==◌, List, [], ◌∷◌, length, take, drop, max, Option, Some, None, All, AllPairs, Contains, slice_get, true, if◌then◌else◌}
 use Rattle.polcert_cells.specs.declared.entries.Table.{Table}
 use Rattle.polcert_cells.specs.declared.entries.Entry.{Entry}
@@ -16,14 +16,14 @@ pub record IsCut (rules : List Rule) (key place : ℕ) : Type 0 where
   pub front : (r : Rule) → Contains (take place rules) r → r.key < key
   pub rest : (r : Rule) → Contains (drop place rules) r → key ≤ r.key
 
--- a rule is an entry, by its number and its key
-abbrev pub IsEntry : List Entry → Rule → Type 0
-IsEntry entries r = (e : Entry) × (slice_get entries r.number ≡ Some e) × (key_of e ≡ r.key)
+-- a rule is an entry of the table, by its number and its key
+abbrev pub IsEntry : Table → List Entry → Rule → Type 0
+IsEntry table entries r = (e : Entry) × (slice_get entries r.number ≡ Some e) × (key_of e ≡ r.key) × (e.table ≡ table) × AreDigits most_places e.places
 
--- Each rule is an entry; and each entry has a rule with its key, and a number as great.
-pub record IsIndexOf (entries : List Entry) (rules : List Rule) : Type 0 where
-  pub sound : (r : Rule) → Contains rules r → IsEntry entries r
-  pub complete : (n : ℕ) (e : Entry) → slice_get entries n ≡ Some e → (r : Rule) × Contains rules r × (r.key ≡ key_of e) × (n ≤ r.number)
+-- Each rule is an entry of the table; and each entry of the table has a rule with its key, and a number as great.
+pub record IsIndexOf (table : Table) (entries : List Entry) (rules : List Rule) : Type 0 where
+  pub sound : (r : Rule) → Contains rules r → IsEntry table entries r
+  pub complete : (n : ℕ) (e : Entry) → slice_get entries n ≡ Some e → e.table ≡ table → (r : Rule) × Contains rules r × (r.key ≡ key_of e) × (n ≤ r.number)
 
 -- places that have a key
 abbrev pub AreKeyed : List Entry → Type 0

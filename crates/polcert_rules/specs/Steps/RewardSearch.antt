@@ -8,7 +8,7 @@ use Rattle.polcert_cells.specs.Cells.{fit_places, reward}
 use Rattle.polcert_cells.specs.Preamble.{Preamble}
 use Rattle.polcert_rules.specs.declared.index.Rule.{Rule}
 use Rattle.polcert_rules.specs.declared.rewards.Outcome.{Outcome}
-use Rattle.polcert_rules.specs.declared.rewards.RewardBody.{RewardBody}
+use Rattle.polcert_cells.specs.declared.entries.RewardBody.{RewardBody}
 use Rattle.polcert_rules.specs.Keys.{key_base, key_in, table_key}
 use Rattle.polcert_rules.specs.Steps.Newest.{IsLastNumber}
 use Rattle.polcert_rules.specs.Steps.Rewards.{AreRewardsOf, IsBodyOf}

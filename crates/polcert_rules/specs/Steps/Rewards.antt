@@ -1,6 +1,6 @@
 -- The rewards of a model as rules: what is seen of them, and what ties them to the entries that they come from.
 -- Nobody has to believe this file: what rewards are made from and what they answer are stated by the entries alone.
-use Rattle.std.specs.Prelude.{◌≡◌, ℕ, ◌+◌, ◌^◌, ◌<◌, ◌≤◌, ◌↔◌, Bool, List, length, All, Contains, slice_get, Some, ℤ, if◌then◌else◌}
+use Rattle.std.specs.Prelude.{◌≡◌, ℕ, ◌+◌, ◌^◌, ◌<◌, ◌≤◌, Bool, List, length, All, Contains, slice_get, Some, ℤ, if◌then◌else◌}
 use Rattle.std.specs.Int.{w64, int_wrapping_neg}
 use Rattle.std.specs.Option.{IsSomeAnd}
 use Rattle.polcert_cells.specs.declared.entries.Table.TheVariants.{Reward}
@@ -12,10 +12,10 @@ use Rattle.polcert_cells.specs.Preamble.{Preamble, rewarded}
 use Rattle.polcert_cells.specs.Steps.Sound.{IsSoundEntry}
 use Rattle.polcert_rules.specs.declared.index.Rule.{Rule}
 use Rattle.polcert_rules.specs.declared.rewards.RewardShape.{RewardShape}
-use Rattle.polcert_rules.specs.declared.rewards.RewardBody.{RewardBody}
+use Rattle.polcert_cells.specs.declared.entries.RewardBody.{RewardBody}
 use Rattle.polcert_rules.specs.Keys.{key_base, table_key, most_places}
 use Rattle.polcert_rules.specs.Steps.Newest.{IsRising, IsIndexOf, AreKeyed}
-use Rattle.polcert_rules.specs.RewardAt.{RewardRules, body_at}
+use Rattle.polcert_rules.specs.RewardAt.{RewardRules}
 
 -- the shape has as many elements of each kind as the indices of a reward run over
 pub record IsShapeOf (p : Preamble) (shape : RewardShape) : Type 0 where
@@ -53,20 +53,17 @@ pub record IsBodyOf (costs : Bool) (entry : Entry) (numbers : List ℤ) (body : 
   pub places : body.places ≡ length entry.places
   pub numbers_are : (k : ℕ) (h : ℤ) → slice_get (rewards_in entry.body) k ≡ Some h → slice_get numbers (body.start + k) ≡ Some (worth costs h)
 
--- the entry of each rule has its body
-abbrev pub AreBodiesOf : Bool → List Entry → List Rule → ℕ → List ℤ → List RewardBody → Type 0
-AreBodiesOf costs entries rules first numbers bodies =
-    (r : Rule) → Contains rules r → (e : Entry) → slice_get entries r.number ≡ Some e → IsSomeAnd (body_at first bodies r.number) (IsBodyOf costs e numbers)
+-- each entry has its body
+abbrev pub AreBodiesOf : Bool → List Entry → List ℤ → List RewardBody → Type 0
+AreBodiesOf costs entries numbers bodies = (n : ℕ) (e : Entry) → slice_get entries n ≡ Some e → IsSomeAnd (slice_get bodies n) (IsBodyOf costs e numbers)
 
--- The rules are those of R in an index of the entries, and each has the body of its entry.
+-- The rules are an index of the entries of R, and each has the body of its entry.
 pub record AreRewardsOf (p : Preamble) (entries : List Entry) (rewards : RewardRules) : Type 0 where
   pub shape : IsShapeOf p rewards.shape
   pub sound : All (IsSoundEntry p) entries
   pub keyed : AreKeyed entries
-  pub index : List Rule
-  pub index_is : IsIndexOf entries index
-  pub rules : (r : Rule) → Contains rewards.rules r ↔ (Contains index r × (table_key Reward ≤ r.key) × (r.key < table_key Reward + key_base ^ most_places))
-  pub bodies : AreBodiesOf p.costs entries rewards.rules rewards.first rewards.numbers rewards.bodies
+  pub index : IsIndexOf Reward entries rewards.rules
+  pub bodies : AreBodiesOf p.costs entries rewards.numbers rewards.bodies
 
-abbrev pub reward_rules : RewardShape → List Rule → ℕ → List RewardBody → List ℤ → RewardRules
-reward_rules shape rules first bodies numbers = record { shape = shape; rules = rules; first = first; bodies = bodies; numbers = numbers }
+abbrev pub reward_rules : RewardShape → List Rule → List RewardBody → List ℤ → RewardRules
+reward_rules shape rules bodies numbers = record { shape = shape; rules = rules; bodies = bodies; numbers = numbers }

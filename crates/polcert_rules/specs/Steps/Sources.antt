@@ -141,8 +141,8 @@ pub record AreGiven (given : TableEntries) : Type 0 where
   pub preamble : Preamble
   pub shape : IsShapeOf preamble given.table given.bodies.shape
   pub sound : AreSound preamble given.bodies.entries.now
-  pub index : IsIndexOf given.bodies.entries.now given.index.now
-  pub split : IsSplit given.bodies.entries.now given.table given.index.now given.split.now
+  pub index : IsIndexOf given.table given.bodies.entries.now given.index.now
+  pub split : IsSplit given.bodies.entries.now given.index.now given.split.now
 
 -- the weights of a row
 abbrev pub weights_at : TableEntries → ℕ → ℕ → ℕ → ℕ

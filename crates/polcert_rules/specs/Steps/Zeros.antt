@@ -13,11 +13,11 @@ use Rattle.polcert_rules.specs.declared.zeros.Others.TheVariants.{Borrowed, List
 use Rattle.polcert_rules.specs.declared.zeros.ZeroColumns.{ZeroColumns}
 use Rattle.polcert_rules.specs.declared.zeros.RowZeros.{RowZeros}
 use Rattle.polcert_rules.specs.declared.row.Row.{Row}
-use Rattle.polcert_rules.specs.Keys.{key_base, most_places, table_key}
+use Rattle.polcert_rules.specs.Keys.{key_base}
 use Rattle.polcert_rules.specs.Steps.Newest.{IsRising, IsLastNumber}
 use Rattle.polcert_rules.specs.Matching.{max_option, newest_by}
 use Rattle.polcert_rules.specs.Steps.Merging.{is_newer}
-use Rattle.polcert_rules.specs.Steps.Rows.{IsExactKey, IsSingleEntry, no_column, number_in}
+use Rattle.polcert_rules.specs.Steps.Rows.{AreExact, IsSingleEntry, no_column, number_in}
 
 -- ---- which rules are zeros
 -- the body of an entry of so many places gives single cells the weight 0
@@ -50,14 +50,13 @@ abbrev pub others_in : Others → List Rule
 others_in (Borrowed rules) = rules.now
 others_in (Listed rules) = rules.items
 
--- each rule of the table is in one of the two lists, and those of the first are zeros
-pub record IsSplit (entries : List Entry) (table : Table) (rules : List Rule) (split : SplitRules) : Type 0 where
+-- each rule is in one of the two lists, and those of the first are zeros
+pub record IsSplit (entries : List Entry) (rules : List Rule) (split : SplitRules) : Type 0 where
   pub zeros_rise : IsRising split.zeros.items
   pub others_rise : IsRising (others_in split.others)
-  pub each : (r : Rule) → (Contains split.zeros.items r ⊎ Contains (others_in split.others) r)
-      ↔ (Contains rules r × (table_key table ≤ r.key) × (r.key < table_key table + key_base ^ most_places))
+  pub each : (r : Rule) → (Contains split.zeros.items r ⊎ Contains (others_in split.others) r) ↔ Contains rules r
   pub zero : (r : Rule) → Contains split.zeros.items r → is_zero entries r.number ≡ true
-  pub exact : split.is_exact ≡ true → (r : Rule) → Contains rules r → table_key table ≤ r.key → r.key < table_key table + key_base ^ most_places → IsExactKey r.key
+  pub exact : split.is_exact ≡ true → AreExact rules
 
 -- ---- the zeros of a row
 -- the number of the rule with this key

@@ -1,5 +1,5 @@
-use Rattle.std.proofs.Common.{◌≤◌, List, [], ◌∷◌, length, arith}
-use Rattle.polcert_rules.proofs.Common.{Place, AreDigits, most_places}
+use Rattle.std.proofs.Common.{◌≤◌, subst, List, [], ◌∷◌, length, arith}
+use Rattle.polcert_rules.proofs.Common.{Place, entry_of, AreDigits, most_places}
 use Rattle.polcert_rules.proofs.index.key_of.Goals as goal
 
 few : (ps : List Place) → AreDigits most_places ps → 5 ≤ length ps → ⊥
@@ -11,4 +11,4 @@ few (p ∷ q ∷ r ∷ s ∷ []) digits l = omega arith
 few (p ∷ q ∷ r ∷ s ∷ t ∷ ps) digits l = digits.1.1.1.1
 
 pub returns-in_default-2 : goal.returns-in_default-2
-returns-in_default-2 c = absurd (few c.args.entry.places.now c.requires c.in_default.len_at_least)
+returns-in_default-2 c = absurd (few (entry_of c.args.entry).places c.requires (subst (λ (ps : List Place). 5 ≤ length ps) c.as_slice.ensures c.in_default.len_at_least))

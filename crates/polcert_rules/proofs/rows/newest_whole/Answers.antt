@@ -1,9 +1,8 @@
-use Rattle.std.proofs.Common.{[], ◌∷◌, refl, arith}
-use Rattle.polcert_rules.proofs.Common.{most_places, no_column, table_key}
+use Rattle.std.proofs.Common.{refl, arith}
+use Rattle.polcert_rules.proofs.Common.{table_key}
 use Rattle.polcert_rules.specs.Keys.{table_digit}
 use Rattle.polcert_rules.proofs.RowLaws.ExactKeys.{covers_no_row}
 use Rattle.polcert_rules.proofs.RowLaws.SoundRows.{sound_within}
-use Rattle.polcert_rules.proofs.Keyed.Fitting.{fits_low, fits_high}
 use Rattle.polcert_rules.proofs.rows.newest_whole.Goals as goal
 
 pub newest_rule-requires : goal.newest_rule-requires
@@ -18,12 +17,4 @@ newest_rule-requires c =
 
 pub returns-then-given : goal.returns-then-given
 returns-then-given c r among f =
-    let g = c.requires.given in
-    let within = sound_within g.preamble c.args.given.table c.args.given.bodies.shape c.args.given.bodies.entries.now g.weighted g.shape g.sound in
-    let actions = within.actions.1 in
-    let states = within.states.1 in
-    let la = c.requires.action in
-    let ls = c.requires.state in
-    let low = fits_low most_places (table_key c.args.given.table) _ r.key f in
-    let high = fits_high most_places (table_key c.args.given.table) (c.args.action ∷ c.args.state ∷ no_column ∷ []) r.key (omega (arith, actions, la), (omega (arith, states, ls), (omega arith, tt))) f in
-    covers_no_row (table_key c.args.given.table) (table_digit c.args.given.table) c.args.action c.args.state refl r.key (g.split.exact c.if-given.true r among low high) f
+    covers_no_row (table_key c.args.given.table) (table_digit c.args.given.table) c.args.action c.args.state refl r.key (c.requires.given.split.exact c.if-given.true r among) f

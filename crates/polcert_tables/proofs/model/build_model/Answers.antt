@@ -8,21 +8,21 @@ use Rattle.polcert_tables.proofs.KeptLaws.{are_sound, is_kept, is_kept_model, Ar
 use Rattle.polcert_tables.proofs.RowSumLaws.{kept_proper, wrong_transition, wrong_observation}
 use Rattle.polcert_tables.proofs.model.build_model.Goals as goal
 
-pub of-requires : goal.of-requires
-of-requires c =
+pub of-requires-2 : goal.of-requires-2
+of-requires-2 c =
     let d : Draft = draft_with c.args.preamble c.args.start c.args.entries in
     sound_keyed d.preamble c.args.entries (are_sound d c.requires.sound)
 
-pub of-requires-2-clause-sound : goal.of-requires-2-clause-sound
-of-requires-2-clause-sound c =
+pub of-requires-clause-sound : goal.of-requires-clause-sound
+of-requires-clause-sound c =
     let d : Draft = draft_with c.args.preamble c.args.start c.args.entries in (
       d.preamble,
       record { actions = c.count.ensures; states = c.count-2.ensures; columns = c.count-3.ensures },
       are_sound d c.requires.sound,
     )
 
-pub observed_rows-requires-clause-sound : goal.observed_rows-requires-clause-sound
-observed_rows-requires-clause-sound c =
+pub observed_rows-requires : goal.observed_rows-requires
+observed_rows-requires c =
     let d : Draft = draft_with c.args.preamble c.args.start c.args.entries in (
       d.preamble,
       refl,

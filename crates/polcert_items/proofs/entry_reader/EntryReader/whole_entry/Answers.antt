@@ -9,7 +9,7 @@ use Rattle.polcert_items.proofs.entry_reader.EntryReader.whole_entry.Goals as go
 pub returns : goal.returns
 returns c = λ preamble.
     let r = c.args.self.now in
-    subst (λ places. EntryGoes preamble r [] (entry_with r.table places (body_of c.match-self.body))) (sym c.as_slice-2.ensures)
+    subst (λ places. EntryGoes preamble r [] (entry_with r.table places (body_of c.match-self.body))) (sym c.copied.ensures)
     (elim c.match-self.branch [
       | in-Probabilities w ↦ subst (λ b. EntryGoes preamble r [] (entry_with r.table r.places (body_of b))) (sym w.body-is)
           (subst (λ read. EntryGoes preamble r [] (entry_with r.table r.places (bodies.Probabilities read))) (sym w.as_slice.ensures)

@@ -14,4 +14,4 @@ pub returns : goal.returns
 returns c =
     let is = c.keep_newest_of_each.ensures in
     let moved = subst (λ (xs : List Rule). IsPermutation xs c.sort_unstable_by_key.new.self.items) c.in_ok-rules.ensures c.sort_unstable_by_key.ensures.permutation in
-    subst (IsIndexOf c.args.entries.now) (sym is) (is_index c.args.entries.now _ moved)
+    subst (IsIndexOf c.args.table c.args.entries.now) (sym is) (is_index c.args.table c.args.entries.now _ c.requires moved)

@@ -1,5 +1,6 @@
 use Rattle.std.proofs.Common.{◌∙◌, ℕ, None, Option, subst, sym, ap}
-use Rattle.polcert_rules.proofs.Common.{Reward, table_key, most_places, IsNewest, RewardRules, body_at, IsLastBody}
+use Rattle.std.specs.List.{slice_get}
+use Rattle.polcert_rules.proofs.Common.{Reward, table_key, most_places, IsNewest, RewardRules, IsLastBody}
 use Rattle.polcert_rules.specs.Keys.{Fits}
 use Rattle.polcert_rules.proofs.RewardLaws.RewardCells.{last_of_rules, last_body}
 use Rattle.polcert_rules.proofs.rewards.Rewards.body_of.Goals as goal
@@ -7,7 +8,7 @@ use Rattle.polcert_rules.proofs.rewards.Rewards.body_of.Goals as goal
 pub returns-in-Some : goal.returns-in-Some
 returns-in-Some c indices p entries small are newest =
     let n = subst (λ (number : Option ℕ). IsNewest c.args.self.now.rules (Fits most_places (table_key Reward) indices) number) c.in-Some.is newest in
-    let found = c.find.ensures ∙ ap (λ (rewards : RewardRules). body_at rewards.first rewards.bodies c.in-Some.number) c.self.view_is in
+    let found = c.find.ensures ∙ ap (λ (rewards : RewardRules). slice_get rewards.bodies c.in-Some.number) c.self.view_is in
     subst (IsLastBody p.costs entries c.args.self.now.numbers indices) (sym found) (last_body p entries c.args.self.now indices c.in-Some.number are small n)
 
 pub returns-in-None : goal.returns-in-None

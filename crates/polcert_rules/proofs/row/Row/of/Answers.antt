@@ -8,7 +8,7 @@ few : (table : Table) (d : ℕ) → d ≡ table_digit table → d ≤ 2
 few table d is = grind arith
 
 pub returns : goal.returns
-returns c entries rules keyed columns index parted covering =
+returns c entries rules columns index parted covering =
     let a = c.args.action in
     let s = c.args.state in
     let found = c.in_ok-cells.cells.rules.items in
@@ -19,14 +19,11 @@ returns c entries rules keyed columns index parted covering =
     let each = subst (λ l. All (IsCell (others_in c.args.split.now.others) l a s) found) low c.in_ok-cells.ensures.each in
     let newest_zeros = subst (λ l. (n : ℕ) → n + 2 < key_base → IsNewest c.as_slice.result.now (IsSingle l a s n) (zero_of zeros n)) low c.row_zeros-zeros.ensures.newest in
     let of_zeros = subst (λ (rules : List Rule). (n : ℕ) → n + 2 < key_base → IsNewest rules (IsSingle table a s n) (zero_of zeros n)) c.as_slice.ensures.value newest_zeros in
-    row_is entries rules c.args.table a s c.args.split.now keyed columns index parted c.requires.action c.requires.state _ covering
+    row_is entries rules c.args.table a s c.args.split.now columns index parted c.requires.action c.requires.state _ covering
     c.in_ok-cells.ensures.rising newest each c.row_zeros-zeros.ensures.ordered of_zeros
 
 pub cells-requires-clause-exact : goal.cells-requires-clause-exact
-cells-requires-clause-exact c t r among =
-    let split = c.requires.split.2 in
-    let within = (split.each r).0 (inr among) in
-    split.exact t r within.0 within.1 within.2
+cells-requires-clause-exact c t r among = let split = c.requires.split.2 in split.exact t r ((split.each r).0 (inr among))
 
 pub cells-requires-clause-low : goal.cells-requires-clause-low
 cells-requires-clause-low c =
