@@ -1,0 +1,5 @@
+use Rattle.std.proofs.Common.{rules}
+use Rattle.polcert_terminal.proofs.every_policy.choice_by_name.Goals as goal
+
+pub returns-in_ok-file_names_of-in-check : goal.returns-in_ok-file_names_of-in-check
+returns-in_ok-file_names_of-in-check c = search rules
