@@ -1,5 +1,6 @@
 -- Entries as they are kept: what stands in lists that continue stays, and an entry that is put after them stands there.
 use Rattle.std.proofs.Common.{◌≡◌, ◌∙◌, ℕ, zero, suc, ◌+◌, ◌-◌, ◌≤◌, ℤ, List, [], ◌∷◌, ◌++◌, Option, Some, None, length, take, drop, map, All, refl, sym, ap, subst, arith, length-append, append_assoc, take_all, rules}
+use Rattle.polcert_cells.proofs.Basics.{slice_get-drop}
 use Rattle.polcert_cells.proofs.Common.{map-append, All-head, All-tail, All-cons, All-nil, EntryStore, Entry, AreHeldIn, length-map}
 use Rattle.std.proofs.lemmas.List.{append-nil, drop-append-le, take-append-le, length-drop, length-take-le}
 use Rattle.std.proofs.lemmas.List.Elements.{All-append, All-weaker}
@@ -81,11 +82,6 @@ module _ (p q r : EntryStore) (g : GoOn p q) (probabilities : r.probabilities �
   held_still hs a = grind (arith, all_stay, dropped, go_on_dropped, listed_still)
 
 -- ---- the bodies of the entries
-read_after : {X : Type 0} (n k : ℕ) (xs : List X) → slice_get (drop n xs) k ≡ slice_get xs (n + k)
-read_after zero k xs = let e : k ≡ 0 + k = omega arith in ap (slice_get xs) e
-read_after (suc n) k [] = refl
-read_after (suc n) k (x ∷ xs) = let e : suc (n + k) ≡ suc n + k = omega arith in read_after n k xs ∙ ap (slice_get (x ∷ xs)) e
-
 read_before : {X : Type 0} (n k : ℕ) (xs : List X) (x : X) → slice_get (take n xs) k ≡ Some x → slice_get xs k ≡ Some x
 read_before zero k xs x is = cc
 read_before (suc n) k [] x is = is
@@ -94,7 +90,7 @@ read_before (suc n) (suc k) (y ∷ xs) x is = read_before n k xs x is
 
 -- the rewards of an entry stand from its start on
 read_from : (p : EntryStore) (f : BodyTag) (n : Span) (k : ℕ) (x : ℤ) → slice_get (rewards_of (body_in p f n)) k ≡ Some x → slice_get p.rewards.items (n.start + k) ≡ Some x
-read_from p Rewards n k x is = sym (read_after n.start k p.rewards.items) ∙ read_before (n.end - n.start) k (drop n.start p.rewards.items) x is
+read_from p Rewards n k x is = sym (slice_get-drop n.start k p.rewards.items) ∙ read_before (n.end - n.start) k (drop n.start p.rewards.items) x is
 read_from p f n k x is = cc
 
 pub bodies_stand : (p : EntryStore) (hs : List EntryHeader) → AreHeldIn p hs → AreEntryBodies (map (entry_in p) hs) (map reward_body hs)

@@ -42,7 +42,7 @@ use polcert_text::{Token, TokenKind};
 use std::alloc::{AllocError, Global};
 
 /// A list of so many numbers, as far as it has been read.
-#[derive(Debug, Drop)]
+#[derive(Drop)]
 pub struct Numbers<T: Copy> {
     pub read: Sequence<T>,
     pub needed: usize,
@@ -120,14 +120,14 @@ impl<T: ListNumber> Numbers<T> {
 }
 
 /// A word in place of an entry's numbers.
-#[derive(Clone, Copy, Debug, PartialEq, Eq)]
+#[derive(Clone, Copy)]
 pub enum Word {
     Uniform,
     Identity,
 }
 
 /// What an entry continues with.
-#[derive(Debug, Drop)]
+#[derive(Drop)]
 pub enum EntryState {
     /// The colon after the table's word.
     Colon,
@@ -142,7 +142,7 @@ pub enum EntryState {
 }
 
 /// An entry after the word of its table, as far as it has been read.
-#[derive(Debug, Drop)]
+#[derive(Drop)]
 pub struct EntryReader {
     pub table: Table,
     pub places: Places,

@@ -30,7 +30,7 @@ use polcert_text::{Token, TokenKind, whole_number};
 use std::alloc::Global;
 
 /// `discount:` and a number, in millionths.
-#[derive(Clone, Copy, Debug, PartialEq, Eq)]
+#[derive(Clone, Copy)]
 pub enum DiscountReader {
     Colon,
     Number(Option<Sign>),
@@ -74,7 +74,7 @@ impl DiscountReader {
 }
 
 /// `values:` and `reward` or `cost`. It says whether rewards are written as costs.
-#[derive(Clone, Copy, Debug, PartialEq, Eq)]
+#[derive(Clone, Copy)]
 pub enum ValuesReader {
     Colon,
     Word,

@@ -18,14 +18,14 @@ pub struct Refusal {
 }
 
 /// A sign whose numeral is still to come, and the offset where it stands.
-#[derive(Clone, Copy, Debug, PartialEq, Eq)]
+#[derive(Clone, Copy)]
 pub struct Sign {
     pub negative: bool,
     pub place: u64,
 }
 
 /// Which numbers may stand in a place.
-#[derive(Clone, Copy, Debug, PartialEq, Eq)]
+#[derive(Clone, Copy)]
 pub enum Range {
     /// From 0 to 1.
     Discount,
@@ -36,7 +36,7 @@ pub enum Range {
 }
 
 /// What a token says in a number's place: a sign, or with the sign before it the number in millionths.
-#[derive(Clone, Copy, Debug, PartialEq, Eq)]
+#[derive(Clone, Copy)]
 pub enum NumberStep {
     Sign(Sign),
     Value(i64),

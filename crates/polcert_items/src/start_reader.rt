@@ -44,7 +44,7 @@ use polcert_text::{NumberFault, Token, TokenKind, scaled_of, whole_number};
 use std::alloc::{AllocError, Global};
 
 /// A start item after its word, as far as it has been read: what it continues with.
-#[derive(Debug, Drop)]
+#[derive(Drop)]
 pub enum StartReader {
     /// A colon, or the word `include` or `exclude`.
     Form,
@@ -266,7 +266,7 @@ fn first_number(sign: Option<Sign>, token: Token<'_>) -> Result<StartReader, Ref
 }
 
 /// The first of some numbers, in millionths, and the offset where it stands: at its sign, if it has one.
-#[derive(Clone, Copy, Debug, PartialEq, Eq)]
+#[derive(Clone, Copy)]
 pub struct FirstNumber {
     pub value: i64,
     pub place: u64,
@@ -274,7 +274,7 @@ pub struct FirstNumber {
 
 /// Digits alone, and the offset where they stand: the state of this number, if there are so many, and the
 /// value.
-#[derive(Clone, Copy, Debug, PartialEq, Eq)]
+#[derive(Clone, Copy)]
 pub struct StateOrNumber {
     pub state: Option<usize>,
     pub value: Result<i64, NumberFault>,
@@ -484,14 +484,14 @@ fn support_weight(probability: u32) -> u32
 }
 
 /// Which states share where some are chosen: these, or the others.
-#[derive(Clone, Copy, Debug, PartialEq, Eq)]
+#[derive(Clone, Copy)]
 pub enum Choice {
     Include,
     Exclude,
 }
 
 /// States that were chosen, one mark for each state.
-#[derive(Debug, Drop)]
+#[derive(Drop)]
 pub struct Chosen {
     pub choice: Choice,
     pub marks: Sequence<bool>,

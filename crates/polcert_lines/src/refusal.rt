@@ -48,7 +48,7 @@ impl fmt::Display for BoundRefusalLine {
     }
 }
 
-#[derive(Clone, Copy, Debug)]
+#[derive(Clone, Copy)]
 struct ModelLine(ModelFault);
 
 impl fmt::Display for ModelLine {
@@ -66,7 +66,7 @@ impl fmt::Display for ModelLine {
 }
 
 /// The code of a refusal, and that of the token's or the number's own fault if it has one.
-#[derive(Clone, Copy, Debug)]
+#[derive(Clone, Copy)]
 struct Codes(ItemFault);
 
 impl fmt::Display for Codes {
@@ -79,7 +79,7 @@ impl fmt::Display for Codes {
     }
 }
 
-#[derive(Clone, Copy, Debug)]
+#[derive(Clone, Copy)]
 struct GraphLine(GraphFault);
 
 impl fmt::Display for GraphLine {
@@ -107,7 +107,7 @@ impl fmt::Display for GraphLine {
     }
 }
 
-#[derive(Clone, Copy, Debug)]
+#[derive(Clone, Copy)]
 struct VectorsLine(VectorFault);
 
 impl fmt::Display for VectorsLine {
@@ -133,7 +133,7 @@ impl fmt::Display for VectorsLine {
     }
 }
 
-#[derive(Clone, Copy, Debug)]
+#[derive(Clone, Copy)]
 struct LowerLine(LowerFault);
 
 impl fmt::Display for LowerLine {
@@ -156,7 +156,7 @@ impl fmt::Display for LowerLine {
     }
 }
 
-#[derive(Clone, Copy, Debug)]
+#[derive(Clone, Copy)]
 struct RaiseLine(RaiseFault);
 
 impl fmt::Display for RaiseLine {
@@ -201,7 +201,7 @@ impl fmt::Display for RaisedLine {
 }
 
 /// A number of millionths, as a decimal number.
-#[derive(Clone, Copy, Debug)]
+#[derive(Clone, Copy)]
 struct Millionths(i64);
 
 /// The bytes that a number of millionths needs at most: a sign, 13 digits, a point and 6 decimals.

@@ -109,10 +109,9 @@ fn rules_of_table(alloc: Global, entries: &Entries, table: Table) -> Result<Vec<
     requires { AreKeyed entries.now }
     ensures { IfOk result (λ rules. rules.items ≡ rules_from (table_digit table) 0 entries.now) }
 {
-    let digit = table_digit(table);
     let mut rules = Vec::with_capacity(alloc, count_of_table(entries, table))?;
     for number in 0..entries.len() {
-        if table_digit(entries.table_of(number)) == digit {
+        if entries.table_of(number) == table {
             let key = key_of(entries.at(number));
             rules.push(Rule { key, number })?;
         }

@@ -9,7 +9,7 @@ use clap::{Arg, ArgAction, ArgMatches, Command};
 use std::alloc::{AllocError, Global};
 
 /// What the help of a subcommand says.
-#[derive(Clone, Copy, Debug)]
+#[derive(Clone, Copy)]
 pub struct HelpTexts<'a> {
     /// One line, which the list of commands shows too.
     pub about: &'a str,

@@ -38,7 +38,7 @@ pub enum Choice<'a> {
 }
 
 /// What a choice has the program do.
-#[derive(Clone, Copy, Debug)]
+#[derive(Clone, Copy)]
 pub enum Job<'a> {
     /// Summarize the model of this file, or of standard input.
     Summarize(Option<&'a str>),

@@ -163,7 +163,7 @@ impl fmt::Display for NodesDone {
 }
 
 /// A text that the program reads.
-#[derive(Clone, Copy, Debug)]
+#[derive(Clone, Copy)]
 pub enum InputText {
     Model,
     Graph,

@@ -26,7 +26,7 @@ pub enum StreamFault {
 }
 
 /// What every further call answers, once the tokens have stopped.
-#[derive(Clone, Copy, Debug, PartialEq, Eq)]
+#[derive(Clone, Copy)]
 pub enum LastAnswer {
     End,
     Fault(StreamFault),

@@ -215,7 +215,7 @@ pub enum TokenKind {
 }
 
 /// Where the bytes so far stand between two lexemes.
-#[derive(Clone, Copy, Debug, PartialEq, Eq)]
+#[derive(Clone, Copy)]
 pub enum Gap {
     Between,
     Comment,
@@ -243,7 +243,7 @@ impl Gap {
 }
 
 /// Where the bytes so far stand in a lexeme.
-#[derive(Clone, Copy, Debug, PartialEq, Eq)]
+#[derive(Clone, Copy)]
 pub enum State {
     Start,
     Name,
@@ -403,7 +403,7 @@ fn seen_comment(bytes: &[u8]) -> (usize, Gap)
 }
 
 /// The lexeme at the front of some bytes: its kind, and how long it is.
-#[derive(Clone, Copy, Debug, PartialEq, Eq)]
+#[derive(Clone, Copy)]
 pub struct LexemePrefix {
     pub kind: TokenKind,
     pub len: usize,

@@ -1,7 +1,8 @@
 -- An entry covers a cell exactly where its key fits the indices: the newest that fits is the last that covers.
-use Rattle.std.proofs.Common.{◌≡◌, ◌∙◌, ℕ, zero, suc, ◌+◌, ◌*◌, ◌^◌, ◌<◌, ◌≤◌, Bool, true, false, ◌&&◌, ◌||◌, Option, Some, None, List, [], ◌∷◌, ◌++◌, take, drop, length, All, Contains, refl, sym, ap, subst, arith}
+use Rattle.std.proofs.Common.{◌≡◌, ◌∙◌, ℕ, suc, ◌+◌, ◌*◌, ◌^◌, ◌<◌, ◌≤◌, Bool, true, false, ◌&&◌, ◌||◌, Option, Some, None, List, [], ◌∷◌, ◌++◌, take, drop, length, All, Contains, refl, sym, ap, subst, arith}
 use Rattle.polcert_rules.proofs.Common.{list_any, drop_more, slice_get_within, get_or_from_slice_get, Table, Place, Entry, is_table, fit_places, covers, IsLastCovering, last, Rule, key_base, key_in, key_of, table_key, AreDigits, AreIndices, most_places, IsNewest, IsIndexOf, IsLastNumber, entry_at}
 use Rattle.std.specs.List.{slice_get}
+use Rattle.polcert_cells.proofs.Basics.{slice_get-drop}
 use Rattle.std.proofs.lemmas.List.{take-append-drop}
 use Rattle.polcert_cells.specs.Cells.{none}
 use Rattle.polcert_rules.specs.Keys.{table_digit, Fits}
@@ -50,11 +51,6 @@ none_of p (e ∷ es) h =
     let rest : list_any p es ≡ false = none_of p es (λ k x is. h (suc k) x is) in
     ap (λ b. b || list_any p es) here ∙ rest
 
-slice_get-drop : (n : ℕ) (es : List Entry) (k : ℕ) → slice_get (drop n es) k ≡ slice_get es (n + k)
-slice_get-drop zero es k = let e : k ≡ 0 + k = omega arith in ap (slice_get es) e
-slice_get-drop (suc n) [] k = refl
-slice_get-drop (suc n) (e ∷ es) k = let f : suc (n + k) ≡ suc n + k = omega arith in slice_get-drop n es k ∙ ap (slice_get (e ∷ es)) f
-
 last_at : (entries : List Entry) (table : Table) (indices : List ℕ) (n : ℕ) (e : Entry) → slice_get entries n ≡ Some e → covers table indices e ≡ true
     → ((k : ℕ) (x : Entry) → slice_get entries k ≡ Some x → covers table indices x ≡ true → k ≤ n) → IsLastCovering entries table indices (Some e)
 last_at entries table indices n e is covered greatest =
@@ -63,7 +59,7 @@ last_at entries table indices n e is covered greatest =
     drop_more entries n e inside ∙ ap (λ (x : Entry). x ∷ drop (n + 1) entries) (get_or_from_slice_get entries n e e is) in
     last (take n entries) e (drop (n + 1) entries) (sym (take-append-drop n entries) ∙ ap (λ (xs : List Entry). take n entries ++ xs) split) covered
     (none_of (covers table indices) (drop (n + 1) entries)
-    (λ k x found c. let at = greatest (n + 1 + k) x (sym (slice_get-drop (n + 1) entries k) ∙ found) c in absurd (omega arith)))
+    (λ k x found c. let at = greatest (n + 1 + k) x (sym (slice_get-drop (n + 1) k entries) ∙ found) c in absurd (omega arith)))
 
 -- the entry of the last number is the last
 pub last_is : (entries : List Entry) (table : Table) (indices : List ℕ) (number : Option ℕ) → IsLastNumber entries table indices number → IsLastCovering entries table indices (entry_at entries number)

@@ -1,9 +1,10 @@
-use Rattle.std.proofs.Common.{◌≡◌, ◌∙◌, ◌+◌, ◌++◌, ◌∷◌, [], ℕ, suc, List, drop, sym, ap, subst, arith, append_assoc}
+use Rattle.std.proofs.Common.{◌≡◌, ◌∙◌, ◌+◌, ◌++◌, ◌∷◌, [], ℕ, suc, List, drop, sym, ap, subst, arith, append_assoc, rules}
 use Rattle.std.proofs.Math.Seq.{drop-cons}
 use Rattle.polcert_rules.proofs.Common.{nat_tests, get_or_from_slice_get, same_Some, slice_get_within, Entry, Rule, key_of, rules_from}
 use Rattle.polcert_rules.specs.Keys.{table_digit}
+use Rattle.polcert_rules.proofs.Keyed.Covering.{table_of_digit}
 use Rattle.polcert_rules.proofs.index.rules_of_table.Goals as goal
-use Rattle.polcert_rules.proofs.index.rules_of_table.Goals.{then-table_digit-digit+in_ok-push, else-table_digit-digit}
+use Rattle.polcert_rules.proofs.index.rules_of_table.Goals.{then-eq+in_ok-push, else-eq}
 
 abbrev with_key : ℕ → ℕ → Rule
 with_key k n = record { key = k; number = n }
@@ -19,7 +20,7 @@ pub loop-number-preserved : goal.loop-number-preserved
 loop-number-preserved c =
     let entries = c.args.entries.now in
     let n = c.loop-number.number in
-    let d = c.table_digit-digit.result in
+    let d = table_digit c.args.table in
     let entry = c.table_of.ensures.0 in
     let found = c.table_of.ensures.1 in
     let inside = slice_get_within entries n entry found in
@@ -29,10 +30,12 @@ loop-number-preserved c =
     let old = c.loop-number.rules.items in
     let all = rules_from d 0 entries in
     let before = subst (λ (es : List Entry). old ++ rules_from d n es ≡ all) here c.loop-number.invariant in
-    let digit : table_digit entry.table ≡ c.table_digit.result = ap table_digit c.table_of.ensures.2 ∙ sym c.table_digit.ensures in
-    elim c.if-table_digit-digit.branch [
-      | then-table_digit-digit+in_ok-push w ↦
+    elim c.if-eq.branch [
+      | then-eq+in_ok-push w ↦
+          let same : c.table_of.result ≡ c.args.table = search rules in
           let key : w.key_of-key.result ≡ key_of entry = w.key_of-key.ensures ∙ ap key_of (same_Some _ _ (sym w.at.ensures ∙ found)) in
-          rw w.rules-is (taken d n entry (drop (n + 1) entries) old all before w.push.new.self.items (digit ∙ w.if-table_digit-digit.true) (w.in_ok-push.ensures.items ∙ ap (λ k. old ++ with_key k n ∷ []) key))
-      | else-table_digit-digit w ↦ rw w.rules-is (passed d n entry (drop (n + 1) entries) old all before (λ e. w.if-table_digit-digit.false (sym digit ∙ e)))
+          rw w.rules-is (taken d n entry (drop (n + 1) entries) old all before w.push.new.self.items (ap table_digit (c.table_of.ensures.2 ∙ same)) (w.in_ok-push.ensures.items ∙ ap (λ k. old ++ with_key k n ∷ []) key))
+      | else-eq w ↦
+          let other : (c.table_of.result ≡ c.args.table) → ⊥ = search rules in
+          rw w.rules-is (passed d n entry (drop (n + 1) entries) old all before (λ e. other (sym c.table_of.ensures.2 ∙ table_of_digit entry.table c.args.table e)))
     ]
