@@ -18,6 +18,7 @@ pub fn write_summary<W: Sink>(model: &Model, sink: &mut W) -> Result<(), SinkFai
     buffered.flush()
 }
 
+/// Writes the summary of a model.
 fn write_line<W: Sink>(model: &Model, sink: &mut W) -> Result<(), SinkFailed>
     ensures { WritesText W.writes W.failures sink.old (summary_line (meaning model.now)) result sink.new }
 {
@@ -25,6 +26,7 @@ fn write_line<W: Sink>(model: &Model, sink: &mut W) -> Result<(), SinkFailed>
     write_values(model, sink)
 }
 
+/// Writes the kind of the model and its counts.
 fn write_counts<W: Sink>(model: &Model, sink: &mut W) -> Result<(), SinkFailed>
     ensures { WritesText W.writes W.failures sink.old (counts_text (meaning model.now)) result sink.new }
 {
@@ -62,6 +64,7 @@ pub fn write_count<W: Sink>(count: usize, words: &[u8], sink: &mut W) -> Result<
     write_all(sink, words)
 }
 
+/// Writes the discount, and whether the text gives rewards or costs.
 fn write_values<W: Sink>(model: &Model, sink: &mut W) -> Result<(), SinkFailed>
     ensures { WritesText W.writes W.failures sink.old (values_text (meaning model.now)) result sink.new }
 {
@@ -118,6 +121,7 @@ pub fn write_verdict<W: Sink>(line: VerdictLine, sink: &mut W) -> Result<(), Sin
     buffered.flush()
 }
 
+/// Writes the line of a verdict.
 fn write_verdict_line<W: Sink>(line: VerdictLine, sink: &mut W) -> Result<(), SinkFailed>
     ensures { WritesText W.writes W.failures sink.old (line_text line) result sink.new }
 {

@@ -63,6 +63,7 @@ fn is_same(word: &[u8], other: &[u8]) -> bool
     word.len() == other.len() && has_same_bytes(word, other)
 }
 
+/// Tests whether the words have the same bytes.
 #[inline(never)]
 fn has_same_bytes(word: &[u8], other: &[u8]) -> bool
     ensures { result ≡ bytes_eq word.now other.now }
@@ -109,6 +110,7 @@ fn ends_in_digit(word: &[u8]) -> bool
     word[len - 1].is_ascii_digit()
 }
 
+/// Tests whether the word begins an item or is reserved inside one.
 #[tactic(auto, unfolding(crate::specs::Words::is_reserved))]
 #[inline(never)]
 fn is_some_reserved(word: &[u8]) -> bool

@@ -71,6 +71,7 @@ fn write_observation_rows<W: Sink>(model: &Model, out: &mut W) -> Result<(), Sin
     }
 }
 
+/// Writes the lines before the start.
 fn write_preamble<W: Sink>(model: &Model, out: &mut W) -> Result<(), SinkFailed>
     ensures { WritesText W.writes W.failures out.old (preamble_text (meaning model.now)) result out.new }
 {
@@ -131,6 +132,7 @@ fn write_element_words<W: Sink>(elements: &Elements, out: &mut W) -> Result<(), 
     }
 }
 
+/// Writes the names, a blank before each.
 fn write_names<W: Sink>(names: &Names, out: &mut W) -> Result<(), SinkFailed>
     ensures { WritesText W.writes W.failures out.old
         (for_each (length names.now) (name_text names.now)) result out.new }
@@ -141,6 +143,7 @@ fn write_names<W: Sink>(names: &Names, out: &mut W) -> Result<(), SinkFailed>
     Ok(())
 }
 
+/// Writes a blank and the name of this number.
 fn write_name<W: Sink>(names: &Names, number: usize, out: &mut W) -> Result<(), SinkFailed>
     requires { number < length names.now }
     ensures { WritesText W.writes W.failures out.old (name_text names.now number) result out.new }
@@ -162,6 +165,7 @@ fn write_number_word<W: Sink>(number: usize, out: &mut W) -> Result<(), SinkFail
     write_number(number, out)
 }
 
+/// Writes the start in the shortest form that says it.
 fn write_start<W: Sink>(model: &Model, out: &mut W) -> Result<(), SinkFailed>
     ensures { WritesText W.writes W.failures out.old (start_text (meaning model.now).start) result out.new }
 {
@@ -212,6 +216,7 @@ fn write_start_line<W: Sink>(model: &Model, form: StartForm, out: &mut W) -> Res
     write_all(out, b"\n")
 }
 
+/// Writes what a start line says of each state.
 fn write_start_parts<W: Sink>(model: &Model, form: StartForm, out: &mut W) -> Result<(), SinkFailed>
     ensures { WritesText W.writes W.failures out.old
         (for_each (states_of (meaning model.now)) (start_part form (meaning model.now).start)) result
@@ -223,6 +228,7 @@ fn write_start_parts<W: Sink>(model: &Model, form: StartForm, out: &mut W) -> Re
     Ok(())
 }
 
+/// Writes what a start line says of a state.
 fn write_start_part<W: Sink>(
     model: &Model,
     form: StartForm,
@@ -239,6 +245,7 @@ fn write_start_part<W: Sink>(
     }
 }
 
+/// Writes the number of a state that has a share.
 fn write_state_if_chosen<W: Sink>(
     model: &Model,
     state: usize,
@@ -255,6 +262,7 @@ fn write_state_if_chosen<W: Sink>(
     }
 }
 
+/// Writes the probability of starting in a state.
 fn write_share<W: Sink>(model: &Model, state: usize, out: &mut W) -> Result<(), SinkFailed>
     requires { state < states_of (meaning model.now) }
     ensures { WritesText W.writes W.failures out.old

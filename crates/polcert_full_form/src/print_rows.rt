@@ -30,6 +30,7 @@ pub(crate) fn write_rows<W: Sink>(
     Ok(())
 }
 
+/// Writes the rows of an action.
 fn write_rows_at<W: Sink>(
     model: &Model,
     table: Table,
@@ -46,6 +47,7 @@ fn write_rows_at<W: Sink>(
     Ok(())
 }
 
+/// Writes the row of an action and a state.
 fn write_row<W: Sink>(
     model: &Model,
     table: Table,

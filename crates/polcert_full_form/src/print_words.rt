@@ -42,6 +42,7 @@ pub(crate) fn write_head<W: Sink>(
     write_all(out, b"\n")
 }
 
+/// Returns the word that begins an entry of the table.
 fn table_word(table: Table) -> &'static [u8]
     ensures { result.now ≡ table_word table }
 {
@@ -52,6 +53,7 @@ fn table_word(table: Table) -> &'static [u8]
     }
 }
 
+/// Writes indices with colons between them.
 fn write_indices<W: Sink>(indices: &[usize], out: &mut W) -> Result<(), SinkFailed>
     ensures { WritesText W.writes W.failures out.old
         (for_each (length indices.now) (index_text indices.now)) result out.new }
@@ -62,6 +64,7 @@ fn write_indices<W: Sink>(indices: &[usize], out: &mut W) -> Result<(), SinkFail
     Ok(())
 }
 
+/// Writes an index after what separates it from the one before.
 fn write_index<W: Sink>(number: usize, index: usize, out: &mut W) -> Result<(), SinkFailed>
     ensures { WritesText W.writes W.failures out.old (mark_before number ++ decimal index) result out.new }
 {

@@ -50,6 +50,7 @@ pub struct Numbers<T: Copy> {
 }
 
 impl<T: Copy> Numbers<T> {
+    /// Begins a list of so many numbers with none.
     pub fn new(alloc: Global, needed: usize) -> Numbers<T>
         ensures { result ≡ no_numbers needed }
     {
@@ -72,6 +73,7 @@ impl<T: Copy> Numbers<T> {
         }
     }
 
+    /// Tests whether the list has all its numbers.
     #[inline(always)]
     fn is_full(&self) -> bool
         ensures { IsTrue result ↔ IsFull self.now }
@@ -341,6 +343,7 @@ impl EntryReader {
     }
 }
 
+/// Returns the body that the word stands for.
 fn body_of(word: Word) -> Body
     ensures { result ≡ body_of word }
 {
@@ -350,6 +353,7 @@ fn body_of(word: Word) -> Body
     }
 }
 
+/// Returns the same, borrowed.
 fn word_ref(word: Word) -> BodyRef<'static>
     ensures { ref_body result ≡ body_of word }
 {
@@ -483,6 +487,7 @@ fn word_of(table: Table, written: usize, token: Token<'_>) -> Option<Word>
     None
 }
 
+/// Tests whether `uniform` may follow so many places of the table.
 fn takes_uniform(table: Table, written: usize) -> bool
     ensures { (mdp : Bool) → (IsTrue result ↔ MayStand mdp table Body.Uniform written) }
 {
@@ -492,6 +497,7 @@ fn takes_uniform(table: Table, written: usize) -> bool
     }
 }
 
+/// Tests whether `identity` may follow so many places of the table.
 fn takes_identity(table: Table, written: usize) -> bool
     ensures { (mdp : Bool) → (IsTrue result ↔ MayStand mdp table Body.Identity written) }
 {

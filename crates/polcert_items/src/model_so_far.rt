@@ -289,6 +289,7 @@ impl ModelSoFar {
         }
     }
 
+    /// Tests whether an item stands that has to come after those of this topic.
     fn is_late(&self, topic: Topic) -> bool
         ensures { result ≡ is_late self.now topic }
     {
@@ -299,6 +300,7 @@ impl ModelSoFar {
         }
     }
 
+    /// Tests whether an item of this topic came before, if it may stand only once.
     fn came_before(&self, topic: Topic) -> bool
         ensures { result ≡ came_before self.now topic }
     {
@@ -343,6 +345,7 @@ fn is_whole(table: Table, written: usize) -> bool
     }
 }
 
+/// Returns how many elements there are, 0 if they are not known yet.
 fn count_in(elements: &Option<Elements>) -> usize
     ensures { result ≡ count_in elements.now }
 {

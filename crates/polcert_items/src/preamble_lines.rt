@@ -323,6 +323,7 @@ pub fn element_of(token: Token<'_>, elements: &Elements) -> Result<usize, Refusa
     }
 }
 
+/// Returns the index that the numeral is, if there is such an element.
 #[inline(always)]
 fn element_by_number(token: Token<'_>, elements: &Elements) -> Result<usize, Refusal>
     requires few { count_of elements.now ≤ most_elements }
@@ -343,6 +344,7 @@ fn element_by_number(token: Token<'_>, elements: &Elements) -> Result<usize, Ref
     }
 }
 
+/// Returns the index of the element of this name.
 #[inline(always)]
 pub(crate) fn element_by_name(token: Token<'_>, elements: &Elements) -> Result<usize, Refusal>
     requires name { token.kind ≡ TokenKind.Name }

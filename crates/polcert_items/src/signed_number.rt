@@ -61,6 +61,7 @@ pub fn number_step(
     }
 }
 
+/// Takes a sign, if none came before.
 fn sign_step(
     sign: Option<Sign>,
     token: Token<'_>,
@@ -81,6 +82,7 @@ fn sign_step(
     }
 }
 
+/// Takes a numeral, and returns the value if it is in the range.
 #[inline(always)]
 fn numeral_step(sign: Option<Sign>, token: Token<'_>, range: Range) -> Result<NumberStep, Refusal>
     requires { token.kind ≡ TokenKind.Numeral }
@@ -101,6 +103,7 @@ fn numeral_step(sign: Option<Sign>, token: Token<'_>, range: Range) -> Result<Nu
     }
 }
 
+/// Tests whether the sign, if there is one, is a minus.
 #[inline(always)]
 fn is_negative(sign: Option<Sign>) -> bool
     ensures { result ≡ is_negative sign }

@@ -415,6 +415,7 @@ pub(crate) fn end_probabilities(
     Ok(shares_of(alloc, numbers.read)?)
 }
 
+/// Returns the sum of the numbers.
 fn sum_of(numbers: &[u32]) -> u64
     requires { length numbers.now ≤ most_states }
     ensures { result ≡ sum numbers.now }
@@ -455,6 +456,7 @@ fn first_above_0(probabilities: &[u32]) -> u32
     0
 }
 
+/// Tests whether all positive probabilities are this one.
 fn is_level_at(level: u32, probabilities: &[u32]) -> bool
     ensures { result ≡ is_level_at level probabilities.now }
 {
@@ -477,6 +479,7 @@ fn level_shares(alloc: Global, probabilities: &[u32]) -> Result<StartWeights, Al
     Ok(StartWeights { weights, total })
 }
 
+/// Returns a weight of 1 for a positive probability, else 0.
 fn support_weight(probability: u32) -> u32
     ensures { result ≡ support_weight probability }
 {

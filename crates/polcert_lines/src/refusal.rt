@@ -221,6 +221,7 @@ impl fmt::Display for Millionths {
     }
 }
 
+/// Returns the number after `M` in the line of a refusal.
 fn item_code(kind: ItemFault) -> u8 {
     match kind {
         ItemFault::Token(_) => 1,
@@ -245,6 +246,7 @@ fn item_code(kind: ItemFault) -> u8 {
     }
 }
 
+/// Returns the number that says what is wrong with a token.
 fn token_code(fault: TokenFault) -> u8 {
     match fault {
         TokenFault::BadByte(_) => 1,
@@ -254,6 +256,7 @@ fn token_code(fault: TokenFault) -> u8 {
     }
 }
 
+/// Returns the number that says what is wrong with a number.
 fn number_code(fault: NumberFault) -> u8 {
     match fault {
         NumberFault::NotANumeral => 1,

@@ -45,6 +45,7 @@ impl TextReader {
         }
     }
 
+    /// Returns the refusal of the current item for this reason at this place.
     fn fault(&self, kind: ItemFault, place: u64) -> ModelFault
         ensures { result ≡ ModelFault.Item kind self.now.number place }
     {

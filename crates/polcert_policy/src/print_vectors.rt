@@ -43,6 +43,7 @@ pub fn write_vectors<W: Sink>(
     Ok(())
 }
 
+/// Writes a vector: the action on a line of its own, then the values.
 fn write_vector<W: Sink>(
     graph: &Graph,
     vectors: &Vectors,
@@ -57,6 +58,7 @@ fn write_vector<W: Sink>(
     write_values(vectors, node, out)
 }
 
+/// Writes the action of a node, and its line end.
 fn write_action<W: Sink>(graph: &Graph, node: usize, out: &mut W) -> Result<(), SinkFailed>
     requires { node < nodes graph.now }
     ensures { WritesText W.writes W.failures out.old (action_text graph.now node) result out.new }
@@ -66,6 +68,7 @@ fn write_action<W: Sink>(graph: &Graph, node: usize, out: &mut W) -> Result<(), 
     write_all(out, b"\n")
 }
 
+/// Writes the values of a node.
 fn write_values<W: Sink>(vectors: &Vectors, node: usize, out: &mut W) -> Result<(), SinkFailed>
     requires { node < vectors.now.nodes }
     ensures { WritesText W.writes W.failures out.old (values_text vectors.now node vectors.now.states) result
@@ -77,6 +80,7 @@ fn write_values<W: Sink>(vectors: &Vectors, node: usize, out: &mut W) -> Result<
     Ok(())
 }
 
+/// Writes a value and what separates it from the next.
 fn write_value<W: Sink>(
     vectors: &Vectors,
     node: usize,

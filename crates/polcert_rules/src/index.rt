@@ -192,6 +192,7 @@ fn digit(place: Place) -> u64
     }
 }
 
+/// Returns the leading digit of a table's keys.
 pub(crate) fn table_digit(table: Table) -> u64
     ensures { result ≡ table_digit table }
 {

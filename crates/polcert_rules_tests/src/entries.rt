@@ -58,6 +58,7 @@ fn sequence<T: Copy + Drop>(alloc: Global, items: &[T]) -> Result<Sequence<T>, A
     Ok(sequence)
 }
 
+/// A list of these places.
 fn places_of(items: &[Place]) -> Result<Places, AllocError> {
     let mut places = Places::new();
     for place in items {
@@ -96,6 +97,7 @@ fn put_each_body(alloc: Global, entries: &mut Entries) -> Result<(), AllocError>
     put(entries, Table::Transition, &two, numbers)
 }
 
+/// The numbers of a body of probabilities.
 fn probabilities(body: BodyRef<'_>) -> Option<&[u32]> {
     match body {
         BodyRef::Probabilities(numbers) => Some(numbers),
@@ -103,6 +105,7 @@ fn probabilities(body: BodyRef<'_>) -> Option<&[u32]> {
     }
 }
 
+/// The numbers of a body of rewards.
 fn rewards(body: BodyRef<'_>) -> Option<&[i64]> {
     match body {
         BodyRef::Rewards(numbers) => Some(numbers),
@@ -225,6 +228,7 @@ fn add_pairs(names: &mut Names, alloc: Global) -> Result<u64, AllocError> {
     Ok(added)
 }
 
+/// Whether the name has this number, and the number this name.
 fn is_numbered(names: &Names, name: &[u8], number: usize) -> bool {
     name.is_ascii()
         && names.number_of(name) == Some(number)

@@ -17,6 +17,7 @@ const ANY: usize = 9;
 
 const CELLS: usize = 16;
 
+/// The place of an element, or `*`.
 fn place(element: usize) -> Place
     ensures { digit result < key_base }
 {
@@ -40,6 +41,7 @@ fn places(pattern: &[usize]) -> Result<Places, AllocError>
     Ok(places)
 }
 
+/// An entry of R with these places and numbers.
 fn entry(alloc: Global, pattern: &[usize], written: &[i64]) -> Result<Entry, AllocError>
     ensures { IfOk result (λ entry. AreDigits most_places entry.places) }
 {
@@ -55,6 +57,7 @@ fn entry(alloc: Global, pattern: &[usize], written: &[i64]) -> Result<Entry, All
     })
 }
 
+/// The rewards of these lines, later ones over earlier ones.
 fn rewards(alloc: Global, costs: bool, lines: &[(&[usize], &[i64])]) -> Result<Rewards, AllocError>
     ensures { IfOk result (λ rewards. rewards.shape ≡ SHAPE) }
 {
@@ -66,6 +69,7 @@ fn rewards(alloc: Global, costs: bool, lines: &[(&[usize], &[i64])]) -> Result<R
     Rewards::of(alloc, SHAPE, costs, entries, index)
 }
 
+/// The rewards of all cells, each looked up alone.
 fn cells(alloc: Global, costs: bool, lines: &[(&[usize], &[i64])]) -> Option<[i64; CELLS]> {
     let rewards = match rewards(alloc, costs, lines) {
         Ok(rewards) => rewards,
@@ -93,6 +97,7 @@ fn filled(alloc: Global, costs: bool, lines: &[(&[usize], &[i64])]) -> Option<[i
     Some(all)
 }
 
+/// The rewards of both observations, if filling from the second on gives the same.
 fn filled_at(rewards: &Rewards, action: usize, start: usize, end: usize) -> [i64; 2]
     requires shape { rewards.now.shape ≡ SHAPE }
     requires action { action < 2 }

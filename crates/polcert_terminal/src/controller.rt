@@ -202,6 +202,7 @@ fn is_above(inner: &ArgMatches<'_>) -> bool
     }
 }
 
+/// Returns the names of the three files, if all were given.
 fn file_names_of<'a>(inner: &ArgMatches<'a>) -> Option<FileNames<'a>>
     ensures { option_map names_view result ≡ names_in (rows_of (found_of inner.now)) }
 {

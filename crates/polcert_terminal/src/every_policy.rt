@@ -104,6 +104,7 @@ fn choice_by_name<'a>(name: &str, inner: &ArgMatches<'a>) -> Option<Choice<'a>>
     }
 }
 
+/// Returns the names of both files, if both were given.
 fn file_names_of<'a>(inner: &ArgMatches<'a>) -> Option<FileNames<'a>>
     ensures { option_map names_view result ≡ names_in (rows_of (found_of inner.now)) }
 {

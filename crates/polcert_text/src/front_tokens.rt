@@ -287,6 +287,7 @@ fn whole_digits(bytes: &[u8]) -> (u64, usize)
     (number, at)
 }
 
+/// Returns the whole number at the front, if a blank ends it. `None` says nothing.
 #[inline(always)]
 fn ended_digits(bytes: &[u8]) -> Option<FrontDigits>
     ensures { IfSome result (EndsAsDigits bytes.now) }
@@ -301,6 +302,7 @@ fn ended_digits(bytes: &[u8]) -> Option<FrontDigits>
     Some(FrontDigits { len, value })
 }
 
+/// Returns the numeral at the front, in millionths, if a blank ends it. `None` says nothing.
 #[inline(always)]
 fn ended_number(bytes: &[u8]) -> Option<FrontDigits>
     ensures { IfSome result (EndsAsNumber bytes.now) }
@@ -556,6 +558,7 @@ fn long_tail(bytes: &[u8], from: usize) -> Option<Tail>
     })
 }
 
+/// Tests whether the byte is a digit from 1 to 9.
 #[inline(always)]
 fn is_digit_above_zero(byte: u8) -> bool
     ensures digit { IsTrue result → class_of byte ≡ ByteClass.Digit }

@@ -175,6 +175,7 @@ pub fn rounded_of(rounding: Rounding, negative: bool, numeral: &[u8]) -> Result<
     Ok(size.value(rounding, negative))
 }
 
+/// Returns the number of this sign and size.
 #[inline(always)]
 pub(crate) fn signed(negative: bool, size: u64) -> i64
     requires { size ≤ largest }
@@ -204,6 +205,7 @@ enum Separator {
     ExponentMark,
 }
 
+/// Tests whether the byte is the separator.
 #[tactic(auto, unfolding(crate::specs::Bytes::is_point, crate::specs::Bytes::is_exponent_mark))]
 fn separates(separator: Separator, byte: u8) -> bool
     ensures { result ≡ separates separator byte }
@@ -238,6 +240,7 @@ struct Scaling {
 const CAP: u64 = LARGEST + 1;
 
 impl Scaling {
+    /// Returns the scaling after one more digit.
     fn after(self, digit: u8) -> Scaling
         requires digit { is_digit digit ≡ true }
         requires small { self.floor ≤ cap }
@@ -297,6 +300,7 @@ struct Parts<'a> {
     exponent: &'a [u8],
 }
 
+/// Splits a numeral at its `e` and its point.
 fn parts_of(numeral: &[u8]) -> Parts<'_>
     ensures whole { result.whole.now ≡ whole_of numeral.now }
     ensures fraction { result.fraction.now ≡ fraction_of numeral.now }
@@ -482,6 +486,7 @@ fn kept_digits(whole: usize, is_lowering: bool, exponent: usize) -> usize
     }
 }
 
+/// Tests whether the byte is a decimal digit.
 #[inline(always)]
 #[tactic(auto, unfolding(crate::specs::Bytes::is_digit))]
 fn is_digit(byte: u8) -> bool
@@ -490,6 +495,7 @@ fn is_digit(byte: u8) -> bool
     matches!(byte, b'0'..=b'9')
 }
 
+/// Tests whether all bytes are digits, if any.
 #[inline(always)]
 pub fn all_digits(bytes: &[u8]) -> bool
     ensures { result ≡ list_all is_digit bytes.now }
@@ -497,6 +503,7 @@ pub fn all_digits(bytes: &[u8]) -> bool
     bytes.iter().all(|byte| is_digit(*byte))
 }
 
+/// Tests whether the bytes are digits, and at least one.
 #[inline(always)]
 fn are_digits(bytes: &[u8]) -> bool
     ensures { result ≡ are_digits bytes.now }
@@ -588,6 +595,7 @@ impl Model for ScaledText {
 }
 
 impl ScaledText {
+    /// Returns the shortest text of so many millionths.
     fn of(scaled: i64) -> ScaledText
         ensures { result ≡ scaled_text scaled }
     {
@@ -602,12 +610,14 @@ impl ScaledText {
         text
     }
 
+    /// Returns the bytes of the text.
     fn as_bytes(&self) -> &[u8]
         ensures { result.now ≡ self.now }
     {
         &self.bytes[..self.len]
     }
 
+    /// Appends a byte.
     fn push(&mut self, byte: u8)
         requires { length self.old < 24 }
         ensures { self.new ≡ self.old ++ byte ∷ [] }
@@ -616,6 +626,7 @@ impl ScaledText {
         self.len += 1;
     }
 
+    /// Appends bytes.
     fn push_all(&mut self, bytes: &[u8])
         requires { length self.old + length bytes.now ≤ 24 }
         ensures { self.new ≡ self.old ++ bytes.now }
@@ -625,6 +636,7 @@ impl ScaledText {
         }
     }
 
+    /// Appends the text of so many millionths.
     fn push_unsigned(&mut self, size: u64)
         requires { length self.old ≤ 1 }
         ensures { self.new ≡ self.old ++ unsigned_text size }
@@ -634,6 +646,7 @@ impl ScaledText {
         self.push_fraction(size % 1_000_000);
     }
 
+    /// Appends a point and so many millionths below one, or nothing if there are none.
     fn push_fraction(&mut self, rest: u64)
         requires room { length self.old ≤ 17 }
         requires rest { rest < 1_000_000 }
@@ -645,6 +658,7 @@ impl ScaledText {
         }
     }
 
+    /// Appends the digits of so many millionths below one, without zeros at the end.
     fn push_decimals(&mut self, rest: u64)
         requires room { length self.old ≤ 18 }
         requires rest { rest < 1_000_000 }

@@ -43,6 +43,7 @@ pub trait Source {
     /// failed, and the source after.
     ghost reads: { Self → ℕ → Option (List ℕ) → Self → Type 0 };
 
+    /// Reads bytes into the front of the piece, and returns how many.
     fn read(&mut self, piece: &mut [u8]) -> Result<usize, SourceFailed>
         ensures bound { IfOk result (λ n. n ≤ length piece.new) }
         ensures call { reads self.old (length piece.old) (moved result piece.new) self.new }

@@ -35,6 +35,7 @@ pub enum LastAnswer {
 impl LastAnswer {
     ghost use Rattle.polcert_text.specs.Stream.{answer_of};
 
+    /// Returns the answer of every later call.
     fn answer(self) -> Result<Option<TokenKind>, StreamFault>
         ensures { result ≡ answer_of self }
     {
@@ -176,6 +177,7 @@ impl StreamTokens {
         result
     }
 
+    /// Gives up the token before, skips the gap, and takes the next token.
     #[inline(always)]
     fn take_token<S: Source>(&mut self, source: &mut S) -> Result<Option<TokenKind>, StreamFault>
         requires { self.old.stop ≡ None }

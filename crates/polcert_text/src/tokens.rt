@@ -223,6 +223,7 @@ pub enum Gap {
 }
 
 impl Gap {
+    /// Returns the state after a byte of this class.
     #[inline(always)]
     pub fn after(self, class: ByteClass) -> Gap
         ensures { result ≡ gap_after self class }
@@ -330,6 +331,7 @@ impl State {
         }
     }
 
+    /// Returns the kind of the lexeme if one may end in this state.
     #[inline(always)]
     pub fn kind(self) -> Option<TokenKind>
         ensures { result ≡ kind_at self }
@@ -579,6 +581,7 @@ fn continues_name(byte: u8) -> bool
     class_continues_name(byte)
 }
 
+/// Tests whether the byte's class continues a name.
 #[inline(never)]
 fn class_continues_name(byte: u8) -> bool
     ensures on { IsTrue result → state_after State.Name (class_of byte) ≡ State.Name }
@@ -643,6 +646,7 @@ pub fn ended_name_or_mark(bytes: &[u8]) -> Option<LexemePrefix>
     }
 }
 
+/// Returns the numeral at the front, if a blank ends it. `None` says nothing.
 #[inline(always)]
 fn ended_numeral(bytes: &[u8]) -> Option<LexemePrefix>
     requires some { 0 < length bytes.now }
@@ -672,6 +676,7 @@ fn ended_numeral(bytes: &[u8]) -> Option<LexemePrefix>
     None
 }
 
+/// Returns the name at the front, if a byte after it shows its end.
 #[inline(always)]
 pub fn ended_name(bytes: &[u8]) -> Option<LexemePrefix>
     requires some { 0 < length bytes.now }

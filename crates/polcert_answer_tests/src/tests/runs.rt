@@ -44,6 +44,7 @@ impl Run {
         self != Run::Model && self != Run::Print
     }
 
+    /// What the run answers over these sources and this sink.
     pub fn over<M: Source, G: Source, V: Source, W: Sink>(
         self,
         alloc: Global,
@@ -63,6 +64,7 @@ impl Run {
     }
 }
 
+/// The answer of a run that says nothing.
 fn done(answer: Result<(), RunFault>) -> Result<Answer, RunFault> {
     match answer {
         Ok(()) => Ok(Answer::Done),
@@ -70,6 +72,7 @@ fn done(answer: Result<(), RunFault>) -> Result<Answer, RunFault> {
     }
 }
 
+/// The answer of a check.
 fn said(answer: Result<Verdict, RunFault>) -> Result<Answer, RunFault> {
     match answer {
         Ok(verdict) => Ok(Answer::Said(verdict)),
@@ -77,6 +80,7 @@ fn said(answer: Result<Verdict, RunFault>) -> Result<Answer, RunFault> {
     }
 }
 
+/// The answer of a check from above.
 fn said_above(answer: Result<AboveVerdict, RunFault>) -> Result<Answer, RunFault> {
     match answer {
         Ok(verdict) => Ok(Answer::SaidAbove(verdict)),
@@ -84,6 +88,7 @@ fn said_above(answer: Result<AboveVerdict, RunFault>) -> Result<Answer, RunFault
     }
 }
 
+/// The answer of a run that lowers or raises.
 fn moved_by(answer: Result<i64, RunFault>) -> Result<Answer, RunFault> {
     match answer {
         Ok(constant) => Ok(Answer::By(constant)),
@@ -122,6 +127,7 @@ pub struct Outcome {
     pub failures: u64,
 }
 
+/// What a run comes to over readers and a writer that may fail.
 pub fn over_devices(alloc: Global, run: Run, texts: Texts<'_>, devices: Devices) -> Outcome {
     let most = devices.most;
     let mut model = ReaderSource::new(Giver::new(texts.0, most, devices.model));
@@ -143,6 +149,7 @@ pub fn over_devices(alloc: Global, run: Run, texts: Texts<'_>, devices: Devices)
     }
 }
 
+/// What a run comes to over texts in memory.
 pub fn over_slices(alloc: Global, run: Run, texts: Texts<'_>) -> Outcome {
     let mut sink = WriterSink::new(Taker::new(alloc, Failing::Never));
     let answer = run.over(

@@ -121,6 +121,7 @@ impl Text {
         }
     }
 
+    /// The fault of a run that cannot read this text.
     fn fault(self) -> RunFault {
         match self {
             Text::Model => RunFault::ReadModel,
@@ -651,6 +652,7 @@ fn unwritten<M: Source, G: Source, V: Source>(
     }
 }
 
+/// Whether a run refuses a model of endless `1` after one read.
 fn refuses_endless_model(alloc: Global, run: Run) -> bool {
     let fault = Fault::Model(ModelFault::Item {
         kind: ItemFault::Token(TokenFault::TokenTooLong(0)),
@@ -664,6 +666,7 @@ fn refuses_endless_model(alloc: Global, run: Run) -> bool {
         && model.reader.reads == 1
 }
 
+/// Whether a run refuses a graph of endless `1` after one read.
 fn refuses_endless_graph(alloc: Global, run: Run) -> bool {
     let fault = Fault::Graph(GraphFault::Token(TokenFault::TokenTooLong(0)));
     let mut model = SliceSource::new(TIGER);
@@ -673,6 +676,7 @@ fn refuses_endless_graph(alloc: Global, run: Run) -> bool {
         && graph.reader.reads == 1
 }
 
+/// Whether a run refuses vectors of endless `1` after one read.
 fn refuses_endless_vectors(alloc: Global, run: Run) -> bool {
     let fault = Fault::Vectors(VectorFault::Token(TokenFault::TokenTooLong(0)));
     let mut model = SliceSource::new(TIGER);

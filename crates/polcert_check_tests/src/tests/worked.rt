@@ -30,6 +30,7 @@ fn read_parts(alloc: Global, model: &[u8], graph: &[u8], vectors: &[u8]) -> Opti
 }
 
 impl Parts {
+    /// The verdict over the parts.
     fn verdict(&self) -> Option<Verdict> {
         verdict_over(&self.model, &self.graph, &self.vectors)
     }
@@ -49,6 +50,7 @@ impl Parts {
         verdict_over(&dense, &self.graph, &self.vectors)
     }
 
+    /// The least constant that lowers the vectors.
     fn constant(&self) -> Option<Result<i64, LowerFault>> {
         constant_over(&self.model, &self.graph, &self.vectors)
     }
@@ -411,6 +413,7 @@ fn high_and_low(alloc: Global, states: usize) -> Result<Vec<u8>, AllocError> {
     Ok(vectors)
 }
 
+/// The verdict that node 0 and state 0 are short by this.
 fn short_at_once(amount: i128) -> Option<Verdict> {
     Some(Verdict::Short {
         node: 0,

@@ -99,6 +99,7 @@ fn read_counts(alloc: Global, text: &[u8]) -> Option<[u64; 6]> {
     counts_in(alloc, &model)
 }
 
+/// The counts of a model's tables, filled.
 fn counts_in(alloc: Global, model: &Model) -> Option<[u64; 6]> {
     let dense = filled(alloc, model)?;
     Some(counts(&dense))
@@ -122,11 +123,13 @@ fn read_alike(alloc: Global, text: &[u8]) -> Option<bool> {
     alike_in(alloc, &model)
 }
 
+/// Whether a model's tables, filled, have the cells of the model.
 fn alike_in(alloc: Global, model: &Model) -> Option<bool> {
     let dense = filled(alloc, model)?;
     Some(are_alike(model, &dense))
 }
 
+/// Whether both have the same cells.
 fn are_alike<C: Cells, D: Cells>(first: &C, second: &D) -> bool {
     for a in 0..first.actions() {
         for s in 0..first.states() {
@@ -138,6 +141,7 @@ fn are_alike<C: Cells, D: Cells>(first: &C, second: &D) -> bool {
     true
 }
 
+/// Whether both have the same cells at an action and a state.
 fn is_row_alike<C: Cells, D: Cells>(first: &C, second: &D, a: usize, s: usize) -> bool {
     for column in 0..first.states() {
         if t(first, a, s, column) != t(second, a, s, column) {
@@ -179,6 +183,7 @@ fn borrowed_o<C: Cells>(cells: &C, a: usize, e: usize, from: usize) -> Option<(u
     }
 }
 
+/// The first cell of a row from a column on.
 fn first_from(row: Row<'_>, from: usize, columns: usize) -> Option<(usize, u64)> {
     let mut at = 0;
     for _ in 0..columns {

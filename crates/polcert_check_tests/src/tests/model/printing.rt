@@ -183,6 +183,7 @@ fn prints(alloc: Global, text: &[u8], form: &[u8]) -> Option<bool> {
     Some(is_printed(&model, form))
 }
 
+/// Whether the model is written in this form.
 fn is_printed(model: &Model, form: &[u8]) -> bool {
     let mut bytes = [0u8; 2048];
     let mut sink = SliceSink::new(&mut bytes);
@@ -265,6 +266,7 @@ fn fails_wrongly(alloc: Global, form: &[u8]) -> Option<Option<usize>> {
     Some(first_wrong_failure(&model, form))
 }
 
+/// The first write that, if it fails, leaves something else than the form before it.
 fn first_wrong_failure(model: &Model, form: &[u8]) -> Option<usize> {
     for failing in 0..form.len() {
         let mut sink = OneByte::new(failing);
@@ -292,6 +294,7 @@ fn fails_after_a_buffer(model: &Model, form: &[u8], failing: usize) -> bool {
     failed && failing <= form.len() && sink.holds(&form[..failing.min(form.len())], 1)
 }
 
+/// Whether the model is written through a buffer.
 fn writes_through(model: &Model, sink: &mut OneByte) -> bool {
     let mut buffered = BufferedSink::new(sink);
     is_written(model, &mut buffered) && buffered.flush().is_ok()
