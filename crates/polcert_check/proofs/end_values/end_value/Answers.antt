@@ -29,3 +29,6 @@ returns g c =
       value = value_done k c.args.node.now.n c.args.e (reached c.o_row-row.result c.loop-observation.at) (to_z w128 c.loop-observation.value-bits) c.loop-observation.invariant.within none c.loop-observation.invariant.sum;
       missing = search rules;
     }
+
+pub loop-observation-init : goal.loop-observation-init
+loop-observation-init g c = search rules

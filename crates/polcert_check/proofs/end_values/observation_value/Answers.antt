@@ -14,3 +14,6 @@ weigh-requires-clause-product g c =
     let narrow : to_z w64 (of_z w64 v) ≡ v = to_z-of_z w64 v (search rules) in
     let wide : to_z w128 (of_z w128 v) ≡ v = to_z-of_z w128 v (search rules) in
     rw (narrow, wide, c.value_of.ensures) (weight_room (seen_weighed k.cells c.args.node.now.input.proper.cells (g.met.C.Cells.is_within_limits c.args.node.now.input.cells.now) _ c.args.e (c.args.node.now.input.proper.closed.actions_in_range _ c.args.node.now.within) c.requires.end) c.args.step.column c.args.step.weight (k.value c.in-Some.m c.args.e) c.requires.observation c.requires.weight (c.args.node.now.input.values c.in-Some.m c.args.e (c.next.ensures.node c.in-Some.m c.in-Some.is) c.requires.end))
+
+pub returns-in-None-clause-missing : goal.returns-in-None-clause-missing
+returns-in-None-clause-missing g c = search rules

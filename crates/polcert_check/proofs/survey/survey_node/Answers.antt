@@ -1,4 +1,4 @@
-use Rattle.std.proofs.Common.{arith, ◌+◌, ◌∙◌, sym, ap, subst}
+use Rattle.std.proofs.Common.{arith, ◌+◌, ◌∙◌, sym, ap, subst, rules}
 use Rattle.polcert_check.proofs.Common.{checked_controller, IsFoundBefore, node_controller, AreEndValues, Controller, Findings}
 use Rattle.polcert_check.specs.declared.ends.EndValues.{EndValues}
 use Rattle.polcert_check.proofs.Walking.Walked.{node_done, node_settled}
@@ -36,3 +36,6 @@ returns-then-note-clause-found g c =
 
 pub returns-clause-found : goal.returns-clause-found
 returns-clause-found g c = node_done _ _ _ _ _ c.pairs.invariant.found (omega (arith, c.pairs-test.false, c.states-states.ensures))
+
+pub pairs-init : goal.pairs-init
+pairs-init g c = search rules

@@ -1,4 +1,4 @@
-use Rattle.std.proofs.Common.{◌≡◌, unwrap_or, ap, sym, subst}
+use Rattle.std.proofs.Common.{◌≡◌, unwrap_or, ap, sym, subst, rules}
 use Rattle.std.specs.Option.{option_copied}
 use Rattle.polcert_items.proofs.Common.{err_from_is_err_and, lexeme_of, Count, IsPlace, Place}
 use Rattle.polcert_items.proofs.PatternLaws.{no_place}
@@ -16,3 +16,6 @@ returns-in_err-element_of-in_default-Some c =
       reason = e.reason;
       kind = e.kind;
     })
+
+pub returns-in-Star-default-clause-place : goal.returns-in-Star-default-clause-place
+returns-in-Star-default-clause-place c = search rules

@@ -20,3 +20,9 @@ loop-piece-preserved g c = record {
   gave = gave_more _ _ _ _ _ _ c.loop-piece.invariant.gave c.in-Ok.ensures.call (grind (arith, common_steps)) (grind (arith, common_steps));
   same_count = search rules;
 }
+
+pub returns-in-Err-clause-whole : goal.returns-in-Err-clause-whole
+returns-in-Err-clause-whole g c = search rules
+
+pub returns-in-Err-clause-same_count : goal.returns-in-Err-clause-same_count
+returns-in-Err-clause-same_count g c = search rules

@@ -1,4 +1,4 @@
-use Rattle.std.proofs.Common.{List, [], ◌∷◌, subst, ap, arith}
+use Rattle.std.proofs.Common.{List, [], ◌∷◌, subst, ap, arith, rules}
 use Rattle.polcert_rules.proofs.Common.{Reward, Rule, RewardShape, table_key, most_places, RewardRules, Begins, IsAnswer}
 use Rattle.polcert_rules.proofs.RewardLaws.RewardPaid.{unpaid, paid, paid_by_all}
 use Rattle.polcert_rules.proofs.rewards.Rewards.has_rewards.Goals as goal
@@ -23,3 +23,6 @@ returns-in-None-clause-paid c is_true p entries are =
 
 pub returns-in-Some-clause-paid : goal.returns-in-Some-clause-paid
 returns-in-Some-clause-paid c is_true p entries are = paid_by_all entries c.args.action c.args.start c.in-Some.field-0 (c.in-Some.ensures p entries are)
+
+pub returns-in-Some-clause-unpaid : goal.returns-in-Some-clause-unpaid
+returns-in-Some-clause-unpaid c = search rules
