@@ -1,5 +1,5 @@
 -- Entries as they are kept: what stands in lists that continue stays, and an entry that is put after them stands there.
-use Rattle.std.proofs.Common.{◌≡◌, ◌∙◌, ℕ, zero, suc, ◌+◌, ◌-◌, ◌≤◌, ℤ, List, [], ◌∷◌, ◌++◌, Option, Some, None, length, take, drop, map, All, refl, sym, ap, subst, arith, length-append, append_assoc, take_all, rules}
+use Rattle.std.proofs.Common.{◌≡◌, ◌∙◌, ℕ, zero, suc, ◌+◌, ◌-◌, ◌≤◌, ℤ, List, [], ◌∷◌, ◌++◌, Option, Some, None, length, get_or, take, drop, map, All, refl, sym, ap, subst, arith, length-append, append_assoc, take_all, rules}
 use Rattle.polcert_cells.proofs.Basics.{slice_get-drop}
 use Rattle.polcert_cells.proofs.Common.{map-append, All-head, All-tail, All-cons, All-nil, EntryStore, Entry, AreHeldIn, length-map}
 use Rattle.std.proofs.lemmas.List.{append-nil, drop-append-le, take-append-le, length-drop, length-take-le}
@@ -10,28 +10,52 @@ use Rattle.std.specs.Option.{IsSomeAnd, option_map}
 use Rattle.polcert_cells.specs.declared.entries.BodyTag.{BodyTag}
 use Rattle.polcert_cells.specs.declared.entries.BodyTag.TheVariants.{Probabilities, Rewards}
 use Rattle.polcert_cells.specs.declared.entries.EntryHeader.{EntryHeader}
-use Rattle.polcert_cells.specs.declared.entries.Span.{Span}
+use Rattle.polcert_cells.specs.declared.entries.Place.{Place}
+use Rattle.polcert_cells.specs.declared.entries.Place.TheVariants.{Every}
 use Rattle.polcert_cells.specs.Steps.EntryLists.{part, place_of, reward_body, body_in, entry_in, LiesIn, HasNumbers, IsWithin, Continues, GoOn, IsPut}
-use Rattle.polcert_cells.specs.EntryRefs.{rewards_of, all_rewards, AreEntryBodies, AreRewardsFrom}
+use Rattle.polcert_cells.specs.EntryRefs.{IsSmallPlace, rewards_of, all_rewards, AreEntryBodies, AreRewardsFrom}
 
 -- ---- a part of a list
-lies_stays : {X : Type 0} (xs ys : List X) (span : Span) → Continues xs ys → LiesIn (length xs) span → LiesIn (length ys) span
-lies_stays xs ys span g l = grind (arith, length-append)
+lies_stays : {X : Type 0} (xs ys : List X) (start len : ℕ) → Continues xs ys → LiesIn (length xs) start len → LiesIn (length ys) start len
+lies_stays xs ys start len g l = grind (arith, length-append)
 
-part_stays : {X : Type 0} (xs ys : List X) (span : Span) → Continues xs ys → LiesIn (length xs) span → part span ys ≡ part span xs
-part_stays xs ys span g l = grind (arith, drop-append-le, take-append-le, length-drop)
+part_stays : {X : Type 0} (xs ys : List X) (start len : ℕ) → Continues xs ys → LiesIn (length xs) start len → part start len ys ≡ part start len xs
+part_stays xs ys start len g l = grind (arith, drop-append-le, take-append-le, length-drop)
+
+-- ---- places in 16 bits
+abbrev AreKept : List ℕ → List Place → Type 0
+AreKept (k ∷ ks) (p ∷ ps) = (IsSmallPlace p → place_of k ≡ p) × AreKept ks ps
+AreKept _ _ = Unit {0}
+
+front_kept : (n : ℕ) (ks : List ℕ) (ps : List Place) → length ks ≡ length ps → AreKept ks ps → All IsSmallPlace (take n ps) → take n (map place_of ks) ≡ take n ps
+front_kept zero ks ps same kept small = refl
+front_kept (suc n) [] [] same kept small = refl
+front_kept (suc n) (k ∷ ks) (p ∷ ps) same kept small =
+    λ i. (kept.0 (All-head IsSmallPlace p (take n ps) small)) i ∷ (front_kept n ks ps (omega arith) kept.1 (All-tail IsSmallPlace p (take n ps) small)) i
+front_kept (suc n) [] (p ∷ ps) same kept small = absurd (omega arith)
+front_kept (suc n) (k ∷ ks) [] same kept small = absurd (omega arith)
+
+pub four_kept : (n a b c d : ℕ) (ps : List Place) → length ps ≡ 4 → (IsSmallPlace (get_or ps 0 Every) → place_of a ≡ get_or ps 0 Every) → (IsSmallPlace (get_or ps 1 Every) → place_of b ≡ get_or ps 1 Every)
+    → (IsSmallPlace (get_or ps 2 Every) → place_of c ≡ get_or ps 2 Every) → (IsSmallPlace (get_or ps 3 Every) → place_of d ≡ get_or ps 3 Every)
+    → All IsSmallPlace (take n ps) → take n (place_of a ∷ place_of b ∷ place_of c ∷ place_of d ∷ []) ≡ take n ps
+four_kept n a b c d (p ∷ q ∷ r ∷ s ∷ []) four h1 h2 h3 h4 small = front_kept n (a ∷ b ∷ c ∷ d ∷ []) (p ∷ q ∷ r ∷ s ∷ []) refl (h1, (h2, (h3, (h4, tt)))) small
+four_kept n a b c d [] four h1 h2 h3 h4 small = absurd (omega arith)
+four_kept n a b c d (p ∷ []) four h1 h2 h3 h4 small = absurd (omega arith)
+four_kept n a b c d (p ∷ q ∷ []) four h1 h2 h3 h4 small = absurd (omega arith)
+four_kept n a b c d (p ∷ q ∷ r ∷ []) four h1 h2 h3 h4 small = absurd (omega arith)
+four_kept n a b c d (p ∷ q ∷ r ∷ s ∷ t ∷ ps) four h1 h2 h3 h4 small = absurd (omega arith)
 
 -- ---- an entry
-numbers_stay : (p q : EntryStore) (f : BodyTag) (n : Span) → GoOn p q → HasNumbers p f n → HasNumbers q f n
-numbers_stay p q Probabilities n g l = lies_stays p.probabilities.items q.probabilities.items n g.probabilities l
-numbers_stay p q Rewards n g l = lies_stays p.rewards.items q.rewards.items n g.rewards l
-numbers_stay p q c n g l = tt
+numbers_stay : (p q : EntryStore) (f : BodyTag) (n k : ℕ) → GoOn p q → HasNumbers p f n k → HasNumbers q f n k
+numbers_stay p q Probabilities n k g l = lies_stays p.probabilities.items q.probabilities.items n k g.probabilities l
+numbers_stay p q Rewards n k g l = lies_stays p.rewards.items q.rewards.items n k g.rewards l
+numbers_stay p q c n k g l = tt
 
-body_stays : (p q : EntryStore) (f : BodyTag) (n : Span) → GoOn p q → HasNumbers p f n → body_in q f n ≡ body_in p f n
-body_stays p q f n h1 h2 = grind (arith, part_stays)
+body_stays : (p q : EntryStore) (f : BodyTag) (n k : ℕ) → GoOn p q → HasNumbers p f n k → body_in q f n k ≡ body_in p f n k
+body_stays p q f n k h1 h2 = grind (arith, part_stays)
 
 within_stays : (p q : EntryStore) → GoOn p q → (h : EntryHeader) → IsWithin p h → IsWithin q h
-within_stays p q g h w = search (rules, lies_stays, numbers_stay)
+within_stays p q g h w = search (rules, numbers_stay)
 
 entry_stays : (p q : EntryStore) → GoOn p q → (h : EntryHeader) → IsWithin p h → entry_in q h ≡ entry_in p h
 entry_stays p q g h w = grind (arith, body_stays)
@@ -89,9 +113,9 @@ read_before (suc n) zero (y ∷ xs) x is = is
 read_before (suc n) (suc k) (y ∷ xs) x is = read_before n k xs x is
 
 -- the rewards of an entry stand from its start on
-read_from : (p : EntryStore) (f : BodyTag) (n : Span) (k : ℕ) (x : ℤ) → slice_get (rewards_of (body_in p f n)) k ≡ Some x → slice_get p.rewards.items (n.start + k) ≡ Some x
-read_from p Rewards n k x is = sym (slice_get-drop n.start k p.rewards.items) ∙ read_before (n.end - n.start) k (drop n.start p.rewards.items) x is
-read_from p f n k x is = cc
+read_from : (p : EntryStore) (f : BodyTag) (start len k : ℕ) (x : ℤ) → slice_get (rewards_of (body_in p f start len)) k ≡ Some x → slice_get p.rewards.items (start + k) ≡ Some x
+read_from p Rewards start len k x is = sym (slice_get-drop start k p.rewards.items) ∙ read_before (start + len - start) k (drop start p.rewards.items) x is
+read_from p f start len k x is = cc
 
 pub bodies_stand : (p : EntryStore) (hs : List EntryHeader) → AreHeldIn p hs → AreEntryBodies (map (entry_in p) hs) (map reward_body hs)
 bodies_stand p hs a n e is = at (slice_get hs n) refl
@@ -108,7 +132,7 @@ bodies_stand p hs a n e is = at (slice_get hs n) refl
         let kept = within.few in
         let few : h.count ≤ length (map place_of h.places) = grind (arith, length-map) in
         let places : h.count ≡ length e.places = sym (length-take-le h.count (map place_of h.places) few) ∙ ap (λ (y : Entry). length y.places) same in
-        let from : AreRewardsFrom entries n h.numbers.start =
-        λ x x_is k r r_is. subst (λ rs. slice_get rs (h.numbers.start + k) ≡ Some r) a.rewards
-        (read_from p h.filling h.numbers k r (subst (λ (y : Entry). slice_get (rewards_of y.body) k ≡ Some r) (same_Some _ _ (sym x_is ∙ here)) r_is)) in
+        let from : AreRewardsFrom entries n h.start =
+        λ x x_is k r r_is. subst (λ rs. slice_get rs (h.start + k) ≡ Some r) a.rewards
+        (read_from p h.filling h.start h.len k r (subst (λ (y : Entry). slice_get (rewards_of y.body) k ≡ Some r) (same_Some _ _ (sym x_is ∙ here)) r_is)) in
         subst (λ o. IsSomeAnd o (λ b. (b.places ≡ length e.places) × AreRewardsFrom entries n b.start)) (sym (slice_get-map reward_body hs n ∙ ap (option_map reward_body) found)) (places, from)

@@ -1,5 +1,5 @@
--- An entry that is borrowed: the entry that it is; and the rewards of all entries.
-use Rattle.std.specs.Prelude.{◌≡◌, ℕ, ◌+◌, ℤ, List, [], ◌∷◌, ◌++◌, Some, length, slice_get, take}
+-- An entry that is borrowed: the entry that it is; which entries can be kept; and the rewards of all entries.
+use Rattle.std.specs.Prelude.{◌≡◌, ℕ, ◌+◌, ◌*◌, ◌<◌, ◌≤◌, ℤ, All, List, [], ◌∷◌, ◌++◌, Some, length, slice_get, take}
 use Rattle.polcert_cells.specs.declared.entries.Body.{Body}
 use Rattle.polcert_cells.specs.declared.entries.Body.TheVariants as bodies
 use Rattle.polcert_cells.specs.declared.entries.Entry.{Entry}
@@ -8,7 +8,9 @@ use Rattle.polcert_cells.specs.declared.entries.BodyRef.TheVariants as refs
 use Rattle.polcert_cells.specs.declared.entries.EntryPlaces.{EntryPlaces}
 use Rattle.polcert_cells.specs.declared.entries.EntryRef.{EntryRef}
 use Rattle.polcert_cells.specs.declared.entries.Place.{Place}
+use Rattle.polcert_cells.specs.declared.entries.Place.TheVariants.{Every, Only}
 use Rattle.polcert_cells.specs.declared.entries.RewardBody.{RewardBody}
+use Rattle.polcert_cells.specs.Elements.{most_elements}
 use Rattle.std.specs.Option.{IsSomeAnd}
 
 abbrev pub body_of : BodyRef → Body
@@ -22,6 +24,25 @@ places_in p = take p.count p.items
 
 abbrev pub entry_of : EntryRef → Entry
 entry_of e = record { table = e.table; places = places_in e.places; body = body_of e.body }
+
+-- a place is `*`, or one of as many elements as there may be
+abbrev pub IsSmallPlace : Place → Type 0
+IsSmallPlace Every = Unit {0}
+IsSmallPlace (Only index) = index < most_elements
+
+-- the most numbers that an entry of a right text has
+abbrev pub most_numbers : ℕ
+most_numbers = most_elements * most_elements
+
+abbrev pub IsShortBody : Body → Type 0
+IsShortBody (bodies.Probabilities ps) = length ps ≤ most_numbers
+IsShortBody (bodies.Rewards hs) = length hs ≤ most_numbers
+IsShortBody _ = Unit {0}
+
+-- a list of entries has room for the number of each element, and for how many numbers there are
+pub record CanBeKept (e : Entry) : Type 0 where
+  pub places : All IsSmallPlace e.places
+  pub body : IsShortBody e.body
 
 abbrev pub rewards_of : Body → List ℤ
 rewards_of (bodies.Rewards hs) = hs

@@ -1,10 +1,11 @@
 //! Entries: the lines of T, O and R, as a model keeps them.
 ghost use Rattle.std.specs.Prelude.{◌≡◌, ◌<◌, ◌++◌, ◌∷◌, [], length, slice_get, slice_set, OnOk, OnErr, ◌≤◌};
-ghost use Rattle.std.specs.Prelude.{◌+◌, Some, List, IfOk, map, take};
+ghost use Rattle.std.specs.Prelude.{◌+◌, All, Some, List, IfOk, map, take};
 ghost use Rattle.polcert_cells.specs.Steps.EntryLists.{part, place_of, entry_in, body_in, HasNumbers};
-ghost use Rattle.polcert_cells.specs.Steps.EntryLists.{IsWithin, Continues, GoOn, IsPut};
+ghost use Rattle.polcert_cells.specs.Steps.EntryLists.{IsWithin, LiesIn, Continues, GoOn, IsPut};
 ghost use Rattle.polcert_cells.specs.declared.entries.Entry.{Entry as E};
 ghost use Rattle.polcert_cells.specs.EntryRefs.{places_in, entry_of, body_of, rewards_of, all_rewards, AreEntryBodies};
+ghost use Rattle.polcert_cells.specs.EntryRefs.{CanBeKept, IsShortBody, IsSmallPlace, most_numbers};
 
 use std::alloc::{AllocError, Global};
 use std::fmt;
@@ -203,19 +204,14 @@ impl Places {
         }
     }
 
-    /// Puts the place after the others. One more than an entry has counts as out of memory, and they stay as they were.
+    /// Puts the place after the others, of which there are at most three.
     #[inline(always)]
-    pub fn push(&mut self, place: Place) -> Result<(), AllocError>
-        ensures ok { OnOk result (self.new ≡ self.old ++ place ∷ []) }
-        ensures full { OnErr result (length self.old ≡ 4) }
-        ensures err { OnErr result (self.new ≡ self.old) }
+    pub fn push(&mut self, place: Place)
+        requires { length self.old < 4 }
+        ensures { self.new ≡ self.old ++ place ∷ [] }
     {
-        if self.count == MOST_PLACES {
-            return Err(AllocError);
-        }
         self.items[self.count] = place;
         self.count += 1;
-        Ok(())
     }
 
     /// Removes all places.
@@ -277,15 +273,15 @@ impl Entry {
     }
 }
 
-/// Where a part of a list begins, and where it ends.
+/// Where a part of a list begins, and how many items it has.
 #[derive(Clone, Copy)]
 pub(crate) struct Span {
-    pub start: u32,
-    pub end: u32,
+    pub start: usize,
+    pub len: u32,
 }
 
 /// No part of a list.
-const NOTHING: Span = Span { start: 0, end: 0 };
+const NOTHING: Span = Span { start: 0, len: 0 };
 
 /// What fills the cells of an entry: numbers of which list, or a word.
 #[derive(Clone, Copy)]
@@ -299,14 +295,16 @@ pub(crate) enum BodyTag {
 /// A place in 16 bits: this number stands for `*`, and any other for the element of this number.
 const EVERY: u16 = u16::MAX;
 
-/// An entry, by its places in 16 bits, of which so many count, and by where its numbers stand.
+/// An entry, by its places in 16 bits, of which the first `count` are its own, and by where its numbers stand: `len` of them from
+/// `start` on. In this order its fields take 24 bytes.
 #[derive(Clone, Copy)]
 pub(crate) struct EntryHeader {
+    pub start: usize,
+    pub len: u32,
+    pub places: [u16; MOST_PLACES],
     pub table: Table,
     pub filling: BodyTag,
     pub count: u8,
-    pub places: [u16; MOST_PLACES],
-    pub numbers: Span,
 }
 
 /// What fills the cells that an entry's places leave open, borrowed.
@@ -372,29 +370,32 @@ impl EntryStore {
     /// stand there.
     #[inline(always)]
     fn put(&mut self, entry: EntryRef<'_>) -> Result<EntryHeader, AllocError>
+        requires { CanBeKept (entry_of entry) }
         ensures go_on { GoOn self.old self.new }
         ensures within { IfOk result (IsWithin self.new) }
         ensures entry { IfOk result (λ head. entry_in self.new head ≡ entry_of entry.entry) }
         ensures rewards { OnOk result
             (self.new.rewards.items ≡ self.old.rewards.items ++ rewards_of (body_of entry.entry.body)) }
     {
-        let places = kept_places(entry.places)?;
         let (filling, numbers) = self.put_body(entry.body)?;
         Ok(EntryHeader {
+            start: numbers.start,
+            len: numbers.len,
+            places: kept_places(entry.places),
             table: entry.table,
             filling,
             count: entry.places.len() as u8,
-            places,
-            numbers,
         })
     }
 
     /// Puts the numbers of a body after the others.
     #[inline(always)]
     fn put_body(&mut self, body: BodyRef<'_>) -> Result<(BodyTag, Span), AllocError>
+        requires { IsShortBody (body_of body) }
         ensures go_on { GoOn self.old self.new }
-        ensures within { IfOk result (λ head. HasNumbers self.new head.0 head.1) }
-        ensures body { IfOk result (λ head. body_in self.new head.0 head.1 ≡ body_of body.entry) }
+        ensures within { IfOk result (λ head. HasNumbers self.new head.0 head.1.start head.1.len) }
+        ensures body { IfOk result (λ head.
+            body_in self.new head.0 head.1.start head.1.len ≡ body_of body.entry) }
         ensures rewards { OnOk result
             (self.new.rewards.items ≡ self.old.rewards.items ++ rewards_of (body_of body.entry)) }
     {
@@ -425,9 +426,15 @@ impl EntryStore {
             },
             body: match head.filling {
                 BodyTag::Probabilities => {
-                    BodyRef::Probabilities(part(self.probabilities.as_slice(), head.numbers))
+                    BodyRef::Probabilities(part(
+                        self.probabilities.as_slice(),
+                        head.start,
+                        head.len,
+                    ))
                 }
-                BodyTag::Rewards => BodyRef::Rewards(part(self.rewards.as_slice(), head.numbers)),
+                BodyTag::Rewards => {
+                    BodyRef::Rewards(part(self.rewards.as_slice(), head.start, head.len))
+                }
                 BodyTag::Uniform => BodyRef::Uniform,
                 BodyTag::Identity => BodyRef::Identity,
             },
@@ -489,18 +496,19 @@ impl Entries {
         self.heads[number].table
     }
 
-    /// Puts the entry after the others. If memory runs out the list stays as it was; so it does if an element's number passes 65,534.
+    /// Puts the entry after the others. If memory runs out the list stays as it was.
     pub fn push(&mut self, entry: Entry) -> Result<(), AllocError>
+        requires { CanBeKept entry }
         ensures ok { OnOk result (self.new ≡ self.old ++ entry ∷ []) }
         ensures err { OnErr result (self.new ≡ self.old) }
     {
         self.push_ref(entry.as_ref())
     }
 
-    /// Puts a copy of the entry after the others. If memory runs out the list stays as it was; so it does if an element's number
-    /// passes 65,534.
+    /// Puts a copy of the entry after the others. If memory runs out the list stays as it was.
     #[inline(always)]
     pub fn push_ref(&mut self, entry: EntryRef<'_>) -> Result<(), AllocError>
+        requires { CanBeKept (entry_of entry) }
         ensures ok { OnOk result (self.new ≡ self.old ++ entry_of entry.entry ∷ []) }
         ensures err { OnErr result (self.new ≡ self.old) }
     {
@@ -552,7 +560,7 @@ impl EntryBodies {
     {
         match self.heads.get(number) {
             Some(head) => Some(RewardBody {
-                start: head.numbers.start as usize,
+                start: head.start,
                 places: head.count as usize,
             }),
             None => None,
@@ -574,6 +582,7 @@ fn put_entry(
     pools: &mut EntryStore,
     entry: EntryRef<'_>,
 ) -> Result<(), AllocError>
+    requires { CanBeKept (entry_of entry) }
     ensures go_on { GoOn pools.old pools.new }
     ensures ok { OnOk result
         (IsPut heads.old.items heads.new.items pools.old pools.new (entry_of entry.entry)) }
@@ -584,32 +593,29 @@ fn put_entry(
     Ok(())
 }
 
-/// Returns these places, each in 16 bits. An element beyond these counts as out of memory.
+/// Returns these places, each in 16 bits.
 #[inline(always)]
-fn kept_places(places: EntryPlaces) -> Result<[u16; MOST_PLACES], AllocError>
-    ensures { IfOk result (λ kept. map place_of kept ≡ places.items) }
+fn kept_places(places: EntryPlaces) -> [u16; MOST_PLACES]
+    requires { All IsSmallPlace (places_in places) }
+    ensures { take places.count (map place_of result) ≡ places_in places }
 {
     let [first, second, third, last] = places.items;
-    Ok([
-        kept_place(first)?,
-        kept_place(second)?,
-        kept_place(third)?,
-        kept_place(last)?,
-    ])
+    [
+        kept_place(first),
+        kept_place(second),
+        kept_place(third),
+        kept_place(last),
+    ]
 }
 
 /// Returns the place in 16 bits.
 #[inline(always)]
-fn kept_place(place: Place) -> Result<u16, AllocError>
-    ensures { IfOk result (λ kept. place_of kept ≡ place) }
+fn kept_place(place: Place) -> u16
+    ensures { IsSmallPlace place → place_of result ≡ place }
 {
     match place {
-        Place::Every => Ok(EVERY),
-        Place::Only(index) => if index == EVERY {
-            Err(AllocError)
-        } else {
-            Ok(index)
-        },
+        Place::Every => EVERY,
+        Place::Only(index) => index,
     }
 }
 
@@ -639,34 +645,30 @@ fn place_of(kept: u16) -> Place
     }
 }
 
-/// Returns the items of this part.
-fn part<T>(items: &[T], span: Span) -> &[T]
-    requires order { span.start ≤ span.end }
-    requires room { span.end ≤ length items.now }
-    ensures { result.now ≡ part span items.now }
+/// Returns `len` items from `start` on.
+fn part<T>(items: &[T], start: usize, len: u32) -> &[T]
+    requires { LiesIn (length items.now) start len }
+    ensures { result.now ≡ part start len items.now }
 {
-    &items[span.start as usize..span.end as usize]
+    &items[start..start + len as usize]
 }
 
 /// Puts more items after those of a list, and says where they stand. If memory runs out some may stand there.
 #[inline(always)]
 fn put<T: Copy + Drop>(items: &mut Vec<T>, more: &[T]) -> Result<Span, AllocError>
+    requires { length more.now ≤ most_numbers }
     ensures continues { Continues items.old.items items.new.items }
     ensures ok { OnOk result (items.new.items ≡ items.old.items ++ more.now) }
     ensures start { IfOk result (λ span. span.start ≡ length items.old.items) }
-    ensures end { IfOk result (λ span. span.end ≡ length items.old.items + length more.now) }
+    ensures len { IfOk result (λ span. span.len ≡ length more.now) }
 {
     let start = items.len();
     match more {
         [item] => items.push(*item)?,
         _ => items.extend_from_slice(more)?,
     }
-    let end = items.len();
-    if end > u32::MAX as usize {
-        return Err(AllocError);
-    }
     Ok(Span {
-        start: start as u32,
-        end: end as u32,
+        start,
+        len: more.len() as u32,
     })
 }

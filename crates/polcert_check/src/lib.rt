@@ -9,6 +9,7 @@ mod expected_reward;
 mod fault;
 mod findings;
 mod fit;
+pub mod from_start;
 pub mod laws;
 pub mod laws_above;
 mod lower;

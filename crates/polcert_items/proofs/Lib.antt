@@ -1,4 +1,5 @@
 mod Common
+pub mod KeptEntries
 pub mod AheadLaws
 pub mod AheadLists
 pub mod AheadPlaces

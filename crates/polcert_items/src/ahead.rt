@@ -216,10 +216,8 @@ impl EntryReader {
         if written >= most || index >= counts[written] as u64 {
             return None;
         }
-        match self.places.push(Place::Only(index as u16)) {
-            Ok(()) => Some(front.colon + front.digits.len),
-            Err(AllocError) => None,
-        }
+        self.places.push(Place::Only(index as u16));
+        Some(front.colon + front.digits.len)
     }
 
     /// Continues with the places that come next, whatever they are.
@@ -255,10 +253,8 @@ impl EntryReader {
         let Some(front) = self.place_ahead(known, &bytes[colon..]) else {
             return None;
         };
-        match self.places.push(front.place) {
-            Ok(()) => Some(colon + front.len),
-            Err(AllocError) => None,
-        }
+        self.places.push(front.place);
+        Some(colon + front.len)
     }
 
     /// Returns the next place, if a token that is one comes next. Names and numbers are tried first, by shorter ways.

@@ -215,7 +215,7 @@ impl EntryReader {
         ensures sign { OnOk result (SignIs (entry_sign self.new.state) (lexeme_of token.entry)) }
     {
         let place = self.next_place(known, token)?;
-        self.places.push(place)?;
+        self.places.push(place);
         self.state = EntryState::Body;
         Ok(())
     }

@@ -57,10 +57,10 @@ pub no_step : (t : CellTable) (end : History → ℤ) (policy : Policy) (s : ℕ
 no_step t end policy s = grind (arith, pow-zero)
 
 -- ---- the rewards alone
-abbrev ends_sum : CellTable → (History → ℤ) → Policy → ℕ → ℕ → ℤ
+abbrev pub ends_sum : CellTable → (History → ℤ) → Policy → ℕ → ℕ → ℤ
 ends_sum t end policy k s = sum_over (λ history. pos (history_weight t policy s history) *ℤ end history) (runs t k)
 
-total_parts : (t : CellTable) (end : History → ℤ) (policy : Policy) (k s : ℕ) → expected_total t end policy k s ≡ expected_rewards t policy k s +ℤ pos (t.discount ^ k) *ℤ ends_sum t end policy k s
+pub total_parts : (t : CellTable) (end : History → ℤ) (policy : Policy) (k s : ℕ) → expected_total t end policy k s ≡ expected_rewards t policy k s +ℤ pos (t.discount ^ k) *ℤ ends_sum t end policy k s
 total_parts t end policy k s = sum_over_parts (pos (t.discount ^ k)) (λ history. pos (history_weight t policy s history)) (discounted_rewards t policy k s) end (runs t k)
 
 ends_le : (t : CellTable) → IsProper t → (end : History → ℤ) (m : ℤ) → ((history : History) → IsRunInRange t history → m ≤ℤ end history) → (k : ℕ) (policy : Policy) → IsPolicyOf t policy → (s : ℕ) → s < t.states → (pos (step_scale t ^ k) *ℤ m) ≤ℤ ends_sum t end policy k s

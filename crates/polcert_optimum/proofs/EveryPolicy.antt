@@ -1,5 +1,5 @@
 -- A value for each state that dominates its backup bounds every policy and every mixture, and only such a value does.
-use Rattle.std.proofs.Common.{ℕ, zero, suc, ◌*◌, ◌^◌, ◌<◌, ℤ, pos, ◌+ℤ◌, ◌*ℤ◌, ◌≤ℤ◌, List, [], ◌∷◌, sym, arith}
+use Rattle.std.proofs.Common.{ℕ, zero, suc, ◌*◌, ◌^◌, ◌<◌, ℤ, pos, ◌*ℤ◌, ◌≤ℤ◌, List, [], ◌∷◌, sym, arith}
 use Rattle.polcert_optimum.proofs.Common.{zero-*ℤ, CellTable, IsProper, one, end_state, Policy, IsPolicyOf, after, step_scale, expected_total, DominatesBackup}
 use Rattle.std.specs.List.{AllByRecursion}
 use Rattle.polcert_check.proofs.Sums.Ring.{linear, mul_le, ≤ℤ_from_eq, +ℤ-*ℤ}

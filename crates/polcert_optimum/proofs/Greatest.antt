@@ -1,5 +1,6 @@
 -- The greatest of some numbers: none is greater, one is as great, and nothing else is both.
-use Rattle.std.proofs.Common.{◌≡◌, ℕ, zero, suc, ◌<◌, ◌≤◌, ℤ, ◌≤ℤ◌, ⊎_elim, refl, sym, ◌∙◌, arith}
+use Rattle.std.proofs.Common.{◌≡◌, ℕ, zero, suc, ◌+◌, ◌<◌, ◌≤◌, ℤ, ◌≤ℤ◌, unsigned_abs, ⊎_elim, refl, sym, ◌∙◌, arith}
+use Rattle.std.proofs.Math.Numerals.{add-one}
 use Rattle.polcert_optimum.proofs.Common.{int_max, cases_lt, ints, clamps, greatest_below}
 use Rattle.std.specs.Prelude.{int_lt}
 use Rattle.std.proofs.lemmas.Bool.{cases_cond}
@@ -28,3 +29,11 @@ greatest_reached f (suc (suc n)) some =
     (λ (e : int_max (greatest_below f (suc n)) (f (suc n)) ≡ greatest_below f (suc n)). let (i, l, is) = greatest_reached f (suc n) (omega arith) in (i, omega arith, is ∙ sym e))
     (λ (e : int_max (greatest_below f (suc n)) (f (suc n)) ≡ f (suc n)). (suc n, omega arith, sym e))
     (cases_cond (int_lt (f (suc n)) (greatest_below f (suc n))) (greatest_below f (suc n)) (f (suc n)) _ refl)
+
+-- one number more
+pub greatest_more : (f : ℕ → ℤ) (n : ℕ) → 0 < n → greatest_below f (n + 1) ≡ int_max (greatest_below f n) (f n)
+greatest_more f zero some = absurd (omega arith)
+greatest_more f (suc n) some = rw add-one refl
+
+pub max_small : (x y : ℤ) (most : ℕ) → unsigned_abs x ≤ most → unsigned_abs y ≤ most → unsigned_abs (int_max x y) ≤ most
+max_small x y most h1 h2 = omega (arith, ints, clamps)

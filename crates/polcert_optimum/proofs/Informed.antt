@@ -10,7 +10,7 @@ use Rattle.polcert_optimum.proofs.Greatest.{greatest_le, greatest_reached}
 use Rattle.polcert_optimum.proofs.Bounded.{policy_after, one_step_more, no_step, bounded, backup_from_one_step}
 
 -- ---- the backup, with the observations summed first
-no_sum : (n : ℕ) → total_below (λ i. pos 0) n ≡ pos 0
+pub no_sum : (n : ℕ) → total_below (λ i. pos 0) n ≡ pos 0
 no_sum zero = refl
 no_sum (suc n) = ap (λ (x : ℤ). x +ℤ pos 0) (no_sum n)
 

@@ -10,3 +10,9 @@ pub mod EveryGraph
 pub mod Start
 pub mod Vanishing
 pub mod Optimum
+pub mod Earnings
+pub mod Seen
+pub mod SeenSums
+pub mod SeenModels
+pub mod Randomised
+pub mod Mixtures

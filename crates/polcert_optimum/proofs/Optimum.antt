@@ -26,10 +26,10 @@ table_within m limits = grind arith
 
 -- ---- the remainder
 -- the total of the start times what is left of the discount, for a tolerance of 1 / d and values within b
-remainder : (total d b g q h : ℕ) → g * (d * b) ≤ h → d * (total * (g * q) * b) ≤ total * (q * h)
+pub remainder : (total d b g q h : ℕ) → g * (d * b) ≤ h → d * (total * (g * q) * b) ≤ total * (q * h)
 remainder total d b g q h less = omega (arith, mul-le-mul_left (total * q) less)
 
-upper_algebra : (d a b scale : ℕ) (rewards bound : ℤ) → (rewards +ℤ pos a *ℤ neg_ℤ (pos b)) ≤ℤ bound → d * (a * b) ≤ scale → (pos d *ℤ rewards) ≤ℤ (pos d *ℤ bound +ℤ pos scale)
+pub upper_algebra : (d a b scale : ℕ) (rewards bound : ℤ) → (rewards +ℤ pos a *ℤ neg_ℤ (pos b)) ≤ℤ bound → d * (a * b) ≤ scale → (pos d *ℤ rewards) ≤ℤ (pos d *ℤ bound +ℤ pos scale)
 upper_algebra d a b scale rewards bound h less =
     let negated : pos a *ℤ neg_ℤ (pos b) ≡ neg_ℤ (pos (a * b)) = neg_product (pos a) (pos b) in
     let below : rewards ≤ℤ (bound +ℤ pos (a * b)) = omega (arith, linear, h, negated) in
@@ -40,7 +40,7 @@ lower_algebra d a b scale rewards bound h less =
     omega (arith, linear, *ℤ-+ℤ (pos d) rewards (pos (a * b)), mul_le d _ _ h)
 
 -- ---- at most what the bound is worth
-at_most_if_bounded : (m : Meaning) (policy : Policy) (end : ℕ → History → ℤ) (b : ℕ) (most : ℤ) → m.preamble.discount < one → ((s : ℕ) (history : History) → s < states_of m → IsRunInRange (table_of m) history → neg_ℤ (pos b) ≤ℤ end s history)
+pub at_most_if_bounded : (m : Meaning) (policy : Policy) (end : ℕ → History → ℤ) (b : ℕ) (most : ℤ) → m.preamble.discount < one → ((s : ℕ) (history : History) → s < states_of m → IsRunInRange (table_of m) history → neg_ℤ (pos b) ≤ℤ end s history)
     → ((k : ℕ) → IsBoundedFromStart m end (λ s. policy) k most) → EarnsAtMost m policy most
 at_most_if_bounded m policy end b most less least bounds d some =
     let g : ℕ = m.preamble.discount in (
@@ -114,7 +114,7 @@ module _ (m : Meaning) (limits : HasLimitedNumbers m) (g : PolicyGraph) (v : Pol
       )
 
   -- ---- the optimum between both
-  cancel : (t : ℕ) (x y : ℤ) → 0 < t → (pos t *ℤ x) ≤ℤ (pos t *ℤ y) → x ≤ℤ y
+  pub cancel : (t : ℕ) (x y : ℤ) → 0 < t → (pos t *ℤ x) ≤ℤ (pos t *ℤ y) → x ≤ℤ y
   cancel t x y some h = omega (arith, linear, below_cancel t x (y +ℤ pos 1) (omega (arith, linear, *ℤ-+ℤ (pos t) y (pos 1))))
 
   pub encloses : (vectors : ℕ → ℕ → ℤ) → AreInformed (table_of m) vectors → (most : ℤ) → AreAtMostFromStart m vectors most → EncloseOptimum m worth most

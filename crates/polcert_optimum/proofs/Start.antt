@@ -9,7 +9,7 @@ use Rattle.polcert_optimum.proofs.EveryPolicy.{every_policy, mixture_le}
 use Rattle.polcert_optimum.proofs.Informed.{every_observation_policy}
 
 -- what is at most x times the value at each state is so in the mean
-sum_le : (m : Meaning) (x : ℕ) (worth value : ℕ → ℤ) (most : ℤ) → ((s : ℕ) → s < states_of m → worth s ≤ℤ (pos x *ℤ value s)) → IsAtMostFromStart m value most → sum_over_start m worth ≤ℤ (pos (start_total m * x) *ℤ most)
+pub sum_le : (m : Meaning) (x : ℕ) (worth value : ℕ → ℤ) (most : ℤ) → ((s : ℕ) → s < states_of m → worth s ≤ℤ (pos x *ℤ value s)) → IsAtMostFromStart m value most → sum_over_start m worth ≤ℤ (pos (start_total m * x) *ℤ most)
 sum_le m x worth value most each mean =
     let total : ℕ = start_total m in
     let terms : sum_over_start m worth ≤ℤ total_below (λ s. pos x *ℤ (pos (start_weight m s) *ℤ value s)) (states_of m) =
@@ -25,14 +25,14 @@ sum_more m limits f x =
     ∙ sum_below_add (λ s. pos (start_weight m s) *ℤ f s) (λ s. x *ℤ pos (start_weight m s)) (states_of m)
     ∙ ap (λ (y : ℤ). sum_over_start m f +ℤ y) (sum_below_scale x (λ s. pos (start_weight m s)) (states_of m) ∙ ap (λ (y : ℤ). x *ℤ y) (start_row m limits) ∙ *ℤ_comm x (pos (start_total m)))
 
-rewards_le : (m : Meaning) → HasLimitedNumbers m → (x y : ℕ) (low : ℤ) (rewards value : ℕ → ℤ) (most : ℤ) → ((s : ℕ) → s < states_of m → (rewards s +ℤ pos y *ℤ low) ≤ℤ (pos x *ℤ value s)) → IsAtMostFromStart m value most
+pub rewards_le : (m : Meaning) → HasLimitedNumbers m → (x y : ℕ) (low : ℤ) (rewards value : ℕ → ℤ) (most : ℤ) → ((s : ℕ) → s < states_of m → (rewards s +ℤ pos y *ℤ low) ≤ℤ (pos x *ℤ value s)) → IsAtMostFromStart m value most
     → (sum_over_start m rewards +ℤ pos (start_total m * y) *ℤ low) ≤ℤ (pos (start_total m * x) *ℤ most)
 rewards_le m limits x y low rewards value most each mean =
     let apart : sum_over_start m rewards +ℤ pos (start_total m * y) *ℤ low ≡ sum_over_start m (λ s. rewards s +ℤ pos y *ℤ low) = ap (λ (z : ℤ). sum_over_start m rewards +ℤ z) (*ℤ_assoc (pos (start_total m)) (pos y) low) ∙ sym (sum_more m limits rewards (pos y *ℤ low)) in
     ≤ℤ_trans _ _ _ (≤ℤ_from_eq _ _ apart) (sum_le m x (λ s. rewards s +ℤ pos y *ℤ low) value most each mean)
 
 -- a bound from each state is one from the start
-from_each : (m : Meaning) → HasLimitedNumbers m → (end : ℕ → History → ℤ) (value : ℕ → ℤ) (policy : ℕ → Policy) (k : ℕ) (most : ℤ) → ((s : ℕ) → s < states_of m → IsBounded (table_of m) (end s) (value s) (policy s) k s) → IsAtMostFromStart m value most
+pub from_each : (m : Meaning) → HasLimitedNumbers m → (end : ℕ → History → ℤ) (value : ℕ → ℤ) (policy : ℕ → Policy) (k : ℕ) (most : ℤ) → ((s : ℕ) → s < states_of m → IsBounded (table_of m) (end s) (value s) (policy s) k s) → IsAtMostFromStart m value most
     → IsBoundedFromStart m end policy k most
 from_each m limits end value policy k most each mean = grind (arith, sum_le, rewards_le)
 

@@ -1,5 +1,5 @@
 -- Sums over the runs of k + 1 steps, split at the first step.
-use Rattle.std.proofs.Common.{◌≡◌, ℕ, suc, ◌-◌, ◌*◌, ◌^◌, ℤ, pos, ◌+ℤ◌, ◌*ℤ◌, List, [], ◌∷◌, refl, ap, ◌∙◌, rules}
+use Rattle.std.proofs.Common.{◌≡◌, ℕ, suc, ◌^◌, ℤ, pos, ◌+ℤ◌, ◌*ℤ◌, List, [], ◌∷◌, refl, ap, ◌∙◌, rules}
 use Rattle.polcert_optimum.proofs.Common.{pow-zero, CellTable, one, total_below, runs, Policy, after, step_weight, history_weight, discounted_rewards, total_weight, expected_total}
 use Rattle.polcert_check.proofs.Sums.SumLaws.{sum_below_same, sum_over_scale, sum_over_factor}
 use Rattle.polcert_check.proofs.Horizons.Runs.{sum_over_runs, part_cons, total_step}

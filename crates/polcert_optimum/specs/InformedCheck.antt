@@ -35,7 +35,7 @@ abbrev pub NamesSmallExcess : CellTable → InformedVerdict → Type 0
 NamesSmallExcess t Yes = ⊤
 NamesSmallExcess t (Exceeded a s amount) = unsigned_abs amount ≤ most_excess t
 
--- A yes bounds every policy that sees the observations alone, and a no says that the vectors don't.
+-- A yes bounds every policy that sees the observations alone, with the vectors at the end, and a no says that the vectors don't.
 abbrev pub MeetsInformedPromise : CellTable → (ℕ → ℕ → ℤ) → InformedVerdict → Type 0
 MeetsInformedPromise t vectors Yes = BoundEveryObservationPolicy t vectors
 MeetsInformedPromise t vectors (Exceeded a s amount) = BoundEveryObservationPolicy t vectors → ⊥

@@ -7,3 +7,7 @@ pub mod Steps
 pub mod GraphPolicy
 pub mod Start
 pub mod Optimum
+pub mod Earnings
+pub mod Seen
+pub mod Randomised
+pub mod Mixtures

@@ -9,8 +9,10 @@ pub mod laws;
 mod observation_sums;
 mod pair;
 mod raise;
+mod seen_start;
 mod verdict;
 
 pub use fault::InformedRaiseFault;
 pub use raise::least_informed_raise;
+pub use seen_start::{bound_most_from_start, seen_most_from_start};
 pub use verdict::{InformedVerdict, check_informed, fit_actions};

@@ -15,6 +15,7 @@ use polcert_check::one_step::ceil_quotient;
 use polcert_policy::Vectors;
 
 /// Returns the greatest excess of any action and state, or 0 if none is above.
+#[inline(never)]
 fn greatest_excess<C: Cells>(cells: &C, vectors: &Vectors) -> i128
     requires { FitActions (C.table cells.now) vectors.now }
     ensures { IsGreatestExcess (C.table cells.now) (value_of vectors.now)

@@ -41,6 +41,8 @@ fn is_above(amount: i128) -> bool
 /// Returns whether the vector of each action is at least its informed backup at every state, so that no policy that sees the
 /// observations alone earns more than the vector of its first action says; else the first action and state where it is less. It takes no
 /// memory. For each action and state it walks the row of T, and for each end state the row of O, once for each action that can follow.
+// (Not inlined: its buffers would be room on the stack for all that is above it.)
+#[inline(never)]
 pub fn check_informed<C: Cells>(cells: &C, vectors: &Vectors) -> InformedVerdict
     requires { FitActions (C.table cells.now) vectors.now }
 
@@ -48,8 +50,8 @@ pub fn check_informed<C: Cells>(cells: &C, vectors: &Vectors) -> InformedVerdict
     // by how much.
     ensures verdict { IsInformedVerdict (C.table cells.now) (value_of vectors.now) result }
 
-    // A yes bounds every policy that sees the observations alone, for every number of steps; a no says that
-    // the vectors don't.
+    // A yes bounds every policy that sees the observations alone, with the vectors at the end, for every
+    // number of steps; a no says that the vectors don't.
     ensures promise { MeetsInformedPromise (C.table cells.now) (value_of vectors.now) result }
 
     // How large an amount can be.

@@ -1,5 +1,5 @@
 -- The greatest excess of the actions and states so far: one more at a time.
-use Rattle.std.proofs.Common.{◌≡◌, ℕ, ◌+◌, ◌<◌, ◌≤◌, ◌⊎◌, inl, inr, ⊎_elim, ℤ, pos, ◌≤ℤ◌, unsigned_abs, sym, subst, arith}
+use Rattle.std.proofs.Common.{◌≡◌, ℕ, ◌+◌, ◌<◌, ◌≤◌, inl, inr, ⊎_elim, ℤ, pos, ◌≤ℤ◌, unsigned_abs, sym, subst, arith}
 use Rattle.polcert_optimum.proofs.Common.{int_max, cases_lt, ints, CellTable, IsProper, IsWithinLimits, largest, excess, most_excess, IsGreatestExcess}
 use Rattle.polcert_check.specs.Verdict.{IsBefore}
 use Rattle.polcert_check.proofs.Sums.Ring.{≤ℤ_trans}
