@@ -1,0 +1,12 @@
+pub mod Decisions
+pub mod EachToken
+pub mod FirstFailures
+pub mod GraphAnswers
+pub mod Readings
+pub mod VectorAnswers
+pub mod TokenAnswers
+pub mod LineAnswers
+pub mod EntryAnswers
+pub mod StartAnswers
+pub mod ItemAnswers
+pub mod ModelAnswers

@@ -1,0 +1,4 @@
+//! Laws that every text has an answer.
+#![tactic(auto)]
+
+pub mod laws;
