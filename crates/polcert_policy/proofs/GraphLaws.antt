@@ -1,5 +1,5 @@
 -- How the tokens of a graph are read on, and what can't follow.
-use Rattle.std.proofs.Common.{◌≡◌, ◌∙◌, ℕ, suc, zero, ◌+◌, ◌-◌, ◌*◌, ◌<◌, ◌≤◌, ◌==◌, Bool, true, false, ◌&&◌, ◌⊎◌, ⊎_elim, Option, Some, List, [], ◌∷◌, ◌++◌, length, slice_get, refl, sym, ap, subst, arith, length-append, append_assoc, append-nil, lit<}
+use Rattle.std.proofs.Common.{◌≡◌, ◌∙◌, ℕ, suc, zero, ◌+◌, ◌-◌, ◌*◌, ◌<◌, ◌≤◌, ◌==◌, Bool, true, false, ◌&&◌, ⊎_elim, Option, Some, List, [], ◌∷◌, ◌++◌, length, slice_get, refl, sym, ap, subst, arith, length-append, append_assoc, append-nil, lit<}
 use Rattle.std.proofs.Math.Path.{subst₂}
 use Rattle.polcert_policy.proofs.Common.{is_digit, Lexeme, TokenKind, Name, Numeral, numeral_kind, minus_kind, is_whole, whole_of, is_successor, successor_of, is_joined, PolicyGraph, nodes, IsLooseGraph, IsPossible, width, most_nodes, AreNodesUpTo, IsApartFrom}
 use Rattle.polcert_policy.specs.Graphs.{IsAction, IsSuccessor, AreNodes}

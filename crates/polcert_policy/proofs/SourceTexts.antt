@@ -43,3 +43,11 @@ less_left reads failures first ts old s t new u {Reads} {after} was gives goes_o
     let taken = token_taken reads failures text_limit first ts old s t new u was gives goes_on in
     let place = ap (λ s. s.ahead.place) ahead.tokens_are in
     omega (arith, grows, place, place_within reads failures text_limit first _ after u (all_passed reads failures text_limit first _ new after u taken ahead))
+
+-- after a token less of the text is left
+pub less_left_token : {S : Type 0} (reads : S → ℕ → Option (List ℕ) → S → Type 0) (failures : S → ℕ) (first : S) (ts : List Lexeme) (old : Stream) (s : S) (t : Lexeme) (new : Stream) (u : S)
+    → TakenFrom reads failures text_limit first ts old s → GivesToken reads failures old.ahead s t new.ahead u → new.stop ≡ None → text_limit - new.ahead.place < text_limit - old.ahead.place
+less_left_token reads failures first ts old s t new u was gives goes_on =
+    let grows : old.ahead.place < new.ahead.place = place_grows old.ahead new.ahead gives.given t gives.next in
+    let taken = token_taken reads failures text_limit first ts old s t new u was gives goes_on in
+    omega (arith, grows, place_within reads failures text_limit first _ new u taken)

@@ -2,3 +2,5 @@
 pub mod GraphRead
 pub mod Kept
 pub mod VectorsRead
+pub mod PointsRead
+pub mod WeightRows

@@ -1,5 +1,5 @@
 //! Laws of the definitions, each the contract of a function with nothing to do.
-ghost use Rattle.std.specs.Prelude.{◌≡◌, ◌≢◌, ◌<◌, ◌≤◌, ℕ, List};
+ghost use Rattle.std.specs.Prelude.{◌≡◌, ◌≢◌, ◌<◌, ◌≤◌, ◌++◌, ℕ, List};
 ghost use Rattle.polcert_policy.specs.Graphs.{PolicyGraph, AreGraphTokens, IsLooseGraph, IsProperGraph, HasNodesOnly, nodes, action_of, most_nodes};
 ghost use Rattle.polcert_cells.specs.Elements.{most_states, most_actions, most_observations};
 ghost use Rattle.polcert_policy.specs.GraphText.{IsGraphText, IsGraphRefusal};
@@ -8,8 +8,11 @@ ghost use Rattle.polcert_text.specs.Cut.{Lexeme};
 ghost use Rattle.polcert_policy.specs.VectorText.{IsVectorsText, IsVectorsRefusal, IsRoundedVectorsText, IsRoundedVectorsRefusal};
 ghost use Rattle.polcert_policy.specs.ActionVectors.{action_graph, IsActionVectorsText};
 ghost use Rattle.polcert_policy.specs.FullForm.{vectors_text};
+ghost use Rattle.polcert_policy.specs.Points.{PointValues, AreProperPoints};
+ghost use Rattle.polcert_policy.specs.PointText.{ArePointTokens, BeginPoints, IsPointsText, IsPointsRefusal};
+ghost use Rattle.polcert_policy.specs.PointFields.{AreFieldTokens};
 
-use crate::{GraphFault, VectorFault};
+use crate::{GraphFault, PointFault, VectorFault};
 use polcert_text::Rounding;
 
 /// A text is at most one graph.
@@ -132,4 +135,49 @@ pub fn full_form_reads_back()
     ensures either_way { (rounding : Rounding) (graph : PolicyGraph) (v : PolicyVectors) →
         IsProperGraph graph → AreProperVectors v →
         v.nodes ≡ nodes graph → IsRoundedVectorsText rounding graph v.states (vectors_text graph v) v }
+{}
+
+/// A text is at most one list of belief points.
+pub fn one_points()
+    ensures { (states actions observations : ℕ) (text : List ℕ) (p q : PointValues) →
+        1 ≤ states → 1 ≤ actions → 1 ≤ observations →
+        IsPointsText states actions observations text p → IsPointsText states actions observations text q →
+        p ≡ q }
+{}
+
+/// A text is refused as belief points for at most one reason, and at one place, out of memory aside.
+pub fn one_points_refusal()
+    ensures { (states actions observations : ℕ) (text : List ℕ) (f g : PointFault) →
+        f ≢ PointFault.Memory → g ≢ PointFault.Memory →
+        IsPointsRefusal states actions observations text f →
+        IsPointsRefusal states actions observations text g → f ≡ g }
+{}
+
+/// Tokens are read as belief points exactly if they are their fields, one after another.
+pub fn points_by_fields()
+    ensures read { (states actions observations : ℕ) (tokens : List Lexeme) (p : PointValues) →
+        1 ≤ states → 1 ≤ actions → 1 ≤ observations →
+        ArePointTokens states actions observations tokens p →
+        AreFieldTokens states actions observations tokens p }
+    ensures fields { (states actions observations : ℕ) (tokens : List Lexeme) (p : PointValues) →
+        1 ≤ states → 1 ≤ actions → 1 ≤ observations →
+        AreFieldTokens states actions observations tokens p →
+        ArePointTokens states actions observations tokens p }
+
+    // So tokens that no fields of points begin with are those that a refusal is for.
+    ensures fronts { (states actions observations : ℕ) (front more : List Lexeme) (p : PointValues) →
+        1 ≤ states → 1 ≤ actions → 1 ≤ observations →
+        AreFieldTokens states actions observations (front ++ more) p →
+        BeginPoints states actions observations front }
+{}
+
+/// The points that a text denotes are within their limits, if the counts that the text was read for are.
+pub fn points_within_limits()
+    ensures counts { (states actions observations : ℕ) (text : List ℕ) (p : PointValues) →
+        IsPointsText states actions observations text p →
+        (p.states ≡ states) × (p.actions ≡ actions) × (p.observations ≡ observations) }
+    ensures proper { (states actions observations : ℕ) (text : List ℕ) (p : PointValues) →
+        1 ≤ states → states ≤ most_states → 1 ≤ actions → actions ≤ most_actions →
+        1 ≤ observations → observations ≤ most_observations →
+        IsPointsText states actions observations text p → AreProperPoints p }
 {}
