@@ -1,0 +1,17 @@
+-- names
+pub use Rattle.polcert_optimum.specs.Bound.{DominatesBackup, IsBounded, backup}
+pub use Rattle.polcert_optimum.specs.Informed.{AreInformed, BoundEveryObservationPolicy, IsInformed, excess, expected_reward, expected_value, greatest_below}
+pub use Rattle.polcert_optimum.specs.Policy.{History, IsPolicyOf, ObservationPolicy, Policy, after, as_policy, discounted_rewards, end_state, expected_rewards, expected_total, history_weight, step_scale, step_weight, total_weight}
+pub use Rattle.std.proofs.Math.IntN.{*ℤ_comm, zero-*ℤ}
+pub use Rattle.std.proofs.Math.Nat.{pow-zero}
+pub use Rattle.std.proofs.lemmas.Bool.{cases_lt}
+pub use Rattle.std.proofs.lemmas.Int.{clamps, ints}
+pub use Rattle.std.specs.Int.{int_max}
+pub use Rattle.polcert_cells.specs.BorrowedRows.{reached}
+pub use Rattle.polcert_cells.specs.Tables.{CellTable, IsProper}
+pub use Rattle.polcert_check.specs.Horizon.{IsRunInRange, runs, total_below}
+unfoldable pub use Rattle.polcert_check.specs.Horizon.{one}
+pub use Rattle.polcert_cells.specs.Meaning.{HasLimitedNumbers, Meaning, start_total, start_weight, states_of}
+pub use Rattle.polcert_cells.specs.Tables.{table_of}
+pub use Rattle.polcert_optimum.specs.Start.{IsBoundedFromStart, start_scale, sum_over_start}
+pub use mir.Syntax.{w128}

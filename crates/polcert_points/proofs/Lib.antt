@@ -1,0 +1,23 @@
+mod Common
+pub mod Beliefs
+pub mod PointBounds
+pub mod PointStarts
+pub mod PointRaises
+pub mod PointChecks
+pub mod Covering
+pub mod Comparing
+pub mod Charging
+pub mod Rows
+pub mod Arriving
+pub mod PointSizes
+pub mod LeastCharges
+pub mod BestWorths
+pub mod NamedCovers
+pub mod Laters
+pub mod PointRewards
+pub mod PointExcesses
+pub mod PointStartMosts
+pub mod PointSets
+pub mod SmallExcesses
+pub mod SamePoints
+pub mod OnePoints

@@ -1,0 +1,9 @@
+pub mod Belief
+pub mod Points
+pub mod PointStart
+pub mod PointRaise
+pub mod PointCheck
+pub mod PointTable
+pub mod PointVerdict
+pub mod PointStartMost
+pub mod Steps
