@@ -1,11 +1,10 @@
 //! The program, over the runtime that it is given.
-use polcert_answer::{
-    Outcome, RunFault, Task, run_model, run_print, run_task, status_of, status_of_outcome,
-};
-use polcert_lines::{LoweredLine, RaisedLine, RefusalLine};
+use polcert_answer::{Outcome, RunFault, Task, run_model, run_print, run_task, status_of_outcome};
+use polcert_lines::{LoweredLine, RaisedLine, end_run};
 use polcert_terminal::controller::{Choice, FileNames, Job, choose};
 use polcert_terminal::{
-    CheckProgress, DONE, InputText, MEMORY, REFUSED, WatchedSource, print_clap_error, refuse,
+    CheckProgress, DONE, InputText, WatchedSource, print_clap_error, refuse_for_memory,
+    refuse_words,
 };
 use polcert_text::{ReaderSource, Source, WriterSink};
 use std::alloc::AllocError;
@@ -33,12 +32,10 @@ pub fn run_program<R: Env + Files + Clock + AllocGlobal + Input + Print + Eprint
     match env::args(rt) {
         Ok(args) => match args.collect(rt.alloc()) {
             Ok(words) => run_words(rt, terminals, &words),
-            Err(AllocError) => refuse(rt, "out of memory", MEMORY),
+            Err(AllocError) => refuse_for_memory(rt),
         },
-        Err(error) if error.kind() == io::ErrorKind::OutOfMemory => {
-            refuse(rt, "out of memory", MEMORY)
-        }
-        Err(_) => refuse(rt, "a word of the command line is no text", REFUSED),
+        Err(error) if error.kind() == io::ErrorKind::OutOfMemory => refuse_for_memory(rt),
+        Err(_) => refuse_words(rt, "a word of the command line is no text"),
     }
 }
 
@@ -51,12 +48,12 @@ fn run_words<R: Files + Clock + AllocGlobal + Input + Print + Eprint>(
     let mut borrowed = Vec::new(rt.alloc());
     for word in words {
         if borrowed.push(word.as_str()).is_err() {
-            return refuse(rt, "out of memory", MEMORY);
+            return refuse_for_memory(rt);
         }
     }
     match choose(rt.alloc(), &borrowed) {
         Ok(Some(choice)) => run_choice(rt, terminals, choice),
-        Ok(None) => refuse(rt, "a file's name is missing: see polcert --help", REFUSED),
+        Ok(None) => refuse_words(rt, "a file's name is missing: see polcert --help"),
         Err(error) => print_clap_error(rt, &error),
     }
 }
@@ -73,13 +70,7 @@ fn run_choice<R: Files + Clock + AllocGlobal + Input + Print + Eprint>(
         Job::Print(name) => print_file(rt, terminals.error, name),
         Job::Run(task, names) => run_task_on_files(rt, terminals.error, task, names),
     };
-    match done {
-        Ok(status) => status,
-        Err(fault) => {
-            let _ = rt.eprintln(RefusalLine(fault));
-            status_of(&fault)
-        }
-    }
+    end_run(rt, done)
 }
 
 /// Summarizes the model on standard input. If the model is to be typed, a hint says so, and no progress disturbs the typing.

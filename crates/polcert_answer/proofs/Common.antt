@@ -7,7 +7,7 @@ pub use Rattle.polcert_answer.specs.Side.{Side}
 pub use Rattle.polcert_answer.specs.Steps.Laws.{SideLaws}
 pub use Rattle.polcert_answer.specs.Steps.Reading.{AreDenoted, AreWrittenMoved, IsGraphReadFault, IsNoReadFault}
 pub use Rattle.polcert_answer.specs.declared.fault.Fault.{Fault}
-pub use Rattle.polcert_answer.specs.declared.fault.Fault.TheVariants.{Graph, Model, Vectors}
+pub use Rattle.polcert_answer.specs.declared.fault.Fault.TheVariants.{Graph, Model, Points, Vectors}
 pub use Rattle.polcert_answer.specs.declared.fault.RunFault.{RunFault}
 pub use Rattle.polcert_answer.specs.declared.fault.RunFault.TheVariants.{Text, Write}
 pub use Rattle.polcert_cells.specs.Meaning.{IsSame, Meaning, observations_of, states_of}

@@ -1,12 +1,12 @@
 -- What is said of three texts in memory, from what is said of them as the texts of sources.
 use Rattle.std.proofs.Common.{◌≡◌, ℕ, List, Result, Err, arith}
 use Rattle.std.specs.Result.{IsErrAnd}
-use Rattle.polcert_answer.proofs.Common.{Rounding, Meaning, states_of, PolicyGraph, PolicyVectors, IsRoundedVectorsText, Fault, Model, Graph, Vectors, RunFault, Text, HasGraph, IsModelFault, IsGraphRefused, AreRoundedVectorsRefused, RefusesRightly, Side, AreDenoted}
+use Rattle.polcert_answer.proofs.Common.{Rounding, Meaning, states_of, PolicyGraph, PolicyVectors, IsRoundedVectorsText, Fault, Model, Graph, Vectors, Points, RunFault, Text, HasGraph, IsModelFault, IsGraphRefused, AreRoundedVectorsRefused, RefusesRightly, Side, AreDenoted}
 use Rattle.polcert_text.proofs.Known.{slice_reads}
 use Rattle.polcert_text.proofs.Streams.SliceTexts.{of_slice, of_slice_text}
 use Rattle.polcert_answer.specs.Answer.{IsFault}
 use Rattle.polcert_answer.specs.Run.{text_of}
-use Rattle.polcert_answer.specs.Steps.Reading.{IsTextAnswer}
+use Rattle.polcert_answer.specs.Steps.Reading.{IsReadFault, IsTextAnswer}
 
 -- three slices, and what is said of them as three sources
 module _ {M G V : Type 0} (m_rest : M → List ℕ) (m m' : M) (model : List ℕ) (m_holds : m_rest m ≡ model)
@@ -30,20 +30,21 @@ module _ {M G V : Type 0} (m_rest : M → List ℕ) (m m' : M) (model : List ℕ
     pub refused_slices : {T : Type 0} (r : Result T RunFault)
         → RefusesRightly rounding r (slice_reads m_rest) m m' (slice_reads g_rest) g g' (slice_reads v_rest) v
         v'
-        → (fault : Fault) → r ≡ Err (Text fault) → IsFault rounding model graph vectors fault
-    refused_slices r h (Model fault) is = of_slice m_rest m_holds (λ text. IsModelFault text fault)
+        → (fault : Fault) → IsReadFault (Text fault) → r ≡ Err (Text fault) → IsFault rounding model graph vectors fault
+    refused_slices r h (Model fault) of is = of_slice m_rest m_holds (λ text. IsModelFault text fault)
         (h.of_model fault is)
-    refused_slices r h (Graph fault) is =
+    refused_slices r h (Graph fault) of is =
         let (first, read, each) = h.of_graph fault is in
         of_slice_text m_rest m_holds (λ text. IsGraphRefused text fault graph) first read
         (of_slice g_rest g_holds (IsGraphRefused first fault) each)
-    refused_slices r h (Vectors fault) is =
+    refused_slices r h (Vectors fault) of is =
         let (first, second, read, next, each) = h.of_vectors fault is in
         of_slice_text m_rest m_holds
         (λ text. AreRoundedVectorsRefused rounding text graph fault vectors) first read
         (of_slice_text g_rest g_holds
         (λ text. AreRoundedVectorsRefused rounding first text fault vectors) second next
         (of_slice v_rest v_holds (AreRoundedVectorsRefused rounding first second fault) each))
+    refused_slices r h (Points fault) of is = absurd of
 
 -- ---- a fault that is handed on
 pub refused_answer : {V F : Type 0} (side : Side V F) (model graph vectors : List ℕ) (r : Result V Fault) (given : Fault) → IsErrAnd r (λ fault. fault ≡ given)

@@ -1,6 +1,6 @@
 -- Three texts have one answer, out of memory aside.
 use Rattle.std.proofs.Common.{◌≡◌, ℕ, List, Result, Ok, Err, refl, sym, subst, arith}
-use Rattle.polcert_answer.proofs.Common.{ModelFault, Meaning, IsModelText, SaysOfText, PolicyGraph, GraphFault, VectorFault, Rounding, IsGraphText, IsNoGraphText, PolicyVectors, IsRoundedVectorsText, IsNoRoundedVectorsText, Controller, Fault, Model, Graph, Vectors, controller, HasGraph, IsModelFault, IsRoundedAnswer}
+use Rattle.polcert_answer.proofs.Common.{ModelFault, Meaning, IsModelText, SaysOfText, PolicyGraph, GraphFault, VectorFault, Rounding, IsGraphText, IsNoGraphText, PolicyVectors, IsRoundedVectorsText, IsNoRoundedVectorsText, Controller, Fault, Model, Graph, Vectors, Points, controller, HasGraph, IsModelFault, IsRoundedAnswer}
 use Rattle.polcert_format.specs.declared.fault.ModelFault.TheVariants as models
 use Rattle.polcert_policy.specs.declared.fault.GraphFault.TheVariants as graphs
 use Rattle.polcert_policy.specs.declared.fault.VectorFault.TheVariants as values
@@ -75,6 +75,7 @@ module _ {V : Type 0} (rounding : Rounding) (Is : Controller → V → Type 0) (
       let has : HasGraph model graph h.0.meaning h.0.policy = record { is_model = h.0.is_model; is_graph = h.0.is_graph } in
       let memory = vectors_memory rounding _ _ vectors f h.0.values (refused.no_vectors h.0.meaning h.0.policy has) h.0.are_vectors in
       subst (λ (g : VectorFault). IsOutOfMemory (Vectors g)) (sym memory) tt
+  no_refusal x (Points f) h refused = absurd refused
 
   -- beside a verdict there is no other answer
   pub but_for_memory : (x : V) → Answers (Ok x) → (r : Result V Fault) → Answers r → IsButForMemory x r

@@ -12,6 +12,7 @@ use Rattle.polcert_policy.specs.declared.fault.GraphFault.{GraphFault}
 use Rattle.polcert_policy.specs.declared.fault.GraphFault.TheVariants as graphs
 use Rattle.polcert_policy.specs.declared.fault.VectorFault.{VectorFault}
 use Rattle.polcert_policy.specs.declared.fault.VectorFault.TheVariants as values
+use Rattle.polcert_policy.specs.declared.fault.PointFault.TheVariants as points
 use Rattle.polcert_policy.specs.Graphs.{PolicyGraph}
 use Rattle.polcert_policy.specs.GraphText.{IsGraphText, IsGraphRefusal, IsNoGraphText}
 use Rattle.polcert_policy.specs.VectorText.{IsRoundedVectorsRefusal, IsNoRoundedVectorsText}
@@ -21,7 +22,7 @@ use Rattle.polcert_check.specs.Horizon.{Controller}
 use Rattle.polcert_check.specs.Verdict.{IsVerdict}
 use Rattle.polcert_check.specs.Above.{IsAboveVerdict}
 use Rattle.polcert_answer.specs.declared.fault.Fault.{Fault}
-use Rattle.polcert_answer.specs.declared.fault.Fault.TheVariants.{Model, Graph, Vectors}
+use Rattle.polcert_answer.specs.declared.fault.Fault.TheVariants.{Model, Graph, Vectors, Points}
 use Rattle.polcert_answer.specs.Headline.{RoundedCertificate, controller}
 
 -- The text is no model's, and the fault is what is promised of a refusal of this text's tokens, and stands where it is
@@ -53,7 +54,7 @@ pub record AreRoundedVectorsRefused (rounding : Rounding) (model graph : List �
   pub no_vectors : (m : Meaning) (p : PolicyGraph) → HasGraph model graph m p → IsNoRoundedVectorsText rounding p (states_of m) text fault
   pub refusal : (m : Meaning) (p : PolicyGraph) → HasGraph model graph m p → IsRoundedVectorsRefusal rounding p (states_of m) text fault
 
--- what a refusal says of the three texts; out of memory says nothing of the text that was being read
+-- what a refusal says of the three texts, of which none has points; out of memory says nothing of the text that was being read
 abbrev pub IsModelFault : List ℕ → ModelFault → Type 0
 IsModelFault model models.Memory = Unit {0}
 IsModelFault model fault = IsRefused fault model
@@ -62,6 +63,7 @@ abbrev pub IsFault : Rounding → List ℕ → List ℕ → List ℕ → Fault �
 IsFault rounding model graph vectors (Model fault) = IsModelFault model fault
 IsFault rounding model graph vectors (Graph fault) = IsGraphRefused model fault graph
 IsFault rounding model graph vectors (Vectors fault) = AreRoundedVectorsRefused rounding model graph fault vectors
+IsFault rounding model graph vectors (Points fault) = ⊥
 
 -- The answer, where values are rounded this way and these are the verdicts: the verdict, where the texts denote a controller,
 -- and whatever controller they denote; else the refusal.
@@ -82,6 +84,7 @@ abbrev pub IsOutOfMemory : Fault → Type 0
 IsOutOfMemory (Model models.Memory) = Unit {0}
 IsOutOfMemory (Graph graphs.Memory) = Unit {0}
 IsOutOfMemory (Vectors values.Memory) = Unit {0}
+IsOutOfMemory (Points points.Memory) = Unit {0}
 IsOutOfMemory _ = ⊥
 
 -- the answer is this verdict, except out of memory

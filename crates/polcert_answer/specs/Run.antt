@@ -14,9 +14,9 @@ use Rattle.polcert_policy.specs.declared.fault.VectorFault.{VectorFault}
 use Rattle.polcert_policy.specs.Graphs.{nodes}
 use Rattle.polcert_check.specs.StartWorth.{IsBestStart, IsStartWorth, StartPromise}
 use Rattle.polcert_check.specs.StartMost.{IsStartMost, StartPromiseAbove}
-use Rattle.polcert_answer.specs.declared.fault.Fault.TheVariants.{Model, Graph, Vectors}
+use Rattle.polcert_answer.specs.declared.fault.Fault.TheVariants.{Model, Graph, Vectors, Points}
 use Rattle.polcert_answer.specs.declared.fault.RunFault.{RunFault}
-use Rattle.polcert_answer.specs.declared.fault.RunFault.TheVariants.{Text, ReadModel, ReadGraph, ReadVectors, Write, Lower, Raise, TooLargeToPrint}
+use Rattle.polcert_answer.specs.declared.fault.RunFault.TheVariants.{Text, ReadModel, ReadGraph, ReadVectors, ReadPoints, Write, Lower, Raise, TooLargeToPrint}
 use Rattle.polcert_answer.specs.Answer.{IsModelFault, IsGraphRefused, AreRoundedVectorsRefused}
 use Rattle.polcert_answer.specs.Headline.{RoundedCertificate, Certificate, controller, IsCertified, AreRewardsCertified}
 use Rattle.polcert_answer.specs.HeadlineAbove.{CertificateAbove, IsCertifiedAbove, AreRewardsCertifiedAbove, BoundLowerVectors}
@@ -176,6 +176,8 @@ pub record StopsRightly {T M G V W : Type 0} (rounding : Rounding) (result : Res
 -- what a check may answer: a refusal of a text, and its devices; lowering, raising and printing are no part
 -- of it
 abbrev pub IsCheckRunFault : RunFault → Type 0
+IsCheckRunFault (Text (Points fault)) = ⊥
+IsCheckRunFault ReadPoints = ⊥
 IsCheckRunFault (Lower fault) = ⊥
 IsCheckRunFault (Raise fault) = ⊥
 IsCheckRunFault TooLargeToPrint = ⊥
@@ -183,12 +185,16 @@ IsCheckRunFault _ = Unit {0}
 
 -- what a lowering may answer: the same, and that the vectors can't be lowered
 abbrev pub IsLowerRunFault : RunFault → Type 0
+IsLowerRunFault (Text (Points fault)) = ⊥
+IsLowerRunFault ReadPoints = ⊥
 IsLowerRunFault (Raise fault) = ⊥
 IsLowerRunFault TooLargeToPrint = ⊥
 IsLowerRunFault _ = Unit {0}
 
 -- what a raise may answer: the same as a check, and that the vectors can't be raised
 abbrev pub IsRaiseRunFault : RunFault → Type 0
+IsRaiseRunFault (Text (Points fault)) = ⊥
+IsRaiseRunFault ReadPoints = ⊥
 IsRaiseRunFault (Lower fault) = ⊥
 IsRaiseRunFault TooLargeToPrint = ⊥
 IsRaiseRunFault _ = Unit {0}

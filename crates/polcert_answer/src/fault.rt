@@ -1,21 +1,24 @@
 //! Why a text, or a run, is refused.
 use polcert_check::{LowerFault, RaiseFault};
 use polcert_model::ModelFault;
-use polcert_policy::{GraphFault, VectorFault};
+use polcert_policy::{GraphFault, PointFault, VectorFault};
 use thiserror::Error;
 
-/// Why one of three texts is refused.
+/// Why one of the texts of a run is refused: a model's, and those that it is read with.
 #[derive(Clone, Copy, Debug, PartialEq, Eq, Error)]
 pub enum Fault {
-    /// The first is no model's text.
+    /// It is no model's text.
     #[error("model: {0}")]
     Model(ModelFault),
-    /// The second is no policy graph for the model's actions and observations.
+    /// It is no policy graph for the model's actions and observations.
     #[error("graph: {0}")]
     Graph(GraphFault),
-    /// The third is no list of vectors for the graph and the model's states.
+    /// It is no list of vectors, one for each node of the graph or for each action, with a value for each of the model's states.
     #[error("vectors: {0}")]
     Vectors(VectorFault),
+    /// It is no list of belief points for the model's states, actions and observations.
+    #[error("points: {0}")]
+    Points(PointFault),
 }
 
 /// Why a run stops before its end.
@@ -33,6 +36,9 @@ pub enum RunFault {
     /// A read of the vectors' source failed.
     #[error("cannot read vectors")]
     ReadVectors,
+    /// A read of the points' source failed.
+    #[error("cannot read points")]
+    ReadPoints,
     /// A write of the answer failed.
     #[error("cannot write")]
     Write,

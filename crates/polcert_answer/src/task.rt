@@ -10,7 +10,7 @@ use crate::runs::{
 };
 use polcert_check::{AboveVerdict, LowerFault, Progress, RaiseFault, Verdict};
 use polcert_model::ModelFault;
-use polcert_policy::{GraphFault, VectorFault};
+use polcert_policy::{GraphFault, PointFault, VectorFault};
 use polcert_text::{Sink, Source};
 use std::alloc::Global;
 
@@ -126,13 +126,18 @@ pub fn status_of(fault: &RunFault) -> u8
         RunFault::Text(
             Fault::Model(ModelFault::Memory)
             | Fault::Graph(GraphFault::Memory)
-            | Fault::Vectors(VectorFault::Memory),
+            | Fault::Vectors(VectorFault::Memory)
+            | Fault::Points(PointFault::Memory),
         )
         | RunFault::Lower(LowerFault::Memory)
         | RunFault::Raise(RaiseFault::Memory) => 4,
         RunFault::Text(_) => 2,
         RunFault::TooLargeToPrint => 2,
-        RunFault::ReadModel | RunFault::ReadGraph | RunFault::ReadVectors | RunFault::Write => 3,
+        RunFault::ReadModel
+        | RunFault::ReadGraph
+        | RunFault::ReadVectors
+        | RunFault::ReadPoints
+        | RunFault::Write => 3,
         RunFault::Lower(_) | RunFault::Raise(_) => 1,
     }
 }

@@ -4,8 +4,9 @@
 mod program;
 
 pub use polcert_terminal::every_policy::{Choice, choose};
+use std::io::IsTerminal;
 use std::process::ExitCode;
 
 fn main(rt: HostRuntime) -> ExitCode {
-    ExitCode::from(program::run_program(&rt))
+    ExitCode::from(program::run_program(&rt, rt.stderr().is_terminal()))
 }

@@ -1,6 +1,6 @@
 -- What two texts denote: one model and one list of vectors, whatever stands for them.
 use Rattle.std.proofs.Common.{◌≡◌, ℕ, ◌<◌, ℤ, List, Ok, sym, subst, arith}
-use Rattle.polcert_bound_answer.proofs.Common.{Meaning, IsSame, states_of, actions_of, IsProper, table_of, IsModelText, VectorFault, PolicyVectors, value_of, action_graph, IsActionVectorsText, IsNoActionVectorsText, IsStartMost, InformedVerdict, Yes, Exceeded, FitActions, IsInformedVerdict, BoundCertificate, AreActionVectorsRefused, IsBoundAnswer}
+use Rattle.polcert_bound_answer.proofs.Common.{Meaning, IsSame, states_of, actions_of, IsProper, table_of, IsModelText, VectorFault, PolicyVectors, value_of, action_graph, IsActionVectorsText, IsNoActionVectorsText, IsBoundStartMost, InformedVerdict, Yes, Exceeded, FitActions, IsInformedVerdict, BoundCertificate, AreActionVectorsRefused, IsBoundAnswer}
 use Rattle.polcert_cells.specs.Meaning.{HasLimitedNumbers}
 use Rattle.polcert_model.proofs.FilledLaws.{table_rows}
 use Rattle.polcert_model.proofs.LimitLaws.{within_limits}
@@ -9,11 +9,9 @@ use Rattle.polcert_policy.specs.ActionVectors.{IsActionVectorsRefusal, IsRefused
 use Rattle.polcert_policy.proofs.ActionGraphs.{action_counts}
 use Rattle.polcert_policy.proofs.OneText as texts
 use Rattle.polcert_check.proofs.Agreements.SameModels.{same_cells}
-use Rattle.polcert_check.proofs.Mirrors.SameAbove.{same_start_most}
-use Rattle.polcert_check.proofs.Sums.Ring.{≤ℤ_trans}
 use Rattle.polcert_optimum.specs.Start.{AreAtMostFromStart}
 use Rattle.polcert_optimum.proofs.Informed.{every_observation_policy, informed_only_then}
-use Rattle.polcert_optimum.proofs.Start.{informed_from_start, mixtures_from_start}
+use Rattle.polcert_optimum.proofs.SeenModels.{model_mean, model_policies, model_mixtures, same_bound_most}
 use Rattle.polcert_answer.proofs.Denoted.{same_states, same_actions}
 use Rattle.polcert_bound_answer.specs.Headline.{IsCertifiedBound}
 use Rattle.polcert_bound_answer.specs.Lines.{IsBoundLine}
@@ -39,7 +37,7 @@ fit_of m v vectors are = let counts = action_counts (actions_of m) (states_of m)
 
 -- the line of a verdict on one model is its line on every same one
 line_there : (m n : Meaning) (v : PolicyVectors) → IsSame m n → (verdict : InformedVerdict) (line : List ℕ) → IsBoundLine m v verdict line → IsBoundLine n v verdict line
-line_there m n v same Yes line (most, is_most, spelled) = (most, same_start_most m n same v most is_most, spelled)
+line_there m n v same Yes line (most, is_most, spelled) = (most, same_bound_most m n same v most is_most, spelled)
 line_there m n v same (Exceeded a s amount) line (by, quotient, spelled) = grind (arith, same_cells)
 
 module _ {model vectors : List ℕ} (m : Meaning) (v : PolicyVectors) (is : IsModelText model m) (are : IsActionVectorsText (actions_of m) (states_of m) vectors v) where
@@ -48,7 +46,7 @@ module _ {model vectors : List ℕ} (m : Meaning) (v : PolicyVectors) (is : IsMo
   certificate_of = record { meaning = m; values = v; is_model = is; are_vectors = are }
 
   -- two texts are one model, as far as indices are in range, and one list of vectors for it
-  same_vectors : (c : BoundCertificate model vectors) → IsSame m c.meaning × (v ≡ c.values)
+  pub same_vectors : (c : BoundCertificate model vectors) → IsSame m c.meaning × (v ≡ c.values)
   same_vectors c =
       let same = models.one_model model m c.meaning is c.is_model in
       (same, texts.one_vectors (action_graph (actions_of c.meaning)) (states_of c.meaning) vectors v c.values (for_sizes same (λ a s. IsActionVectorsText a s vectors v) are) c.are_vectors)
@@ -62,8 +60,8 @@ module _ {model vectors : List ℕ} (m : Meaning) (v : PolicyVectors) (is : IsMo
   verdict_of_each verdict h = of_each (λ n w. IsInformedVerdict (table_of n) (value_of w) verdict)
       (λ n same. verdict_there (table_of m) (table_of n) (same_cells m n same) (value_of v) verdict h)
 
-  pub most_of_each : (most : ℤ) → IsStartMost m v most → (c : BoundCertificate model vectors) → IsStartMost c.meaning c.values most
-  most_of_each most h = of_each (λ n w. IsStartMost n w most) (λ n same. same_start_most m n same v most h)
+  pub most_of_each : (most : ℤ) → IsBoundStartMost m v most → (c : BoundCertificate model vectors) → IsBoundStartMost c.meaning c.values most
+  most_of_each most h = of_each (λ n w. IsBoundStartMost n w most) (λ n same. same_bound_most m n same v most h)
 
   pub line_of_each : (verdict : InformedVerdict) (line : List ℕ) → IsBoundLine m v verdict line → (c : BoundCertificate model vectors) → IsBoundLine c.meaning c.values verdict line
   line_of_each verdict line h = of_each (λ n w. IsBoundLine n w verdict line) (λ n same. line_there m n v same verdict line h)
@@ -76,11 +74,12 @@ module _ {model vectors : List ℕ} (c : BoundCertificate model vectors) where
   pub limited : HasLimitedNumbers c.meaning
   limited = within_limits c.is_model.lexemes c.meaning c.is_model.denotes
 
+  pub counted : c.values.nodes ≡ actions_of c.meaning
+  counted = (action_counts (actions_of c.meaning) (states_of c.meaning) vectors c.values c.are_vectors).0
+
   -- no vector is worth more from the start
-  pub mean_of : (most : ℤ) → IsStartMost c.meaning c.values most → AreAtMostFromStart c.meaning (value_of c.values) most
-  mean_of most is a al =
-      let counts = action_counts (actions_of c.meaning) (states_of c.meaning) vectors c.values c.are_vectors in
-      ≤ℤ_trans _ _ _ (is.1.none_greater a (subst (λ (n : ℕ). a < n) (sym counts.0) al)) is.2.0
+  pub mean_of : (most : ℤ) → IsBoundStartMost c.meaning c.values most → AreAtMostFromStart c.meaning (value_of c.values) most
+  mean_of most is = model_mean c.meaning c.values counted most is
 
 -- ---- a yes certifies the texts
 module _ (model vectors : List ℕ) (answer : IsBoundAnswer model vectors (Ok Yes)) where
@@ -88,8 +87,8 @@ module _ (model vectors : List ℕ) (answer : IsBoundAnswer model vectors (Ok Ye
   yes_certified = record {
     certificate = answer.0;
     promise = λ c. every_observation_policy (table_of c.meaning) (value_of c.values) (table_proper c) (answer.1 c);
-    from_start = λ c most is. informed_from_start c.meaning (limited c) (value_of c.values) (table_proper c) (answer.1 c) most (mean_of c most is);
-    mixtures = λ c most is. mixtures_from_start c.meaning (value_of c.values) most (informed_from_start c.meaning (limited c) (value_of c.values) (table_proper c) (answer.1 c) most (mean_of c most is));
+    from_start = λ c most is. model_policies c.meaning c.values (counted c) most (limited c) (table_proper c) (answer.1 c) is;
+    mixtures = λ c most is. model_mixtures c.meaning c.values (counted c) most (limited c) (table_proper c) (answer.1 c) is;
   }
 
 -- the converse

@@ -8,3 +8,4 @@ pub mod OfTexts
 pub mod Answering
 pub mod Raising
 pub mod Enclosing
+pub mod Earning

@@ -1,7 +1,7 @@
 -- What is said of two texts in memory, from what is said of them as the texts of sources.
 use Rattle.std.proofs.Common.{◌≡◌, ℕ, List, Result, Err}
 use Rattle.polcert_text.proofs.Known.{slice_reads}
-use Rattle.polcert_bound_answer.proofs.Common.{Meaning, states_of, actions_of, IsModelText, PolicyVectors, IsActionVectorsText, Fault, Model, Graph, Vectors, RunFault, Text, AreActionVectorsRefused, IsBoundFault, RefusesBoundRightly, AreBoundDenoted, IsBoundReadFault}
+use Rattle.polcert_bound_answer.proofs.Common.{Meaning, states_of, actions_of, IsModelText, PolicyVectors, IsActionVectorsText, Fault, Model, Graph, Vectors, Points, RunFault, Text, AreActionVectorsRefused, IsBoundFault, RefusesBoundRightly, AreBoundDenoted, IsBoundReadFault}
 use Rattle.polcert_answer.specs.Answer.{IsModelFault}
 use Rattle.polcert_answer.specs.Run.{text_of}
 use Rattle.polcert_text.proofs.Streams.SliceTexts.{of_slice, of_slice_text}
@@ -24,3 +24,4 @@ module _ {M V : Type 0} (m_rest : M → List ℕ) (m m' : M) (model : List ℕ) 
       let (first, read, each) = h.of_vectors fault is in
       of_slice_text m_rest m_holds (λ text. AreActionVectorsRefused text fault vectors) first read
       (of_slice v_rest v_holds (AreActionVectorsRefused first fault) each)
+  refused_slices r h (Points fault) of is = absurd of

@@ -1,7 +1,7 @@
 -- Two texts have one answer, unless memory ran out.
 use Rattle.std.proofs.Common.{◌≡◌, ℕ, List, Result, Ok, Err, refl, sym, subst, arith}
 use Rattle.std.specs.Result.{IsErrAnd}
-use Rattle.polcert_bound_answer.proofs.Common.{Up, states_of, actions_of, table_of, VectorFault, PolicyVectors, value_of, action_graph, IsActionVectorsText, IsNoActionVectorsText, InformedVerdict, Fault, Model, Graph, Vectors, IsBoundFault, IsBoundAnswer}
+use Rattle.polcert_bound_answer.proofs.Common.{Up, states_of, actions_of, table_of, VectorFault, PolicyVectors, value_of, action_graph, IsActionVectorsText, IsNoActionVectorsText, InformedVerdict, Fault, Model, Graph, Vectors, Points, IsBoundFault, IsBoundAnswer}
 use Rattle.polcert_format.specs.declared.fault.ModelFault.{ModelFault}
 use Rattle.polcert_format.specs.declared.fault.ModelFault.TheVariants as models
 use Rattle.polcert_model.specs.Refusals.{SaysOfText}
@@ -35,6 +35,7 @@ module _ (model vectors : List ℕ) where
   no_refusal x (Vectors f) h refused =
       let memory = vectors_memory (actions_of h.0.meaning) (states_of h.0.meaning) vectors f h.0.values (refused.no_vectors h.0.meaning h.0.is_model) h.0.are_vectors in
       subst (λ (g : VectorFault). IsOutOfMemory (Vectors g)) (sym memory) tt
+  no_refusal x (Points f) h refused = absurd refused
 
   -- beside a verdict there is no other answer
   pub but_for_memory : (x : InformedVerdict) → IsBoundAnswer model vectors (Ok x) → (r : Result InformedVerdict Fault) → IsBoundAnswer model vectors r → IsButForMemory x r

@@ -9,7 +9,7 @@ use Rattle.polcert_policy.specs.ActionVectors.{IsNoActionVectorsText, IsActionVe
 use Rattle.polcert_optimum.specs.declared.verdict.InformedVerdict.{InformedVerdict}
 use Rattle.polcert_optimum.specs.InformedCheck.{IsInformedVerdict}
 use Rattle.polcert_answer.specs.declared.fault.Fault.{Fault}
-use Rattle.polcert_answer.specs.declared.fault.Fault.TheVariants.{Model, Graph, Vectors}
+use Rattle.polcert_answer.specs.declared.fault.Fault.TheVariants.{Model, Graph, Vectors, Points}
 use Rattle.polcert_answer.specs.Answer.{IsModelFault}
 use Rattle.polcert_bound_answer.specs.Headline.{BoundCertificate}
 
@@ -20,11 +20,12 @@ pub record AreActionVectorsRefused (model : List ℕ) (fault : VectorFault) (tex
   pub no_vectors : (m : Meaning) → IsModelText model m → IsNoActionVectorsText (actions_of m) (states_of m) text fault
   pub refusal : (m : Meaning) → IsModelText model m → IsActionVectorsRefusal (actions_of m) (states_of m) text fault
 
--- what a refusal says of the two texts; there is no graph
+-- what a refusal says of the two texts; there is no graph, and there are no points
 abbrev pub IsBoundFault : List ℕ → List ℕ → Fault → Type 0
 IsBoundFault model vectors (Model fault) = IsModelFault model fault
 IsBoundFault model vectors (Graph fault) = ⊥
 IsBoundFault model vectors (Vectors fault) = AreActionVectorsRefused model fault vectors
+IsBoundFault model vectors (Points fault) = ⊥
 
 -- The answer: the verdict, if the texts denote a model and vectors, and whichever they denote; else the refusal.
 abbrev pub IsBoundAnswer : List ℕ → List ℕ → Result InformedVerdict Fault → Type 0

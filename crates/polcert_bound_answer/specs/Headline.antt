@@ -8,9 +8,8 @@ use Rattle.polcert_cells.specs.Tables.{table_of}
 use Rattle.polcert_model.specs.Text.{IsModelText}
 use Rattle.polcert_policy.specs.Vectors.{PolicyVectors, value_of}
 use Rattle.polcert_policy.specs.ActionVectors.{IsActionVectorsText}
-use Rattle.polcert_check.specs.StartMost.{IsStartMost}
 use Rattle.polcert_optimum.specs.Informed.{BoundEveryObservationPolicy}
-use Rattle.polcert_optimum.specs.Start.{BoundEveryObservationPolicyFromStart, BoundEveryObservationMixtureFromStart}
+use Rattle.polcert_optimum.specs.Seen.{IsBoundStartMost, BoundEveryPolicyOfModel, BoundEveryMixtureOfModel}
 
 -- Two texts and what they denote: the first is the text of a model, and the second that of vectors, one for each action of the model
 -- with a value for each state, each rounded up.
@@ -22,9 +21,10 @@ pub record BoundCertificate (model vectors : List ℕ) : Type 0 where
 
 -- The headline. The texts denote a model and vectors; and whatever they denote: every policy that sees the observations alone earns at
 -- most the value of its first action's vector at the state where it starts, for every number of steps; and from the start, as does every
--- mixture of such policies, at most what no vector is worth more than there.
+-- mixture of such policies, at most what no vector is worth more than there. In an MDP the start state is seen too, and every policy
+-- earns at most the mean over the start of the greatest of the vectors' values at each state.
 pub record IsCertifiedBound (model vectors : List ℕ) : Type 0 where
   pub certificate : BoundCertificate model vectors
   pub promise : (c : BoundCertificate model vectors) → BoundEveryObservationPolicy (table_of c.meaning) (value_of c.values)
-  pub from_start : (c : BoundCertificate model vectors) (most : ℤ) → IsStartMost c.meaning c.values most → BoundEveryObservationPolicyFromStart c.meaning (value_of c.values) most
-  pub mixtures : (c : BoundCertificate model vectors) (most : ℤ) → IsStartMost c.meaning c.values most → BoundEveryObservationMixtureFromStart c.meaning (value_of c.values) most
+  pub from_start : (c : BoundCertificate model vectors) (most : ℤ) → IsBoundStartMost c.meaning c.values most → BoundEveryPolicyOfModel c.meaning (value_of c.values) most
+  pub mixtures : (c : BoundCertificate model vectors) (most : ℤ) → IsBoundStartMost c.meaning c.values most → BoundEveryMixtureOfModel c.meaning (value_of c.values) most

@@ -1,6 +1,7 @@
 pub mod Headline
 pub mod Answer
 pub mod Lines
+pub mod Inputs
 pub mod Run
 pub mod Raise
 pub mod Steps

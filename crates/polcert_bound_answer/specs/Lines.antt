@@ -7,8 +7,8 @@ use Rattle.polcert_cells.specs.Tables.{table_of}
 use Rattle.polcert_policy.specs.Vectors.{PolicyVectors}
 use Rattle.polcert_check.specs.Horizon.{one}
 use Rattle.polcert_check.specs.StartWorth.{IsCeilQuotient}
-use Rattle.polcert_check.specs.StartMost.{IsStartMost}
 use Rattle.polcert_optimum.specs.Policy.{step_scale}
+use Rattle.polcert_optimum.specs.Seen.{IsBoundStartMost}
 use Rattle.polcert_optimum.specs.declared.verdict.InformedVerdict.{InformedVerdict}
 use Rattle.polcert_optimum.specs.declared.verdict.InformedVerdict.TheVariants.{Yes, Exceeded}
 use Rattle.polcert_answer.specs.Lines.{counted}
@@ -21,10 +21,10 @@ bound_line most = codes "yes: every policy, at most " ++ scaled_text most ++ cod
 abbrev pub exceeded_line : ℕ → ℕ → ℤ → List ℕ
 exceeded_line a s by = codes "no: action " ++ counted a (codes ", state ") ++ counted s (codes ", exceeded by ") ++ scaled_text by ++ codes "\n"
 
--- The line of a verdict: a yes names what no vector is worth more than from the model's start, rounded up; an amount is divided by its
--- scale and rounded up, so that it is never 0.
+-- The line of a verdict: a yes names what no policy earns more than from the model's start, rounded up; an amount is divided by its scale
+-- and rounded up, so that it is never 0.
 abbrev pub IsBoundLine : Meaning → PolicyVectors → InformedVerdict → List ℕ → Type 0
-IsBoundLine m v Yes line = (most : ℤ) × IsStartMost m v most × (line ≡ bound_line most)
+IsBoundLine m v Yes line = (most : ℤ) × IsBoundStartMost m v most × (line ≡ bound_line most)
 IsBoundLine m v (Exceeded a s amount) line = (by : ℤ) × IsCeilQuotient amount (step_scale (table_of m) * one) by × (line ≡ exceeded_line a s by)
 
 -- the line that says this

@@ -5,10 +5,9 @@ use Rattle.polcert_format.specs.declared.fault.ModelFault.{ModelFault}
 use Rattle.polcert_cells.specs.Tables.{table_of}
 use Rattle.polcert_policy.specs.declared.fault.VectorFault.{VectorFault}
 use Rattle.polcert_policy.specs.Vectors.{value_of}
-use Rattle.polcert_check.specs.StartMost.{IsStartMost}
 use Rattle.polcert_optimum.specs.declared.verdict.InformedVerdict.{InformedVerdict}
 use Rattle.polcert_optimum.specs.InformedCheck.{MeetsInformedPromise}
-use Rattle.polcert_optimum.specs.Start.{BoundEveryObservationPolicyFromStart}
+use Rattle.polcert_optimum.specs.Seen.{IsBoundStartMost, BoundEveryPolicyOfModel}
 use Rattle.polcert_answer.specs.declared.fault.Fault.TheVariants.{Model, Vectors}
 use Rattle.polcert_answer.specs.declared.fault.RunFault.{RunFault}
 use Rattle.polcert_answer.specs.declared.fault.RunFault.TheVariants.{Text, ReadModel, ReadVectors, Write}
@@ -91,17 +90,18 @@ module _ (of_model of_vectors : List ℕ → Type 0) where
     pub texts : AreBoundTexts
     pub promise : IsCertifiedBound texts.model texts.vectors
 
-  -- The number on the line of a yes is promised. Whatever the texts of the two sources denote: no vector is worth more from the model's
-  -- start, rounded up, and from there every policy that sees the observations alone earns at most this, for every number of steps.
+  -- The number on the line of a yes is promised. Whatever the texts of the two sources denote: it is what the vectors are worth at most
+  -- from the model's start, rounded up, and from there every policy that sees the observations alone, in an MDP the start state too, earns
+  -- at most this, for every number of steps.
   pub record HasBoundStartPromise (line : List ℕ) : Type 0 where
     pub texts : AreBoundTexts
     pub most : ℤ
     pub is_line : line ≡ bound_line most
-    pub is_most : (c : BoundCertificate texts.model texts.vectors) → IsStartMost c.meaning c.values most
-    pub promise : (c : BoundCertificate texts.model texts.vectors) → BoundEveryObservationPolicyFromStart c.meaning (value_of c.values) most
+    pub is_most : (c : BoundCertificate texts.model texts.vectors) → IsBoundStartMost c.meaning c.values most
+    pub promise : (c : BoundCertificate texts.model texts.vectors) → BoundEveryPolicyOfModel c.meaning (value_of c.values) most
 
-  -- Whatever the texts of the two sources denote, this is what the verdict says of the bound: a yes, that it holds for every number of
-  -- steps; a no, that it doesn't.
+  -- Whatever the texts of the two sources denote, this is what the verdict says of the bound with the vectors at the end: a yes, that it
+  -- holds for every number of steps; a no, that it doesn't.
   pub record HasBoundHorizon (verdict : InformedVerdict) : Type 0 where
     pub texts : AreBoundTexts
     pub horizon : (c : BoundCertificate texts.model texts.vectors) → MeetsInformedPromise (table_of c.meaning) (value_of c.values) verdict

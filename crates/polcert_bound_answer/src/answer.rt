@@ -25,11 +25,11 @@ pub fn check_bound_texts(
     // The verdict on what the texts denote, or a right refusal of the first that denotes nothing.
     ensures answer { IsBoundAnswer model.now vectors.now result }
 
-    // The headline: a yes bounds every policy, for every number of steps, from every state and from the
-    // start.
+    // The headline: a yes bounds every policy, with the vectors at the end, for every number of steps, from
+    // every state and from the start.
     ensures promise { result ≡ Ok InformedVerdict.Yes → IsCertifiedBound model.now vectors.now }
 
-    // A no says that the vectors don't bound every policy.
+    // A no says that the vectors don't bound every policy with the vectors at the end.
     ensures horizon { IfOk result (λ verdict. (c : BoundCertificate model.now vectors.now)
         → MeetsInformedPromise (table_of c.meaning) (value_of c.values) verdict) }
 {

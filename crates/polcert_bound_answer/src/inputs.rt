@@ -9,7 +9,7 @@ ghost use Rattle.polcert_answer.specs.Run.{text_of, IsNamedRightly};
 ghost use Rattle.polcert_answer.specs.Steps.Reading.{IsVectorsReadFault};
 ghost use Rattle.polcert_bound_answer.specs.Answer.{AreActionVectorsRefused, IsBoundFault};
 ghost use Rattle.polcert_bound_answer.specs.Run.{RefusesBoundRightly, NamesBoundSourcesRightly, ReadsModelFirst};
-ghost use Rattle.polcert_bound_answer.specs.Steps.Reading.{AreBoundDenoted, IsBoundReadFault};
+ghost use Rattle.polcert_bound_answer.specs.Inputs.{AreBoundDenoted, IsBoundReadFault};
 
 use polcert_answer::{Fault, RunFault, model_of_run};
 use polcert_model::Model;

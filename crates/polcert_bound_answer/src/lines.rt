@@ -7,16 +7,16 @@ ghost use Rattle.polcert_optimum.specs.InformedCheck.{FitActions, IsInformedVerd
 ghost use Rattle.polcert_bound_answer.specs.Lines.{bound_line, exceeded_line, line_text, IsBoundLine};
 
 use polcert_answer::write_count;
-use polcert_check::{millionths_short, most_from_start};
+use polcert_check::millionths_short;
 use polcert_model::Model;
-use polcert_optimum::InformedVerdict;
+use polcert_optimum::{InformedVerdict, bound_most_from_start};
 use polcert_policy::Vectors;
 use polcert_text::{BufferedSink, Sink, SinkFailed, write_all, write_scaled};
 
 /// What the line of a verdict says.
 #[derive(Clone, Copy, Debug, PartialEq, Eq)]
 pub enum BoundLine {
-    /// A yes: what no vector is worth more than from the start, in millionths.
+    /// A yes: what no policy earns more than from the start, in millionths.
     AtMost {
         most: i64,
     },
@@ -37,7 +37,7 @@ pub fn line_of_verdict(model: &Model, vectors: &Vectors, verdict: InformedVerdic
 {
     match verdict {
         InformedVerdict::Yes => {
-            let most = most_from_start(model, vectors);
+            let most = bound_most_from_start(model, vectors);
             BoundLine::AtMost { most }
         }
         InformedVerdict::Exceeded {
@@ -69,7 +69,7 @@ fn write_line<W: Sink>(line: BoundLine, sink: &mut W) -> Result<(), SinkFailed>
     }
 }
 
-/// Writes a yes: what no vector is worth more than, in millionths.
+/// Writes a yes: what no policy earns more than, in millionths.
 fn write_at_most<W: Sink>(most: i64, sink: &mut W) -> Result<(), SinkFailed>
     ensures { WritesText W.writes W.failures sink.old (bound_line most) result sink.new }
 {

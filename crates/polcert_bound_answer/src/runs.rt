@@ -32,8 +32,8 @@ pub fn run_bound_check<M: Source, V: Source, W: Sink>(
     ensures answered { WritesAnswer W.writes (HasBoundVerdict (text_of M.reads model.old model.new)
         (text_of V.reads vectors.old vectors.new)) result sink.old sink.new }
 
-    // The headline: a yes bounds every policy of the texts that were read, for every number of steps, from
-    // every state and from the start.
+    // The headline: a yes bounds every policy of the texts that were read, with the vectors at the end, for
+    // every number of steps, from every state and from the start.
     ensures promise { result ≡ Ok InformedVerdict.Yes → HasBoundPromise (text_of M.reads model.old model.new)
         (text_of V.reads vectors.old vectors.new) }
 
@@ -43,7 +43,7 @@ pub fn run_bound_check<M: Source, V: Source, W: Sink>(
         (text_of V.reads vectors.old vectors.new) line
         × Takes W.writes sink.old line sink.new }
 
-    // A no says that the vectors don't bound every policy.
+    // A no says that the vectors don't bound every policy with the vectors at the end.
     ensures horizon { IfOk result (HasBoundHorizon (text_of M.reads model.old model.new)
         (text_of V.reads vectors.old vectors.new)) }
 

@@ -2,7 +2,7 @@
 use polcert_answer::{Fault, RunFault};
 use polcert_check::{LowerFault, RaiseFault};
 use polcert_model::{ItemFault, ModelFault};
-use polcert_policy::{GraphFault, VectorFault};
+use polcert_policy::{GraphFault, PointFault, VectorFault};
 use polcert_text::{NumberFault, SliceSink, TokenFault, write_scaled};
 use std::{fmt, str};
 
@@ -17,9 +17,11 @@ impl fmt::Display for RefusalLine {
             RunFault::Text(Fault::Model(fault)) => write!(f, "{}", ModelLine(fault)),
             RunFault::Text(Fault::Graph(fault)) => write!(f, "{}", GraphLine(fault)),
             RunFault::Text(Fault::Vectors(fault)) => write!(f, "{}", VectorsLine(fault)),
+            RunFault::Text(Fault::Points(fault)) => write!(f, "{}", PointsLine(fault)),
             RunFault::ReadModel => write!(f, "cannot read model"),
             RunFault::ReadGraph => write!(f, "cannot read graph"),
             RunFault::ReadVectors => write!(f, "cannot read vectors"),
+            RunFault::ReadPoints => write!(f, "cannot read points"),
             RunFault::Write => write!(f, "cannot write"),
             RunFault::Lower(fault) => write!(f, "{}", LowerLine(fault)),
             RunFault::Raise(fault) => write!(f, "{}", RaiseLine(fault)),
@@ -129,6 +131,41 @@ impl fmt::Display for VectorsLine {
             VectorFault::Truncated(place) => write!(f, "vectors: V5 at byte {place}"),
             VectorFault::WrongVectorCount(place) => write!(f, "vectors: V6 at byte {place}"),
             VectorFault::Memory => write!(f, "out of memory"),
+        }
+    }
+}
+
+#[derive(Clone, Copy)]
+struct PointsLine(PointFault);
+
+impl fmt::Display for PointsLine {
+    fn fmt<W: fmt::Write>(&self, f: &mut fmt::Formatter<W>) -> fmt::Result {
+        match self.0 {
+            PointFault::Token(fault) => {
+                write!(
+                    f,
+                    "points: B1 K{} at byte {}",
+                    token_code(fault),
+                    fault.place()
+                )
+            }
+            PointFault::Number { fault, place } => {
+                write!(f, "points: B2 N{} at byte {place}", number_code(fault))
+            }
+            PointFault::BadShape(place) => write!(f, "points: B3 at byte {place}"),
+            PointFault::PointOutOfOrder(place) => write!(f, "points: B4 at byte {place}"),
+            PointFault::WrongMass(place) => write!(f, "points: B5 at byte {place}"),
+            PointFault::NextOutOfRange {
+                point,
+                action,
+                observation,
+            } => write!(
+                f,
+                "points: B6 at point {point}, action {action}, observation {observation}"
+            ),
+            PointFault::Truncated(place) => write!(f, "points: B7 at byte {place}"),
+            PointFault::TooManyPoints(place) => write!(f, "points: B8 at byte {place}"),
+            PointFault::Memory => write!(f, "out of memory"),
         }
     }
 }

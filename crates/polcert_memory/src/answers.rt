@@ -23,6 +23,7 @@ pub fn refused(fault: Fault) -> Ended {
         Fault::Model(fault) => Ended::memory(Want::Model, fault == ModelFault::Memory),
         Fault::Graph(fault) => Ended::memory(Want::Graph, fault == GraphFault::Memory),
         Fault::Vectors(fault) => Ended::memory(Want::Vectors, fault == VectorFault::Memory),
+        Fault::Points(_) => Ended::Wrong,
     }
 }
 

@@ -9,6 +9,8 @@ pub enum Want {
     Graph,
     /// For vectors: V7.
     Vectors,
+    /// For belief points: B9.
+    Points,
     /// For lowered vectors: L4.
     Lower,
     /// For raised vectors: U4.
@@ -50,6 +52,7 @@ impl Ended {
             Ended::Memory(Want::Model) => "memory model",
             Ended::Memory(Want::Graph) => "memory graph",
             Ended::Memory(Want::Vectors) => "memory vectors",
+            Ended::Memory(Want::Points) => "memory points",
             Ended::Memory(Want::Lower) => "memory lower",
             Ended::Memory(Want::Raise) => "memory raise",
             Ended::Memory(Want::Plain) => "memory",

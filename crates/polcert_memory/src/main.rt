@@ -36,6 +36,8 @@ fn call(alloc: Global, name: &str) -> Option<Ended> {
         "reading_vectors_up" => Some(reading::vectors_up(alloc)),
         "reading_action_vectors" => Some(reading::action_vectors(alloc)),
         "reading_action_vectors_from" => Some(reading::action_vectors_from(alloc)),
+        "reading_points" => Some(reading::points(alloc)),
+        "reading_points_from" => Some(reading::points_from(alloc)),
         "shifting_vectors" => Some(reading::shifting(alloc)),
         "lowering_vectors" => Some(reading::lowering(alloc)),
         "raising_vectors" => Some(reading::raising(alloc)),

@@ -9,8 +9,9 @@ use polcert_check::{
 };
 use polcert_model::{Cells, Kind, Model, ModelFault, dense_of, read_model};
 use polcert_policy::{
-    Graph, GraphFault, VectorFault, Vectors, read_action_vectors, read_action_vectors_from,
-    read_graph, read_graph_from, read_vectors, read_vectors_from, read_vectors_up,
+    Graph, GraphFault, PointFault, PointSet, VectorFault, Vectors, read_action_vectors,
+    read_action_vectors_from, read_graph, read_graph_from, read_points, read_points_from,
+    read_vectors, read_vectors_from, read_vectors_up,
 };
 use polcert_testing::{LISTENING, TIGER};
 use polcert_text::{ReadFault, SliceSource, SourceFault, read_all};
@@ -162,6 +163,40 @@ pub fn action_vectors_from(alloc: Global) -> Ended {
             Ended::memory(
                 Want::Vectors,
                 fault == SourceFault::Refused(VectorFault::Memory),
+            )
+        }
+    }
+}
+
+/// Two points over two states, one action and one observation.
+const POINTS: &[u8] = b"0 0.5 0.5 1 1 1 1 0 2 -";
+
+/// Whether the points are those of POINTS.
+fn are_points(points: &PointSet) -> bool {
+    if points.count() == 2 && points.actions() == 1 && points.observations() == 1 {
+        let values = [points.value(0, 0), points.value(1, 0)];
+        let names = [points.next(0, 0, 0), points.next(1, 0, 0)];
+        values == [1_000_000, 2_000_000] && names == [Some(1), None]
+    } else {
+        false
+    }
+}
+
+pub fn points(alloc: Global) -> Ended {
+    match read_points(alloc, POINTS, 2, 1, 1) {
+        Ok(points) => Ended::done(are_points(&points)),
+        Err(fault) => Ended::memory(Want::Points, fault == PointFault::Memory),
+    }
+}
+
+/// The same of a source.
+pub fn points_from(alloc: Global) -> Ended {
+    match read_points_from(alloc, &mut SliceSource::new(POINTS), 2, 1, 1) {
+        Ok(points) => Ended::done(are_points(&points)),
+        Err(fault) => {
+            Ended::memory(
+                Want::Points,
+                fault == SourceFault::Refused(PointFault::Memory),
             )
         }
     }

@@ -5,6 +5,8 @@
 #[cfg(test)]
 mod entries;
 #[cfg(test)]
+mod kept;
+#[cfg(test)]
 mod tests;
 #[cfg(test)]
 mod text;

@@ -2,6 +2,7 @@
 ghost use Rattle.std.specs.Prelude.{◌≡◌, ◌<◌, IfOk};
 ghost use Rattle.polcert_rules.specs.Keys.{key_base, AreDigits, digit, most_places};
 
+use crate::kept::push_if_kept;
 use polcert_cells::{Body, Entries, Entry, Place, Places, RewardCell, Sequence, Table};
 use polcert_rules::{Index, RewardShape, Rewards};
 use std::alloc::{AllocError, Global};
@@ -29,23 +30,23 @@ fn place(element: usize) -> Place
 }
 
 /// The first four places of a pattern.
-fn places(pattern: &[usize]) -> Result<Places, AllocError>
-    ensures { IfOk result (AreDigits most_places) }
+fn places(pattern: &[usize]) -> Places
+    ensures { AreDigits most_places result }
 {
     let mut places = Places::new();
     for element in pattern {
         if places.len() < 4 {
-            places.push(place(*element))?;
+            places.push(place(*element));
         }
     }
-    Ok(places)
+    places
 }
 
 /// An entry of R with these places and numbers.
 fn entry(alloc: Global, pattern: &[usize], written: &[i64]) -> Result<Entry, AllocError>
     ensures { IfOk result (λ entry. AreDigits most_places entry.places) }
 {
-    let places = places(pattern)?;
+    let places = places(pattern);
     let mut numbers = Sequence::new(alloc);
     for number in written {
         numbers.push(*number)?;
@@ -63,7 +64,7 @@ fn rewards(alloc: Global, costs: bool, lines: &[(&[usize], &[i64])]) -> Result<R
 {
     let mut entries = Entries::new(alloc);
     for (pattern, written) in lines {
-        entries.push(entry(alloc, pattern, written)?)?;
+        push_if_kept(&mut entries, entry(alloc, pattern, written)?)?;
     }
     let index = Index::of(alloc, &entries, Table::Reward)?;
     Rewards::of(alloc, SHAPE, costs, entries, index)

@@ -1,6 +1,6 @@
 -- The command line: its grammar as clap sees it, and the choice of a subcommand and its values. Our own.
 --
---     polcert_bound check FILE ALPHA
+--     polcert_bound check FILE ALPHA [POINTS]
 --     polcert_bound raise FILE ALPHA
 use Rattle.std.specs.Prelude.{List, [], Option, Some, None, option_map, option_and_then, codes, true, if◌then◌else◌}
 use Rattle.std.specs.Str.{bytes_eq}
@@ -8,10 +8,14 @@ use Rattle.clap.specs.Words.{App, Rule, Row, Text, new_app, with_rule, with_subc
 use Rattle.polcert_terminal.specs.Command.{file_rule, one_file}
 use Rattle.polcert_terminal.specs.declared.every_policy.FileNames.{FileNames}
 use Rattle.polcert_terminal.specs.declared.every_policy.Choice.{Choice}
-use Rattle.polcert_terminal.specs.declared.every_policy.Choice.TheVariants.{Check, Raise}
+use Rattle.polcert_terminal.specs.declared.every_policy.Choice.TheVariants.{Check, CheckPoints, Raise}
 
 abbrev pub two_files : Text → App
 two_files name = with_rule (one_file name) (file_rule (codes "ALPHA"))
+
+-- the third file of a check, which may be left out
+abbrev pub check_app : App
+check_app = with_rule (two_files (codes "check")) (file_rule (codes "POINTS"))
 
 -- the program's name and version, with no subcommand
 abbrev pub bare_app : App
@@ -19,7 +23,7 @@ bare_app = record { top = record (new_app (codes "polcert_bound")).top { has_ver
 
 -- the program's command
 abbrev pub the_app : App
-the_app = with_subcommand (with_subcommand bare_app (two_files (codes "check")).top) (two_files (codes "raise")).top
+the_app = with_subcommand (with_subcommand bare_app check_app.top) (two_files (codes "raise")).top
 
 -- the texts of two names
 pub record Texts : Type 0 where
@@ -29,6 +33,7 @@ pub record Texts : Type 0 where
 -- a choice, with the texts of its names
 pub data Chosen : Type 0 where
   check : Texts → Chosen
+  check_points : Texts → Text → Chosen
   raise : Texts → Chosen
 
 abbrev pub names_view : FileNames → Texts
@@ -36,16 +41,22 @@ names_view names = record { model = names.model.now; vectors = names.vectors.now
 
 abbrev pub view_of : Choice → Chosen
 view_of (Check names) = check (names_view names)
+view_of (CheckPoints names points) = check_points (names_view names) points.now
 view_of (Raise names) = raise (names_view names)
 
 -- the two names among the matches of a subcommand
 abbrev pub names_in : List Row → Option Texts
 names_in rows = option_and_then (λ f. option_map (λ v. record { model = f; vectors = v }) (first_of (codes "ALPHA") rows)) (first_of (codes "FILE") rows)
 
+-- a check of two files, or of three
+abbrev pub check_of : Option Text → Texts → Chosen
+check_of None names = check names
+check_of (Some points) names = check_points names points
+
 -- the choice of a subcommand and its matches
 abbrev pub chosen_of : Text → List Row → Option Chosen
 chosen_of name rows =
-    if bytes_eq name (codes "check") then option_map check (names_in rows)
+    if bytes_eq name (codes "check") then option_map (check_of (first_of (codes "POINTS") rows)) (names_in rows)
     else (if bytes_eq name (codes "raise") then option_map raise (names_in rows) else None)
 
 -- no subcommand is no choice

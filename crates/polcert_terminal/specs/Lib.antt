@@ -1,3 +1,4 @@
 pub mod Command
 pub mod ControllerCommand
 pub mod EveryPolicyCommand
+pub mod Statuses

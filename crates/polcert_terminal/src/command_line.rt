@@ -1,8 +1,9 @@
 //! What the command lines of both programs share: help texts, arguments, values, and how a program ends whose command line is refused.
-ghost use Rattle.std.specs.Prelude.{◌≡◌, false, IfOk, option_map};
-ghost use Rattle.clap.specs.Words.{app_of, first_of, found_of, rows_of, rule_of};
+ghost use Rattle.std.specs.Prelude.{◌≡◌, ◌⊎◌, false, IfOk, option_map};
+ghost use Rattle.clap.specs.Words.{app_of, first_of, found_of, kind_of, rows_of, rule_of};
 ghost use Rattle.clap.specs.declared.builder.Command.TheViews.{out-Command};
 ghost use Rattle.polcert_terminal.specs.Command.{file_rule, one_file};
+ghost use Rattle.polcert_terminal.specs.Statuses.{memory_status, refused_status, unwritten_status, words_status};
 
 use clap::error::ErrorKind;
 use clap::{Arg, ArgAction, ArgMatches, Command};
@@ -54,29 +55,43 @@ pub fn value_of<'a>(inner: &ArgMatches<'a>, id: &str) -> Option<&'a str>
 pub const DONE: u8 = 0;
 
 /// The exit status of a command line that is refused.
-pub const REFUSED: u8 = 2;
+const REFUSED: u8 = 2;
 
 /// The exit status if help can't be written.
 const CANNOT_WRITE: u8 = 3;
 
 /// The exit status if there is no memory for the command line.
-pub const MEMORY: u8 = 4;
+const MEMORY: u8 = 4;
 
-/// Prints why the program stops, and returns its status.
-pub fn refuse<R: Eprint>(rt: &R, line: &str, status: u8) -> u8
-    ensures { result ≡ status }
+/// Prints why the command line is refused, and returns the exit status.
+pub fn refuse_words<R: Eprint>(rt: &R, line: &str) -> u8
+    ensures { result ≡ refused_status }
 {
     let _ = rt.eprintln(line);
-    status
+    REFUSED
+}
+
+/// Prints that there is no memory for the command line, and returns the exit status.
+pub fn refuse_for_memory<R: Eprint>(rt: &R) -> u8
+    ensures { result ≡ memory_status }
+{
+    let _ = rt.eprintln("out of memory");
+    MEMORY
 }
 
 /// Prints help or the version to standard output, or else why clap refuses the words to standard error, and returns the exit status.
-pub fn print_clap_error<R: Print + Eprint>(rt: &R, error: &clap::Error) -> u8 {
+pub fn print_clap_error<R: Print + Eprint>(rt: &R, error: &clap::Error) -> u8
+    // That of the error's kind, or else the text can't be written.
+    ensures { (result ≡ words_status (kind_of error.now)) ⊎ (result ≡ unwritten_status) }
+{
     if error.kind() == ErrorKind::OutOfMemory {
-        return refuse(rt, "out of memory", MEMORY);
+        return refuse_for_memory(rt);
     }
     match error.print(rt) {
         Ok(()) => error.exit_code() as u8,
-        Err(_) => refuse(rt, "cannot write", CANNOT_WRITE),
+        Err(_) => {
+            let _ = rt.eprintln("cannot write");
+            CANNOT_WRITE
+        }
     }
 }

@@ -2,7 +2,7 @@
 ghost use Rattle.std.specs.Prelude.{◌≡◌, List, false, IfOk, map, option_map};
 ghost use Rattle.clap.specs.Words.{FailsBy, app_of, fault_of, found_of, rows_of, subcommand_of, subcommand_rows_of, with_subcommand};
 ghost use Rattle.clap.specs.declared.builder.Command.TheViews.{out-Command};
-ghost use Rattle.polcert_terminal.specs.EveryPolicyCommand.{the_app, two_files, chosen, chosen_of, names_in, names_view, view_of};
+ghost use Rattle.polcert_terminal.specs.EveryPolicyCommand.{the_app, two_files, check_app, check_of, chosen, chosen_of, names_in, names_view, view_of};
 
 mod help;
 
@@ -22,6 +22,11 @@ pub struct FileNames<'a> {
 pub enum Choice<'a> {
     /// Check that the vectors bound what every policy earns.
     Check(FileNames<'a>),
+    /// Check that the vectors and the belief points of the file of this name do.
+    CheckPoints {
+        files: FileNames<'a>,
+        points: &'a str,
+    },
     /// Raise the vectors so that they pass the check.
     Raise(FileNames<'a>),
 }
@@ -53,22 +58,18 @@ fn program_command<'a>(alloc: Global) -> Result<Command<'a>, AllocError>
         .version("1.0.0")
         .about(help::ABOUT)
         .after_help(help::DETAILS);
-    let command = add_command_with_files(alloc, command, "check", help::CHECK)?;
-    add_command_with_files(alloc, command, "raise", help::RAISE)
+    let check = check_command(alloc)?;
+    let command = command.subcommand(check)?;
+    let raise = command_with_files(alloc, "raise", help::RAISE)?;
+    command.subcommand(raise)
 }
 
-/// Adds a subcommand that takes the names of the files of a model and of vectors.
-fn add_command_with_files<'a>(
-    alloc: Global,
-    command: Command<'a>,
-    name: &'a str,
-    texts: HelpTexts<'a>,
-) -> Result<Command<'a>, AllocError>
-    ensures { IfOk result (λ more.
-        app_of more ≡ with_subcommand (app_of command.entry) (two_files name.entry.now).top) }
+/// Returns the subcommand that checks, with the file of points.
+fn check_command<'a>(alloc: Global) -> Result<Command<'a>, AllocError>
+    ensures app { IfOk result (λ command. app_of command ≡ check_app) }
+    ensures local { IfOk result (λ command. (out-Command command).has_globals ≡ false) }
 {
-    let added = command_with_files(alloc, name, texts)?;
-    command.subcommand(added)
+    command_with_files(alloc, "check", help::CHECK)?.arg(file(alloc, "POINTS"))
 }
 
 /// Returns a subcommand that takes the names of the files of a model and of vectors.
@@ -98,9 +99,20 @@ fn choice_by_name<'a>(name: &str, inner: &ArgMatches<'a>) -> Option<Choice<'a>>
     ensures { option_map view_of result ≡ chosen_of name.now (rows_of (found_of inner.now)) }
 {
     match name {
-        "check" => Some(Choice::Check(file_names_of(inner)?)),
+        "check" => Some(check_of(file_names_of(inner)?, value_of(inner, "POINTS"))),
         "raise" => Some(Choice::Raise(file_names_of(inner)?)),
         _ => None,
+    }
+}
+
+/// Returns the check of two files, or of three if points are given.
+fn check_of<'a>(files: FileNames<'a>, points: Option<&'a str>) -> Choice<'a>
+    ensures { view_of result ≡
+        check_of (option_map (λ name. name.now) points.entry) (names_view files.entry) }
+{
+    match points {
+        Some(points) => Choice::CheckPoints { files, points },
+        None => Choice::Check(files),
     }
 }
 

@@ -6,5 +6,5 @@ pub mod controller;
 pub mod every_policy;
 mod progress;
 
-pub use command_line::{DONE, MEMORY, REFUSED, print_clap_error, refuse};
+pub use command_line::{DONE, print_clap_error, refuse_for_memory, refuse_words};
 pub use progress::{CheckProgress, InputText, WatchedSource};

@@ -1,5 +1,6 @@
 //! What the program shows of its progress on standard error: how much of a text was read, and how far a check, a lowering or a raising is.
 ghost use Rattle.std.specs.Prelude.{◌≡◌};
+ghost use Rattle.polcert_terminal.specs.Statuses.{read_fault_of};
 
 use polcert_answer::RunFault;
 use polcert_check::Progress;
@@ -89,20 +90,32 @@ impl Display for Blank {
     }
 }
 
-/// Shows on standard error, if that is a terminal, how many nodes are done, and how many start states of a node that takes long: not
-/// in the first seconds, then at most once a second, in one line that is blank again where the walk over the nodes ends.
+/// Shows on standard error, if that is a terminal, how many nodes or points are done, and how many start states of a node that takes
+/// long: not in the first seconds, then at most once a second, in one line that is blank again where the walk over them ends.
 #[derive(Drop)]
 pub struct CheckProgress<'a, R> {
     line: StatusLine<'a, R>,
+    /// The noun of what is counted.
+    noun: &'static str,
     done: usize,
     nodes: usize,
 }
 
 impl<'a, R: Clock + Eprint> CheckProgress<'a, R> {
-    /// Returns the progress of a walk that begins now.
+    /// Returns the progress of a walk over nodes that begins now.
     pub fn new(rt: &'a R, is_terminal: bool) -> Self {
+        Self::of("nodes", rt, is_terminal)
+    }
+
+    /// Returns the progress of a walk over belief points that begins now.
+    pub fn of_points(rt: &'a R, is_terminal: bool) -> Self {
+        Self::of("points", rt, is_terminal)
+    }
+
+    fn of(noun: &'static str, rt: &'a R, is_terminal: bool) -> Self {
         CheckProgress {
             line: StatusLine::new(rt, is_terminal),
+            noun,
             done: 0,
             nodes: 0,
         }
@@ -114,7 +127,11 @@ impl<'a, R: Clock + Eprint> CheckProgress<'a, R> {
             done: self.done,
             all: self.nodes,
         };
-        self.line.update(NodesDone { nodes, states });
+        self.line.update(NodesDone {
+            noun: self.noun,
+            nodes,
+            states,
+        });
     }
 }
 
@@ -145,16 +162,21 @@ struct Share {
     all: usize,
 }
 
-/// The nodes that are done, and the start states of the next node.
+/// The nodes that are done, with their noun, and the start states of the next node.
 #[derive(Clone, Copy)]
 struct NodesDone {
+    noun: &'static str,
     nodes: Share,
     states: Option<Share>,
 }
 
 impl fmt::Display for NodesDone {
     fn fmt<W: fmt::Write>(&self, f: &mut fmt::Formatter<W>) -> fmt::Result {
-        write!(f, "{} of {} nodes", self.nodes.done, self.nodes.all)?;
+        write!(
+            f,
+            "{} of {} {}",
+            self.nodes.done, self.nodes.all, self.noun
+        )?;
         match self.states {
             Some(states) => write!(f, ", {} of {} states", states.done, states.all),
             None => Ok(()),
@@ -172,7 +194,9 @@ pub enum InputText {
 
 impl InputText {
     /// Returns the fault of a text whose file cannot be opened.
-    pub fn read_fault(self) -> RunFault {
+    pub fn read_fault(self) -> RunFault
+        ensures { result ≡ read_fault_of self }
+    {
         match self {
             InputText::Model => RunFault::ReadModel,
             InputText::Graph => RunFault::ReadGraph,

@@ -11,9 +11,9 @@ use Rattle.polcert_policy.specs.FullForm.{vectors_text}
 use Rattle.polcert_check.specs.Horizon.{Controller, Fits, controller_of}
 use Rattle.polcert_check.specs.Lower.{IsMoved}
 use Rattle.polcert_answer.specs.declared.fault.Fault.{Fault}
-use Rattle.polcert_answer.specs.declared.fault.Fault.TheVariants.{Graph, Vectors}
+use Rattle.polcert_answer.specs.declared.fault.Fault.TheVariants.{Model, Graph, Vectors, Points}
 use Rattle.polcert_answer.specs.declared.fault.RunFault.{RunFault}
-use Rattle.polcert_answer.specs.declared.fault.RunFault.TheVariants.{Text, ReadModel, ReadGraph, ReadVectors, Write, Lower, Raise, TooLargeToPrint}
+use Rattle.polcert_answer.specs.declared.fault.RunFault.TheVariants.{Text, ReadModel, ReadGraph, ReadVectors, ReadPoints, Write, Lower, Raise, TooLargeToPrint}
 use Rattle.polcert_answer.specs.declared.runs.Inputs.{Inputs}
 use Rattle.polcert_answer.specs.Answer.{HasGraph, IsRoundedAnswer}
 use Rattle.polcert_answer.specs.Side.{Side, HasHorizon}
@@ -66,12 +66,16 @@ IsVectorsReadFault (Text (Vectors fault)) = Unit {0}
 IsVectorsReadFault ReadVectors = Unit {0}
 IsVectorsReadFault _ = ⊥
 
--- a fault of a text or of a source
+-- a fault of one of the three texts or of its source
 abbrev pub IsReadFault : RunFault → Type 0
-IsReadFault (Text fault) = Unit {0}
+IsReadFault (Text (Model fault)) = Unit {0}
+IsReadFault (Text (Graph fault)) = Unit {0}
+IsReadFault (Text (Vectors fault)) = Unit {0}
+IsReadFault (Text (Points fault)) = ⊥
 IsReadFault ReadModel = Unit {0}
 IsReadFault ReadGraph = Unit {0}
 IsReadFault ReadVectors = Unit {0}
+IsReadFault ReadPoints = ⊥
 IsReadFault Write = ⊥
 IsReadFault (Lower fault) = ⊥
 IsReadFault (Raise fault) = ⊥

@@ -17,7 +17,7 @@ const NAMES: FileNames<'static> = FileNames {
 };
 
 /// Words, and what is chosen.
-const CHOICES: [(&[&str], Option<Choice<'static>>); 9] = [
+const CHOICES: [(&[&str], Option<Choice<'static>>); 11] = [
     (&[], None),
     (&["polcert_bound"], None),
     (&["polcert_bound", "check"], None),
@@ -29,6 +29,20 @@ const CHOICES: [(&[&str], Option<Choice<'static>>); 9] = [
     (
         &["polcert_bound", "check", "--", "a", "b"],
         Some(Choice::Check(NAMES)),
+    ),
+    (
+        &["polcert_bound", "check", "a", "b", "c"],
+        Some(Choice::CheckPoints {
+            files: NAMES,
+            points: "c",
+        }),
+    ),
+    (
+        &["polcert_bound", "check", "a", "--", "b", "-c"],
+        Some(Choice::CheckPoints {
+            files: NAMES,
+            points: "-c",
+        }),
     ),
     (&["polcert_bound", "raise"], None),
     (&["polcert_bound", "raise", "a"], None),
@@ -50,7 +64,7 @@ fn refuses(rt: HostRuntime) {
     let rows: [(&[&str], ErrorKind); 7] = [
         (&["polcert_bound", "lower"], ErrorKind::InvalidSubcommand),
         (
-            &["polcert_bound", "check", "a", "b", "c"],
+            &["polcert_bound", "check", "a", "b", "c", "d"],
             ErrorKind::UnknownArgument,
         ),
         (

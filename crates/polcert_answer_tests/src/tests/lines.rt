@@ -4,7 +4,7 @@ use polcert_answer::{Fault, RunFault};
 use polcert_check::{LowerFault, RaiseFault};
 use polcert_lines::{LoweredLine, RaisedLine, RefusalLine};
 use polcert_model::{ItemFault, ModelFault, Table};
-use polcert_policy::{GraphFault, VectorFault};
+use polcert_policy::{GraphFault, PointFault, VectorFault};
 use polcert_text::{NumberFault, TokenFault};
 use std::alloc::{AllocError, Global};
 use std::string::String;
@@ -76,6 +76,34 @@ const VECTOR_LINES: &[(VectorFault, &str)] = &[
     (VectorFault::Memory, "out of memory"),
 ];
 
+const POINT_LINES: &[(PointFault, &str)] = &[
+    (
+        PointFault::Token(TokenFault::Glued(6)),
+        "points: B1 K3 at byte 6",
+    ),
+    (
+        PointFault::Number {
+            fault: NumberFault::TooLarge,
+            place: 6,
+        },
+        "points: B2 N3 at byte 6",
+    ),
+    (PointFault::BadShape(6), "points: B3 at byte 6"),
+    (PointFault::PointOutOfOrder(0), "points: B4 at byte 0"),
+    (PointFault::WrongMass(4), "points: B5 at byte 4"),
+    (
+        PointFault::NextOutOfRange {
+            point: 0,
+            action: 1,
+            observation: 2,
+        },
+        "points: B6 at point 0, action 1, observation 2",
+    ),
+    (PointFault::Truncated(9), "points: B7 at byte 9"),
+    (PointFault::TooManyPoints(10), "points: B8 at byte 10"),
+    (PointFault::Memory, "out of memory"),
+];
+
 const LOWER_LINES: &[(LowerFault, &str)] = &[
     (
         LowerFault::NoConstant {
@@ -122,6 +150,7 @@ const OTHER_LINES: &[(RunFault, &str)] = &[
     (RunFault::ReadModel, "cannot read model"),
     (RunFault::ReadGraph, "cannot read graph"),
     (RunFault::ReadVectors, "cannot read vectors"),
+    (RunFault::ReadPoints, "cannot read points"),
     (RunFault::Write, "cannot write"),
     (RunFault::TooLargeToPrint, "print: C1"),
 ];
@@ -174,6 +203,10 @@ fn lines_of_policies(rt: HostRuntime) {
     }
     for &(fault, line) in VECTOR_LINES {
         let fault = RunFault::Text(Fault::Vectors(fault));
+        assert!(rt; has_line(rt.alloc(), fault, line), "{line}");
+    }
+    for &(fault, line) in POINT_LINES {
+        let fault = RunFault::Text(Fault::Points(fault));
         assert!(rt; has_line(rt.alloc(), fault, line), "{line}");
     }
 }

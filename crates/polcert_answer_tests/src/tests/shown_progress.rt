@@ -78,6 +78,22 @@ fn shows_a_long_reading_up_to_the_end(rt: HostRuntime) -> Result<(), Fail> {
 }
 
 #[test]
+fn counts_bytes_that_come_one_by_one(rt: HostRuntime) -> Result<(), Fail> {
+    let terminal = FakeTerminal::new(rt.alloc());
+    let reader = ReaderSource::new(b"0 0 0 0".as_slice());
+    let mut source = WatchedSource::new(reader, InputText::Graph, &terminal, true);
+    for _ in 0..7 {
+        let _ = source.read(&mut [0; 1]);
+    }
+    let line = terminal.take_written();
+    let wanted = format!(in rt.alloc();
+        "{BLANK}graph: 5 bytes read{BLANK}graph: 6 bytes read{BLANK}graph: 7 bytes read"
+    )?;
+    assert_eq!(rt; line.as_str(), wanted.as_str());
+    Ok(())
+}
+
+#[test]
 fn shows_no_short_reading_and_nothing_to_a_file(rt: HostRuntime) {
     let short = written(rt.alloc(), true, 4);
     assert_eq!(rt; short.as_str(), "");

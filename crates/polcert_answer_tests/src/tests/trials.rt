@@ -398,7 +398,7 @@ fn refused(fault: Fault) -> Text {
     match fault {
         Fault::Model(_) => Text::Model,
         Fault::Graph(_) => Text::Graph,
-        Fault::Vectors(_) => Text::Vectors,
+        Fault::Vectors(_) | Fault::Points(_) => Text::Vectors,
     }
 }
 

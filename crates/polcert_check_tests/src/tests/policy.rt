@@ -2,6 +2,7 @@ ghost use Rattle.std.specs.Prelude.{IsTrue, negsuc};
 ghost use Rattle.polcert_policy.specs.Vectors.{CanShift};
 
 mod actions;
+mod points;
 mod sources;
 
 use polcert_policy::{

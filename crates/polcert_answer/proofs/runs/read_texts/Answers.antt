@@ -1,3 +1,6 @@
+use Rattle.std.proofs.Common.{◌≡◌, subst}
+use Rattle.polcert_answer.proofs.Common.{Text}
+use Rattle.polcert_answer.specs.Steps.Reading.{IsReadFault}
 use Rattle.polcert_answer.proofs.OfTexts.{denoted_slices, refused_slices}
 use Rattle.polcert_answer.proofs.runs.read_texts.Goals as goal
 
@@ -12,8 +15,9 @@ returns-in-Ok c =
 
 pub returns-in-Err-Text-clause-refused : goal.returns-in-Err-Text-clause-refused
 returns-in-Err-Text-clause-refused c =
+    let is : c.in-Err-Text.field-0 ≡ Text c.in-Err-Text.fault = cc in
     refused_slices
     (λ s. s.rest.now) _ _ c.args.model.now c.new-model.ensures
     (λ s. s.rest.now) _ _ c.args.graph.now c.new-graph.ensures
     (λ s. s.rest.now) _ _ c.args.vectors.now c.new-vectors.ensures
-    c.args.rounding _ c.in-Err-Text.ensures.refused c.in-Err-Text.fault (cc)
+    c.args.rounding _ c.in-Err-Text.ensures.refused c.in-Err-Text.fault (subst IsReadFault is c.in-Err-Text.ensures.of_reading) (cc)

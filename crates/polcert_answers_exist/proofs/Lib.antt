@@ -1,0 +1,3 @@
+pub mod FirstPairs
+pub mod Verdicts
+pub mod OfTexts

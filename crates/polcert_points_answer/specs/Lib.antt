@@ -1,0 +1,5 @@
+pub mod Headline
+pub mod Answer
+pub mod Lines
+pub mod Run
+pub mod Steps
