@@ -1,5 +1,6 @@
 .PHONY: help run program install uninstall dist test gate toolchain
 .DEFAULT_GOAL := help
+.DELETE_ON_ERROR:
 
 PREFIX ?= /usr/local
 program = crates/polcert/out/polcert
@@ -11,7 +12,7 @@ sharedir = $(DESTDIR)$(PREFIX)/share/polcert
 docdir = $(DESTDIR)$(PREFIX)/share/doc/polcert
 bashdir = $(DESTDIR)$(PREFIX)/share/bash-completion/completions
 zshdir = $(DESTDIR)$(PREFIX)/share/zsh/site-functions
-scripts = scripts/polcert-bound-vectors scripts/polcert-evaluate scripts/polcert-graph scripts/polcert-locate scripts/polcert-mend scripts/polcert-report
+folders = bindir="$(bindir)" mandir="$(mandir)" sharedir="$(sharedir)" docdir="$(docdir)" bashdir="$(bashdir)" zshdir="$(zshdir)"
 tiger = check examples/tiger.POMDP examples/tiger.pg examples/tiger.lowered.alpha
 sources = crates.txt $(shell find crates -name '*.rt' -path '*/src/*')
 
@@ -20,15 +21,16 @@ help: ## list the targets
 
 run: ## first answer in minutes: build the programs unproved and check a shipped model
 	@$(MAKE) -s -j 2 $(unproved)
+	@mkdir -p build/unproved
+	@for name in polcert polcert_bound; do ln -sf ../$$name-unproved build/unproved/$$name; done
 	@build/polcert-unproved $(tiger)
 	@echo 'The programs in build are not proved, and slow (make program builds the proved ones). To try them and the scripts:' >&2
 	@echo 'export PATH="$(CURDIR)/build/unproved:$(CURDIR)/scripts:$$PATH"' >&2
 
 build/%-unproved: $(sources) | toolchain
 	@echo 'Building $* without proofs, one to three minutes.' >&2
-	@mkdir -p build/unproved
+	@mkdir -p build
 	@tools/build-unproved $@ $*
-	@ln -sf ../$(@F) build/unproved/$*
 
 toolchain:
 	@command -v rt > /dev/null || { echo 'rt, the command of the Rattle toolchain, is not on the path: see Install in README.md' >&2; exit 1; }
@@ -37,26 +39,15 @@ program: toolchain ## prove and build the programs, and check a shipped model wi
 	@tools/prove-program $(tiger)
 
 install: ## install the proved programs, the scripts and the pages below PREFIX (/usr/local), under DESTDIR
-	@tools/is-proved $(program)
-	@tools/is-proved $(bound)
-	install -d "$(bindir)" "$(mandir)" "$(sharedir)" "$(docdir)" "$(bashdir)" "$(zshdir)"
-	install -m 755 $(program) "$(bindir)/polcert"
-	install -m 755 $(bound) "$(bindir)/polcert_bound"
-	install -m 644 docs/polcert.1 docs/polcert_bound.1 "$(mandir)"
-	install -m 644 scripts/*.py "$(sharedir)"
-	install -m 755 $(scripts) "$(sharedir)"
-	for script in $(notdir $(scripts)); do ln -sf "../share/polcert/$$script" "$(bindir)/$$script"; done
-	install -m 644 README.md $(wildcard docs/*.md) "$(docdir)"
-	install -m 644 scripts/completions/polcert.bash "$(bashdir)/polcert"
-	ln -sf polcert "$(bashdir)/polcert_bound"
-	install -m 644 scripts/completions/_polcert "$(zshdir)/_polcert"
+	@tools/is-proved "$(program)"
+	@tools/is-proved "$(bound)"
+	@$(folders) tools/installation put "$(program)" "$(bound)"
 
 uninstall: ## remove what install put there
-	rm -f "$(bindir)/polcert" "$(bindir)/polcert_bound" "$(mandir)/polcert.1" "$(mandir)/polcert_bound.1" "$(bashdir)/polcert" "$(bashdir)/polcert_bound" "$(zshdir)/_polcert" $(addprefix "$(bindir)"/,$(notdir $(scripts)))
-	rm -rf "$(sharedir)" "$(docdir)"
+	@$(folders) tools/installation take
 
 dist: ## make an archive of the proved programs, the scripts, the pages and their checksums
-	@tools/make-dist $(program) $(bound)
+	@tools/make-dist "$(program)" "$(bound)"
 
 test: ## run each test and each case in minutes, before any proof; last line: N passed, M failed
 	@tests/run

@@ -60,6 +60,17 @@ CODES: Dict[str, Code] = {
     "V4": Code("the action is not the one of the vector's node", "write the vectors in the order of the graph's nodes"),
     "V5": Code("the text ends inside a vector", "add the missing numbers: one for each state"),
     "V6": Code("there are more, or fewer, vectors than nodes", "write one vector for each node; or remove a number too many before this"),
+    "B1": Code("these bytes are no name, number or sign", "see K1 to K4, of which one follows"),
+    "B2": Code("the number is no weight or value", "see N2 and N3, of which one follows. N3 is a weight above 1, too"),
+    "B3": Code(
+        "not a number in digits only, a weight, a value or a name of a point; or a `-` for none directly before a numeral",
+        "write weights without a sign, and a blank after `-`"
+    ),
+    "B4": Code("not the number of the next point", "number the points 0, 1, 2, .. in order; or remove a name too many before it"),
+    "B5": Code("the weights sum to nothing, or to more than 1, after they are rounded down", "divide them by their sum"),
+    "B6": Code("a named point is no point of the file", "add the point, or write `-`"),
+    "B7": Code("the text ends inside a point", "add the missing numbers and names"),
+    "B8": Code("there are more than 10,000 points", "use fewer"),
     "L1": Code("the discount is 1 and this pair is short, so no constant helps", "use vectors that fit, or a discount below 1"),
     "L2": Code(
         "lowered by the least constant, a value would be below -10,000,000",

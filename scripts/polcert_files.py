@@ -1,4 +1,5 @@
-"""Models, policy graphs and vectors, read exactly as polcert reads them (docs/FORMAT.md), for the scripts of this folder.
+"""Models, policy graphs and vectors, read exactly as polcert reads them (docs/FORMAT.md), for the scripts of this folder. Files are read by
+read_source of polcert_command.
 
     model = read_model(read_source("tiger.POMDP"))
     model.transitions.row(action, state)         {end state: probability}, cells above 0 alone
@@ -19,7 +20,7 @@ from typing import Dict, List, NamedTuple, Optional, Sequence, Tuple
 from polcert_tables import Elements, Entry, Numbers, Places, Rewards, Row, SeenEnds, Start, Table
 from polcert_tokens import (  # noqa: F401 (what the scripts take from here)
     BAD, COLON, END, MILLION, NAME, NUMERAL, SIGN, STAR, Cursor, FileError, NumberFault, Source, Token, exact_value, is_millionths,
-    number_after, read_source,
+    number_after,
 )
 
 ITEM_WORDS = frozenset(b"discount values states actions observations start T O R".split())

@@ -1,17 +1,26 @@
 """Policies as solvers write them: lists of vectors, SARSOP's `.policy` files, the tables of R's `pomdp`, the policies of AI-Toolbox, and an
 action for each state of an MDP."""
 import re
+from collections import deque
+from itertools import islice
 from math import isfinite
-from typing import Dict, Iterator, List, NamedTuple, Optional, Sequence, Union
+from typing import Deque, Dict, Iterator, List, NamedTuple, Optional, Sequence, Tuple, Union
 from xml.parsers import expat
 
 from polcert_files import END, NAME, NUMERAL, Cursor, FileError, Graph, Model, Source, read_vectors
 from polcert_tables import Elements
+from polcert_tokens import quoted, whole_number
 
 _NUMBER = re.compile(r"[+-]?(?:[0-9]+\.?[0-9]*|\.[0-9]+)(?:[eE][+-]?[0-9]+)?")
 _STEP_END = re.compile(rb"^[ \t]*@[ \t\r]*$", re.M)
+_STEP_WORD = re.compile(rb"[^\s@]+")
 _TABLE_WORD = re.compile(rb'"([^"\r\n]*)"|([^\s,"]+)')
+_WORD = re.compile(r"\S+")
 _LIST_MARK = re.compile(r"\[\[[0-9]+\]\]")
+# The bytes of a text from the first one up to the second.
+Span = Tuple[int, int]
+# Elements of XML are nested in no more than so many others.
+_MOST_DEPTH = 100
 # What R and pomdp-solve write for a successor that is missing.
 _NO_NODE = ("NA", "-", "X")
 
@@ -55,14 +64,15 @@ class _Reader:
         return FileError(self.source, "", byte, why)
 
     def whole(self, word: Word, count: int, kind: str) -> int:
-        if not (word.text.isascii() and word.text.isdigit() and int(word.text) < count):
+        number = whole_number(word.text)
+        if number is None or number >= count:
             expected = f"the number of {'an' if kind[0] in 'ao' else 'a'} {kind} from 0 to {count - 1}"
-            raise self.fault(word.begin, f"expected {expected}, found `{word.text}`")
-        return int(word.text)
+            raise self.fault(word.begin, f"expected {expected}, found {quoted(word.text)}")
+        return number
 
     def number(self, word: Word) -> float:
         if not _NUMBER.fullmatch(word.text) or not isfinite(float(word.text)):
-            raise self.fault(word.begin, f"expected a number, found `{word.text}`")
+            raise self.fault(word.begin, f"expected a number, found {quoted(word.text)}")
         return float(word.text)
 
 
@@ -75,7 +85,10 @@ class _PolicyReader(_Reader):
         self.action: Optional[int] = None
         self.sparse: Optional[List[float]] = None
         self.text: List[str] = []
+        self.depth = 0
         self.parser = expat.ParserCreate()
+        self.parser.buffer_text = True
+        self.parser.EntityDeclHandler = self.refuse_entity
         self.parser.StartElementHandler = self.begin
         self.parser.EndElementHandler = self.end
         self.parser.CharacterDataHandler = self.text.append
@@ -90,12 +103,20 @@ class _PolicyReader(_Reader):
         except expat.ExpatError as fault:
             byte, why = max(0, self.parser.ErrorByteIndex), expat.ErrorString(fault.code)
             raise self.fault(byte, f"this is no XML: {why}") from None
+        except (LookupError, ValueError) as fault:
+            raise self.fault(self.byte, f"the encoding that this XML names is not read: {fault}") from None
         if not self.solved:
             raise self.fault(len(self.source.text), "expected a `<Vector>` or a `<SparseVector>` of a policy, found none")
         return self.solved
 
+    def refuse_entity(self, name: str, *_: object) -> None:
+        raise self.fault(self.byte, f"no entity is read, and {quoted(name)} is declared here")
+
     def begin(self, name: str, attributes: Dict[str, str]) -> None:
         self.text.clear()
+        self.depth += 1
+        if self.depth > _MOST_DEPTH:
+            raise self.fault(self.byte, f"elements are nested more than {_MOST_DEPTH} deep, which no policy is")
         if name in ("Vector", "SparseVector"):
             self.action = self.whole(Word(self.byte, attributes.get("action", "nothing")), self.model.actions.count, "action")
             if attributes.get("obsValue", "0") != "0":
@@ -105,20 +126,25 @@ class _PolicyReader(_Reader):
             raise self.fault(self.byte, "an `<Entry>` stands outside of a `<SparseVector>`")
 
     def end(self, name: str) -> None:
-        words = [Word(self.byte, word) for word in "".join(self.text).split()]
+        text, states = "".join(self.text), self.model.states.count
         self.text.clear()
+        self.depth -= 1
         if name == "Vector":
-            if len(words) != self.model.states.count:
-                expected = f"{self.model.states.count} numbers, one for each state of the model"
-                raise self.fault(self.byte, f"expected {expected}, found {len(words)}")
+            words = self.words(text, states, f"{states} numbers, one for each state of the model", "")
             self.solved.append(Solved(self.action, [self.number(word) for word in words]))
         elif name == "Entry":
-            if len(words) != 2:
-                raise self.fault(self.byte, f"expected a state and a number in an `<Entry>`, found {len(words)} words")
-            self.sparse[self.whole(words[0], self.model.states.count, "state")] = self.number(words[1])
+            state, number = self.words(text, 2, "a state and a number in an `<Entry>`", " words")
+            self.sparse[self.whole(state, states, "state")] = self.number(number)
         elif name == "SparseVector":
             self.solved.append(Solved(self.action, self.sparse))
             self.sparse = None
+
+    def words(self, text: str, count: int, expected: str, unit: str) -> List[Word]:
+        """The words of an element, which have to be so many."""
+        found = sum(1 for _ in _WORD.finditer(text))
+        if found != count:
+            raise self.fault(self.byte, f"expected {expected}, found {found}{unit}")
+        return [Word(self.byte, word) for word in text.split()]
 
 
 class _StepsReader(_Reader):
@@ -127,28 +153,36 @@ class _StepsReader(_Reader):
 
     def read(self) -> List[Solved]:
         """The vectors of the last list: those of the most steps."""
-        lists = self.lists()
+        lists = self.last_lists()
         if not lists:
             raise self.fault(0, "expected vectors before the first `@`, found none")
         states, observations = self.model.states.count, self.model.observations.count
-        last, before = lists[-1], lists[-2] if len(lists) > 1 else []
         width = states + 1 + observations
-        if len(last) % width:
+        counts = [sum(1 for _ in self.words(span)) for span in lists]
+        words = self.words(lists[-1])
+        if counts[-1] % width:
             parts = f"{states} numbers, an action and {observations} successors"
-            why = f"expected {parts} for each vector of the last list, which has {len(last)} words"
-            raise self.fault(last[0].begin, why)
-        nodes = max(1, len(before) // width)
-        return [self.vector(last[i : i + width], nodes) for i in range(0, len(last), width)]
+            why = f"expected {parts} for each vector of the last list, which has {counts[-1]} words"
+            raise self.fault(next(words).begin, why)
+        nodes = max(1, counts[0] // width if len(lists) > 1 else 0)
+        return [self.vector(list(islice(words, width)), nodes) for _ in range(counts[-1] // width)]
 
-    def lists(self) -> List[List[Word]]:
-        """The words of each list that is not empty."""
-        lists: List[List[Word]] = [[]]
-        for match in re.finditer(rb"@|[^\s@]+", self.source.text):
-            if match[0] == b"@":
-                lists.append([])
-            else:
-                lists[-1].append(Word(match.start(), match[0].decode(errors="replace")))
-        return [words for words in lists if words]
+    def last_lists(self) -> Deque[Span]:
+        """Where the last two lists stand that have words."""
+        text, begin = self.source.text, 0
+        spans: Deque[Span] = deque(maxlen=2)
+        while begin < len(text):
+            end = text.find(b"@", begin)
+            end = len(text) if end < 0 else end
+            if _STEP_WORD.search(text, begin, end):
+                spans.append((begin, end))
+            begin = end + 1
+        return spans
+
+    def words(self, span: Span) -> Iterator[Word]:
+        """The words of a list."""
+        found = _STEP_WORD.finditer(self.source.text, *span)
+        return (Word(match.start(), match[0].decode(errors="replace")) for match in found)
 
     def vector(self, words: Sequence[Word], nodes: int) -> Solved:
         states = self.model.states.count
@@ -170,7 +204,7 @@ def table_lines(source: Source) -> Iterator[List[Word]]:
 
 def is_table(source: Source) -> bool:
     """Whether the first line names columns, and `action` is one of them."""
-    words = [word.text for word in next(table_lines(source), [])]
+    words = [word.text for word in next(table_lines(source), [])] if b"action" in source.text else []
     return "action" in words and not words[0].startswith("#")
 
 
@@ -180,21 +214,26 @@ class _TableReader(_Reader):
 
     def __init__(self, source: Source, model: Model) -> None:
         super().__init__(source, model)
-        head, *self.rows = table_lines(source)
-        self.columns = [word for word in head if word.text]
+        self.columns = [word for word in next(table_lines(source)) if word.text]
+        self.count = sum(1 for _ in self.rows())
         self.at_action = [word.text for word in self.columns].index("action")
+
+    def rows(self) -> Iterator[List[Word]]:
+        """The words of each row below the names of the columns."""
+        return islice(table_lines(self.source), 1, None)
 
     def read(self) -> Union[Graph, List[Solved]]:
         before, after = self.columns[: self.at_action], self.columns[self.at_action + 1 :]
-        if not self.rows:
+        if not self.count:
             raise self.fault(len(self.source.text), "expected a row below the names of the columns, found the end of the text")
         if [word.text for word in before] == ["node"]:
             self.compare(after, self.model.observations)
             return self.graph()
         self.compare(before, self.model.states)
         if after:
-            raise self.fault(after[0].begin, f"expected `action` as the last column after those of the states, found `{after[0].text}`")
-        return [self.vector(self.cells(row)) for row in self.rows]
+            expected = "`action` as the last column after those of the states"
+            raise self.fault(after[0].begin, f"expected {expected}, found {quoted(after[0].text)}")
+        return [self.vector(self.cells(row)) for row in self.rows()]
 
     def compare(self, words: Sequence[Word], elements: Elements) -> None:
         """Refuses columns that are not those of the states or the observations. R may have made a point of each `-`."""
@@ -203,7 +242,7 @@ class _TableReader(_Reader):
             raise self.fault(self.columns[self.at_action].begin, why)
         for word, name in zip(words, elements.names or []):
             if word.text not in (name, name.replace("-", ".")):
-                raise self.fault(word.begin, f"expected the column of {elements.kind} `{name}`, found `{word.text}`")
+                raise self.fault(word.begin, f"expected the column of {elements.kind} `{name}`, found {quoted(word.text)}")
 
     def cells(self, row: Sequence[Word]) -> Sequence[Word]:
         """The words of a row, without its number."""
@@ -217,10 +256,10 @@ class _TableReader(_Reader):
 
     def graph(self) -> Graph:
         graph = Graph([], [])
-        for number, row in enumerate(self.rows, 1):
+        for number, row in enumerate(self.rows(), 1):
             node, action, *successors = self.cells(row)
             if node.text != str(number):
-                raise self.fault(node.begin, f"expected node {number}, as nodes are numbered 1, 2, .. in order, found `{node.text}`")
+                raise self.fault(node.begin, f"expected node {number}, as nodes are numbered 1, 2, .. in order, found {quoted(node.text)}")
             graph.actions.append(self.action(action))
             graph.successors.append([self.successor(word) for word in successors])
         return graph
@@ -228,15 +267,16 @@ class _TableReader(_Reader):
     def action(self, word: Word) -> int:
         action = self.model.actions.index_of.get(word.text.encode())
         if action is None:
-            raise self.fault(word.begin, f"expected the name of an action of the model, found `{word.text}`")
+            raise self.fault(word.begin, f"expected the name of an action of the model, found {quoted(word.text)}")
         return action
 
     def successor(self, word: Word) -> Optional[int]:
         if word.text in _NO_NODE:
             return None
-        if not (word.text.isascii() and word.text.isdigit() and 1 <= int(word.text) <= len(self.rows)):
-            raise self.fault(word.begin, f"expected a node from 1 to {len(self.rows)}, or `NA`, found `{word.text}`")
-        return int(word.text) - 1
+        number = whole_number(word.text)
+        if number is None or not 1 <= number <= self.count:
+            raise self.fault(word.begin, f"expected a node from 1 to {self.count}, or `NA`, found {quoted(word.text)}")
+        return number - 1
 
     def vector(self, cells: Sequence[Word]) -> Solved:
         return Solved(self.action(cells[-1]), [self.number(word) for word in cells[:-1]])

@@ -4,10 +4,10 @@ The tokens are names, numerals and the single bytes `:` `*` `+` `-`; blanks, lin
 between them. Offsets are bytes counted from 0, lines and columns are counted from 1, and a column counts characters.
 """
 import re
-from bisect import bisect_right
 from dataclasses import dataclass
 from fractions import Fraction
 from functools import cached_property
+from itertools import accumulate
 from typing import Dict, List, NamedTuple, Optional, Tuple
 
 MILLION = 1_000_000
@@ -18,12 +18,14 @@ LARGEST_EXPONENT = 400
 NAME, NUMERAL, SIGN, COLON, STAR, END, BAD = "name", "numeral", "sign", "colon", "star", "end", "bad"
 _SINGLE = {b":": COLON, b"*": STAR, b"+": SIGN, b"-": SIGN}
 _TOKEN = re.compile(
-    rb"(?:[ \t\r\n]+|#[^\n]*)*"
-    rb"(?:(?P<name>[A-Za-z][A-Za-z0-9_-]*)|(?P<numeral>(?:[0-9]+\.?[0-9]*|\.[0-9]+)(?:[eE][+-]?[0-9]+)?)|(?P<single>[:*+-]))?"
+    rb"[ \t\r\n]*(?:(?P<name>[A-Za-z][A-Za-z0-9_-]*)|(?P<numeral>(?:[0-9]+\.?[0-9]*|\.[0-9]+)(?:[eE][+-]?[0-9]+)?)"
+    rb"|(?P<single>[:*+-])|(?P<comment>#[^\n]*))?"
 )
 _GLUE = re.compile(rb"[A-Za-z_.]")
 _NUMERAL = re.compile(rb"([0-9]*)(?:\.([0-9]*))?(?:[eE]([+-]?[0-9]+))?")
 _CACHE_SIZE = 100_000
+# For places the line ends are counted up to each stretch of so many bytes.
+_STRETCH = 4096
 
 
 class Token(NamedTuple):
@@ -43,8 +45,7 @@ class Token(NamedTuple):
             return "the end of the text"
         if self.kind == BAD:
             return BAD_TOKENS[self.text.decode()]
-        text = self.text.decode()
-        return f"`{text if len(text) <= 40 else text[:37] + '...'}`"
+        return quoted(self.text.decode())
 
 
 BAD_TOKENS = {
@@ -52,6 +53,29 @@ BAD_TOKENS = {
     "K2": f"a name or number of more than {LONGEST_TOKEN} bytes",
     "K3": "a number with a letter, `_` or a point directly after it",
 }
+
+
+def quoted(text: str) -> str:
+    """A word as an error names it, cut if it is long."""
+    return f"`{text if len(text) <= 40 else text[:37] + '...'}`"
+
+
+def whole_number(text: str) -> Optional[int]:
+    """The number that digits give, or None if there are others than digits. One that is too long for a token is greater than any count."""
+    if not (text.isascii() and text.isdigit()):
+        return None
+    digits = text.lstrip("0")
+    return int(digits or "0") if len(digits) <= LONGEST_TOKEN else 10**LONGEST_TOKEN
+
+
+def printable(text: str) -> str:
+    """The text on one line: what cannot be shown is escaped."""
+    return text if text.isprintable() else "".join(sign if sign.isprintable() else _escaped(sign) for sign in text)
+
+
+def _escaped(sign: str) -> str:
+    """A sign that cannot be shown; a byte of a file's name that is no letter has a lone surrogate in its place."""
+    return f"\\x{ord(sign) - 0xDC00:02x}" if "\udc80" <= sign <= "\udcff" else sign.encode("unicode_escape").decode()
 
 
 @dataclass(frozen=True)
@@ -62,14 +86,17 @@ class Source:
     text: bytes
 
     @cached_property
-    def _line_begins(self) -> List[int]:
-        return [0, *(match.end() for match in re.finditer(rb"\n", self.text))]
+    def _line_ends(self) -> List[int]:
+        """How many lines end before each stretch, and before the end."""
+        counts = (self.text.count(b"\n", begin, begin + _STRETCH) for begin in range(0, len(self.text), _STRETCH))
+        return [0, *accumulate(counts)]
 
     def position(self, byte: int) -> Tuple[int, int]:
         """The line and the column of a byte."""
-        line = bisect_right(self._line_begins, byte)
-        column = len(self.text[self._line_begins[line - 1] : byte].decode(errors="replace")) + 1
-        return line, column
+        stretch = byte // _STRETCH
+        line = self._line_ends[stretch] + self.text.count(b"\n", stretch * _STRETCH, byte) + 1
+        line_begin = self.text.rfind(b"\n", 0, byte) + 1
+        return line, len(self.text[line_begin:byte].decode(errors="replace")) + 1
 
     def line_at(self, byte: int) -> str:
         """The line in which a byte stands, without its end."""
@@ -94,15 +121,11 @@ class FileError(Exception):
         return f"{self.source.place(self.byte)}: {self.code + ': ' if self.code else ''}{self.why}"
 
 
-def read_source(name: str) -> Source:
-    """Reads a file. Raises OSError if it cannot be opened or read."""
-    with open(name, "rb") as file:
-        return Source(name, file.read())
-
-
 def token_at(text: bytes, at: int) -> Token:
     """The first token at or after a byte; END if there is none, BAD if the bytes there are no token."""
     match = _TOKEN.match(text, at)
+    while match.lastgroup == "comment":
+        match = _TOKEN.match(text, match.end())
     kind = match.lastgroup
     if kind is None:
         end = match.end()

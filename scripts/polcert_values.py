@@ -33,7 +33,11 @@ class Step:
             for places, chances in columns:
                 for end, z, q in zip(states, places, chances):
                     ends[end] += q * after[z][end]
-        return [gain + discount * value for gain, value in zip(self.gain, self._move.of(ends))]
+        return self.backup(ends, discount)
+
+    def backup(self, values: Values, discount: float) -> Values:
+        """What the action is worth in each state, if what follows is worth so much in each end state."""
+        return [gain + discount * value for gain, value in zip(self.gain, self._move.of(values))]
 
     def beliefs_after(self, belief: Belief) -> Dict[int, Tuple[float, Belief]]:
         """For each observation that can come: its probability, and the belief after it, by Bayes' rule."""

@@ -28,4 +28,4 @@ _polcert_bound() {
 }
 complete -o bashdefault -o default -F _polcert polcert
 complete -o bashdefault -o default -F _polcert_bound polcert_bound
-complete -o default polcert-bound-vectors polcert-evaluate polcert-graph polcert-locate polcert-mend polcert-report
+complete -o default polcert-bound-vectors polcert-evaluate polcert-graph polcert-locate polcert-mend polcert-points polcert-report

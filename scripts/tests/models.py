@@ -3,21 +3,31 @@ import random
 from fractions import Fraction
 from itertools import product
 from math import prod
-from typing import Dict, Optional, Sequence, Tuple
+from typing import Dict, NamedTuple, Optional, Sequence, Tuple
 
 Cell = Tuple[int, ...]
+
+
+class Head(NamedTuple):
+    """What stands before the entries of a model, and the numbers of which its rewards are made."""
+
+    discount: str = "0.9"
+    values: str = "reward"
+    start: str = ""
+    rewards: Tuple[str, ...] = ("0", "1", "-2.5", "7")
 
 
 class Entries:
     """The entries of a model, as text and as filled tables."""
 
-    def __init__(self, states: int, actions: int, observations: Optional[int]) -> None:
-        self.is_mdp = observations is None
+    def __init__(self, states: int, actions: int, observations: Optional[int], head: Head = Head()) -> None:
+        self.is_mdp, self.rewards = observations is None, head.rewards
         self.sizes = {"T": (actions, states, states), "O": (actions, states, observations), "R": (actions, states, states, observations)}
         if self.is_mdp:
             self.sizes["R"] = (actions, states, states)
-        self.lines = ["discount: 0.9", "values: reward", f"states: {states}", f"actions: {actions}"]
+        self.lines = [f"discount: {head.discount}", f"values: {head.values}", f"states: {states}", f"actions: {actions}"]
         self.lines += [] if self.is_mdp else [f"observations: {observations}"]
+        self.lines += [head.start] if head.start else []
         self.cells: Dict[str, Dict[Cell, Fraction]] = {"T": {}, "O": {}, "R": {}}
 
     def add(self, table: str, places: Sequence[Optional[int]], body: str) -> None:
@@ -54,10 +64,22 @@ def random_row(random_: random.Random, count: int, exact: bool) -> str:
     return " ".join(f"{(b - a) / 1e6:.6f}" for a, b in zip([0, *cuts], [*cuts, 1000000]))
 
 
-def random_model(random_: random.Random, exact: bool = False) -> Entries:
-    """A model of a few states with entries of all forms. With `exact` its rows sum to one."""
-    states, actions, observations = random_.randint(1, 4), random_.randint(1, 3), random_.choice([None, 1, 2, 3])
-    entries = Entries(states, actions, observations)
+def random_head(random_: random.Random, states: int) -> Head:
+    """Any discount, rewards or costs, and a start of each form."""
+    starts = ["", "start: uniform", f"start: {random_.randrange(states)}", f"start: {random_row(random_, states, True)}"]
+    starts.append("start include: " + " ".join(map(str, random_.choices(range(states), k=random_.randint(1, states)))))
+    starts.append("start exclude: " + " ".join(map(str, random_.sample(range(states), random_.randrange(states)))))
+    rewards = ["0"], ["0", "1", "7"], ["0", "-1", "-2.5"], ["0", "1", "-2.5", "7"], ["0.333333", "-0.000001"], ["10000000", "-10000000"]
+    discounts = ["0", "1", "1", "0.5", "0.95", "0.999999", "0.000001", f"{random_.random():.6f}"]
+    values = random_.choice(["reward", "cost"])
+    return Head(random_.choice(discounts), values, random_.choice(starts), tuple(random_.choice(rewards)))
+
+
+def random_model(random_: random.Random, exact: bool = False, varied: bool = False) -> Entries:
+    """A model of a few states with entries of all forms. With `exact` its rows sum to one; with `varied` its head is random too."""
+    states, actions = random_.randint(1, 4), random_.randint(1, 3)
+    observations = random_.choice([None, None, 1, 2, 3] if varied else [None, 1, 2, 3])
+    entries = Entries(states, actions, observations, random_head(random_, states) if varied else Head())
     tables = "TR" if observations is None else "TOR"
     for table in tables[:-1]:
         entries.add(table, [None], "uniform")
@@ -73,7 +95,7 @@ def add_random(entries: Entries, random_: random.Random, table: str, exact: bool
     places = [random_.choice([None, random_.randrange(size)]) for size in sizes[:count]]
     left = prod(sizes[count:])
     if table == "R":
-        body = " ".join(str(random_.choice([0, 1, -2.5, 7])) for _ in range(left))
+        body = " ".join(random_.choice(entries.rewards) for _ in range(left))
     elif count < 3 and random_.random() < 0.3:
         body = "identity" if table == "T" and count == 1 and random_.random() < 0.5 else "uniform"
     else:

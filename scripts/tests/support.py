@@ -35,7 +35,12 @@ class Said(NamedTuple):
 
 def run_script(name: str, *words: str, given: bytes = b"") -> Said:
     """Runs a script of scripts/."""
-    return _run([sys.executable, str(SCRIPTS / name), *words], given)
+    return run_file(SCRIPTS / name, *words, given=given)
+
+
+def run_file(path: Path, *words: str, given: bytes = b"") -> Said:
+    """Runs a Python file."""
+    return _run([sys.executable, str(path), *words], given)
 
 
 def load(name: str) -> ModuleType:
@@ -78,7 +83,7 @@ class FolderTest(unittest.TestCase):
 
 
 def refusals_rows(kind: str) -> Iterator[Tuple[str, bytes]]:
-    """The printed line and the text of each item of docs/REFUSALS.md for `model`, `graph` or `vectors`."""
+    """The printed line and the text of each item of docs/REFUSALS.md for `model`, `graph`, `vectors` or `points`."""
     page = load_file("refusals_page", TOP / "tests" / "refusals-page")
     return ((item.line, item.given[0].encode()) for item in page.items() if item.kind == kind.lower())
 

@@ -1,19 +1,19 @@
 """polcert-bound-vectors: its vectors against values by hand, exact fractions, plain iteration, and polcert's check of all choices."""
-import contextlib
-import io
 import random
 from itertools import product
 from math import ceil, floor
 from typing import Dict, List, Sequence, Tuple
+from unittest.mock import patch
 
-from support import EXAMPLES, NAMES, FolderTest, Said, load, needs_program, polcert, run_script
+from support import EXAMPLES, NAMES, FolderTest, Said, needs_program, polcert, run_script
 from informed import Exact, Millionths, exact_entries, exact_model, raised
 from models import random_model, tag
-from polcert_files import MILLION, Model, Source, read_model, read_source, read_vectors
+import polcert_informed as script
+from polcert_command import read_source
+from polcert_files import MILLION, Model, Source, read_model, read_vectors
 from polcert_tokens import decimal
 from polcert_values import Steps
 
-script = load("polcert-bound-vectors")
 ONE_STATE = b"discount: 0.5 values: %s states: 1 actions: 2 observations: 1 T: * identity O: * uniform R: 0:*:*:* 1 R: 1:*:*:* 3"
 
 
@@ -134,13 +134,9 @@ class Limits(BoundVectors):
     def test_too_many_products(self) -> None:
         # the worth of the machine for who sees its state is 16.07306 by the study, rounded as above
         model = read_model(read_source(str(EXAMPLES / "machine.POMDP")))
-        said, most, script.MOST_PRODUCTS = io.StringIO(), script.MOST_PRODUCTS, 13
-        try:
-            with contextlib.redirect_stderr(said):
-                vectors, above = script.bound(Steps(model), 1e-7, 1000)
-        finally:
-            script.MOST_PRODUCTS = most
-        self.assertIn("14 products of T and O are too many", said.getvalue())
+        with patch.object(script, "MOST_PRODUCTS", 13), patch.object(script, "say") as say:
+            vectors, above = script.bound(Steps(model), 1e-7, 1000)
+        self.assertIn("14 products of T and O are too many", say.call_args[0][0])
         self.assertLessEqual(above, 1e-7)
         found = self.certified(exact_model(model), [[round(value * MILLION) for value in values] for values in vectors])
         self.assertLessEqual(abs(found - 16_073_060), 21)

@@ -7,7 +7,8 @@ from typing import Dict, Optional, Tuple
 
 from models import random_model, tag
 from support import EXAMPLES, NAMES, TOP, FolderTest, mutated, needs_program, polcert, refusals_rows
-from polcert_files import FileError, Graph, Model, Source, read_graph, read_model, read_source, read_vectors
+from polcert_command import read_source
+from polcert_files import FileError, Graph, Model, Source, read_graph, read_model, read_vectors
 
 
 def refusal(text: bytes) -> str:

@@ -1,11 +1,15 @@
 """polcert-evaluate and polcert-graph: what they read, write and refuse, and that polcert certifies what they write."""
 import random
 import re
-from typing import Optional
+import sys
+from typing import List, Optional
+from unittest import mock
 
 from models import random_model
 from support import EXAMPLES, PROGRAM, FolderTest, Said, load, polcert, run_script
-from polcert_files import Graph, Source, read_graph, read_model, read_source, read_vectors
+from polcert_command import read_source
+from polcert_files import Graph, Source, read_graph, read_model, read_vectors
+from polcert_policies import Solved
 from polcert_values import Steps, evaluate
 from test_mend import rough_model, values
 
@@ -192,3 +196,105 @@ class Policies(GraphTest):
         self.assertEqual(self.graph(example("tiger.POMDP"), example("tiger.alpha"), "--nodes", "x").status, 2)
         one = self.file("one", (EXAMPLES / "tiger.POMDP").read_bytes().replace(b"0.95", b"1"))
         self.assertIn("one:1:11: the discount is 1", self.graph(one, example("tiger.alpha")).err)
+
+
+class OwnVectors(GraphTest):
+    """The vectors that are certified are those that the solver wrote, or some of them."""
+
+    def own(self, model: str, solved: str, *words: str) -> Said:
+        said = self.graph(model, solved, "--own-vectors", *words)
+        self.assertEqual((said.status, said.out), (0, b""), said.err)
+        return said
+
+    def written(self, model: str) -> List[Solved]:
+        return [Solved(action, [float(value) for value in values])
+                for action, values in read_vectors(read_source(str(self.folder / "out.alpha")), read_model(read_source(model)))]
+
+    def solved(self, model: str, name: str) -> List[Solved]:
+        return script.read_solved(read_source(name), read_model(read_source(model)))
+
+    def test_solvers(self) -> None:
+        doors = self.file("doors", run_script("polcert-mend", "-q", example("recipes/sarsop/doors.POMDP")).out)
+        tiger = example("tiger.POMDP")
+        for model, name, left_out, worth in (
+            (doors, "recipes/sarsop/doors.policy", [], 8.084018),
+            (tiger, "recipes/pomdp-solve/tiger.alpha", [], 19.371357),
+            (tiger, "recipes/ai-toolbox/tiger.solved", [5, 6, 8, 9], 4.42853),
+            (example("machine.POMDP"), "machine.alpha", [], 11.151814),
+            (example("stock.POMDP"), "stock.alpha", [], 68.549998),
+            (example("robot.POMDP"), "robot.alpha", [], 0.343776),
+        ):
+            said, solved = self.own(model, example(name)), self.solved(model, example(name))
+            kept = [vector for n, vector in enumerate(solved) if n not in left_out]
+            self.assertIn(f"{len(kept)} of {len(solved)} vectors, short by at most", said.err)
+            self.assertEqual("left out" in said.err, bool(left_out))
+            self.assertIn(f"run: vectors {', '.join(map(str, left_out))} of" if left_out else "", said.err)
+            self.assertEqual(self.written(model), kept)
+            self.assertIn(self.certified(model), (None, worth))
+
+    def test_vectors_of_random_graphs_back_one_another(self) -> None:
+        for seed in range(12):
+            random_ = random.Random(seed)
+            model = read_model(Source("m", random_model(random_, exact=True).text()))
+            actions, observations, nodes = model.actions.count, model.observations.count, random_.randint(1, 4)
+            rows = [[random_.randrange(nodes) for _ in range(observations)] for _ in range(nodes)]
+            graph = Graph([random_.randrange(actions) for _ in range(nodes)], rows)
+            vectors = [Solved(*vector) for vector in zip(graph.actions, evaluate(Steps(model), graph))]
+            random_.shuffle(vectors)
+            name = self.file("model", model.source.text)
+            said = self.own(name, self.file("solved", script.own_vectors_text(vectors)), "--within", "0.00001")
+            self.assertIn(f"{nodes} of {nodes} vector", said.err)
+            self.assertEqual(self.written(name), vectors)
+            self.certified(name)
+
+    def test_a_vector_that_promises_too_much(self) -> None:
+        tiger = example("tiger.POMDP")
+        text = b"0 20 20\n" + (EXAMPLES / "tiger.alpha").read_bytes()
+        said = self.own(tiger, self.file("solved", text))
+        self.assertIn("5 of 6 vectors", said.err)
+        self.assertIn("left out, and not to be run: vector 0 of", said.err)
+        self.assertIn(self.certified(tiger), (None, 19.37136))
+        said = self.own(tiger, self.file("solved", text), "--within", "2")
+        self.assertIn("6 of 6 vectors", said.err)
+
+    def test_without_branch_and_bound(self) -> None:
+        tiger = example("tiger.POMDP")
+        witness = sys.modules["polcert_witness"]
+        solved = self.solved(tiger, example("tiger.alpha"))
+        with mock.patch.object(witness, "MOST_TRIED", 0):
+            found = witness.find_witness(Steps(read_model(read_source(tiger))), solved, None)
+        self.assertEqual((found.kept, found.left_out), (list(range(5)), []))
+
+    def test_observations_that_cannot_come(self) -> None:
+        text = b"discount: 0.5 values: reward states: 1 actions: 1 observations: 2 T: 0 identity O: 0 : 0 : 1 1 R: 0 : 0 : 0 : * 1\n"
+        model = self.file("model", text)
+        self.own(model, self.file("solved", b"0 0\n"))
+        self.assertEqual(self.text("pg"), b"0 0 - 0\n")
+        self.assertIn(self.certified(model), (None, 0.0))
+
+    def test_costs_and_digits(self) -> None:
+        text = b"discount: 0.5 values: cost states: 1 actions: 1 observations: 1 T: 0 identity O: 0 uniform R: 0:0:0:0 1\n"
+        model = self.file("model", text)
+        self.own(model, self.file("solved", b"0 2.00000000125\n"), "--costs")
+        self.assertEqual(self.text("alpha"), b"0\n-2.00000000125\n\n")
+        self.assertIn(self.certified(model), (None, -2.000001))
+
+    def test_what_is_refused(self) -> None:
+        tiger = example("tiger.POMDP")
+        for solved, words, reason in (
+            (self.file("table", b"node action tiger-left tiger-right\n1 listen 1 1\n"), (), "--own-vectors takes vectors"),
+            (self.file("high", b"0 9 9\n"), (), "no successors back a vector within 0.000900 of one step"),
+            (self.file("huge", POLICY.replace("0.690871", "-1e8").encode()), ("--within", "10000000"), "a value is beyond 10,000,000"),
+            (example("tiger.alpha"), ("--within", "-1"), "-1 is not from 0 to 10,000,000"),
+            (example("tiger.alpha"), ("--within", "x"), "invalid amount value"),
+        ):
+            said = self.graph(tiger, solved, "--own-vectors", *words)
+            self.assertEqual((said.status, said.out), (2, b""))
+            self.assertIn(reason, said.err)
+            self.assertFalse((self.folder / "out.pg").exists())
+
+    def test_a_tolerance_without_own_vectors_is_refused(self) -> None:
+        said = self.graph(example("tiger.POMDP"), example("tiger.alpha"), "--within", "0.1")
+        self.assertEqual((said.status, said.out), (2, b""))
+        self.assertIn("--within goes with --own-vectors", said.err)
+        self.assertFalse((self.folder / "out.pg").exists())

@@ -21,15 +21,17 @@ class Page(FolderTest):
         self.assertEqual(items, [(code, *sentences) for code, sentences in CODES.items()])
 
     def test_each_code_that_polcert_prints_has_a_sentence(self) -> None:
-        printed = [f"{kind}{number}" for kind, most in (("M", 20), ("G", 8), ("V", 6), ("L", 3), ("U", 3)) for number in range(1, most + 1)]
+        printed = [f"{kind}{number}" for kind, most in (("M", 20), ("G", 8), ("V", 6), ("B", 8), ("L", 3), ("U", 3)) for number in range(1, most + 1)]
         self.assertEqual(sorted(CODES), sorted([*printed, "K1", "K2", "K3", "K4", "N2", "N3", "N4", "C1"]))
 
     def test_rows_of_the_page(self) -> None:
         count = 0
-        for kind in ("Model", "Graph", "Vectors"):
+        for kind in ("Model", "Graph", "Vectors", "Points"):
             for printed, text in refusals_rows(kind):
-                if not printed.startswith("pomdp"):
-                    lines = located(text, printed)
+                lines = located(text, printed) if not printed.startswith("pomdp") else []
+                if printed.startswith("points: B6"):
+                    self.assertEqual(lines[0], f"F: {printed[8:]}: a named point is no point of the file")
+                elif lines:
                     codes = printed.split(": ")[1].split(" in ")[0].split(" at ")[0]
                     self.assertRegex(lines[0], rf"^F:1:\d+: {codes}")
                     byte = re.search(r"byte (\d+)", printed)
@@ -87,6 +89,11 @@ class Places(FolderTest):
         self.assertLess(len(lines[1]), 120)
         self.assertTrue(lines[1].startswith("    ...") and lines[1].endswith("..."))
         self.assertEqual(lines[1][lines[2].index("^"):][:3], "0.1")
+
+    def test_what_would_move_the_cursor(self) -> None:
+        text = b"states: a\x1b[2K\r b\n"
+        lines = script.located(Source("F\nyes", text), script.refusal_of("model: M1 K1 in item 1 at byte 9")).splitlines()
+        self.assertEqual([lines[0].partition(": ")[0], *lines[1:3]], ["F\\nyes:1:10", "    states: a?[2K? b", "             ^"])
 
     def test_letters_outside_of_ascii(self) -> None:
         text = "# Zürich\nstates: ä b\n".encode()

@@ -3,7 +3,8 @@ import io
 import re
 
 from support import EXAMPLES, PROGRAM, TOP, FolderTest, Said, load_file, polcert, run_script
-from polcert_files import FileError, Graph, Source, read_graph, read_model, read_source, read_vectors
+from polcert_command import read_source
+from polcert_files import FileError, Graph, Source, read_graph, read_model, read_vectors
 from polcert_policies import Solved, read_solved
 
 RECIPES = EXAMPLES / "recipes"

@@ -4,7 +4,7 @@ import os
 import shutil
 import unittest
 
-from support import EXAMPLES, PROGRAM, FolderTest, needs_program, run_script
+from support import EXAMPLES, PROGRAM, SCRIPTS, FolderTest, needs_program, run_file, run_script
 
 TIGER = [str(EXAMPLES / name) for name in ("tiger.POMDP", "tiger.pg", "tiger.alpha")]
 
@@ -56,23 +56,20 @@ class Report(FolderTest):
         os.symlink(PROGRAM, self.folder / "polcert")
         bound = self.file("bound", b"0\n90 90\n1\n0 93\n2\n93 0\n")
         for script, status, expected in (
-            ("[ $1:$2:$3 = check:%s:%s ] && echo 'yes: every policy, at most 90'", 0, "yes: every policy, at most 90"),
+            (f"cmp $2 '{TIGER[0]}' && cmp $3 '{bound}' && echo 'yes: every policy, at most 90'", 0, "yes: every policy, at most 90"),
             ("echo 'no: action 0, state 0, exceeded by 1'; exit 1", 0, "no: action 0, state 0, exceeded by 1"),
             ("echo 'vectors: V6 at byte 4' >&2; exit 2", 2, "polcert_bound check: vectors: V6 at byte 4"),
+            ("exit 1", 2, "polcert_bound check: ended with status 1 and no answer"),
         ):
-            program = self.file("polcert_bound", f"#!/bin/sh\n{script.replace('%s:%s', f'{TIGER[0]}:{bound}')}\n".encode())
+            version = "[ $1 = --version ] && echo polcert_bound 1 && exit"
+            program = self.file("polcert_bound", f"#!/bin/sh\n{version}\n{script}\n".encode())
             os.chmod(program, 0o755)
             said = run_script("polcert-report", *TIGER, "--program", str(self.folder / "polcert"), "--bound", bound)
             self.assertEqual(said.status, status, said.err)
             self.assertIn(expected, said.err if status else said.out.decode())
             self.assertEqual(b"\n## Every policy\n" in said.out, status == 0)
             self.assertEqual(f"| `{bound}` | `".encode() in said.out, status == 0)
-
-    def test_an_unproved_build(self) -> None:
-        program = shutil.copy(PROGRAM, self.folder / "polcert-unproved")
-        os.symlink(program, self.folder / "polcert")
-        said = run_script("polcert-report", *TIGER, "--program", str(self.folder / "polcert"))
-        self.assertIn(", an unproved build to try things with: write the report again with a proved one.\n", said.out.decode())
+            self.assertEqual(b"\nChecked by polcert_bound 1 (SHA-256 `" in said.out, status == 0)
 
     def test_refused_files(self) -> None:
         for at in range(3):
@@ -86,6 +83,72 @@ class Report(FolderTest):
         said = run_script("polcert-report", *TIGER, "--program", str(self.folder / "none"))
         self.assertEqual((said.status, said.out), (2, b""))
         self.assertIn("No such file", said.err)
+
+
+@needs_program
+class Forgeries(FolderTest):
+    """What a report says of files and programs whose names or bytes mislead."""
+
+    def program(self, text: str) -> str:
+        """A program that does something before it runs polcert."""
+        name = self.file("program", f'#!/bin/sh\n{text}\nexec \'{PROGRAM}\' "$@"\n'.encode())
+        os.chmod(name, 0o755)
+        return name
+
+    def test_names(self) -> None:
+        forged = "| `x` |\nyes: start node 0, at least 99\n\\"
+        with open(TIGER[0], "rb") as file:
+            model = os.fsencode(self.folder / "m") + forged.encode() + b"\xff"
+            with open(model, "wb") as copy:
+                copy.write(file.read())
+        said = run_script("polcert-report", os.fsdecode(model), *TIGER[1:], "--program", PROGRAM)
+        self.assertEqual((said.status, said.err), (0, ""))
+        cell = "m\\x7c \\x60x\\x60 \\x7c\\nyes: start node 0, at least 99\\n\\x5c\\xff"
+        self.assertEqual(said.out.decode().splitlines()[4].split(" | ")[0], f"| `{self.folder}/{cell}`")
+        self.assertNotIn(b"\nyes", said.out)
+
+    def test_files_that_change(self) -> None:
+        model = self.file("model", b"")
+        self.program(f"cat '{TIGER[1]}' > '{model}'")
+        with open(TIGER[0], "rb") as file, open(model, "wb") as copy:
+            copy.write(file.read())
+        said = run_script("polcert-report", model, *TIGER[1:], "--program", str(self.folder / "program"))
+        expected = run_script("polcert-report", *TIGER, "--program", PROGRAM)
+        self.assertEqual((said.status, said.err), (0, ""))
+        unlike = [(one, two) for one, two in zip(said.out.splitlines(), expected.out.splitlines()) if one != two]
+        self.assertEqual([one.split()[0] for one, _ in unlike], [b"|", b"Checked"])
+
+    def test_a_model_that_can_be_read_once(self) -> None:
+        with open(TIGER[0], "rb") as file:
+            text = file.read()
+        said = run_script("polcert-report", "/dev/stdin", *TIGER[1:], "--program", PROGRAM, given=text)
+        self.assertEqual((said.status, said.err), (0, ""))
+        self.assertIn(f"| `/dev/stdin` | `{hashlib.sha256(text).hexdigest()}` |\n".encode(), said.out)
+
+    def test_a_program_that_changes(self) -> None:
+        name = self.program("echo '#' >> \"$0\"")
+        said = run_script("polcert-report", *TIGER, "--program", name)
+        self.assertEqual((said.status, said.err), (2, f"polcert-report: {name}: the program changed while the report was written\n"))
+
+    def test_a_program_that_is_killed(self) -> None:
+        name = self.program("kill -9 $$")
+        said = run_script("polcert-report", *TIGER, "--program", name)
+        self.assertEqual((said.status, said.err), (2, f"polcert-report: {name} check: ended with status -9 and no answer\n"))
+
+    def test_a_proof_is_told_from_the_bytes(self) -> None:
+        scripts = shutil.copytree(SCRIPTS, self.folder / "polcert", ignore=shutil.ignore_patterns("tests", "__pycache__"))
+        program = shutil.copy(PROGRAM, self.folder / "polcert-unproved")
+        with open(program, "rb") as file:
+            found = hashlib.sha256(file.read()).hexdigest()
+        for record, proof in (
+            (None, "of which no proof is recorded here: write the report again with a proved one."),
+            (f"sources {found}\nprogram {'0' * 64}\n", "of which no proof is recorded here: write the report again with a proved one."),
+            (f"sources {'0' * 64}\nprogram {found}\n", "proved."),
+        ):
+            if record:
+                (scripts / "proved").write_text(record)
+            said = run_file(scripts / "polcert-report", *TIGER, "--program", program)
+            self.assertRegex(said.out.decode(), rf"\nChecked by polcert \S+ \(SHA-256 `{found}`\), {proof}\n")
 
 
 if __name__ == "__main__":
