@@ -12,7 +12,7 @@ TESTS = pathlib.Path(__file__).resolve().parent
 TOP = TESTS.parent
 EXAMPLES = TOP / 'examples'
 SECONDS = 120  # that a run may take
-sys.path.insert(0, str(TOP / 'scripts'))
+sys.path[:0] = [str(TOP / 'scripts'), str(TOP / 'scripts/tests')]
 
 
 class Cases:
@@ -58,6 +58,12 @@ def run(words, **options):
 def named_program():
     """The program that the command line names first."""
     return os.path.abspath(sys.argv[1])  # not resolved: what stands beside the program may be links
+
+
+def both_programs(program):
+    """polcert as it is named, and polcert_bound, which stands beside it or in its crate."""
+    bound = pathlib.Path(program).with_name('polcert_bound')
+    return {'polcert': program, 'polcert_bound': str(bound if bound.exists() else TOP / 'crates/polcert_bound/out/polcert_bound')}
 
 
 def shell_with(programs, room, *folders):

@@ -1,0 +1,133 @@
+"""What both programs print of accepted texts, a second time: in exact fractions, straight from the definitions in crates/*/specs.
+
+The cells are those that scripts/polcert_files.py reads, values and rewards are in millionths, and a pair is a node and a state (of
+polcert_bound: an action and a state).
+"""
+from fractions import Fraction
+from math import ceil, floor
+from typing import Dict, Iterator, List, NamedTuple, Optional, Sequence, Tuple
+
+from runner import Ran
+from informed import Exact, Millionths, raised
+from polcert_files import Graph, Vector
+from polcert_tokens import MILLION, decimal
+
+Pair = Tuple[int, int]
+Gaps = Dict[Pair, Fraction]  # in the order of the pairs: how far each is from passing; 0 or less if it passes
+LARGEST = 10_000_000 * MILLION
+BELOW, ABOVE = 1, -1  # a bound from below is lowered, and one from above is raised
+
+
+class Controller(NamedTuple):
+    """A model and a policy graph."""
+
+    exact: Exact
+    graph: Graph
+
+    def steps(self) -> Iterator[Tuple[int, int, int, int, Fraction]]:
+        """Each step of positive probability: its node, state, end state, observation and probability."""
+        seen = self.exact.seen()
+        for node, action in enumerate(self.graph.actions):
+            for (a, state, end), p in self.exact.t.items():
+                if a == action:
+                    yield from ((node, state, end, z, p * q) for z, q in seen[action, end])
+
+    def lacks(self) -> List[Tuple[int, int, int]]:
+        """Each node, state and observation that can come and has no successor."""
+        return sorted({(n, s, z) for n, s, _, z, _ in self.steps() if self.graph.successors[n][z] is None})
+
+    def backing(self, values: Sequence[Millionths]) -> Dict[Pair, Fraction]:
+        """The expected reward and discounted value of one step from each pair, over the observations that have a successor."""
+        backing = {(n, s): Fraction(0) for n in range(len(self.graph.actions)) for s in range(self.exact.states)}
+        for n, s, e, z, weight in self.steps():
+            after = self.graph.successors[n][z]
+            if after is not None:
+                reward = self.exact.r.get((self.graph.actions[n], s, e, z), 0) * MILLION
+                backing[n, s] += weight * (reward + self.exact.discount * values[after][e])
+        return backing
+
+    def gaps(self, values: Sequence[Millionths], side: int) -> Gaps:
+        """By how much each pair is short, from below, or long, from above."""
+        return {(n, s): side * (values[n][s] - worth) for (n, s), worth in self.backing(values).items()}
+
+
+def rounded_values(vectors: Sequence[Vector], side: int) -> List[Millionths]:
+    """The values as they are read: rounded down for a bound from below, and up for one from above."""
+    return [[(floor if side == BELOW else ceil)(value * MILLION) for value in vector.values] for vector in vectors]
+
+
+def first_failing(gaps: Gaps) -> Optional[Pair]:
+    return next((pair for pair, gap in gaps.items() if gap > 0), None)
+
+
+def least_constant(gaps: Gaps, discount: Fraction) -> Optional[int]:
+    """The least constant by which moved values pass: each gap becomes less by the constant times 1 - discount."""
+    most = max(gaps.values())
+    if most <= 0:
+        return 0
+    return ceil(most / (1 - discount)) if discount < 1 else None
+
+
+def answer(status: int, line: str) -> Ran:
+    return Ran(status, f'{line}\n'.encode(), b'')
+
+
+def refusal(line: str) -> Ran:
+    return Ran(1, b'', f'{line}\n'.encode())
+
+
+def move(gaps: Gaps, values: Sequence[Millionths], actions: Sequence[int], discount: Fraction, side: int, pair: str) -> Ran:
+    """The answer of `lower` and `raise`: the moved vectors in full form and the constant, or why there is none."""
+    word, code = ('lower', 'L') if side == BELOW else ('raise', 'U')
+    constant = least_constant(gaps, discount)
+    if constant is None:
+        return refusal(f'{word}: {code}1 at {pair} %d, state %d' % first_failing(gaps))
+    moved = raised(values, -side * constant)
+    if any(abs(value) > LARGEST for vector in moved for value in vector):
+        return refusal(f'{word}: {code}2')
+    text = ''.join(f'{action}\n{" ".join(map(decimal, vector))}\n\n' for action, vector in zip(actions, moved))
+    return Ran(0, text.encode(), f'{word.rstrip("e")}ed by {decimal(constant)}\n'.encode())
+
+
+def verdict(gaps: Gaps, lacks: Sequence[Tuple[int, int, int]], yes: str, side: int) -> Ran:
+    """The answer of `polcert check`: the first pair that fails, and of a pair that lacks successors the first lack."""
+    failing = first_failing(gaps)
+    if lacks and (failing is None or lacks[0][:2] <= failing):
+        return answer(1, 'no: node %d, state %d, observation %d has no successor' % lacks[0])
+    if failing is None:
+        return answer(0, yes)
+    amount = decimal(ceil(gaps[failing]))
+    return answer(1, f'no: node {failing[0]}, state {failing[1]}, {"short" if side == BELOW else "long"} by {amount}')
+
+
+def start_line(exact: Exact, values: Sequence[Millionths], side: int) -> str:
+    worth = [sum(weight * vector[state] for state, weight in exact.start.items()) for vector in values]
+    if side == ABOVE:
+        return f'yes: every start node, at most {decimal(ceil(max(worth)))}'
+    return f'yes: start node {worth.index(max(worth))}, at least {decimal(floor(max(worth)))}'
+
+
+def polcert_answers(exact: Exact, graph: Graph, vectors: Sequence[Vector]) -> Dict[str, Ran]:
+    """What polcert answers to each word."""
+    controller = Controller(exact, graph)
+    lacks, found = controller.lacks(), {}
+    for side, check, word, code in ((BELOW, 'check', 'lower', 'L3'), (ABOVE, 'check --at-most', 'raise', 'U3')):
+        values = rounded_values(vectors, side)
+        gaps = controller.gaps(values, side)
+        found[f'polcert {check}'] = verdict(gaps, lacks, start_line(exact, values, side), side)
+        lack = refusal(f'{word}: {code} at node %d, state %d, observation %d' % lacks[0]) if lacks else None
+        found[f'polcert {word}'] = lack or move(gaps, values, graph.actions, exact.discount, side, 'node')
+    return found
+
+
+def bound_answers(exact: Exact, vectors: Sequence[Vector]) -> Dict[str, Ran]:
+    """What polcert_bound answers to each word."""
+    values = rounded_values(vectors, ABOVE)
+    gaps = exact.excess(values)
+    failing = first_failing(gaps)
+    if failing is None:
+        check = answer(0, f'yes: every policy, at most {decimal(exact.most_at_start(values))}')
+    else:
+        check = answer(1, f'no: action {failing[0]}, state {failing[1]}, exceeded by {decimal(ceil(gaps[failing]))}')
+    moved = move(gaps, values, range(exact.actions), exact.discount, ABOVE, 'action')
+    return {'polcert_bound check': check, 'polcert_bound raise': moved}
