@@ -4,9 +4,7 @@ use polcert_bound_answer::{run_bound_check, run_bound_raise, status_of_bound_ver
 use polcert_lines::{RaisedLine, end_bound_run};
 use polcert_points_answer::{run_point_check, status_of_point_verdict};
 use polcert_terminal::every_policy::{Choice, FileNames, choose};
-use polcert_terminal::{
-    CheckProgress, DONE, print_clap_error, refuse_for_memory, refuse_words,
-};
+use polcert_terminal::{CheckProgress, DONE, print_clap_error, refuse_for_memory, refuse_words};
 use polcert_text::{ReaderSource, WriterSink};
 use std::alloc::AllocError;
 use std::rt::{Env, Files};

@@ -172,11 +172,7 @@ struct NodesDone {
 
 impl fmt::Display for NodesDone {
     fn fmt<W: fmt::Write>(&self, f: &mut fmt::Formatter<W>) -> fmt::Result {
-        write!(
-            f,
-            "{} of {} {}",
-            self.nodes.done, self.nodes.all, self.noun
-        )?;
+        write!(f, "{} of {} {}", self.nodes.done, self.nodes.all, self.noun)?;
         match self.states {
             Some(states) => write!(f, ", {} of {} states", states.done, states.all),
             None => Ok(()),

@@ -67,10 +67,7 @@ fn read_from(
 
 const ACCEPTED: &[(&[u8], Option<Last>)] = &[
     (b"# none\n", None),
-    (
-        POINTS,
-        Some(([1_000_000, 0], 2_000_000, [NONE, 0], 2)),
-    ),
+    (POINTS, Some(([1_000_000, 0], 2_000_000, [NONE, 0], 2))),
     (
         b"0 .8500009 .1499999 -.0000011 0 -",
         Some(([850_000, 149_999], -1, [0, NONE], 1)),
