@@ -14,6 +14,7 @@ mod controller_words;
 mod every_policy_words;
 mod fake_terminal;
 mod lines;
+mod points;
 mod progress;
 mod runs;
 mod shown_progress;

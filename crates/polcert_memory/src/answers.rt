@@ -9,7 +9,7 @@ use polcert_answer::{
 };
 use polcert_check::{AboveVerdict, LowerFault, RaiseFault, Verdict};
 use polcert_model::ModelFault;
-use polcert_policy::{GraphFault, VectorFault};
+use polcert_policy::{GraphFault, PointFault, VectorFault};
 use polcert_testing::{ALWAYS_FIRST, LISTENING, MDP, TIGER, TIGER_FORM};
 use polcert_text::{SliceSink, SliceSource};
 use std::alloc::Global;
@@ -23,11 +23,11 @@ pub fn refused(fault: Fault) -> Ended {
         Fault::Model(fault) => Ended::memory(Want::Model, fault == ModelFault::Memory),
         Fault::Graph(fault) => Ended::memory(Want::Graph, fault == GraphFault::Memory),
         Fault::Vectors(fault) => Ended::memory(Want::Vectors, fault == VectorFault::Memory),
-        Fault::Points(_) => Ended::Wrong,
+        Fault::Points(fault) => Ended::memory(Want::Points, fault == PointFault::Memory),
     }
 }
 
-/// A run stopped; that is out of memory (for one of the three texts, for lowering or for raising), with the status of that and with
+/// A run stopped; that is out of memory (for one of the texts, for lowering or for raising), with the status of that and with
 /// nothing written.
 pub fn stopped(fault: RunFault, written: &[u8]) -> Ended {
     if status_of(&fault) != 4 || !written.is_empty() {

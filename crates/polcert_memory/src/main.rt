@@ -45,6 +45,8 @@ fn call(alloc: Global, name: &str) -> Option<Ended> {
         "answering_three_texts_from_above" => Some(answers::three_texts_from_above(alloc)),
         "answering_a_bound" => Some(bounds::two_texts(alloc)),
         "checking_a_bound" => Some(bounds::checking(alloc)),
+        "answering_points" => Some(bounds::points(alloc)),
+        "checking_points" => Some(bounds::checking_points(alloc)),
         "raising_a_bound" => Some(bounds::raising(alloc)),
         "summing_up" => Some(answers::summing_up(alloc)),
         "summing_up_an_mdp" => Some(answers::summing_up_an_mdp(alloc)),
