@@ -1,6 +1,6 @@
 """What both programs print of accepted texts, a second time: in exact fractions, straight from the definitions in crates/*/specs.
 
-The cells are those that scripts/polcert_files.py reads, values and rewards are in millionths, and a pair is a node and a state (of
+The cells are those that python/polcert/files.py reads, values and rewards are in millionths, and a pair is a node and a state (of
 polcert_bound: an action and a state).
 """
 from fractions import Fraction
@@ -9,8 +9,8 @@ from typing import Dict, Iterator, List, NamedTuple, Optional, Sequence, Tuple
 
 from runner import Ran
 from informed import Exact, Millionths, raised
-from polcert_files import Graph, Vector
-from polcert_tokens import MILLION, decimal
+from polcert.files import Graph, Vector
+from polcert.tokens import MILLION, decimal
 
 Pair = Tuple[int, int]
 Gaps = Dict[Pair, Fraction]  # in the order of the pairs: how far each is from passing; 0 or less if it passes

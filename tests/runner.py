@@ -12,7 +12,7 @@ TESTS = pathlib.Path(__file__).resolve().parent
 TOP = TESTS.parent
 EXAMPLES = TOP / 'examples'
 SECONDS = 120  # that a run may take
-sys.path[:0] = [str(TOP / 'scripts'), str(TOP / 'scripts/tests')]
+sys.path[:0] = [str(TOP / 'python'), str(TOP / 'python/tests')]
 
 
 class Cases:

@@ -1,0 +1,1 @@
+"""The commands, one in each module: `main` returns the exit status."""

@@ -1,0 +1,55 @@
+"""Computes one vector for each action: an upper bound on what any policy earns that sees the observations alone.
+
+    polcert-bound-vectors M.POMDP -o bound.alpha
+    polcert_bound raise M.POMDP bound.alpha > bound.raised.alpha
+    polcert_bound check M.POMDP bound.raised.alpha
+
+The bound is the fast informed bound: what the action earns at once and, for each observation, the discounted worth of the action that is
+best for all end states together. If T and O have more than 5,000,000 products above 0, it is the bound of a policy that sees the states,
+which is less sharp. It is computed in floating point and rounded up to six decimals. So some values may be a little too low: raise them.
+"""
+import argparse
+from math import inf
+
+from polcert.command import Parser, read_source, refuse_overwriting, say, write
+from polcert.files import read_model
+from polcert.informed import ROUNDS, TOLERANCE, bound, refuse_discount_of_1
+from polcert.values import Steps, vectors_text
+
+
+def positive(word: str) -> float:
+    """The argument of --tolerance."""
+    value = float(word)
+    if not 0 < value < inf:
+        raise argparse.ArgumentTypeError(f"{word} is not above 0")
+    return value
+
+
+def count(word: str) -> int:
+    """The argument of --rounds."""
+    value = int(word)
+    if value < 1:
+        raise argparse.ArgumentTypeError(f"{word} is not at least 1")
+    return value
+
+
+def arguments() -> argparse.Namespace:
+    parser = Parser("polcert-bound-vectors", __doc__)
+    parser.add_argument("model", metavar="MODEL", help="a model (.POMDP) with a discount below 1")
+    parser.add_argument("-o", "--output", metavar="FILE", help="write the vectors there, and not to standard output")
+    near = f"how near the iteration comes to its limit; default {TOLERANCE}"
+    parser.add_argument("--tolerance", metavar="X", type=positive, default=TOLERANCE, help=near)
+    parser.add_argument("--rounds", metavar="N", type=count, default=ROUNDS, help=f"the most rounds of each iteration; default {ROUNDS:,}")
+    return parser.parse_args()
+
+
+def main() -> int:
+    words = arguments()
+    refuse_overwriting([words.model], [words.output])
+    model = read_model(read_source(words.model))
+    refuse_discount_of_1(model)
+    vectors, above = bound(Steps(model), words.tolerance, words.rounds)
+    write(vectors_text(range(len(vectors)), vectors), words.output)
+    if above > words.tolerance:
+        say(f"polcert-bound-vectors: stopped early, so that values may be {above:.6f} higher than they have to be")
+    return 0

@@ -1,0 +1,420 @@
+"""Makes a model that polcert refuses for its rounding (M2 N4, M17, M18) exact, and says how far that can move any value.
+
+The text stays as it is, comments too, except for this: numbers with more than six decimals are rounded, cells of rows that do not sum to
+one are written again after the text (of entries for a cell the last one holds), and the numbers of a start that does not sum to one are
+replaced. Each change is named on standard error, and a bound on how far any value moves. A model that polcert accepts stays as it is.
+"""
+import argparse
+from dataclasses import dataclass, field
+from fractions import Fraction
+from typing import Dict, Iterable, List, NamedTuple, Optional, Sequence, Set, Tuple
+
+from polcert.files import MILLION, Entry, FileError, Model, Numbers, Source, Table, is_millionths, place_of_row, read_model
+from polcert.command import Parser, Refusal, read_source, refuse_overwriting, say, write
+from polcert.tokens import NumberFault, decimal, exact_value, written_decimals
+
+HEAD = "# Rows that did not sum to one, mended by polcert-mend:"
+HALF = Fraction(1, 2)
+# A number with fewer decimals is taken as it stands: 0.5 is not a rounded 0.54.
+FEWEST_DECIMALS = 3
+# Of the cells of a row that change, so many are named.
+MOST_NAMED = 4
+
+
+# What a row becomes: its cells that change, in millionths; nothing if it becomes `uniform`.
+RowChange = Tuple[Tuple[int, int], ...]
+UNIFORM: RowChange = ()
+# An action and a row, each None for all of them.
+Pattern = Tuple[Optional[int], Optional[int]]
+
+
+class Edit(NamedTuple):
+    """The bytes from `begin` up to `end` become other bytes."""
+
+    begin: int
+    end: int
+    new: bytes
+
+
+class Cell(NamedTuple):
+    """A cell of a row above 0, in millionths: its value, how far off it may be for the rounding of its text, and what it counts as."""
+
+    column: int
+    value: Fraction
+    rounding: Fraction
+    near: Fraction
+
+
+@dataclass
+class Mend:
+    """The changes of a model, and how far they move it: by total variation for a row of T or O and the start, by size for a reward."""
+
+    edits: List[Edit] = field(default_factory=list)
+    entries: List[str] = field(default_factory=list)
+    lines: List[Tuple[int, str]] = field(default_factory=list)
+    numbers: int = 0
+    rows: int = 0
+    start: int = 0
+    moved: Dict[str, Fraction] = field(default_factory=lambda: dict.fromkeys(("T", "O", "start", "R"), Fraction(0)))
+
+    def move(self, table: str, distance: Fraction) -> None:
+        self.moved[table] = max(self.moved[table], distance)
+
+
+def cell_of(column: int, value: Fraction, numeral: bytes) -> Cell:
+    """A cell that was written as a numeral. Its text may stand for any number that rounds to it."""
+    decimals = written_decimals(numeral)
+    rounding = HALF * Fraction(MILLION, 10 ** min(decimals, 6)) if decimals >= FEWEST_DECIMALS else Fraction(0)
+    return Cell(column, value * MILLION, rounding, Fraction(round(value * MILLION)))
+
+
+def shared(cells: Sequence[Cell], within: Fraction) -> Optional[List[int]]:
+    """Whole millionths near the cells that sum to 1,000,000, or None if a cell would move too far.
+
+    What is missing is shared in proportion to the rounding of each cell or, if that is not enough, to all that it may move. What is
+    left after rounding down goes to the largest remainders.
+    """
+    near = [round(cell.near) for cell in cells]
+    lack = MILLION - sum(near)
+    shares: List[Fraction] = []
+    for more in (Fraction(0), within):
+        shares = [cell.rounding + more for cell in cells]
+        if lack < 0:
+            shares = [min(share, Fraction(part - 1)) for share, part in zip(shares, near)]
+        if abs(lack) <= sum(shares):
+            break
+    total = sum(shares)
+    if abs(lack) > total:
+        return None
+    exact = [part + (lack * share / total if lack else 0) for part, share in zip(near, shares)]
+    parts = [int(part) for part in exact]
+    order = sorted(range(len(parts)), key=lambda i: (parts[i] - exact[i], -near[i], -i))
+    for i in order[: MILLION - sum(parts)]:
+        parts[i] += 1
+    return parts if all(is_near(part, cell, within) for part, cell in zip(parts, cells)) else None
+
+
+def is_near(part: Fraction, cell: Cell, within: Fraction) -> bool:
+    """Whether a cell may become this, in millionths."""
+    return abs(part - cell.value) <= cell.rounding + within
+
+
+def distance(parts: Iterable[Fraction], cells: Sequence[Cell]) -> Fraction:
+    """Total variation between a mended row and the written one divided by its sum."""
+    total = sum(cell.value for cell in cells)
+    return sum((abs(part / MILLION - cell.value / total) for part, cell in zip(parts, cells)), Fraction(0)) / 2
+
+
+def patterns(rows: Set[Tuple[int, int]], table: Table) -> List[Pattern]:
+    """The same rows of a table with as many `*` as there can be."""
+    found: List[Pattern] = []
+    left = set(rows)
+    if len(left) == table.actions * table.rows > 1:
+        return [(None, None)]
+    for action in range(table.actions):
+        if table.rows > 1 and all((action, row) in left for row in range(table.rows)):
+            found.append((action, None))
+            left.difference_update((action, row) for row in range(table.rows))
+    for row in sorted({row for _, row in left}):
+        if table.actions > 1 and all((action, row) in left for action in range(table.actions)):
+            found.append((None, row))
+            left.difference_update((action, row) for action in range(table.actions))
+    return found + sorted(left)
+
+
+def covers(pattern: Pattern, row: Tuple[int, int]) -> bool:
+    return all(place in (None, number) for place, number in zip(pattern, row))
+
+
+class Mender:
+    """Finds the changes of one model. Amounts are in millionths."""
+
+    def __init__(self, model: Model, within: Fraction) -> None:
+        self.model, self.source, self.within = model, model.source, within * MILLION
+        self.mend = Mend()
+
+    def run(self) -> Mend:
+        """Returns the changes. Raises FileError if something is not to be mended."""
+        self.refuse_discount()
+        if self.model.start.kind == "numbers":
+            self.mend_start()
+        for table in self.model.tables():
+            self.mend_table(table)
+        for entry in self.model.entries:
+            self.round_numbers(entry)
+        return self.mend
+
+    def say(self, byte: int, change: str) -> None:
+        self.mend.lines.append((byte, change))
+
+    def numeral(self, numbers: Numbers, i: int) -> bytes:
+        return self.source.text[numbers.numerals[i] : numbers.ends[i]]
+
+    def refuse_discount(self) -> None:
+        token = self.model.discount_token
+        if not is_millionths(self.model.discount):
+            why = "has more than six decimals, and another discount is another problem: write the one you mean"
+            raise FileError(self.source, "", token.begin, f"the discount {token.shown()} {why}")
+
+    def refuse_sum(self, byte: int, name: str, total: Fraction) -> FileError:
+        allowed = decimal_up(self.within / MILLION)
+        why = f"mended, a number would move by more than {allowed} beyond its rounding (see --within)"
+        return FileError(self.source, "", byte, f"{name} sums to {shown(total / MILLION)}: {why}")
+
+    # Numbers with more than six decimals
+
+    def round_numbers(self, entry: Entry) -> None:
+        for i, value in enumerate(entry.numbers.values):
+            if not is_millionths(value):
+                self.write_number(entry.numbers, i, round(value * MILLION))
+                if entry.table == "R":
+                    self.mend.move("R", abs(Fraction(round(value * MILLION), MILLION) - value))
+
+    def write_number(self, numbers: Numbers, i: int, millionths: int) -> None:
+        old, new = self.numeral(numbers, i), decimal(abs(millionths))
+        self.mend.edits.append(Edit(numbers.numerals[i], numbers.ends[i], new.encode()))
+        self.mend.numbers += 1
+        self.say(numbers.begins[i], f"{old.decode()} became {new}")
+
+    # Rows
+
+    def mend_table(self, table: Table) -> None:
+        changes: Dict[RowChange, Set[Tuple[int, int]]] = {}
+        right: Optional[Dict[int, Fraction]] = None
+        for action in range(table.actions):
+            for row, cells in table.row_from_all(action):
+                visible = table.visible(action, row)
+                if cells is right or len(visible) == 1 and visible[0].word:
+                    continue
+                is_right = sum(cells.values()) == 1 and all(map(is_millionths, cells.values()))
+                if is_right or not self.mend_row(table, action, row, changes):
+                    right = cells
+        for change, rows in changes.items():
+            for pattern in patterns(rows, table):
+                self.write_entries(table, pattern, change, min(row for row in rows if covers(pattern, row)))
+
+    def mend_row(self, table: Table, action: int, row: int, changes: Dict[RowChange, Set[Tuple[int, int]]]) -> bool:
+        """Adds what a row becomes to the changes. False if its numbers need no more than six decimals."""
+        cells = self.cells(table, action, row)
+        if not cells:
+            byte = place_of_row(self.model, table, action, row)
+            raise FileError(self.source, "", byte, f"the row `{self.label(table, (action, row))}` is not given, or all of it is 0")
+        if sum(cell.near for cell in cells) == MILLION:
+            self.mend.move(table.letter, distance((cell.near for cell in cells), cells))
+            return False
+        parts = self.mended(table, action, row, cells)
+        changed = tuple((cell.column, int(part)) for cell, part in zip(cells, parts) if part != cell.near)
+        is_uniform = any(part.denominator > 1 for part in parts) or len(parts) == table.columns and len(set(parts)) == 1
+        changes.setdefault(UNIFORM if is_uniform else changed, set()).add((action, row))
+        self.mend.move(table.letter, distance(parts, cells))
+        self.mend.rows += 1
+        return True
+
+    def cells(self, table: Table, action: int, row: int) -> List[Cell]:
+        """The cells of a row above 0. One that `uniform` gives stays one part in the number of columns if that is possible."""
+        cells = []
+        for column, (entry, i) in sorted(table.origins(action, row).items()):
+            if i is None:
+                value = MILLION * (Fraction(1, table.columns) if entry.word == "uniform" else Fraction(1))
+                cells.append(Cell(column, value, HALF, value))
+            elif entry.numbers.values[i] > 0:
+                cells.append(cell_of(column, entry.numbers.values[i], self.numeral(entry.numbers, i)))
+        return cells
+
+    def mended(self, table: Table, action: int, row: int, cells: Sequence[Cell]) -> List[Fraction]:
+        """What the cells of a row become."""
+        if len(cells) == table.columns and len({cell.value for cell in cells}) == 1:
+            part = Fraction(MILLION, table.columns)
+            if all(is_near(part, cell, self.within) for cell in cells):
+                return [part] * len(cells)
+        live = [cell for cell in cells if cell.near > 0]
+        parts = shared(live, self.within)
+        if parts is None:
+            byte = place_of_row(self.model, table, action, row)
+            raise self.refuse_sum(byte, f"the row `{self.label(table, (action, row))}`", sum(cell.value for cell in cells))
+        part_of = dict(zip((cell.column for cell in live), parts))
+        return [Fraction(part_of.get(cell.column, 0)) for cell in cells]
+
+    def label(self, table: Table, pattern: Pattern) -> str:
+        """A row as an entry writes it: `T: listen : tiger-left`."""
+        action, row = pattern
+        names = "*" if action is None else self.model.actions.label(action), "*" if row is None else self.model.states.label(row)
+        return f"{table.letter}: {names[0]} : {names[1]}"
+
+    def write_entries(self, table: Table, pattern: Pattern, change: RowChange, first: Tuple[int, int]) -> None:
+        """Adds the entries of mended rows, and says what they change. `first` is one of the rows."""
+        label, cells = self.label(table, pattern), self.cells(table, *first)
+        columns = self.model.states if table.letter == "T" else self.model.observations
+        total = shown(sum(cell.value for cell in cells) / MILLION)
+        if change is UNIFORM:
+            self.mend.entries.append(f"{label} uniform")
+            became = "became `uniform`"
+        else:
+            self.mend.entries += [f"{label} : {columns.label(column)} {decimal(part)}" for column, part in change]
+            near_of = {cell.column: shown(cell.near / MILLION) for cell in cells}
+            named = change[:MOST_NAMED]
+            became = ", ".join(f"{columns.label(column)} {near_of[column]} became {decimal(part)}" for column, part in named)
+            became += f", and {len(change) - MOST_NAMED} more" if len(change) > MOST_NAMED else ""
+        self.say(place_of_row(self.model, table, *first), f"{label} summed to {total}: {became}")
+
+    # The start
+
+    def mend_start(self) -> None:
+        numbers = self.model.start.numbers
+        cells = [cell_of(i, value, self.numeral(numbers, i)) for i, value in enumerate(numbers.values) if value > 0]
+        if sum(numbers.values) == 1 and all(map(is_millionths, numbers.values)):
+            return
+        part = Fraction(MILLION, len(cells) or 1)
+        if cells and len({cell.value for cell in cells}) == 1 and all(is_near(part, cell, self.within) for cell in cells):
+            self.list_start_states(numbers, [cell.column for cell in cells])
+            parts = [part] * len(cells)
+        else:
+            parts = self.write_start_numbers(numbers, cells)
+        self.mend.move("start", distance(parts, cells))
+        self.mend.start = 1
+
+    def list_start_states(self, numbers: Numbers, states: List[int]) -> None:
+        """Puts `start include:` and numbers of states in place of equal probabilities, or `start: uniform`."""
+        begin, is_uniform = self.model.start.begin, len(states) == self.model.states.count
+        new = {state: str(state).encode() for state in states}
+        if is_uniform:
+            new = {0: b"uniform"}
+        else:
+            self.mend.edits.append(Edit(begin, begin + len(b"start"), b"start include"))
+        for i, place in enumerate(numbers.numerals):
+            if numbers.begins[i] < place:
+                self.mend.edits.append(Edit(numbers.begins[i], numbers.begins[i] + 1, b" "))
+            self.mend.edits.append(Edit(place, numbers.ends[i], new.get(i, b"")))
+        total = shown(sum(numbers.values))
+        self.say(begin, f"the start summed to {total}: its equal parts became `start{': uniform' if is_uniform else ' include:'}`")
+
+    def write_start_numbers(self, numbers: Numbers, cells: Sequence[Cell]) -> List[Fraction]:
+        live = [cell for cell in cells if cell.near > 0]
+        parts = shared(live, self.within)
+        if parts is None:
+            raise self.refuse_sum(self.model.start.begin, "the start", sum(cell.value for cell in cells))
+        part_of = dict(zip((cell.column for cell in live), parts))
+        for i, value in enumerate(numbers.values):
+            if part_of.get(i, 0) != value * MILLION:
+                self.write_number(numbers, i, part_of.get(i, 0))
+        return [Fraction(part_of.get(cell.column, 0)) for cell in cells]
+
+
+# Bounds
+
+
+def reward_span(model: Model) -> Fraction:
+    """The largest reward less the smallest, of all numbers that are written, and of 0 where a cell may have none."""
+    rewards = [entry for entry in model.entries if entry.table == "R"]
+    values = [value for entry in rewards for value in (min(entry.numbers.values), max(entry.numbers.values))]
+    if not any(entry.places.count(None) == len(entry.places) for entry in rewards):
+        values.append(Fraction(0))
+    return max(values) - min(values)
+
+
+def bound(model: Model, moved: Dict[str, Fraction]) -> str:
+    """How far the mend can move a value (the letters are those of docs/MEND.md).
+
+    Take any policy, even one that remembers everything it saw, and any state. Let V(k) and V'(k) be the expected discounted rewards of its
+    next k steps in the model as written and as mended, after the same observations. With the probabilities q and rewards r of the end states
+    and observations as written, and q' and r' as mended,
+
+        V'(k) - V(k)  =  sum of q' * (r' - r + g * (V'(k-1) - V(k-1)))  +  sum of (q' - q) * (r + g * V(k-1))
+
+    The first sum is at most e plus g times the largest difference for k - 1 steps. In the second, q and q' both sum to one, so it is at most
+    their total variation, which is at most d, times the span of the factor after them, which is at most h + g * h * (1 - g^(k-1)) / (1 - g) =
+    h * (1 - g^k) / (1 - g). So the largest difference D(k) for k steps obeys D(k) <= g * D(k-1) + e + d * h / (1 - g), and D(0) = 0.
+    """
+    span, rows, reward, start = reward_span(model), moved["T"] + moved["O"], moved["R"], moved["start"]
+    if model.discount == 1:
+        steps = f"{decimal_up(reward + start * span)} k + {decimal_up(rows * span / 2)} k (k + 1)"
+        return f"the discount is 1: no value of k steps moves by more than {steps}"
+    left = 1 - model.discount
+    from_state = reward / left + rows * span / left**2
+    from_start = from_state + start * span / left
+    line = f"no value moves by more than {decimal_up(from_state)}"
+    return f"{line}, and from the start by no more than {decimal_up(from_start)}" if start else line
+
+
+def shown(value: Fraction) -> str:
+    """A value for a message: nine digits."""
+    return f"{float(value):.9g}"
+
+
+def decimal_up(value: Fraction) -> str:
+    """A value from 0 on with three digits, rounded up."""
+    places = 0
+    while 0 < value * 10**places < 100 and places < 400:
+        places += 1
+    digits = -(-value * 10**places // 1)
+    whole, rest = divmod(int(digits), 10**places)
+    return f"{whole:,}.{rest:0{places}}".rstrip("0").rstrip(".") if places else f"{whole:,}"
+
+
+# The text
+
+
+def mended_text(source: Source, mend: Mend) -> bytes:
+    """The text with its edits, and the new entries after it."""
+    pieces, at = [], 0
+    for edit in sorted(mend.edits):
+        pieces += [source.text[at : edit.begin], edit.new]
+        at = edit.end
+    pieces.append(source.text[at:])
+    text = b"".join(pieces)
+    if mend.entries:
+        gap = b"" if text.endswith(b"\n") else b"\n"
+        text += gap + "\n".join(["", HEAD, *mend.entries, ""]).encode()
+    return text
+
+
+def report(model: Model, mend: Mend, is_quiet: bool) -> None:
+    """Says each change, and how far values move."""
+    source = model.source
+    for byte, change in [] if is_quiet else sorted(mend.lines):
+        say(f"{source.name}:{source.position(byte)[0]}: {change}")
+    if not mend.lines:
+        say(f"{source.name}: nothing to mend")
+        return
+    parts = [count(mend.numbers, "number rewritten", "numbers rewritten"), count(mend.rows, "row mended", "rows mended")]
+    say(f"{source.name}: {', '.join(parts + ['the start mended'] * mend.start)}")
+    say(f"{source.name}: {bound(model, mend.moved)}")
+
+
+def count(number: int, one: str, many: str) -> str:
+    return f"{number:,} {one if number == 1 else many}"
+
+
+def amount(word: str) -> Fraction:
+    """The argument of --within."""
+    try:
+        value = exact_value(word.encode())
+    except (NumberFault, AttributeError, ValueError):
+        raise argparse.ArgumentTypeError(f"{word} is no number from 0 on") from None
+    return value
+
+
+def arguments() -> argparse.Namespace:
+    parser = Parser("polcert-mend", __doc__)
+    parser.add_argument("model", metavar="MODEL", help="a model (.POMDP) whose rows may not sum to one")
+    parser.add_argument("-o", "--output", metavar="FILE", help="write the mended model there, and not to standard output")
+    parser.add_argument("-q", "--quiet", action="store_true", help="say only how many changes there are, and the bound")
+    parser.add_argument("--within", metavar="X", type=amount, default=amount("0.00001"), help="the most that a probability may move, "
+                        "beyond half a unit of its last written decimal (the third or a later one); default 0.00001")
+    return parser.parse_args()
+
+
+def main() -> int:
+    words = arguments()
+    refuse_overwriting([words.model], [words.output])
+    source = read_source(words.model)
+    model = read_model(source, tolerant=True)
+    mend = Mender(model, words.within).run()
+    text = mended_text(source, mend)
+    try:
+        read_model(Source("the mended text", text))
+    except FileError as fault:
+        raise Refusal(f"{source.name}: not mended, as polcert would still refuse {fault}") from None
+    report(model, mend, words.quiet)
+    write(text, words.output)
+    return 0

@@ -1,0 +1,303 @@
+"""Policies as solvers write them: lists of vectors, SARSOP's `.policy` files, the tables of R's `pomdp`, the policies of AI-Toolbox, and an
+action for each state of an MDP."""
+import re
+from collections import deque
+from itertools import islice
+from math import isfinite
+from typing import Deque, Dict, Iterator, List, NamedTuple, Optional, Sequence, Tuple, Union
+from xml.parsers import expat
+
+from polcert.files import END, NAME, NUMERAL, Cursor, FileError, Graph, Model, Source, read_vectors
+from polcert.tables import Elements
+from polcert.tokens import quoted, whole_number
+
+_NUMBER = re.compile(r"[+-]?(?:[0-9]+\.?[0-9]*|\.[0-9]+)(?:[eE][+-]?[0-9]+)?")
+_STEP_END = re.compile(rb"^[ \t]*@[ \t\r]*$", re.M)
+_STEP_WORD = re.compile(rb"[^\s@]+")
+_TABLE_WORD = re.compile(rb'"([^"\r\n]*)"|([^\s,"]+)')
+_WORD = re.compile(r"\S+")
+_LIST_MARK = re.compile(r"\[\[[0-9]+\]\]")
+# The bytes of a text from the first one up to the second.
+Span = Tuple[int, int]
+# Elements of XML are nested in no more than so many others.
+_MOST_DEPTH = 100
+# What R and pomdp-solve write for a successor that is missing.
+_NO_NODE = ("NA", "-", "X")
+
+
+class Solved(NamedTuple):
+    """A vector of a solver: an action, and a number for each state."""
+
+    action: int
+    values: List[float]
+
+
+class Word(NamedTuple):
+    """A word of a text and its first byte."""
+
+    begin: int
+    text: str
+
+
+def is_xml(source: Source) -> bool:
+    return source.text.lstrip(b"\xef\xbb\xbf \t\r\n").startswith(b"<")
+
+
+def read_solved(source: Source, model: Model) -> Union[Graph, List[Solved]]:
+    """What a solver wrote: a graph, if the text is a table of nodes, else vectors. Raises FileError; never answers no vector at all."""
+    if is_xml(source):
+        return _PolicyReader(source, model).read()
+    if _STEP_END.search(source.text):
+        return _StepsReader(source, model).read()
+    if is_table(source):
+        return _TableReader(source, model).read()
+    return [Solved(vector.action, [float(value) for value in vector.values]) for vector in read_vectors(source, model)]
+
+
+class _Reader:
+    """What the readers of policies share."""
+
+    def __init__(self, source: Source, model: Model) -> None:
+        self.source, self.model = source, model
+
+    def fault(self, byte: int, why: str) -> FileError:
+        return FileError(self.source, "", byte, why)
+
+    def whole(self, word: Word, count: int, kind: str) -> int:
+        number = whole_number(word.text)
+        if number is None or number >= count:
+            expected = f"the number of {'an' if kind[0] in 'ao' else 'a'} {kind} from 0 to {count - 1}"
+            raise self.fault(word.begin, f"expected {expected}, found {quoted(word.text)}")
+        return number
+
+    def number(self, word: Word) -> float:
+        if not _NUMBER.fullmatch(word.text) or not isfinite(float(word.text)):
+            raise self.fault(word.begin, f"expected a number, found {quoted(word.text)}")
+        return float(word.text)
+
+
+class _PolicyReader(_Reader):
+    """Reads the `<Vector>` and `<SparseVector>` elements of SARSOP's policy."""
+
+    def __init__(self, source: Source, model: Model) -> None:
+        super().__init__(source, model)
+        self.solved: List[Solved] = []
+        self.action: Optional[int] = None
+        self.sparse: Optional[List[float]] = None
+        self.text: List[str] = []
+        self.depth = 0
+        self.parser = expat.ParserCreate()
+        self.parser.buffer_text = True
+        self.parser.EntityDeclHandler = self.refuse_entity
+        self.parser.StartElementHandler = self.begin
+        self.parser.EndElementHandler = self.end
+        self.parser.CharacterDataHandler = self.text.append
+
+    @property
+    def byte(self) -> int:
+        return max(0, self.parser.CurrentByteIndex)
+
+    def read(self) -> List[Solved]:
+        try:
+            self.parser.Parse(self.source.text, True)
+        except expat.ExpatError as fault:
+            byte, why = max(0, self.parser.ErrorByteIndex), expat.ErrorString(fault.code)
+            raise self.fault(byte, f"this is no XML: {why}") from None
+        except (LookupError, ValueError) as fault:
+            raise self.fault(self.byte, f"the encoding that this XML names is not read: {fault}") from None
+        if not self.solved:
+            raise self.fault(len(self.source.text), "expected a `<Vector>` or a `<SparseVector>` of a policy, found none")
+        return self.solved
+
+    def refuse_entity(self, name: str, *_: object) -> None:
+        raise self.fault(self.byte, f"no entity is read, and {quoted(name)} is declared here")
+
+    def begin(self, name: str, attributes: Dict[str, str]) -> None:
+        self.text.clear()
+        self.depth += 1
+        if self.depth > _MOST_DEPTH:
+            raise self.fault(self.byte, f"elements are nested more than {_MOST_DEPTH} deep, which no policy is")
+        if name in ("Vector", "SparseVector"):
+            self.action = self.whole(Word(self.byte, attributes.get("action", "nothing")), self.model.actions.count, "action")
+            if attributes.get("obsValue", "0") != "0":
+                raise self.fault(self.byte, "this policy is of mixed observability (obsValue): its vectors are not over all states")
+            self.sparse = [0.0] * self.model.states.count if name == "SparseVector" else None
+        elif name == "Entry" and self.sparse is None:
+            raise self.fault(self.byte, "an `<Entry>` stands outside of a `<SparseVector>`")
+
+    def end(self, name: str) -> None:
+        text, states = "".join(self.text), self.model.states.count
+        self.text.clear()
+        self.depth -= 1
+        if name == "Vector":
+            words = self.words(text, states, f"{states} numbers, one for each state of the model", "")
+            self.solved.append(Solved(self.action, [self.number(word) for word in words]))
+        elif name == "Entry":
+            state, number = self.words(text, 2, "a state and a number in an `<Entry>`", " words")
+            self.sparse[self.whole(state, states, "state")] = self.number(number)
+        elif name == "SparseVector":
+            self.solved.append(Solved(self.action, self.sparse))
+            self.sparse = None
+
+    def words(self, text: str, count: int, expected: str, unit: str) -> List[Word]:
+        """The words of an element, which have to be so many."""
+        found = sum(1 for _ in _WORD.finditer(text))
+        if found != count:
+            raise self.fault(self.byte, f"expected {expected}, found {found}{unit}")
+        return [Word(self.byte, word) for word in text.split()]
+
+
+class _StepsReader(_Reader):
+    """Reads the policy of AI-Toolbox: a list of vectors for each number of steps, the fewest first, with `@` after each list. A vector is a
+    number for each state, an action and, for each observation, the vector of the list before that follows."""
+
+    def read(self) -> List[Solved]:
+        """The vectors of the last list: those of the most steps."""
+        lists = self.last_lists()
+        if not lists:
+            raise self.fault(0, "expected vectors before the first `@`, found none")
+        states, observations = self.model.states.count, self.model.observations.count
+        width = states + 1 + observations
+        counts = [sum(1 for _ in self.words(span)) for span in lists]
+        words = self.words(lists[-1])
+        if counts[-1] % width:
+            parts = f"{states} numbers, an action and {observations} successors"
+            why = f"expected {parts} for each vector of the last list, which has {counts[-1]} words"
+            raise self.fault(next(words).begin, why)
+        nodes = max(1, counts[0] // width if len(lists) > 1 else 0)
+        return [self.vector(list(islice(words, width)), nodes) for _ in range(counts[-1] // width)]
+
+    def last_lists(self) -> Deque[Span]:
+        """Where the last two lists stand that have words."""
+        text, begin = self.source.text, 0
+        spans: Deque[Span] = deque(maxlen=2)
+        while begin < len(text):
+            end = text.find(b"@", begin)
+            end = len(text) if end < 0 else end
+            if _STEP_WORD.search(text, begin, end):
+                spans.append((begin, end))
+            begin = end + 1
+        return spans
+
+    def words(self, span: Span) -> Iterator[Word]:
+        """The words of a list."""
+        found = _STEP_WORD.finditer(self.source.text, *span)
+        return (Word(match.start(), match[0].decode(errors="replace")) for match in found)
+
+    def vector(self, words: Sequence[Word], nodes: int) -> Solved:
+        states = self.model.states.count
+        values = [self.number(word) for word in words[:states]]
+        action = self.whole(words[states], self.model.actions.count, "action")
+        for word in words[states + 1 :]:
+            self.whole(word, nodes, "vector of the list before")
+        return Solved(action, values)
+
+
+def table_lines(source: Source) -> Iterator[List[Word]]:
+    """The words of each line that is not empty, without quotation marks and without R's `[[1]]`."""
+    for line in re.finditer(rb"[^\r\n]+", source.text):
+        found = _TABLE_WORD.finditer(line[0])
+        words = [Word(line.start() + word.start(), (word[2] or word[1] or b"").decode(errors="replace")) for word in found]
+        if words and not _LIST_MARK.fullmatch(words[0].text):
+            yield words
+
+
+def is_table(source: Source) -> bool:
+    """Whether the first line names columns, and `action` is one of them."""
+    words = [word.text for word in next(table_lines(source), [])] if b"action" in source.text else []
+    return "action" in words and not words[0].startswith("#")
+
+
+class _TableReader(_Reader):
+    """Reads a data frame of R's `pomdp`: nodes (`node`, `action`, a column for each observation) or vectors (a column for each state,
+    `action`). The nodes are numbered from 1, and a number of the row may stand first."""
+
+    def __init__(self, source: Source, model: Model) -> None:
+        super().__init__(source, model)
+        self.columns = [word for word in next(table_lines(source)) if word.text]
+        self.count = sum(1 for _ in self.rows())
+        self.at_action = [word.text for word in self.columns].index("action")
+
+    def rows(self) -> Iterator[List[Word]]:
+        """The words of each row below the names of the columns."""
+        return islice(table_lines(self.source), 1, None)
+
+    def read(self) -> Union[Graph, List[Solved]]:
+        before, after = self.columns[: self.at_action], self.columns[self.at_action + 1 :]
+        if not self.count:
+            raise self.fault(len(self.source.text), "expected a row below the names of the columns, found the end of the text")
+        if [word.text for word in before] == ["node"]:
+            self.compare(after, self.model.observations)
+            return self.graph()
+        self.compare(before, self.model.states)
+        if after:
+            expected = "`action` as the last column after those of the states"
+            raise self.fault(after[0].begin, f"expected {expected}, found {quoted(after[0].text)}")
+        return [self.vector(self.cells(row)) for row in self.rows()]
+
+    def compare(self, words: Sequence[Word], elements: Elements) -> None:
+        """Refuses columns that are not those of the states or the observations. R may have made a point of each `-`."""
+        if len(words) != elements.count:
+            why = f"expected a column for each {elements.kind} of the model, which are {elements.count}, found {len(words)}"
+            raise self.fault(self.columns[self.at_action].begin, why)
+        for word, name in zip(words, elements.names or []):
+            if word.text not in (name, name.replace("-", ".")):
+                raise self.fault(word.begin, f"expected the column of {elements.kind} `{name}`, found {quoted(word.text)}")
+
+    def cells(self, row: Sequence[Word]) -> Sequence[Word]:
+        """The words of a row, without its number."""
+        width = len(self.columns)
+        if [word.text for word in row] == [word.text for word in self.columns]:
+            why = "a second table begins here: the graph of a finite horizon has one for each step, and is no controller that runs on"
+            raise self.fault(row[0].begin, why)
+        if len(row) not in (width, width + 1):
+            raise self.fault(row[0].begin, f"expected {width} words, one for each column, found {len(row)}")
+        return row[-width:]
+
+    def graph(self) -> Graph:
+        graph = Graph([], [])
+        for number, row in enumerate(self.rows(), 1):
+            node, action, *successors = self.cells(row)
+            if node.text != str(number):
+                raise self.fault(node.begin, f"expected node {number}, as nodes are numbered 1, 2, .. in order, found {quoted(node.text)}")
+            graph.actions.append(self.action(action))
+            graph.successors.append([self.successor(word) for word in successors])
+        return graph
+
+    def action(self, word: Word) -> int:
+        action = self.model.actions.index_of.get(word.text.encode())
+        if action is None:
+            raise self.fault(word.begin, f"expected the name of an action of the model, found {quoted(word.text)}")
+        return action
+
+    def successor(self, word: Word) -> Optional[int]:
+        if word.text in _NO_NODE:
+            return None
+        number = whole_number(word.text)
+        if number is None or not 1 <= number <= self.count:
+            raise self.fault(word.begin, f"expected a node from 1 to {self.count}, or `NA`, found {quoted(word.text)}")
+        return number - 1
+
+    def vector(self, cells: Sequence[Word]) -> Solved:
+        return Solved(self.action(cells[-1]), [self.number(word) for word in cells[:-1]])
+
+
+def is_policy_of_mdp(source: Source, model: Model) -> bool:
+    """Whether a text has as many names and numbers as an MDP has states, and no others: an action for each state."""
+    cursor, count = Cursor(source), 0
+    while model.is_mdp and (cursor.next.is_digits() or cursor.next.kind == NAME):
+        cursor.take()
+        count += 1
+    return model.is_mdp and cursor.next.kind == END and count == model.states.count
+
+
+def read_policy_of_mdp(source: Source, model: Model) -> List[int]:
+    """The action of each state, in the order of the states: names or numbers."""
+    cursor, actions = Cursor(source), []
+    while cursor.next.kind != END:
+        token = cursor.take()
+        action = int(token.text) if token.kind == NUMERAL else model.actions.index_of.get(token.text, model.actions.count)
+        if action >= model.actions.count:
+            raise FileError(source, "", token.begin, f"there is no action {token.shown()}")
+        actions.append(action)
+    return actions
