@@ -1,0 +1,2 @@
+"""The version: that of the programs."""
+VERSION = "1.0.0"
