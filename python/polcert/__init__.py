@@ -1,2 +1,23 @@
-"""polcert from Python: models, policy graphs, value vectors and belief points, and the commands around the proved programs."""
+"""polcert from Python: calls of the proved programs, models, policy graphs, value vectors and belief points, and the commands around them."""
 from polcert import signals as _signals  # noqa: F401 (first, for an interrupt during the imports)
+from importlib import import_module
+from typing import TYPE_CHECKING
+
+if TYPE_CHECKING:
+    from polcert.answers import Moved, No, Place, Refused, Summary, Yes
+    from polcert.programs import ProgramError, bound, check, lower, model, raise_, raise_bound
+    from polcert.texts import model_text
+
+__all__ = [
+    "Moved", "No", "Place", "ProgramError", "Refused", "Summary", "Yes",
+    "bound", "check", "lower", "model", "model_text", "raise_", "raise_bound",
+]
+
+
+def __getattr__(name: str) -> object:
+    """Imports what is asked for, of which the commands need nothing."""
+    if name in __all__:
+        for module in map(import_module, ("polcert.answers", "polcert.programs", "polcert.texts")):
+            if hasattr(module, name):
+                return getattr(module, name)
+    raise AttributeError(f"module 'polcert' has no attribute {name!r}")

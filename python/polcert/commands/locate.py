@@ -7,66 +7,57 @@ FILE is the file that is refused: the model, the graph, the vectors or the point
 as they are.
 The exit status is 0 if there is a refusal, 1 if there is none.
 """
-import re
 from array import array
 from fractions import Fraction
 from typing import Iterable, List, NamedTuple, Optional
 
-from polcert.codes import CODES
+from polcert.answers import Refused, refused_of
 from polcert.command import Parser, Refusal, read_lines, read_source, show
-from polcert.files import BAD, END, ITEM_WORDS, NAME, Cursor, Model, Source, Table, Token, place_of_row, read_model
-from polcert.tokens import printable, quoted, whole_number
+from polcert.files import ITEM_WORDS, Model, Table, place_of_row, read_model
+from polcert.tokens import BAD, END, NAME, Cursor, Source, Token, printable, quoted
 
-LINE = re.compile(
-    r"(?P<kind>model|graph|vectors|points|lower|raise|print): (?P<code>[A-Z]\d+)(?: (?P<inner>[KN]\d))?"
-    r"(?P<where>(?: in item (?P<item>\d+))?(?: at byte (?P<byte>\d+))?"
-    r"|(?: in (?P<table>[TO]), action (?P<action>\d+), row (?P<row>\d+))"
-    r"|(?: at point \d+, action \d+, observation \d+)"
-    r"|(?: at node (?P<node>\d+)(?:, state (?P<state>\d+))?(?:, observation (?P<observation>\d+))?))", re.ASCII
-)
 WIDEST = 100
 # Stands for a token that is no number; greater than any number of a node.
 BEYOND = 2**63
 
 
-class Place(NamedTuple):
+class Spot(NamedTuple):
     """A byte of a text, and what more is known of it."""
 
     byte: int
     notes: List[str]
 
 
-def located(source: Source, refusal: "re.Match") -> str:
+def located(source: Source, refusal: Refused) -> str:
     """The lines for a refusal of a text."""
-    codes = " ".join(filter(None, (refusal["code"], refusal["inner"])))
-    code = CODES[refusal["inner"] or refusal["code"]]
-    place = place_of(source, refusal)
-    head = f"{codes}{'' if refusal['byte'] else refusal['where']}: {code.meaning}"
-    where = printable(source.place(place.byte) if place else source.name)
-    lines = [f"{where}: {head}", *(pointed(source, place.byte) + place.notes if place else [])]
-    return "\n".join([*lines, f"How to mend it: {code.mend}."])
+    codes = " ".join(filter(None, (refusal.code, refusal.inner)))
+    spot = spot_of(source, refusal)
+    head = f"{codes}{refusal.where if refusal.place.byte is None else ''}: {refusal.meaning}"
+    where = printable(source.place(spot.byte) if spot else source.name)
+    lines = [f"{where}: {head}", *(pointed(source, spot.byte) + spot.notes if spot else [])]
+    return "\n".join([*lines, f"How to mend it: {refusal.mend}."])
 
 
-def place_of(source: Source, refusal: "re.Match") -> Optional[Place]:
-    if refusal["table"]:
-        return place_of_sum(source, refusal["table"], whole_number(refusal["action"]), whole_number(refusal["row"]))
-    if refusal["kind"] == "graph" and refusal["node"]:
-        return Place(byte_of_successor(source, whole_number(refusal["node"]), whole_number(refusal["observation"])), [])
-    if refusal["byte"] is None:
+def spot_of(source: Source, refusal: Refused) -> Optional[Spot]:
+    place = refusal.place
+    if place.table is not None and place.action is not None and place.row is not None:
+        return spot_of_sum(source, place.table, place.action, place.row)
+    if refusal.subject == "graph" and place.node is not None and place.observation is not None:
+        return Spot(byte_of_successor(source, place.node, place.observation), [])
+    if place.byte is None:
         return None
-    byte = whole_number(refusal["byte"])
-    if byte > len(source.text):
+    if place.byte > len(source.text):
         raise Refusal(f"{source.name} has only {len(source.text)} bytes: it is not the file that was refused")
-    return Place(byte_to_show(source, byte, refusal["item"]), [])
+    return Spot(byte_to_show(source, place.byte, place.item), [])
 
 
-def byte_to_show(source: Source, byte: int, item: Optional[str]) -> int:
+def byte_to_show(source: Source, byte: int, item: Optional[int]) -> int:
     """The byte itself; if an item or the text ends too early there, the one after the last token before it."""
     cursor, items, last_end = Cursor(source), 0, 0
     while cursor.next.kind not in (END, BAD) and cursor.next.begin < byte:
         last_end = cursor.next.end
         items += is_item_word(cursor.take())
-    is_next_item = item is not None and is_item_word(cursor.next) and items == whole_number(item)
+    is_next_item = item is not None and is_item_word(cursor.next) and items == item
     return last_end if byte == len(source.text) or is_next_item else byte
 
 
@@ -74,14 +65,14 @@ def is_item_word(token: Token) -> bool:
     return token.kind == NAME and token.text in ITEM_WORDS
 
 
-def place_of_sum(source: Source, letter: str, action: int, row: int) -> Place:
+def spot_of_sum(source: Source, letter: str, action: int, row: int) -> Spot:
     """The last entry that gives a row of T or O."""
     model = read_model(source, tolerant=True)
     tables = {table.letter: table for table in model.tables()}
     if letter not in tables or action >= model.actions.count or row >= model.states.count:
         raise Refusal(f"{source.name} has no such row: it is not the model that was refused")
     table = tables[letter]
-    return Place(place_of_row(model, table, action, row), notes_of_row(model, table, action, row))
+    return Spot(place_of_row(model, table, action, row), notes_of_row(model, table, action, row))
 
 
 def notes_of_row(model: Model, table: Table, action: int, row: int) -> List[str]:
@@ -124,13 +115,9 @@ def pointed(source: Source, byte: int) -> List[str]:
     return [f"    {shown}", "    " + " " * (len(before) + column - first) + "^"]
 
 
-def refusal_of(line: str) -> Optional["re.Match"]:
+def refusal_of(line: str) -> Optional[Refused]:
     """A line as a refusal of polcert, or nothing if it is none."""
-    refusal = LINE.fullmatch(line.strip())
-    if not refusal or refusal["code"] not in CODES or (refusal["inner"] or "K1") not in CODES:
-        return None
-    is_cut = refusal["kind"] == "graph" and refusal["node"] and not refusal["observation"]
-    return None if is_cut else refusal
+    return refused_of(line.strip())
 
 
 def refusals(lines: Iterable[str], source: Source) -> int:
@@ -138,7 +125,7 @@ def refusals(lines: Iterable[str], source: Source) -> int:
     found = 0
     for line in lines:
         refusal = refusal_of(line)
-        show(f"{located(source, refusal) if refusal else line}\n")
+        show(f"{line if refusal is None else located(source, refusal)}\n")
         found += refusal is not None
     return 0 if found else 1
 
@@ -152,7 +139,7 @@ def main() -> int:
     if words.line is None:
         return refusals(read_lines(), source)
     refusal = refusal_of(words.line)
-    if not refusal:
+    if refusal is None:
         raise Refusal(f"this is no refusal of polcert: {quoted(words.line)}")
     show(f"{located(source, refusal)}\n")
     return 0

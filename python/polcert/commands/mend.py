@@ -368,6 +368,26 @@ def mended_text(source: Source, mend: Mend) -> bytes:
     return text
 
 
+class Mended(NamedTuple):
+    """A model as it was read, its changes, and its text with them."""
+
+    model: Model
+    mend: Mend
+    text: bytes
+
+
+def mended(source: Source, within: Fraction) -> Mended:
+    """Mends a text. Raises FileError, or Refusal if polcert would still refuse it."""
+    model = read_model(source, tolerant=True)
+    mend = Mender(model, within).run()
+    text = mended_text(source, mend)
+    try:
+        read_model(Source("the mended text", text))
+    except FileError as fault:
+        raise Refusal(f"{source.name}: not mended, as polcert would still refuse {fault}") from None
+    return Mended(model, mend, text)
+
+
 def report(model: Model, mend: Mend, is_quiet: bool) -> None:
     """Says each change, and how far values move."""
     source = model.source
@@ -407,14 +427,7 @@ def arguments() -> argparse.Namespace:
 def main() -> int:
     words = arguments()
     refuse_overwriting([words.model], [words.output])
-    source = read_source(words.model)
-    model = read_model(source, tolerant=True)
-    mend = Mender(model, words.within).run()
-    text = mended_text(source, mend)
-    try:
-        read_model(Source("the mended text", text))
-    except FileError as fault:
-        raise Refusal(f"{source.name}: not mended, as polcert would still refuse {fault}") from None
-    report(model, mend, words.quiet)
-    write(text, words.output)
+    found = mended(read_source(words.model), words.within)
+    report(found.model, found.mend, words.quiet)
+    write(found.text, words.output)
     return 0
