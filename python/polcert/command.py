@@ -1,23 +1,36 @@
-"""What the scripts of this folder share at the command line: words, lines, files that are read, and outputs that are written whole."""
+"""What the commands share at the command line: words, lines, exit statuses, files that are read, and outputs that are written whole."""
 import argparse
 import errno
 import os
 import stat
 import sys
 import tempfile
+import zlib
 from contextlib import contextmanager, suppress
-from typing import Callable, Dict, Iterator, List, NamedTuple, NoReturn, Optional, Sequence, Tuple
+from io import BytesIO
+from typing import Any, BinaryIO, Callable, Dict, Iterator, List, NamedTuple, NoReturn, Optional, Sequence, Tuple
 
 from polcert.signals import held_back, ignore, remove, unfinished
 from polcert.tokens import FileError, Source, printable
+from polcert.version import VERSION
 
 # The most bytes of a text, as polcert has it, and of a piece of a file or a line of standard input.
 TEXT_LIMIT = 4_294_967_296
 PIECE = 1_000_000
+# The exit statuses are polcert's: a text or the command line is refused; a file cannot be read or written; the memory is not enough.
+REFUSED, UNREADABLE, OUT_OF_MEMORY = 2, 3, 4
+# The name that is standard input, and the bytes with which a text begins that gzip compressed.
+STANDARD_INPUT, GZIP = "-", b"\x1f\x8b"
 
 
 class Refusal(Exception):
     """Something that a script cannot do, in one line for the user."""
+
+
+class _Version(argparse.Action):
+    def __call__(self, parser: argparse.ArgumentParser, *_: Any) -> NoReturn:
+        show(f"{parser.prog} {VERSION}\n")
+        sys.exit(0)
 
 
 class Parser(argparse.ArgumentParser):
@@ -25,6 +38,7 @@ class Parser(argparse.ArgumentParser):
 
     def __init__(self, program: str, text: Optional[str]) -> None:
         super().__init__(prog=program, description=text, formatter_class=argparse.RawDescriptionHelpFormatter)
+        self.add_argument("-V", "--version", action=_Version, nargs=0, help="print the version and exit")
 
     def print_help(self, file: object = None) -> None:
         show(self.format_help())
@@ -33,12 +47,11 @@ class Parser(argparse.ArgumentParser):
         with suppress(OSError):
             for line in [*self.format_usage().splitlines(), f"{self.prog}: error: {message}"]:
                 say(line)
-        sys.exit(2)
+        sys.exit(REFUSED)
 
 
 def run(program: str, action: Callable[[], int]) -> int:
-    """Calls an action and returns its exit status; 2, after one line on standard error, if a text is refused, or something cannot be read
-    or written."""
+    """Calls an action and returns its exit status, or that of what stopped it, after one line on standard error."""
     _fill_closed_streams()
     try:
         return _status(program, action)
@@ -50,14 +63,14 @@ def _status(program: str, action: Callable[[], int]) -> int:
     try:
         return action()
     except (FileError, Refusal) as fault:
-        why = str(fault)
+        why, status = str(fault), REFUSED
     except OSError as fault:
-        why = str(fault) if fault.filename is None else f"{fault.filename}: {fault.strerror}"
+        why, status = str(fault) if fault.filename is None else f"{fault.filename}: {fault.strerror}", UNREADABLE
     except MemoryError:
-        why = "out of memory"
+        why, status = "out of memory", OUT_OF_MEMORY
     with suppress(OSError):
         say(f"{program}: {why}")
-    return 2
+    return status
 
 
 def _fill_closed_streams() -> None:
@@ -91,23 +104,65 @@ def show(text: str) -> None:
 
 
 def read_source(name: str) -> Source:
-    """Reads a file as far as polcert reads texts. Raises OSError or Refusal."""
+    """Reads a file, or standard input if the name is `-`, as far as polcert reads texts. What gzip compressed is decompressed. Raises OSError
+    or Refusal."""
+    if name == STANDARD_INPUT:
+        _refuse_second_reading()
+        with open(0, "rb", buffering=0, closefd=False) as file:
+            name, text = "standard input", _read(file, "standard input")
+    else:
+        with _named(name), open(name, "rb", buffering=0) as file:
+            text = _read(file, name)
+    is_compressed = text.startswith(GZIP)
+    return Source(name, _decompressed(text, name) if is_compressed else text, is_compressed)
+
+
+def _read(file: BinaryIO, name: str) -> bytes:
     text = bytearray()
-    with _named(name), open(name, "rb", buffering=0) as file:
+    with _named(name):
         is_finite = stat.S_ISREG(os.fstat(file.fileno()).st_mode)
         for piece in iter(lambda: file.read(PIECE), b""):
-            text += piece
-            if len(text) > TEXT_LIMIT:
-                raise Refusal(f"{name}: the text has more than {TEXT_LIMIT:,} bytes")
-            zero = -1 if is_finite else text.find(b"\0", len(text) - len(piece))
+            _add(text, piece, name)
+            zero = -1 if is_finite or text.startswith(GZIP) else text.find(b"\0", len(text) - len(piece))
             if zero >= 0 and b"#" not in text[text.rfind(b"\n", 0, zero) + 1 : zero]:
-                return Source(name, bytes(text[: zero + 1]))  # a device without an end: its text is refused here or before
-    return Source(name, bytes(text))
+                return bytes(text[: zero + 1])  # a device without an end: its text is refused here or before
+    return bytes(text)
+
+
+def _add(text: bytearray, piece: bytes, name: str) -> None:
+    text += piece
+    if len(text) > TEXT_LIMIT:
+        raise Refusal(f"{name}: the text has more than {TEXT_LIMIT:,} bytes")
+
+
+def _decompressed(compressed: bytes, name: str) -> bytes:
+    from gzip import BadGzipFile, GzipFile  # (which few need)
+
+    text = bytearray()
+    try:
+        with GzipFile(fileobj=BytesIO(compressed)) as file:
+            for piece in iter(lambda: file.read(PIECE), b""):
+                _add(text, piece, name)
+    except (BadGzipFile, EOFError, zlib.error):
+        raise Refusal(f"{name}: what gzip compressed is damaged or not whole") from None
+    return bytes(text)
+
+
+_is_input_read = False
+
+
+def _refuse_second_reading() -> None:
+    """Raises OSError if standard input is closed, and Refusal if it was read before."""
+    global _is_input_read
+    _refuse_closed(sys.stdin, "standard input")
+    if _is_input_read:
+        raise Refusal("standard input is named twice, and can be read once: write one of the texts to a file")
+    _is_input_read = True
 
 
 def read_lines() -> Iterator[str]:
     """The lines of standard input without their ends. Raises OSError or Refusal."""
-    _refuse_closed(sys.stdin, "standard input")
+    _refuse_second_reading()
     with _named("standard input"):
         for line in iter(lambda: sys.stdin.buffer.readline(PIECE + 1), b""):
             if len(line) > PIECE:
@@ -265,6 +320,6 @@ def refuse_overwriting(inputs: Sequence[str], outputs: Sequence[Optional[str]]) 
     for output in outputs:
         for name in inputs:
             with suppress(OSError):
-                one, other = os.stat(name), os.stat(1 if output is None else output)
+                one, other = os.stat(0 if name == STANDARD_INPUT else name), os.stat(1 if output is None else output)
                 if stat.S_ISREG(one.st_mode) and os.path.samestat(one, other):
                     raise Refusal(f"{output or 'standard output'}: the file is also read ({name}): write to another one")

@@ -80,10 +80,11 @@ def _escaped(sign: str) -> str:
 
 @dataclass(frozen=True)
 class Source:
-    """A text and the name of its file."""
+    """A text and the name of its file, which may have it compressed."""
 
     name: str
     text: bytes
+    is_compressed: bool = False
 
     @cached_property
     def _line_ends(self) -> List[int]:

@@ -125,5 +125,5 @@ class Script(FolderTest):
             said = self.locate(text, line)
             self.assertEqual((said.status, said.out), (2, b""), line)
             self.assertIn(reason, said.err)
-        self.assertEqual(run_script("polcert-locate", str(self.folder / "missing"), "model: M20").status, 2)
+        self.assertEqual(run_script("polcert-locate", str(self.folder / "missing"), "model: M20").status, 3)
         self.assertEqual(run_script("polcert-locate", "--help").status, 0)

@@ -227,7 +227,7 @@ class Refusals(MendTest):
         self.assertEqual(run_script("polcert-mend").status, 2)
         self.assertEqual(run_script("polcert-mend", "--help").status, 0)
         missing = run_script("polcert-mend", str(self.folder / "missing"))
-        self.assertEqual((missing.status, missing.out), (2, b""))
+        self.assertEqual((missing.status, missing.out), (3, b""))
         self.assertIn("No such file", missing.err)
         for within in ("-1", "nan", "1e999", ""):
             self.assertEqual(self.mend(HEAD, "--within", within).status, 2)

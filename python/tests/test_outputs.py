@@ -73,7 +73,7 @@ PRINTERS = (*WRITERS, ["polcert-locate", TIGER, "model: M4 in item 1 at byte 9"]
 class StandardOutput(OutputTest):
     def stopped(self, words: Sequence[str], reason: str, **streams: object) -> None:
         said = self.run_with(words, **streams)
-        self.assertEqual((said.status, said.err.splitlines()[-1:]), (2, [f"{words[0]}: standard output: {reason}"]))
+        self.assertEqual((said.status, said.err.splitlines()[-1:]), (3, [f"{words[0]}: standard output: {reason}"]))
         self.assertNotIn("Traceback", said.err)
 
     def test_a_full_disk_after_some_bytes(self) -> None:
@@ -106,7 +106,7 @@ class StandardError(OutputTest):
         for streams in ({"err": "/dev/full"}, {"closed": [2]}):
             for words in (["polcert-mend", rough], ["polcert-mend", rough, "-o", out], ["polcert-mend", "none"], ["polcert-mend"]):
                 said = self.run_with(words, **streams)
-                self.assertEqual((said.status, said.out, said.err), (2, b"", ""), words)
+                self.assertEqual((said.status, said.out, said.err), (3 if len(words) > 1 else 2, b"", ""), words)
         self.assertEqual(list(self.listed()), ["rough"])
 
     def test_one_that_is_closed_and_not_needed(self) -> None:
@@ -115,9 +115,9 @@ class StandardError(OutputTest):
 
     def test_names_that_are_no_line(self) -> None:
         name = str(self.folder / "a\nyes: start node 0\x1b[2K")
-        for words in (["polcert-mend", name], ["polcert-mend", TIGER, name]):
+        for words, status in ((["polcert-mend", name], 3), (["polcert-mend", TIGER, name], 2)):
             said = self.run_with(words)
-            self.assertEqual(said.status, 2)
+            self.assertEqual(said.status, status)
             self.assertIn("a\\nyes: start node 0\\x1b[2K", said.err.splitlines()[-1])
 
 
@@ -126,7 +126,7 @@ class Files(OutputTest):
         out = self.file("out", b"before")
         for words in WRITERS:
             said = self.run_with([*words, "-o", out], limits=disk(9))
-            self.assertEqual((said.status, said.out, said.err.splitlines()[-1]), (2, b"", f"{words[0]}: {out}: File too large"))
+            self.assertEqual((said.status, said.out, said.err.splitlines()[-1]), (3, b"", f"{words[0]}: {out}: File too large"))
             self.assertEqual(self.listed(), {"out": b"before"})
 
     def test_a_written_file(self) -> None:
@@ -146,9 +146,9 @@ class Files(OutputTest):
         said = self.run_with(["polcert-mend", TIGER, "-q", "-o", "/dev/stdout"])
         self.assertEqual((said.status, said.out), (0, (EXAMPLES / "tiger.POMDP").read_bytes()))
         self.assertEqual(self.run_with(["polcert-mend", TIGER, "-q", "-o", "/dev/null"]).status, 0)
-        self.refused(self.run_with(["polcert-evaluate", TIGER, PG, "-o", "/dev/full"]), "/dev/full: No space left on device")
+        self.refused(self.run_with(["polcert-evaluate", TIGER, PG, "-o", "/dev/full"]), "/dev/full: No space left on device", 3)
         for name in (str(self.folder), f"{self.folder}/new/"):
-            self.refused(self.run_with(["polcert-evaluate", TIGER, PG, "-o", name]), r"\S+ directory")
+            self.refused(self.run_with(["polcert-evaluate", TIGER, PG, "-o", name]), r"\S+ directory", 3)
         self.assertFalse(polcert.command.is_written_in_place("/dev/shm/new"))
 
     def test_an_output_that_is_an_input(self) -> None:
@@ -172,12 +172,12 @@ class TwoFiles(OutputTest):
             for name, text in old.items():
                 self.file(name, text)
             # the graph has 40 bytes, and its vectors have more
-            self.refused(self.run_with(self.graph, limits=disk(60)), "out.alpha: File too large")
+            self.refused(self.run_with(self.graph, limits=disk(60)), "out.alpha: File too large", 3)
             self.assertEqual(self.listed(), old)
 
     def test_a_folder_in_the_way(self) -> None:
         (self.folder / "out.alpha").mkdir()
-        self.refused(self.run_with(self.graph), "out.alpha: Is a directory")
+        self.refused(self.run_with(self.graph), "out.alpha: Is a directory", 3)
         self.assertEqual(os.listdir(self.folder), ["out.alpha"])
 
     def test_a_move_that_fails(self) -> None:

@@ -415,7 +415,7 @@ class Writes(OutputTest):
         self.assertIn("No such file", run_script("polcert-points", str(self.folder / "none"), *out).err)
         (self.folder / "folder.points").mkdir()
         for name, reason in (("none/m", "none/m.alpha: No such file or directory"), ("folder", "folder.points: Is a directory")):
-            self.refused(self.run_with(["polcert-points", TIGER, "-o", str(self.folder / name)]), reason)
+            self.refused(self.run_with(["polcert-points", TIGER, "-o", str(self.folder / name)]), reason, 3)
         (self.folder / "folder.points").rmdir()
         model = self.file("m.points", (EXAMPLES / "tiger.POMDP").read_bytes())
         self.assertIn("the file is also read", run_script("polcert-points", model, *out).err)
@@ -427,7 +427,7 @@ class Writes(OutputTest):
                 self.file(name, text)
             # the vectors have 75 bytes, and the points have more
             words = ["polcert-points", TIGER, "-q", "-o", str(self.folder / "m")]
-            self.refused(self.run_with(words, limits=disk(100)), "m.points: File too large")
+            self.refused(self.run_with(words, limits=disk(100)), "m.points: File too large", 3)
             self.assertEqual(self.listed(), old)
 
     def test_an_interrupt(self) -> None:

@@ -4,9 +4,10 @@ import os
 import shutil
 import unittest
 
-from support import EXAMPLES, PROGRAM, SCRIPTS, TOP, FolderTest, needs_program, run_file, run_script
+from support import EXAMPLES, PROGRAM, SCRIPTS, TOP, FolderTest, needs_program, polcert, run_file, run_script
 
 TIGER = [str(EXAMPLES / name) for name in ("tiger.POMDP", "tiger.pg", "tiger.alpha")]
+LOWERED = [*TIGER[:2], str(EXAMPLES / "tiger.lowered.alpha")]
 
 
 @needs_program
@@ -14,8 +15,9 @@ class Report(FolderTest):
     """The report of a certificate."""
 
     def report(self, *names: str) -> str:
+        """A report of files, whose exit status is that of their check."""
         said = run_script("polcert-report", *names, "--program", PROGRAM)
-        self.assertEqual((said.status, said.err), (0, ""))
+        self.assertEqual((said.status, said.err), (polcert("check", *names).status, ""))
         return said.out.decode()
 
     def test_the_same_files_give_the_same_bytes(self) -> None:
@@ -29,6 +31,10 @@ class Report(FolderTest):
         self.assertIn("- lowered by 0.000008: yes: start node 0, at least 19.37136\n", report)
         self.assertIn("- raised by 0.000009: yes: every start node, at most 19.371377\n", report)
         self.assertIn("| 0 | listen | 19.37136 | 19.371377 |\n", report)
+
+    def test_the_exit_status(self) -> None:
+        for names, status in ((TIGER, 1), (LOWERED, 0)):
+            self.assertEqual(run_script("polcert-report", *names, "--program", PROGRAM).status, status)
 
     def test_terms_of_a_no(self) -> None:
         # 0.85 * (-1 + 0.95 * 28.4028) + 0.15 * (-1 + 0.95 * 19.371368), which is 0.00000006 below 24.695681
@@ -57,19 +63,19 @@ class Report(FolderTest):
         bound = self.file("bound", b"0\n90 90\n1\n0 93\n2\n93 0\n")
         for script, status, expected in (
             (f"cmp $2 '{TIGER[0]}' && cmp $3 '{bound}' && echo 'yes: every policy, at most 90'", 0, "yes: every policy, at most 90"),
-            ("echo 'no: action 0, state 0, exceeded by 1'; exit 1", 0, "no: action 0, state 0, exceeded by 1"),
+            ("echo 'no: action 0, state 0, exceeded by 1'; exit 1", 1, "no: action 0, state 0, exceeded by 1"),
             ("echo 'vectors: V6 at byte 4' >&2; exit 2", 2, "polcert_bound check: vectors: V6 at byte 4"),
             ("exit 1", 2, "polcert_bound check: ended with status 1 and no answer"),
         ):
             version = "[ $1 = --version ] && echo polcert_bound 1 && exit"
             program = self.file("polcert_bound", f"#!/bin/sh\n{version}\n{script}\n".encode())
             os.chmod(program, 0o755)
-            said = run_script("polcert-report", *TIGER, "--program", str(self.folder / "polcert"), "--bound", bound)
+            said = run_script("polcert-report", *LOWERED, "--program", str(self.folder / "polcert"), "--bound", bound)
             self.assertEqual(said.status, status, said.err)
-            self.assertIn(expected, said.err if status else said.out.decode())
-            self.assertEqual(b"\n## Every policy\n" in said.out, status == 0)
-            self.assertEqual(f"| `{bound}` | `".encode() in said.out, status == 0)
-            self.assertEqual(b"\nChecked by polcert_bound 1 (SHA-256 `" in said.out, status == 0)
+            self.assertIn(expected, said.err if status == 2 else said.out.decode())
+            self.assertEqual(b"\n## Every policy\n" in said.out, status < 2)
+            self.assertEqual(f"| `{bound}` | `".encode() in said.out, status < 2)
+            self.assertEqual(b"\nChecked by polcert_bound 1 (SHA-256 `" in said.out, status < 2)
 
     def test_refused_files(self) -> None:
         for at in range(3):
@@ -81,7 +87,7 @@ class Report(FolderTest):
 
     def test_no_program(self) -> None:
         said = run_script("polcert-report", *TIGER, "--program", str(self.folder / "none"))
-        self.assertEqual((said.status, said.out), (2, b""))
+        self.assertEqual((said.status, said.out), (3, b""))
         self.assertIn("No such file", said.err)
 
 
@@ -102,7 +108,7 @@ class Forgeries(FolderTest):
             with open(model, "wb") as copy:
                 copy.write(file.read())
         said = run_script("polcert-report", os.fsdecode(model), *TIGER[1:], "--program", PROGRAM)
-        self.assertEqual((said.status, said.err), (0, ""))
+        self.assertEqual((said.status, said.err), (1, ""))
         cell = "m\\x7c \\x60x\\x60 \\x7c\\nyes: start node 0, at least 99\\n\\x5c\\xff"
         self.assertEqual(said.out.decode().splitlines()[4].split(" | ")[0], f"| `{self.folder}/{cell}`")
         self.assertNotIn(b"\nyes", said.out)
@@ -114,7 +120,7 @@ class Forgeries(FolderTest):
             copy.write(file.read())
         said = run_script("polcert-report", model, *TIGER[1:], "--program", str(self.folder / "program"))
         expected = run_script("polcert-report", *TIGER, "--program", PROGRAM)
-        self.assertEqual((said.status, said.err), (0, ""))
+        self.assertEqual((said.status, said.err), (1, ""))
         unlike = [(one, two) for one, two in zip(said.out.splitlines(), expected.out.splitlines()) if one != two]
         self.assertEqual([one.split()[0] for one, _ in unlike], [b"|", b"Checked"])
 
@@ -122,7 +128,7 @@ class Forgeries(FolderTest):
         with open(TIGER[0], "rb") as file:
             text = file.read()
         said = run_script("polcert-report", "/dev/stdin", *TIGER[1:], "--program", PROGRAM, given=text)
-        self.assertEqual((said.status, said.err), (0, ""))
+        self.assertEqual((said.status, said.err), (1, ""))
         self.assertIn(f"| `/dev/stdin` | `{hashlib.sha256(text).hexdigest()}` |\n".encode(), said.out)
 
     def test_a_program_that_changes(self) -> None:

@@ -5,7 +5,7 @@ and for each node, and what is proved. After a no it lists the terms of the ineq
 
 The vectors are lowered and raised as polcert does, so that each node gets a lower and an upper bound. With --bound the report also has what
 polcert_bound says of vectors that bound every policy. Nothing of this script is proved: it runs polcert, and computes with its own reader
-what it shows of single nodes and terms.
+what it shows of single nodes and terms. The exit status is 1 if `polcert check`, or with --bound polcert_bound, answers no.
 """
 import hashlib
 import os
@@ -84,6 +84,11 @@ def cell(name: str) -> str:
     return printable("".join(f"\\x{ord(sign):02x}" if sign in "\\`|" else sign for sign in name))
 
 
+def row_of_file(source: Source) -> str:
+    """A file's row in the table, with the sum of the text that polcert gets."""
+    return f"| `{cell(source.name)}`{' (decompressed)' if source.is_compressed else ''} | `{sha256(source)}` |"
+
+
 class Bound(NamedTuple):
     """Vectors that polcert moved to pass from one side: the constant in words, the verdict, and the values in millionths."""
 
@@ -107,7 +112,7 @@ class Reporter:
     """Files that are read once, and copies of them in a folder, on which the programs run."""
 
     def __init__(self, program: str, folder: str, names: Sequence[str], every: Optional[str] = None) -> None:
-        self.program, self.folder = Program(program), folder
+        self.program, self.folder, self.is_no = Program(program), folder, False
         self.sources = [read_source(name) for name in names]
         self.model = read_model(self.sources[0])
         self.graph = read_graph(self.sources[1], self.model)
@@ -145,7 +150,7 @@ class Reporter:
 
     def head(self) -> str:
         lines = ["# Certificate", "", "| File | SHA-256 |", "|---|---|"]
-        lines += [f"| `{cell(source.name)}` | `{sha256(source)}` |" for source in [*self.sources, *([self.every] if self.every else [])]]
+        lines += [row_of_file(source) for source in [*self.sources, *([self.every] if self.every else [])]]
         lines += ["", f"{self.program.run('model', self.copies[0]).line()}.", f"{len(self.graph.actions)} nodes.", ""]
         lines += [f"Checked by {self.program.about()}.", "", PROMISE, ""]
         return "\n".join(lines)
@@ -154,6 +159,7 @@ class Reporter:
         lines = ["## The vectors as they are", ""]
         for words in (["check"], ["check", "--at-most"]):
             ran = self.program.run(*words, *self.copies)
+            self.is_no |= ran.status > 0 and words == ["check"]
             lines.append(f"- `polcert {' '.join(words)}`: {ran.line()}")
             if ran.status and " by " in ran.line():
                 lines += ["", *self.explanation(ran.line(), is_above="--at-most" in words), ""]
@@ -175,9 +181,10 @@ class Reporter:
 
     def every_policy(self, vectors: Source) -> str:
         """What polcert_bound says of vectors with one for each action."""
-        line = self.bound_program.run("check", self.copies[0], self.copy("bound", vectors.text)).line()
+        ran = self.bound_program.run("check", self.copies[0], self.copy("bound", vectors.text))
+        self.is_no |= ran.status > 0
         about = "Policies that see the observations alone, whatever they remember, from the model's start:"
-        return f"## Every policy\n\n{about}\n\n- `polcert_bound check`: {line}\n\nChecked by {self.bound_program.about()}.\n"
+        return f"## Every policy\n\n{about}\n\n- `polcert_bound check`: {ran.line()}\n\nChecked by {self.bound_program.about()}.\n"
 
     # What a no says
 
@@ -248,6 +255,7 @@ def main() -> int:
     names = [words.model, words.graph, words.vectors]
     refuse_overwriting([*names, *([words.bound] if words.bound else [])], [words.output])
     with own_folder() as folder:
-        report = Reporter(words.program, folder, names, words.bound).report()
+        reporter = Reporter(words.program, folder, names, words.bound)
+        report = reporter.report()
     write(report.encode(), words.output)
-    return 0
+    return 1 if reporter.is_no else 0
