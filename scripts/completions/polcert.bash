@@ -28,4 +28,19 @@ _polcert_bound() {
 }
 complete -o bashdefault -o default -F _polcert polcert
 complete -o bashdefault -o default -F _polcert_bound polcert_bound
-complete -o default polcert-bound-vectors polcert-evaluate polcert-graph polcert-locate polcert-mend polcert-points polcert-report
+# tools/command-pages writes what follows.
+_polcert_command() {
+  local word=${COMP_WORDS[COMP_CWORD]} words
+  case ${1##*/} in
+    polcert-bound-vectors) words='-o --output --tolerance --rounds -h --help -V --version' ;;
+    polcert-evaluate) words='-o --output -h --help -V --version' ;;
+    polcert-graph) words='-o --output --nodes --rounds --costs --own-vectors --within -h --help -V --version' ;;
+    polcert-locate) words='-h --help -V --version' ;;
+    polcert-mend) words='-o --output -q --quiet --within -h --help -V --version' ;;
+    polcert-points) words='-o --output --seconds --points --gap -q --quiet -h --help -V --version' ;;
+    polcert-report) words='--bound -o --output --program -h --help -V --version' ;;
+  esac
+  COMPREPLY=()
+  [[ $word != -* ]] || mapfile -t COMPREPLY < <(compgen -W "$words" -- "$word")
+}
+complete -o bashdefault -o default -F _polcert_command polcert-bound-vectors polcert-evaluate polcert-graph polcert-locate polcert-mend polcert-points polcert-report
