@@ -4,7 +4,7 @@ import pathlib
 import re
 from collections import defaultdict
 from itertools import accumulate
-from typing import Iterator, Set
+from typing import DefaultDict, Iterator, Set
 
 from runner import TOP
 
@@ -71,8 +71,9 @@ class Tree:
 
     def __init__(self) -> None:
         self.paths: Set[str] = set()
-        self.of_crate = defaultdict(set)
-        self.of_others, self.elsewhere = set(OTHERS), set()
+        self.of_crate: DefaultDict[str, Set[str]] = defaultdict(set)
+        self.of_others: Set[str] = set(OTHERS)
+        self.elsewhere: Set[str] = set()
         for path in TOP.rglob('*'):
             parts = path.relative_to(TOP).parts
             if not {'.git', 'out', 'build', '__pycache__'} & set(parts):

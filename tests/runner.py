@@ -6,7 +6,7 @@ import os
 import pathlib
 import subprocess
 import sys
-from typing import NamedTuple
+from typing import Any, Dict, NamedTuple, NoReturn, Sequence, Union
 
 TESTS = pathlib.Path(__file__).resolve().parent
 TOP = TESTS.parent
@@ -18,10 +18,10 @@ sys.path[:0] = [str(TOP / 'python'), str(TOP / 'python/tests')]
 class Cases:
     """The cases of a runner."""
 
-    def __init__(self):
+    def __init__(self) -> None:
         self.passed = self.failed = 0
 
-    def count(self, is_right, *said):
+    def count(self, is_right: object, *said: object) -> None:
         """Counts a case, and says what is wrong if it failed."""
         if is_right:
             self.passed += 1
@@ -29,7 +29,7 @@ class Cases:
             self.failed += 1
             print('failed:', *said, flush=True)
 
-    def finish(self):
+    def finish(self) -> NoReturn:
         """Prints the last line and ends the runner: with status 1 if a case failed."""
         print(f'{self.passed} passed, {self.failed} failed')
         sys.exit(self.failed > 0)
@@ -43,9 +43,9 @@ class Ran(NamedTuple):
     err: bytes
 
 
-def run(words, **options):
+def run(words: Sequence[Union[str, bytes, 'os.PathLike[str]']], **options: Any) -> Ran:
     """Runs a command, with nothing on standard input unless the options say otherwise."""
-    usual = {'stdout': subprocess.PIPE, 'stderr': subprocess.PIPE, 'timeout': SECONDS}
+    usual: Dict[str, Any] = {'stdout': subprocess.PIPE, 'stderr': subprocess.PIPE, 'timeout': SECONDS}
     if 'input' not in options:
         usual['stdin'] = subprocess.DEVNULL
     try:
@@ -55,18 +55,18 @@ def run(words, **options):
     return Ran(done.returncode, done.stdout or b'', done.stderr or b'')
 
 
-def named_program():
+def named_program() -> str:
     """The program that the command line names first."""
     return os.path.abspath(sys.argv[1])  # not resolved: what stands beside the program may be links
 
 
-def both_programs(program):
+def both_programs(program: str) -> Dict[str, str]:
     """polcert as it is named, and polcert_bound, which stands beside it or in its crate."""
     bound = pathlib.Path(program).with_name('polcert_bound')
     return {'polcert': program, 'polcert_bound': str(bound if bound.exists() else TOP / 'crates/polcert_bound/out/polcert_bound')}
 
 
-def shell_with(programs, room, *folders):
+def shell_with(programs: Dict[str, str], room: pathlib.Path, *folders: pathlib.Path) -> Dict[str, str]:
     """The environment of a shell that finds these programs by name, each with the time limit, and those of these folders."""
     for name, program in programs.items():
         (room / name).write_text(f"#!/bin/sh\nexec timeout {SECONDS} '{program}' \"$@\"\n")

@@ -26,7 +26,8 @@ class Belief:
         # the best lower vector of those seen so far
         self.low, self.vector, self.vectors_seen = -inf, 0, 0
         # the upper bound, the point that covers the belief best and how often, and which points and vectors this is of
-        self.high, self.point, self.times, self.stamp = inf, None, 0.0, (-1, -1)
+        self.high, self.times, self.stamp = inf, 0.0, (-1, -1)
+        self.point: Optional[int] = None
         # the worth by the vectors alone
         self.plain: Optional[float] = None
         # the millionths, if the weights are made of them
@@ -36,7 +37,8 @@ class Belief:
 
     def mean(self, values: Values) -> float:
         """The expected value of a vector."""
-        return sum(map(mul, self.weights, self._pick(values)))
+        mean: float = sum(map(mul, self.weights, self._pick(values)))
+        return mean
 
 
 class BeliefStep(NamedTuple):
@@ -48,7 +50,9 @@ class BeliefStep(NamedTuple):
 
 def picker(places: Tuple[int, ...]) -> Callable[[Values], Sequence[float]]:
     """A function that picks the values at these places."""
-    return itemgetter(*places) if len(places) > 1 else lambda values: (values[places[0]],)
+    if len(places) > 1:
+        return itemgetter(*places)
+    return lambda values: (values[places[0]],)
 
 
 class Beliefs:
@@ -56,7 +60,7 @@ class Beliefs:
 
     def __init__(self, steps: Steps) -> None:
         self.steps, self.actions = steps, range(steps.model.actions.count)
-        self._known: Dict[Tuple, Belief] = {}
+        self._known: Dict[Tuple[object, ...], Belief] = {}
         self.start = self.of(steps.start)
 
     def of(self, weights: Dict[int, float]) -> Belief:
@@ -90,9 +94,10 @@ class Beliefs:
         """What an action does at a belief, computed on first use."""
         if not belief.steps:
             belief.steps = [None] * len(self.actions)
-        if belief.steps[action] is None:
+        step = belief.steps[action]
+        if step is None:
             model_step = self.steps.of(action)
             after = model_step.beliefs_after(dict(zip(belief.states, belief.weights)))
             found = [(z, p, self.of(weights)) for z, (p, weights) in after.items()]
-            belief.steps[action] = BeliefStep(belief.mean(model_step.gain), found)
-        return belief.steps[action]
+            step = belief.steps[action] = BeliefStep(belief.mean(model_step.gain), found)
+        return step

@@ -6,7 +6,7 @@ from operator import add, le, mul
 from typing import Dict, FrozenSet, List, NamedTuple, Optional, Sequence, Set, Tuple
 
 from polcert.beliefs import Belief, Beliefs, picker
-from polcert.values import Steps, Values
+from polcert.values import Steps, Values, largest
 
 BLIND_SWEEPS = 2_000
 # A bound is moved only by more than this part of its size.
@@ -120,8 +120,8 @@ class LowerBound:
         _, action, step = best
         successors = {z: after.vector for z, _, after in step.after}
         values = [self.vectors[belief.vector].values] * self.steps.observations
-        for z, vector in successors.items():
-            values[z] = self.vectors[vector].values
+        for z, number in successors.items():
+            values[z] = self.vectors[number].values
         vector = LowerVector(action, self.steps.of(action).worth(values, self.steps.discount), successors, belief.vector)
         self.add(vector, belief.support)
 
@@ -132,7 +132,7 @@ def blind_values(steps: Steps, action: int) -> Values:
     values = [min(step.gain) / (1 - discount)] * steps.states
     for _ in range(BLIND_SWEEPS):
         new = step.backup(values, discount)
-        if max(map(abs, map(float.__sub__, new, values))) <= 1e-12 * (1 + max(map(abs, new))):
+        if largest(list(map(float.__sub__, new, values))) <= 1e-12 * (1 + largest(new)):
             break
         values = new
     return values
@@ -196,11 +196,12 @@ class UpperBound:
         worths = list(map(belief.mean, self.charges))
         first = max(worths)
         best_action = worths.index(first)
-        value, point, point_times = first, None, 0.0
+        value, point_times = first, 0.0
+        point: Optional[int] = None
         at = dict(zip(belief.states, belief.weights))
         for group in self._groups_within(belief.support):
             columns = [map(mul, repeat(at[state]), column) for state, column in zip(group.states, group.inverses)]
-            times = list(map(min, *columns))
+            times: List[float] = list(map(min, *columns))
             drops = list(map(mul, times, group.drops[best_action]))
             while True:
                 drop = min(drops)
@@ -273,7 +274,8 @@ class UpperBound:
         elif belief not in self.number:
             self._add(belief, values)
         elif any(old - new > LEAST_MOVE * (1 + abs(new)) for old, new in zip(self.points[self.number[belief]].values, values)):
-            self._lower(self.number[belief], list(map(min, values, self.points[self.number[belief]].values)))
+            before = self.points[self.number[belief]].values
+            self._lower(self.number[belief], [min(pair) for pair in zip(values, before)])
 
     def values_at(self, belief: Belief) -> Values:
         """The values of a point, or of a belief by the vectors alone."""

@@ -71,6 +71,7 @@ def whole(graph: CoverGraph) -> Points:
     number = {belief: i for i, belief in enumerate(graph.values)}
     points = Points([], [], [])
     for belief, values in graph.values.items():
+        assert belief.whole is not None
         points.beliefs.append(dict(zip(belief.states, belief.whole)))
         points.values.append([round(value * MILLION) for value in values])
         points.following.append([names(graph, number, belief, action) for action in graph.beliefs.actions])

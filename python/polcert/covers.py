@@ -104,7 +104,7 @@ class CoverGraph:
     def _add(self, belief: Belief) -> bool:
         """Adds a point, of which no action is followed yet, and tells whether it is there: there may not be more than a file may have."""
         if belief not in self.values and len(self.values) < MOST_POINTS:
-            self.values[belief] = list(map(min, self.upper.plain_values(belief), self.upper.values_at(belief)))
+            self.values[belief] = [min(pair) for pair in zip(self.upper.plain_values(belief), self.upper.values_at(belief))]
             self.rows[belief] = [Row(self.beliefs.step(belief, action).gain) for action in self.beliefs.actions]
             if len(belief.states) == 1:
                 self._charge(belief)

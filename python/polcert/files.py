@@ -18,10 +18,16 @@ from math import prod
 from typing import Dict, List, NamedTuple, Optional, Sequence, Tuple
 
 from polcert.tables import Elements, Entry, Numbers, Places, Rewards, Row, SeenEnds, Start, Table
-from polcert.tokens import (  # noqa: F401 (what the scripts take from here)
-    BAD, COLON, END, MILLION, NAME, NUMERAL, SIGN, STAR, Cursor, FileError, NumberFault, Source, Token, exact_value, is_millionths,
-    number_after,
+from polcert.tokens import (
+    BAD, COLON, END, MILLION, NAME, NUMERAL, SIGN, STAR, Cursor, FileError, NumberFault, Source, Token, is_millionths, number_after,
 )
+
+# What others take from here, of which some stands in tables and tokens.
+__all__ = [
+    "BAD", "END", "ITEM_WORDS", "MILLION", "MOST_NODES", "NAME", "NUMERAL", "SIGN", "Cursor", "Entry", "FileError", "Graph", "Model",
+    "NumberFault", "Numbers", "Row", "Source", "Table", "Token", "Vector", "is_millionths", "number_after", "place_of_row", "read_graph",
+    "read_model", "read_vectors",
+]
 
 ITEM_WORDS = frozenset(b"discount values states actions observations start T O R".split())
 OTHER_RESERVED = frozenset(b"reward cost include exclude uniform identity reset".split())
@@ -38,7 +44,7 @@ class Model:
 
     def __init__(self, source: Source) -> None:
         self.source = source
-        self.discount, self.discount_token = Fraction(0), None
+        self.discount, self.discount_token = Fraction(0), Token(END, 0, 0, b"")
         self.is_cost = self.is_mdp = False
         self.states = self.actions = self.observations = Elements("state", 0)
         self.start = Start("uniform", 0)
@@ -290,7 +296,7 @@ class _ModelReader:
         elif first.kind in (NUMERAL, SIGN) or self.at_item_end():
             self.start_numbers(word)
         else:
-            state = self.place(self.model.states, has_star=False)
+            state = self.element(self.model.states)
             self.end_of_body()
             self.model.start = Start("states", word.begin, [state])
 
@@ -298,7 +304,7 @@ class _ModelReader:
         self.colon()
         listed: Dict[int, None] = {}
         while not self.at_item_end():
-            listed[self.place(self.model.states, has_star=False)] = None
+            listed[self.element(self.model.states)] = None
         is_included = word.text == b"include"
         states = [state for state in range(self.model.states.count) if (state in listed) == is_included]
         if not states:
@@ -309,7 +315,7 @@ class _ModelReader:
         numbers, count = Numbers(), self.model.states.count
         first = self.cursor.next
         if first.is_digits() and count > 1 and is_item_end(self.cursor.after_next()):
-            state = self.place(self.model.states, has_star=False)
+            state = self.element(self.model.states)
             self.model.start = Start("states", word.begin, [state])
             return
         while len(numbers.values) < count or len(numbers.values) == 0:
@@ -336,12 +342,16 @@ class _ModelReader:
 
     # Entries
 
-    def place(self, elements: Elements, has_star: bool = True) -> Optional[int]:
+    def place(self, elements: Elements) -> Optional[int]:
         """The index of an element, or None for `*`."""
-        token = self.cursor.next
-        if token.kind == STAR and has_star:
+        if self.cursor.next.kind == STAR:
             self.cursor.take()
             return None
+        return self.element(elements)
+
+    def element(self, elements: Elements) -> int:
+        """The index of an element."""
+        token = self.cursor.next
         if token.is_digits():
             if int(token.text) >= elements.count:
                 raise self.fault("M11", token.begin, f"there is no {elements.kind} {token.shown()}: numbers begin at 0")
@@ -367,7 +377,10 @@ class _ModelReader:
         entry = Entry(letter, self.item, word.begin, places, text, numbers)
         self.refuse_too_many_cells(entry, sizes)
         model.entries.append(entry)
-        (model.rewards if letter == "R" else model.transitions if letter == "T" else model.observing).add(entry)
+        if letter == "R":
+            model.rewards.add(entry)
+        else:
+            (model.transitions if letter == "T" else model.observing).add(entry)
 
     def places(self, kinds: Sequence[Elements]) -> Places:
         self.colon()

@@ -7,7 +7,7 @@ from typing import Callable, Dict, List, Sequence, Tuple
 
 from polcert.command import say
 from polcert.files import MILLION, FileError, Model
-from polcert.values import Places, RowSums, Step, Steps, Values, each
+from polcert.values import Places, RowSums, Step, Steps, Values, each, largest
 
 Vectors = List[Values]
 # Takes a vector for each action; returns what each action earns at once, and after that with the best of these vectors, discounted.
@@ -98,7 +98,7 @@ def settle(backup: Backup, vectors: Vectors, discount: float, tolerance: float, 
         highest, lowest = max(moves), min(moves)
         vectors = [[value + factor * highest for value in values] for values in new]
         above = factor * (highest - lowest)
-        if above <= tolerance or highest - lowest <= 1e-14 * max(max(map(abs, values)) for values in vectors):
+        if above <= tolerance or highest - lowest <= 1e-14 * max(map(largest, vectors)):
             break
     return vectors, above
 

@@ -82,7 +82,7 @@ class _PolicyReader(_Reader):
     def __init__(self, source: Source, model: Model) -> None:
         super().__init__(source, model)
         self.solved: List[Solved] = []
-        self.action: Optional[int] = None
+        self.action = 0
         self.sparse: Optional[List[float]] = None
         self.text: List[str] = []
         self.depth = 0
@@ -134,10 +134,16 @@ class _PolicyReader(_Reader):
             self.solved.append(Solved(self.action, [self.number(word) for word in words]))
         elif name == "Entry":
             state, number = self.words(text, 2, "a state and a number in an `<Entry>`", " words")
-            self.sparse[self.whole(state, states, "state")] = self.number(number)
+            self.sparse_values()[self.whole(state, states, "state")] = self.number(number)
         elif name == "SparseVector":
-            self.solved.append(Solved(self.action, self.sparse))
+            self.solved.append(Solved(self.action, self.sparse_values()))
             self.sparse = None
+
+    def sparse_values(self) -> List[float]:
+        """The values of the vector that is read. Raises FileError if another vector stands inside of it."""
+        if self.sparse is None:
+            raise self.fault(self.byte, "a vector stands inside of a `<SparseVector>`")
+        return self.sparse
 
     def words(self, text: str, count: int, expected: str, unit: str) -> List[Word]:
         """The words of an element, which have to be so many."""

@@ -29,9 +29,9 @@ class Numbers:
     """Numbers of a text with their places: the sign's or the numeral's first byte, the numeral's, and the byte after it."""
 
     values: List[Fraction] = field(default_factory=list)
-    begins: array = field(default_factory=lambda: array("Q"))
-    numerals: array = field(default_factory=lambda: array("Q"))
-    ends: array = field(default_factory=lambda: array("Q"))
+    begins: "array[int]" = field(default_factory=lambda: array("Q"))
+    numerals: "array[int]" = field(default_factory=lambda: array("Q"))
+    ends: "array[int]" = field(default_factory=lambda: array("Q"))
 
     def add(self, value: Fraction, begin: int, numeral: Token) -> None:
         self.values.append(value)

@@ -122,11 +122,17 @@ class FileError(Exception):
         return f"{self.source.place(self.byte)}: {self.code + ': ' if self.code else ''}{self.why}"
 
 
+def _matched(match: Optional["re.Match[bytes]"]) -> "re.Match[bytes]":
+    """A match that is known to be one."""
+    assert match is not None
+    return match
+
+
 def token_at(text: bytes, at: int) -> Token:
     """The first token at or after a byte; END if there is none, BAD if the bytes there are no token."""
-    match = _TOKEN.match(text, at)
+    match = _matched(_TOKEN.match(text, at))
     while match.lastgroup == "comment":
-        match = _TOKEN.match(text, match.end())
+        match = _matched(_TOKEN.match(text, match.end()))
     kind = match.lastgroup
     if kind is None:
         end = match.end()
@@ -186,7 +192,7 @@ def exact_value(numeral: bytes, negative: bool = False) -> Fraction:
 
 
 def _parse(numeral: bytes) -> Fraction:
-    whole, decimals, exponent = _NUMERAL.fullmatch(numeral).groups()
+    whole, decimals, exponent = _matched(_NUMERAL.fullmatch(numeral)).groups()
     shift = int(exponent or 0)
     if abs(shift) > LARGEST_EXPONENT:
         raise NumberFault("N2")
@@ -200,7 +206,7 @@ def _parse(numeral: bytes) -> Fraction:
 
 def written_decimals(numeral: bytes) -> int:
     """How many decimal places a numeral has as it is written: 3 for `0.333`, 5 for `1.5e-4`, 0 for `2e3`."""
-    _, decimals, exponent = _NUMERAL.fullmatch(numeral).groups()
+    _, decimals, exponent = _matched(_NUMERAL.fullmatch(numeral)).groups()
     return max(0, len(decimals or b"") - int(exponent or 0))
 
 

@@ -90,7 +90,14 @@ class RowSums:
 
 def picker(places: Sequence[int]) -> Callable[[Values], Sequence[float]]:
     """A function that picks the values at these places."""
-    return itemgetter(*places) if len(places) > 1 else lambda values: [values[place] for place in places]
+    if len(places) > 1:
+        return itemgetter(*places)
+    return lambda values: [values[place] for place in places]
+
+
+def largest(values: Values) -> float:
+    """The greatest size of a value."""
+    return max(max(values), -min(values))
 
 
 def each(rows: Iterable[Any], convert: Callable[[Any], Any]) -> Iterator[Any]:
@@ -155,8 +162,8 @@ def evaluate(steps: Steps, graph: Graph, worth: Optional[List[Values]] = None, p
     saved: Optional[Tuple[float, List[Values]]] = None
     for _ in range(MOST_SWEEPS):
         moves = sweep(steps, graph, worth)
-        moved = max(max(map(abs, move)) for move in moves)
-        if moved <= bound + 1e-14 * max(max(map(abs, values)) for values in worth):
+        moved = max(map(largest, moves))
+        if moved <= bound + 1e-14 * max(map(largest, worth)):
             return worth
         if saved and moved > saved[0]:
             worth, number, waits = saved[1], 0, 2 * waits

@@ -92,7 +92,8 @@ class WitnessSearch:
     def short(self, n: int, successors: Tuple[int, ...]) -> float:
         """How short a vector is of one step with these successors, at the worst state."""
         action, values = self.solved[n]
-        return max(map(sub, values, self.worth(action, dict(zip(self.seen[action], successors)))))
+        short: float = max(map(sub, values, self.worth(action, dict(zip(self.seen[action], successors)))))
+        return short
 
     def added(self, action: int, z: int, m: int) -> Values:
         """What vector m adds to the worth of an action in each state, if it follows observation z."""
@@ -140,7 +141,7 @@ class Branching:
         added, most = self.added[len(successors)], self.most[len(successors) + 1]
         self.left -= len(self.kept)
         least = {m: max(map(sub, map(sub, short, added[m]), most)) for m in self.kept}
-        for m in sorted(self.kept, key=least.get):
+        for m in sorted(self.kept, key=least.__getitem__):
             if least[m] >= self.best.short - LEAST_GAIN or self.left < 0:
                 return
             self.branch((*successors, m), list(map(sub, short, added[m])))
@@ -148,7 +149,7 @@ class Branching:
 
 def met_beliefs(steps: Steps, solved: Sequence[Solved]) -> List[Belief]:
     """Beliefs that the policy of the vectors meets from the start on: step by step, the likelier ones first."""
-    found: Dict[Tuple, Belief] = {}
+    found: Dict[Tuple[object, ...], Belief] = {}
     level = [(1.0, steps.start)]
     for _ in range(MOST_LEVELS):
         after = []

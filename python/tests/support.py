@@ -17,7 +17,7 @@ TOP = Path(__file__).resolve().parents[2]
 SCRIPTS = TOP / "scripts"
 EXAMPLES = TOP / "examples"
 NAMES = ("tiger", "machine", "stock", "robot")
-PROGRAM = os.environ.get("POLCERT")
+PROGRAM = os.environ.get("POLCERT", "")
 sys.path[:0] = [str(TOP / "python"), str(TOP / "tests")]
 sys.dont_write_bytecode = True
 
@@ -52,7 +52,9 @@ def load(name: str) -> ModuleType:
 def load_file(name: str, path: Path) -> ModuleType:
     """A Python file as a module of this name."""
     loader = SourceFileLoader(name, str(path))
-    module = module_from_spec(spec_from_loader(loader.name, loader))
+    spec = spec_from_loader(loader.name, loader)
+    assert spec is not None
+    module = module_from_spec(spec)
     sys.modules[loader.name] = module
     loader.exec_module(module)
     return module

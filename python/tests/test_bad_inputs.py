@@ -57,6 +57,9 @@ class Solved(FolderTest):
             ("<Policy>", '<!DOCTYPE Policy [<!ENTITY much "1 1 1">]><Policy>', "2:", "no entity is read, and `much` is declared here"),
             ("<Policy>", "<!DOCTYPE Policy [<!ENTITY % much SYSTEM 'f'>]><Policy>", "2:", "no entity is read"),
             ("1 2<", "&much;<", "2:", "undefined entity"),
+            ("<SparseVector", '<SparseVector action="0"><Vector action="0">1 2</Vector></SparseVector><SparseVector', "3:", "a vector stands inside"),
+            ("0 1</Entry>", '0 <Vector action="0">1 2</Vector></Entry>', "3:", "found 0 words"),
+            ("0 1</Entry>", '<Vector action="0">1 2</Vector>0 1</Entry>', "3:", "a vector stands inside"),
             ("<Policy>", "<a>" * 200, "2:", "elements are nested more than 100 deep"),
         ):
             self.refused(POLICY.replace(old, new), place, reason)

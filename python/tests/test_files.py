@@ -3,7 +3,7 @@ import random
 import time
 from fractions import Fraction
 from itertools import product
-from typing import Dict, Optional, Tuple
+from typing import Optional, Tuple
 
 from models import random_model, tag
 from support import EXAMPLES, NAMES, TOP, FolderTest, mutated, needs_program, polcert, refusals_rows
@@ -31,7 +31,7 @@ def refusal_of_policy(model: Model, graph: Graph, graph_text: Optional[bytes], v
     return ""
 
 
-def all_cells(model: Model) -> Tuple[Dict, Dict, Dict]:
+def all_cells(model: Model) -> Tuple[object, ...]:
     """Each cell of T, O and R that is not 0."""
     sizes = model.actions.count, model.states.count, model.states.count, model.observations.count
     t = {(a, s, e): p for a in range(sizes[0]) for s in range(sizes[1]) for e, p in model.transitions.row(a, s).items()}

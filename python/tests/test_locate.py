@@ -11,7 +11,7 @@ HEAD = b"discount: 1\nvalues: reward\nstates: a b\nactions: go\nobservations: 1\
 
 
 def located(text: bytes, line: str) -> List[str]:
-    return script.located(Source("F", text), script.refusal_of(line)).splitlines()
+    return str(script.located(Source("F", text), script.refusal_of(line))).splitlines()
 
 
 class Page(FolderTest):

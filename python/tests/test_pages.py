@@ -23,7 +23,7 @@ class Pages(unittest.TestCase):
             in_bash = re.findall(rf"^    {path.name}\) words='(.*)' ;;$", completions[TOOL.BASH], re.M)
             in_zsh = re.findall(rf"^  {path.name}\) words_of=\((.*?)^  \) ;;$", completions[TOOL.ZSH], re.M | re.S)
             self.assertGreaterEqual(len(options), 2)
-            for option in filter(None, (option for pair in options for option in pair)):
+            for option in [option for pair in options for option in pair if option]:
                 self.assertRegex(page, rf"(?m)^\.It (.*, )?Fl {option[1:]}( |$)")
                 self.assertIn(option, in_bash[0].split())
                 self.assertIn(f"){option}[", in_zsh[0])

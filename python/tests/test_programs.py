@@ -8,7 +8,7 @@ import unittest
 from fractions import Fraction
 from itertools import product
 from pathlib import Path
-from typing import Any, Dict, List
+from typing import Any, Callable, Dict, List, Tuple
 
 import numpy
 
@@ -112,10 +112,10 @@ class Calls(FolderTest):
     def test_texts_of_the_page(self) -> None:
         one_node, vectors = PAGE.GIVEN["ONE-NODE"].encode(), PAGE.GIVEN["THREE-VECTORS"].encode()
         tiger, count = str(TIGER_FILES[0]), 0
-        calls = {
+        calls: Dict[str, Callable[..., Any]] = {
             "model": lambda model: polcert.model(model), "graph": lambda graph: polcert.check(tiger, graph, EXAMPLES / "tiger.alpha"),
             "vectors": lambda text: polcert.check(tiger, one_node, text), "points": lambda points: polcert.bound(tiger, vectors, points),
-            "polcert check": polcert.check, "polcert check --at-most": lambda *texts: polcert.check(*texts, above=True),
+            "polcert check": polcert.check, "polcert check --at-most": lambda model, graph, vectors: polcert.check(model, graph, vectors, above=True),
             "polcert lower": polcert.lower, "polcert raise": polcert.raise_,
         }
         given: List[str] = []
@@ -128,15 +128,16 @@ class Calls(FolderTest):
 
     def test_paths_and_bytes(self) -> None:
         wanted = polcert.Yes("yes: start node 0, at least 19.37136", Fraction("19.37136"), False, 0)
-        self.assertEqual(polcert.check(*TIGER_FILES), wanted)
-        self.assertEqual(polcert.check(*map(str, TIGER_FILES)), wanted)
-        self.assertEqual(polcert.check(*(path.read_bytes() for path in TIGER_FILES)), wanted)
-        self.assertEqual(polcert.check(TIGER_FILES[0].read_bytes(), *TIGER_FILES[1:]), wanted)
+        model, graph, vectors = TIGER_FILES
+        self.assertEqual(polcert.check(model, graph, vectors), wanted)
+        self.assertEqual(polcert.check(str(model), str(graph), str(vectors)), wanted)
+        self.assertEqual(polcert.check(model.read_bytes(), graph.read_bytes(), vectors.read_bytes()), wanted)
+        self.assertEqual(polcert.check(model.read_bytes(), graph, vectors), wanted)
         here = os.getcwd()
         self.addCleanup(os.chdir, here)
         os.chdir(self.folder)
         self.file("--help", TIGER_FILES[0].read_bytes())
-        self.assertEqual(polcert.check("--help", *TIGER_FILES[1:], program=os.path.abspath(os.path.join(here, str(PROGRAM)))), wanted)
+        self.assertEqual(polcert.check("--help", graph, vectors, program=os.path.abspath(os.path.join(here, str(PROGRAM)))), wanted)
 
     def test_the_session_of_the_page(self) -> None:
         code = re.findall(r"^```python\n(.*?)^```", (TOP / "README.md").read_text(), re.M | re.S)
@@ -164,7 +165,9 @@ class Calls(FolderTest):
         self.assertEqual(raised.amount, 1)  # type: ignore[union-attr]
 
     def test_thirds(self) -> None:
-        thirds = {"transitions": [[[1 / 3] * 3] * 3], "observations": None, "rewards": [[1, 2, 3]], "discount": 0.5, "start": [1 / 3] * 3}
+        thirds: Dict[str, Any] = {
+            "transitions": [[[1 / 3] * 3] * 3], "observations": None, "rewards": [[1, 2, 3]], "discount": 0.5, "start": [1 / 3] * 3,
+        }
         refused = polcert.model(polcert.model_text(**thirds))
         assert isinstance(refused, polcert.Refused)
         self.assertEqual((refused.code, refused.inner), ("M2", "N4"))
@@ -173,9 +176,9 @@ class Calls(FolderTest):
         self.assertEqual(answer, polcert.Yes("yes: every policy, at most 4", Fraction(4), True))
 
     def test_programs_that_give_no_answer(self) -> None:
-        def fails(reason: str, status: object, **options: str) -> None:
+        def fails(reason: str, status: object, program: str) -> None:
             with self.assertRaisesRegex(polcert.ProgramError, reason) as caught:
-                polcert.check(*TIGER_FILES, **options)
+                polcert.check(TIGER_FILES[0], TIGER_FILES[1], TIGER_FILES[2], program=program)
             self.assertEqual(caught.exception.status, status)
 
         fails("nowhere: there is no such program", None, program="nowhere")
@@ -233,13 +236,14 @@ class Arrays(unittest.TestCase):
             self.assertEqual(self.cells(model), [*wanted, [Fraction(x) for x in weights]], text)
 
     def test_what_is_refused(self) -> None:
-        for change, reason in (
+        changes: List[Tuple[Dict[str, Any], str]] = [
             ({"discount": float("nan")}, "nan is no number"), ({"rewards": [[-1, -1], [-100, float("inf")], [10, -100]]}, "inf is no number"),
             ({"transitions": TIGER["transitions"][:2]}, "O has 3 parts where the model has 2"), ({"rewards": [-1, -100, 10]}, "R has 1 dimensions"),
             ({"observations": [[[1], [1, 0]]] * 3}, "O has 2 parts where the model has 1"), ({"start": [0.5, 0.25, 0.25]}, "start has 3 parts"),
             ({"start": [[1, 0]]}, "start has 1 parts"), ({"transitions": [[["1", 0], [0, 1]]] * 3}, "T has the wrong number of dimensions"),
             ({"transitions": [[[0.5, 0.4], [0, 1]]] * 3, "within": "0.00001"}, "sums to 0.9"),
-        ):
+        ]
+        for change, reason in changes:
             with self.assertRaisesRegex(ValueError, reason):
                 polcert.model_text(**{**TIGER, **change})
 

@@ -57,7 +57,7 @@ class Unroller:
         self.vectors: List[Solved] = []
         self.beliefs: List[Belief] = []
         self.ways: List[Dict[int, Way]] = []
-        self._node_of: Dict[Tuple, int] = {}
+        self._node_of: Dict[Tuple[object, ...], int] = {}
         self._anywhere: Dict[int, Dict[int, Belief]] = {}
         self._queue: List[Tuple[float, int]] = []
 
@@ -71,11 +71,12 @@ class Unroller:
 
     def node(self, belief: Belief, weight: float) -> Optional[int]:
         """The node of a belief, a new one if there may be more."""
-        key = (best_vector(self.solved, belief),) if self.is_by_vector else rounded(belief)
+        vector = best_vector(self.solved, belief) if self.is_by_vector else None
+        key = rounded(belief) if vector is None else (vector,)
         if key not in self._node_of and len(self.beliefs) < self.most_nodes:
             self._node_of[key] = len(self.beliefs)
             heappush(self._queue, (-weight, len(self.beliefs)))
-            self.vectors.append(self.solved[key[0] if self.is_by_vector else best_vector(self.solved, belief)])
+            self.vectors.append(self.solved[best_vector(self.solved, belief) if vector is None else vector])
             self.beliefs.append(belief)
             self.ways.append({})
         return self._node_of.get(key)
@@ -102,7 +103,7 @@ def best_vector(solved: Sequence[Solved], belief: Belief) -> int:
     return max(range(len(solved)), key=lambda i: dot(belief, solved[i].values))
 
 
-def rounded(belief: Belief) -> Tuple:
+def rounded(belief: Belief) -> Tuple[Tuple[int, float], ...]:
     """A belief as a key: the same for beliefs that are nearly the same."""
     return tuple((state, round(p, BELIEF_DECIMALS)) for state, p in sorted(belief.items()) if round(p, BELIEF_DECIMALS))
 
@@ -184,15 +185,15 @@ class Improver:
 
     def new_nodes(self, worth: Sequence[Values]) -> List[Tuple[int, List[Optional[int]]]]:
         """The action and the successors of each new node. It has no successor for an observation that can't come from any state."""
-        found: Dict[Tuple, None] = {}
+        found: Dict[Tuple[int, Tuple[Optional[int], ...]], None] = {}
         for number in range(len(self.unroller.beliefs)):
             action, best = self.best_action(number, worth)
             if action is not None:
                 anywhere = self.unroller.anywhere(action)
                 others = {z: best_node(belief, worth)[1] for z, belief in anywhere.items() if z not in best}
                 successors = {**others, **best}
-                found[(action, *(successors.get(z) for z in range(self.steps.observations)))] = None
-        return [(action, successors) for action, *successors in found]
+                found[action, tuple(successors.get(z) for z in range(self.steps.observations))] = None
+        return [(action, list(successors)) for action, successors in found]
 
     def best_action(self, number: int, worth: Sequence[Values]) -> Tuple[Optional[int], Dict[int, int]]:
         """The best action at a belief and the node after each observation, if that is worth more there than each node; else nothing."""

@@ -68,6 +68,10 @@ def cell_of(column: int, value: Fraction, numeral: bytes) -> Cell:
     return Cell(column, value * MILLION, rounding, Fraction(round(value * MILLION)))
 
 
+def total_of(cells: Sequence[Cell]) -> Fraction:
+    return sum((cell.value for cell in cells), Fraction(0))
+
+
 def shared(cells: Sequence[Cell], within: Fraction) -> Optional[List[int]]:
     """Whole millionths near the cells that sum to 1,000,000, or None if a cell would move too far.
 
@@ -83,15 +87,15 @@ def shared(cells: Sequence[Cell], within: Fraction) -> Optional[List[int]]:
             shares = [min(share, Fraction(part - 1)) for share, part in zip(shares, near)]
         if abs(lack) <= sum(shares):
             break
-    total = sum(shares)
+    total = sum(shares, Fraction(0))
     if abs(lack) > total:
         return None
-    exact = [part + (lack * share / total if lack else 0) for part, share in zip(near, shares)]
+    exact = [part + (lack * share / total if lack else Fraction(0)) for part, share in zip(near, shares)]
     parts = [int(part) for part in exact]
     order = sorted(range(len(parts)), key=lambda i: (parts[i] - exact[i], -near[i], -i))
     for i in order[: MILLION - sum(parts)]:
         parts[i] += 1
-    return parts if all(is_near(part, cell, within) for part, cell in zip(parts, cells)) else None
+    return parts if all(is_near(Fraction(part), cell, within) for part, cell in zip(parts, cells)) else None
 
 
 def is_near(part: Fraction, cell: Cell, within: Fraction) -> bool:
@@ -101,7 +105,7 @@ def is_near(part: Fraction, cell: Cell, within: Fraction) -> bool:
 
 def distance(parts: Iterable[Fraction], cells: Sequence[Cell]) -> Fraction:
     """Total variation between a mended row and the written one divided by its sum."""
-    total = sum(cell.value for cell in cells)
+    total = total_of(cells)
     return sum((abs(part / MILLION - cell.value / total) for part, cell in zip(parts, cells)), Fraction(0)) / 2
 
 
@@ -231,7 +235,7 @@ class Mender:
         parts = shared(live, self.within)
         if parts is None:
             byte = place_of_row(self.model, table, action, row)
-            raise self.refuse_sum(byte, f"the row `{self.label(table, (action, row))}`", sum(cell.value for cell in cells))
+            raise self.refuse_sum(byte, f"the row `{self.label(table, (action, row))}`", total_of(cells))
         part_of = dict(zip((cell.column for cell in live), parts))
         return [Fraction(part_of.get(cell.column, 0)) for cell in cells]
 
@@ -245,7 +249,7 @@ class Mender:
         """Adds the entries of mended rows, and says what they change. `first` is one of the rows."""
         label, cells = self.label(table, pattern), self.cells(table, *first)
         columns = self.model.states if table.letter == "T" else self.model.observations
-        total = shown(sum(cell.value for cell in cells) / MILLION)
+        total = shown(total_of(cells) / MILLION)
         if change is UNIFORM:
             self.mend.entries.append(f"{label} uniform")
             became = "became `uniform`"
@@ -285,14 +289,14 @@ class Mender:
             if numbers.begins[i] < place:
                 self.mend.edits.append(Edit(numbers.begins[i], numbers.begins[i] + 1, b" "))
             self.mend.edits.append(Edit(place, numbers.ends[i], new.get(i, b"")))
-        total = shown(sum(numbers.values))
+        total = shown(sum(numbers.values, Fraction(0)))
         self.say(begin, f"the start summed to {total}: its equal parts became `start{': uniform' if is_uniform else ' include:'}`")
 
     def write_start_numbers(self, numbers: Numbers, cells: Sequence[Cell]) -> List[Fraction]:
         live = [cell for cell in cells if cell.near > 0]
         parts = shared(live, self.within)
         if parts is None:
-            raise self.refuse_sum(self.model.start.begin, "the start", sum(cell.value for cell in cells))
+            raise self.refuse_sum(self.model.start.begin, "the start", total_of(cells))
         part_of = dict(zip((cell.column for cell in live), parts))
         for i, value in enumerate(numbers.values):
             if part_of.get(i, 0) != value * MILLION:

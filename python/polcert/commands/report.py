@@ -14,7 +14,7 @@ import subprocess
 from fractions import Fraction
 from math import ceil, floor
 from pathlib import Path
-from typing import Iterator, List, NamedTuple, Optional, Sequence
+from typing import Dict, Iterator, List, NamedTuple, Optional, Sequence
 
 from polcert.command import Parser, Refusal, own_folder, read_source, refuse_overwriting, write
 from polcert.files import MILLION, Source, read_graph, read_model, read_vectors
@@ -144,8 +144,8 @@ class Reporter:
             parts.append(self.interval(lower, upper))
         else:
             parts.append("## The interval\n\nNo constant makes the vectors pass from both sides, so there is none.\n")
-        if self.every:
-            parts.append(self.every_policy(self.every))
+        if self.every and self.bound_program:
+            parts.append(self.every_policy(self.every, self.bound_program))
         return "\n".join([self.head(), *parts])
 
     def head(self) -> str:
@@ -179,12 +179,12 @@ class Reporter:
             lines += ["", "The discount is 1, so the vector value at the end does not fade: read the bounds with it."]
         return "\n".join(lines) + "\n"
 
-    def every_policy(self, vectors: Source) -> str:
+    def every_policy(self, vectors: Source, program: Program) -> str:
         """What polcert_bound says of vectors with one for each action."""
-        ran = self.bound_program.run("check", self.copies[0], self.copy("bound", vectors.text))
+        ran = program.run("check", self.copies[0], self.copy("bound", vectors.text))
         self.is_no |= ran.status > 0
         about = "Policies that see the observations alone, whatever they remember, from the model's start:"
-        return f"## Every policy\n\n{about}\n\n- `polcert_bound check`: {ran.line()}\n\nChecked by {self.bound_program.about()}.\n"
+        return f"## Every policy\n\n{about}\n\n- `polcert_bound check`: {ran.line()}\n\nChecked by {program.about()}.\n"
 
     # What a no says
 
@@ -225,7 +225,7 @@ class Reporter:
         return "  | " + " | ".join([*cells, "none" if successor is None else str(successor), value, shown(term.amount / MILLION)]) + " |"
 
 
-def mean(weights: dict, values: Sequence[int]) -> Fraction:
+def mean(weights: Dict[int, Fraction], values: Sequence[int]) -> Fraction:
     """The mean of the values, weighted with the start."""
     return sum((weight * values[state] for state, weight in weights.items()), Fraction(0))
 
