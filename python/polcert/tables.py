@@ -2,7 +2,7 @@
 from array import array
 from dataclasses import dataclass, field
 from fractions import Fraction
-from typing import Dict, Iterator, List, Optional, Sequence, Tuple
+from typing import Dict, Iterator, List, Optional, Sequence, Set, Tuple
 
 from polcert.tokens import Token
 
@@ -85,6 +85,10 @@ class Layers:
         if len(found) < 2:
             return found[0] if found else []
         return sorted((entry for entries in found for entry in entries), key=lambda entry: entry.number)
+
+    def named_actions(self) -> Set[int]:
+        """The actions that an entry names: all others have the same entries."""
+        return {action for action, _ in self._entries if action is not None}
 
 
 class Table:
@@ -186,19 +190,34 @@ class RewardBlock:
             return None
         return self._value(base, end, 0) if base else Fraction(0)
 
+    def named_ends(self) -> List[int]:
+        """The end states that an entry names."""
+        return [end for end in self._layers if end is not None]
+
+    def at_other_ends(self) -> Optional[List[Fraction]]:
+        """The numbers of an end state that no entry names: one, or one for each observation. None if they depend on the end state."""
+        cells, base = self._row_of(self._layers.get(None, []))
+        numbers = base.numbers.values if base else [Fraction(0)]
+        if base and len(numbers) > 1 and (self._is_mdp or len(base.places) < 3):
+            return None
+        if cells and len(numbers) == 1:
+            numbers = numbers * self._observations
+        return [cells.get(z, number) for z, number in enumerate(numbers)] if cells else numbers
+
     def _row(self, end: int) -> Tuple[Dict[int, Fraction], Optional[Entry]]:
         """Single cells of an end state, and the entry that gives its other cells."""
         if end not in self._rows:
-            layers = sorted(self._layers.get(end, []) + self._layers.get(None, []), key=lambda entry: entry.number)
-            cells: Dict[int, Fraction] = {}
-            base = None
-            for entry in reversed(layers):
-                if self._is_mdp or len(entry.places) < 4 or entry.places[3] is None:
-                    base = entry
-                    break
-                cells.setdefault(entry.places[3], entry.numbers.values[0])
-            self._rows[end] = cells, base
+            self._rows[end] = self._row_of(self._layers.get(end, []) + self._layers.get(None, []))
         return self._rows[end]
+
+    def _row_of(self, layers: Sequence[Entry]) -> Tuple[Dict[int, Fraction], Optional[Entry]]:
+        """Single cells that these entries give, and the entry that gives all other cells."""
+        cells: Dict[int, Fraction] = {}
+        for entry in sorted(layers, key=lambda entry: entry.number, reverse=True):
+            if self._is_mdp or len(entry.places) < 4 or entry.places[3] is None:
+                return cells, entry
+            cells.setdefault(entry.places[3], entry.numbers.values[0])
+        return cells, None
 
     def _value(self, entry: Entry, end: int, observation: int) -> Fraction:
         values, places = entry.numbers.values, len(entry.places)

@@ -8,7 +8,7 @@ import tempfile
 import unittest
 from importlib import import_module
 from importlib.machinery import SourceFileLoader
-from importlib.util import module_from_spec, spec_from_loader
+from importlib.util import find_spec, module_from_spec, spec_from_loader
 from pathlib import Path
 from types import ModuleType
 from typing import Iterator, List, NamedTuple, Tuple
@@ -24,6 +24,8 @@ sys.dont_write_bytecode = True
 OTHER_WORDS = [b" 0.5 ", b" - ", b" : ", b" * ", b"uniform", b"2", b"nan", b"\xc3\xa9", b"1e9", b"0.1234567"]
 
 needs_program = unittest.skipUnless(PROGRAM, "no program is named")
+HAS_NUMPY = all(find_spec(name) for name in ("numpy", "scipy"))
+needs_numpy = unittest.skipUnless(HAS_NUMPY, "numpy and scipy are not there: install python3-numpy and python3-scipy")
 
 
 class Said(NamedTuple):
