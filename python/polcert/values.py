@@ -1,17 +1,13 @@
 """What a policy graph is worth, in floating point: polcert lowers and checks what comes out."""
 from math import isfinite
 from operator import add, itemgetter, mul
-from typing import Any, Callable, Dict, Iterable, Iterator, List, Optional, Sequence, Tuple
+from typing import Any, Callable, Dict, Iterable, Iterator, List, Sequence, Tuple
 
 from polcert.command import Refusal
 from polcert.files import FileError, Graph, Model, Row
 
 Values = List[float]
 Belief = Dict[int, float]
-MOST_SWEEPS = 100_000
-# After so many sweeps the rest is estimated from how fast the last two came together. If that takes the values further off, they are put
-# back, and twice as many sweeps are waited.
-SWEEPS_BETWEEN = 30
 LARGEST_VALUE = 10_000_000.0
 
 
@@ -124,13 +120,18 @@ def dot(belief: Belief, values: Values) -> float:
     return sum(weight * values[state] for state, weight in belief.items())
 
 
+def refuse_undiscounted(model: Model) -> None:
+    """Raises FileError if the discount is 1."""
+    if model.discount == 1:
+        why = "the discount is 1, and what a graph is worth is found here only for a discount below 1"
+        raise FileError(model.source, "", model.discount_token.begin, why)
+
+
 class Steps:
     """The actions of a model, in floating point, each made when it is asked for. The discount has to be below 1."""
 
     def __init__(self, model: Model) -> None:
-        if model.discount == 1:
-            why = "the discount is 1, and what a graph is worth is found here only for a discount below 1"
-            raise FileError(model.source, "", model.discount_token.begin, why)
+        refuse_undiscounted(model)
         self.model, self.discount = model, float(model.discount)
         self.states, self.observations = model.states.count, model.observations.count
         self.start = divided({state: float(weight) for state, weight in model.start_weights().items()})
@@ -152,46 +153,6 @@ class Steps:
             reward = block.constant(end)
             total += p * (float(reward) if reward is not None else sum(q * float(block.at(end, z)) for z, q in zip(*seen[end])))
         return -total if self.model.is_cost else total
-
-
-def evaluate(steps: Steps, graph: Graph, worth: Optional[List[Values]] = None, precision: float = 1e-10) -> List[Values]:
-    """What each node is worth in each state, by iteration from given values on until no value is further off than the precision (and than
-    rounding allows)."""
-    worth = [list(values) for values in worth] if worth else [[0.0] * steps.states for _ in graph.actions]
-    last, bound, waits, number = 0.0, precision * (1 - steps.discount), SWEEPS_BETWEEN, 0
-    saved: Optional[Tuple[float, List[Values]]] = None
-    for _ in range(MOST_SWEEPS):
-        moves = sweep(steps, graph, worth)
-        moved = max(map(largest, moves))
-        if moved <= bound + 1e-14 * max(map(largest, worth)):
-            return worth
-        if saved and moved > saved[0]:
-            worth, number, waits = saved[1], 0, 2 * waits
-        saved, number = None, number + 1
-        if number >= waits and moved < last:
-            saved, number = (moved, [list(values) for values in worth]), 0
-            jump(worth, moves, moved / last)
-        last = moved
-    raise Refusal("what the graph is worth does not settle")
-
-
-def sweep(steps: Steps, graph: Graph, worth: List[Values]) -> List[Values]:
-    """Puts one step's worth in place of each node's, the last node first, and returns by how much each value moved."""
-    moves: List[Values] = [[] for _ in worth]
-    nothing = [0.0] * steps.states
-    for node in reversed(range(len(worth))):
-        after = [nothing if m is None else worth[m] for m in graph.successors[node]]
-        new = steps.of(graph.actions[node]).worth(after, steps.discount)
-        moves[node] = [x - y for x, y in zip(new, worth[node])]
-        worth[node] = new
-    return moves
-
-
-def jump(worth: List[Values], moves: List[Values], ratio: float) -> None:
-    """Adds what further sweeps would add if each moved the values by this ratio of the one before."""
-    factor = ratio / (1 - ratio)
-    for values, move in zip(worth, moves):
-        values[:] = [value + factor * x for value, x in zip(values, move)]
 
 
 def vectors_text(actions: Iterable[int], worth: Iterable[Values]) -> bytes:

@@ -5,27 +5,34 @@ values are at most the worth of one step, in every state. Rounded vectors are sh
 """
 from itertools import islice, product
 from math import isfinite
-from operator import add, sub
 from typing import Dict, Iterable, Iterator, List, NamedTuple, Optional, Sequence, Tuple
 
+import numpy as np
+from scipy import sparse  # type: ignore[import]
+
+from polcert.arrays import Floats, Matrix
 from polcert.command import Refusal
+from polcert.evaluation import ActionBackup, Integers
 from polcert.files import Graph
 from polcert.policies import Solved
-from polcert.values import LARGEST_VALUE, Belief, Steps, Values, dot
+from polcert.reach import Point, Reach, best_of, followed, policy_of, stacked
+from polcert.values import LARGEST_VALUE
+from polcert.watch import Watch
 
 # By how much a vector may be short of one step, if nothing else is said: this part of the greatest value.
 USUAL_PART = 1e-4
-# Successors are chosen at beliefs: those that the policy of the vectors meets, and those in one state or two; so many for one vector.
-MOST_LEVELS, MOST_OF_A_LEVEL, MOST_BETWEEN, MOST_OF_A_VECTOR = 12, 60, 500, 10
-BELIEF_DECIMALS = 4
-# How many successors are tried for a vector, times the states. If these are too few for each vector and observation, or there are more
-# observations, none are tried but those that are best at beliefs.
-MOST_TRIED, MOST_OBSERVATIONS = 2_000_000, 500
+# Successors are chosen at beliefs: so many that the policy of the vectors meets, those in one state, and so many in two; so many for one
+# vector.
+MOST_MET, MOST_BETWEEN, MOST_OF_A_VECTOR = 2_000, 500, 10
+# A step of the search for successors counts as at least so many tries.
+LEAST_STEP = 500
+# So many numbers are kept of what vectors add to the worth of actions.
+MOST_KEPT = 20_000_000
 LEAST_GAIN = 1e-12
 
 
 class Choice(NamedTuple):
-    """The successors of a vector, one for each observation that can come, and how short the vector is of one step at the worst state."""
+    """How short a vector is of one step at the worst state, and its successors: one for each observation that can come."""
 
     short: float
     successors: Tuple[int, ...]
@@ -40,18 +47,23 @@ class Witness(NamedTuple):
     short: float
 
 
-def find_witness(steps: Steps, solved: Sequence[Solved], within: Optional[float]) -> Witness:
+def find_witness(reach: Reach, solved: Sequence[Solved], within: Optional[float], tries: int, watch: Watch) -> Witness:
     """A graph in which each vector is short of one step by at most `within`. Vectors that no successors back so far are left out, the worst
-    one first."""
+    one first. For a vector so many successors are tried, times the states; only those that are best at beliefs, if these tries are too few
+    for each vector and observation."""
     most = USUAL_PART * max(abs(value) for vector in solved for value in vector.values) if within is None else within
-    search, kept = WitnessSearch(steps, solved), list(range(len(solved)))
-    choices = {n: search.choice(n, kept) for n in kept}
+    search, kept = WitnessSearch(reach, solved, tries), list(range(len(solved)))
+    choices: Dict[int, Choice] = {}
     while kept:
+        for n in kept:
+            if n not in choices:
+                choices[n] = search.choice(n, np.array(kept))
+                watch.report(f"{len(choices):,} of {len(kept):,} vectors have successors")
         worst = max(kept, key=lambda n: choices[n].short)
         if choices[worst].short <= most + LEAST_GAIN:
             break
         kept.remove(worst)
-        choices.update({n: search.choice(n, kept) for n in kept if worst in choices[n].successors})
+        choices = {n: choices[n] for n in kept if worst not in choices[n].successors}
     if not kept:
         raise Refusal(f"no successors back a vector within {most:.6f} of one step: let --within be larger")
     left_out = sorted(set(range(len(solved))) - set(kept))
@@ -61,114 +73,115 @@ def find_witness(steps: Steps, solved: Sequence[Solved], within: Optional[float]
 class WitnessSearch:
     """Chooses the successors of vectors: those that are best at beliefs where the vector is best, and better ones by branch and bound."""
 
-    def __init__(self, steps: Steps, solved: Sequence[Solved]) -> None:
-        self.steps, self.solved = steps, solved
-        anywhere = dict.fromkeys(range(steps.states), 1 / steps.states)
-        actions = {vector.action for vector in solved}
-        self.seen = {action: sorted(steps.of(action).beliefs_after(anywhere)) for action in actions}
-        self.beliefs: List[List[Belief]] = [[] for _ in solved]
-        for belief in (*met_beliefs(steps, solved), *islice(simple_beliefs(steps.states), MOST_BETWEEN)):
-            self.beliefs[self.best(belief, range(len(solved)))].append(belief)
-        self.beliefs = [beliefs[:MOST_OF_A_VECTOR] or [anywhere] for beliefs in self.beliefs]
-        self._added: Dict[Tuple[int, int, int], Values] = {}
+    def __init__(self, reach: Reach, solved: Sequence[Solved], tries: int) -> None:
+        self.reach, self.policy, self.tries = reach, policy_of(solved), tries
+        self.values = np.vstack([self.policy.vectors, np.zeros(reach.states)])
+        self.backups = {action: ActionBackup(reach.arrays, action) for action in np.unique(self.policy.actions).tolist()}
+        self.seen = {action: reach.anywhere(action).observation for action in self.backups}
+        self.beliefs = self._beliefs()
+        self._added: Dict[Tuple[int, int], Floats] = {}
 
-    def best(self, belief: Belief, kept: Iterable[int]) -> int:
-        return max(kept, key=lambda n: dot(belief, self.solved[n].values))
+    def _beliefs(self) -> List[Matrix]:
+        """Beliefs at which each vector is the best one; that in which all states are equally likely for a vector without any."""
+        points: List[List[Point]] = [[] for _ in self.policy.vectors]
+        between = list(islice(beliefs_between(self.reach.states), MOST_BETWEEN))
+        simple = [sparse.identity(self.reach.states, format="csr"), *([stacked(between, self.reach.states)] if between else [])]
+        for found, best in followed(self.reach, self.policy, MOST_MET):
+            for n, point in zip(best.tolist(), found):
+                points[n].append(point)
+        for beliefs in simple:
+            for row, n in enumerate(best_of(beliefs, self.policy.vectors)[1].tolist()):
+                points[n].append((beliefs[row].indices, beliefs[row].data))
+        uniform = np.arange(self.reach.states), np.full(self.reach.states, 1 / self.reach.states)
+        return [stacked(found[:MOST_OF_A_VECTOR] or [uniform], self.reach.states) for found in points]
 
-    def choice(self, n: int, kept: Sequence[int]) -> Choice:
+    def choice(self, n: int, kept: Integers) -> Choice:
         """The best successors that are found for a vector, among those that are kept."""
-        found = {self.best_successors(belief, n, kept) for belief in self.beliefs[n]}
-        best = min(Choice(self.short(n, successors), successors) for successors in found)
-        count = len(self.seen[self.solved[n].action])
-        is_small = count <= MOST_OBSERVATIONS and len(kept) * count * self.steps.states <= MOST_TRIED
+        action = int(self.policy.actions[n])
+        found = np.unique(self.best_successors(action, self.beliefs[n], kept), axis=0)
+        short = self.short(n, found)
+        best = Choice(float(short.min()), tuple(found[short.argmin()].tolist()))
+        is_small = len(kept) * found.shape[1] * self.reach.states <= self.tries
         return Branching(self, n, kept, best).run() if is_small else best
 
-    def best_successors(self, belief: Belief, n: int, kept: Sequence[int]) -> Tuple[int, ...]:
-        """For each observation the vector that is best at the belief after it; or at this belief, if it can't come here."""
-        action = self.solved[n].action
-        after = self.steps.of(action).beliefs_after(belief)
-        return tuple(self.best(after[z][1] if z in after else belief, kept) for z in self.seen[action])
+    def best_successors(self, action: int, beliefs: Matrix, kept: Integers) -> Integers:
+        """For each belief and each observation the vector that is best at the belief after it; or at this belief, if it can't come here."""
+        vectors, seen, after = self.policy.vectors[kept], self.seen[action], self.reach.after(action, beliefs)
+        here = best_of(beliefs, vectors)[1]
+        successors = np.repeat(kept[here][:, None], len(seen), axis=1)
+        successors[after.belief, np.searchsorted(seen, after.observation)] = kept[best_of(after.joint, vectors)[1]]
+        return successors
 
-    def short(self, n: int, successors: Tuple[int, ...]) -> float:
-        """How short a vector is of one step with these successors, at the worst state."""
-        action, values = self.solved[n]
-        short: float = max(map(sub, values, self.worth(action, dict(zip(self.seen[action], successors)))))
-        return short
+    def short(self, n: int, successors: Integers) -> Floats:
+        """How short a vector is of one step at the worst state, for each row of successors."""
+        action = int(self.policy.actions[n])
+        rows = np.full((len(successors), self.reach.observations), -1, dtype=np.int64)
+        rows[:, self.seen[action]] = successors
+        worst: Floats = (self.policy.vectors[n] - self.backups[action].worth(self.values, rows)).max(axis=1)
+        return worst
 
-    def added(self, action: int, z: int, m: int) -> Values:
-        """What vector m adds to the worth of an action in each state, if it follows observation z."""
-        if (action, z, m) not in self._added:
-            self._added[action, z, m] = list(map(sub, self.worth(action, {z: m}), self.steps.of(action).gain))
-        return self._added[action, z, m]
-
-    def worth(self, action: int, successors: Dict[int, int]) -> Values:
-        """What an action is worth in each state with these vectors after it; nothing follows the other observations."""
-        after = [[0.0] * self.steps.states] * self.steps.observations
-        for z, m in successors.items():
-            after[z] = self.solved[m].values
-        return self.steps.of(action).worth(after, self.steps.discount)
+    def added(self, action: int, z: int) -> Floats:
+        """What each vector adds to the worth of an action in each state, if it follows an observation."""
+        if (action, z) not in self._added:
+            if (len(self._added) + 1) * self.policy.vectors.size > MOST_KEPT:
+                self._added.clear()
+            arrays = self.reach.arrays
+            chances = arrays.observing[action][:, z].toarray().ravel()
+            self._added[action, z] = arrays.discount * (arrays.transitions[action] @ (self.policy.vectors * chances).T).T
+        return self._added[action, z]
 
     def graph(self, kept: Sequence[int], choices: Dict[int, Choice]) -> Graph:
         """The graph of these choices. A node has no successor for an observation that can't come from any state."""
         node, rows = {n: number for number, n in enumerate(kept)}, []
-        for n in kept:
-            successors = dict(zip(self.seen[self.solved[n].action], choices[n].successors))
-            rows.append([node[successors[z]] if z in successors else None for z in range(self.steps.observations)])
-        return Graph([self.solved[n].action for n in kept], rows)
+        actions = self.policy.actions[list(kept)].tolist()
+        for n, action in zip(kept, actions):
+            successors = dict(zip(self.seen[action].tolist(), choices[n].successors))
+            rows.append([node[successors[z]] if z in successors else None for z in range(self.reach.observations)])
+        return Graph(actions, rows)
 
 
 class Branching:
     """Branch and bound over the successors of a vector, one observation after another, until the search has taken long."""
 
-    def __init__(self, search: WitnessSearch, n: int, kept: Sequence[int], best: Choice) -> None:
-        action, values = search.solved[n]
-        self.best, self.kept, self.left = best, kept, MOST_TRIED // search.steps.states
-        self.added = [{m: search.added(action, z, m) for m in kept} for z in search.seen[action]]
-        self.first = list(map(sub, values, search.steps.of(action).gain))
-        self.most = [[0.0] * len(values)]  # of the observations from one on
+    def __init__(self, search: WitnessSearch, n: int, kept: Integers, best: Choice) -> None:
+        action = int(search.policy.actions[n])
+        self.best, self.kept, self.left = best, kept, search.tries
+        self.step = max(LEAST_STEP, len(kept) * search.reach.states)
+        self.added = [search.added(action, z)[kept] for z in search.seen[action].tolist()]
+        self.first = search.policy.vectors[n] - search.reach.arrays.rewards[action]
+        most = [np.zeros(search.reach.states)]
         for added in reversed(self.added):
-            self.most.insert(0, list(map(add, self.most[0], map(max, zip(*added.values())))))
+            most.append(most[-1] + added.max(axis=0))
+        self.most = most[::-1]  # of the observations from one on
 
     def run(self) -> Choice:
-        self.branch((), self.first)
+        branches = [self.branch((), self.first)]
+        while branches:
+            found = next(branches[-1], None)
+            if found is None:
+                branches.pop()
+            elif len(found[0]) == len(self.added):
+                self.best = Choice(float(found[1].max()), found[0])
+            else:
+                branches.append(self.branch(*found))
         return self.best
 
-    def branch(self, successors: Tuple[int, ...], short: Values) -> None:
-        """Tries all successors for the next observation, the most hopeful first. So far the vector is so short in each state."""
-        if len(successors) == len(self.added):
-            self.best = Choice(max(short), successors)
-            return
+    def branch(self, successors: Tuple[int, ...], short: Floats) -> Iterator[Tuple[Tuple[int, ...], Floats]]:
+        """All successors for the next observation, the most hopeful first, and how short the vector is with each so far, in each state."""
         added, most = self.added[len(successors)], self.most[len(successors) + 1]
-        self.left -= len(self.kept)
-        least = {m: max(map(sub, map(sub, short, added[m]), most)) for m in self.kept}
-        for m in sorted(self.kept, key=least.__getitem__):
+        self.left -= self.step
+        least = (short - added - most).max(axis=1)
+        for m in np.argsort(least, kind="stable").tolist():
             if least[m] >= self.best.short - LEAST_GAIN or self.left < 0:
                 return
-            self.branch((*successors, m), list(map(sub, short, added[m])))
+            yield (*successors, int(self.kept[m])), short - added[m]
 
 
-def met_beliefs(steps: Steps, solved: Sequence[Solved]) -> List[Belief]:
-    """Beliefs that the policy of the vectors meets from the start on: step by step, the likelier ones first."""
-    found: Dict[Tuple[object, ...], Belief] = {}
-    level = [(1.0, steps.start)]
-    for _ in range(MOST_LEVELS):
-        after = []
-        for weight, belief in sorted(level, key=lambda item: -item[0])[:MOST_OF_A_LEVEL]:
-            key = tuple(sorted((state, round(p, BELIEF_DECIMALS)) for state, p in belief.items()))
-            if key not in found:
-                found[key] = belief
-                action = max(solved, key=lambda vector: dot(belief, vector.values)).action
-                after += [(weight * p, there) for p, there in steps.of(action).beliefs_after(belief).values()]
-        level = after
-    return list(found.values())
-
-
-def simple_beliefs(states: int) -> Iterator[Belief]:
-    """Beliefs in one state, and between two."""
-    yield from ({state: 1.0} for state in range(states))
+def beliefs_between(states: int) -> Iterator[Point]:
+    """Beliefs between two states."""
     for part, state, other in product((0.5, 0.75), range(states), range(states)):
         if state != other:
-            yield {state: part, other: 1 - part}
+            yield np.array([state, other]), np.array([part, 1 - part])
 
 
 def own_vectors_text(vectors: Iterable[Solved]) -> bytes:

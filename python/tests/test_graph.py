@@ -1,19 +1,23 @@
 """polcert-evaluate and polcert-graph: what they read, write and refuse, and that polcert certifies what they write."""
 import random
 import re
-import sys
 from typing import List, Optional
-from unittest import mock
 
 from models import random_model
-from support import EXAMPLES, PROGRAM, FolderTest, Said, load, polcert, run_script
+from support import EXAMPLES, HAS_NUMPY, PROGRAM, FolderTest, Said, needs_numpy, polcert, run_script
 from polcert.command import read_source
 from polcert.files import Graph, Source, read_graph, read_model, read_vectors
-from polcert.policies import Solved
-from polcert.values import Steps, evaluate
+from polcert.policies import Solved, read_solved
 from test_mend import rough_model, values
 
-script = load("polcert-graph")
+if HAS_NUMPY:
+    from polcert import witness
+    from polcert.arrays import arrays_of
+    from polcert.evaluation import array_graph, evaluate, listed_graph
+    from polcert.graphs import linked_best, links_of_vectors, without_copies
+    from polcert.reach import Reach, met_vectors, policy_of
+    from polcert.watch import Watch
+
 POLICY = """<?xml version="1.0" encoding="ISO-8859-1"?>
 <Policy version="0.1" type="value" model="tiger.POMDP">
 <AlphaVector vectorLength="2" numObsValue="1" numVectors="5">
@@ -30,6 +34,7 @@ def example(name: str) -> str:
     return str(EXAMPLES / name)
 
 
+@needs_numpy
 class Evaluate(FolderTest):
     def test_vectors_of_the_examples(self) -> None:
         for name in ("tiger", "machine", "stock", "robot"):
@@ -43,7 +48,7 @@ class Evaluate(FolderTest):
             model = read_model(Source("m", random_model(random_, exact=True).text()))
             sizes = model.actions.count, model.observations.count
             graph = [(random_.randrange(sizes[0]), [random_.randrange(3) for _ in range(sizes[1])]) for _ in range(3)]
-            worth = evaluate(Steps(model), Graph([action for action, _ in graph], [row for _, row in graph]))
+            worth = evaluate(arrays_of(model), array_graph(Graph([action for action, _ in graph], [row for _, row in graph])))
             moved = max(abs(x - y) for one, two in zip(worth, values(model, graph)[0]) for x, y in zip(one, two))
             self.assertLess(moved, 1e-4)
 
@@ -61,6 +66,7 @@ class Evaluate(FolderTest):
             self.assertFalse((self.folder / "out").exists())
 
 
+@needs_numpy
 class GraphTest(FolderTest):
     def graph(self, model: str, solved: str, *words: str) -> Said:
         return run_script("polcert-graph", model, solved, "-o", str(self.folder / "out"), *words)
@@ -93,10 +99,10 @@ class Vectors(GraphTest):
         self.assertEqual(self.graph(machine, example("machine.alpha")).status, 0)
         worth = self.certified(machine)
         self.assertTrue(worth is None or worth > 11.39)
-        steps = Steps(read_model(read_source(machine)))
-        solved = script.read_solved(read_source(example("machine.alpha")), steps.model)
-        by_vector = script.linked_best(script.Unroller(steps, solved, 50, True).run(), 1e-3)
-        self.assertLess(by_vector.worth, 5)
+        model, watch = read_model(read_source(machine)), Watch(True)
+        reach, policy = Reach(arrays_of(model)), policy_of(read_solved(read_source(example("machine.alpha")), model))
+        met = met_vectors(reach, policy, 50, 1000, watch)
+        self.assertLess(linked_best(reach, links_of_vectors(reach, met, policy), 20, 1e-3, watch).worth, 11.39)
 
     def test_nodes_are_added_where_they_are_worth_more(self) -> None:
         machine, solved = example("machine.POMDP"), self.file("solved", b"0 0 0\n")
@@ -138,7 +144,7 @@ class Vectors(GraphTest):
 
     def test_nodes_that_do_the_same(self) -> None:
         graph = Graph([0, 1, 0, 1, 1], [[1, 2], [0, None], [3, 0], [2, None], [0, 0]])
-        small = script.without_copies(graph, 2)
+        small = listed_graph(without_copies(array_graph(graph), 2))
         self.assertEqual((small.actions, small.successors), ([0, 1], [[1, 0], [0, None]]))
 
 
@@ -211,7 +217,7 @@ class OwnVectors(GraphTest):
                 for action, values in read_vectors(read_source(str(self.folder / "out.alpha")), read_model(read_source(model)))]
 
     def solved(self, model: str, name: str) -> List[Solved]:
-        return script.read_solved(read_source(name), read_model(read_source(model)))
+        return read_solved(read_source(name), read_model(read_source(model)))
 
     def test_solvers(self) -> None:
         doors = self.file("doors", run_script("polcert-mend", "-q", example("recipes/sarsop/doors.POMDP")).out)
@@ -239,10 +245,10 @@ class OwnVectors(GraphTest):
             actions, observations, nodes = model.actions.count, model.observations.count, random_.randint(1, 4)
             rows = [[random_.randrange(nodes) for _ in range(observations)] for _ in range(nodes)]
             graph = Graph([random_.randrange(actions) for _ in range(nodes)], rows)
-            vectors = [Solved(*vector) for vector in zip(graph.actions, evaluate(Steps(model), graph))]
+            vectors = [Solved(*vector) for vector in zip(graph.actions, evaluate(arrays_of(model), array_graph(graph)).tolist())]
             random_.shuffle(vectors)
             name = self.file("model", model.source.text)
-            said = self.own(name, self.file("solved", script.own_vectors_text(vectors)), "--within", "0.00001")
+            said = self.own(name, self.file("solved", witness.own_vectors_text(vectors)), "--within", "0.00001")
             self.assertIn(f"{nodes} of {nodes} vector", said.err)
             self.assertEqual(self.written(name), vectors)
             self.certified(name)
@@ -259,10 +265,8 @@ class OwnVectors(GraphTest):
 
     def test_without_branch_and_bound(self) -> None:
         tiger = example("tiger.POMDP")
-        witness = sys.modules["polcert.witness"]
         solved = self.solved(tiger, example("tiger.alpha"))
-        with mock.patch.object(witness, "MOST_TRIED", 0):
-            found = witness.find_witness(Steps(read_model(read_source(tiger))), solved, None)
+        found = witness.find_witness(Reach(arrays_of(read_model(read_source(tiger)))), solved, None, 0, Watch(True))
         self.assertEqual((found.kept, found.left_out), (list(range(5)), []))
 
     def test_observations_that_cannot_come(self) -> None:

@@ -8,7 +8,8 @@ The vectors are computed in floating point and written with six decimals, so the
 
 from polcert.command import Parser, read_source, refuse_overwriting, write
 from polcert.files import read_graph, read_model
-from polcert.values import Steps, evaluate, vectors_text
+from polcert.needs import needs_numpy
+from polcert.values import refuse_undiscounted, vectors_text
 
 
 def main() -> int:
@@ -19,7 +20,11 @@ def main() -> int:
     words = parser.parse_args()
     refuse_overwriting([words.model, words.graph], [words.output])
     model = read_model(read_source(words.model))
-    steps = Steps(model)
+    refuse_undiscounted(model)
     graph = read_graph(read_source(words.graph), model)
-    write(vectors_text(graph.actions, evaluate(steps, graph)), words.output)
+    with needs_numpy():
+        from polcert.arrays import arrays_of
+        from polcert.evaluation import array_graph, evaluate
+    values = evaluate(arrays_of(model), array_graph(graph))
+    write(vectors_text(graph.actions, values.tolist()), words.output)
     return 0

@@ -1,0 +1,66 @@
+"""Makes the files of polcert-graph: a policy graph and its vectors, of what a solver wrote."""
+import argparse
+from typing import List, Optional, Sequence, Union
+
+from polcert.arrays import arrays_of
+from polcert.command import say, write_files
+from polcert.evaluation import ArrayGraph, array_graph, evaluate, listed_graph
+from polcert.files import Graph, Model
+from polcert.graphs import Limits, graph_of_vectors
+from polcert.policies import Solved
+from polcert.reach import Reach, best_of, policy_of
+from polcert.values import graph_text, vectors_text
+from polcert.watch import Watch
+from polcert.witness import find_witness, own_vectors_text
+
+# How exactly the graph that is written is evaluated.
+FINE = 1e-7
+
+
+def write_graph_files(model: Model, found: Union[Graph, List[Solved]], names: Sequence[str], words: argparse.Namespace) -> None:
+    """Writes the graph and the vectors that the words of polcert-graph ask for, of what was read."""
+    reach = Reach(arrays_of(model))
+    if isinstance(found, Graph):
+        write_graph(reach, array_graph(found), None, names)
+        return
+    solved = [Solved(action, [-value for value in values]) for action, values in found] if words.costs else found
+    if words.own_vectors:
+        write_witness(reach, solved, names, words)
+        return
+    policy, watch = policy_of(solved), Watch(words.quiet)
+    limits = Limits(words.nodes, words.beliefs, words.points, words.rounds)
+    graph = graph_of_vectors(reach, policy, limits, watch)
+    if watch.is_over():
+        say("polcert-graph: interrupted: the best graph so far is written")
+    write_graph(reach, graph, float(best_of(reach.start, policy.vectors)[0][0]), names)
+
+
+def write_graph(reach: Reach, graph: ArrayGraph, claim: Optional[float], names: Sequence[str]) -> None:
+    """Writes a graph and what its nodes are worth."""
+    values = evaluate(reach.arrays, graph, precision=FINE)
+    texts = graph_text(listed_graph(graph)), vectors_text(graph.actions.tolist(), values.tolist())
+    write_files(dict(zip(names, texts)))
+    earned = float(best_of(reach.start, values)[0][0])
+    claimed = "" if claim is None else f"; the vectors claim {claim:.6f}, {difference(claim - earned)}"
+    nodes = f"{len(graph.actions)} node{'' if len(graph.actions) == 1 else 's'}"
+    say(f"{names[0]}: {nodes}, worth {earned:.6f} from the start{claimed}")
+
+
+def write_witness(reach: Reach, solved: Sequence[Solved], names: Sequence[str], words: argparse.Namespace) -> None:
+    """Writes a graph for a solver's own vectors, and those of them that it backs."""
+    found = find_witness(reach, solved, words.within, words.tries, Watch(words.quiet, can_end_early=False))
+    vectors = [solved[n] for n in found.kept]
+    write_files(dict(zip(names, (graph_text(found.graph), own_vectors_text(vectors)))))
+    claim = best_of(reach.start, policy_of(vectors).vectors)[0][0]
+    say(f"{names[0]}: {len(vectors)} of {len(solved)} vectors, short by at most {found.short:.6f}, claim {claim:.6f} from the start")
+    if found.left_out:
+        say(f"{names[0]}: left out, and not to be run: {numbers(found.left_out)} of {words.solved}, counted from 0")
+
+
+def numbers(vectors: Sequence[int]) -> str:
+    return f"vector{'' if len(vectors) == 1 else 's'} {', '.join(map(str, vectors))}"
+
+
+def difference(more: float) -> str:
+    """By how much the vectors claim more than the graph earns."""
+    return "the same" if abs(more) < 5e-7 else f"{abs(more):.6f} {'more' if more > 0 else 'less'}"
