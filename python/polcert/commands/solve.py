@@ -1,0 +1,95 @@
+"""Solves a model: writes a policy graph with its vectors, and vectors of an upper bound. It needs numpy and scipy.
+
+    polcert-solve M.POMDP -o NAME            writes NAME.pg, NAME.alpha and NAME.bound.alpha
+    polcert check M.POMDP NAME.pg NAME.alpha
+    polcert_bound check M.POMDP NAME.bound.alpha
+
+The solver is a heuristic search (HSVI) that keeps the graph of its backups: the vectors are what this graph is worth, rounded down so that
+the check passes. (If it names a shortfall of a millionth or so, which floating point can leave, run lower, or raise, first.) The search ends
+by time, by the gap between its bounds, or if nothing moves any more. An interrupt (Ctrl-C) ends it early, and what was found so far is
+written, unless a second one comes. MDPs are solved by value iteration.
+
+Standard error has both bounds every few seconds. The last line, on standard output, has them at the end. The upper bound in it is computed
+in floating point: polcert-points computes points that certify one nearly as sharp.
+"""
+import argparse
+from importlib.util import find_spec
+from math import inf
+from time import monotonic
+from typing import TYPE_CHECKING
+
+from polcert.command import Parser, Refusal, read_source, refuse_overwriting, refuse_unwritable, say, show, write_files
+from polcert.commands.points import PROGRESS_SECONDS, amount, gap
+from polcert.files import Model, read_model
+from polcert.informed import refuse_discount_of_1
+from polcert.signals import Interrupt
+from polcert.tokens import MILLION, decimal
+from polcert.values import graph_text, vectors_text
+
+if TYPE_CHECKING:
+    from polcert.solutions import Solution
+    from polcert.solver import Solver
+
+SECONDS, PERCENT = 60.0, 0.00001
+
+
+class Progress:
+    """Writes a line about the search, and then one every few seconds."""
+
+    def __init__(self, is_quiet: bool) -> None:
+        self._begin, self._next = monotonic(), inf if is_quiet else 0.0
+
+    def report(self, solver: "Solver") -> None:
+        now = monotonic()
+        if now >= self._next:
+            self._next = now + PROGRESS_SECONDS
+            bounds = f"from {solver.low:.6f} to {solver.high:.6f}, gap {gap(solver.low, solver.high)}"
+            say(f"polcert-solve: {now - self._begin:.0f} s, {solver.lower.count:,} vectors, {solver.upper.count:,} points: {bounds}")
+
+
+def refuse_without_numpy() -> None:
+    """Raises Refusal if numpy or scipy is missing."""
+    missing = [name for name in ("numpy", "scipy") if find_spec(name) is None]
+    if missing:
+        raise Refusal(f"this command needs {' and '.join(missing)}: install numpy and scipy (Debian: python3-numpy python3-scipy)")
+
+
+def solution(model: Model, words: argparse.Namespace) -> "Solution":
+    """What is found within the limits, or before an interrupt."""
+    from polcert.solutions import solve
+    from polcert.solver import Limits
+
+    interrupt = Interrupt()
+    found = solve(model, Limits(words.seconds, words.gap / 100), lambda: interrupt.is_there, Progress(words.quiet).report)
+    if interrupt.is_there:
+        say("polcert-solve: interrupted: what was found so far is written")
+    return found
+
+
+def arguments() -> argparse.Namespace:
+    parser = Parser("polcert-solve", __doc__)
+    parser.add_argument("model", metavar="MODEL", help="a model (.POMDP) with a discount below 1")
+    parser.add_argument("-o", "--output", metavar="NAME", required=True, help="write NAME.pg, NAME.alpha and NAME.bound.alpha")
+    parser.add_argument("--seconds", metavar="N", type=amount, default=SECONDS, help=f"search so long at most; default {SECONDS:.0f}")
+    near = f"search until the gap is so many percent of the lower bound; default {PERCENT:.5f}"
+    parser.add_argument("--gap", metavar="PERCENT", type=amount, default=PERCENT, help=near)
+    parser.add_argument("-q", "--quiet", action="store_true", help="no lines of progress")
+    return parser.parse_args()
+
+
+def main() -> int:
+    words = arguments()
+    names = [f"{words.output}.{ending}" for ending in ("pg", "alpha", "bound.alpha")]
+    refuse_overwriting([words.model], names)
+    refuse_unwritable(names)
+    refuse_without_numpy()
+    model = read_model(read_source(words.model))
+    refuse_discount_of_1(model)
+    found = solution(model, words)
+    vectors = vectors_text(found.graph.actions, found.values.T.tolist())
+    bound = vectors_text(range(len(found.vectors)), found.vectors.tolist())
+    write_files(dict(zip(names, (graph_text(found.graph), vectors, bound))))
+    size, low = len(found.graph.actions), found.low / MILLION
+    nodes, high = f"{size:,} node{'' if size == 1 else 's'}", max(found.high, low)
+    show(f"{names[0]}: {nodes}, worth {decimal(found.low)} from the start; every policy at most {high:.6f} (gap {gap(low, high)})\n")
+    return 0
