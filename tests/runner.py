@@ -66,9 +66,15 @@ def both_programs(program: str) -> Dict[str, str]:
     return {'polcert': program, 'polcert_bound': str(bound if bound.exists() else TOP / 'crates/polcert_bound/out/polcert_bound')}
 
 
+def python() -> str:
+    """The Python with which scripts run, which has numpy and scipy."""
+    return os.environ.get('PYTHON') or subprocess.run([TOP / 'tools/python'], stdout=subprocess.PIPE, check=True, text=True).stdout.strip()
+
+
 def shell_with(programs: Dict[str, str], room: pathlib.Path, *folders: pathlib.Path) -> Dict[str, str]:
-    """The environment of a shell that finds these programs by name, each with the time limit, and those of these folders."""
-    for name, program in programs.items():
-        (room / name).write_text(f"#!/bin/sh\nexec timeout {SECONDS} '{program}' \"$@\"\n")
+    """The environment of a shell that finds these programs by name, each with the time limit, those of these folders, and `python()`."""
+    for name, program in {**programs, 'python3': python()}.items():
+        limit = '' if name == 'python3' else f'timeout {SECONDS} '
+        (room / name).write_text(f"#!/bin/sh\nexec {limit}'{program}' \"$@\"\n")
         (room / name).chmod(0o755)
     return {**os.environ, 'PATH': ':'.join(map(str, [room, *folders, os.environ['PATH']]))}

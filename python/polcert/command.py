@@ -10,7 +10,7 @@ from contextlib import contextmanager, suppress
 from io import BytesIO
 from typing import Any, BinaryIO, Callable, Dict, Iterator, List, NamedTuple, NoReturn, Optional, Sequence, Tuple
 
-from polcert.signals import held_back, ignore, remove, unfinished
+from polcert.signals import end_at_interrupts, held_back, ignore, remove, unfinished
 from polcert.tokens import FileError, Source, printable
 from polcert.version import VERSION
 
@@ -222,6 +222,7 @@ class _Staged(NamedTuple):
 
 def write_files(texts: Dict[str, bytes]) -> None:
     """Writes files, all of them or none: each beside its name, to which it is moved once all are written. Raises OSError."""
+    end_at_interrupts()
     staged: List[_Staged] = []
     try:
         for name, text in texts.items():

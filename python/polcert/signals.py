@@ -50,16 +50,27 @@ def held_back() -> Iterator[None]:
 
 
 class Interrupt:
-    """Takes note of the first interrupt, in place of ending the script. The second one ends it."""
+    """Takes note of the first interrupt of a run, in place of ending the script. The second one ends it, whoever asked for the first."""
+
+    _is_noted = False
 
     def __init__(self) -> None:
-        self.is_there = False
-        if signal.getsignal(signal.SIGINT) == _end:
+        if not Interrupt._is_noted and signal.getsignal(signal.SIGINT) == _end:
             signal.signal(signal.SIGINT, self._note)
 
+    @property
+    def is_there(self) -> bool:
+        return Interrupt._is_noted
+
     def _note(self, number: int, _: Optional[FrameType]) -> None:
-        self.is_there = True
+        Interrupt._is_noted = True
         signal.signal(number, _end)
+
+
+def end_at_interrupts() -> None:
+    """Lets the first interrupt end the script again, once what was searched is found."""
+    if isinstance(getattr(signal.getsignal(signal.SIGINT), "__self__", None), Interrupt):
+        signal.signal(signal.SIGINT, _end)
 
 
 def ignore() -> None:

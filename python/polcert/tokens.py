@@ -180,6 +180,11 @@ NUMBER_FAULTS = {
 _values: Dict[bytes, Fraction] = {}
 
 
+def is_numeral(text: bytes) -> bool:
+    """Whether a text is a numeral without a sign."""
+    return _NUMERAL.fullmatch(text) is not None
+
+
 def exact_value(numeral: bytes, negative: bool = False) -> Fraction:
     """The exact value of a numeral. Raises NumberFault N2 or N3."""
     value = _values.get(numeral)

@@ -15,9 +15,10 @@ from test_outputs import ALPHA, NAMES, PG, ROUGH, TIGER, OutputTest
 
 # The words of a run of each command that reads a model first, and those after it.
 RUNS: Tuple[Tuple[str, List[str]], ...] = (
-    ("polcert-bound-vectors", []), ("polcert-evaluate", [PG]), ("polcert-graph", [ALPHA, "-o", "out"]),
-    ("polcert-locate", ["model: M4 in item 1 at byte 9"]), ("polcert-mend", []), ("polcert-points", ["-q", "-o", "out", "--seconds", "0"]),
-    ("polcert-report", [PG, ALPHA, "--program", "/bin/true"]),
+    ("polcert-bound-vectors", []), ("polcert-certify", ["-q", "-o", "out", "--seconds", "0"]), ("polcert-evaluate", [PG]),
+    ("polcert-graph", [ALPHA, "-o", "out"]), ("polcert-locate", ["model: M4 in item 1 at byte 9"]), ("polcert-mend", []),
+    ("polcert-points", ["-q", "-o", "out", "--seconds", "0"]), ("polcert-report", [PG, ALPHA, "--program", "/bin/true"]),
+    ("polcert-solve", ["-q", "-o", "out", "--seconds", "0"]),
 )
 
 

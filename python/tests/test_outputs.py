@@ -7,12 +7,13 @@ import sys
 from typing import Dict, Optional, Sequence, Union
 from unittest.mock import patch
 
-from support import EXAMPLES, SCRIPTS, FolderTest, Said
+from support import EXAMPLES, SCRIPTS, FolderTest, Said, needs_numpy
 import polcert.command
 
 TIGER, PG, ALPHA = (str(EXAMPLES / f"tiger.{ending}") for ending in ("POMDP", "pg", "alpha"))
 ROUGH = b"discount: 0.9 values: reward states: 3 actions: 1 observations: 1 T: 0 : * 0.333333 0.333333 0.333333 O: * uniform\n"
-NAMES = ("polcert-bound-vectors", "polcert-evaluate", "polcert-graph", "polcert-locate", "polcert-mend", "polcert-points", "polcert-report")
+NAMES = ("polcert-bound-vectors", "polcert-certify", "polcert-evaluate", "polcert-graph", "polcert-locate", "polcert-mend", "polcert-points",
+         "polcert-report", "polcert-solve")
 
 
 # An open file, or the name of one.
@@ -76,17 +77,20 @@ class StandardOutput(OutputTest):
         self.assertEqual((said.status, said.err.splitlines()[-1:]), (3, [f"{words[0]}: standard output: {reason}"]))
         self.assertNotIn("Traceback", said.err)
 
+    @needs_numpy
     def test_a_full_disk_after_some_bytes(self) -> None:
         for words, buffered in [*((words, "1") for words in PRINTERS), (["polcert-evaluate", TIGER, PG], "")]:
             out = self.file("out", b"")
             self.stopped(words, "File too large", out=out, limits=disk(9), PYTHONUNBUFFERED=buffered)
             self.assertEqual(os.path.getsize(out), 9)
 
+    @needs_numpy
     def test_a_pipe_without_a_reader(self) -> None:
         reader, writer = os.pipe()
         os.close(reader)
         self.stopped(["polcert-evaluate", TIGER, PG], "Broken pipe", out=writer)
 
+    @needs_numpy
     def test_a_closed_one(self) -> None:
         for words in PRINTERS[2:]:
             self.stopped(words, "Bad file descriptor", closed=[1])
@@ -109,6 +113,7 @@ class StandardError(OutputTest):
                 self.assertEqual((said.status, said.out, said.err), (3 if len(words) > 1 else 2, b"", ""), words)
         self.assertEqual(list(self.listed()), ["rough"])
 
+    @needs_numpy
     def test_one_that_is_closed_and_not_needed(self) -> None:
         said = self.run_with(["polcert-evaluate", TIGER, PG], closed=[2])
         self.assertEqual((said.status, said.out), (0, (EXAMPLES / "tiger.alpha").read_bytes()))
@@ -122,6 +127,7 @@ class StandardError(OutputTest):
 
 
 class Files(OutputTest):
+    @needs_numpy
     def test_a_full_disk_leaves_the_file_as_it_was(self) -> None:
         out = self.file("out", b"before")
         for words in WRITERS:
@@ -142,6 +148,7 @@ class Files(OutputTest):
         os.umask(mask)
         self.assertEqual([os.stat(path).st_mode & 0o777 for path in (old, new)], [0o640, 0o666 & ~mask])
 
+    @needs_numpy
     def test_devices(self) -> None:
         said = self.run_with(["polcert-mend", TIGER, "-q", "-o", "/dev/stdout"])
         self.assertEqual((said.status, said.out), (0, (EXAMPLES / "tiger.POMDP").read_bytes()))
@@ -167,6 +174,7 @@ class Files(OutputTest):
 
 
 class TwoFiles(OutputTest):
+    @needs_numpy
     def test_a_full_disk(self) -> None:
         for old in ({}, {"out.pg": b"graph", "out.alpha": b"vectors"}):
             for name, text in old.items():
@@ -215,6 +223,7 @@ class Interrupts(OutputTest):
                 out, err = child.communicate()
             self.refused(Said(child.returncode, out, err.decode()), word, status)
 
+    @needs_numpy
     def test_while_it_writes(self) -> None:
         kill = "import os, signal\nreal = os.{0}\ndef {0}(*args):\n    os.kill(os.getpid(), signal.SIGINT)\n    real(*args)\nos.{0} = {0}\n"
         self.refused(self.run_with(self.graph, patched=kill.format("fsync")), "interrupted", 130)
@@ -222,6 +231,7 @@ class Interrupts(OutputTest):
         self.refused(self.run_with(self.graph, patched=kill.format("replace")), "interrupted", 130)
         self.assertEqual(sorted(self.listed()), ["out.alpha", "out.pg"])
 
+    @needs_numpy
     def test_while_python_ends(self) -> None:
         # (this object is destroyed when Python has put back the handlers of signals)
         late = "import os, sys\nclass Late:\n    def __del__(self, kill=os.kill, it=os.getpid()):\n        kill(it, 2)\nsys.late = Late()\n"

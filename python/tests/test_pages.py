@@ -1,10 +1,18 @@
 """The man pages and the completions, which are made of the commands' words."""
+import os
 import re
 import unittest
+from unittest.mock import patch
 
 from support import SCRIPTS, TOP, load_file, run_script
 
 TOOL = load_file("command_pages", TOP / "tools" / "command-pages")
+
+
+def help_of(name: str) -> str:
+    """The help of a command, with no word cut at the end of a line."""
+    with patch.dict(os.environ, COLUMNS="10000"):
+        return run_script(name, "--help").out.decode()
 
 
 class Pages(unittest.TestCase):
@@ -18,7 +26,7 @@ class Pages(unittest.TestCase):
         """Each option that a command prints in its help is in its man page and in both completions."""
         completions = {name: (TOP / name).read_text() for name in (TOOL.BASH, TOOL.ZSH)}
         for path in SCRIPTS.glob("polcert-*"):
-            options = re.findall(r"^  (-\w|--[\w-]+)(?:[ ,].*?(--[\w-]+))?(?:\s|$)", run_script(path.name, "--help").out.decode(), re.M)
+            options = re.findall(r"^  (-\w|--[\w-]+)(?:[ ,].*?(--[\w-]+))?(?:\s|$)", help_of(path.name), re.M)
             page = (TOP / f"docs/{path.name}.1").read_text()
             in_bash = re.findall(rf"^    {path.name}\) words='(.*)' ;;$", completions[TOOL.BASH], re.M)
             in_zsh = re.findall(rf"^  {path.name}\) words_of=\((.*?)^  \) ;;$", completions[TOOL.ZSH], re.M | re.S)

@@ -11,7 +11,7 @@ from typing import Dict, Iterator, List, NamedTuple, Optional, Sequence, Tuple
 from unittest.mock import patch
 
 from models import random_model
-from support import EXAMPLES, SCRIPTS, FolderTest, Said, run_script
+from support import EXAMPLES, HAS_NUMPY, SCRIPTS, FolderTest, Said, needs_numpy, run_script
 from test_outputs import OutputTest, disk
 import polcert.certificate
 from polcert.certificate import certified_points, informed_vectors, passing
@@ -22,7 +22,11 @@ from polcert.points import (
     Excess, PointCheck, Points, WholeCells, check_points, check_vectors, least_raise, most_from_points, points_text, read_points,
 )
 from polcert.search import Limits, Search
-from polcert.values import Steps, evaluate
+from polcert.values import Steps
+
+if HAS_NUMPY:
+    from polcert.arrays import arrays_of
+    from polcert.evaluation import array_graph, evaluate
 
 TIGER = str(EXAMPLES / "tiger.POMDP")
 TIGER_VECTORS = [[87_179_494, 87_179_494], [-17_179_480, 92_820_520], [92_820_520, -17_179_480]]
@@ -342,12 +346,13 @@ class Certificates(FolderTest):
         self.assertLessEqual(len(points.beliefs), 5)
         self.assertLess(most_from_points(cells, vectors, points), 14_688_885)
 
+    @needs_numpy
     def test_lower_vectors_are_backed_by_their_successors(self) -> None:
         for name in ("tiger", "machine"):
             search = certified(read_model(read_source(str(EXAMPLES / f"{name}.POMDP"))), 25)[3]
             vectors, observations = search.lower.vectors, range(search.lower.steps.observations)
             rows = [[vector.successors.get(z, vector.otherwise) for z in observations] for vector in vectors]
-            worth = evaluate(search.lower.steps, Graph([vector.action for vector in vectors], rows))
+            worth = evaluate(arrays_of(search.lower.steps.model), array_graph(Graph([vector.action for vector in vectors], rows))).tolist()
             for vector, values in zip(vectors, worth):
                 self.assertTrue(all(x <= y + 1e-7 for x, y in zip(vector.values, values)))
 

@@ -2,7 +2,7 @@
 import io
 import re
 
-from support import EXAMPLES, PROGRAM, TOP, FolderTest, Said, load_file, polcert, run_script
+from support import EXAMPLES, PROGRAM, TOP, FolderTest, Said, load_file, needs_numpy, polcert, run_script
 from polcert.command import read_source
 from polcert.files import FileError, Graph, Source, read_graph, read_model, read_vectors
 from polcert.policies import Solved, read_solved
@@ -91,14 +91,17 @@ class Recipes(RecipeTest):
     def test_pomdp_solve(self) -> None:
         self.certified(str(TIGER), str(RECIPES / "pomdp-solve/tiger.pg"), str(RECIPES / "pomdp-solve/tiger.alpha"), 19.371368)
 
+    @needs_numpy
     def test_sarsop(self) -> None:
         model = self.mended("sarsop/doors.POMDP", "12 rows mended, the start mended")
         self.assertIn("the vectors claim 8.084217", self.from_graph(model, "sarsop/doors.policy", 8.084214))
 
+    @needs_numpy
     def test_pomdps_jl(self) -> None:
         model = self.mended("pomdps-jl/baby.POMDP", "2 numbers rewritten, 0 rows mended")
         self.from_graph(model, "pomdps-jl/baby.solved", -16.305483)
 
+    @needs_numpy
     def test_r_pomdp(self) -> None:
         model = self.mended("r-pomdp/tiger.POMDP", "4 numbers rewritten, 0 rows mended")
         self.assertNotIn("claim", self.from_graph(model, "r-pomdp/tiger.table", 76 / 69))
@@ -107,10 +110,12 @@ class Recipes(RecipeTest):
         model = self.mended("pomdp-py/tiger.pomdp", "nothing to mend")
         self.certified(model, str(RECIPES / "pomdp-py/tiger.pg"), str(RECIPES / "pomdp-py/tiger.alpha"), 19.371368)
 
+    @needs_numpy
     def test_ai_toolbox(self) -> None:
         said = self.from_graph(str(TIGER), "ai-toolbox/tiger.solved", 19.371368)
         self.assertIn("the vectors claim 4.428530, 14.942838 less", said)
 
+    @needs_numpy
     def test_a_program_of_your_own(self) -> None:
         written = load_file("write_model", RECIPES / "python/write_model.py")
         text = io.StringIO()

@@ -11,7 +11,7 @@ from typing import Dict, Iterable, List, NamedTuple, Optional, Sequence, Set, Tu
 
 from polcert.files import MILLION, Entry, FileError, Model, Numbers, Source, Table, is_millionths, place_of_row, read_model
 from polcert.command import Parser, Refusal, read_source, refuse_overwriting, say, write
-from polcert.tokens import NumberFault, decimal, exact_value, written_decimals
+from polcert.tokens import NumberFault, decimal, exact_value, is_numeral, written_decimals
 
 HEAD = "# Rows that did not sum to one, mended by polcert-mend:"
 HALF = Fraction(1, 2)
@@ -400,9 +400,14 @@ def report(model: Model, mend: Mend, is_quiet: bool) -> None:
     if not mend.lines:
         say(f"{source.name}: nothing to mend")
         return
+    for line in summary(model, mend):
+        say(f"{source.name}: {line}")
+
+
+def summary(model: Model, mend: Mend) -> List[str]:
+    """How many changes there are, and how far values move."""
     parts = [count(mend.numbers, "number rewritten", "numbers rewritten"), count(mend.rows, "row mended", "rows mended")]
-    say(f"{source.name}: {', '.join(parts + ['the start mended'] * mend.start)}")
-    say(f"{source.name}: {bound(model, mend.moved)}")
+    return [", ".join(parts + ["the start mended"] * mend.start), bound(model, mend.moved)]
 
 
 def count(number: int, one: str, many: str) -> str:
@@ -412,10 +417,11 @@ def count(number: int, one: str, many: str) -> str:
 def amount(word: str) -> Fraction:
     """The argument of --within."""
     try:
-        value = exact_value(word.encode())
-    except (NumberFault, AttributeError, ValueError):
-        raise argparse.ArgumentTypeError(f"{word} is no number from 0 on") from None
-    return value
+        if is_numeral(word.encode()):
+            return exact_value(word.encode())
+    except (NumberFault, ValueError):
+        pass
+    raise argparse.ArgumentTypeError(f"{word} is no number from 0 on")
 
 
 def arguments() -> argparse.Namespace:

@@ -1,0 +1,152 @@
+"""Takes a model to certificates: what a controller earns, proved from below and from above, and how near that is to the best.
+
+    polcert-certify M.POMDP -o DIR           solves the model
+    polcert-certify M.POMDP POLICY -o DIR    certifies a policy: a graph (.pg), or anything else that polcert-graph takes
+
+A model whose rows sum to one only nearly is mended first, as by polcert-mend. DIR gets the model, the graph with its vectors, lowered and
+raised so that polcert says yes to them, a bound on every policy, and a report, each named for the model. The proved programs answer; what
+is computed here only has to pass.
+
+Standard error has a line for each step, with its seconds. Standard output has what is certified, or with --json the report as JSON. The
+exit status is 0 if a lower bound is certified, and 1 if there is none. An interrupt (Ctrl-C) ends the search early.
+"""
+import argparse
+import os
+from typing import Dict, List, NamedTuple, Optional
+
+from polcert.certification import Certifier, Step, Uncertified
+from polcert.certification_report import json_of, markdown_of
+from polcert.command import Parser, Refusal, read_source, refuse_overwriting, say, show, write_files
+from polcert.commands.mend import amount as probability
+from polcert.commands.points import amount, in_floats, search_points
+from polcert.commands.report import Program
+from polcert.controllers import given_controller, solved_controller
+from polcert.files import Model
+from polcert.informed import ROUNDS, TOLERANCE, bound, refuse_discount_of_1
+from polcert.needs import needs_numpy
+from polcert.points import MOST_POINTS, WholeCells, points_text
+from polcert.programs import ProgramError
+from polcert.signals import Interrupt
+from polcert.values import Steps, vectors_text
+
+SECONDS, PERCENT = 40.0, 0.00001
+# The part of the time for the controller; the rest is for points.
+SOLVING_PART = 0.5
+ENDINGS = ("POMDP", "pg", "alpha", "lowered.alpha", "raised.alpha", "bound.alpha", "bound.points", "report.md", "report.json")
+
+
+class Bound(NamedTuple):
+    """Vectors and, if they are sharper, points that bound every policy, as texts."""
+
+    vectors: bytes
+    points: Optional[bytes]
+
+
+def bound_of(model: Model, seconds: float, is_quiet: bool) -> Bound:
+    """The vectors of an MDP, which are sharp; else vectors and belief points that are searched so long."""
+    steps = Steps(model)
+    if model.is_mdp:
+        vectors = bound(steps, TOLERANCE, ROUNDS)[0]
+        return Bound(vectors_text(range(len(vectors)), vectors), None)
+    cells = WholeCells(model)
+    limits = argparse.Namespace(seconds=seconds, points=MOST_POINTS, gap=PERCENT, quiet=is_quiet)
+    found = search_points(cells, steps, limits)
+    return Bound(vectors_text(range(cells.actions), in_floats(found.vectors)), points_text(cells, found.points))
+
+
+class Work:
+    """The steps of a run."""
+
+    def __init__(self, words: argparse.Namespace) -> None:
+        self.words, self.given = words, [read_source(name) for name in (words.model, words.policy) if name is not None]
+        self.is_quiet, self.interrupt = words.quiet, Interrupt()
+        self.certifier = Certifier(stem(words.model), words.within, words.programs, self.report)
+
+    def report(self, step: Step) -> None:
+        if not self.is_quiet:
+            say(f"{step.seconds:6.1f} s  {step.name}: {step.line}")
+
+    def run(self) -> bool:
+        """Whether a lower bound is certified."""
+        model = self.certifier.read_model(self.given[0])
+        refuse_discount_of_1(model)
+        try:
+            self.certify_controller(model)
+        except Uncertified as fault:
+            say(f"polcert-certify: no lower bound: {fault}")
+            return False
+        try:
+            self.certify_bound(model)
+        except Uncertified as fault:
+            say(f"polcert-certify: no bound on every policy: {fault}")
+        return True
+
+    def certify_controller(self, model: Model) -> None:
+        words = self.words
+        if words.policy is None:
+            seconds = SOLVING_PART * words.seconds
+            controller = solved_controller(model, seconds, words.gap / 100, lambda: self.interrupt.is_there, words.quiet)
+            self.certifier.done("solve", controller.line)
+        else:
+            controller = given_controller(self.given[1], model, words.quiet)
+            self.certifier.done("graph", controller.line)
+        self.certifier.certify(model.source.text, controller)
+
+    def certify_bound(self, model: Model) -> None:
+        found = bound_of(model, (1 - SOLVING_PART) * self.words.seconds, self.words.quiet)
+        self.certifier.certify_bound(model.source.text, found.vectors, found.points)
+
+    def texts(self) -> Dict[str, bytes]:
+        """The files of the certificate and its reports, by their names."""
+        given: Dict[str, bytes] = {source.name: source.text for source in self.given}
+        programs = [Program(program).about() for program in (self.certifier.polcert, self.certifier.polcert_bound)]
+        found = self.certifier.found
+        texts = dict(found.files)
+        texts[f"{found.name}.report.md"] = markdown_of(found, given, programs).encode()
+        texts[f"{found.name}.report.json"] = json_of(found, given, programs).encode()
+        return texts
+
+
+def stem(name: str) -> str:
+    """The name of a model's file without folders and endings, for the names of the other files."""
+    base = os.path.basename(name)
+    for ending in (".gz", ".POMDP", ".pomdp", ".mdp", ".MDP"):
+        base = base[: -len(ending)] if base.endswith(ending) else base
+    return base if base not in ("", "-") else "model"
+
+
+def arguments() -> argparse.Namespace:
+    parser = Parser("polcert-certify", __doc__)
+    parser.add_argument("model", metavar="MODEL", help="a model (.POMDP) with a discount below 1")
+    parser.add_argument("policy", metavar="POLICY", nargs="?", help="a policy to certify; without one the model is solved")
+    parser.add_argument("-o", "--output", metavar="DIR", required=True, help="write the files into this folder, which is made if it is missing")
+    parser.add_argument("--seconds", metavar="N", type=amount, default=SECONDS, help=f"search so long at most; default {SECONDS:.0f}")
+    near = f"search until the gap is so many percent of the lower bound; default {PERCENT:.5f}"
+    parser.add_argument("--gap", metavar="PERCENT", type=amount, default=PERCENT, help=near)
+    most = "the most that mending may move a probability; default 0.00001"
+    parser.add_argument("--within", metavar="X", type=probability, default=probability("0.00001"), help=most)
+    parser.add_argument("--json", action="store_true", help="write the report as JSON to standard output")
+    parser.add_argument("--programs", metavar="DIR", default="", help="the folder of polcert and polcert_bound; default: the path")
+    parser.add_argument("-q", "--quiet", action="store_true", help="no lines of progress")
+    return parser.parse_args()
+
+
+def main() -> int:
+    words = arguments()
+    names = [os.path.join(words.output, f"{stem(words.model)}.{ending}") for ending in ENDINGS]
+    refuse_overwriting([name for name in (words.model, words.policy) if name is not None], names)
+    with needs_numpy():
+        import numpy  # noqa: F401
+        import scipy  # type: ignore[import]  # noqa: F401
+    work = Work(words)
+    try:
+        is_certified = work.run()
+        texts = work.texts()
+    except ProgramError as fault:
+        raise Refusal(str(fault)) from None
+    os.makedirs(words.output, exist_ok=True)
+    write_files({os.path.join(words.output, name): text for name, text in texts.items()})
+    found = work.certifier.found
+    lines: List[str] = [f"{found.name}: {'; '.join(found.sentences()) or 'nothing is certified'}"]
+    show(texts[f"{found.name}.report.json"].decode() if words.json else "\n".join(lines) + "\n")
+    return 0 if is_certified else 1

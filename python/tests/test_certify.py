@@ -1,0 +1,94 @@
+"""polcert-certify: from a model, or a model and a policy, to certificates and a report."""
+import json
+import os
+import re
+from fractions import Fraction
+from typing import Any, Dict
+
+from support import EXAMPLES, PROGRAM, FolderTest, Said, load, needs_program, run_script
+from polcert.certification import percent
+
+script = load("polcert-certify")
+# The optimum of the tiger, by each point-based solver that is cited: 19.3713.
+TIGER = str(EXAMPLES / "tiger.POMDP")
+# One state is left with one half of the weight, 0.333333 + 0.333333 + 0.333333 is no 1, and each step earns 1: 10 in all.
+ROUGH = b"discount: 0.9 values: reward states: 3 actions: 1 observations: 1 T: 0 : * 0.333333 0.333333 0.333333 O: * uniform R: * : * : * : * 1\n"
+# Who takes action 1 earns 1 a step, which is 2 in all; action 0 earns nothing.
+TWO_ACTIONS = b"discount: 0.5 values: reward states: 1 actions: 2 observations: 1 T: * identity O: * uniform R: 1 : * : * : * 1\n"
+# An MDP: from each state the other one follows; a step from the second earns 1. So they are worth 2/3 and 4/3, of which the mean is 1.
+MDP = b"discount: 0.5 values: reward states: 2 actions: 1 T: 0 0 1 1 0 R: 0 : 1 : 0 1\n"
+UNDISCOUNTED = b"discount: 1 values: reward states: 1 actions: 1 observations: 1 T: * identity O: * uniform\n"
+
+
+class Words(FolderTest):
+    def test_percents_are_rounded_up(self) -> None:
+        one = Fraction(1)
+        for gap, low, said in ((one, 3, ", 34 %"), (one, -4, ", 25 %"), (0 * one, 5, ", 0 %"), (one / 10**6, 19, ", 0.0000053 %")):
+            self.assertEqual(percent(gap, Fraction(low)), said)
+        self.assertEqual(percent(Fraction(1), Fraction(0)), "")
+
+    def test_names_of_files(self) -> None:
+        for name, stem in (("a/tiger.POMDP", "tiger"), ("t.POMDP.gz", "t"), ("-", "model"), ("my.model", "my.model"), ("x.mdp", "x")):
+            self.assertEqual(script.stem(name), stem)
+
+
+@needs_program
+class Certificates(FolderTest):
+    def certify(self, *words: str, status: int = 0, seconds: str = "60") -> Said:
+        folder = os.path.dirname(os.path.realpath(str(PROGRAM)))
+        said = run_script("polcert-certify", *words, "-o", str(self.folder / "out"), "--seconds", seconds, "--programs", folder, "-q")
+        self.assertEqual(said.status, status, said.err)
+        return said
+
+    def report(self, name: str) -> Dict[str, Any]:
+        found: Dict[str, Any] = json.loads((self.folder / "out" / f"{name}.report.json").read_text())
+        return found
+
+    def test_the_tiger_is_solved(self) -> None:
+        said = self.certify(TIGER)
+        most = r"every policy at most ([0-9.]+); within ([0-9.]+), 0\.0[0-9]* %"
+        found = re.fullmatch(rf"tiger: this controller earns between (19\.3713[0-9]*) and ([0-9.]+); {most}\n", said.out.decode())
+        self.assertIsNotNone(found, said.out)
+        assert found
+        low, high, highest, gap = map(Fraction, found.groups())
+        self.assertTrue(low <= high <= low + Fraction("0.0001") and low <= highest <= Fraction("19.3724"), found.groups())
+        self.assertEqual(gap, highest - low)
+        report = self.report("tiger")
+        self.assertEqual(report["controller"]["at_least"], found[1])
+        self.assertEqual((report["every_policy"]["at_most"], report["gap"], report["certified"]), (found[3], found[4], True))
+        self.assertEqual({row["name"] for row in report["files"]} - {TIGER}, {path.name for path in (self.folder / "out").iterdir()}
+                         - {"tiger.report.md", "tiger.report.json"})
+
+    def test_a_graph_that_is_given(self) -> None:
+        model, graph = self.file("two.POMDP", TWO_ACTIONS), self.file("lazy.pg", b"0 0 0\n")
+        said = self.certify(model, graph)
+        self.assertEqual(said.out, b"two: this controller earns between 0 and 0; every policy at most 2; within 2\n")
+        said = self.certify(model, self.file("good.alpha", b"1\n2\n\n0\n1\n"), "--json")
+        self.assertEqual(json.loads(said.out)["controller"], {"at_least": "2", "at_most": "2"})
+        self.assertEqual(json.loads(said.out)["gap"], "0")
+
+    def test_an_mdp(self) -> None:
+        said = self.certify(self.file("m.mdp", MDP))
+        line = rb"\Am: this controller earns between (1|0\.99999[0-9]) and 1(\.00000[0-9])?; every policy at most 1(\.00000[0-9])?; "
+        self.assertRegex(said.out, line)
+
+    def test_a_model_is_mended(self) -> None:
+        said = self.certify(self.file("rough.POMDP", ROUGH))
+        self.assertRegex(said.out, rb"\Arough: this controller earns between (10|9\.9999[0-9]*) and 10(\.0000[0-9]*)?; every policy at most 10")
+        steps = [step["name"] for step in self.report("rough")["steps"]]
+        self.assertEqual(steps[:2], ["mend", "model"])
+        self.assertTrue((self.folder / "out/rough.POMDP").read_bytes().endswith(b"T: * : * uniform\n"))
+
+    def test_what_is_refused(self) -> None:
+        for text, reason in (
+            (b"states: 2", "bad.POMDP:1:10: M7: "), (UNDISCOUNTED, "discount is 1"),
+            (ROUGH.replace(b"0.333333 0.333333 0.333333", b"0.3 0.3 0.3"), "the row `T: 0 : 0` sums to 0.9"),
+        ):
+            said = self.certify(self.file("bad.POMDP", text), status=2)
+            self.assertIn(reason, said.err)
+            self.assertEqual((said.out, (self.folder / "out").exists()), (b"", False))
+
+    def test_no_program(self) -> None:
+        said = run_script("polcert-certify", TIGER, "-o", str(self.folder / "out"), "--programs", str(self.folder), "-q")
+        self.assertEqual((said.status, said.out), (2, b""))
+        self.assertRegex(said.err, r"\Apolcert-certify: [^\n]*polcert: there is no such program[^\n]*\n\Z")
