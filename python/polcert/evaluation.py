@@ -24,7 +24,7 @@ FEW_ENDS = 12
 
 
 class ArrayGraph(NamedTuple):
-    """A policy graph as arrays: the action of each node, and its successor for each observation, -1 if there is none."""
+    """A policy graph of N nodes as arrays: the action of each (N), and its successor for each observation, -1 for none (N by Z)."""
 
     actions: Integers
     successors: Integers

@@ -1,11 +1,11 @@
 """What a policy graph is worth, in numpy: found for all nodes at once, and in millionths that pass polcert's check."""
-from typing import Callable, List, NamedTuple, Optional
+from typing import Callable, List, Optional
 
 import numpy as np
 
 from polcert.arrays import Arrays, Floats, Matrix
-from polcert.belief_nodes import Integers
 from polcert.command import Refusal
+from polcert.evaluation import ArrayGraph, Integers
 from polcert.tokens import MILLION
 
 PRECISION = 1e-9
@@ -16,13 +16,6 @@ MOST_SOLVING, STRAYED = 2_000, 1e4
 MOST_CELLS = 2_000_000
 # What floating point may add to a value, in millionths.
 NOISE = 1e-6
-
-
-class ArrayGraph(NamedTuple):
-    """A policy graph of N nodes: the action of each (N), and its successor for each observation, -1 for none (N by Z)."""
-
-    actions: Integers
-    successors: Integers
 
 
 class Sweeper:

@@ -10,7 +10,8 @@ import numpy as np
 
 from polcert.arrays import Arrays, Floats
 from polcert.belief_nodes import Batch, BeliefNode, BeliefNodes, BeliefStep, Integers
-from polcert.graph_values import ArrayGraph, Sweeper, evaluate
+from polcert.evaluation import ArrayGraph
+from polcert.graph_values import Sweeper, evaluate
 
 # A vector has to be worth more than all others by this part of its size.
 LEAST_MOVE = 1e-10

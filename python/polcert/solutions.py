@@ -8,7 +8,8 @@ from polcert.arrays import Arrays, Floats, arrays_of
 from polcert.belief_nodes import Integers
 from polcert.fast_informed import informed_bound
 from polcert.files import Graph, Model
-from polcert.graph_values import ArrayGraph, evaluate, in_millionths, part, reached
+from polcert.evaluation import ArrayGraph, listed_graph
+from polcert.graph_values import evaluate, in_millionths, part, reached
 from polcert.points import start_shares
 from polcert.lower_vectors import IsOver
 from polcert.solver import Limits, Solver
@@ -55,7 +56,6 @@ def solution(model: Model, arrays: Arrays, graph: ArrayGraph, values: Floats, ve
     values = in_millionths(arrays, graph, evaluate(arrays, graph, values[:, nodes]))
     shares = start_shares(model)
     worths = [sum(share * round(column[state] * MILLION) for state, share in shares.items()) for column in values.T]
-    successors = [[None if node < 0 else node for node in row] for row in graph.successors.tolist()]
     low = floor(max(worths) / sum(shares.values()))
     most = vectors.max(axis=0) @ arrays.start if model.is_mdp else (vectors @ arrays.start).max()
-    return Solution(Graph(graph.actions.tolist(), successors), values, vectors, low, min(high, float(most)))
+    return Solution(listed_graph(graph), values, vectors, low, min(high, float(most)))

@@ -25,7 +25,7 @@ if HAS_NUMPY:
     from polcert.belief_nodes import Batch, BeliefNode
     from polcert.fast_informed import informed_bound
     from polcert import evaluation
-    from polcert.graph_values import ArrayGraph, evaluate as evaluate_arrays
+    from polcert.graph_values import evaluate as evaluate_arrays
     from polcert.sawtooth import Sawtooth
     from polcert.solutions import Solution, solve
     from polcert.solver import Limits
@@ -182,9 +182,8 @@ class Parts(unittest.TestCase):
         for name in ("tiger", "machine"):
             model = read_model(read_source(str(EXAMPLES / f"{name}.POMDP")))
             graph = read_graph(read_source(str(EXAMPLES / f"{name}.pg")), model)
-            successors = [[-1 if node is None else node for node in row] for row in graph.successors]
-            arrays, found_graph = arrays_of(model), ArrayGraph(np.array(graph.actions), np.array(successors))
-            right = evaluation.evaluate(arrays, evaluation.array_graph(graph))
+            arrays, found_graph = arrays_of(model), evaluation.array_graph(graph)
+            right = evaluation.evaluate(arrays, found_graph)
             found = evaluate_arrays(arrays, found_graph, np.zeros((model.states.count, len(right))))
             self.assertLess(abs(found.T - right).max(), 1e-8)
 
@@ -324,9 +323,9 @@ class Refused(OutputTest):
             self.assertEqual((said.status, said.out), (2, b""), words)
 
     def test_without_numpy(self) -> None:
-        for missing, named in ((("numpy", "scipy"), "numpy and scipy"), (("scipy",), "scipy")):
+        for missing, named in ((("numpy", "scipy"), "numpy"), (("scipy",), "scipy")):
             lines = "".join(f"sys.modules[{name!r}] = None\n" for name in missing)
-            if HAS_NUMPY or named == "numpy and scipy":
+            if HAS_NUMPY or named == "numpy":
                 reason = rf"this command needs {named}: install numpy and scipy \(Debian: python3-numpy python3-scipy\)"
                 self.refused_model(None, reason, patched=f"import sys\n{lines}")
         self.assertIn(b"--gap", self.run_with(["polcert-solve", "--help"], patched="import sys\nsys.modules['numpy'] = None\n").out)

@@ -13,15 +13,15 @@ Standard error has both bounds every few seconds. The last line, on standard out
 in floating point: polcert-points computes points that certify one nearly as sharp.
 """
 import argparse
-from importlib.util import find_spec
 from math import inf
 from time import monotonic
 from typing import TYPE_CHECKING
 
-from polcert.command import Parser, Refusal, read_source, refuse_overwriting, refuse_unwritable, say, show, write_files
+from polcert.command import Parser, read_source, refuse_overwriting, refuse_unwritable, say, show, write_files
 from polcert.commands.points import PROGRESS_SECONDS, amount, gap
 from polcert.files import Model, read_model
 from polcert.informed import refuse_discount_of_1
+from polcert.needs import needs_numpy
 from polcert.signals import Interrupt
 from polcert.tokens import MILLION, decimal
 from polcert.values import graph_text, vectors_text
@@ -45,13 +45,6 @@ class Progress:
             self._next = now + PROGRESS_SECONDS
             bounds = f"from {solver.low:.6f} to {solver.high:.6f}, gap {gap(solver.low, solver.high)}"
             say(f"polcert-solve: {now - self._begin:.0f} s, {solver.lower.count:,} vectors, {solver.upper.count:,} points: {bounds}")
-
-
-def refuse_without_numpy() -> None:
-    """Raises Refusal if numpy or scipy is missing."""
-    missing = [name for name in ("numpy", "scipy") if find_spec(name) is None]
-    if missing:
-        raise Refusal(f"this command needs {' and '.join(missing)}: install numpy and scipy (Debian: python3-numpy python3-scipy)")
 
 
 def solution(model: Model, words: argparse.Namespace) -> "Solution":
@@ -82,10 +75,10 @@ def main() -> int:
     names = [f"{words.output}.{ending}" for ending in ("pg", "alpha", "bound.alpha")]
     refuse_overwriting([words.model], names)
     refuse_unwritable(names)
-    refuse_without_numpy()
     model = read_model(read_source(words.model))
     refuse_discount_of_1(model)
-    found = solution(model, words)
+    with needs_numpy():
+        found = solution(model, words)
     vectors = vectors_text(found.graph.actions, found.values.T.tolist())
     bound = vectors_text(range(len(found.vectors)), found.vectors.tolist())
     write_files(dict(zip(names, (graph_text(found.graph), vectors, bound))))
