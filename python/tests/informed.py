@@ -3,10 +3,9 @@ from fractions import Fraction
 from math import ceil
 from typing import Dict, List, NamedTuple, Sequence, Tuple
 
-from models import Cell, Entries
+from models import Cell, Cells, Entries
 from polcert.files import Model
 
-Cells = Dict[Cell, Fraction]
 Millionths = List[int]
 
 
@@ -72,9 +71,9 @@ def raised(vectors: Sequence[Millionths], constant: int) -> List[Millionths]:
 def exact_model(model: Model) -> Exact:
     """The cells of a model, by its reader."""
     actions, states, sign = range(model.actions.count), range(model.states.count), -1 if model.is_cost else 1
-    t = {(a, s, e): p for a in actions for s in states for e, p in model.transitions.row(a, s).items()}
-    o = {(a, e, z): q for a in actions for e in states for z, q in model.observing.row(a, e).items()}
-    r = {}
+    t: Cells = {(a, s, e): p for a in actions for s in states for e, p in model.transitions.row(a, s).items()}
+    o: Cells = {(a, e, z): q for a in actions for e in states for z, q in model.observing.row(a, e).items()}
+    r: Cells = {}
     for a, s, e in t:
         block = model.rewards.of(a, s)
         r.update(((a, s, e, z), sign * block.at(e, z)) for z in model.observing.row(a, e))

@@ -6,6 +6,7 @@ from math import prod
 from typing import Dict, NamedTuple, Optional, Sequence, Tuple
 
 Cell = Tuple[int, ...]
+Cells = Dict[Cell, Fraction]
 
 
 class Head(NamedTuple):
@@ -22,13 +23,14 @@ class Entries:
 
     def __init__(self, states: int, actions: int, observations: Optional[int], head: Head = Head()) -> None:
         self.is_mdp, self.rewards = observations is None, head.rewards
-        self.sizes = {"T": (actions, states, states), "O": (actions, states, observations), "R": (actions, states, states, observations)}
-        if self.is_mdp:
-            self.sizes["R"] = (actions, states, states)
+        # (in an MDP the end state is what is observed)
+        seen = states if observations is None else observations
+        self.sizes: Dict[str, Tuple[int, ...]] = {"T": (actions, states, states), "O": (actions, states, seen)}
+        self.sizes["R"] = (actions, states, states) if self.is_mdp else (actions, states, states, seen)
         self.lines = [f"discount: {head.discount}", f"values: {head.values}", f"states: {states}", f"actions: {actions}"]
         self.lines += [] if self.is_mdp else [f"observations: {observations}"]
         self.lines += [head.start] if head.start else []
-        self.cells: Dict[str, Dict[Cell, Fraction]] = {"T": {}, "O": {}, "R": {}}
+        self.cells: Dict[str, Cells] = {"T": {}, "O": {}, "R": {}}
 
     def add(self, table: str, places: Sequence[Optional[int]], body: str) -> None:
         """An entry: the body is a word, or numbers for all cells that the places leave open."""
@@ -46,7 +48,7 @@ class Entries:
     def text(self) -> bytes:
         return "\n".join(self.lines).encode() + b"\n"
 
-    def tables(self) -> Tuple[Dict, Dict, Dict]:
+    def tables(self) -> Tuple[Cells, Cells, Cells]:
         """The cells of T, O and R that are not 0; in an MDP, as if the end state were observed."""
         actions, states = self.sizes["T"][:2]
         t, o, r = ({cell: value for cell, value in self.cells[table].items() if value} for table in "TOR")

@@ -11,7 +11,9 @@ from importlib.machinery import SourceFileLoader
 from importlib.util import find_spec, module_from_spec, spec_from_loader
 from pathlib import Path
 from types import ModuleType
-from typing import Iterator, List, NamedTuple, Tuple
+from typing import Iterator, List, NamedTuple, Optional, Tuple, TypeVar
+
+T = TypeVar("T")
 
 TOP = Path(__file__).resolve().parents[2]
 SCRIPTS = TOP / "scripts"
@@ -70,6 +72,12 @@ def polcert(*words: str, given: bytes = b"") -> Said:
 def _run(words: List[str], given: bytes) -> Said:
     done = subprocess.run(words, input=given, stdout=subprocess.PIPE, stderr=subprocess.PIPE)
     return Said(done.returncode, done.stdout, done.stderr.decode())
+
+
+def present(value: Optional[T]) -> T:
+    """Returns a value that has to be there."""
+    assert value is not None
+    return value
 
 
 class FolderTest(unittest.TestCase):

@@ -53,8 +53,8 @@ class ArraysTest(unittest.TestCase):
                 found: Dict[int, float] = dict(zip(row.indices.tolist(), row.data.tolist()))
                 self.assertEqual(list(found), sorted(found))
                 self.assertEqual(found, {column: float(value) for column, value in table.row(action, state).items()})
-            right = sign * rewards[action][state]
-            self.assertAlmostEqual(arrays.rewards[action, state], float(right), delta=1e-13 * (1 + sum(map(abs, rewards[action]))))
+            right, size = sign * rewards[action][state], 1 + sum(abs(reward) for reward in rewards[action])
+            self.assertAlmostEqual(arrays.rewards[action, state], float(right), delta=1e-13 * size)
 
     def test_a_model_by_hand(self) -> None:
         for values, sign in ((b"reward", 1), (b"cost", -1)):

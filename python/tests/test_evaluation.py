@@ -42,7 +42,7 @@ class Evaluation(OutputTest):
             random_ = random.Random(seed)
             model = read_model(Source("m", random_model(random_, exact=True).text()))
             rows = [[random_.randrange(3) for _ in range(model.observations.count)] for _ in range(3)]
-            graph = Graph([random_.randrange(model.actions.count) for _ in range(3)], rows)
+            graph = Graph([random_.randrange(model.actions.count) for _ in range(3)], [list(row) for row in rows])
             found, expected = evaluate(arrays_of(model), array_graph(graph)), values(model, list(zip(graph.actions, rows)))[0]
             self.assertLess(max(abs(x - y) for one, two in zip(found.tolist(), expected) for x, y in zip(one, two)), 1e-4)
 

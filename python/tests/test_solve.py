@@ -11,7 +11,7 @@ from math import floor
 from typing import List, NamedTuple, Optional, Sequence, Tuple
 
 from models import Entries, Head, random_model, random_row
-from support import EXAMPLES, HAS_NUMPY, NAMES, SCRIPTS, Said, needs_numpy, needs_program, polcert, run_script
+from support import EXAMPLES, HAS_NUMPY, NAMES, SCRIPTS, Said, needs_numpy, needs_program, polcert, present, run_script
 from test_outputs import OutputTest, disk
 from polcert.command import read_source
 from polcert.files import MILLION, Graph, Model, Source, read_graph, read_model, read_vectors
@@ -38,15 +38,15 @@ class Dense(NamedTuple):
     """A model's tables, filled in floating point, with the rewards that are expected at once."""
 
     start: List[float]
-    moves: List[Rows]
-    seen: List[Rows]
+    moves: Sequence[Rows]
+    seen: Sequence[Rows]
     gains: Rows
     discount: float
 
 
 def dense(entries: Entries, discount: float) -> Dense:
     t, o, r = entries.tables()
-    actions, states, observations = *entries.sizes["T"][:2], entries.sizes["O"][2] or entries.sizes["T"][1]
+    actions, states, observations = entries.sizes["O"]
     moves = [[[float(t.get((a, s, e), 0)) for e in range(states)] for s in range(states)] for a in range(actions)]
     seen = [[[float(o.get((a, e, z), 0)) for z in range(observations)] for e in range(states)] for a in range(actions)]
     gains = [[0.0] * states for _ in range(actions)]
@@ -88,7 +88,9 @@ def shortfall(model: Model, graph: Graph, values: List[List[Fraction]]) -> Fract
             for end, p in model.transitions.row(action, state).items():
                 for z, q in model.observing.row(action, end).items():
                     reward = -block.at(end, z) if model.is_cost else block.at(end, z)
-                    worth += p * q * (reward + model.discount * values[row[z]][end])  # (None is no index)
+                    following = row[z]
+                    assert following is not None
+                    worth += p * q * (reward + model.discount * values[following][end])
             most = max(most, value - worth)
     return most
 
@@ -191,7 +193,8 @@ class Parts(unittest.TestCase):
         random_ = random.Random(10)
         for _ in range(20):
             corners = np.array([random_.uniform(1, 2) for _ in range(4)])
-            upper, points = Sawtooth(corners[None, :]), []
+            upper = Sawtooth(corners[None, :])
+            points: List[Tuple[BeliefNode, float]] = []
             for _ in range(30):
                 states = np.array(sorted(random_.sample(range(4), random_.choice([1, 2, 3, 4]))))
                 weights = np.array([random_.random() for _ in states])
@@ -245,7 +248,7 @@ class Written(OutputTest):
         self.assertLessEqual(shortfall(read, graph, values), Fraction(1, 10**9))
         vectors = [[int(value * MILLION) for value in vector.values] for vector in read_vectors(read_source(f"{name}.bound.alpha"), read)]
         self.assertIsNone(check_vectors(WholeCells(read), vectors))
-        return max(sum(weight * node[state] for state, weight in read.start_weights().items()) for node in values)
+        return max(sum((weight * node[state] for state, weight in read.start_weights().items()), Fraction(0)) for node in values)
 
     def test_the_last_line(self) -> None:
         said = self.solve(TIGER)
@@ -259,22 +262,23 @@ class Written(OutputTest):
     def test_the_program_agrees(self) -> None:
         for model, words in ((TIGER, ()), (MACHINE, ("--seconds", "2")), (str(EXAMPLES / "stock.POMDP"), ())):
             said = self.solve(model, "-q", *words)
-            claim = float(re.search(rb"worth (-?[0-9.]+) from", said.out)[1])
+            claim = float(present(re.search(rb"worth (-?[0-9.]+) from", said.out))[1])
             names = [model, *(str(self.folder / f"m.{ending}") for ending in ("pg", "alpha"))]
             lowered = polcert("lower", *names)
             self.assertEqual(lowered.status, 0, lowered.err)
             names[2] = self.file("lowered", lowered.out)
-            yes = re.fullmatch(rb"yes: start node \d+, at least (-?[0-9.]+)\n", polcert("check", *names).out)
+            yes = present(re.fullmatch(rb"yes: start node \d+, at least (-?[0-9.]+)\n", polcert("check", *names).out))
             self.assertLess(abs(float(yes[1]) - claim), 0.00002, model)
 
     def test_limits(self) -> None:
         self.assertIn(b"worth 4.7586", self.solve(MACHINE, "--seconds", "0").out)
-        gap = re.search(rb"\(gap ([0-9.]+) %\)", self.solve(MACHINE, "--gap", "20").out)
+        gap = present(re.search(rb"\(gap ([0-9.]+) %\)", self.solve(MACHINE, "--gap", "20").out))
         self.assertTrue(1 < float(gap[1]) <= 20, gap[0])
 
     def test_an_interrupt(self) -> None:
         words = [sys.executable, str(SCRIPTS / "polcert-solve"), MACHINE, "-o", str(self.folder / "m"), "--seconds", "600", "--gap", "0"]
         with subprocess.Popen(words, stdout=subprocess.PIPE, stderr=subprocess.PIPE) as child:
+            assert child.stderr is not None
             self.assertIn(b"polcert-solve: 0 s, 3 vectors, 0 points", child.stderr.readline())
             child.stderr.readline()
             child.send_signal(signal.SIGINT)
@@ -302,9 +306,9 @@ class Written(OutputTest):
 
 
 class Refused(OutputTest):
-    def refused_model(self, model: Optional[bytes], reason: str, **patched: str) -> None:
+    def refused_model(self, model: Optional[bytes], reason: str, patched: str = "") -> None:
         name = TIGER if model is None else self.file("M", model)
-        self.refused(self.run_with(["polcert-solve", name, "-o", str(self.folder / "m")], **patched), reason)
+        self.refused(self.run_with(["polcert-solve", name, "-o", str(self.folder / "m")], patched=patched), reason)
         self.assertEqual(set(self.listed()), set() if model is None else {"M"})
 
     @needs_numpy
