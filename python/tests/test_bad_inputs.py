@@ -3,10 +3,10 @@ import os
 import resource
 import threading
 import unittest
-from typing import List
+from typing import Any, List
 from unittest.mock import patch
 
-from support import EXAMPLES, FolderTest, load
+from support import EXAMPLES, FolderTest, load, present
 import polcert.command
 from polcert.command import Refusal, read_source
 from polcert.files import FileError, Source, read_model
@@ -27,7 +27,7 @@ class Numbers(unittest.TestCase):
     def test_whole_numbers(self) -> None:
         for text, number in (("0", 0), ("007", 7), ("0" * 5000 + "12", 12), ("", None), ("-1", None), ("1_0", None), ("\u0663", None)):
             self.assertEqual(whole_number(text), number, text)
-        self.assertGreater(whole_number(DIGITS), 10**300)
+        self.assertGreater(present(whole_number(DIGITS)), 10**300)
 
 
 class Solved(FolderTest):
@@ -119,7 +119,7 @@ class Files(FolderTest):
 
 
 class Memory(OutputTest):
-    def refused_in(self, megabytes: int, words: List[str], reason: str, **streams: object) -> None:
+    def refused_in(self, megabytes: int, words: List[str], reason: str, **streams: Any) -> None:
         """The run is refused within so much memory, of which Python itself takes 40 MB (with no large locale)."""
         self.refused(self.run_with(words, limits={resource.RLIMIT_AS: megabytes * 1_000_000}, LC_ALL="C", **streams), reason)
 

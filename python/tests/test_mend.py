@@ -2,10 +2,10 @@
 import random
 import re
 from fractions import Fraction
-from typing import List, Tuple
+from typing import Dict, List, Tuple
 
 from models import random_model, tag
-from support import EXAMPLES, NAMES, PROGRAM, FolderTest, Said, load, polcert, refusals_rows, run_script
+from support import EXAMPLES, NAMES, PROGRAM, FolderTest, Said, load, polcert, present, refusals_rows, run_script
 from polcert.files import FileError, Model, Source, read_model
 
 HEAD = b"discount: 0.9\nvalues: reward\nstates: 3\nactions: 2\nobservations: 2\n"
@@ -236,7 +236,7 @@ class Refusals(MendTest):
 def perturbed(text: bytes, random_: random.Random) -> bytes:
     """The probabilities of a model with an error in the sixth decimal or after it."""
 
-    def wrong(match: "re.Match") -> bytes:
+    def wrong(match: "re.Match[bytes]") -> bytes:
         value = float(match.group())
         off = random_.choice([0, 1e-6, -1e-6, 3e-7]) if 0.001 < value < 0.999 else 0
         return format(value + off, random_.choice([".6f", ".9f", ".17g"])).encode()
@@ -252,7 +252,7 @@ def most_moved(old: bytes, new: bytes) -> Fraction:
         for action in range(before.actions):
             for row in range(before.rows):
                 cells, others = before.row(action, row), after.row(action, row)
-                most = max([most, *(abs(cells.get(c, 0) - others.get(c, 0)) for c in {*cells, *others})])
+                most = max([most, *(abs(cells.get(c, Fraction(0)) - others.get(c, Fraction(0))) for c in {*cells, *others})])
     return most
 
 
@@ -262,7 +262,8 @@ class Bound(MendTest):
             random_ = random.Random(seed)
             text = rough_model(random_)
             out, bound = mend_here(text, Fraction(3, 100))
-            bounds = re.search(r"moves by more than ([\d.]+)(?:, and from the start by no more than ([\d.]+))?", bound).groups()
+            pattern = r"moves by more than ([\d.]+)(?:, and from the start by no more than ([\d.]+))?"
+            bounds = present(re.search(pattern, bound)).groups()
             graph = [(random_.randrange(2), [random_.randrange(3) for _ in range(2)]) for _ in range(3)]
             written, mended = (values(read_model(Source("m", t), tolerant=True), graph) for t in (text, out))
             moved = max(abs(x - y) for one, two in zip(written[0], mended[0]) for x, y in zip(one, two))
@@ -293,7 +294,7 @@ def values(model: Model, graph: List[Tuple[int, List[int]]]) -> Tuple[List[List[
     """What each node is worth in each state, and at the start, each row divided by its sum."""
     states = range(model.states.count)
 
-    def part(row: dict) -> dict:
+    def part(row: Dict[int, Fraction]) -> Dict[int, float]:
         return {i: float(p / sum(row.values())) for i, p in row.items()}
 
     steps = {}

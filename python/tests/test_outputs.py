@@ -4,7 +4,7 @@ import resource
 import signal
 import subprocess
 import sys
-from typing import Dict, Optional, Sequence, Union
+from typing import Any, Dict, Optional, Sequence, Tuple, Union
 from unittest.mock import patch
 
 from support import EXAMPLES, SCRIPTS, FolderTest, Said, needs_numpy
@@ -14,7 +14,7 @@ TIGER, PG, ALPHA = (str(EXAMPLES / f"tiger.{ending}") for ending in ("POMDP", "p
 ROUGH = b"discount: 0.9 values: reward states: 3 actions: 1 observations: 1 T: 0 : * 0.333333 0.333333 0.333333 O: * uniform\n"
 NAMES = ("polcert-bound-vectors", "polcert-certify", "polcert-evaluate", "polcert-graph", "polcert-locate", "polcert-mend", "polcert-points",
          "polcert-report", "polcert-solve")
-
+NO_FILES: Dict[str, bytes] = {}
 
 # An open file, or the name of one.
 File = Union[int, str]
@@ -72,7 +72,7 @@ PRINTERS = (*WRITERS, ["polcert-locate", TIGER, "model: M4 in item 1 at byte 9"]
 
 
 class StandardOutput(OutputTest):
-    def stopped(self, words: Sequence[str], reason: str, **streams: object) -> None:
+    def stopped(self, words: Sequence[str], reason: str, **streams: Any) -> None:
         said = self.run_with(words, **streams)
         self.assertEqual((said.status, said.err.splitlines()[-1:]), (3, [f"{words[0]}: standard output: {reason}"]))
         self.assertNotIn("Traceback", said.err)
@@ -107,7 +107,8 @@ class StandardOutput(OutputTest):
 class StandardError(OutputTest):
     def test_a_full_or_closed_one(self) -> None:
         rough, out = self.file("rough", ROUGH), str(self.folder / "out")
-        for streams in ({"err": "/dev/full"}, {"closed": [2]}):
+        lacking: Tuple[Dict[str, Any], ...] = {"err": "/dev/full"}, {"closed": [2]}
+        for streams in lacking:
             for words in (["polcert-mend", rough], ["polcert-mend", rough, "-o", out], ["polcert-mend", "none"], ["polcert-mend"]):
                 said = self.run_with(words, **streams)
                 self.assertEqual((said.status, said.out, said.err), (3 if len(words) > 1 else 2, b"", ""), words)
@@ -146,7 +147,7 @@ class Files(OutputTest):
         self.assertEqual(self.listed(), {"old": text, "link": text, "new": text})
         mask = os.umask(0)
         os.umask(mask)
-        self.assertEqual([os.stat(path).st_mode & 0o777 for path in (old, new)], [0o640, 0o666 & ~mask])
+        self.assertEqual([os.stat(path).st_mode & 0o777 for path in (old, str(new))], [0o640, 0o666 & ~mask])
 
     @needs_numpy
     def test_devices(self) -> None:
@@ -176,7 +177,7 @@ class Files(OutputTest):
 class TwoFiles(OutputTest):
     @needs_numpy
     def test_a_full_disk(self) -> None:
-        for old in ({}, {"out.pg": b"graph", "out.alpha": b"vectors"}):
+        for old in (NO_FILES, {"out.pg": b"graph", "out.alpha": b"vectors"}):
             for name, text in old.items():
                 self.file(name, text)
             # the graph has 40 bytes, and its vectors have more
@@ -197,12 +198,12 @@ class TwoFiles(OutputTest):
             replace(source, target)
 
         graph, vectors = str(self.folder.resolve() / "x.pg"), str(self.folder.resolve() / "x.alpha")
-        for old in ({}, {"x.pg": b"graph", "x.alpha": b"vectors"}, {"x.pg": b"graph"}):
+        for old in (NO_FILES, {"x.pg": b"graph", "x.alpha": b"vectors"}, {"x.pg": b"graph"}):
             for path in self.folder.iterdir():
                 path.unlink()
             for name, text in old.items():
                 self.file(name, text)
-            with patch.object(polcert.command.os, "replace", no_vectors), self.assertRaises(PermissionError):
+            with patch.object(os, "replace", no_vectors), self.assertRaises(PermissionError):
                 polcert.command.write_files({graph: b"1", vectors: b"2"})
             self.assertEqual({**self.listed(), "x.alpha": old.get("x.alpha")}, {**old, "x.alpha": old.get("x.alpha")})
 

@@ -1,8 +1,9 @@
 """The recipes of docs/GUIDE.md: files in the forms of each solver, from examples/recipes to a certificate, and what is refused in them."""
 import io
 import re
+from typing import List, Union
 
-from support import EXAMPLES, PROGRAM, TOP, FolderTest, Said, load_file, needs_numpy, polcert, run_script
+from support import EXAMPLES, PROGRAM, TOP, FolderTest, Said, load_file, needs_numpy, polcert, present, run_script
 from polcert.command import read_source
 from polcert.files import FileError, Graph, Source, read_graph, read_model, read_vectors
 from polcert.policies import Solved, read_solved
@@ -73,7 +74,7 @@ class RecipeTest(FolderTest):
         lowered = polcert("lower", model, graph, vectors)
         self.assertEqual(lowered.status, 0, lowered.err)
         said = polcert("check", model, graph, self.file("lowered", lowered.out))
-        bound = float(re.fullmatch(rb"yes: start node \d+, at least (\S+)\n", said.out).group(1))
+        bound = float(present(re.fullmatch(rb"yes: start node \d+, at least (\S+)\n", said.out)).group(1))
         self.assertLess(abs(bound - worth), 3e-5)
 
     def from_graph(self, model: str, solved: str, worth: float) -> str:
@@ -136,7 +137,7 @@ class Recipes(RecipeTest):
 
 
 class FormTest(RecipeTest):
-    def read(self, text: str, discount: bytes = b"0.75") -> object:
+    def read(self, text: str, discount: bytes = b"0.75") -> Union[Graph, List[Solved]]:
         model = read_model(Source("model", TIGER.read_bytes().replace(b"0.95", discount)))
         return read_solved(Source("solved", text.encode()), model)
 
@@ -164,6 +165,7 @@ class Tables(FormTest):
     def test_successors_that_are_missing(self) -> None:
         for word in ("NA", "-", "X"):
             graph = self.read(NODES.replace("open-left          3", f"open-left          {word}"))
+            assert isinstance(graph, Graph)
             self.assertEqual(graph.successors[0], [None, 2])
 
     def test_nodes_are_worth_what_the_vectors_say(self) -> None:
@@ -173,7 +175,9 @@ class Tables(FormTest):
         self.assertEqual([Solved(action, [float(value) for value in values]) for action, values in written], self.read(VECTORS))
 
     def test_vectors(self) -> None:
-        self.assertEqual(self.read(VECTORS)[1], Solved(0, [-10.854299, 6.516937]))
+        vectors = self.read(VECTORS)
+        assert isinstance(vectors, list)
+        self.assertEqual(vectors[1], Solved(0, [-10.854299, 6.516937]))
         model = self.file("model", TIGER.read_bytes().replace(b"0.95", b"0.75"))
         said = self.graph(model, self.file("vectors", VECTORS.encode()))
         self.assertIn("the vectors claim 1.933439, the same", said.err)
