@@ -1,12 +1,12 @@
 """polcert-evaluate and polcert-graph: what they read, write and refuse, and that polcert certifies what they write."""
 import random
 import re
-from typing import List, Optional
+from typing import List, Optional, Tuple
 
 from models import random_model
-from support import EXAMPLES, HAS_NUMPY, PROGRAM, FolderTest, Said, needs_numpy, polcert, run_script
+from support import EXAMPLES, HAS_NUMPY, PROGRAM, FolderTest, Said, needs_numpy, polcert, present, run_script
 from polcert.command import read_source
-from polcert.files import Graph, Source, read_graph, read_model, read_vectors
+from polcert.files import Graph, Model, Source, read_graph, read_model, read_vectors
 from polcert.policies import Solved, read_solved
 from test_mend import rough_model, values
 
@@ -34,6 +34,12 @@ def example(name: str) -> str:
     return str(EXAMPLES / name)
 
 
+def read_solved_vectors(name: str, model: Model) -> List[Solved]:
+    solved = read_solved(read_source(name), model)
+    assert isinstance(solved, list)
+    return solved
+
+
 @needs_numpy
 class Evaluate(FolderTest):
     def test_vectors_of_the_examples(self) -> None:
@@ -48,7 +54,7 @@ class Evaluate(FolderTest):
             model = read_model(Source("m", random_model(random_, exact=True).text()))
             sizes = model.actions.count, model.observations.count
             graph = [(random_.randrange(sizes[0]), [random_.randrange(3) for _ in range(sizes[1])]) for _ in range(3)]
-            worth = evaluate(arrays_of(model), array_graph(Graph([action for action, _ in graph], [row for _, row in graph])))
+            worth = evaluate(arrays_of(model), array_graph(Graph([action for action, _ in graph], [list(row) for _, row in graph])))
             moved = max(abs(x - y) for one, two in zip(worth, values(model, graph)[0]) for x, y in zip(one, two))
             self.assertLess(moved, 1e-4)
 
@@ -84,7 +90,7 @@ class GraphTest(FolderTest):
         lowered = polcert("lower", model, *files)
         self.assertEqual(lowered.status, 0, lowered.err)
         said = polcert("check", model, files[0], self.file("lowered", lowered.out))
-        return float(re.fullmatch(rb"yes: start node \d+, at least (\S+)\n", said.out).group(1))
+        return float(present(re.fullmatch(rb"yes: start node \d+, at least (\S+)\n", said.out)).group(1))
 
 
 class Vectors(GraphTest):
@@ -100,7 +106,7 @@ class Vectors(GraphTest):
         worth = self.certified(machine)
         self.assertTrue(worth is None or worth > 11.39)
         model, watch = read_model(read_source(machine)), Watch(True)
-        reach, policy = Reach(arrays_of(model)), policy_of(read_solved(read_source(example("machine.alpha")), model))
+        reach, policy = Reach(arrays_of(model)), policy_of(read_solved_vectors(example("machine.alpha"), model))
         met = met_vectors(reach, policy, 50, 1000, watch)
         self.assertLess(linked_best(reach, links_of_vectors(reach, met, policy), 20, 1e-3, watch).worth, 11.39)
 
@@ -110,7 +116,7 @@ class Vectors(GraphTest):
         for rounds in ("1", "3", "20"):
             said = self.graph(machine, solved, "--rounds", rounds, "--nodes", "40")
             self.assertEqual(said.status, 0, said.err)
-            earned.append(float(re.search(r"worth (\S+) from", said.err).group(1)))
+            earned.append(float(present(re.search(r"worth (\S+) from", said.err)).group(1)))
             self.assertLessEqual(len(self.text("pg").splitlines()), 40)
         self.assertLess(earned[0], earned[1])
         self.assertLess(earned[1], earned[2])
@@ -217,19 +223,20 @@ class OwnVectors(GraphTest):
                 for action, values in read_vectors(read_source(str(self.folder / "out.alpha")), read_model(read_source(model)))]
 
     def solved(self, model: str, name: str) -> List[Solved]:
-        return read_solved(read_source(name), read_model(read_source(model)))
+        return read_solved_vectors(name, read_model(read_source(model)))
 
     def test_solvers(self) -> None:
         doors = self.file("doors", run_script("polcert-mend", "-q", example("recipes/sarsop/doors.POMDP")).out)
         tiger = example("tiger.POMDP")
-        for model, name, left_out, worth in (
+        cases: List[Tuple[str, str, List[int], float]] = [
             (doors, "recipes/sarsop/doors.policy", [], 8.084018),
             (tiger, "recipes/pomdp-solve/tiger.alpha", [], 19.371357),
             (tiger, "recipes/ai-toolbox/tiger.solved", [5, 6, 8, 9], 4.42853),
             (example("machine.POMDP"), "machine.alpha", [], 11.151814),
             (example("stock.POMDP"), "stock.alpha", [], 68.549998),
             (example("robot.POMDP"), "robot.alpha", [], 0.343776),
-        ):
+        ]
+        for model, name, left_out, worth in cases:
             said, solved = self.own(model, example(name)), self.solved(model, example(name))
             kept = [vector for n, vector in enumerate(solved) if n not in left_out]
             self.assertIn(f"{len(kept)} of {len(solved)} vectors, short by at most", said.err)
@@ -243,7 +250,7 @@ class OwnVectors(GraphTest):
             random_ = random.Random(seed)
             model = read_model(Source("m", random_model(random_, exact=True).text()))
             actions, observations, nodes = model.actions.count, model.observations.count, random_.randint(1, 4)
-            rows = [[random_.randrange(nodes) for _ in range(observations)] for _ in range(nodes)]
+            rows: List[List[Optional[int]]] = [[random_.randrange(nodes) for _ in range(observations)] for _ in range(nodes)]
             graph = Graph([random_.randrange(actions) for _ in range(nodes)], rows)
             vectors = [Solved(*vector) for vector in zip(graph.actions, evaluate(arrays_of(model), array_graph(graph)).tolist())]
             random_.shuffle(vectors)

@@ -7,12 +7,12 @@ import sys
 from fractions import Fraction
 from itertools import product
 from math import ceil
-from typing import Dict, Iterator, List, NamedTuple, Optional, Sequence, Tuple
+from typing import Any, Dict, Iterator, List, NamedTuple, Optional, Sequence, Tuple
 from unittest.mock import patch
 
 from models import random_model
 from support import EXAMPLES, HAS_NUMPY, SCRIPTS, FolderTest, Said, needs_numpy, run_script
-from test_outputs import OutputTest, disk
+from test_outputs import NO_FILES, OutputTest, disk
 import polcert.certificate
 from polcert.certificate import certified_points, informed_vectors, passing
 from polcert.command import read_source
@@ -112,6 +112,7 @@ class CheckByHand(FolderTest):
                 self.assertIsNone(excess, row.name)
                 self.assertEqual(most_from_points(cells, row.vectors, points), row.most, row.name)
             else:
+                assert excess is not None, row.name
                 scale = cells.step_scale * sum(points.beliefs[excess.point].values())
                 self.assertEqual((excess.point, excess.action, Fraction(excess.amount, scale)), row.fails, row.name)
 
@@ -130,12 +131,12 @@ class CheckByHand(FolderTest):
     def test_a_start_that_a_point_covers(self) -> None:
         text = STILL.replace(b" T: 0", b" start: 0.3 0.7 T: 0")
         cells, vectors = cells_of(text), [[4_000_000, 1_000_000]]
-        for points, most in (
+        for given, most in (
             (b"", 1_900_000), (b"0 0.3 0.7  0.6 0", 600_000), (b"0 0.15 0.35  0.6 0", 600_000),
             # 0.6 of the start is (0.5 0.5), and what is left is state 1; 0.3 is state 0, and what is left has the vector's 1
             (b"0 0.5 0.5  1 0", 1_000_000), (b"0 1 0  2 0", 1_300_000), (b"0 1 0  2 0  1 0 1  0 1", 600_000),
         ):
-            points = read_points(Source("P", points), cells)
+            points = read_points(Source("P", given), cells)
             self.assertIsNone(check_points(cells, vectors, points))
             self.assertEqual(most_from_points(cells, vectors, points), most)
 
@@ -156,6 +157,7 @@ class CheckByHand(FolderTest):
         self.assertEqual(most_from_points(cells, TIGER_VECTORS, points), 19_371_380)
         points.values[1][0] -= 10
         excess = check_points(cells, TIGER_VECTORS, points)
+        assert excess is not None
         self.assertEqual((excess.point, excess.action), (1, 0))
         self.assertEqual(ceil(Fraction(excess.amount, cells.step_scale * MILLION)), 10)
 
@@ -188,7 +190,7 @@ class Refused(FolderTest):
         ):
             with self.assertRaises(FileError) as caught:
                 read_points(Source("P", text), cells)
-            self.assertTrue(str(caught.exception).startswith(reason), f"{text}: {caught.exception}")
+            self.assertTrue(str(caught.exception).startswith(reason), f"{text!r}: {caught.exception}")
             self.assertEqual(caught.exception.refusal, f"points: {refusal}")
 
     def test_too_many_points(self) -> None:
@@ -209,6 +211,8 @@ class Refused(FolderTest):
 Fractions = Dict[int, Fraction]
 # A belief, and for each action a bound on what policies earn that begin with it.
 Bounded = Tuple[Fractions, List[Fraction]]
+# An action, and for each observation the policy that follows; for no step nothing.
+Policy = Tuple[Any, ...]
 
 
 def after(model: Model, belief: Fractions, action: int) -> Dict[int, Fractions]:
@@ -232,8 +236,8 @@ def gain(model: Model, belief: Fractions, action: int) -> Fraction:
     return -total if model.is_cost else total
 
 
-def policies(model: Model, steps: int) -> Iterator[Tuple]:
-    """Every policy: an action, and for each observation what follows; for no step nothing."""
+def policies(model: Model, steps: int) -> Iterator[Policy]:
+    """Every policy of so many steps."""
     if steps == 0:
         yield ()
         return
@@ -243,7 +247,7 @@ def policies(model: Model, steps: int) -> Iterator[Tuple]:
             yield (action, *following)
 
 
-def earned(model: Model, belief: Fractions, policy: Tuple) -> Fraction:
+def earned(model: Model, belief: Fractions, policy: Policy) -> Fraction:
     if not policy:
         return Fraction(0)
     action, *following = policy
@@ -289,7 +293,7 @@ class EveryPolicy(FolderTest):
     def beliefs(self, model: Model, vectors: Sequence[Sequence[int]], points: Points, most: int) -> Iterator[Bounded]:
         """The points and the start, with what policies of three steps earn at most by first action: the bound less discount ^ 3 times the
         lowest value."""
-        low = min(min(map(min, vectors)), *map(min, points.values), most)
+        low = min(most, *(min(values) for values in [*vectors, *points.values]))
         for belief, values in zip(points.beliefs, points.values):
             mass = sum(belief.values())
             bounds = [(value - model.discount**3 * low) / MILLION for value in values]
@@ -351,7 +355,7 @@ class Certificates(FolderTest):
         for name in ("tiger", "machine"):
             search = certified(read_model(read_source(str(EXAMPLES / f"{name}.POMDP"))), 25)[3]
             vectors, observations = search.lower.vectors, range(search.lower.steps.observations)
-            rows = [[vector.successors.get(z, vector.otherwise) for z in observations] for vector in vectors]
+            rows: List[List[Optional[int]]] = [[vector.successors.get(z, vector.otherwise) for z in observations] for vector in vectors]
             worth = evaluate(arrays_of(search.lower.steps.model), array_graph(Graph([vector.action for vector in vectors], rows))).tolist()
             for vector, values in zip(vectors, worth):
                 self.assertTrue(all(x <= y + 1e-7 for x, y in zip(vector.values, values)))
@@ -386,8 +390,8 @@ class Writes(OutputTest):
     def test_limits(self) -> None:
         machine, found = str(EXAMPLES / "machine.POMDP"), []
         for words in (["--seconds", "0"], ["--points", "20"], ["--gap", "1"], ["--points", "120"]):
-            said, *certificate = self.points(machine, *words)
-            found.append(most_from_points(*certificate))
+            said, cells, vectors, points = self.points(machine, *words)
+            found.append(most_from_points(cells, vectors, points))
             self.assertRegex(said.err, r"\Apolcert-points: 0 s, 0 points: from -?[0-9.]+ to 14\.688885, gap [0-9.]+ %\n")
         self.assertEqual(found[0], 14_688_885)
         self.assertTrue(14_688_885 > found[1] > found[3] and 11_391_180 <= found[3] <= 11_500_000, found)
@@ -427,7 +431,7 @@ class Writes(OutputTest):
         self.assertEqual(list(self.listed()), ["m.points"])
 
     def test_a_full_disk(self) -> None:
-        for old in ({}, {"m.alpha": b"vectors", "m.points": b"points"}):
+        for old in (NO_FILES, {"m.alpha": b"vectors", "m.points": b"points"}):
             for name, text in old.items():
                 self.file(name, text)
             # the vectors have 75 bytes, and the points have more
@@ -439,6 +443,7 @@ class Writes(OutputTest):
         machine = str(EXAMPLES / "machine.POMDP")
         words = [sys.executable, str(SCRIPTS / "polcert-points"), machine, "-o", str(self.folder / "m"), "--seconds", "600"]
         with subprocess.Popen(words, stdout=subprocess.PIPE, stderr=subprocess.PIPE) as child:
+            assert child.stderr is not None
             self.assertIn(b"polcert-points: 0 s, 0 points", child.stderr.readline())
             child.stderr.readline()
             child.send_signal(signal.SIGINT)
