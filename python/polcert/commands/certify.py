@@ -29,7 +29,7 @@ from polcert.programs import ProgramError
 from polcert.signals import Interrupt
 from polcert.values import Steps, vectors_text
 
-SECONDS, PERCENT = 40.0, 0.00001
+SECONDS, PERCENT = 30.0, 0.00001
 # The part of the time for the controller; the rest is for points.
 SOLVING_PART = 0.5
 ENDINGS = ("POMDP", "pg", "alpha", "lowered.alpha", "raised.alpha", "bound.alpha", "bound.points", "report.md", "report.json")
