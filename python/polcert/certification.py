@@ -97,7 +97,8 @@ class Certifier:
     # The model
 
     def read_model(self, source: Source) -> Model:
-        """The model, mended if it is refused for rows that sum to one only nearly, or for more than six decimals. Raises FileError."""
+        """The model, mended if it is refused for rows that sum to one only nearly, or for more than six decimals. Raises FileError, and
+        ProgramError if a program is missing."""
         try:
             model = read_model(source)
         except FileError as fault:
@@ -109,6 +110,7 @@ class Certifier:
         answer = programs.model(model.source.text, program=self.polcert)
         if isinstance(answer, Refused):  # (by this package's reader it is none)
             raise Refusal(f"{source.name}: {answer.line}")
+        programs.found(self.polcert_bound)  # (before anything takes long)
         self.keep("POMDP", model.source.text)
         self.done("model", answer.line)
         return model

@@ -65,11 +65,17 @@ def raise_bound(model: Text, vectors: Text, *, program: str = "polcert_bound") -
     return _answer(program, ["raise"], [model, vectors], _moved)
 
 
-def _answer(program: str, words: Sequence[str], texts: Sequence[Text], read: Callable[[_Ran], Optional[Answer]]) -> Union[Answer, Refused]:
-    """Runs a program on texts, and returns what it answers."""
+def found(program: str) -> str:
+    """The path of a program. Raises ProgramError if there is none."""
     path = shutil.which(program)
     if path is None:
         raise ProgramError(f"{program}: there is no such program on the path")
+    return path
+
+
+def _answer(program: str, words: Sequence[str], texts: Sequence[Text], read: Callable[[_Ran], Optional[Answer]]) -> Union[Answer, Refused]:
+    """Runs a program on texts, and returns what it answers."""
+    path = found(program)
     with _files(texts) as names:
         ran = _run([path, *words, *names])
     answer = read(ran) if ran.status in (0, 1) else None

@@ -7,6 +7,7 @@ from typing import Any, Dict
 
 from support import EXAMPLES, PROGRAM, FolderTest, Said, load, needs_program, run_script
 from polcert.certification import percent
+from runner import both_programs
 
 script = load("polcert-certify")
 # The optimum of the tiger, by each point-based solver that is cited: 19.3713.
@@ -34,9 +35,17 @@ class Words(FolderTest):
 
 @needs_program
 class Certificates(FolderTest):
+    def programs(self) -> str:
+        """A folder with both programs, which the gate has in two."""
+        folder = self.folder / "programs"
+        folder.mkdir(exist_ok=True)
+        for name, program in both_programs(str(PROGRAM)).items():
+            if not (folder / name).exists():
+                os.symlink(os.path.realpath(program), folder / name)
+        return str(folder)
+
     def certify(self, *words: str, status: int = 0, seconds: str = "60") -> Said:
-        folder = os.path.dirname(os.path.realpath(str(PROGRAM)))
-        said = run_script("polcert-certify", *words, "-o", str(self.folder / "out"), "--seconds", seconds, "--programs", folder, "-q")
+        said = run_script("polcert-certify", *words, "-o", str(self.folder / "out"), "--seconds", seconds, "--programs", self.programs(), "-q")
         self.assertEqual(said.status, status, said.err)
         return said
 
@@ -92,3 +101,7 @@ class Certificates(FolderTest):
         said = run_script("polcert-certify", TIGER, "-o", str(self.folder / "out"), "--programs", str(self.folder), "-q")
         self.assertEqual((said.status, said.out), (2, b""))
         self.assertRegex(said.err, r"\Apolcert-certify: [^\n]*polcert: there is no such program[^\n]*\n\Z")
+        os.symlink(os.path.realpath(str(PROGRAM)), self.folder / "polcert")
+        said = run_script("polcert-certify", TIGER, "-o", str(self.folder / "out"), "--programs", str(self.folder))
+        self.assertEqual((said.status, said.out), (2, b""))
+        self.assertRegex(said.err, r"\Apolcert-certify: [^\n]*polcert_bound: there is no such program[^\n]*\n\Z")
