@@ -33,7 +33,7 @@ class Step(NamedTuple):
 @dataclass
 class Certificate:
     """The files by their names; the steps; and what the programs answered, exactly: the controller earns at least `low` and at most `high`,
-    every policy at most `most`. A side that has no certificate is None."""
+    every policy at most `most`. A side that has no certificate is None. If `is_mended`, all of it is about the mended model."""
 
     name: str
     files: Dict[str, bytes] = field(default_factory=dict)
@@ -41,6 +41,7 @@ class Certificate:
     low: Optional[Fraction] = None
     high: Optional[Fraction] = None
     most: Optional[Fraction] = None
+    is_mended: bool = False
 
     @property
     def gap(self) -> Optional[Fraction]:
@@ -60,9 +61,8 @@ class Certificate:
         return lines
 
 
-def shown(value: Optional[Fraction]) -> str:
+def shown(value: Fraction) -> str:
     """A value of the programs' lines, which has at most six decimals."""
-    assert value is not None
     return decimal(int(value * MILLION))
 
 
@@ -105,6 +105,7 @@ class Certifier:
             if fault.code not in MENDABLE:
                 raise
             made = mended(source, self.within)
+            self.found.is_mended = True
             self.done("mend", f"{'; '.join(summary(made.model, made.mend))}; what follows is about the mended model")
             model = read_model(Source(source.name, made.text))
         answer = programs.model(model.source.text, program=self.polcert)

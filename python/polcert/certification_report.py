@@ -1,16 +1,21 @@
 """The report of a certificate, as Markdown and as JSON."""
 import hashlib
 import json
+from fractions import Fraction
 from typing import Dict, List, Optional, Sequence
 
 from polcert.certification import Certificate, shown
 from polcert.tokens import printable
 from polcert.version import VERSION
 
-PROMISE = """What is certified, of the bytes of the files named here: for every number of steps, every node and every state, the expected
-discounted reward of these steps, plus the discounted vector value where they end, is at least the value of the lowered vectors, and at most
-that of the raised ones, exactly; and no policy that sees the observations alone earns more from the start than the bound. polcert's checkers
-are formally verified: these sentences are proved for every yes."""
+LOW = """- From below: for every number of steps, every node and every state, the expected discounted reward of these steps, plus the discounted
+  vector value where they end, is at least the value of the lowered vectors, exactly. So in the long run this controller, started in the node
+  that the line names, earns at least its number from the model's start."""
+HIGH = """- From above, the same is at most the value of the raised vectors. So in the long run it earns at most the number of that line."""
+MOST = """- In the long run every policy that sees the observations alone (in an MDP the start state too) earns at most the number of the line on the
+  bound."""
+PROVED = """A proved program's yes is a theorem about the bytes of these files; the last lines say whether a proof of these programs is recorded.
+What floating point computed beside them is not proved: it only had to pass."""
 
 
 def sha256(text: bytes) -> str:
@@ -19,14 +24,22 @@ def sha256(text: bytes) -> str:
 
 def markdown_of(found: Certificate, given: Dict[str, bytes], programs: Sequence[str]) -> str:
     """`given` has the texts that were read, by their names; `programs` says which programs answered."""
-    sentences = found.sentences() or ["nothing is certified"]
-    lines = [f"# {printable(found.name)}", "", f"{'; '.join(sentences)}.".capitalize(), "", PROMISE, ""]
-    lines += ["| Step | Line | Seconds |", "|---|---|---|"]
+    sentences = f"{'; '.join(found.sentences()) or 'nothing is certified'}."
+    lines = [f"# {printable(found.name)}", "", sentences[0].upper() + sentences[1:], ""]
+    if found.is_mended:
+        lines += ["The model was mended: all that is certified is about the mended one, which stands below among the files that were written.", ""]
+    sides = ((found.low, LOW), (found.high, HIGH), (found.most, MOST))
+    promises = [promise for value, promise in sides if value is not None]
+    lines += [*promises, *(["", PROVED] if promises else []), "", "| Step | Line | Seconds |", "|---|---|---|"]
     lines += [f"| {step.name} | {escaped(step.line)} | {step.seconds:.1f} |" for step in found.steps]
-    lines += ["", "| File | SHA-256 |", "|---|---|"]
-    lines += [f"| `{escaped(name)}` | `{sha256(text)}` |" for name, text in {**given, **found.files}.items()]
+    lines += ["", "| File | | SHA-256 |", "|---|---|---|", *rows("read", given), *rows("written", found.files)]
     lines += ["", *(f"Checked by {program}." for program in programs), ""]
     return "\n".join(lines)
+
+
+def rows(done: str, texts: Dict[str, bytes]) -> List[str]:
+    """The rows of files that were read or written."""
+    return [f"| `{escaped(name)}` | {done} | `{sha256(text)}` |" for name, text in texts.items()]
 
 
 def escaped(text: str) -> str:
@@ -36,19 +49,24 @@ def escaped(text: str) -> str:
 
 def json_of(found: Certificate, given: Dict[str, bytes], programs: Sequence[str]) -> str:
     """The same as JSON; numbers that are exact are strings of decimals."""
-    def decimal(value: Optional[object]) -> Optional[str]:
-        return None if value is None else shown(value)  # type: ignore[arg-type]
 
-    files: List[Dict[str, str]] = [{"name": name, "sha256": sha256(text)} for name, text in {**given, **found.files}.items()]
+    def decimal(value: Optional[Fraction]) -> Optional[str]:
+        return None if value is None else shown(value)
+
+    def sums(texts: Dict[str, bytes]) -> List[Dict[str, str]]:
+        return [{"name": name, "sha256": sha256(text)} for name, text in texts.items()]
+
     report = {
         "polcert": VERSION,
         "name": found.name,
         "certified": found.low is not None,
+        "mended": found.is_mended,
         "controller": {"at_least": decimal(found.low), "at_most": decimal(found.high)},
         "every_policy": {"at_most": decimal(found.most)},
         "gap": decimal(found.gap),
         "steps": [{"name": step.name, "line": step.line, "seconds": round(step.seconds, 3)} for step in found.steps],
-        "files": files,
+        "read": sums(given),
+        "files": sums(found.files),
         "programs": list(programs),
     }
     return json.dumps(report, indent=2) + "\n"

@@ -3,10 +3,12 @@ import json
 import os
 import re
 from fractions import Fraction
+from hashlib import sha256
 from typing import Any, Dict
 
 from support import EXAMPLES, PROGRAM, FolderTest, Said, load, needs_program, run_script
-from polcert.certification import percent
+from polcert.certification import Certificate, percent
+from polcert.certification_report import markdown_of
 from runner import both_programs
 
 script = load("polcert-certify")
@@ -31,6 +33,22 @@ class Words(FolderTest):
     def test_names_of_files(self) -> None:
         for name, stem in (("a/tiger.POMDP", "tiger"), ("t.POMDP.gz", "t"), ("-", "model"), ("my.model", "my.model"), ("x.mdp", "x")):
             self.assertEqual(script.stem(name), stem)
+
+
+class Reports(FolderTest):
+    def test_no_more_is_said_than_is_certified(self) -> None:
+        found = Certificate("m", {"m.POMDP": b"mended"})
+        for side, value, first in (("low", 1, "From below"), ("high", 2, "From above"), ("most", 3, "In the long run every policy")):
+            self.assertNotIn(f"\n- {first}", markdown_of(found, {"m.POMDP": b"given"}, []))
+            setattr(found, side, Fraction(value))
+            self.assertIn(f"\n- {first}", markdown_of(found, {"m.POMDP": b"given"}, []))
+        text = markdown_of(found, {"m.POMDP": b"given"}, ["p"])
+        self.assertTrue(text.startswith("# m\n\nThis controller earns between 1 and 2; every policy at most 3; within 2, 200 %.\n"), text)
+        for done, bytes_ in (("read", b"given"), ("written", b"mended")):
+            self.assertIn(f"| `m.POMDP` | {done} | `{sha256(bytes_).hexdigest()}` |", text)
+        self.assertNotIn("was mended", text)
+        self.assertIn("was mended", markdown_of(Certificate("m", is_mended=True), {}, []))
+        self.assertIn("\n\nNothing is certified.\n", markdown_of(Certificate("m"), {}, []))
 
 
 @needs_program
@@ -65,8 +83,9 @@ class Certificates(FolderTest):
         report = self.report("tiger")
         self.assertEqual(report["controller"]["at_least"], found[1])
         self.assertEqual((report["every_policy"]["at_most"], report["gap"], report["certified"]), (found[3], found[4], True))
-        self.assertEqual({row["name"] for row in report["files"]} - {TIGER}, {path.name for path in (self.folder / "out").iterdir()}
-                         - {"tiger.report.md", "tiger.report.json"})
+        written = {path.name for path in (self.folder / "out").iterdir()} - {"tiger.report.md", "tiger.report.json"}
+        self.assertEqual({row["name"] for row in report["files"]}, written)
+        self.assertEqual(([row["name"] for row in report["read"]], report["mended"]), ([TIGER], False))
 
     def test_a_graph_that_is_given(self) -> None:
         model, graph = self.file("two.POMDP", TWO_ACTIONS), self.file("lazy.pg", b"0 0 0\n")
@@ -83,7 +102,9 @@ class Certificates(FolderTest):
 
     def test_a_model_is_mended(self) -> None:
         said = self.certify(self.file("rough.POMDP", ROUGH))
-        self.assertRegex(said.out, rb"\Arough: this controller earns between (10|9\.9999[0-9]*) and 10(\.0000[0-9]*)?; every policy at most 10")
+        line = rb"\Arough \(mended\): this controller earns between (10|9\.9999[0-9]*) and 10(\.0000[0-9]*)?; every policy at most 10"
+        self.assertRegex(said.out, line)
+        self.assertTrue(self.report("rough")["mended"])
         steps = [step["name"] for step in self.report("rough")["steps"]]
         self.assertEqual(steps[:2], ["mend", "model"])
         self.assertTrue((self.folder / "out/rough.POMDP").read_bytes().endswith(b"T: * : * uniform\n"))

@@ -3,16 +3,16 @@
     polcert-certify M.POMDP -o DIR           solves the model
     polcert-certify M.POMDP POLICY -o DIR    certifies a policy: a graph (.pg), or anything else that polcert-graph takes
 
-A model whose rows sum to one only nearly is mended first, as by polcert-mend. DIR gets the model, the graph with its vectors, lowered and
-raised so that polcert says yes to them, a bound on every policy, and a report, each named for the model. The proved programs answer; what
-is computed here only has to pass.
+A model whose rows sum to one only nearly is mended first, as by polcert-mend; then all is about the mended model. DIR gets the model, the
+graph with its vectors, lowered and raised so that polcert says yes to them, a bound on every policy, and a report, each named for the
+model. The proved programs answer; what is computed here only has to pass.
 
 Standard error has a line for each step, with its seconds. Standard output has what is certified, or with --json the report as JSON. The
 exit status is 0 if a lower bound is certified, and 1 if there is none. An interrupt (Ctrl-C) ends the search early.
 """
 import argparse
 import os
-from typing import Dict, List, NamedTuple, Optional
+from typing import Dict, NamedTuple, Optional
 
 from polcert.certification import Certifier, Step, Uncertified
 from polcert.certification_report import json_of, markdown_of
@@ -147,6 +147,6 @@ def main() -> int:
     os.makedirs(words.output, exist_ok=True)
     write_files({os.path.join(words.output, name): text for name, text in texts.items()})
     found = work.certifier.found
-    lines: List[str] = [f"{found.name}: {'; '.join(found.sentences()) or 'nothing is certified'}"]
-    show(texts[f"{found.name}.report.json"].decode() if words.json else "\n".join(lines) + "\n")
+    line = f"{found.name}{' (mended)' if found.is_mended else ''}: {'; '.join(found.sentences()) or 'nothing is certified'}\n"
+    show(texts[f"{found.name}.report.json"].decode() if words.json else line)
     return 0 if is_certified else 1
