@@ -48,6 +48,15 @@ class Evaluate(FolderTest):
             self.assertEqual((said.status, said.err), (0, ""))
             self.assertEqual(said.out, (EXAMPLES / f"{name}.alpha").read_bytes())
 
+    def test_a_graph_stays_as_it_is(self) -> None:
+        for name in ("tiger", "machine"):
+            said = run_script("polcert-graph", example(f"{name}.POMDP"), example(f"{name}.pg"), "-o", str(self.folder / name))
+            self.assertEqual(said.status, 0, said.err)
+            model = read_model(read_source(example(f"{name}.POMDP")))
+            graphs = [read_graph(read_source(file), model) for file in (example(f"{name}.pg"), str(self.folder / f"{name}.pg"))]
+            self.assertEqual(graphs[0], graphs[1])
+            self.assertEqual((self.folder / f"{name}.alpha").read_bytes(), (EXAMPLES / f"{name}.alpha").read_bytes())
+
     def test_random_graphs_against_plain_iteration(self) -> None:
         for seed in range(20):
             random_ = random.Random(seed)

@@ -1,7 +1,7 @@
 """Takes a model to certificates: what a controller earns, proved from below and from above, and how near that is to the best.
 
     polcert-certify M.POMDP -o DIR           solves the model
-    polcert-certify M.POMDP POLICY -o DIR    certifies a policy: a graph (.pg), or anything else that polcert-graph takes
+    polcert-certify M.POMDP POLICY -o DIR    certifies a policy: a graph (.pg), or what else polcert-graph takes
 
 A model whose rows sum to one only nearly is mended first, as by polcert-mend; then all is about the mended model. DIR gets the model, the
 graph with its vectors, lowered and raised so that polcert says yes to them, a bound on every policy, and a report, each named for the

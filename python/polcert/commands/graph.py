@@ -10,6 +10,7 @@ SOLVED is one of these:
     a table of R's pomdp: the vectors, or the nodes of a graph, numbered from 1
     a policy of AI-Toolbox, of which the vectors of the most steps are taken
     for an MDP, an action for each state, by name or number
+    a policy graph (.pg), which is written as it is, with its vectors
 
 Vectors mean a policy that keeps a belief. Graphs follow that policy from the start: one has a node for each vector that is the best one at
 a belief that is met, others a node for each of the likeliest beliefs. An observation leads to the node that is worth most at the belief
@@ -26,10 +27,9 @@ they must not be run.
 import argparse
 
 from polcert.command import Parser, Refusal, read_source, refuse_overwriting, refuse_unwritable
-from polcert.controllers import graph_of_policy
+from polcert.controllers import read_controller
 from polcert.files import MOST_NODES, Graph, read_model
 from polcert.needs import needs_numpy
-from polcert.policies import is_policy_of_mdp, read_solved
 from polcert.values import LARGEST_VALUE, refuse_undiscounted
 
 NODES, BELIEFS, POINTS, ROUNDS, TRIES = 1000, 5000, 100, 20, 20_000_000
@@ -94,7 +94,7 @@ def main() -> int:
     model = read_model(read_source(words.model))
     refuse_undiscounted(model)
     source = read_source(words.solved)
-    found = graph_of_policy(source, model) if is_policy_of_mdp(source, model) else read_solved(source, model)
+    found = read_controller(source, model)
     if words.own_vectors and isinstance(found, Graph):
         raise Refusal("--own-vectors takes vectors, and these are the nodes of a graph")
     with needs_numpy():
