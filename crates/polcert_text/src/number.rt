@@ -665,10 +665,9 @@ impl ScaledText {
         ensures { self.new ≡ self.old ++ decimals 6 rest }
     {
         let mut rest = rest;
-        let mut places = 6u32;
+        let mut unit = MILLION;
         while rest > 0 {
-            places -= 1;
-            let unit = 10u64.pow(places);
+            unit /= 10;
             self.push(b'0' + (rest / unit) as u8);
             rest %= unit;
         }

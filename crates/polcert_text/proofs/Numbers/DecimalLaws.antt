@@ -1,8 +1,8 @@
 -- The decimals of a number, digit by digit.
-use Rattle.std.proofs.Common.{◌≡◌, ◌∙◌, ℕ, suc, ◌+◌, ◌-◌, ◌*◌, ◌/◌, ◌%◌, ◌^◌, ◌<◌, false, List, [], ◌∷◌, ◌++◌, ap, arith, append_assoc}
+use Rattle.std.proofs.Common.{◌≡◌, ◌∙◌, ℕ, suc, ◌+◌, ◌-◌, ◌*◌, ◌/◌, ◌%◌, ◌^◌, ◌<◌, ◌≤◌, false, List, [], ◌∷◌, ◌++◌, ap, sym, subst, refl, length, length-append, arith, append_assoc}
 use Rattle.std.specs.Prelude.{◌==◌}
 use Rattle.polcert_text.proofs.Common.{nat_tests, one-le-pow, decimals}
-use Rattle.std.proofs.Math.Nat.{pow-suc, div-lt_iff_lt-mul}
+use Rattle.std.proofs.Math.Nat.{pow-suc, mod-lt, div-lt_iff_lt-mul}
 
 pub ten_pos : (k : ℕ) → 0 < 10 ^ k
 ten_pos k = one-le-pow k 10 (omega arith)
@@ -35,3 +35,34 @@ digit_below k r pos l = grind (arith, digit_below_suc)
 
 pub one_digit : (front : List ℕ) (d : ℕ) (more : List ℕ) → (front ++ d ∷ []) ++ more ≡ front ++ d ∷ more
 one_digit front d more = append_assoc front (d ∷ []) more
+
+-- a unit, what is left below it, and what is written of the whole text
+pub record IsUnit (unit rest : ℕ) (front whole : List ℕ) : Type 0 where
+  pub places : ℕ
+  pub power : unit ≡ 10 ^ places
+  pub below : rest < 10 ^ places
+  pub room : length front + places ≤ 24
+  pub written : front ++ decimals places rest ≡ whole
+
+-- what the next smaller unit leaves
+pub record IsDigit (unit rest : ℕ) (front whole : List ℕ) : Type 0 where
+  pub some : 0 < unit
+  pub digit : rest / unit < 10
+  pub room : length front < 24
+  pub next : IsUnit unit (rest % unit) (front ++ (48 + rest / unit) ∷ []) whole
+
+pub next_digit : (unit rest : ℕ) (front whole : List ℕ) → IsUnit unit rest front whole → 0 < rest → IsDigit (unit / 10) rest front whole
+next_digit unit rest front whole u h =
+    let k = u.places in
+    let pos : 0 < k = some_places k rest h u.below in
+    let e : k ≡ suc (k - 1) = omega arith in
+    let tenth : unit / 10 ≡ 10 ^ (k - 1) = omega (arith, u.power, ap (λ n. 10 ^ n) e, pow-suc 10 (k - 1)) in
+    let digit : List ℕ = (48 + rest / 10 ^ (k - 1)) ∷ [] in
+    let more : (front ++ digit) ++ decimals (k - 1) (rest % 10 ^ (k - 1)) ≡ whole =
+    one_digit front (48 + rest / 10 ^ (k - 1)) (decimals (k - 1) (rest % 10 ^ (k - 1))) ∙ ap (λ ds. front ++ ds) (sym (decimals-step k rest h pos)) ∙ u.written in
+    subst (λ t. IsDigit t rest front whole) (sym tenth) (record {
+      some = ten_pos (k - 1);
+      digit = digit_below k rest pos u.below;
+      room = omega (arith, u.room, pos);
+      next = record { places = k - 1; power = refl; below = mod-lt rest (ten_pos (k - 1)); room = omega (arith, length-append front digit, u.room, pos); written = more };
+    })
