@@ -292,8 +292,8 @@ fn has_same_rows<C: Cells>(cells: &C, a: usize) -> bool
     true
 }
 
-/// Returns whether two rows are known to have the same weights.
-fn is_same_row(one: Option<Row<'_>>, other: Option<Row<'_>>) -> bool
+/// Returns whether two rows are known to have the same weights. `false`: unknown.
+pub fn is_same_row(one: Option<Row<'_>>, other: Option<Row<'_>>) -> bool
     ensures { (f g : ℕ → ℕ) (count : ℕ) → IsTrue result → ForSome one.entry (IsRowOf f count)
         → ForSome other.entry (IsRowOf g count) → (c : ℕ) → c < count → f c ≡ g c }
 {

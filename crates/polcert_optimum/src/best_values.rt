@@ -1,7 +1,25 @@
 //! The expected value of the best vector after each observation.
+ghost use Rattle.std.specs.Prelude.{◌≡◌, ◌-◌, ◌<◌, ℕ, IsTrue};
+
 use crate::observation_sums::ObservationSums;
 use crate::pair::Pair;
 use polcert_cells::Cells;
+use polcert_check::one_step::is_same_row;
+
+/// Returns whether the row of T is known to be that of the state before, if there is one.
+fn has_row_before<C: Cells>(pair: &Pair<'_, C>) -> bool
+    ensures some { IsTrue result → 0 < pair.now.state }
+    ensures same { IsTrue result → (e : ℕ) → e < (C.table pair.now.cells.now).states →
+        (C.table pair.now.cells.now).t pair.now.action (pair.now.state - 1) e
+        ≡ (C.table pair.now.cells.now).t pair.now.action pair.now.state e }
+{
+    let cells = pair.cells;
+    pair.state > 0
+        && is_same_row(
+            cells.t_row(pair.action, pair.state - 1),
+            cells.t_row(pair.action, pair.state),
+        )
+}
 
 /// Buffers for the greatest expected value after each observation, and for the expected values of one vector.
 #[derive(Drop)]
@@ -11,7 +29,7 @@ pub(crate) struct BestValues {
 }
 
 impl BestValues {
-    ghost use Rattle.std.specs.Prelude.{◌≡◌};
+    ghost use Rattle.std.specs.Prelude.{◌≡◌, ◌-◌, ◌<◌};
     ghost use Rattle.polcert_policy.specs.Vectors.{value_of};
     ghost use Rattle.polcert_optimum.specs.Steps.Sums.{AreGreatestValues, best_value};
 
@@ -35,8 +53,22 @@ impl BestValues {
         }
     }
 
+    /// Returns the sum of the greatest expected values over the observations, where `before` is that of the state before this one, if
+    /// there is one. They are the same if the rows of T are.
+    pub(crate) fn sum_after<C: Cells>(&mut self, pair: &Pair<'_, C>, before: i128) -> i128
+        requires { 0 < pair.now.state → before ≡ best_value (C.table pair.now.cells.now)
+            (value_of pair.now.vectors.now) pair.now.action (pair.now.state - 1) }
+        ensures { result ≡ best_value (C.table pair.now.cells.now) (value_of pair.now.vectors.now)
+            pair.now.action pair.now.state }
+    {
+        if has_row_before(pair) {
+            return before;
+        }
+        self.sum(pair)
+    }
+
     /// Returns the sum of the greatest expected values over the observations.
-    pub(crate) fn sum<C: Cells>(&mut self, pair: &Pair<'_, C>) -> i128
+    fn sum<C: Cells>(&mut self, pair: &Pair<'_, C>) -> i128
         ensures { result ≡ best_value (C.table pair.now.cells.now) (value_of pair.now.vectors.now)
             pair.now.action pair.now.state }
     {

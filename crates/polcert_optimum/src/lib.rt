@@ -15,4 +15,4 @@ mod verdict;
 pub use fault::InformedRaiseFault;
 pub use raise::least_informed_raise;
 pub use seen_start::{bound_most_from_start, seen_most_from_start};
-pub use verdict::{InformedVerdict, check_informed, fit_actions};
+pub use verdict::{InformedVerdict, check_informed, check_informed_watched, fit_actions};

@@ -6,6 +6,7 @@ ghost use Rattle.polcert_optimum.specs.InformedCheck.{FitActions, IsInformedVerd
 use crate::excess::Buffers;
 use crate::pair::Pair;
 use polcert_cells::Cells;
+use polcert_check::{NoProgress, Progress};
 use polcert_policy::Vectors;
 
 /// The verdict on vectors, one for each action: yes, or the first action and state where the informed inequality fails, by action and
@@ -40,9 +41,8 @@ fn is_above(amount: i128) -> bool
 
 /// Returns whether the vector of each action is at least its informed backup at every state, so that no policy that sees the
 /// observations alone earns more than the vector of its first action says; else the first action and state where it is less. It takes no
-/// memory. For each action and state it walks the row of T, and for each end state the row of O, once for each action that can follow.
-// (Not inlined: its buffers would be room on the stack for all that is above it.)
-#[inline(never)]
+/// memory. For each action and state, unless the state before has the same row of T, it walks the row of T, and for each end state the
+/// row of O, once for each action that can follow.
 pub fn check_informed<C: Cells>(cells: &C, vectors: &Vectors) -> InformedVerdict
     requires { FitActions (C.table cells.now) vectors.now }
 
@@ -57,9 +57,43 @@ pub fn check_informed<C: Cells>(cells: &C, vectors: &Vectors) -> InformedVerdict
     // How large an amount can be.
     ensures small { NamesSmallExcess (C.table cells.now) result }
 {
+    check_informed_watched(cells, vectors, &mut NoProgress)
+}
+
+/// Checks as `check_informed`, and notifies `progress` of each action that passes, as of a node, and of its states.
+pub fn check_informed_watched<C: Cells, W: Progress>(
+    cells: &C,
+    vectors: &Vectors,
+    progress: &mut W,
+) -> InformedVerdict
+    requires { FitActions (C.table cells.now) vectors.now }
+    ensures verdict { IsInformedVerdict (C.table cells.now) (value_of vectors.now) result }
+    ensures promise { MeetsInformedPromise (C.table cells.now) (value_of vectors.now) result }
+    ensures small { NamesSmallExcess (C.table cells.now) result }
+{
+    progress.begin(cells.actions());
+    let verdict = first_excess(cells, vectors, progress);
+    progress.end();
+    verdict
+}
+
+/// Returns the verdict. `progress` is notified as by `check_informed_watched`.
+// (Not inlined: its buffers would be room on the stack for all that is above it.)
+#[inline(never)]
+fn first_excess<C: Cells, W: Progress>(
+    cells: &C,
+    vectors: &Vectors,
+    progress: &mut W,
+) -> InformedVerdict
+    requires { FitActions (C.table cells.now) vectors.now }
+    ensures verdict { IsInformedVerdict (C.table cells.now) (value_of vectors.now) result }
+    ensures promise { MeetsInformedPromise (C.table cells.now) (value_of vectors.now) result }
+    ensures small { NamesSmallExcess (C.table cells.now) result }
+{
     let _vectors = vectors.nodes();
     let mut buffers = Buffers::new();
     for action in 0..cells.actions() {
+        let mut best = 0;
         for state in 0..cells.states() {
             let pair = Pair {
                 cells,
@@ -67,7 +101,8 @@ pub fn check_informed<C: Cells>(cells: &C, vectors: &Vectors) -> InformedVerdict
                 action,
                 state,
             };
-            let amount = buffers.excess(&pair);
+            best = buffers.best_after(&pair, best);
+            let amount = buffers.excess(&pair, best);
             if is_above(amount) {
                 return InformedVerdict::Exceeded {
                     action,
@@ -75,7 +110,9 @@ pub fn check_informed<C: Cells>(cells: &C, vectors: &Vectors) -> InformedVerdict
                     amount,
                 };
             }
+            progress.states_done(state + 1, cells.states());
         }
+        progress.node_done();
     }
     InformedVerdict::Yes
 }

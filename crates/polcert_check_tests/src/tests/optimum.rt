@@ -7,6 +7,7 @@ use polcert_policy::{Vectors, read_action_vectors};
 use polcert_testing::TIGER;
 use std::alloc::Global;
 
+mod points;
 mod raise;
 
 /// Two states and two actions: to stay, and to move to the other state. Staying in state 0 earns 1, moving out of state 1 earns 3.

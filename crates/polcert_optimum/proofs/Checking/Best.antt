@@ -1,5 +1,5 @@
 -- The greatest expected value after each observation: one vector more at a time, and how large their sums are.
-use Rattle.std.proofs.Common.{◌≡◌, ℕ, ◌+◌, ◌*◌, ◌<◌, ◌≤◌, ℤ, pos, ◌*ℤ◌, ◌≤ℤ◌, unsigned_abs, None, List, sym, ◌∙◌, subst, arith}
+use Rattle.std.proofs.Common.{◌≡◌, ℕ, ◌+◌, ◌*◌, ◌<◌, ◌≤◌, ℤ, pos, ◌*ℤ◌, ◌≤ℤ◌, unsigned_abs, None, List, sym, ap, ◌∙◌, subst, arith}
 use Rattle.polcert_optimum.proofs.Common.{int_max, largest, CellTable, IsProper, IsWithinLimits, Controller, total_below, most_sum, IsController, step_weight, greatest_below, expected_value, sum_of, AreValuesUntil, AreGreatestValues, AreSmallSums, best_value}
 use Rattle.std.proofs.Math.Nat.{le_trans}
 use Rattle.polcert_cells.specs.Meaning.{sum_below}
@@ -68,3 +68,11 @@ module _ (t : CellTable) (p : IsProper t) (limits : IsWithinLimits t) (vectors :
 
 pub best_is : (t : CellTable) (vectors : ℕ → ℕ → ℤ) (a s : ℕ) (xs : List ℤ) → AreGreatestValues t vectors a s t.actions xs → total_below (sum_of xs) t.observations ≡ best_value t vectors a s
 best_is t vectors a s xs are = sum_below_same _ _ t.observations (λ z zl. are.each z zl)
+
+-- ---- states with the same row of T
+module _ (t : CellTable) (vectors : ℕ → ℕ → ℤ) (a s u : ℕ) (rows : (e : ℕ) → e < t.states → t.t a s e ≡ t.t a u e) where
+  value_same : (z b : ℕ) → expected_value t a s z (vectors b) ≡ expected_value t a u z (vectors b)
+  value_same z b = sum_below_same _ _ t.states (λ e el. ap (λ n. pos (n * t.o a e z) *ℤ vectors b e) (rows e el))
+
+  pub best_same : best_value t vectors a s ≡ best_value t vectors a u
+  best_same = λ i. total_below (λ z. greatest_below (λ b. value_same z b i) t.actions) t.observations

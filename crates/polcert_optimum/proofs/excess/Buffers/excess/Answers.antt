@@ -17,8 +17,7 @@ shortfall-above-requires-clause-expected g c =
     let t : CellTable = g.C.Cells.table c.args.pair.now.cells.now in
     let p : IsProper t = g.met.C.Cells.is_proper c.args.pair.now.cells.now in
     let limits : IsWithinLimits t = g.met.C.Cells.is_within_limits c.args.pair.now.cells.now in
-    let same = to_z-of_z w128 c.sum-best.result (search rules) ∙ c.sum-best.ensures in
-    rw same (best_value_le t p limits (value_of c.args.pair.now.vectors.now) (vectors_small t c.args.pair.now.vectors.now c.args.pair.now.fit c.args.pair.now.proper) c.args.pair.now.action c.args.pair.now.state c.args.pair.now.action_within c.args.pair.now.state_within)
+    rw (to_z-of_z w128 c.args.best (search rules) ∙ c.requires) (best_value_le t p limits (value_of c.args.pair.now.vectors.now) (vectors_small t c.args.pair.now.vectors.now c.args.pair.now.fit c.args.pair.now.proper) c.args.pair.now.action c.args.pair.now.state c.args.pair.now.action_within c.args.pair.now.state_within)
 
 small_enough : (x most : ℕ) → x ≤ most → most ≤ largest_amount → x < 2 ^ 127
 small_enough x most a b = omega (arith, a, b, amount_fits_128)
@@ -29,7 +28,7 @@ negated-requires g c =
     let p : IsProper t = g.met.C.Cells.is_proper c.args.pair.now.cells.now in
     let limits : IsWithinLimits t = g.met.C.Cells.is_within_limits c.args.pair.now.cells.now in
     let is : neg_ℤ c.shortfall-above.result ≡ excess t (value_of c.args.pair.now.vectors.now) c.args.pair.now.action c.args.pair.now.state =
-    excess_is t (value_of c.args.pair.now.vectors.now) c.args.pair.now.action c.args.pair.now.state c.shortfall-above.result _ _ _ c.shortfall-above.ensures (to_z-of_z w64 c.at-value.result (search rules) ∙ c.at-value.ensures.value) (to_z-of_z w128 c.expected_reward-reward.result (search rules) ∙ c.expected_reward-reward.ensures) (to_z-of_z w128 c.sum-best.result (search rules) ∙ c.sum-best.ensures) in
+    excess_is t (value_of c.args.pair.now.vectors.now) c.args.pair.now.action c.args.pair.now.state c.shortfall-above.result _ _ _ c.shortfall-above.ensures (to_z-of_z w64 c.at-value.result (search rules) ∙ c.at-value.ensures.value) (to_z-of_z w128 c.expected_reward-reward.result (search rules) ∙ c.expected_reward-reward.ensures) (to_z-of_z w128 c.args.best (search rules) ∙ c.requires) in
     let le : unsigned_abs (excess t (value_of c.args.pair.now.vectors.now) c.args.pair.now.action c.args.pair.now.state) ≤ most_excess t =
     excess_le t p limits (value_of c.args.pair.now.vectors.now) (vectors_small t c.args.pair.now.vectors.now c.args.pair.now.fit c.args.pair.now.proper) c.args.pair.now.action c.args.pair.now.state c.args.pair.now.action_within c.args.pair.now.state_within in
     let size : unsigned_abs c.shortfall-above.result ≤ most_excess t = subst (λ (n : ℕ). n ≤ most_excess t) (abs_neg c.shortfall-above.result) (subst (λ (x : ℤ). unsigned_abs x ≤ most_excess t) (sym is) le) in
@@ -41,7 +40,7 @@ returns g c =
     let p : IsProper t = g.met.C.Cells.is_proper c.args.pair.now.cells.now in
     let limits : IsWithinLimits t = g.met.C.Cells.is_within_limits c.args.pair.now.cells.now in
     let is : neg_ℤ c.shortfall-above.result ≡ excess t (value_of c.args.pair.now.vectors.now) c.args.pair.now.action c.args.pair.now.state =
-    excess_is t (value_of c.args.pair.now.vectors.now) c.args.pair.now.action c.args.pair.now.state c.shortfall-above.result _ _ _ c.shortfall-above.ensures (to_z-of_z w64 c.at-value.result (search rules) ∙ c.at-value.ensures.value) (to_z-of_z w128 c.expected_reward-reward.result (search rules) ∙ c.expected_reward-reward.ensures) (to_z-of_z w128 c.sum-best.result (search rules) ∙ c.sum-best.ensures) in
+    excess_is t (value_of c.args.pair.now.vectors.now) c.args.pair.now.action c.args.pair.now.state c.shortfall-above.result _ _ _ c.shortfall-above.ensures (to_z-of_z w64 c.at-value.result (search rules) ∙ c.at-value.ensures.value) (to_z-of_z w128 c.expected_reward-reward.result (search rules) ∙ c.expected_reward-reward.ensures) (to_z-of_z w128 c.args.best (search rules) ∙ c.requires) in
     let value : to_z w128 (of_z w128 c.negated.result) ≡ excess t (value_of c.args.pair.now.vectors.now) c.args.pair.now.action c.args.pair.now.state = to_z-of_z w128 c.negated.result (search rules) ∙ c.negated.ensures ∙ ap neg_ℤ (to_z-of_z w128 c.shortfall-above.result (search rules)) ∙ is in
     record {
       value = value;

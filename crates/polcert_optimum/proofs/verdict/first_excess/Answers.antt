@@ -3,13 +3,15 @@ use Rattle.polcert_optimum.proofs.Common.{w128, CellTable, IsProper, value_of, A
 use Rattle.std.proofs.lemmas.Int.{to_z-of_z}
 use Rattle.polcert_optimum.proofs.Informed.{every_observation_policy}
 use Rattle.polcert_optimum.proofs.Checking.Pairs.{state_more, action_more, all_before, no_bound}
-use Rattle.polcert_optimum.proofs.verdict.check_informed.Goals as goal
+use Rattle.polcert_optimum.proofs.verdict.first_excess.Goals as goal
 
 pub loop-state-preserved : goal.loop-state-preserved
 loop-state-preserved g c = grind (arith, to_z-of_z, state_more)
 
 pub loop-action-preserved : goal.loop-action-preserved
-loop-action-preserved g c = grind (arith, action_more)
+loop-action-preserved g c =
+    let t : CellTable = g.C.Cells.table c.args.cells.now in
+    action_more t (value_of c.args.vectors.now) c.loop-action.action c.loop-state.invariant.actions (λ u ul. c.loop-state.invariant.states u (omega (arith, ul, c.loop-state-test.false, c.states-state-end.ensures)))
 
 pub returns-then-is_above : goal.returns-then-is_above
 returns-then-is_above g c =
