@@ -16,6 +16,7 @@ mod fake_terminal;
 mod lines;
 mod points;
 mod progress;
+mod raised_points;
 mod runs;
 mod shown_progress;
 mod streams;

@@ -2,7 +2,7 @@
 use polcert_answer::RunFault;
 use polcert_bound_answer::{run_bound_check, run_bound_raise, status_of_bound_verdict};
 use polcert_lines::{RaisedLine, end_bound_run};
-use polcert_points_answer::{run_point_check, status_of_point_verdict};
+use polcert_points_answer::{run_point_check, run_point_raise, status_of_point_verdict};
 use polcert_terminal::every_policy::{Choice, FileNames, choose};
 use polcert_terminal::{CheckProgress, DONE, print_clap_error, refuse_for_memory, refuse_words};
 use polcert_text::{ReaderSource, WriterSink};
@@ -56,24 +56,33 @@ fn run_choice<R: Files + Clock + AllocGlobal + Print + Eprint>(
     choice: Choice<'_>,
 ) -> u8 {
     let done = match choice {
-        Choice::Check(names) => check_files(rt, names),
+        Choice::Check(names) => check_files(rt, shows_progress, names),
         Choice::CheckPoints { files, points } => {
             check_files_with_points(rt, shows_progress, files, points)
         }
         Choice::Raise(names) => raise_files(rt, names),
+        Choice::RaisePoints { files, points } => raise_files_with_points(rt, files, points),
     };
     end_bound_run(rt, done)
 }
 
 /// Checks the vectors of two files, and returns the exit status.
-fn check_files<R: Files + AllocGlobal + Print>(
+fn check_files<R: Files + Clock + AllocGlobal + Print + Eprint>(
     rt: &R,
+    shows_progress: bool,
     names: FileNames<'_>,
 ) -> Result<u8, RunFault> {
     let mut model = open_source(rt, names.model, RunFault::ReadModel)?;
     let mut vectors = open_source(rt, names.vectors, RunFault::ReadVectors)?;
     let mut sink = WriterSink::new(io::writer(rt));
-    let verdict = run_bound_check(rt.alloc(), &mut model, &mut vectors, &mut sink)?;
+    let mut progress = CheckProgress::of_actions(rt, shows_progress);
+    let verdict = run_bound_check(
+        rt.alloc(),
+        &mut model,
+        &mut vectors,
+        &mut sink,
+        &mut progress,
+    )?;
     Ok(status_of_bound_verdict(verdict))
 }
 
@@ -110,6 +119,21 @@ fn raise_files<R: Files + AllocGlobal + Print + Eprint>(
     let mut sink = WriterSink::new(io::writer(rt));
     let by = run_bound_raise(rt.alloc(), &mut model, &mut vectors, &mut sink)?;
     let _ = rt.eprintln(RaisedLine(by));
+    Ok(DONE)
+}
+
+/// Raises the points of three files, prints by how much, and returns the exit status.
+fn raise_files_with_points<R: Files + AllocGlobal + Print + Eprint>(
+    rt: &R,
+    names: FileNames<'_>,
+    points: &str,
+) -> Result<u8, RunFault> {
+    let mut model = open_source(rt, names.model, RunFault::ReadModel)?;
+    let mut vectors = open_source(rt, names.vectors, RunFault::ReadVectors)?;
+    let mut points = open_source(rt, points, RunFault::ReadPoints)?;
+    let mut sink = WriterSink::new(io::writer(rt));
+    let by = run_point_raise(rt.alloc(), &mut model, &mut vectors, &mut points, &mut sink)?;
+    let _ = rt.eprintln(RaisedLine(by as i64));
     Ok(DONE)
 }
 

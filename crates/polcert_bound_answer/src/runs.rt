@@ -11,22 +11,25 @@ ghost use Rattle.polcert_bound_answer.specs.Steps.Reading.{IsBoundAnswerLine};
 use crate::inputs::{BoundInputs, read_inputs};
 use crate::lines::{line_of_verdict, write_verdict};
 use polcert_answer::RunFault;
-use polcert_optimum::{InformedVerdict, check_informed};
+use polcert_check::Progress;
+use polcert_optimum::{InformedVerdict, check_informed_watched};
 use polcert_text::{Sink, Source};
 use std::alloc::Global;
 
 /// Reads a model and vectors, one for each of its actions, each value rounded up, from two sources, checks whether they bound every policy
 /// that sees the observations alone, writes the line of the verdict, and nothing else, and returns the verdict. Nothing is written before
-/// both texts are accepted and the verdict is known.
+/// both texts are accepted and the verdict is known. `progress` is notified of each action of the model that passes, as of a node, and of
+/// its states.
 ///
 /// # Errors
 ///
 /// `Text` if a text is refused or memory runs out, `ReadModel` or `ReadVectors` if a read of that source failed, `Write` if a write failed.
-pub fn run_bound_check<M: Source, V: Source, W: Sink>(
+pub fn run_bound_check<M: Source, V: Source, W: Sink, O: Progress>(
     alloc: Global,
     model: &mut M,
     vectors: &mut V,
     sink: &mut W,
+    progress: &mut O,
 ) -> Result<InformedVerdict, RunFault>
     // The sink took exactly the line of the answer to the texts of the two sources; or if a write failed, a beginning of the line.
     ensures answered { WritesAnswer W.writes (HasBoundVerdict (text_of M.reads model.old model.new)
@@ -59,11 +62,15 @@ pub fn run_bound_check<M: Source, V: Source, W: Sink>(
     ensures of_a_check { IfErr result IsBoundCheckFault }
 {
     let read = read_inputs(alloc, model, vectors)?;
-    write_answer(&read, sink)
+    write_answer(&read, sink, progress)
 }
 
 /// Checks what two texts denote, writes the line of the verdict, and returns the verdict.
-fn write_answer<W: Sink>(read: &BoundInputs, sink: &mut W) -> Result<InformedVerdict, RunFault>
+fn write_answer<W: Sink, O: Progress>(
+    read: &BoundInputs,
+    sink: &mut W,
+    progress: &mut O,
+) -> Result<InformedVerdict, RunFault>
     requires fit { FitActions (table_of (meaning read.now.model)) read.now.vectors }
     ensures answered { WritesAnswer W.writes (IsBoundAnswerLine (meaning read.now.model) read.now.vectors)
         result sink.old sink.new }
@@ -71,7 +78,7 @@ fn write_answer<W: Sink>(read: &BoundInputs, sink: &mut W) -> Result<InformedVer
         (W.failures sink.old) (W.failures sink.new) }
     ensures of_write { IfErr result (λ fault. fault ≡ RunFault.Write) }
 {
-    let verdict = check_informed(&read.model, &read.vectors);
+    let verdict = check_informed_watched(&read.model, &read.vectors, progress);
     let line = line_of_verdict(&read.model, &read.vectors, verdict);
     match write_verdict(line, sink) {
         Ok(()) => Ok(verdict),

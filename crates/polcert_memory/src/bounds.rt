@@ -5,7 +5,9 @@ use crate::texts::COST;
 use polcert_bound_answer::{check_bound_texts, run_bound_check, run_bound_raise};
 use polcert_check::NoProgress;
 use polcert_optimum::InformedVerdict;
-use polcert_points_answer::{PointBoundVerdict, check_point_texts, run_point_check};
+use polcert_points_answer::{
+    PointBoundVerdict, check_point_texts, run_point_check, run_point_raise,
+};
 use polcert_testing::MDP;
 use polcert_text::{SliceSink, SliceSource};
 use std::alloc::Global;
@@ -25,6 +27,9 @@ const COSTS: &[u8] = b"0 -2";
 /// The one state.
 const POINTS: &[u8] = b"0 1 -2 0";
 
+/// POINTS less a millionth, and so much too low.
+const LOW_POINTS: &[u8] = b"0 1 -2.000001 0";
+
 pub fn two_texts(alloc: Global) -> Ended {
     match check_bound_texts(alloc, MDP, BOUND) {
         Ok(verdict) => Ended::done(verdict == InformedVerdict::Yes),
@@ -40,6 +45,7 @@ pub fn checking(alloc: Global) -> Ended {
         &mut SliceSource::new(MDP),
         &mut SliceSource::new(BOUND),
         &mut sink,
+        &mut NoProgress,
     );
     match result {
         Ok(verdict) => Ended::done(
@@ -89,6 +95,23 @@ pub fn checking_points(alloc: Global) -> Ended {
             verdict == PointBoundVerdict::Yes
                 && sink.written() == b"yes: every policy, at most -2\n".as_slice(),
         ),
+        Err(fault) => stopped(fault, sink.written()),
+    }
+}
+
+/// Raised by a millionth.
+pub fn raising_points(alloc: Global) -> Ended {
+    let mut room = [0; ROOM];
+    let mut sink = SliceSink::new(&mut room);
+    let result = run_point_raise(
+        alloc,
+        &mut SliceSource::new(COST),
+        &mut SliceSource::new(COSTS),
+        &mut SliceSource::new(LOW_POINTS),
+        &mut sink,
+    );
+    match result {
+        Ok(by) => Ended::done(by == 1 && sink.written() == b"0 1\n-2 0\n".as_slice()),
         Err(fault) => stopped(fault, sink.written()),
     }
 }

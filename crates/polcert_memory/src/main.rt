@@ -48,6 +48,7 @@ fn call(alloc: Global, name: &str) -> Option<Ended> {
         "answering_points" => Some(bounds::points(alloc)),
         "checking_points" => Some(bounds::checking_points(alloc)),
         "raising_a_bound" => Some(bounds::raising(alloc)),
+        "raising_points" => Some(bounds::raising_points(alloc)),
         "summing_up" => Some(answers::summing_up(alloc)),
         "summing_up_an_mdp" => Some(answers::summing_up_an_mdp(alloc)),
         "printing" => Some(answers::printing(alloc)),

@@ -21,3 +21,5 @@ pub mod PointSets
 pub mod SmallExcesses
 pub mod SamePoints
 pub mod OnePoints
+pub mod RaisingPoints
+pub mod RaisedSets

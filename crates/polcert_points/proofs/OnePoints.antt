@@ -45,7 +45,7 @@ not_above : (x : ℤ) → x ≤ℤ pos 0 → pos 0 <ℤ x → ⊥
 not_above x l h = omega (arith, linear)
 
 module _ (t : CellTable) (charges : ℕ → ℕ → ℤ) (points : Points) (covers : Covers) where
-  fails_there : (i a : ℕ) (amount : ℤ) → IsVerdictWith t charges points covers (Exceeded i a amount) → IsBacked t charges points covers i a → ⊥
+  pub fails_there : (i a : ℕ) (amount : ℤ) → IsVerdictWith t charges points covers (Exceeded i a amount) → IsBacked t charges points covers i a → ⊥
   fails_there i a amount h backed =
       not_above amount ((rounded_sign (point_excess t charges points covers i a) amount h.3).1 (no_excess t charges points covers i a backed)) h.4
 
@@ -61,7 +61,7 @@ module _ (t : CellTable) (charges : ℕ → ℕ → ℤ) (points : Points) (cove
       λ k. Exceeded (points_same k) (actions_same k) (amounts k)
 
 -- ---- charges and covers are determined
-itself : (t : CellTable) → HasSameCells t t
+pub itself : (t : CellTable) → HasSameCells t t
 itself t = grind arith
 
 one_table_of_charges : (t : CellTable) (vectors c d : ℕ → ℕ → ℤ) (p : PointTable) → FitPoints t p → AreLeastCharges p vectors c → AreLeastCharges p vectors d → (a s : ℕ) → a < t.actions → s < t.states → c a s ≡ d a s

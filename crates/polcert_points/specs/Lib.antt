@@ -6,4 +6,5 @@ pub mod PointCheck
 pub mod PointTable
 pub mod PointVerdict
 pub mod PointStartMost
+pub mod RaisedPoints
 pub mod Steps

@@ -2,6 +2,7 @@
 ghost use Rattle.std.specs.Prelude.{◌≡◌, ◌<◌, ◌≤◌, ◌-ℤ◌, ◌≤ℤ◌, ℕ, ℤ, Option, pos};
 ghost use Rattle.polcert_policy.specs.Graphs.{PolicyGraph, IsProperGraph, nodes};
 ghost use Rattle.polcert_policy.specs.Vectors.{PolicyVectors};
+ghost use Rattle.polcert_policy.specs.Points.{AreProperPoints, PointValues};
 ghost use Rattle.polcert_check.specs.Horizon.{Fits, controller_of};
 ghost use Rattle.polcert_check.specs.Shortfall.{Passes};
 ghost use Rattle.polcert_check.specs.StartWorth.{IsStartWorth};
@@ -15,11 +16,14 @@ ghost use Rattle.polcert_optimum.specs.Informed.{AreInformed};
 ghost use Rattle.polcert_optimum.specs.Optimum.{EarnsAtMost, EncloseOptimum};
 ghost use Rattle.polcert_points.specs.Belief.{Belief, belief_after};
 ghost use Rattle.polcert_points.specs.Points.{AreBacked, AreCharges, BoundsEveryObservationPolicyAt, Cover, Covers, IsAtMostAt, IsCover, Points, PointsBoundEveryObservationPolicy};
-ghost use Rattle.polcert_points.specs.PointTable.{PointTable, AreLeastCharges, FitPoints};
+ghost use Rattle.polcert_points.specs.PointTable.{PointTable, AreLeastCharges, FitPoints, table_of_set};
+ghost use Rattle.polcert_points_form.specs.RaisedSet.{CanRaisePoints, HasAllValues, raised_set};
+ghost use Rattle.polcert_points.specs.RaisedPoints.{PassRaised};
 ghost use Rattle.polcert_points.specs.PointStart.{IsPointCertificate, PointsBoundFromStart, PointsBoundMixturesFromStart};
 ghost use Rattle.polcert_points.specs.PointStartMost.{IsPointStartMost};
 ghost use Rattle.polcert_points.specs.PointVerdict.{IsPointVerdict};
 ghost use Rattle.polcert_points.specs.declared.point_verdict.PointVerdict.{PointVerdict};
+ghost use Rattle.polcert_points.specs.declared.point_verdict.PointVerdict.TheVariants.{Yes};
 
 /// Points that are backed bound every policy that sees the observations alone, for every number of steps: at each point, and at each
 /// belief with a cover.
@@ -72,6 +76,14 @@ pub fn raising_points()
         IsCover t points (belief_after t (points.belief i) a z) (covers i a z)) →
         point_excess t (raised_table charges by) (raised_points points by) covers i a ≡
         point_excess t charges points covers i a -ℤ pos (taken_by_raise t points i by) }
+{}
+
+/// Points that pass raised by a constant pass raised by more, if every value stays in range. So a least constant is found by trying.
+pub fn raising_keeps_a_yes()
+    ensures { (t : CellTable) → IsProper t → t.discount ≤ one → (vectors : ℕ → ℕ → ℤ) (p : PointValues) →
+        FitPoints t (table_of_set p) → AreProperPoints p → HasAllValues p → (by more : ℕ) → by ≤ more →
+        CanRaisePoints p more → PassRaised t vectors p by → (verdict : PointVerdict) →
+        IsPointVerdict t vectors (table_of_set (raised_set p more)) verdict → verdict ≡ Yes }
 {}
 
 /// The covers that a file means by the points that it names are covers, and there is one alone.

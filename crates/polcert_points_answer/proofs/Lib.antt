@@ -6,3 +6,4 @@ pub mod Answering
 pub mod OneAnswer
 pub mod Enclosing
 pub mod Checking
+pub mod Raising

@@ -1,5 +1,5 @@
 -- Three texts have one answer, unless memory ran out.
-use Rattle.std.proofs.Common.{◌≡◌, ℕ, ℤ, pos, ◌<ℤ◌, List, Ok, Err, refl, sym, subst, arith}
+use Rattle.std.proofs.Common.{◌≡◌, ℕ, ℤ, pos, ◌<ℤ◌, List, Result, Ok, Err, refl, sym, subst, arith}
 use Rattle.polcert_points_answer.proofs.Common.{Fault, Graph, Model, Points, Vectors, actions_of, observations_of, states_of, CellTable, table_of, AreInformed, IsInformedVerdict, FitPoints, PointTable, table_of_set, IsPointVerdict, PointValues, IsNoPointsText, IsPointsText, PolicyVectors, value_of, PointFault, IsPointBoundAnswer, IsPointBoundVerdict, PointCertificate, PointBoundVerdict, PointExceeded, VectorExceeded, Yes}
 use Rattle.polcert_policy.specs.declared.fault.PointFault.TheVariants as faults
 use Rattle.polcert_policy.proofs.OnePointsRefusal as point_refusals
@@ -7,7 +7,7 @@ use Rattle.polcert_optimum.specs.declared.verdict.InformedVerdict.TheVariants as
 use Rattle.polcert_points.specs.declared.point_verdict.PointVerdict.{PointVerdict}
 use Rattle.polcert_points.specs.declared.point_verdict.PointVerdict.TheVariants as points
 use Rattle.polcert_points.proofs.OnePoints.{one_point_verdict}
-use Rattle.polcert_answer.specs.Answer.{IsOutOfMemory}
+use Rattle.polcert_answer.specs.Answer.{IsOutOfMemory, IsButForMemory}
 use Rattle.polcert_bound_answer.specs.Answer.{IsBoundAnswer}
 use Rattle.polcert_bound_answer.proofs.Denoted as bound
 use Rattle.polcert_bound_answer.proofs.OneAnswer as two_texts
@@ -62,3 +62,8 @@ module _ (model vectors points : List ℕ) where
   pub one_refusal : (f g : PointFault) → (f ≡ faults.Memory → ⊥) → (g ≡ faults.Memory → ⊥) → IsPointBoundAnswer model vectors points (Err (Points f)) → IsPointBoundAnswer model vectors points (Err (Points g)) → f ≡ g
   one_refusal f g f_says g_says h other =
       point_refusals.one_refusal (states_of h.meaning) (actions_of h.meaning) (observations_of h.meaning) points f g f_says g_says (h.refusal h.meaning h.has_vectors.is_model) (other.refusal h.meaning h.has_vectors.is_model)
+
+  -- beside a verdict there is no other answer
+  pub but_for_memory : (x : PointBoundVerdict) → IsPointBoundAnswer model vectors points (Ok x) → (r : Result PointBoundVerdict Fault) → IsPointBoundAnswer model vectors points r → IsButForMemory x r
+  but_for_memory x h (Ok y) other = one_verdict y x other h
+  but_for_memory x h (Err fault) other = no_refusal x fault h other

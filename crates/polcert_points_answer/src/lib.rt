@@ -6,9 +6,11 @@ mod answer;
 mod inputs;
 pub mod laws;
 mod lines;
+mod raise;
 mod runs;
 mod verdict;
 
 pub use answer::check_point_texts;
+pub use raise::run_point_raise;
 pub use runs::run_point_check;
 pub use verdict::{PointBoundVerdict, status_of_point_verdict};

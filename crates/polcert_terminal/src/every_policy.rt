@@ -2,7 +2,7 @@
 ghost use Rattle.std.specs.Prelude.{◌≡◌, List, false, IfOk, map, option_map};
 ghost use Rattle.clap.specs.Words.{FailsBy, app_of, fault_of, found_of, rows_of, subcommand_of, subcommand_rows_of, with_subcommand};
 ghost use Rattle.clap.specs.declared.builder.Command.TheViews.{out-Command};
-ghost use Rattle.polcert_terminal.specs.EveryPolicyCommand.{the_app, two_files, check_app, check_of, chosen, chosen_of, names_in, names_view, view_of};
+ghost use Rattle.polcert_terminal.specs.EveryPolicyCommand.{the_app, two_files, three_files, check_of, raise_of, chosen, chosen_of, names_in, names_view, view_of};
 
 mod help;
 
@@ -29,6 +29,11 @@ pub enum Choice<'a> {
     },
     /// Raise the vectors so that they pass the check.
     Raise(FileNames<'a>),
+    /// Raise the belief points of the file of this name so that they pass the check with the raised vectors.
+    RaisePoints {
+        files: FileNames<'a>,
+        points: &'a str,
+    },
 }
 
 /// Returns what the words ask for, of which the first is the program's name, or `None` if the command or a file's name is missing.
@@ -58,18 +63,22 @@ fn program_command<'a>(alloc: Global) -> Result<Command<'a>, AllocError>
         .version("1.0.0")
         .about(help::ABOUT)
         .after_help(help::DETAILS);
-    let check = check_command(alloc)?;
+    let check = command_with_points(alloc, "check", help::CHECK)?;
     let command = command.subcommand(check)?;
-    let raise = command_with_files(alloc, "raise", help::RAISE)?;
+    let raise = command_with_points(alloc, "raise", help::RAISE)?;
     command.subcommand(raise)
 }
 
-/// Returns the subcommand that checks, with the file of points.
-fn check_command<'a>(alloc: Global) -> Result<Command<'a>, AllocError>
-    ensures app { IfOk result (λ command. app_of command ≡ check_app) }
+/// Returns a subcommand that takes the names of the files of a model, of vectors, and of points, which may be left out.
+fn command_with_points<'a>(
+    alloc: Global,
+    name: &'a str,
+    texts: HelpTexts<'a>,
+) -> Result<Command<'a>, AllocError>
+    ensures app { IfOk result (λ command. app_of command ≡ three_files name.entry.now) }
     ensures local { IfOk result (λ command. (out-Command command).has_globals ≡ false) }
 {
-    command_with_files(alloc, "check", help::CHECK)?.arg(file(alloc, "POINTS"))
+    command_with_files(alloc, name, texts)?.arg(file(alloc, "POINTS"))
 }
 
 /// Returns a subcommand that takes the names of the files of a model and of vectors.
@@ -100,7 +109,7 @@ fn choice_by_name<'a>(name: &str, inner: &ArgMatches<'a>) -> Option<Choice<'a>>
 {
     match name {
         "check" => Some(check_of(file_names_of(inner)?, value_of(inner, "POINTS"))),
-        "raise" => Some(Choice::Raise(file_names_of(inner)?)),
+        "raise" => Some(raise_of(file_names_of(inner)?, value_of(inner, "POINTS"))),
         _ => None,
     }
 }
@@ -113,6 +122,17 @@ fn check_of<'a>(files: FileNames<'a>, points: Option<&'a str>) -> Choice<'a>
     match points {
         Some(points) => Choice::CheckPoints { files, points },
         None => Choice::Check(files),
+    }
+}
+
+/// Returns the raise of two files, or of three if points are given.
+fn raise_of<'a>(files: FileNames<'a>, points: Option<&'a str>) -> Choice<'a>
+    ensures { view_of result ≡
+        raise_of (option_map (λ name. name.now) points.entry) (names_view files.entry) }
+{
+    match points {
+        Some(points) => Choice::RaisePoints { files, points },
+        None => Choice::Raise(files),
     }
 }
 

@@ -90,7 +90,7 @@ impl Display for Blank {
     }
 }
 
-/// Shows on standard error, if that is a terminal, how many nodes or points are done, and how many start states of a node that takes
+/// Shows on standard error, if that is a terminal, how many nodes, actions or points are done, and how many states of one that takes
 /// long: not in the first seconds, then at most once a second, in one line that is blank again where the walk over them ends.
 #[derive(Drop)]
 pub struct CheckProgress<'a, R> {
@@ -105,6 +105,11 @@ impl<'a, R: Clock + Eprint> CheckProgress<'a, R> {
     /// Returns the progress of a walk over nodes that begins now.
     pub fn new(rt: &'a R, is_terminal: bool) -> Self {
         Self::of("nodes", rt, is_terminal)
+    }
+
+    /// Returns the progress of a walk over actions that begins now.
+    pub fn of_actions(rt: &'a R, is_terminal: bool) -> Self {
+        Self::of("actions", rt, is_terminal)
     }
 
     /// Returns the progress of a walk over belief points that begins now.

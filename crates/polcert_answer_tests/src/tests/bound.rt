@@ -3,7 +3,7 @@ use polcert_answer::{Fault, RunFault, status_of};
 use polcert_bound_answer::{
     check_bound_texts, run_bound_check, run_bound_raise, status_of_bound_verdict,
 };
-use polcert_check::RaiseFault;
+use polcert_check::{NoProgress, RaiseFault};
 use polcert_model::{ItemFault, ModelFault};
 use polcert_optimum::InformedVerdict;
 use polcert_policy::VectorFault;
@@ -24,11 +24,11 @@ const LOW: &[u8] = b"0 87.17 87.17 1 -17.1885 92.8115 2 92.8115 -17.1885";
 const RAISED: &[u8] = b"0\n87.1885 87.1885\n\n1\n-17.17 92.83\n\n2\n92.83 -17.17\n\n";
 
 /// One state that keeps to itself: 1 for each step, at a discount of 1.
-const GAIN: &[u8] =
+pub const GAIN: &[u8] =
     b"discount: 1 values: reward states: 1 actions: 1 observations: 1 T: 0 identity O: 0 uniform R: 0 : 0 : 0 : 0 1";
 
 /// The greatest gain, at the greatest discount below 1.
-const GREAT_GAIN: &[u8] =
+pub const GREAT_GAIN: &[u8] =
     b"discount: 0.999999 values: reward states: 1 actions: 1 observations: 1 T: 0 identity O: 0 uniform R: 0 : 0 : 0 : 0 10000000";
 
 #[derive(Clone, Copy, Debug, PartialEq)]
@@ -72,7 +72,13 @@ fn run_over_devices(alloc: Global, run: Run, texts: Texts<'_>, devices: Devices)
     let mut vectors = ReaderSource::new(Giver::new(texts.1, 7, devices.vectors));
     let mut sink = WriterSink::new(Taker::new(alloc, devices.sink));
     let answer = match run {
-        Run::Check => match run_bound_check(alloc, &mut model, &mut vectors, &mut sink) {
+        Run::Check => match run_bound_check(
+            alloc,
+            &mut model,
+            &mut vectors,
+            &mut sink,
+            &mut NoProgress,
+        ) {
             Ok(verdict) => Ok(Answer::Said(verdict)),
             Err(fault) => Err(fault),
         },

@@ -17,7 +17,7 @@ const NAMES: FileNames<'static> = FileNames {
 };
 
 /// Words, and what is chosen.
-const CHOICES: [(&[&str], Option<Choice<'static>>); 11] = [
+const CHOICES: [(&[&str], Option<Choice<'static>>); 12] = [
     (&[], None),
     (&["polcert_bound"], None),
     (&["polcert_bound", "check"], None),
@@ -50,6 +50,13 @@ const CHOICES: [(&[&str], Option<Choice<'static>>); 11] = [
         &["polcert_bound", "raise", "a", "b"],
         Some(Choice::Raise(NAMES)),
     ),
+    (
+        &["polcert_bound", "raise", "a", "b", "c"],
+        Some(Choice::RaisePoints {
+            files: NAMES,
+            points: "c",
+        }),
+    ),
 ];
 
 #[test]
@@ -72,7 +79,7 @@ fn refuses(rt: HostRuntime) {
             ErrorKind::UnknownArgument,
         ),
         (
-            &["polcert_bound", "raise", "a", "b", "c"],
+            &["polcert_bound", "raise", "a", "b", "c", "d"],
             ErrorKind::UnknownArgument,
         ),
         (&["polcert_bound", "--help"], ErrorKind::DisplayHelp),

@@ -10,29 +10,29 @@ use polcert_text::{ReaderSource, TokenFault, WriterSink};
 use std::alloc::Global;
 
 /// A coin that stays as it is, and that nobody sees: naming its side is worth 1.
-const COIN: &[u8] =
+pub const COIN: &[u8] =
     b"discount: 0.5 values: reward states: heads tails actions: 2 observations: 1 T: * identity O: * uniform R: 0 : heads : * : * 1 R: 1 : tails : * : * 1";
 
 /// Who sees the coin earns 1 a step: 2 in all, or 1 if the first word is wrong.
-const SEEN: &[u8] = b"0 2 1 1 1 2";
+pub const SEEN: &[u8] = b"0 2 1 1 1 2";
 
 /// SEEN, a half too low for a coin that shows heads.
-const LOW: &[u8] = b"0 1.5 1 1 1 2";
+pub const LOW: &[u8] = b"0 1.5 1 1 1 2";
 
 /// The texts of vectors and of points.
-type Texts<'a> = (&'a [u8], &'a [u8]);
+pub type Texts<'a> = (&'a [u8], &'a [u8]);
 
 /// Where each device fails, and how many bytes a source gives at a call.
 #[derive(Clone, Copy)]
-struct Devices {
-    most: usize,
-    model: Option<u64>,
-    vectors: Option<u64>,
-    points: Option<u64>,
-    sink: Failing,
+pub struct Devices {
+    pub most: usize,
+    pub model: Option<u64>,
+    pub vectors: Option<u64>,
+    pub points: Option<u64>,
+    pub sink: Failing,
 }
 
-const SOUND: Devices = Devices {
+pub const SOUND: Devices = Devices {
     most: 7,
     model: None,
     vectors: None,

@@ -3,6 +3,7 @@ ghost use Rattle.polcert_policy.specs.Vectors.{CanShift};
 
 mod actions;
 mod points;
+mod raised_points;
 mod sources;
 
 use polcert_policy::{

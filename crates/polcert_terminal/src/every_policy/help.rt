@@ -79,12 +79,15 @@ Example:
 };
 
 pub const RAISE: HelpTexts<'static> = HelpTexts {
-    about: "Print the vectors, raised just enough to pass `check`",
-    usage: "polcert_bound raise <FILE> <ALPHA>",
+    about: "Print the vectors, or points if given, raised just enough to pass `check`",
+    usage: "polcert_bound raise <FILE> <ALPHA> [POINTS]",
     details: with_files!(
-        "",
+        "  POINTS  Belief points (.points), which may be left out
+",
         "Every value is raised by the same constant, the least with which all vectors
-pass. The vectors go to standard output, the constant to standard error.
+pass. The vectors go to standard output, the constant to standard error. With
+points, these are printed in place of the vectors, raised by the least constant
+with which they pass together with the raised vectors.
 
 Example:
   $ polcert_bound raise stock.POMDP bound.alpha > bound.raised.alpha

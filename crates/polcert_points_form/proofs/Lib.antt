@@ -1,0 +1,3 @@
+pub mod RaisedSets
+pub mod WrittenPoints
+pub mod RowWalks

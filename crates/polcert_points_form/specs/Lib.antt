@@ -1,0 +1,3 @@
+pub mod RaisedSet
+pub mod FullForm
+pub mod Steps
