@@ -1,0 +1,68 @@
+-- A verdict says yes exactly if the vectors pass in every model within, and a no is refuted by one of them.
+use Rattle.std.proofs.Common.{◌≡◌, ℕ, ◌*◌, ◌<◌, ◌↔◌, ℤ, pos, ◌-ℤ◌, ◌*ℤ◌, ◌<ℤ◌, refl, subst, arith}
+use Rattle.polcert_cells.specs.Tables.{CellTable, IsProper}
+use Rattle.polcert_policy.specs.Graphs.{PolicyGraph, IsProperGraph, nodes}
+use Rattle.polcert_policy.specs.Vectors.{PolicyVectors}
+use Rattle.polcert_check.specs.Horizon.{Controller, Fits, controller_of, one}
+use Rattle.polcert_check.specs.Shortfall.{Lacks}
+use Rattle.polcert_check.specs.declared.survey.Verdict.{Verdict}
+use Rattle.polcert_check.specs.declared.survey.Verdict.TheVariants.{Yes, Short, NoSuccessor}
+use Rattle.polcert_check.proofs.Certificates.{closed_is}
+use Rattle.polcert_check.proofs.Horizons.EveryHorizon.{passes_if_promised}
+use Rattle.polcert_check.proofs.Sums.Ring.{linear}
+use Rattle.polcert_robust.specs.Intervals.{IntervalTable, around, high_of}
+use Rattle.polcert_robust.specs.RobustVerdict.{IsRobustVerdict, MeetsHorizonInEveryModel, PassesInEveryModel}
+use Rattle.polcert_robust.specs.Worst.{IsRobust, MayLack, within_model, worst_backing}
+use Rattle.polcert_robust.proofs.Backings.{not_robust}
+use Rattle.polcert_robust.proofs.Exactly.{high_some, lies_around, only_then}
+use Rattle.polcert_robust.proofs.Horizons.{near}
+use Rattle.polcert_robust.proofs.Refuting.{refutes}
+use Rattle.polcert_robust.proofs.Step.{left_some, passes_within, right_some, some_product}
+
+module _ (x : CellTable) (graph : PolicyGraph) (vectors : PolicyVectors) (t_by o_by r_by : ℕ) (t_some : 0 < x.t_scale) (o_some : 0 < x.o_scale)
+    (proper : IsProper x) (is_graph : IsProperGraph graph) (fits : Fits x graph vectors) where
+  abbrev pub intervals : IntervalTable
+  intervals = around x t_by o_by r_by
+
+  abbrev pub c : Controller
+  c = controller_of x graph vectors
+
+  pub known : (n : ℕ) → n < nodes graph → c.action n < x.actions
+  known n nl = (closed_is x graph vectors fits is_graph).actions_in_range n nl
+
+  passes_if_robust : IsRobust intervals c → PassesInEveryModel intervals c
+  passes_if_robust robust = passes_within intervals c t_some o_some known robust
+
+  robust_if_passes : PassesInEveryModel intervals c → IsRobust intervals c
+  robust_if_passes passes = only_then x c t_by o_by r_by proper known (λ m lies. passes 1 m lies)
+
+  pub exact : (v : Verdict) → IsRobustVerdict intervals c v → (v ≡ Yes) ↔ PassesInEveryModel intervals c
+  exact v is = (
+    (λ yes. passes_if_robust (subst (IsRobustVerdict intervals c) yes is)),
+    (λ passes. not_robust intervals c v t_some o_some is (robust_if_passes passes)),
+  )
+
+  pub short_fails : (value backing amount : ℤ) → amount ≡ value -ℤ backing → pos 0 <ℤ amount → backing <ℤ value
+  short_fails value backing amount is some = omega (arith, linear)
+
+  -- the text's own model lacks what may be lacked near it
+  pub lacks_itself : (n s z : ℕ) → MayLack intervals c n s z → Lacks (within_model c 1 x) n s z
+  lacks_itself n s z (none, (e, el, some)) = (
+    none,
+    (
+      e,
+      el,
+      some_product (x.t (c.action n) s e) (x.o (c.action n) e z)
+          (high_some t_by (x.t (c.action n) s e) (left_some (high_of t_by (x.t (c.action n) s e)) (high_of o_by (x.o (c.action n) e z)) some))
+          (high_some o_by (x.o (c.action n) e z) (right_some (high_of t_by (x.t (c.action n) s e)) (high_of o_by (x.o (c.action n) e z)) some)),
+    ),
+  )
+
+  pub horizon : (v : Verdict) → IsRobustVerdict intervals c v → MeetsHorizonInEveryModel intervals c v
+  horizon Yes robust = near x graph vectors t_by o_by r_by t_some o_some is_graph fits robust
+  horizon (Short n s amount) (nl, sl, before, lacks, short, some) =
+      let (m, lies, fails) = refutes intervals c x (lies_around x t_by o_by r_by proper) refl refl n s (known n nl) sl short.seen short.ends short.worst
+      (short_fails (pos (x.t_scale * x.o_scale * one) *ℤ c.value n s) (worst_backing intervals c n s short.seen short.ends) amount short.is some) in
+      (m, lies, λ promise. fails (passes_if_promised (within_model c 1 m) n s promise))
+  horizon (NoSuccessor n s z) (nl, sl, before, (zl, lack, least)) =
+      (x, lies_around x t_by o_by r_by proper, λ promise. (passes_if_promised (within_model c 1 x) n s promise).lacks_none z zl (lacks_itself n s z lack))

@@ -1,0 +1,5 @@
+pub mod Rows
+pub mod Holding
+pub mod Sides
+pub mod Pairs
+pub mod Surveys

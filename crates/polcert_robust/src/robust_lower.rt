@@ -1,0 +1,161 @@
+//! The least constant by which vectors pass in every model near the text's.
+ghost use Rattle.std.specs.Prelude.{◌≡◌, ◌+◌, ◌*◌, ◌<◌, ◌≤◌, ℕ, pos, neg_ℤ, ◌+ℤ◌, ◌↔◌, IsTrue, IfErr, IfOk};
+ghost use Rattle.polcert_policy.specs.Vectors.{IsInRange, PolicyVectors};
+ghost use Rattle.polcert_check.specs.Horizon.{Fits, controller_of, one};
+ghost use Rattle.polcert_check.specs.Lower.{CanLower};
+ghost use Rattle.polcert_check.specs.Steps.Findings.{IsRefused};
+ghost use Rattle.polcert_check.specs.declared.survey.Verdict.TheVariants.{Yes};
+ghost use Rattle.polcert_robust.specs.Intervals.{around};
+ghost use Rattle.polcert_robust.specs.RobustLower.{IsLeastRobust, IsLeastRobustConstant, IsNotLoweredRobustly, NoneMayLack};
+ghost use Rattle.polcert_robust.specs.Steps.Pairs.{cells_of, near_controller, near_table};
+ghost use Rattle.polcert_robust.specs.Steps.Surveys.{IsSurveyedBefore};
+
+use crate::buffers::PairBuffers;
+use crate::distance::Distance;
+use crate::findings::RobustFindings;
+use crate::robust_input::RobustInput;
+use crate::side::Side;
+use crate::survey::survey_robust;
+use polcert_cells::Cells;
+use polcert_check::{LowerFault, Progress, Verdict};
+use polcert_policy::{Graph, Vectors};
+
+/// Returns a quotient, rounded up.
+fn quotient_up(amount: u128, divisor: u128) -> u128
+    requires some { 0 < divisor }
+    ensures enough { amount ≤ divisor * result }
+    ensures least { (d : ℕ) → d < result → divisor * d < amount }
+{
+    if amount == 0 {
+        return 0;
+    }
+    (amount - 1) / divisor + 1
+}
+
+/// Tests whether the value less `by` is in range.
+fn is_low_enough(value: i64, by: u128) -> bool
+    requires { IsInRange value }
+    ensures { IsTrue result ↔ IsInRange (value +ℤ neg_ℤ (pos by)) }
+{
+    (value as i128 + 10_000_000_000_000) as u128 >= by
+}
+
+/// Tests whether every value less `by` is in range.
+fn stays_in_range(vectors: &Vectors, by: u128) -> bool
+    ensures { IsTrue result ↔ CanLower vectors.now by }
+{
+    for n in 0..vectors.nodes() {
+        for s in 0..vectors.states() {
+            if !is_low_enough(vectors.at(n, s), by) {
+                return false;
+            }
+        }
+    }
+    true
+}
+
+/// Returns the least constant if the discount is below 1, whether or not it leaves the values in range.
+fn candidate<C: Cells>(input: &RobustInput<'_, C>, findings: RobustFindings) -> u128
+    requires found { IsSurveyedBefore (near_table input.now) (near_controller input.now)
+        (near_controller input.now).nodes 0 findings }
+    requires discount { (cells_of input.now).discount < one }
+    ensures { IsLeastRobust (near_table input.now) (near_controller input.now) result }
+{
+    let cells = input.cells;
+    let scale = (cells.t_scale() * cells.o_scale()) as u128;
+    quotient_up(
+        findings.worst,
+        scale * (1_000_000 - cells.discount()) as u128,
+    )
+}
+
+/// Returns the reason why vectors with this verdict are not lowered if the discount is 1.
+fn refused(verdict: Verdict) -> Result<(), LowerFault>
+    ensures passes { IfOk result (λ _. verdict ≡ Yes) }
+    ensures refused { IfErr result (IsRefused verdict) }
+{
+    match verdict {
+        Verdict::Yes => Ok(()),
+        Verdict::Short {
+            node,
+            state,
+            amount,
+        } => Err(LowerFault::NoConstant {
+            node,
+            state,
+            amount,
+        }),
+        Verdict::NoSuccessor {
+            node,
+            state,
+            observation,
+        } => Err(LowerFault::NoSuccessor {
+            node,
+            state,
+            observation,
+        }),
+    }
+}
+
+/// Returns the least constant by which the vectors pass, whether or not it leaves the values in range.
+fn least_passing<C: Cells>(
+    input: &RobustInput<'_, C>,
+    findings: RobustFindings,
+) -> Result<u128, LowerFault>
+    requires found { IsSurveyedBefore (near_table input.now) (near_controller input.now)
+        (near_controller input.now).nodes 0 findings }
+    ensures least { IfOk result (IsLeastRobust (near_table input.now) (near_controller input.now)) }
+    ensures none { IfOk result (λ _. NoneMayLack (near_table input.now) (near_controller input.now)) }
+    ensures refused { IfErr result (λ fault. (vectors : PolicyVectors) →
+        IsNotLoweredRobustly (near_table input.now) (near_controller input.now) vectors fault) }
+{
+    if input.cells.discount() < 1_000_000 {
+        return Ok(candidate(input, findings));
+    }
+    refused(findings.first)?;
+    Ok(0)
+}
+
+/// Returns the least constant, in millionths, by which all vectors can be lowered so that they pass in every model near the text's.
+///
+/// # Errors
+///
+/// If an observation that may be received has no successor, if the discount is 1 and a value is short, and if the least constant takes a
+/// value out of range. It takes no memory.
+pub fn least_robust_constant<C: Cells, W: Progress>(
+    cells: &C,
+    graph: &Graph,
+    vectors: &Vectors,
+    distance: Distance,
+    progress: &mut W,
+) -> Result<i64, LowerFault>
+    requires fits { Fits (C.table cells.now) graph.now vectors.now }
+
+    // The least constant by which every pair is robust, which leaves every value in range.
+    ensures least { IfOk result (IsLeastRobustConstant
+        (around (C.table cells.now) distance.t_by distance.o_by distance.r_by)
+        (controller_of (C.table cells.now) graph.now vectors.now) vectors.now) }
+
+    // Why there is none.
+    ensures refused { IfErr result (IsNotLoweredRobustly
+        (around (C.table cells.now) distance.t_by distance.o_by distance.r_by)
+        (controller_of (C.table cells.now) graph.now vectors.now) vectors.now) }
+{
+    let nodes = graph.nodes();
+    let vector_count = vectors.nodes();
+    prove!(nodes == vector_count);
+    let input = RobustInput {
+        cells,
+        graph,
+        vectors,
+        distance,
+        side: Side::Below,
+    };
+    let findings = survey_robust(&input, &mut PairBuffers::new(), progress)?;
+    let by = least_passing(&input, findings)?;
+    if stays_in_range(vectors, by) {
+        Ok(by as i64)
+    } else {
+        Err(LowerFault::OutOfRange)
+    }
+}

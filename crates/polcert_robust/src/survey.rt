@@ -1,0 +1,56 @@
+//! The walk over all pairs that measures them.
+ghost use Rattle.std.specs.Prelude.{IfErr, IfOk};
+ghost use Rattle.polcert_policy.specs.Vectors.{PolicyVectors};
+ghost use Rattle.polcert_robust.specs.RobustLower.{IsNotLoweredRobustly};
+ghost use Rattle.polcert_robust.specs.Steps.Pairs.{near_controller, near_table};
+ghost use Rattle.polcert_robust.specs.Steps.Surveys.{IsSurveyedBefore};
+
+use crate::buffers::PairBuffers;
+use crate::findings::{RobustFindings, lack_of, noted};
+use crate::pair::{Pair, pair_verdict};
+use crate::robust_input::RobustInput;
+use polcert_cells::Cells;
+use polcert_check::{LowerFault, Progress, Verdict};
+
+/// Returns what is found at all pairs, or the first that may lack an observation. `progress` is notified of each node before it.
+pub(crate) fn survey_robust<C: Cells, W: Progress>(
+    input: &RobustInput<'_, C>,
+    buffers: &mut PairBuffers,
+    progress: &mut W,
+) -> Result<RobustFindings, LowerFault>
+    ensures found { IfOk result
+        (IsSurveyedBefore (near_table input.now) (near_controller input.now)
+        (near_controller input.now).nodes 0) }
+    ensures refused { IfErr result (λ fault. (vectors : PolicyVectors) →
+        IsNotLoweredRobustly (near_table input.now) (near_controller input.now) vectors fault) }
+{
+    progress.begin(input.graph.nodes());
+    let mut findings = RobustFindings {
+        first: Verdict::Yes,
+        worst: 0,
+    };
+    for n in 0..input.graph.nodes() {
+        for s in 0..input.cells.states() {
+            let pair = Pair {
+                input: &*input,
+                n,
+                s,
+            };
+            let verdict = pair_verdict(
+                &pair,
+                &mut buffers.end_weights,
+                &mut buffers.end_values,
+                &mut buffers.weights,
+                &mut buffers.values,
+            );
+            if let Some(fault) = lack_of(verdict) {
+                progress.end();
+                return Err(fault);
+            }
+            findings = noted(findings, verdict);
+        }
+        progress.node_done();
+    }
+    progress.end();
+    Ok(findings)
+}

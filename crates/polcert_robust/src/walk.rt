@@ -1,0 +1,57 @@
+//! The walk over all pairs of a node and a state.
+ghost use Rattle.std.specs.Prelude.{◌≡◌, IsFalse, IsTrue};
+ghost use Rattle.polcert_check.specs.declared.survey.Verdict.TheVariants.{Yes};
+ghost use Rattle.polcert_robust.specs.RobustVerdict.{IsRobustVerdict};
+ghost use Rattle.polcert_robust.specs.Steps.Pairs.{near_controller, near_table};
+
+use crate::buffers::PairBuffers;
+use crate::pair::{Pair, pair_verdict};
+use crate::robust_input::RobustInput;
+use polcert_cells::Cells;
+use polcert_check::{Progress, Verdict};
+
+/// Returns whether the verdict is a no.
+fn is_no(verdict: Verdict) -> bool
+    ensures no { IsTrue result → verdict ≡ Yes → ⊥ }
+    ensures yes { IsFalse result → verdict ≡ Yes }
+{
+    match verdict {
+        Verdict::Yes => false,
+        Verdict::Short { .. } | Verdict::NoSuccessor { .. } => true,
+    }
+}
+
+/// Returns the verdict on the first pair that is not robust, by node and then by state, or yes. `progress` is notified of each node
+/// before it.
+pub(crate) fn first_failure<C: Cells, W: Progress>(
+    input: &RobustInput<'_, C>,
+    buffers: &mut PairBuffers,
+    progress: &mut W,
+) -> Verdict
+    ensures { IsRobustVerdict (near_table input.now) (near_controller input.now) result }
+{
+    progress.begin(input.graph.nodes());
+    for n in 0..input.graph.nodes() {
+        for s in 0..input.cells.states() {
+            let pair = Pair {
+                input: &*input,
+                n,
+                s,
+            };
+            let verdict = pair_verdict(
+                &pair,
+                &mut buffers.end_weights,
+                &mut buffers.end_values,
+                &mut buffers.weights,
+                &mut buffers.values,
+            );
+            if is_no(verdict) {
+                progress.end();
+                return verdict;
+            }
+        }
+        progress.node_done();
+    }
+    progress.end();
+    Verdict::Yes
+}

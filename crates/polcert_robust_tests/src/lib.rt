@@ -1,0 +1,5 @@
+//! The tests of what `polcert_robust` makes public, in a crate of their own: so they are proved without proving that crate once more.
+#![tactic(auto)]
+
+#[cfg(test)]
+mod tests;
