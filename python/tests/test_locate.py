@@ -11,7 +11,7 @@ HEAD = b"discount: 1\nvalues: reward\nstates: a b\nactions: go\nobservations: 1\
 
 
 def located(text: bytes, line: str) -> List[str]:
-    return str(script.located(Source("F", text), script.refusal_of(line))).splitlines()
+    return str(script.located(Source("F", text), script.refusal_of(line)).lines()).splitlines()
 
 
 class Page(FolderTest):
@@ -49,8 +49,9 @@ class Places(FolderTest):
             "F:8:1: M17 in T, action 0, row 1: a row does not sum to one exactly",
             "    0.15 0.84",
             "    ^",
-            "The row `T: go : b` sums to 0.99. It is given in line 6.",
-            "How to mend it: run `polcert-mend`; or correct the last number of the row, or write `uniform`.",
+            "The row `T: go : b` sums to 0.99, 0.01 less than 1. It is given in line 6.",
+            "How to mend it: if its numbers are rounded ones, `polcert-mend --within 0.005 FILE > NEW` makes it exact, and says how far that "
+            "moves any value.",
         ])
 
     def test_a_row_of_several_entries(self) -> None:
@@ -58,7 +59,7 @@ class Places(FolderTest):
         lines = located(text, "model: M17 in T, action 0, row 1")
         self.assertEqual(lines[:4], [
             "F:9:3: M17 in T, action 0, row 1: a row does not sum to one exactly", "      T: go : * : b 0.5 # here", "      ^",
-            "The row `T: go : b` sums to 0.9. It is given in lines 6, 8, 9.",
+            "The row `T: go : b` sums to 0.9, 0.1 less than 1. It is given in lines 6, 8, 9.",
         ])
 
     def test_a_row_that_is_not_there(self) -> None:
@@ -92,7 +93,7 @@ class Places(FolderTest):
 
     def test_what_would_move_the_cursor(self) -> None:
         text = b"states: a\x1b[2K\r b\n"
-        lines = script.located(Source("F\nyes", text), script.refusal_of("model: M1 K1 in item 1 at byte 9")).splitlines()
+        lines = script.located(Source("F\nyes", text), script.refusal_of("model: M1 K1 in item 1 at byte 9")).lines().splitlines()
         self.assertEqual([lines[0].partition(": ")[0], *lines[1:3]], ["F\\nyes:1:10", "    states: a?[2K? b", "             ^"])
 
     def test_letters_outside_of_ascii(self) -> None:
@@ -100,6 +101,31 @@ class Places(FolderTest):
         lines = located(text, f"model: M1 K1 in item 1 at byte {text.index('ä'.encode())}")
         self.assertEqual(lines[0][:6], "F:2:9:")
         self.assertEqual(lines[1][lines[2].index("^")], "ä")
+
+
+class Items(FolderTest):
+    """The item and the word that are wrong, if the text is the one that was refused."""
+
+    def test_words(self) -> None:
+        for text, line, said in (
+            (HEAD.replace(b"a b", b"s0.5 b"), "model: M4 in item 3 at byte 37", "In `states` of line 3: expected a name, found `.5`."),
+            (HEAD + b"start: a b\n", "model: M4 in item 6 at byte 76", "In `start` of line 6: expected the end of the item, found `b`."),
+            (b"horizon: 5\n" + HEAD, "model: M3 in item 0 at byte 0",
+             "Expected a word that begins an item (`discount`, `values`, ...), found `horizon`."),
+            (HEAD.replace(b"values: reward\n", b"") + b"T: go identity\n", "model: M7 in item 5 at byte 52",
+             "In `T` of line 5: expected the line `values:` before this, found `T`."),
+        ):
+            self.assertEqual(located(text, line)[3], said)
+
+    def test_a_start(self) -> None:
+        text = HEAD + b"start: 0.5 0.4\nT: go identity\nO: * uniform\n"
+        lines = located(text, "model: M18 in item 6 at byte 82")
+        self.assertEqual(lines[3], "The start sums to 0.9, 0.1 less than 1.")
+        self.assertEqual(lines[4][:58], "How to mend it: if its numbers are rounded ones, `polcert-mend --within 0.05 FILE"[:58])
+
+    def test_another_text(self) -> None:
+        lines = located(HEAD, "model: M4 in item 3 at byte 37")
+        self.assertEqual([line[:14] for line in lines[3:]], ["How to mend it"])
 
 
 class Script(FolderTest):

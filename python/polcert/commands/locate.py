@@ -1,4 +1,5 @@
-"""Shows the place that a refusal of polcert names: FILE:LINE:COLUMN, the line, a caret, what the code means and how to mend it.
+"""Shows the place that a refusal of polcert names: FILE:LINE:COLUMN, the line, a caret, what the code means, the item and the word that are
+wrong, and how to mend it.
 
     polcert-locate tiger.POMDP "model: M17 in O, action 0, row 1"
     polcert model tiger.POMDP 2>&1 | polcert-locate tiger.POMDP
@@ -9,12 +10,15 @@ The exit status is 0 if there is a refusal, 1 if there is none.
 """
 from array import array
 from fractions import Fraction
-from typing import Iterable, List, NamedTuple, Optional
+from typing import Dict, Iterable, List, NamedTuple, Optional
 
+from polcert.advice import advice
 from polcert.answers import Refused, refused_of
-from polcert.command import Parser, Refusal, read_lines, read_source, show
-from polcert.files import ITEM_WORDS, Model, Table, place_of_row, read_model
-from polcert.tokens import BAD, END, NAME, Cursor, Source, Token, printable, quoted
+from polcert.command import GZIP, Parser, Refusal, read_lines, read_source, show
+from polcert.commands.mend import off_one, shown
+from polcert.files import ITEM_WORDS, FileError, Model, Table, place_of_row, read_model
+from polcert.json_output import json_text
+from polcert.tokens import BAD, END, NAME, Cursor, Source, Token, printable, quoted, token_at
 
 WIDEST = 100
 # Stands for a token that is no number; greater than any number of a node.
@@ -28,14 +32,81 @@ class Spot(NamedTuple):
     notes: List[str]
 
 
-def located(source: Source, refusal: Refused) -> str:
-    """The lines for a refusal of a text."""
+class Located(NamedTuple):
+    """A refusal of a text: the text as polcert got it, the place if there is one, what is known of it, and what to do."""
+
+    source: Source
+    refusal: Refused
+    byte: Optional[int]
+    notes: List[str]
+    to_do: str
+
+    @property
+    def codes(self) -> str:
+        return " ".join(filter(None, (self.refusal.code, self.refusal.inner)))
+
+    def lines(self) -> str:
+        """The lines for people."""
+        source, byte = self.source, self.byte
+        head = f"{self.codes}{self.refusal.where if self.refusal.place.byte is None else ''}: {self.refusal.meaning}"
+        where = printable(source.name if byte is None else source.place(byte))
+        shown_line = [] if byte is None else pointed(source, byte)
+        return "\n".join([f"{where}: {head}", *shown_line, *self.notes, f"How to mend it: {self.to_do}."])
+
+    def fields(self) -> Dict[str, object]:
+        """The same for JSON."""
+        line, column = (None, None) if self.byte is None else self.source.position(self.byte)
+        place = {"file": self.source.name, "line": line, "column": column}
+        return {**place, "code": self.codes, "printed": self.refusal.line, "meaning": self.refusal.meaning, "notes": self.notes, "mend": self.to_do}
+
+
+def located(source: Source, refusal: Refused) -> Located:
+    source = as_given(source, refusal)
     codes = " ".join(filter(None, (refusal.code, refusal.inner)))
     spot = spot_of(source, refusal)
-    head = f"{codes}{refusal.where if refusal.place.byte is None else ''}: {refusal.meaning}"
-    where = printable(source.place(spot.byte) if spot else source.name)
-    lines = [f"{where}: {head}", *(pointed(source, spot.byte) + spot.notes if spot else [])]
-    return "\n".join([*lines, f"How to mend it: {refusal.mend}."])
+    notes = [*(spot.notes if spot else []), *notes_of_item(source, refusal)]
+    to_do = advice(source, refusal.subject, codes, refusal.place.byte or 0) if spot else None
+    return Located(source, refusal, spot.byte if spot else None, notes, printable(to_do or refusal.mend))
+
+
+def as_given(source: Source, refusal: Refused) -> Source:
+    """The text as polcert got it: the first bytes of what gzip compressed, if polcert refused these."""
+    is_first = refusal.place.byte == 0 and refusal.inner == "K1" and token_at(source.text, 0).kind != BAD
+    return Source(source.name, GZIP) if source.is_compressed and is_first else source
+
+
+def notes_of_item(source: Source, refusal: Refused) -> List[str]:
+    """What is wrong in which item of a model, if this is the text that was refused."""
+    number = refusal.place.item
+    if refusal.subject != "model" or number is None:
+        return []
+    if refusal.code == "M18":
+        return notes_of_start(read_model(source, tolerant=True))
+    try:
+        read_model(source)
+    except FileError as fault:
+        if fault.refusal == refusal.line:
+            word = word_of_item(source, number)
+            item = f"In `{word.text.decode()}` of line {source.position(word.begin)[0]}: " if word else ""
+            said = f"{item}{fault.why}."
+            return [said if item else said[:1].upper() + said[1:]]
+    return []
+
+
+def notes_of_start(model: Model) -> List[str]:
+    total = sum(model.start.numbers.values, Fraction(0))
+    return [f"The start sums to {shown(total)}, {off_one(total)}."] if total != 1 and model.start.kind == "numbers" else []
+
+
+def word_of_item(source: Source, number: int) -> Optional[Token]:
+    """The first word of an item, counted from 1; None for the text before the first item, and for the end."""
+    cursor, items = Cursor(source), 0
+    while cursor.next.kind not in (END, BAD):
+        items += is_item_word(cursor.next)
+        if items == number > 0:
+            return cursor.next
+        cursor.take()
+    return None
 
 
 def spot_of(source: Source, refusal: Refused) -> Optional[Spot]:
@@ -83,7 +154,7 @@ def notes_of_row(model: Model, table: Table, action: int, row: int) -> List[str]
     lines = sorted({model.source.position(entry.begin)[0] for entry in visible})
     where = f"line{'s' if len(lines) > 1 else ''} {', '.join(map(str, lines[-5:]))}{' and before' if len(lines) > 5 else ''}"
     total = sum(table.row(action, row).values(), Fraction(0))
-    return [f"The row {name} sums to {float(total):.9g}. It is given in {where}."]
+    return [f"The row {name} sums to {shown(total)}, {off_one(total)}. It is given in {where}."]
 
 
 def letter_and_names(model: Model, table: Table, action: int, row: int) -> str:
@@ -125,8 +196,22 @@ def refusals(lines: Iterable[str], source: Source) -> int:
     found = 0
     for line in lines:
         refusal = refusal_of(line)
-        show(f"{line if refusal is None else located(source, refusal)}\n")
+        show(f"{line if refusal is None else located(source, refusal).lines()}\n")
         found += refusal is not None
+    return 0 if found else 1
+
+
+def refusals_as_json(lines: Iterable[str], source: Source) -> int:
+    """The same as one JSON object."""
+    found: List[Dict[str, object]] = []
+    others: List[str] = []
+    for line in lines:
+        refusal = refusal_of(line)
+        if refusal is None:
+            others.append(line)
+        else:
+            found.append(located(source, refusal).fields())
+    show(json_text("polcert-locate", refusals=found, other_lines=others))
     return 0 if found else 1
 
 
@@ -134,12 +219,10 @@ def main() -> int:
     parser = Parser("polcert-locate", __doc__)
     parser.add_argument("file", metavar="FILE", help="the file that is refused")
     parser.add_argument("line", metavar="LINE", nargs="?", help="the line that polcert printed; without it, standard input is read")
+    parser.add_argument("--json", action="store_true", help="write the places as JSON")
     words = parser.parse_args()
     source = read_source(words.file)
-    if words.line is None:
-        return refusals(read_lines(), source)
-    refusal = refusal_of(words.line)
-    if refusal is None:
+    if words.line is not None and refusal_of(words.line) is None:
         raise Refusal(f"this is no refusal of polcert: {quoted(words.line)}")
-    show(f"{located(source, refusal)}\n")
-    return 0
+    lines = read_lines() if words.line is None else [words.line]
+    return refusals_as_json(lines, source) if words.json else refusals(lines, source)
