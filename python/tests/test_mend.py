@@ -198,6 +198,55 @@ class Changes(MendTest):
         ])
 
 
+class Resets(MendTest):
+    """`reset` is the row of the start, as pomdp-solve reads it."""
+
+    def reset(self, start: bytes, row: bytes) -> bytes:
+        """What a row of the second state becomes, in a model whose other rows are `identity`."""
+        head = HEAD + start + b"T: * identity\n"
+        out = self.mended(head + row + b" # again\n" + TAIL)
+        self.assertTrue(out.startswith(head), out)
+        self.assertIn(b" # again\n" + TAIL, out)
+        return out[len(head) : out.index(b" # again")]
+
+    def test_starts(self) -> None:
+        for start, row in (
+            (b"", b"uniform"), (b"start: uniform\n", b"uniform"), (b"start include: 0 1 2\n", b"uniform"), (b"start: 0.2 0.3 0.5\n", b"0.2 0.3 0.5"),
+            (b"start: 2\n", b": * 0 T: 0 : 1 : 2 1"), (b"start exclude: 1\n", b": * 0 T: 0 : 1 : 0 0.5 T: 0 : 1 : 2 0.5"),
+        ):
+            self.assertEqual(self.reset(start, b"T: 0 : 1 reset"), b"T: 0 : 1 " + row)
+
+    def test_the_rows_of_an_action(self) -> None:
+        self.assertEqual(self.reset(b"start: 0.2 0.3 0.5\n", b"T: 1 reset"), b"T: 1 : * 0.2 0.3 0.5")
+        self.assertEqual(self.reset(b"start: 1\n", b"T: * reset"), b"T: * : * : * 0 T: * : * : 1 1")
+
+    def test_names(self) -> None:
+        text = b"discount: 0.9 values: reward states: a b actions: go observations: 1 start: b T: go : a reset T: go : b uniform O: * uniform\n"
+        self.assertEqual(self.mended(text), text.replace(b"reset", b": * 0 T: go : a : b 1"))
+
+    def test_a_start_that_is_mended_too(self) -> None:
+        said = self.mend(HEAD + b"start: 0.1 0.2333333 0.6666667\nT: * reset\n" + TAIL)
+        self.assertIn(b"start: 0.1 0.233333 0.666667\nT: * : * 0.1 0.233333 0.666667\n", said.out)
+        self.assertEqual([line.split("m.POMDP")[1] for line in said.err.splitlines()], [
+            ":6: 0.2333333 became 0.233333", ":6: 0.6666667 became 0.666667", ":7: `reset` became the row of the start",
+            ":7: 0.2333333 became 0.233333", ":7: 0.6666667 became 0.666667", ": 4 numbers rewritten, 0 rows mended, the start mended, "
+            "1 `reset` written out", ": no value moves by more than 0, and from the start by no more than 0",
+        ])
+
+    def test_three_states_of_four(self) -> None:
+        text = HEAD.replace(b"states: 3", b"states: 4") + b"start exclude: 0\nT: 1 identity\nT: 0 : * reset\n" + TAIL
+        model = read_model(Source("mended", self.mended(text)))
+        row = model.transitions.row(0, 3)
+        self.assertEqual(sorted(row), [1, 2, 3])
+        self.assertLessEqual(max(abs(part - Fraction(1, 3)) for part in row.values()), Fraction(1, 10**6))
+
+    def test_many_words(self) -> None:
+        text = HEAD + b"start: 0.2 0.3 0.5\nT: 0 : 0 reset T: 0 : 1 reset # reset\nT: 0 : 2 uniform T: 1 reset\n" + TAIL
+        row = b"0.2 0.3 0.5"
+        self.assertEqual(self.mended(text), text.replace(b" reset T", b" %s T" % row).replace(b"1 reset #", b"1 %s #" % row).replace(
+            b"T: 1 reset", b"T: 1 : * " + row))
+
+
 class Refusals(MendTest):
     def test_what_it_does_not_mend(self) -> None:
         body = b"T: * identity\n" + TAIL
@@ -206,7 +255,9 @@ class Refusals(MendTest):
             (HEAD + b"T: * : * 0.15 0.84 0\n" + TAIL, "m.POMDP:6:1: the row `T: 0 : 0` sums to 0.99"),
             (HEAD + b"T: 0 identity\n" + TAIL, "m.POMDP:9:1: the row `T: 1 : 0` is not given"),
             (HEAD + b"start: 0.5 0.25 0.2\n" + body, "m.POMDP:6:1: the start sums to 0.95"),
-            (HEAD + b"T: 0 reset\n" + TAIL, "m.POMDP:6:6: M14: the word `reset` is not read"),
+            (HEAD + b"O: 0 : 0 reset\n" + body, "m.POMDP:6:10: M14: the word `reset` is not read"),
+            (HEAD + b"start: reset\n" + body, "m.POMDP:6:8: M14: the word `reset` is not read"),
+            (HEAD + b"T: 0 : 0 : 0 reset\n" + body, "m.POMDP:6:14: M14: the word `reset` is not read"),
             (HEAD + b"T: * : * 0.5 0.5000019 -0.000002\n" + TAIL, "M13"),
             (HEAD + b"T: * : * 1/3 1/3 1/3\n" + TAIL, "m.POMDP:6:11: M1 K1"),
             (HEAD + b"T: * : * nan 1 0\n" + TAIL, "found `nan`"),

@@ -1,16 +1,20 @@
 """Makes a model that polcert refuses for its rounding (M2 N4, M17, M18) exact, and says how far that can move any value.
 
 The text stays as it is, comments too, except for this: numbers with more than six decimals are rounded, cells of rows that do not sum to
-one are written again after the text (of entries for a cell the last one holds), and the numbers of a start that does not sum to one are
-replaced. Each change is named on standard error, and a bound on how far any value moves. A model that polcert accepts stays as it is.
+one are written again after the text (of entries for a cell the last one holds), the numbers of a start that does not sum to one are
+replaced, and for `reset` (M14) in a row of T the start is written. Each change is named on standard error, and a bound on how far any value
+moves. A model that polcert accepts stays as it is.
 """
 import argparse
 from dataclasses import dataclass, field
+from decimal import Decimal
 from fractions import Fraction
 from typing import Dict, Iterable, List, NamedTuple, Optional, Sequence, Set, Tuple
 
 from polcert.files import MILLION, Entry, FileError, Model, Numbers, Source, Table, is_millionths, place_of_row, read_model
-from polcert.command import Parser, Refusal, read_source, refuse_overwriting, say, write
+from polcert.command import Parser, Refusal, read_source, refuse_json_beside_text, refuse_overwriting, say, show, write
+from polcert.json_output import json_text
+from polcert.resets import write_out_resets
 from polcert.tokens import NumberFault, decimal, exact_value, is_numeral, written_decimals
 
 HEAD = "# Rows that did not sum to one, mended by polcert-mend:"
@@ -19,6 +23,8 @@ HALF = Fraction(1, 2)
 FEWEST_DECIMALS = 3
 # Of the cells of a row that change, so many are named.
 MOST_NAMED = 4
+# The most that a probability may move beyond its rounding.
+DEFAULT_WITHIN = Fraction(1, 100_000)
 
 
 # What a row becomes: its cells that change, in millionths; nothing if it becomes `uniform`.
@@ -37,12 +43,22 @@ class Edit(NamedTuple):
 
 
 class Cell(NamedTuple):
-    """A cell of a row above 0, in millionths: its value, how far off it may be for the rounding of its text, and what it counts as."""
+    """A cell of a row above 0, in millionths: its value, how far off it may be for the rounding of its text, what it counts as, and with how
+    many decimals it is written."""
 
     column: int
     value: Fraction
     rounding: Fraction
     near: Fraction
+    decimals: int
+
+
+class TooFar(FileError):
+    """A row or a start whose numbers would move too far; and how far is enough, if its numbers may be rounded ones."""
+
+    def __init__(self, source: Source, byte: int, why: str, enough: Optional[Fraction]) -> None:
+        super().__init__(source, "", byte, why)
+        self.enough = enough
 
 
 @dataclass
@@ -55,6 +71,7 @@ class Mend:
     numbers: int = 0
     rows: int = 0
     start: int = 0
+    resets: int = 0
     moved: Dict[str, Fraction] = field(default_factory=lambda: dict.fromkeys(("T", "O", "start", "R"), Fraction(0)))
 
     def move(self, table: str, distance: Fraction) -> None:
@@ -65,7 +82,7 @@ def cell_of(column: int, value: Fraction, numeral: bytes) -> Cell:
     """A cell that was written as a numeral. Its text may stand for any number that rounds to it."""
     decimals = written_decimals(numeral)
     rounding = HALF * Fraction(MILLION, 10 ** min(decimals, 6)) if decimals >= FEWEST_DECIMALS else Fraction(0)
-    return Cell(column, value * MILLION, rounding, Fraction(round(value * MILLION)))
+    return Cell(column, value * MILLION, rounding, Fraction(round(value * MILLION)), decimals)
 
 
 def total_of(cells: Sequence[Cell]) -> Fraction:
@@ -101,6 +118,24 @@ def shared(cells: Sequence[Cell], within: Fraction) -> Optional[List[int]]:
 def is_near(part: Fraction, cell: Cell, within: Fraction) -> bool:
     """Whether a cell may become this, in millionths."""
     return abs(part - cell.value) <= cell.rounding + within
+
+
+def mended_parts(cells: Sequence[Cell], equal: Optional[Fraction], within: Fraction) -> Optional[List[Fraction]]:
+    """What cells become: parts that are equal if all may become this one, else whole millionths. None if a cell would move too far."""
+    if equal is not None and all(is_near(equal, cell, within) for cell in cells):
+        return [equal] * len(cells)
+    live = [cell for cell in cells if cell.near > 0]
+    parts = shared(live, within)
+    if parts is None:
+        return None
+    part_of = dict(zip((cell.column for cell in live), parts))
+    return [Fraction(part_of.get(cell.column, 0)) for cell in cells]
+
+
+def enough_for(cells: Sequence[Cell], equal: Optional[Fraction]) -> Optional[Fraction]:
+    """The least half unit of a decimal with which cells are written within which they can be mended. None if none is enough."""
+    units = [HALF / 10**decimals for decimals in sorted({cell.decimals for cell in cells if cell.decimals > 0}, reverse=True)]
+    return next((unit for unit in units if mended_parts(cells, equal, unit * MILLION) is not None), None)
 
 
 def distance(parts: Iterable[Fraction], cells: Sequence[Cell]) -> Fraction:
@@ -160,10 +195,13 @@ class Mender:
             why = "has more than six decimals, and another discount is another problem: write the one you mean"
             raise FileError(self.source, "", token.begin, f"the discount {token.shown()} {why}")
 
-    def refuse_sum(self, byte: int, name: str, total: Fraction) -> FileError:
-        allowed = decimal_up(self.within / MILLION)
-        why = f"mended, a number would move by more than {allowed} beyond its rounding (see --within)"
-        return FileError(self.source, "", byte, f"{name} sums to {shown(total / MILLION)}: {why}")
+    def refuse_sum(self, byte: int, name: str, cells: Sequence[Cell], equal: Optional[Fraction]) -> TooFar:
+        allowed, total, enough = decimal_up(self.within / MILLION), total_of(cells) / MILLION, enough_for(cells, equal)
+        to_do = "no rounding explains this: correct them"
+        if enough:
+            to_do = f"if these are rounded numbers, --within {decimal_up(enough)} makes them exact"
+        why = f"mended, a number would move by more than {allowed} beyond its rounding; {to_do}"
+        return TooFar(self.source, byte, f"{name} sums to {shown(total)}, {off_one(total)}: {why}", enough)
 
     # Numbers with more than six decimals
 
@@ -220,24 +258,20 @@ class Mender:
         for column, (entry, i) in sorted(table.origins(action, row).items()):
             if i is None:
                 value = MILLION * (Fraction(1, table.columns) if entry.word == "uniform" else Fraction(1))
-                cells.append(Cell(column, value, HALF, value))
+                cells.append(Cell(column, value, HALF, value, 6))
             elif entry.numbers.values[i] > 0:
                 cells.append(cell_of(column, entry.numbers.values[i], self.numeral(entry.numbers, i)))
         return cells
 
     def mended(self, table: Table, action: int, row: int, cells: Sequence[Cell]) -> List[Fraction]:
         """What the cells of a row become."""
-        if len(cells) == table.columns and len({cell.value for cell in cells}) == 1:
-            part = Fraction(MILLION, table.columns)
-            if all(is_near(part, cell, self.within) for cell in cells):
-                return [part] * len(cells)
-        live = [cell for cell in cells if cell.near > 0]
-        parts = shared(live, self.within)
+        is_equal = len(cells) == table.columns and len({cell.value for cell in cells}) == 1
+        equal = Fraction(MILLION, table.columns) if is_equal else None
+        parts = mended_parts(cells, equal, self.within)
         if parts is None:
             byte = place_of_row(self.model, table, action, row)
-            raise self.refuse_sum(byte, f"the row `{self.label(table, (action, row))}`", total_of(cells))
-        part_of = dict(zip((cell.column for cell in live), parts))
-        return [Fraction(part_of.get(cell.column, 0)) for cell in cells]
+            raise self.refuse_sum(byte, f"the row `{self.label(table, (action, row))}`", cells, equal)
+        return parts
 
     def label(self, table: Table, pattern: Pattern) -> str:
         """A row as an entry writes it: `T: listen : tiger-left`."""
@@ -268,12 +302,15 @@ class Mender:
         cells = [cell_of(i, value, self.numeral(numbers, i)) for i, value in enumerate(numbers.values) if value > 0]
         if sum(numbers.values) == 1 and all(map(is_millionths, numbers.values)):
             return
-        part = Fraction(MILLION, len(cells) or 1)
-        if cells and len({cell.value for cell in cells}) == 1 and all(is_near(part, cell, self.within) for cell in cells):
+        is_equal = len({cell.value for cell in cells}) == 1
+        equal = Fraction(MILLION, len(cells)) if is_equal else None
+        parts = mended_parts(cells, equal, self.within)
+        if parts is None:
+            raise self.refuse_sum(self.model.start.begin, "the start", cells, equal)
+        if is_equal and parts == [equal] * len(cells):
             self.list_start_states(numbers, [cell.column for cell in cells])
-            parts = [part] * len(cells)
         else:
-            parts = self.write_start_numbers(numbers, cells)
+            self.write_start_numbers(numbers, dict(zip((cell.column for cell in cells), parts)))
         self.mend.move("start", distance(parts, cells))
         self.mend.start = 1
 
@@ -292,16 +329,10 @@ class Mender:
         total = shown(sum(numbers.values, Fraction(0)))
         self.say(begin, f"the start summed to {total}: its equal parts became `start{': uniform' if is_uniform else ' include:'}`")
 
-    def write_start_numbers(self, numbers: Numbers, cells: Sequence[Cell]) -> List[Fraction]:
-        live = [cell for cell in cells if cell.near > 0]
-        parts = shared(live, self.within)
-        if parts is None:
-            raise self.refuse_sum(self.model.start.begin, "the start", total_of(cells))
-        part_of = dict(zip((cell.column for cell in live), parts))
+    def write_start_numbers(self, numbers: Numbers, part_of: Dict[int, Fraction]) -> None:
         for i, value in enumerate(numbers.values):
             if part_of.get(i, 0) != value * MILLION:
-                self.write_number(numbers, i, part_of.get(i, 0))
-        return [Fraction(part_of.get(cell.column, 0)) for cell in cells]
+                self.write_number(numbers, i, int(part_of.get(i, 0)))
 
 
 # Bounds
@@ -345,6 +376,11 @@ def shown(value: Fraction) -> str:
     return f"{float(value):.9g}"
 
 
+def off_one(total: Fraction) -> str:
+    """How far a sum is from one."""
+    return f"{Decimal(shown(abs(1 - total))):f} {'less' if total < 1 else 'more'} than 1"
+
+
 def decimal_up(value: Fraction) -> str:
     """A value from 0 on with three digits, rounded up."""
     places = 0
@@ -382,14 +418,24 @@ class Mended(NamedTuple):
 
 def mended(source: Source, within: Fraction) -> Mended:
     """Mends a text. Raises FileError, or Refusal if polcert would still refuse it."""
-    model = read_model(source, tolerant=True)
+    written = write_out_resets(source)
+    model = read_model(written.source, tolerant=True)
     mend = Mender(model, within).run()
-    text = mended_text(source, mend)
+    mend.resets = len(written.begins)
+    mend.lines += [(byte, "`reset` became the row of the start") for byte in written.begins]
+    text = mended_text(written.source, mend)
     try:
         read_model(Source("the mended text", text))
     except FileError as fault:
         raise Refusal(f"{source.name}: not mended, as polcert would still refuse {fault}") from None
     return Mended(model, mend, text)
+
+
+def json_of(model: Model, mend: Mend, output: str) -> str:
+    """The changes as JSON, and how far values move."""
+    lines = [{"line": model.source.position(byte)[0], "change": change} for byte, change in sorted(mend.lines)]
+    counts = {"numbers": mend.numbers, "rows": mend.rows, "starts": mend.start, "resets": mend.resets}
+    return json_text("polcert-mend", read=model.source.name, file=output, changes=lines, bound=bound(model, mend.moved), **counts)
 
 
 def report(model: Model, mend: Mend, is_quiet: bool) -> None:
@@ -407,7 +453,8 @@ def report(model: Model, mend: Mend, is_quiet: bool) -> None:
 def summary(model: Model, mend: Mend) -> List[str]:
     """How many changes there are, and how far values move."""
     parts = [count(mend.numbers, "number rewritten", "numbers rewritten"), count(mend.rows, "row mended", "rows mended")]
-    return [", ".join(parts + ["the start mended"] * mend.start), bound(model, mend.moved)]
+    parts += ["the start mended"] * mend.start + [count(mend.resets, "`reset` written out", "`reset` written out")] * (mend.resets > 0)
+    return [", ".join(parts), bound(model, mend.moved)]
 
 
 def count(number: int, one: str, many: str) -> str:
@@ -429,15 +476,21 @@ def arguments() -> argparse.Namespace:
     parser.add_argument("model", metavar="MODEL", help="a model (.POMDP) whose rows may not sum to one")
     parser.add_argument("-o", "--output", metavar="FILE", help="write the mended model there, and not to standard output")
     parser.add_argument("-q", "--quiet", action="store_true", help="say only how many changes there are, and the bound")
-    parser.add_argument("--within", metavar="X", type=amount, default=amount("0.00001"), help="the most that a probability may move, "
+    parser.add_argument("--within", metavar="X", type=amount, default=DEFAULT_WITHIN, help="the most that a probability may move, "
                         "beyond half a unit of its last written decimal (the third or a later one); default 0.00001")
-    return parser.parse_args()
+    parser.add_argument("--json", action="store_true", help="write the changes and the bound as JSON to standard output; needs -o")
+    words = parser.parse_args()
+    refuse_json_beside_text(parser, words)
+    return words
 
 
 def main() -> int:
     words = arguments()
     refuse_overwriting([words.model], [words.output])
     found = mended(read_source(words.model), words.within)
-    report(found.model, found.mend, words.quiet)
+    if not words.json:
+        report(found.model, found.mend, words.quiet)
     write(found.text, words.output)
+    if words.json:
+        show(json_of(found.model, found.mend, words.output))
     return 0
