@@ -53,7 +53,7 @@ def solved_controller(model: Model, seconds: float, gap: float, is_stopped: Call
 
     found = solve(model, Limits(seconds, gap), is_stopped, Progress(is_quiet).report)
     line = f"{count_nodes(found.graph)}, worth {found.low / 1e6:.6f} from the start"
-    return Controller(graph_text(found.graph), vectors_text(found.graph.actions, found.values.T.tolist()), line)
+    return Controller(graph_text(found.graph), vectors_text(found.graph.actions, found.values.tolist()), line)
 
 
 def given_controller(source: Source, model: Model, is_quiet: bool) -> Controller:

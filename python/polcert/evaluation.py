@@ -1,6 +1,6 @@
-"""Evaluates policy graphs with numpy and scipy: what each node is worth in each state, in floating point."""
-from math import inf
-from typing import List, NamedTuple, Optional
+"""Evaluates policy graphs with numpy and scipy: what each node is worth in each state, in floating point, and in millionths that pass
+polcert's check."""
+from typing import Callable, Dict, List, NamedTuple, Optional, Sequence
 
 import numpy as np
 from numpy.typing import NDArray
@@ -8,17 +8,17 @@ from numpy.typing import NDArray
 from polcert.arrays import Arrays, Floats
 from polcert.command import Refusal
 from polcert.files import Graph
+from polcert.tokens import MILLION
 
 Integers = NDArray[np.int64]
 
-MOST_SWEEPS = 100_000
-# After so many sweeps the rest is estimated from how fast the last two came together. If that takes the values further off, they are put
-# back, and twice as many sweeps are waited.
-SWEEPS_BETWEEN = 12
+MOST_SWEEPS, MOST_ROUNDING = 100_000, 1_000
+# The most steps of the method that solves the equations, which ends if it has strayed so far from the best values.
+MOST_SOLVING, STRAYED = 2_000, 1e4
 # So many numbers are held at most for a block of nodes.
 BLOCK_NUMBERS = 1_000_000
-# What rounding may move a value by in a sweep, for values of size 1.
-ROUNDING = 1e-14
+# What rounding may move a value by in a sweep, for values of size 1, and what floating point may add to a value, in millionths.
+ROUNDING, NOISE = 1e-14, 1e-6
 # Observations that can come from fewer end states than this, on average, are summed cell by cell.
 FEW_ENDS = 12
 
@@ -76,64 +76,98 @@ class ActionBackup:
         return earned
 
 
-class Block(NamedTuple):
-    """Nodes of one action that are backed up together."""
+class Sweeper:
+    """Backs all nodes of graphs up at once."""
 
-    backup: ActionBackup
-    nodes: Integers
+    def __init__(self, arrays: Arrays) -> None:
+        self._arrays = arrays
+        self._backups: Dict[int, ActionBackup] = {}
 
-
-class Evaluation:
-    """The values of a graph's nodes, which sweeps bring nearer to what the nodes are worth."""
-
-    def __init__(self, arrays: Arrays, graph: ArrayGraph, values: Optional[Floats]) -> None:
-        nodes, states = len(graph.actions), len(arrays.start)
-        self.graph, self.values = graph, np.zeros((nodes + 1, states))
-        if values is not None:
-            self.values[:nodes] = values
-        self.blocks: List[Block] = []
-        for action in reversed(sorted(set(graph.actions.tolist()))):
-            backup = ActionBackup(arrays, action)
-            same = np.flatnonzero(graph.actions == action)[::-1]
+    def sweep(self, graph: ArrayGraph, values: Floats) -> Floats:
+        """What each node is worth in each state (N by S), if its successors are worth `values`, and a missing one nothing."""
+        after, new = np.concatenate([values, np.zeros((1, values.shape[1]))]), np.empty_like(values)
+        for action in np.unique(graph.actions).tolist():
+            if action not in self._backups:
+                self._backups[action] = ActionBackup(self._arrays, action)
+            backup, nodes = self._backups[action], np.flatnonzero(graph.actions == action)
             size = max(1, BLOCK_NUMBERS // backup.width)
-            self.blocks += [Block(backup, same[i : i + size]) for i in range(0, len(same), size)]
-
-    def sweep(self) -> float:
-        """Backs up each node once, and returns by how much a value moved at most."""
-        most = 0.0
-        for backup, nodes in self.blocks:
-            new = backup.worth(self.values, self.graph.successors[nodes])
-            most = max(most, float(np.abs(new - self.values[nodes]).max()))
-            self.values[nodes] = new
-        return most
-
-    def jump(self, before: Floats, ratio: float) -> None:
-        """Adds what further sweeps would add if each moved the values by this ratio of the one before."""
-        for _, nodes in self.blocks:
-            self.values[nodes] += ratio / (1 - ratio) * (self.values[nodes] - before[nodes])
-
-    def settle(self, bound: float) -> None:
-        """Sweeps until no value moves by more than a bound, or than rounding allows."""
-        last, waits, number, saved_move = 0.0, SWEEPS_BETWEEN, 0, inf
-        saved: Optional[Floats] = None
-        for _ in range(MOST_SWEEPS):
-            before = self.values.copy() if number >= waits else None
-            moved = self.sweep()
-            if moved <= bound + ROUNDING * float(np.abs(self.values).max()):
-                return
-            if saved is not None and moved > saved_move:
-                self.values, number, waits = saved, 0, 2 * waits
-            saved, number = None, number + 1
-            if before is not None and moved < last:
-                self.jump(before, moved / last)
-                saved, saved_move, number = before, moved, 0
-            last = moved
-        raise Refusal("what the graph is worth does not settle")
+            for some in (nodes[i : i + size] for i in range(0, len(nodes), size)):
+                new[some] = backup.worth(after, graph.successors[some])
+        return new
 
 
-def evaluate(arrays: Arrays, graph: ArrayGraph, values: Optional[Floats] = None, precision: float = 1e-10) -> Floats:
-    """What each node is worth in each state, by iteration from given values on until no value is further off than the precision (and than
-    rounding allows)."""
-    evaluation = Evaluation(arrays, graph, values)
-    evaluation.settle(precision * (1 - arrays.discount))
-    return evaluation.values[:-1]
+def evaluate(
+    arrays: Arrays, graph: ArrayGraph, values: Optional[Floats] = None, precision: float = 1e-10, most: Optional[int] = None
+) -> Floats:
+    """What each node is worth in each state (N by S), from given values on, until no value is further off than the precision (and than
+    rounding allows), or after about `most` sweeps. Raises Refusal if the values do not settle."""
+    sweeper, least = Sweeper(arrays), precision * (1 - arrays.discount)
+    values, sweeps = np.zeros((len(graph.actions), len(arrays.start))) if values is None else values, most or MOST_SWEEPS
+    values = nearly_solved(lambda worth: sweeper.sweep(graph, worth), values, least, min(sweeps, MOST_SOLVING))
+    for _ in range(sweeps):
+        new = sweeper.sweep(graph, values)
+        moved, values = float(abs(new - values).max()), new
+        if moved <= least + ROUNDING * float(abs(values).max()):
+            return values
+    if most:
+        return values
+    raise Refusal("what the graph is worth does not settle")
+
+
+def nearly_solved(step: Callable[[Floats], Floats], values: Floats, least: float, most: int) -> Floats:
+    """Values that a linear step moves by little, if they are found from given values on with at most so many steps; else those that it moved
+    least. (The method is BiCGSTAB: van der Vorst, SIAM Journal on Scientific and Statistical Computing 1992.)"""
+    fixed = step(np.zeros_like(values))
+    left = step(values) - values
+    shadow, direction, image = left, np.zeros_like(values), np.zeros_like(values)
+    rho = alpha = omega = 1.0
+    best, best_left = values, float(abs(left).max())
+    for _ in range(most // 2):
+        if best_left <= least:
+            break
+        before, rho = rho, float(np.vdot(shadow, left))
+        direction = left + rho / before * alpha / omega * (direction - omega * image)
+        image = direction - (step(direction) - fixed)
+        alpha = rho / (float(np.vdot(shadow, image)) or np.inf)
+        half = left - alpha * image
+        turned = half - (step(half) - fixed)
+        omega = float(np.vdot(turned, half)) / (float(np.vdot(turned, turned)) or np.inf)
+        values = values + alpha * direction + omega * half
+        left = half - omega * turned
+        size = float(abs(left).max())
+        if not size < STRAYED * best_left or rho == 0 or omega == 0:
+            break
+        if size < best_left:
+            best, best_left = values, size
+    return best
+
+
+def in_millionths(arrays: Arrays, graph: ArrayGraph, values: Floats) -> Floats:
+    """The greatest values with six decimals below `values` (N by S) that no sweep takes below them, up to floating point: polcert's check
+    passes with these, or with a constant of a millionth or so less."""
+    sweeper, found = Sweeper(arrays), np.ceil(values * MILLION)
+    for _ in range(MOST_ROUNDING):
+        new = np.minimum(found, np.floor(sweeper.sweep(graph, found / MILLION) * MILLION + NOISE))
+        if np.array_equal(new, found):
+            break
+        found = new
+    return np.asarray(found / MILLION)
+
+
+def reached_nodes(graph: ArrayGraph, roots: Sequence[int]) -> List[int]:
+    """Nodes, and all those to which they lead, each once."""
+    order = dict.fromkeys(roots)
+    queue = list(order)
+    for node in queue:
+        for successor in graph.successors[node].tolist():
+            if successor >= 0 and successor not in order:
+                order[successor] = None
+                queue.append(successor)
+    return queue
+
+
+def renumbered(graph: ArrayGraph, nodes: Sequence[int]) -> ArrayGraph:
+    """The graph of some nodes, which lead to one another alone."""
+    number = np.full(len(graph.actions) + 1, -1, dtype=np.int64)
+    number[list(nodes)] = np.arange(len(nodes))
+    return ArrayGraph(graph.actions[list(nodes)], number[graph.successors[list(nodes)]])

@@ -9,7 +9,7 @@ import numpy as np
 from scipy import sparse  # type: ignore[import]
 
 from polcert.arrays import Floats, Matrix
-from polcert.evaluation import ArrayGraph, Integers, evaluate
+from polcert.evaluation import ArrayGraph, Integers, evaluate, reached_nodes, renumbered
 from polcert.reach import NODE_DECIMALS, Ahead, Met, Point, Policy, Reach, Step, best_of, met_vectors, points_after, stacked, together
 from polcert.watch import Watch
 
@@ -223,25 +223,6 @@ def improved(improver: Improver, best: Candidate, limits: Limits, precision: flo
         best = better(best, found)
         graph, values = needed(graph, values, improver.beliefs)
     return best
-
-
-def reached_nodes(graph: ArrayGraph, roots: Sequence[int]) -> List[int]:
-    """Nodes, and all those to which they lead, each once."""
-    order = dict.fromkeys(roots)
-    queue = list(order)
-    for node in queue:
-        for successor in graph.successors[node].tolist():
-            if successor >= 0 and successor not in order:
-                order[successor] = None
-                queue.append(successor)
-    return queue
-
-
-def renumbered(graph: ArrayGraph, nodes: Sequence[int]) -> ArrayGraph:
-    """The graph of some nodes, which lead to one another alone."""
-    number = np.full(len(graph.actions) + 1, -1, dtype=np.int64)
-    number[list(nodes)] = np.arange(len(nodes))
-    return ArrayGraph(graph.actions[list(nodes)], number[graph.successors[list(nodes)]])
 
 
 def needed(graph: ArrayGraph, values: Floats, beliefs: Matrix) -> Tuple[ArrayGraph, Floats]:

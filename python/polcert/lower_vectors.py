@@ -10,8 +10,7 @@ import numpy as np
 
 from polcert.arrays import Arrays, Floats
 from polcert.belief_nodes import Batch, BeliefNode, BeliefNodes, BeliefStep, Integers
-from polcert.evaluation import ArrayGraph
-from polcert.graph_values import Sweeper, evaluate
+from polcert.evaluation import ArrayGraph, Sweeper, evaluate
 
 # A vector has to be worth more than all others by this part of its size.
 LEAST_MOVE = 1e-10
@@ -184,7 +183,7 @@ class LowerVectors:
         """Lets the values rise towards what their graph is worth."""
         graph = self.graph()
         for _ in range(sweeps):
-            np.maximum(self.values(), self._sweeper.sweep(graph, self.values()), out=self.values())
+            np.maximum(self.values(), self._sweeper.sweep(graph, self.values().T).T, out=self.values())
         self.rises += 1
 
     def relink(self, is_over: IsOver) -> bool:
@@ -206,9 +205,9 @@ class LowerVectors:
     def _from_below(self, graph: ArrayGraph, values: Floats) -> Floats:
         """What a graph is worth, or a little less."""
         discount = self.arrays.discount
-        values = evaluate(self.arrays, graph, values, ROUGH * max(1e-3, float(abs(values).max())), ROUGH_SWEEPS)
-        above = max(0.0, float((values - self._sweeper.sweep(graph, values)).max()))
-        return np.asarray(values - above / (1 - discount))
+        worth = evaluate(self.arrays, graph, values.T, ROUGH * max(1e-3, float(abs(values).max())), ROUGH_SWEEPS)
+        above = max(0.0, float((worth - self._sweeper.sweep(graph, worth)).max()))
+        return np.ascontiguousarray((worth - above / (1 - discount)).T)
 
     def _relinked(self, graph: ArrayGraph, values: Floats, witnesses: List[BeliefNode], is_over: IsOver) -> Optional[Integers]:
         """The successors that are worth most at the beliefs after each vector's own; None if the time is over before."""
