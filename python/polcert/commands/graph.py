@@ -77,6 +77,8 @@ def arguments() -> argparse.Namespace:
     parser.add_argument("--within", metavar="W", type=amount, help=short)
     tries = f"how many successors are tried for a vector of --own-vectors, times the states; default {TRIES}"
     parser.add_argument("--tries", metavar="N", type=count, help=tries)
+    parser.add_argument("--dot", action="store_true", help="write NAME.dot too, the graph for Graphviz")
+    parser.add_argument("--json", action="store_true", help="write the result as JSON to standard output")
     parser.add_argument("-q", "--quiet", action="store_true", help="no lines of progress")
     words = parser.parse_args()
     for word in ("within", "tries"):
@@ -88,7 +90,7 @@ def arguments() -> argparse.Namespace:
 
 def main() -> int:
     words = arguments()
-    names = [f"{words.output}.{ending}" for ending in ("pg", "alpha")]
+    names = [f"{words.output}.{ending}" for ending in ("pg", "alpha", *(["dot"] if words.dot else []))]
     refuse_overwriting([words.model, words.solved], names)
     refuse_unwritable(names)
     model = read_model(read_source(words.model))

@@ -1,5 +1,6 @@
-"""Writes a report of a certificate to archive, in Markdown: the files with their SHA-256, what polcert answers, the interval at the start
-and for each node, and what is proved. After a no it lists the terms of the inequality that fails. The same files give the same bytes.
+"""Writes a report of a certificate to archive, in Markdown (or HTML, or JSON): the files with their SHA-256, what polcert answers, the
+interval at the start and for each node, and what is proved. After a no it lists the terms of the inequality that fails. The same files give
+the same bytes.
 
     polcert-report M.POMDP M.pg M.alpha > report.md
 
@@ -16,12 +17,17 @@ from math import ceil, floor
 from pathlib import Path
 from typing import Dict, Iterator, List, NamedTuple, Optional, Sequence
 
+from polcert.answers import Yes, verdict_of
 from polcert.command import Parser, Refusal, own_folder, read_source, refuse_overwriting, write
 from polcert.files import MILLION, Source, read_graph, read_model, read_vectors
+from polcert.html_report import controller, html_of, page, values_over_beliefs
+from polcert.json_output import json_text
 from polcert.tokens import decimal, printable
 
 # Of the terms of an inequality, so many are shown, the largest first.
 MOST_TERMS = 20
+# The words of the checks of the vectors as they are.
+CHECKS = ["check"], ["check", "--at-most"]
 
 PROMISE = """For every number of steps, every node and every state: the expected discounted reward of these steps, plus the discounted vector value
 where they end, is at least (for the upper bound: at most) the vector's value, exactly; and no run of positive probability reaches a missing
@@ -97,6 +103,13 @@ class Bound(NamedTuple):
     values: List[List[int]]
 
 
+class Bounds(NamedTuple):
+    """Both sides; None if no constant helps."""
+
+    lower: Optional[Bound]
+    upper: Optional[Bound]
+
+
 class Term(NamedTuple):
     """An end state and an observation, with the probability, the reward, the successor and what they add to the right side."""
 
@@ -138,10 +151,24 @@ class Reporter:
         return Bound(one_line(ran.err), verdict, [[int(value * MILLION) for value in vector.values] for vector in vectors])
 
     def report(self) -> str:
-        parts = [self.answers()]
-        lower, upper = self.bound("lower", []), self.bound("raise", ["--at-most"])
-        if lower and upper:
-            parts.append(self.interval(lower, upper))
+        """The report as Markdown."""
+        return self.markdown(self.answers(), self.bounds())
+
+    def html(self) -> str:
+        """The report as one HTML file, with the controller and, for two states, values over the belief."""
+        answers, bounds = self.answers(), self.bounds()
+        parts = [html_of(self.markdown(answers, bounds)), controller(self.model, self.graph)]
+        if bounds.lower:
+            parts.append(values_over_beliefs(self.model, [[value / MILLION for value in values] for values in bounds.lower.values]))
+        return page(f"Certificate of {self.sources[0].name}", parts)
+
+    def bounds(self) -> Bounds:
+        return Bounds(self.bound("lower", []), self.bound("raise", ["--at-most"]))
+
+    def markdown(self, answers: str, bounds: Bounds) -> str:
+        parts = [answers]
+        if bounds.lower and bounds.upper:
+            parts.append(self.interval(bounds.lower, bounds.upper))
         else:
             parts.append("## The interval\n\nNo constant makes the vectors pass from both sides, so there is none.\n")
         if self.every and self.bound_program:
@@ -157,9 +184,8 @@ class Reporter:
 
     def answers(self) -> str:
         lines = ["## The vectors as they are", ""]
-        for words in (["check"], ["check", "--at-most"]):
-            ran = self.program.run(*words, *self.copies)
-            self.is_no |= ran.status > 0 and words == ["check"]
+        for words in CHECKS:
+            ran = self.verdict(words)
             lines.append(f"- `polcert {' '.join(words)}`: {ran.line()}")
             if ran.status and " by " in ran.line():
                 lines += ["", *self.explanation(ran.line(), is_above="--at-most" in words), ""]
@@ -181,10 +207,51 @@ class Reporter:
 
     def every_policy(self, vectors: Source, program: Program) -> str:
         """What polcert_bound says of vectors with one for each action."""
-        ran = program.run("check", self.copies[0], self.copy("bound", vectors.text))
-        self.is_no |= ran.status > 0
+        ran = self.run_bound(vectors, program)
         about = "Policies that see the observations alone, whatever they remember, from the model's start:"
         return f"## Every policy\n\n{about}\n\n- `polcert_bound check`: {ran.line()}\n\nChecked by {program.about()}.\n"
+
+    def run_bound(self, vectors: Source, program: Program) -> Ran:
+        ran = program.run("check", self.copies[0], self.copy("bound", vectors.text))
+        self.is_no |= ran.status > 0
+        return ran
+
+    # The same as JSON
+
+    def as_json(self) -> str:
+        """The report without the terms of a no; exact numbers are strings of decimals."""
+        verdicts = [{"command": f"polcert {' '.join(words)}", "line": self.verdict(words).line()} for words in CHECKS]
+        lower, upper = self.bounds()
+        low, high = (amount_of(found.verdict) if found else None for found in (lower, upper))
+        every = self.run_bound(self.every, self.bound_program).line() if self.every and self.bound_program else None
+        most = amount_of(every) if every else None
+        given = [*self.sources, *([self.every] if self.every else [])]
+        programs = [self.program, *([self.bound_program] if self.bound_program else [])]
+        return json_text(
+            "polcert-report",
+            model=self.program.run("model", self.copies[0]).line(),
+            verdicts=verdicts,
+            lowered=lower and {"line": lower.moved, "verdict": lower.verdict},
+            raised=upper and {"line": upper.moved, "verdict": upper.verdict},
+            controller={"at_least": decimal_or_none(low), "at_most": decimal_or_none(high)},
+            width=decimal_or_none(None if low is None or high is None else high - low),
+            nodes=[self.node_fields(node, lower, upper) for node in range(len(self.graph.actions))],
+            every_policy=every and {"line": every, "at_most": decimal_or_none(most)},
+            gap=decimal_or_none(None if low is None or most is None else max(Fraction(0), most - low)),
+            files=[{"name": source.name, "sha256": sha256(source), "decompressed": source.is_compressed} for source in given],
+            programs=[program.about() for program in programs],
+        )
+
+    def verdict(self, words: Sequence[str]) -> Ran:
+        ran = self.program.run(*words, *self.copies)
+        self.is_no |= ran.status > 0 and words == ["check"]
+        return ran
+
+    def node_fields(self, node: int, lower: Optional[Bound], upper: Optional[Bound]) -> Dict[str, object]:
+        weights = self.model.start_weights()
+        least = decimal(floor(mean(weights, lower.values[node]))) if lower else None
+        most = decimal(ceil(mean(weights, upper.values[node]))) if upper else None
+        return {"node": node, "action": self.model.actions.label(self.graph.actions[node]), "at_least": least, "at_most": most}
 
     # What a no says
 
@@ -225,6 +292,17 @@ class Reporter:
         return "  | " + " | ".join([*cells, "none" if successor is None else str(successor), value, shown(term.amount / MILLION)]) + " |"
 
 
+def amount_of(line: str) -> Optional[Fraction]:
+    """The number of a yes."""
+    answer = verdict_of(line)
+    return answer.amount if isinstance(answer, Yes) else None
+
+
+def decimal_or_none(value: Optional[Fraction]) -> Optional[str]:
+    """A number of the programs' lines, which has at most six decimals."""
+    return None if value is None else decimal(int(value * MILLION))
+
+
 def mean(weights: Dict[int, Fraction], values: Sequence[int]) -> Fraction:
     """The mean of the values, weighted with the start."""
     return sum((weight * values[state] for state, weight in weights.items()), Fraction(0))
@@ -250,12 +328,15 @@ def main() -> int:
     parser.add_argument("vectors", metavar="ALPHA", help="the vectors of its nodes (.alpha)")
     parser.add_argument("--bound", metavar="BOUND", help="vectors of actions (.alpha) that bound every policy, for polcert_bound")
     parser.add_argument("-o", "--output", metavar="FILE", help="write the report there, and not to standard output")
+    form = parser.add_mutually_exclusive_group()
+    form.add_argument("--json", action="store_true", help="write the report as JSON (the terms of a no are not in it)")
+    form.add_argument("--html", action="store_true", help="write the report as one HTML file, with drawings; dot of Graphviz draws the controller")
     parser.add_argument("--program", metavar="FILE", default="polcert", help="the program to run (polcert)")
     words = parser.parse_args()
     names = [words.model, words.graph, words.vectors]
     refuse_overwriting([*names, *([words.bound] if words.bound else [])], [words.output])
     with own_folder() as folder:
         reporter = Reporter(words.program, folder, names, words.bound)
-        report = reporter.report()
+        report = reporter.as_json() if words.json else reporter.html() if words.html else reporter.report()
     write(report.encode(), words.output)
     return 1 if reporter.is_no else 0
