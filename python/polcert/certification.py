@@ -9,13 +9,12 @@ from typing import Callable, Dict, List, NamedTuple, Optional, Union
 from polcert import programs
 from polcert.answers import Moved, No, Refused, Yes
 from polcert.command import Refusal
+from polcert.commands.convert import converted, summary_of_conversion
 from polcert.commands.mend import mended, summary
 from polcert.controllers import Controller
-from polcert.files import Model, read_model
+from polcert.files import MENDABLE, Model, read_model
+from polcert.pomdpx import is_pomdpx
 from polcert.tokens import MILLION, FileError, Source, decimal
-
-# The refusals of a model that mending may answer: rows, the start, and numbers of more decimals.
-MENDABLE = ("M17", "M18", "M2 N4")
 
 
 class Uncertified(Exception):
@@ -99,6 +98,9 @@ class Certifier:
     def read_model(self, source: Source) -> Model:
         """The model, mended if it is refused for rows that sum to one only nearly, or for more than six decimals. Raises FileError, and
         ProgramError if a program is missing."""
+        if is_pomdpx(source):
+            source = Source(source.name, converted(source))
+            self.done("convert", f"{summary_of_conversion(source)}; what follows is about the converted model")
         try:
             model = read_model(source)
         except FileError as fault:

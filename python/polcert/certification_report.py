@@ -1,12 +1,11 @@
 """The report of a certificate, as Markdown and as JSON."""
 import hashlib
-import json
 from fractions import Fraction
 from typing import Dict, List, Optional, Sequence
 
 from polcert.certification import Certificate, shown
+from polcert.json_output import json_text
 from polcert.tokens import printable
-from polcert.version import VERSION
 
 LOW = """- From below: for every number of steps, every node and every state, the expected discounted reward of these steps, plus the discounted
   vector value where they end, is at least the value of the lowered vectors, exactly. So in the long run this controller, started in the node
@@ -56,17 +55,16 @@ def json_of(found: Certificate, given: Dict[str, bytes], programs: Sequence[str]
     def sums(texts: Dict[str, bytes]) -> List[Dict[str, str]]:
         return [{"name": name, "sha256": sha256(text)} for name, text in texts.items()]
 
-    report = {
-        "polcert": VERSION,
-        "name": found.name,
-        "certified": found.low is not None,
-        "mended": found.is_mended,
-        "controller": {"at_least": decimal(found.low), "at_most": decimal(found.high)},
-        "every_policy": {"at_most": decimal(found.most)},
-        "gap": decimal(found.gap),
-        "steps": [{"name": step.name, "line": step.line, "seconds": round(step.seconds, 3)} for step in found.steps],
-        "read": sums(given),
-        "files": sums(found.files),
-        "programs": list(programs),
-    }
-    return json.dumps(report, indent=2) + "\n"
+    return json_text(
+        "polcert-certify",
+        name=found.name,
+        certified=found.low is not None,
+        mended=found.is_mended,
+        controller={"at_least": decimal(found.low), "at_most": decimal(found.high)},
+        every_policy={"at_most": decimal(found.most)},
+        gap=decimal(found.gap),
+        steps=[{"name": step.name, "line": step.line, "seconds": round(step.seconds, 3)} for step in found.steps],
+        read=sums(given),
+        files=sums(found.files),
+        programs=list(programs),
+    )

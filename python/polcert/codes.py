@@ -23,7 +23,7 @@ CODES: Dict[str, Code] = {
     "M11": Code("no element has so large a number", "use a number below the count: numbers begin at 0"),
     "M12": Code("too few or too many numbers", "write one for each column of a row, each cell of a matrix, or each state of a start"),
     "M13": Code("a probability is below 0 or above 1", "write a number from 0 to 1, and see that its row still sums to one"),
-    "M14": Code("the word `reset` is not read", "write the row that is meant, such as the start's probabilities"),
+    "M14": Code("the word `reset` is not read", "run `polcert-mend`, which writes the start's row into T; or write the row that is meant"),
     "M15": Code("the discount is below 0 or above 1", "write a number from 0 to 1, both included"),
     "M16": Code("the model passes a limit of cells", "use a smaller model, or fewer cells above 0"),
     "M17": Code("a row does not sum to one exactly", "run `polcert-mend`; or correct the last number of the row, or write `uniform`"),

@@ -62,7 +62,9 @@ def run(program: str, action: Callable[[], int]) -> int:
 def _status(program: str, action: Callable[[], int]) -> int:
     try:
         return action()
-    except (FileError, Refusal) as fault:
+    except FileError as fault:
+        why, status = with_advice(fault), REFUSED
+    except Refusal as fault:
         why, status = str(fault), REFUSED
     except OSError as fault:
         why, status = str(fault) if fault.filename is None else f"{fault.filename}: {fault.strerror}", UNREADABLE
@@ -71,6 +73,14 @@ def _status(program: str, action: Callable[[], int]) -> int:
     with suppress(OSError):
         say(f"{program}: {why}")
     return status
+
+
+def with_advice(fault: FileError) -> str:
+    """A fault of a text, and what a new user can do about it."""
+    from polcert.advice import advice_on  # (which few need)
+
+    advice = advice_on(fault)
+    return f"{fault}; {advice}" if advice else str(fault)
 
 
 def _fill_closed_streams() -> None:
@@ -314,6 +324,12 @@ def refuse_unwritable(outputs: Sequence[str]) -> None:
             raise FileNotFoundError(errno.ENOENT, os.strerror(errno.ENOENT), name)
         if not os.access(folder, os.W_OK):
             raise PermissionError(errno.EACCES, os.strerror(errno.EACCES), name)
+
+
+def refuse_json_beside_text(parser: Parser, words: argparse.Namespace) -> None:
+    """Ends a run with --json whose text would stand on standard output too."""
+    if words.json and words.output in (None, "/dev/stdout"):
+        parser.error("--json writes to standard output: name a file for the text with -o")
 
 
 def refuse_overwriting(inputs: Sequence[str], outputs: Sequence[Optional[str]]) -> None:

@@ -24,7 +24,7 @@ from polcert.tokens import (
 
 # What others take from here, of which some stands in tables and tokens.
 __all__ = [
-    "BAD", "END", "ITEM_WORDS", "MILLION", "MOST_NODES", "NAME", "NUMERAL", "SIGN", "Cursor", "Entry", "FileError", "Graph", "Model",
+    "BAD", "END", "ITEM_WORDS", "MENDABLE", "MILLION", "MOST_NODES", "NAME", "NUMERAL", "SIGN", "Cursor", "Entry", "FileError", "Graph", "Model",
     "NumberFault", "Numbers", "Row", "Source", "Table", "Token", "Vector", "is_millionths", "number_after", "place_of_row", "read_graph",
     "read_model", "read_vectors",
 ]
@@ -32,6 +32,8 @@ __all__ = [
 ITEM_WORDS = frozenset(b"discount values states actions observations start T O R".split())
 OTHER_RESERVED = frozenset(b"reward cost include exclude uniform identity reset".split())
 PREAMBLE = (b"discount", b"values", b"states", b"actions", b"observations")
+# The refusals of a model that mending may answer: numbers of more decimals, `reset`, rows and the start.
+MENDABLE = ("M2 N4", "M14", "M17", "M18")
 LIMITS = {b"states": 10_000, b"actions": 1_000, b"observations": 10_000}
 MOST_PAIRS = 5_000_000
 LARGE_TABLE = 16_777_216

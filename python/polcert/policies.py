@@ -2,14 +2,16 @@
 action for each state of an MDP."""
 import re
 from collections import deque
+from fractions import Fraction
 from itertools import islice
 from math import isfinite
 from typing import Deque, Dict, Iterator, List, NamedTuple, Optional, Sequence, Tuple, Union
-from xml.parsers import expat
 
 from polcert.files import END, NAME, NUMERAL, Cursor, FileError, Graph, Model, Source, read_vectors
+from polcert.observability import states_by_seen
 from polcert.tables import Elements
-from polcert.tokens import quoted, whole_number
+from polcert.tokens import LARGEST, quoted, whole_number
+from polcert.xml_parser import XmlParser
 
 _NUMBER = re.compile(r"[+-]?(?:[0-9]+\.?[0-9]*|\.[0-9]+)(?:[eE][+-]?[0-9]+)?")
 _STEP_END = re.compile(rb"^[ \t]*@[ \t\r]*$", re.M)
@@ -19,8 +21,6 @@ _WORD = re.compile(r"\S+")
 _LIST_MARK = re.compile(r"\[\[[0-9]+\]\]")
 # The bytes of a text from the first one up to the second.
 Span = Tuple[int, int]
-# Elements of XML are nested in no more than so many others.
-_MOST_DEPTH = 100
 # What R and pomdp-solve write for a successor that is missing.
 _NO_NODE = ("NA", "-", "X")
 
@@ -76,74 +76,88 @@ class _Reader:
         return float(word.text)
 
 
-class _PolicyReader(_Reader):
-    """Reads the `<Vector>` and `<SparseVector>` elements of SARSOP's policy."""
+class _SeenVector(NamedTuple):
+    """A vector of SARSOP: for states with these seen values a number each, in the order of the unseen ones."""
+
+    action: int
+    seen: int
+    values: List[float]
+
+
+class _PolicyReader(_Reader, XmlParser):
+    """Reads the `<Vector>` and `<SparseVector>` elements of SARSOP's policy. A vector of mixed observability is over the states with the seen
+    values that it names, in a model that polcert-convert wrote."""
 
     def __init__(self, source: Source, model: Model) -> None:
-        super().__init__(source, model)
-        self.solved: List[Solved] = []
-        self.action = 0
-        self.sparse: Optional[List[float]] = None
-        self.text: List[str] = []
-        self.depth = 0
-        self.parser = expat.ParserCreate()
-        self.parser.buffer_text = True
-        self.parser.EntityDeclHandler = self.refuse_entity
-        self.parser.StartElementHandler = self.begin
-        self.parser.EndElementHandler = self.end
-        self.parser.CharacterDataHandler = self.text.append
-
-    @property
-    def byte(self) -> int:
-        return max(0, self.parser.CurrentByteIndex)
+        _Reader.__init__(self, source, model)
+        XmlParser.__init__(self, source, "policy")
+        self.states = states_by_seen(model.source.text, model.states.count)
+        self.found: List[_SeenVector] = []
+        self.sparse: Optional[_SeenVector] = None
+        self.dense: Optional[_SeenVector] = None
 
     def read(self) -> List[Solved]:
-        try:
-            self.parser.Parse(self.source.text, True)
-        except expat.ExpatError as fault:
-            byte, why = max(0, self.parser.ErrorByteIndex), expat.ErrorString(fault.code)
-            raise self.fault(byte, f"this is no XML: {why}") from None
-        except (LookupError, ValueError) as fault:
-            raise self.fault(self.byte, f"the encoding that this XML names is not read: {fault}") from None
-        if not self.solved:
+        self.parse()
+        if not self.found:
             raise self.fault(len(self.source.text), "expected a `<Vector>` or a `<SparseVector>` of a policy, found none")
-        return self.solved
-
-    def refuse_entity(self, name: str, *_: object) -> None:
-        raise self.fault(self.byte, f"no entity is read, and {quoted(name)} is declared here")
+        if len(self.states) == 1:
+            return [Solved(vector.action, vector.values) for vector in self.found]
+        low = self.below_all()
+        return [self.over_all_states(vector, low) for vector in self.found]
 
     def begin(self, name: str, attributes: Dict[str, str]) -> None:
-        self.text.clear()
-        self.depth += 1
-        if self.depth > _MOST_DEPTH:
-            raise self.fault(self.byte, f"elements are nested more than {_MOST_DEPTH} deep, which no policy is")
         if name in ("Vector", "SparseVector"):
-            self.action = self.whole(Word(self.byte, attributes.get("action", "nothing")), self.model.actions.count, "action")
-            if attributes.get("obsValue", "0") != "0":
-                raise self.fault(self.byte, "this policy is of mixed observability (obsValue): its vectors are not over all states")
-            self.sparse = [0.0] * self.model.states.count if name == "SparseVector" else None
+            action = self.whole(Word(self.byte, attributes.get("action", "nothing")), self.model.actions.count, "action")
+            vector = _SeenVector(action, self.seen(attributes.get("obsValue", "0")), [])
+            self.dense, self.sparse = (vector, None) if name == "Vector" else (self.dense, vector)
+            if self.sparse:
+                self.sparse.values.extend([0.0] * len(self.states[vector.seen]))
         elif name == "Entry" and self.sparse is None:
             raise self.fault(self.byte, "an `<Entry>` stands outside of a `<SparseVector>`")
 
-    def end(self, name: str) -> None:
-        text, states = "".join(self.text), self.model.states.count
-        self.text.clear()
-        self.depth -= 1
-        if name == "Vector":
-            words = self.words(text, states, f"{states} numbers, one for each state of the model", "")
-            self.solved.append(Solved(self.action, [self.number(word) for word in words]))
+    def seen(self, word: str) -> int:
+        """The number of a combination of seen values."""
+        if len(self.states) == 1 and word != "0":
+            why = "this policy is of mixed observability (obsValue): its vectors are not over all states of this model"
+            raise self.fault(self.byte, f"{why}; take the one that polcert-convert makes of the model in POMDPX")
+        return self.whole(Word(self.byte, word), len(self.states), "combination of seen values")
+
+    def end(self, name: str, text: str) -> None:
+        if name == "Vector" and self.dense:
+            states = len(self.states[self.dense.seen])
+            words = self.words(text, states, f"{states} numbers, one for each state{self.of_model()}", "")
+            self.found.append(self.dense._replace(values=[self.number(word) for word in words]))
         elif name == "Entry":
             state, number = self.words(text, 2, "a state and a number in an `<Entry>`", " words")
-            self.sparse_values()[self.whole(state, states, "state")] = self.number(number)
+            values = self.sparse_vector().values
+            values[self.whole(state, len(values), "state")] = self.number(number)
         elif name == "SparseVector":
-            self.solved.append(Solved(self.action, self.sparse_values()))
+            self.found.append(self.sparse_vector())
             self.sparse = None
 
-    def sparse_values(self) -> List[float]:
-        """The values of the vector that is read. Raises FileError if another vector stands inside of it."""
+    def of_model(self) -> str:
+        return " of the model" if len(self.states) == 1 else " with the seen values"
+
+    def sparse_vector(self) -> _SeenVector:
+        """The vector that is read. Raises FileError if another vector stands inside of it."""
         if self.sparse is None:
             raise self.fault(self.byte, "a vector stands inside of a `<SparseVector>`")
         return self.sparse
+
+    def below_all(self) -> float:
+        """Less than any policy earns and any vector says: what a vector is worth where its seen values are not."""
+        model, least = self.model, min(min(vector.values) for vector in self.found)
+        if model.discount < 1:
+            sign = -1 if model.is_cost else 1
+            rewards = (sign * value for entry in model.entries if entry.table == "R" for value in entry.numbers.values)
+            least = min(least, float(min(rewards, default=Fraction(0)) / (1 - model.discount)))
+        return max(least - 1, -float(LARGEST))
+
+    def over_all_states(self, vector: _SeenVector, low: float) -> Solved:
+        values = [low] * self.model.states.count
+        for state, value in zip(self.states[vector.seen], vector.values):
+            values[state] = value
+        return Solved(vector.action, values)
 
     def words(self, text: str, count: int, expected: str, unit: str) -> List[Word]:
         """The words of an element, which have to be so many."""

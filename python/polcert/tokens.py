@@ -149,9 +149,9 @@ def token_at(text: bytes, at: int) -> Token:
 class Cursor:
     """The tokens of a text, one after another, with the next one in sight."""
 
-    def __init__(self, source: Source) -> None:
+    def __init__(self, source: Source, begin: int = 0) -> None:
         self.source = source
-        self.next = token_at(source.text, 0)
+        self.next = token_at(source.text, begin)
 
     def take(self) -> Token:
         """Returns the next token and steps over it."""

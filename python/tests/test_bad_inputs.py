@@ -76,7 +76,7 @@ class Lines(FolderTest):
             with self.assertRaises(Refusal) as caught:
                 locate.located(source, locate.refusal_of(line))
             self.assertIn("that was refused", str(caught.exception))
-        self.assertIn("F:1:5: M4", locate.located(model, locate.refusal_of(f"model: M4 in item {DIGITS} at byte 4")))
+        self.assertIn("F:1:5: M4", locate.located(model, locate.refusal_of(f"model: M4 in item {DIGITS} at byte 4")).lines())
 
     def test_lines_that_polcert_does_not_print(self) -> None:
         for line in ("graph: G5 at node 0", "graph: G5 at node 0, state 1", "graph: G5 at node \u0663, observation 0"):

@@ -15,8 +15,8 @@ from test_outputs import ALPHA, NAMES, PG, ROUGH, TIGER, OutputTest
 
 # The words of a run of each command that reads a model first, and those after it.
 RUNS: Tuple[Tuple[str, List[str]], ...] = (
-    ("polcert-bound-vectors", []), ("polcert-certify", ["-q", "-o", "out", "--seconds", "0"]), ("polcert-evaluate", [PG]),
-    ("polcert-graph", [ALPHA, "-o", "out"]), ("polcert-locate", ["model: M4 in item 1 at byte 9"]), ("polcert-mend", []),
+    ("polcert-bound-vectors", []), ("polcert-certify", ["-q", "-o", "out", "--seconds", "0"]), ("polcert-convert", []),
+    ("polcert-evaluate", [PG]), ("polcert-graph", [ALPHA, "-o", "out"]), ("polcert-locate", ["model: M4 in item 1 at byte 9"]), ("polcert-mend", []),
     ("polcert-points", ["-q", "-o", "out", "--seconds", "0"]), ("polcert-report", [PG, ALPHA, "--program", "/bin/true"]),
     ("polcert-solve", ["-q", "-o", "out", "--seconds", "0"]),
 )
@@ -37,7 +37,8 @@ class Statuses(OutputTest):
 
     def test_a_text_that_is_refused(self) -> None:
         for words in self.runs(self.file("text", b"discount: 2")):
-            reason = "has only 1. bytes" if words[0] == "polcert-locate" else "M15: "
+            reasons = {"polcert-locate": "has only 1. bytes", "polcert-convert": "found no `<pomdpx>`"}
+            reason = reasons.get(words[0], "M15: ")
             if words[0] == "polcert-locate":
                 words[2] = "model: M4 in item 1 at byte 900"
             self.refused(self.run_with(words), reason, 2)

@@ -12,8 +12,8 @@ import polcert.command
 
 TIGER, PG, ALPHA = (str(EXAMPLES / f"tiger.{ending}") for ending in ("POMDP", "pg", "alpha"))
 ROUGH = b"discount: 0.9 values: reward states: 3 actions: 1 observations: 1 T: 0 : * 0.333333 0.333333 0.333333 O: * uniform\n"
-NAMES = ("polcert-bound-vectors", "polcert-certify", "polcert-evaluate", "polcert-graph", "polcert-locate", "polcert-mend", "polcert-points",
-         "polcert-report", "polcert-solve")
+NAMES = ("polcert-bound-vectors", "polcert-certify", "polcert-convert", "polcert-evaluate", "polcert-graph", "polcert-locate", "polcert-mend",
+         "polcert-points", "polcert-report", "polcert-solve")
 NO_FILES: Dict[str, bytes] = {}
 
 # An open file, or the name of one.

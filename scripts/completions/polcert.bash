@@ -34,15 +34,16 @@ _polcert_command() {
   case ${1##*/} in
     polcert-bound-vectors) words='-o --output --tolerance --rounds -h --help -V --version' ;;
     polcert-certify) words='-o --output --seconds --gap --within --json --programs -q --quiet -h --help -V --version' ;;
+    polcert-convert) words='-o --output --json -h --help -V --version' ;;
     polcert-evaluate) words='-o --output -h --help -V --version' ;;
-    polcert-graph) words='-o --output --nodes --beliefs --points --rounds --costs --own-vectors --within --tries -q --quiet -h --help -V --version' ;;
-    polcert-locate) words='-h --help -V --version' ;;
-    polcert-mend) words='-o --output -q --quiet --within -h --help -V --version' ;;
-    polcert-points) words='-o --output --seconds --points --gap -q --quiet -h --help -V --version' ;;
-    polcert-report) words='--bound -o --output --program -h --help -V --version' ;;
-    polcert-solve) words='-o --output --seconds --gap -q --quiet -h --help -V --version' ;;
+    polcert-graph) words='-o --output --nodes --beliefs --points --rounds --costs --own-vectors --within --tries --dot --json -q --quiet -h --help -V --version' ;;
+    polcert-locate) words='--json -h --help -V --version' ;;
+    polcert-mend) words='-o --output -q --quiet --within --json -h --help -V --version' ;;
+    polcert-points) words='-o --output --seconds --points --gap --json -q --quiet -h --help -V --version' ;;
+    polcert-report) words='--bound -o --output --json --html --program -h --help -V --version' ;;
+    polcert-solve) words='-o --output --seconds --gap --json -q --quiet -h --help -V --version' ;;
   esac
   COMPREPLY=()
   [[ $word != -* ]] || mapfile -t COMPREPLY < <(compgen -W "$words" -- "$word")
 }
-complete -o bashdefault -o default -F _polcert_command polcert-bound-vectors polcert-certify polcert-evaluate polcert-graph polcert-locate polcert-mend polcert-points polcert-report polcert-solve
+complete -o bashdefault -o default -F _polcert_command polcert-bound-vectors polcert-certify polcert-convert polcert-evaluate polcert-graph polcert-locate polcert-mend polcert-points polcert-report polcert-solve

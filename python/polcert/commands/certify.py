@@ -3,7 +3,8 @@
     polcert-certify M.POMDP -o DIR           solves the model
     polcert-certify M.POMDP POLICY -o DIR    certifies a policy: a graph (.pg), or what else polcert-graph takes
 
-A model whose rows sum to one only nearly is mended first, as by polcert-mend; then all is about the mended model. DIR gets the model, the
+A model in POMDPX is converted first, as by polcert-convert, and one whose rows sum to one only nearly is mended, as by polcert-mend; then all
+is about the model that this makes. DIR gets the model, the
 graph with its vectors, lowered and raised so that polcert says yes to them, a bound on every policy, and a report, each named for the
 model. The proved programs answer; what is computed here only has to pass.
 
@@ -110,14 +111,14 @@ class Work:
 def stem(name: str) -> str:
     """The name of a model's file without folders and endings, for the names of the other files."""
     base = os.path.basename(name)
-    for ending in (".gz", ".POMDP", ".pomdp", ".mdp", ".MDP"):
+    for ending in (".gz", ".POMDP", ".pomdpx", ".pomdp", ".mdp", ".MDP"):
         base = base[: -len(ending)] if base.endswith(ending) else base
     return base if base not in ("", "-") else "model"
 
 
 def arguments() -> argparse.Namespace:
     parser = Parser("polcert-certify", __doc__)
-    parser.add_argument("model", metavar="MODEL", help="a model (.POMDP) with a discount below 1")
+    parser.add_argument("model", metavar="MODEL", help="a model (.POMDP or .pomdpx) with a discount below 1")
     parser.add_argument("policy", metavar="POLICY", nargs="?", help="a policy to certify; without one the model is solved")
     parser.add_argument("-o", "--output", metavar="DIR", required=True, help="write the files into this folder, which is made if it is missing")
     parser.add_argument("--seconds", metavar="N", type=amount, default=SECONDS, help=f"search so long at most; default {SECONDS:.0f}")

@@ -20,6 +20,7 @@ from polcert.certificate import certified_points, informed_vectors
 from polcert.command import Parser, read_source, refuse_overwriting, refuse_unwritable, say, show, write_files
 from polcert.files import MILLION, read_model
 from polcert.informed import ROUNDS, TOLERANCE, best, bound, by_state, refuse_discount_of_1
+from polcert.json_output import json_text
 from polcert.points import MOST_POINTS, Points, WholeCells, most_from_points, points_text
 from polcert.search import Limits, Search
 from polcert.signals import Interrupt
@@ -112,6 +113,7 @@ def arguments() -> argparse.Namespace:
     parser.add_argument("--points", metavar="N", type=count, default=MOST_POINTS, help=most)
     near = f"search until the gap is so many percent of the lower bound; default {PERCENT:.5f}"
     parser.add_argument("--gap", metavar="PERCENT", type=amount, default=PERCENT, help=near)
+    parser.add_argument("--json", action="store_true", help="write the result as JSON to standard output")
     parser.add_argument("-q", "--quiet", action="store_true", help="no lines of progress")
     return parser.parse_args()
 
@@ -128,6 +130,10 @@ def main() -> int:
     texts = vectors_text(range(cells.actions), in_floats(found.vectors)), points_text(cells, found.points)
     write_files(dict(zip(names, texts)))
     most, size = most_from_points(cells, found.vectors, found.points), len(found.points.beliefs)
+    if words.json:
+        bound_of_all = {"at_most": decimal(most)}
+        show(json_text("polcert-points", files=names, points=size, every_policy=bound_of_all, uncertified_lower_bound=round(found.low, 6)))
+        return 0
     points = f"{size:,} point{'' if size == 1 else 's'}"
     bounds = f"lower bound {found.low:.6f}, gap {gap(found.low, most / MILLION)}"
     show(f"{names[1]}: {points}, every policy at most {decimal(most)} ({bounds})\n")

@@ -21,6 +21,7 @@ from polcert.command import Parser, read_source, refuse_overwriting, refuse_unwr
 from polcert.commands.points import PROGRESS_SECONDS, amount, gap
 from polcert.files import Model, read_model
 from polcert.informed import refuse_discount_of_1
+from polcert.json_output import json_text
 from polcert.needs import needs_numpy
 from polcert.signals import Interrupt
 from polcert.tokens import MILLION, decimal
@@ -66,6 +67,7 @@ def arguments() -> argparse.Namespace:
     parser.add_argument("--seconds", metavar="N", type=amount, default=SECONDS, help=f"search so long at most; default {SECONDS:.0f}")
     near = f"search until the gap is so many percent of the lower bound; default {PERCENT:.5f}"
     parser.add_argument("--gap", metavar="PERCENT", type=amount, default=PERCENT, help=near)
+    parser.add_argument("--json", action="store_true", help="write the result as JSON to standard output")
     parser.add_argument("-q", "--quiet", action="store_true", help="no lines of progress")
     return parser.parse_args()
 
@@ -79,10 +81,14 @@ def main() -> int:
     refuse_discount_of_1(model)
     with needs_numpy():
         found = solution(model, words)
-    vectors = vectors_text(found.graph.actions, found.values.T.tolist())
+    vectors = vectors_text(found.graph.actions, found.values.tolist())
     bound = vectors_text(range(len(found.vectors)), found.vectors.tolist())
     write_files(dict(zip(names, (graph_text(found.graph), vectors, bound))))
     size, low = len(found.graph.actions), found.low / MILLION
-    nodes, high = f"{size:,} node{'' if size == 1 else 's'}", max(found.high, low)
+    high = max(found.high, low)
+    if words.json:
+        show(json_text("polcert-solve", files=names, nodes=size, worth=decimal(found.low), uncertified_upper_bound=round(high, 6)))
+        return 0
+    nodes = f"{size:,} node{'' if size == 1 else 's'}"
     show(f"{names[0]}: {nodes}, worth {decimal(found.low)} from the start; every policy at most {high:.6f} (gap {gap(low, high)})\n")
     return 0
