@@ -72,8 +72,8 @@ def answer(status: int, line: str) -> Ran:
     return Ran(status, f'{line}\n'.encode(), b'')
 
 
-def refusal(line: str) -> Ran:
-    return Ran(1, b'', f'{line}\n'.encode())
+def refusal(status: int, line: str) -> Ran:
+    return Ran(status, b'', f'{line}\n'.encode())
 
 
 def move(gaps: Gaps, values: Sequence[Millionths], actions: Sequence[int], discount: Fraction, side: int, pair: str) -> Ran:
@@ -81,10 +81,10 @@ def move(gaps: Gaps, values: Sequence[Millionths], actions: Sequence[int], disco
     word, code = ('lower', 'L') if side == BELOW else ('raise', 'U')
     constant = least_constant(gaps, discount)
     if constant is None:
-        return refusal(f'{word}: {code}1 at {pair} %d, state %d' % first_failing(gaps))
+        return refusal(1, f'{word}: {code}1 at {pair} %d, state %d' % first_failing(gaps))
     moved = raised(values, -side * constant)
     if any(abs(value) > LARGEST for vector in moved for value in vector):
-        return refusal(f'{word}: {code}2')
+        return refusal(1, f'{word}: {code}2')
     text = ''.join(f'{action}\n{" ".join(map(decimal, vector))}\n\n' for action, vector in zip(actions, moved))
     return Ran(0, text.encode(), f'{word.rstrip("e")}ed by {decimal(constant)}\n'.encode())
 
@@ -115,7 +115,7 @@ def polcert_answers(exact: Exact, graph: Graph, vectors: Sequence[Vector]) -> Di
         values = rounded_values(vectors, side)
         gaps = controller.gaps(values, side)
         found[f'polcert {check}'] = verdict(gaps, lacks, start_line(exact, values, side), side)
-        lack = refusal(f'{word}: {code} at node %d, state %d, observation %d' % lacks[0]) if lacks else None
+        lack = refusal(1, f'{word}: {code} at node %d, state %d, observation %d' % lacks[0]) if lacks else None
         found[f'polcert {word}'] = lack or move(gaps, values, graph.actions, exact.discount, side, 'node')
     return found
 

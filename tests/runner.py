@@ -2,11 +2,12 @@
 
 A runner prints a line `failed: ..` for each case that fails. Its last line is `N passed, M failed`.
 """
+import argparse
 import os
 import pathlib
 import subprocess
 import sys
-from typing import Any, Dict, NamedTuple, NoReturn, Sequence, Union
+from typing import Any, Dict, NamedTuple, NoReturn, Sequence, Tuple, Union
 
 TESTS = pathlib.Path(__file__).resolve().parent
 TOP = TESTS.parent
@@ -58,6 +59,16 @@ def run(words: Sequence[Union[str, bytes, 'os.PathLike[str]']], **options: Any) 
 def named_program() -> str:
     """The program that the command line names first."""
     return os.path.abspath(sys.argv[1])  # not resolved: what stands beside the program may be links
+
+
+def random_cases(count: int, first: int) -> Tuple[str, range]:
+    """The program that the command line names, and the seeds of random cases: `--cases N` and `--seed S` stand for others than these."""
+    words = argparse.ArgumentParser(usage='%(prog)s [--cases N] [--seed S] PROGRAM')
+    words.add_argument('--cases', type=int, default=count)
+    words.add_argument('--seed', type=int, default=first)
+    words.add_argument('program')
+    given = words.parse_args()
+    return os.path.abspath(given.program), range(given.seed, given.seed + given.cases)
 
 
 def both_programs(program: str) -> Dict[str, str]:
