@@ -10,6 +10,8 @@ from polcert.files import Graph, Model
 _MOST_NAMED = 6
 # A graph of more nodes is not laid out, and Graphviz gets so many seconds.
 _MOST_DRAWN, _SECONDS = 200, 60
+# A graph of more nodes is drawn from the top down: from left to right it would be too wide to look at.
+MOST_IN_A_ROW = 10
 _WIDTH, _HEIGHT, _MARGIN = 640, 360, 60
 # What Graphviz declares for links, of which these drawings have none.
 _LINKS = ' xmlns:xlink="http://www.w3.org/1999/xlink"'
@@ -32,7 +34,8 @@ def successors(model: Model, graph: Graph, node: int) -> Dict[Optional[int], Lis
 
 def dot_of(model: Model, graph: Graph) -> str:
     """A graph for Graphviz: nodes with their actions, and an edge for all observations after which the same node follows."""
-    lines = ["digraph controller {", "  rankdir=LR;", "  node [shape=box, style=rounded];"]
+    direction = "LR" if len(graph.actions) <= MOST_IN_A_ROW else "TB"
+    lines = ["digraph controller {", f"  rankdir={direction};", "  node [shape=box, style=rounded];"]
     for node, action in enumerate(graph.actions):
         lines.append(f'  {node} [label="{node}: {model.actions.label(action)}"];')
         for successor, names in successors(model, graph, node).items():

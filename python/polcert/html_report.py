@@ -4,12 +4,12 @@ from html import escape
 from itertools import groupby
 from typing import List, Sequence
 
-from polcert.drawing import drawn, named, picture_of_values, successors
+from polcert.drawing import MOST_IN_A_ROW, drawn, named, picture_of_values, successors
 from polcert.files import Graph, Model
 
 _STYLE = """body { font-family: sans-serif; max-width: 60em; margin: 2em auto; padding: 0 1em; line-height: 1.4 }
 table { border-collapse: collapse; margin: 1em 0 } td, th { border: 1px solid #bbb; padding: 0.2em 0.6em; text-align: left }
-code { overflow-wrap: anywhere } svg { max-width: 100%; height: auto }"""
+code { overflow-wrap: anywhere } div { overflow: auto }"""
 
 
 def page(title: str, parts: Sequence[str]) -> str:
@@ -55,16 +55,22 @@ def inline(text: str) -> str:
 
 
 def controller(model: Model, graph: Graph) -> str:
-    """The graph as a drawing, or as a table if Graphviz is not there."""
+    """The graph as a drawing that scrolls, and as a table if Graphviz is not there or there is more than a drawing shows at a glance."""
     picture = drawn(model, graph)
-    if picture is not None:
-        return f"<h2>The controller</h2>\n{picture}"
+    parts = ["<h2>The controller</h2>", *([] if picture is None else [f"<div>{picture}</div>"])]
+    if picture is None or len(graph.actions) > MOST_IN_A_ROW:
+        parts.append(table_of(rows_of_graph(model, graph)))
+    return "\n".join(parts)
+
+
+def rows_of_graph(model: Model, graph: Graph) -> List[str]:
+    """The rows of a table of the graph: each node's action, and which node is next after what."""
     rows = ["| Node | Action | Then |", "|---|---|---|"]
     for node, action in enumerate(graph.actions):
         after = (f"{'none' if successor is None else f'node {successor}'} after {named(names)}"
                  for successor, names in successors(model, graph, node).items())
         rows.append(f"| {node} | {model.actions.label(action)} | {'; '.join(after)} |")
-    return f"<h2>The controller</h2>\n{table_of(rows)}"
+    return rows
 
 
 def values_over_beliefs(model: Model, values: Sequence[Sequence[float]]) -> str:

@@ -51,6 +51,16 @@ class Drawings(FolderTest):
             self.assertIsNone(drawn(MODEL, Graph([0] * 201, [[0, 0, 0]] * 201)))
             self.assertIn("<svg", controller(MODEL, GRAPH))
 
+    def test_many_nodes(self) -> None:
+        ten, eleven = (Graph([0] * count, [[0, 0, 0]] * count) for count in (10, 11))
+        self.assertIn("rankdir=LR;", dot_of(MODEL, ten))
+        self.assertIn("rankdir=TB;", dot_of(MODEL, eleven))
+        with patch.dict(os.environ, PATH=self.dot("echo '<svg/>'")):
+            self.assertNotIn("<table>", controller(MODEL, ten))
+            page = controller(MODEL, eleven)
+        self.assertIn("<svg/>", page)
+        self.assertIn("<tr><td>10</td><td>go</td><td>node 0 after x, y, z</td></tr>", page)
+
     def test_without_graphviz(self) -> None:
         with patch.dict(os.environ, PATH=str(self.folder)):
             table = controller(MODEL, GRAPH)
