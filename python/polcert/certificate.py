@@ -2,17 +2,18 @@
 
 Values are rounded up to millionths, and those that fail the exact check are raised until it passes.
 """
-from math import ceil, floor, inf
-from typing import Dict, List, Sequence
+from math import inf
+from typing import List, Sequence
 
-from polcert.beliefs import Belief
+import numpy as np
+
+from polcert.arrays import Floats
 from polcert.command import Refusal
-from polcert.covers import CoverGraph
+from polcert.covers import CoverGraph, IsOver
 from polcert.files import MILLION
 from polcert.points import PointCheck, Points, WholeCells, least_raise, rounded_up
-from polcert.search import IsOver, Search
+from polcert.solver import Solver
 from polcert.tokens import LARGEST
-from polcert.values import Values
 
 # So often covers are chosen again after values have fallen.
 STAGES = 6
@@ -20,13 +21,13 @@ STAGES = 6
 LEAST_GAIN = 1e-8
 # What floating point may add to a value, in millionths.
 NOISE = 1e-6
-# So many backups raise values in floating point at most. If some fail the exact check after so many sweeps, one constant is added to all.
-MOST_FLOAT_RAISES, MOST_RAISES = 5_000_000, 20
+# So many sweeps raise values in floating point at most. If some fail the exact check after so many sweeps, one constant is added to all.
+MOST_FLOAT_RAISES, MOST_RAISES = 1_000, 20
 
 
-def informed_vectors(cells: WholeCells, vectors: Sequence[Values]) -> List[List[int]]:
+def informed_vectors(cells: WholeCells, vectors: Floats) -> List[List[int]]:
     """Vectors in millionths, raised until they pass their check."""
-    found = [[round(value * MILLION) for value in vector] for vector in vectors]
+    found = [[round(value * MILLION) for value in vector] for vector in vectors.tolist()]
     constant = least_raise(cells, found)
     while constant:
         found = [[value + constant for value in vector] for vector in found]
@@ -34,56 +35,45 @@ def informed_vectors(cells: WholeCells, vectors: Sequence[Values]) -> List[List[
     return found
 
 
-def certified_points(search: Search, cells: WholeCells, vectors: Sequence[Sequence[int]], is_over: IsOver) -> Points:
+def certified_points(solver: Solver, cells: WholeCells, vectors: Sequence[Sequence[int]], is_over: IsOver) -> Points:
     """The points that the start needs, which pass their check with these vectors, in millionths."""
     worth = inf
     for _ in range(STAGES):
-        graph, before = CoverGraph(search.upper, follows_all=True), worth
+        graph, before = CoverGraph(solver.nodes, solver.upper), worth
         graph.settle(is_over)
-        search.take(graph)
-        worth = graph.start.worth()
+        solver.take(graph)
+        worth = graph.start_worth
         if is_over() or before - worth <= LEAST_GAIN * (1 + abs(worth)):
             break
-    graph.drop_idle()
+    graph.reset_others()
+    graph.settle(lambda: False)
     round_up(graph)
     return passing(PointCheck(cells, vectors, whole(graph)))
 
 
 def round_up(graph: CoverGraph) -> None:
     """Rounds values to millionths: down first, then up until no backup is above them, up to floating point."""
-    for belief, values in graph.values.items():
-        for action, row in enumerate(graph.rows[belief]):
-            value = values[action] * MILLION
-            values[action] = (floor(value) if row.covers else ceil(value - NOISE)) / MILLION
-    graph.charge_again()
-    rows, is_done, backups = graph.followed_rows(), False, 0
-    while not is_done and backups < MOST_FLOAT_RAISES:
-        is_done, backups = True, backups + len(rows)
-        for belief, action in rows:
-            value = ceil(graph.rows[belief][action].backup() * MILLION - NOISE) / MILLION
-            if value > graph.values[belief][action]:
-                graph.values[belief][action], is_done = value, False
-        graph.charge_again()
+    graph.values.all[:] = np.where(graph.rows.all < 0, np.ceil(graph.values.all * MILLION - NOISE), np.floor(graph.values.all * MILLION)) / MILLION
+    for _ in range(MOST_FLOAT_RAISES):
+        values = graph.row_values()
+        raised = np.maximum(values, np.ceil(graph.backups() * MILLION - NOISE) / MILLION)
+        if np.array_equal(values[1:], raised[1:]):
+            break
+        graph.set_row_values(raised)
 
 
 def whole(graph: CoverGraph) -> Points:
-    """The points in integers."""
-    number = {belief: i for i, belief in enumerate(graph.values)}
-    points = Points([], [], [])
-    for belief, values in graph.values.items():
+    """The points in integers. For each action that is followed, an observation has the number of the point that covers the belief after it."""
+    points = Points([], np.rint(graph.values.all * MILLION).astype(np.int64).tolist(), [])
+    for belief in graph.beliefs:
         assert belief.whole is not None
-        points.beliefs.append(dict(zip(belief.states, belief.whole)))
-        points.values.append([round(value * MILLION) for value in values])
-        points.following.append([names(graph, number, belief, action) for action in graph.beliefs.actions])
+        points.beliefs.append(dict(zip(belief.own.states.tolist(), belief.whole.tolist())))
+        points.following.append([{} for _ in range(graph.actions)])
+    covers = graph.covers
+    for row, z, point in zip(covers.row.all.tolist(), covers.observation.all.tolist(), covers.point.all.tolist()):
+        if row and point >= 0:
+            points.following[graph.row_belief.all[row]][graph.row_action.all[row]][z] = point
     return points
-
-
-def names(graph: CoverGraph, number: Dict[Belief, int], belief: Belief, action: int) -> Dict[int, int]:
-    """For an action that is followed, and each observation, the number of the point that covers the belief after it, if there is one."""
-    if not graph.rows[belief][action].covers:
-        return {}
-    found = {z: graph.covers[after].point for z, _, after in graph.beliefs.step(belief, action).after}
-    return {z: number[point] for z, point in found.items() if point}
 
 
 def passing(check: PointCheck) -> Points:
@@ -99,13 +89,17 @@ def passing(check: PointCheck) -> Points:
 
 
 def raise_each(check: PointCheck) -> bool:
-    """Raises each value that fails to its backup, and tells whether there was one."""
+    """Raises each value that fails to its backup, and tells whether there was one. An action that is not followed passes with the value of
+    its vector."""
     is_raised = False
     for point in reversed(range(len(check.points.beliefs))):
-        for action, values in enumerate(check.points.following[point]):
-            excess = check.excess(point, action)
+        belief, mass = check.points.beliefs[point], check.masses[point]
+        for action, vector in enumerate(check.vectors):
+            value = mass * check.points.values[point][action]
+            is_plain = not check.points.following[point][action] and value >= sum([weight * vector[state] for state, weight in belief.items()])
+            excess = 0 if is_plain else check.excess(point, action)
             if excess > 0:
-                check.points.values[point][action] += rounded_up(excess, check.masses[point] * check.cells.step_scale * MILLION)
+                check.points.values[point][action] += rounded_up(excess, mass * check.cells.step_scale * MILLION)
                 is_raised = True
     check.charge_again()
     return is_raised

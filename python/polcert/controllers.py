@@ -1,10 +1,14 @@
 """Controllers for a certificate: solved, or made of what was given."""
-from typing import Callable, List, NamedTuple, Union
+from typing import TYPE_CHECKING, Callable, List, NamedTuple, Optional, Tuple, Union
 
 from polcert.files import Graph, Model, read_graph
+from polcert.points import WholeCells
 from polcert.policies import Solved, is_policy_of_mdp, is_xml, read_policy_of_mdp, read_solved
 from polcert.tokens import FileError, Source
 from polcert.values import graph_text, vectors_text
+
+if TYPE_CHECKING:
+    from polcert.solutions import Bound
 
 
 class Controller(NamedTuple):
@@ -45,15 +49,47 @@ def count_nodes(graph: Graph) -> str:
     return f"{len(graph.actions):,} node{'' if len(graph.actions) == 1 else 's'}"
 
 
-def solved_controller(model: Model, seconds: float, gap: float, is_stopped: Callable[[], bool], is_quiet: bool) -> Controller:
-    """The controller that polcert-solve finds."""
+class Search(NamedTuple):
+    """How long to search, and until which gap, as a part of the lower bound."""
+
+    seconds: float
+    gap: float
+    is_stopped: Callable[[], bool]
+    is_quiet: bool
+
+
+class BoundTexts(NamedTuple):
+    """Vectors that bound every policy and, unless the model is an MDP, whose vectors are sharp, points; and what they are, in one line."""
+
+    vectors: bytes
+    points: Optional[bytes]
+    line: str
+
+
+def bound_texts(cells: WholeCells, found: "Bound") -> BoundTexts:
+    vectors, points = found.texts(cells)
+    return BoundTexts(vectors, None if cells.is_mdp else points, f"{len(found.points.beliefs):,} points")
+
+
+def solved_controller(cells: WholeCells, search: Search) -> Tuple[Controller, BoundTexts]:
+    """The controller that polcert-solve finds, and the bound of the same search."""
     from polcert.commands.solve import Progress
     from polcert.solutions import solve
     from polcert.solver import Limits
 
-    found = solve(model, Limits(seconds, gap), is_stopped, Progress(is_quiet).report)
+    found, bound = solve(cells, Limits(search.seconds, search.gap), search.is_stopped, Progress(search.is_quiet).report)
     line = f"{count_nodes(found.graph)}, worth {found.low / 1e6:.6f} from the start"
-    return Controller(graph_text(found.graph), vectors_text(found.graph.actions, found.values.tolist()), line)
+    controller = Controller(graph_text(found.graph), vectors_text(found.graph.actions, found.values.tolist()), line)
+    return controller, bound_texts(cells, bound)
+
+
+def bound_for(cells: WholeCells, search: Search) -> BoundTexts:
+    """The bound that polcert-points finds."""
+    from polcert.commands.points import Progress
+    from polcert.solutions import bound
+    from polcert.solver import Limits
+
+    return bound_texts(cells, bound(cells, Limits(search.seconds, search.gap), search.is_stopped, Progress(search.is_quiet).report))
 
 
 def given_controller(source: Source, model: Model, is_quiet: bool) -> Controller:

@@ -1,252 +1,221 @@
 """The points that cover the start, those that cover the beliefs that follow them, and so on: their values settle all together.
 
-An action at a point is followed further only if it is the best next action somewhere. Else the beliefs after it are charged at the vectors.
+An action at a point is followed only if it is the best next action where the point covers a belief; the others keep their values.
 """
-from itertools import product
-from math import inf
-from typing import Callable, Dict, Iterable, List, Optional, Sequence, Set, Tuple
+from typing import Callable, Dict, List, Tuple
 
-from polcert.beliefs import Belief
-from polcert.bounds import UpperBound
+import numpy as np
+from scipy import sparse  # type: ignore[import]
+
+from polcert.arrays import Floats, Matrix
+from polcert.belief_nodes import Batch, BeliefNode, BeliefNodes, Integers
+from polcert.evaluation import nearly_solved
 from polcert.points import MOST_POINTS
-from polcert.values import Values
+from polcert.sawtooth import Growing, Sawtooth
 
 # What is left of a belief is charged at a corner only if it is more than this.
 LEAST_LEFT = 1e-9
-# Values fall until none moves by more than this part of its size.
-LEAST_MOVE = 1e-10
-# A charge follows its corner if that moves by more than this part of its size.
-LEAST_CHARGE = 1e-9
-# All values are lowered each so many sweeps, else those alone that decided in the last of these sweeps.
-FULL_SWEEPS = 16
+# Values have settled once none moves by more than this part of its size, or after so many choices of actions.
+LEAST_MOVE, MOST_CHOICES = 1e-10, 200
+# The most steps that find values for chosen actions, and sweeps after these; and how near they come, for values of size 1.
+MOST_STEPS, MOST_SWEEPS, SOLVED = 2_000, 100, 1e-12
+
+IsOver = Callable[[], bool]
 
 
-class Covered:
-    """A belief as a point, taken so many times, and what is left of it, with what that is worth with each next action."""
+class Covers:
+    """Beliefs that follow an action, as points taken so many times and what is left of them, in the order of the actions that they follow."""
 
-    __slots__ = ("point", "times", "left", "needed", "worths", "values")
+    def __init__(self) -> None:
+        # for each cover the row of the action that it follows, the observation, the point (-1 for none) and how often it is taken
+        self.row, self.observation = Growing(np.int64), Growing(np.int64)
+        self.point, self.times = Growing(np.int64), Growing(np.float64)
+        # what is left: the cover, the state and the weight
+        self.left, self.state, self.weight = Growing(np.int64), Growing(np.int64), Growing(np.float64)
 
-    def __init__(self, belief: Belief, point: Optional[Belief], times: float) -> None:
-        self.point, self.times = point, times
-        taken = dict(zip(point.states, point.weights)) if point else {}
-        left = ((state, weight - times * taken.get(state, 0.0)) for state, weight in zip(belief.states, belief.weights))
-        self.left = [(state, weight) for state, weight in left if weight > LEAST_LEFT]
-        # the point, and the corners at which what is left is charged
-        self.needed: List[Belief] = []
-        self.worths: Values = []
-        self.values: Values = []
+    @property
+    def count(self) -> int:
+        return self.row.size
 
-    def charge(self, charges: Sequence[Values]) -> None:
-        self.worths = [sum([weight * charge[state] for state, weight in self.left]) for charge in charges]
+    def add(self, row: int, observations: Integers, points: Integers, times: Floats) -> None:
+        self.row.extend(np.full(len(points), row))
+        self.observation.extend(observations)
+        self.point.extend(points)
+        self.times.extend(times)
 
-    def worth(self) -> float:
-        """The worth with the best next action."""
-        if not self.values:
-            return max(self.worths)
-        times = self.times
-        return max([worth + times * value for worth, value in zip(self.worths, self.values)])
-
-    def deciding_action(self) -> int:
-        """The best next action."""
-        values = self.values or [0.0] * len(self.worths)
-        worths = [worth + self.times * value for worth, value in zip(self.worths, values)]
-        return worths.index(max(worths))
-
-
-class Row:
-    """An action at a point, which is followed further if it has covers: each with the discounted probability of its belief."""
-
-    __slots__ = ("gain", "covers")
-
-    def __init__(self, gain: float) -> None:
-        self.gain = gain
-        self.covers: List[Tuple[float, Covered]] = []
-
-    def backup(self) -> float:
-        return self.gain + sum([p * covered.worth() for p, covered in self.covers])
+    def add_left(self, covers: Integers, states: Integers, weights: Floats) -> None:
+        self.left.extend(covers)
+        self.state.extend(states)
+        self.weight.extend(weights)
 
 
 class CoverGraph:
-    """The points and corners that the start needs, in the order in which they are found, with a row for each action.
+    """The points and corners that the start needs, in the order in which they are found, with a value for each action. Row 0 is the start;
+    the others are the actions that are followed."""
 
-    With `follows_all` all actions are followed, else those that are the best next action somewhere; the value of another action is that of
-    the upper bound then.
-    """
+    def __init__(self, nodes: BeliefNodes, upper: Sawtooth) -> None:
+        self.nodes, self.upper, self.discount = nodes, upper, nodes.arrays.discount
+        self.actions, states = upper.vectors.shape
+        self.beliefs: List[BeliefNode] = []
+        self._number: Dict[BeliefNode, int] = {}
+        self._is_corner, self._corner = upper.is_corner(), np.full(states, -1)
+        # for each belief the values of the actions, and the rows of those that are followed, else -1
+        self.values, self.rows = Growing(np.float64, self.actions), Growing(np.int64, self.actions)
+        # for each row the belief, the action and the reward at once
+        self.row_belief, self.row_action, self.gains = Growing(np.int64), Growing(np.int64), Growing(np.float64)
+        self.covers = Covers()
+        # whether actions that are not followed have the values of the search
+        self._is_guess = True
+        self._add_row(-1, 0, 0.0)
+        self._cover(0, np.zeros(1, np.int64), nodes.start.own, slice(0, 1))
 
-    def __init__(self, upper: UpperBound, follows_all: bool = False) -> None:
-        self.upper, self.beliefs, self._follows_all = upper, upper.beliefs, follows_all
-        self.covers: Dict[Belief, Covered] = {}
-        self.values: Dict[Belief, Values] = {}
-        self.rows: Dict[Belief, List[Row]] = {}
-        self.charges = [list(vector) for vector in upper.vectors]
-        self._charged_at: Dict[int, List[Tuple[Covered, float]]] = {}
-        self._new: List[Covered] = []
-        self.start = self._cover(self.beliefs.start)
-        self._follow_new()
+    def _add_row(self, belief: int, action: int, gain: float) -> int:
+        self.row_belief.extend([belief])
+        self.row_action.extend([action])
+        self.gains.extend([gain])
+        return self.gains.size - 1
 
-    def _cover(self, belief: Belief) -> Covered:
-        if belief not in self.covers:
-            point, times = self.upper.cover(belief)
-            covered = self.covers[belief] = Covered(belief, point, times)
-            if point and not self._add(point):
-                covered = self.covers[belief] = Covered(belief, None, 0.0)
-            covered.needed = [covered.point] if covered.point else []
-            for state, weight in covered.left:
-                corner = self.beliefs.at_state(state)
-                if self.upper.is_corner(state) and self._add(corner):
-                    covered.needed.append(corner)
-                    self._charged_at.setdefault(state, []).append((covered, weight))
-            covered.values = self.values[covered.point] if covered.point else []
-            covered.charge(self.charges)
-            self._new.append(covered)
-        return self.covers[belief]
+    def _cover(self, row: int, observations: Integers, batch: Batch, some: slice) -> None:
+        """Adds the covers of some beliefs of a batch."""
+        self.upper.look(batch)
+        points = np.array([-1 if point < 0 else self._add(self.upper.points[point]) for point in batch.point[some].tolist()])
+        weights, first = batch.weights[:, some], self.covers.count
+        times, left = np.where(points < 0, 0.0, batch.times[some]), weights.copy()
+        for column in np.flatnonzero(points >= 0).tolist():
+            point = self.beliefs[points[column]].own
+            left[np.searchsorted(batch.states, point.states), column] -= times[column] * point.weights[:, 0]
+        place, column = np.nonzero((left > LEAST_LEFT * weights.sum(axis=0)).T)[::-1]
+        states = batch.states[place]
+        for state in np.unique(states[self._is_corner[states] & (self._corner[states] < 0)]).tolist():
+            self._corner[state] = self._add(self.nodes.at_state(state))
+        self.covers.add(row, observations, points, times)
+        self.covers.add_left(first + column, states, left[place, column])
 
-    def _add(self, belief: Belief) -> bool:
-        """Adds a point, of which no action is followed yet, and tells whether it is there: there may not be more than a file may have."""
-        if belief not in self.values and len(self.values) < MOST_POINTS:
-            self.values[belief] = [min(pair) for pair in zip(self.upper.plain_values(belief), self.upper.values_at(belief))]
-            self.rows[belief] = [Row(self.beliefs.step(belief, action).gain) for action in self.beliefs.actions]
-            if len(belief.states) == 1:
-                self._charge(belief)
-        return belief in self.values
+    def _add(self, belief: BeliefNode) -> int:
+        """The number of a point; -1 if there are as many as a file may have."""
+        if belief not in self._number:
+            if len(self.beliefs) >= MOST_POINTS:
+                return -1
+            self._number[belief] = len(self.beliefs)
+            self.beliefs.append(belief)
+            values = self.by_vectors(belief)
+            self.values.extend([np.minimum(values, belief.most) if self._is_guess and belief.most is not None else values])
+            self.rows.extend(np.full((1, self.actions), -1))
+        return self._number[belief]
 
-    def _follow_new(self) -> None:
-        """Follows actions at what covers new beliefs, and at the beliefs that come with that."""
-        while self._new:
-            self._follow(self._new.pop())
+    def by_vectors(self, belief: BeliefNode) -> Floats:
+        """What each action is worth at most at a belief by the vectors."""
+        return np.asarray(self.upper.vectors[:, belief.own.states] @ belief.own.weights[:, 0])
 
-    def _follow(self, covered: Covered) -> int:
-        """Follows the best next action, or all, at what covers a belief, and returns how many rows that adds."""
-        actions, count = self.beliefs.actions if self._follows_all else [covered.deciding_action()], 0
-        for belief, action in product(covered.needed, actions):
-            row = self.rows[belief][action]
-            if not row.covers:
-                after = self.beliefs.step(belief, action).after
-                row.covers, count = [(self.upper.discount * p, self._cover(it)) for _, p, it in after], count + 1
-        return count
+    def reset_others(self) -> None:
+        """Takes the vectors' values for actions that are not followed, from now on, so that all values follow from each other and these."""
+        self._is_guess = False
+        for number, belief in enumerate(self.beliefs):
+            others = self.rows.all[number] < 0
+            self.values.all[number, others] = self.by_vectors(belief)[others]
 
-    def _charge(self, corner: Belief) -> None:
-        for action, value in enumerate(self.values[corner]):
-            self._move_charge(corner.states[0], action, value)
+    # Values
 
-    def _move_charge(self, state: int, action: int, value: float) -> None:
-        """Charges what is left of covers at a corner's value, or at the vector if that is less."""
-        charge, value = self.charges[action], min(value, self.upper.vectors[action][state])
-        move = value - charge[state]
-        if abs(move) > LEAST_CHARGE * (1 + abs(value)):
-            charge[state] = value
-            for covered, weight in self._charged_at.get(state, ()):
-                covered.worths[action] += weight * move
+    def worths(self, first: int = 0) -> Floats:
+        """What covers are worth with each next action, from one on (covers by A)."""
+        covers, values = self.covers, self.values.all
+        charges, corners = self.upper.vectors.copy(), np.flatnonzero(self._corner >= 0)
+        charges[:, corners] = np.minimum(charges[:, corners], values[self._corner[corners]].T)
+        begin = int(np.searchsorted(covers.left.all, first))
+        places = covers.left.all[begin:] - first, covers.state.all[begin:]
+        left = sparse.csr_matrix((covers.weight.all[begin:], places), shape=(covers.count - first, charges.shape[1]))
+        worths, points = left @ charges.T, covers.point.all[first:]
+        has_point = points >= 0
+        worths[has_point] += covers.times.all[first:][has_point, None] * values[points[has_point]]
+        return np.asarray(worths)
 
-    def charge_again(self) -> None:
-        """Charges what is left of each cover at the values of the corners as they are now."""
-        for belief in self.values:
-            if len(belief.states) == 1:
-                self._charge(belief)
-        for covered in self.covers.values():
-            covered.charge(self.charges)
+    def backups(self) -> Floats:
+        """What each row is worth if all covers have the best next action."""
+        later = np.bincount(self.covers.row.all, self.worths().max(axis=1), self.gains.size)
+        found = self.gains.all + self.discount * later
+        return np.asarray(found)
 
-    def settle(self, is_over: Callable[[], bool]) -> None:
-        """Backs values up again and again until they do not move: all of them in some sweeps, and between these those that decide."""
-        moved = inf
-        while not is_over():
-            count = self.follow_again()
-            if moved <= LEAST_MOVE and not count:
+    @property
+    def start_worth(self) -> float:
+        return float(self.worths()[0].max())
+
+    def row_values(self) -> Floats:
+        """The values of the rows; that of the start is 0."""
+        found = self.values.all[self.row_belief.all[1:], self.row_action.all[1:]]
+        return np.concatenate([[0.0], found])
+
+    def set_row_values(self, found: Floats) -> None:
+        self.values.all[self.row_belief.all[1:], self.row_action.all[1:]] = found[1:]
+
+    def settle(self, is_over: IsOver) -> None:
+        """Follows the best next actions, and finds values that follow from each other with these: an upper bound, also if it ends early."""
+        for _ in range(MOST_CHOICES):
+            best = self._follow_best(is_over)
+            before = self.row_values()
+            found = self._solved(best)
+            self.set_row_values(found)
+            moved = abs(found - before)[1:] / (1 + abs(found[1:]))
+            if is_over() or moved.max(initial=0.0) <= LEAST_MOVE:
                 break
-            rows = [] if count else self.deciding_rows()
-            for _ in range(FULL_SWEEPS - 1 if rows else 0):
-                if is_over() or self.back_up(rows) <= LEAST_MOVE:
+        found = self.row_values()
+        above = (self.backups() - found)[1:].max(initial=0.0)
+        self.set_row_values(found + above / (1 - self.discount))
+
+    def _follow_best(self, is_over: IsOver) -> Integers:
+        """Follows the best next action of each cover at its point and its corners, until there is nothing new. Returns these actions."""
+        first, best = 0, np.zeros(0, np.int64)
+        while first < self.covers.count and not is_over():
+            new = self.worths(first).argmax(axis=1)
+            best = np.concatenate([best, new])
+            pairs = self._needed(best, first)
+            first = len(best)
+            for belief, action in np.unique(pairs[self.rows.all[pairs[:, 0], pairs[:, 1]] < 0], axis=0).tolist():
+                if is_over():
                     break
-            moved = self.back_up(self.followed_rows())
+                step = self.nodes.step(self.beliefs[belief])
+                self.rows.all[belief, action] = row = self._add_row(belief, action, float(step.gains[action]))
+                some = step.columns(action)
+                self._cover(row, step.observations[some], step.batch, some)
+        return np.asarray(np.concatenate([best, self.worths(first).argmax(axis=1)]) if first < self.covers.count else best)
 
-    def follow_again(self) -> int:
-        """Follows the best next actions as values are now, and returns how many rows that adds."""
-        count = 0 if self._follows_all else sum(self._follow(covered) for covered in list(self.covers.values()))
-        self._follow_new()
-        return count
+    def _needed(self, best: Integers, first: int) -> Integers:
+        """The points and corners of covers, from one on, with their best next actions: pairs."""
+        covers = self.covers
+        begin = int(np.searchsorted(covers.left.all, first))
+        left = covers.left.all[begin:]
+        points, corners = covers.point.all[first : len(best)], self._corner[covers.state.all[begin:]]
+        pairs = np.concatenate([np.column_stack([points, best[first:]]), np.column_stack([corners, best[left]])])
+        return np.asarray(pairs[pairs[:, 0] >= 0])
 
-    def back_up(self, rows: Iterable[Tuple[Belief, int]]) -> float:
-        """Backs values up, and returns by how much one of them moved, as a part of its size."""
-        most = 0.0
-        for belief, action in rows:
-            values, value = self.values[belief], self.rows[belief][action].backup()
-            most = max(most, abs(values[action] - value) / (1 + abs(value)))
-            values[action] = value
-            if len(belief.states) == 1:
-                self._move_charge(belief.states[0], action, value)
-        return most
+    def _solved(self, best: Integers) -> Floats:
+        """The values of the rows with these next actions."""
+        matrix, constant = self._equations(best)
+        least = SOLVED * (1 + float(abs(constant).max()) / (1 - self.discount))
 
-    def followed_rows(self) -> List[Tuple[Belief, int]]:
-        """The points with the actions that are followed, the points that were found last first."""
-        rows = reversed(list(self.rows.items()))
-        return [(belief, action) for belief, found in rows for action, row in enumerate(found) if row.covers]
+        def step(values: Floats) -> Floats:
+            return np.asarray(constant + matrix @ values)
 
-    def deciding_rows(self) -> List[Tuple[Belief, int]]:
-        """The points and corners with the actions that are best where these cover a belief."""
-        found: Dict[Tuple[Belief, int], None] = {}
-        for covered in self.covers.values():
-            if covered.needed:
-                action = covered.deciding_action()
-                found.update(((belief, action), None) for belief in covered.needed)
-        return list(found)[::-1]
+        values = nearly_solved(step, self.row_values(), least, MOST_STEPS)
+        for _ in range(MOST_SWEEPS):  # (the method may have found none that are better)
+            before, values = values, step(values)
+            if abs(values - before).max() <= least:
+                break
+        return values
 
-    def drop_idle(self) -> None:
-        """Keeps the actions that are the best next ones somewhere, and the points and covers that the start needs with these alone.
-
-        The value of another action becomes that by the vectors, so that all values follow from each other and the vectors."""
-        settled = {belief: list(values) for belief, values in self.values.items()}
-        for belief, values in self.values.items():
-            values[:] = self.upper.plain_values(belief)
-        self.charge_again()
-        kept = KeptRows(self, settled)
-        self.covers = {belief: covered for belief, covered in self.covers.items() if covered in kept.reached}
-        self.values = {belief: self.values[belief] for belief in kept.actions}
-        self.rows = {belief: self.rows[belief] for belief in kept.actions}
-        for belief, rows in self.rows.items():
-            for action, row in enumerate(rows):
-                if action not in kept.actions[belief]:
-                    row.covers = []
-
-    def restore(self, belief: Belief, action: int, value: float) -> None:
-        self.values[belief][action] = value
-        if len(belief.states) == 1:
-            self._move_charge(belief.states[0], action, value)
-
-
-class KeptRows:
-    """The actions that are the best next ones where a point covers a belief, from the start on; each gets its settled value."""
-
-    def __init__(self, graph: CoverGraph, settled: Dict[Belief, Values]) -> None:
-        self._graph, self._settled = graph, settled
-        self.actions: Dict[Belief, Set[int]] = {}
-        self.reached: Set[Covered] = set()
-        self._covered_by: Dict[Belief, List[Covered]] = {}
-        self._queue: List[Covered] = []
-        self._reach(graph.start)
-        while self._queue:
-            while self._queue:
-                self._keep_best(self._queue.pop())
-            self._queue = [covered for covered in self.reached if not self._is_kept(covered)]
-
-    def _reach(self, covered: Covered) -> None:
-        if covered not in self.reached:
-            self.reached.add(covered)
-            self._queue.append(covered)
-            if covered.point:
-                self._covered_by.setdefault(covered.point, []).append(covered)
-
-    def _is_kept(self, covered: Covered) -> bool:
-        action = covered.deciding_action()
-        return all(action in self.actions.get(belief, ()) for belief in covered.needed)
-
-    def _keep_best(self, covered: Covered) -> None:
-        """Keeps the best next action at what covers a belief. With lower values another one may be best where the same point covers one."""
-        action = covered.deciding_action()
-        for belief in covered.needed:
-            kept = self.actions.setdefault(belief, set())
-            if action not in kept:
-                kept.add(action)
-                self._graph.restore(belief, action, self._settled[belief][action])
-                for _, after in self._graph.rows[belief][action].covers:
-                    self._reach(after)
-                self._queue += self._covered_by.get(belief, ())
+    def _equations(self, best: Integers) -> Tuple[Matrix, Floats]:
+        """The matrix and the constant of a step: each row by the rows that its covers need, and by what does not change."""
+        covers, values, vectors = self.covers, self.values.all, self.upper.vectors
+        cover, points = np.flatnonzero(covers.point.all >= 0), covers.point.all[covers.point.all >= 0]
+        left, state = covers.left.all, covers.state.all
+        corners, charges = self._corner[state], vectors[best[left], state]
+        at_corner = np.where(corners < 0, np.inf, values[corners, best[left]]) if len(values) else np.full(len(left), np.inf)
+        belief = np.concatenate([points, np.where(at_corner < charges, corners, -1)])
+        action = np.concatenate([best[cover], best[left]])
+        amount = self.discount * np.concatenate([covers.times.all[cover], covers.weight.all])
+        known = np.concatenate([values[points, best[cover]], np.minimum(at_corner, charges)])
+        source = covers.row.all[np.concatenate([cover, left])]
+        target = np.where(belief < 0, -1, self.rows.all[belief, action]) if len(values) else np.full(len(belief), -1)
+        is_row = target >= 0
+        matrix = sparse.csr_matrix((amount[is_row], (source[is_row], target[is_row])), shape=(self.gains.size,) * 2)
+        constant = np.bincount(source[~is_row], (amount * known)[~is_row], self.gains.size)
+        return matrix, np.asarray(self.gains.all + constant)

@@ -1,129 +1,126 @@
-"""The fast informed bound, in floating point: a vector for each action, an upper bound on what any policy earns that sees the observations
-alone."""
+"""The fast informed bound in numpy: a vector for each action, an upper bound on what any policy earns that sees the observations alone.
+
+Source: Hauskrecht, Value-function approximations for partially observable Markov decision processes, JAIR 2000.
+"""
 import os
 import sys
-from math import ceil, floor, inf
-from typing import Callable, Dict, List, Sequence, Tuple
+from typing import Callable, List, NamedTuple, Tuple
 
+import numpy as np
+from numpy.typing import NDArray
+from scipy import sparse  # type: ignore[import]
+
+from polcert.arrays import Arrays, Floats, Matrix
 from polcert.command import say
-from polcert.files import MILLION, FileError, Model
-from polcert.values import Places, RowSums, Step, Steps, Values, each, largest
+from polcert.tokens import MILLION
+from polcert.values import ROUNDS, TOLERANCE
 
-Vectors = List[Values]
-# Takes a vector for each action; returns what each action earns at once, and after that with the best of these vectors, discounted.
-Backup = Callable[[Vectors], Vectors]
-
+# Takes a vector for each action (A by S); returns what each action earns at once, and after that with the best of these vectors.
+Backup = Callable[[Floats], Floats]
 # If more products of a transition's and an observation's probability are above 0, only the bound of a policy that sees the states is found.
 MOST_PRODUCTS = 5_000_000
 # So many products are added up at most to round values up. If that is not enough, a raise adds a few millionths.
-MOST_ROUNDING = 50_000_000
-TOLERANCE = 1e-7
-ROUNDS = 100_000
+MOST_ROUNDING = 5_000_000_000
 # What floating point may add to a value, in millionths.
 NOISE = 1e-6
 
 
-def refuse_discount_of_1(model: Model) -> None:
-    """Raises FileError if the discount is 1."""
-    if model.discount == 1:
-        why = "the discount is 1, so that no constant raises vectors to a bound: take a discount just below 1"
-        raise FileError(model.source, "", model.discount_token.begin, why)
+class Joint(NamedTuple):
+    """The transitions of an action by what is observed: a row for each start state and observation that can follow, with the probability of
+    the observation and each end state."""
+
+    rows: Matrix
+    # the first row of each start state
+    begins: NDArray[np.int64]
+
+    def sums(self, values: Floats) -> Floats:
+        """The sum of the values of the rows of each start state."""
+        return np.asarray(np.add.reduceat(values, self.begins))
 
 
-def best(rows: Sequence[Sequence[float]]) -> Values:
-    """The greatest number at each place of the rows."""
-    return list(map(max, rows[0], *rows))
+def joint(transitions: Matrix, observing: Matrix) -> Joint:
+    """The transitions of an action by what is observed."""
+    counts = np.diff(observing.indptr)[transitions.indices]
+    starts = np.repeat(np.repeat(np.arange(transitions.shape[0]), np.diff(transitions.indptr)), counts)
+    ends = np.repeat(transitions.indices, counts)
+    cells = np.repeat(observing.indptr[transitions.indices], counts) + np.arange(counts.sum()) - np.repeat(np.cumsum(counts) - counts, counts)
+    pairs, row = np.unique(starts * np.int64(observing.shape[1]) + observing.indices[cells], return_inverse=True)
+    weights = np.repeat(transitions.data, counts) * observing.data[cells]
+    rows = sparse.csr_matrix((weights, (row, ends)), shape=(len(pairs), transitions.shape[1]))
+    return Joint(rows, np.searchsorted(pairs, np.arange(transitions.shape[0]) * np.int64(observing.shape[1])))
 
 
-def by_state(steps: Sequence[Step], discount: float) -> Backup:
+def products(arrays: Arrays) -> int:
+    """How many products of a transition's and an observation's probability are above 0."""
+    return sum(int(np.diff(o.indptr)[t.indices].sum()) for t, o in zip(arrays.transitions, arrays.observing))
+
+
+def by_state(arrays: Arrays) -> Backup:
     """The backup of a policy that sees the end state."""
-    sums = [RowSums(step.moves) for step in steps]
 
-    def backup(vectors: Vectors) -> Vectors:
-        values = best(vectors)
-        return [[gain + discount * x for gain, x in zip(step.gain, rows.of(values))] for step, rows in zip(steps, sums)]
+    def backup(vectors: Floats) -> Floats:
+        best = vectors.max(axis=0)
+        return np.array([gain + arrays.discount * (t @ best) for gain, t in zip(arrays.rewards, arrays.transitions)])
 
     return backup
 
 
-class InformedStep:
-    """An action: what it earns in each state, and for each state and observation the end states, with the probability of both."""
-
-    def __init__(self, step: Step) -> None:
-        self.gain, self._seen = step.gain, step.seen
-        self._joint: List[Places] = []
-        spans = list(each(step.moves, self._add))
-        self._ends, self._observations = RowSums(self._joint), RowSums(spans)
-
-    def _add(self, moves: Places) -> Places:
-        """Adds a row for each observation that can follow a state, and returns the places of these rows, each with weight 1."""
-        ends_of: Dict[int, Dict[int, float]] = {}
-        for end, p in zip(*moves):
-            for z, q in zip(*self._seen[end]):
-                ends_of.setdefault(z, {})[end] = p * q
-        first = len(self._joint)
-        self._joint += [(tuple(ends), tuple(ends.values())) for ends in ends_of.values()]
-        return tuple(range(first, len(self._joint))), (1.0,) * len(ends_of)
-
-    def worth(self, vectors: Vectors, discount: float) -> Values:
-        after = self._observations.of(best([self._ends.of(vector) for vector in vectors]))
-        return [gain + discount * x for gain, x in zip(self.gain, after)]
-
-
-def informed(steps: Sequence[Step], discount: float) -> Backup:
+def informed(arrays: Arrays) -> Backup:
     """The backup of the fast informed bound: for each observation the vector that is best for all end states together."""
-    informed_steps = [InformedStep(step) for step in steps]
-    return lambda vectors: [step.worth(vectors, discount) for step in informed_steps]
+    joints = [joint(t, o) for t, o in zip(arrays.transitions, arrays.observing)]
+
+    def backup(vectors: Floats) -> Floats:
+        columns = np.ascontiguousarray(vectors.T)
+        later = [it.sums((it.rows @ columns).max(axis=1)) for it in joints]
+        return arrays.rewards + arrays.discount * np.array(later)
+
+    return backup
 
 
-def products(steps: Sequence[Step]) -> int:
-    """How many products of a transition's and an observation's probability are above 0."""
-    total = 0
-    for step in steps:
-        counts = [len(places) for places, _ in step.seen]
-        total += sum(counts[end] for places, _ in step.moves for end in places)
-    return total
-
-
-def settle(backup: Backup, vectors: Vectors, discount: float, tolerance: float, rounds: int) -> Tuple[Vectors, float]:
+def settle(backup: Backup, vectors: Floats, discount: float, tolerance: float, rounds: int) -> Tuple[Floats, float]:
     """Backs vectors up until no value is further above the limit than the tolerance (and than rounding allows). Returns them, and how far
     above it they may be.
 
     A constant is added in each round, so that no value of the next backup is greater: after any number of rounds they are a bound.
     """
-    factor, above = discount / (1 - discount), inf
+    factor, above = discount / (1 - discount), float("inf")
     for _ in range(rounds):
         new = backup(vectors)
-        moves = [x - y for values, before in zip(new, vectors) for x, y in zip(values, before)]
-        highest, lowest = max(moves), min(moves)
-        vectors = [[value + factor * highest for value in values] for values in new]
-        above = factor * (highest - lowest)
-        if above <= tolerance or highest - lowest <= 1e-14 * max(map(largest, vectors)):
+        moves = new - vectors
+        spread = float(moves.max() - moves.min())
+        vectors, above = new + factor * moves.max(), factor * spread
+        if above <= tolerance or spread <= 1e-14 * abs(vectors).max():
             break
     return vectors, above
 
 
-def rounded_up(backup: Backup, vectors: Vectors, rounds: int) -> Vectors:
+def rounded_up(backup: Backup, vectors: Floats, rounds: int) -> Floats:
     """The least vectors with six decimals, from the given ones rounded down on, of which no backup is greater, up to floating point."""
-    values = [[floor(value * MILLION) for value in vector] for vector in vectors]
+    values = np.floor(vectors * MILLION)
     for _ in range(rounds):
-        backups = backup([[value / MILLION for value in vector] for vector in values])
-        new = [[max(y, ceil(x * MILLION - NOISE)) for x, y in zip(xs, ys)] for xs, ys in zip(backups, values)]
-        if new == values:
+        new = np.maximum(values, np.ceil(backup(values / MILLION) * MILLION - NOISE))
+        if np.array_equal(new, values):
             break
         values = new
-    return [[value / MILLION for value in vector] for vector in values]
+    return np.asarray(values / MILLION)
 
 
-def bound(steps: Steps, tolerance: float, rounds: int) -> Tuple[Vectors, float]:
-    """The vectors of the bound, and how far above their limit they may be."""
-    actions, discount = [steps.of(action) for action in range(steps.model.actions.count)], steps.discount
-    backup = by_state(actions, discount)
-    vectors, above = settle(backup, [[0.0] * steps.states for _ in actions], discount, tolerance, rounds)
-    size = products(actions)
+def informed_bound(arrays: Arrays, tolerance: float = TOLERANCE, rounds: int = ROUNDS) -> Tuple[Floats, float]:
+    """The vectors of the bound (A by S), with six decimals, and how far above their limit they may be. The discount has to be below 1."""
+    backup, size = by_state(arrays), products(arrays)
+    vectors, above = settle(backup, np.zeros_like(arrays.rewards), arrays.discount, tolerance, rounds)
     if size <= MOST_PRODUCTS:
-        backup = informed(actions, discount)
-        vectors, above = settle(backup, vectors, discount, tolerance, rounds)
+        backup = informed(arrays)
+        vectors, above = settle(backup, vectors, arrays.discount, tolerance, rounds)
     else:
         say(f"{os.path.basename(sys.argv[0])}: {size:,} products of T and O are too many: this bounds policies that see the states, too")
-    return rounded_up(backup, vectors, max(1, min(rounds, MOST_ROUNDING // (size * len(actions))))), above
+    return rounded_up(backup, vectors, max(1, min(rounds, MOST_ROUNDING // (size * len(vectors))))), above
+
+
+def observations_that_can_come(arrays: Arrays) -> List[NDArray[np.int64]]:
+    """For each action the observations that can come from any state, in order."""
+    found = []
+    for transitions, observing in zip(arrays.transitions, arrays.observing):
+        ends = np.unique(transitions.indices[transitions.data > 0])
+        found.append(np.unique(observing[ends].indices).astype(np.int64))
+    return found

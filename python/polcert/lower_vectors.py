@@ -4,7 +4,7 @@ Each vector has an action and, for each observation, the vector that follows. A 
 the other takes its place wherever it follows, so that no vector gets worse. So the vectors are at all times the nodes of a policy graph
 that is worth at least what they say.
 """
-from typing import Callable, Iterable, List, NamedTuple, Optional
+from typing import Callable, List, Optional
 
 import numpy as np
 
@@ -24,14 +24,6 @@ DROPPED_PART = 0.25
 
 # Tells whether the time is over.
 IsOver = Callable[[], bool]
-
-
-class Backup(NamedTuple):
-    """What an action is worth at a belief by the lower bound, and the step there."""
-
-    worth: float
-    action: int
-    step: BeliefStep
 
 
 class LowerVectors:
@@ -66,6 +58,8 @@ class LowerVectors:
     def look(self, batch: Batch) -> None:
         """Looks whether vectors that these beliefs have not seen are worth more there."""
         first = 0
+        if batch.rises == self.rises and batch.seen_vectors == len(self._actions):
+            return
         if batch.rises != self.rises:
             batch.low = np.full(len(batch.low), -np.inf)
         else:
@@ -84,35 +78,30 @@ class LowerVectors:
         self.look(node.own)
         return float(node.own.low[0])
 
-    def best_backup(self, node: BeliefNode, actions: Iterable[int]) -> Backup:
-        """The action of these that is worth most at a belief."""
-        found = []
-        for action in actions:
-            step = self.nodes.step(node, action)
-            self.look(step.batch)
-            found.append(Backup(step.gain + self.arrays.discount * float(step.batch.low.sum()), action, step))
-        return max(found, key=lambda it: it.worth)
-
     # Vectors that are added
 
-    def back_up(self, node: BeliefNode, actions: Iterable[int]) -> bool:
-        """Adds the vector of the best of these actions at a belief, if it is worth more there than all vectors so far."""
-        least, best = self.value(node), self.best_backup(node, actions)
-        if best.worth <= least + LEAST_MOVE * (1 + abs(least)):
+    def back_up(self, node: BeliefNode) -> bool:
+        """Adds the vector of the best action at a belief, if it is worth more there than all vectors so far."""
+        least, step = self.value(node), self.nodes.step(node)
+        self.look(step.batch)
+        worths = step.gains + self.arrays.discount * step.sums(step.batch.low)
+        action = int(worths.argmax())
+        if worths[action] <= least + LEAST_MOVE * (1 + abs(least)):
             return False
-        successors = self._successors_at(best)
-        self._add(node, best.action, successors, self._vector(best.action, successors))
+        successors = self._successors_at(step, action)
+        self._add(node, action, successors, self._vector(action, successors))
         return True
 
-    def _successors_at(self, backup: Backup) -> Integers:
+    def _successors_at(self, step: BeliefStep, action: int) -> Integers:
         """The vector after each observation: the best one at the belief there, or if that can't come at this belief, the best one if all
         states were equally likely before."""
-        anywhere = self.nodes.anywhere(backup.action)
-        successors = np.full(self.arrays.observing[0].shape[1], -1)
-        if len(backup.step.observations) < len(anywhere.observations):
+        successors, columns = np.full(self.arrays.observing[0].shape[1], -1), step.columns(action)
+        if columns.stop - columns.start < len(self.nodes.possible(action)):
+            anywhere = self.nodes.anywhere()
             self.look(anywhere.batch)
-            successors[anywhere.observations] = anywhere.batch.vector
-        successors[backup.step.observations] = backup.step.batch.vector
+            others = anywhere.columns(action)
+            successors[anywhere.observations[others]] = anywhere.batch.vector[others]
+        successors[step.observations[columns]] = step.batch.vector[columns]
         return np.array([number if number < 0 else self.heir(number) for number in successors.tolist()])
 
     def _vector(self, action: int, successors: Integers) -> Floats:
@@ -214,12 +203,13 @@ class LowerVectors:
         successors = graph.successors.copy()
         for column, (witness, action) in enumerate(zip(witnesses, graph.actions.tolist())):
             if self._numbers[column] >= self.nodes.actions:  # (blind policies stay)
-                step = self.nodes.step(witness, action)
-                worths = step.batch.weights.T @ values[step.batch.states]
-                rows = np.arange(len(worths))
-                best, old = worths.argmax(axis=1), successors[column, step.observations]
+                step = self.nodes.step(witness)
+                some = step.columns(action)
+                worths = step.batch.weights[:, some].T @ values[step.batch.states]
+                rows, seen = np.arange(len(worths)), step.observations[some]
+                best, old = worths.argmax(axis=1), successors[column, seen]
                 more = worths[rows, best] > worths[rows, old] + LEAST_MOVE
-                successors[column, step.observations] = np.where(more, best, old)
+                successors[column, seen] = np.where(more, best, old)
             if is_over():
                 return None
         return successors

@@ -1,7 +1,7 @@
 """The inequality of the fast informed bound in exact fractions, over the cells of a model. Nothing here comes from values."""
 from fractions import Fraction
 from math import ceil
-from typing import Dict, List, NamedTuple, Sequence, Tuple
+from typing import Dict, List, NamedTuple, Sequence, Tuple, Union
 
 from models import Cell, Cells, Entries
 from polcert.files import Model
@@ -29,7 +29,7 @@ class Exact(NamedTuple):
             seen.setdefault((action, end), []).append((z, q))
         return seen
 
-    def backups(self, vectors: Sequence[Millionths]) -> Dict[Tuple[int, int], Fraction]:
+    def backups(self, vectors: Sequence[Sequence[Union[int, Fraction]]]) -> Dict[Tuple[int, int], Fraction]:
         """For each action and state, in millionths, what the action earns if the best vector follows each observation."""
         seen = self.seen()
         earned = {(action, state): Fraction(0) for action in range(self.actions) for state in range(self.states)}

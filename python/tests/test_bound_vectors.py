@@ -5,14 +5,17 @@ from math import ceil, floor
 from typing import Dict, List, Sequence, Tuple
 from unittest.mock import patch
 
-from support import EXAMPLES, NAMES, FolderTest, Said, needs_program, polcert, run_script
+from support import EXAMPLES, HAS_NUMPY, NAMES, FolderTest, Said, needs_numpy, needs_program, polcert, run_script
 from informed import Exact, Millionths, exact_entries, exact_model, raised
 from models import random_model, tag
-from polcert import informed as script
 from polcert.command import read_source
 from polcert.files import MILLION, Model, Source, read_model, read_vectors
 from polcert.tokens import decimal
-from polcert.values import Steps
+
+if HAS_NUMPY:
+    import numpy as np
+    from polcert import informed as script
+    from polcert.arrays import arrays_of
 
 ONE_STATE = b"discount: 0.5 values: %s states: 1 actions: 2 observations: 1 T: * identity O: * uniform R: 0:*:*:* 1 R: 1:*:*:* 3"
 
@@ -52,6 +55,7 @@ class BoundVectors(FolderTest):
         return self.certified(exact_model(model), millionths(said.out, model))
 
 
+@needs_numpy
 class Values(BoundVectors):
     def near(self, found: Sequence[int], limits: Sequence[float], within: int) -> None:
         """Each value is its limit, or as many millionths above it."""
@@ -102,6 +106,7 @@ class Values(BoundVectors):
             self.assertTrue(all(lower[a, s] <= vectors[a][s] <= lower[a, s] + 25 for a, s in lower), seed)
 
 
+@needs_numpy
 class Limits(BoundVectors):
     def test_few_rounds_give_a_bound_that_is_less_sharp(self) -> None:
         machine = str(EXAMPLES / "machine.POMDP")
@@ -115,13 +120,12 @@ class Limits(BoundVectors):
         self.assertGreater(found[0], found[-1])
 
     def test_each_round_leaves_a_bound_and_says_how_far_above_it_is(self) -> None:
-        steps = Steps(read_model(read_source(str(EXAMPLES / "machine.POMDP"))))
-        backup = script.by_state([steps.of(action) for action in range(3)], 0.95)
+        backup = script.by_state(arrays_of(read_model(read_source(str(EXAMPLES / "machine.POMDP")))))
         for rounds in range(1, 9):
-            vectors, above = script.settle(backup, [[0.0, 0.0]] * 3, 0.95, 1e-9, rounds)
-            values, backups = script.best(vectors), script.best(backup(vectors))
+            vectors, above = script.settle(backup, np.zeros((3, 2)), 0.95, 1e-9, rounds)
+            values, backups = vectors.max(axis=0), backup(vectors).max(axis=0)
             self.assertTrue(all(x <= y + 1e-9 for x, y in zip(backups, values)), rounds)
-            limits = script.best(script.settle(backup, vectors, 0.95, 1e-9, 1000)[0])
+            limits = script.settle(backup, vectors, 0.95, 1e-9, 1000)[0].max(axis=0)
             self.assertTrue(all(-1e-9 <= x - y <= above + 1e-9 for x, y in zip(values, limits)), rounds)
 
     def test_the_tolerance(self) -> None:
@@ -135,7 +139,7 @@ class Limits(BoundVectors):
         # the worth of the machine for who sees its state is 16.07306 by the study, rounded as above
         model = read_model(read_source(str(EXAMPLES / "machine.POMDP")))
         with patch.object(script, "MOST_PRODUCTS", 13), patch.object(script, "say") as say:
-            vectors, above = script.bound(Steps(model), 1e-7, 1000)
+            vectors, above = script.informed_bound(arrays_of(model), 1e-7, 1000)
         self.assertIn("14 products of T and O are too many", say.call_args[0][0])
         self.assertLessEqual(above, 1e-7)
         found = self.certified(exact_model(model), [[round(value * MILLION) for value in values] for values in vectors])
@@ -146,7 +150,7 @@ class Limits(BoundVectors):
         exact, most = exact_model(model), script.MOST_ROUNDING
         found = []
         for script.MOST_ROUNDING in (0, most):
-            vectors = [[round(value * MILLION) for value in values] for values in script.bound(Steps(model), 1e-7, 1000)[0]]
+            vectors = [[round(value * MILLION) for value in values] for values in script.informed_bound(arrays_of(model), 1e-7, 1000)[0]]
             found.append((exact.constant(vectors), self.certified(exact, vectors)))
         self.assertEqual(found[1][0], 0)
         self.assertGreater(found[0][0], 0)
@@ -181,6 +185,7 @@ class Limits(BoundVectors):
         self.assertEqual((self.folder / "out").read_bytes(), self.run_on(tiger).out)
 
 
+@needs_numpy
 @needs_program
 class EachChoice(BoundVectors):
     """polcert's check from above of the graph with a node for each action and each choice of an action after each observation."""

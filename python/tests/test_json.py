@@ -128,8 +128,9 @@ class Results(JsonTest):
     def test_solvers(self) -> None:
         out = str(self.folder / "out")
         found = self.result("polcert-solve", TIGER, "-q", "-o", out, "--seconds", "30")
-        self.assertEqual(found["files"], [f"{out}.pg", f"{out}.alpha", f"{out}.bound.alpha"])
+        self.assertEqual(found["files"], [f"{out}.{ending}" for ending in ("pg", "alpha", "bound.alpha", "bound.points")])
         self.assertAlmostEqual(float(found["worth"]), 19.3713, delta=0.001)
+        self.assertAlmostEqual(float(found["every_policy"]["at_most"]), 19.3713, delta=0.001)
         found = self.result("polcert-points", TIGER, "-q", "-o", out, "--seconds", "30")
         self.assertAlmostEqual(float(found["every_policy"]["at_most"]), 19.3713, delta=0.001)
         self.assertAlmostEqual(found["uncertified_lower_bound"], 19.3713, delta=0.001)

@@ -13,20 +13,20 @@ from unittest.mock import patch
 from models import random_model
 from support import EXAMPLES, HAS_NUMPY, SCRIPTS, FolderTest, Said, needs_numpy, run_script
 from test_outputs import NO_FILES, OutputTest, disk
-import polcert.certificate
-from polcert.certificate import certified_points, informed_vectors, passing
 from polcert.command import read_source
-from polcert.files import MILLION, FileError, Graph, Model, Source, read_model, read_vectors
-from polcert.informed import bound
+from polcert.files import MILLION, FileError, Model, Source, read_model, read_vectors
 from polcert.points import (
     Excess, PointCheck, Points, WholeCells, check_points, check_vectors, least_raise, most_from_points, points_text, read_points,
 )
-from polcert.search import Limits, Search
-from polcert.values import Steps
 
 if HAS_NUMPY:
+    import numpy as np
+    import polcert.certificate
     from polcert.arrays import arrays_of
-    from polcert.evaluation import array_graph, evaluate
+    from polcert.certificate import certified_points, informed_vectors, passing
+    from polcert.evaluation import evaluate
+    from polcert.informed import informed_bound
+    from polcert.solver import Limits, Solver
 
 TIGER = str(EXAMPLES / "tiger.POMDP")
 TIGER_VECTORS = [[87_179_494, 87_179_494], [-17_179_480, 92_820_520], [92_820_520, -17_179_480]]
@@ -266,17 +266,18 @@ def most_earned(model: Model, belief: Fractions, steps: int) -> List[Fraction]:
     return found
 
 
-def certified(model: Model, trials: int) -> Tuple[WholeCells, List[List[int]], Points, Search]:
+def certified(model: Model, trials: int) -> Tuple[WholeCells, List[List[int]], Points, "Solver"]:
     """A certificate from a few trials, which has passed its checks."""
-    cells, steps = WholeCells(model), Steps(model)
-    vectors = informed_vectors(cells, bound(steps, 1e-7, 100_000)[0])
-    search = Search(steps, [[value / MILLION for value in vector] for vector in vectors])
-    search.run(Limits(20.0, 1000, 1e-7), lambda: search.trials >= trials, lambda it: None)
-    points = certified_points(search, cells, vectors, lambda: False)
+    cells, arrays = WholeCells(model), arrays_of(model)
+    vectors = informed_vectors(cells, informed_bound(arrays)[0])
+    solver = Solver(arrays, np.array(vectors) / MILLION)
+    solver.run(Limits(20.0, 1e-7, 1000), lambda: solver.trials >= trials, lambda it: None)
+    points = certified_points(solver, cells, vectors, lambda: False)
     assert check_vectors(cells, vectors) is None and check_points(cells, vectors, points) is None
-    return cells, vectors, points, search
+    return cells, vectors, points, solver
 
 
+@needs_numpy
 class EveryPolicy(FolderTest):
     """Rewards of policies of three steps, in exact fractions, are at most what the definition of the bound says."""
 
@@ -311,18 +312,18 @@ class EveryPolicy(FolderTest):
 
     def test_the_best_policy_at_every_point(self) -> None:
         for model in self.models(3, 3, 20):
-            cells, vectors, points, search = certified(model, 12)
+            cells, vectors, points, solver = certified(model, 12)
             most = most_from_points(cells, vectors, points)
             for belief, bounds in self.beliefs(model, vectors, points, most):
                 self.assertTrue(all(earned <= bound for earned, bound in zip(most_earned(model, belief, 3), bounds)))
-            self.assertLessEqual(search.low, most / MILLION + 1e-9)
+            self.assertLessEqual(solver.low, most / MILLION + 1e-9)
 
     def test_a_bound_that_is_lowered_is_none(self) -> None:
         # (so that the comparison above can fail: what is certified is near what is earned)
         tried = 0
         for model in self.models(2, 2, 8):
-            cells, vectors, points, search = certified(model, 60)
-            self.assertLess(most_from_points(cells, vectors, points) / MILLION - search.low, 1e-2)
+            cells, vectors, points, solver = certified(model, 60)
+            self.assertLess(most_from_points(cells, vectors, points) / MILLION - solver.low, 1e-2)
             if points.beliefs:
                 lowered = [[value - 100 for value in values] for values in points.values]
                 self.assertIsNotNone(check_points(cells, vectors, Points(points.beliefs, lowered, points.following)))
@@ -330,6 +331,7 @@ class EveryPolicy(FolderTest):
         self.assertGreater(tried, 2)
 
 
+@needs_numpy
 class Certificates(FolderTest):
     def test_values_that_are_too_low_are_raised_until_they_pass(self) -> None:
         cells = WholeCells(read_model(read_source(TIGER)))
@@ -350,17 +352,14 @@ class Certificates(FolderTest):
         self.assertLessEqual(len(points.beliefs), 5)
         self.assertLess(most_from_points(cells, vectors, points), 14_688_885)
 
-    @needs_numpy
     def test_lower_vectors_are_backed_by_their_successors(self) -> None:
         for name in ("tiger", "machine"):
-            search = certified(read_model(read_source(str(EXAMPLES / f"{name}.POMDP"))), 25)[3]
-            vectors, observations = search.lower.vectors, range(search.lower.steps.observations)
-            rows: List[List[Optional[int]]] = [[vector.successors.get(z, vector.otherwise) for z in observations] for vector in vectors]
-            worth = evaluate(arrays_of(search.lower.steps.model), array_graph(Graph([vector.action for vector in vectors], rows))).tolist()
-            for vector, values in zip(vectors, worth):
-                self.assertTrue(all(x <= y + 1e-7 for x, y in zip(vector.values, values)))
+            lower = certified(read_model(read_source(str(EXAMPLES / f"{name}.POMDP"))), 25)[3].lower
+            worth = evaluate(lower.arrays, lower.graph())
+            self.assertTrue((lower.values().T <= worth + 1e-7).all())
 
 
+@needs_numpy
 class Writes(OutputTest):
     def points(self, model: str, *words: str) -> Tuple[Said, WholeCells, List[List[int]], Points]:
         """Runs the script, and reads and checks what it writes."""

@@ -16,18 +16,16 @@ from informed import Exact, exact_model
 from test_outputs import OutputTest, disk
 from polcert.command import read_source
 from polcert.files import MILLION, Graph, Model, Source, read_graph, read_model, read_vectors
-from polcert.informed import bound
-from polcert.points import WholeCells, check_vectors
-from polcert.values import Steps
+from polcert.points import WholeCells, check_points, check_vectors, read_points
 
 if HAS_NUMPY:
     import numpy as np
     from polcert.arrays import arrays_of
-    from polcert.belief_nodes import Batch, BeliefNode
-    from polcert.fast_informed import informed_bound
+    from polcert.belief_nodes import Batch, BeliefNode, BeliefNodes
+    from polcert.informed import informed_bound
     from polcert import evaluation
     from polcert.sawtooth import Sawtooth
-    from polcert.solutions import Solution, solve
+    from polcert.solutions import Bound, Solution, solve
     from polcert.solver import Limits
 
 TIGER, MACHINE = str(EXAMPLES / "tiger.POMDP"), str(EXAMPLES / "machine.POMDP")
@@ -95,6 +93,15 @@ def shortfall(model: Model, graph: Graph, values: List[List[Fraction]]) -> Fract
     return most
 
 
+def informed_vectors(exact: Exact) -> List[List[float]]:
+    """What 600 backups make of zeros, in fractions that are rounded to billionths."""
+    vectors = [[Fraction(0)] * exact.states for _ in range(exact.actions)]
+    for _ in range(600):
+        found = exact.backups(vectors)
+        vectors = [[Fraction(round(found[action, state] * 1000), 1000) for state in range(exact.states)] for action in range(exact.actions)]
+    return [[float(value / MILLION) for value in vector] for vector in vectors]
+
+
 def dense_values(exact: Exact, graph: Graph) -> "np.ndarray[Any, np.dtype[np.float64]]":
     """What each node of a graph is worth in each state: the solution of the linear equations."""
     pairs = list(product(range(len(graph.actions)), range(exact.states)))
@@ -110,31 +117,43 @@ def dense_values(exact: Exact, graph: Graph) -> "np.ndarray[Any, np.dtype[np.flo
     return np.linalg.solve(matrix, rewards).reshape(len(graph.actions), exact.states)
 
 
-def solved(model: Model, seconds: float = 60, gap: float = 1e-7) -> "Solution":
-    return solve(model, Limits(seconds, gap), lambda: False, lambda _: None)
+class Found(NamedTuple):
+    """What a solver finds, with the bound on every policy."""
+
+    solution: "Solution"
+    bound: "Bound"
+    most: float
+
+
+def solved(model: Model, seconds: float = 60, gap: float = 1e-7) -> Found:
+    cells = WholeCells(model)
+    solution, bound = solve(cells, Limits(seconds, gap), lambda: False, lambda _: None)
+    return Found(solution, bound, bound.most(cells) / MILLION)
 
 
 @needs_numpy
 class Values(unittest.TestCase):
-    def certified(self, model: Model, found: "Solution") -> None:
+    def certified(self, model: Model, solved: Found) -> None:
         """What is found passes both checks, exact ones of this file and of the points."""
+        found, bound, most = solved
         values = [[Fraction(round(value * MILLION), MILLION) for value in node] for node in found.values.tolist()]
         self.assertLessEqual(shortfall(model, found.graph, values), Fraction(1, 10**9))
         weights = model.start_weights()
         worths = [sum(weight * node[state] for state, weight in weights.items()) for node in values]
         self.assertEqual(found.low, floor(max(worths) * MILLION / sum(weights.values())))
-        excess = check_vectors(WholeCells(model), [[round(value * MILLION) for value in vector] for vector in found.vectors.tolist()])
-        self.assertTrue(excess is None or excess.amount <= WholeCells(model).step_scale / 1000, excess)
-        self.assertLessEqual(found.low / MILLION, found.high + 1e-6)
+        self.assertIsNone(check_vectors(WholeCells(model), bound.vectors))
+        self.assertIsNone(check_points(WholeCells(model), bound.vectors, bound.points))
+        self.assertLessEqual(found.low / MILLION, most)
 
     def test_the_tiger(self) -> None:
         # Cassandra, Kaelbling and Littman 1994 have 19.37 for discount 0.95
         model = read_model(read_source(TIGER))
         found = solved(model)
         self.certified(model, found)
-        self.assertEqual((floor(found.low / 10_000), floor(found.high * 100)), (1937, 1937))
-        self.assertLess(found.high - found.low / MILLION, 0.00002)
-        self.assertEqual(len(found.graph.actions), 5)
+        low = found.solution.low / MILLION
+        self.assertEqual((floor(low * 100), floor(found.most * 100)), (1937, 1937))
+        self.assertLess(found.most - low, 0.00003)
+        self.assertEqual(len(found.solution.graph.actions), 5)
 
     def test_beliefs_that_are_followed(self) -> None:
         random_, steps = random.Random(7), 7
@@ -147,8 +166,8 @@ class Values(unittest.TestCase):
             model, tables = read_model(Source("M", entries.text())), dense(entries, 0.2)
             found, near, late = solved(model), best_of_steps(tables, tables.start, steps), 7 / 0.8 * 0.2**steps
             self.certified(model, found)
-            self.assertAlmostEqual(found.low / MILLION, near, delta=late + 3e-6, msg=entries.text().decode())
-            self.assertAlmostEqual(found.high, near, delta=late + 3e-6)
+            self.assertAlmostEqual(found.solution.low / MILLION, near, delta=late + 3e-6, msg=entries.text().decode())
+            self.assertAlmostEqual(found.most, near, delta=late + 3e-6)
 
     def test_mdps_whose_policies_are_enumerated(self) -> None:
         random_ = random.Random(8)
@@ -161,9 +180,9 @@ class Values(unittest.TestCase):
             found = solved(model)
             self.certified(model, found)
             most = best_of_mdp(tables)
-            self.assertLessEqual(most, found.high + 1e-9)
-            self.assertLess(found.high, most + 2e-5)
-            self.assertLess(found.low / MILLION, most + 1e-9)
+            self.assertLessEqual(most, found.most + 1e-9)
+            self.assertLess(found.most, most + 2e-5)
+            self.assertLess(found.solution.low / MILLION, most + 1e-9)
 
     def test_random_models_are_certified(self) -> None:
         random_, count = random.Random(9), 0
@@ -180,20 +199,20 @@ class Values(unittest.TestCase):
         model = read_model(Source("M", (text + " R: 0 : 0 : * : * 1 R: 1 : 1 : * : * 1").encode()))
         found = solved(model)
         self.certified(model, found)
-        for action, row in zip(found.graph.actions, found.graph.successors):
+        for action, row in zip(found.solution.graph.actions, found.solution.graph.successors):
             self.assertEqual([z for z, node in enumerate(row) if node is not None], [1 - action])
 
 
 @needs_numpy
 class Parts(unittest.TestCase):
-    """What is computed in numpy, against the same in Python."""
+    """What is computed in numpy, against fractions and by hand."""
 
     def test_informed_vectors(self) -> None:
         for name in NAMES:
             if name != "robot":
                 model = read_model(read_source(str(EXAMPLES / f"{name}.POMDP")))
-                right, _ = bound(Steps(model), 1e-7, 100_000)
-                self.assertLess(abs(informed_bound(arrays_of(model)) - right).max(), 1e-5, name)
+                right = informed_vectors(exact_model(model))
+                self.assertLess(abs(informed_bound(arrays_of(model))[0] - right).max(), 1e-5, name)
 
     def test_values_of_graphs(self) -> None:
         for name in ("tiger", "machine"):
@@ -203,6 +222,26 @@ class Parts(unittest.TestCase):
             right = dense_values(exact_model(model), graph)
             for begin in (None, np.full((len(right), model.states.count), 100.0)):
                 self.assertLess(abs(evaluation.evaluate(arrays, found_graph, begin) - right).max(), 1e-8)
+
+    def test_what_follows_a_belief(self) -> None:
+        for name in ("tiger", "machine"):
+            model = read_model(read_source(str(EXAMPLES / f"{name}.POMDP")))
+            exact, nodes, shares = exact_model(model), BeliefNodes(arrays_of(model)), (0.25, 0.75)
+            step = nodes.step(BeliefNode(np.arange(2), np.array(shares)))
+            for action in range(exact.actions):
+                some = step.columns(action)
+                found = np.zeros((exact.states, model.observations.count))
+                found[np.ix_(step.batch.states, step.observations[some])] = step.batch.weights[:, some]
+                for end, z in product(range(exact.states), range(model.observations.count)):
+                    arrived = sum(share * float(exact.t.get((action, state, end), 0)) for state, share in enumerate(shares))
+                    self.assertAlmostEqual(found[end, z], arrived * float(exact.o.get((action, end, z), 0)), delta=1e-12)
+
+    def test_corners_that_fall_by_little_are_charged_later(self) -> None:
+        upper, node = Sawtooth(np.array([[2.0, 1.0]])), BeliefNode(np.array([0]), np.ones(1))
+        for value, least, right in ((1.9, 0.2, 2.0), (1.7, 0.2, 1.7), (1.6, 0.2, 1.7), (1.6, 0.0, 1.6)):
+            upper.lower(node, np.array([value]))
+            upper.lower_corners(least)
+            self.assertEqual(upper.charges.tolist(), [[right, 1.0]])
 
     def test_the_sawtooth(self) -> None:
         random_ = random.Random(10)
@@ -216,7 +255,8 @@ class Parts(unittest.TestCase):
                 node, value = BeliefNode(states, weights / weights.sum()), random_.uniform(0, 1.5)
                 before = self.by_hand(upper, points, node)
                 self.assertAlmostEqual(upper.value(node), before, delta=1e-12)
-                upper.lower(node, value)
+                upper.lower(node, np.array([value]))
+                upper.lower_corners()
                 if len(states) > 1 and value < before:
                     points.append((node, value))
                 self.assertAlmostEqual(upper.value(node), min(before, value), delta=1e-12)
@@ -225,11 +265,11 @@ class Parts(unittest.TestCase):
         """The least value by a point and the corners."""
         at = np.zeros(4)
         at[node.own.states] = node.own.weights[:, 0]
-        least = plain = float(at @ upper.corners)
+        least = plain = float(at @ upper.charges[0])
         for point, value in points:
             weights = point.own.weights[:, 0]
             times = min(at[point.own.states] / weights)
-            least = min(least, plain + times * (value - float(weights @ upper.corners[point.own.states])))
+            least = min(least, plain + times * (value - float(weights @ upper.charges[0, point.own.states])))
         return least
 
     def test_points_that_others_make_needless(self) -> None:
@@ -238,7 +278,7 @@ class Parts(unittest.TestCase):
         for number in range(1500):
             weights = np.array([random_.random() + 0.01 for _ in range(3)])
             node = BeliefNode(np.arange(3), weights / weights.sum())
-            upper.lower(node, 1 - number / 1500 * float(node.own.weights.min()))
+            upper.lower(node, np.array([1 - number / 1500 * float(node.own.weights.min())]))
             seen.append((node, upper.value(node)))
         self.assertLess(upper.count, 1001)
         for node, value in seen:
@@ -262,13 +302,15 @@ class Written(OutputTest):
         values = [vector.values for vector in read_vectors(read_source(f"{name}.alpha"), read, graph)]
         self.assertLessEqual(shortfall(read, graph, values), Fraction(1, 10**9))
         vectors = [[int(value * MILLION) for value in vector.values] for vector in read_vectors(read_source(f"{name}.bound.alpha"), read)]
-        self.assertIsNone(check_vectors(WholeCells(read), vectors))
+        cells = WholeCells(read)
+        self.assertIsNone(check_vectors(cells, vectors))
+        self.assertIsNone(check_points(cells, vectors, read_points(read_source(f"{name}.bound.points"), cells)))
         return max(sum((weight * node[state] for state, weight in read.start_weights().items()), Fraction(0)) for node in values)
 
     def test_the_last_line(self) -> None:
         said = self.solve(TIGER)
         name = re.escape(str(self.folder / "m"))
-        bounds = r"worth 19\.3713\d+ from the start; every policy at most 19\.3713\d+ \(gap 0\.0000\d %\)"
+        bounds = r"worth 19\.3713\d+ from the start; every policy at most 19\.3713\d+ \(gap 0\.000\d\d %\)"
         self.assertRegex(said.out.decode(), rf"\A{name}\.pg: 5 nodes, {bounds}\n\Z")
         self.assertRegex(said.err, r"\Apolcert-solve: [0-9]+ s, 3 vectors, 0 points: from -20\.000000 to 87\.179494, gap 535\.9 %\n")
         self.assertEqual(self.solve(TIGER, "-q").err, "")
@@ -308,7 +350,7 @@ class Written(OutputTest):
         for name, reason in (("none/m", "none/m.pg: No such file or directory"), ("folder", "folder.alpha: Is a directory")):
             self.refused(self.run_with(["polcert-solve", TIGER, "-o", str(self.folder / name)]), reason, 3)
         (self.folder / "folder.alpha").rmdir()
-        for ending in ("pg", "alpha", "bound.alpha"):
+        for ending in ("pg", "alpha", "bound.alpha", "bound.points"):
             model = self.file(f"m.{ending}", (EXAMPLES / "tiger.POMDP").read_bytes())
             self.refused(self.run_with(["polcert-solve", model, "-o", str(self.folder / "m")]), "the file is also read")
             (self.folder / f"m.{ending}").unlink()

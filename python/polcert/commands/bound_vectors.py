@@ -6,15 +6,16 @@
 
 The bound is the fast informed bound: what the action earns at once and, for each observation, the discounted worth of the action that is
 best for all end states together. If T and O have more than 5,000,000 products above 0, it is the bound of a policy that sees the states,
-which is less sharp. It is computed in floating point and rounded up to six decimals. So some values may be a little too low: raise them.
+which is less sharp. It is computed in floating point, with numpy and scipy, and rounded up to six decimals. So some values may be a little
+too low: raise them.
 """
 import argparse
 from math import inf
 
 from polcert.command import Parser, read_source, refuse_overwriting, say, write
 from polcert.files import read_model
-from polcert.informed import ROUNDS, TOLERANCE, bound, refuse_discount_of_1
-from polcert.values import Steps, vectors_text
+from polcert.needs import needs_numpy
+from polcert.values import ROUNDS, TOLERANCE, refuse_discount_of_1, vectors_text
 
 
 def positive(word: str) -> float:
@@ -48,8 +49,11 @@ def main() -> int:
     refuse_overwriting([words.model], [words.output])
     model = read_model(read_source(words.model))
     refuse_discount_of_1(model)
-    vectors, above = bound(Steps(model), words.tolerance, words.rounds)
-    write(vectors_text(range(len(vectors)), vectors), words.output)
+    with needs_numpy():
+        from polcert.arrays import arrays_of
+        from polcert.informed import informed_bound
+    vectors, above = informed_bound(arrays_of(model), words.tolerance, words.rounds)
+    write(vectors_text(range(len(vectors)), vectors.tolist()), words.output)
     if above > words.tolerance:
         say(f"polcert-bound-vectors: stopped early, so that values may be {above:.6f} higher than they have to be")
     return 0

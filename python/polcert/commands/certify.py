@@ -13,46 +13,23 @@ exit status is 0 if a lower bound is certified, and 1 if there is none. An inter
 """
 import argparse
 import os
-from typing import Dict, NamedTuple, Optional
+from typing import Dict
 
 from polcert.certification import Certifier, Step, Uncertified
 from polcert.certification_report import json_of, markdown_of
 from polcert.command import Parser, Refusal, read_source, refuse_overwriting, say, show, write_files
 from polcert.commands.mend import amount as probability
-from polcert.commands.points import amount, in_floats, search_points
+from polcert.commands.points import amount
 from polcert.commands.report import Program
-from polcert.controllers import given_controller, solved_controller
-from polcert.files import Model
-from polcert.informed import ROUNDS, TOLERANCE, bound, refuse_discount_of_1
+from polcert.controllers import BoundTexts, Search, bound_for, given_controller, solved_controller
 from polcert.needs import needs_numpy
-from polcert.points import MOST_POINTS, WholeCells, points_text
+from polcert.points import WholeCells
 from polcert.programs import ProgramError
 from polcert.signals import Interrupt
-from polcert.values import Steps, vectors_text
+from polcert.values import refuse_discount_of_1
 
 SECONDS, PERCENT = 30.0, 0.00001
-# The part of the time for the controller; the rest is for points.
-SOLVING_PART = 0.5
 ENDINGS = ("POMDP", "pg", "alpha", "lowered.alpha", "raised.alpha", "bound.alpha", "bound.points", "report.md", "report.json")
-
-
-class Bound(NamedTuple):
-    """Vectors and, if they are sharper, points that bound every policy, as texts."""
-
-    vectors: bytes
-    points: Optional[bytes]
-
-
-def bound_of(model: Model, seconds: float, is_quiet: bool) -> Bound:
-    """The vectors of an MDP, which are sharp; else vectors and belief points that are searched so long."""
-    steps = Steps(model)
-    if model.is_mdp:
-        vectors = bound(steps, TOLERANCE, ROUNDS)[0]
-        return Bound(vectors_text(range(len(vectors)), vectors), None)
-    cells = WholeCells(model)
-    limits = argparse.Namespace(seconds=seconds, points=MOST_POINTS, gap=PERCENT, quiet=is_quiet)
-    found = search_points(cells, steps, limits)
-    return Bound(vectors_text(range(cells.actions), in_floats(found.vectors)), points_text(cells, found.points))
 
 
 class Work:
@@ -72,30 +49,31 @@ class Work:
         model = self.certifier.read_model(self.given[0])
         refuse_discount_of_1(model)
         try:
-            self.certify_controller(model)
+            bound = self.certify_controller(WholeCells(model))
         except Uncertified as fault:
             say(f"polcert-certify: no lower bound: {fault}")
             return False
         try:
-            self.certify_bound(model)
+            self.certifier.certify_bound(model.source.text, bound.vectors, bound.points)
         except Uncertified as fault:
             say(f"polcert-certify: no bound on every policy: {fault}")
         return True
 
-    def certify_controller(self, model: Model) -> None:
-        words = self.words
+    def certify_controller(self, cells: WholeCells) -> BoundTexts:
+        """Certifies the controller, and returns a bound on every policy."""
+        words, model = self.words, cells.model
+        search = Search(words.seconds, words.gap / 100, lambda: self.interrupt.is_there, words.quiet)
         if words.policy is None:
-            seconds = SOLVING_PART * words.seconds
-            controller = solved_controller(model, seconds, words.gap / 100, lambda: self.interrupt.is_there, words.quiet)
+            controller, bound = solved_controller(cells, search)
             self.certifier.done("solve", controller.line)
+            self.certifier.certify(model.source.text, controller)
         else:
             controller = given_controller(self.given[1], model, words.quiet)
             self.certifier.done("graph", controller.line)
-        self.certifier.certify(model.source.text, controller)
-
-    def certify_bound(self, model: Model) -> None:
-        found = bound_of(model, (1 - SOLVING_PART) * self.words.seconds, self.words.quiet)
-        self.certifier.certify_bound(model.source.text, found.vectors, found.points)
+            self.certifier.certify(model.source.text, controller)
+            bound = bound_for(cells, search)
+            self.certifier.done("search", bound.line)
+        return bound
 
     def texts(self) -> Dict[str, bytes]:
         """The files of the certificate and its reports, by their names."""

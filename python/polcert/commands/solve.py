@@ -1,34 +1,33 @@
-"""Solves a model: writes a policy graph with its vectors, and vectors of an upper bound. It needs numpy and scipy.
+"""Solves a model: writes a policy graph with its vectors, and vectors and belief points of an upper bound. It needs numpy and scipy.
 
-    polcert-solve M.POMDP -o NAME            writes NAME.pg, NAME.alpha and NAME.bound.alpha
+    polcert-solve M.POMDP -o NAME            writes NAME.pg, NAME.alpha, NAME.bound.alpha and NAME.bound.points
     polcert check M.POMDP NAME.pg NAME.alpha
-    polcert_bound check M.POMDP NAME.bound.alpha
+    polcert_bound check M.POMDP NAME.bound.alpha NAME.bound.points
 
 The solver is a heuristic search (HSVI) that keeps the graph of its backups: the vectors are what this graph is worth, rounded down so that
-the check passes. (If it names a shortfall of a millionth or so, which floating point can leave, run lower, or raise, first.) The search ends
-by time, by the gap between its bounds, or if nothing moves any more. An interrupt (Ctrl-C) ends it early, and what was found so far is
-written, unless a second one comes. MDPs are solved by value iteration.
+the check passes. (If it names a shortfall of a millionth or so, which floating point can leave, run lower, or raise, first.) The bound has
+passed an exact check here. The search ends by time, by the gap between its bounds, or if nothing moves any more. An interrupt (Ctrl-C) ends
+it early, and what was found so far is written, unless a second one comes. MDPs are solved by value iteration, and have no points.
 
-Standard error has both bounds every few seconds. The last line, on standard output, has them at the end. The upper bound in it is computed
-in floating point: polcert-points computes points that certify one nearly as sharp.
+Standard error has both bounds every few seconds. The last line, on standard output, has what is written.
 """
 import argparse
 from math import inf
 from time import monotonic
-from typing import TYPE_CHECKING
+from typing import TYPE_CHECKING, Tuple
 
 from polcert.command import Parser, read_source, refuse_overwriting, refuse_unwritable, say, show, write_files
 from polcert.commands.points import PROGRESS_SECONDS, amount, gap
-from polcert.files import Model, read_model
-from polcert.informed import refuse_discount_of_1
+from polcert.files import read_model
 from polcert.json_output import json_text
 from polcert.needs import needs_numpy
+from polcert.points import WholeCells
 from polcert.signals import Interrupt
 from polcert.tokens import MILLION, decimal
-from polcert.values import graph_text, vectors_text
+from polcert.values import graph_text, refuse_discount_of_1, vectors_text
 
 if TYPE_CHECKING:
-    from polcert.solutions import Solution
+    from polcert.solutions import Bound, Solution
     from polcert.solver import Solver
 
 SECONDS, PERCENT = 60.0, 0.00001
@@ -38,23 +37,24 @@ class Progress:
     """Writes a line about the search, and then one every few seconds."""
 
     def __init__(self, is_quiet: bool) -> None:
-        self._begin, self._next = monotonic(), inf if is_quiet else 0.0
+        self._begin, self._next = 0.0, inf if is_quiet else 0.0
 
     def report(self, solver: "Solver") -> None:
         now = monotonic()
+        self._begin = self._begin or now
         if now >= self._next:
             self._next = now + PROGRESS_SECONDS
             bounds = f"from {solver.low:.6f} to {solver.high:.6f}, gap {gap(solver.low, solver.high)}"
             say(f"polcert-solve: {now - self._begin:.0f} s, {solver.lower.count:,} vectors, {solver.upper.count:,} points: {bounds}")
 
 
-def solution(model: Model, words: argparse.Namespace) -> "Solution":
+def found_within(cells: WholeCells, words: argparse.Namespace) -> Tuple["Solution", "Bound"]:
     """What is found within the limits, or before an interrupt."""
     from polcert.solutions import solve
     from polcert.solver import Limits
 
     interrupt = Interrupt()
-    found = solve(model, Limits(words.seconds, words.gap / 100), lambda: interrupt.is_there, Progress(words.quiet).report)
+    found = solve(cells, Limits(words.seconds, words.gap / 100), lambda: interrupt.is_there, Progress(words.quiet).report)
     if interrupt.is_there:
         say("polcert-solve: interrupted: what was found so far is written")
     return found
@@ -63,7 +63,7 @@ def solution(model: Model, words: argparse.Namespace) -> "Solution":
 def arguments() -> argparse.Namespace:
     parser = Parser("polcert-solve", __doc__)
     parser.add_argument("model", metavar="MODEL", help="a model (.POMDP) with a discount below 1")
-    parser.add_argument("-o", "--output", metavar="NAME", required=True, help="write NAME.pg, NAME.alpha and NAME.bound.alpha")
+    parser.add_argument("-o", "--output", metavar="NAME", required=True, help="write NAME.pg, NAME.alpha and the files of the bound")
     parser.add_argument("--seconds", metavar="N", type=amount, default=SECONDS, help=f"search so long at most; default {SECONDS:.0f}")
     near = f"search until the gap is so many percent of the lower bound; default {PERCENT:.5f}"
     parser.add_argument("--gap", metavar="PERCENT", type=amount, default=PERCENT, help=near)
@@ -74,21 +74,21 @@ def arguments() -> argparse.Namespace:
 
 def main() -> int:
     words = arguments()
-    names = [f"{words.output}.{ending}" for ending in ("pg", "alpha", "bound.alpha")]
+    names = [f"{words.output}.{ending}" for ending in ("pg", "alpha", "bound.alpha", "bound.points")]
     refuse_overwriting([words.model], names)
     refuse_unwritable(names)
     model = read_model(read_source(words.model))
     refuse_discount_of_1(model)
+    cells = WholeCells(model)
     with needs_numpy():
-        found = solution(model, words)
+        found, bound = found_within(cells, words)
     vectors = vectors_text(found.graph.actions, found.values.tolist())
-    bound = vectors_text(range(len(found.vectors)), found.vectors.tolist())
-    write_files(dict(zip(names, (graph_text(found.graph), vectors, bound))))
-    size, low = len(found.graph.actions), found.low / MILLION
-    high = max(found.high, low)
+    write_files(dict(zip(names, (graph_text(found.graph), vectors, *bound.texts(cells)))))
+    size, most = len(found.graph.actions), bound.most(cells)
     if words.json:
-        show(json_text("polcert-solve", files=names, nodes=size, worth=decimal(found.low), uncertified_upper_bound=round(high, 6)))
+        bound_of_all = {"at_most": decimal(most)}
+        show(json_text("polcert-solve", files=names, nodes=size, worth=decimal(found.low), every_policy=bound_of_all))
         return 0
-    nodes = f"{size:,} node{'' if size == 1 else 's'}"
-    show(f"{names[0]}: {nodes}, worth {decimal(found.low)} from the start; every policy at most {high:.6f} (gap {gap(low, high)})\n")
+    nodes, within = f"{size:,} node{'' if size == 1 else 's'}", gap(found.low / MILLION, most / MILLION)
+    show(f"{names[0]}: {nodes}, worth {decimal(found.low)} from the start; every policy at most {decimal(most)} (gap {within})\n")
     return 0
