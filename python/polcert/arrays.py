@@ -12,7 +12,7 @@ from typing import Any, Iterable, Iterator, List, NamedTuple, Optional, Sequence
 
 import numpy as np
 from numpy.typing import NDArray
-from scipy import sparse  # type: ignore[import]
+from scipy import sparse
 
 from polcert.files import Model
 from polcert.tables import RewardBlock, Row, Table

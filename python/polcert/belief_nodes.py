@@ -4,7 +4,7 @@ from typing import Dict, List, Optional, Tuple
 
 import numpy as np
 from numpy.typing import NDArray
-from scipy import sparse  # type: ignore[import]
+from scipy import sparse
 
 from polcert.arrays import Arrays, Floats, Matrix
 from polcert.informed import observations_that_can_come

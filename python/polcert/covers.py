@@ -5,7 +5,7 @@ An action at a point is followed only if it is the best next action where the po
 from typing import Callable, Dict, List, Tuple
 
 import numpy as np
-from scipy import sparse  # type: ignore[import]
+from scipy import sparse
 
 from polcert.arrays import Floats, Matrix
 from polcert.belief_nodes import Batch, BeliefNode, BeliefNodes, Integers

@@ -6,7 +6,7 @@ from heapq import heappop, heappush
 from typing import Dict, List, NamedTuple, Sequence, Tuple
 
 import numpy as np
-from scipy import sparse  # type: ignore[import]
+from scipy import sparse
 
 from polcert.arrays import Floats, Matrix
 from polcert.evaluation import ArrayGraph, Integers, evaluate, reached_nodes, renumbered

@@ -8,7 +8,7 @@ from typing import Callable, List, NamedTuple, Tuple
 
 import numpy as np
 from numpy.typing import NDArray
-from scipy import sparse  # type: ignore[import]
+from scipy import sparse
 
 from polcert.arrays import Arrays, Floats, Matrix
 from polcert.command import say

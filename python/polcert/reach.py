@@ -3,7 +3,7 @@ from heapq import heapify, heappop, heappush, nsmallest
 from typing import Any, Dict, Iterator, List, NamedTuple, Sequence, Set, Tuple
 
 import numpy as np
-from scipy import sparse  # type: ignore[import]
+from scipy import sparse
 
 from polcert.arrays import Arrays, Floats, Matrix
 from polcert.evaluation import Integers

@@ -8,7 +8,7 @@ from math import isfinite
 from typing import Dict, Iterable, Iterator, List, NamedTuple, Optional, Sequence, Tuple
 
 import numpy as np
-from scipy import sparse  # type: ignore[import]
+from scipy import sparse
 
 from polcert.arrays import Floats, Matrix
 from polcert.command import Refusal

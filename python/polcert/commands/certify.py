@@ -116,7 +116,7 @@ def main() -> int:
     refuse_overwriting([name for name in (words.model, words.policy) if name is not None], names)
     with needs_numpy():
         import numpy  # noqa: F401
-        import scipy  # type: ignore[import]  # noqa: F401
+        import scipy  # noqa: F401
     work = Work(words)
     try:
         is_certified = work.run()
