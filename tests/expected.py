@@ -1,4 +1,4 @@
-"""What both programs print of accepted texts, a second time: in exact fractions, straight from the definitions in crates/*/specs.
+"""What both programs print of accepted texts, a second time: in exact numbers, straight from the definitions in crates/*/specs.
 
 The cells are those that python/polcert/files.py reads, values and rewards are in millionths, and a pair is a node and a state (of
 polcert_bound: an action and a state).
@@ -9,7 +9,8 @@ from typing import Dict, Iterator, List, NamedTuple, Optional, Sequence, Tuple
 
 from runner import Ran
 from informed import Exact, Millionths, raised
-from polcert.files import Graph, Vector
+from polcert.files import Graph, Model, Vector
+from polcert.points import PointCheck, Points, WholeCells, check_vectors, informed_excess, rounded_up
 from polcert.tokens import MILLION, decimal
 
 Pair = Tuple[int, int]
@@ -107,6 +108,14 @@ def start_line(exact: Exact, values: Sequence[Millionths], side: int) -> str:
     return f'yes: start node {worth.index(max(worth))}, at least {decimal(floor(max(worth)))}'
 
 
+def summary_of(model: Model) -> bytes:
+    """The line of an accepted model."""
+    counts = b'%d states, %d actions' % (model.states.count, model.actions.count)
+    kind, seen = (b'mdp', b'') if model.is_mdp else (b'pomdp', b', %d observations' % model.observations.count)
+    discount = decimal(int(model.discount * MILLION)).encode()
+    return b'%s: %s%s, discount %s, %s\n' % (kind, counts, seen, discount, b'cost' if model.is_cost else b'reward')
+
+
 def polcert_answers(exact: Exact, graph: Graph, vectors: Sequence[Vector]) -> Dict[str, Ran]:
     """What polcert answers to each word."""
     controller = Controller(exact, graph)
@@ -131,3 +140,21 @@ def bound_answers(exact: Exact, vectors: Sequence[Vector]) -> Dict[str, Ran]:
         check = answer(1, f'no: action {failing[0]}, state {failing[1]}, exceeded by {decimal(ceil(gaps[failing]))}')
     moved = move(gaps, values, range(exact.actions), exact.discount, ABOVE, 'action')
     return {'polcert_bound check': check, 'polcert_bound raise': moved}
+
+
+def points_answer(cells: WholeCells, vectors: List[Millionths], points: Points) -> Tuple[str, Ran]:
+    """What polcert_bound answers to a check of points, after the kind of answer."""
+    excess = check_vectors(cells, vectors)
+    if excess:
+        state, action, _ = excess
+        by = rounded_up(informed_excess(cells, vectors, action, state), MILLION * cells.step_scale)
+        return 'vectors', answer(1, f'no: action {action}, state {state}, exceeded by {decimal(by)}')
+    check = PointCheck(cells, vectors, points)
+    excess = check.first_excess()
+    if excess:
+        by = rounded_up(excess.amount, cells.step_scale * check.masses[excess.point])
+        return 'points', answer(1, f'no: point {excess.point}, action {excess.action}, exceeded by {decimal(by)}')
+    if cells.is_mdp:  # the vectors alone: the start state is seen
+        total = sum(share * max(vector[state] for vector in vectors) for state, share in cells.start.items())
+        return 'yes', answer(0, f'yes: every policy, at most {decimal(rounded_up(total, sum(cells.start.values())))}')
+    return 'yes', answer(0, f'yes: every policy, at most {decimal(check.most_from_start())}')
