@@ -141,6 +141,11 @@ class Forgeries(FolderTest):
         said = run_script("polcert-report", *TIGER, "--program", name)
         self.assertEqual((said.status, said.err), (2, f"polcert-report: {name} check: ended with status -9 and no answer\n"))
 
+    def test_a_program_that_does_not_say_its_version(self) -> None:
+        name = self.program("case $1 in --version) echo polcert 1.0.0; exit 1;; esac")
+        said = run_script("polcert-report", *TIGER, "--program", name)
+        self.assertEqual((said.status, said.out, said.err), (2, b"", f"polcert-report: {name} --version: ended with status 1\n"))
+
     def test_a_proof_is_told_from_the_bytes(self) -> None:
         shared = self.folder / "polcert"
         for folder in (SCRIPTS, TOP / "python"):

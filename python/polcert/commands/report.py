@@ -66,7 +66,10 @@ class Program:
         if sha256(read_source(self.path)) != self.sum:
             raise Refusal(f"{self.path}: the program changed while the report was written")
         proof = "proved" if self.sum in proved_sums() else "of which no proof is recorded here: write the report again with a proved one"
-        return f"{self.run('--version').line()} (SHA-256 `{self.sum}`), {proof}"
+        version = self.run("--version")
+        if version.status:
+            raise Refusal(f"{self.name} --version: ended with status {version.status}")
+        return f"{version.line()} (SHA-256 `{self.sum}`), {proof}"
 
 
 def sha256(source: Source) -> str:
