@@ -1,9 +1,12 @@
 """The reader of models, graphs and vectors, against lines and tables that are typed, tables that are filled here, and the program."""
+import importlib
 import random
+import sys
 import time
 from fractions import Fraction
 from itertools import product
 from typing import Optional, Tuple
+from unittest.mock import patch
 
 from models import random_model, tag
 from support import EXAMPLES, NAMES, TOP, FolderTest, mutated, needs_program, polcert, refusals_rows
@@ -58,13 +61,12 @@ class Refusals(FolderTest):
             self.assertEqual(refusal_of_policy(tiger, one_node, None, text), printed, text)
 
     def test_cases_of_the_program(self) -> None:
-        count = 0
-        for path in sorted((TOP / "tests" / "cases").glob("*.err")):
-            text, others = path.with_suffix(".in"), (path.with_suffix(ending) for ending in (".args", ".from"))
-            if path.read_text().startswith("model: ") and text.exists() and not any(other.exists() for other in others):
-                self.assertEqual(refusal(text.read_bytes()), path.read_text().strip(), path.name)
-                count += 1
-        self.assertGreater(count, 20)
+        with patch.object(sys, "path", [str(TOP / "tests"), *sys.path]):
+            cases = importlib.import_module("case_file").case_files("cases")
+        refused = [case for case in cases if not case.words and not case.source and case.expected.err.startswith(b"model: ")]
+        for case in refused:
+            self.assertEqual(refusal(case.given), case.expected.err.decode().strip(), case.name)
+        self.assertGreater(len(refused), 20)
 
     def test_messages(self) -> None:
         wanted = {
