@@ -21,7 +21,7 @@ unfoldable pub use Rattle.polcert_text.specs.Steps.Classes.{class_of}
 pub use Rattle.polcert_text.specs.Steps.FrontSizes.{AreDigitsFrom, EndsAsSize}
 pub use Rattle.polcert_text.specs.Steps.Scaling.{IsScaled, Measures, cap, ceiling, is_away, is_nonzero, rounded, separates}
 pub use Rattle.polcert_text.specs.Steps.Scan.{gap_after, gap_through, is_numeral_kind, kind_at, state_after, state_through}
-pub use Rattle.polcert_text.specs.Steps.ScanOf.{EndsAsDigits, EndsWithin, IsFrontOf, IsNameOrMark, IsScanOf, front_len, is_over, is_stuck, pending}
+pub use Rattle.polcert_text.specs.Steps.ScanOf.{EndsAsDigits, EndsWithin, IsFrontOf, IsNameOrMark, IsNumberFrom, IsScanOf, front_len, is_over, is_stuck, pending}
 pub use Rattle.polcert_text.specs.Steps.StreamTaken.{TakenFrom}
 pub use Rattle.polcert_text.specs.Steps.Streaming.{Fills, IsComplete, IsSeen, ReadsOn, ScansLexeme, SkipsGap, StopsRightly}
 pub use Rattle.polcert_text.specs.Stream.{Ahead, CanFollow, Fails, GivesEnd, GivesToken, ReadsFrom, Stream, rest_with, skip, visible}

@@ -1,25 +1,74 @@
 //! Tokens and rounded values that stand whole at the front of some bytes, cut without going through a stream.
 ghost use Rattle.std.specs.Prelude.{◌≡◌, ◌≤◌, ◌∷◌, [], ℕ, length, take, get_or, IfSome, ◌+◌, ◌-◌, ◌*◌, ◌^◌, ◌<◌, ◌++◌};
-ghost use Rattle.std.specs.Prelude.{List, drop, IsTrue, true, false};
+ghost use Rattle.std.specs.Prelude.{List, drop, IsTrue, true, false, ◌⊎◌};
 ghost use Rattle.std.specs.List.{list_any};
 ghost use Rattle.polcert_text.specs.Steps.Classes.{class_of};
 ghost use Rattle.polcert_text.specs.declared.bytes.ByteClass.{ByteClass};
 ghost use Rattle.polcert_text.specs.Steps.Scaling.{is_nonzero};
-ghost use Rattle.polcert_text.specs.Steps.Scan.{gap_through};
+ghost use Rattle.polcert_text.specs.Steps.Scan.{gap_through, EndsNumeral};
 ghost use Rattle.polcert_text.specs.Beginning.{BeginWith, BeginWithOne, BeginWithNumber, BeginWithDigits};
 ghost use Rattle.polcert_text.specs.Beginning.{moved};
 ghost use Rattle.polcert_text.specs.Reading.{lexeme_of};
-ghost use Rattle.polcert_text.specs.Steps.ScanOf.{EndsAsNumber, EndsAsDigits, IsNumberFrom};
+ghost use Rattle.polcert_text.specs.Steps.ScanOf.{EndsAsDigits, IsNumberFrom};
 ghost use Rattle.std.specs.Str.Parse.{digits_value};
 ghost use Rattle.polcert_text.specs.FrontValues.{BeginWithValue};
-ghost use Rattle.polcert_text.specs.Steps.FrontSizes.{AreDigitsFrom, AreDecimals, AreDigits, packed, IsTail, EndsAsSize};
+ghost use Rattle.polcert_text.specs.Steps.FrontSizes.{AreDigitsFrom, AreDecimals, AreDigits, packed, IsTail, EndsAsSize, IsValueFrom};
+ghost use Rattle.polcert_text.specs.Steps.Scaling.{ceiling};
+ghost use Rattle.polcert_text.specs.Numbers.{largest};
 
 use crate::bytes::{
-    quick_is_blank, quick_is_colon, quick_is_digit, quick_is_letter, quick_is_minus,
-    quick_is_point, quick_is_space, quick_sign,
+    begins_numeral, ends_numeral, is_blank, quick_ends_gap, quick_ends_numeral, quick_is_blank,
+    quick_is_colon, quick_is_digit, quick_is_letter, quick_is_minus, quick_is_point,
+    quick_is_space, quick_sign,
 };
-use crate::number::{MILLION, Rounding, Size, signed};
-use crate::tokens::{Gap, LONGEST_TOKEN, Token, TokenKind, ended_name, ended_name_or_mark};
+use crate::number::{MILLION, Rounding, Size, signed, size_of};
+use crate::tokens::{
+    Gap, LONGEST_TOKEN, Token, TokenKind, ended_lexeme, ended_name, ended_name_or_mark, gap_prefix,
+    is_glued,
+};
+
+/// The spellings that a function reads. It is a constant at each call, so that no test is made for spellings that are not read.
+#[derive(Clone, Copy)]
+enum Spelling {
+    /// At most six decimals, between spaces and line feeds.
+    Short,
+    /// Any decimals, between spaces and line feeds.
+    Plain,
+    Any,
+}
+
+impl Spelling {
+    /// Returns `true` only for a blank or a line end.
+    #[inline(always)]
+    fn is_blank(self, byte: u8) -> bool
+        ensures { IsTrue result → (class_of byte ≡ ByteClass.Blank) ⊎ (class_of byte ≡ ByteClass.LineEnd) }
+    {
+        match self {
+            Spelling::Any => is_blank(byte),
+            _ => quick_is_blank(byte),
+        }
+    }
+
+    /// Returns `true` only for a byte that ends a numeral.
+    #[inline(always)]
+    fn ends_numeral(self, byte: u8) -> bool
+        ensures { IsTrue result → EndsNumeral (class_of byte) }
+    {
+        match self {
+            Spelling::Any => ends_numeral(byte),
+            _ => quick_ends_numeral(byte),
+        }
+    }
+
+    /// Returns how many digits stand before the point at least.
+    #[inline(always)]
+    fn least_whole(self) -> usize {
+        match self {
+            Spelling::Any => 0,
+            _ => 1,
+        }
+    }
+}
 
 /// An unsigned number at the front of some bytes: its value, and how many bytes it takes with the blanks before it.
 #[derive(Clone, Copy)]
@@ -60,7 +109,7 @@ pub fn near_colon(bytes: &[u8]) -> Option<usize>
 fn far_colon(bytes: &[u8]) -> Option<usize>
     ensures { IfSome result (λ len. (place : ℕ) → BeginWithOne place bytes.now len TokenKind.Colon) }
 {
-    colon_at(bytes, blanks(bytes))
+    colon_at(bytes, gap(Spelling::Any, bytes))
 }
 
 /// Returns the end of the colon at this index, if a byte follows it. `None`: unknown.
@@ -83,7 +132,7 @@ pub fn front_token(bytes: &[u8]) -> Option<Token<'_>>
     ensures { IfSome result (λ token. (place : ℕ) →
         BeginWith place bytes.now token.stop (moved place (lexeme_of token) ∷ [])) }
 {
-    let start = blanks(bytes);
+    let start = gap(Spelling::Any, bytes);
     let rest = &bytes[start..];
     if rest.len() < 2 {
         return None;
@@ -99,15 +148,15 @@ pub fn front_token(bytes: &[u8]) -> Option<Token<'_>>
     }
 }
 
-/// Returns the name that the bytes begin with, after one blank at most, if a byte follows it. Its place and its end are counted
-/// from the first of the bytes. `None`: unknown.
+/// Returns the name that the bytes begin with, if a byte follows it. Its place and its end are counted from the first of the bytes.
+/// `None`: unknown.
 #[inline(always)]
 pub fn front_name(bytes: &[u8]) -> Option<Token<'_>>
     ensures front { IfSome result (λ token. (place : ℕ) →
         BeginWith place bytes.now token.stop (moved place (lexeme_of token) ∷ [])) }
     ensures name { IfSome result (λ token. token.kind ≡ TokenKind.Name) }
 {
-    let start = one_blank(bytes);
+    let start = near_gap(bytes);
     let rest = &bytes[start..];
     if rest.is_empty() || !quick_is_letter(rest[0]) {
         return None;
@@ -123,59 +172,119 @@ pub fn front_name(bytes: &[u8]) -> Option<Token<'_>>
     }
 }
 
-/// Returns the number in millionths that the bytes begin with, if a blank or a line end follows its numeral:
-/// digits, perhaps with a point and at most six digits, and perhaps directly after a sign. `None`: unknown,
-/// take the slow path.
+/// Returns the number in millionths that the bytes begin with, if its numeral ends before the last of them, perhaps directly after a
+/// sign. `None`: unknown, take the slow path.
 #[inline(always)]
 pub fn front_number(bytes: &[u8]) -> Option<FrontNumber>
     ensures { IfSome result (λ found. (place : ℕ) → BeginWithNumber place bytes.now found) }
 {
-    let start = blanks(bytes);
+    match number_in(Spelling::Short, bytes) {
+        Some(number) => Some(number),
+        None => any_number(bytes),
+    }
+}
+
+/// Does the same for a number of any spelling. (The room for the result of a call is made where the function begins that calls: here,
+/// not in front of the plain way.)
+#[inline(always)]
+fn any_number(bytes: &[u8]) -> Option<FrontNumber>
+    ensures { IfSome result (λ found. (place : ℕ) → BeginWithNumber place bytes.now found) }
+{
+    far_number(bytes)
+}
+
+#[inline(never)]
+fn far_number(bytes: &[u8]) -> Option<FrontNumber>
+    ensures { IfSome result (λ found. (place : ℕ) → BeginWithNumber place bytes.now found) }
+{
+    number_in(Spelling::Any, bytes)
+}
+
+/// Does the same for a number of such a spelling.
+#[inline(always)]
+fn number_in(spelling: Spelling, bytes: &[u8]) -> Option<FrontNumber>
+    ensures { IfSome result (λ found. (place : ℕ) → BeginWithNumber place bytes.now found) }
+{
+    let start = gap(spelling, bytes);
     if start == bytes.len() {
         return None;
     }
     match quick_sign(bytes[start]) {
-        None => number_from(bytes, start, false),
-        Some(is_negative) => number_from(bytes, start + 1, is_negative),
+        None => number_from(spelling, bytes, start, false),
+        Some(is_negative) => number_from(spelling, bytes, start + 1, is_negative),
     }
 }
 
 /// Returns the number whose numeral begins there, after such a sign. `None`: unknown.
 #[inline(always)]
-fn number_from(bytes: &[u8], from: usize, is_negative: bool) -> Option<FrontNumber>
+fn number_from(
+    spelling: Spelling,
+    bytes: &[u8],
+    from: usize,
+    is_negative: bool,
+) -> Option<FrontNumber>
     requires { from ≤ length bytes.now }
     ensures { IfSome result (IsNumberFrom bytes.now from is_negative) }
 {
-    match ended_number(&bytes[from..]) {
-        Some(number) => Some(FrontNumber {
-            len: from + number.len,
-            value: signed(is_negative, number.value),
-        }),
+    match numeral_in(spelling, &bytes[from..]) {
+        Some(numeral) => exact_number(from, is_negative, numeral),
         None => None,
     }
 }
 
-/// Returns the number that the bytes begin with, if it is a few digits and a blank or a line end follows
+/// Returns the number of a numeral that begins there, after such a sign, if no decimal is cut off.
+#[inline(always)]
+fn exact_number(from: usize, is_negative: bool, numeral: FrontSize) -> Option<FrontNumber>
+    requires room { from + numeral.len < 2 ^ 64 }
+    requires small { ceiling numeral.size.floor numeral.size.is_inexact ≤ largest }
+    ensures { (bytes : List ℕ) → EndsAsSize (drop from bytes) numeral
+        → IfSome result (IsNumberFrom bytes from is_negative) }
+{
+    if numeral.size.is_inexact {
+        return None;
+    }
+    Some(FrontNumber {
+        len: from + numeral.len,
+        value: signed(is_negative, numeral.size.floor),
+    })
+}
+
+/// Returns the number that the bytes begin with, if it is a few digits and a byte follows that ends
 /// them. `None`: unknown, take the slow path.
 #[inline(always)]
 pub fn front_digits(bytes: &[u8]) -> Option<FrontDigits>
     ensures { IfSome result (λ number. (place : ℕ) → BeginWithDigits place bytes.now number) }
 {
     // (Most follow one blank or none.)
-    match digits_from(bytes, one_blank(bytes)) {
+    match digits_from(Spelling::Short, bytes, one_blank(bytes)) {
         Some(number) => Some(number),
-        None => digits_from(bytes, blanks(bytes)),
+        None => any_digits(bytes),
     }
+}
+
+/// Does the same after any blanks, and before any byte.
+#[inline(always)]
+fn any_digits(bytes: &[u8]) -> Option<FrontDigits>
+    ensures { IfSome result (λ number. (place : ℕ) → BeginWithDigits place bytes.now number) }
+{
+    far_digits(bytes)
+}
+
+#[inline(never)]
+fn far_digits(bytes: &[u8]) -> Option<FrontDigits>
+    ensures { IfSome result (λ number. (place : ℕ) → BeginWithDigits place bytes.now number) }
+{
+    digits_from(Spelling::Any, bytes, gap(Spelling::Any, bytes))
 }
 
 /// Returns the digits that begin at this index, after blanks. `None`: unknown.
 #[inline(always)]
-fn digits_from(bytes: &[u8], start: usize) -> Option<FrontDigits>
+fn digits_from(spelling: Spelling, bytes: &[u8], start: usize) -> Option<FrontDigits>
     requires within { start ≤ length bytes.now }
     requires gap { gap_through Gap.Between (take start bytes.now) ≡ Gap.Between }
     ensures { IfSome result (λ number. (place : ℕ) → BeginWithDigits place bytes.now number) }
 {
-    match ended_digits(&bytes[start..]) {
+    match ended_digits(spelling, &bytes[start..]) {
         Some(number) => Some(FrontDigits {
             len: start + number.len,
             value: number.value,
@@ -209,7 +318,7 @@ pub fn front_index(bytes: &[u8]) -> Option<FrontIndex>
         return None;
     };
     let rest = &bytes[colon..];
-    match digits_from(rest, one_space(rest)) {
+    match digits_from(Spelling::Short, rest, one_space(rest)) {
         Some(digits) => Some(FrontIndex { colon, digits }),
         None => None,
     }
@@ -244,15 +353,56 @@ fn one_blank(bytes: &[u8]) -> usize
 
 /// Returns how many blanks and line ends the bytes begin with.
 #[inline(always)]
-pub(crate) fn blanks(bytes: &[u8]) -> usize
+fn blanks(spelling: Spelling, bytes: &[u8]) -> usize
     ensures within { result ≤ length bytes.now }
     ensures gap { gap_through Gap.Between (take result bytes.now) ≡ Gap.Between }
 {
     let mut at: usize = 0;
-    while at < bytes.len() && quick_is_blank(bytes[at]) {
+    while at < bytes.len() && spelling.is_blank(bytes[at]) {
         at += 1;
     }
     at
+}
+
+/// Returns how long the gap at the front is, or less of it.
+#[inline(always)]
+fn gap(spelling: Spelling, bytes: &[u8]) -> usize
+    ensures within { result ≤ length bytes.now }
+    ensures gap { gap_through Gap.Between (take result bytes.now) ≡ Gap.Between }
+{
+    let at = blanks(spelling, bytes);
+    if let Spelling::Any = spelling
+        && at < bytes.len()
+        && bytes[at] == b'#'
+    {
+        return far_gap(bytes);
+    }
+    at
+}
+
+/// Does the same. Most gaps are one blank or none.
+#[inline(always)]
+fn near_gap(bytes: &[u8]) -> usize
+    ensures within { result ≤ length bytes.now }
+    ensures gap { gap_through Gap.Between (take result bytes.now) ≡ Gap.Between }
+{
+    let at = one_blank(bytes);
+    if at < bytes.len() && quick_ends_gap(bytes[at]) {
+        return at;
+    }
+    far_gap(bytes)
+}
+
+/// Does the same with comments. 0 if one doesn't end within the bytes.
+#[inline(never)]
+fn far_gap(bytes: &[u8]) -> usize
+    ensures within { result ≤ length bytes.now }
+    ensures gap { gap_through Gap.Between (take result bytes.now) ≡ Gap.Between }
+{
+    match gap_prefix(Gap::Between, bytes) {
+        (len, Gap::Between) => len,
+        _ => 0,
+    }
 }
 
 /// Numerals with more digits before the point are rare (no number that is allowed needs them, except the largest), and read the general
@@ -287,50 +437,19 @@ fn whole_digits(bytes: &[u8]) -> (u64, usize)
     (number, at)
 }
 
-/// Returns the whole number at the front, if a blank ends it. `None` says nothing.
+/// Returns the whole number at the front, if a byte after it ends it. `None` says nothing.
 #[inline(always)]
-fn ended_digits(bytes: &[u8]) -> Option<FrontDigits>
+fn ended_digits(spelling: Spelling, bytes: &[u8]) -> Option<FrontDigits>
     ensures { IfSome result (EndsAsDigits bytes.now) }
 {
     if bytes.len() <= MOST_WHOLE {
         return None;
     }
     let (value, len) = whole_digits(bytes);
-    if len == 0 || !quick_is_blank(bytes[len]) {
+    if len == 0 || !spelling.ends_numeral(bytes[len]) {
         return None;
     }
     Some(FrontDigits { len, value })
-}
-
-/// Returns the numeral at the front, in millionths, if a blank ends it. `None` says nothing.
-#[inline(always)]
-fn ended_number(bytes: &[u8]) -> Option<FrontDigits>
-    ensures { IfSome result (EndsAsNumber bytes.now) }
-{
-    if bytes.len() < ROOM {
-        return None;
-    }
-    let (whole, point) = whole_digits(bytes);
-    if point == 0 {
-        return None;
-    }
-    if !quick_is_point(bytes[point]) {
-        if !quick_is_blank(bytes[point]) {
-            return None;
-        }
-        return Some(FrontDigits {
-            len: point,
-            value: whole * MILLION,
-        });
-    }
-    let fraction = decimals(bytes, point + 1);
-    if !quick_is_blank(bytes[fraction.end]) {
-        return None;
-    }
-    Some(FrontDigits {
-        len: fraction.end,
-        value: whole * MILLION + fraction.millionths,
-    })
 }
 
 /// A value at the front of some bytes: how many bytes it takes with the blanks before it, and its millionths.
@@ -347,51 +466,94 @@ struct FrontSize {
     size: Size,
 }
 
-/// The decimals after the sixth: where they end, before a blank or a line end, and whether one isn't 0.
+/// The decimals after the sixth: where they end, before a byte that ends the numeral, and whether one isn't 0.
 #[derive(Clone, Copy)]
 struct Tail {
     end: usize,
     is_inexact: bool,
 }
 
-/// Returns the number that the bytes begin with, rounded to whole millionths, if a blank or a line end
-/// follows its numeral: digits, perhaps with a point and digits, and perhaps a `-` before them. `None`:
-/// unknown, take the slow path.
+/// Returns the number that the bytes begin with, rounded to whole millionths, if its numeral ends before the last of them, perhaps
+/// directly after a `-`. `None`: unknown, take the slow path.
 #[inline(always)]
 pub fn front_value(rounding: Rounding, bytes: &[u8]) -> Option<FrontValue>
     ensures { IfSome result (λ value. (place : ℕ) → BeginWithValue rounding place bytes.now value) }
 {
     // (Most values follow one blank or none.)
-    match value_from(rounding, bytes, one_blank(bytes)) {
+    match value_in(Spelling::Plain, rounding, bytes, one_blank(bytes)) {
         Some(value) => Some(value),
-        None => value_from(rounding, bytes, blanks(bytes)),
+        None => any_value(rounding, bytes),
     }
 }
 
-/// Returns the value that begins at this index, after blanks. `None`: unknown.
+/// Does the same for a value of any spelling.
 #[inline(always)]
-fn value_from(rounding: Rounding, bytes: &[u8], start: usize) -> Option<FrontValue>
+fn any_value(rounding: Rounding, bytes: &[u8]) -> Option<FrontValue>
+    ensures { IfSome result (λ value. (place : ℕ) → BeginWithValue rounding place bytes.now value) }
+{
+    far_value(rounding, bytes)
+}
+
+#[inline(never)]
+fn far_value(rounding: Rounding, bytes: &[u8]) -> Option<FrontValue>
+    ensures { IfSome result (λ value. (place : ℕ) → BeginWithValue rounding place bytes.now value) }
+{
+    value_in(Spelling::Any, rounding, bytes, gap(Spelling::Any, bytes))
+}
+
+/// Returns the value of such a spelling that begins at this index, after blanks. `None`: unknown.
+#[inline(always)]
+fn value_in(
+    spelling: Spelling,
+    rounding: Rounding,
+    bytes: &[u8],
+    start: usize,
+) -> Option<FrontValue>
     requires within { start ≤ length bytes.now }
     requires gap { gap_through Gap.Between (take start bytes.now) ≡ Gap.Between }
     ensures { IfSome result (λ value. (place : ℕ) → BeginWithValue rounding place bytes.now value) }
 {
-    let rest = &bytes[start..];
-    if !rest.is_empty() && quick_is_minus(rest[0]) {
-        let Some(numeral) = ended_size(&rest[1..]) else {
-            return None;
-        };
-        return Some(FrontValue {
-            len: start + 1 + numeral.len,
-            value: numeral.size.value(rounding, true),
-        });
+    if start < bytes.len() && quick_is_minus(bytes[start]) {
+        return value_from(spelling, rounding, bytes, start + 1, true);
     }
-    let Some(numeral) = ended_size(rest) else {
-        return None;
-    };
-    Some(FrontValue {
-        len: start + numeral.len,
-        value: numeral.size.value(rounding, false),
-    })
+    value_from(spelling, rounding, bytes, start, false)
+}
+
+/// Returns the value whose numeral begins there, after a `-` or none. `None`: unknown.
+#[inline(always)]
+fn value_from(
+    spelling: Spelling,
+    rounding: Rounding,
+    bytes: &[u8],
+    from: usize,
+    is_negative: bool,
+) -> Option<FrontValue>
+    requires { from ≤ length bytes.now }
+    ensures { IfSome result (IsValueFrom rounding bytes.now from is_negative) }
+{
+    match numeral_in(spelling, &bytes[from..]) {
+        Some(numeral) => Some(rounded_value(rounding, from, is_negative, numeral)),
+        None => None,
+    }
+}
+
+/// Returns the value of a numeral that begins there, after a `-` or none.
+#[inline(always)]
+fn rounded_value(
+    rounding: Rounding,
+    from: usize,
+    is_negative: bool,
+    numeral: FrontSize,
+) -> FrontValue
+    requires room { from + numeral.len < 2 ^ 64 }
+    requires small { ceiling numeral.size.floor numeral.size.is_inexact ≤ largest }
+    ensures { (bytes : List ℕ) → EndsAsSize (drop from bytes) numeral
+        → IsValueFrom rounding bytes from is_negative result }
+{
+    FrontValue {
+        len: from + numeral.len,
+        value: numeral.size.value(rounding, is_negative),
+    }
 }
 
 /// A point, and the decimals of a millionth.
@@ -400,20 +562,60 @@ const DECIMALS: usize = 1 + MOST_DECIMALS;
 /// More decimals after the sixth are rare, and read the general way.
 const LONGEST_TAIL: usize = 300;
 
-/// Returns the numeral at the front, if a blank or a line end follows it. `None`: unknown, take the slow
-/// path.
+/// Returns the numeral at the front, in such a spelling, if a byte after it ends it. `None`: unknown.
 #[inline(always)]
-fn ended_size(bytes: &[u8]) -> Option<FrontSize>
+fn numeral_in(spelling: Spelling, bytes: &[u8]) -> Option<FrontSize>
+    ensures { IfSome result (EndsAsSize bytes.now) }
+{
+    match (plain_numeral(spelling, bytes), spelling) {
+        (Some(numeral), _) => Some(numeral),
+        (None, Spelling::Any) => any_numeral(bytes),
+        _ => None,
+    }
+}
+
+/// Does the same in any spelling.
+#[inline(never)]
+fn any_numeral(bytes: &[u8]) -> Option<FrontSize>
+    ensures { IfSome result (EndsAsSize bytes.now) }
+{
+    if bytes.is_empty() || !begins_numeral(bytes[0]) {
+        return None;
+    }
+    let Some(front) = ended_lexeme(bytes) else {
+        return None;
+    };
+    let TokenKind::Numeral = front.kind else {
+        return None;
+    };
+    if front.len > LONGEST_TOKEN || is_glued(TokenKind::Numeral, &bytes[front.len..]) {
+        return None;
+    }
+    match size_of(&bytes[..front.len]) {
+        Ok(size) => Some(FrontSize {
+            len: front.len,
+            size,
+        }),
+        Err(_) => None,
+    }
+}
+
+/// Does the same for a few digits, perhaps with a point and digits.
+#[inline(always)]
+fn plain_numeral(spelling: Spelling, bytes: &[u8]) -> Option<FrontSize>
     ensures { IfSome result (EndsAsSize bytes.now) }
 {
     if bytes.len() < ROOM {
         return None;
     }
     let (whole, point) = whole_digits(bytes);
-    if point == 0 {
+    if point < spelling.least_whole() {
         return None;
     }
-    if quick_is_blank(bytes[point]) {
+    if !quick_is_point(bytes[point]) {
+        if point == 0 || !spelling.ends_numeral(bytes[point]) {
+            return None;
+        }
         return Some(FrontSize {
             len: point,
             size: Size {
@@ -422,12 +624,12 @@ fn ended_size(bytes: &[u8]) -> Option<FrontSize>
             },
         });
     }
-    if !quick_is_point(bytes[point]) {
-        return None;
-    }
     let full = point + DECIMALS;
     let fraction = decimals(bytes, point + 1);
-    let Some(tail) = tail_from(bytes, fraction.end, full) else {
+    if fraction.end == 1 {
+        return None;
+    }
+    let Some(tail) = tail_from(spelling, bytes, fraction.end, full) else {
         return None;
     };
     Some(FrontSize {
@@ -510,15 +712,15 @@ fn six_digits_value(digits: u64) -> u64
     (pairs & 0xFF) * 10_000 + (pairs >> 16 & 0xFF) * 100 + (pairs >> 32 & 0xFF)
 }
 
-/// Returns the decimals from `from` on, if those before are six, which end at `full`, and if a blank or a line end follows. `None`:
-/// unknown.
+/// Returns the decimals from `from` on, if those before are six, which end at `full`, and if a byte follows that ends the numeral.
+/// `None`: unknown.
 #[inline(always)]
-fn tail_from(bytes: &[u8], from: usize, full: usize) -> Option<Tail>
+fn tail_from(spelling: Spelling, bytes: &[u8], from: usize, full: usize) -> Option<Tail>
     requires { from < length bytes.now }
     ensures { IfSome result (IsTail bytes.now from full) }
 {
     // (Most have no such decimals, and then no byte is tested twice.)
-    if quick_is_blank(bytes[from]) {
+    if spelling.ends_numeral(bytes[from]) {
         return Some(Tail {
             end: from,
             is_inexact: false,
@@ -527,29 +729,32 @@ fn tail_from(bytes: &[u8], from: usize, full: usize) -> Option<Tail>
     if from < full {
         return None;
     }
+    if let Spelling::Short = spelling {
+        return None;
+    }
     // (Most are at most seven, and do not begin with 0.)
     if from + MOST_DECIMALS + 1 < bytes.len() && is_digit_above_zero(bytes[from]) {
         let end = decimals(bytes, from + 1).end;
-        if quick_is_blank(bytes[end]) {
+        if spelling.ends_numeral(bytes[end]) {
             return Some(Tail {
                 end,
                 is_inexact: true,
             });
         }
     }
-    long_tail(bytes, from)
+    long_tail(spelling, bytes, from)
 }
 
-/// Returns the decimals from `from` on, however many, if a blank or a line end follows. `None`: unknown.
+/// Returns the decimals from `from` on, however many, if a byte follows that ends the numeral. `None`: unknown.
 #[inline(always)]
-fn long_tail(bytes: &[u8], from: usize) -> Option<Tail>
+fn long_tail(spelling: Spelling, bytes: &[u8], from: usize) -> Option<Tail>
     requires { from < length bytes.now }
     ensures { IfSome result (IsTail bytes.now from from) }
 {
     let until = bytes.len().min(from + LONGEST_TAIL);
     let zeros = zeros_end(bytes, from, until);
     let end = digits_end(bytes, zeros, until);
-    if end == bytes.len() || !quick_is_blank(bytes[end]) {
+    if end == bytes.len() || !spelling.ends_numeral(bytes[end]) {
         return None;
     }
     Some(Tail {

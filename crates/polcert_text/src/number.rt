@@ -434,7 +434,7 @@ fn plain_size(numeral: &[u8]) -> Option<Size>
 
 /// Returns the size of a numeral in millionths, rounded down.
 #[inline(always)]
-fn size_of(numeral: &[u8]) -> Result<Size, NumberFault>
+pub fn size_of(numeral: &[u8]) -> Result<Size, NumberFault>
     ensures value { MatchResult result
         (λ size. IsReadable numeral.now × Measures numeral.now size.floor size.is_inexact)
         (IsRefused numeral.now) }

@@ -7,8 +7,8 @@ ghost use Rattle.polcert_text.specs.Steps.Scan.{is_numeral_kind};
 ghost use Rattle.polcert_text.specs.Steps.Classes.{class_of};
 
 use crate::bytes::{
-    ByteClass, class_of, quick_ends_gap, quick_is_blank, quick_is_colon, quick_is_digit,
-    quick_is_letter, quick_is_point,
+    ByteClass, class_of, ends_numeral, quick_ends_gap, quick_is_blank, quick_is_colon,
+    quick_is_digit, quick_is_letter, quick_is_point,
 };
 use memchr::memchr;
 use std::marker::Model;
@@ -186,7 +186,7 @@ pub fn token_of(
 
 /// Tests whether a lexeme is a numeral that a letter, `_` or a point follows directly.
 #[inline(always)]
-fn is_glued(kind: TokenKind, rest: &[u8]) -> bool
+pub fn is_glued(kind: TokenKind, rest: &[u8]) -> bool
     ensures { result ≡ is_glued kind rest.now }
 {
     match (kind, rest) {
@@ -614,7 +614,7 @@ fn digits_end(bytes: &[u8], from: usize) -> usize
 }
 
 /// Returns the lexeme at the front, if a byte after it is there and ends it: a name, a mark, or a numeral of
-/// digits, perhaps with a point and digits, before a blank or a line end. Most are, and these are cut without
+/// digits, perhaps with a point and digits. Most are, and these are cut without
 /// a step for each byte. `None`: unknown, take the slow path.
 #[inline(always)]
 pub fn delimited_lexeme(bytes: &[u8]) -> Option<LexemePrefix>
@@ -646,7 +646,7 @@ pub fn ended_name_or_mark(bytes: &[u8]) -> Option<LexemePrefix>
     }
 }
 
-/// Returns the numeral at the front, if a blank ends it. `None` says nothing.
+/// Returns the numeral at the front, if a byte after it ends it. `None` says nothing.
 #[inline(always)]
 fn ended_numeral(bytes: &[u8]) -> Option<LexemePrefix>
     requires some { 0 < length bytes.now }
@@ -657,7 +657,7 @@ fn ended_numeral(bytes: &[u8]) -> Option<LexemePrefix>
     if point == bytes.len() {
         return None;
     }
-    if quick_is_blank(bytes[point]) {
+    if ends_numeral(bytes[point]) {
         return Some(LexemePrefix {
             kind: TokenKind::Numeral,
             len: point,
@@ -667,7 +667,7 @@ fn ended_numeral(bytes: &[u8]) -> Option<LexemePrefix>
         return None;
     }
     let end = digits_end(bytes, point + 1);
-    if end < bytes.len() && quick_is_blank(bytes[end]) {
+    if end < bytes.len() && ends_numeral(bytes[end]) {
         return Some(LexemePrefix {
             kind: TokenKind::Numeral,
             len: end,
@@ -720,4 +720,16 @@ fn scanned_lexeme(bytes: &[u8]) -> Option<LexemePrefix>
     ensures { IsFrontOf bytes.now result }
 {
     LexemeScan::new().scan_over(bytes).longest()
+}
+
+/// Returns the lexeme at the front, of any kind, if a byte after it shows its end. `None`: unknown.
+#[inline(always)]
+pub fn ended_lexeme(bytes: &[u8]) -> Option<LexemePrefix>
+    ensures { IfSome result (EndsWithin bytes.now) }
+{
+    let scan = LexemeScan::new().scan_over(bytes);
+    if scan.is_stuck() {
+        return scan.longest();
+    }
+    None
 }

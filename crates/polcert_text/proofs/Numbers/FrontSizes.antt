@@ -1,12 +1,14 @@
 -- Numerals that end within some bytes, measured: digits, a point, and however many decimals.
-use Rattle.std.proofs.Common.{◌≡◌, ◌∙◌, ⊎_elim, ℕ, ◌+◌, ◌-◌, ◌*◌, ◌^◌, ◌<◌, ◌≤◌, ◌||◌, min, nat_lt, Bool, true, false, List, ◌++◌, length, take, drop, get_or, sym, ap, arith}
-use Rattle.polcert_text.proofs.Common.{drop-take, list_any, digits_value, class_of, largest, IsReadable, AreDigitsFrom, is_nonzero, ceiling, Measures, Point}
+use Rattle.std.proofs.Common.{◌≡◌, ◌∙◌, ◌⊎◌, inl, inr, ⊎_elim, ℕ, ◌+◌, ◌-◌, ◌*◌, ◌^◌, ◌<◌, ◌≤◌, ◌||◌, min, nat_lt, Bool, true, false, not, List, ◌++◌, length, take, drop, get_or, sym, ap, subst, arith}
+use Rattle.polcert_text.proofs.Common.{drop-take, list_any, digits_value, class_of, largest, IsReadable, AreDigitsFrom, EndsAsSize, is_nonzero, ceiling, Measures, Point}
 use Rattle.std.proofs.lemmas.List.{get_or-take, get_or-drop, length-take-le, length-drop, take-take}
 use Rattle.std.proofs.lemmas.List.Folds.{list_any_at, list_any_more}
 use Rattle.std.proofs.lemmas.Bool.{lt-ltb, le-ltb}
-use Rattle.polcert_text.proofs.Numbers.FrontNumbers.{below_scaled, unscaled}
+use Rattle.polcert_text.proofs.Numbers.FrontNumbers.{below_scaled, unscaled, measured_exactly}
 use Rattle.polcert_text.proofs.Numbers.Plain.{IsPlain, plain_measures, at_or_after}
 use Rattle.polcert_text.proofs.Numbers.PlainWhole.{whole_measures}
+use Rattle.polcert_text.specs.Steps.ScanOf.{EndsAsNumber}
+use Rattle.polcert_text.specs.declared.front_tokens.FrontSize.{FrontSize}
 
 in_front : (bs : List ℕ) (n from until : ℕ) → until ≤ n → AreDigitsFrom bs from until → AreDigitsFrom (take n bs) from until
 in_front bs n from until few digits = λ k low below. ap class_of (get_or-take n bs k 0 (omega arith)) ∙ digits k low below
@@ -19,7 +21,7 @@ digits_measure bs n number some short high digits value small =
     whole_measures (take n bs) (omega (arith, len)) (λ k low below. in_front bs n 0 n (omega arith) digits k low (omega (arith, len))) number (omega (arith, len)) value small
 
 -- the size of a numeral of digits, a point and decimals, of which those after the sixth are not kept
-pub decimal_measures : (bs : List ℕ) (p kept n floor : ℕ) (is_inexact : Bool) → 0 < p → p + 1 ≤ kept → kept ≤ n → kept ≡ min n (p + 7) → n ≤ 400 → n ≤ length bs
+pub decimal_measures : (bs : List ℕ) (p kept n floor : ℕ) (is_inexact : Bool) → ((0 < p) ⊎ (1 < n)) → p + 1 ≤ kept → kept ≤ n → kept ≡ min n (p + 7) → n ≤ 400 → n ≤ length bs
     → AreDigitsFrom bs 0 p → class_of (get_or bs p 0) ≡ Point → AreDigitsFrom bs (p + 1) n
     → floor ≡ digits_value 10 (take p bs ++ take (kept - (p + 1)) (drop (p + 1) bs)) * 10 ^ (p + 7 - kept) → floor < largest
     → is_inexact ≡ list_any is_nonzero (take (n - kept) (drop kept bs))
@@ -31,7 +33,7 @@ decimal_measures bs p kept n floor is_inexact some low few kept_is short high fi
     let len : length ns ≡ n = length-take-le n bs high in
     let plain : IsPlain ns p = record {
       inside = omega (arith, len);
-      some = some;
+      some = ⊎_elim inl (λ more. inr (omega (arith, len, more))) some;
       first = in_front bs n 0 p (omega arith) first;
       point = ap class_of (get_or-take n bs p 0 (omega arith)) ∙ point;
       second = λ k l h. in_front bs n (p + 1) n (omega arith) second k l (omega (arith, len));
@@ -78,3 +80,15 @@ tail_inexact bs from zeros end low on high none stops = ⊎_elim
     (λ below. lt-ltb zeros end below ∙ sym (nonzero_there bs from zeros end low below high (stops below)))
     (λ same. let is : zeros ≡ end = omega (arith, on, same) in le-ltb zeros end same ∙ sym none ∙ ap (λ n. list_any is_nonzero (take (n - from) (drop from bs))) is)
     (at_or_after zeros end)
+
+-- what is left where nothing was cut off
+pub exact_number : (bs : List ℕ) (numeral : FrontSize) → numeral.size.is_inexact ≡ false → EndsAsSize bs numeral → EndsAsNumber bs (record { len = numeral.len; value = numeral.size.floor })
+exact_number bs numeral exact e = record {
+  begins = e.begins;
+  ends = e.ends;
+  short = e.short;
+  apart = e.apart;
+  readable = e.readable;
+  exact = measured_exactly (take numeral.len bs) numeral.size.floor (subst (Measures (take numeral.len bs) numeral.size.floor) exact e.measures);
+  small = subst (λ b. ceiling numeral.size.floor b ≤ largest) exact e.top;
+}

@@ -28,10 +28,10 @@ after_more front bs from at read low high digit was =
     ∙ sym (digits_value_push 10 (front ++ take n (drop from bs)) d)
     ∙ ap (digits_value 10) (sym list)
 
--- the bytes are digits, a point at p, and digits
+-- the bytes are digits, a point at p, and digits; on one side of the point there may be none
 pub record IsPlain (bs : List ℕ) (p : ℕ) : Type 0 where
   pub inside : p < length bs
-  pub some : 0 < p
+  pub some : (0 < p) ⊎ (1 < length bs)
   pub first : (k : ℕ) → 0 ≤ k → k < p → class_of (get_or bs k 0) ≡ Digit
   pub point : class_of (get_or bs p 0) ≡ Point
   pub second : (k : ℕ) → p + 1 ≤ k → k < length bs → class_of (get_or bs k 0) ≡ Digit
@@ -46,6 +46,34 @@ run bs from (suc n) state h on was digits =
     let next : from + suc n ≡ from + n + 1 = omega arith in
     ap (λ k. state_through states.Start (take k bs)) next
     ∙ state_step bs (from + n) state Digit state (omega arith) before (sym (digits n (omega arith))) (sym on)
+
+-- a point and digits
+point_read : (bs : List ℕ) (p n : ℕ) → p ≡ 0 → 1 < n → n ≤ length bs → class_of (get_or bs p 0) ≡ Point → ((k : ℕ) → p + 1 ≤ k → k < n → class_of (get_or bs k 0) ≡ Digit) → state_through states.Start (take n bs) ≡ states.Fraction
+point_read bs p n none more high point second =
+    let first : class_of (get_or bs 0 0) ≡ Point = ap (λ k. class_of (get_or bs k 0)) (sym none) ∙ point in
+    let begun : state_through states.Start (take (0 + 1) bs) ≡ states.Point = state_step bs 0 states.Start Point states.Point (omega arith) refl (sym first) refl in
+    let digit : state_through states.Start (take (1 + 1) bs) ≡ states.Fraction = state_step bs 1 states.Point Digit states.Fraction (omega arith) begun (sym (second 1 (omega arith) (omega arith))) refl in
+    let all : 2 + (n - 2) ≡ n = omega arith in
+    ap (λ k. state_through states.Start (take k bs)) (sym all) ∙ run bs 2 (n - 2) states.Fraction (omega arith) refl digit (λ k l. second (2 + k) (omega arith) (omega arith))
+
+-- digits, a point and digits
+whole_point_read : (bs : List ℕ) (p n : ℕ) → 0 < p → p + 1 ≤ n → n ≤ length bs → ((k : ℕ) → 0 ≤ k → k < p → class_of (get_or bs k 0) ≡ Digit) → class_of (get_or bs p 0) ≡ Point → ((k : ℕ) → p + 1 ≤ k → k < n → class_of (get_or bs k 0) ≡ Digit) → state_through states.Start (take n bs) ≡ states.Fraction
+whole_point_read bs p n some low high first point second =
+    let begun : state_through states.Start (take (0 + 1) bs) ≡ states.Whole = state_step bs 0 states.Start Digit states.Whole (omega arith) refl (sym (first 0 (omega arith) some)) refl in
+    let to_point = run bs 1 (p - 1) states.Whole (omega arith) refl begun (λ k l. first (1 + k) (omega arith) (omega arith)) in
+    let at : 1 + (p - 1) ≡ p = omega arith in
+    let there : state_through states.Start (take p bs) ≡ states.Whole = ap (λ k. state_through states.Start (take k bs)) (sym at) ∙ to_point in
+    let following = state_step bs p states.Whole Point states.Fraction (omega arith) there (sym point) refl in
+    let all : p + 1 + (n - (p + 1)) ≡ n = omega arith in
+    ap (λ k. state_through states.Start (take k bs)) (sym all) ∙ run bs (p + 1) (n - (p + 1)) states.Fraction (omega arith) refl following (λ k l. second (p + 1 + k) (omega arith) (omega arith))
+
+pub none_or_some : (p : ℕ) → (p ≡ 0) ⊎ (0 < p)
+none_or_some p = grind arith
+
+-- either
+pub plain_read : (bs : List ℕ) (p n : ℕ) → ((0 < p) ⊎ (1 < n)) → p + 1 ≤ n → n ≤ length bs → ((k : ℕ) → 0 ≤ k → k < p → class_of (get_or bs k 0) ≡ Digit) → class_of (get_or bs p 0) ≡ Point → ((k : ℕ) → p + 1 ≤ k → k < n → class_of (get_or bs k 0) ≡ Digit) → state_through states.Start (take n bs) ≡ states.Fraction
+plain_read bs p n some low high first point second =
+    ⊎_elim (λ none. point_read bs p n none (⊎_elim (λ whole. absurd (omega (arith, none, whole))) (λ more. more) some) high point second) (λ whole. whole_point_read bs p n whole low high first point second) (none_or_some p)
 
 not_false : (b : Bool) → (b ≡ false → ⊥) → b ≡ true
 not_false b h1 = grind arith
@@ -92,16 +120,8 @@ module _ (bs : List ℕ) (p : ℕ) (plain : IsPlain bs p) where
 
   numeral : is_numeral bs ≡ true
   numeral =
-      let begun : state_through states.Start (take (0 + 1) bs) ≡ states.Whole = state_step bs 0 states.Start Digit states.Whole (omega (arith, plain.inside)) refl (sym (plain.first 0 (omega arith) plain.some)) refl in
-      let to_point = run bs 1 (p - 1) states.Whole (omega (arith, plain.inside, plain.some)) refl begun (λ k l. plain.first (1 + k) (omega arith) (omega arith)) in
-      let at : 1 + (p - 1) ≡ p = omega (arith, plain.some) in
-      let there : state_through states.Start (take p bs) ≡ states.Whole = ap (λ k. state_through states.Start (take k bs)) (sym at) ∙ to_point in
-      let following = state_step bs p states.Whole Point states.Fraction plain.inside there (sym plain.point) refl in
-      let n : ℕ = length bs - (p + 1) in
-      let full : p + 1 + n ≡ length bs = omega (arith, plain.inside) in
-      let done = run bs (p + 1) n states.Fraction (omega arith) refl following (λ k l. plain.second (p + 1 + k) (omega arith) (omega arith)) in
-      let all : take (p + 1 + n) bs ≡ bs = take_all (p + 1 + n) bs (omega arith) in
-      sym (numeral_at_state bs states.Fraction (ap (state_through states.Start) (sym all) ∙ done))
+      let done = plain_read bs p (length bs) plain.some (omega (arith, plain.inside)) (omega arith) plain.first plain.point plain.second in
+      sym (numeral_at_state bs states.Fraction (ap (state_through states.Start) (sym (take_all (length bs) bs (omega arith))) ∙ done))
 
   no_exponent : exponent_size bs ≡ 0
   unfolding exponent_size

@@ -92,12 +92,6 @@ is_mark bs kind mark = grind arith
 pub begins_name : (bs : List ℕ) (c : ByteClass) → 0 < length bs → c ≡ class_of (get_or bs 0 0) → ((c ≡ classes.Letter) ⊎ (c ≡ classes.ExponentMark)) → state_through Start (take 1 bs) ≡ Name
 begins_name bs c some is letter = state_step bs 0 Start c Name some refl is (sym (⊎_elim (ap (state_after Start)) (ap (state_after Start)) letter))
 
-pub ends_whole : (c : ByteClass) → ((c ≡ classes.Blank) ⊎ (c ≡ classes.LineEnd)) → state_after Whole c ≡ Stuck
-ends_whole c h = ⊎_elim (ap (state_after Whole)) (ap (state_after Whole)) h
-
-pub ends_fraction : (c : ByteClass) → ((c ≡ classes.Blank) ⊎ (c ≡ classes.LineEnd)) → state_after Fraction c ≡ Stuck
-ends_fraction c h = ⊎_elim (ap (state_after Fraction)) (ap (state_after Fraction)) h
-
 -- the first byte of a numeral
 pub begins_whole : (bs : List ℕ) → 0 < length bs → class_of (get_or bs 0 0) ≡ classes.Digit → state_through Start (take 1 bs) ≡ Whole
 begins_whole bs some digit = state_step bs 0 Start classes.Digit Whole some refl (sym digit) refl

@@ -117,7 +117,7 @@ module _ (place : ℕ) (bytes : List ℕ) (gap : ℕ) (found : FrontNumber) (ope
       let n = v.number.len in
       let l = front_lexeme place bytes gap Numeral n in
       unsigned l (numeral_of false l v.number refl e.readable e.exact v.value_is)
-      (subst (λ m. BeginWith place bytes m (l ∷ [])) (sym v.len_is) (begin_one place bytes gap n Numeral open_gap (ap (gap_after Between) e.digit) e.ends e.short e.apart))
+      (subst (λ m. BeginWith place bytes m (l ∷ [])) (sym v.len_is) (begin_one place bytes gap n Numeral open_gap e.begins e.ends e.short e.apart))
 
   pub sign_begins : (is_negative : Bool) → class_of (get_or bytes gap 0) ≡ class_of_sign is_negative → IsNumberFrom bytes (gap + 1) is_negative found → BeginWithNumber place bytes found
   sign_begins is_negative is v =
@@ -134,7 +134,7 @@ module _ (place : ℕ) (bytes : List ℕ) (gap : ℕ) (found : FrontNumber) (ope
       let s = front_lexeme place bytes gap kind 1 in
       let l = front_lexeme (place + (gap + 1)) rest 0 Numeral n in
       let all : 0 + n ≡ n = omega arith in
-      let numeral = subst (λ m. BeginWith (place + (gap + 1)) rest m (l ∷ [])) all (begin_one (place + (gap + 1)) rest 0 n Numeral refl (ap (gap_after Between) e.digit) e.ends e.short e.apart) in
+      let numeral = subst (λ m. BeginWith (place + (gap + 1)) rest m (l ∷ [])) all (begin_one (place + (gap + 1)) rest 0 n Numeral refl e.begins e.ends e.short e.apart) in
       begin.signed is_negative s l refl (numeral_of is_negative l v.number refl e.readable e.exact v.value_is)
       (subst (λ m. BeginWith place bytes m (s ∷ l ∷ [])) (sym v.len_is) (begin_then place bytes (gap + 1) n (s ∷ []) (l ∷ []) sign numeral))
 

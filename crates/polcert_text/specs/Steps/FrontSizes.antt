@@ -1,16 +1,20 @@
 -- A numeral at the front of some bytes, measured.
 -- Nobody has to believe this: only contracts of private functions cite it.
-use Rattle.std.specs.Prelude.{◌≡◌, ℕ, ◌+◌, ◌-◌, ◌*◌, ◌^◌, ◌<◌, ◌≤◌, ◌⊎◌, false, List, ◌++◌, length, take, drop, get_or, slice_index}
+use Rattle.std.specs.Prelude.{◌≡◌, ℕ, ◌+◌, ◌-◌, ◌*◌, ◌^◌, ◌<◌, ◌≤◌, Bool, false, List, ◌++◌, length, take, drop, get_or, slice_index}
 use Rattle.std.specs.List.{list_any}
 use Rattle.std.specs.Str.Parse.{digits_value}
 use Rattle.polcert_text.specs.Steps.Classes.{class_of}
+use Rattle.polcert_text.specs.Steps.Scan.{EndsNumeral, gap_after}
+use Rattle.polcert_text.specs.declared.tokens.Gap.TheVariants.{Between, Ended}
 use Rattle.polcert_text.specs.Cut.{is_glued}
-use Rattle.polcert_text.specs.Numbers.{largest, IsReadable}
+use Rattle.polcert_text.specs.Numbers.{largest, IsReadable, IsRounded}
 use Rattle.polcert_text.specs.Steps.Scaling.{is_nonzero, ceiling, Measures}
 use Rattle.polcert_text.specs.Steps.ScanOf.{EndsWithin}
-use Rattle.polcert_text.specs.declared.bytes.ByteClass.TheVariants.{Digit, Blank, LineEnd}
+use Rattle.polcert_text.specs.declared.bytes.ByteClass.TheVariants.{Digit}
 use Rattle.polcert_text.specs.declared.front_tokens.FrontDecimals.{FrontDecimals}
 use Rattle.polcert_text.specs.declared.front_tokens.FrontSize.{FrontSize}
+use Rattle.polcert_text.specs.declared.front_tokens.FrontValue.{FrontValue}
+use Rattle.polcert_text.specs.declared.number.Rounding.{Rounding}
 use Rattle.polcert_text.specs.declared.front_tokens.Tail.{Tail}
 use Rattle.polcert_text.specs.declared.tokens.TokenKind.TheVariants.{Numeral}
 
@@ -39,11 +43,11 @@ pub record AreDigits (a b c d e f : ℕ) : Type 0 where
   pub e_is : e ≤ 9
   pub f_is : f ≤ 9
 
--- from here on the bytes are digits up to the end of the tail, which has one that isn't 0 or none; a blank or a line end follows
+-- from here on the bytes are digits up to the end of the tail, which has one that isn't 0 or none; a byte follows that ends the numeral
 pub record IsTail (bytes : List ℕ) (from full : ℕ) (tail : Tail) : Type 0 where
   pub low : from ≤ tail.end
   pub high : tail.end < length bytes
-  pub blank : (class_of (get_or bytes tail.end 0) ≡ Blank) ⊎ (class_of (get_or bytes tail.end 0) ≡ LineEnd)
+  pub stops : EndsNumeral (class_of (get_or bytes tail.end 0))
   pub none : from < full → tail.end ≡ from
   pub short : tail.end ≤ from + 300
   pub digits : AreDigitsFrom bytes from tail.end
@@ -51,10 +55,17 @@ pub record IsTail (bytes : List ℕ) (from full : ℕ) (tail : Tail) : Type 0 wh
 
 -- a numeral whose size is measured ends within the bytes
 pub record EndsAsSize (bytes : List ℕ) (front : FrontSize) : Type 0 where
-  pub digit : class_of (slice_index bytes 0) ≡ Digit
+  pub begins : gap_after Between (class_of (slice_index bytes 0)) ≡ Ended
   pub ends : EndsWithin bytes (record { kind = Numeral; len = front.len })
   pub short : front.len ≤ 400
   pub apart : is_glued Numeral (drop front.len bytes) ≡ false
   pub readable : IsReadable (take front.len bytes)
   pub measures : Measures (take front.len bytes) front.size.floor front.size.is_inexact
   pub top : ceiling front.size.floor front.size.is_inexact ≤ largest
+
+-- the value whose numeral begins at this byte, after a `-` or none
+pub record IsValueFrom (rounding : Rounding) (bytes : List ℕ) (from : ℕ) (is_negative : Bool) (found : FrontValue) : Type 0 where
+  pub numeral : FrontSize
+  pub ends : EndsAsSize (drop from bytes) numeral
+  pub len_is : found.len ≡ from + numeral.len
+  pub rounded : IsRounded rounding is_negative (take numeral.len (drop from bytes)) found.value

@@ -2,7 +2,7 @@
 -- Nobody has to believe this: only contracts of private functions cite it, and the proofs show that it finds the
 -- longest fronts.
 use Rattle.std.specs.Prelude.{◌≡◌, ℕ, Bool, true, false, Option, Some, None, List, [], ◌∷◌}
-use Rattle.polcert_text.specs.Steps.Classes.{class_of}
+use Rattle.polcert_text.specs.Steps.Classes.{class_of, glue_class}
 use Rattle.polcert_text.specs.declared.bytes.ByteClass.{ByteClass}
 use Rattle.polcert_text.specs.declared.bytes.ByteClass.TheVariants as classes
 use Rattle.polcert_text.specs.declared.tokens.TokenKind.{TokenKind}
@@ -107,3 +107,9 @@ is_numeral_kind _ = false
 -- a digit changes nothing in this state
 abbrev pub ContinuesWithDigits : State → Type 0
 ContinuesWithDigits state = state_after state classes.Digit ≡ state
+
+-- a byte of this class ends a numeral that may end here, and is not glued to it
+pub record EndsNumeral (c : ByteClass) : Type 0 where
+  pub whole : state_after Whole c ≡ Stuck
+  pub fraction : state_after Fraction c ≡ Stuck
+  pub apart : glue_class c ≡ false

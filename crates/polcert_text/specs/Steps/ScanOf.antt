@@ -70,7 +70,7 @@ pub record IsNameOrMark (bytes : List ℕ) (front : LexemePrefix) : Type 0 where
 
 -- a numeral of just so many millionths ends within the bytes
 pub record EndsAsNumber (bytes : List ℕ) (number : FrontDigits) : Type 0 where
-  pub digit : class_of (slice_index bytes 0) ≡ Digit
+  pub begins : gap_after Between (class_of (slice_index bytes 0)) ≡ Ended
   pub ends : EndsWithin bytes (record { kind = Numeral; len = number.len })
   pub short : number.len ≤ 400
   pub apart : is_glued Numeral (drop number.len bytes) ≡ false

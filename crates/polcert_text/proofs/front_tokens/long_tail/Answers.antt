@@ -14,7 +14,7 @@ returns c =
     record {
       low = omega (arith, was.within.0, read.within.0);
       high = omega (arith, read.within.1);
-      blank = c.quick_is_blank.ensures c.if-not-quick_is_blank.false;
+      stops = c.ends_numeral.ensures c.if-not-ends_numeral.false;
       none = λ below. absurd (omega (arith, below));
       short = omega (arith, read.within.1);
       digits = λ k low below. ⊎_elim (λ before. was.digits k low before) (λ following. read.digits k following below) (at_or_after k zeros);

@@ -10,14 +10,14 @@ none_yet bs from =
     let none : 0 ≡ from - from = omega arith in
     ap (λ n. list_any is_nonzero (take n (drop from bs))) none
 
-pub returns-then-quick_is_blank : goal.returns-then-quick_is_blank
-returns-then-quick_is_blank c =
+pub returns-then-ends_numeral : goal.returns-then-ends_numeral
+returns-then-ends_numeral c =
     let bs = c.args.bytes.now in
     let from = c.args.from in
     record {
       low = omega arith;
       high = omega arith;
-      blank = c.quick_is_blank.ensures c.if-quick_is_blank.true;
+      stops = c.ends_numeral.ensures c.if-ends_numeral.true;
       none = λ _. refl;
       short = omega arith;
       digits = λ k low below. absurd (omega (arith, low, below));
@@ -27,8 +27,8 @@ returns-then-quick_is_blank c =
 first_or_after : (k from : ℕ) → from ≤ k → (k ≡ from) ⊎ (from + 1 ≤ k)
 first_or_after k from h = grind arith
 
-pub returns-then-quick_is_blank-2 : goal.returns-then-quick_is_blank-2
-returns-then-quick_is_blank-2 c =
+pub returns-then-ends_numeral-2 : goal.returns-then-ends_numeral-2
+returns-then-ends_numeral-2 c =
     let bs = c.args.bytes.now in
     let from = c.args.from in
     let first = c.is_digit_above_zero.ensures in
@@ -36,7 +36,7 @@ returns-then-quick_is_blank-2 c =
     record {
       low = omega (arith, more.low);
       high = omega (arith, more.high);
-      blank = c.quick_is_blank-then-is_digit_above_zero.ensures c.if-quick_is_blank-2.true;
+      stops = c.ends_numeral-then-is_digit_above_zero.ensures c.if-ends_numeral-2.true;
       none = λ below. absurd (omega (arith, below));
       short = omega (arith, more.high);
       digits = λ k low below. ⊎_elim (λ here. ap (λ i. class_of (get_or bs i 0)) here ∙ first.digit c.if-is_digit_above_zero.true) (λ after. more.digits k after below) (first_or_after k from low);
@@ -48,7 +48,7 @@ all_six bs from full six None is = is
 all_six bs from full six (Some tail) is = record {
   low = is.low;
   high = is.high;
-  blank = is.blank;
+  stops = is.stops;
   none = λ below. absurd (omega (arith, below, six));
   short = is.short;
   digits = is.digits;

@@ -1,4 +1,4 @@
-use Rattle.std.proofs.Common.{◌≡◌, ◌∙◌, ◌+◌, ◌-◌, ◌<◌, ◌++◌, [], min, true, length, take, drop, take_all, ⊎_elim, refl, sym, ap, arith}
+use Rattle.std.proofs.Common.{◌≡◌, ◌∙◌, ◌+◌, ◌-◌, ◌<◌, ◌++◌, [], min, true, length, take, drop, take_all, inl, ⊎_elim, refl, sym, ap, arith}
 use Rattle.polcert_text.proofs.Common.{take_rest, list_all, list_any, digits_value, is_digit, is_nonzero}
 use Rattle.polcert_text.proofs.Numbers.Plain.{IsPlain, plain_measures, digits_at, at_or_after}
 use Rattle.polcert_text.proofs.Numbers.PlainWhole.{whole_is_plain}
@@ -18,7 +18,7 @@ returns c =
     let all : list_all is_digit (drop kept bs) ≡ true = ap (list_all is_digit) (sym rest) ∙ sym c.all_digits.ensures ∙ c.if-not-all_digits.false in
     let plain : IsPlain bs p = record {
       inside = inside;
-      some = omega arith;
+      some = inl (omega arith);
       first = first.digits;
       point = c.quick_is_point.ensures c.if-not-quick_is_point.false;
       second = λ k low below. ⊎_elim (λ before. second.digits k low (omega arith)) (λ following. digits_at bs kept k all following below) (at_or_after k kept);
