@@ -12,7 +12,7 @@ ghost use Rattle.polcert_text.specs.Reading.{lexeme_of};
 ghost use Rattle.polcert_text.specs.Steps.ScanOf.{EndsAsDigits, IsNumberFrom};
 ghost use Rattle.std.specs.Str.Parse.{digits_value};
 ghost use Rattle.polcert_text.specs.FrontValues.{BeginWithValue};
-ghost use Rattle.polcert_text.specs.Steps.FrontSizes.{AreDigitsFrom, AreDecimals, AreDigits, packed, IsTail, EndsAsSize, IsValueFrom};
+ghost use Rattle.polcert_text.specs.Steps.FrontSizes.{AreDigitsFrom, AreDecimals, AreDigits, packed, IsTail, EndsAsSize};
 ghost use Rattle.polcert_text.specs.Steps.Scaling.{ceiling};
 ghost use Rattle.polcert_text.specs.Numbers.{largest};
 
@@ -480,7 +480,23 @@ pub fn front_value(rounding: Rounding, bytes: &[u8]) -> Option<FrontValue>
     ensures { IfSome result (λ value. (place : ℕ) → BeginWithValue rounding place bytes.now value) }
 {
     // (Most values follow one blank or none.)
-    match value_in(Spelling::Plain, rounding, bytes, one_blank(bytes)) {
+    match value_from(Spelling::Plain, rounding, bytes, one_blank(bytes)) {
+        Some(value) => Some(value),
+        None => spaced_value(rounding, bytes),
+    }
+}
+
+/// Does the same after any spaces and line feeds, or for a value of any spelling.
+#[inline(always)]
+fn spaced_value(rounding: Rounding, bytes: &[u8]) -> Option<FrontValue>
+    ensures { IfSome result (λ value. (place : ℕ) → BeginWithValue rounding place bytes.now value) }
+{
+    match value_from(
+        Spelling::Plain,
+        rounding,
+        bytes,
+        blanks(Spelling::Plain, bytes),
+    ) {
         Some(value) => Some(value),
         None => any_value(rounding, bytes),
     }
@@ -498,12 +514,12 @@ fn any_value(rounding: Rounding, bytes: &[u8]) -> Option<FrontValue>
 fn far_value(rounding: Rounding, bytes: &[u8]) -> Option<FrontValue>
     ensures { IfSome result (λ value. (place : ℕ) → BeginWithValue rounding place bytes.now value) }
 {
-    value_in(Spelling::Any, rounding, bytes, gap(Spelling::Any, bytes))
+    value_from(Spelling::Any, rounding, bytes, gap(Spelling::Any, bytes))
 }
 
 /// Returns the value of such a spelling that begins at this index, after blanks. `None`: unknown.
 #[inline(always)]
-fn value_in(
+fn value_from(
     spelling: Spelling,
     rounding: Rounding,
     bytes: &[u8],
@@ -513,47 +529,23 @@ fn value_in(
     requires gap { gap_through Gap.Between (take start bytes.now) ≡ Gap.Between }
     ensures { IfSome result (λ value. (place : ℕ) → BeginWithValue rounding place bytes.now value) }
 {
-    if start < bytes.len() && quick_is_minus(bytes[start]) {
-        return value_from(spelling, rounding, bytes, start + 1, true);
+    let rest = &bytes[start..];
+    if !rest.is_empty() && quick_is_minus(rest[0]) {
+        let Some(numeral) = numeral_in(spelling, &rest[1..]) else {
+            return None;
+        };
+        return Some(FrontValue {
+            len: start + 1 + numeral.len,
+            value: numeral.size.value(rounding, true),
+        });
     }
-    value_from(spelling, rounding, bytes, start, false)
-}
-
-/// Returns the value whose numeral begins there, after a `-` or none. `None`: unknown.
-#[inline(always)]
-fn value_from(
-    spelling: Spelling,
-    rounding: Rounding,
-    bytes: &[u8],
-    from: usize,
-    is_negative: bool,
-) -> Option<FrontValue>
-    requires { from ≤ length bytes.now }
-    ensures { IfSome result (IsValueFrom rounding bytes.now from is_negative) }
-{
-    match numeral_in(spelling, &bytes[from..]) {
-        Some(numeral) => Some(rounded_value(rounding, from, is_negative, numeral)),
-        None => None,
-    }
-}
-
-/// Returns the value of a numeral that begins there, after a `-` or none.
-#[inline(always)]
-fn rounded_value(
-    rounding: Rounding,
-    from: usize,
-    is_negative: bool,
-    numeral: FrontSize,
-) -> FrontValue
-    requires room { from + numeral.len < 2 ^ 64 }
-    requires small { ceiling numeral.size.floor numeral.size.is_inexact ≤ largest }
-    ensures { (bytes : List ℕ) → EndsAsSize (drop from bytes) numeral
-        → IsValueFrom rounding bytes from is_negative result }
-{
-    FrontValue {
-        len: from + numeral.len,
-        value: numeral.size.value(rounding, is_negative),
-    }
+    let Some(numeral) = numeral_in(spelling, rest) else {
+        return None;
+    };
+    Some(FrontValue {
+        len: start + numeral.len,
+        value: numeral.size.value(rounding, false),
+    })
 }
 
 /// A point, and the decimals of a millionth.

@@ -1,20 +1,18 @@
 -- A numeral at the front of some bytes, measured.
 -- Nobody has to believe this: only contracts of private functions cite it.
-use Rattle.std.specs.Prelude.{◌≡◌, ℕ, ◌+◌, ◌-◌, ◌*◌, ◌^◌, ◌<◌, ◌≤◌, Bool, false, List, ◌++◌, length, take, drop, get_or, slice_index}
+use Rattle.std.specs.Prelude.{◌≡◌, ℕ, ◌+◌, ◌-◌, ◌*◌, ◌^◌, ◌<◌, ◌≤◌, false, List, ◌++◌, length, take, drop, get_or, slice_index}
 use Rattle.std.specs.List.{list_any}
 use Rattle.std.specs.Str.Parse.{digits_value}
 use Rattle.polcert_text.specs.Steps.Classes.{class_of}
 use Rattle.polcert_text.specs.Steps.Scan.{EndsNumeral, gap_after}
 use Rattle.polcert_text.specs.declared.tokens.Gap.TheVariants.{Between, Ended}
 use Rattle.polcert_text.specs.Cut.{is_glued}
-use Rattle.polcert_text.specs.Numbers.{largest, IsReadable, IsRounded}
+use Rattle.polcert_text.specs.Numbers.{largest, IsReadable}
 use Rattle.polcert_text.specs.Steps.Scaling.{is_nonzero, ceiling, Measures}
 use Rattle.polcert_text.specs.Steps.ScanOf.{EndsWithin}
 use Rattle.polcert_text.specs.declared.bytes.ByteClass.TheVariants.{Digit}
 use Rattle.polcert_text.specs.declared.front_tokens.FrontDecimals.{FrontDecimals}
 use Rattle.polcert_text.specs.declared.front_tokens.FrontSize.{FrontSize}
-use Rattle.polcert_text.specs.declared.front_tokens.FrontValue.{FrontValue}
-use Rattle.polcert_text.specs.declared.number.Rounding.{Rounding}
 use Rattle.polcert_text.specs.declared.front_tokens.Tail.{Tail}
 use Rattle.polcert_text.specs.declared.tokens.TokenKind.TheVariants.{Numeral}
 
@@ -62,10 +60,3 @@ pub record EndsAsSize (bytes : List ℕ) (front : FrontSize) : Type 0 where
   pub readable : IsReadable (take front.len bytes)
   pub measures : Measures (take front.len bytes) front.size.floor front.size.is_inexact
   pub top : ceiling front.size.floor front.size.is_inexact ≤ largest
-
--- the value whose numeral begins at this byte, after a `-` or none
-pub record IsValueFrom (rounding : Rounding) (bytes : List ℕ) (from : ℕ) (is_negative : Bool) (found : FrontValue) : Type 0 where
-  pub numeral : FrontSize
-  pub ends : EndsAsSize (drop from bytes) numeral
-  pub len_is : found.len ≡ from + numeral.len
-  pub rounded : IsRounded rounding is_negative (take numeral.len (drop from bytes)) found.value
