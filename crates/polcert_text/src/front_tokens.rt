@@ -258,6 +258,17 @@ pub fn front_digits(bytes: &[u8]) -> Option<FrontDigits>
     // (Most follow one blank or none.)
     match digits_from(Spelling::Short, bytes, one_blank(bytes)) {
         Some(number) => Some(number),
+        None => spaced_digits(bytes),
+    }
+}
+
+/// Does the same after any spaces and line feeds, or for digits of any spelling.
+#[inline(always)]
+fn spaced_digits(bytes: &[u8]) -> Option<FrontDigits>
+    ensures { IfSome result (λ number. (place : ℕ) → BeginWithDigits place bytes.now number) }
+{
+    match digits_from(Spelling::Short, bytes, blanks(Spelling::Short, bytes)) {
+        Some(number) => Some(number),
         None => any_digits(bytes),
     }
 }
