@@ -1,6 +1,8 @@
 -- The side from below: what a yes promises, that certified texts are answered yes, and the laws of the side.
 use Rattle.std.proofs.Common.{◌≡◌, ℕ, ◌<◌, ℤ, List, Result, Ok, IfErr, refl, subst, rules, arith}
-use Rattle.polcert_answer.proofs.Common.{Down, Meaning, IsSame, states_of, CellTable, table_of, PolicyGraph, IsProperGraph, nodes, PolicyVectors, IsRoundedVectorsText, controller_of, Write, Certificate, controller, IsVerdictLine, HasGraph, IsAnswer, SideLaws}
+use Rattle.polcert_answer.proofs.Common.{Down, Meaning, IsSame, states_of, CellTable, table_of, PolicyGraph, IsProperGraph, nodes}
+use Rattle.polcert_answer.proofs.Common.{PolicyVectors, IsRoundedVectorsText, controller_of, Write, Certificate, controller, IsVerdictLine}
+use Rattle.polcert_answer.proofs.Common.{HasGraph, IsAnswer, SideLaws}
 use Rattle.polcert_check.specs.declared.fault.LowerFault.{LowerFault}
 use Rattle.polcert_check.specs.declared.fault.LowerFault.TheVariants as faults
 use Rattle.polcert_check.specs.declared.survey.Verdict.{Verdict}
@@ -24,13 +26,18 @@ use Rattle.polcert_answer.proofs.Passing.{read_in_lowering}
 -- ---- a yes certifies the texts, with the vectors at the end and for the rewards alone
 module _ (model graph vectors : List ℕ) (answer : IsAnswer model graph vectors (Ok Yes)) where
   pub yes_certified : IsCertified model graph vectors
-  yes_certified = record { certificate = answer.0; promise = λ c k n s nl sl. (meets_horizon (controller c) (controller_proper c) Yes (answer.1 c) k n s nl sl).0 }
+  yes_certified = record {
+    certificate = answer.0;
+    promise =
+        λ c k n s nl sl. (meets_horizon (controller c) (controller_proper c) Yes (answer.1 c) k n s nl sl).0;
+  }
 
   pub yes_rewarded : AreRewardsCertified model graph vectors
   yes_rewarded = λ c k n s nl sl. (meets_horizon (controller c) (controller_proper c) Yes (answer.1 c) k n s nl sl).1
 
   -- and from the start no less is expected than a node is worth there
-  pub yes_started : (c : Certificate model graph vectors) (k n : ℕ) (worth : ℤ) → n < nodes c.policy → IsStartWorth c.meaning c.values n worth
+  pub yes_started : (c : Certificate model graph vectors) (k n : ℕ) (worth : ℤ) → n < nodes c.policy
+      → IsStartWorth c.meaning c.values n worth
       → StartPromise c.meaning (controller c) k n worth
   yes_started c k n worth nl is = start_promise c.meaning (controller c) refl (controller_proper c) (answer.1 c) n worth nl is k
 
@@ -45,19 +52,24 @@ yes_if_certified model graph vectors certified = yes_if_one_step model graph vec
 
 -- ---- the laws of the side
 module _ (m n : Meaning) (same : IsSame m n) (g : PolicyGraph) (v : PolicyVectors) where
-  line_for : (verdict : Verdict) (line : List ℕ) → IsVerdictLine m (of_parts m g v) v verdict line → IsVerdictLine n (of_parts n g v) v verdict line
+  line_for : (verdict : Verdict) (line : List ℕ) → IsVerdictLine m (of_parts m g v) v verdict line
+      → IsVerdictLine n (of_parts n g v) v verdict line
   line_for Yes line (node, worth, best, is_worth, is) = search (rules, models_same.same_best_start, models_same.same_worth)
   line_for (Short node s amount) line (by, quotient, is) = grind (arith, models_same.same_cells, of_parts)
   line_for (NoSuccessor node s z) line is = is
 
-  reason_for : IsProperGraph g → Fits (table_of m) g v → (fault : LowerFault) → IsWhy (of_parts m g v) v fault → IsWhy (of_parts n g v) v fault
+  reason_for : IsProperGraph g → Fits (table_of m) g v → (fault : LowerFault) → IsWhy (of_parts m g v) v fault
+      → IsWhy (of_parts n g v) v fault
   reason_for proper fits faults.Memory (by, least) =
       (by, answers.same_least_constant (table_of m) (table_of n) g v (models_same.same_cells m n same) proper fits by least)
-  reason_for proper fits fault why = answers.same_refused (table_of m) (table_of n) g v (models_same.same_cells m n same) proper fits fault why
+  reason_for proper fits fault why = answers.same_refused (table_of m) (table_of n) g v (models_same.same_cells m n same) proper fits fault
+      why
 
 -- what the line of a yes says of the start
-yes_line_promised : (model graph vectors : List ℕ) → IsAnswer model graph vectors (Ok Yes) → (m : Meaning) (g : PolicyGraph) (v : PolicyVectors) → HasGraph model graph m g
-    → IsRoundedVectorsText Down g (states_of m) vectors v → (line : List ℕ) → IsVerdictLine m (of_parts m g v) v Yes line → HasStartPromise line model graph vectors
+yes_line_promised : (model graph vectors : List ℕ) → IsAnswer model graph vectors (Ok Yes)
+    → (m : Meaning) (g : PolicyGraph) (v : PolicyVectors) → HasGraph model graph m g
+    → IsRoundedVectorsText Down g (states_of m) vectors v → (line : List ℕ) → IsVerdictLine m (of_parts m g v) v Yes line
+    → HasStartPromise line model graph vectors
 yes_line_promised model graph vectors answer m g v has are line (node, worth, best, is_worth, spelled) =
     let each : (c : Certificate model graph vectors) → IsBestStart c.meaning c.values node =
     of_each m g v has are (λ o h w. IsBestStart o w node) (λ o same. models_same.same_best_start m o same v node best) in
@@ -69,7 +81,8 @@ yes_line_promised model graph vectors answer m g v has are line (node, worth, be
       is_line = spelled;
       best = each;
       is_worth = worths;
-      promise = λ c k. yes_started model graph vectors answer c k node worth (subst (λ count. node < count) c.are_vectors.2.nodes_are (each c).is_below) (worths c);
+      promise = λ c k. yes_started model graph vectors answer c k node worth
+          (subst (λ count. node < count) c.are_vectors.2.nodes_are (each c).is_below) (worths c);
     }
 
 one_lower : (x y : LowerFault) → Lower x ≡ Lower y → x ≡ y
@@ -79,7 +92,23 @@ no_write : (x : LowerFault) → Lower x ≡ Write → ⊥
 no_write x same = cc
 
 pub below_laws : SideLaws below
-below_laws = search (rules, one_verdict, answers.same_verdict, answers.same_least_constant, models_same.same_cells, meets_horizon, read_in_lowering, yes_certified, yes_rewarded, line_for, reason_for, yes_line_promised, one_lower, no_write)
+below_laws = search (
+  rules,
+  one_verdict,
+  answers.same_verdict,
+  answers.same_least_constant,
+  models_same.same_cells,
+  meets_horizon,
+  read_in_lowering,
+  yes_certified,
+  yes_rewarded,
+  line_for,
+  reason_for,
+  yes_line_promised,
+  one_lower,
+  no_write,
+)
 
-pub whys : {T : Type 0} (t : CellTable) (g : PolicyGraph) (v : PolicyVectors) (r : Result T LowerFault) → IfErr r (RefusesToLower t g v) → IfErr r (IsWhy (controller_of t g v) v)
+pub whys : {T : Type 0} (t : CellTable) (g : PolicyGraph) (v : PolicyVectors) (r : Result T LowerFault) → IfErr r (RefusesToLower t g v)
+    → IfErr r (IsWhy (controller_of t g v) v)
 whys t g v r h1 = grind arith

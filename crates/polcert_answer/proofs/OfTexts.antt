@@ -1,7 +1,9 @@
 -- What is said of three texts in memory, from what is said of them as the texts of sources.
 use Rattle.std.proofs.Common.{◌≡◌, ℕ, List, Result, Err, arith}
 use Rattle.std.specs.Result.{IsErrAnd}
-use Rattle.polcert_answer.proofs.Common.{Rounding, Meaning, states_of, PolicyGraph, PolicyVectors, IsRoundedVectorsText, Fault, Model, Graph, Vectors, Points, RunFault, Text, HasGraph, IsModelFault, IsGraphRefused, AreRoundedVectorsRefused, RefusesRightly, Side, AreDenoted}
+use Rattle.polcert_answer.proofs.Common.{Rounding, Meaning, states_of, PolicyGraph, PolicyVectors, IsRoundedVectorsText, Fault, Model}
+use Rattle.polcert_answer.proofs.Common.{Graph, Vectors, Points, RunFault, Text, HasGraph, IsModelFault, IsGraphRefused}
+use Rattle.polcert_answer.proofs.Common.{AreRoundedVectorsRefused, RefusesRightly, Side, AreDenoted}
 use Rattle.polcert_text.proofs.Known.{slice_reads}
 use Rattle.polcert_text.proofs.Streams.SliceTexts.{of_slice, of_slice_text}
 use Rattle.polcert_answer.specs.Answer.{IsFault}
@@ -47,6 +49,7 @@ module _ {M G V : Type 0} (m_rest : M → List ℕ) (m m' : M) (model : List ℕ
     refused_slices r h (Points fault) of is = absurd of
 
 -- ---- a fault that is handed on
-pub refused_answer : {V F : Type 0} (side : Side V F) (model graph vectors : List ℕ) (r : Result V Fault) (given : Fault) → IsErrAnd r (λ fault. fault ≡ given)
+pub refused_answer : {V F : Type 0} (side : Side V F) (model graph vectors : List ℕ) (r : Result V Fault) (given : Fault)
+    → IsErrAnd r (λ fault. fault ≡ given)
     → IsFault side.rounding model graph vectors given → IsTextAnswer side model graph vectors r
 refused_answer side model graph vectors r given h1 h2 = grind arith

@@ -1,7 +1,8 @@
 -- What a run says of its result: a fault of a read that it hands on, or the answer of the call that writes.
 use Rattle.std.proofs.Common.{◌≡◌, ℕ, List, Option, Result, Ok, Err, IfOk, IfErr, subst, sym, arith}
 use Rattle.std.specs.Result.{IsErrAnd}
-use Rattle.polcert_answer.proofs.Common.{Rounding, RunFault, Write, WritesAnswer, IsNamedRightly, RefusesRightly, ReadsInOrder, IsCheckRunFault, IsNoReadFault}
+use Rattle.polcert_answer.proofs.Common.{Rounding, RunFault, Write, WritesAnswer, IsNamedRightly, RefusesRightly, ReadsInOrder}
+use Rattle.polcert_answer.proofs.Common.{IsCheckRunFault, IsNoReadFault}
 use Rattle.polcert_answer.specs.Run.{NamesSourcesRightly, StopsRightly, IsLowerRunFault, IsRaiseRunFault}
 use Rattle.polcert_answer.specs.Steps.Reading.{IsReadFault}
 
@@ -26,7 +27,8 @@ module _ {T : Type 0} (r : Result T RunFault) (given : RunFault) (e : r ≡ Err 
   pub of_read : {U : Type 0} (x : RunFault) → r ≡ Err x → ◌≡◌ {A = Result U RunFault} (Err given) (Err x)
   of_read x same = grind arith
 
-  pub named_again : {U : Type 0} (x : RunFault) (before after : ℕ) → IsNamedRightly (◌≡◌ {A = Result U RunFault} (Err given) (Err x)) before after → IsNamedRightly (r ≡ Err x) before after
+  pub named_again : {U : Type 0} (x : RunFault) (before after : ℕ)
+      → IsNamedRightly (◌≡◌ {A = Result U RunFault} (Err given) (Err x)) before after → IsNamedRightly (r ≡ Err x) before after
   named_again x before after h = grind arith
 
   -- and nothing else
@@ -34,7 +36,8 @@ module _ {T : Type 0} (r : Result T RunFault) (given : RunFault) (e : r ≡ Err 
   said P of x same = grind arith
 
   -- nothing was answered, and no write failed
-  pub nothing_written : IsReadFault given → {W : Type 0} {writes : W → Option (List ℕ) → W → Type 0} (Belongs : T → List ℕ → Type 0) (sink sink' : W)
+  pub nothing_written : IsReadFault given → {W : Type 0} {writes : W → Option (List ℕ) → W → Type 0} (Belongs : T → List ℕ → Type 0)
+      (sink sink' : W)
       → WritesAnswer writes Belongs r sink sink'
   nothing_written of Belongs sink sink' = grind arith
 

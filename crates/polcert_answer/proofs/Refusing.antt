@@ -20,7 +20,13 @@ refused_of fault text h1 h2 = grind arith
 -- what follows for each text follows for those that fit
 pub each_text : {S : Type 0} {reads : S → ℕ → Option (List ℕ) → S → Type 0} {old new : S} {P Q : List ℕ → Type 0}
     → ((text : List ℕ) → P text → Q text) → EachTextThatFits reads old new P → EachTextThatFits reads old new Q
-each_text follows h = record { bytes = h.bytes; is_whole = h.is_whole; was_read = h.was_read; each = λ text fits. follows text (h.each text fits) }
+each_text follows h = record {
+  bytes = h.bytes;
+  is_whole = h.is_whole;
+  was_read = h.was_read;
+  each =
+      λ text fits. follows text (h.each text fits);
+}
 
 -- a source is named rightly where it is named just if what was read of it is that a read failed
 pub named_rightly : {S V F Named : Type 0} {reads : S → ℕ → Option (List ℕ) → S → Type 0} {failures : S → ℕ} {old new : S}
@@ -31,6 +37,7 @@ named_rightly was named failed = grind arith
 
 -- ---- a fault of the graph's text or of its source
 -- after it the source of the vectors is as it was
-pub graph_in_order : {T G V : Type 0} (r : Result T RunFault) (given : RunFault) (graph graph' : G) (vectors vectors' : V) → IsErrAnd r (λ f. f ≡ given)
+pub graph_in_order : {T G V : Type 0} (r : Result T RunFault) (given : RunFault) (graph graph' : G) (vectors vectors' : V)
+    → IsErrAnd r (λ f. f ≡ given)
     → IsGraphReadFault given → vectors' ≡ vectors → IfErr r (λ fault. ReadsInOrder fault graph graph' vectors vectors')
 graph_in_order r given graph graph' vectors vectors' h1 h2 h3 = grind arith

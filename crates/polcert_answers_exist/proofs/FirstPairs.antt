@@ -19,7 +19,8 @@ module _ (Good : ℕ → ℕ → Type 0) (decide : (n s : ℕ) → Good n s ⊎ 
   good_at : (n : ℕ) → AllGoodAt n ⊎ (AllGoodAt n → ⊥)
   good_at n = ⊎_elim inl (λ f. inr (λ all. f.fails (all f.at f.inside))) (all_or_first (Good n) (decide n) states)
 
-  all_before : (f : FirstFailure AllGoodAt nodes) (g : FirstFailure (Good f.at) states) (m t : ℕ) → t < states → IsBefore m t f.at g.at → Good m t
+  all_before : (f : FirstFailure AllGoodAt nodes) (g : FirstFailure (Good f.at) states) (m t : ℕ) → t < states → IsBefore m t f.at g.at
+      → Good m t
   all_before f g m t l b = ⊎_elim (λ earlier. f.before m earlier t l) (λ same. subst (λ n. Good n t) (sym same.0) (g.before t same.1)) b
 
   pub pairs_or_first : ((n s : ℕ) → n < nodes → s < states → Good n s) ⊎ FirstPair Good nodes states

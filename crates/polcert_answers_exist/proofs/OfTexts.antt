@@ -46,7 +46,8 @@ limits_of : {text : List ℕ} (m : Meaning) → IsModelText text m → HasLimite
 limits_of m is = within_limits is.lexemes m is.denotes
 
 -- ---- three texts, on a side on which every controller has a verdict
-module _ {V F : Type 0} {side : Side V F} (laws : SideLaws side) (verdict_on : (c : Controller) → (verdict : V) × side.Is c verdict) (model graph vectors : List ℕ) where
+module _ {V F : Type 0} {side : Side V F} (laws : SideLaws side) (verdict_on : (c : Controller) → (verdict : V) × side.Is c verdict)
+    (model graph vectors : List ℕ) where
   abbrev HasSideAnswer : Type 0
   HasSideAnswer = HasSome {V = V} (λ result. IsRoundedAnswer side.rounding side.Is model graph vectors result)
 
@@ -69,7 +70,8 @@ module _ {V F : Type 0} {side : Side V F} (laws : SideLaws side) (verdict_on : (
       limits = limits_of m is
 
   side_answer : HasSideAnswer
-  side_answer = ⊎_elim (λ m. with_model m.0 m.1) (λ f. inr (Model f.0, model_says f.0 f.1, model_refused f.0 model f.2)) (model_answer model)
+  side_answer = ⊎_elim (λ m. with_model m.0 m.1) (λ f. inr (Model f.0, model_says f.0 f.1, model_refused f.0 model f.2))
+      (model_answer model)
 
 pub has_answer : (model graph vectors : List ℕ) → HasAnswer model graph vectors
 has_answer model graph vectors = side_answer below_laws has_verdict model graph vectors
@@ -90,4 +92,5 @@ module _ (model vectors : List ℕ) where
       limits = limits_of m is
 
   pub has_bound_answer : HasBoundAnswer model vectors
-  has_bound_answer = ⊎_elim (λ m. with_bound_model m.0 m.1) (λ f. inr (Model f.0, model_says f.0 f.1, model_refused f.0 model f.2)) (model_answer model)
+  has_bound_answer = ⊎_elim (λ m. with_bound_model m.0 m.1) (λ f. inr (Model f.0, model_says f.0 f.1, model_refused f.0 model f.2))
+      (model_answer model)

@@ -30,9 +30,11 @@ not_both x h l = omega (arith, linear)
 -- ---- a pair of a node and a state
 module _ (c : Controller) (n s : ℕ) where
   -- some end state has a positive weight, or none has
-  weighs_or_not : (z : ℕ) → ((e : ℕ) × (e < c.cells.states) × (0 < step_weight c n s e z)) ⊎ ((e : ℕ) → e < c.cells.states → 0 < step_weight c n s e z → ⊥)
+  weighs_or_not : (z : ℕ) → ((e : ℕ) × (e < c.cells.states) × (0 < step_weight c n s e z))
+      ⊎ ((e : ℕ) → e < c.cells.states → 0 < step_weight c n s e z → ⊥)
   weighs_or_not z = ⊎_elim inr
-      (λ f. ⊎_elim (λ l. inl (f.at, f.inside, l)) (λ none. absurd (f.fails (λ l. not_below _ none l))) (below_or_not 0 (step_weight c n s f.at z)))
+      (λ f. ⊎_elim (λ l. inl (f.at, f.inside, l)) (λ none. absurd (f.fails (λ l. not_below _ none l)))
+      (below_or_not 0 (step_weight c n s f.at z)))
       (all_or_first (λ e. 0 < step_weight c n s e z → ⊥)
       (λ e. ⊎_elim (λ l. inr (λ none. none l)) (λ none. inl (not_below _ none)) (below_or_not 0 (step_weight c n s e z))) c.cells.states)
     where
@@ -53,7 +55,8 @@ module _ (c : Controller) (n s : ℕ) where
 
   passes_or_not : PairPasses c n s ⊎ (PairPasses c n s → ⊥)
   passes_or_not = ⊎_elim
-      (λ none. ⊎_elim (λ l. inl (record { lacks_none = none; not_short = l })) (λ above. inr (λ p. not_both (short c n s) above p.not_short)) (at_most_or_above (short c n s)))
+      (λ none. ⊎_elim (λ l. inl (record { lacks_none = none; not_short = l }))
+      (λ above. inr (λ p. not_both (short c n s) above p.not_short)) (at_most_or_above (short c n s)))
       (λ z. inr (λ p. p.lacks_none z.0 z.1.0 z.1.1)) lacking
 
 -- ---- a controller
@@ -84,4 +87,5 @@ module _ (t : CellTable) (vectors : ℕ → ℕ → ℤ) where
       (at_most_or_above (excess t vectors f.node f.state))
 
   pub has_informed_verdict : (verdict : InformedVerdict) × IsInformedVerdict t vectors verdict
-  has_informed_verdict = ⊎_elim (λ all. (bounds.Yes, all)) exceeded (pairs_or_first (IsInformed t vectors) informed_or_not t.actions t.states)
+  has_informed_verdict = ⊎_elim (λ all. (bounds.Yes, all)) exceeded
+      (pairs_or_first (IsInformed t vectors) informed_or_not t.actions t.states)

@@ -1,6 +1,7 @@
 -- What a run says of the texts of two sources, from what its calls say of what these denote.
 use Rattle.std.proofs.Common.{ℕ, List, Ok}
-use Rattle.polcert_bound_answer.proofs.Common.{Meaning, table_of, PolicyVectors, value_of, InformedVerdict, Yes, IsBoundAnswer, AreBoundDenoted}
+use Rattle.polcert_bound_answer.proofs.Common.{Meaning, table_of, PolicyVectors, value_of, InformedVerdict, Yes, IsBoundAnswer}
+use Rattle.polcert_bound_answer.proofs.Common.{AreBoundDenoted}
 use Rattle.polcert_bound_answer.specs.Run.{AreBoundTexts, HasBoundVerdict, HasBoundPromise, HasBoundStartPromise, HasBoundHorizon}
 use Rattle.polcert_bound_answer.specs.Steps.Reading.{IsBoundAnswerLine}
 use Rattle.polcert_bound_answer.proofs.OneInformed.{meets}
@@ -17,9 +18,14 @@ module _ (of_model of_vectors : List ℕ → Type 0) (m : Meaning) (v : PolicyVe
   }
 
   answer_is : (verdict : InformedVerdict) (line : List ℕ) → IsBoundAnswerLine m v verdict line → IsBoundAnswer d.first d.second (Ok verdict)
-  answer_is verdict line is = (certificate_of m v d.is_model d.are_vectors, verdict_of_each m v d.is_model d.are_vectors verdict is.verdict_is)
+  answer_is verdict line is = (
+    certificate_of m v d.is_model d.are_vectors,
+    verdict_of_each m v d.is_model d.are_vectors verdict
+        is.verdict_is,
+  )
 
-  pub has_verdict : (verdict : InformedVerdict) (line : List ℕ) → IsBoundAnswerLine m v verdict line → HasBoundVerdict of_model of_vectors verdict line
+  pub has_verdict : (verdict : InformedVerdict) (line : List ℕ) → IsBoundAnswerLine m v verdict line
+      → HasBoundVerdict of_model of_vectors verdict line
   has_verdict verdict line is = record {
     texts = texts_of;
     answer = answer_is verdict line is;
@@ -29,7 +35,8 @@ module _ (of_model of_vectors : List ℕ → Type 0) (m : Meaning) (v : PolicyVe
   pub has_promise : (line : List ℕ) → IsBoundAnswerLine m v Yes line → HasBoundPromise of_model of_vectors
   has_promise line is = record { texts = texts_of; promise = yes_certified d.first d.second (answer_is Yes line is) }
 
-  pub has_horizon : (verdict : InformedVerdict) (line : List ℕ) → IsBoundAnswerLine m v verdict line → HasBoundHorizon of_model of_vectors verdict
+  pub has_horizon : (verdict : InformedVerdict) (line : List ℕ) → IsBoundAnswerLine m v verdict line
+      → HasBoundHorizon of_model of_vectors verdict
   has_horizon verdict line is = record {
     texts = texts_of;
     horizon = λ c. meets (table_of c.meaning) (value_of c.values) (table_proper c) verdict ((answer_is verdict line is).1 c);

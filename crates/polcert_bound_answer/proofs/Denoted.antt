@@ -1,6 +1,9 @@
 -- What two texts denote: one model and one list of vectors, whatever stands for them.
 use Rattle.std.proofs.Common.{◌≡◌, ℕ, ◌<◌, ℤ, List, Ok, sym, subst, arith}
-use Rattle.polcert_bound_answer.proofs.Common.{Meaning, IsSame, states_of, actions_of, IsProper, table_of, IsModelText, VectorFault, PolicyVectors, value_of, action_graph, IsActionVectorsText, IsNoActionVectorsText, IsBoundStartMost, InformedVerdict, Yes, Exceeded, FitActions, IsInformedVerdict, BoundCertificate, AreActionVectorsRefused, IsBoundAnswer}
+use Rattle.polcert_bound_answer.proofs.Common.{Meaning, IsSame, states_of, actions_of, IsProper, table_of, IsModelText, VectorFault}
+use Rattle.polcert_bound_answer.proofs.Common.{PolicyVectors, value_of, action_graph, IsActionVectorsText, IsNoActionVectorsText}
+use Rattle.polcert_bound_answer.proofs.Common.{IsBoundStartMost, InformedVerdict, Yes, Exceeded, FitActions, IsInformedVerdict}
+use Rattle.polcert_bound_answer.proofs.Common.{BoundCertificate, AreActionVectorsRefused, IsBoundAnswer}
 use Rattle.polcert_cells.specs.Meaning.{HasLimitedNumbers}
 use Rattle.polcert_model.proofs.FilledLaws.{table_rows}
 use Rattle.polcert_model.proofs.LimitLaws.{within_limits}
@@ -32,15 +35,19 @@ vectors_refused model fault m is text r = record {
 }
 
 -- there is a vector for each action of the model
-pub fit_of : (m : Meaning) (v : PolicyVectors) (vectors : List ℕ) → IsActionVectorsText (actions_of m) (states_of m) vectors v → FitActions (table_of m) v
-fit_of m v vectors are = let counts = action_counts (actions_of m) (states_of m) vectors v are in record { actions = counts.0; states = counts.1 }
+pub fit_of : (m : Meaning) (v : PolicyVectors) (vectors : List ℕ) → IsActionVectorsText (actions_of m) (states_of m) vectors v
+    → FitActions (table_of m) v
+fit_of m v vectors are = let counts = action_counts (actions_of m) (states_of m) vectors v are in
+    record { actions = counts.0; states = counts.1 }
 
 -- the line of a verdict on one model is its line on every same one
-line_there : (m n : Meaning) (v : PolicyVectors) → IsSame m n → (verdict : InformedVerdict) (line : List ℕ) → IsBoundLine m v verdict line → IsBoundLine n v verdict line
+line_there : (m n : Meaning) (v : PolicyVectors) → IsSame m n → (verdict : InformedVerdict) (line : List ℕ) → IsBoundLine m v verdict line
+    → IsBoundLine n v verdict line
 line_there m n v same Yes line (most, is_most, spelled) = (most, same_bound_most m n same v most is_most, spelled)
 line_there m n v same (Exceeded a s amount) line (by, quotient, spelled) = grind (arith, same_cells)
 
-module _ {model vectors : List ℕ} (m : Meaning) (v : PolicyVectors) (is : IsModelText model m) (are : IsActionVectorsText (actions_of m) (states_of m) vectors v) where
+module _ {model vectors : List ℕ} (m : Meaning) (v : PolicyVectors) (is : IsModelText model m)
+    (are : IsActionVectorsText (actions_of m) (states_of m) vectors v) where
   -- what a model and vectors denote
   pub certificate_of : BoundCertificate model vectors
   certificate_of = record { meaning = m; values = v; is_model = is; are_vectors = are }
@@ -48,11 +55,15 @@ module _ {model vectors : List ℕ} (m : Meaning) (v : PolicyVectors) (is : IsMo
   -- two texts are one model, as far as indices are in range, and one list of vectors for it
   pub same_vectors : (c : BoundCertificate model vectors) → IsSame m c.meaning × (v ≡ c.values)
   same_vectors c =
-      let same = models.one_model model m c.meaning is c.is_model in
-      (same, texts.one_vectors (action_graph (actions_of c.meaning)) (states_of c.meaning) vectors v c.values (for_sizes same (λ a s. IsActionVectorsText a s vectors v) are) c.are_vectors)
+      let same = models.one_model model m c.meaning is c.is_model in (
+        same,
+        texts.one_vectors (action_graph (actions_of c.meaning)) (states_of c.meaning) vectors v c.values
+            (for_sizes same (λ a s. IsActionVectorsText a s vectors v) are) c.are_vectors,
+      )
 
   -- What is said of what two texts denote, and carries to every same model, is said of whatever they denote.
-  pub of_each : (P : Meaning → PolicyVectors → Type 0) → ((n : Meaning) → IsSame m n → P n v) → (c : BoundCertificate model vectors) → P c.meaning c.values
+  pub of_each : (P : Meaning → PolicyVectors → Type 0) → ((n : Meaning) → IsSame m n → P n v) → (c : BoundCertificate model vectors)
+      → P c.meaning c.values
   of_each P carried c = let same = same_vectors c in subst (λ (w : PolicyVectors). P c.meaning w) same.1 (carried c.meaning same.0)
 
   pub verdict_of_each : (verdict : InformedVerdict) → IsInformedVerdict (table_of m) (value_of v) verdict
@@ -60,10 +71,12 @@ module _ {model vectors : List ℕ} (m : Meaning) (v : PolicyVectors) (is : IsMo
   verdict_of_each verdict h = of_each (λ n w. IsInformedVerdict (table_of n) (value_of w) verdict)
       (λ n same. verdict_there (table_of m) (table_of n) (same_cells m n same) (value_of v) verdict h)
 
-  pub most_of_each : (most : ℤ) → IsBoundStartMost m v most → (c : BoundCertificate model vectors) → IsBoundStartMost c.meaning c.values most
+  pub most_of_each : (most : ℤ) → IsBoundStartMost m v most → (c : BoundCertificate model vectors)
+      → IsBoundStartMost c.meaning c.values most
   most_of_each most h = of_each (λ n w. IsBoundStartMost n w most) (λ n same. same_bound_most m n same v most h)
 
-  pub line_of_each : (verdict : InformedVerdict) (line : List ℕ) → IsBoundLine m v verdict line → (c : BoundCertificate model vectors) → IsBoundLine c.meaning c.values verdict line
+  pub line_of_each : (verdict : InformedVerdict) (line : List ℕ) → IsBoundLine m v verdict line → (c : BoundCertificate model vectors)
+      → IsBoundLine c.meaning c.values verdict line
   line_of_each verdict line h = of_each (λ n w. IsBoundLine n w verdict line) (λ n same. line_there m n v same verdict line h)
 
 -- ---- what two texts denote, as its parts are used
@@ -93,4 +106,8 @@ module _ (model vectors : List ℕ) (answer : IsBoundAnswer model vectors (Ok Ye
 
 -- the converse
 pub yes_if_certified : (model vectors : List ℕ) → IsCertifiedBound model vectors → IsBoundAnswer model vectors (Ok Yes)
-yes_if_certified model vectors certified = (certified.certificate, λ c. informed_only_then (table_of c.meaning) (value_of c.values) (certified.promise c))
+yes_if_certified model vectors certified = (
+  certified.certificate,
+  λ c. informed_only_then (table_of c.meaning) (value_of c.values)
+      (certified.promise c),
+)

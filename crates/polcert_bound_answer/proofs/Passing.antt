@@ -27,7 +27,8 @@ module _ {T : Type 0} (r : Result T RunFault) (given : RunFault) (e : r ≡ Err 
         → RefusesBoundRightly {T = U} (Err given) model_reads model model' vectors_reads vectors vectors'
         → NamesBoundSourcesRightly {T = U} (Err given) model_failures model model' vectors_failures vectors vectors'
         → ReadsModelFirst given vectors vectors'
-        → StopsBoundRightly r model_reads model_failures model model' vectors_reads vectors_failures vectors vectors' sink_failures sink sink
+        → StopsBoundRightly r model_reads model_failures model model' vectors_reads vectors_failures vectors vectors' sink_failures sink
+        sink
     stops_again of refused read in_order = grind arith
 
 -- ---- the answer of the call that writes

@@ -14,7 +14,8 @@ greatest_same f g (suc (suc n)) same =
     ap₂ (λ x y. int_max x y) (greatest_same f g (suc n) (λ i l. same i (omega arith))) (same (suc n) (omega arith))
 
 module _ (t u : CellTable) (same : HasSameCells t u) where
-  weight_same : (a s e z : ℕ) → a < t.actions → s < t.states → e < t.states → z < t.observations → step_weight t a s e z ≡ step_weight u a s e z
+  weight_same : (a s e z : ℕ) → a < t.actions → s < t.states → e < t.states → z < t.observations
+      → step_weight t a s e z ≡ step_weight u a s e z
   weight_same a s e z al sl el zl = ap₂ (λ x y. x * y) (same.t a s e al sl el) (same.o a e z al el zl)
 
   pub scale_same : step_scale t ≡ step_scale u
@@ -23,15 +24,18 @@ module _ (t u : CellTable) (same : HasSameCells t u) where
   reward_same : (a s : ℕ) → a < t.actions → s < t.states → expected_reward t a s ≡ expected_reward u a s
   reward_same a s al sl = grind (arith, sum_below_same, weight_same)
 
-  value_same : (a s z : ℕ) (vector : ℕ → ℤ) → a < t.actions → s < t.states → z < t.observations → expected_value t a s z vector ≡ expected_value u a s z vector
+  value_same : (a s z : ℕ) (vector : ℕ → ℤ) → a < t.actions → s < t.states → z < t.observations
+      → expected_value t a s z vector ≡ expected_value u a s z vector
   value_same a s z vector al sl zl = grind (arith, sum_below_same, weight_same)
 
   best_same : (vectors : ℕ → ℕ → ℤ) (a s z : ℕ) → a < t.actions → s < t.states → z < t.observations
-      → greatest_below (λ b. expected_value t a s z (vectors b)) t.actions ≡ greatest_below (λ b. expected_value u a s z (vectors b)) u.actions
+      → greatest_below (λ b. expected_value t a s z (vectors b)) t.actions
+      ≡ greatest_below (λ b. expected_value u a s z (vectors b)) u.actions
   best_same vectors a s z al sl zl = grind (arith, greatest_same, value_same)
 
   bests_same : (vectors : ℕ → ℕ → ℤ) (a s : ℕ) → a < t.actions → s < t.states
-      → total_below (λ z. greatest_below (λ b. expected_value t a s z (vectors b)) t.actions) t.observations ≡ total_below (λ z. greatest_below (λ b. expected_value u a s z (vectors b)) u.actions) u.observations
+      → total_below (λ z. greatest_below (λ b. expected_value t a s z (vectors b)) t.actions) t.observations
+      ≡ total_below (λ z. greatest_below (λ b. expected_value u a s z (vectors b)) u.actions) u.observations
   bests_same vectors a s al sl = grind (arith, sum_below_same, best_same)
 
   pub excess_same : (vectors : ℕ → ℕ → ℤ) (a s : ℕ) → a < t.actions → s < t.states → excess t vectors a s ≡ excess u vectors a s
@@ -51,21 +55,26 @@ module _ (t u : CellTable) (same : HasSameCells t u) where
   state_back s l = subst (λ (n : ℕ). s < n) (sym same.states) l
 
   pub all_there : (vectors : ℕ → ℕ → ℤ) → AreInformed t vectors → AreInformed u vectors
-  all_there vectors h a s al sl = informed_there vectors a s (action_back a al) (state_back s sl) (h a s (action_back a al) (state_back s sl))
+  all_there vectors h a s al sl = informed_there vectors a s (action_back a al) (state_back s sl)
+      (h a s (action_back a al) (state_back s sl))
 
   pub all_back : (vectors : ℕ → ℕ → ℤ) → AreInformed u vectors → AreInformed t vectors
-  all_back vectors h a s al sl = informed_back vectors a s al sl (h a s (subst (λ (n : ℕ). a < n) same.actions al) (subst (λ (n : ℕ). s < n) same.states sl))
+  all_back vectors h a s al sl = informed_back vectors a s al sl
+      (h a s (subst (λ (n : ℕ). a < n) same.actions al) (subst (λ (n : ℕ). s < n) same.states sl))
 
-  pub verdict_there : (vectors : ℕ → ℕ → ℤ) (verdict : InformedVerdict) → IsInformedVerdict t vectors verdict → IsInformedVerdict u vectors verdict
+  pub verdict_there : (vectors : ℕ → ℕ → ℤ) (verdict : InformedVerdict) → IsInformedVerdict t vectors verdict
+      → IsInformedVerdict u vectors verdict
   verdict_there vectors verdict h1 = grind (arith, excess_same, informed_there, action_back, state_back, all_there)
 
 -- ---- vectors that are the same in range
 module _ (t : CellTable) (xs ys : ℕ → ℕ → ℤ) (same : (a s : ℕ) → a < t.actions → s < t.states → xs a s ≡ ys a s) where
-  expected_same : (a s : ℕ) → total_below (λ z. greatest_below (λ b. expected_value t a s z (xs b)) t.actions) t.observations ≡ total_below (λ z. greatest_below (λ b. expected_value t a s z (ys b)) t.actions) t.observations
+  expected_same : (a s : ℕ) → total_below (λ z. greatest_below (λ b. expected_value t a s z (xs b)) t.actions) t.observations
+      ≡ total_below (λ z. greatest_below (λ b. expected_value t a s z (ys b)) t.actions) t.observations
   expected_same a s =
       sum_below_same _ (λ z. greatest_below (λ b. expected_value t a s z (ys b)) t.actions) t.observations
       (λ z _. greatest_same _ (λ b. expected_value t a s z (ys b)) t.actions
-      (λ b bl. sum_below_same _ (λ e. pos (step_weight t a s e z) *ℤ ys b e) t.states (λ e el. ap (λ (x : ℤ). pos (step_weight t a s e z) *ℤ x) (same b e bl el))))
+      (λ b bl. sum_below_same _ (λ e. pos (step_weight t a s e z) *ℤ ys b e) t.states
+      (λ e el. ap (λ (x : ℤ). pos (step_weight t a s e z) *ℤ x) (same b e bl el))))
 
   pub informed_of : AreInformed t xs → AreInformed t ys
   informed_of h a s al sl = grind (arith, expected_same)

@@ -1,5 +1,6 @@
 -- A cell has the value of the last entry that covers it.
-use Rattle.std.proofs.Common.{◌≡◌, ◌∙◌, ℕ, pos, zero, suc, ◌*◌, ◌<◌, Bool, true, false, cond, ◌&&◌, ⊎_elim, Option, Some, None, List, [], ◌∷◌, ◌++◌, reverse, mul-suc, refl, sym, ap, subst, arith}
+use Rattle.std.proofs.Common.{◌≡◌, ◌∙◌, ℕ, pos, zero, suc, ◌*◌, ◌<◌, Bool, true, false, cond, ◌&&◌, ⊎_elim, Option, Some, None, List, []}
+use Rattle.std.proofs.Common.{◌∷◌, ◌++◌, reverse, mul-suc, refl, sym, ap, subst, arith}
 use Rattle.std.proofs.lemmas.List.{reverse-append, append_assoc, append-nil}
 use Rattle.polcert_cells.proofs.Common.{list_any, Table, Preamble, Place, Entry, covers, fit_places}
 use Rattle.std.specs.List.{find}
@@ -12,7 +13,8 @@ use Rattle.polcert_cells.proofs.Basics.{true≢false, or_false, or_false_from, a
 
 -- with one more entry at the end
 pub one_more_entry : (entries : List Entry) (entry : Entry) (table : Table) (indices : List ℕ)
-    → last_covering (entries ++ entry ∷ []) table indices ≡ cond (covers table indices entry) (Some entry) (last_covering entries table indices)
+    → last_covering (entries ++ entry ∷ []) table indices
+    ≡ cond (covers table indices entry) (Some entry) (last_covering entries table indices)
 one_more_entry entries entry table indices = ap (find (covers table indices)) (reverse-append entries (entry ∷ []))
 
 pub covered_now : (entries : List Entry) (entry : Entry) (table : Table) (indices : List ℕ) → covers table indices entry ≡ true
@@ -28,23 +30,28 @@ passed_over : (p : Entry → Bool) (xs ys : List Entry) → list_any p xs ≡ fa
 passed_over p [] ys e = refl
 passed_over p (x ∷ xs) ys e =
     let both = or_false (p x) (list_any p xs) e in
-    let turned : reverse (x ∷ xs) ++ ys ≡ reverse xs ++ x ∷ ys = ap (λ (l : List Entry). l ++ ys) (reverse-append (x ∷ []) xs) ∙ append_assoc (reverse xs) (x ∷ []) ys in
+    let turned : reverse (x ∷ xs) ++ ys ≡ reverse xs ++ x ∷ ys = ap (λ (l : List Entry). l ++ ys) (reverse-append (x ∷ []) xs)
+    ∙ append_assoc (reverse xs) (x ∷ []) ys in
     ap (find p) turned ∙ passed_over p xs (x ∷ ys) both.1 ∙ ap (λ b. cond b (Some x) (find p ys)) both.0
 
 last_is_found : (p : Entry → Bool) (before : List Entry) (entry : Entry) (after : List Entry) → p entry ≡ true → list_any p after ≡ false
     → find p (reverse (before ++ entry ∷ after)) ≡ Some entry
 last_is_found p before entry after here following =
     let turned : reverse (before ++ entry ∷ after) ≡ reverse after ++ entry ∷ reverse before =
-    reverse-append before (entry ∷ after) ∙ ap (λ (l : List Entry). l ++ reverse before) (reverse-append (entry ∷ []) after) ∙ append_assoc (reverse after) (entry ∷ []) (reverse before) in
-    ap (find p) turned ∙ passed_over p after (entry ∷ reverse before) following ∙ ap (λ b. cond b (Some entry) (find p (reverse before))) here
+    reverse-append before (entry ∷ after) ∙ ap (λ (l : List Entry). l ++ reverse before) (reverse-append (entry ∷ []) after)
+    ∙ append_assoc (reverse after) (entry ∷ []) (reverse before) in
+    ap (find p) turned ∙ passed_over p after (entry ∷ reverse before) following
+    ∙ ap (λ b. cond b (Some entry) (find p (reverse before))) here
 
 none_is_found : (p : Entry → Bool) (entries : List Entry) → list_any p entries ≡ false → find p (reverse entries) ≡ None
 none_is_found p entries e = ap (find p) (sym (append-nil (reverse entries))) ∙ passed_over p entries [] e
 
-pub last_is_one : (entries : List Entry) (table : Table) (indices : List ℕ) (found : Option Entry) → IsLastCovering entries table indices found → found ≡ last_covering entries table indices
+pub last_is_one : (entries : List Entry) (table : Table) (indices : List ℕ) (found : Option Entry)
+    → IsLastCovering entries table indices found → found ≡ last_covering entries table indices
 last_is_one entries table indices found h1 = grind (arith, last_is_found, none_is_found)
 
-one_before : (entry : Entry) (entries : List Entry) (table : Table) (indices : List ℕ) (found : Option Entry) → IsLastCovering entries table indices found
+one_before : (entry : Entry) (entries : List Entry) (table : Table) (indices : List ℕ) (found : Option Entry)
+    → IsLastCovering entries table indices found
     → (o : Option Entry) × IsLastCovering (entry ∷ entries) table indices o
 one_before entry entries table indices (Some f) (last before e after whole here following) =
     (Some e, last (entry ∷ before) e after (ap (λ (l : List Entry). entry ∷ l) whole) here following)
@@ -57,7 +64,8 @@ some_last : (entries : List Entry) (table : Table) (indices : List ℕ) → (o :
 some_last [] table indices = (None, none refl)
 some_last (x ∷ xs) table indices = let following = some_last xs table indices in one_before x xs table indices following.0 following.1
 
-pub last_is : (entries : List Entry) (table : Table) (indices : List ℕ) → IsLastCovering entries table indices (last_covering entries table indices)
+pub last_is : (entries : List Entry) (table : Table) (indices : List ℕ)
+    → IsLastCovering entries table indices (last_covering entries table indices)
 last_is entries table indices =
     let found = some_last entries table indices in
     subst (IsLastCovering entries table indices) (last_is_one entries table indices found.0 found.1) found.1
@@ -70,7 +78,8 @@ fit_further (p ∷ ps) (i ∷ row) more e =
     let both = and_true (fits_place p i) (fit_places ps row) e in
     ap (λ b. b && fit_places ps (row ++ more)) both.0 ∙ (fit_further ps row more both.1)
 
-pub covers_row : (table : Table) (row more : List ℕ) (entry : Entry) → covers table row entry ≡ true → covers table (row ++ more) entry ≡ true
+pub covers_row : (table : Table) (row more : List ℕ) (entry : Entry) → covers table row entry ≡ true
+    → covers table (row ++ more) entry ≡ true
 covers_row table row more entry e = grind (arith, and_true, fit_further)
 
 pub sum_of_same : (f : ℕ → ℕ) (k n : ℕ) → ((i : ℕ) → i < n → f i ≡ k) → sum_below f n ≡ k * n
@@ -84,16 +93,20 @@ uniform_weight p indices entry e = grind arith
 
 -- a row whose cells all have their values from `uniform` sums to its scale
 pub uniform_row : (p : Preamble) (entries : List Entry) (table : Table) (row : List ℕ) (entry : Entry) (n : ℕ) → entry.body ≡ Uniform
-    → ((c : ℕ) → c < n → last_covering entries table (row ++ c ∷ []) ≡ Some entry) → sum_below (λ c. weight p entries table (row ++ c ∷ [])) n ≡ 1_000_000 * n
+    → ((c : ℕ) → c < n → last_covering entries table (row ++ c ∷ []) ≡ Some entry)
+    → sum_below (λ c. weight p entries table (row ++ c ∷ [])) n ≡ 1_000_000 * n
 uniform_row p entries table row entry n u h = grind (arith, sum_of_same, uniform_weight)
 
-pub uncovered_weight : (p : Preamble) (entries : List Entry) (table : Table) (indices : List ℕ) → list_any (covers table indices) entries ≡ false → weight p entries table indices ≡ 0
+pub uncovered_weight : (p : Preamble) (entries : List Entry) (table : Table) (indices : List ℕ)
+    → list_any (covers table indices) entries ≡ false → weight p entries table indices ≡ 0
 uncovered_weight p entries table indices e = ap (value_or 0 (weight_of p indices)) (none_is_found (covers table indices) entries e)
 
-pub uncovered_reward : (p : Preamble) (entries : List Entry) (indices : List ℕ) → list_any (covers Reward indices) entries ≡ false → reward p entries indices ≡ pos 0
+pub uncovered_reward : (p : Preamble) (entries : List Entry) (indices : List ℕ) → list_any (covers Reward indices) entries ≡ false
+    → reward p entries indices ≡ pos 0
 uncovered_reward p entries indices e = ap (value_or (pos 0) (reward_of p indices)) (none_is_found (covers Reward indices) entries e)
 
-pub one_more_weight : (p : Preamble) (entries : List Entry) (entry : Entry) (table : Table) (indices : List ℕ) → OneMoreWeight p entries entry table indices
+pub one_more_weight : (p : Preamble) (entries : List Entry) (entry : Entry) (table : Table) (indices : List ℕ)
+    → OneMoreWeight p entries entry table indices
 one_more_weight p entries entry table indices = grind (arith, covered_now, not_covered_now)
 
 pub one_more_reward : (p : Preamble) (entries : List Entry) (entry : Entry) (indices : List ℕ) → OneMoreReward p entries entry indices

@@ -4,7 +4,8 @@ pub use Rattle.polcert_cells.specs.Elements.{Elements, StandsFor, count_of}
 pub use Rattle.polcert_cells.specs.Numbers.{AreNumbers}
 pub use Rattle.polcert_cells.specs.Preamble.{Preamble}
 pub use Rattle.polcert_cells.specs.Sparse.{IsRow, scaled_cells, weight_at}
-pub use Rattle.polcert_cells.specs.Start.{IsStart, IsStartBody, StartWeights, equal_weights, name, number, only_state, probabilities, shares_of, uniform}
+pub use Rattle.polcert_cells.specs.Start.{IsStart, IsStartBody, StartWeights, equal_weights, name, number, only_state, probabilities}
+pub use Rattle.polcert_cells.specs.Start.{shares_of, uniform}
 pub use Rattle.polcert_cells.specs.Steps.EntryLists.{AreHeldIn}
 pub use Rattle.polcert_cells.specs.Words.{IsWord}
 unfoldable pub use Rattle.polcert_cells.specs.Words.{is_reserved, topic_of}

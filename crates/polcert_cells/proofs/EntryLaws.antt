@@ -1,11 +1,14 @@
 -- A lexeme stands for at most one element, and the lexemes of an item are at most one entry.
-use Rattle.std.proofs.Common.{◌≡◌, ◌∙◌, ℕ, ◌==◌, Bool, true, List, [], ◌∷◌, ◌++◌, length, map, drop, codes, ℤ, pos, refl, sym, ap, subst, arith}
-use Rattle.polcert_cells.proofs.Common.{list_any, Lexeme, TokenKind, Name, Numeral, Colon, Table, IsWord, AreNumbers, Elements, StandsFor, Preamble, Place, Entry}
+use Rattle.std.proofs.Common.{◌≡◌, ◌∙◌, ℕ, ◌==◌, Bool, true, List, [], ◌∷◌, ◌++◌, length, map, drop, codes, ℤ, pos, refl, sym, ap, subst}
+use Rattle.std.proofs.Common.{arith}
+use Rattle.polcert_cells.proofs.Common.{list_any, Lexeme, TokenKind, Name, Numeral, Colon, Table, IsWord, AreNumbers, Elements, StandsFor}
+use Rattle.polcert_cells.proofs.Common.{Preamble, Place, Entry}
 use Rattle.polcert_cells.specs.Numbers as numbers
 use Rattle.polcert_cells.specs.Preamble.{is_mdp, dimensions}
 use Rattle.polcert_cells.specs.declared.entries.Body.{Body}
 use Rattle.polcert_cells.specs.declared.entries.Body.TheVariants.{Probabilities, Rewards}
-use Rattle.polcert_cells.specs.Entry.{forms, cells_in, IsPlace, ArePlaces, none, more, IsBody, probabilities, rewards, uniform, identity, IsEntry}
+use Rattle.polcert_cells.specs.Entry.{forms, cells_in, IsPlace, ArePlaces, none, more, IsBody, probabilities, rewards, uniform, identity}
+use Rattle.polcert_cells.specs.Entry.{IsEntry}
 use Rattle.polcert_cells.proofs.Basics.{same_head, same_tail}
 use Rattle.polcert_cells.proofs.NumberLaws.{one_list}
 
@@ -27,7 +30,8 @@ pub body_no_colon : {cells : ℕ} {ls : List Lexeme} {b : Body} → IsBody cells
 body_no_colon h1 = grind arith
 
 -- what stands after places doesn't begin with a colon, so the places end at one lexeme
-pub one_pattern : {ds : List Elements} {xs ys : List Lexeme} {ps qs : List Place} (u v : List Lexeme) → ArePlaces ds xs ps → ArePlaces ds ys qs
+pub one_pattern : {ds : List Elements} {xs ys : List Lexeme} {ps qs : List Place} (u v : List Lexeme) → ArePlaces ds xs ps
+    → ArePlaces ds ys qs
     → NoColonFirst u → NoColonFirst v → xs ++ u ≡ ys ++ v → (ps ≡ qs) × (u ≡ v)
 one_pattern u v none none p q e = (refl, e)
 one_pattern u v none (more colon place rest) p q e = absurd (subst NoColonFirst e p colon)
@@ -55,12 +59,15 @@ pos_once (p ∷ ps) (q ∷ qs) e =
 pos_once c d e = cc
 
 -- no table may have both probabilities and rewards
-not_both : (mdp : Bool) (table : Table) (ps : List ℕ) (hs : List ℤ) (m n : ℕ) → list_any (λ k. k == m) (forms mdp table (Probabilities ps)) ≡ true → list_any (λ k. k == n) (forms mdp table (Rewards hs)) ≡ true → ⊥
+not_both : (mdp : Bool) (table : Table) (ps : List ℕ) (hs : List ℤ) (m n : ℕ)
+    → list_any (λ k. k == m) (forms mdp table (Probabilities ps)) ≡ true → list_any (λ k. k == n) (forms mdp table (Rewards hs)) ≡ true → ⊥
 not_both mdp table ps hs m n h1 h2 = grind arith
 
-one_body : (mdp : Bool) (table : Table) (m n : ℕ) {c d : ℕ} {ls : List Lexeme} {x y : Body} → list_any (λ k. k == m) (forms mdp table x) ≡ true → list_any (λ k. k == n) (forms mdp table y) ≡ true
+one_body : (mdp : Bool) (table : Table) (m n : ℕ) {c d : ℕ} {ls : List Lexeme} {x y : Body}
+    → list_any (λ k. k == m) (forms mdp table x) ≡ true → list_any (λ k. k == n) (forms mdp table y) ≡ true
     → IsBody c ls x → IsBody d ls y → x ≡ y
-one_body mdp table m n f g (probabilities {ps = ps} a p q) (probabilities {ps = qs} b r s) = ap Probabilities (pos_once ps qs (one_list a b))
+one_body mdp table m n f g (probabilities {ps = ps} a p q) (probabilities {ps = qs} b r s) =
+    ap Probabilities (pos_once ps qs (one_list a b))
 one_body mdp table m n f g (probabilities {ps = ps} a p q) (rewards {hs = hs} b r) = absurd (not_both mdp table ps hs m n f g)
 one_body mdp table m n f g (probabilities a p q) (uniform w) = absurd (numeral_not_word _ _ _ w a)
 one_body mdp table m n f g (probabilities a p q) (identity w) = absurd (numeral_not_word _ _ _ w a)
@@ -79,5 +86,11 @@ one_body mdp table m n f g c d = refl
 pub one_entry : (p : Preamble) (table : Table) (ls : List Lexeme) (x y : Entry) → IsEntry p table ls x → IsEntry p table ls y → x ≡ y
 one_entry p table ls x y a b =
     let parts = one_pattern a.rest b.rest a.places b.places (body_no_colon a.body) (body_no_colon b.body) (sym a.whole ∙ b.whole) in
-    let body : IsBody (cells_in (drop (length x.places) (dimensions p table))) b.rest x.body = subst (λ r. IsBody (cells_in (drop (length x.places) (dimensions p table))) r x.body) parts.1 a.body in
-    λ i. record { table = (a.table_is ∙ sym b.table_is) i; places = parts.0 i; body = (one_body (is_mdp p) table _ _ a.form b.form body b.body) i }
+    let body : IsBody (cells_in (drop (length x.places) (dimensions p table))) b.rest x.body =
+    subst (λ r. IsBody (cells_in (drop (length x.places) (dimensions p table))) r x.body) parts.1 a.body in
+    λ i. record {
+      table = (a.table_is ∙ sym b.table_is) i;
+      places = parts.0 i;
+      body =
+          (one_body (is_mdp p) table _ _ a.form b.form body b.body) i;
+    }

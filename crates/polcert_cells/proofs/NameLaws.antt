@@ -1,5 +1,6 @@
 -- Names kept as texts, and the list of their bytes.
-use Rattle.std.proofs.Common.{◌≡◌, ◌∙◌, ℕ, zero, suc, ◌+◌, Bool, true, false, not, ◌||◌, List, [], ◌∷◌, ◌++◌, map, position, bytes_eq, Some, refl, ap, subst, arith, slice_get, string_bytes, cond, String, if◌then◌else◌, rules}
+use Rattle.std.proofs.Common.{◌≡◌, ◌∙◌, ℕ, zero, suc, ◌+◌, Bool, true, false, not, ◌||◌, List, [], ◌∷◌, ◌++◌, map, position, bytes_eq, Some}
+use Rattle.std.proofs.Common.{refl, ap, subst, arith, slice_get, string_bytes, cond, String, if◌then◌else◌, rules}
 use Rattle.polcert_cells.proofs.Common.{list_any, map-append, length-map, bytes_eq-Decides}
 use Rattle.std.specs.List.{position_or_len, AllByRecursion, IsDistinct}
 use Rattle.std.proofs.lemmas.Bool.{lt-ltb}
@@ -60,7 +61,8 @@ module _ {Z : Type 0} where
 
   -- ---- the name that stands at a place stands at none before it
 
-  other_name : (x : String Z) (xs : List (String Z)) (n : ℕ) (key : String Z) → AllByRecursion (λ y. string_eq x y ≡ false) xs → slice_get xs n ≡ Some key → string_eq x key ≡ false
+  other_name : (x : String Z) (xs : List (String Z)) (n : ℕ) (key : String Z) → AllByRecursion (λ y. string_eq x y ≡ false) xs
+      → slice_get xs n ≡ Some key → string_eq x key ≡ false
   other_name x [] n key all is = cc
   other_name x (y ∷ ys) zero key all is = let same : y ≡ key = cc in subst (λ k. string_eq x k ≡ false) same all.0
   other_name x (y ∷ ys) (suc n) key all is = other_name x ys n key all.1 is
@@ -75,6 +77,8 @@ module _ {Z : Type 0} where
       ∙ ap (λ m. 1 + m) (first_at xs n key (IsDistinct-tail string_eq x xs differ) is)
       ∙ (omega arith)
 
-  pub stands_at : (keys : List (String Z)) (names : List (List ℕ)) (name : List ℕ) (n : ℕ) (key : String Z) → map string_bytes keys ≡ names → IsDistinct string_eq keys
+  pub stands_at : (keys : List (String Z)) (names : List (List ℕ)) (name : List ℕ) (n : ℕ) (key : String Z) → map string_bytes keys ≡ names
+      → IsDistinct string_eq keys
       → slice_get keys n ≡ Some key → bytes_eq (string_bytes key) name ≡ true → Some n ≡ position (bytes_eq name) names
-  stands_at keys names name n key are differ is same = grind (arith, bytes_eq, slice_get, string_bytes, length-map, lt-ltb, slice_get_within, bytes_eq-Decides, first_at)
+  stands_at keys names name n key are differ is same =
+      grind (arith, bytes_eq, slice_get, string_bytes, length-map, lt-ltb, slice_get_within, bytes_eq-Decides, first_at)

@@ -31,7 +31,8 @@ above_zero : (n d : ℕ) → 0 < d → 0 < suc n * d
 above_zero n d p = let l : 1 * d ≤ suc n * d = mul-le-mul_right d (omega arith) in omega (arith, l)
 
 pub without_factor_ℤ : (h k : ℤ) (d : ℕ) → 0 < d → h *ℤ pos d ≡ k *ℤ pos d → h ≡ k
-without_factor_ℤ h k d h1 h2 = grind (arith, pos-*ℤ-pos, negsuc-*ℤ-pos, without_factor, same_pos, positive_not_negative, same_negative, above_zero)
+without_factor_ℤ h k d h1 h2 = grind
+    (arith, pos-*ℤ-pos, negsuc-*ℤ-pos, without_factor, same_pos, positive_not_negative, same_negative, above_zero)
 
 pub one_exact : (negative : Bool) (bs : List ℕ) (h k : ℤ) → IsExact negative bs h → IsExact negative bs k → h ≡ k
 one_exact negative bs h k a b = without_factor_ℤ h k millionth millionth_pos (a ∙ sym b)

@@ -21,7 +21,8 @@ same_table : (t u : Table) → is_table t u ≡ true → t ≡ u
 same_table t u h1 = grind arith
 
 pub covered_table : (table : Table) (indices : List ℕ) (entry : Entry) → covers table indices entry ≡ true → entry.table ≡ table
-covered_table table indices entry c = same_table entry.table table (and_true (is_table entry.table table) (fit_places entry.places indices) c).0
+covered_table table indices entry c = same_table entry.table table
+    (and_true (is_table entry.table table) (fit_places entry.places indices) c).0
 
 pub alike_weight : (n s : ℕ) → s < n → 1 ≡ get_or (equal_weights n (λ x. true)).weights s 0
 alike_weight n s l = sym (get_or-map-range_with_len (λ (x : ℕ). 1) 0 n s s 0 l (omega arith))

@@ -1,7 +1,9 @@
 -- The lexemes after `start` give at most one start.
 use Rattle.std.proofs.Common.{◌≡◌, ◌∙◌, ℕ, suc, ◌==◌, true, List, [], ◌∷◌, length, map, codes, ℤ, pos, refl, sym, ap, arith}
 use Rattle.std.specs.List.{AllZip}
-use Rattle.polcert_cells.proofs.Common.{Lexeme, TokenKind, Name, Numeral, Colon, IsWord, is_reserved, topic_of, AreNumbers, Elements, count_of, StandsFor, StartWeights, shares_of, equal_weights, IsStartBody, uniform, name, number, only_state, probabilities, IsStart}
+use Rattle.polcert_cells.proofs.Common.{Lexeme, TokenKind, Name, Numeral, Colon, IsWord, is_reserved, topic_of, AreNumbers, Elements}
+use Rattle.polcert_cells.proofs.Common.{count_of, StandsFor, StartWeights, shares_of, equal_weights, IsStartBody, uniform, name, number}
+use Rattle.polcert_cells.proofs.Common.{only_state, probabilities, IsStart}
 use Rattle.polcert_cells.specs.Words.{IsName}
 use Rattle.polcert_cells.specs.Numbers as numbers
 use Rattle.polcert_cells.proofs.Basics.{true≢false, one_some}
@@ -60,7 +62,8 @@ one_body states ls x y (probabilities ps o p d s) (only_state c n v) = absurd (o
 one_body states ls x y (probabilities ps o p d s) (probabilities qs m n c t) = ap shares_of (pos_once ps qs (one_list p n))
 one_body states ls x y e q = refl
 
-pub one_choice : (states : Elements) (ls : List Lexeme) (ms ns : List ℕ) → AllZip (StandsFor states) ls ms → AllZip (StandsFor states) ls ns → ms ≡ ns
+pub one_choice : (states : Elements) (ls : List Lexeme) (ms ns : List ℕ) → AllZip (StandsFor states) ls ms → AllZip (StandsFor states) ls ns
+    → ms ≡ ns
 one_choice states [] [] [] a b = refl
 one_choice states (l ∷ ls) (m ∷ ms) (n ∷ ns) a b =
     let here : m ≡ n = one_element states l m n a.0 b.0 in

@@ -1,6 +1,8 @@
 -- A start has a share for each state, and the shares add up to their total, which is above 0 and at most one.
-use Rattle.std.proofs.Common.{◌≡◌, ◌∙◌, ℕ, zero, suc, ◌+◌, ◌<◌, ◌≤◌, ◌==◌, Bool, true, false, cond, ◌⊎◌, ⊎_elim, Some, List, [], ◌∷◌, length, map, sum, not, refl, sym, ap, subst, arith}
-use Rattle.polcert_cells.proofs.Common.{length-map, nat_tests, range_with_len, Lexeme, Elements, count_of, StartWeights, equal_weights, shares_of, IsStartBody, uniform, name, number, only_state, probabilities, IsStart}
+use Rattle.std.proofs.Common.{◌≡◌, ◌∙◌, ℕ, zero, suc, ◌+◌, ◌<◌, ◌≤◌, ◌==◌, Bool, true, false, cond, ◌⊎◌, ⊎_elim, Some, List, [], ◌∷◌}
+use Rattle.std.proofs.Common.{length, map, sum, not, refl, sym, ap, subst, arith}
+use Rattle.polcert_cells.proofs.Common.{length-map, nat_tests, range_with_len, Lexeme, Elements, count_of, StartWeights, equal_weights}
+use Rattle.polcert_cells.proofs.Common.{shares_of, IsStartBody, uniform, name, number, only_state, probabilities, IsStart}
 use Rattle.std.proofs.lemmas.List.FromFn.{length-map-range_with_len}
 use Rattle.std.proofs.lemmas.List.Sums.{sum_by-cons, sum-map}
 use Rattle.std.specs.List.{count_by}
@@ -97,7 +99,8 @@ level_shares ps = record { weights = map sign ps; total = count_by is_positive p
 abbrev millionth_shares : List ℕ → StartWeights
 millionth_shares ps = record { weights = ps; total = 1_000_000 }
 
-shares_fair : (ps : List ℕ) → length ps ≤ most_states → sum ps ≡ 1_000_000 → (level : Bool) → IsFair (length ps) (cond level (level_shares ps) (millionth_shares ps))
+shares_fair : (ps : List ℕ) → length ps ≤ most_states → sum ps ≡ 1_000_000 → (level : Bool)
+    → IsFair (length ps) (cond level (level_shares ps) (millionth_shares ps))
 shares_fair ps l e true =
     let le = signs_le ps in
     grind (arith, length-map, sum-map, signs_some)
@@ -106,7 +109,8 @@ shares_fair ps l e false = record { count = refl; adds_up = e; some = omega arit
 named_below : (states : Elements) (bytes : List ℕ) (s : ℕ) → number_of states bytes ≡ Some s → s < count_of states
 named_below states bytes s h1 = grind arith
 
-body_fair : (states : Elements) (ls : List Lexeme) (x : StartWeights) → 1 ≤ count_of states → count_of states ≤ most_states → IsStartBody states ls x → IsFair (count_of states) x
+body_fair : (states : Elements) (ls : List Lexeme) (x : StartWeights) → 1 ≤ count_of states → count_of states ≤ most_states
+    → IsStartBody states ls x → IsFair (count_of states) x
 body_fair states ls x a m (uniform w) = alike_some (count_of states) (λ s. true) 0 m refl (omega (arith, a))
 body_fair states ls x a m (name {s = s} n e) = alike_some (count_of states) (λ n. n == s) s m (same_index s) (named_below states _ s e)
 body_fair states ls x a m (number {s = s} more n below) = alike_some (count_of states) (λ n. n == s) s m (same_index s) below
@@ -114,7 +118,8 @@ body_fair states ls x a m (only_state e n v) = alike_some (count_of states) (λ 
 body_fair states ls x a m (probabilities ps more n count e) =
     subst (λ n. IsFair n (shares_of ps)) count (shares_fair ps (subst (λ n. n ≤ most_states) (sym count) m) e (is_level ps))
 
-pub start_fair : (states : Elements) (ls : List Lexeme) (x : StartWeights) → 1 ≤ count_of states → count_of states ≤ most_states → IsStart states ls x → IsFair (count_of states) x
+pub start_fair : (states : Elements) (ls : List Lexeme) (x : StartWeights) → 1 ≤ count_of states → count_of states ≤ most_states
+    → IsStart states ls x → IsFair (count_of states) x
 start_fair states ls x a m (plain c b) = body_fair states _ x a m b
 start_fair states ls x a m (include chosen w c z some) = alike_fair (count_of states) (included chosen) m some
 start_fair states ls x a m (exclude chosen w c z some) = alike_fair (count_of states) (excluded chosen) m some

@@ -10,18 +10,24 @@ pub use Rattle.polcert_cells.specs.declared.cells.Row.TheVariants.{Scaled}
 pub use Rattle.polcert_cells.specs.declared.common_reward.CommonReward.{CommonReward}
 pub use Rattle.polcert_cells.specs.declared.common_reward.RewardCell.{RewardCell}
 pub use Rattle.polcert_cells.specs.declared.elements.Cell.{Cell}
-pub use Rattle.polcert_check.specs.Above.{IsAboveVerdict, MeetsHorizonAbove, NamesSmallAmountAbove, PassesAbove, PromiseAbove, RewardPromiseAbove}
-pub use Rattle.polcert_check.specs.Horizon.{AtMost, Controller, HasCutRun, IsRunInRange, MeetsEveryHorizon, MeetsHorizon, Promise, RewardPromise, controller_of, end_value, is_cut, pairs, reward_part, rewards, rewards_sum, runs, step_scale, step_weight, sum_over, total, total_below, uncut, weight, weights_sum, worth_sum}
+pub use Rattle.polcert_check.specs.Above.{IsAboveVerdict, MeetsHorizonAbove, NamesSmallAmountAbove, PassesAbove, PromiseAbove}
+pub use Rattle.polcert_check.specs.Above.{RewardPromiseAbove}
+pub use Rattle.polcert_check.specs.Horizon.{AtMost, Controller, HasCutRun, IsRunInRange, MeetsEveryHorizon, MeetsHorizon, Promise}
+pub use Rattle.polcert_check.specs.Horizon.{RewardPromise, controller_of, end_value, is_cut, pairs, reward_part, rewards, rewards_sum, runs}
+pub use Rattle.polcert_check.specs.Horizon.{step_scale, step_weight, sum_over, total, total_below, uncut, weight, weights_sum, worth_sum}
 unfoldable pub use Rattle.polcert_check.specs.Horizon.{one}
-pub use Rattle.polcert_check.specs.Lower.{CanLower, IsFirstLack, IsFirstShort, IsLeast, IsLeastConstant, IsNotLowered, IsNotMended, NoneLacks, RefusesSmallAmount, lowered_by}
+pub use Rattle.polcert_check.specs.Lower.{CanLower, IsFirstLack, IsFirstShort, IsLeast, IsLeastConstant, IsNotLowered, IsNotMended}
+pub use Rattle.polcert_check.specs.Lower.{NoneLacks, RefusesSmallAmount, lowered_by}
 pub use Rattle.polcert_check.specs.Raise.{IsLeastRaise, IsNotRaised}
 pub use Rattle.polcert_check.specs.Shortfall.{Lacks, PairPasses, Passes, at_node, backing, most_short, short}
 unfoldable pub use Rattle.polcert_check.specs.Shortfall.{largest_amount}
 pub use Rattle.polcert_check.specs.StartMost.{IsStartMost, StartPromiseAbove}
-pub use Rattle.polcert_check.specs.StartWorth.{IsBestStart, IsCeilQuotient, IsFirstGreatest, IsFloorQuotient, IsStartWorth, StartPromise, start_sum}
+pub use Rattle.polcert_check.specs.StartWorth.{IsBestStart, IsCeilQuotient, IsFirstGreatest, IsFloorQuotient, IsStartWorth, StartPromise}
+pub use Rattle.polcert_check.specs.StartWorth.{start_sum}
 pub use Rattle.polcert_check.specs.Steps.CheckInput.{checked_controller, controller}
 pub use Rattle.polcert_check.specs.Steps.Exceptions.{AreBefore, AreExcepted, IsWeighed, row_weight, weighed_total}
-pub use Rattle.polcert_check.specs.Steps.Factored.{AreKnown, IsLeastOf, IsPairVerdict, Misses, expected_reward, expected_value, reward_at_end, value_at_end, value_term}
+pub use Rattle.polcert_check.specs.Steps.Factored.{AreKnown, IsLeastOf, IsPairVerdict, Misses, expected_reward, expected_value}
+pub use Rattle.polcert_check.specs.Steps.Factored.{reward_at_end, value_at_end, value_term}
 pub use Rattle.polcert_check.specs.Steps.Findings.{IsFirstOf, IsFound, IsFoundBefore, IsPair, IsVerdictFor, IsWalked, IsWorstOf}
 pub use Rattle.polcert_check.specs.Steps.FollowedCells.{followed, followed_is_proper, followed_is_within}
 pub use Rattle.polcert_check.specs.Steps.Mirrored.{CanMove, IsLeastMove, mirrored, sided, signed_from}

@@ -10,7 +10,8 @@ pub backed : short (one_node (one_state 1) (neg_ℤ (pos 2_000_000))) 0 0 ≡ po
 unfolding one
 backed = refl
 
-pub three_steps : worth_sum (one_node (one_state 1) (neg_ℤ (pos 2_000_000))) 3 (Some 0) 0 ≡ neg_ℤ (pos (2_000_000 * (10 ^ 12) ^ 3 * (10 ^ 6) ^ 3))
+pub three_steps : worth_sum (one_node (one_state 1) (neg_ℤ (pos 2_000_000))) 3 (Some 0) 0
+    ≡ neg_ℤ (pos (2_000_000 * (10 ^ 12) ^ 3 * (10 ^ 6) ^ 3))
 unfolding one
 three_steps = refl
 

@@ -25,11 +25,14 @@ pub exact_1_1 : short one_door 1 1 ≡ pos 0
 unfolding one
 exact_1_1 = refl
 
-pub earns : sum_over_belief two_doors even_belief (λ s. expected_total two_doors (value_at_end one_door seen_door s) (as_policy (policy_of one_door seen_door)) 1 s) ≡ pos (3_000_000 * (4 * 10 ^ 18))
+pub earns : sum_over_belief two_doors even_belief (λ s. expected_total two_doors (value_at_end one_door seen_door s)
+    (as_policy (policy_of one_door seen_door)) 1 s) ≡ pos (3_000_000 * (4 * 10 ^ 18))
 unfolding one
 earns = refl
 
-pub other_earns : sum_over_belief two_doors even_belief (λ s. expected_total two_doors (value_at_end one_door other_door s) (as_policy (policy_of one_door other_door)) 1 s) ≡ pos (1_000_000 * (4 * 10 ^ 18))
+pub other_earns : sum_over_belief two_doors even_belief
+    (λ s. expected_total two_doors (value_at_end one_door other_door s) (as_policy (policy_of one_door other_door)) 1 s)
+    ≡ pos (1_000_000 * (4 * 10 ^ 18))
 unfolding one
 other_earns = refl
 
@@ -41,20 +44,26 @@ one_is_out belief a z out = rw out (omega arith)
 zero_is_out : (belief : Belief) (a z : ℕ) → belief 0 ≡ 0 → updated two_doors belief a z 0 ≡ 0
 zero_is_out belief a z out = rw out (omega arith)
 
-stays_out_one : (observations : List ℕ) (policy : ObservationPolicy) (belief : Belief) → belief 1 ≡ 0 → belief_after two_doors policy belief observations 1 ≡ 0
+stays_out_one : (observations : List ℕ) (policy : ObservationPolicy) (belief : Belief) → belief 1 ≡ 0
+    → belief_after two_doors policy belief observations 1 ≡ 0
 stays_out_one [] policy belief out = out
-stays_out_one (z ∷ observations) policy belief out = stays_out_one observations (λ rest. policy (z ∷ rest)) (updated two_doors belief (policy []) z) (one_is_out belief (policy []) z out)
+stays_out_one (z ∷ observations) policy belief out =
+    stays_out_one observations (λ rest. policy (z ∷ rest)) (updated two_doors belief (policy []) z) (one_is_out belief (policy []) z out)
 
-stays_out_zero : (observations : List ℕ) (policy : ObservationPolicy) (belief : Belief) → belief 0 ≡ 0 → belief_after two_doors policy belief observations 0 ≡ 0
+stays_out_zero : (observations : List ℕ) (policy : ObservationPolicy) (belief : Belief) → belief 0 ≡ 0
+    → belief_after two_doors policy belief observations 0 ≡ 0
 stays_out_zero [] policy belief out = out
-stays_out_zero (z ∷ observations) policy belief out = stays_out_zero observations (λ rest. policy (z ∷ rest)) (updated two_doors belief (policy []) z) (zero_is_out belief (policy []) z out)
+stays_out_zero (z ∷ observations) policy belief out =
+    stays_out_zero observations (λ rest. policy (z ∷ rest)) (updated two_doors belief (policy []) z) (zero_is_out belief (policy []) z out)
 
-best_zero : (belief : Belief) (m : ℕ) → belief 1 ≡ 0 → m < 2 → sum_over_belief two_doors belief (one_door.value m) ≤ℤ sum_over_belief two_doors belief (one_door.value 0)
+best_zero : (belief : Belief) (m : ℕ) → belief 1 ≡ 0 → m < 2
+    → sum_over_belief two_doors belief (one_door.value m) ≤ℤ sum_over_belief two_doors belief (one_door.value 0)
 best_zero belief zero out ml = omega (arith, linear)
 best_zero belief (suc zero) out ml = rw out (omega (arith, linear))
 best_zero belief (suc (suc m)) out ml = absurd (omega arith)
 
-best_one : (belief : Belief) (m : ℕ) → belief 0 ≡ 0 → m < 2 → sum_over_belief two_doors belief (one_door.value m) ≤ℤ sum_over_belief two_doors belief (one_door.value 1)
+best_one : (belief : Belief) (m : ℕ) → belief 0 ≡ 0 → m < 2
+    → sum_over_belief two_doors belief (one_door.value m) ≤ℤ sum_over_belief two_doors belief (one_door.value 1)
 best_one belief zero out ml = rw out (omega (arith, linear))
 best_one belief (suc zero) out ml = omega (arith, linear)
 best_one belief (suc (suc m)) out ml = absurd (omega arith)
@@ -64,12 +73,17 @@ picks_node [] = omega arith
 picks_node (zero ∷ observations) = omega arith
 picks_node (suc z ∷ observations) = omega arith
 
-none_better : (observations : List ℕ) (m : ℕ) → AreObservations two_doors observations → m < 2 → worth_after one_door even_belief seen_door observations m ≤ℤ worth_after one_door even_belief seen_door observations (seen_door observations)
+none_better : (observations : List ℕ) (m : ℕ) → AreObservations two_doors observations → m < 2
+    → worth_after one_door even_belief seen_door observations m ≤ℤ worth_after one_door even_belief seen_door observations
+    (seen_door observations)
 none_better [] zero f ml = omega arith
 none_better [] (suc zero) f ml = omega arith
 none_better [] (suc (suc m)) f ml = absurd (omega arith)
-none_better (zero ∷ observations) m f ml = best_zero (belief_after two_doors (λ rest. 0) (updated two_doors even_belief 0 0) observations) m (stays_out_one observations (λ rest. 0) (updated two_doors even_belief 0 0) refl) ml
-none_better (suc zero ∷ observations) m f ml = best_one (belief_after two_doors (λ rest. 1) (updated two_doors even_belief 0 1) observations) m (stays_out_zero observations (λ rest. 1) (updated two_doors even_belief 0 1) refl) ml
+none_better (zero ∷ observations) m f ml = best_zero (belief_after two_doors (λ rest. 0) (updated two_doors even_belief 0 0) observations) m
+    (stays_out_one observations (λ rest. 0) (updated two_doors even_belief 0 0) refl) ml
+none_better (suc zero ∷ observations) m f ml = best_one
+    (belief_after two_doors (λ rest. 1) (updated two_doors even_belief 0 1) observations) m
+    (stays_out_zero observations (λ rest. 1) (updated two_doors even_belief 0 1) refl) ml
 none_better (suc (suc z) ∷ observations) m f ml = absurd (omega (arith, f.0))
 
 pub picks_best : PicksBest one_door even_belief seen_door

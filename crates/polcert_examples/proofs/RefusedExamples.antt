@@ -1,6 +1,7 @@
 -- A discount above one is refused: kind, item and place are what one expects.
 use Rattle.std.proofs.Common.{◌≡◌, ℕ, ◌≤◌, [], ◌∷◌, pos, codes, refl, subst, arith, lit≤}
-use Rattle.polcert_examples.proofs.Common.{All-from_recursion, Discount, topic_of, none, unsigned, Item, IsDivided, nothing_known, numeral_at}
+use Rattle.polcert_examples.proofs.Common.{All-from_recursion, Discount, topic_of, none, unsigned, Item, IsDivided, nothing_known}
+use Rattle.polcert_examples.proofs.Common.{numeral_at}
 use Rattle.polcert_format.specs.declared.fault.ItemFault.TheVariants.{DiscountRange}
 use Rattle.polcert_cells.specs.Numbers.{one}
 use Rattle.polcert_format.specs.Items.{IsItem}
@@ -37,7 +38,8 @@ unfolding topic_of
 above_one_refused = record {
   first_wrong = wrong_item [] above_item [] nothing_known divided texts.none
       (λ t e. subst (λ u. IsWrong nothing_known u above_item.body) (one_some refl e) two_is_wrong) refl;
-  lies = lies_in_item above_one [] above_item [] (colon_at 8 ∷ []) (numeral_at 10 (codes "2") ∷ []) (lit≤ tt, (lit≤ tt, (lit≤ tt, lit≤ tt))) divided refl;
+  lies = lies_in_item above_one [] above_item [] (colon_at 8 ∷ []) (numeral_at 10 (codes "2") ∷ []) (lit≤ tt, (lit≤ tt, (lit≤ tt, lit≤ tt)))
+      divided refl;
   reason = record {
     before = [];
     item = above_item;
@@ -46,7 +48,12 @@ above_one_refused = record {
     number_is = refl;
     t = Discount;
     topic_is = refl;
-    holds = (refl, unsigned_number (colon_at 8 ∷ []) (numeral_at 10 (codes "2")) [] refl refl refl (pos 2_000_000, numerals.two 10, no_fraction));
+    holds = (
+      refl,
+      unsigned_number (colon_at 8 ∷ []) (numeral_at 10 (codes "2")) [] refl refl refl
+          (pos 2_000_000, numerals.two 10, no_fraction),
+    );
   };
-  decided = λ fault at d. absurd (nothing_decided above_one [] above_item [] nothing_known Discount fault at divided texts.none refl refl d);
+  decided = λ fault at d. absurd (nothing_decided above_one [] above_item [] nothing_known Discount fault at divided texts.none refl refl
+      d);
 }

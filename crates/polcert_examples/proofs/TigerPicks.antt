@@ -8,6 +8,7 @@ use Rattle.polcert_examples.specs.Worked.Doors.{even_belief}
 use Rattle.polcert_examples.specs.Worked.TigerBound.{tiger}
 use Rattle.polcert_examples.specs.Worked.TigerPicks.{heard_twice, tiger_controller}
 
-pub earns : sum_over_belief tiger even_belief (λ s. expected_total tiger (value_at_end tiger_controller heard_twice s) (as_policy (policy_of tiger_controller heard_twice)) 2 s) ≡ pos (387_427_221_962 * (16 * 10 ^ 32))
+pub earns : sum_over_belief tiger even_belief (λ s. expected_total tiger (value_at_end tiger_controller heard_twice s)
+    (as_policy (policy_of tiger_controller heard_twice)) 2 s) ≡ pos (387_427_221_962 * (16 * 10 ^ 32))
 unfolding one
 earns = refl

@@ -8,10 +8,12 @@ use Rattle.polcert_text.proofs.Taken.TakenTokens.{all_taken}
 
 -- There is an answer, if each token keeps what is known of the tokens before it or gives an answer, and the end gives one.
 module _ {Answer : Type 0} (text : Rest) (SoFar : List Lexeme → Type 0) (start : SoFar [])
-    (take : (seen : List Lexeme) (t : Lexeme) → SoFar seen → SoFar (seen ++ t ∷ []) ⊎ ((rest : Rest) → Taken text (seen ++ t ∷ []) rest → Answer))
+    (take : (seen : List Lexeme) (t : Lexeme) → SoFar seen → SoFar (seen ++ t ∷ [])
+    ⊎ ((rest : Rest) → Taken text (seen ++ t ∷ []) rest → Answer))
     (at_end : (seen : List Lexeme) (end : Option TokenFault) → IsCut text seen end → SoFar seen → Answer) where
   -- the tokens so far were taken, and these are left
-  answered_from : (left seen : List Lexeme) (rest : Rest) (end : Option TokenFault) → Taken text seen rest → IsCut rest left end → SoFar seen → Answer
+  answered_from : (left seen : List Lexeme) (rest : Rest) (end : Option TokenFault) → Taken text seen rest → IsCut rest left end
+      → SoFar seen → Answer
   answered_from [] seen rest end taken ends so_far = at_end seen end (all_taken text rest seen end taken ends) so_far
   answered_from (t ∷ left) seen rest end taken cut so_far =
       let more : Taken text (seen ++ t ∷ []) cut.0 = token text rest cut.0 seen t taken cut.1 in

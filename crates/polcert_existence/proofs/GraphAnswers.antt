@@ -1,5 +1,6 @@
 -- Every text is a graph's, or has a right refusal other than out of memory.
-use Rattle.std.proofs.Common.{◌≡◌, ◌≢◌, ◌⊎◌, inl, inr, ⊎_elim, ℕ, suc, zero, ◌+◌, ◌/◌, ◌%◌, ◌<◌, ◌≤◌, Bool, true, false, Option, Some, None, Err, List, [], ◌∷◌, ◌++◌, length, map, slice_get, refl, ap, subst, arith}
+use Rattle.std.proofs.Common.{◌≡◌, ◌≢◌, ◌⊎◌, inl, inr, ⊎_elim, ℕ, suc, zero, ◌+◌, ◌/◌, ◌%◌, ◌<◌, ◌≤◌, Bool, true, false, Option, Some, None}
+use Rattle.std.proofs.Common.{Err, List, [], ◌∷◌, ◌++◌, length, map, slice_get, refl, ap, subst, arith}
 use Rattle.std.proofs.lemmas.Bool.{cases_Bool}
 use Rattle.polcert_text.specs.Cut.{Lexeme, Rest, IsCut, text_rest, text_limit}
 use Rattle.polcert_text.specs.TakenTokens.{Taken}
@@ -7,7 +8,8 @@ use Rattle.polcert_text.specs.declared.tokens.TokenFault.{TokenFault}
 use Rattle.polcert_policy.specs.Fields.{is_joined, is_whole, whole_of, is_successor, successor_of}
 use Rattle.polcert_policy.specs.Graphs.{PolicyGraph, IsLooseGraph, most_nodes}
 use Rattle.polcert_policy.specs.GraphText.{IsRefusedGraphText}
-use Rattle.polcert_policy.specs.Steps.GraphRead.{AreNodesUpTo, IsApartFrom, IsTokenRefusal, IsEndRefusal, IsUnfinished, CheckedNumber, ReadAction, AllBelow, IsFirstBeyondAt}
+use Rattle.polcert_policy.specs.Steps.GraphRead.{AreNodesUpTo, IsApartFrom, IsTokenRefusal, IsEndRefusal, IsUnfinished, CheckedNumber}
+use Rattle.polcert_policy.specs.Steps.GraphRead.{ReadAction, AllBelow, IsFirstBeyondAt}
 use Rattle.polcert_policy.specs.Steps.Kept.{kept_of}
 use Rattle.polcert_policy.specs.declared.fault.GraphFault.{GraphFault}
 use Rattle.polcert_policy.specs.declared.fault.GraphFault.TheVariants as faults
@@ -60,7 +62,8 @@ joined_or_apart (s ∷ []) t = by_test (is_joined s t) refl
     by_test : (b : Bool) → is_joined s t ≡ b → EndsJoined (s ∷ []) t ⊎ IsApartFrom (s ∷ []) t
     by_test true e = inl (record { before = []; last = s; spelled = refl; joined = e })
     by_test false e = inr (one_apart s t e)
-joined_or_apart (s ∷ u ∷ us) t = ⊎_elim (λ h. inl (joined_after s (u ∷ us) t h)) (λ h. inr (apart_after s u us t h)) (joined_or_apart (u ∷ us) t)
+joined_or_apart (s ∷ u ∷ us) t = ⊎_elim (λ h. inl (joined_after s (u ∷ us) t h)) (λ h. inr (apart_after s u us t h))
+    (joined_or_apart (u ∷ us) t)
 
 module _ (a o : ℕ) (some_a : 1 ≤ a) (some_o : 1 ≤ o) (ts : List Lexeme) (t : Lexeme) where
   abbrev IsTakenOrRefused : Type 0
@@ -76,7 +79,14 @@ module _ (a o : ℕ) (some_a : 1 ≤ a) (some_o : 1 ≤ o) (ts : List Lexeme) (t
         inside : node < most_nodes → IsTakenOrRefused
         inside few = ⊎_elim
             (λ whole. ⊎_elim
-            (λ value. inl (record { node = node; column = 1; chosen = cs; successors = ss; nodes = step_number a o ts t node cs ss old apart whole value few }))
+            (λ value. inl (record {
+              node = node;
+              column = 1;
+              chosen = cs;
+              successors = ss;
+              nodes =
+                  step_number a o ts t node cs ss old apart whole value few;
+            }))
             (λ other. stop (faults.NodeOutOfOrder t.place) (λ m. cc) (refl, few, whole, other))
             (same_or_not (whole_of t) node))
             (λ wrong. stop (faults.BadShape t.place) (λ m. cc) (refl, few, wrong))
@@ -85,7 +95,14 @@ module _ (a o : ℕ) (some_a : 1 ≤ a) (some_o : 1 ≤ o) (ts : List Lexeme) (t
     take_action : AreNodesUpTo a o ts node 1 cs ss → IsTakenOrRefused
     take_action old = ⊎_elim
         (λ whole. ⊎_elim
-        (λ known. inl (record { node = node; column = 2; chosen = cs ++ whole_of t ∷ []; successors = ss; nodes = step_action a o ts t node cs ss some_o old apart whole known }))
+        (λ known. inl (record {
+          node = node;
+          column = 2;
+          chosen = cs ++ whole_of t ∷ [];
+          successors = ss;
+          nodes =
+              step_action a o ts t node cs ss some_o old apart whole known;
+        }))
         (λ above. stop (faults.ActionOutOfRange t.place) (λ m. cc) (refl, whole, above))
         (below_or_not (whole_of t) a))
         (λ wrong. stop (faults.BadShape t.place) (λ m. cc) (refl, wrong))
@@ -97,7 +114,12 @@ module _ (a o : ℕ) (some_a : 1 ≤ a) (some_o : 1 ≤ o) (ts : List Lexeme) (t
     take_successor : (z : ℕ) → AreNodesUpTo a o ts node (2 + z) cs ss → IsTakenOrRefused
     take_successor z old = ⊎_elim
         (λ right. inl (read right (below_or_at (suc z) o (omega (arith, old.within)))))
-        (λ wrong. inr (faults.BadShape t.place, (λ m. cc), refuse_successor a o ts t node (2 + z) cs ss some_a some_o old apart t.place (omega arith) wrong refl))
+        (λ wrong. inr (
+          faults.BadShape t.place,
+          (λ m. cc),
+          refuse_successor a o ts t node (2 + z) cs ss some_a some_o old apart t.place
+              (omega arith) wrong refl,
+        ))
         (cases_Bool (is_successor t))
       where
         read : is_successor t ≡ true → (suc z < o) ⊎ (suc z ≡ o) → GraphSoFar a o (ts ++ t ∷ [])
@@ -106,14 +128,16 @@ module _ (a o : ℕ) (some_a : 1 ≤ a) (some_o : 1 ≤ o) (ts : List Lexeme) (t
           column = 2 + suc z;
           chosen = cs;
           successors = ss ++ successor_of t ∷ [];
-          nodes = step_successor a o ts t node z node (2 + suc z) cs ss old apart right (record { inside = λ k. (refl, refl); last = λ e. absurd (omega (arith, l, e)) });
+          nodes = step_successor a o ts t node z node (2 + suc z) cs ss old apart right
+              (record { inside = λ k. (refl, refl); last = λ e. absurd (omega (arith, l, e)) });
         }
         read right (inr e) = record {
           node = suc node;
           column = 0;
           chosen = cs;
           successors = ss ++ successor_of t ∷ [];
-          nodes = step_successor a o ts t node z (suc node) 0 cs ss old apart right (record { inside = λ l. absurd (omega (arith, l, e)); last = λ k. (refl, refl) });
+          nodes = step_successor a o ts t node z (suc node) 0 cs ss old apart right
+              (record { inside = λ l. absurd (omega (arith, l, e)); last = λ k. (refl, refl) });
         }
 
     take_next : (column : ℕ) → AreNodesUpTo a o ts node column cs ss → IsTakenOrRefused
@@ -127,18 +151,21 @@ module _ (a o : ℕ) (some_a : 1 ≤ a) (some_o : 1 ≤ o) (ts : List Lexeme) (t
       (λ ends. inr (
         faults.BadShape ends.last.place,
         (λ m. cc),
-        refuse_joined a o ends.before ts ends.last t ends.last.place ends.spelled refl ends.joined (possible a o ts so_far.node so_far.column so_far.chosen so_far.successors some_a some_o so_far.nodes),
+        refuse_joined a o ends.before ts ends.last t ends.last.place ends.spelled refl ends.joined
+            (possible a o ts so_far.node so_far.column so_far.chosen so_far.successors some_a some_o so_far.nodes),
       ))
       (λ apart. take_next so_far.node so_far.chosen so_far.successors apart so_far.column so_far.nodes)
       (joined_or_apart ts t)
 
 -- ---- the end
 
-below_all : (count : ℕ) (v : Option ℕ) (vs : List (Option ℕ)) → ((m : ℕ) → v ≡ Some m → m < count) → AllBelow count vs → AllBelow count (v ∷ vs)
+below_all : (count : ℕ) (v : Option ℕ) (vs : List (Option ℕ)) → ((m : ℕ) → v ≡ Some m → m < count) → AllBelow count vs
+    → AllBelow count (v ∷ vs)
 below_all count v vs first rest zero m e = grind arith
 below_all count v vs first rest (suc k) m e = rest k m e
 
-first_after : (count : ℕ) (v : Option ℕ) (vs : List (Option ℕ)) (place : ℕ) → ((m : ℕ) → v ≡ Some m → m < count) → IsFirstBeyondAt count vs place → IsFirstBeyondAt count (v ∷ vs) (suc place)
+first_after : (count : ℕ) (v : Option ℕ) (vs : List (Option ℕ)) (place : ℕ) → ((m : ℕ) → v ≡ Some m → m < count)
+    → IsFirstBeyondAt count vs place → IsFirstBeyondAt count (v ∷ vs) (suc place)
 first_after count v vs place below h = record { node = h.node; beyond = h.beyond; above = h.above; first = before }
   where
     before : (k m : ℕ) → k < suc place → slice_get (v ∷ vs) k ≡ Some (Some m) → m < count
@@ -153,7 +180,8 @@ one_below count (Some n) = ⊎_elim (λ l. inl (λ m e. omega (arith, l, same_so
 first_beyond : (count : ℕ) (vs : List (Option ℕ)) → AllBelow count vs ⊎ ((place : ℕ) × IsFirstBeyondAt count vs place)
 first_beyond count [] = inl (λ k m e. cc)
 first_beyond count (v ∷ vs) = ⊎_elim
-    (λ below. ⊎_elim (λ all. inl (below_all count v vs below all)) (λ h. inr (suc h.0, first_after count v vs h.0 below h.1)) (first_beyond count vs))
+    (λ below. ⊎_elim (λ all. inl (below_all count v vs below all)) (λ h. inr (suc h.0, first_after count v vs h.0 below h.1))
+    (first_beyond count vs))
     (λ h. inr (0, record { node = h.0; beyond = ap Some h.1; above = h.2; first = λ k m l e. absurd (omega (arith, l)) }))
     (one_below count v)
 
@@ -166,7 +194,8 @@ module _ (a o : ℕ) (some_a : 1 ≤ a) (some_o : 1 ≤ o) (text : List ℕ) whe
     ends : (fault : GraphFault) → fault ≢ faults.Memory → IsEndRefusal a o ts (length text) fault → HasGraphAnswer a o text
     ends fault says h = refused fault says (end_refused a o a o text ts (length text) fault refl refl cut refl h)
 
-    unfinished_at : (node column : ℕ) (cs : List ℕ) (ss : List (Option ℕ)) → AreNodesUpTo a o ts node column cs ss → ((g : PolicyGraph) → IsLooseGraph a o ts g → ⊥) → IsUnfinished a o ts node column
+    unfinished_at : (node column : ℕ) (cs : List ℕ) (ss : List (Option ℕ)) → AreNodesUpTo a o ts node column cs ss
+        → ((g : PolicyGraph) → IsLooseGraph a o ts g → ⊥) → IsUnfinished a o ts node column
     unfinished_at node column cs ss h none = record {
       possible = possible a o ts node column cs ss some_a some_o h;
       unfinished = none;
@@ -179,27 +208,47 @@ module _ (a o : ℕ) (some_a : 1 ≤ a) (some_o : 1 ≤ o) (text : List ℕ) whe
     whole_nodes : (node : ℕ) (cs : List ℕ) (ss : List (Option ℕ)) → 1 ≤ node → AreNodesUpTo a o ts node 0 cs ss → HasGraphAnswer a o text
     whole_nodes node cs ss some h = ⊎_elim
         (λ below. inl (_, graph_text a o text _ ts cut (graph_read a o ts node cs ss (map kept_of ss) some h refl below)))
-        (λ beyond. ends (faults.SuccessorOutOfRange (beyond.0 / o) (beyond.0 % o)) (λ m. cc) (beyond_read a o ts node cs ss (map kept_of ss) beyond.0 some_o some h refl beyond.1))
+        (λ beyond. ends (faults.SuccessorOutOfRange (beyond.0 / o) (beyond.0 % o)) (λ m. cc)
+        (beyond_read a o ts node cs ss (map kept_of ss) beyond.0 some_o some h refl beyond.1))
         (first_beyond node (map kept_of ss))
 
     at_end : (node column : ℕ) (cs : List ℕ) (ss : List (Option ℕ)) → AreNodesUpTo a o ts node column cs ss → HasGraphAnswer a o text
     at_end zero zero cs ss h = ends (faults.NoNodes (length text)) (λ m. cc) (refl, unfinished_at 0 0 cs ss h (no_nodes cs ss h))
     at_end (suc node) zero cs ss h = whole_nodes (suc node) cs ss (omega arith) h
-    at_end node (suc column) cs ss h = ends (faults.Truncated (length text)) (λ m. cc)
-        (refl, (node, (suc column, unfinished_at node (suc column) cs ss h (λ g loose. unfinished a o ts node (suc column) cs ss g h (omega arith) loose), omega arith)))
+    at_end node (suc column) cs ss h = ends (faults.Truncated (length text)) (λ m. cc) (
+      refl,
+      (
+        node,
+        (
+          suc column,
+          unfinished_at node (suc column) cs ss h
+              (λ g loose. unfinished a o ts node (suc column) cs ss g h (omega arith) loose),
+          omega arith,
+        ),
+      ),
+    )
 
   -- ---- the whole text
-  answer_after : (seen : List Lexeme) (end : Option TokenFault) → IsCut (text_rest text text_limit) seen end → GraphSoFar a o seen → HasGraphAnswer a o text
+  answer_after : (seen : List Lexeme) (end : Option TokenFault) → IsCut (text_rest text text_limit) seen end → GraphSoFar a o seen
+      → HasGraphAnswer a o text
   answer_after seen None cut so_far = at_end seen cut so_far.node so_far.column so_far.chosen so_far.successors so_far.nodes
   answer_after seen (Some fault) cut so_far = refused (faults.Token fault) (λ m. cc)
-      (refused_text a o text (faults.Token fault) (seen, cut, possible a o seen so_far.node so_far.column so_far.chosen so_far.successors some_a some_o so_far.nodes))
+      (refused_text a o text (faults.Token fault) (
+        seen,
+        cut,
+        possible a o seen so_far.node so_far.column so_far.chosen so_far.successors
+            some_a some_o so_far.nodes,
+      ))
 
-  refused_at : (seen : List Lexeme) → HasTokenRefusal a o seen → (rest : Rest) → Taken (text_rest text text_limit) seen rest → HasGraphAnswer a o text
-  refused_at seen stop rest taken = refused stop.0 stop.1 (refused_text a o text stop.0 (token_refusal a o a o text seen rest stop.0 refl refl taken stop.2))
+  refused_at : (seen : List Lexeme) → HasTokenRefusal a o seen → (rest : Rest) → Taken (text_rest text text_limit) seen rest
+      → HasGraphAnswer a o text
+  refused_at seen stop rest taken = refused stop.0 stop.1
+      (refused_text a o text stop.0 (token_refusal a o a o text seen rest stop.0 refl refl taken stop.2))
 
   none_taken : GraphSoFar a o []
   none_taken = record { node = 0; column = 0; chosen = []; successors = []; nodes = grind arith }
 
   pub graph_answer : HasGraphAnswer a o text
   graph_answer = answered (text_rest text text_limit) (GraphSoFar a o) none_taken
-      (λ seen t so_far. ⊎_elim inl (λ stop. inr (refused_at (seen ++ t ∷ []) stop)) (take_token a o some_a some_o seen t so_far)) answer_after
+      (λ seen t so_far. ⊎_elim inl (λ stop. inr (refused_at (seen ++ t ∷ []) stop)) (take_token a o some_a some_o seen t so_far))
+      answer_after

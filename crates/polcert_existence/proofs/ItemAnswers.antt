@@ -1,5 +1,6 @@
 -- What an item's reader answers to one more token, and to the item's end.
-use Rattle.std.proofs.Common.{◌≡◌, ◌≢◌, ◌∙◌, ◌⊎◌, inl, inr, ⊎_elim, ℕ, ℤ, pos, length, AllPairs, ◌≤◌, true, false, Some, None, Err, List, [], ◌∷◌, ◌++◌, refl, sym, ap, subst, arith, unwrap_or}
+use Rattle.std.proofs.Common.{◌≡◌, ◌≢◌, ◌∙◌, ◌⊎◌, inl, inr, ⊎_elim, ℕ, ℤ, pos, length, AllPairs, ◌≤◌, true, false, Some, None, Err, List}
+use Rattle.std.proofs.Common.{[], ◌∷◌, ◌++◌, refl, sym, ap, subst, arith, unwrap_or}
 use Rattle.polcert_text.specs.Cut.{Lexeme}
 use Rattle.polcert_cells.specs.declared.words.Topic.{Topic}
 use Rattle.polcert_cells.specs.declared.words.Topic.TheVariants.{Start, Discount, Values, States, Actions, Observations, Cells}
@@ -7,7 +8,8 @@ use Rattle.polcert_format.specs.declared.fault.ItemFault.{ItemFault}
 use Rattle.polcert_format.specs.FirstNumber.{IsLate, no_state, states_known}
 use Rattle.polcert_format.specs.Misfits.{unexpected_token}
 use Rattle.polcert_format.specs.Text.{ModelSoFar}
-use Rattle.polcert_items.specs.Steps.Items.{IsItemFed, RefusesInItem, IsItemReason, of_token, IsTokenReason, ItemGoes, IsItemWithin, IsSeen, IsEndReason, HasElements, topic_in, pending_in}
+use Rattle.polcert_items.specs.Steps.Items.{IsItemFed, RefusesInItem, IsItemReason, of_token, IsTokenReason, ItemGoes, IsItemWithin, IsSeen}
+use Rattle.polcert_items.specs.Steps.Items.{IsEndReason, HasElements, topic_in, pending_in}
 use Rattle.polcert_items.specs.Steps.Lines.{Takes, CannotTake, CannotEnd, DiscountGoes, DiscountReason, discount_sign, ValuesGoes}
 use Rattle.polcert_items.specs.Steps.ModelSoFar.{with_item, AreContentsOf}
 use Rattle.polcert_items.specs.Steps.Start.{IsStartReason, IsStartWithin, IsStartEndKind, IsEndDue, IsState, HasReadStart, StartGives}
@@ -44,13 +46,15 @@ use Rattle.polcert_items.proofs.ItemReading as reading
 use Rattle.polcert_items.proofs.StartSeen.{sign_ends, digits_end_reason, last_sign}
 use Rattle.polcert_existence.proofs.LineAnswers.{feed_discount, feed_values, feed_elements}
 use Rattle.polcert_existence.proofs.EntryAnswers.{feed_entry, end_entry}
-use Rattle.polcert_existence.proofs.StartAnswers.{StartEnded, ended as start_ended, unended as start_unended, digits_unended, digits_give_none, feed_start, end_start}
+use Rattle.polcert_existence.proofs.StartAnswers.{StartEnded, ended as start_ended, unended as start_unended, digits_unended}
+use Rattle.polcert_existence.proofs.StartAnswers.{digits_give_none, feed_start, end_start}
 use Rattle.polcert_items.specs.declared.item.ItemReader.{ItemReader}
 use Rattle.polcert_items.specs.declared.signed_number.Refusal.{Refusal}
 
 -- the token is taken, or refused
 abbrev pub IsFedOrRefused : ModelSoFar → ItemReader → Lexeme → Type 0
-IsFedOrRefused k old l = ((new : ItemReader) × (topic_in new ≡ topic_in old) × IsItemFed k old l new) ⊎ ((x : Refusal) × RefusesInItem k old l x)
+IsFedOrRefused k old l = ((new : ItemReader) × (topic_in new ≡ topic_in old) × IsItemFed k old l new)
+    ⊎ ((x : Refusal) × RefusesInItem k old l x)
 
 -- the item says so much at its end
 pub record EndsItem (k : ModelSoFar) (i : ItemReader) : Type 0 where
@@ -65,15 +69,18 @@ pub record CannotEndItem (k : ModelSoFar) (i : ItemReader) : Type 0 where
   pub reason : IsEndReason (topic_in i) kind
   pub kinds : HasElements k (topic_in i) → kind ≡ unexpected_token (item_wants k i []) None
   pub unheld : pending_in i ≡ None
-  pub undue : (body : List Lexeme) (late : Refusal) → IsSeen (states_known k) body i → topic_in i ≡ Start → IsLate (states_known k) body true late.kind late.place → ⊥
+  pub undue : (body : List Lexeme) (late : Refusal) → IsSeen (states_known k) body i → topic_in i ≡ Start
+      → IsLate (states_known k) body true late.kind late.place → ⊥
 
 -- nor for a number before its end
 pub record CannotEndBefore (k : ModelSoFar) (i : ItemReader) : Type 0 where
   pub kind : ItemFault
   pub place : ℕ
   pub stuck : HasElements k (topic_in i) → CannotEnd (ItemGoes k) i
-  pub reason : (body : List Lexeme) → IsSeen (states_known k) body i → (topic_in i ≡ Start) × IsStartReason body kind place × IsLate (states_known k) body true kind place
-  pub due : (body : List Lexeme) (late : Refusal) → IsSeen (states_known k) body i → topic_in i ≡ Start → IsLate (states_known k) body true late.kind late.place → (kind ≡ late.kind) × (place ≡ late.place)
+  pub reason : (body : List Lexeme) → IsSeen (states_known k) body i → (topic_in i ≡ Start) × IsStartReason body kind place
+      × IsLate (states_known k) body true kind place
+  pub due : (body : List Lexeme) (late : Refusal) → IsSeen (states_known k) body i → topic_in i ≡ Start
+      → IsLate (states_known k) body true late.kind late.place → (kind ≡ late.kind) × (place ≡ late.place)
 
 pub data IsEndedOrRefused (k : ModelSoFar) (i : ItemReader) : Type 0 where
   ended : EndsItem k i → IsEndedOrRefused k i
@@ -101,7 +108,8 @@ module _ {S V : Type 0} (k : ModelSoFar) (item : S → ItemReader) (Goes : S →
   item_unended : (s : S) → CannotEnd Goes s → CannotEnd (ItemGoes k) (item s)
   item_unended s stuck = λ next g. let h = out s [] next g in stuck h.0 h.1.0
 
-discount_reason : (r : DiscountReader) (body : List Lexeme) (l : Lexeme) (kind : ItemFault) (place : ℕ) → DiscountReason r l kind place → IsItemReason (items.Discount r) body l kind place
+discount_reason : (r : DiscountReader) (body : List Lexeme) (l : Lexeme) (kind : ItemFault) (place : ℕ) → DiscountReason r l kind place
+    → IsItemReason (items.Discount r) body l kind place
 discount_reason r body l kind place h = of_token (λ e. cc) (at r h)
   where
     at : (r : DiscountReader) → DiscountReason r l kind place → IsTokenReason Discount (discount_sign r) body l kind place
@@ -116,7 +124,8 @@ feed_discount_item k r l = ⊎_elim
       refl,
       record {
         within = tt;
-        takes = item_takes k items.Discount DiscountGoes (λ g. with_item k (says.Discount g)) (λ s ls next g. g) (λ s ls next g. g) r s.0 l s.1.takes;
+        takes = item_takes k items.Discount DiscountGoes (λ g. with_item k (says.Discount g)) (λ s ls next g. g) (λ s ls next g. g) r s.0 l
+            s.1.takes;
         formed = tt;
         seen = λ body b. sign_ends (discount_sign s.0) body l s.2;
         leads = record { same = s.1.leads.same };
@@ -125,7 +134,8 @@ feed_discount_item k r l = ⊎_elim
     (λ stop. inr (
       record { kind = stop.kind; place = stop.place },
       record {
-        stuck = item_stuck k items.Discount DiscountGoes (λ g. with_item k (says.Discount g)) (λ s ls next g. g) (λ s ls next g. g) r l stop.stuck;
+        stuck = item_stuck k items.Discount DiscountGoes (λ g. with_item k (says.Discount g)) (λ s ls next g. g) (λ s ls next g. g) r l
+            stop.stuck;
         formless = tt;
         reason = λ body b. discount_reason r body l stop.kind stop.place stop.reason;
         kind = stop.misfit;
@@ -135,7 +145,8 @@ feed_discount_item k r l = ⊎_elim
     ))
     (feed_discount r l)
 
-misplaced_reason : (body : List Lexeme) (l : Lexeme) (kind : ItemFault) (place : ℕ) → IsMisplaced l kind place → IsTokenReason Values None body l kind place
+misplaced_reason : (body : List Lexeme) (l : Lexeme) (kind : ItemFault) (place : ℕ) → IsMisplaced l kind place
+    → IsTokenReason Values None body l kind place
 misplaced_reason body l kind place h = grind arith
 
 feed_values_item : (k : ModelSoFar) (r : ValuesReader) (l : Lexeme) → IsFedOrRefused k (items.Values r) l
@@ -145,7 +156,8 @@ feed_values_item k r l = ⊎_elim
       refl,
       record {
         within = tt;
-        takes = item_takes k items.Values ValuesGoes (λ b. with_item k (says.Costs b)) (λ s ls next g. g) (λ s ls next g. g) r s.0 l s.1.takes;
+        takes = item_takes k items.Values ValuesGoes (λ b. with_item k (says.Costs b)) (λ s ls next g. g) (λ s ls next g. g) r s.0 l
+            s.1.takes;
         formed = tt;
         seen = λ body b. sign_ends None body l s.2;
         leads = record { same = s.1.leads.same };
@@ -174,7 +186,8 @@ feed_states_item k r l within = ⊎_elim
       refl,
       record {
         within = s.1.within;
-        takes = item_takes k items.States (ElementsGo most_states) (λ e. with_item k (says.States e)) (λ s ls next g. g) (λ s ls next g. g) r s.0 l s.1.step.takes;
+        takes = item_takes k items.States (ElementsGo most_states) (λ e. with_item k (says.States e)) (λ s ls next g. g) (λ s ls next g. g)
+            r s.0 l s.1.step.takes;
         formed = tt;
         seen = λ body b. (seen_more body l s.1.sign, s.1.seen body b.1);
         leads = record { same = s.1.step.leads.same };
@@ -183,7 +196,8 @@ feed_states_item k r l within = ⊎_elim
     (λ stop. inr (
       record { kind = stop.kind; place = stop.place },
       record {
-        stuck = item_stuck k items.States (ElementsGo most_states) (λ e. with_item k (says.States e)) (λ s ls next g. g) (λ s ls next g. g) r l stop.stuck;
+        stuck = item_stuck k items.States (ElementsGo most_states) (λ e. with_item k (says.States e)) (λ s ls next g. g) (λ s ls next g. g)
+            r l stop.stuck;
         formless = tt;
         reason = λ body b. reading.states_reason (items.States r) r body l stop.kind stop.place (states_known k) b stop.reason refl;
         kind = stop.misfit;
@@ -193,14 +207,16 @@ feed_states_item k r l within = ⊎_elim
     ))
     (feed_elements most_states (omega arith) r l within)
 
-feed_actions_item : (k : ModelSoFar) (r : ElementsReader) (l : Lexeme) → IsElementsRead most_actions r → IsFedOrRefused k (items.Actions r) l
+feed_actions_item : (k : ModelSoFar) (r : ElementsReader) (l : Lexeme) → IsElementsRead most_actions r
+    → IsFedOrRefused k (items.Actions r) l
 feed_actions_item k r l within = ⊎_elim
     (λ s. inl (
       items.Actions s.0,
       refl,
       record {
         within = s.1.within;
-        takes = item_takes k items.Actions (ElementsGo most_actions) (λ e. with_item k (says.Actions e)) (λ s ls next g. g) (λ s ls next g. g) r s.0 l s.1.step.takes;
+        takes = item_takes k items.Actions (ElementsGo most_actions) (λ e. with_item k (says.Actions e)) (λ s ls next g. g)
+            (λ s ls next g. g) r s.0 l s.1.step.takes;
         formed = tt;
         seen = λ body b. (seen_more body l s.1.sign, s.1.seen body b.1);
         leads = record { same = s.1.step.leads.same };
@@ -209,7 +225,8 @@ feed_actions_item k r l within = ⊎_elim
     (λ stop. inr (
       record { kind = stop.kind; place = stop.place },
       record {
-        stuck = item_stuck k items.Actions (ElementsGo most_actions) (λ e. with_item k (says.Actions e)) (λ s ls next g. g) (λ s ls next g. g) r l stop.stuck;
+        stuck = item_stuck k items.Actions (ElementsGo most_actions) (λ e. with_item k (says.Actions e)) (λ s ls next g. g)
+            (λ s ls next g. g) r l stop.stuck;
         formless = tt;
         reason = λ body b. reading.actions_reason (items.Actions r) r body l stop.kind stop.place (states_known k) b stop.reason refl;
         kind = stop.misfit;
@@ -219,14 +236,16 @@ feed_actions_item k r l within = ⊎_elim
     ))
     (feed_elements most_actions (omega arith) r l within)
 
-feed_observations_item : (k : ModelSoFar) (r : ElementsReader) (l : Lexeme) → IsElementsRead most_observations r → IsFedOrRefused k (items.Observations r) l
+feed_observations_item : (k : ModelSoFar) (r : ElementsReader) (l : Lexeme) → IsElementsRead most_observations r
+    → IsFedOrRefused k (items.Observations r) l
 feed_observations_item k r l within = ⊎_elim
     (λ s. inl (
       items.Observations s.0,
       refl,
       record {
         within = s.1.within;
-        takes = item_takes k items.Observations (ElementsGo most_observations) (λ e. with_item k (says.Observations e)) (λ s ls next g. g) (λ s ls next g. g) r s.0 l s.1.step.takes;
+        takes = item_takes k items.Observations (ElementsGo most_observations) (λ e. with_item k (says.Observations e)) (λ s ls next g. g)
+            (λ s ls next g. g) r s.0 l s.1.step.takes;
         formed = tt;
         seen = λ body b. (seen_more body l s.1.sign, s.1.seen body b.1);
         leads = record { same = s.1.step.leads.same };
@@ -235,9 +254,11 @@ feed_observations_item k r l within = ⊎_elim
     (λ stop. inr (
       record { kind = stop.kind; place = stop.place },
       record {
-        stuck = item_stuck k items.Observations (ElementsGo most_observations) (λ e. with_item k (says.Observations e)) (λ s ls next g. g) (λ s ls next g. g) r l stop.stuck;
+        stuck = item_stuck k items.Observations (ElementsGo most_observations) (λ e. with_item k (says.Observations e)) (λ s ls next g. g)
+            (λ s ls next g. g) r l stop.stuck;
         formless = tt;
-        reason = λ body b. reading.observations_reason (items.Observations r) r body l stop.kind stop.place (states_known k) b stop.reason refl;
+        reason = λ body b. reading.observations_reason (items.Observations r) r body l stop.kind stop.place (states_known k) b stop.reason
+            refl;
         kind = stop.misfit;
         start = λ body b. tt;
         late = λ body more ends late b e. absurd (cc);
@@ -245,17 +266,20 @@ feed_observations_item k r l within = ⊎_elim
     ))
     (feed_elements most_observations (omega arith) r l within)
 
-entry_reason : (r : EntryReader) (body : List Lexeme) (l : Lexeme) (kind : ItemFault) (place : ℕ) → IsEntryReason r l kind place → IsTokenReason (Cells r.table) (entry_sign r.state) body l kind place
+entry_reason : (r : EntryReader) (body : List Lexeme) (l : Lexeme) (kind : ItemFault) (place : ℕ) → IsEntryReason r l kind place
+    → IsTokenReason (Cells r.table) (entry_sign r.state) body l kind place
 entry_reason r body l kind place h = grind arith
 
-feed_entry_item : (k : ModelSoFar) (r : EntryReader) (l : Lexeme) → IsWithinIndices (indices_in k r.table) r → IsFedOrRefused k (items.Entry r) l
+feed_entry_item : (k : ModelSoFar) (r : EntryReader) (l : Lexeme) → IsWithinIndices (indices_in k r.table) r
+    → IsFedOrRefused k (items.Entry r) l
 feed_entry_item k r l within = ⊎_elim
     (λ s. inl (
       items.Entry s.0,
       ap Cells s.1.table,
       record {
         within = subst (λ t. IsWithinIndices (indices_in k t) s.0) (sym s.1.table) s.1.within;
-        takes = item_takes k items.Entry (EntryGoes (preamble_in k)) (λ e. with_item k (says.Entry e)) (λ s ls next g. g) (λ s ls next g. g) r s.0 l s.1.step.takes;
+        takes = item_takes k items.Entry (EntryGoes (preamble_in k)) (λ e. with_item k (says.Entry e)) (λ s ls next g. g) (λ s ls next g. g)
+            r s.0 l s.1.step.takes;
         formed = tt;
         seen = λ body b. sign_ends (entry_sign s.0.state) body l s.1.sign;
         leads = record { same = s.1.step.leads.same };
@@ -264,7 +288,8 @@ feed_entry_item k r l within = ⊎_elim
     (λ stop. inr (
       record { kind = stop.kind; place = stop.place },
       record {
-        stuck = item_stuck k items.Entry (EntryGoes (preamble_in k)) (λ e. with_item k (says.Entry e)) (λ s ls next g. g) (λ s ls next g. g) r l stop.stuck;
+        stuck = item_stuck k items.Entry (EntryGoes (preamble_in k)) (λ e. with_item k (says.Entry e)) (λ s ls next g. g) (λ s ls next g. g)
+            r l stop.stuck;
         formless = tt;
         reason = λ body b. of_token (λ e. cc) (entry_reason r body l stop.kind stop.place stop.reason);
         kind = stop.misfit;
@@ -274,7 +299,8 @@ feed_entry_item k r l within = ⊎_elim
     ))
     (feed_entry k r l within)
 
-feed_start_item : (k : ModelSoFar) (r : StartReader) (l : Lexeme) (states : Elements) → k.states ≡ Some states → 1 ≤ count_of states → IsStartWithin states r → IsFedOrRefused k (items.Start r) l
+feed_start_item : (k : ModelSoFar) (r : StartReader) (l : Lexeme) (states : Elements) → k.states ≡ Some states → 1 ≤ count_of states
+    → IsStartWithin states r → IsFedOrRefused k (items.Start r) l
 feed_start_item k r l states known some within = ⊎_elim
     (λ s. inl (items.Start s.0, refl, reading.start_fed k states (items.Start r) r s.0 l known refl s.1))
     (λ stop. inr (
@@ -297,19 +323,31 @@ feed_item k some (items.Entry r) l within = feed_entry_item k r l within
 -- ---- an item's end
 
 -- an item that is no start item
-plain_unended : (k : ModelSoFar) (i : ItemReader) (kind : ItemFault) → (topic_in i ≡ Start → ⊥) → (HasElements k (topic_in i) → CannotEnd (ItemGoes k) i) → IsEndReason (topic_in i) kind
+plain_unended : (k : ModelSoFar) (i : ItemReader) (kind : ItemFault) → (topic_in i ≡ Start → ⊥)
+    → (HasElements k (topic_in i) → CannotEnd (ItemGoes k) i) → IsEndReason (topic_in i) kind
     → (HasElements k (topic_in i) → kind ≡ unexpected_token (item_wants k i []) None) → pending_in i ≡ None → IsEndedOrRefused k i
 plain_unended k i kind other stuck reason kinds unheld =
-    not_ended (record { kind = kind; stuck = stuck; reason = reason; kinds = kinds; unheld = unheld; undue = λ body late s start l. other start })
+    not_ended (record {
+      kind = kind;
+      stuck = stuck;
+      reason = reason;
+      kinds = kinds;
+      unheld = unheld;
+      undue =
+          λ body late s start l. other start;
+    })
 
 no_numbers_left : (xs : List Lexeme) (hs : List ℤ) → xs ≡ [] → AreNumbers xs hs → hs ≡ []
 no_numbers_left xs hs e a = grind arith
 
 end_discount : (k : ModelSoFar) (r : DiscountReader) → IsEndedOrRefused k (items.Discount r)
-end_discount k discount.Colon = plain_unended k (items.Discount discount.Colon) faults.BadShape (λ e. cc) (λ h next g. g.1.0) tt (λ h. refl) refl
+end_discount k discount.Colon = plain_unended k (items.Discount discount.Colon) faults.BadShape (λ e. cc) (λ h next g. g.1.0) tt (λ h. refl)
+    refl
 end_discount k (discount.Number None) =
-    plain_unended k (items.Discount (discount.Number None)) faults.WrongNumberCount (λ e. cc) (λ h next g. cons≢nil (no_numbers_left [] (pos g.0 ∷ []) refl g.1.0.0)) tt (λ h. refl) refl
-end_discount k (discount.Number (Some s)) = plain_unended k (items.Discount (discount.Number (Some s))) faults.BadShape (λ e. cc) (λ h next g. g.1.0.0) tt (λ h. refl) refl
+    plain_unended k (items.Discount (discount.Number None)) faults.WrongNumberCount (λ e. cc)
+    (λ h next g. cons≢nil (no_numbers_left [] (pos g.0 ∷ []) refl g.1.0.0)) tt (λ h. refl) refl
+end_discount k (discount.Number (Some s)) = plain_unended k (items.Discount (discount.Number (Some s))) faults.BadShape (λ e. cc)
+    (λ h next g. g.1.0.0) tt (λ h. refl) refl
 end_discount k (discount.Done d) = ended (record { said = says.Discount d; goes = (d, ((refl, refl), refl)); topic = tt })
 
 end_values : (k : ModelSoFar) (r : ValuesReader) → IsEndedOrRefused k (items.Values r)
@@ -320,7 +358,8 @@ end_values k (values.Done b) = ended (record { said = says.Costs b; goes = (b, (
 -- what a line of elements says at its end, or why it cannot end
 data ElementsEnded (most : ℕ) (r : ElementsReader) : Type 0 where
   whole : (e : Elements) → ElementsGo most r [] e → ElementsEnded most r
-  open_line : (kind : ItemFault) → (kind ≡ faults.BadShape) ⊎ (kind ≡ faults.BadCount) → CannotEnd (ElementsGo most) r → kind ≡ unexpected_token (elements_want most r []) None → ElementsEnded most r
+  open_line : (kind : ItemFault) → (kind ≡ faults.BadShape) ⊎ (kind ≡ faults.BadCount) → CannotEnd (ElementsGo most) r
+      → kind ≡ unexpected_token (elements_want most r []) None → ElementsEnded most r
 
 no_elements : (most : ℕ) (xs : List Lexeme) (e : Elements) → xs ≡ [] → AreElements most xs e → ⊥
 no_elements most xs e same (counted is some few) = cons≢nil same
@@ -343,15 +382,19 @@ elements_kind t kind is (inr e) = subst (IsEndReason t) (sym e) is
 
 end_states : (k : ModelSoFar) (r : ElementsReader) → ElementsEnded most_states r → IsEndedOrRefused k (items.States r)
 end_states k r (whole e goes) = ended (record { said = says.States e; goes = (e, (goes, refl)); topic = tt })
-end_states k r (open_line kind shape stuck kinds) = plain_unended k (items.States r) kind (λ e. cc) (λ h next g. stuck g.0 g.1.0) (elements_kind States kind tt shape) (λ h. kinds) refl
+end_states k r (open_line kind shape stuck kinds) =
+    plain_unended k (items.States r) kind (λ e. cc) (λ h next g. stuck g.0 g.1.0) (elements_kind States kind tt shape) (λ h. kinds) refl
 
 end_actions : (k : ModelSoFar) (r : ElementsReader) → ElementsEnded most_actions r → IsEndedOrRefused k (items.Actions r)
 end_actions k r (whole e goes) = ended (record { said = says.Actions e; goes = (e, (goes, refl)); topic = tt })
-end_actions k r (open_line kind shape stuck kinds) = plain_unended k (items.Actions r) kind (λ e. cc) (λ h next g. stuck g.0 g.1.0) (elements_kind Actions kind tt shape) (λ h. kinds) refl
+end_actions k r (open_line kind shape stuck kinds) =
+    plain_unended k (items.Actions r) kind (λ e. cc) (λ h next g. stuck g.0 g.1.0) (elements_kind Actions kind tt shape) (λ h. kinds) refl
 
 end_observations : (k : ModelSoFar) (r : ElementsReader) → ElementsEnded most_observations r → IsEndedOrRefused k (items.Observations r)
 end_observations k r (whole e goes) = ended (record { said = says.Observations e; goes = (e, (goes, refl)); topic = tt })
-end_observations k r (open_line kind shape stuck kinds) = plain_unended k (items.Observations r) kind (λ e. cc) (λ h next g. stuck g.0 g.1.0) (elements_kind Observations kind tt shape) (λ h. kinds) refl
+end_observations k r (open_line kind shape stuck kinds) =
+    plain_unended k (items.Observations r) kind (λ e. cc) (λ h next g. stuck g.0 g.1.0) (elements_kind Observations kind tt shape)
+    (λ h. kinds) refl
 
 entry_kind : (t : Table) (kind : ItemFault) → (kind ≡ faults.BadShape) ⊎ (kind ≡ faults.WrongNumberCount) → IsEndReason (Cells t) kind
 entry_kind t kind (inl e) = subst (IsEndReason (Cells t)) (sym e) tt
@@ -360,7 +403,8 @@ entry_kind t kind (inr e) = subst (IsEndReason (Cells t)) (sym e) tt
 end_entry_item : (k : ModelSoFar) (r : EntryReader) → IsWithinIndices (indices_in k r.table) r → IsEndedOrRefused k (items.Entry r)
 end_entry_item k r within = ⊎_elim
     (λ e. ended (record { said = says.Entry e.entry; goes = (e.entry, (e.goes, refl)); topic = tt }))
-    (λ u. plain_unended k (items.Entry r) u.kind (λ e. cc) (λ h next g. u.stuck h g.0 g.1.0) (entry_kind r.table u.kind u.shape) u.kinds refl)
+    (λ u. plain_unended k (items.Entry r) u.kind (λ e. cc) (λ h next g. u.stuck h g.0 g.1.0) (entry_kind r.table u.kind u.shape) u.kinds
+    refl)
     (end_entry k r within)
 
 start_kind : (kind : ItemFault) → IsStartEndKind kind → IsEndReason Start kind
@@ -370,13 +414,28 @@ module _ (k : ModelSoFar) (states : Elements) (known : k.states ≡ Some states)
   these_states : (preamble_in k).states ≡ states
   these_states = ap (λ o. unwrap_or o (Count 0)) known
 
-  digits_late : (body : List Lexeme) (d : StateOrNumber) → d.state ≡ None → HasReadStart (states_known k) body (reader.StateOrNumber d) → IsLate (states_known k) body true faults.IndexOutOfRange d.place
+  digits_late : (body : List Lexeme) (d : StateOrNumber) → d.state ≡ None → HasReadStart (states_known k) body (reader.StateOrNumber d)
+      → IsLate (states_known k) body true faults.IndexOutOfRange d.place
   digits_late body d none s =
       let b = s.body_is in
-      no_state (record { colon = b.colon; digits = b.digits; whole = b.whole; is_colon = b.is_colon; are_digits = b.are_digits; place_is = b.place_is; holds = subst (λ o. IsState (states_known k) o b.digits) none b.holds.state }) refl refl
+      no_state (record {
+        colon = b.colon;
+        digits = b.digits;
+        whole = b.whole;
+        is_colon = b.is_colon;
+        are_digits = b.are_digits;
+        place_is =
+            b.place_is;
+        holds = subst (λ o. IsState (states_known k) o b.digits) none b.holds.state;
+      }) refl refl
 
   end_start_item : (r : StartReader) → IsStartWithin states r → StartEnded states r → IsEndedOrRefused k (items.Start r)
-  end_start_item r within (start_ended e) = ended (record { said = says.Start e.shares; goes = (e.shares, (subst (λ s. StartGives s r [] e.shares) (sym these_states) e.gives, refl)); topic = tt })
+  end_start_item r within (start_ended e) = ended (record {
+    said = says.Start e.shares;
+    goes = (e.shares, (subst (λ s. StartGives s r [] e.shares) (sym these_states) e.gives, refl));
+    topic =
+        tt;
+  })
   end_start_item r within (start_unended u) = not_ended (record {
     kind = u.kind;
     stuck = λ h. reading.start_stuck_end k states (items.Start r) r (ends.AtEnd u.kind) known refl u.stuck;
@@ -388,15 +447,19 @@ module _ (k : ModelSoFar) (states : Elements) (known : k.states ≡ Some states)
   end_start_item r within (digits_unended u) = not_before (record {
     kind = faults.IndexOutOfRange;
     place = u.digits.place;
-    stuck = λ h. reading.start_stuck_end k states (items.Start r) r (ends.At x) known refl (digits_stuck u.digits u.none (subst (IsStartWithin states) u.is within) u.is);
-    reason = λ body s. let read = subst (HasReadStart (states_known k) body) u.is s in (refl, digits_end_reason (states_known k) body u.digits read, digits_late body u.digits u.none read);
-    due = λ body late s start l. reading.start_late_end k states (items.Start r) r body (ends.At x) late known refl s l (subst (λ q. IsEndDue q (ends.At x)) (sym u.is) (u.none, refl, refl));
+    stuck = λ h. reading.start_stuck_end k states (items.Start r) r (ends.At x) known refl
+        (digits_stuck u.digits u.none (subst (IsStartWithin states) u.is within) u.is);
+    reason = λ body s. let read = subst (HasReadStart (states_known k) body) u.is s in
+        (refl, digits_end_reason (states_known k) body u.digits read, digits_late body u.digits u.none read);
+    due = λ body late s start l. reading.start_late_end k states (items.Start r) r body (ends.At x) late known refl s l
+        (subst (λ q. IsEndDue q (ends.At x)) (sym u.is) (u.none, refl, refl));
   })
     where
       x : Refusal
       x = record { kind = faults.IndexOutOfRange; place = u.digits.place }
 
-      digits_stuck : (d : StateOrNumber) → d.state ≡ None → IsStartWithin states (reader.StateOrNumber d) → r ≡ reader.StateOrNumber d → CannotEnd (StartGives states) r
+      digits_stuck : (d : StateOrNumber) → d.state ≡ None → IsStartWithin states (reader.StateOrNumber d) → r ≡ reader.StateOrNumber d
+          → CannotEnd (StartGives states) r
       digits_stuck d none within is = subst (λ q. CannotEnd (StartGives states) q) (sym is) (digits_give_none states d within.0 none)
 
 -- an item's end
@@ -406,5 +469,6 @@ end_item k some (items.Values r) within = end_values k r
 end_item k some (items.States r) within = end_states k r (end_elements most_states r within)
 end_item k some (items.Actions r) within = end_actions k r (end_elements most_actions r within)
 end_item k some (items.Observations r) within = end_observations k r (end_elements most_observations r within)
-end_item k some (items.Start r) within = end_start_item k within.0 within.1.0 r within.1.1 (end_start within.0 (some within.0 within.1.0) r within.1.1)
+end_item k some (items.Start r) within = end_start_item k within.0 within.1.0 r within.1.1
+    (end_start within.0 (some within.0 within.1.0) r within.1.1)
 end_item k some (items.Entry r) within = end_entry_item k r within

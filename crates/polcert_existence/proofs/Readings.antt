@@ -25,7 +25,8 @@ as_vec xs few = record {
 }
 
 -- there is room for one more value
-pub room : (way : Rounding) (g : PolicyGraph) (seen : List Lexeme) (r : VectorsReading) (value : ℤ) → HasVectors way g seen r → length (r.values.items ++ value ∷ []) < 2 ^ 63
+pub room : (way : Rounding) (g : PolicyGraph) (seen : List Lexeme) (r : VectorsReading) (value : ℤ) → HasVectors way g seen r
+    → length (r.values.items ++ value ∷ []) < 2 ^ 63
 room way g seen r value h =
     let values : r.node * r.states ≤ most_nodes * r.states = mul-le-mul_right r.states r.few in
     omega (arith, length_snoc r.values.items value, h.vectors.filled, values, r.few_states, r.column_within)

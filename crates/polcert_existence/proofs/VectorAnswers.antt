@@ -1,5 +1,6 @@
 -- Every text is vectors of a graph, or has a right refusal other than out of memory.
-use Rattle.std.proofs.Common.{◌≡◌, ◌≢◌, ◌∙◌, ◌⊎◌, inl, inr, ⊎_elim, ℕ, ℤ, ◌+◌, ◌*◌, ◌<◌, ◌≤◌, Bool, true, Option, Some, None, Err, List, [], ◌∷◌, ◌++◌, length, refl, subst, arith}
+use Rattle.std.proofs.Common.{◌≡◌, ◌≢◌, ◌∙◌, ◌⊎◌, inl, inr, ⊎_elim, ℕ, ℤ, ◌+◌, ◌*◌, ◌<◌, ◌≤◌, Bool, true, Option, Some, None, Err, List, []}
+use Rattle.std.proofs.Common.{◌∷◌, ◌++◌, length, refl, subst, arith}
 use Rattle.std.proofs.lemmas.Bool.{cases_Bool}
 use Rattle.polcert_text.specs.Lexemes.{is_numeral}
 use Rattle.polcert_text.specs.Numbers.{IsReadable, IsRounded, IsRefused, largest}
@@ -19,7 +20,8 @@ use Rattle.polcert_policy.specs.Graphs.{PolicyGraph, IsProperGraph, nodes, actio
 use Rattle.polcert_policy.specs.Vectors.{sign_kind, ArePossible, IsRoundedVectors}
 use Rattle.polcert_policy.specs.VectorText.{IsRefusedRoundedVectorsText}
 use Rattle.polcert_policy.specs.ActionVectors.{action_graph}
-use Rattle.polcert_policy.specs.Steps.VectorsRead.{HasVectors, IsPartRefusal, CheckedAction, AreEndRefusal, kept_sign, place_after, is_minus}
+use Rattle.polcert_policy.specs.Steps.VectorsRead.{HasVectors, IsPartRefusal, CheckedAction, AreEndRefusal, kept_sign, place_after}
+use Rattle.polcert_policy.specs.Steps.VectorsRead.{is_minus}
 use Rattle.polcert_policy.specs.declared.fault.VectorFault.{VectorFault}
 use Rattle.polcert_policy.specs.declared.fault.VectorFault.TheVariants as faults
 use Rattle.polcert_policy.specs.declared.vectors.OpenSign.{OpenSign}
@@ -27,7 +29,8 @@ use Rattle.polcert_policy.specs.declared.vectors_reading.VectorsReading.{Vectors
 use Rattle.polcert_policy.proofs.ActionGraphs.{action_graph_proper}
 use Rattle.polcert_policy.proofs.FlatVectors.{vectors_text}
 use Rattle.polcert_policy.proofs.Places.{below_or_at}
-use Rattle.polcert_policy.proofs.VectorReadLaws.{possible_seen, refuse_vector_action, refuse_other, refuse_second_sign, refuse_numeral, read_vector_action, read_sign, read_value, none_read}
+use Rattle.polcert_policy.proofs.VectorReadLaws.{possible_seen, refuse_vector_action, refuse_other, refuse_second_sign, refuse_numeral}
+use Rattle.polcert_policy.proofs.VectorReadLaws.{read_vector_action, read_sign, read_value, none_read}
 use Rattle.polcert_policy.proofs.VectorEndLaws.{unfinished_vector, too_few, vectors_of, vectors_read}
 use Rattle.polcert_policy.proofs.VectorTextLaws.{part_refusal, refused_text, end_refused}
 use Rattle.polcert_existence.specs.Answers.{HasVectorsAnswer, HasActionVectorsAnswer}
@@ -53,7 +56,11 @@ readable_or_refused bs = ⊎_elim
 
 -- a readable number has a value, rounded either way
 some_value : (way : Rounding) (negative : Bool) (bs : List ℕ) → IsReadable bs → (h : ℤ) × IsRounded way negative bs h
-some_value way negative bs readable = (_, rounded_signed way bs _ negative _ (numeral_measure bs readable.numeral readable.short readable.exponent))
+some_value way negative bs readable = (
+  _,
+  rounded_signed way bs _ negative _
+      (numeral_measure bs readable.numeral readable.short readable.exponent),
+)
 
 -- ---- one more token
 
@@ -86,7 +93,12 @@ module _ (way : Rounding) (g : PolicyGraph) (seen : List Lexeme) (r : VectorsRea
       inside : r.node < nodes g → IsTakenOrRefused
       inside few = ⊎_elim
           (λ whole. ⊎_elim
-          (λ value. inl (next few, refl, read_vector_action g r (next few) seen t r.some_states e refl refl refl refl refl h few whole value))
+          (λ value. inl (
+            next few,
+            refl,
+            read_vector_action g r (next few) seen t r.some_states e refl refl refl refl refl h few whole
+                value,
+          ))
           (λ other. stop (faults.ActionMismatch t.place) (λ m. cc) (refl, few, whole, other))
           (same_or_not (whole_of t) (action_of g r.node)))
           (λ wrong. stop (faults.BadShape t.place) (λ m. cc) (refl, few, wrong))
@@ -104,7 +116,12 @@ module _ (way : Rounding) (g : PolicyGraph) (seen : List Lexeme) (r : VectorsRea
 
   take_numeral : 0 < r.column → numeral_kind t.kind ≡ true → IsTakenOrRefused
   take_numeral begun numeral = ⊎_elim read
-      (λ fault. inr (faults.Number fault.0 place, (λ m. cc), refuse_numeral g seen r t r.some_states h fault.0 place begun refl numeral fault.1))
+      (λ fault. inr (
+        faults.Number fault.0 place,
+        (λ m. cc),
+        refuse_numeral g seen r t r.some_states h fault.0 place begun refl numeral
+            fault.1,
+      ))
       (readable_or_refused t.bytes)
     where
       place : ℕ
@@ -113,30 +130,65 @@ module _ (way : Rounding) (g : PolicyGraph) (seen : List Lexeme) (r : VectorsRea
       read : IsReadable t.bytes → IsTakenOrRefused
       read readable =
           let value = some_value way (is_minus r.sign) t.bytes readable in
-          let mid : VectorsReading = record r { values = as_vec (r.values.items ++ value.0 ∷ []) (room way g seen r value.0 h); sign = None } in
+          let mid : VectorsReading = record r {
+            values = as_vec (r.values.items ++ value.0 ∷ []) (room way g seen r value.0 h);
+            sign =
+                None;
+          } in
           ⊎_elim
           (λ l.
-          let next : VectorsReading = record mid { column = r.column + 1; column_within = omega (arith, l); few_begun = λ k. r.few_begun begun } in
+          let next : VectorsReading = record mid {
+            column = r.column + 1;
+            column_within = omega (arith, l);
+            few_begun =
+                λ k. r.few_begun begun;
+          } in
           inl (
             next,
             refl,
             read_value g r mid next seen t value.0 begun numeral readable value.1 refl refl refl refl refl
-                (record { states_same = refl; values_same = refl; sign_same = refl; inside = λ k. (refl, refl); last = λ e. absurd (omega (arith, l, e)) }) h,
+                (record {
+                  states_same = refl;
+                  values_same = refl;
+                  sign_same = refl;
+                  inside = λ k. (refl, refl);
+                  last =
+                      λ e. absurd (omega (arith, l, e));
+                }) h,
           ))
           (λ e.
-          let next : VectorsReading = record mid { node = r.node + 1; column = 0; column_within = omega arith; few = omega (arith, r.few_begun begun); few_begun = λ k. absurd (omega (arith, k)) } in
+          let next : VectorsReading = record mid {
+            node = r.node + 1;
+            column = 0;
+            column_within = omega arith;
+            few =
+                omega (arith, r.few_begun begun);
+            few_begun = λ k. absurd (omega (arith, k));
+          } in
           inl (
             next,
             refl,
             read_value g r mid next seen t value.0 begun numeral readable value.1 refl refl refl refl refl
-                (record { states_same = refl; values_same = refl; sign_same = refl; inside = λ l. absurd (omega (arith, l, e)); last = λ k. (refl, refl) }) h,
+                (record {
+                  states_same = refl;
+                  values_same = refl;
+                  sign_same = refl;
+                  inside = λ l. absurd (omega (arith, l, e));
+                  last =
+                      λ k. (refl, refl);
+                }) h,
           ))
           (below_or_at r.column r.states r.column_within)
 
   take_value : 0 < r.column → IsTakenOrRefused
   take_value begun = ⊎_elim (take_numeral begun)
       (λ no_numeral. ⊎_elim (take_sign begun)
-      (λ no_sign. inr (faults.BadShape (place_after r.sign t.place), (λ m. cc), refuse_other g seen r t r.some_states h (place_after r.sign t.place) begun refl no_numeral no_sign))
+      (λ no_sign. inr (
+        faults.BadShape (place_after r.sign t.place),
+        (λ m. cc),
+        refuse_other g seen r t r.some_states h
+            (place_after r.sign t.place) begun refl no_numeral no_sign,
+      ))
       (cases_Bool (sign_kind t.kind)))
       (cases_Bool (numeral_kind t.kind))
 
@@ -145,14 +197,16 @@ module _ (way : Rounding) (g : PolicyGraph) (seen : List Lexeme) (r : VectorsRea
 
 -- ---- the whole text
 
-module _ (way : Rounding) (g : PolicyGraph) (states : ℕ) (proper : IsProperGraph g) (some : 1 ≤ states) (few : states ≤ most_states) (text : List ℕ) where
+module _ (way : Rounding) (g : PolicyGraph) (states : ℕ) (proper : IsProperGraph g) (some : 1 ≤ states) (few : states ≤ most_states)
+    (text : List ℕ) where
   -- what is read of the tokens
   record VectorsSoFar (seen : List Lexeme) : Type 0 where
     pub reading : VectorsReading
     pub states_are : reading.states ≡ states
     pub read : HasVectors way g seen reading
 
-  refused : (fault : VectorFault) → fault ≢ faults.Memory → IsRefusedRoundedVectorsText way g states fault text → HasVectorsAnswer way g states text
+  refused : (fault : VectorFault) → fault ≢ faults.Memory → IsRefusedRoundedVectorsText way g states fault text
+      → HasVectorsAnswer way g states text
   refused fault says h = inr (fault, says, h)
 
   -- the text ends cleanly after the tokens
@@ -162,28 +216,44 @@ module _ (way : Rounding) (g : PolicyGraph) (states : ℕ) (proper : IsProperGra
       r : VectorsReading
       r = so_far.reading
 
-      ends : (fault : VectorFault) → fault ≢ faults.Memory → AreEndRefusal way g r.states seen (length text) fault → HasVectorsAnswer way g states text
+      ends : (fault : VectorFault) → fault ≢ faults.Memory → AreEndRefusal way g r.states seen (length text) fault
+          → HasVectorsAnswer way g states text
       ends fault says h = refused fault says (end_refused way g r.states states text seen (length text) fault so_far.states_are cut refl h)
 
       inside : 0 < r.column → HasVectorsAnswer way g states text
-      inside begun = ends (faults.Truncated (length text)) (λ m. cc) (refl, (r.node, (r.column, unfinished_vector g seen r r.some_states begun so_far.read, begun)))
+      inside begun = ends (faults.Truncated (length text)) (λ m. cc)
+          (refl, (r.node, (r.column, unfinished_vector g seen r r.some_states begun so_far.read, begun)))
 
       whole : r.column ≤ 0 → HasVectorsAnswer way g states text
       whole none = ⊎_elim
-          (λ fewer. ends (faults.WrongVectorCount (length text)) (λ m. cc) (refl, (r.node, too_few g seen r r.some_states none fewer so_far.read, fewer)))
-          (λ enough. inl (_, vectors_text way g states text (vectors_of r.node r.states r.values.items) seen cut (subst (λ o. IsRoundedVectors way g o seen (vectors_of r.node r.states r.values.items)) so_far.states_are (vectors_read g seen r none enough so_far.read))))
+          (λ fewer. ends (faults.WrongVectorCount (length text)) (λ m. cc)
+          (refl, (r.node, too_few g seen r r.some_states none fewer so_far.read, fewer)))
+          (λ enough. inl (
+            _,
+            vectors_text way g states text (vectors_of r.node r.states r.values.items) seen cut
+                (subst (λ o. IsRoundedVectors way g o seen (vectors_of r.node r.states r.values.items)) so_far.states_are
+                (vectors_read g seen r none enough so_far.read)),
+          ))
           (below_or_not r.node (nodes g))
 
-  answer_after : (seen : List Lexeme) (end : Option TokenFault) → IsCut (text_rest text text_limit) seen end → VectorsSoFar seen → HasVectorsAnswer way g states text
+  answer_after : (seen : List Lexeme) (end : Option TokenFault) → IsCut (text_rest text text_limit) seen end → VectorsSoFar seen
+      → HasVectorsAnswer way g states text
   answer_after seen None cut so_far = at_end seen cut so_far
   answer_after seen (Some fault) cut so_far = refused (faults.Token fault) (λ m. cc)
-      (refused_text way g states text (faults.Token fault) (seen, cut, subst (λ o. ArePossible way g o seen) so_far.states_are (possible_seen g seen so_far.reading so_far.reading.some_states so_far.read)))
+      (refused_text way g states text (faults.Token fault) (
+        seen,
+        cut,
+        subst (λ o. ArePossible way g o seen) so_far.states_are
+            (possible_seen g seen so_far.reading so_far.reading.some_states so_far.read),
+      ))
 
   take_next : (seen : List Lexeme) (t : Lexeme) → VectorsSoFar seen
-      → VectorsSoFar (seen ++ t ∷ []) ⊎ ((rest : Rest) → Taken (text_rest text text_limit) (seen ++ t ∷ []) rest → HasVectorsAnswer way g states text)
+      → VectorsSoFar (seen ++ t ∷ []) ⊎ ((rest : Rest) → Taken (text_rest text text_limit) (seen ++ t ∷ []) rest
+      → HasVectorsAnswer way g states text)
   take_next seen t so_far = ⊎_elim
       (λ next. inl (record { reading = next.0; states_are = next.1 ∙ so_far.states_are; read = next.2 }))
-      (λ stop. inr (λ rest taken. refused stop.0 stop.1 (refused_text way g states text stop.0 (part_refusal way g so_far.reading.states states text (seen ++ t ∷ []) rest stop.0 so_far.states_are taken stop.2))))
+      (λ stop. inr (λ rest taken. refused stop.0 stop.1 (refused_text way g states text stop.0
+      (part_refusal way g so_far.reading.states states text (seen ++ t ∷ []) rest stop.0 so_far.states_are taken stop.2))))
       (take_token way g seen so_far.reading t so_far.read)
 
   none : VectorsReading
@@ -203,9 +273,11 @@ module _ (way : Rounding) (g : PolicyGraph) (states : ℕ) (proper : IsProperGra
   pub vectors_answer : HasVectorsAnswer way g states text
   unfolding none
   vectors_answer =
-      answered (text_rest text text_limit) VectorsSoFar (record { reading = none; states_are = refl; read = none_read g none proper refl refl refl refl }) take_next answer_after
+      answered (text_rest text text_limit) VectorsSoFar (record
+      { reading = none; states_are = refl; read = none_read g none proper refl refl refl refl }) take_next answer_after
 
 -- one vector for each action
-pub action_vectors_answer : (actions states : ℕ) → 1 ≤ actions → actions ≤ most_actions → 1 ≤ states → states ≤ most_states → (text : List ℕ) → HasActionVectorsAnswer actions states text
+pub action_vectors_answer : (actions states : ℕ) → 1 ≤ actions → actions ≤ most_actions → 1 ≤ states → states ≤ most_states
+    → (text : List ℕ) → HasActionVectorsAnswer actions states text
 action_vectors_answer actions states some_actions few_actions some few text =
     vectors_answer Up (action_graph actions) states (action_graph_proper actions some_actions few_actions) some few text

@@ -6,7 +6,8 @@ use Rattle.polcert_cells.proofs.Basics.{or_false_from}
 use Rattle.polcert_format.proofs.Dividing.{no_word_append}
 
 -- a lexeme that begins no item is one more of the item
-abbrev pub within_continues : (seen : List Lexeme) (l : Lexeme) (k : ModelSoFar) (t : Topic) (body : List Lexeme) (w : IsWithinItem seen k t body) → begins_item l ≡ false
+abbrev pub within_continues : (seen : List Lexeme) (l : Lexeme) (k : ModelSoFar) (t : Topic) (body : List Lexeme)
+    (w : IsWithinItem seen k t body) → begins_item l ≡ false
     → IsWithinItem (seen ++ l ∷ []) k t (body ++ l ∷ [])
 within_continues seen l k t body w e = record {
   before = w.before;
@@ -18,5 +19,6 @@ within_continues seen l k t body w e = record {
 }
 
 -- after right items, an item begins with its word
-abbrev pub item_begins : (seen : List Lexeme) (word : Lexeme) (k : ModelSoFar) (t : Topic) (a : AreRightItems seen k) → topic word ≡ Some t → IsWithinItem (seen ++ word ∷ []) k t []
+abbrev pub item_begins : (seen : List Lexeme) (word : Lexeme) (k : ModelSoFar) (t : Topic) (a : AreRightItems seen k) → topic word ≡ Some t
+    → IsWithinItem (seen ++ word ∷ []) k t []
 item_begins seen word k t a e = record { before = seen; word = word; whole = refl; items = a; topic_is = e; no_word = refl }

@@ -3,7 +3,11 @@
 use Rattle.std.proofs.Common.{◌≡◌, ◌∙◌, ℕ, ◌*◌, ◌<◌, ◌≤◌, None, List, [], ◌∷◌, ◌++◌, length, sym, ap, subst, arith, Some, ◌+◌}
 use Rattle.std.proofs.lemmas.List.{append_assoc, append-nil}
 use Rattle.std.proofs.Math.Nat.{mul-le-mul}
-use Rattle.polcert_format.proofs.Common.{Lexeme, Entry, Table, Transition, Observation, Reward, Topic, Start, Cells, count_of, IsEntry, Preamble, observed, ItemFault, TextTokens, IsDecided, word_place, HasForm, IsPossible, Item, IsDivided, IsLateIn, word_fault, IsWrong, IsReason, Stops, at_lexeme, at_number, at_end, StopsInBody, IsOfTokens, EndsPossible, at_once, in_item, StandsRight, before_body, in_body, after_body, of_first_number, of_tokens, TooManyCells, topic, ModelSoFar, nothing_known, AreRight}
+use Rattle.polcert_format.proofs.Common.{Lexeme, Entry, Table, Transition, Observation, Reward, Topic, Start, Cells, count_of, IsEntry}
+use Rattle.polcert_format.proofs.Common.{Preamble, observed, ItemFault, TextTokens, IsDecided, word_place, HasForm, IsPossible, Item}
+use Rattle.polcert_format.proofs.Common.{IsDivided, IsLateIn, word_fault, IsWrong, IsReason, Stops, at_lexeme, at_number, at_end}
+use Rattle.polcert_format.proofs.Common.{StopsInBody, IsOfTokens, EndsPossible, at_once, in_item, StandsRight, before_body, in_body}
+use Rattle.polcert_format.proofs.Common.{after_body, of_first_number, of_tokens, TooManyCells, topic, ModelSoFar, nothing_known, AreRight}
 use Rattle.polcert_cells.proofs.EntryLaws.{one_entry}
 use Rattle.polcert_format.specs.Forms.{PassesCellLimit}
 use Rattle.polcert_format.specs.Forms as shapes
@@ -36,20 +40,26 @@ too_much_wrong k t body m after (texts.entry {p = p} {table = table} {e = e} c g
 too_much_wrong k t body m after _ = no_cells m.topic_is (λ s. cc)
 
 pub too_much_possible : (k : ModelSoFar) (t : Topic) (body : List Lexeme) → PassesCellLimit k t body → IsPossible k t body
-too_much_possible k t body m = record { more = []; form = subst (HasForm k t) (sym (append-nil body)) (shapes.entry m.topic_is m.complete m.may_be_given m.entry) }
+too_much_possible k t body m = record {
+  more = [];
+  form =
+      subst (HasForm k t) (sym (append-nil body)) (shapes.entry m.topic_is m.complete m.may_be_given m.entry);
+}
 
 may_stand : (k : ModelSoFar) (t : Topic) (body : List Lexeme) → PassesCellLimit k t body → word_fault k t ≡ None
 may_stand k t body m = ap (word_fault k) m.topic_is ∙ cells_stand k m.p m.table m.complete m.may_be_given
 
 pub one_limit_passed : (ts : TextTokens) (n p q : ℕ) → PassesLimit ts n p → PassesLimit ts n q → p ≡ q
 one_limit_passed ts n p q a b =
-    let cut = same_cut a.before b.before a.after b.after a.item b.item (one_division ts.lexemes [] [] (a.before ++ a.item ∷ a.after) (b.before ++ b.item ∷ b.after) a.divided b.divided).1
+    let cut = same_cut a.before b.before a.after b.after a.item b.item
+    (one_division ts.lexemes [] [] (a.before ++ a.item ∷ a.after) (b.before ++ b.item ∷ b.after) a.divided b.divided).1
     (same_length n a.before b.before a.number_is b.number_is) in
     a.place_is ∙ ap (λ items. word_place items ts.end 0) cut.following ∙ sym b.place_is
 
 pub limit_undecided : (ts : TextTokens) (n p q : ℕ) (g : ItemFault) → PassesLimit ts n p → IsDecided ts n g q → ⊥
 limit_undecided ts n p q g a d =
-    nothing_decided ts a.before a.item a.after a.k a.t g q a.divided a.known a.topic_is (may_stand a.k a.t a.item.body a.too_much) (subst (λ m. IsDecided ts m g q) a.number_is d)
+    nothing_decided ts a.before a.item a.after a.k a.t g q a.divided a.known a.topic_is (may_stand a.k a.t a.item.body a.too_much)
+    (subst (λ m. IsDecided ts m g q) a.number_is d)
 
 -- ---- no other refusal of such an entry
 
@@ -59,25 +69,35 @@ record IsSameItem (a b : Item) (xs ys us vs : List Item) (j k : ModelSoFar) : Ty
   after : us ≡ vs
   known : j ≡ k
 
-same_here : (ts : TextTokens) (n p : ℕ) (a : PassesLimit ts n p) (before : List Item) (item : Item) (after : List Item) (k : ModelSoFar) → IsDivided ts.lexemes [] (before ++ item ∷ after)
+same_here : (ts : TextTokens) (n p : ℕ) (a : PassesLimit ts n p) (before : List Item) (item : Item) (after : List Item) (k : ModelSoFar)
+    → IsDivided ts.lexemes [] (before ++ item ∷ after)
     → AreRight nothing_known before k → n ≡ length before + 1 → IsSameItem a.item item a.before before a.after after a.k k
 same_here ts n p a before item after k divided known number =
-    let cut = same_cut a.before before a.after after a.item item (one_division ts.lexemes [] [] (a.before ++ a.item ∷ a.after) (before ++ item ∷ after) a.divided divided).1
+    let cut = same_cut a.before before a.after after a.item item
+    (one_division ts.lexemes [] [] (a.before ++ a.item ∷ a.after) (before ++ item ∷ after) a.divided divided).1
     (same_length n a.before before a.number_is number) in
-    record { item = cut.here; after = cut.following; known = one_known nothing_known before a.k k (subst (λ xs. AreRight nothing_known xs a.k) cut.front a.known) known }
+    record {
+      item = cut.here;
+      after = cut.following;
+      known =
+          one_known nothing_known before a.k k (subst (λ xs. AreRight nothing_known xs a.k) cut.front a.known) known;
+    }
 
 -- it gives too much there too
-too_much_here : (ts : TextTokens) (n p : ℕ) (a : PassesLimit ts n p) (before : List Item) (item : Item) (after : List Item) (k : ModelSoFar) (t : Topic)
+too_much_here : (ts : TextTokens) (n p : ℕ) (a : PassesLimit ts n p) (before : List Item) (item : Item) (after : List Item) (k : ModelSoFar)
+    (t : Topic)
     → IsSameItem a.item item a.before before a.after after a.k k → topic item.word ≡ Some t → PassesCellLimit k t item.body
 too_much_here ts n p a before item after k t same topics = grind arith
 
 has_form : (k : ModelSoFar) (t : Topic) (body : List Lexeme) → PassesCellLimit k t body → HasForm k t body
 has_form k t body m = shapes.entry m.topic_is m.complete m.may_be_given m.entry
 
-no_stop : (k : ModelSoFar) (t : Topic) (kind : ItemFault) (body taken rest : List Lexeme) → PassesCellLimit k t body → body ≡ taken ++ rest → Stops k t kind taken rest → ⊥
+no_stop : (k : ModelSoFar) (t : Topic) (kind : ItemFault) (body taken rest : List Lexeme) → PassesCellLimit k t body → body ≡ taken ++ rest
+    → Stops k t kind taken rest → ⊥
 no_stop k t kind body taken rest m whole (at_lexeme {l = l} {following = following} formless unfit) =
     formless following (subst (HasForm k t) (whole ∙ sym (append_assoc taken (l ∷ []) following)) (has_form k t body m))
-no_stop k t kind body taken rest m whole (at_number {sign = sign} {l = l} {following = following} is numeral possible formless value unfit) =
+no_stop k t kind body taken rest m whole (at_number {sign = sign} {l = l} {following = following} is numeral possible formless value unfit)
+    =
     formless following (subst (HasForm k t) (whole ∙ sym (append_assoc taken (sign ∷ l ∷ []) following)) (has_form k t body m))
 no_stop k t kind body taken rest m whole (at_end wrong other kinds) = other (subst (PassesCellLimit k t) (whole ∙ append-nil taken) m)
 
@@ -98,17 +118,20 @@ not_late ts kind n p q a w =
 -- the tokens end cleanly where it is the last item
 clean_end : (ts : TextTokens) (n p : ℕ) → PassesLimit ts n p → EndsPossible ts n → ts.ending ≡ None
 clean_end ts n p a (at_once e) =
-    absurd (no_empty a.before a.item a.after (one_division [] [] [] (a.before ++ a.item ∷ a.after) [] (subst (λ ls. IsDivided ls [] (a.before ++ a.item ∷ a.after)) e a.divided) empty_division).1)
+    absurd (no_empty a.before a.item a.after (one_division [] [] [] (a.before ++ a.item ∷ a.after) []
+    (subst (λ ls. IsDivided ls [] (a.before ++ a.item ∷ a.after)) e a.divided) empty_division).1)
 clean_end ts n p a (in_item w) =
     let same = same_here ts n p a w.before w.item [] w.k w.divided w.known w.number_is in
     a.clean same.after
 
-not_of_tokens : (ts : TextTokens) (kind : ItemFault) (n p q : ℕ) → PassesLimit ts n p → IsOfTokens kind → EndsPossible ts n → IsReason ts n q kind → ⊥
+not_of_tokens : (ts : TextTokens) (kind : ItemFault) (n p q : ℕ) → PassesLimit ts n p → IsOfTokens kind → EndsPossible ts n
+    → IsReason ts n q kind → ⊥
 not_of_tokens ts (Token f) n p q a of ends reason = some≢none reason.0 (clean_end ts n p a ends)
 not_of_tokens ts TextTooLong n p q a of ends reason = some≢none reason (clean_end ts n p a ends)
 not_of_tokens ts _ n p q a of ends reason = absurd of
 
-pub only_limit : (ts : TextTokens) (kind : ItemFault) (n p q : ℕ) → PassesLimit ts n p → IsReason ts n q kind → StandsRight ts kind n q → (kind ≡ TooManyCells) × (q ≡ p)
+pub only_limit : (ts : TextTokens) (kind : ItemFault) (n p q : ℕ) → PassesLimit ts n p → IsReason ts n q kind → StandsRight ts kind n q
+    → (kind ≡ TooManyCells) × (q ≡ p)
 only_limit ts kind n p q a reason (before_body d) = absurd (limit_undecided ts n p q kind a d)
 only_limit ts kind n p q a reason (in_body s) = absurd (not_stopped ts kind n p q a s)
 only_limit ts kind n p q a reason (after_body k b) = (k, one_limit_passed ts n q p b a)
@@ -121,7 +144,12 @@ pub few_pairs : (p : Preamble) → count_of p.states ≤ 1000 → count_of (obse
 few_pairs p s o = let product : count_of p.states * count_of (observed p) ≤ 1000 * 1000 = mul-le-mul s o in omega (arith, product)
 
 pub few_cells : (p : Preamble) (es : List Entry) → ((table : Table) → IsLarge p table → ⊥) → HasFewCells p es
-few_cells p es small = record { transitions = λ l. absurd (small Transition l); observations = λ l. absurd (small Observation l); rewards = λ l. absurd (small Reward l) }
+few_cells p es small = record {
+  transitions = λ l. absurd (small Transition l);
+  observations = λ l. absurd (small Observation l);
+  rewards =
+      λ l. absurd (small Reward l);
+}
 
 -- no table of what can be printed is large
 printable_small : (p : Preamble) → IsPrintable p → (table : Table) → IsLarge p table → ⊥

@@ -1,6 +1,7 @@
 -- No two lexemes of a text stand at one place, so that a place tells which lexeme of a body is meant.
 use Rattle.std.proofs.Common.{◌≡◌, ◌∙◌, ℕ, ◌+◌, ◌≤◌, Option, List, [], ◌∷◌, ◌++◌, length, flat_map, refl, ap, subst, arith}
-use Rattle.polcert_format.proofs.Common.{Lexeme, Rest, TakesToken, IsCut, text_rest, text_limit, TokenFault, TextTokens, AreTokensOf, Item, lexemes_of, IsDivided}
+use Rattle.polcert_format.proofs.Common.{Lexeme, Rest, TakesToken, IsCut, text_rest, text_limit, TokenFault, TextTokens, AreTokensOf, Item}
+use Rattle.polcert_format.proofs.Common.{lexemes_of, IsDivided}
 use Rattle.polcert_cells.proofs.Basics.{same_head, same_tail}
 use Rattle.polcert_format.proofs.DecidedLaws.{SameCut}
 use Rattle.polcert_format.proofs.Dividing.{all_append}
@@ -33,7 +34,8 @@ cut_climbs rest (l ∷ ls) ending cut = (
 
 pub tokens_climb : (text : List ℕ) (ts : TextTokens) → AreTokensOf text ts → Climbs 0 ts.lexemes
 tokens_climb text ts tokens =
-    climbs_from 0 (text_rest text text_limit).place ts.lexemes (omega arith) (cut_climbs (text_rest text text_limit) ts.lexemes ts.ending tokens.cut)
+    climbs_from 0 (text_rest text text_limit).place ts.lexemes (omega arith)
+    (cut_climbs (text_rest text text_limit) ts.lexemes ts.ending tokens.cut)
 
 -- ---- bodies
 
@@ -45,10 +47,12 @@ climbs_front : (a : ℕ) (xs ys : List Lexeme) → Climbs a (xs ++ ys) → Climb
 climbs_front a [] ys c = tt
 climbs_front a (x ∷ xs) ys c = (c.0, climbs_front (x.place + 1) xs ys c.1)
 
-pub body_climbs : (ts : TextTokens) (before : List Item) (item : Item) (after : List Item) → Climbs 0 ts.lexemes → IsDivided ts.lexemes [] (before ++ item ∷ after) → (a : ℕ) × Climbs a item.body
+pub body_climbs : (ts : TextTokens) (before : List Item) (item : Item) (after : List Item) → Climbs 0 ts.lexemes
+    → IsDivided ts.lexemes [] (before ++ item ∷ after) → (a : ℕ) × Climbs a item.body
 body_climbs ts before item after climbs d =
     let later = flat_map lexemes_of after in
-    let all = climbs_after 0 (flat_map lexemes_of before) (item.word ∷ (item.body ++ later)) (subst (Climbs 0) (d.whole ∙ all_append before (item ∷ after)) climbs) in
+    let all = climbs_after 0 (flat_map lexemes_of before) (item.word ∷ (item.body ++ later))
+    (subst (Climbs 0) (d.whole ∙ all_append before (item ∷ after)) climbs) in
     (item.word.place + 1, climbs_front (item.word.place + 1) item.body later all.1.1)
 
 -- ---- one lexeme at a place
@@ -58,7 +62,8 @@ stands_from a [] l us c = c.0
 stands_from a (x ∷ xs) l us c = let later = stands_from (x.place + 1) xs l us c.1 in omega (arith, later, c.0)
 
 -- lists that are the same, cut at lexemes of one place
-pub one_lexeme : (a : ℕ) (xs ys us vs : List Lexeme) (l m : Lexeme) → Climbs a (xs ++ l ∷ us) → xs ++ l ∷ us ≡ ys ++ m ∷ vs → l.place ≡ m.place → SameCut xs ys us vs l m
+pub one_lexeme : (a : ℕ) (xs ys us vs : List Lexeme) (l m : Lexeme) → Climbs a (xs ++ l ∷ us) → xs ++ l ∷ us ≡ ys ++ m ∷ vs
+    → l.place ≡ m.place → SameCut xs ys us vs l m
 one_lexeme a [] [] us vs l m c e p = record { front = refl; here = same_head e; following = same_tail e }
 one_lexeme a [] (y ∷ ys) us vs l m c e p =
     let later = stands_from (l.place + 1) ys m vs (subst (Climbs (l.place + 1)) (same_tail e) c.1) in

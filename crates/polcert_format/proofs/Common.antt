@@ -23,8 +23,10 @@ pub use Rattle.polcert_format.specs.Misfits.{IsOfValue}
 pub use Rattle.polcert_format.specs.Order.{preamble_fault, word_fault}
 pub use Rattle.polcert_format.specs.Reading.{AreRightItems, IsWithinItem, IsWrong}
 pub use Rattle.polcert_format.specs.Reasons.{IsNoFraction, IsReason, IsRefusedNumber, is_sign}
-pub use Rattle.polcert_format.specs.Refusals.{EndsPossible, IsOfTokens, StandsRight, Stops, StopsInBody, after_body, at_end, at_lexeme, at_number, at_once, before_body, in_body, in_item, of_first_number, of_tokens, place_or}
-pub use Rattle.polcert_format.specs.Text.{AreRight, Denotes, HasLines, IsComplete, IsModelText, IsRight, IsRightText, ModelSoFar, more, none, nothing_known}
+pub use Rattle.polcert_format.specs.Refusals.{EndsPossible, IsOfTokens, StandsRight, Stops, StopsInBody, after_body, at_end, at_lexeme}
+pub use Rattle.polcert_format.specs.Refusals.{at_number, at_once, before_body, in_body, in_item, of_first_number, of_tokens, place_or}
+pub use Rattle.polcert_format.specs.Text.{AreRight, Denotes, HasLines, IsComplete, IsModelText, IsRight, IsRightText, ModelSoFar, more}
+pub use Rattle.polcert_format.specs.Text.{none, nothing_known}
 pub use Rattle.polcert_format.specs.declared.fault.ItemFault.{ItemFault}
 pub use Rattle.polcert_format.specs.declared.fault.ItemFault.TheVariants.{DiscountRange, Number, ProbabilityRange, TooManyCells}
 pub use Rattle.polcert_format.specs.declared.fault.ModelFault.{ModelFault}

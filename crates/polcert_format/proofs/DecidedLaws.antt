@@ -1,6 +1,8 @@
 -- What is decided at an item's word is one thing, or nothing.
-use Rattle.std.proofs.Common.{◌≡◌, ◌∙◌, ℕ, suc, ◌+◌, Option, Some, None, List, [], ◌∷◌, ◌++◌, length, refl, sym, ap, subst, arith, length-append}
-use Rattle.polcert_format.proofs.Common.{ItemFault, Topic, topic, Item, IsDivided, ModelSoFar, nothing_known, AreRight, preamble_fault, word_fault, TextTokens, IsDecided}
+use Rattle.std.proofs.Common.{◌≡◌, ◌∙◌, ℕ, suc, ◌+◌, Option, Some, None, List, [], ◌∷◌, ◌++◌, length, refl, sym, ap, subst, arith}
+use Rattle.std.proofs.Common.{length-append}
+use Rattle.polcert_format.proofs.Common.{ItemFault, Topic, topic, Item, IsDivided, ModelSoFar, nothing_known, AreRight, preamble_fault}
+use Rattle.polcert_format.proofs.Common.{word_fault, TextTokens, IsDecided}
 use Rattle.polcert_format.specs.FirstWrong.{before_items, at_word, at_end}
 use Rattle.polcert_cells.proofs.Basics.{one_some, same_head, same_tail}
 use Rattle.polcert_format.proofs.ItemLaws.{one_division}
@@ -29,7 +31,8 @@ pub same_length : (n : ℕ) (xs ys : List Item) → n ≡ length xs + 1 → n �
 same_length n xs ys a b = omega (arith, a, b)
 
 -- an item of the text and the end have two numbers
-word_or_end : (ts : TextTokens) (n : ℕ) (xs : List Item) (x : Item) (us items : List Item) → IsDivided ts.lexemes [] (xs ++ x ∷ us) → IsDivided ts.lexemes [] items
+word_or_end : (ts : TextTokens) (n : ℕ) (xs : List Item) (x : Item) (us items : List Item) → IsDivided ts.lexemes [] (xs ++ x ∷ us)
+    → IsDivided ts.lexemes [] items
     → n ≡ length xs + 1 → n ≡ length items + 1 → ⊥
 word_or_end ts n xs x us items a b p q =
     let same : xs ++ x ∷ us ≡ items = (one_division ts.lexemes [] [] (xs ++ x ∷ us) items a b).1 in
@@ -42,17 +45,21 @@ zero_or_more n m a b = omega (arith, a, b)
 
 pub one_decided : (ts : TextTokens) (n : ℕ) (f g : ItemFault) (p q : ℕ) → IsDecided ts n f p → IsDecided ts n g q → (f ≡ g) × (p ≡ q)
 one_decided ts n f g p q (before_items l ls items a z e c) (before_items m ms others b y d h) = grind (arith, same_head, one_division)
-one_decided ts n f g p q (before_items l ls items a z e c) (at_word ys y vs k u b taken tu fault m h) = absurd (zero_or_more n (length ys) z m)
+one_decided ts n f g p q (before_items l ls items a z e c) (at_word ys y vs k u b taken tu fault m h) =
+    absurd (zero_or_more n (length ys) z m)
 one_decided ts n f g p q (before_items l ls items a z e c) (at_end ys k b taken clean fault m h) = absurd (zero_or_more n (length ys) z m)
-one_decided ts n f g p q (at_word xs x us j t a taken tt' fault m c) (before_items l ls others b y d h) = absurd (zero_or_more n (length xs) y m)
+one_decided ts n f g p q (at_word xs x us j t a taken tt' fault m c) (before_items l ls others b y d h) =
+    absurd (zero_or_more n (length xs) y m)
 one_decided ts n f g p q (at_word xs x us j t a taken topics fault m c) (at_word ys y vs k u b others topic_is reason l h) =
     let cut = same_cut xs ys us vs x y (one_division ts.lexemes [] [] (xs ++ x ∷ us) (ys ++ y ∷ vs) a b).1 (same_length n xs ys m l) in
     let known : j ≡ k = one_known nothing_known ys j k (subst (λ v. AreRight nothing_known v j) cut.front taken) others in
     let kinds : t ≡ u = one_some (subst (λ (v : Item). topic v.word ≡ Some t) cut.here topics) topic_is in
     (one_fault (λ i. word_fault (known i) (kinds i)) fault reason, c ∙ ap (λ (v : Item). v.word.place) cut.here ∙ sym h)
-one_decided ts n f g p q (at_word xs x us j t a taken topics fault m c) (at_end ys k b others clean reason l h) = absurd (word_or_end ts n xs x us ys a b m l)
+one_decided ts n f g p q (at_word xs x us j t a taken topics fault m c) (at_end ys k b others clean reason l h) =
+    absurd (word_or_end ts n xs x us ys a b m l)
 one_decided ts n f g p q (at_end xs j a taken clean fault m c) (before_items l ls others b y d h) = absurd (zero_or_more n (length xs) y m)
-one_decided ts n f g p q (at_end xs j a taken clean fault m c) (at_word ys y vs k u b others topic_is reason l h) = absurd (word_or_end ts n ys y vs xs b a l m)
+one_decided ts n f g p q (at_end xs j a taken clean fault m c) (at_word ys y vs k u b others topic_is reason l h) =
+    absurd (word_or_end ts n ys y vs xs b a l m)
 one_decided ts n f g p q (at_end xs j a taken clean fault m c) (at_end ys k b others clean' reason l h) =
     let same = (one_division ts.lexemes [] [] xs ys a b).1 in
     let known : j ≡ k = one_known nothing_known ys j k (subst (λ v. AreRight nothing_known v j) same taken) others in
@@ -62,12 +69,15 @@ none_or_some : {A : Type 0} {o p : Option A} {f : A} → o ≡ p → o ≡ None 
 none_or_some e a b = cc
 
 -- nothing is decided where the item's word may stand
-pub nothing_decided : (ts : TextTokens) (xs : List Item) (x : Item) (us : List Item) (k : ModelSoFar) (t : Topic) (f : ItemFault) (p : ℕ) → IsDivided ts.lexemes [] (xs ++ x ∷ us)
+pub nothing_decided : (ts : TextTokens) (xs : List Item) (x : Item) (us : List Item) (k : ModelSoFar) (t : Topic) (f : ItemFault) (p : ℕ)
+    → IsDivided ts.lexemes [] (xs ++ x ∷ us)
     → AreRight nothing_known xs k → topic x.word ≡ Some t → word_fault k t ≡ None → IsDecided ts (length xs + 1) f p → ⊥
 nothing_decided ts xs x us j t f p a taken topics free (before_items l ls others b y d h) = zero_or_more (length xs + 1) (length xs) y refl
 nothing_decided ts xs x us j t f p a taken topics free (at_word ys y vs k u b others topic_is reason l h) =
-    let cut = same_cut xs ys us vs x y (one_division ts.lexemes [] [] (xs ++ x ∷ us) (ys ++ y ∷ vs) a b).1 (same_length (length xs + 1) xs ys refl l) in
+    let cut = same_cut xs ys us vs x y (one_division ts.lexemes [] [] (xs ++ x ∷ us) (ys ++ y ∷ vs) a b).1
+    (same_length (length xs + 1) xs ys refl l) in
     let known : j ≡ k = one_known nothing_known ys j k (subst (λ v. AreRight nothing_known v j) cut.front taken) others in
     let kinds : t ≡ u = one_some (subst (λ (v : Item). topic v.word ≡ Some t) cut.here topics) topic_is in
     none_or_some (λ i. word_fault (known i) (kinds i)) free reason
-nothing_decided ts xs x us j t f p a taken topics free (at_end ys k b others clean reason l h) = word_or_end ts (length xs + 1) xs x us ys a b refl l
+nothing_decided ts xs x us j t f p a taken topics free (at_end ys k b others clean reason l h) =
+    word_or_end ts (length xs + 1) xs x us ys a b refl l

@@ -10,7 +10,8 @@ pub record BeginsWithPlace (body : List Lexeme) : Type 0 where
   pub whole : body ≡ colon ∷ place ∷ rest
   pub colon_is : colon.kind ≡ Colon
 
-first_colon : (mdp : Bool) (table : Table) (body : Body) {ds : List Elements} {xs : List Lexeme} {ps : List Place} (us : List Lexeme) → ArePlaces ds xs ps
+first_colon : (mdp : Bool) (table : Table) (body : Body) {ds : List Elements} {xs : List Lexeme} {ps : List Place} (us : List Lexeme)
+    → ArePlaces ds xs ps
     → list_any (λ n. n == length ps) (forms mdp table body) ≡ true → BeginsWithPlace (xs ++ us)
 first_colon mdp table body us h1 h2 = grind arith
 

@@ -8,7 +8,8 @@ abbrev all_lexemes : List Item → List Lexeme
 all_lexemes items = flat_map lexemes_of items
 
 -- a lexeme that begins no item isn't the first of items
-no_first : (l : Lexeme) (rest : List Lexeme) (items : List Item) → begins_item l ≡ false → All IsItem items → l ∷ rest ≡ all_lexemes items → ⊥
+no_first : (l : Lexeme) (rest : List Lexeme) (items : List Item) → begins_item l ≡ false → All IsItem items → l ∷ rest ≡ all_lexemes items
+    → ⊥
 no_first l rest [] none all e = cons≢nil e
 no_first l rest (x ∷ xs) none all e =
     let word : begins_item x.word ≡ true = (All-head IsItem x xs all).word in
@@ -22,7 +23,8 @@ same_front xs all following [] [] ys others p q e = (refl, following ys others e
 same_front xs all following (l ∷ f) [] ys others p q e = grind (arith, or_false, no_first)
 same_front xs all following [] (l ∷ g) ys others p q e = grind (arith, or_false, no_first)
 same_front xs all following (l ∷ f) (m ∷ g) ys others p q e =
-    let rest = same_front xs all following f g ys others (or_false (begins_item l) (list_any begins_item f) p).1 (or_false (begins_item m) (list_any begins_item g) q).1 (same_tail e) in
+    let rest = same_front xs all following f g ys others (or_false (begins_item l) (list_any begins_item f) p).1
+    (or_false (begins_item m) (list_any begins_item g) q).1 (same_tail e) in
     let head = same_head e in
     ((λ i. head i ∷ rest.0 i), rest.1)
 
@@ -31,7 +33,8 @@ same_items [] all [] others e = refl
 same_items [] all (y ∷ ys) others e = absurd (cons≢nil (sym e))
 same_items (x ∷ xs) all [] others e = absurd (cons≢nil e)
 same_items (x ∷ xs) all (y ∷ ys) others e =
-    let rest = same_front xs (All-tail IsItem x xs all) (same_items xs (All-tail IsItem x xs all)) x.body y.body ys (All-tail IsItem y ys others)
+    let rest = same_front xs (All-tail IsItem x xs all) (same_items xs (All-tail IsItem x xs all)) x.body y.body ys
+    (All-tail IsItem y ys others)
     (All-head IsItem x xs all).body (All-head IsItem y ys others).body (same_tail e) in
     let word = same_head e in
     (λ i. record { word = word i; body = rest.0 i } ∷ rest.1 i)
@@ -40,11 +43,29 @@ pub one_division : (ls f g : List Lexeme) (xs ys : List Item) → IsDivided ls f
 one_division ls f g xs ys a b = same_front xs a.each (same_items xs a.each) f g ys b.each a.no_word b.no_word (sym a.whole ∙ b.whole)
 
 -- a further lexeme before lexemes that are divided
-more_division : (l : Lexeme) (ls f : List Lexeme) (xs : List Item) → IsDivided ls f xs → (g : List Lexeme) × (ys : List Item) × IsDivided (l ∷ ls) g ys
+more_division : (l : Lexeme) (ls f : List Lexeme) (xs : List Item) → IsDivided ls f xs → (g : List Lexeme) × (ys : List Item)
+    × IsDivided (l ∷ ls) g ys
 more_division l ls f xs rest = ⊎_elim
-    (λ begins. let item : Item = record { word = l; body = f } in
-    ([], item ∷ xs, record { whole = ap (λ (t : List Lexeme). l ∷ t) rest.whole; no_word = refl; each = All-cons IsItem item xs (record { word = begins; body = rest.no_word }) rest.each }))
-    (λ none. (l ∷ f, xs, record { whole = ap (λ (t : List Lexeme). l ∷ t) rest.whole; no_word = or_false_from (begins_item l) (list_any begins_item f) none rest.no_word; each = rest.each }))
+    (λ begins. let item : Item = record { word = l; body = f } in (
+      [],
+      item ∷ xs,
+      record {
+        whole = ap (λ (t : List Lexeme). l ∷ t) rest.whole;
+        no_word = refl;
+        each =
+            All-cons IsItem item xs (record { word = begins; body = rest.no_word }) rest.each;
+      },
+    ))
+    (λ none. (
+      l ∷ f,
+      xs,
+      record {
+        whole = ap (λ (t : List Lexeme). l ∷ t) rest.whole;
+        no_word =
+            or_false_from (begins_item l) (list_any begins_item f) none rest.no_word;
+        each = rest.each;
+      },
+    ))
     (is_true_or_false (begins_item l))
 
 pub has_division : (ls : List Lexeme) → (f : List Lexeme) × (xs : List Item) × IsDivided ls f xs

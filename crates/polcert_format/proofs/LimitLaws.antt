@@ -1,7 +1,11 @@
 -- What a right text denotes is within its limits.
-use Rattle.std.proofs.Common.{◌≡◌, ℕ, zero, suc, ◌+◌, ◌*◌, ◌<◌, ◌≤◌, Bool, true, ◌⊎◌, ⊎_elim, Option, Some, None, unwrap_or, List, [], ◌∷◌, ◌++◌, get_or, ℤ, pos, neg_ℤ, sym, ap, subst, arith, unsigned_abs}
+use Rattle.std.proofs.Common.{◌≡◌, ℕ, zero, suc, ◌+◌, ◌*◌, ◌<◌, ◌≤◌, Bool, true, ◌⊎◌, ⊎_elim, Option, Some, None, unwrap_or, List, [], ◌∷◌}
+use Rattle.std.proofs.Common.{◌++◌, get_or, ℤ, pos, neg_ℤ, sym, ap, subst, arith, unsigned_abs}
 use Rattle.std.proofs.lemmas.List.{length-map}
-use Rattle.polcert_format.proofs.Common.{largest, Lexeme, Reward, Topic, IsMillionths, AreNumbers, Elements, count_of, most_states, most_actions, most_observations, most_pairs, AreElements, Item, Preamble, observed, Body, Entry, IsBody, Meaning, sum_below, states_of, observations_of, ModelSoFar, nothing_known, IsRight, AreRight, Denotes, StartWeights}
+use Rattle.polcert_format.proofs.Common.{largest, Lexeme, Reward, Topic, IsMillionths, AreNumbers, Elements, count_of, most_states}
+use Rattle.polcert_format.proofs.Common.{most_actions, most_observations, most_pairs, AreElements, Item, Preamble, observed, Body, Entry}
+use Rattle.polcert_format.proofs.Common.{IsBody, Meaning, sum_below, states_of, observations_of, ModelSoFar, nothing_known, IsRight}
+use Rattle.polcert_format.proofs.Common.{AreRight, Denotes, StartWeights}
 use Rattle.polcert_cells.specs.Numbers as numbers
 use Rattle.polcert_cells.specs.declared.entries.Body.TheVariants.{Rewards}
 use Rattle.polcert_cells.specs.Entry as entries
@@ -58,10 +62,12 @@ one_of_within : (before : List Entry) (e : Entry) (after : List Entry) → Entri
 one_of_within [] e after a = a.0
 one_of_within (x ∷ xs) e after a = one_of_within xs e after a.1
 
-reward_in_within : (costs : Bool) (b : Body) (ds : List Elements) (indices : List ℕ) → BodyWithin b → unsigned_abs (reward_in costs b ds indices) ≤ largest
+reward_in_within : (costs : Bool) (b : Body) (ds : List Elements) (indices : List ℕ) → BodyWithin b
+    → unsigned_abs (reward_in costs b ds indices) ≤ largest
 reward_in_within costs b ds indices h1 = grind (arith, abs-neg, one_within)
 
-found_within : (p : Preamble) (es : List Entry) (indices : List ℕ) (found : Option Entry) → EntriesWithin es → IsLastCovering es Reward indices found → unsigned_abs (value_or (pos 0) (reward_of p indices) found) ≤ largest
+found_within : (p : Preamble) (es : List Entry) (indices : List ℕ) (found : Option Entry) → EntriesWithin es
+    → IsLastCovering es Reward indices found → unsigned_abs (value_or (pos 0) (reward_of p indices) found) ≤ largest
 found_within p es indices found h1 h2 = grind (arith, one_of_within, reward_in_within)
 
 reward_within : (p : Preamble) (es : List Entry) (indices : List ℕ) → EntriesWithin es → unsigned_abs (reward p es indices) ≤ largest
@@ -82,7 +88,8 @@ StartWithin None (Some weights) = ⊥
 StartWithin (Some e) (Some weights) = IsFair (count_of e) weights
 
 -- as many as the line says, or as these
-pub line_within : (most : ℕ) (o : Option Elements) (e : Elements) → CountWithin most o → IsCount most (count_of e) → IsCount most (count_of (unwrap_or o e))
+pub line_within : (most : ℕ) (o : Option Elements) (e : Elements) → CountWithin most o → IsCount most (count_of e)
+    → IsCount most (count_of (unwrap_or o e))
 line_within most o e h1 h2 = grind arith
 
 pub record KnownWithin (k : ModelSoFar) : Type 0 where
@@ -101,25 +108,29 @@ right_within k t ls next h1 h2 = grind (arith, start_fair, body_within, one_more
 
 pub all_within : (k : ModelSoFar) (items : List Item) (end : ModelSoFar) → KnownWithin k → AreRight k items end → KnownWithin end
 all_within k items end w texts.none = w
-all_within k (item ∷ items) end w (texts.more {next = next} t e a following) = all_within next items end (right_within k t item.body next w a) following
+all_within k (item ∷ items) end w (texts.more {next = next} t e a following) =
+    all_within next items end (right_within k t item.body next w a) following
 
 nothing_within : KnownWithin nothing_known
 nothing_within = record { start = tt; discount = tt; states = tt; actions = tt; observations = tt; entries = tt }
 
 -- the counts that right items give
-pub counts_within : (items : List Item) (k : ModelSoFar) → AreRight nothing_known items k → CountWithin most_states k.states × (CountWithin most_actions k.actions × CountWithin most_observations k.observations)
+pub counts_within : (items : List Item) (k : ModelSoFar) → AreRight nothing_known items k → CountWithin most_states k.states
+    × (CountWithin most_actions k.actions × CountWithin most_observations k.observations)
 counts_within items k right = let w = all_within nothing_known items k nothing_within right in (w.states, (w.actions, w.observations))
 
 -- ---- what is denoted
 one_of_sum : (f : ℕ → ℕ) (n i : ℕ) → i < n → f i ≤ sum_below f n
 one_of_sum f zero i l = absurd (omega (arith, l))
 one_of_sum f (suc n) i l =
-    ⊎_elim (λ before. let k = one_of_sum f n i before in omega (arith, k)) (λ (here : i ≡ n). let k : f i ≡ f n = ap f here in omega (arith, k)) (before_or_last i n l)
+    ⊎_elim (λ before. let k = one_of_sum f n i before in omega (arith, k))
+    (λ (here : i ≡ n). let k : f i ≡ f n = ap f here in omega (arith, k)) (before_or_last i n l)
   where
     before_or_last : (i n : ℕ) → i < suc n → (i < n) ⊎ (i ≡ n)
     before_or_last i n l = grind arith
 
-start_within : (e : Elements) (start : Option StartWeights) → IsCount most_states (count_of e) → StartWithin (Some e) start → IsFair (count_of e) (unwrap_or start (equal_weights (count_of e) (λ s. true)))
+start_within : (e : Elements) (start : Option StartWeights) → IsCount most_states (count_of e) → StartWithin (Some e) start
+    → IsFair (count_of e) (unwrap_or start (equal_weights (count_of e) (λ s. true)))
 start_within e None count w = no_start_fair (count_of e) count.0 count.1
 start_within e (Some weights) count w = w
 
@@ -129,19 +140,27 @@ within_limits ls m d =
     let c = d.right.complete in
     let p : m.preamble ≡ d.preamble = d.same.preamble in
     let found : IsFair (count_of d.preamble.states) (unwrap_or d.known.start (equal_weights (count_of d.preamble.states) (λ s. true))) =
-    start_within d.preamble.states d.known.start (subst (CountWithin most_states) c.lines.states w.states) (subst (λ o. StartWithin o d.known.start) c.lines.states w.start) in
-    let fair : IsFair (states_of m) m.start = subst (λ (q : Preamble). IsFair (count_of q.states) m.start) (sym p) (subst (IsFair (count_of d.preamble.states)) (sym d.same.start) found) in
+    start_within d.preamble.states d.known.start (subst (CountWithin most_states) c.lines.states w.states)
+    (subst (λ o. StartWithin o d.known.start) c.lines.states w.start) in
+    let fair : IsFair (states_of m) m.start = subst (λ (q : Preamble). IsFair (count_of q.states) m.start) (sym p)
+    (subst (IsFair (count_of d.preamble.states)) (sym d.same.start) found) in
     record {
       start_count = fair.count;
       start_sum = fair.adds_up;
       start_some = fair.some;
       start_most = fair.most;
-      states = subst (λ (q : Preamble). IsCount most_states (count_of q.states)) (sym p) (subst (CountWithin most_states) c.lines.states w.states);
-      actions = subst (λ (q : Preamble). IsCount most_actions (count_of q.actions)) (sym p) (subst (CountWithin most_actions) c.lines.actions w.actions);
-      observations = subst (λ (q : Preamble). IsCount most_observations (count_of (observed q))) (sym p) (line_within most_observations d.preamble.observations d.preamble.states (subst (CountWithin most_observations) c.lines.observations w.observations) (subst (CountWithin most_states) c.lines.states w.states));
+      states = subst (λ (q : Preamble). IsCount most_states (count_of q.states)) (sym p)
+          (subst (CountWithin most_states) c.lines.states w.states);
+      actions = subst (λ (q : Preamble). IsCount most_actions (count_of q.actions)) (sym p)
+          (subst (CountWithin most_actions) c.lines.actions w.actions);
+      observations = subst (λ (q : Preamble). IsCount most_observations (count_of (observed q))) (sym p)
+          (line_within most_observations d.preamble.observations d.preamble.states
+          (subst (CountWithin most_observations) c.lines.observations w.observations)
+          (subst (CountWithin most_states) c.lines.states w.states));
       pairs = subst (λ (q : Preamble). count_of q.states * count_of (observed q) ≤ most_pairs) (sym p) c.pairs;
       discount = subst (λ (q : Preamble). q.discount ≤ 1_000_000) (sym p) (subst DiscountWithin c.lines.discount w.discount);
       t = λ a s e x y z. subst (λ n. m.t a s e ≤ n) (d.rows.transitions a s x y) (one_of_sum (m.t a s) (states_of m) e z);
       o = λ a e o x y z. subst (λ n. m.o a e o ≤ n) (d.rows.observations a e x y) (one_of_sum (m.o a e) (observations_of m) o z);
-      r = λ a s e o x y z v. subst (λ n. unsigned_abs n ≤ largest) (sym (d.same.r a s e o x y z v)) (reward_within d.preamble d.known.entries (a ∷ s ∷ e ∷ reward_index d.preamble o ∷ []) w.entries);
+      r = λ a s e o x y z v. subst (λ n. unsigned_abs n ≤ largest) (sym (d.same.r a s e o x y z v))
+          (reward_within d.preamble d.known.entries (a ∷ s ∷ e ∷ reward_index d.preamble o ∷ []) w.entries);
     }

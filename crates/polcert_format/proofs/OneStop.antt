@@ -2,7 +2,8 @@
 use Rattle.std.proofs.Common.{◌≡◌, ◌∙◌, ℕ, true, false, List, [], ◌∷◌, ◌++◌, refl, sym, ap, subst, arith, rules}
 use Rattle.std.proofs.Math.Path.{subst₂}
 use Rattle.std.proofs.lemmas.List.{append_assoc, append-nil}
-use Rattle.polcert_format.proofs.Common.{Lexeme, Numeral, Topic, ItemFault, HasForm, IsPossible, IsOfValue, is_sign, Stops, at_lexeme, at_number, at_end, place_or, ModelSoFar}
+use Rattle.polcert_format.proofs.Common.{Lexeme, Numeral, Topic, ItemFault, HasForm, IsPossible, IsOfValue, is_sign, Stops, at_lexeme}
+use Rattle.polcert_format.proofs.Common.{at_number, at_end, place_or, ModelSoFar}
 use Rattle.polcert_cells.proofs.Basics.{true≢false, cons≢nil, same_head, same_tail}
 use Rattle.polcert_format.specs.Forms.{HasNoForm}
 use Rattle.polcert_format.specs.Misfits.{Expected, IsMisfit, of_value, of_place, tests_value}
@@ -44,11 +45,15 @@ record Breaks (k : ModelSoFar) (t : Topic) (body taken : List Lexeme) (l : Lexem
   possible : IsPossible k t taken
   formless : HasNoForm k t (taken ++ l ∷ [])
 
-formless_on : (k : ModelSoFar) (t : Topic) (xs w : List Lexeme) (l : Lexeme) → HasNoForm k t (xs ++ l ∷ []) → IsPossible k t (xs ++ l ∷ w) → ⊥
+formless_on : (k : ModelSoFar) (t : Topic) (xs w : List Lexeme) (l : Lexeme) → HasNoForm k t (xs ++ l ∷ [])
+    → IsPossible k t (xs ++ l ∷ w)
+    → ⊥
 formless_on k t xs w l none p =
     none (w ++ p.more) (subst (HasForm k t) (append_assoc xs (l ∷ w) p.more ∙ sym (append_assoc xs (l ∷ []) (w ++ p.more))) p.form)
 
-one_break : (k : ModelSoFar) (t : Topic) (body xs ys : List Lexeme) (l m : Lexeme) → Breaks k t body xs l → Breaks k t body ys m → (xs ≡ ys) × (l ≡ m)
+one_break : (k : ModelSoFar) (t : Topic) (body xs ys : List Lexeme) (l m : Lexeme) → Breaks k t body xs l → Breaks k t body ys m
+    → (xs ≡ ys)
+    × (l ≡ m)
 one_break k t body xs ys l m a b = of (cuts xs ys a.rest b.rest l m (sym a.whole ∙ b.whole))
   where
     of : Cuts xs ys l m → (xs ≡ ys) × (l ≡ m)
@@ -64,7 +69,8 @@ no_break k t body xs l p b = formless_on k t xs b.rest l b.formless (subst (IsPo
 value_is_tested : (w : Expected) (l : Lexeme) (kind : ItemFault) → IsOfValue kind → IsMisfit w l kind → tests_value w l.kind ≡ true
 value_is_tested w l kind h1 h2 = grind arith
 
-one_misfit : (w : Expected) (l : Lexeme) (f g : ItemFault) → (IsOfValue f → IsOfValue g → f ≡ g) → IsMisfit w l f → IsMisfit w l g → f ≡ g
+one_misfit : (w : Expected) (l : Lexeme) (f g : ItemFault) → (IsOfValue f → IsOfValue g → f ≡ g) → IsMisfit w l f → IsMisfit w l g
+    → f ≡ g
 one_misfit w l f g h1 h2 h3 = grind arith
 
 -- ---- one stop
@@ -81,19 +87,25 @@ module _ (k : ModelSoFar) (t : Topic) (body : List Lexeme) (a end : ℕ) (climbs
   one_value p q f g e x y v w = one_value_reason t body a climbs q f g (at_place p q f e x v) (y w)
 
   -- a numeral after a sign is refused at the sign
-  sign_or_numeral : (f g : ItemFault) (xs ys : List Lexeme) (l sign m : Lexeme) → Breaks k t body xs l → Breaks k t body (ys ++ sign ∷ []) m → is_sign sign.kind ≡ true → m.kind ≡ Numeral
+  sign_or_numeral : (f g : ItemFault) (xs ys : List Lexeme) (l sign m : Lexeme) → Breaks k t body xs l
+      → Breaks k t body (ys ++ sign ∷ []) m
+      → is_sign sign.kind ≡ true → m.kind ≡ Numeral
       → IsMisfit (expected k t xs) l f → HasReason f l.place → IsOfValue g → IsMisfit (expected k t (ys ++ sign ∷ [])) m g → ⊥
   sign_or_numeral f g xs ys l sign m x y is numeral (of_value tested v) reason w unfit =
       let same = one_break k t body xs (ys ++ sign ∷ []) l m x y in
-      no_reason_after_sign t body a climbs ys y.rest sign m f y.whole is numeral (at_place l.place m.place f (ap (λ (n : Lexeme). n.place) same.1) reason v)
+      no_reason_after_sign t body a climbs ys y.rest sign m f y.whole is numeral
+      (at_place l.place m.place f (ap (λ (n : Lexeme). n.place) same.1) reason v)
   sign_or_numeral f g xs ys l sign m x y is numeral (of_place untested e) reason w unfit =
       let same = one_break k t body xs (ys ++ sign ∷ []) l m x y in
-      true≢false (value_is_tested (expected k t (ys ++ sign ∷ [])) m g w unfit) (subst₂ (λ ls (n : Lexeme). tests_value (expected k t ls) n.kind ≡ false) same.0 same.1 untested)
+      true≢false (value_is_tested (expected k t (ys ++ sign ∷ [])) m g w unfit)
+      (subst₂ (λ ls (n : Lexeme). tests_value (expected k t ls) n.kind ≡ false) same.0 same.1 untested)
 
-  lexeme_breaks : (xs rest : List Lexeme) (l : Lexeme) → body ≡ xs ++ l ∷ rest → IsPossible k t xs → HasNoForm k t (xs ++ l ∷ []) → Breaks k t body xs l
+  lexeme_breaks : (xs rest : List Lexeme) (l : Lexeme) → body ≡ xs ++ l ∷ rest → IsPossible k t xs → HasNoForm k t (xs ++ l ∷ [])
+      → Breaks k t body xs l
   lexeme_breaks xs rest l whole possible formless = record { rest = rest; whole = whole; possible = possible; formless = formless }
 
-  number_breaks : (xs rest : List Lexeme) (sign l : Lexeme) → body ≡ xs ++ sign ∷ l ∷ rest → IsPossible k t (xs ++ sign ∷ []) → HasNoForm k t (xs ++ sign ∷ l ∷ []) → Breaks k t body (xs ++ sign ∷ []) l
+  number_breaks : (xs rest : List Lexeme) (sign l : Lexeme) → body ≡ xs ++ sign ∷ l ∷ rest → IsPossible k t (xs ++ sign ∷ [])
+      → HasNoForm k t (xs ++ sign ∷ l ∷ []) → Breaks k t body (xs ++ sign ∷ []) l
   number_breaks xs rest sign l whole possible formless = record {
     rest = rest;
     whole = whole ∙ sym (append_assoc xs (sign ∷ []) (l ∷ rest));
@@ -105,31 +117,49 @@ module _ (k : ModelSoFar) (t : Topic) (body : List Lexeme) (a end : ℕ) (climbs
   whole_possible : (xs : List Lexeme) → body ≡ xs ++ [] → IsPossible k t xs → IsPossible k t body
   whole_possible xs whole possible = subst (IsPossible k t) (sym (whole ∙ append-nil xs)) possible
 
-  pub no_stop : (kind : ItemFault) (xs us : List Lexeme) → body ≡ xs ++ us → IsPossible k t xs → Stops k t kind xs us → IsPossible k t body → us ≡ []
-  no_stop kind xs us whole p (at_lexeme {l} {following} none unfit) all = absurd (no_break k t body xs l all (lexeme_breaks xs following l whole p none))
-  no_stop kind xs us whole p (at_number {sign} {l} {following} is numeral q none v unfit) all = absurd (no_break k t body (xs ++ sign ∷ []) l all (number_breaks xs following sign l whole q none))
+  pub no_stop : (kind : ItemFault) (xs us : List Lexeme) → body ≡ xs ++ us → IsPossible k t xs → Stops k t kind xs us
+      → IsPossible k t body
+      → us ≡ []
+  no_stop kind xs us whole p (at_lexeme {l} {following} none unfit) all =
+      absurd (no_break k t body xs l all (lexeme_breaks xs following l whole p none))
+  no_stop kind xs us whole p (at_number {sign} {l} {following} is numeral q none v unfit) all =
+      absurd (no_break k t body (xs ++ sign ∷ []) l all (number_breaks xs following sign l whole q none))
   no_stop kind xs us whole p (at_end wrong fits e) all = refl
 
   -- both at the end, or neither
-  end_or_stop : {A : Type 0} (kind : ItemFault) (xs us ys : List Lexeme) (l : Lexeme) (vs : List Lexeme) → us ≡ l ∷ vs → body ≡ xs ++ us → IsPossible k t xs → Stops k t kind xs us → body ≡ ys ++ [] → IsPossible k t ys → A
-  end_or_stop kind xs us ys l vs some whole p stops other q = absurd (cons≢nil (sym some ∙ no_stop kind xs us whole p stops (whole_possible ys other q)))
+  end_or_stop : {A : Type 0} (kind : ItemFault) (xs us ys : List Lexeme) (l : Lexeme) (vs : List Lexeme) → us ≡ l ∷ vs → body ≡ xs ++ us
+      → IsPossible k t xs → Stops k t kind xs us → body ≡ ys ++ [] → IsPossible k t ys → A
+  end_or_stop kind xs us ys l vs some whole p stops other q =
+      absurd (cons≢nil (sym some ∙ no_stop kind xs us whole p stops (whole_possible ys other q)))
 
-  pub one_stop : (f g : ItemFault) (xs ys us vs : List Lexeme) → body ≡ xs ++ us → body ≡ ys ++ vs → IsPossible k t xs → IsPossible k t ys → Stops k t f xs us → Stops k t g ys vs
+  pub one_stop : (f g : ItemFault) (xs ys us vs : List Lexeme) → body ≡ xs ++ us → body ≡ ys ++ vs → IsPossible k t xs
+      → IsPossible k t ys
+      → Stops k t f xs us → Stops k t g ys vs
       → HasReason f (place_or us end) → HasReason g (place_or vs end) → (f ≡ g) × (place_or us end ≡ place_or vs end)
   one_stop f g xs ys us vs xw yw xp yp (at_lexeme {l} {following = ls} xn xm) (at_lexeme {l = m} {following = ms} yn ym) xr yr =
       let same = one_break k t body xs ys l m (lexeme_breaks xs ls l xw xp xn) (lexeme_breaks ys ms m yw yp yn) in
-      let place : l.place ≡ m.place = ap (λ (n : Lexeme). n.place) same.1 in
-      (one_misfit (expected k t ys) m f g (one_value l.place m.place f g place xr yr) (subst₂ (λ ls n. IsMisfit (expected k t ls) n f) same.0 same.1 xm) ym, place)
-  one_stop f g xs ys us vs xw yw xp yp (at_lexeme {l} {following = ls} xn xm) (at_number {sign} {l = m} {following = ms} is numeral yq yn v ym) xr yr = search (rules, sign_or_numeral, lexeme_breaks, number_breaks)
-  one_stop f g xs ys us vs xw yw xp yp (at_number {sign} {l} {following = ls} is numeral xq xn v xm) (at_lexeme {l = m} {following = ms} yn ym) xr yr = search (rules, sign_or_numeral, lexeme_breaks, number_breaks)
-  one_stop f g xs ys us vs xw yw xp yp (at_number {sign} {l} {following = ls} is numeral xq xn v xm) (at_number {sign = other} {l = m} {following = ms} it digits yq yn w ym) xr yr =
-      let same = one_break k t body (xs ++ sign ∷ []) (ys ++ other ∷ []) l m (number_breaks xs ls sign l xw xq xn) (number_breaks ys ms other m yw yq yn) in
+      let place : l.place ≡ m.place = ap (λ (n : Lexeme). n.place) same.1 in (
+        one_misfit (expected k t ys) m f g (one_value l.place m.place f g place xr yr)
+            (subst₂ (λ ls n. IsMisfit (expected k t ls) n f) same.0 same.1 xm) ym,
+        place,
+      )
+  one_stop f g xs ys us vs xw yw xp yp (at_lexeme {l} {following = ls} xn xm)
+      (at_number {sign} {l = m} {following = ms} is numeral yq yn v ym) xr yr =
+      search (rules, sign_or_numeral, lexeme_breaks, number_breaks)
+  one_stop f g xs ys us vs xw yw xp yp (at_number {sign} {l} {following = ls} is numeral xq xn v xm)
+      (at_lexeme {l = m} {following = ms} yn ym) xr yr = search (rules, sign_or_numeral, lexeme_breaks, number_breaks)
+  one_stop f g xs ys us vs xw yw xp yp (at_number {sign} {l} {following = ls} is numeral xq xn v xm)
+      (at_number {sign = other} {l = m} {following = ms} it digits yq yn w ym) xr yr =
+      let same = one_break k t body (xs ++ sign ∷ []) (ys ++ other ∷ []) l m (number_breaks xs ls sign l xw xq xn)
+      (number_breaks ys ms other m yw yq yn) in
       let place : sign.place ≡ other.place = ap (λ (n : Lexeme). n.place) (same_last xs ys sign other same.0) in
       (one_value sign.place other.place f g place xr yr v w, place)
-  one_stop f g xs ys us vs xw yw xp yp (at_lexeme {l} {following = ls} xn xm) (at_end wrong fits e) xr yr = end_or_stop f xs (l ∷ ls) ys l ls refl xw xp (at_lexeme xn xm) yw yp
+  one_stop f g xs ys us vs xw yw xp yp (at_lexeme {l} {following = ls} xn xm) (at_end wrong fits e) xr yr =
+      end_or_stop f xs (l ∷ ls) ys l ls refl xw xp (at_lexeme xn xm) yw yp
   one_stop f g xs ys us vs xw yw xp yp (at_number {sign} {l} {following = ls} is numeral xq xn v xm) (at_end wrong fits e) xr yr =
       end_or_stop f xs (sign ∷ l ∷ ls) ys sign (l ∷ ls) refl xw xp (at_number is numeral xq xn v xm) yw yp
-  one_stop f g xs ys us vs xw yw xp yp (at_end wrong fits e) (at_lexeme {l = m} {following = ms} yn ym) xr yr = end_or_stop g ys (m ∷ ms) xs m ms refl yw yp (at_lexeme yn ym) xw xp
+  one_stop f g xs ys us vs xw yw xp yp (at_end wrong fits e) (at_lexeme {l = m} {following = ms} yn ym) xr yr =
+      end_or_stop g ys (m ∷ ms) xs m ms refl yw yp (at_lexeme yn ym) xw xp
   one_stop f g xs ys us vs xw yw xp yp (at_end wrong fits e) (at_number {sign} {l = m} {following = ms} is numeral yq yn v ym) xr yr =
       end_or_stop g ys (sign ∷ m ∷ ms) xs sign (m ∷ ms) refl yw yp (at_number is numeral yq yn v ym) xw xp
   one_stop f g xs ys us vs xw yw xp yp (at_end wrong fits e) (at_end false_ misfits d) xr yr = grind (arith, append-nil)

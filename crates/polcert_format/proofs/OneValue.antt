@@ -1,6 +1,7 @@
 -- At one place of a body one number stands, and its value is refused for one reason.
 use Rattle.std.proofs.Common.{◌≡◌, ◌∙◌, ℕ, Bool, true, List, [], ◌∷◌, ◌++◌, refl, sym, ap, subst, arith}
-use Rattle.polcert_format.proofs.Common.{Lexeme, Numeral, NumberFault, Topic, Discount, ItemFault, Number, ProbabilityRange, DiscountRange, IsRefusedNumber, IsNoFraction, is_sign}
+use Rattle.polcert_format.proofs.Common.{Lexeme, Numeral, NumberFault, Topic, Discount, ItemFault, Number, ProbabilityRange, DiscountRange}
+use Rattle.polcert_format.proofs.Common.{IsRefusedNumber, IsNoFraction, is_sign}
 use Rattle.polcert_text.proofs.TextLaws.{one_exact_fault}
 use Rattle.polcert_format.specs.Reasons.{NumberStandsIn, IsOfProbabilities, ends_in_sign}
 use Rattle.polcert_format.proofs.Climbing.{Climbs, one_lexeme}
@@ -12,14 +13,16 @@ use Rattle.polcert_format.proofs.FirstNumbers.{OfNumerals, no_fraction_numeral, 
 abbrev AreOfOne : (Bool → Lexeme → Type 0) → (Bool → Lexeme → Type 0) → Type 0
 AreOfOne Is Other = (negative : Bool) × (l : Lexeme) × Is negative l × Other negative l
 
-one_number_at : (a p : ℕ) (body : List Lexeme) (Is Other : Bool → Lexeme → Type 0) → Climbs a body → OfNumerals Is → OfNumerals Other → NumberStandsIn body p Is → NumberStandsIn body p Other → AreOfOne Is Other
+one_number_at : (a p : ℕ) (body : List Lexeme) (Is Other : Bool → Lexeme → Type 0) → Climbs a body → OfNumerals Is → OfNumerals Other
+    → NumberStandsIn body p Is → NumberStandsIn body p Other → AreOfOne Is Other
 one_number_at a p body Is Other climbs f g x y = grind (arith, one_lexeme)
 
 -- ---- one reason
 
 -- why the value of a number at this place of a body is refused
 pub data ValueReason (t : Topic) (body : List Lexeme) (place : ℕ) (kind : ItemFault) : Type 0 where
-  no_value : (reason : NumberFault) → kind ≡ Number reason → NumberStandsIn body place (IsRefusedNumber reason) → ValueReason t body place kind
+  no_value : (reason : NumberFault) → kind ≡ Number reason → NumberStandsIn body place (IsRefusedNumber reason)
+      → ValueReason t body place kind
   no_probability : kind ≡ ProbabilityRange → IsOfProbabilities t → NumberStandsIn body place IsNoFraction → ValueReason t body place kind
   no_discount : kind ≡ DiscountRange → t ≡ Discount → NumberStandsIn body place IsNoFraction → ValueReason t body place kind
 
@@ -58,12 +61,17 @@ module _ (t : Topic) (body : List Lexeme) (a : ℕ) (climbs : Climbs a body) whe
   last_is (x ∷ []) sign = refl
   last_is (x ∷ y ∷ ls) sign = last_is (y ∷ ls) sign
 
-  not_after_sign : (taken rest : List Lexeme) (sign l : Lexeme) (Is : Bool → Lexeme → Type 0) → body ≡ (taken ++ sign ∷ []) ++ l ∷ rest → is_sign sign.kind ≡ true → l.kind ≡ Numeral
+  not_after_sign : (taken rest : List Lexeme) (sign l : Lexeme) (Is : Bool → Lexeme → Type 0) → body ≡ (taken ++ sign ∷ []) ++ l ∷ rest
+      → is_sign sign.kind ≡ true → l.kind ≡ Numeral
       → OfNumerals Is → NumberStandsIn body l.place Is → ⊥
   not_after_sign taken rest sign l Is whole is numeral of x = grind (arith, one_lexeme, last_is)
 
-  pub no_reason_after_sign : (taken rest : List Lexeme) (sign l : Lexeme) (kind : ItemFault) → body ≡ (taken ++ sign ∷ []) ++ l ∷ rest → is_sign sign.kind ≡ true → l.kind ≡ Numeral
+  pub no_reason_after_sign : (taken rest : List Lexeme) (sign l : Lexeme) (kind : ItemFault) → body ≡ (taken ++ sign ∷ []) ++ l ∷ rest
+      → is_sign sign.kind ≡ true → l.kind ≡ Numeral
       → ValueReason t body l.place kind → ⊥
-  no_reason_after_sign taken rest sign l kind whole is numeral (no_value r e x) = not_after_sign taken rest sign l (IsRefusedNumber r) whole is numeral (refused_numeral r) x
-  no_reason_after_sign taken rest sign l kind whole is numeral (no_probability e so x) = not_after_sign taken rest sign l IsNoFraction whole is numeral no_fraction_numeral x
-  no_reason_after_sign taken rest sign l kind whole is numeral (no_discount e so x) = not_after_sign taken rest sign l IsNoFraction whole is numeral no_fraction_numeral x
+  no_reason_after_sign taken rest sign l kind whole is numeral (no_value r e x) =
+      not_after_sign taken rest sign l (IsRefusedNumber r) whole is numeral (refused_numeral r) x
+  no_reason_after_sign taken rest sign l kind whole is numeral (no_probability e so x) =
+      not_after_sign taken rest sign l IsNoFraction whole is numeral no_fraction_numeral x
+  no_reason_after_sign taken rest sign l kind whole is numeral (no_discount e so x) =
+      not_after_sign taken rest sign l IsNoFraction whole is numeral no_fraction_numeral x

@@ -1,6 +1,9 @@
 -- What is decided at an item's word is so: the items of such a topic aren't right there, or the preamble is complete.
-use Rattle.std.proofs.Common.{◌≡◌, ◌∙◌, ℕ, ◌≤◌, Bool, true, false, cond, ◌||◌, ◌&&◌, Option, Some, None, is_some, unwrap_or, List, [], nat_lt, refl, sym, arith}
-use Rattle.polcert_format.proofs.Common.{nat_tests, Lexeme, ItemFault, TooManyCells, Entry, Table, Topic, Discount, Start, Cells, Elements, count_of, most_pairs, Preamble, observed, ModelSoFar, HasLines, IsComplete, IsRight, preamble_fault, word_fault, IsWrong}
+use Rattle.std.proofs.Common.{◌≡◌, ◌∙◌, ℕ, ◌≤◌, Bool, true, false, cond, ◌||◌, ◌&&◌, Option, Some, None, is_some, unwrap_or, List, []}
+use Rattle.std.proofs.Common.{nat_lt, refl, sym, arith}
+use Rattle.polcert_format.proofs.Common.{nat_tests, Lexeme, ItemFault, TooManyCells, Entry, Table, Topic, Discount, Start, Cells, Elements}
+use Rattle.polcert_format.proofs.Common.{count_of, most_pairs, Preamble, observed, ModelSoFar, HasLines, IsComplete, IsRight}
+use Rattle.polcert_format.proofs.Common.{preamble_fault, word_fault, IsWrong}
 use Rattle.polcert_format.specs.declared.fault.ItemFault.TheVariants.{DuplicateLine, LateLine, MissingLine}
 use Rattle.polcert_cells.specs.Entry.{MayBeGiven}
 use Rattle.polcert_cells.specs.declared.words.Topic.TheVariants.{Values, States, Actions, Observations}
@@ -53,7 +56,8 @@ record Given (d : Option ℕ) (c : Option Bool) (s a o : Option Elements) : Type
   actions : a ≡ Some preamble.actions
   observations : o ≡ preamble.observations
 
-given : (d : Option ℕ) (c : Option Bool) (s a o : Option Elements) → (is_some d && is_some c && is_some s && is_some a) ≡ true → Given d c s a o
+given : (d : Option ℕ) (c : Option Bool) (s a o : Option Elements) → (is_some d && is_some c && is_some s && is_some a) ≡ true
+    → Given d c s a o
 given (Some d) (Some c) (Some s) (Some a) o e = record {
   preamble = record { discount = d; costs = c; states = s; actions = a; observations = o };
   discount = refl;
@@ -71,7 +75,14 @@ pub is_complete : (k : ModelSoFar) → preamble_fault k ≡ None → (p : Preamb
 is_complete k e =
     let both = no_fault (has_all_lines k) (are_too_many k) e in
     let g = given k.discount k.costs k.states k.actions k.observations both.0 in
-    let lines : HasLines k g.preamble = record { discount = g.discount; costs = g.costs; states = g.states; actions = g.actions; observations = g.observations } in
+    let lines : HasLines k g.preamble = record {
+      discount = g.discount;
+      costs = g.costs;
+      states = g.states;
+      actions =
+          g.actions;
+      observations = g.observations;
+    } in
     (g.preamble, record { lines = lines; pairs = few _ (sym (same_counts k g.preamble lines) ∙ both.1) })
 
 -- ---- a right item has no fault at its word
@@ -91,7 +102,8 @@ wrong_at_word k t fault body e after taken = some≢none e (no_word_fault k afte
 
 -- ---- a topic without a fault at its word may stand
 
-no_fault_at : (late came ends : Bool) (fault : Option ItemFault) → fault_at late came ends fault ≡ None → (late ≡ false) × (came ≡ false) × (ends ≡ true → fault ≡ None)
+no_fault_at : (late came ends : Bool) (fault : Option ItemFault) → fault_at late came ends fault ≡ None → (late ≡ false) × (came ≡ false)
+    × (ends ≡ true → fault ≡ None)
 no_fault_at late came ends fault h1 = grind arith
 
 no_some : {A : Type 0} (o : Option A) → is_some o ≡ false → o ≡ None
@@ -104,7 +116,8 @@ pub in_preamble : (k : ModelSoFar) → (is_some k.start || has_entries k.entries
 in_preamble k e = grind arith
 
 -- a line of the preamble: it comes first, and early
-pub line_may_stand : (k : ModelSoFar) (came : Bool) → fault_at (is_some k.start || has_entries k.entries) came false (preamble_fault k) ≡ None → IsInPreamble k × (came ≡ false)
+pub line_may_stand : (k : ModelSoFar) (came : Bool)
+    → fault_at (is_some k.start || has_entries k.entries) came false (preamble_fault k) ≡ None → IsInPreamble k × (came ≡ false)
 line_may_stand k came e = let all = no_fault_at _ came false (preamble_fault k) e in (in_preamble k all.0, all.1)
 
 pub discount_may_stand : (k : ModelSoFar) → word_fault k Discount ≡ None → IsInPreamble k × (k.discount ≡ None)
@@ -122,14 +135,16 @@ actions_may_stand k e = let both = line_may_stand k (is_some k.actions) e in (bo
 pub observations_may_stand : (k : ModelSoFar) → word_fault k Observations ≡ None → IsInPreamble k × (k.observations ≡ None)
 observations_may_stand k e = let both = line_may_stand k (is_some k.observations) e in (both.0, no_some k.observations both.1)
 
-after_none : (fault : Option ItemFault) (k : ModelSoFar) (t : Topic) → fault_after fault k t ≡ None → (fault ≡ None) × (is_unobserved k t ≡ false)
+after_none : (fault : Option ItemFault) (k : ModelSoFar) (t : Topic) → fault_after fault k t ≡ None → (fault ≡ None)
+    × (is_unobserved k t ≡ false)
 after_none fault k t h1 = grind arith
 
 may_be_given : (k : ModelSoFar) (p : Preamble) (table : Table) → HasLines k p → is_unobserved k (Cells table) ≡ false → MayBeGiven p table
 may_be_given k p table h1 h2 = grind arith
 
 -- an entry: the preamble is complete, and there may be entries of the table
-pub entry_may_stand : (k : ModelSoFar) (table : Table) → word_fault k (Cells table) ≡ None → (p : Preamble) × IsComplete k p × MayBeGiven p table
+pub entry_may_stand : (k : ModelSoFar) (table : Table) → word_fault k (Cells table) ≡ None → (p : Preamble) × IsComplete k p
+    × MayBeGiven p table
 entry_may_stand k table e =
     let both = after_none (preamble_fault k) k (Cells table) e in
     let complete = is_complete k both.0 in
@@ -138,5 +153,8 @@ entry_may_stand k table e =
 -- a start item: nothing but a complete preamble came before
 pub start_may_stand : (k : ModelSoFar) → word_fault k Start ≡ None → IsInPreamble k × ((p : Preamble) × IsComplete k p)
 start_may_stand k e =
-    let all = no_fault_at (has_entries k.entries) (is_some k.start) true (fault_after (preamble_fault k) k Start) e in
-    (record { no_start = no_some k.start all.1; no_entry = no_entries k.entries all.0 }, is_complete k (after_none (preamble_fault k) k Start (all.2 refl)).0)
+    let all = no_fault_at (has_entries k.entries) (is_some k.start) true (fault_after (preamble_fault k) k Start) e in (
+      record { no_start = no_some k.start all.1; no_entry = no_entries k.entries all.0 },
+      is_complete k
+          (after_none (preamble_fault k) k Start (all.2 refl)).0,
+    )

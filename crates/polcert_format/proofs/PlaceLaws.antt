@@ -1,7 +1,9 @@
 -- The places of a text's lexemes rise, so that a refusal lies in its item.
-use Rattle.std.proofs.Common.{◌≡◌, ◌∙◌, ℕ, suc, ◌+◌, ◌-◌, ◌≤◌, ◌⊎◌, ⊎_elim, Bool, cond, Option, Some, None, List, [], ◌∷◌, ◌++◌, length, take, nat_lt, flat_map, refl, sym, ap, subst, arith, length-drop, length-take-le, add-one, rules}
+use Rattle.std.proofs.Common.{◌≡◌, ◌∙◌, ℕ, suc, ◌+◌, ◌-◌, ◌≤◌, ◌⊎◌, ⊎_elim, Bool, cond, Option, Some, None, List, [], ◌∷◌, ◌++◌, length}
+use Rattle.std.proofs.Common.{take, nat_lt, flat_map, refl, sym, ap, subst, arith, length-drop, length-take-le, add-one, rules}
 use Rattle.std.proofs.lemmas.List.{append_assoc}
-use Rattle.polcert_format.proofs.Common.{Lexeme, Rest, TakesToken, IsCut, text_rest, end_place, text_limit, TextTooLong, Item, lexemes_of, IsDivided, TextTokens, AreTokensOf, word_place, place_or, TokenFault}
+use Rattle.polcert_format.proofs.Common.{Lexeme, Rest, TakesToken, IsCut, text_rest, end_place, text_limit, TextTooLong, Item, lexemes_of}
+use Rattle.polcert_format.proofs.Common.{IsDivided, TextTokens, AreTokensOf, word_place, place_or, TokenFault}
 use Rattle.polcert_text.specs.Cut.{EndsAt}
 use Rattle.polcert_text.specs.Reading.{fault_place}
 use Rattle.polcert_format.specs.FirstWrong.{item_begin, LiesIn}
@@ -26,7 +28,8 @@ rises_split a b [] (y ∷ ys) r = (r.0, (omega arith, r.1))
 rises_split a b (x ∷ xs) ys r = let rest = rises_split x.place b xs ys r.1 in ((r.0, rest.0), rest.1)
 
 -- what a token leaves ends where it ended before, and begins after the token
-pub token_leaves : (old new : Rest) (token : Lexeme) → TakesToken old token new → (old.place ≤ token.place) × (token.place ≤ new.place) × (end_place new ≡ end_place old)
+pub token_leaves : (old new : Rest) (token : Lexeme) → TakesToken old token new → (old.place ≤ token.place) × (token.place ≤ new.place)
+    × (end_place new ≡ end_place old)
 token_leaves old new token t = grind (arith, length-drop)
 
 pub cut_rises : (rest : Rest) (ls : List Lexeme) (ending : Option TokenFault) → IsCut rest ls ending → Rises rest.place ls (end_place rest)
@@ -39,7 +42,8 @@ cut_rises rest (l ∷ ls) ending cut =
 pub tokens_rise : (text : List ℕ) (ts : TextTokens) → AreTokensOf text ts → Rises 0 ts.lexemes ts.end
 tokens_rise text ts tokens =
     subst (Rises 0 ts.lexemes) (sym tokens.end_is)
-    (rises_from 0 (text_rest text text_limit).place (end_place (text_rest text text_limit)) ts.lexemes (omega arith) (cut_rises (text_rest text text_limit) ts.lexemes ts.ending tokens.cut))
+    (rises_from 0 (text_rest text text_limit).place (end_place (text_rest text text_limit)) ts.lexemes (omega arith)
+    (cut_rises (text_rest text text_limit) ts.lexemes ts.ending tokens.cut))
 
 -- ---- items
 
@@ -51,25 +55,31 @@ nth_place : (before items : List Item) (stop : ℕ) → word_place (before ++ it
 nth_place [] items stop = refl
 nth_place (x ∷ xs) items stop = nth_place xs items stop
 
-next_place : (before : List Item) (item : Item) (after : List Item) (stop : ℕ) → word_place (before ++ item ∷ after) stop (suc (length before)) ≡ word_place after stop 0
+next_place : (before : List Item) (item : Item) (after : List Item) (stop : ℕ)
+    → word_place (before ++ item ∷ after) stop (suc (length before)) ≡ word_place after stop 0
 next_place [] item after stop = refl
 next_place (x ∷ xs) item after stop = next_place xs item after stop
 
-item_split : (lexemes : List Lexeme) (before : List Item) (item : Item) (after : List Item) (taken rest : List Lexeme) → IsDivided lexemes [] (before ++ item ∷ after) → item.body ≡ taken ++ rest
+item_split : (lexemes : List Lexeme) (before : List Item) (item : Item) (after : List Item) (taken rest : List Lexeme)
+    → IsDivided lexemes [] (before ++ item ∷ after) → item.body ≡ taken ++ rest
     → lexemes ≡ flat_map lexemes_of before ++ (item.word ∷ (taken ++ (rest ++ flat_map lexemes_of after)))
 item_split lexemes before item after taken rest d e = grind (arith, append_assoc, all_append)
 
-place_after : (rest : List Lexeme) (items : List Item) (stop : ℕ) → place_or (rest ++ flat_map lexemes_of items) stop ≡ place_or rest (word_place items stop 0)
+place_after : (rest : List Lexeme) (items : List Item) (stop : ℕ)
+    → place_or (rest ++ flat_map lexemes_of items) stop ≡ place_or rest (word_place items stop 0)
 place_after rest items stop = grind (arith, first_place)
 
 -- what stands from its word on, up to the next, lies in an item
-lies_between : (ts : TextTokens) (before : List Item) (item : Item) (after : List Item) (place : ℕ) → IsDivided ts.lexemes [] (before ++ item ∷ after)
+lies_between : (ts : TextTokens) (before : List Item) (item : Item) (after : List Item) (place : ℕ)
+    → IsDivided ts.lexemes [] (before ++ item ∷ after)
     → item.word.place ≤ place → place ≤ word_place after ts.end 0 → LiesIn ts (length before + 1) place
 lies_between ts before item after place d low high = search (rules, add-one, nth_place, next_place)
 
 -- a place where a part of the item's body was taken lies in the item
-pub lies_in_item : (ts : TextTokens) (before : List Item) (item : Item) (after : List Item) (taken rest : List Lexeme) → Rises 0 ts.lexemes ts.end
-    → IsDivided ts.lexemes [] (before ++ item ∷ after) → item.body ≡ taken ++ rest → LiesIn ts (length before + 1) (place_or rest (word_place after ts.end 0))
+pub lies_in_item : (ts : TextTokens) (before : List Item) (item : Item) (after : List Item) (taken rest : List Lexeme)
+    → Rises 0 ts.lexemes ts.end
+    → IsDivided ts.lexemes [] (before ++ item ∷ after) → item.body ≡ taken ++ rest
+    → LiesIn ts (length before + 1) (place_or rest (word_place after ts.end 0))
 lies_in_item ts before item after taken rest rises d e =
     let following = flat_map lexemes_of after in
     let all = rises_split 0 ts.end (flat_map lexemes_of before) (item.word ∷ (taken ++ (rest ++ following)))
@@ -80,7 +90,8 @@ lies_in_item ts before item after taken rest rises d e =
     let outer = rises_split (place_or (rest ++ following) ts.end) ts.end rest following inner.1 in
     let next : place_or following ts.end ≡ word_place after ts.end 0 = first_place after ts.end in
     let high = rises_le (place_or (rest ++ following) ts.end) (place_or following ts.end) rest outer.0 in
-    lies_between ts before item after (place_or rest (word_place after ts.end 0)) d (omega (arith, low, place)) (omega (arith, high, place, next))
+    lies_between ts before item after (place_or rest (word_place after ts.end 0)) d (omega (arith, low, place))
+    (omega (arith, high, place, next))
 
 -- so does the place of its word
 pub lies_at_word : (ts : TextTokens) (before : List Item) (item : Item) (after : List Item) → Rises 0 ts.lexemes ts.end
@@ -95,7 +106,8 @@ lies_at_word ts before item after rises d =
     lies_between ts before item after item.word.place d (omega arith) (omega (arith, high, next))
 
 -- what stands before the first item word lies in item 0
-pub lies_before_items : (ts : TextTokens) (l : Lexeme) (ls : List Lexeme) (items : List Item) → Rises 0 ts.lexemes ts.end → IsDivided ts.lexemes (l ∷ ls) items → LiesIn ts 0 l.place
+pub lies_before_items : (ts : TextTokens) (l : Lexeme) (ls : List Lexeme) (items : List Item) → Rises 0 ts.lexemes ts.end
+    → IsDivided ts.lexemes (l ∷ ls) items → LiesIn ts 0 l.place
 lies_before_items ts l ls items rises d = grind (arith, rises_le, rises_split, first_place)
 
 last_place : (items : List Item) (stop : ℕ) → word_place items stop (length items) ≡ stop
@@ -112,20 +124,25 @@ lies_at_end ts items d = search (rules, add-one, last_place, past_place)
 
 -- ---- the place of a fault
 
-ends_place : (place : ℕ) (bytes : List ℕ) (ending : Option TokenFault) (f : TokenFault) → EndsAt place bytes ending (Some f) → (fault_place f ≡ place) ⊎ (ending ≡ Some f)
+ends_place : (place : ℕ) (bytes : List ℕ) (ending : Option TokenFault) (f : TokenFault) → EndsAt place bytes ending (Some f)
+    → (fault_place f ≡ place) ⊎ (ending ≡ Some f)
 ends_place place bytes ending f h1 = grind arith
 
 -- a fault in place of the clean end stands where the bytes end
 abbrev EndsThere : Rest → Type 0
 EndsThere rest = (f : TokenFault) → rest.ending ≡ Some f → fault_place f ≡ end_place rest
 
-cut_fault : (rest : Rest) (ls : List Lexeme) (f : TokenFault) → EndsThere rest → IsCut rest ls (Some f) → Rises rest.place ls (fault_place f) × (fault_place f ≤ end_place rest)
+cut_fault : (rest : Rest) (ls : List Lexeme) (f : TokenFault) → EndsThere rest → IsCut rest ls (Some f)
+    → Rises rest.place ls (fault_place f) × (fault_place f ≤ end_place rest)
 cut_fault rest [] f there cut = grind (arith, ⊎_elim, ends_place)
 cut_fault rest (l ∷ ls) f there cut =
     let leaves = token_leaves rest cut.0 l cut.1 in
     let kept : cut.0.ending ≡ rest.ending = ap (λ (r : Rest). r.ending) cut.1.rest in
-    let following = cut_fault cut.0 ls f (λ g e. there g (sym kept ∙ e) ∙ sym leaves.2) cut.2 in
-    ((leaves.0, rises_from l.place cut.0.place (fault_place f) ls leaves.1 following.0), subst (λ n. fault_place f ≤ n) leaves.2 following.1)
+    let following = cut_fault cut.0 ls f (λ g e. there g (sym kept ∙ e) ∙ sym leaves.2) cut.2 in (
+      (leaves.0, rises_from l.place cut.0.place (fault_place f) ls leaves.1 following.0),
+      subst (λ n. fault_place f ≤ n) leaves.2
+          following.1,
+    )
 
 abbrev too_long : List ℕ → ℕ → Rest
 too_long text limit = record { place = 0; bytes = take limit text; ending = Some (TextTooLong limit) }
@@ -133,13 +150,16 @@ too_long text limit = record { place = 0; bytes = take limit text; ending = Some
 abbrev whole_text : List ℕ → Rest
 whole_text text = record { place = 0; bytes = text; ending = None }
 
-too_long_there : (text : List ℕ) (limit : ℕ) (long : Bool) → nat_lt limit (length text) ≡ long → EndsThere (cond long (too_long text limit) (whole_text text))
+too_long_there : (text : List ℕ) (limit : ℕ) (long : Bool) → nat_lt limit (length text) ≡ long
+    → EndsThere (cond long (too_long text limit) (whole_text text))
 too_long_there text limit long h1 = grind (arith, length-take-le)
 
-pub fault_rises : (text : List ℕ) (ts : TextTokens) (f : TokenFault) → AreTokensOf text ts → ts.ending ≡ Some f → Rises 0 ts.lexemes (fault_place f) × (fault_place f ≤ ts.end)
+pub fault_rises : (text : List ℕ) (ts : TextTokens) (f : TokenFault) → AreTokensOf text ts → ts.ending ≡ Some f
+    → Rises 0 ts.lexemes (fault_place f) × (fault_place f ≤ ts.end)
 fault_rises text ts f tokens e =
     let rest : Rest = text_rest text text_limit in
-    let cut = cut_fault rest ts.lexemes f (too_long_there text text_limit (nat_lt text_limit (length text)) refl) (subst (IsCut rest ts.lexemes) e tokens.cut) in
+    let cut = cut_fault rest ts.lexemes f (too_long_there text text_limit (nat_lt text_limit (length text)) refl)
+    (subst (IsCut rest ts.lexemes) e tokens.cut) in
     (rises_from 0 rest.place (fault_place f) ts.lexemes (omega arith) cut.0, subst (λ n. fault_place f ≤ n) (sym tokens.end_is) cut.1)
 
 -- a fault lies in the last item

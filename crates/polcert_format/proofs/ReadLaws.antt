@@ -1,7 +1,10 @@
 -- The first wrong item, from the lexemes taken so far and however the text continues.
-use Rattle.std.proofs.Common.{◌≡◌, ◌∙◌, ℕ, suc, ◌+◌, arith, length-append, true, false, Option, Some, None, List, [], ◌∷◌, ◌++◌, length, refl, sym, ap, subst}
+use Rattle.std.proofs.Common.{◌≡◌, ◌∙◌, ℕ, suc, ◌+◌, arith, length-append, true, false, Option, Some, None, List, [], ◌∷◌, ◌++◌, length}
+use Rattle.std.proofs.Common.{refl, sym, ap, subst}
 use Rattle.std.proofs.lemmas.List.{append_assoc, append-nil}
-use Rattle.polcert_format.proofs.Common.{Lexeme, TokenFault, Topic, topic, begins_item, Item, IsDivided, Preamble, ModelSoFar, nothing_known, IsComplete, IsRight, AreRight, none, more, IsRightText, AreRightItems, IsWithinItem, IsWrong, TextTokens, tokens_of}
+use Rattle.polcert_format.proofs.Common.{Lexeme, TokenFault, Topic, topic, begins_item, Item, IsDivided, Preamble, ModelSoFar}
+use Rattle.polcert_format.proofs.Common.{nothing_known, IsComplete, IsRight, AreRight, none, more, IsRightText, AreRightItems, IsWithinItem}
+use Rattle.polcert_format.proofs.Common.{IsWrong, TextTokens, tokens_of}
 use Rattle.polcert_format.specs.Reading.{CannotGoOn}
 use Rattle.polcert_format.specs.FirstWrong.{IsFirstWrong, wrong_front, wrong_fault, wrong_item, wrong_last, wrong_end}
 use Rattle.polcert_cells.proofs.Basics.{one_some, some≢none, or_false_from, cons≢nil, same_head, same_tail}
@@ -11,21 +14,26 @@ use Rattle.polcert_format.proofs.Dividing.{begins, append_division, next_divisio
 use Rattle.polcert_format.proofs.RightItems.{append_right, no_wrong_next, no_wrong_item}
 
 -- the lexemes, cut as the item is that was begun
-pub within_division : (seen body tail f : List Lexeme) (k : ModelSoFar) (t : Topic) (ys : List Item) (w : IsWithinItem seen k t body) → IsDivided tail f ys
+pub within_division : (seen body tail f : List Lexeme) (k : ModelSoFar) (t : Topic) (ys : List Item) (w : IsWithinItem seen k t body)
+    → IsDivided tail f ys
     → IsDivided (seen ++ tail) [] (w.items.items ++ (record { word = w.word; body = body ++ f }) ∷ ys)
 within_division seen body tail f k t ys w d =
     let inner : IsDivided (body ++ tail) (body ++ f) ys = append_division body tail f ys w.no_word d in
-    let joined : seen ++ tail ≡ w.before ++ w.word ∷ (body ++ tail) = ap (λ (s : List Lexeme). s ++ tail) w.whole ∙ append_assoc w.before (w.word ∷ body) tail in
+    let joined : seen ++ tail ≡ w.before ++ w.word ∷ (body ++ tail) = ap (λ (s : List Lexeme). s ++ tail) w.whole
+    ∙ append_assoc w.before (w.word ∷ body) tail in
     subst (λ s. IsDivided s [] (w.items.items ++ (record { word = w.word; body = body ++ f }) ∷ ys)) (sym joined)
     (next_division w.before (body ++ tail) (body ++ f) w.word w.items.items ys (begins w.word t w.topic_is) w.items.divided inner)
 
-pub seen_division : (seen body : List Lexeme) (k : ModelSoFar) (t : Topic) (w : IsWithinItem seen k t body) → IsDivided seen [] (w.items.items ++ (record { word = w.word; body = body }) ∷ [])
+pub seen_division : (seen body : List Lexeme) (k : ModelSoFar) (t : Topic) (w : IsWithinItem seen k t body)
+    → IsDivided seen [] (w.items.items ++ (record { word = w.word; body = body }) ∷ [])
 seen_division seen body k t w =
     subst (λ s. IsDivided s [] (w.items.items ++ (record { word = w.word; body = body }) ∷ [])) (append-nil seen)
-    (subst (λ b. IsDivided (seen ++ []) [] (w.items.items ++ (record { word = w.word; body = b }) ∷ [])) (append-nil body) (within_division seen body [] [] k t [] w empty_division))
+    (subst (λ b. IsDivided (seen ++ []) [] (w.items.items ++ (record { word = w.word; body = b }) ∷ [])) (append-nil body)
+    (within_division seen body [] [] k t [] w empty_division))
 
 -- where the item is right with the lexemes so far, they are right items again
-abbrev pub item_ends : (seen body : List Lexeme) (k after : ModelSoFar) (t : Topic) → IsWithinItem seen k t body → IsRight k t body after → AreRightItems seen after
+abbrev pub item_ends : (seen body : List Lexeme) (k after : ModelSoFar) (t : Topic) → IsWithinItem seen k t body → IsRight k t body after
+    → AreRightItems seen after
 item_ends seen body k after t w r =
     let item : Item = record { word = w.word; body = body } in
     record {
@@ -35,35 +43,44 @@ item_ends seen body k after t w r =
     }
 
 -- a wrong item, whatever topic its word is said to have
-whatever_topic : (k : ModelSoFar) (t : Topic) (word : Lexeme) (body : List Lexeme) → topic word ≡ Some t → IsWrong k t body → (u : Topic) → topic word ≡ Some u → IsWrong k u body
+whatever_topic : (k : ModelSoFar) (t : Topic) (word : Lexeme) (body : List Lexeme) → topic word ≡ Some t → IsWrong k t body → (u : Topic)
+    → topic word ≡ Some u → IsWrong k u body
 whatever_topic k t word body e wrong u f = subst (λ x. IsWrong k x body) (one_some e f) wrong
 
 pub wrong_within : (seen body : List Lexeme) (k : ModelSoFar) (t : Topic) (w : IsWithinItem seen k t body) → CannotGoOn k t body
-    → (further : List Lexeme) (ending : Option TokenFault) (stop : ℕ) → IsFirstWrong (tokens_of (seen ++ further) ending stop) (length w.items.items + 1)
+    → (further : List Lexeme) (ending : Option TokenFault) (stop : ℕ)
+    → IsFirstWrong (tokens_of (seen ++ further) ending stop) (length w.items.items + 1)
 wrong_within seen body k t w stuck further ending stop =
     let d = has_division further in
-    wrong_item w.items.items (record { word = w.word; body = body ++ d.0 }) d.1 k (within_division seen body further d.0 k t d.1 w d.2) w.items.right
+    wrong_item w.items.items (record { word = w.word; body = body ++ d.0 }) d.1 k (within_division seen body further d.0 k t d.1 w d.2)
+    w.items.right
     (whatever_topic k t w.word (body ++ d.0) w.topic_is (stuck d.0)) refl
 
-pub wrong_at_word : (seen body : List Lexeme) (k : ModelSoFar) (t : Topic) (next : Lexeme) (w : IsWithinItem seen k t body) → IsWrong k t body → begins_item next ≡ true
-    → (further : List Lexeme) (ending : Option TokenFault) (stop : ℕ) → IsFirstWrong (tokens_of (seen ++ next ∷ further) ending stop) (length w.items.items + 1)
+pub wrong_at_word : (seen body : List Lexeme) (k : ModelSoFar) (t : Topic) (next : Lexeme) (w : IsWithinItem seen k t body)
+    → IsWrong k t body → begins_item next ≡ true
+    → (further : List Lexeme) (ending : Option TokenFault) (stop : ℕ)
+    → IsFirstWrong (tokens_of (seen ++ next ∷ further) ending stop) (length w.items.items + 1)
 wrong_at_word seen body k t next w wrong b further ending stop =
     let d = has_division further in
     let item : Item = record { word = next; body = d.0 } in
     let following : IsDivided (next ∷ further) [] (item ∷ d.1) = next_division [] further d.0 next [] d.1 b empty_division d.2 in
-    wrong_item w.items.items (record { word = w.word; body = body ++ [] }) (item ∷ d.1) k (within_division seen body (next ∷ further) [] k t (item ∷ d.1) w following) w.items.right
+    wrong_item w.items.items (record { word = w.word; body = body ++ [] }) (item ∷ d.1) k
+    (within_division seen body (next ∷ further) [] k t (item ∷ d.1) w following) w.items.right
     (whatever_topic k t w.word (body ++ []) w.topic_is (subst (IsWrong k t) (sym (append-nil body)) wrong)) refl
 
 pub wrong_at_end : (seen body : List Lexeme) (k : ModelSoFar) (t : Topic) (w : IsWithinItem seen k t body) → IsWrong k t body
     → (ending : Option TokenFault) (stop : ℕ) → IsFirstWrong (tokens_of seen ending stop) (length w.items.items + 1)
 wrong_at_end seen body k t w wrong ending stop =
-    wrong_item w.items.items (record { word = w.word; body = body }) [] k (seen_division seen body k t w) w.items.right (whatever_topic k t w.word body w.topic_is wrong) refl
+    wrong_item w.items.items (record { word = w.word; body = body }) [] k (seen_division seen body k t w) w.items.right
+    (whatever_topic k t w.word body w.topic_is wrong) refl
 
 pub wrong_at_fault : (seen body : List Lexeme) (k : ModelSoFar) (t : Topic) (w : IsWithinItem seen k t body) (fault : TokenFault) (stop : ℕ)
     → IsFirstWrong (tokens_of seen (Some fault) stop) (length w.items.items + 1)
-wrong_at_fault seen body k t w fault stop = wrong_last w.items.items (record { word = w.word; body = body }) k fault (seen_division seen body k t w) w.items.right refl refl
+wrong_at_fault seen body k t w fault stop = wrong_last w.items.items (record { word = w.word; body = body }) k fault
+    (seen_division seen body k t w) w.items.right refl refl
 
-pub wrong_before_items : (l : Lexeme) → begins_item l ≡ false → (further : List Lexeme) (ending : Option TokenFault) (stop : ℕ) → IsFirstWrong (tokens_of (l ∷ further) ending stop) 0
+pub wrong_before_items : (l : Lexeme) → begins_item l ≡ false → (further : List Lexeme) (ending : Option TokenFault) (stop : ℕ)
+    → IsFirstWrong (tokens_of (l ∷ further) ending stop) 0
 wrong_before_items l e further ending stop =
     let d = has_division further in
     wrong_front l d.0 d.1 (append_division (l ∷ []) further d.0 d.1 (or_false_from (begins_item l) false e refl) d.2) refl
@@ -71,7 +88,8 @@ wrong_before_items l e further ending stop =
 pub wrong_at_once : (fault : TokenFault) (stop : ℕ) → IsFirstWrong (tokens_of [] (Some fault) stop) 0
 wrong_at_once fault stop = wrong_fault fault refl refl refl
 
-pub wrong_after_items : (seen : List Lexeme) (k : ModelSoFar) (r : AreRightItems seen k) → ((p : Preamble) → IsComplete k p → ⊥) → (stop : ℕ)
+pub wrong_after_items : (seen : List Lexeme) (k : ModelSoFar) (r : AreRightItems seen k) → ((p : Preamble) → IsComplete k p → ⊥)
+    → (stop : ℕ)
     → IsFirstWrong (tokens_of seen None stop) (length r.items + 1)
 wrong_after_items seen k r lacking stop = wrong_end r.items k r.divided r.right refl lacking refl
 
@@ -79,8 +97,10 @@ nil≢cons : {A : Type 0} {x : A} {xs : List A} → [] ≡ x ∷ xs → ⊥
 nil≢cons e = cc
 
 -- no text with a first wrong item is taken
-pub not_taken : (ts : TextTokens) (n : ℕ) (p : Preamble) (last : ModelSoFar) → IsFirstWrong ts n → ts.ending ≡ None → IsRightText ts.lexemes p last → ⊥
-not_taken ts n p last (wrong_front l ls items d e) clean text = nil≢cons (one_division ts.lexemes [] (l ∷ ls) text.items items text.divided d).0
+pub not_taken : (ts : TextTokens) (n : ℕ) (p : Preamble) (last : ModelSoFar) → IsFirstWrong ts n → ts.ending ≡ None
+    → IsRightText ts.lexemes p last → ⊥
+not_taken ts n p last (wrong_front l ls items d e) clean text =
+    nil≢cons (one_division ts.lexemes [] (l ∷ ls) text.items items text.divided d).0
 not_taken ts n p last (wrong_fault f empty e z) clean text = some≢none e clean
 not_taken ts n p last (wrong_item before wrong after k d right is_wrong e) clean text =
     let items = one_division ts.lexemes [] [] text.items (before ++ wrong ∷ after) text.divided d in
@@ -93,7 +113,8 @@ not_taken ts n p last (wrong_end items k d right e lacking z) clean text =
 
 -- items after right ones, of which the first isn't taken, begin at one place
 same_place : (k m n : ModelSoFar) (xs ys : List Item) (x y : Item) (us vs : List Item) → AreRight k xs m → AreRight k ys n
-    → ((t : Topic) → topic x.word ≡ Some t → IsWrong m t x.body) → ((t : Topic) → topic y.word ≡ Some t → IsWrong n t y.body) → xs ++ x ∷ us ≡ ys ++ y ∷ vs → length xs ≡ length ys
+    → ((t : Topic) → topic x.word ≡ Some t → IsWrong m t x.body) → ((t : Topic) → topic y.word ≡ Some t → IsWrong n t y.body)
+    → xs ++ x ∷ us ≡ ys ++ y ∷ vs → length xs ≡ length ys
 same_place k m n [] [] x y us vs a b wrong other e = refl
 same_place k m n [] (z ∷ ys) x y us vs none b wrong other e = grind (arith, same_head, no_wrong_next)
 same_place k m n (z ∷ xs) [] x y us vs a none wrong other e = grind (arith, same_head, no_wrong_next)
@@ -126,16 +147,20 @@ place_of_last k m n (z ∷ xs) (w ∷ ys) x y us (more {next = p} t f a followin
 last_place : (xs ys : List Item) (x y : Item) → xs ++ x ∷ [] ≡ ys ++ y ∷ [] → length xs ≡ length ys
 last_place xs ys x y e = omega (arith, simp length-append at (ap length e))
 
-front_or_none : (ls : List Lexeme) (l : Lexeme) (fs : List Lexeme) (items others : List Item) → IsDivided ls (l ∷ fs) items → IsDivided ls [] others → ⊥
+front_or_none : (ls : List Lexeme) (l : Lexeme) (fs : List Lexeme) (items others : List Item) → IsDivided ls (l ∷ fs) items
+    → IsDivided ls [] others → ⊥
 front_or_none ls l fs items others a b = cons≢nil (one_division ls (l ∷ fs) [] items others a b).0
 
 pub item_or_empty : (ls : List Lexeme) (xs : List Item) (x : Item) (ys : List Item) → IsDivided ls [] (xs ++ x ∷ ys) → ls ≡ [] → ⊥
-item_or_empty ls xs x ys a e = no_empty xs x ys (one_division [] [] [] (xs ++ x ∷ ys) [] (subst (λ s. IsDivided s [] (xs ++ x ∷ ys)) e a) empty_division).1
+item_or_empty ls xs x ys a e = no_empty xs x ys (one_division [] [] [] (xs ++ x ∷ ys) [] (subst (λ s. IsDivided s [] (xs ++ x ∷ ys)) e a)
+    empty_division).1
 
-item_or_end : (ls : List Lexeme) (xs : List Item) (x : Item) (ys items : List Item) (k last : ModelSoFar) → IsDivided ls [] (xs ++ x ∷ ys) → AreRight nothing_known xs k
+item_or_end : (ls : List Lexeme) (xs : List Item) (x : Item) (ys items : List Item) (k last : ModelSoFar) → IsDivided ls [] (xs ++ x ∷ ys)
+    → AreRight nothing_known xs k
     → ((t : Topic) → topic x.word ≡ Some t → IsWrong k t x.body) → IsDivided ls [] items → AreRight nothing_known items last → ⊥
 item_or_end ls xs x ys items k last a taken wrong b all =
-    no_wrong_item nothing_known k last xs ys x wrong taken (subst (λ v. AreRight nothing_known v last) (one_division ls [] [] items (xs ++ x ∷ ys) b a).1 all)
+    no_wrong_item nothing_known k last xs ys x wrong taken
+    (subst (λ v. AreRight nothing_known v last) (one_division ls [] [] items (xs ++ x ∷ ys) b a).1 all)
 
 zeros : (m n : ℕ) → m ≡ 0 → n ≡ 0 → m ≡ n
 zeros m n a b = a ∙ sym b
@@ -158,14 +183,17 @@ one_number ts m n (wrong_fault f a c p) (wrong_end ys k b t d i q) = absurd (som
 one_number ts m n (wrong_item xs x us j a s v p) (wrong_front l ls ys b q) = absurd (front_or_none ts.lexemes l ls ys _ b a)
 one_number ts m n (wrong_item xs x us j a s v p) (wrong_fault f b c q) = absurd (item_or_empty ts.lexemes xs x us a b)
 one_number ts m n (wrong_item xs x us j a s v p) (wrong_item ys y vs k b t w q) =
-    numbers m n xs ys p q (same_place nothing_known j k xs ys x y us vs s t v w (one_division ts.lexemes [] [] (xs ++ x ∷ us) (ys ++ y ∷ vs) a b).1)
+    numbers m n xs ys p q (same_place nothing_known j k xs ys x y us vs s t v w
+    (one_division ts.lexemes [] [] (xs ++ x ∷ us) (ys ++ y ∷ vs) a b).1)
 one_number ts m n (wrong_item xs x us j a s v p) (wrong_last ys y k f b t c q) =
-    numbers m n xs ys p q (place_of_last nothing_known j k xs ys x y us s t v (one_division ts.lexemes [] [] (xs ++ x ∷ us) (ys ++ y ∷ []) a b).1)
+    numbers m n xs ys p q (place_of_last nothing_known j k xs ys x y us s t v
+    (one_division ts.lexemes [] [] (xs ++ x ∷ us) (ys ++ y ∷ []) a b).1)
 one_number ts m n (wrong_item xs x us j a s v p) (wrong_end ys k b t c i q) = absurd (item_or_end ts.lexemes xs x us ys j k a s v b t)
 one_number ts m n (wrong_last xs x j g a s d p) (wrong_front l ls ys b q) = absurd (front_or_none ts.lexemes l ls ys _ b a)
 one_number ts m n (wrong_last xs x j g a s d p) (wrong_fault f b c q) = absurd (item_or_empty ts.lexemes xs x [] a b)
 one_number ts m n (wrong_last xs x j g a s d p) (wrong_item ys y vs k b t w q) =
-    sym (numbers n m ys xs q p (place_of_last nothing_known k j ys xs y x vs t s w (one_division ts.lexemes [] [] (ys ++ y ∷ vs) (xs ++ x ∷ []) b a).1))
+    sym (numbers n m ys xs q p (place_of_last nothing_known k j ys xs y x vs t s w
+    (one_division ts.lexemes [] [] (ys ++ y ∷ vs) (xs ++ x ∷ []) b a).1))
 one_number ts m n (wrong_last xs x j g a s d p) (wrong_last ys y k f b t c q) =
     numbers m n xs ys p q (last_place xs ys x y (one_division ts.lexemes [] [] (xs ++ x ∷ []) (ys ++ y ∷ []) a b).1)
 one_number ts m n (wrong_last xs x j g a s d p) (wrong_end ys k b t c i q) = absurd (some≢none d c)

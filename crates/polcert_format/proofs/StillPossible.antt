@@ -1,7 +1,9 @@
 -- What is still possible: an entry with some places and numbers continues with `: *` and zeros.
-use Rattle.std.proofs.Common.{◌≡◌, ℕ, zero, suc, ◌≤◌, Bool, false, List, [], ◌∷◌, ◌++◌, length, map, All, pos, codes, refl, ap, subst, arith}
+use Rattle.std.proofs.Common.{◌≡◌, ℕ, zero, suc, ◌≤◌, Bool, false, List, [], ◌∷◌, ◌++◌, length, map, All, pos, codes, refl, ap, subst}
+use Rattle.std.proofs.Common.{arith}
 use Rattle.std.proofs.lemmas.List.{append_assoc}
-use Rattle.polcert_format.proofs.Common.{All-cons, All-nil, Lexeme, Numeral, Colon, Table, Topic, IsMillionths, AreNumbers, forms, ModelSoFar, HasForm, IsPossible}
+use Rattle.polcert_format.proofs.Common.{All-cons, All-nil, Lexeme, Numeral, Colon, Table, Topic, IsMillionths, AreNumbers, forms}
+use Rattle.polcert_format.proofs.Common.{ModelSoFar, HasForm, IsPossible}
 use Rattle.polcert_text.specs.Bytes.{is_digit, is_point, is_exponent_mark}
 use Rattle.polcert_text.specs.Numbers.{number_of, exponent_size, power_of, size_of, millionth}
 use Rattle.polcert_text.specs.declared.tokens.TokenKind.TheVariants.{Star}
@@ -51,8 +53,13 @@ length-pos (q ∷ qs) = ap suc (length-pos qs)
 
 -- what begins something possible is possible
 pub possible_front : (k : ModelSoFar) (t : Topic) (taken further : List Lexeme) → IsPossible k t (taken ++ further) → IsPossible k t taken
-possible_front k t taken further p = record { more = further ++ p.more; form = subst (HasForm k t) (append_assoc taken further p.more) p.form }
+possible_front k t taken further p = record {
+  more = further ++ p.more;
+  form =
+      subst (HasForm k t) (append_assoc taken further p.more) p.form;
+}
 
 -- the forms of numbers don't depend on the numbers
-pub same_form_of_probabilities : (mdp : Bool) (table : Table) (qs rs : List ℕ) → forms mdp table (Probabilities qs) ≡ forms mdp table (Probabilities rs)
+pub same_form_of_probabilities : (mdp : Bool) (table : Table) (qs rs : List ℕ)
+    → forms mdp table (Probabilities qs) ≡ forms mdp table (Probabilities rs)
 same_form_of_probabilities mdp table qs rs = grind arith

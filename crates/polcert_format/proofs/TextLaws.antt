@@ -1,6 +1,8 @@
 -- A text denotes at most one model.
 use Rattle.std.proofs.Common.{◌≡◌, ℕ, Some, None, List, [], ◌∷◌, ◌++◌, pos, codes, refl, ap, subst, arith}
-use Rattle.polcert_format.proofs.Common.{Lexeme, text_rest, text_limit, Topic, Elements, most_states, most_actions, most_observations, AreElements, Item, Preamble, Entry, IsEntry, Meaning, meaning_of, IsSame, ModelSoFar, nothing_known, IsComplete, IsRight, AreRight, none, more, IsRightText, Denotes, IsModelText}
+use Rattle.polcert_format.proofs.Common.{Lexeme, text_rest, text_limit, Topic, Elements, most_states, most_actions, most_observations}
+use Rattle.polcert_format.proofs.Common.{AreElements, Item, Preamble, Entry, IsEntry, Meaning, meaning_of, IsSame, ModelSoFar}
+use Rattle.polcert_format.proofs.Common.{nothing_known, IsComplete, IsRight, AreRight, none, more, IsRightText, Denotes, IsModelText}
 use Rattle.polcert_text.proofs.Scanning.CleanCut.{clean_cut}
 use Rattle.polcert_text.proofs.Scanning.CutLaws.{one_cut}
 use Rattle.polcert_cells.specs.Words.{IsWord, IsName}
@@ -37,13 +39,17 @@ one_right k t ls x y (rewards p e c w) (rewards q f d v) = refl
 one_right k t ls x y (rewards p e c w) (costs q f d v) = absurd (reward_not_cost _ w v)
 one_right k t ls x y (costs p e c w) (rewards q f d v) = absurd (reward_not_cost _ v w)
 one_right k t ls x y (costs p e c w) (costs q f d v) = refl
-one_right k t ls x y (states p e c a) (states q f d b) = ap (λ (g : Elements). record k { states = Some g }) (one_elements most_states _ _ _ a b)
-one_right k t ls x y (actions p e c a) (actions q f d b) = ap (λ (g : Elements). record k { actions = Some g }) (one_elements most_actions _ _ _ a b)
-one_right k t ls x y (observations p e c a) (observations q f d b) = ap (λ (g : Elements). record k { observations = Some g }) (one_elements most_observations _ _ _ a b)
+one_right k t ls x y (states p e c a) (states q f d b) =
+    ap (λ (g : Elements). record k { states = Some g }) (one_elements most_states _ _ _ a b)
+one_right k t ls x y (actions p e c a) (actions q f d b) =
+    ap (λ (g : Elements). record k { actions = Some g }) (one_elements most_actions _ _ _ a b)
+one_right k t ls x y (observations p e c a) (observations q f d b) =
+    ap (λ (g : Elements). record k { observations = Some g }) (one_elements most_observations _ _ _ a b)
 one_right k t ls x y (start {p = p} {shares = f} i a s) (start {p = q} j b r) = grind (arith, one_start, one_preamble)
 one_right k t ls x y (entry {p = p} {table = table} {e = f} a g s few) (entry {p = q} b h r fewer) =
     let same = one_preamble k p q a b in
-    ap (λ (g : Entry). record k { entries = k.entries ++ g ∷ [] }) (one_entry q table ls _ _ (subst (λ (w : Preamble). IsEntry w table ls f) same s) r)
+    ap (λ (g : Entry). record k { entries = k.entries ++ g ∷ [] })
+    (one_entry q table ls _ _ (subst (λ (w : Preamble). IsEntry w table ls f) same s) r)
 
 pub one_known : (k : ModelSoFar) (items : List Item) (x y : ModelSoFar) → AreRight k items x → AreRight k items y → x ≡ y
 one_known k items x y none none = refl
@@ -64,10 +70,12 @@ same_through m n k l a b e = grind arith
 pub one_meaning : (ls : List Lexeme) (m n : Meaning) → Denotes ls m → Denotes ls n → IsSame m n
 one_meaning ls m n a b =
     let same = one_right_text ls a.preamble b.preamble a.known b.known a.right b.right in
-    same_through m n (meaning_of a.preamble a.known.start a.known.entries) (meaning_of b.preamble b.known.start b.known.entries) a.same b.same
+    same_through m n (meaning_of a.preamble a.known.start a.known.entries) (meaning_of b.preamble b.known.start b.known.entries) a.same
+    b.same
     (λ i. meaning_of (same.0 i) ((same.1 i).start) ((same.1 i).entries))
 
 pub one_model : (text : List ℕ) (m n : Meaning) → IsModelText text m → IsModelText text n → IsSame m n
 one_model text m n a b =
-    let cut = one_cut (text_rest text text_limit) a.lexemes b.lexemes None None (clean_cut text a.lexemes a.tokens) (clean_cut text b.lexemes b.tokens) in
+    let cut = one_cut (text_rest text text_limit) a.lexemes b.lexemes None None (clean_cut text a.lexemes a.tokens)
+    (clean_cut text b.lexemes b.tokens) in
     one_meaning b.lexemes m n (subst (λ ls. Denotes ls m) cut.0 a.denotes) b.denotes

@@ -1,7 +1,10 @@
 -- A reader that continues with several lexemes at once, and a list of numbers that does.
-use Rattle.std.proofs.Common.{◌≡◌, ◌∙◌, ℕ, ◌+◌, ◌-◌, ◌<◌, ◌≤◌, Bool, true, false, Some, None, List, [], ◌∷◌, ◌++◌, length, drop, refl, sym, ap, subst, append-nil, append_assoc, length-append, Result, IfOk, arith, if◌then◌else◌}
+use Rattle.std.proofs.Common.{◌≡◌, ◌∙◌, ℕ, ◌+◌, ◌-◌, ◌<◌, ◌≤◌, Bool, true, false, Some, None, List, [], ◌∷◌, ◌++◌, length, drop, refl, sym}
+use Rattle.std.proofs.Common.{ap, subst, append-nil, append_assoc, length-append, Result, IfOk, arith, if◌then◌else◌}
 use Rattle.std.proofs.lemmas.List.{length-drop}
-use Rattle.polcert_items.proofs.Common.{BeginWith, BeginWithNumber, Lexeme, begins_number, is_sign, ModelSoFar, numbers_want, IsFed, IsListFed, AreTaken, none, more, TakesAhead, FedAhead, ListKind, IsInRange, IsSignAt, is_negative, EntryReader, Numbers, Sign}
+use Rattle.polcert_items.proofs.Common.{BeginWith, BeginWithNumber, Lexeme, begins_number, is_sign, ModelSoFar, numbers_want, IsFed}
+use Rattle.polcert_items.proofs.Common.{IsListFed, AreTaken, none, more, TakesAhead, FedAhead, ListKind, IsInRange, IsSignAt, is_negative}
+use Rattle.polcert_items.proofs.Common.{EntryReader, Numbers, Sign}
 use Rattle.polcert_text.specs.Beginning.{IsNumeralOf, kind_of_sign, unsigned, signed}
 use Rattle.polcert_text.specs.declared.front_tokens.FrontNumber.{FrontNumber}
 use Rattle.polcert_text.proofs.Taken.BeginLaws.{begin_none, begin_then}
@@ -12,14 +15,16 @@ use Rattle.polcert_items.proofs.ListLaws.{takes_number, takes_sign}
 module _ {R : Type 0} (Step : R → Lexeme → R → Type 0) where
   taken_both : (a b c : R) (us vs : List Lexeme) → AreTaken Step a us b → AreTaken Step b vs c → AreTaken Step a (us ++ vs) c
   taken_both a b c us vs first (none _) = subst (λ xs. AreTaken Step a xs b) (sym (append-nil us)) first
-  taken_both a b c us vs first (more _ between _ ws l before step) = grind (arith, append_assoc, more, taken_both a b between us ws first before)
+  taken_both a b c us vs first (more _ between _ ws l before step) =
+      grind (arith, append_assoc, more, taken_both a b between us ws first before)
 
   -- no bytes
   pub takes_none : (r : R) (bytes : List ℕ) → TakesAhead Step r bytes 0 r
   takes_none r bytes = record { within = omega arith; fed = λ place. ([], (begin_none place bytes, none r)) }
 
   -- some bytes, and others after them
-  pub takes_then : (a b c : R) (bytes : List ℕ) (m n : ℕ) → TakesAhead Step a bytes m b → TakesAhead Step b (drop m bytes) n c → TakesAhead Step a bytes (m + n) c
+  pub takes_then : (a b c : R) (bytes : List ℕ) (m n : ℕ) → TakesAhead Step a bytes m b → TakesAhead Step b (drop m bytes) n c
+      → TakesAhead Step a bytes (m + n) c
   takes_then a b c bytes m n first second = record {
     within = omega (arith, first.within, second.within, length-drop m bytes);
     fed = λ place.
@@ -31,7 +36,8 @@ module _ {R : Type 0} (Step : R → Lexeme → R → Type 0) where
 pub fed_none : (k : ModelSoFar) (r : EntryReader) (bytes : List ℕ) → FedAhead k r bytes 0 r
 fed_none k r bytes = takes_none (IsFed k) r bytes
 
-pub fed_then : (k : ModelSoFar) (a b c : EntryReader) (bytes : List ℕ) (m n : ℕ) → FedAhead k a bytes m b → FedAhead k b (drop m bytes) n c → FedAhead k a bytes (m + n) c
+pub fed_then : (k : ModelSoFar) (a b c : EntryReader) (bytes : List ℕ) (m n : ℕ) → FedAhead k a bytes m b → FedAhead k b (drop m bytes) n c
+    → FedAhead k a bytes (m + n) c
 fed_then k a b c bytes m n first second = takes_then (IsFed k) a b c bytes m n first second
 
 pub if_ok_map : {T E : Type 0} (r : Result T E) (P Q : T → Type 0) → ((v : T) → P v → Q v) → IfOk r P → IfOk r Q
@@ -39,7 +45,8 @@ if_ok_map r P Q h1 h2 = grind arith
 
 -- ---- a number of a list
 
-sign_is : (is_negative : Bool) (s : Lexeme) → s.kind ≡ kind_of_sign is_negative → IsSignAt (record { negative = is_negative; place = s.place }) s
+sign_is : (is_negative : Bool) (s : Lexeme) → s.kind ≡ kind_of_sign is_negative
+    → IsSignAt (record { negative = is_negative; place = s.place }) s
 sign_is is_negative s h1 = grind arith
 
 is_a_sign : (is_negative : Bool) → (is_sign (kind_of_sign is_negative) ≡ true) × (begins_number (kind_of_sign is_negative) ≡ true)
@@ -50,7 +57,8 @@ pub number_within : (place : ℕ) (bytes : List ℕ) (found : FrontNumber) → B
 number_within place bytes found h1 = grind arith
 
 -- and within all of the bytes
-pub ends_within : (bytes : List ℕ) (at : ℕ) (found : FrontNumber) → at ≤ length bytes → ((place : ℕ) → BeginWithNumber place (drop at bytes) found) → at + found.len ≤ length bytes
+pub ends_within : (bytes : List ℕ) (at : ℕ) (found : FrontNumber) → at ≤ length bytes
+    → ((place : ℕ) → BeginWithNumber place (drop at bytes) found) → at + found.len ≤ length bytes
 ends_within bytes at found high front = omega (arith, number_within 0 (drop at bytes) found (front 0), length-drop at bytes)
 
 -- the list with this sign at its end, or with this number
@@ -61,7 +69,8 @@ abbrev with_number : {T : Type 0} → Numbers T → T → Numbers T
 with_number n x = record { read = n.read ++ x ∷ []; needed = n.needed; sign = None }
 
 module _ {T : Type 0} (kind : ListKind T) (old : Numbers T) where
-  sign_fed : (is_negative : Bool) (s : Lexeme) → s.kind ≡ kind_of_sign is_negative → old.sign ≡ None → length old.read < old.needed → IsListFed kind old s (with_sign old (record { negative = is_negative; place = s.place }))
+  sign_fed : (is_negative : Bool) (s : Lexeme) → s.kind ≡ kind_of_sign is_negative → old.sign ≡ None → length old.read < old.needed
+      → IsListFed kind old s (with_sign old (record { negative = is_negative; place = s.place }))
   sign_fed is_negative s is no_sign room =
       let sign : Sign = record { negative = is_negative; place = s.place } in
       let at = sign_is is_negative s is in
@@ -76,24 +85,41 @@ module _ {T : Type 0} (kind : ListKind T) (old : Numbers T) where
         leads = record { same = λ ls i. numbers_want (mark i) (if mark i then left else left - 1) ls };
       }
 
-  numeral_fed : (x : T) (l : Lexeme) → ((y z : T) → kind.worth y ≡ kind.worth z → y ≡ z) → IsNumeralOf (is_negative old.sign) l (kind.worth x) → IsInRange kind.range (kind.worth x) → length old.read < old.needed
+  numeral_fed : (x : T) (l : Lexeme) → ((y z : T) → kind.worth y ≡ kind.worth z → y ≡ z)
+      → IsNumeralOf (is_negative old.sign) l (kind.worth x) → IsInRange kind.range (kind.worth x) → length old.read < old.needed
       → IsListFed kind old l (with_number old x)
   numeral_fed x l distinct v fits room = grind (arith, length-append, takes_number)
 
 -- the number at the front of some bytes
-module _ {T : Type 0} (kind : ListKind T) (old : Numbers T) (x : T) (bytes : List ℕ) (found : FrontNumber) (distinct : (y z : T) → kind.worth y ≡ kind.worth z → y ≡ z) (worth : kind.worth x ≡ found.value)
+module _ {T : Type 0} (kind : ListKind T) (old : Numbers T) (x : T) (bytes : List ℕ) (found : FrontNumber)
+    (distinct : (y z : T) → kind.worth y ≡ kind.worth z → y ≡ z) (worth : kind.worth x ≡ found.value)
     (fits : IsInRange kind.range found.value) (no_sign : old.sign ≡ None) (room : length old.read < old.needed) where
   numeral_of : (is_negative : Bool) (l : Lexeme) → IsNumeralOf is_negative l found.value → IsNumeralOf is_negative l (kind.worth x)
   numeral_of is_negative l v = subst (IsNumeralOf is_negative l) (sym worth) v
 
-  taken_at : (place : ℕ) → BeginWithNumber place bytes found → (ls : List Lexeme) × (BeginWith place bytes found.len ls × AreTaken (IsListFed kind) old ls (with_number old x))
+  taken_at : (place : ℕ) → BeginWithNumber place bytes found → (ls : List Lexeme)
+      × (BeginWith place bytes found.len ls × AreTaken (IsListFed kind) old ls (with_number old x))
   taken_at place (unsigned n v front) =
-      let is = subst (λ s. IsNumeralOf (is_negative s) n (kind.worth x)) (sym no_sign) (numeral_of false n v) in
-      (n ∷ [], (front, more old old (with_number old x) [] n (none old) (numeral_fed kind old x n distinct is (subst (IsInRange kind.range) (sym worth) fits) room)))
+      let is = subst (λ s. IsNumeralOf (is_negative s) n (kind.worth x)) (sym no_sign) (numeral_of false n v) in (
+        n ∷ [],
+        (
+          front,
+          more old old (with_number old x) [] n (none old)
+              (numeral_fed kind old x n distinct is (subst (IsInRange kind.range) (sym worth) fits) room),
+        ),
+      )
   taken_at place (signed is_negative s n sign v front) =
       let mid = with_sign old (record { negative = is_negative; place = s.place }) in
-      let fed = numeral_fed kind mid x n distinct (numeral_of is_negative n v) (subst (IsInRange kind.range) (sym worth) fits) room in
-      (s ∷ n ∷ [], (front, more old mid (with_number old x) (s ∷ []) n (more old old mid [] s (none old) (sign_fed kind old is_negative s sign no_sign room)) fed))
+      let fed = numeral_fed kind mid x n distinct (numeral_of is_negative n v) (subst (IsInRange kind.range) (sym worth) fits) room in (
+        s ∷ n ∷ [],
+        (
+          front,
+          more old mid (with_number old x) (s ∷ []) n
+              (more old old mid [] s (none old) (sign_fed kind old is_negative s sign no_sign room)) fed,
+        ),
+      )
 
-  pub number_ahead : ((place : ℕ) → BeginWithNumber place bytes found) → (new : Numbers T) → new ≡ with_number old x → TakesAhead (IsListFed kind) old bytes found.len new
-  number_ahead front new is = subst (TakesAhead (IsListFed kind) old bytes found.len) (sym is) (record { within = number_within 0 bytes found (front 0); fed = λ place. taken_at place (front place) })
+  pub number_ahead : ((place : ℕ) → BeginWithNumber place bytes found) → (new : Numbers T) → new ≡ with_number old x
+      → TakesAhead (IsListFed kind) old bytes found.len new
+  number_ahead front new is = subst (TakesAhead (IsListFed kind) old bytes found.len) (sym is)
+      (record { within = number_within 0 bytes found (front 0); fed = λ place. taken_at place (front place) })

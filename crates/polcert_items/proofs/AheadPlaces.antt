@@ -1,7 +1,11 @@
 -- The places of an entry and the first number after them, taken at once.
-use Rattle.std.proofs.Common.{◌≡◌, ◌∙◌, inl, inr, ⊎_elim, ℕ, zero, suc, ◌+◌, ◌<◌, true, false, List, [], ◌∷◌, ◌++◌, length, drop, get_or, refl, sym, ap, subst, length-append, arith, Bool, ◌||◌}
+use Rattle.std.proofs.Common.{◌≡◌, ◌∙◌, inl, inr, ⊎_elim, ℕ, zero, suc, ◌+◌, ◌<◌, true, false, List, [], ◌∷◌, ◌++◌, length, drop, get_or}
+use Rattle.std.proofs.Common.{refl, sym, ap, subst, length-append, arith, Bool, ◌||◌}
 use Rattle.std.proofs.lemmas.List.{length-drop}
-use Rattle.polcert_items.proofs.Common.{moved, Lexeme, TokenKind, Colon, count_of, StandsFor, IsPlace, Preamble, begins_item, is_reserved, IsName, Elements, Count, Place, Only, Table, preamble_in, indices_in, named_in, is_sign, ModelSoFar, IsFed, none, more, FedAhead, BeginWithPlace, IsFirstPlace, IsWithinIndices, ExpectsNext, EntryReader}
+use Rattle.polcert_items.proofs.Common.{moved, Lexeme, TokenKind, Colon, count_of, StandsFor, IsPlace, Preamble, begins_item, is_reserved}
+use Rattle.polcert_items.proofs.Common.{IsName, Elements, Count, Place, Only, Table, preamble_in, indices_in, named_in, is_sign, ModelSoFar}
+use Rattle.polcert_items.proofs.Common.{IsFed, none, more, FedAhead, BeginWithPlace, IsFirstPlace, IsWithinIndices, ExpectsNext}
+use Rattle.polcert_items.proofs.Common.{EntryReader}
 use Rattle.polcert_text.specs.Beginning.{BeginWithOne, BeginWithDigits}
 use Rattle.polcert_items.specs.Steps.Ahead.{AwaitsColon, PlacesFed, with_state}
 use Rattle.polcert_items.specs.Steps.Wants.{entry_wants}
@@ -21,7 +25,8 @@ or_false a b h1 = grind arith
 colon_inside : (l : Lexeme) → l.kind ≡ Colon → begins_item l ≡ false
 colon_inside l is = subst (λ (kind : TokenKind). begins_item (record l { kind = kind }) ≡ false) (sym is) refl
 
-colon_fed : (k : ModelSoFar) (r : EntryReader) (l : Lexeme) → AwaitsColon r.state → IsWithinIndices (indices_in k r.table) r → length r.places < length (indices_in k r.table) → l.kind ≡ Colon → IsFed k r l (record r { state = states.Place })
+colon_fed : (k : ModelSoFar) (r : EntryReader) (l : Lexeme) → AwaitsColon r.state → IsWithinIndices (indices_in k r.table) r
+    → length r.places < length (indices_in k r.table) → l.kind ≡ Colon → IsFed k r l (record r { state = states.Place })
 colon_fed k r l awaits within room kind = record {
   inside = colon_inside l kind;
   table = refl;
@@ -29,18 +34,21 @@ colon_fed k r l awaits within room kind = record {
   takes = ⊎_elim (λ is. in_state p r states.Colon states.Place l is (record { back = λ ls e g. (kind, g); on = λ ls e g. g.1 }))
       (λ is. in_state p r states.Body states.Place l is (colon_takes p r.table r.places l kind)) awaits;
   sign = ap is_sign kind;
-  leads = ⊎_elim at_colon (λ is. record { same = λ ls. (body_leads p r l _ is (colon_leads p r.table (length r.places) l kind)).same ls }) awaits;
+  leads = ⊎_elim at_colon (λ is. record { same = λ ls. (body_leads p r l _ is (colon_leads p r.table (length r.places) l kind)).same ls })
+      awaits;
 }
   where
     p : Preamble
     p = preamble_in k
 
-    at_colon : r.state ≡ states.Colon → ExpectsNext (entry_wants (preamble_in k) r) l (entry_wants (preamble_in k) (record r { state = states.Place }))
+    at_colon : r.state ≡ states.Colon → ExpectsNext (entry_wants (preamble_in k) r) l
+        (entry_wants (preamble_in k) (record r { state = states.Place }))
     at_colon is = grind arith
 
 -- ---- a place
 
-first_place : (ds : List Elements) (n : ℕ) (l : Lexeme) (p : Place) → n < length ds → IsPlace (get_or ds n (Count 0)) l p → IsFirstPlace (drop n ds) l p
+first_place : (ds : List Elements) (n : ℕ) (l : Lexeme) (p : Place) → n < length ds → IsPlace (get_or ds n (Count 0)) l p
+    → IsFirstPlace (drop n ds) l p
 first_place [] n l p inside is = absurd (omega arith)
 first_place (d ∷ ds) zero l p inside is = is
 first_place (d ∷ ds) (suc n) l p inside is = first_place ds n l p (omega arith) is
@@ -56,7 +64,8 @@ record IsInside (l : Lexeme) : Type 0 where
 
 name_inside : (l : Lexeme) → IsName l → IsInside l
 unfolding is_reserved
-name_inside l n = subst (λ (kind : TokenKind). IsInside (record l { kind = kind })) (sym n.kind) (record { item = or_false _ _ n.free; sign = refl })
+name_inside l n = subst (λ (kind : TokenKind). IsInside (record l { kind = kind })) (sym n.kind)
+    (record { item = or_false _ _ n.free; sign = refl })
 
 place_inside : (ds : List Elements) (l : Lexeme) (p : Place) → IsFirstPlace ds l p → IsInside l
 place_inside ds l p h1 = grind (arith, name_inside)
@@ -65,13 +74,16 @@ place_inside ds l p h1 = grind (arith, name_inside)
 pub place_moved : (ds : List Elements) (l : Lexeme) (p : Place) (position : ℕ) → IsFirstPlace ds l p → IsFirstPlace ds (moved position l) p
 place_moved ds l p position h1 = grind arith
 
-place_fed : (k : ModelSoFar) (r : EntryReader) (l : Lexeme) (p : Place) → r.state ≡ states.Place → length r.places < length (indices_in k r.table) → IsFirstPlace (drop (length r.places) (named_in k r.table)) l p
+place_fed : (k : ModelSoFar) (r : EntryReader) (l : Lexeme) (p : Place) → r.state ≡ states.Place
+    → length r.places < length (indices_in k r.table) → IsFirstPlace (drop (length r.places) (named_in k r.table)) l p
     → IsFed k r l (record { table = r.table; places = r.places ++ p ∷ []; state = states.Body })
 place_fed k r l p is room first = grind (arith, length-append, place_inside)
 
 -- a colon and a place
-colon_place_fed : (k : ModelSoFar) (r : EntryReader) (bytes : List ℕ) (colon : ℕ) (front : FrontPlace) → AwaitsColon r.state → IsWithinIndices (indices_in k r.table) r → length r.places < length (indices_in k r.table)
-    → ((position : ℕ) → BeginWithOne position bytes colon Colon) → ((position : ℕ) → BeginWithPlace (drop (length r.places) (named_in k r.table)) position (drop colon bytes) front)
+colon_place_fed : (k : ModelSoFar) (r : EntryReader) (bytes : List ℕ) (colon : ℕ) (front : FrontPlace) → AwaitsColon r.state
+    → IsWithinIndices (indices_in k r.table) r → length r.places < length (indices_in k r.table)
+    → ((position : ℕ) → BeginWithOne position bytes colon Colon)
+    → ((position : ℕ) → BeginWithPlace (drop (length r.places) (named_in k r.table)) position (drop colon bytes) front)
     → FedAhead k r bytes (colon + front.len) (record { table = r.table; places = r.places ++ front.place ∷ []; state = states.Body })
 colon_place_fed k r bytes colon front awaits within room first second = record {
   within = omega (arith, (first 0).front.within, (second 0).front.within, length-drop colon bytes);
@@ -83,34 +95,41 @@ colon_place_fed k r bytes colon front awaits within room first second = record {
         c.token ∷ p.token ∷ [],
         (
           begin_then position bytes colon front.len (c.token ∷ []) (p.token ∷ []) c.front p.front,
-          more r mid next (c.token ∷ []) p.token (more r r mid [] c.token (none r) (colon_fed k r c.token awaits within room c.kind_is)) (place_fed k mid p.token front.place refl room p.place_is),
+          more r mid next (c.token ∷ []) p.token (more r r mid [] c.token (none r) (colon_fed k r c.token awaits within room c.kind_is))
+              (place_fed k mid p.token front.place refl room p.place_is),
         ),
       );
 }
 
 -- whatever the state says of what came before
-pub place_is_fed : (k : ModelSoFar) (r : EntryReader) (bytes : List ℕ) (colon : ℕ) (front : FrontPlace) (places : List Place) → length r.places < length (indices_in k r.table)
-    → ((position : ℕ) → BeginWithOne position bytes colon Colon) → ((position : ℕ) → BeginWithPlace (drop (length r.places) (named_in k r.table)) position (drop colon bytes) front)
+pub place_is_fed : (k : ModelSoFar) (r : EntryReader) (bytes : List ℕ) (colon : ℕ) (front : FrontPlace) (places : List Place)
+    → length r.places < length (indices_in k r.table)
+    → ((position : ℕ) → BeginWithOne position bytes colon Colon)
+    → ((position : ℕ) → BeginWithPlace (drop (length r.places) (named_in k r.table)) position (drop colon bytes) front)
     → places ≡ r.places ++ front.place ∷ [] → PlacesFed k r bytes (colon + front.len) (record r { places = places })
-place_is_fed k r bytes colon front places room first second are = subst (λ ps. PlacesFed k r bytes (colon + front.len) (record r { places = ps })) (sym are) (record {
-  high = omega (arith, (first 0).front.within, (second 0).front.within, length-drop colon bytes);
-  fed = λ s awaits within. colon_place_fed k (with_state r s) bytes colon front awaits within room first second;
-  within = let len = length-append r.places (front.place ∷ []) in (omega (arith, len), omega (arith, len, room));
-  state = refl;
-  table = refl;
-})
+place_is_fed k r bytes colon front places room first second are =
+    subst (λ ps. PlacesFed k r bytes (colon + front.len) (record r { places = ps })) (sym are) (record {
+      high = omega (arith, (first 0).front.within, (second 0).front.within, length-drop colon bytes);
+      fed = λ s awaits within. colon_place_fed k (with_state r s) bytes colon front awaits within room first second;
+      within = let len = length-append r.places (front.place ∷ []) in (omega (arith, len), omega (arith, len, room));
+      state = refl;
+      table = refl;
+    })
 
 -- some places, and others after them
-pub places_then : (k : ModelSoFar) (a b c : EntryReader) (bytes : List ℕ) (m n : ℕ) → PlacesFed k a bytes m b → PlacesFed k b (drop m bytes) n c → PlacesFed k a bytes (m + n) c
+pub places_then : (k : ModelSoFar) (a b c : EntryReader) (bytes : List ℕ) (m n : ℕ) → PlacesFed k a bytes m b
+    → PlacesFed k b (drop m bytes) n c → PlacesFed k a bytes (m + n) c
 places_then k a b c bytes m n first second = record {
   high = omega (arith, first.high, second.high, length-drop m bytes);
-  fed = λ s awaits within. fed_then k (with_state a s) (with_state b states.Body) (with_state c states.Body) bytes m n (first.fed s awaits within) (second.fed states.Body (inr refl) first.within);
+  fed = λ s awaits within. fed_then k (with_state a s) (with_state b states.Body) (with_state c states.Body) bytes m n
+      (first.fed s awaits within) (second.fed states.Body (inr refl) first.within);
   within = second.within;
   state = second.state ∙ first.state;
   table = second.table ∙ first.table;
 }
 
-pub places_more : (k : ModelSoFar) (a b c : EntryReader) (bytes : List ℕ) (m n : ℕ) (has_place : Bool) → (has_place ≡ true → PlacesFed k a bytes m b) → (has_place ≡ false → (m ≡ 0) × (b ≡ a))
+pub places_more : (k : ModelSoFar) (a b c : EntryReader) (bytes : List ℕ) (m n : ℕ) (has_place : Bool)
+    → (has_place ≡ true → PlacesFed k a bytes m b) → (has_place ≡ false → (m ≡ 0) × (b ≡ a))
     → PlacesFed k b (drop m bytes) n c → PlacesFed k a bytes (m + n) c
 places_more k a b c bytes m n true some same next = places_then k a b c bytes m n (some refl) next
 places_more k a b c bytes m n false some same next =
@@ -120,21 +139,27 @@ places_more k a b c bytes m n false some same next =
     subst (λ r. PlacesFed k r bytes (m + n) c) (same refl).1 (subst (λ j. PlacesFed k b bytes j c) count here)
 
 -- places after the word of the table
-pub places_taken : (k : ModelSoFar) (r new : EntryReader) (bytes : List ℕ) (count : ℕ) → r.state ≡ states.Colon → IsWithinIndices (indices_in k r.table) r → PlacesFed k r bytes count new
+pub places_taken : (k : ModelSoFar) (r new : EntryReader) (bytes : List ℕ) (count : ℕ) → r.state ≡ states.Colon
+    → IsWithinIndices (indices_in k r.table) r → PlacesFed k r bytes count new
     → FedAhead k r bytes count (with_state new states.Body)
 places_taken k r new bytes count is within fed =
     let at_colon = subst (λ s. IsWithinIndices (indices_in k r.table) (with_state r s)) is within in
     subst (λ s. FedAhead k (with_state r s) bytes count (with_state new states.Body)) (sym is) (fed.fed states.Colon (inl refl) at_colon)
 
 -- what stands for one of the elements that may be named is a place
-pub element_place : (k : ModelSoFar) (table : Table) (written : ℕ) (l : Lexeme) (elements : Elements) (index : ℕ) → written < length (indices_in k table)
-    → get_or (named_in k table) written (Count 0) ≡ elements → StandsFor elements l index → IsFirstPlace (drop written (named_in k table)) l (Only index)
+pub element_place : (k : ModelSoFar) (table : Table) (written : ℕ) (l : Lexeme) (elements : Elements) (index : ℕ)
+    → written < length (indices_in k table)
+    → get_or (named_in k table) written (Count 0) ≡ elements → StandsFor elements l index
+    → IsFirstPlace (drop written (named_in k table)) l (Only index)
 element_place k table written l elements index inside are stands = grind arith
 
 -- the digits at the front of some bytes are the number of an element
-pub digits_place : (k : ModelSoFar) (table : Table) (written : ℕ) (bytes : List ℕ) (count : ℕ) (index : FrontDigits) → written < length (indices_in k table)
-    → ((place : ℕ) → BeginWithDigits place bytes index) → count ≡ count_of (get_or (named_in k table) written (Count 0)) → index.value < count
-    → (position : ℕ) → BeginWithPlace (drop written (named_in k table)) position bytes (record { len = index.len; place = Only index.value })
+pub digits_place : (k : ModelSoFar) (table : Table) (written : ℕ) (bytes : List ℕ) (count : ℕ) (index : FrontDigits)
+    → written < length (indices_in k table)
+    → ((place : ℕ) → BeginWithDigits place bytes index) → count ≡ count_of (get_or (named_in k table) written (Count 0))
+    → index.value < count
+    → (position : ℕ) → BeginWithPlace (drop written (named_in k table)) position bytes
+    (record { len = index.len; place = Only index.value })
 digits_place k table written bytes count index inside front are below position =
     let d = front position in
     grind (arith, first_place, same_count)

@@ -30,12 +30,19 @@ pub use Rattle.polcert_format.specs.declared.fault.ItemFault.TheVariants.{Duplic
 pub use Rattle.polcert_items.specs.Steps.Ahead.{AreTaken, BeginWithPlace, FedAhead, IsFed, IsListFed, TakesAhead, more, none}
 pub use Rattle.polcert_items.specs.Steps.CellBudget.{IsCoveringOf, most_covered, nonzero_cells}
 pub use Rattle.polcert_items.specs.Steps.Elements.{AreElementsSeen, AreNamesRead, ElementsReason, NamesGo}
-pub use Rattle.polcert_items.specs.Steps.Entries.{AreBegun, CannotBegin, EntryGoes, HasRoom, IfRefused, IsFirstPlace, IsFull, IsListReason, IsStateWithin, IsWithinIndices, IsWordAfter, NumberListGoes, ProbabilitiesGo, entry_sign, entry_with, no_numbers}
+pub use Rattle.polcert_items.specs.Steps.Entries.{AreBegun, CannotBegin, EntryGoes, HasRoom, IfRefused, IsFirstPlace, IsFull, IsListReason}
+pub use Rattle.polcert_items.specs.Steps.Entries.{IsStateWithin, IsWithinIndices, IsWordAfter, NumberListGoes, ProbabilitiesGo, entry_sign}
+pub use Rattle.polcert_items.specs.Steps.Entries.{entry_with, no_numbers}
 pub use Rattle.polcert_items.specs.Steps.Feeding.{IsStartFed, RefusesInStart}
 pub use Rattle.polcert_items.specs.Steps.Items.{IsItemWithin, IsSeen, ItemForms, ItemGoes, pending_in, topic_in}
 pub use Rattle.polcert_items.specs.Steps.Lines.{CannotEnd, CannotTake, Takes}
-pub use Rattle.polcert_items.specs.Steps.Numbers.{AreNumbersAfter, IsInRange, IsNoNumber, IsSignAt, ListKind, SignIs, is_negative, number_place, of_probabilities, of_rewards}
-pub use Rattle.polcert_items.specs.Steps.Start.{AreDigits, AreGiven, AreUnmarked, Begins, CanStillBeRight, DigitsGo, HasReadStart, IsAfterColon, IsDue, IsDueNumber, IsDueValue, IsEndDue, IsFraction, IsLateEnd, IsListBegun, IsOutside, IsStartReason, IsStartWithin, IsStop, IsValue, IsWordBody, NumbersGo, StartGives, StartGoes, StopsStart, at_once, due, first_above_0, first_of, first_of_more, is_level_at, marked, pending, pending_of, picks, start_sign, state_number}
+pub use Rattle.polcert_items.specs.Steps.Numbers.{AreNumbersAfter, IsInRange, IsNoNumber, IsSignAt, ListKind, SignIs, is_negative}
+pub use Rattle.polcert_items.specs.Steps.Numbers.{number_place, of_probabilities, of_rewards}
+pub use Rattle.polcert_items.specs.Steps.Start.{AreDigits, AreGiven, AreUnmarked, Begins, CanStillBeRight, DigitsGo, HasReadStart}
+pub use Rattle.polcert_items.specs.Steps.Start.{IsAfterColon, IsDue, IsDueNumber, IsDueValue, IsEndDue, IsFraction, IsLateEnd, IsListBegun}
+pub use Rattle.polcert_items.specs.Steps.Start.{IsOutside, IsStartReason, IsStartWithin, IsStop, IsValue, IsWordBody, NumbersGo, StartGives}
+pub use Rattle.polcert_items.specs.Steps.Start.{StartGoes, StopsStart, at_once, due, first_above_0, first_of, first_of_more, is_level_at}
+pub use Rattle.polcert_items.specs.Steps.Start.{marked, pending, pending_of, picks, start_sign, state_number}
 pub use Rattle.polcert_items.specs.Steps.Wants.{ExpectsNext, IfStart, list_wants, start_wants, state_wants}
 pub use Rattle.polcert_items.specs.declared.entry_reader.EntryReader.{EntryReader}
 pub use Rattle.polcert_items.specs.declared.entry_reader.EntryState.{EntryState}

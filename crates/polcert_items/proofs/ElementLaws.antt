@@ -1,6 +1,9 @@
 -- Elements, token by token.
-use Rattle.std.proofs.Common.{◌≡◌, ◌≢◌, ℕ, ◌≤◌, true, false, List, [], ◌∷◌, ◌++◌, length, get_or, map, AllPairs, bytes_eq, codes, Result, OnOk, refl, sym, ap, subst, arith, lit≤, append_assoc, length-append}
-use Rattle.polcert_items.proofs.Common.{common_steps, list_any, All-cons, All-nil, All-tail, is_digit, Lexeme, Numeral, ItemFault, DuplicateName, ElementsReader, IsName, IsWhole, Elements, Count, Takes, CannotTake, NamesGo, AreNamesRead, ElementsReason, AreElementsSeen}
+use Rattle.std.proofs.Common.{◌≡◌, ◌≢◌, ℕ, ◌≤◌, true, false, List, [], ◌∷◌, ◌++◌, length, get_or, map, AllPairs, bytes_eq, codes, Result}
+use Rattle.std.proofs.Common.{OnOk, refl, sym, ap, subst, arith, lit≤, append_assoc, length-append}
+use Rattle.polcert_items.proofs.Common.{common_steps, list_any, All-cons, All-nil, All-tail, is_digit, Lexeme, Numeral, ItemFault}
+use Rattle.polcert_items.proofs.Common.{DuplicateName, ElementsReader, IsName, IsWhole, Elements, Count, Takes, CannotTake, NamesGo}
+use Rattle.polcert_items.proofs.Common.{AreNamesRead, ElementsReason, AreElementsSeen}
 use Rattle.polcert_cells.specs.declared.elements.Elements.TheVariants.{Names}
 use Rattle.polcert_items.specs.Steps.Elements.{names_with, ElementsGo, IsElementsRead, IsCountOf}
 use Rattle.std.proofs.lemmas.List.{append-nil, get_or_append_left, length-map}
@@ -20,7 +23,8 @@ pub count_takes : (most : ℕ) (l : Lexeme) (n : ℕ) → IsCountOf most l n →
 count_takes most l n c = grind (arith, counted)
 
 -- a numeral that is no count from 1 to the most
-pub count_stuck : (most : ℕ) (l : Lexeme) → l.kind ≡ Numeral → ((n : ℕ) → IsCountOf most l n → ⊥) → CannotTake (ElementsGo most) readers.First l
+pub count_stuck : (most : ℕ) (l : Lexeme) → l.kind ≡ Numeral → ((n : ℕ) → IsCountOf most l n → ⊥)
+    → CannotTake (ElementsGo most) readers.First l
 count_stuck most l k none = grind arith
 
 -- ---- names
@@ -43,41 +47,51 @@ at_seam [] x ys d = refl
 at_seam (y ∷ xs) x ys d = at_seam xs x ys d
 
 -- a name that is among the others cannot stand after them once more
-among_apart : (names : List (List ℕ)) (name : List ℕ) (further : List (List ℕ)) → list_any (bytes_eq name) names ≡ true → AllPairs (λ x y. x ≢ y) (names ++ name ∷ further) → ⊥
+among_apart : (names : List (List ℕ)) (name : List ℕ) (further : List (List ℕ)) → list_any (bytes_eq name) names ≡ true
+    → AllPairs (λ x y. x ≢ y) (names ++ name ∷ further) → ⊥
 among_apart names name further e apart =
     let found = Any-from_list_any (bytes_eq name) names e in
     grind (arith, apart found.0 (length names) found.1, length-append, get_or_append_left, at_seam, bytes_eq-Decides name found.1)
 
-pub known_stuck : (most : ℕ) (names : List (List ℕ)) (l : Lexeme) → list_any (bytes_eq l.bytes) names ≡ true → CannotTake (NamesGo most) names l
+pub known_stuck : (most : ℕ) (names : List (List ℕ)) (l : Lexeme) → list_any (bytes_eq l.bytes) names ≡ true
+    → CannotTake (NamesGo most) names l
 known_stuck most names l e = λ ls elements g. among_apart names l.bytes (map (λ l. l.bytes) ls) e g.apart
 
-pub more_read : (most : ℕ) (names : List (List ℕ)) (name : List ℕ) → AreNamesRead most names → length names ≢ most → list_any (bytes_eq name) names ≡ false → AreNamesRead most (names ++ name ∷ [])
-more_read most names name read room new = grind (arith, bytes_eq, length-append, common_steps, list_any_at, all_pairs_push, bytes_eq-Decides)
+pub more_read : (most : ℕ) (names : List (List ℕ)) (name : List ℕ) → AreNamesRead most names → length names ≢ most
+    → list_any (bytes_eq name) names ≡ false → AreNamesRead most (names ++ name ∷ [])
+more_read most names name read room new = grind
+    (arith, bytes_eq, length-append, common_steps, list_any_at, all_pairs_push, bytes_eq-Decides)
 
 -- ---- the first name
 
-names_only : (most : ℕ) (l : Lexeme) → (l.kind ≡ Numeral → ⊥) → (xs ls : List Lexeme) (e : Elements) → xs ≡ l ∷ ls → AreElements most xs e → NamesGo most [] xs e
+names_only : (most : ℕ) (l : Lexeme) → (l.kind ≡ Numeral → ⊥) → (xs ls : List Lexeme) (e : Elements) → xs ≡ l ∷ ls → AreElements most xs e
+    → NamesGo most [] xs e
 names_only most l h1 xs ls e h2 h3 = grind (arith, length-map)
 
 some_names : (most : ℕ) (l : Lexeme) (ls : List Lexeme) (e : Elements) → NamesGo most [] (l ∷ ls) e → AreElements most (l ∷ ls) e
 some_names most l ls e g =
-    subst (AreElements most (l ∷ ls)) (sym g.elements_are) (named g.all (omega arith) (subst (λ n. n ≤ most) (length-map (l ∷ ls) (λ l. l.bytes)) g.few) g.apart)
+    subst (AreElements most (l ∷ ls)) (sym g.elements_are)
+    (named g.all (omega arith) (subst (λ n. n ≤ most) (length-map (l ∷ ls) (λ l. l.bytes)) g.few) g.apart)
 
-pub first_takes : (most : ℕ) (l : Lexeme) (names : List (List ℕ)) → IsName l → names ≡ l.bytes ∷ [] → Takes (ElementsGo most) readers.First l (readers.Named names)
+pub first_takes : (most : ℕ) (l : Lexeme) (names : List (List ℕ)) → IsName l → names ≡ l.bytes ∷ []
+    → Takes (ElementsGo most) readers.First l (readers.Named names)
 first_takes most l names name is = subst (λ ns. Takes (ElementsGo most) readers.First l (readers.Named ns)) (sym is) (record {
   back = λ ls e g. some_names most l ls e ((name_takes most [] l name).back ls e g);
   on = λ ls e a. (name_takes most [] l name).on ls e (names_only most l (λ k. let f = name.kind in cc) (l ∷ ls) ls e refl a);
 })
 
-pub first_stuck : (most : ℕ) (l : Lexeme) → (l.kind ≡ Numeral → ⊥) → CannotTake (NamesGo most) [] l → CannotTake (ElementsGo most) readers.First l
+pub first_stuck : (most : ℕ) (l : Lexeme) → (l.kind ≡ Numeral → ⊥) → CannotTake (NamesGo most) [] l
+    → CannotTake (ElementsGo most) readers.First l
 first_stuck most l k stuck = λ ls e a. stuck ls e (names_only most l k (l ∷ ls) ls e refl a)
 
-pub first_reason : (l : Lexeme) (kind : ItemFault) (place : ℕ) → ElementsReason (readers.Named []) l kind place → ElementsReason readers.First l kind place
+pub first_reason : (l : Lexeme) (kind : ItemFault) (place : ℕ) → ElementsReason (readers.Named []) l kind place
+    → ElementsReason readers.First l kind place
 first_reason l kind place h1 = grind arith
 
 -- ---- a further name
 
-pub named_takes : (most : ℕ) (old : ElementsReader) (names new : List (List ℕ)) (l : Lexeme) → old ≡ readers.Named names → IsName l → new ≡ names ++ l.bytes ∷ [] → Takes (ElementsGo most) old l (readers.Named new)
+pub named_takes : (most : ℕ) (old : ElementsReader) (names new : List (List ℕ)) (l : Lexeme) → old ≡ readers.Named names → IsName l
+    → new ≡ names ++ l.bytes ∷ [] → Takes (ElementsGo most) old l (readers.Named new)
 named_takes most old names new l was name is =
     let takes = name_takes most names l name in
     grind arith
@@ -90,17 +104,29 @@ on_ok_both r h1 h2 h3 = grind arith
 pub seen_colon : (body : List Lexeme) (l : Lexeme) → body ≡ [] → (colon : Lexeme) × (body ++ l ∷ [] ≡ colon ∷ [])
 seen_colon body l e = (l, ap (λ ls. ls ++ l ∷ []) e)
 
-pub seen_first : (body : List Lexeme) (l : Lexeme) (r : ElementsReader) → (colon : Lexeme) × (body ≡ colon ∷ []) → ((colon : Lexeme) → AreElementsSeen (colon ∷ l ∷ []) r) → AreElementsSeen (body ++ l ∷ []) r
+pub seen_first : (body : List Lexeme) (l : Lexeme) (r : ElementsReader) → (colon : Lexeme) × (body ≡ colon ∷ [])
+    → ((colon : Lexeme) → AreElementsSeen (colon ∷ l ∷ []) r) → AreElementsSeen (body ++ l ∷ []) r
 seen_first body l r first seen = subst (λ ls. AreElementsSeen (ls ++ l ∷ []) r) (sym first.1) (seen first.0)
 
-earlier : (name : List ℕ) (ls : List Lexeme) → list_any (bytes_eq name) (map (λ l. l.bytes) ls) ≡ list_any (λ (l : Lexeme). bytes_eq l.bytes name) ls
+earlier : (name : List ℕ) (ls : List Lexeme) → list_any (bytes_eq name) (map (λ l. l.bytes) ls)
+    ≡ list_any (λ (l : Lexeme). bytes_eq l.bytes name) ls
 earlier name [] = refl
 earlier name (l ∷ ls) = let here = nat_list_eq_equiv.symm name l.bytes in let more = earlier name ls in cc
 
 -- a name that is refused as a repeated one stands earlier in the item's body
-pub repeated_name : (body : List Lexeme) (r : ElementsReader) (l : Lexeme) (more : List Lexeme) (place : ℕ) → AreElementsSeen body r → ElementsReason r l DuplicateName place → IsRepeated (body ++ l ∷ more) place
+pub repeated_name : (body : List Lexeme) (r : ElementsReader) (l : Lexeme) (more : List Lexeme) (place : ℕ) → AreElementsSeen body r
+    → ElementsReason r l DuplicateName place → IsRepeated (body ++ l ∷ more) place
 repeated_name body (readers.Named names) l more place seen reason =
-    record { before = body; lexeme = l; after = more; whole = refl; place_is = reason.0; name = reason.1; earlier = grind (arith, earlier l.bytes) }
+    record {
+      before = body;
+      lexeme = l;
+      after = more;
+      whole = refl;
+      place_is = reason.0;
+      name = reason.1;
+      earlier =
+          grind (arith, earlier l.bytes);
+    }
 repeated_name body r l more place seen reason = absurd reason.2
 
 -- ---- how each state can end
@@ -113,9 +139,21 @@ unfolding is_digit
 one_is = record { kind = refl; digits = refl; value = refl }
 
 -- a count of one after a colon, and nothing after a count or names
-pub elements_can_end : (most : ℕ) → 1 ≤ most → (r : ElementsReader) → IsElementsRead most r → (ls : List Lexeme) × ((e : Elements) × ElementsGo most r ls e)
+pub elements_can_end : (most : ℕ) → 1 ≤ most → (r : ElementsReader) → IsElementsRead most r → (ls : List Lexeme)
+    × ((e : Elements) × ElementsGo most r ls e)
 elements_can_end most some readers.Colon read = (a_colon ∷ a_one ∷ [], (Count 1, (refl, counted one_is (lit≤ tt) some)))
 elements_can_end most some readers.First read = (a_one ∷ [], (Count 1, counted one_is (lit≤ tt) some))
 elements_can_end most some (readers.Counted n) read = ([], (Count n, (refl, refl)))
-elements_can_end most some (readers.Named names) read =
-    ([], (Names names, record { all = All-nil IsName; few = grind (arith, append-nil); apart = grind (arith, append-nil); elements_are = grind (arith, append-nil) }))
+elements_can_end most some (readers.Named names) read = (
+  [],
+  (
+    Names names,
+    record {
+      all = All-nil IsName;
+      few = grind (arith, append-nil);
+      apart = grind (arith, append-nil);
+      elements_are =
+          grind (arith, append-nil);
+    },
+  ),
+)

@@ -1,20 +1,27 @@
 -- The first number of a start item: what is due of it after the body that was taken is just what its reader has kept.
-use Rattle.std.proofs.Common.{◌≡◌, ◌∙◌, ℕ, ◌++◌, ◌⊎◌, Bool, false, true, Option, Some, None, Result, Ok, Err, List, [], ◌∷◌, ℤ, refl, sym, ap, subst, arith, rules}
+use Rattle.std.proofs.Common.{◌≡◌, ◌∙◌, ℕ, ◌++◌, ◌⊎◌, Bool, false, true, Option, Some, None, Result, Ok, Err, List, [], ◌∷◌, ℤ, refl, sym}
+use Rattle.std.proofs.Common.{ap, subst, arith, rules}
 use Rattle.std.proofs.lemmas.List.{append-nil}
-use Rattle.polcert_items.proofs.Common.{Lexeme, Colon, NumberFault, IsMillionths, ItemFault, Number, IndexOutOfRange, ProbabilityRange, BeginsWithNumber, BeginsWithDigits, IsLate, Expected, begins_number, IsRefusedNumber, IsNoFraction, Refusal, Sign, FirstNumber, StateOrNumber, StartReader, EndError, start_sign, pending, pending_of, IsValue, IsOutside, IsFraction, IsAfterColon, IsListBegun, IsWordBody, HasReadStart, IsDue, IsDueNumber, IsDueValue, CanStillBeRight, IsStop, due, at_once, IsEndDue, IsLateEnd, StopsStart}
+use Rattle.polcert_items.proofs.Common.{Lexeme, Colon, NumberFault, IsMillionths, ItemFault, Number, IndexOutOfRange, ProbabilityRange}
+use Rattle.polcert_items.proofs.Common.{BeginsWithNumber, BeginsWithDigits, IsLate, Expected, begins_number, IsRefusedNumber, IsNoFraction}
+use Rattle.polcert_items.proofs.Common.{Refusal, Sign, FirstNumber, StateOrNumber, StartReader, EndError, start_sign, pending, pending_of}
+use Rattle.polcert_items.proofs.Common.{IsValue, IsOutside, IsFraction, IsAfterColon, IsListBegun, IsWordBody, HasReadStart, IsDue}
+use Rattle.polcert_items.proofs.Common.{IsDueNumber, IsDueValue, CanStillBeRight, IsStop, due, at_once, IsEndDue, IsLateEnd, StopsStart}
 use Rattle.polcert_format.specs.FirstNumber.{IsNoState, no_value, no_state, out_of_range}
 use Rattle.polcert_items.specs.Steps.Start.{IsNumberBody, IsDigitsKept, IsFurtherBody, first_number, token}
 use Rattle.polcert_text.proofs.TextLaws.{one_exact_fault}
 use Rattle.polcert_cells.proofs.Basics.{cons≢nil, same_head}
 use Rattle.polcert_cells.proofs.NumberLaws.{one_millionths}
-use Rattle.polcert_format.proofs.FirstNumbers.{OfNumerals, same_digits, same_number, digits_are_number, value_not_refused, no_fraction_numeral}
+use Rattle.polcert_format.proofs.FirstNumbers.{OfNumerals, same_digits, same_number, digits_are_number, value_not_refused}
+use Rattle.polcert_format.proofs.FirstNumbers.{no_fraction_numeral}
 use Rattle.polcert_items.specs.declared.start_reader.StartReader.TheVariants as reader
 use Rattle.polcert_items.proofs.StartSeen.{begins_map, begins_more, digits_begin, digits_more}
 
 -- ---- what is due stands so in the whole body
 
 -- a first number that is out of its range
-out_of : (count : ℕ) (body more : List Lexeme) (l : Lexeme) (ends : Bool) (h : ℤ) (kind : ItemFault) (place at : ℕ) → BeginsWithNumber body at (λ negative m. IsMillionths negative m h) [] → IsDueNumber h at l kind place
+out_of : (count : ℕ) (body more : List Lexeme) (l : Lexeme) (ends : Bool) (h : ℤ) (kind : ItemFault) (place at : ℕ)
+    → BeginsWithNumber body at (λ negative m. IsMillionths negative m h) [] → IsDueNumber h at l kind place
     → IsLate count (body ++ l ∷ more) ends kind place
 out_of count body more l ends h kind place at b d =
     let so : BeginsWithNumber body at IsNoFraction [] = begins_map body at _ IsNoFraction [] (λ negative m v. (h, v, d.1.0)) b in
@@ -22,22 +29,32 @@ out_of count body more l ends h kind place at b d =
     out_of_range l more (subst (λ p. BeginsWithNumber (body ++ l ∷ more) p IsNoFraction (l ∷ more)) (sym d.1.2) whole) d.0 d.1.1
 
 -- digits without a value
-without_value : (count : ℕ) (body tail : List Lexeme) (ends : Bool) (d : StateOrNumber) (fault : NumberFault) (kind : ItemFault) (place : ℕ) → BeginsWithDigits count body d.place (IsDigitsKept count d) [] → d.value ≡ Err fault
+without_value : (count : ℕ) (body tail : List Lexeme) (ends : Bool) (d : StateOrNumber) (fault : NumberFault) (kind : ItemFault)
+    (place : ℕ)
+    → BeginsWithDigits count body d.place (IsDigitsKept count d) [] → d.value ≡ Err fault
     → (tail ≡ [] → ends ≡ false) → kind ≡ Number fault → place ≡ d.place → IsLate count (body ++ tail) ends kind place
 without_value count body tail ends d fault kind place b is more e p =
-    let kept : BeginsWithDigits count (body ++ tail) d.place (IsRefusedNumber fault false) tail = digits_more count body d.place (IsDigitsKept count d) (IsRefusedNumber fault false) [] tail (λ m k. subst (λ v. IsValue v false m) is k.value) b in
+    let kept : BeginsWithDigits count (body ++ tail) d.place (IsRefusedNumber fault false) tail =
+    digits_more count body d.place (IsDigitsKept count d) (IsRefusedNumber fault false) [] tail
+    (λ m k. subst (λ v. IsValue v false m) is k.value) b in
     no_value fault tail (subst (λ q. BeginsWithDigits count (body ++ tail) q (IsRefusedNumber fault false) tail) (sym p) kept) more e
 
-due_value : (count : ℕ) (body more : List Lexeme) (l : Lexeme) (ends : Bool) (d : StateOrNumber) (kind : ItemFault) (place : ℕ) → BeginsWithDigits count body d.place (IsDigitsKept count d) []
+due_value : (count : ℕ) (body more : List Lexeme) (l : Lexeme) (ends : Bool) (d : StateOrNumber) (kind : ItemFault) (place : ℕ)
+    → BeginsWithDigits count body d.place (IsDigitsKept count d) []
     → (v : Result ℤ NumberFault) → d.value ≡ v → IsDueValue v d.place l kind place → IsLate count (body ++ l ∷ more) ends kind place
 due_value count body more l ends d kind place b (Ok h) is x =
-    out_of count body more l ends h kind place d.place (digits_begin count body d.place (IsDigitsKept count d) (λ negative m. IsMillionths negative m h) [] (λ m k. subst (λ v. IsValue v false m) is k.value) b) x
-due_value count body more l ends d kind place b (Err fault) is x = without_value count body (l ∷ more) ends d fault kind place b is (λ e. absurd (cons≢nil e)) x.0 x.1
+    out_of count body more l ends h kind place d.place (digits_begin count body d.place (IsDigitsKept count d)
+    (λ negative m. IsMillionths negative m h) [] (λ m k. subst (λ v. IsValue v false m) is k.value) b) x
+due_value count body more l ends d kind place b (Err fault) is x =
+    without_value count body (l ∷ more) ends d fault kind place b is (λ e. absurd (cons≢nil e)) x.0 x.1
 
-due_is_late : (count : ℕ) (body more : List Lexeme) (l : Lexeme) (ends : Bool) (r : StartReader) (kind : ItemFault) (place : ℕ) → HasReadStart count body r → IsDue r l kind place
+due_is_late : (count : ℕ) (body more : List Lexeme) (l : Lexeme) (ends : Bool) (r : StartReader) (kind : ItemFault) (place : ℕ)
+    → HasReadStart count body r → IsDue r l kind place
     → IsLate count (body ++ l ∷ more) ends kind place
-due_is_late count body more l ends (reader.Number f) kind place s d = out_of count body more l ends f.value kind place f.place s.body_is.number d
-due_is_late count body more l ends (reader.StateOrNumber x) kind place s d = due_value count body more l ends x kind place s.body_is x.value refl d
+due_is_late count body more l ends (reader.Number f) kind place s d =
+    out_of count body more l ends f.value kind place f.place s.body_is.number d
+due_is_late count body more l ends (reader.StateOrNumber x) kind place s d =
+    due_value count body more l ends x kind place s.body_is x.value refl d
 due_is_late count body more l ends _ kind place s d = absurd d
 
 -- ---- why a token is refused
@@ -46,7 +63,9 @@ due_is_late count body more l ends _ kind place s d = absurd d
 held_due : (r : StartReader) (l : Lexeme) (x : Refusal) → pending r ≡ Some x → IsDue r l x.kind x.place
 held_due r l x h1 = grind arith
 
-pub stops_start : (count : ℕ) (body : List Lexeme) (r : StartReader) (w : Expected) (l : Lexeme) (x : Refusal) → HasReadStart count body r → ((y : Refusal) → IsDue r l y.kind y.place → x ≡ y)
+pub stops_start : (count : ℕ) (body : List Lexeme) (r : StartReader) (w : Expected) (l : Lexeme) (x : Refusal)
+    → HasReadStart count body r
+    → ((y : Refusal) → IsDue r l y.kind y.place → x ≡ y)
     → IsStop (IsDue r l) (start_sign r) w l x.kind x.place → StopsStart (pending r) count body w l x.kind x.place
 stops_start count body r w l x s same (due d) = first_number (λ more ends. due_is_late count body more l ends r x.kind x.place s d)
 stops_start count body r w l x s same (at_once m why) = of (pending r) refl
@@ -55,7 +74,8 @@ stops_start count body r w l x s same (at_once m why) = of (pending r) refl
     of None e = token (start_sign r) e s.sign m why
     of (Some y) e =
         let d : IsDue r l y.kind y.place = held_due r l y e in
-        first_number (λ more ends. due_is_late count body more l ends r x.kind x.place s (subst (λ (z : Refusal). IsDue r l z.kind z.place) (sym (same y d)) d))
+        first_number (λ more ends. due_is_late count body more l ends r x.kind x.place s
+        (subst (λ (z : Refusal). IsDue r l z.kind z.place) (sym (same y d)) d))
 
 -- ---- what is due of a body that continues so
 
@@ -66,7 +86,8 @@ HasNext (l ∷ ls) Is = Is l
 
 -- what is due of digits where the body ends
 data IsDueAtEnd (count : ℕ) (d : StateOrNumber) (ends : Bool) (kind : ItemFault) (place : ℕ) : Type 0 where
-  value_wants : (fault : NumberFault) → d.value ≡ Err fault → ends ≡ false → kind ≡ Number fault → place ≡ d.place → IsDueAtEnd count d ends kind place
+  value_wants : (fault : NumberFault) → d.value ≡ Err fault → ends ≡ false → kind ≡ Number fault → place ≡ d.place
+      → IsDueAtEnd count d ends kind place
   state_wants : ends ≡ true → kind ≡ IndexOutOfRange → place ≡ d.place → IsDueAtEnd count d ends kind place
 
 abbrev DigitsDue : ℕ → StateOrNumber → List Lexeme → Bool → ItemFault → ℕ → Type 0
@@ -91,7 +112,8 @@ record Begun (body : List Lexeme) : Type 0 where
   is_colon : colon.kind ≡ Colon
   number : begins_number second.kind ≡ true
 
-late_begun : (count : ℕ) (body : List Lexeme) (ends : Bool) (kind : ItemFault) (place : ℕ) → IsLate count body ends kind place → Begun body
+late_begun : (count : ℕ) (body : List Lexeme) (ends : Bool) (kind : ItemFault) (place : ℕ) → IsLate count body ends kind place
+    → Begun body
 late_begun count body ends kind place h1 = grind arith
 
 list_not_begun : (body tail : List Lexeme) → IsListBegun body → Begun (body ++ tail) → ⊥
@@ -104,10 +126,13 @@ word_not_begun body tail b g = grind arith
 form_due : (count : ℕ) (body tail : List Lexeme) → body ≡ [] → Begun (body ++ tail) → HasNext tail (CanStillBeRight count reader.Form)
 form_due count body tail h1 h2 = grind arith
 
-body_due : (count : ℕ) (body tail : List Lexeme) (ends : Bool) (kind : ItemFault) (place : ℕ) → IsAfterColon None body → IsLate count (body ++ tail) ends kind place → HasNext tail (CanStillBeRight count reader.Body)
+body_due : (count : ℕ) (body tail : List Lexeme) (ends : Bool) (kind : ItemFault) (place : ℕ) → IsAfterColon None body
+    → IsLate count (body ++ tail) ends kind place → HasNext tail (CanStillBeRight count reader.Body)
 body_due count body tail ends kind place h1 h2 = grind arith
 
-sign_due : (count : ℕ) (sign : Sign) (body tail : List Lexeme) (ends : Bool) (kind : ItemFault) (place : ℕ) → IsAfterColon (Some sign) body → IsLate count (body ++ tail) ends kind place
+sign_due : (count : ℕ) (sign : Sign) (body tail : List Lexeme) (ends : Bool) (kind : ItemFault) (place : ℕ)
+    → IsAfterColon (Some sign) body
+    → IsLate count (body ++ tail) ends kind place
     → HasNext tail (CanStillBeRight count (reader.Sign sign))
 sign_due count sign body tail ends kind place h1 h2 = grind arith
 
@@ -118,55 +143,78 @@ value_numeral h negative l v = v.kind
 outside_too : (h : ℤ) (negative : Bool) (l : Lexeme) → IsMillionths negative l h → IsNoFraction negative l → IsOutside h
 outside_too h negative l v n = subst IsOutside (one_millionths negative l n.0 h n.1 v) n.2
 
-next_due : (h : ℤ) (at : ℕ) (tail : List Lexeme) (next : Lexeme) (following : List Lexeme) (kind : ItemFault) (place : ℕ) → tail ≡ next ∷ following → begins_number next.kind ≡ true → IsOutside h → kind ≡ ProbabilityRange
+next_due : (h : ℤ) (at : ℕ) (tail : List Lexeme) (next : Lexeme) (following : List Lexeme) (kind : ItemFault) (place : ℕ)
+    → tail ≡ next ∷ following → begins_number next.kind ≡ true → IsOutside h → kind ≡ ProbabilityRange
     → place ≡ at → HasNext tail (λ l. IsDueNumber h at l kind place)
 next_due h at tail next following kind place h1 h2 h3 h4 h5 = grind arith
 
-number_due : (count : ℕ) (body tail : List Lexeme) (ends : Bool) (f : FirstNumber) (kind : ItemFault) (place : ℕ) → IsNumberBody count body f → IsLate count (body ++ tail) ends kind place
+number_due : (count : ℕ) (body tail : List Lexeme) (ends : Bool) (f : FirstNumber) (kind : ItemFault) (place : ℕ)
+    → IsNumberBody count body f → IsLate count (body ++ tail) ends kind place
     → HasNext tail (λ l. IsDueNumber f.value f.place l kind place)
 number_due count body tail ends f kind place b late = at late
   where
     whole : BeginsWithNumber (body ++ tail) f.place (λ negative l. IsMillionths negative l f.value) tail
     whole = begins_more body f.place _ [] tail b.number
 
-    no_digits_end : (xs : List Lexeme) → BeginsWithDigits count (body ++ tail) place (IsNoState count) [] → tail ≡ xs → HasNext xs (λ l. IsDueNumber f.value f.place l kind place)
+    no_digits_end : (xs : List Lexeme) → BeginsWithDigits count (body ++ tail) place (IsNoState count) [] → tail ≡ xs
+        → HasNext xs (λ l. IsDueNumber f.value f.place l kind place)
     no_digits_end [] d e =
         let same : body ++ tail ≡ body = ap (λ (t : List Lexeme). body ++ t) e ∙ append-nil body in
-        let only : BeginsWithDigits count (body ++ tail) place (λ l. Unit {0}) [] = record { colon = d.colon; digits = d.digits; whole = d.whole; is_colon = d.is_colon; are_digits = d.are_digits; place_is = d.place_is; holds = tt } in
+        let only : BeginsWithDigits count (body ++ tail) place (λ l. Unit {0}) [] =
+        record {
+          colon = d.colon;
+          digits = d.digits;
+          whole = d.whole;
+          is_colon = d.is_colon;
+          are_digits = d.are_digits;
+          place_is =
+              d.place_is;
+          holds = tt;
+        } in
         absurd (b.no_digits place (subst (λ (x : List Lexeme). BeginsWithDigits count x place (λ l. Unit {0}) []) same only))
-    no_digits_end (x ∷ xs) d e = absurd (cons≢nil (sym e ∙ sym (digits_are_number count (body ++ tail) place f.place (IsNoState count) (λ negative l. IsMillionths negative l f.value) [] tail d whole).2))
+    no_digits_end (x ∷ xs) d e = absurd (cons≢nil (sym e
+        ∙ sym (digits_are_number count (body ++ tail) place f.place (IsNoState count) (λ negative l. IsMillionths negative l f.value) []
+        tail
+        d whole).2))
 
     at : IsLate count (body ++ tail) ends kind place → HasNext tail (λ l. IsDueNumber f.value f.place l kind place)
     at (no_value reason following d more is) = grind (arith, digits_are_number, value_not_refused, whole)
     at (no_state d clean is) = no_digits_end tail d refl
     at (out_of_range next following n number is) =
-        let same = same_number (body ++ tail) f.place place (λ negative l. IsMillionths negative l f.value) IsNoFraction tail (next ∷ following) (value_numeral f.value) no_fraction_numeral whole n in
-        next_due f.value f.place tail next following kind place same.following number (outside_too f.value same.negative same.numeral same.first same.second) is (sym same.place)
+        let same = same_number (body ++ tail) f.place place (λ negative l. IsMillionths negative l f.value) IsNoFraction tail
+        (next ∷ following) (value_numeral f.value) no_fraction_numeral whole n in
+        next_due f.value f.place tail next following kind place same.following number
+        (outside_too f.value same.negative same.numeral same.first same.second) is (sym same.place)
 
 -- after digits alone
-digits_due : (count : ℕ) (body tail : List Lexeme) (ends : Bool) (d : StateOrNumber) (kind : ItemFault) (place : ℕ) → BeginsWithDigits count body d.place (IsDigitsKept count d) [] → IsLate count (body ++ tail) ends kind place
+digits_due : (count : ℕ) (body tail : List Lexeme) (ends : Bool) (d : StateOrNumber) (kind : ItemFault) (place : ℕ)
+    → BeginsWithDigits count body d.place (IsDigitsKept count d) [] → IsLate count (body ++ tail) ends kind place
     → DigitsDue count d tail ends kind place
 digits_due count body tail ends d kind place b late = at late
   where
     whole : BeginsWithDigits count (body ++ tail) d.place (IsDigitsKept count d) tail
     whole = digits_more count body d.place (IsDigitsKept count d) (IsDigitsKept count d) [] tail (λ l k. k) b
 
-    wants_value : (xs : List Lexeme) (fault : NumberFault) → d.value ≡ Err fault → (xs ≡ [] → ends ≡ false) → kind ≡ Number fault → place ≡ d.place → DigitsDue count d xs ends kind place
+    wants_value : (xs : List Lexeme) (fault : NumberFault) → d.value ≡ Err fault → (xs ≡ [] → ends ≡ false) → kind ≡ Number fault
+        → place ≡ d.place → DigitsDue count d xs ends kind place
     wants_value [] fault is more e p = value_wants fault is (more refl) e p
     wants_value (l ∷ ls) fault is more e p = subst (λ v. IsDueValue v d.place l kind place) (sym is) (e, p)
 
-    fault_is : (v : Result ℤ NumberFault) (l : Lexeme) (reason : NumberFault) → IsValue v false l → IsRefusedNumber reason false l → v ≡ Err reason
+    fault_is : (v : Result ℤ NumberFault) (l : Lexeme) (reason : NumberFault) → IsValue v false l → IsRefusedNumber reason false l
+        → v ≡ Err reason
     fault_is v l reason h1 h2 = grind (arith, one_exact_fault, value_not_refused)
 
     value_is : (v : Result ℤ NumberFault) (l : Lexeme) → IsValue v false l → IsNoFraction false l → (h : ℤ) × (v ≡ Ok h) × IsOutside h
     value_is (Ok h) l is n = (h, refl, outside_too h false l is n)
     value_is (Err g) l is n = absurd (value_not_refused false l n.0 g n.1 is)
 
-    out_wants : (xs : List Lexeme) (h : ℤ) (next : Lexeme) (following : List Lexeme) → d.value ≡ Ok h → xs ≡ next ∷ following → begins_number next.kind ≡ true → IsOutside h → kind ≡ ProbabilityRange → place ≡ d.place
+    out_wants : (xs : List Lexeme) (h : ℤ) (next : Lexeme) (following : List Lexeme) → d.value ≡ Ok h → xs ≡ next ∷ following
+        → begins_number next.kind ≡ true → IsOutside h → kind ≡ ProbabilityRange → place ≡ d.place
         → DigitsDue count d xs ends kind place
     out_wants xs h next following h1 h2 h3 h4 h5 h6 = grind (arith, cons≢nil, same_head)
 
-    state_end : (xs : List Lexeme) → xs ≡ [] → ends ≡ true → kind ≡ IndexOutOfRange → place ≡ d.place → DigitsDue count d xs ends kind place
+    state_end : (xs : List Lexeme) → xs ≡ [] → ends ≡ true → kind ≡ IndexOutOfRange → place ≡ d.place
+        → DigitsDue count d xs ends kind place
     state_end xs h1 h2 h3 h4 = grind (arith, cons≢nil)
 
     at : IsLate count (body ++ tail) ends kind place → DigitsDue count d tail ends kind place
@@ -176,7 +224,8 @@ digits_due count body tail ends d kind place b late = at late
 fraction_numeral : OfNumerals IsFraction
 fraction_numeral negative l f = f.1.kind
 
-further_due : (count : ℕ) (body tail : List Lexeme) (ends : Bool) (kind : ItemFault) (place : ℕ) → IsFurtherBody body → IsLate count (body ++ tail) ends kind place → ⊥
+further_due : (count : ℕ) (body tail : List Lexeme) (ends : Bool) (kind : ItemFault) (place : ℕ) → IsFurtherBody body
+    → IsLate count (body ++ tail) ends kind place → ⊥
 further_due count body tail ends kind place b late = at late
   where
     after_it : List Lexeme
@@ -187,38 +236,49 @@ further_due count body tail ends kind place b late = at late
 
     at : IsLate count (body ++ tail) ends kind place → ⊥
     at (no_value reason following d more is) = grind (arith, digits_are_number, value_not_refused, after_it, whole)
-    at (no_state d clean is) = cons≢nil (sym (digits_are_number count (body ++ tail) place b.place (IsNoState count) IsFraction [] after_it d whole).2)
+    at (no_state d clean is) = cons≢nil (sym (digits_are_number count (body ++ tail) place b.place (IsNoState count) IsFraction []
+        after_it
+        d whole).2)
     at (out_of_range next following n number is) =
-        let same = same_number (body ++ tail) b.place place IsFraction IsNoFraction after_it (next ∷ following) fraction_numeral no_fraction_numeral whole n in
+        let same = same_number (body ++ tail) b.place place IsFraction IsNoFraction after_it (next ∷ following) fraction_numeral
+        no_fraction_numeral whole n in
         same.first.2 (outside_too same.first.0 same.negative same.numeral same.first.1 same.second)
 
-due_after : (count : ℕ) (body tail : List Lexeme) (ends : Bool) (r : StartReader) (kind : ItemFault) (place : ℕ) → HasReadStart count body r → IsLate count (body ++ tail) ends kind place
+due_after : (count : ℕ) (body tail : List Lexeme) (ends : Bool) (r : StartReader) (kind : ItemFault) (place : ℕ)
+    → HasReadStart count body r
+    → IsLate count (body ++ tail) ends kind place
     → DueAfter count r tail ends kind place
 due_after count body tail ends (reader.Number f) kind place s late = number_due count body tail ends f kind place s.body_is late
 due_after count body tail ends (reader.StateOrNumber d) kind place s late = digits_due count body tail ends d kind place s.body_is late
 due_after count body tail ends (reader.Probabilities n) kind place s late = further_due count body tail ends kind place s.body_is late
-due_after count body tail ends _ kind place s late = grind (arith, form_due, list_not_begun, word_not_begun, body_due, sign_due, late_begun)
+due_after count body tail ends _ kind place s late =
+    grind (arith, form_due, list_not_begun, word_not_begun, body_due, sign_due, late_begun)
 
 -- ---- after a lexeme, at the end, and at a fault of the tokens
 
 -- what is due after a lexeme is the reader's refusal, or is tested later
-pub late_at_lexeme : (count : ℕ) (body more : List Lexeme) (l : Lexeme) (ends : Bool) (r : StartReader) (kind : ItemFault) (place : ℕ) → HasReadStart count body r → IsLate count (body ++ l ∷ more) ends kind place
+pub late_at_lexeme : (count : ℕ) (body more : List Lexeme) (l : Lexeme) (ends : Bool) (r : StartReader) (kind : ItemFault) (place : ℕ)
+    → HasReadStart count body r → IsLate count (body ++ l ∷ more) ends kind place
     → IsDue r l kind place ⊎ CanStillBeRight count r l
 late_at_lexeme count body more l ends r kind place s late = grind (arith, due_after count body (l ∷ more) ends r kind place s late)
 
-late_whole : (count : ℕ) (body : List Lexeme) (ends : Bool) (r : StartReader) (kind : ItemFault) (place : ℕ) → HasReadStart count body r → IsLate count body ends kind place → DueAfter count r [] ends kind place
+late_whole : (count : ℕ) (body : List Lexeme) (ends : Bool) (r : StartReader) (kind : ItemFault) (place : ℕ) → HasReadStart count body r
+    → IsLate count body ends kind place → DueAfter count r [] ends kind place
 late_whole count body ends r kind place s late = search (rules, due_after)
 
 -- what is due where the item ends is why it cannot
-pub late_at_end : (count : ℕ) (body : List Lexeme) (r : StartReader) (e : EndError) (late : Refusal) → HasReadStart count body r → IsLate count body true late.kind late.place → IsEndDue r e → IsLateEnd e late
+pub late_at_end : (count : ℕ) (body : List Lexeme) (r : StartReader) (e : EndError) (late : Refusal) → HasReadStart count body r
+    → IsLate count body true late.kind late.place → IsEndDue r e → IsLateEnd e late
 late_at_end count body r e late s is ends = grind (arith, late_whole count body true r late.kind late.place s is)
 
 -- what is due where the tokens end in a fault is the number without a value
-pub late_at_fault : (count : ℕ) (body : List Lexeme) (r : StartReader) (kind : ItemFault) (place : ℕ) → HasReadStart count body r → IsLate count body false kind place
+pub late_at_fault : (count : ℕ) (body : List Lexeme) (r : StartReader) (kind : ItemFault) (place : ℕ) → HasReadStart count body r
+    → IsLate count body false kind place
     → pending r ≡ Some (record { kind = kind; place = place })
 late_at_fault count body r kind place s is = grind (arith, late_whole count body false r kind place s is)
 
-pub pending_is_late : (count : ℕ) (body : List Lexeme) (r : StartReader) (x : Refusal) → HasReadStart count body r → pending r ≡ Some x → IsLate count body false x.kind x.place
+pub pending_is_late : (count : ℕ) (body : List Lexeme) (r : StartReader) (x : Refusal) → HasReadStart count body r → pending r ≡ Some x
+    → IsLate count body false x.kind x.place
 pending_is_late count body (reader.StateOrNumber d) x s e = of d.value refl e
   where
     some_once : {A : Type 0} {a b : A} → Some a ≡ Some b → a ≡ b
@@ -229,5 +289,6 @@ pending_is_late count body (reader.StateOrNumber d) x s e = of d.value refl e
     of (Err fault) is q =
         let same = some_once q in
         subst (λ (b : List Lexeme). IsLate count b false x.kind x.place) (append-nil body)
-        (without_value count body [] false d fault x.kind x.place s.body_is is (λ none. refl) (sym (ap (λ (y : Refusal). y.kind) same)) (sym (ap (λ (y : Refusal). y.place) same)))
+        (without_value count body [] false d fault x.kind x.place s.body_is is (λ none. refl) (sym (ap (λ (y : Refusal). y.kind) same))
+        (sym (ap (λ (y : Refusal). y.place) same)))
 pending_is_late count body _ x s e = cc

@@ -1,6 +1,7 @@
 -- The form of an item, as its reader continues with it: that of a start item, and of every other what is right.
 use Rattle.std.proofs.Common.{◌≡◌, ◌∙◌, ◌⊎◌, inl, inr, None, List, ◌∷◌, refl, sym, subst, arith}
-use Rattle.polcert_items.proofs.Common.{Lexeme, Elements, StartWeights, Start, IsStartBody, IsStart, IsStartBodyForm, IsStartForm, ModelSoFar, ItemReader, Takes, CannotTake, ItemGoes, ItemForms, topic_in, pending_in, IfStart}
+use Rattle.polcert_items.proofs.Common.{Lexeme, Elements, StartWeights, Start, IsStartBody, IsStart, IsStartBodyForm, IsStartForm}
+use Rattle.polcert_items.proofs.Common.{ModelSoFar, ItemReader, Takes, CannotTake, ItemGoes, ItemForms, topic_in, pending_in, IfStart}
 use Rattle.polcert_cells.specs.declared.words.Topic.{Topic}
 use Rattle.polcert_format.specs.Forms as shapes
 use Rattle.polcert_items.specs.declared.item.ItemReader.TheVariants as items
@@ -12,18 +13,21 @@ is_start t = grind arith
 -- ---- what is right has the form
 
 body_form : (states : Elements) (ls : List Lexeme) (v : StartWeights) → IsStartBody states ls v → IsStartBodyForm states ls
-body_form states ls v h1 = grind (arith, small_ones, shapes.uniform, shapes.name, shapes.state_number, shapes.one_number, shapes.probabilities)
+body_form states ls v h1 = grind
+    (arith, small_ones, shapes.uniform, shapes.name, shapes.state_number, shapes.one_number, shapes.probabilities)
 
 pub start_form : (states : Elements) (ls : List Lexeme) (v : StartWeights) → IsStart states ls v → IsStartForm states ls
 start_form states ls v h1 = grind (arith, body_form, shapes.plain, shapes.listed)
 
 -- ---- of an item that is no start item
 
-pub right_forms : (k : ModelSoFar) (item : ItemReader) (ls : List Lexeme) (next : ModelSoFar) → (topic_in item ≡ Start → ⊥) → ItemGoes k item ls next → ItemForms k item ls tt
+pub right_forms : (k : ModelSoFar) (item : ItemReader) (ls : List Lexeme) (next : ModelSoFar) → (topic_in item ≡ Start → ⊥)
+    → ItemGoes k item ls next → ItemForms k item ls tt
 right_forms k (items.Start r) ls next other g = absurd (other refl)
 right_forms k _ ls next other g = (next, g)
 
-pub forms_right : (k : ModelSoFar) (item : ItemReader) (ls : List Lexeme) → (topic_in item ≡ Start → ⊥) → ItemForms k item ls tt → (next : ModelSoFar) × ItemGoes k item ls next
+pub forms_right : (k : ModelSoFar) (item : ItemReader) (ls : List Lexeme) → (topic_in item ≡ Start → ⊥) → ItemForms k item ls tt
+    → (next : ModelSoFar) × ItemGoes k item ls next
 forms_right k (items.Start r) ls other g = absurd (other refl)
 forms_right k _ ls other g = g
 
@@ -36,7 +40,8 @@ if_start t P e h = subst (λ u. IfStart u P) e h
 
 -- ---- one lexeme more of any item
 
-pub forms_take : (k : ModelSoFar) (old new : ItemReader) (l : Lexeme) → topic_in new ≡ topic_in old → Takes (ItemGoes k) old l new → IfStart (topic_in old) (Takes (ItemForms k) old l new)
+pub forms_take : (k : ModelSoFar) (old new : ItemReader) (l : Lexeme) → topic_in new ≡ topic_in old → Takes (ItemGoes k) old l new
+    → IfStart (topic_in old) (Takes (ItemForms k) old l new)
     → Takes (ItemForms k) old l new
 forms_take k old new l same goes formed = of (is_start (topic_in old))
   where
@@ -51,7 +56,8 @@ forms_take k old new l same goes formed = of (is_start (topic_in old))
           right_forms k new ls r.0 (λ e. other (sym same ∙ e)) (goes.on ls r.0 r.1);
     }
 
-pub forms_stuck : (k : ModelSoFar) (old : ItemReader) (l : Lexeme) → CannotTake (ItemGoes k) old l → IfStart (topic_in old) (CannotTake (ItemForms k) old l) → CannotTake (ItemForms k) old l
+pub forms_stuck : (k : ModelSoFar) (old : ItemReader) (l : Lexeme) → CannotTake (ItemGoes k) old l
+    → IfStart (topic_in old) (CannotTake (ItemForms k) old l) → CannotTake (ItemForms k) old l
 forms_stuck k old l stuck formless = of (is_start (topic_in old))
   where
     of : (topic_in old ≡ Start) ⊎ (topic_in old ≡ Start → ⊥) → CannotTake (ItemForms k) old l

@@ -1,7 +1,10 @@
 -- An entry that may come next fits into a list of entries: the numbers of its elements are small, and it has few numbers.
-use Rattle.std.proofs.Common.{◌≡◌, ℕ, zero, suc, ◌*◌, ◌≤◌, ◌==◌, true, Option, Some, None, is_none, unwrap_or, All, List, [], ◌∷◌, length, drop, refl, arith}
+use Rattle.std.proofs.Common.{◌≡◌, ℕ, zero, suc, ◌*◌, ◌≤◌, ◌==◌, true, Option, Some, None, is_none, unwrap_or, All, List, [], ◌∷◌, length}
+use Rattle.std.proofs.Common.{drop, refl, arith}
 use Rattle.std.proofs.Math.Nat.{mul-le-mul}
-use Rattle.polcert_items.proofs.Common.{list_any, All-nil, All-cons, Elements, Count, Body, Entry, Place, Every, Only, Table, Transition, Observation, Reward, count_of, most_states, most_actions, most_observations, cells_in, Preamble, is_mdp, dimensions, ModelSoFar, preamble_in, indices_in}
+use Rattle.polcert_items.proofs.Common.{list_any, All-nil, All-cons, Elements, Count, Body, Entry, Place, Every, Only, Table, Transition}
+use Rattle.polcert_items.proofs.Common.{Observation, Reward, count_of, most_states, most_actions, most_observations, cells_in, Preamble}
+use Rattle.polcert_items.proofs.Common.{is_mdp, dimensions, ModelSoFar, preamble_in, indices_in}
 use Rattle.polcert_cells.specs.Elements.{most_elements}
 use Rattle.polcert_cells.specs.Entry.{forms}
 use Rattle.polcert_cells.specs.EntryRefs.{IsSmallPlace, IsShortBody, CanBeKept, most_numbers}
@@ -36,7 +39,8 @@ after_two (suc (suc zero)) s c ls lc = omega arith
 after_two (suc (suc (suc n))) s c ls lc = omega arith
 
 -- after the action alone: in an MDP a reward has no observation
-after_one : (observations : Option Elements) (s : Elements) (body : Body) → IsFew s → list_any (λ n. n == 1) (forms (is_none observations) Reward body) ≡ true
+after_one : (observations : Option Elements) (s : Elements) (body : Body) → IsFew s
+    → list_any (λ n. n == 1) (forms (is_none observations) Reward body) ≡ true
     → cells_in (s ∷ s ∷ unwrap_or observations (Count 1) ∷ []) ≤ most_numbers
 after_one None s body ls form = after_two 0 s s ls ls
 after_one (Some o) s (Rewards hs) ls form = absurd (grind arith)
@@ -44,7 +48,8 @@ after_one (Some o) s (Probabilities ps) ls form = absurd (grind arith)
 after_one (Some o) s Uniform ls form = absurd (grind arith)
 after_one (Some o) s Identity ls form = absurd (grind arith)
 
-module _ (p : Preamble) (states : IsFew p.states) (actions : IsFew p.actions) (observations : IsFew (observed p)) (rewarded : IsFew (unwrap_or p.observations (Count 1))) where
+module _ (p : Preamble) (states : IsFew p.states) (actions : IsFew p.actions) (observations : IsFew (observed p))
+    (rewarded : IsFew (unwrap_or p.observations (Count 1))) where
   few_dimensions : (table : Table) → AreFew (dimensions p table)
   few_dimensions Transition = (actions, (states, (states, tt)))
   few_dimensions Observation = (actions, (states, (observations, tt)))
@@ -64,19 +69,23 @@ short_body cells (Rewards hs) few fills = omega (arith, few, fills.0)
 short_body cells Uniform few fills = tt
 short_body cells Identity few fills = tt
 
-few_rewarded : (states : Elements) (observations : Option Elements) → IsFew (unwrap_or observations states) → IsFew (unwrap_or observations (Count 1))
+few_rewarded : (states : Elements) (observations : Option Elements) → IsFew (unwrap_or observations states)
+    → IsFew (unwrap_or observations (Count 1))
 few_rewarded states None few = omega arith
 few_rewarded states (Some o) few = few
 
-few_if_known : (most : ℕ) (elements : Option Elements) → most ≤ most_elements → IsCountIn most elements → IsFew (unwrap_or elements (Count 0))
+few_if_known : (most : ℕ) (elements : Option Elements) → most ≤ most_elements → IsCountIn most elements
+    → IsFew (unwrap_or elements (Count 0))
 few_if_known most None small count = omega arith
 few_if_known most (Some d) small count = omega (arith, small, (count d refl).1)
 
-few_observed : (states observations : Option Elements) → IsFew (unwrap_or states (Count 0)) → IsCountIn most_observations observations → IsFew (unwrap_or observations (unwrap_or states (Count 0)))
+few_observed : (states observations : Option Elements) → IsFew (unwrap_or states (Count 0)) → IsCountIn most_observations observations
+    → IsFew (unwrap_or observations (unwrap_or states (Count 0)))
 few_observed states None few count = few
 few_observed states (Some o) few count = (count o refl).1
 
-pub can_be_kept : (k : ModelSoFar) (e : Entry) → IsCountIn most_states k.states → IsCountIn most_actions k.actions → IsCountIn most_observations k.observations → IsSoundEntry (preamble_in k) e → CanBeKept e
+pub can_be_kept : (k : ModelSoFar) (e : Entry) → IsCountIn most_states k.states → IsCountIn most_actions k.actions
+    → IsCountIn most_observations k.observations → IsSoundEntry (preamble_in k) e → CanBeKept e
 can_be_kept k e states actions observations sound =
     let p : Preamble = preamble_in k in
     let few_states : IsFew p.states = few_if_known most_states k.states (omega arith) states in
@@ -84,7 +93,8 @@ can_be_kept k e states actions observations sound =
     let observed : IsFew (observed p) = few_observed k.states k.observations few_states observations in
     let rewarded : IsFew (unwrap_or p.observations (Count 1)) = few_rewarded p.states p.observations observed in
     record {
-      places = small_places (dimensions p e.table) e.places (few_dimensions p few_states few_actions observed rewarded e.table) sound.places;
+      places = small_places (dimensions p e.table) e.places (few_dimensions p few_states few_actions observed rewarded e.table)
+          sound.places;
       body = short_body _ e.body (few_cells p few_states few_actions observed rewarded e.table e.places e.body sound.form) sound.body;
     }
 

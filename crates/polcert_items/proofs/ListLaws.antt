@@ -1,6 +1,9 @@
 -- Lists of numbers, token by token.
-use Rattle.std.proofs.Common.{◌≡◌, ◌∙◌, ℕ, ◌≤◌, inl, inr, true, false, Option, Some, None, List, [], ◌∷◌, ◌++◌, length, map, ℤ, pos, refl, sym, ap, subst, All, arith, append_assoc, Result, IfErr}
-use Rattle.polcert_items.proofs.Common.{All-cons, All-tail, All-nil, Lexeme, Body, Numbers, Sign, Probability, TokenKind, Plus, Minus, IsMillionths, AreNumbers, one, is_sign, AreNumbersAfter, IsInRange, ListKind, is_negative, IsSignAt, IsNoNumber, Takes, CannotTake, NumberListGoes, IfRefused, FeedError}
+use Rattle.std.proofs.Common.{◌≡◌, ◌∙◌, ℕ, ◌≤◌, inl, inr, true, false, Option, Some, None, List, [], ◌∷◌, ◌++◌, length, map, ℤ, pos, refl}
+use Rattle.std.proofs.Common.{sym, ap, subst, All, arith, append_assoc, Result, IfErr}
+use Rattle.polcert_items.proofs.Common.{All-cons, All-tail, All-nil, Lexeme, Body, Numbers, Sign, Probability, TokenKind, Plus, Minus}
+use Rattle.polcert_items.proofs.Common.{IsMillionths, AreNumbers, one, is_sign, AreNumbersAfter, IsInRange, ListKind, is_negative, IsSignAt}
+use Rattle.polcert_items.proofs.Common.{IsNoNumber, Takes, CannotTake, NumberListGoes, IfRefused, FeedError}
 use Rattle.std.proofs.lemmas.List.Elements.{All-map}
 use Rattle.polcert_items.specs.declared.signed_number.Range.TheVariants.{Reward}
 use Rattle.polcert_cells.specs.Numbers as numbers
@@ -11,26 +14,31 @@ use Rattle.polcert_items.proofs.SignedNumbers.{sign_back, sign_on, value_back, v
 
 module _ {T : Type 0} (kind : ListKind T) where
   pub no_number : (n : Numbers T) (l : Lexeme) → IsNoNumber kind.range n.sign l → CannotTake (NumberListGoes kind) n l
-  no_number n l no_value = λ ls body g. no_value ls (map kind.worth g.further) g.numbers (All-map (IsInRange kind.range) kind.worth g.further g.in_range)
+  no_number n l no_value = λ ls body g. no_value ls (map kind.worth g.further) g.numbers
+      (All-map (IsInRange kind.range) kind.worth g.further g.in_range)
 
   module _ (old new : Numbers T) (l : Lexeme) (same_needed : new.needed ≡ old.needed) where
     module _ (s : Sign) (at : IsSignAt s l) (was : old.sign ≡ None) (is : new.sign ≡ Some s) (same_read : new.read ≡ old.read) where
       pub takes_sign : Takes (NumberListGoes kind) old l new
       takes_sign = grind (arith, sign_back, sign_on)
 
-    module _ (x : T) (distinct : (y z : T) → kind.worth y ≡ kind.worth z → y ≡ z) (v : IsMillionths (is_negative old.sign) l (kind.worth x)) (fits : IsInRange kind.range (kind.worth x)) (is : new.sign ≡ None) (read : new.read ≡ old.read ++ x ∷ []) where
+    module _ (x : T) (distinct : (y z : T) → kind.worth y ≡ kind.worth z → y ≡ z) (v : IsMillionths (is_negative old.sign) l (kind.worth x))
+        (fits : IsInRange kind.range (kind.worth x)) (is : new.sign ≡ None) (read : new.read ≡ old.read ++ x ∷ []) where
       joined : (further : List T) → new.read ++ further ≡ old.read ++ x ∷ further
       joined further = ap (λ r. r ++ further) read ∙ append_assoc old.read (x ∷ []) further
 
-      continues : (ls : List Lexeme) (further : List T) (body : Body) → AreNumbersAfter old.sign (l ∷ ls) (map kind.worth further) → All (λ y. IsInRange kind.range (kind.worth y)) further
+      continues : (ls : List Lexeme) (further : List T) (body : Body) → AreNumbersAfter old.sign (l ∷ ls) (map kind.worth further)
+          → All (λ y. IsInRange kind.range (kind.worth y)) further
           → length (old.read ++ further) ≡ old.needed → body ≡ kind.body (old.read ++ further) → NumberListGoes kind new ls body
       continues ls [] body a all enough is_body = absurd (cons≢nil (sym (value_on old.sign l ls (kind.worth x) [] v a).joined))
       continues ls (y ∷ ys) body a all enough is_body =
           let b = value_on old.sign l ls (kind.worth x) (map kind.worth (y ∷ ys)) v a in
-          let whole : new.read ++ ys ≡ old.read ++ y ∷ ys = joined ys ∙ ap (λ z. old.read ++ z ∷ ys) (sym (distinct y x (same_head b.joined))) in
+          let whole : new.read ++ ys ≡ old.read ++ y ∷ ys = joined ys
+          ∙ ap (λ z. old.read ++ z ∷ ys) (sym (distinct y x (same_head b.joined))) in
           record {
             further = ys;
-            numbers = subst (λ s. AreNumbersAfter s ls (map kind.worth ys)) (sym is) (subst (AreNumbers ls) (sym (same_tail b.joined)) b.numbers);
+            numbers = subst (λ s. AreNumbersAfter s ls (map kind.worth ys)) (sym is)
+                (subst (AreNumbers ls) (sym (same_tail b.joined)) b.numbers);
             in_range = All-tail (λ z. IsInRange kind.range (kind.worth z)) y ys all;
             enough = ap length whole ∙ enough ∙ sym same_needed;
             body_is = is_body ∙ ap kind.body (sym whole);

@@ -1,8 +1,13 @@
 -- The forms of a start item, token by token.
-use Rattle.std.proofs.Common.{◌≡◌, ◌∙◌, ℕ, ◌<◌, ◌==◌, ◌||◌, ◌⊎◌, inl, inr, Bool, false, true, Option, Some, None, Result, Ok, Err, List, [], ◌∷◌, length, map, slice_set, codes, ℤ, pos, refl, sym, ap, subst, arith, rules}
+use Rattle.std.proofs.Common.{◌≡◌, ◌∙◌, ℕ, ◌<◌, ◌==◌, ◌||◌, ◌⊎◌, inl, inr, Bool, false, true, Option, Some, None, Result, Ok, Err, List, []}
+use Rattle.std.proofs.Common.{◌∷◌, length, map, slice_set, codes, ℤ, pos, refl, sym, ap, subst, arith, rules}
 use Rattle.std.proofs.Math.Bool.{or_assoc}
 use Rattle.std.specs.List.{AllZip}
-use Rattle.polcert_items.proofs.Common.{Lexeme, are_digits, Name, Numeral, Colon, Plus, Minus, Choice, Include, Exclude, Chosen, StateOrNumber, StartReader, IsWord, IsWhole, IsMillionths, AreNumbers, one, Elements, count_of, StandsFor, StartWeights, all_states, single, IsStartBody, IsStart, plain, IsStartBodyForm, IsStartForm, Takes, CannotTake, marked, AreGiven, NumbersGo, DigitsGo, state_number, first_of_more, StartGoes, Begins, AreDigits, IsValue, NumberFault}
+use Rattle.polcert_items.proofs.Common.{Lexeme, are_digits, Name, Numeral, Colon, Plus, Minus, Choice, Include, Exclude, Chosen}
+use Rattle.polcert_items.proofs.Common.{StateOrNumber, StartReader, IsWord, IsWhole, IsMillionths, AreNumbers, one, Elements, count_of}
+use Rattle.polcert_items.proofs.Common.{StandsFor, StartWeights, all_states, single, IsStartBody, IsStart, plain, IsStartBodyForm}
+use Rattle.polcert_items.proofs.Common.{IsStartForm, Takes, CannotTake, marked, AreGiven, NumbersGo, DigitsGo, state_number, first_of_more}
+use Rattle.polcert_items.proofs.Common.{StartGoes, Begins, AreDigits, IsValue, NumberFault}
 use Rattle.polcert_cells.specs.Elements.{by_name}
 use Rattle.polcert_cells.specs.Start.{included, include, exclude}
 use Rattle.polcert_items.specs.Steps.Lines.{AfterColon}
@@ -20,7 +25,11 @@ use Rattle.polcert_text.proofs.TextLaws.{exact_not_refused}
 -- ---- the first token
 
 pub colon_begins : (states : Elements) (l : Lexeme) → l.kind ≡ Colon → Takes (StartGoes states) reader.Form l reader.Body
-colon_begins states l colon = record { back = λ ls asked g. grind (arith, shapes.plain, plain); on = λ ls asked g. grind (arith, name_not_colon) }
+colon_begins states l colon = record {
+  back = λ ls asked g. grind (arith, shapes.plain, plain);
+  on =
+      λ ls asked g. grind (arith, name_not_colon);
+}
 
 -- the word of a list of states
 abbrev IsWordOf : Choice → Lexeme → Type 0
@@ -29,18 +38,24 @@ IsWordOf Exclude l = IsWord (codes "exclude") l
 
 -- after it the states are listed
 module _ (states : Elements) (l : Lexeme) where
-  list_formed : (choice : Choice) → IsWordOf choice l → (ls : List Lexeme) → AfterColon (ListGoes states choice (λ s. false)) ls None → IsStartForm states (l ∷ ls)
+  list_formed : (choice : Choice) → IsWordOf choice l → (ls : List Lexeme) → AfterColon (ListGoes states choice (λ s. false)) ls None
+      → IsStartForm states (l ∷ ls)
   list_formed choice h1 ls h2 = grind (arith, shapes.listed)
 
-  form_listed : (choice : Choice) → IsWordOf choice l → (ls : List Lexeme) → IsStartForm states (l ∷ ls) → AfterColon (ListGoes states choice (λ s. false)) ls None
+  form_listed : (choice : Choice) → IsWordOf choice l → (ls : List Lexeme) → IsStartForm states (l ∷ ls)
+      → AfterColon (ListGoes states choice (λ s. false)) ls None
   form_listed choice h1 ls h2 = grind arith
 
-  list_back : (choice : Choice) → IsWordOf choice l → (ls : List Lexeme) (v : StartWeights) → AfterColon (ListGoes states choice (λ s. false)) ls (Some v) → IsStart states (l ∷ ls) v
+  list_back : (choice : Choice) → IsWordOf choice l → (ls : List Lexeme) (v : StartWeights)
+      → AfterColon (ListGoes states choice (λ s. false)) ls (Some v) → IsStart states (l ∷ ls) v
   list_back choice word [] v g = absurd g
-  list_back Include word (c ∷ ls) v g = subst (IsStart states (l ∷ c ∷ ls)) (sym g.1.said.0) (include g.1.further word g.0 g.1.stand g.1.said.1)
-  list_back Exclude word (c ∷ ls) v g = subst (IsStart states (l ∷ c ∷ ls)) (sym g.1.said.0) (exclude g.1.further word g.0 g.1.stand g.1.said.1)
+  list_back Include word (c ∷ ls) v g = subst (IsStart states (l ∷ c ∷ ls)) (sym g.1.said.0)
+      (include g.1.further word g.0 g.1.stand g.1.said.1)
+  list_back Exclude word (c ∷ ls) v g = subst (IsStart states (l ∷ c ∷ ls)) (sym g.1.said.0)
+      (exclude g.1.further word g.0 g.1.stand g.1.said.1)
 
-  list_on : (choice : Choice) → IsWordOf choice l → (ls : List Lexeme) (v : StartWeights) → IsStart states (l ∷ ls) v → AfterColon (ListGoes states choice (λ s. false)) ls (Some v)
+  list_on : (choice : Choice) → IsWordOf choice l → (ls : List Lexeme) (v : StartWeights) → IsStart states (l ∷ ls) v
+      → AfterColon (ListGoes states choice (λ s. false)) ls (Some v)
   list_on choice h1 ls v h2 = grind arith
 
   pub list_begins : (choice : Choice) → IsWordOf choice l → Takes (StartGoes states) reader.Form l (reader.Colon choice)
@@ -48,33 +63,42 @@ module _ (states : Elements) (l : Lexeme) where
 
 -- ---- lists of states
 
-pub list_same : (states : Elements) (choice : Choice) (p q : ℕ → Bool) (ls : List Lexeme) (asked : Option StartWeights) → ((s : ℕ) → p s ≡ q s) → ListGoes states choice p ls asked
+pub list_same : (states : Elements) (choice : Choice) (p q : ℕ → Bool) (ls : List Lexeme) (asked : Option StartWeights)
+    → ((s : ℕ) → p s ≡ q s) → ListGoes states choice p ls asked
     → ListGoes states choice q ls asked
 list_same states choice p q ls asked e g = grind arith
 
-pub marked_more : (marks : List Bool) (s : ℕ) → s < length marks → (k : ℕ) → marked (slice_set marks s true) k ≡ (marked marks k || (s == k))
+pub marked_more : (marks : List Bool) (s : ℕ) → s < length marks → (k : ℕ)
+    → marked (slice_set marks s true) k ≡ (marked marks k || (s == k))
 marked_more marks s l k = search rules
 
 module _ (states : Elements) (choice : Choice) (old : ℕ → Bool) (l : Lexeme) (s : ℕ) (is : StandsFor states l s) where
   more : (further : List ℕ) → chosen_with (λ k. old k || (s == k)) further ≡ chosen_with old (s ∷ further)
   more further = λ i k. or_assoc (old k) (s == k) (included further k) i
 
-  state_back : (ls : List Lexeme) (asked : Option StartWeights) → ListGoes states choice (λ k. old k || (s == k)) ls asked → ListGoes states choice old (l ∷ ls) asked
+  state_back : (ls : List Lexeme) (asked : Option StartWeights) → ListGoes states choice (λ k. old k || (s == k)) ls asked
+      → ListGoes states choice old (l ∷ ls) asked
   state_back ls asked g = record { further = s ∷ g.further; stand = (is, g.stand); said = grind (arith, more g.further) }
 
-  state_on : (ls : List Lexeme) (asked : Option StartWeights) → ListGoes states choice old (l ∷ ls) asked → ListGoes states choice (λ k. old k || (s == k)) ls asked
+  state_on : (ls : List Lexeme) (asked : Option StartWeights) → ListGoes states choice old (l ∷ ls) asked
+      → ListGoes states choice (λ k. old k || (s == k)) ls asked
   state_on ls asked g = grind arith
 
-pub list_takes : (states : Elements) (old : Chosen) (l : Lexeme) (s : ℕ) (marks : List Bool) → StandsFor states l s → s < length old.marks → marks ≡ slice_set old.marks s true
+pub list_takes : (states : Elements) (old : Chosen) (l : Lexeme) (s : ℕ) (marks : List Bool) → StandsFor states l s → s < length old.marks
+    → marks ≡ slice_set old.marks s true
     → Takes (StartGoes states) (reader.List old) l (reader.List (record { choice = old.choice; marks = marks }))
 list_takes states old l s marks is low set =
-    let same : (k : ℕ) → marked marks k ≡ (marked old.marks k || (s == k)) = λ k. ap (λ m. marked m k) set ∙ marked_more old.marks s low k in
+    let same : (k : ℕ) → marked marks k ≡ (marked old.marks k || (s == k)) = λ k. ap (λ m. marked m k) set
+    ∙ marked_more old.marks s low k in
     record {
-      back = λ ls v g. state_back states old.choice (marked old.marks) l s is ls v (list_same states old.choice (marked marks) (λ k. marked old.marks k || (s == k)) ls v same g);
-      on = λ ls v g. list_same states old.choice (λ k. marked old.marks k || (s == k)) (marked marks) ls v (λ k. sym (same k)) (state_on states old.choice (marked old.marks) l s is ls v g);
+      back = λ ls v g. state_back states old.choice (marked old.marks) l s is ls v
+          (list_same states old.choice (marked marks) (λ k. marked old.marks k || (s == k)) ls v same g);
+      on = λ ls v g. list_same states old.choice (λ k. marked old.marks k || (s == k)) (marked marks) ls v (λ k. sym (same k))
+          (state_on states old.choice (marked old.marks) l s is ls v g);
     }
 
-pub list_stuck : (states : Elements) (old : Chosen) (l : Lexeme) → ((s : ℕ) → StandsFor states l s → ⊥) → CannotTake (StartGoes states) (reader.List old) l
+pub list_stuck : (states : Elements) (old : Chosen) (l : Lexeme) → ((s : ℕ) → StandsFor states l s → ⊥)
+    → CannotTake (StartGoes states) (reader.List old) l
 list_stuck states old l none = λ ls v g. at ls g.further g.stand
   where
     at : (ls : List Lexeme) (further : List ℕ) → AllZip (StandsFor states) (l ∷ ls) further → ⊥
@@ -99,13 +123,20 @@ module _ (states : Elements) (l : Lexeme) (name : l.kind ≡ Name) where
   name_alone ls h1 = grind arith
 
   pub uniform_begins : IsWord (codes "uniform") l → Takes (StartGoes states) reader.Body l reader.Every
-  uniform_begins word = record { back = λ ls asked g. back ls asked g; on = λ ls asked g. grind (arith, name_alone, uniform_is_reserved, no_numbers) }
+  uniform_begins word = record {
+    back = λ ls asked g. back ls asked g;
+    on =
+        λ ls asked g. grind (arith, name_alone, uniform_is_reserved, no_numbers);
+  }
     where
-      back : (ls : List Lexeme) (asked : Option StartWeights) → (ls ≡ []) × AreAsked (all_states states) asked → BodyGoes states (l ∷ ls) asked
+      back : (ls : List Lexeme) (asked : Option StartWeights) → (ls ≡ []) × AreAsked (all_states states) asked
+          → BodyGoes states (l ∷ ls) asked
       back ls None g = subst (λ xs. IsStartBodyForm states (l ∷ xs)) (sym g.0) (shapes.uniform word)
-      back ls (Some v) g = subst (λ xs. IsStartBody states (l ∷ xs) v) (sym g.0) (subst (IsStartBody states (l ∷ [])) (sym g.1) (forms.uniform word))
+      back ls (Some v) g = subst (λ xs. IsStartBody states (l ∷ xs) v) (sym g.0)
+          (subst (IsStartBody states (l ∷ [])) (sym g.1) (forms.uniform word))
 
-  named_on : (s : ℕ) → StandsFor states l s → (IsWord (codes "uniform") l → ⊥) → (ls : List Lexeme) (v : StartWeights) → IsStartBody states (l ∷ ls) v → (ls ≡ []) × (v ≡ single states s)
+  named_on : (s : ℕ) → StandsFor states l s → (IsWord (codes "uniform") l → ⊥) → (ls : List Lexeme) (v : StartWeights)
+      → IsStartBody states (l ∷ ls) v → (ls ≡ []) × (v ≡ single states s)
   named_on s h1 h2 ls v h3 = grind arith
 
   named_back : (s : ℕ) → StandsFor states l s → IsStartBody states (l ∷ []) (single states s)
@@ -114,7 +145,8 @@ module _ (states : Elements) (l : Lexeme) (name : l.kind ≡ Name) where
   named_form : (s : ℕ) → StandsFor states l s → IsStartBodyForm states (l ∷ [])
   named_form s h1 = grind (arith, shapes.name)
 
-  pub name_begins : (s : ℕ) → StandsFor states l s → (IsWord (codes "uniform") l → ⊥) → Takes (StartGoes states) reader.Body l (reader.Only s)
+  pub name_begins : (s : ℕ) → StandsFor states l s → (IsWord (codes "uniform") l → ⊥)
+      → Takes (StartGoes states) reader.Body l (reader.Only s)
   name_begins s is other = grind (arith, named_form s is, named_back s is, name_alone, named_on s is other)
 
   pub name_stuck : ((s : ℕ) → StandsFor states l s → ⊥) → (IsWord (codes "uniform") l → ⊥) → CannotTake (StartGoes states) reader.Body l
@@ -142,13 +174,17 @@ module _ (states : Elements) (l : Lexeme) (no_name : l.kind ≡ Name → ⊥) wh
   numbers_back : (ls : List Lexeme) (asked : Option StartWeights) → NumbersGo states [] None ls asked → BodyGoes states ls asked
   numbers_back ls asked g = of asked g.further g.numbers g.given
     where
-      only : (v : StartWeights) (hs : List ℤ) → AreNumbers ls hs → count_of states ≡ 1 → (hs ≡ pos 0 ∷ []) ⊎ (hs ≡ pos one ∷ []) → v ≡ all_states states → IsStartBody states ls v
-      only v hs a c (inl e) s = subst (IsStartBody states ls) (sym s) (forms.only_state {h = pos 0} c (subst (AreNumbers ls) e a) (inl refl))
-      only v hs a c (inr e) s = subst (IsStartBody states ls) (sym s) (forms.only_state {h = pos one} c (subst (AreNumbers ls) e a) (inr refl))
+      only : (v : StartWeights) (hs : List ℤ) → AreNumbers ls hs → count_of states ≡ 1 → (hs ≡ pos 0 ∷ []) ⊎ (hs ≡ pos one ∷ [])
+          → v ≡ all_states states → IsStartBody states ls v
+      only v hs a c (inl e) s = subst (IsStartBody states ls) (sym s)
+          (forms.only_state {h = pos 0} c (subst (AreNumbers ls) e a) (inl refl))
+      only v hs a c (inr e) s = subst (IsStartBody states ls) (sym s)
+          (forms.only_state {h = pos one} c (subst (AreNumbers ls) e a) (inr refl))
 
       at : (v : StartWeights) (hs : List ℤ) → AreNumbers ls hs → AreShares states hs v → IsStartBody states ls v
       at v hs a (steps.only_state c e s) = only v hs a c e s
-      at v hs a (steps.probabilities ps m e c t s) = subst (IsStartBody states ls) (sym s) (forms.probabilities ps m (subst (AreNumbers ls) e a) c t)
+      at v hs a (steps.probabilities ps m e c t s) = subst (IsStartBody states ls) (sym s)
+          (forms.probabilities ps m (subst (AreNumbers ls) e a) c t)
 
       formed : (hs : List ℤ) → AreNumbers ls hs → AreFormed states hs → IsStartBodyForm states ls
       formed hs a (steps.alone h e) = shapes.one_number (subst (AreNumbers ls) e a)
@@ -158,7 +194,8 @@ module _ (states : Elements) (l : Lexeme) (no_name : l.kind ≡ Name → ⊥) wh
       of None hs a given = formed hs a given
       of (Some v) hs a given = at v hs a given
 
-  numbers_on : ((s : ℕ) → 1 < count_of states → IsWhole l s → s < count_of states → ⊥) → (ls : List Lexeme) (asked : Option StartWeights) → BodyGoes states (l ∷ ls) asked
+  numbers_on : ((s : ℕ) → 1 < count_of states → IsWhole l s → s < count_of states → ⊥) → (ls : List Lexeme) (asked : Option StartWeights)
+      → BodyGoes states (l ∷ ls) asked
       → NumbersGo states [] None (l ∷ ls) asked
   numbers_on none ls asked g = of ls asked g
     where
@@ -173,20 +210,25 @@ module _ (states : Elements) (l : Lexeme) (no_name : l.kind ≡ Name → ⊥) wh
       of_body ls v (forms.uniform w) = absurd (no_name w.kind)
       of_body ls v (forms.name n f) = absurd (no_name n.kind)
       of_body ls v (forms.number {s = k} m n b) = absurd (none k m n b)
-      of_body ls v (forms.only_state {h} c n (inl e)) = record { further = h ∷ []; numbers = n; given = steps.only_state c (inl (ap (λ x. x ∷ []) e)) refl }
-      of_body ls v (forms.only_state {h} c n (inr e)) = record { further = h ∷ []; numbers = n; given = steps.only_state c (inr (ap (λ x. x ∷ []) e)) refl }
-      of_body ls v (forms.probabilities ps m n c t) = record { further = map pos ps; numbers = n; given = steps.probabilities ps m refl c t refl }
+      of_body ls v (forms.only_state {h} c n (inl e)) = record
+          { further = h ∷ []; numbers = n; given = steps.only_state c (inl (ap (λ x. x ∷ []) e)) refl }
+      of_body ls v (forms.only_state {h} c n (inr e)) = record
+          { further = h ∷ []; numbers = n; given = steps.only_state c (inr (ap (λ x. x ∷ []) e)) refl }
+      of_body ls v (forms.probabilities ps m n c t) = record
+          { further = map pos ps; numbers = n; given = steps.probabilities ps m refl c t refl }
 
       of : (ls : List Lexeme) (asked : Option StartWeights) → BodyGoes states (l ∷ ls) asked → NumbersGo states [] None (l ∷ ls) asked
       of ls asked h1 = grind (arith, of_form, of_body)
 
-  pub body_begins : ((s : ℕ) → 1 < count_of states → IsWhole l s → s < count_of states → ⊥) → (r : StartReader) → Begins (NumbersGo states [] None) l (StartGoes states r) → Takes (StartGoes states) reader.Body l r
+  pub body_begins : ((s : ℕ) → 1 < count_of states → IsWhole l s → s < count_of states → ⊥) → (r : StartReader)
+      → Begins (NumbersGo states [] None) l (StartGoes states r) → Takes (StartGoes states) reader.Body l r
   body_begins none r b = record {
     back = λ ls v g. numbers_back (l ∷ ls) v (b.back ls v g);
     on = λ ls v g. b.on ls v (numbers_on none ls v g);
   }
 
-  pub body_stuck : ((s : ℕ) → 1 < count_of states → IsWhole l s → s < count_of states → ⊥) → CannotTake (NumbersGo states []) None l → CannotTake (StartGoes states) reader.Body l
+  pub body_stuck : ((s : ℕ) → 1 < count_of states → IsWhole l s → s < count_of states → ⊥) → CannotTake (NumbersGo states []) None l
+      → CannotTake (StartGoes states) reader.Body l
   body_stuck none stuck ls v g = stuck ls v (numbers_on none ls v g)
 
 -- ---- digits alone
@@ -208,7 +250,8 @@ module _ (states : Elements) (l : Lexeme) (digits : StateOrNumber) (are : AreDig
   of_value h (Ok k) is v = ap Ok (one_millionths false l k h is v)
   of_value h (Err f) is v = absurd (exact_not_refused false l.bytes f h v.readable v.value is.1)
 
-  number_back : (ls : List Lexeme) (asked : Option StartWeights) (s : ℕ) → ls ≡ [] → digits.state ≡ Some s → AreAsked (single states s) asked → BodyGoes states (l ∷ ls) asked
+  number_back : (ls : List Lexeme) (asked : Option StartWeights) (s : ℕ) → ls ≡ [] → digits.state ≡ Some s
+      → AreAsked (single states s) asked → BodyGoes states (l ∷ ls) asked
   number_back ls None s none e f =
       let is = state_of s digits.state e are.state in
       subst (λ xs. IsStartBodyForm states (l ∷ xs)) (sym none) (shapes.state_number are.more is.0 is.1)
@@ -217,26 +260,30 @@ module _ (states : Elements) (l : Lexeme) (digits : StateOrNumber) (are : AreDig
   back : (ls : List Lexeme) (asked : Option StartWeights) → DigitsGo states digits ls asked → BodyGoes states (l ∷ ls) asked
   back ls asked (state_number s none e f) = number_back ls asked s none e f
   back ls asked (first_of_more h e g) =
-      numbers_back states l digits_no_name (l ∷ ls) asked ((value_begins states [] l None h (value_of h digits.value e are.value)).back ls asked g)
+      numbers_back states l digits_no_name (l ∷ ls) asked
+      ((value_begins states [] l None h (value_of h digits.value e are.value)).back ls asked g)
 
   first_on : (ls : List Lexeme) (asked : Option StartWeights) → NumbersGo states [] None (l ∷ ls) asked → DigitsGo states digits ls asked
   first_on ls asked g =
       let f = first_number None l ls g.further are.digits_are.0 g.numbers in
-      first_of_more f.first (of_value f.first digits.value are.value f.value) ((value_begins states [] l None f.first f.value).on ls asked g)
+      first_of_more f.first (of_value f.first digits.value are.value f.value)
+      ((value_begins states [] l None f.first f.value).on ls asked g)
 
   form_on : (ls : List Lexeme) → IsStartBodyForm states (l ∷ ls) → DigitsGo states digits ls None
   form_on ls (shapes.uniform w) = absurd (digits_no_name w.kind)
   form_on ls (shapes.name n f) = absurd (digits_no_name n.kind)
   form_on ls (shapes.state_number {s = k} m n b) = state_number k refl (of_state k digits.state are.state n b) tt
   form_on ls (shapes.one_number {h} n) = first_on ls None (record { further = h ∷ []; numbers = n; given = steps.alone h refl })
-  form_on ls (shapes.probabilities ps m n c small) = first_on ls None (record { further = map pos ps; numbers = n; given = steps.each ps m refl c small })
+  form_on ls (shapes.probabilities ps m n c small) = first_on ls None
+      (record { further = map pos ps; numbers = n; given = steps.each ps m refl c small })
 
   body_on : (ls : List Lexeme) (v : StartWeights) → IsStartBody states (l ∷ ls) v → DigitsGo states digits ls (Some v)
   body_on ls v (forms.uniform w) = absurd (digits_no_name w.kind)
   body_on ls v (forms.name n f) = absurd (digits_no_name n.kind)
   body_on ls v (forms.number {s = k} m n b) = state_number k refl (of_state k digits.state are.state n b) refl
   body_on ls v (forms.only_state c n h) = absurd (omega (arith, c, are.more))
-  body_on ls v (forms.probabilities ps m n c t) = first_on ls (Some v) (record { further = map pos ps; numbers = n; given = steps.probabilities ps m refl c t refl })
+  body_on ls v (forms.probabilities ps m n c t) = first_on ls (Some v)
+      (record { further = map pos ps; numbers = n; given = steps.probabilities ps m refl c t refl })
 
   on : (ls : List Lexeme) (asked : Option StartWeights) → BodyGoes states (l ∷ ls) asked → DigitsGo states digits ls asked
   on ls None g = form_on ls g
@@ -246,13 +293,16 @@ module _ (states : Elements) (l : Lexeme) (digits : StateOrNumber) (are : AreDig
   digits_begin = record { back = λ ls v g. back ls v g; on = λ ls v g. on ls v g }
 
 -- digits are a state's number where there is more than one state
-pub not_whole : (states : Elements) (l : Lexeme) → (count_of states ≡ 1) ⊎ (are_digits l.bytes ≡ false) → (s : ℕ) → 1 < count_of states → IsWhole l s → s < count_of states → ⊥
+pub not_whole : (states : Elements) (l : Lexeme) → (count_of states ≡ 1) ⊎ (are_digits l.bytes ≡ false) → (s : ℕ) → 1 < count_of states
+    → IsWhole l s → s < count_of states → ⊥
 not_whole states l h1 s h2 h3 h4 = grind arith
 
-pub sign_not_whole : (states : Elements) (l : Lexeme) → (l.kind ≡ Numeral → ⊥) → (s : ℕ) → 1 < count_of states → IsWhole l s → s < count_of states → ⊥
+pub sign_not_whole : (states : Elements) (l : Lexeme) → (l.kind ≡ Numeral → ⊥) → (s : ℕ) → 1 < count_of states → IsWhole l s
+    → s < count_of states → ⊥
 sign_not_whole states l other s mores0 w low = grind arith
 
-pub whole_or_one : (states : Elements) (l : Lexeme) (count : ℕ) → count ≡ count_of states → (count ≡ 1) ⊎ (are_digits l.bytes ≡ false) → (count_of states ≡ 1) ⊎ (are_digits l.bytes ≡ false)
+pub whole_or_one : (states : Elements) (l : Lexeme) (count : ℕ) → count ≡ count_of states → (count ≡ 1) ⊎ (are_digits l.bytes ≡ false)
+    → (count_of states ≡ 1) ⊎ (are_digits l.bytes ≡ false)
 whole_or_one states l count e w = subst (λ n. (n ≡ 1) ⊎ (are_digits l.bytes ≡ false)) e w
 
 pub numeral_not_name : (l : Lexeme) → l.kind ≡ Numeral → l.kind ≡ Name → ⊥

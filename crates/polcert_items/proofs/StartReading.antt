@@ -1,15 +1,18 @@
 -- A start item as its reader continues with it.
 use Rattle.std.proofs.Common.{◌≡◌, ℕ, List, [], Result, Ok, Err, OnOk, refl, rules}
-use Rattle.polcert_items.proofs.Common.{Lexeme, Elements, StartWeights, IsStart, Numbers, ProbabilitiesGo, HasRoom, IsStartFed, Takes, SignIs, StartGives, IsStartWithin, HasReadStart, ExpectsNext, list_wants}
+use Rattle.polcert_items.proofs.Common.{Lexeme, Elements, StartWeights, IsStart, Numbers, ProbabilitiesGo, HasRoom, IsStartFed, Takes}
+use Rattle.polcert_items.proofs.Common.{SignIs, StartGives, IsStartWithin, HasReadStart, ExpectsNext, list_wants}
 use Rattle.polcert_items.specs.Steps.Start.{new_start, AreWithin}
 use Rattle.polcert_items.specs.declared.start_reader.StartReader.TheVariants as reader
 use Rattle.polcert_items.proofs.StartNumbers.{shares_take}
 use Rattle.polcert_items.proofs.StartSeen.{further_seen}
 
-pub new_start_on : (states : Elements) (ls : List Lexeme) (found : StartWeights) → IsStart states ls found → StartGives states new_start ls found
+pub new_start_on : (states : Elements) (ls : List Lexeme) (found : StartWeights) → IsStart states ls found
+    → StartGives states new_start ls found
 new_start_on states ls found a = a
 
-pub new_start_back : (states : Elements) (ls : List Lexeme) (found : StartWeights) → StartGives states new_start ls found → IsStart states ls found
+pub new_start_back : (states : Elements) (ls : List Lexeme) (found : StartWeights) → StartGives states new_start ls found
+    → IsStart states ls found
 new_start_back states ls found a = a
 
 pub new_start_within : (states : Elements) → IsStartWithin states new_start
@@ -19,8 +22,10 @@ pub new_start_seen : (count : ℕ) → HasReadStart count [] new_start
 new_start_seen count = record { sign = refl; body_is = refl }
 
 -- more probabilities
-pub shares_fed : {E : Type 0} (result : Result Unit E) (states : Elements) (old new : Numbers ℕ) (l : Lexeme) → AreWithin states old → new.needed ≡ old.needed → OnOk result (HasRoom new)
-    → OnOk result (Takes ProbabilitiesGo old l new) → OnOk result (ExpectsNext (list_wants old) l (list_wants new)) → OnOk result (SignIs new.sign l)
+pub shares_fed : {E : Type 0} (result : Result Unit E) (states : Elements) (old new : Numbers ℕ) (l : Lexeme) → AreWithin states old
+    → new.needed ≡ old.needed → OnOk result (HasRoom new)
+    → OnOk result (Takes ProbabilitiesGo old l new) → OnOk result (ExpectsNext (list_wants old) l (list_wants new))
+    → OnOk result (SignIs new.sign l)
     → OnOk result (IsStartFed states (reader.Probabilities old) l (reader.Probabilities new))
 shares_fed (Ok v) states old new l within needed room takes leads sign = search (rules, shares_take, further_seen)
 shares_fed (Err e) states old new l within needed room takes leads sign = tt

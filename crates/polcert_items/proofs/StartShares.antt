@@ -1,8 +1,10 @@
 -- The shares of a start item, state by state.
-use Rattle.std.proofs.Common.{◌≡◌, ℕ, suc, zero, ◌+◌, ◌<◌, ◌≤◌, Bool, true, cond, Result, Ok, Err, IfOk, List, [], ◌∷◌, ◌++◌, length, map, get_or, slice_set, refl, sym, ap, arith, if◌then◌else◌, rules}
+use Rattle.std.proofs.Common.{◌≡◌, ℕ, suc, zero, ◌+◌, ◌<◌, ◌≤◌, Bool, true, cond, Result, Ok, Err, IfOk, List, [], ◌∷◌, ◌++◌, length, map}
+use Rattle.std.proofs.Common.{get_or, slice_set, refl, sym, ap, arith, if◌then◌else◌, rules}
 use Rattle.std.specs.List.{range_with_len, count_by}
 use Rattle.std.proofs.lemmas.List.FromFn.{map-range_with_len_more}
-use Rattle.polcert_items.proofs.Common.{sum_by-cons, common_steps, Choice, Include, Elements, count_of, StartWeights, single, shares_of, is_level, marked, AreUnmarked, picks, first_above_0, is_level_at}
+use Rattle.polcert_items.proofs.Common.{sum_by-cons, common_steps, Choice, Include, Elements, count_of, StartWeights, single, shares_of}
+use Rattle.polcert_items.proofs.Common.{is_level, marked, AreUnmarked, picks, first_above_0, is_level_at}
 use Rattle.std.proofs.lemmas.List.Sums.{list_all-from_AllPass}
 use Rattle.std.proofs.lemmas.Grind.{get_or_default_zero}
 use Rattle.polcert_cells.specs.Start.{equal_weights, is_positive}
@@ -26,19 +28,23 @@ count_more : (p : ℕ → Bool) (a n : ℕ) → count_by p (range_with_len a (n 
 count_more p a zero = grind (arith, count_cons)
 count_more p a (suc n) =
     let count : suc n + 1 ≡ suc (n + 1) = omega arith in
-    let whole : count_by p (range_with_len a (suc n + 1)) ≡ count_by p (a ∷ range_with_len (a + 1) (n + 1)) = ap (count_by p) (ap (range_with_len a) count) in
-    let first : count_by p (a ∷ range_with_len (a + 1) (n + 1)) ≡ one_if (p a) + count_by p (range_with_len (a + 1) (n + 1)) = count_cons p a (range_with_len (a + 1) (n + 1)) in
+    let whole : count_by p (range_with_len a (suc n + 1)) ≡ count_by p (a ∷ range_with_len (a + 1) (n + 1)) =
+    ap (count_by p) (ap (range_with_len a) count) in
+    let first : count_by p (a ∷ range_with_len (a + 1) (n + 1)) ≡ one_if (p a) + count_by p (range_with_len (a + 1) (n + 1)) =
+    count_cons p a (range_with_len (a + 1) (n + 1)) in
     let rest = count_more p (a + 1) n in
     grind (arith, count_cons)
 
 at_most_one : (b : Bool) → one_if b ≤ 1
 at_most_one b = grind arith
 
-pub shares_more : (picked : ℕ → Bool) (state : ℕ) (old new : List ℕ) (total weight : ℕ) → new ≡ old ++ weight ∷ [] → weight ≡ one_if (picked state)
+pub shares_more : (picked : ℕ → Bool) (state : ℕ) (old new : List ℕ) (total weight : ℕ) → new ≡ old ++ weight ∷ []
+    → weight ≡ one_if (picked state)
     → AreSharesTo picked state old total → AreSharesTo picked (state + 1) new (total + weight)
 shares_more picked state old new total weight e w are =
     let share : ℕ → ℕ = λ s. one_if (picked s) in
-    let longer : map share (range_with_len 0 (state + 1)) ≡ map share (range_with_len 0 state) ++ share state ∷ [] = map-range_with_len_more share 0 state state (omega arith) in
+    let longer : map share (range_with_len 0 (state + 1)) ≡ map share (range_with_len 0 state) ++ share state ∷ [] =
+    map-range_with_len_more share 0 state state (omega arith) in
     grind (arith, count_more, at_most_one)
 
 -- ---- shares by probability
@@ -84,16 +90,19 @@ level_back m ps h1 h2 = grind (arith, list_all-from_AllPass, get_or_default_zero
 
 -- each is 0 or the first above 0 exactly where all above 0 are the same
 pub level_is : (ps : List ℕ) → is_level_at (first_above_0 ps) ps ≡ is_level ps
-level_is ps = same_tests (is_level_at (first_above_0 ps) ps) (is_level ps) (λ e. level_on (first_above_0 ps) ps e) (λ e. level_back (first_above_0 ps) ps (first_in ps) e)
+level_is ps = same_tests (is_level_at (first_above_0 ps) ps) (is_level ps) (λ e. level_on (first_above_0 ps) ps e)
+    (λ e. level_back (first_above_0 ps) ps (first_in ps) e)
 
 -- ---- shares of all states, or of one
 
-pub one_shares : (states : Elements) (choice : Choice) (count s : ℕ) (old new : List Bool) → choice ≡ Include → count ≡ count_of states → s < count → AreUnmarked count old → new ≡ slice_set old s true
+pub one_shares : (states : Elements) (choice : Choice) (count s : ℕ) (old new : List Bool) → choice ≡ Include → count ≡ count_of states
+    → s < count → AreUnmarked count old → new ≡ slice_set old s true
     → equal_weights (length new) (picks choice (marked new)) ≡ single states s
 one_shares states choice count s old new is same low are set = search rules
 
 -- probabilities of which all above 0 are the same
-pub level_shares_are : {E : Type 0} (r : Result StartWeights E) (ps qs : List ℕ) → qs ≡ ps → is_level ps ≡ true → IfOk r (λ s. s.weights ≡ map support_weight qs) → IfOk r (λ s. s.total ≡ count_by is_positive qs)
+pub level_shares_are : {E : Type 0} (r : Result StartWeights E) (ps qs : List ℕ) → qs ≡ ps → is_level ps ≡ true
+    → IfOk r (λ s. s.weights ≡ map support_weight qs) → IfOk r (λ s. s.total ≡ count_by is_positive qs)
     → IfOk r (λ s. s ≡ shares_of ps)
 level_shares_are (Ok s) ps qs e level weights total = grind arith
 level_shares_are (Err f) ps qs e level weights total = tt

@@ -1,5 +1,6 @@
 -- A name among the tokens of a text is ASCII text.
-use Rattle.std.proofs.Common.{◌≡◌, ◌∙◌, ℕ, zero, suc, ◌<◌, Bool, true, cond, Some, None, List, [], ◌∷◌, codes, IsAscii, ap, arith, lit<, ◌++◌, refl, sym, subst, length-append, length}
+use Rattle.std.proofs.Common.{◌≡◌, ◌∙◌, ℕ, zero, suc, ◌<◌, Bool, true, cond, Some, None, List, [], ◌∷◌, codes, IsAscii, ap, arith, lit<}
+use Rattle.std.proofs.Common.{◌++◌, refl, sym, subst, length-append, length}
 use Rattle.std.specs.Prelude.{bytes_eq}
 use Rattle.std.specs.List.{list_all}
 use Rattle.polcert_items.proofs.Common.{nat_tests, BeginWith, is_digit, Lexeme, Name, Numeral, Colon, Star, Plus, Minus}
@@ -28,15 +29,18 @@ name_below bs h1 = grind (arith, letter_below, bytes_below)
 
 -- among the tests of `kind_of`, the one for a name passed
 kind_is_name : (name numeral colon star plus minus : Bool)
-    → cond name (Some Name) (cond numeral (Some Numeral) (cond colon (Some Colon) (cond star (Some Star) (cond plus (Some Plus) (cond minus (Some Minus) None))))) ≡ Some Name → name ≡ true
+    → cond name (Some Name) (cond numeral (Some Numeral)
+    (cond colon (Some Colon) (cond star (Some Star) (cond plus (Some Plus) (cond minus (Some Minus) None))))) ≡ Some Name → name ≡ true
 kind_is_name name numeral colon star plus minus h1 = grind arith
 
 name_of_kind : (bs : List ℕ) → kind_of bs ≡ Some Name → is_name bs ≡ true
 unfolding kind_of
-name_of_kind bs e = kind_is_name (is_name bs) (is_numeral bs) (bytes_eq bs (codes ":")) (bytes_eq bs (codes "*")) (bytes_eq bs (codes "+")) (bytes_eq bs (codes "-")) e
+name_of_kind bs e = kind_is_name (is_name bs) (is_numeral bs) (bytes_eq bs (codes ":")) (bytes_eq bs (codes "*")) (bytes_eq bs (codes "+"))
+    (bytes_eq bs (codes "-")) e
 
 pub name_is_text : (place : ℕ) (bytes : List ℕ) (l : Lexeme) → IsTokenAt place bytes l → IsText l
-name_is_text place bytes l at = λ name. name_below l.bytes (name_of_kind l.bytes (ap kind_of at.bytes_are ∙ at.lexeme.lexeme ∙ ap Some name))
+name_is_text place bytes l at = λ name. name_below l.bytes
+    (name_of_kind l.bytes (ap kind_of at.bytes_are ∙ at.lexeme.lexeme ∙ ap Some name))
 
 pub token_is_text : (old : Rest) (l : Lexeme) (new : Rest) → TakesToken old l new → IsText l
 token_is_text old l new takes = name_is_text _ _ l takes.token_at
@@ -47,7 +51,8 @@ one_last (m ∷ ls) t l e = absurd (omega (arith, ap length (same_tail e), lengt
 
 only_is_text : (old new : Rest) (ls : List Lexeme) (l : Lexeme) → Taken old ls new → ls ≡ l ∷ [] → IsText l
 only_is_text old new ls l (nothing _) e = absurd (cons≢nil (sym e))
-only_is_text old new ls l (token _ between _ before t taken takes) e = subst IsText (one_last before t l e) (token_is_text between t new takes)
+only_is_text old new ls l (token _ between _ before t taken takes) e =
+    subst IsText (one_last before t l e) (token_is_text between t new takes)
 
 -- the one token at the front of some bytes
 pub front_is_text : (place : ℕ) (bytes : List ℕ) (count : ℕ) (l : Lexeme) → BeginWith place bytes count (l ∷ []) → IsText l

@@ -14,8 +14,10 @@ pub whole_sound : (seen : List Lexeme) (k : ModelSoFar) → IsWholeRead seen k �
 whole_sound seen k w = right_text_sound seen (preamble_in k) k (whole_right seen k w)
 
 -- what the items say, of the lines as they are held
-pub said_is : (k : ModelSoFar) (discount : Option ℕ) (costs : Option Bool) (states actions observations : Option Elements) (start : Option StartWeights) (es : List Entry)
+pub said_is : (k : ModelSoFar) (discount : Option ℕ) (costs : Option Bool) (states actions observations : Option Elements)
+    (start : Option StartWeights) (es : List Entry)
     → known_of discount costs states actions observations start es ≡ k → (g : ℕ) (c : Bool) (s a : Elements)
     → g ≡ unwrap_or discount 0 → c ≡ unwrap_or costs false → s ≡ unwrap_or states (Count 0) → a ≡ unwrap_or actions (Count 0)
     → said k ≡ draft_of g c s a observations start es
-said_is k discount costs states actions observations start es e g c s a eg ec es_ ea = ap said (sym e) ∙ sym (λ j. draft_of (eg j) (ec j) (es_ j) (ea j) observations start es)
+said_is k discount costs states actions observations start es e g c s a eg ec es_ ea = ap said (sym e)
+    ∙ sym (λ j. draft_of (eg j) (ec j) (es_ j) (ea j) observations start es)

@@ -22,7 +22,8 @@ pub use Rattle.polcert_format.specs.Wants.{expected}
 pub use Rattle.polcert_format.specs.declared.fault.ItemFault.{ItemFault}
 pub use Rattle.polcert_format.specs.declared.fault.ItemFault.TheVariants.{BadShape, BeforeFirstItem, TooManyCells}
 pub use Rattle.polcert_format.specs.declared.fault.ModelFault.{ModelFault}
-pub use Rattle.polcert_items.specs.Steps.Items.{HasElements, IsEndReason, IsItemWithin, IsSeen, ItemForms, ItemGoes, new_item, pending_in, topic_in}
+pub use Rattle.polcert_items.specs.Steps.Items.{HasElements, IsEndReason, IsItemWithin, IsSeen, ItemForms, ItemGoes, new_item, pending_in}
+pub use Rattle.polcert_items.specs.Steps.Items.{topic_in}
 pub use Rattle.polcert_items.specs.Steps.Lines.{CannotEnd, Takes}
 pub use Rattle.polcert_items.specs.Steps.ModelSoFar.{AreContentsOf, IsAllowedNext, IsWholeRead, said, with_item}
 pub use Rattle.polcert_items.specs.Steps.Start.{IsStartReason}
@@ -31,7 +32,8 @@ pub use Rattle.polcert_items.specs.declared.item.ItemContents.{ItemContents}
 pub use Rattle.polcert_items.specs.declared.item.ItemReader.{ItemReader}
 pub use Rattle.polcert_items.specs.declared.signed_number.Refusal.{Refusal}
 pub use Rattle.polcert_items.specs.declared.signed_number.Sign.{Sign}
-pub use Rattle.polcert_model.specs.Steps.Texts.{AreItemsRead, IsBodyRead, IsItemRead, IsRefusedAfter, IsRefusedAt, IsRefusedWhole, IsShaped, IsTextOf, IsTextRead, Refuses, TextReadsOn, pending_at, tokens_end}
+pub use Rattle.polcert_model.specs.Steps.Texts.{AreItemsRead, IsBodyRead, IsItemRead, IsRefusedAfter, IsRefusedAt, IsRefusedWhole, IsShaped}
+pub use Rattle.polcert_model.specs.Steps.Texts.{IsTextOf, IsTextRead, Refuses, TextReadsOn, pending_at, tokens_end}
 pub use Rattle.polcert_model.specs.declared.reader.TextReader.{TextReader}
 pub use Rattle.polcert_text.specs.Cut.{IsCut, Lexeme, end_place, text_limit, text_rest}
 pub use Rattle.polcert_text.specs.Reading.{lexeme_of}

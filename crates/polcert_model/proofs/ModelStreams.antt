@@ -1,6 +1,8 @@
 -- A model's text that comes from a source.
 use Rattle.std.proofs.Common.{◌≡◌, ◌∙◌, ℕ, Bool, true, false, cond, Option, Some, None, List, length, nat_lt, refl, sym, arith, rules}
-use Rattle.polcert_model.proofs.Common.{Lexeme, IsCut, text_rest, end_place, text_limit, TakenFrom, TokenFault, Table, IsFirstWrongRow, ModelFault, TextReader, ModelSoFar, TextTokens, AreTokensOf, IsWholeRead, said, IsTextRead, IsTextOf, IsRefusedAfter, IsRefusedWhole, Refuses, tokens_end, pending_at}
+use Rattle.polcert_model.proofs.Common.{Lexeme, IsCut, text_rest, end_place, text_limit, TakenFrom, TokenFault, Table, IsFirstWrongRow}
+use Rattle.polcert_model.proofs.Common.{ModelFault, TextReader, ModelSoFar, TextTokens, AreTokensOf, IsWholeRead, said, IsTextRead}
+use Rattle.polcert_model.proofs.Common.{IsTextOf, IsRefusedAfter, IsRefusedWhole, Refuses, tokens_end, pending_at}
 use Rattle.polcert_text.proofs.Scanning.CleanCut.{ends_cleanly}
 use Rattle.polcert_text.specs.Source.{IsText, EachTextThatFits}
 use Rattle.polcert_text.specs.Stream.{Ahead, Stream, GivesEnd}
@@ -15,48 +17,59 @@ use Rattle.polcert_model.proofs.RefusingEnds.{fault_refused}
 use Rattle.polcert_model.proofs.WholeTexts.{row_refused}
 
 -- what is refused of a text's tokens is refused of the text
-refused_text : (fault : ModelFault) (text : List ℕ) → ((ts : TextTokens) → AreTokensOf text ts → Refuses ts fault) → IsRefusedModelText fault text
+refused_text : (fault : ModelFault) (text : List ℕ) → ((ts : TextTokens) → AreTokensOf text ts → Refuses ts fault)
+    → IsRefusedModelText fault text
 refused_text fault text h = grind (arith, no_model)
 
 -- where the items are right, the first row that is wrong is refused
 pub row_sum_refused : (seen : List Lexeme) (k : ModelSoFar) → IsWholeRead seen k → (text : List ℕ) (table : Table) (a s : ℕ)
-    → IsCut (text_rest text text_limit) seen None → IsFirstWrongRow (drafts.meaning (said k)) table a s → IsRefusedModelText (RowSum table a s) text
+    → IsCut (text_rest text text_limit) seen None → IsFirstWrongRow (drafts.meaning (said k)) table a s
+    → IsRefusedModelText (RowSum table a s) text
 row_sum_refused seen k read text table a s cut wrong = search (rules, row_refused, refused_text)
 
 -- a text whose tokens end cleanly ends where they do
-clean_end : (text : List ℕ) (ls : List Lexeme) → IsCut (text_rest text text_limit) ls None → end_place (text_rest text text_limit) ≡ length text
+clean_end : (text : List ℕ) (ls : List Lexeme) → IsCut (text_rest text text_limit) ls None
+    → end_place (text_rest text text_limit) ≡ length text
 clean_end text ls cut = at (nat_lt text_limit (length text)) (ends_cleanly (text_rest text text_limit) ls cut)
   where
-    at : (long : Bool) → (cond long (too_long text) (whole_text text)).ending ≡ None → end_place (cond long (too_long text) (whole_text text)) ≡ length text
+    at : (long : Bool) → (cond long (too_long text) (whole_text text)).ending ≡ None
+        → end_place (cond long (too_long text) (whole_text text)) ≡ length text
     at true e = absurd (some≢none refl e)
     at false e = omega arith
 
 module _ {S : Type 0} (reads : S → ℕ → Option (List ℕ) → S → Type 0) (failures : S → ℕ) (first : S) where
   -- no text whose tokens begin with these is right
-  pub refused_at_token : (ts : List Lexeme) (stream : Stream) (s : S) (fault : ModelFault) → TakenFrom reads failures text_limit first ts stream s → IsRefusedAfter ts fault
+  pub refused_at_token : (ts : List Lexeme) (stream : Stream) (s : S) (fault : ModelFault)
+      → TakenFrom reads failures text_limit first ts stream s → IsRefusedAfter ts fault
       → EachTextThatFits reads first s (IsRefusedModelText fault)
   refused_at_token ts stream s fault taken h =
       each_taken reads failures text_limit first ts stream s (IsRefusedModelText fault) taken
-      (λ text rest t. refused_text fault text (λ tokens are. let front = tokens_begin text rest ts tokens t are in h text tokens front.0 are front.1))
+      (λ text rest t. refused_text fault text (λ tokens are. let front = tokens_begin text rest ts tokens t are in
+      h text tokens front.0 are front.1))
 
   -- the tokens stop
-  pub refused_tokens : (ts : List Lexeme) (r : TextReader) (old : Stream) (s : S) (fault : TokenFault) (new : Ahead) (u : S) → IsTextRead ts r
+  pub refused_tokens : (ts : List Lexeme) (r : TextReader) (old : Stream) (s : S) (fault : TokenFault) (new : Ahead) (u : S)
+      → IsTextRead ts r
       → TakenFrom reads failures text_limit first ts old s → GivesEnd reads failures old.ahead s (Some fault) new u
       → EachTextThatFits reads first u (IsRefusedModelText (tokens_end r.number (pending_at r.item) fault))
   refused_tokens ts r old s fault new u read taken g =
       let named = tokens_end r.number (pending_at r.item) fault in
       each_cut reads failures text_limit first ts old s (Some fault) new u (IsRefusedModelText named) taken g
-      (λ text cut. refused_text named text (λ tokens are. let these = these_tokens text ts (Some fault) tokens cut are in fault_refused ts r fault read text tokens are these.0 these.1))
+      (λ text cut. refused_text named text (λ tokens are. let these = these_tokens text ts (Some fault) tokens cut are in
+      fault_refused ts r fault read text tokens are these.0 these.1))
 
   -- the text ends cleanly
-  pub read_at_end : (ts : List Lexeme) (old : Stream) (s : S) (new : Ahead) (u : S) (k : ModelSoFar) → TakenFrom reads failures text_limit first ts old s
+  pub read_at_end : (ts : List Lexeme) (old : Stream) (s : S) (new : Ahead) (u : S) (k : ModelSoFar)
+      → TakenFrom reads failures text_limit first ts old s
       → GivesEnd reads failures old.ahead s None new u → IsWholeRead ts k → (text : List ℕ) × IsText reads first text u × IsTextOf text k
   read_at_end ts old s new u k taken g read =
       let t = text_taken reads failures text_limit first ts old s new u taken g in
       (t.0, t.1, (ts, t.2, read))
 
-  pub refused_at_end : (ts : List Lexeme) (old : Stream) (s : S) (new : Ahead) (u : S) (fault : ModelFault) (end : ℕ) → TakenFrom reads failures text_limit first ts old s
-      → GivesEnd reads failures old.ahead s None new u → end ≡ new.place → IsRefusedWhole ts end fault → EachTextThatFits reads first u (IsRefusedModelText fault)
+  pub refused_at_end : (ts : List Lexeme) (old : Stream) (s : S) (new : Ahead) (u : S) (fault : ModelFault) (end : ℕ)
+      → TakenFrom reads failures text_limit first ts old s
+      → GivesEnd reads failures old.ahead s None new u → end ≡ new.place → IsRefusedWhole ts end fault
+      → EachTextThatFits reads first u (IsRefusedModelText fault)
   refused_at_end ts old s new u fault end taken g place h =
       let t = text_taken reads failures text_limit first ts old s new u taken g in
       each_whole reads first t.0 u (IsRefusedModelText fault) t.1

@@ -1,10 +1,17 @@
 -- What the reader of a text refuses within an item: each refusal is of the first wrong item, lies in it, and has its
 -- reason.
-use Rattle.std.proofs.Common.{◌≡◌, ◌∙◌, ℕ, ◌+◌, inr, true, false, Bool, Option, Some, None, List, [], ◌∷◌, ◌++◌, length, refl, sym, ap, subst, arith, rules}
+use Rattle.std.proofs.Common.{◌≡◌, ◌∙◌, ℕ, ◌+◌, inr, true, false, Bool, Option, Some, None, List, [], ◌∷◌, ◌++◌, length, refl, sym, ap}
+use Rattle.std.proofs.Common.{subst, arith, rules}
 use Rattle.std.proofs.lemmas.List.{append_assoc, append-nil}
-use Rattle.polcert_model.proofs.Common.{Lexeme, TokenFault, ItemFault, BadShape, TooManyCells, ItemReader, Refusal, Sign, TextReader, Topic, Start, topic, begins_item, Item, IsDivided, ModelSoFar, nothing_known, IsRight, AreRight, word_fault, HasForm, IsPossible, PassesCellLimit, TextTokens, AreTokensOf, LiesIn, IsDecided, wrong_last, IsReason, CannotEnd, IsStartReason, IsLate, IsLateIn, states_known, ItemGoes, ItemForms, topic_in, pending_in, IsSeen, IsEndReason, unexpected_token, expected, item_wants, IfStart, IsItemRead, IsRefusedAfter, IsRefusedAt, Refuses}
+use Rattle.polcert_model.proofs.Common.{Lexeme, TokenFault, ItemFault, BadShape, TooManyCells, ItemReader, Refusal, Sign, TextReader, Topic}
+use Rattle.polcert_model.proofs.Common.{Start, topic, begins_item, Item, IsDivided, ModelSoFar, nothing_known, IsRight, AreRight}
+use Rattle.polcert_model.proofs.Common.{word_fault, HasForm, IsPossible, PassesCellLimit, TextTokens, AreTokensOf, LiesIn, IsDecided}
+use Rattle.polcert_model.proofs.Common.{wrong_last, IsReason, CannotEnd, IsStartReason, IsLate, IsLateIn, states_known, ItemGoes, ItemForms}
+use Rattle.polcert_model.proofs.Common.{topic_in, pending_in, IsSeen, IsEndReason, unexpected_token, expected, item_wants, IfStart}
+use Rattle.polcert_model.proofs.Common.{IsItemRead, IsRefusedAfter, IsRefusedAt, Refuses}
 use Rattle.polcert_text.specs.declared.tokens.TokenKind.TheVariants.{Numeral}
-use Rattle.polcert_format.specs.declared.fault.ItemFault.TheVariants.{Number, BadCount, DuplicateName, UnknownName, IndexOutOfRange, WrongNumberCount, ProbabilityRange, DiscountRange, Reset}
+use Rattle.polcert_format.specs.declared.fault.ItemFault.TheVariants.{Number, BadCount, DuplicateName, UnknownName, IndexOutOfRange}
+use Rattle.polcert_format.specs.declared.fault.ItemFault.TheVariants.{WrongNumberCount, ProbabilityRange, DiscountRange, Reset}
 use Rattle.polcert_format.specs.declared.fault.ModelFault.TheVariants as model_faults
 use Rattle.polcert_items.specs.declared.item.ItemReader.TheVariants as items
 use Rattle.polcert_format.specs.Forms.{HasNoForm}
@@ -57,13 +64,15 @@ abbrev pub item_here : {ts : TextTokens} {n : ℕ} {k : ModelSoFar} {t : Topic} 
 item_here {body = body} h = record { word = h.word; body = body }
 
 -- the item that was begun, with what follows of its body and what follows it
-abbrev pub here : (ts : TextTokens) (n : ℕ) (seen body tail f : List Lexeme) (k : ModelSoFar) (t : Topic) (ys : List Item) (w : IsWithinItem seen k t body)
+abbrev pub here : (ts : TextTokens) (n : ℕ) (seen body tail f : List Lexeme) (k : ModelSoFar) (t : Topic) (ys : List Item)
+    (w : IsWithinItem seen k t body)
     → ts.lexemes ≡ seen ++ tail → n ≡ length w.items.items + 1 → IsDivided tail f ys → Here ts n k t (body ++ f)
 here ts n seen body tail f k t ys w e number d = record {
   before = w.items.items;
   word = w.word;
   after = ys;
-  divided = subst (λ ls. IsDivided ls [] (w.items.items ++ (record { word = w.word; body = body ++ f }) ∷ ys)) (sym e) (within_division seen body tail f k t ys w d);
+  divided = subst (λ ls. IsDivided ls [] (w.items.items ++ (record { word = w.word; body = body ++ f }) ∷ ys)) (sym e)
+      (within_division seen body tail f k t ys w d);
   taken = w.items.right;
   topic_is = w.topic_is;
   number_is = number;
@@ -72,7 +81,8 @@ here ts n seen body tail f k t ys w e number d = record {
 module _ {ts : TextTokens} {n : ℕ} {k : ModelSoFar} {t : Topic} {body : List Lexeme} (h : Here ts n k t body) where
   -- it is the first wrong item
   pub first_here : IsWrong k t body → IsFirstWrong ts n
-  first_here wrong = wrong_item h.before (item_here h) h.after k h.divided h.taken (λ u e. subst (λ x. IsWrong k x body) (one_some h.topic_is e) wrong) h.number_is
+  first_here wrong = wrong_item h.before (item_here h) h.after k h.divided h.taken
+      (λ u e. subst (λ x. IsWrong k x body) (one_some h.topic_is e) wrong) h.number_is
 
   -- a place in its body lies in it
   lies_here : (place : ℕ) (taken rest : List Lexeme) → Rises 0 ts.lexemes ts.end → body ≡ taken ++ rest
@@ -86,10 +96,12 @@ module _ {ts : TextTokens} {n : ℕ} {k : ModelSoFar} {t : Topic} {body : List L
   -- nothing is decided where its word may stand
   pub free_here : word_fault k t ≡ None → (fault : ItemFault) (at : ℕ) → IsDecided ts n fault at → ⊥
   free_here free fault at d =
-      nothing_decided ts h.before (item_here h) h.after k t fault at h.divided h.taken h.topic_is free (subst (λ m. IsDecided ts m fault at) h.number_is d)
+      nothing_decided ts h.before (item_here h) h.after k t fault at h.divided h.taken h.topic_is free
+      (subst (λ m. IsDecided ts m fault at) h.number_is d)
 
   -- a part of the body was taken, and there it stops
-  stops_here : (kind : ItemFault) (place : ℕ) (taken rest : List Lexeme) → body ≡ taken ++ rest → IsPossible k t taken → Stops k t kind taken rest
+  stops_here : (kind : ItemFault) (place : ℕ) (taken rest : List Lexeme) → body ≡ taken ++ rest → IsPossible k t taken
+      → Stops k t kind taken rest
       → place ≡ place_or rest (word_place h.after ts.end 0) → (rest ≡ [] → h.after ≡ [] → ts.ending ≡ None) → StopsInBody ts kind n place
   stops_here kind place taken rest whole possible stops at clean = grind arith
 
@@ -98,7 +110,8 @@ module _ {ts : TextTokens} {n : ℕ} {k : ModelSoFar} {t : Topic} {body : List L
       → IsLate (states_known k) body (ends_cleanly h.after ts.ending) kind place → IsLateIn ts n kind place
   late_in kind place start free late = grind arith
 
-  late_of : (kind : ItemFault) (place : ℕ) → IsLateIn ts n kind place → (t ≡ Start) × IsLate (states_known k) body (ends_cleanly h.after ts.ending) kind place
+  late_of : (kind : ItemFault) (place : ℕ) → IsLateIn ts n kind place → (t ≡ Start)
+      × IsLate (states_known k) body (ends_cleanly h.after ts.ending) kind place
   late_of kind place w = late_here ts n kind place h.before (item_here h) h.after k t h.divided h.taken h.topic_is h.number_is w
 
   -- a refusal in a start item, at some lexeme of its body
@@ -111,22 +124,26 @@ module _ {ts : TextTokens} {n : ℕ} {k : ModelSoFar} {t : Topic} {body : List L
 -- ---- where a number stands in the body
 
 signed_whole : (body before more : List Lexeme) (s l : Lexeme) → body ≡ before ++ s ∷ [] → (body ++ l ∷ []) ++ more ≡ before ++ s ∷ l ∷ more
-signed_whole body before more s l e = append_assoc body (l ∷ []) more ∙ ap (λ (b : List Lexeme). b ++ l ∷ more) e ∙ append_assoc before (s ∷ []) (l ∷ more)
+signed_whole body before more s l e = append_assoc body (l ∷ []) more ∙ ap (λ (b : List Lexeme). b ++ l ∷ more) e
+    ∙ append_assoc before (s ∷ []) (l ∷ more)
 
 sign_place : (sign : Sign) (s : Lexeme) → IsSignAt sign s → sign.place ≡ s.place
 sign_place sign s h1 = grind arith
 
-signed_stands : (sign : Sign) (body before more : List Lexeme) (s l : Lexeme) (place : ℕ) (Is : Bool → Lexeme → Type 0) → body ≡ before ++ s ∷ [] → IsSignAt sign s
+signed_stands : (sign : Sign) (body before more : List Lexeme) (s l : Lexeme) (place : ℕ) (Is : Bool → Lexeme → Type 0)
+    → body ≡ before ++ s ∷ [] → IsSignAt sign s
     → place ≡ sign.place → Is sign.negative l → NumberStandsIn ((body ++ l ∷ []) ++ more) place Is
 signed_stands sign body before more s l place Is e (steps.plus kind negative at) p so =
     reasons.plus before s l more (signed_whole body before more s l e) kind (p ∙ at) (subst (λ b. Is b l) negative so)
 signed_stands sign body before more s l place Is e (steps.minus kind negative at) p so =
     reasons.minus before s l more (signed_whole body before more s l e) kind (p ∙ at) (subst (λ b. Is b l) negative so)
 
-number_stands : (sign : Option Sign) (body more : List Lexeme) (l : Lexeme) (place : ℕ) (Is : Bool → Lexeme → Type 0) → SignEnds sign body → place ≡ number_place sign l
+number_stands : (sign : Option Sign) (body more : List Lexeme) (l : Lexeme) (place : ℕ) (Is : Bool → Lexeme → Type 0) → SignEnds sign body
+    → place ≡ number_place sign l
     → Is (is_negative sign) l → NumberStandsIn ((body ++ l ∷ []) ++ more) place Is
 number_stands None body more l place Is ends p so = reasons.unsigned body l more (append_assoc body (l ∷ []) more) ends p so
-number_stands (Some sign) body more l place Is ends p so = signed_stands sign body ends.0 more ends.1.0 l place Is ends.1.1.0 ends.1.1.1 p so
+number_stands (Some sign) body more l place Is ends p so =
+    signed_stands sign body ends.0 more ends.1.0 l place Is ends.1.1.0 ends.1.1.1 p so
 
 -- ---- a token that is refused
 
@@ -139,29 +156,43 @@ record Refused (ts : TextTokens) (n place : ℕ) (kind : ItemFault) : Type 0 whe
 sign_kind : (sign : Sign) (s : Lexeme) → IsSignAt sign s → is_sign s.kind ≡ true
 sign_kind sign s h1 = grind arith
 
-stands : (body more : List Lexeme) (l : Lexeme) (place : ℕ) (Is : Lexeme → Type 0) → place ≡ l.place → Is l → reasons.StandsIn ((body ++ l ∷ []) ++ more) place Is
-stands body more l place Is p so = record { before = body; lexeme = l; after = more; whole = append_assoc body (l ∷ []) more; place_is = p; holds = so }
+stands : (body more : List Lexeme) (l : Lexeme) (place : ℕ) (Is : Lexeme → Type 0) → place ≡ l.place → Is l
+    → reasons.StandsIn ((body ++ l ∷ []) ++ more) place Is
+stands body more l place Is p so = record {
+  before = body;
+  lexeme = l;
+  after = more;
+  whole = append_assoc body (l ∷ []) more;
+  place_is =
+      p;
+  holds = so;
+}
 
 -- the next lexeme is this one, of a body that was possible so far, and isn't with it
 module _ {ts : TextTokens} {n : ℕ} (place : ℕ) {k : ModelSoFar} {t : Topic} (sign : Option Sign) (body more : List Lexeme) (l : Lexeme)
-    (h : Here ts n k t ((body ++ l ∷ []) ++ more)) (rises : Rises 0 ts.lexemes ts.end) (ends : SignEnds sign body) (taken : IsPossible k t body)
+    (h : Here ts n k t ((body ++ l ∷ []) ++ more)) (rises : Rises 0 ts.lexemes ts.end) (ends : SignEnds sign body)
+    (taken : IsPossible k t body)
     (stuck : HasNoForm k t (body ++ l ∷ [])) where
   number_lies : (s : Option Sign) → SignEnds s body → place ≡ number_place s l → LiesIn ts n place
   number_lies None ends p = lies_here h place body (l ∷ more) rises (append_assoc body (l ∷ []) more) p
   number_lies (Some s) ends p =
-      lies_here h place ends.0 (ends.1.0 ∷ l ∷ more) rises (signed_whole body ends.0 more ends.1.0 l ends.1.1.0) (p ∙ sign_place s ends.1.0 ends.1.1.1)
+      lies_here h place ends.0 (ends.1.0 ∷ l ∷ more) rises (signed_whole body ends.0 more ends.1.0 l ends.1.1.0)
+      (p ∙ sign_place s ends.1.0 ends.1.1.1)
 
-  number_stops : (kind : ItemFault) (s : Option Sign) → SignEnds s body → place ≡ number_place s l → l.kind ≡ Numeral → IsOfValue kind → IsMisfit (expected k t body) l kind
+  number_stops : (kind : ItemFault) (s : Option Sign) → SignEnds s body → place ≡ number_place s l → l.kind ≡ Numeral → IsOfValue kind
+      → IsMisfit (expected k t body) l kind
       → StopsInBody ts kind n place
   number_stops kind None ends p numeral value unfit =
-      stops_here h kind place body (l ∷ more) (append_assoc body (l ∷ []) more) taken (refusals.at_lexeme stuck unfit) p (λ none. absurd (cons≢nil none))
+      stops_here h kind place body (l ∷ more) (append_assoc body (l ∷ []) more) taken (refusals.at_lexeme stuck unfit) p
+      (λ none. absurd (cons≢nil none))
   number_stops kind (Some g) ends p numeral value unfit =
       let before = ends.0 in
       let s = ends.1.0 in
       let whole = ends.1.1.0 in
       let signed : IsPossible k t (before ++ s ∷ []) = subst (IsPossible k t) whole taken in
       let front : IsPossible k t before = possible_front k t before (s ∷ []) signed in
-      let pair : HasNoForm k t (before ++ s ∷ l ∷ []) = subst (HasNoForm k t) (ap (λ (b : List Lexeme). b ++ l ∷ []) whole ∙ append_assoc before (s ∷ []) (l ∷ [])) stuck in
+      let pair : HasNoForm k t (before ++ s ∷ l ∷ []) = subst (HasNoForm k t)
+      (ap (λ (b : List Lexeme). b ++ l ∷ []) whole ∙ append_assoc before (s ∷ []) (l ∷ [])) stuck in
       let following : IsMisfit (expected k t (before ++ s ∷ [])) l kind = subst (λ b. IsMisfit (expected k t b) l kind) whole unfit in
       stops_here h kind place before (s ∷ l ∷ more) (signed_whole body before more s l whole) front
       (refusals.at_number (sign_kind g s ends.1.1.1) numeral signed pair value following) (p ∙ sign_place g s ends.1.1.1)
@@ -171,11 +202,13 @@ module _ {ts : TextTokens} {n : ℕ} (place : ℕ) {k : ModelSoFar} {t : Topic} 
       → IsReason ts n place kind → Refused ts n place kind
   at_number kind value unfit numeral p reason = search (rules, number_lies, number_stops)
 
-  at_lexeme : (kind : ItemFault) → IsMisfit (expected k t body) l kind → place ≡ l.place → IsReason ts n place kind → Refused ts n place kind
+  at_lexeme : (kind : ItemFault) → IsMisfit (expected k t body) l kind → place ≡ l.place → IsReason ts n place kind
+      → Refused ts n place kind
   at_lexeme kind unfit p reason = record {
     lies = lies_here h place body (l ∷ more) rises (append_assoc body (l ∷ []) more) p;
     reason = reason;
-    stops = stops_here h kind place body (l ∷ more) (append_assoc body (l ∷ []) more) taken (refusals.at_lexeme stuck unfit) p (λ none. absurd (cons≢nil none));
+    stops = stops_here h kind place body (l ∷ more) (append_assoc body (l ∷ []) more) taken (refusals.at_lexeme stuck unfit) p
+        (λ none. absurd (cons≢nil none));
   }
 
   refused_here : (kind : ItemFault) → IsMisfit (expected k t body) l kind → IsTokenReason t sign body l kind place → Refused ts n place kind
@@ -184,7 +217,11 @@ module _ {ts : TextTokens} {n : ℕ} (place : ℕ) {k : ModelSoFar} {t : Topic} 
   refused_here ProbabilityRange unfit m = search (rules, so_here, number_stands, at_number)
   refused_here Reset unfit m = at_lexeme Reset unfit m.0 (so_here h (stands body more l place _ m.0 m.1))
   refused_here DuplicateName unfit m =
-      at_lexeme DuplicateName unfit m.0 (so_here h (m.1, subst (λ b. IsRepeated b place) (sym (append_assoc body (l ∷ []) more)) (m.2 more)))
+      at_lexeme DuplicateName unfit m.0 (so_here h (
+        m.1,
+        subst (λ b. IsRepeated b place) (sym (append_assoc body (l ∷ []) more))
+            (m.2 more),
+      ))
   refused_here UnknownName unfit m = at_lexeme UnknownName unfit m.0 (so_here h (stands body more l place _ m.0 m.1))
   refused_here IndexOutOfRange unfit m = at_lexeme IndexOutOfRange unfit m.0 (so_here h (stands body more l place _ m.0 m.1))
   refused_here BadCount unfit m = at_lexeme BadCount unfit m.0 (so_here h m.1)
@@ -196,19 +233,22 @@ module _ {ts : TextTokens} {n : ℕ} (place : ℕ) {k : ModelSoFar} {t : Topic} 
 stuck : (seen : List Lexeme) (r : TextReader) (w : IsItemRead seen r) (l : Lexeme) → CannotTake (ItemGoes r.known) w.item l
     → CannotGoOn r.known w.t (w.body ++ l ∷ [])
 stuck seen r w l none more after taken =
-    none more after (w.read.on (l ∷ more) after (right_shaped r.known w.t _ after (subst (λ b. IsRight r.known w.t b after) (append_assoc w.body (l ∷ []) more) taken)))
+    none more after (w.read.on (l ∷ more) after (right_shaped r.known w.t _ after
+    (subst (λ b. IsRight r.known w.t b after) (append_assoc w.body (l ∷ []) more) taken)))
 
 -- and hasn't even the form of one with it
 without_form : (seen : List Lexeme) (r : TextReader) (w : IsItemRead seen r) (l : Lexeme) → CannotTake (ItemGoes r.known) w.item l
     → IfStart (topic_in w.item) (CannotTake (ItemForms r.known) w.item l) → HasNoForm r.known w.t (w.body ++ l ∷ [])
 without_form seen r w l none formless more f =
-    forms_stuck r.known w.item l none formless more tt (w.read.forms (l ∷ more) (subst (HasForm r.known w.t) (append_assoc w.body (l ∷ []) more) f))
+    forms_stuck r.known w.item l none formless more tt (w.read.forms (l ∷ more)
+    (subst (HasForm r.known w.t) (append_assoc w.body (l ∷ []) more) f))
 
 -- what stands in a body stands in it with more after
 stands_further : (body more : List Lexeme) (place : ℕ) (Is : Lexeme → Type 0) → StandsIn body place Is → StandsIn (body ++ more) place Is
 stands_further body more place Is s = grind (arith, append_assoc)
 
-number_further : (body more : List Lexeme) (place : ℕ) (Is : Bool → Lexeme → Type 0) → NumberStandsIn body place Is → NumberStandsIn (body ++ more) place Is
+number_further : (body more : List Lexeme) (place : ℕ) (Is : Bool → Lexeme → Type 0) → NumberStandsIn body place Is
+    → NumberStandsIn (body ++ more) place Is
 number_further body more place Is (reasons.unsigned before l after e free p so) =
     reasons.unsigned before l (after ++ more) (ap (λ (b : List Lexeme). b ++ more) e ∙ append_assoc before (l ∷ after) more) free p so
 number_further body more place Is (reasons.plus before s l after e kind p so) =
@@ -217,7 +257,8 @@ number_further body more place Is (reasons.minus before s l after e kind p so) =
     reasons.minus before s l (after ++ more) (ap (λ (b : List Lexeme). b ++ more) e ∙ append_assoc before (s ∷ l ∷ after) more) kind p so
 
 -- why a start item is refused at some lexeme of its body
-module _ {ts : TextTokens} {n : ℕ} (place : ℕ) {k : ModelSoFar} {t : Topic} (body more : List Lexeme) (h : Here ts n k t (body ++ more)) (e : t ≡ Start) where
+module _ {ts : TextTokens} {n : ℕ} (place : ℕ) {k : ModelSoFar} {t : Topic} (body more : List Lexeme) (h : Here ts n k t (body ++ more))
+    (e : t ≡ Start) where
   start_reason : (kind : ItemFault) → IsReasonIn body kind place → IsReason ts n place kind
   start_reason (Number fault) m = so_here h (number_further body more place _ m)
   start_reason ProbabilityRange m = so_here h (subst reasons.IsOfProbabilities (sym e) tt, number_further body more place _ m)
@@ -234,9 +275,11 @@ module _ {ts : TextTokens} {n : ℕ} (place : ℕ) {k : ModelSoFar} {t : Topic} 
 abbrev IsWhatIsDue : TextTokens → ℕ → ItemFault → ℕ → Type 0
 IsWhatIsDue ts n kind place = (fault : ItemFault) (at : ℕ) → IsLateIn ts n fault at → (kind ≡ fault) × (place ≡ at)
 
-start_refused : {text : List ℕ} {ts : TextTokens} {n : ℕ} (place : ℕ) {k : ModelSoFar} {t : Topic} (body more : List Lexeme) (kind : ItemFault) → AreTokensOf text ts
+start_refused : {text : List ℕ} {ts : TextTokens} {n : ℕ} (place : ℕ) {k : ModelSoFar} {t : Topic} (body more : List Lexeme)
+    (kind : ItemFault) → AreTokensOf text ts
     → (h : Here ts n k t (body ++ more)) → word_fault k t ≡ None → IsFirstWrong ts n → t ≡ Start → IsStartReason body kind place
-    → IsLate (states_known k) (body ++ more) (ends_cleanly h.after ts.ending) kind place → IsWhatIsDue ts n kind place → Refuses ts (model_faults.Item kind n place)
+    → IsLate (states_known k) (body ++ more) (ends_cleanly h.after ts.ending) kind place → IsWhatIsDue ts n kind place
+    → Refuses ts (model_faults.Item kind n place)
 start_refused {text} {ts} place body more kind tokens h free wrong e r late due = record {
   refusal = record {
     first_wrong = wrong;
@@ -252,32 +295,42 @@ fault_ends : (ending : Option TokenFault) (f : TokenFault) → ending ≡ Some f
 fault_ends ending f e = ap (ends_cleanly []) e
 
 -- at a fault of the tokens, what is due of an item's first number is what waits for more
-pub due_at_fault : (ts : TextTokens) (n : ℕ) (k : ModelSoFar) (t : Topic) (body : List Lexeme) (item : ItemReader) (f : TokenFault) (kind : ItemFault) (place : ℕ) (h : Here ts n k t (body ++ [])) → h.after ≡ [] → ts.ending ≡ Some f
-    → topic_in item ≡ t → IsSeen (states_known k) body item → IsLateIn ts n kind place → pending_in item ≡ Some (record { kind = kind; place = place })
+pub due_at_fault : (ts : TextTokens) (n : ℕ) (k : ModelSoFar) (t : Topic) (body : List Lexeme) (item : ItemReader) (f : TokenFault)
+    (kind : ItemFault) (place : ℕ) (h : Here ts n k t (body ++ [])) → h.after ≡ [] → ts.ending ≡ Some f
+    → topic_in item ≡ t → IsSeen (states_known k) body item → IsLateIn ts n kind place
+    → pending_in item ≡ Some (record { kind = kind; place = place })
 due_at_fault ts n k t body item f kind place h last ending topics seen w =
     let found = late_of h kind place w in
     let clean : ends_cleanly h.after ts.ending ≡ false = ap (λ items. ends_cleanly items ts.ending) last ∙ fault_ends ts.ending f ending in
     let late : IsLate (states_known k) body false kind place =
-    subst (λ b. IsLate (states_known k) body b kind place) clean (subst (λ (b : List Lexeme). IsLate (states_known k) b (ends_cleanly h.after ts.ending) kind place) (append-nil body) found.1) in
+    subst (λ b. IsLate (states_known k) body b kind place) clean
+    (subst (λ (b : List Lexeme). IsLate (states_known k) b (ends_cleanly h.after ts.ending) kind place) (append-nil body) found.1) in
     of item (topics ∙ found.0) seen late
   where
-    of : (i : ItemReader) → topic_in i ≡ Start → IsSeen (states_known k) body i → IsLate (states_known k) body false kind place → pending_in i ≡ Some (record { kind = kind; place = place })
+    of : (i : ItemReader) → topic_in i ≡ Start → IsSeen (states_known k) body i → IsLate (states_known k) body false kind place
+        → pending_in i ≡ Some (record { kind = kind; place = place })
     of (items.Start r) e s late = late_at_fault (states_known k) body r kind place s late
     of _ e s late = absurd (cc)
 
 -- a start item in which the tokens end in a fault after a number without a value
-pub pending_refused : (seen : List Lexeme) (r : TextReader) (f : TokenFault) (x : Refusal) → (w : IsItemRead seen r) → pending_in w.item ≡ Some x
-    → (text : List ℕ) (ts : TextTokens) → AreTokensOf text ts → ts.lexemes ≡ seen → ts.ending ≡ Some f → Refuses ts (model_faults.Item x.kind r.number x.place)
+pub pending_refused : (seen : List Lexeme) (r : TextReader) (f : TokenFault) (x : Refusal) → (w : IsItemRead seen r)
+    → pending_in w.item ≡ Some x
+    → (text : List ℕ) (ts : TextTokens) → AreTokensOf text ts → ts.lexemes ≡ seen → ts.ending ≡ Some f
+    → Refuses ts (model_faults.Item x.kind r.number x.place)
 pending_refused seen r f x w e text ts tokens same ending =
     let why = pending_why (states_known r.known) w.body w.item x w.read.seen e in
-    let h : Here ts r.number r.known w.t (w.body ++ []) = here ts r.number seen w.body [] [] r.known w.t [] w.within (same ∙ sym (append-nil seen)) w.number_is empty_division in
+    let h : Here ts r.number r.known w.t (w.body ++ []) =
+    here ts r.number seen w.body [] [] r.known w.t [] w.within (same ∙ sym (append-nil seen)) w.number_is empty_division in
     let late : IsLate (states_known r.known) (w.body ++ []) (ends_cleanly [] ts.ending) x.kind x.place =
     subst (λ b. IsLate (states_known r.known) (w.body ++ []) b x.kind x.place) (sym (fault_ends ts.ending f ending))
     (subst (λ (b : List Lexeme). IsLate (states_known r.known) b false x.kind x.place) (sym (append-nil w.body)) why.2) in
-    start_refused x.place w.body [] x.kind tokens h w.read.may_stand (wrong_last h.before (item_here h) r.known f h.divided h.taken ending h.number_is) (sym w.read.topic_is ∙ why.0) why.1 late
-    (λ fault at is. same_refusal x fault at (sym e ∙ due_at_fault ts r.number r.known w.t w.body w.item f fault at h refl ending w.read.topic_is w.read.seen is))
+    start_refused x.place w.body [] x.kind tokens h w.read.may_stand
+    (wrong_last h.before (item_here h) r.known f h.divided h.taken ending h.number_is) (sym w.read.topic_is ∙ why.0) why.1 late
+    (λ fault at is. same_refusal x fault at (sym e ∙ due_at_fault ts r.number r.known w.t w.body w.item f fault at h refl ending
+    w.read.topic_is w.read.seen is))
   where
-    same_refusal : (x : Refusal) (fault : ItemFault) (at : ℕ) → Some x ≡ Some (record { kind = fault; place = at }) → (x.kind ≡ fault) × (x.place ≡ at)
+    same_refusal : (x : Refusal) (fault : ItemFault) (at : ℕ) → Some x ≡ Some (record { kind = fault; place = at }) → (x.kind ≡ fault)
+        × (x.place ≡ at)
     same_refusal x fault at q = (ap (λ (y : Refusal). y.kind) (one_some refl q), ap (λ (y : Refusal). y.place) (one_some refl q))
 
     pending_why : (count : ℕ) (body : List Lexeme) (item : ItemReader) (x : Refusal) → IsSeen count body item → pending_in item ≡ Some x
@@ -286,35 +339,44 @@ pending_refused seen r f x w e text ts tokens same ending =
     pending_why count body _ x seen e = absurd (none≢some e)
 
 -- the sign that waits for its numeral ends the body
-pub seen_sign : (count : ℕ) (body : List Lexeme) (item : ItemReader) → (topic_in item ≡ Start → ⊥) → IsSeen count body item → SignEnds (sign_in item) body
+pub seen_sign : (count : ℕ) (body : List Lexeme) (item : ItemReader) → (topic_in item ≡ Start → ⊥) → IsSeen count body item
+    → SignEnds (sign_in item) body
 seen_sign count body item h1 h2 = grind arith
 
 -- what is said of items that are no start item
 not_start : (t : Topic) (P : Type 0) → (t ≡ Start → ⊥) → IfNotStart t P → P
 not_start t P h1 h2 = grind arith
 
-wants_here : (k : ModelSoFar) (t : Topic) (body : List Lexeme) (item : ItemReader) → ((ls : List Lexeme) → expected k t (body ++ ls) ≡ item_wants k item ls) → item_wants k item [] ≡ expected k t body
+wants_here : (k : ModelSoFar) (t : Topic) (body : List Lexeme) (item : ItemReader)
+    → ((ls : List Lexeme) → expected k t (body ++ ls) ≡ item_wants k item ls) → item_wants k item [] ≡ expected k t body
 wants_here k t body item wants = sym (ap (expected k t) (sym (append-nil body)) ∙ wants [])
 
-here_unfit : (k : ModelSoFar) (t : Topic) (body : List Lexeme) (item : ItemReader) → (t ≡ Start → ⊥) → ((ls : List Lexeme) → expected k t (body ++ ls) ≡ item_wants k item ls)
+here_unfit : (k : ModelSoFar) (t : Topic) (body : List Lexeme) (item : ItemReader) → (t ≡ Start → ⊥)
+    → ((ls : List Lexeme) → expected k t (body ++ ls) ≡ item_wants k item ls)
     → (l : Lexeme) (kind : ItemFault) → IfNotStart t (IsMisfit (item_wants k item []) l kind) → IsMisfit (expected k t body) l kind
-here_unfit k t body item other wants l kind unfit = subst (λ x. IsMisfit x l kind) (wants_here k t body item wants) (not_start t _ other unfit)
+here_unfit k t body item other wants l kind unfit =
+    subst (λ x. IsMisfit x l kind) (wants_here k t body item wants) (not_start t _ other unfit)
 
 -- why a token is refused in a start item, as of any item
-start_token : (sign : Option Sign) (body : List Lexeme) (l : Lexeme) (kind : ItemFault) (place : ℕ) → IsReasonAt sign l kind place → IsTokenReason Start sign body l kind place
+start_token : (sign : Option Sign) (body : List Lexeme) (l : Lexeme) (kind : ItemFault) (place : ℕ) → IsReasonAt sign l kind place
+    → IsTokenReason Start sign body l kind place
 start_token sign body l kind place h1 = grind arith
 
-pub feed_refused : (seen : List Lexeme) (r : TextReader) (l : Lexeme) (kind : ItemFault) (place : ℕ) (w : IsItemRead seen r) → begins_item l ≡ false
-    → CannotTake (ItemGoes r.known) w.item l → IsItemReason w.item w.body l kind place → IfNotStart (topic_in w.item) (IsMisfit (item_wants r.known w.item []) l kind)
+pub feed_refused : (seen : List Lexeme) (r : TextReader) (l : Lexeme) (kind : ItemFault) (place : ℕ) (w : IsItemRead seen r)
+    → begins_item l ≡ false
+    → CannotTake (ItemGoes r.known) w.item l → IsItemReason w.item w.body l kind place
+    → IfNotStart (topic_in w.item) (IsMisfit (item_wants r.known w.item []) l kind)
     → IfStart (topic_in w.item) (StopsStart (pending_in w.item) (states_known r.known) w.body (item_wants r.known w.item []) l kind place)
     → IfStart (topic_in w.item) (CannotTake (ItemForms r.known) w.item l)
-    → ((more : List Lexeme) (ends : Bool) (late : Refusal) → topic_in w.item ≡ Start → IsLate (states_known r.known) (w.body ++ l ∷ more) ends late.kind late.place → (kind ≡ late.kind) × (place ≡ late.place))
+    → ((more : List Lexeme) (ends : Bool) (late : Refusal) → topic_in w.item ≡ Start
+    → IsLate (states_known r.known) (w.body ++ l ∷ more) ends late.kind late.place → (kind ≡ late.kind) × (place ≡ late.place))
     → IsRefusedAfter (seen ++ l ∷ []) (model_faults.Item kind r.number place)
 feed_refused seen r l kind place w inner none reason unfit stops formless due text ts further tokens e =
     let d = has_division further in
     let more : List Lexeme = d.0 in
     let following = within_continues seen l r.known w.t w.body w.within inner in
-    let h : Here ts r.number r.known w.t ((w.body ++ l ∷ []) ++ more) = here ts r.number (seen ++ l ∷ []) (w.body ++ l ∷ []) further more r.known w.t d.1 following e w.number_is d.2 in
+    let h : Here ts r.number r.known w.t ((w.body ++ l ∷ []) ++ more) =
+    here ts r.number (seen ++ l ∷ []) (w.body ++ l ∷ []) further more r.known w.t d.1 following e w.number_is d.2 in
     at reason more h
   where
     -- what is due of a start item's first number is this
@@ -322,9 +384,11 @@ feed_refused seen r l kind place w inner none reason unfit stops formless due te
     is_due more h fault at is =
         let found = late_of h fault at is in
         due more (ends_cleanly h.after ts.ending) (record { kind = fault; place = at }) (w.read.topic_is ∙ found.0)
-        (subst (λ (b : List Lexeme). IsLate (states_known r.known) b (ends_cleanly h.after ts.ending) fault at) (append_assoc w.body (l ∷ []) more) found.1)
+        (subst (λ (b : List Lexeme). IsLate (states_known r.known) b (ends_cleanly h.after ts.ending) fault at)
+        (append_assoc w.body (l ∷ []) more) found.1)
 
-    refused_so : (more : List Lexeme) (h : Here ts r.number r.known w.t ((w.body ++ l ∷ []) ++ more)) → Refused ts r.number place kind → Refuses ts (model_faults.Item kind r.number place)
+    refused_so : (more : List Lexeme) (h : Here ts r.number r.known w.t ((w.body ++ l ∷ []) ++ more)) → Refused ts r.number place kind
+        → Refuses ts (model_faults.Item kind r.number place)
     refused_so more h refused = record {
       refusal = record {
         first_wrong = first_here h (stuck seen r w l none more);
@@ -335,33 +399,43 @@ feed_refused seen r l kind place w inner none reason unfit stops formless due te
       placed = record { stands = in_body refused.stops; late = is_due more h };
     }
 
-    of_one : (more : List Lexeme) → Here ts r.number r.known w.t ((w.body ++ l ∷ []) ++ more) → (topic_in w.item ≡ Start → ⊥) → IsTokenReason (topic_in w.item) (sign_in w.item) w.body l kind place
+    of_one : (more : List Lexeme) → Here ts r.number r.known w.t ((w.body ++ l ∷ []) ++ more) → (topic_in w.item ≡ Start → ⊥)
+        → IsTokenReason (topic_in w.item) (sign_in w.item) w.body l kind place
         → Refuses ts (model_faults.Item kind r.number place)
     of_one more h other m =
         refused_so more h
-        (refused_here place (sign_in w.item) w.body more l h (tokens_rise text ts tokens) (seen_sign (states_known r.known) w.body w.item other w.read.seen)
+        (refused_here place (sign_in w.item) w.body more l h (tokens_rise text ts tokens)
+        (seen_sign (states_known r.known) w.body w.item other w.read.seen)
         (w.read.possible (nothing_pending w.item other)) (without_form seen r w l none formless) kind
-        (here_unfit r.known w.t w.body w.item (λ s. other (w.read.topic_is ∙ s)) w.read.wants l kind (subst (λ u. IfNotStart u (IsMisfit (item_wants r.known w.item []) l kind)) w.read.topic_is unfit))
+        (here_unfit r.known w.t w.body w.item (λ s. other (w.read.topic_is ∙ s)) w.read.wants l kind
+        (subst (λ u. IfNotStart u (IsMisfit (item_wants r.known w.item []) l kind)) w.read.topic_is unfit))
         (subst (λ t. IsTokenReason t (sign_in w.item) w.body l kind place) w.read.topic_is m))
 
-    of_start : (more : List Lexeme) (h : Here ts r.number r.known w.t ((w.body ++ l ∷ []) ++ more)) → w.t ≡ Start → IsStartReason (w.body ++ l ∷ []) kind place
-        → StopsStart (pending_in w.item) (states_known r.known) w.body (expected r.known w.t w.body) l kind place → Refuses ts (model_faults.Item kind r.number place)
+    of_start : (more : List Lexeme) (h : Here ts r.number r.known w.t ((w.body ++ l ∷ []) ++ more)) → w.t ≡ Start
+        → IsStartReason (w.body ++ l ∷ []) kind place
+        → StopsStart (pending_in w.item) (states_known r.known) w.body (expected r.known w.t w.body) l kind place
+        → Refuses ts (model_faults.Item kind r.number place)
     of_start more h start m (first_number late) =
         start_refused place (w.body ++ l ∷ []) more kind tokens h w.read.may_stand
         (first_here h (stuck seen r w l none more)) start m
-        (subst (λ (b : List Lexeme). IsLate (states_known r.known) b (ends_cleanly h.after ts.ending) kind place) (sym (append_assoc w.body (l ∷ []) more)) (late more (ends_cleanly h.after ts.ending)))
+        (subst (λ (b : List Lexeme). IsLate (states_known r.known) b (ends_cleanly h.after ts.ending) kind place)
+        (sym (append_assoc w.body (l ∷ []) more)) (late more (ends_cleanly h.after ts.ending)))
         (is_due more h)
     of_start more h start m (token sign unheld ends misfits why) =
         refused_so more h
-        (refused_here place sign w.body more l h (tokens_rise text ts tokens) ends (w.read.possible unheld) (without_form seen r w l none formless) kind misfits
+        (refused_here place sign w.body more l h (tokens_rise text ts tokens) ends (w.read.possible unheld)
+        (without_form seen r w l none formless) kind misfits
         (subst (λ t. IsTokenReason t sign w.body l kind place) (sym start) (start_token sign w.body l kind place why)))
 
-    at : IsItemReason w.item w.body l kind place → (more : List Lexeme) → Here ts r.number r.known w.t ((w.body ++ l ∷ []) ++ more) → Refuses ts (model_faults.Item kind r.number place)
+    at : IsItemReason w.item w.body l kind place → (more : List Lexeme) → Here ts r.number r.known w.t ((w.body ++ l ∷ []) ++ more)
+        → Refuses ts (model_faults.Item kind r.number place)
     at (steps_of.of_token other m) more h = of_one more h other m
     at (steps_of.of_start start m) more h =
         let here_stops : StopsStart (pending_in w.item) (states_known r.known) w.body (expected r.known w.t w.body) l kind place =
-        subst (λ x. StopsStart (pending_in w.item) (states_known r.known) w.body x l kind place) (wants_here r.known w.t w.body w.item w.read.wants)
-        (subst (λ u. IfStart u (StopsStart (pending_in w.item) (states_known r.known) w.body (item_wants r.known w.item []) l kind place)) start stops) in
+        subst (λ x. StopsStart (pending_in w.item) (states_known r.known) w.body x l kind place)
+        (wants_here r.known w.t w.body w.item w.read.wants)
+        (subst (λ u. IfStart u (StopsStart (pending_in w.item) (states_known r.known) w.body (item_wants r.known w.item []) l kind place))
+        start stops) in
         of_start more h (sym w.read.topic_is ∙ start) m here_stops
 
 -- ---- an item that cannot end
@@ -372,36 +446,47 @@ record EndsHere (ts : TextTokens) (n place : ℕ) (k : ModelSoFar) (t : Topic) (
   place_is : place ≡ word_place here_is.after ts.end 0
   clean : here_is.after ≡ [] → ts.ending ≡ None
 
-ends_here : (ts : TextTokens) (n place : ℕ) (seen body : List Lexeme) (k : ModelSoFar) (t : Topic) (w : IsWithinItem seen k t body) → n ≡ length w.items.items + 1
+ends_here : (ts : TextTokens) (n place : ℕ) (seen body : List Lexeme) (k : ModelSoFar) (t : Topic) (w : IsWithinItem seen k t body)
+    → n ≡ length w.items.items + 1
     → EndsItem ts seen place → EndsHere ts n place k t body
 ends_here ts n place seen body k t w number (texts.at_word next further e begins p) =
     let d = has_division further in
     let item : Item = record { word = next; body = d.0 } in
     record {
-      here_is = here ts n seen body (next ∷ further) [] k t (item ∷ d.1) w e number (next_division [] further d.0 next [] d.1 begins empty_division d.2);
+      here_is = here ts n seen body (next ∷ further) [] k t (item ∷ d.1) w e number
+          (next_division [] further d.0 next [] d.1 begins empty_division d.2);
       place_is = p;
       clean = λ none. absurd (cons≢nil none);
     }
 ends_here ts n place seen body k t w number (texts.at_end e clean p) =
-    record { here_is = here ts n seen body [] [] k t [] w (e ∙ sym (append-nil seen)) number empty_division; place_is = p; clean = λ none. clean }
+    record {
+      here_is = here ts n seen body [] [] k t [] w (e ∙ sym (append-nil seen)) number empty_division;
+      place_is = p;
+      clean =
+          λ none. clean;
+    }
 
 -- an item that ends
 clean_ends : (items : List Item) (ending : Option TokenFault) → (items ≡ [] → ending ≡ None) → ends_cleanly items ending ≡ true
 clean_ends items ending h1 = grind (arith, none≢some)
 
 -- what is due of its first number there
-due_at_end : (ts : TextTokens) (n place : ℕ) (k : ModelSoFar) (t : Topic) (body : List Lexeme) (fault : ItemFault) (at : ℕ) (x : EndsHere ts n place k t body) → IsLateIn ts n fault at
+due_at_end : (ts : TextTokens) (n place : ℕ) (k : ModelSoFar) (t : Topic) (body : List Lexeme) (fault : ItemFault) (at : ℕ)
+    (x : EndsHere ts n place k t body) → IsLateIn ts n fault at
     → (t ≡ Start) × IsLate (states_known k) body true fault at
 due_at_end ts n place k t body fault at x w =
     let found = late_of x.here_is fault at w in (
       found.0,
       subst (λ b. IsLate (states_known k) body b fault at) (clean_ends x.here_is.after ts.ending x.clean)
-          (subst (λ (b : List Lexeme). IsLate (states_known k) b (ends_cleanly x.here_is.after ts.ending) fault at) (append-nil body) found.1),
+          (subst (λ (b : List Lexeme). IsLate (states_known k) b (ends_cleanly x.here_is.after ts.ending) fault at) (append-nil body)
+          found.1),
     )
 
-pub end_refused : (seen : List Lexeme) (r : TextReader) (kind : ItemFault) (place : ℕ) (w : IsItemRead seen r) → CannotEnd (ItemGoes r.known) w.item
+pub end_refused : (seen : List Lexeme) (r : TextReader) (kind : ItemFault) (place : ℕ) (w : IsItemRead seen r)
+    → CannotEnd (ItemGoes r.known) w.item
     → IsEndReason (topic_in w.item) kind → kind ≡ unexpected_token (item_wants r.known w.item []) None → pending_in w.item ≡ None
-    → ((late : Refusal) → topic_in w.item ≡ Start → IsLate (states_known r.known) w.body true late.kind late.place → ⊥) → IsRefusedAt seen place (model_faults.Item kind r.number place)
+    → ((late : Refusal) → topic_in w.item ≡ Start → IsLate (states_known r.known) w.body true late.kind late.place → ⊥)
+    → IsRefusedAt seen place (model_faults.Item kind r.number place)
 end_refused seen r kind place w none reason kinds unheld undue text ts tokens ends =
     let x = ends_here ts r.number place seen w.body r.known w.t w.within w.number_is ends in
     record {
@@ -421,14 +506,18 @@ end_refused seen r kind place w none reason kinds unheld undue text ts tokens en
   where
     stops : Stops r.known w.t kind w.body []
     stops =
-        refusals.at_end (λ after right. none after (w.read.on [] after (right_shaped r.known w.t _ after (subst (λ b. IsRight r.known w.t b after) (sym (append-nil w.body)) right))))
-        (λ much. let s = too_much_shaped r.known w.t (w.body ++ []) (subst (PassesCellLimit r.known w.t) (sym (append-nil w.body)) much) in none s.0 (w.read.on [] s.0 s.1))
+        refusals.at_end (λ after right. none after (w.read.on [] after
+        (right_shaped r.known w.t _ after (subst (λ b. IsRight r.known w.t b after) (sym (append-nil w.body)) right))))
+        (λ much. let s = too_much_shaped r.known w.t (w.body ++ []) (subst (PassesCellLimit r.known w.t) (sym (append-nil w.body)) much) in
+        none s.0 (w.read.on [] s.0 s.1))
         (kinds ∙ ap (λ v. unexpected_token v None) (wants_here r.known w.t w.body w.item w.read.wants))
 
 -- a start item that cannot end, for the number before its end
-pub end_refused_before : (seen : List Lexeme) (r : TextReader) (kind : ItemFault) (at place : ℕ) (w : IsItemRead seen r) → CannotEnd (ItemGoes r.known) w.item
+pub end_refused_before : (seen : List Lexeme) (r : TextReader) (kind : ItemFault) (at place : ℕ) (w : IsItemRead seen r)
+    → CannotEnd (ItemGoes r.known) w.item
     → topic_in w.item ≡ Start → IsStartReason w.body kind at → IsLate (states_known r.known) w.body true kind at
-    → ((late : Refusal) → topic_in w.item ≡ Start → IsLate (states_known r.known) w.body true late.kind late.place → (kind ≡ late.kind) × (at ≡ late.place))
+    → ((late : Refusal) → topic_in w.item ≡ Start → IsLate (states_known r.known) w.body true late.kind late.place → (kind ≡ late.kind)
+    × (at ≡ late.place))
     → IsRefusedAt seen place (model_faults.Item kind r.number at)
 end_refused_before seen r kind at place w none start reason late due text ts tokens ends =
     let x = ends_here ts r.number place seen w.body r.known w.t w.within w.number_is ends in
@@ -436,14 +525,16 @@ end_refused_before seen r kind at place w none start reason late due text ts tok
     subst (λ b. IsLate (states_known r.known) (w.body ++ []) b kind at) (sym (clean_ends x.here_is.after ts.ending x.clean))
     (subst (λ (b : List Lexeme). IsLate (states_known r.known) b true kind at) (sym (append-nil w.body)) late) in
     start_refused at w.body [] kind tokens x.here_is w.read.may_stand
-    (first_here x.here_is (λ after taken. none after (w.read.on [] after (right_shaped r.known w.t _ after taken)))) (sym w.read.topic_is ∙ start) reason here_late
+    (first_here x.here_is (λ after taken. none after (w.read.on [] after (right_shaped r.known w.t _ after taken))))
+    (sym w.read.topic_is ∙ start) reason here_late
     (λ fault p y.
     let found = due_at_end ts r.number place r.known w.t w.body fault p x y in
     due (record { kind = fault; place = p }) (w.read.topic_is ∙ found.0) found.1)
 
 -- ---- an entry that gives too much
 
-pub too_much_refused : (seen : List Lexeme) (r : TextReader) (place : ℕ) (w : IsItemRead seen r) → PassesCellLimit r.known w.t w.body → IsRefusedAt seen place (model_faults.Item TooManyCells r.number place)
+pub too_much_refused : (seen : List Lexeme) (r : TextReader) (place : ℕ) (w : IsItemRead seen r) → PassesCellLimit r.known w.t w.body
+    → IsRefusedAt seen place (model_faults.Item TooManyCells r.number place)
 too_much_refused seen r place w much text ts tokens ends =
     let x = ends_here ts r.number place seen w.body r.known w.t w.within w.number_is ends in
     let here_much : PassesCellLimit r.known w.t (w.body ++ []) = subst (PassesCellLimit r.known w.t) (sym (append-nil w.body)) much in

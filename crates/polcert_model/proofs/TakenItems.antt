@@ -1,7 +1,11 @@
 -- An item as its reader continues with it, from its word on: the same as what is right of it.
-use Rattle.std.proofs.Common.{ℕ, ◌≡◌, ◌∙◌, ◌≤◌, ◌⊎◌, inl, inr, true, false, Option, Some, None, unwrap_or, List, [], ◌∷◌, ◌++◌, refl, sym, ap, subst, arith, append_assoc}
+use Rattle.std.proofs.Common.{ℕ, ◌≡◌, ◌∙◌, ◌≤◌, ◌⊎◌, inl, inr, true, false, Option, Some, None, unwrap_or, List, [], ◌∷◌, ◌++◌, refl, sym}
+use Rattle.std.proofs.Common.{ap, subst, arith, append_assoc}
 use Rattle.std.proofs.lemmas.List.Elements.{All-cons}
-use Rattle.polcert_model.proofs.Common.{Lexeme, Entry, Table, ItemReader, Topic, States, Actions, Observations, Start, Cells, Elements, Preamble, dimensions, named, Item, ModelSoFar, nothing_known, AreRight, IsRight, word_fault, Takes, preamble_in, HasForm, ItemGoes, ItemForms, IsItemWithin, topic_in, IsSeen, new_item, HasElements, expected, ExpectsNext, item_wants, IfStart, states_known, IsShaped, IsBodyRead}
+use Rattle.polcert_model.proofs.Common.{Lexeme, Entry, Table, ItemReader, Topic, States, Actions, Observations, Start, Cells, Elements}
+use Rattle.polcert_model.proofs.Common.{Preamble, dimensions, named, Item, ModelSoFar, nothing_known, AreRight, IsRight, word_fault, Takes}
+use Rattle.polcert_model.proofs.Common.{preamble_in, HasForm, ItemGoes, ItemForms, IsItemWithin, topic_in, IsSeen, new_item, HasElements}
+use Rattle.polcert_model.proofs.Common.{expected, ExpectsNext, item_wants, IfStart, states_known, IsShaped, IsBodyRead}
 use Rattle.polcert_items.specs.declared.item.ItemReader.TheVariants as items
 use Rattle.polcert_items.specs.declared.preamble_lines.DiscountReader.TheVariants as discount
 use Rattle.polcert_items.specs.declared.preamble_lines.ValuesReader.TheVariants as values
@@ -26,91 +30,133 @@ use Rattle.polcert_format.proofs.KnownLaws.{same_preamble, same_indices, same_st
 use Rattle.polcert_model.proofs.ItemsGoOn.{can_end}
 use Rattle.polcert_items.proofs.StartReading.{new_start_on, new_start_back, new_start_within, new_start_seen}
 use Rattle.polcert_format.proofs.LimitLaws.{CountWithin, counts_within}
-use Rattle.polcert_format.proofs.OrderLaws.{discount_may_stand, values_may_stand, states_may_stand, actions_may_stand, observations_may_stand, start_may_stand, entry_may_stand}
+use Rattle.polcert_format.proofs.OrderLaws.{discount_may_stand, values_may_stand, states_may_stand, actions_may_stand}
+use Rattle.polcert_format.proofs.OrderLaws.{observations_may_stand, start_may_stand, entry_may_stand}
 use Rattle.polcert_items.proofs.PatternLaws.{colon_takes}
 
 -- ---- what is right continues
 
 -- an entry after its word
-entry_goes : (k : ModelSoFar) (p : Preamble) (table : Table) (ls : List Lexeme) (e : Entry) → IsComplete k p → IsEntry p table ls e → EntryGoes (preamble_in k) (new_entry table) ls e
+entry_goes : (k : ModelSoFar) (p : Preamble) (table : Table) (ls : List Lexeme) (e : Entry) → IsComplete k p → IsEntry p table ls e
+    → EntryGoes (preamble_in k) (new_entry table) ls e
 entry_goes k p table ls e complete a =
     let b = entry_begins p table ls e a in
     let following : IsEntryAfter p table [] ls e =
-    record { further = e.places; pattern = a.pattern; rest = a.rest; whole = a.whole; places_are = refl; table_is = a.table_is; form = a.form; places = a.places; body = a.body } in
+    record {
+      further = e.places;
+      pattern = a.pattern;
+      rest = a.rest;
+      whole = a.whole;
+      places_are = refl;
+      table_is = a.table_is;
+      form =
+          a.form;
+      places = a.places;
+      body = a.body;
+    } in
     let goes : EntryGoes p (new_entry table) ls e =
-    subst (λ x. EntryGoes p (new_entry table) x e) (sym b.whole)
-    (b.colon_is, (colon_takes p table [] b.colon b.colon_is).on (b.place ∷ b.rest) e (subst (λ x. IsEntryAfter p table [] x e) b.whole following)) in
+    subst (λ x. EntryGoes p (new_entry table) x e) (sym b.whole) (
+      b.colon_is,
+      (colon_takes p table [] b.colon b.colon_is).on (b.place ∷ b.rest) e
+          (subst (λ x. IsEntryAfter p table [] x e) b.whole following),
+    ) in
     subst (λ q. EntryGoes q (new_entry table) ls e) (sym (same_preamble k p complete.lines)) goes
 
-right_goes : (k : ModelSoFar) (t : Topic) (body : List Lexeme) (next : ModelSoFar) → IsRight k t body next → ItemGoes k (new_item t) body next
+right_goes : (k : ModelSoFar) (t : Topic) (body : List Lexeme) (next : ModelSoFar) → IsRight k t body next
+    → ItemGoes k (new_item t) body next
 right_goes k t body next (texts.discount {g = g} p absent c n l) = (g, ((c, (n, l)), refl))
 right_goes k t body next (texts.rewards p absent c w) = (false, ((c, (refl, w)), refl))
 right_goes k t body next (texts.costs p absent c w) = (true, ((c, (refl, w)), refl))
 right_goes k t body next (texts.states {elements = found} p absent c a) = (found, ((c, a), refl))
 right_goes k t body next (texts.actions {elements = found} p absent c a) = (found, ((c, a), refl))
 right_goes k t body next (texts.observations {elements = found} p absent c a) = (found, ((c, a), refl))
-right_goes k t body next (texts.start {p = p} {shares = found} i c a) = (found, (new_start_on (preamble_in k).states body found (subst (λ e. IsStart e body found) (sym (same_states k p c)) a), refl))
-right_goes k t body next (texts.entry {p = p} {table = table} {e = entry} complete given a few) = (entry, (entry_goes k p table body entry complete a, refl))
+right_goes k t body next (texts.start {p = p} {shares = found} i c a) =
+    (found, (new_start_on (preamble_in k).states body found (subst (λ e. IsStart e body found) (sym (same_states k p c)) a), refl))
+right_goes k t body next (texts.entry {p = p} {table = table} {e = entry} complete given a few) =
+    (entry, (entry_goes k p table body entry complete a, refl))
 
-pub taken_goes : (k : ModelSoFar) (t : Topic) (body : List Lexeme) (next : ModelSoFar) → IsShaped k t body next → ItemGoes k (new_item t) body next
+pub taken_goes : (k : ModelSoFar) (t : Topic) (body : List Lexeme) (next : ModelSoFar) → IsShaped k t body next
+    → ItemGoes k (new_item t) body next
 taken_goes k (Cells table) body next s = (s.e, (entry_goes k s.p table body s.e s.complete s.entry, s.next_is))
 taken_goes k t body next s = right_goes k t body next s
 
 -- ---- what continues is right
 
-discount_taken : (k : ModelSoFar) (body : List Lexeme) (next : ModelSoFar) → word_fault k Discount ≡ None → ItemGoes k (items.Discount discount.Colon) body next → IsRight k Discount body next
+discount_taken : (k : ModelSoFar) (body : List Lexeme) (next : ModelSoFar) → word_fault k Discount ≡ None
+    → ItemGoes k (items.Discount discount.Colon) body next → IsRight k Discount body next
 discount_taken k [] next free (g, (goes, e)) = absurd goes
 discount_taken k (l ∷ ls) next free (g, ((c, (n, range)), e)) =
     let stands = discount_may_stand k free in
     subst (IsRight k Discount (l ∷ ls)) (sym e) (texts.discount stands.0 stands.1 c n range)
 
-values_taken : (k : ModelSoFar) (body : List Lexeme) (next : ModelSoFar) → word_fault k Values ≡ None → ItemGoes k (items.Values values.Colon) body next → IsRight k Values body next
+values_taken : (k : ModelSoFar) (body : List Lexeme) (next : ModelSoFar) → word_fault k Values ≡ None
+    → ItemGoes k (items.Values values.Colon) body next → IsRight k Values body next
 values_taken k [] next free (b, (goes, e)) = absurd goes
 values_taken k (c ∷ []) next free (b, (goes, e)) = absurd goes.1
 values_taken k (c ∷ l ∷ ls) next free (false, ((colon, (none, w)), e)) =
     let stands = values_may_stand k free in
-    subst (λ x. IsRight k Values (c ∷ l ∷ x) next) (sym none) (subst (IsRight k Values (c ∷ l ∷ [])) (sym e) (texts.rewards stands.0 stands.1 colon w))
+    subst (λ x. IsRight k Values (c ∷ l ∷ x) next) (sym none)
+    (subst (IsRight k Values (c ∷ l ∷ [])) (sym e) (texts.rewards stands.0 stands.1 colon w))
 values_taken k (c ∷ l ∷ ls) next free (true, ((colon, (none, w)), e)) =
     let stands = values_may_stand k free in
-    subst (λ x. IsRight k Values (c ∷ l ∷ x) next) (sym none) (subst (IsRight k Values (c ∷ l ∷ [])) (sym e) (texts.costs stands.0 stands.1 colon w))
+    subst (λ x. IsRight k Values (c ∷ l ∷ x) next) (sym none)
+    (subst (IsRight k Values (c ∷ l ∷ [])) (sym e) (texts.costs stands.0 stands.1 colon w))
 
-states_taken : (k : ModelSoFar) (body : List Lexeme) (next : ModelSoFar) → word_fault k States ≡ None → ItemGoes k (items.States elements.Colon) body next → IsRight k States body next
+states_taken : (k : ModelSoFar) (body : List Lexeme) (next : ModelSoFar) → word_fault k States ≡ None
+    → ItemGoes k (items.States elements.Colon) body next → IsRight k States body next
 states_taken k [] next free (found, (goes, e)) = absurd goes
 states_taken k (l ∷ ls) next free (found, ((c, a), e)) =
     let stands = states_may_stand k free in
     subst (IsRight k States (l ∷ ls)) (sym e) (texts.states stands.0 stands.1 c a)
 
-actions_taken : (k : ModelSoFar) (body : List Lexeme) (next : ModelSoFar) → word_fault k Actions ≡ None → ItemGoes k (items.Actions elements.Colon) body next → IsRight k Actions body next
+actions_taken : (k : ModelSoFar) (body : List Lexeme) (next : ModelSoFar) → word_fault k Actions ≡ None
+    → ItemGoes k (items.Actions elements.Colon) body next → IsRight k Actions body next
 actions_taken k [] next free (found, (goes, e)) = absurd goes
 actions_taken k (l ∷ ls) next free (found, ((c, a), e)) =
     let stands = actions_may_stand k free in
     subst (IsRight k Actions (l ∷ ls)) (sym e) (texts.actions stands.0 stands.1 c a)
 
-observations_taken : (k : ModelSoFar) (body : List Lexeme) (next : ModelSoFar) → word_fault k Observations ≡ None → ItemGoes k (items.Observations elements.Colon) body next → IsRight k Observations body next
+observations_taken : (k : ModelSoFar) (body : List Lexeme) (next : ModelSoFar) → word_fault k Observations ≡ None
+    → ItemGoes k (items.Observations elements.Colon) body next → IsRight k Observations body next
 observations_taken k [] next free (found, (goes, e)) = absurd goes
 observations_taken k (l ∷ ls) next free (found, ((c, a), e)) =
     let stands = observations_may_stand k free in
     subst (IsRight k Observations (l ∷ ls)) (sym e) (texts.observations stands.0 stands.1 c a)
 
-start_taken : (k : ModelSoFar) (body : List Lexeme) (next : ModelSoFar) → word_fault k Start ≡ None → ItemGoes k (items.Start new_start) body next → IsRight k Start body next
+start_taken : (k : ModelSoFar) (body : List Lexeme) (next : ModelSoFar) → word_fault k Start ≡ None
+    → ItemGoes k (items.Start new_start) body next → IsRight k Start body next
 start_taken k body next free (found, (goes, e)) =
     let stands = start_may_stand k free in
-    let a : IsStart stands.1.0.states body found = subst (λ s. IsStart s body found) (same_states k stands.1.0 stands.1.1) (new_start_back (preamble_in k).states body found goes) in
+    let a : IsStart stands.1.0.states body found = subst (λ s. IsStart s body found) (same_states k stands.1.0 stands.1.1)
+    (new_start_back (preamble_in k).states body found goes) in
     subst (IsRight k Start body) (sym e) (texts.start stands.0 stands.1.1 a)
 
-entry_taken : (k : ModelSoFar) (table : Table) (body : List Lexeme) (next : ModelSoFar) → word_fault k (Cells table) ≡ None → ItemGoes k (items.Entry (new_entry table)) body next → IsShaped k (Cells table) body next
+entry_taken : (k : ModelSoFar) (table : Table) (body : List Lexeme) (next : ModelSoFar) → word_fault k (Cells table) ≡ None
+    → ItemGoes k (items.Entry (new_entry table)) body next → IsShaped k (Cells table) body next
 entry_taken k table [] next free (entry, (goes, e)) = absurd goes
 entry_taken k table (l ∷ ls) next free (entry, (goes, e)) =
     let stands = entry_may_stand k table free in
     let p = stands.0 in
-    let rest : EntryGoes p (new_entry table) (l ∷ ls) entry = subst (λ q. EntryGoes q (new_entry table) (l ∷ ls) entry) (same_preamble k p stands.1.lines) goes in
+    let rest : EntryGoes p (new_entry table) (l ∷ ls) entry =
+    subst (λ q. EntryGoes q (new_entry table) (l ∷ ls) entry) (same_preamble k p stands.1.lines) goes in
     let b : IsEntryAfter p table [] (l ∷ ls) entry = (colon_takes p table [] l rest.0).back ls entry rest.1 in
     let a : IsEntry stands.0 table (l ∷ ls) entry =
-    record { pattern = b.pattern; rest = b.rest; whole = b.whole; table_is = b.table_is; form = b.form; places = subst (ArePlaces (named p table) b.pattern) (sym b.places_are) b.places; body = b.body } in
+    record {
+      pattern = b.pattern;
+      rest = b.rest;
+      whole = b.whole;
+      table_is = b.table_is;
+      form = b.form;
+      places =
+          subst (ArePlaces (named p table) b.pattern) (sym b.places_are) b.places;
+      body = b.body;
+    } in
     record { p = stands.0; e = entry; complete = stands.1; may_be_given = stands.2; entry = a; next_is = e }
 
-pub goes_taken : (k : ModelSoFar) (t : Topic) (body : List Lexeme) (next : ModelSoFar) → word_fault k t ≡ None → ItemGoes k (new_item t) body next → IsShaped k t body next
-goes_taken k t body next h1 h2 = grind (arith, discount_taken, values_taken, states_taken, actions_taken, observations_taken, start_taken, entry_taken)
+pub goes_taken : (k : ModelSoFar) (t : Topic) (body : List Lexeme) (next : ModelSoFar) → word_fault k t ≡ None
+    → ItemGoes k (new_item t) body next → IsShaped k t body next
+goes_taken k t body next h1 h2 = grind
+    (arith, discount_taken, values_taken, states_taken, actions_taken, observations_taken, start_taken, entry_taken)
 
 -- ---- its form
 
@@ -118,7 +164,8 @@ new_topic : (t : Topic) → topic_in (new_item t) ≡ t
 new_topic t = grind arith
 
 -- what continues to the form of an item has it
-forms_formed : (k : ModelSoFar) (t : Topic) (body : List Lexeme) → word_fault k t ≡ None → ItemForms k (new_item t) body tt → HasForm k t body
+forms_formed : (k : ModelSoFar) (t : Topic) (body : List Lexeme) → word_fault k t ≡ None → ItemForms k (new_item t) body tt
+    → HasForm k t body
 forms_formed k Start body free g =
     let stands = start_may_stand k free in
     shapes.start refl stands.0 stands.1.1 (subst (λ s. IsStartForm s body) (same_states k stands.1.0 stands.1.1) g)
@@ -146,8 +193,11 @@ formed_forms k t body f = of (is_start t)
     of (inr other) = other_form f
       where
         other_form : HasForm k t body → ItemForms k (new_item t) body tt
-        other_form (shapes.right {after} r) = right_forms k (new_item t) body after (λ e. other (sym (new_topic t) ∙ e)) (right_goes k t body after r)
-        other_form (shapes.entry {p} {table} {e} c complete given a) = subst (λ u. ItemForms k (new_item u) body tt) (sym c) (record k { entries = k.entries ++ e ∷ [] }, (e, (entry_goes k p table body e complete a, refl)))
+        other_form (shapes.right {after} r) = right_forms k (new_item t) body after (λ e. other (sym (new_topic t) ∙ e))
+            (right_goes k t body after r)
+        other_form (shapes.entry {p} {table} {e} c complete given a) =
+            subst (λ u. ItemForms k (new_item u) body tt) (sym c)
+            (record k { entries = k.entries ++ e ∷ [] }, (e, (entry_goes k p table body e complete a, refl)))
         other_form (shapes.start s i c form) = absurd (other s)
 
 -- ---- an item as it is read
@@ -181,8 +231,10 @@ item_begun k t free =
     }
 
 -- one lexeme more
-pub item_continues : (k : ModelSoFar) (t : Topic) (body : List Lexeme) (old new : ItemReader) (l : Lexeme) → IsBodyRead k t body old → topic_in new ≡ topic_in old → IsItemWithin k new
-    → Takes (ItemGoes k) old l new → IfStart (topic_in old) (Takes (ItemForms k) old l new) → IsSeen (states_known k) (body ++ l ∷ []) new → ExpectsNext (item_wants k old) l (item_wants k new) → IsBodyRead k t (body ++ l ∷ []) new
+pub item_continues : (k : ModelSoFar) (t : Topic) (body : List Lexeme) (old new : ItemReader) (l : Lexeme) → IsBodyRead k t body old
+    → topic_in new ≡ topic_in old → IsItemWithin k new
+    → Takes (ItemGoes k) old l new → IfStart (topic_in old) (Takes (ItemForms k) old l new) → IsSeen (states_known k) (body ++ l ∷ []) new
+    → ExpectsNext (item_wants k old) l (item_wants k new) → IsBodyRead k t (body ++ l ∷ []) new
 item_continues k t body old new l r same within takes of_form seen leads =
     let form : Takes (ItemForms k) old l new = forms_take k old new l same takes of_form in
     let formed : (ls : List Lexeme) → ItemForms k new ls tt → HasForm k t ((body ++ l ∷ []) ++ ls) =
@@ -192,7 +244,8 @@ item_continues k t body old new l r same within takes of_form seen leads =
       topic_is = same ∙ r.topic_is;
       within = within;
       seen = seen;
-      back = λ ls next goes. subst (λ x. IsShaped k t x next) (sym (append_assoc body (l ∷ []) ls)) (r.back (l ∷ ls) next (takes.back ls next goes));
+      back = λ ls next goes. subst (λ x. IsShaped k t x next) (sym (append_assoc body (l ∷ []) ls))
+          (r.back (l ∷ ls) next (takes.back ls next goes));
       on = λ ls next taken. takes.on ls next (r.on (l ∷ ls) next (subst (λ x. IsShaped k t x next) (append_assoc body (l ∷ []) ls) taken));
       formed = formed;
       forms = λ ls f. form.on ls tt (r.forms (l ∷ ls) (subst (HasForm k t) (append_assoc body (l ∷ []) ls) f));
@@ -212,7 +265,8 @@ some_line most o e h1 h2 = grind (arith, unwrap_or)
 one_more : (e : Elements) (es : List Elements) → 1 ≤ count_of e → AreSome es → AreSome (e ∷ es)
 one_more e es a b = All-cons (λ x. 1 ≤ count_of x) e es a b
 
-all_some : (p : Preamble) (table : Table) → 1 ≤ count_of p.states → 1 ≤ count_of p.actions → 1 ≤ count_of (observed p) → 1 ≤ count_of (rewarded p) → AreSome (dimensions p table)
+all_some : (p : Preamble) (table : Table) → 1 ≤ count_of p.states → 1 ≤ count_of p.actions → 1 ≤ count_of (observed p)
+    → 1 ≤ count_of (rewarded p) → AreSome (dimensions p table)
 all_some p table s a o r = grind (arith, one_more)
 
 pub has_elements : (xs : List Item) (k : ModelSoFar) (t : Topic) → AreRight nothing_known xs k → word_fault k t ≡ None → HasElements k t

@@ -1,6 +1,10 @@
 -- What a graph's own policy earns in the long run, and how two policies compare.
-use Rattle.std.proofs.Common.{◌≡◌, ℕ, suc, ◌+◌, ◌*◌, ◌^◌, ◌<◌, ◌≤◌, ℤ, pos, neg_ℤ, ◌+ℤ◌, ◌-ℤ◌, ◌*ℤ◌, ◌≤ℤ◌, List, [], ◌∷◌, Option, Some, None, refl, sym, ap, ◌∙◌, subst, arith}
-use Rattle.polcert_optimum.proofs.Common.{Meaning, HasLimitedNumbers, states_of, start_weight, start_total, IsProper, table_of, PolicyVectors, value_of, CellTable, Controller, controller_of, one, Policy, ObservationPolicy, as_policy, IsPolicyOf, step_scale, expected_rewards, AreInformed, graph_policy, EarnsAsItsPolicy, start_scale, AreAtMostFromStart, sum_over_start}
+use Rattle.std.proofs.Common.{◌≡◌, ℕ, suc, ◌+◌, ◌*◌, ◌^◌, ◌<◌, ◌≤◌, ℤ, pos, neg_ℤ, ◌+ℤ◌, ◌-ℤ◌, ◌*ℤ◌, ◌≤ℤ◌, List, [], ◌∷◌, Option, Some}
+use Rattle.std.proofs.Common.{None, refl, sym, ap, ◌∙◌, subst, arith}
+use Rattle.polcert_optimum.proofs.Common.{Meaning, HasLimitedNumbers, states_of, start_weight, start_total, IsProper, table_of}
+use Rattle.polcert_optimum.proofs.Common.{PolicyVectors, value_of, CellTable, Controller, controller_of, one, Policy, ObservationPolicy}
+use Rattle.polcert_optimum.proofs.Common.{as_policy, IsPolicyOf, step_scale, expected_rewards, AreInformed, graph_policy, EarnsAsItsPolicy}
+use Rattle.polcert_optimum.proofs.Common.{start_scale, AreAtMostFromStart, sum_over_start}
 use Rattle.polcert_policy.specs.Graphs.{PolicyGraph, IsProperGraph, nodes, next_of}
 use Rattle.polcert_check.specs.Horizon.{Fits}
 use Rattle.polcert_check.specs.Shortfall.{Passes}
@@ -16,7 +20,8 @@ use Rattle.polcert_check.proofs.Horizons.Kept.{LacksNone-from_Passes}
 use Rattle.polcert_check.proofs.Mirrors.Interval.{some_bound}
 use Rattle.polcert_optimum.specs.GraphPolicy.{node_after}
 use Rattle.polcert_optimum.specs.Optimum.{start_rewards, EarnsAtLeast, EarnsAtMost}
-use Rattle.polcert_optimum.specs.Earnings.{node_reached, action_reached, policy_from, AreRewardsAtLeast, AreRewardsAtMost, EarnsAtMostMore, IsOptimalTo}
+use Rattle.polcert_optimum.specs.Earnings.{node_reached, action_reached, policy_from, AreRewardsAtLeast, AreRewardsAtMost, EarnsAtMostMore}
+use Rattle.polcert_optimum.specs.Earnings.{IsOptimalTo}
 use Rattle.polcert_optimum.specs.Seen.{seen_rewards, SeenEarnsAtMost}
 use Rattle.polcert_optimum.proofs.GraphPolicies.{earns_as_policy}
 use Rattle.polcert_optimum.proofs.Start.{sum_more, rewards_le, informed_from_start}
@@ -42,7 +47,8 @@ module _ (t : CellTable) (g : PolicyGraph) (v : PolicyVectors) where
 
 -- ---- at most, in the long run, from what holds for every number of steps
 pub at_most_if_less : (m : Meaning) (policy : ℕ → Policy) (b : ℕ) (most : ℤ) → m.preamble.discount < one
-    → ((k : ℕ) → (seen_rewards m policy k +ℤ pos (start_total m * (m.preamble.discount ^ k * step_scale (table_of m) ^ k)) *ℤ neg_ℤ (pos b)) ≤ℤ (pos (start_scale m k) *ℤ most))
+    → ((k : ℕ) → (seen_rewards m policy k +ℤ pos (start_total m * (m.preamble.discount ^ k * step_scale (table_of m) ^ k)) *ℤ neg_ℤ (pos b))
+    ≤ℤ (pos (start_scale m k) *ℤ most))
     → SeenEarnsAtMost m policy most
 at_most_if_less m policy b most less bounds d some =
     let g : ℕ = m.preamble.discount in (
@@ -50,42 +56,54 @@ at_most_if_less m policy b most less bounds d some =
       (λ k late.
           let q : ℕ = step_scale (table_of m) ^ k in
           let a : ℕ = start_total m * (g ^ k * q) in
-          let small : d * (a * b) ≤ start_scale m k = remainder (start_total m) d b (g ^ k) q (one ^ k) (vanishes g one (d * b) k less late) in
+          let small : d * (a * b) ≤ start_scale m k = remainder (start_total m) d b (g ^ k) q (one ^ k) (vanishes g one (d * b) k less late)
+          in
           ≤ℤ_trans _ _ _
           (upper_algebra d a b (start_scale m k) (seen_rewards m policy k) (pos (start_scale m k) *ℤ most) (bounds k) small)
           (≤ℤ_from_eq _ _ (ap (λ (x : ℤ). x +ℤ pos (start_scale m k)) (sym (*ℤ_assoc (pos d) (pos (start_scale m k)) most))))),
     )
 
 -- ---- a graph whose vectors pass from above
-pub own_rewards_at_most : (m : Meaning) → HasLimitedNumbers m → (g : PolicyGraph) (v : PolicyVectors) → IsProper (table_of m) → IsProperGraph g → Fits (table_of m) g v → PassesAbove (controller_of (table_of m) g v) → (n : ℕ) → n < nodes g
-    → (most : ℤ) → IsStartMost m v most → (k : ℕ) (bottom : ℤ) → ((i s : ℕ) → i < nodes g → s < states_of m → bottom ≤ℤ value_of v i s) → AreRewardsAtMost m (as_policy (policy_from g n)) k bottom most
+pub own_rewards_at_most : (m : Meaning) → HasLimitedNumbers m → (g : PolicyGraph) (v : PolicyVectors) → IsProper (table_of m)
+    → IsProperGraph g → Fits (table_of m) g v → PassesAbove (controller_of (table_of m) g v) → (n : ℕ) → n < nodes g
+    → (most : ℤ) → IsStartMost m v most → (k : ℕ) (bottom : ℤ) → ((i s : ℕ) → i < nodes g → s < states_of m → bottom ≤ℤ value_of v i s)
+    → AreRewardsAtMost m (as_policy (policy_from g n)) k bottom most
 own_rewards_at_most m limits g v proper known fits passes n nl most is k bottom within =
     let t : CellTable = table_of m in
     let c : Controller = controller_of t g v in
-    let own = earns_as_policy c (controller_is t g v fits proper known) (omega (arith, limits.actions.0)) (λ i s z il sl zl. (passes i s il sl).lacks_none z zl) n nl in
+    let own = earns_as_policy c (controller_is t g v fits proper known) (omega (arith, limits.actions.0))
+    (λ i s z il sl zl. (passes i s il sl).lacks_none z zl) n nl in
     subst (λ (p : ObservationPolicy). AreRewardsAtMost m (as_policy p) k bottom most) (sym (same_policy t g v n))
-    (rewards_le m limits (step_scale t ^ k * one ^ k) (m.preamble.discount ^ k * step_scale t ^ k) bottom (λ s. expected_rewards t (as_policy (graph_policy c (Some n))) k s) (value_of v n) most
-    (λ s sl. subst (λ (r : ℤ). (r +ℤ pos (m.preamble.discount ^ k * step_scale t ^ k) *ℤ bottom) ≤ℤ (pos (step_scale t ^ k * one ^ k) *ℤ value_of v n s)) (own.earns k s sl)
+    (rewards_le m limits (step_scale t ^ k * one ^ k) (m.preamble.discount ^ k * step_scale t ^ k) bottom
+    (λ s. expected_rewards t (as_policy (graph_policy c (Some n))) k s) (value_of v n) most
+    (λ s sl. subst (λ (r : ℤ). (r +ℤ pos (m.preamble.discount ^ k * step_scale t ^ k) *ℤ bottom) ≤ℤ
+    (pos (step_scale t ^ k * one ^ k) *ℤ value_of v n s)) (own.earns k s sl)
     ((horizons_above c (controller_is t g v fits proper known) passes k n s nl sl).1.rewarded bottom within))
     (≤ℤ_trans _ _ _ (is.1.none_greater n (omega (arith, nl, fits.nodes_same))) is.2.0))
 
-module _ (m : Meaning) (limits : HasLimitedNumbers m) (g : PolicyGraph) (v : PolicyVectors) (proper : IsProper (table_of m)) (known : IsProperGraph g) (fits : Fits (table_of m) g v)
+module _ (m : Meaning) (limits : HasLimitedNumbers m) (g : PolicyGraph) (v : PolicyVectors) (proper : IsProper (table_of m))
+    (known : IsProperGraph g) (fits : Fits (table_of m) g v)
     (passes : PassesAbove (controller_of (table_of m) g v)) (less : m.preamble.discount < one) (n : ℕ) (nl : n < nodes g) where
   abbrev c : Controller
   c = controller_of (table_of m) g v
 
   above_earns : EarnsAsItsPolicy c n
   above_earns =
-      earns_as_policy c (controller_is (table_of m) g v fits proper known) (omega (arith, limits.actions.0)) (λ i s z il sl zl. (passes i s il sl).lacks_none z zl) n nl
+      earns_as_policy c (controller_is (table_of m) g v fits proper known) (omega (arith, limits.actions.0))
+      (λ i s z il sl zl. (passes i s il sl).lacks_none z zl) n nl
 
-  graph_at_most : (most : ℤ) → sum_over_start m (value_of v n) ≤ℤ (pos (start_total m) *ℤ most) → EarnsAtMost m (as_policy (graph_policy c (Some n))) most
+  graph_at_most : (most : ℤ) → sum_over_start m (value_of v n) ≤ℤ (pos (start_total m) *ℤ most)
+      → EarnsAtMost m (as_policy (graph_policy c (Some n))) most
   graph_at_most most mean =
       let t : CellTable = table_of m in
       let (b, within) = some_bound (value_of v) (nodes g) (states_of m) in
       at_most_if_less m (λ s. as_policy (graph_policy c (Some n))) b most less
-      (λ k. rewards_le m limits (step_scale t ^ k * one ^ k) (m.preamble.discount ^ k * step_scale t ^ k) (neg_ℤ (pos b)) (λ s. expected_rewards t (as_policy (graph_policy c (Some n))) k s) (value_of v n) most
-      (λ s sl. subst (λ (r : ℤ). (r +ℤ pos (m.preamble.discount ^ k * step_scale t ^ k) *ℤ neg_ℤ (pos b)) ≤ℤ (pos (step_scale t ^ k * one ^ k) *ℤ value_of v n s)) (above_earns.earns k s sl)
-      ((horizons_above c (controller_is t g v fits proper known) passes k n s nl sl).1.rewarded (neg_ℤ (pos b)) (λ i u il ul. at_least _ b (within i u il ul))))
+      (λ k. rewards_le m limits (step_scale t ^ k * one ^ k) (m.preamble.discount ^ k * step_scale t ^ k) (neg_ℤ (pos b))
+      (λ s. expected_rewards t (as_policy (graph_policy c (Some n))) k s) (value_of v n) most
+      (λ s sl. subst (λ (r : ℤ). (r +ℤ pos (m.preamble.discount ^ k * step_scale t ^ k) *ℤ neg_ℤ (pos b)) ≤ℤ
+      (pos (step_scale t ^ k * one ^ k) *ℤ value_of v n s)) (above_earns.earns k s sl)
+      ((horizons_above c (controller_is t g v fits proper known) passes k n s nl sl).1.rewarded (neg_ℤ (pos b))
+      (λ i u il ul. at_least _ b (within i u il ul))))
       mean)
 
   pub own_at_most : (most : ℤ) → IsStartMost m v most → EarnsAtMost m (as_policy (policy_from g n)) most
@@ -98,25 +116,33 @@ module _ (m : Meaning) (limits : HasLimitedNumbers m) (g : PolicyGraph) (v : Pol
       subst (λ (p : ObservationPolicy). IsPolicyOf (table_of m) (as_policy p)) (sym (same_policy (table_of m) g v n)) above_earns.is_policy
 
 -- ---- a graph whose vectors pass from below
-pub own_rewards_at_least : (m : Meaning) → HasLimitedNumbers m → (g : PolicyGraph) (v : PolicyVectors) → IsProper (table_of m) → IsProperGraph g → Fits (table_of m) g v → Passes (controller_of (table_of m) g v) → (n : ℕ) → n < nodes g
-    → (worth : ℤ) → IsStartWorth m v n worth → (k : ℕ) (top : ℤ) → ((i s : ℕ) → i < nodes g → s < states_of m → value_of v i s ≤ℤ top) → AreRewardsAtLeast m (as_policy (policy_from g n)) k top worth
+pub own_rewards_at_least : (m : Meaning) → HasLimitedNumbers m → (g : PolicyGraph) (v : PolicyVectors) → IsProper (table_of m)
+    → IsProperGraph g → Fits (table_of m) g v → Passes (controller_of (table_of m) g v) → (n : ℕ) → n < nodes g
+    → (worth : ℤ) → IsStartWorth m v n worth → (k : ℕ) (top : ℤ) → ((i s : ℕ) → i < nodes g → s < states_of m → value_of v i s ≤ℤ top)
+    → AreRewardsAtLeast m (as_policy (policy_from g n)) k top worth
 own_rewards_at_least m limits g v proper known fits passes n nl worth is k top within =
     let t : CellTable = table_of m in
     let c : Controller = controller_of t g v in
     let x : ℕ = step_scale t ^ k * one ^ k in
     let y : ℕ = m.preamble.discount ^ k * step_scale t ^ k in
-    let own = earns_as_policy c (controller_is t g v fits proper known) (omega (arith, limits.actions.0)) (LacksNone-from_Passes c passes) n nl in
+    let own = earns_as_policy c (controller_is t g v fits proper known) (omega (arith, limits.actions.0)) (LacksNone-from_Passes c passes) n
+    nl in
     let rewards = λ (s : ℕ). expected_rewards t (as_policy (graph_policy c (Some n))) k s in
     let each : (s : ℕ) → s < states_of m → (pos x *ℤ value_of v n s) ≤ℤ (rewards s +ℤ pos y *ℤ top) =
     λ s sl. subst (λ (r : ℤ). (pos x *ℤ value_of v n s) ≤ℤ (r +ℤ pos y *ℤ top)) (own.earns k s sl)
     ((promised t g v proper known fits passes k n s nl sl).1.rewarded top within) in
-    let mean : (pos (start_total m * x) *ℤ worth) ≤ℤ sum_over_start m (λ s. rewards s +ℤ pos y *ℤ top) = mean_le (start_weight m) (start_total m) x (states_of m) worth (value_of v n) (λ s. rewards s +ℤ pos y *ℤ top) is.0 each in
+    let mean : (pos (start_total m * x) *ℤ worth) ≤ℤ sum_over_start m (λ s. rewards s +ℤ pos y *ℤ top) =
+    mean_le (start_weight m) (start_total m) x (states_of m) worth (value_of v n) (λ s. rewards s +ℤ pos y *ℤ top) is.0 each in
     let apart : sum_over_start m (λ s. rewards s +ℤ pos y *ℤ top) ≡ sum_over_start m rewards +ℤ pos (start_total m * y) *ℤ top =
-    sum_more m limits rewards (pos y *ℤ top) ∙ ap (λ (z : ℤ). sum_over_start m rewards +ℤ z) (sym (*ℤ_assoc (pos (start_total m)) (pos y) top)) in
-    subst (λ (p : ObservationPolicy). AreRewardsAtLeast m (as_policy p) k top worth) (sym (same_policy t g v n)) (≤ℤ_trans _ _ _ mean (≤ℤ_from_eq _ _ apart))
+    sum_more m limits rewards (pos y *ℤ top) ∙ ap (λ (z : ℤ). sum_over_start m rewards +ℤ z)
+    (sym (*ℤ_assoc (pos (start_total m)) (pos y) top)) in
+    subst (λ (p : ObservationPolicy). AreRewardsAtLeast m (as_policy p) k top worth) (sym (same_policy t g v n))
+    (≤ℤ_trans _ _ _ mean (≤ℤ_from_eq _ _ apart))
 
-module _ (m : Meaning) (limits : HasLimitedNumbers m) (g : PolicyGraph) (v : PolicyVectors) (proper : IsProper (table_of m)) (known : IsProperGraph g) (fits : Fits (table_of m) g v)
-    (passes : Passes (controller_of (table_of m) g v)) (less : m.preamble.discount < one) (n : ℕ) (nl : n < nodes g) (worth : ℤ) (is_worth : IsStartWorth m v n worth) where
+module _ (m : Meaning) (limits : HasLimitedNumbers m) (g : PolicyGraph) (v : PolicyVectors) (proper : IsProper (table_of m))
+    (known : IsProperGraph g) (fits : Fits (table_of m) g v)
+    (passes : Passes (controller_of (table_of m) g v)) (less : m.preamble.discount < one) (n : ℕ) (nl : n < nodes g) (worth : ℤ)
+    (is_worth : IsStartWorth m v n worth) where
   pub own_at_least : EarnsAtLeast m (as_policy (policy_from g n)) worth
   own_at_least =
       subst (λ (p : ObservationPolicy). EarnsAtLeast m (as_policy p) worth) (sym (same_policy (table_of m) g v n))
@@ -132,23 +158,40 @@ twice : (n a : ℕ) (x : ℤ) → n ≡ 2 * a → pos n *ℤ x ≡ pos a *ℤ x 
 twice n a x is = let e : n ≡ a + a = omega (arith, is) in ap (λ (i : ℕ). pos i *ℤ x) e ∙ +ℤ-*ℤ (pos a) (pos a) x
 
 -- both tolerances are halves
-halves : (d scale : ℕ) (low high r q : ℤ) → (pos (2 * d * scale) *ℤ low) ≤ℤ (pos (2 * d) *ℤ r +ℤ pos scale) → (pos (2 * d) *ℤ q) ≤ℤ (pos (2 * d * scale) *ℤ high +ℤ pos scale)
+halves : (d scale : ℕ) (low high r q : ℤ) → (pos (2 * d * scale) *ℤ low) ≤ℤ (pos (2 * d) *ℤ r +ℤ pos scale)
+    → (pos (2 * d) *ℤ q) ≤ℤ (pos (2 * d * scale) *ℤ high +ℤ pos scale)
     → (pos d *ℤ q) ≤ℤ (pos d *ℤ r +ℤ pos (d * scale) *ℤ (high -ℤ low) +ℤ pos scale)
 halves d scale low high r q h1 h2 =
-    let spread : pos (d * scale) *ℤ (high -ℤ low) ≡ pos (d * scale) *ℤ high +ℤ neg_ℤ (pos (d * scale) *ℤ low) = *ℤ-+ℤ (pos (d * scale)) high (neg_ℤ low) ∙ ap (λ (x : ℤ). pos (d * scale) *ℤ high +ℤ x) (neg_product (pos (d * scale)) low) in
-    omega (arith, linear, h1, h2, spread, twice (2 * d * scale) (d * scale) low (omega arith), twice (2 * d * scale) (d * scale) high (omega arith), twice (2 * d) d r refl, twice (2 * d) d q refl)
+    let spread : pos (d * scale) *ℤ (high -ℤ low) ≡ pos (d * scale) *ℤ high +ℤ neg_ℤ (pos (d * scale) *ℤ low) =
+    *ℤ-+ℤ (pos (d * scale)) high (neg_ℤ low) ∙ ap (λ (x : ℤ). pos (d * scale) *ℤ high +ℤ x) (neg_product (pos (d * scale)) low) in
+    omega (
+      arith,
+      linear,
+      h1,
+      h2,
+      spread,
+      twice (2 * d * scale) (d * scale) low (omega arith),
+      twice (2 * d * scale) (d * scale) high
+          (omega arith),
+      twice (2 * d) d r refl,
+      twice (2 * d) d q refl,
+    )
 
-pub compared : (m : Meaning) (policy other : Policy) (low high : ℤ) → EarnsAtLeast m policy low → EarnsAtMost m other high → EarnsAtMostMore m policy other (high -ℤ low)
+pub compared : (m : Meaning) (policy other : Policy) (low high : ℤ) → EarnsAtLeast m policy low → EarnsAtMost m other high
+    → EarnsAtMostMore m policy other (high -ℤ low)
 compared m policy other low high below above d some =
     let (one_first, one_from) = below (2 * d) (omega arith) in
     let (other_first, other_from) = above (2 * d) (omega arith) in (
       one_first + other_first,
-      (λ k late. halves d (start_scale m k) low high (start_rewards m policy k) (start_rewards m other k) (one_from k (omega arith)) (other_from k (omega arith))),
+      (λ k late. halves d (start_scale m k) low high (start_rewards m policy k) (start_rewards m other k) (one_from k (omega arith))
+          (other_from k (omega arith))),
     )
 
 -- how far the graph's own policy is from the best
-pub optimal_to : (m : Meaning) → HasLimitedNumbers m → (g : PolicyGraph) (v : PolicyVectors) → IsProper (table_of m) → IsProperGraph g → Fits (table_of m) g v → Passes (controller_of (table_of m) g v) → m.preamble.discount < one
-    → (n : ℕ) → n < nodes g → (worth : ℤ) → IsStartWorth m v n worth → (vectors : ℕ → ℕ → ℤ) → AreInformed (table_of m) vectors → (most : ℤ) → AreAtMostFromStart m vectors most → IsOptimalTo m (policy_from g n) (most -ℤ worth)
+pub optimal_to : (m : Meaning) → HasLimitedNumbers m → (g : PolicyGraph) (v : PolicyVectors) → IsProper (table_of m) → IsProperGraph g
+    → Fits (table_of m) g v → Passes (controller_of (table_of m) g v) → m.preamble.discount < one
+    → (n : ℕ) → n < nodes g → (worth : ℤ) → IsStartWorth m v n worth → (vectors : ℕ → ℕ → ℤ) → AreInformed (table_of m) vectors → (most : ℤ)
+    → AreAtMostFromStart m vectors most → IsOptimalTo m (policy_from g n) (most -ℤ worth)
 optimal_to m limits g v proper known fits passes less n nl worth is_worth vectors informed most mean = record {
   is_policy = own_is_policy m limits g v proper known fits passes less n nl worth is_worth;
   none_better = λ other of.

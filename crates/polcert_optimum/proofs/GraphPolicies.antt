@@ -1,6 +1,9 @@
 -- What a controller earns that lacks no observation, its policy earns.
-use Rattle.std.proofs.Common.{◌≡◌, ℕ, zero, suc, ◌^◌, ◌<◌, ℤ, pos, ◌+ℤ◌, ◌*ℤ◌, [], ◌∷◌, Option, Some, None, refl, sym, ap, ◌∙◌, subst, rules}
-use Rattle.polcert_optimum.proofs.Common.{zero-*ℤ, Controller, one, total_below, runs, IsRunInRange, IsController, History, Policy, as_policy, IsPolicyOf, after, history_weight, discounted_rewards, step_weight, total_weight, expected_total, expected_rewards, graph_policy, EarnsAsItsPolicy}
+use Rattle.std.proofs.Common.{◌≡◌, ℕ, zero, suc, ◌^◌, ◌<◌, ℤ, pos, ◌+ℤ◌, ◌*ℤ◌, [], ◌∷◌, Option, Some, None, refl, sym, ap, ◌∙◌, subst}
+use Rattle.std.proofs.Common.{rules}
+use Rattle.polcert_optimum.proofs.Common.{zero-*ℤ, Controller, one, total_below, runs, IsRunInRange, IsController, History, Policy}
+use Rattle.polcert_optimum.proofs.Common.{as_policy, IsPolicyOf, after, history_weight, discounted_rewards, step_weight, total_weight}
+use Rattle.polcert_optimum.proofs.Common.{expected_total, expected_rewards, graph_policy, EarnsAsItsPolicy}
 use Rattle.std.proofs.Math.IntN.{+ℤ_idr, *ℤ-zero}
 use Rattle.polcert_check.specs.Horizon.{uncut, weight}
 use Rattle.polcert_check.specs.Horizon as horizon
@@ -12,30 +15,45 @@ use Rattle.polcert_optimum.proofs.Steps.{expected_total_suc}
 use Rattle.polcert_optimum.proofs.Bounded.{weights_all}
 
 -- ---- the rewards of k + 1 steps, split at the first step
-controller_rewards_suc : (c : Controller) (k n s : ℕ) → horizon.rewards_sum c (suc k) (Some n) s ≡ total_below (λ e. total_below (λ z. pos (horizon.step_weight c n s e z) *ℤ ((pos (one ^ suc k) *ℤ c.cells.r (c.action n) s e z) *ℤ horizon.weights_sum c k (c.next n z) e +ℤ pos c.cells.discount *ℤ horizon.rewards_sum c k (c.next n z) e)) c.cells.observations) c.cells.states
+controller_rewards_suc : (c : Controller) (k n s : ℕ)
+    → horizon.rewards_sum c (suc k) (Some n) s ≡ total_below
+    (λ e. total_below (λ z. pos (horizon.step_weight c n s e z)
+    *ℤ ((pos (one ^ suc k) *ℤ c.cells.r (c.action n) s e z) *ℤ horizon.weights_sum c k (c.next n z) e +ℤ pos c.cells.discount
+    *ℤ horizon.rewards_sum c k (c.next n z) e)) c.cells.observations) c.cells.states
 controller_rewards_suc c k n s =
     sum_over_uncut c k n (λ run. pos (weight c (Some n) s run) *ℤ horizon.reward_part c (suc k) (Some n) s run)
     ∙ sum_below_same _ _ c.cells.states (λ e _. sum_below_same _ _ c.cells.observations (λ z _.
-    sum_over_factor (pos (horizon.step_weight c n s e z)) (pos (one ^ suc k) *ℤ c.cells.r (c.action n) s e z) (pos c.cells.discount) (λ run. pos (weight c (c.next n z) e run)) (λ run. horizon.reward_part c k (c.next n z) e run) _ (uncut c k (c.next n z))
+    sum_over_factor (pos (horizon.step_weight c n s e z)) (pos (one ^ suc k) *ℤ c.cells.r (c.action n) s e z) (pos c.cells.discount)
+    (λ run. pos (weight c (c.next n z) e run)) (λ run. horizon.reward_part c k (c.next n z) e run) _ (uncut c k (c.next n z))
     (λ run. ap (λ (y : ℤ). pos (weight c (Some n) s ((e, z) ∷ run)) *ℤ y) (reward_part_cons c k n s e z run))))
 
 no_end : (x r h : ℤ) → x *ℤ (r +ℤ h *ℤ pos 0) ≡ x *ℤ r
 no_end x r h = rw (*ℤ-zero h) (ap (λ (y : ℤ). x *ℤ y) (+ℤ_idr r))
 
 -- a policy's rewards are its totals where every history ends at 0
-rewards_are : (c : Controller) (policy : Policy) (k s : ℕ) → expected_total c.cells (λ history. pos 0) policy k s ≡ expected_rewards c.cells policy k s
-rewards_are c policy k s = sum_over_same _ _ (runs c.cells k) (λ history. no_end (pos (history_weight c.cells policy s history)) (discounted_rewards c.cells policy k s history) (pos (c.cells.discount ^ k)))
+rewards_are : (c : Controller) (policy : Policy) (k s : ℕ)
+    → expected_total c.cells (λ history. pos 0) policy k s ≡ expected_rewards c.cells policy k s
+rewards_are c policy k s = sum_over_same _ _ (runs c.cells k)
+    (λ history. no_end (pos (history_weight c.cells policy s history)) (discounted_rewards c.cells policy k s history)
+    (pos (c.cells.discount ^ k)))
 
-policy_rewards_suc : (c : Controller) (policy : Policy) (k s : ℕ) → expected_rewards c.cells policy (suc k) s ≡ total_below (λ e. total_below (λ z. pos (step_weight c.cells (policy []) s e z) *ℤ ((pos (one ^ suc k) *ℤ c.cells.r (policy []) s e z) *ℤ total_weight c.cells (after policy (e, z)) k e +ℤ pos c.cells.discount *ℤ expected_rewards c.cells (after policy (e, z)) k e)) c.cells.observations) c.cells.states
+policy_rewards_suc : (c : Controller) (policy : Policy) (k s : ℕ)
+    → expected_rewards c.cells policy (suc k) s ≡ total_below
+    (λ e. total_below (λ z. pos (step_weight c.cells (policy []) s e z)
+    *ℤ ((pos (one ^ suc k) *ℤ c.cells.r (policy []) s e z) *ℤ total_weight c.cells (after policy (e, z)) k e +ℤ pos c.cells.discount
+    *ℤ expected_rewards c.cells (after policy (e, z)) k e)) c.cells.observations) c.cells.states
 policy_rewards_suc c policy k s =
     sym (rewards_are c policy (suc k) s)
     ∙ expected_total_suc c.cells (λ history. pos 0) policy k s
     ∙ sum_below_same _ _ c.cells.states (λ e _. sum_below_same _ _ c.cells.observations (λ z _.
-    ap (λ (x : ℤ). pos (step_weight c.cells (policy []) s e z) *ℤ ((pos (one ^ suc k) *ℤ c.cells.r (policy []) s e z) *ℤ total_weight c.cells (after policy (e, z)) k e +ℤ pos c.cells.discount *ℤ x)) (rewards_are c (after policy (e, z)) k e)))
+    ap (λ (x : ℤ). pos (step_weight c.cells (policy []) s e z)
+    *ℤ ((pos (one ^ suc k) *ℤ c.cells.r (policy []) s e z) *ℤ total_weight c.cells (after policy (e, z)) k e +ℤ pos c.cells.discount
+    *ℤ x)) (rewards_are c (after policy (e, z)) k e)))
 
 -- ---- it is a policy
 module _ (c : Controller) (p : IsController c) (some : 0 < c.cells.actions) where
-  known_at : (history : History) (at : Option ℕ) → ((m : ℕ) → at ≡ Some m → m < c.nodes) → IsRunInRange c.cells history → as_policy (graph_policy c at) history < c.cells.actions
+  known_at : (history : History) (at : Option ℕ) → ((m : ℕ) → at ≡ Some m → m < c.nodes) → IsRunInRange c.cells history
+      → as_policy (graph_policy c at) history < c.cells.actions
   known_at [] None node f = some
   known_at (q ∷ history) None node f = some
   known_at [] (Some n) node f = p.closed.actions_in_range n (node n refl)
@@ -52,17 +70,27 @@ module _ (c : Controller) (p : IsController c) (some : 0 < c.cells.actions) wher
     abbrev policy_at : Option ℕ → Policy
     policy_at at = as_policy (graph_policy c at)
 
-    same_term : (k n s e z : ℕ) → n < c.nodes → s < c.cells.states → e < c.cells.states → z < c.cells.observations → ((m : ℕ) → m < c.nodes → horizon.rewards_sum c k (Some m) e ≡ expected_rewards c.cells (policy_at (Some m)) k e) → (at : Option ℕ) → c.next n z ≡ at
-        → pos (horizon.step_weight c n s e z) *ℤ ((pos (one ^ suc k) *ℤ c.cells.r (c.action n) s e z) *ℤ horizon.weights_sum c k at e +ℤ pos c.cells.discount *ℤ horizon.rewards_sum c k at e) ≡ pos (horizon.step_weight c n s e z) *ℤ ((pos (one ^ suc k) *ℤ c.cells.r (c.action n) s e z) *ℤ total_weight c.cells (policy_at at) k e +ℤ pos c.cells.discount *ℤ expected_rewards c.cells (policy_at at) k e)
+    same_term : (k n s e z : ℕ) → n < c.nodes → s < c.cells.states → e < c.cells.states → z < c.cells.observations
+        → ((m : ℕ) → m < c.nodes → horizon.rewards_sum c k (Some m) e ≡ expected_rewards c.cells (policy_at (Some m)) k e) → (at : Option ℕ)
+        → c.next n z ≡ at
+        → pos (horizon.step_weight c n s e z) *ℤ ((pos (one ^ suc k) *ℤ c.cells.r (c.action n) s e z) *ℤ horizon.weights_sum c k at e
+        +ℤ pos c.cells.discount *ℤ horizon.rewards_sum c k at e) ≡ pos (horizon.step_weight c n s e z)
+        *ℤ ((pos (one ^ suc k) *ℤ c.cells.r (c.action n) s e z) *ℤ total_weight c.cells (policy_at at) k e +ℤ pos c.cells.discount
+        *ℤ expected_rewards c.cells (policy_at at) k e)
     same_term k n s e z nl sl el zl before None is = search (rules, zero-*ℤ, no_weight)
     same_term k n s e z nl sl el zl before (Some m) is =
         let ml : m < c.nodes = p.closed.next_in_range n z m nl zl is in
         let w : ℤ = pos (horizon.step_weight c n s e z) in
         let a : ℤ = pos (one ^ suc k) *ℤ c.cells.r (c.action n) s e z in
         let g : ℤ = pos c.cells.discount in
-        cc (kept.weights_all c p fine k m e ml el ∙ sym (weights_all c.cells p.cells k (policy_at (Some m)) (is_policy m ml) e el), before m ml)
+        cc (
+          kept.weights_all c p fine k m e ml el ∙ sym (weights_all c.cells p.cells k (policy_at (Some m)) (is_policy m ml) e el),
+          before m
+              ml,
+        )
 
-    same_rewards : (k n s : ℕ) → n < c.nodes → s < c.cells.states → horizon.rewards_sum c k (Some n) s ≡ expected_rewards c.cells (policy_at (Some n)) k s
+    same_rewards : (k n s : ℕ) → n < c.nodes → s < c.cells.states
+        → horizon.rewards_sum c k (Some n) s ≡ expected_rewards c.cells (policy_at (Some n)) k s
     same_rewards zero n s nl sl = refl
     same_rewards (suc k) n s nl sl =
         controller_rewards_suc c k n s

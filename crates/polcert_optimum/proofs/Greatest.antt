@@ -26,7 +26,8 @@ greatest_reached f zero some = absurd (omega arith)
 greatest_reached f (suc zero) some = (0, omega arith, refl)
 greatest_reached f (suc (suc n)) some =
     ⊎_elim
-    (λ (e : int_max (greatest_below f (suc n)) (f (suc n)) ≡ greatest_below f (suc n)). let (i, l, is) = greatest_reached f (suc n) (omega arith) in (i, omega arith, is ∙ sym e))
+    (λ (e : int_max (greatest_below f (suc n)) (f (suc n)) ≡ greatest_below f (suc n)). let (i, l, is) =
+    greatest_reached f (suc n) (omega arith) in (i, omega arith, is ∙ sym e))
     (λ (e : int_max (greatest_below f (suc n)) (f (suc n)) ≡ f (suc n)). (suc n, omega arith, sym e))
     (cases_cond (int_lt (f (suc n)) (greatest_below f (suc n))) (greatest_below f (suc n)) (f (suc n)) _ refl)
 

@@ -1,13 +1,15 @@
 -- What the number on the line of a yes bounds: by whether the model is an MDP.
 use Rattle.std.proofs.Common.{◌≡◌, ℕ, ◌<◌, ℤ, Bool, true, false, sym, ap, subst, arith}
-use Rattle.polcert_optimum.proofs.Common.{Meaning, HasLimitedNumbers, start_total, IsProper, table_of, PolicyVectors, value_of, AreInformed, AreAtMostFromStart}
+use Rattle.polcert_optimum.proofs.Common.{Meaning, HasLimitedNumbers, start_total, IsProper, table_of, PolicyVectors, value_of, AreInformed}
+use Rattle.polcert_optimum.proofs.Common.{AreAtMostFromStart}
 use Rattle.polcert_cells.specs.Meaning.{IsSame, actions_of}
 use Rattle.polcert_cells.specs.Preamble.{Preamble, is_mdp}
 use Rattle.polcert_cells.specs.declared.elements.StartWeights.{StartWeights}
 use Rattle.polcert_check.specs.StartWorth.{IsCeilQuotient}
 use Rattle.polcert_check.proofs.Mirrors.SameAbove.{same_start_most}
 use Rattle.polcert_check.proofs.Sums.Ring.{≤ℤ_trans}
-use Rattle.polcert_optimum.specs.Seen.{seen_sum, IsMostOf, IsBoundStartMost, BoundPoliciesOf, BoundEveryPolicyOfModel, BoundMixturesOf, BoundEveryMixtureOfModel}
+use Rattle.polcert_optimum.specs.Seen.{seen_sum, IsMostOf, IsBoundStartMost, BoundPoliciesOf, BoundEveryPolicyOfModel, BoundMixturesOf}
+use Rattle.polcert_optimum.specs.Seen.{BoundEveryMixtureOfModel}
 use Rattle.polcert_optimum.proofs.Seen.{seen_from_start, seen_mixtures, each_at_most, number_is}
 use Rattle.polcert_optimum.proofs.Start.{informed_from_start, mixtures_from_start}
 
@@ -24,7 +26,8 @@ module _ (m : Meaning) (v : PolicyVectors) (same : v.nodes ≡ actions_of m) (mo
 
     mixtures_of_kind : (mdp : Bool) → IsMostOf mdp m v most → BoundMixturesOf mdp m (value_of v) most
     mixtures_of_kind true is = seen_mixtures m limits (value_of v) p informed most (number_is m v most same is)
-    mixtures_of_kind false is = mixtures_from_start m (value_of v) most (informed_from_start m limits (value_of v) p informed most (mean_of_kind false is))
+    mixtures_of_kind false is = mixtures_from_start m (value_of v) most
+        (informed_from_start m limits (value_of v) p informed most (mean_of_kind false is))
 
     pub model_policies : IsBoundStartMost m v most → BoundEveryPolicyOfModel m (value_of v) most
     model_policies = policies_of_kind (is_mdp m.preamble)
@@ -47,4 +50,5 @@ kind_same m n same v most false is = same_start_most m n same v most is
 
 pub same_bound_most : (m n : Meaning) → IsSame m n → (v : PolicyVectors) (most : ℤ) → IsBoundStartMost m v most → IsBoundStartMost n v most
 same_bound_most m n same v most is =
-    subst (λ (mdp : Bool). IsMostOf mdp n v most) (ap (λ (p : Preamble). is_mdp p) same.preamble) (kind_same m n same v most (is_mdp m.preamble) is)
+    subst (λ (mdp : Bool). IsMostOf mdp n v most) (ap (λ (p : Preamble). is_mdp p) same.preamble)
+    (kind_same m n same v most (is_mdp m.preamble) is)

@@ -19,7 +19,8 @@ pub vanishes : (g u x k : ℕ) → g < u → suc (g * x) ≤ k → g ^ k * x ≤
 vanishes zero u x zero l h = absurd (omega arith)
 vanishes zero u x (suc k) l h = rw (pow-suc 0 k) (omega arith)
 vanishes (suc g) u x k l h =
-    le_of_mul-le-mul_left {k = suc g} (grown g x k (suc g ^ k) (suc (suc g) ^ k) (u ^ k) (growth (suc g) k) (pow-le-pow_left l k) (omega (arith, h))) (omega arith)
+    le_of_mul-le-mul_left {k = suc g} (grown g x k (suc g ^ k) (suc (suc g) ^ k) (u ^ k) (growth (suc g) k) (pow-le-pow_left l k)
+    (omega (arith, h))) (omega arith)
 
 -- ---- values within a bound
 pub at_least : (x : ℤ) (b : ℕ) → unsigned_abs x ≤ b → neg_ℤ (pos b) ≤ℤ x

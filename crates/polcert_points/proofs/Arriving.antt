@@ -19,7 +19,8 @@ weighted_le b w scale (suc n) small =
 pub part_below : (b : ℕ → ℕ) (k n : ℕ) → k ≤ n → sum_below b k ≤ sum_below b n
 part_below b k zero l = let e : k ≡ 0 = omega arith in rw e (omega arith)
 part_below b k (suc n) l =
-    ⊎_elim (λ (h : n < k). let e : k ≡ suc n = omega (arith, h, l) in rw e (omega arith)) (λ (h : k ≤ n). omega (arith, part_below b k n h)) (cases_lt n k)
+    ⊎_elim (λ (h : n < k). let e : k ≡ suc n = omega (arith, h, l) in rw e (omega arith)) (λ (h : k ≤ n). omega (arith, part_below b k n h))
+    (cases_lt n k)
 
 pub factor_out : (b : Belief) (w : ℕ → ℕ) (o n : ℕ) → sum_below (λ s. b s * (w s * o)) n ≡ sum_below (λ s. b s * w s) n * o
 factor_out b w o zero = omega arith
@@ -27,12 +28,14 @@ factor_out b w o (suc n) = omega (arith, factor_out b w o n)
 
 module _ (t : CellTable) (p : IsProper t) (limits : IsWithinLimits t) (a : ℕ) (al : a < t.actions) where
   pub t_small : (s e : ℕ) → s < t.states → e < t.states → t.t a s e ≤ 10000000000
-  t_small s e sl el = le_trans (term_le (t.t a s) e t.states t.t_scale (t_rows t p a s al sl) el) (scale_small limits.t_scale limits.states.1)
+  t_small s e sl el = le_trans (term_le (t.t a s) e t.states t.t_scale (t_rows t p a s al sl) el)
+      (scale_small limits.t_scale limits.states.1)
     where
       scale_small : t.t_scale ≡ 1000000 * t.states → t.states ≤ 10000 → t.t_scale ≤ 10000000000
       scale_small is l = omega (arith, is, l)
 
-  pub arrive_small : (b : Belief) (e k : ℕ) → e < t.states → k ≤ t.states → sum_below b t.states ≤ 1000000 → sum_below (λ s. b s * t.t a s e) k ≤ 10000000000000000
+  pub arrive_small : (b : Belief) (e k : ℕ) → e < t.states → k ≤ t.states → sum_below b t.states ≤ 1000000
+      → sum_below (λ s. b s * t.t a s e) k ≤ 10000000000000000
   arrive_small b e k el kl few =
       le_trans (weighted_le b (λ s. t.t a s e) 10000000000 k (λ s sl. t_small s e (omega (arith, sl, kl)) el))
       (mul-le-mul_right 10000000000 (le_trans (part_below b k t.states kl) few))
@@ -48,7 +51,8 @@ module _ (t : CellTable) (p : IsProper t) (limits : IsWithinLimits t) (a : ℕ) 
       nothing x y is = rw is (omega arith)
 
   -- one state more, after a gap
-  module _ (b : Belief) (e from s w sum : ℕ) (fl : from ≤ s) (none : (k : ℕ) → from ≤ k → k < s → b k ≡ 0) (is : sum ≡ sum_below (λ k. b k * t.t a k e) from) (here : w ≡ b s) where
+  module _ (b : Belief) (e from s w sum : ℕ) (fl : from ≤ s) (none : (k : ℕ) → from ≤ k → k < s → b k ≡ 0)
+      (is : sum ≡ sum_below (λ k. b k * t.t a k e) from) (here : w ≡ b s) where
     arrival_more : sum + w * t.t a s e ≡ sum_below (λ k. b k * t.t a k e) (s + 1)
     arrival_more = sum_more (λ k. b k * t.t a k e) from s (w * t.t a s e) sum fl (λ k l h. rw (none k l h) (omega arith)) is (rw here refl)
 
@@ -59,5 +63,6 @@ module _ (t : CellTable) (p : IsProper t) (limits : IsWithinLimits t) (a : ℕ) 
     arrival_small el sl few = rw arrival_more (arrive_small b e (s + 1) el (omega (arith, sl)) few)
 
   -- after the last
-  pub arrivals_on : (b : Belief) (e from n sum : ℕ) → from ≤ n → ((k : ℕ) → from ≤ k → k < n → b k ≡ 0) → sum ≡ sum_below (λ k. b k * t.t a k e) from → sum ≡ sum_below (λ k. b k * t.t a k e) n
+  pub arrivals_on : (b : Belief) (e from n sum : ℕ) → from ≤ n → ((k : ℕ) → from ≤ k → k < n → b k ≡ 0)
+      → sum ≡ sum_below (λ k. b k * t.t a k e) from → sum ≡ sum_below (λ k. b k * t.t a k e) n
   arrivals_on b e from n sum fl none is = is ∙ sum_on (λ k. b k * t.t a k e) from n fl (λ k l h. rw (none k l h) (omega arith))

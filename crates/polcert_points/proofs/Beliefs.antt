@@ -1,8 +1,10 @@
 -- What a policy earns from a belief in one step more, and what covers say of it.
 use Rattle.std.proofs.Common.{⊎_elim, ◌≡◌, ℕ, zero, suc, ◌-◌, ◌*◌, ◌^◌, ◌<◌, ◌≤◌, ℤ, pos, ◌+ℤ◌, ◌*ℤ◌, ◌≤ℤ◌, [], ◌∷◌, sym, ap, ◌∙◌, arith}
-use Rattle.polcert_points.proofs.Common.{*ℤ_comm, zero-*ℤ, cases_lt, CellTable, IsProper, one, total_below, ObservationPolicy, as_policy, IsPolicyOf, after, step_weight, step_scale, total_weight, expected_total, expected_reward}
+use Rattle.polcert_points.proofs.Common.{*ℤ_comm, zero-*ℤ, cases_lt, CellTable, IsProper, one, total_below, ObservationPolicy, as_policy}
+use Rattle.polcert_points.proofs.Common.{IsPolicyOf, after, step_weight, step_scale, total_weight, expected_total, expected_reward}
 use Rattle.std.proofs.Math.Nat.{pow-suc}
-use Rattle.polcert_check.proofs.Sums.Ring.{linear, products, mul_le, below_cancel, *ℤ_left_comm, ≤ℤ_trans, ≤ℤ_from_eq, *ℤ_assoc, *ℤ-+ℤ, +ℤ-*ℤ}
+use Rattle.polcert_check.proofs.Sums.Ring.{linear, products, mul_le, below_cancel, *ℤ_left_comm, ≤ℤ_trans, ≤ℤ_from_eq, *ℤ_assoc, *ℤ-+ℤ}
+use Rattle.polcert_check.proofs.Sums.Ring.{+ℤ-*ℤ}
 use Rattle.polcert_check.proofs.Sums.SumLaws.{sum_below_same, sum_below_le, sum_below_add, sum_below_scale}
 use Rattle.polcert_check.proofs.Sums.RowTotals.{sum_of_pos}
 use Rattle.polcert_check.proofs.Horizons.Kept.{sum_twice_scale}
@@ -21,7 +23,8 @@ continued policy z = λ observations. policy (z ∷ observations)
 step_algebra : (w q h u r g v : ℤ) → w *ℤ (((h *ℤ u) *ℤ r) *ℤ q +ℤ g *ℤ v) ≡ (q *ℤ h) *ℤ (u *ℤ (w *ℤ r)) +ℤ g *ℤ (w *ℤ v)
 step_algebra w q h u r g v = simp products
 
-step_term : (q k w g : ℕ) (r weights v : ℤ) → weights ≡ pos q → pos w *ℤ ((pos (one ^ suc k) *ℤ r) *ℤ weights +ℤ pos g *ℤ v) ≡ pos (q * one ^ k) *ℤ (pos one *ℤ (pos w *ℤ r)) +ℤ pos g *ℤ (pos w *ℤ v)
+step_term : (q k w g : ℕ) (r weights v : ℤ) → weights ≡ pos q
+    → pos w *ℤ ((pos (one ^ suc k) *ℤ r) *ℤ weights +ℤ pos g *ℤ v) ≡ pos (q * one ^ k) *ℤ (pos one *ℤ (pos w *ℤ r)) +ℤ pos g *ℤ (pos w *ℤ v)
 step_term q k w g r weights v is =
     cc (is, step_algebra (pos w) (pos q) (pos (one ^ k)) (pos one) r (pos g) v, pow-suc one k)
 
@@ -31,7 +34,8 @@ module _ (t : CellTable) (p : IsProper t) (m : ℤ) (policy : ObservationPolicy)
   later z e = expected_total t (λ history. m) (as_policy (continued policy z)) k e
 
   pub one_more : (s : ℕ) → s < t.states → expected_total t (λ history. m) (as_policy policy) (suc k) s
-      ≡ pos (step_scale t ^ k * one ^ k) *ℤ (pos one *ℤ expected_reward t (policy []) s) +ℤ pos t.discount *ℤ total_below (λ z. total_below (λ e. pos (step_weight t (policy []) s e z) *ℤ later z e) t.states) t.observations
+      ≡ pos (step_scale t ^ k * one ^ k) *ℤ (pos one *ℤ expected_reward t (policy []) s) +ℤ pos t.discount
+      *ℤ total_below (λ z. total_below (λ e. pos (step_weight t (policy []) s e z) *ℤ later z e) t.states) t.observations
   one_more s sl =
       let x : ℤ = pos (step_scale t ^ k * one ^ k) in
       let u : ℤ = pos one in
@@ -39,22 +43,31 @@ module _ (t : CellTable) (p : IsProper t) (m : ℤ) (policy : ObservationPolicy)
       let reward = λ (e z : ℕ). pos (step_weight t (policy []) s e z) *ℤ t.r (policy []) s e z in
       let next = λ (e z : ℕ). pos (step_weight t (policy []) s e z) *ℤ later z e in
       expected_total_suc t (λ history. m) (as_policy policy) k s
-      ∙ sum_below_same _ (λ e. total_below (λ z. x *ℤ (u *ℤ reward e z) +ℤ g *ℤ next e z) t.observations) t.states (λ e el. sum_below_same _ (λ z. x *ℤ (u *ℤ reward e z) +ℤ g *ℤ next e z) t.observations (λ z zl.
-      step_term (step_scale t ^ k) k (step_weight t (policy []) s e z) t.discount (t.r (policy []) s e z) (total_weight t (after (as_policy policy) (e, z)) k e) (later z e)
+      ∙ sum_below_same _ (λ e. total_below (λ z. x *ℤ (u *ℤ reward e z) +ℤ g *ℤ next e z) t.observations) t.states
+      (λ e el. sum_below_same _ (λ z. x *ℤ (u *ℤ reward e z) +ℤ g *ℤ next e z) t.observations (λ z zl.
+      step_term (step_scale t ^ k) k (step_weight t (policy []) s e z) t.discount (t.r (policy []) s e z)
+      (total_weight t (after (as_policy policy) (e, z)) k e) (later z e)
       (weights_all t p k (after (as_policy policy) (e, z)) (policy_after t (as_policy policy) of e z el zl) e el)))
       ∙ sum_twice_add (λ e z. x *ℤ (u *ℤ reward e z)) (λ e z. g *ℤ next e z) t.observations t.states
-      ∙ ap (λ (y : ℤ). y +ℤ total_below (λ e. total_below (λ z. g *ℤ next e z) t.observations) t.states) (sum_twice_scale x (λ e z. u *ℤ reward e z) t.observations t.states ∙ ap (λ (y : ℤ). x *ℤ y) (sum_twice_scale u reward t.observations t.states))
-      ∙ ap (λ (y : ℤ). x *ℤ (u *ℤ expected_reward t (policy []) s) +ℤ y) (sum_twice_scale g next t.observations t.states ∙ ap (λ (y : ℤ). g *ℤ y) (swapped next t.observations t.states))
+      ∙ ap (λ (y : ℤ). y +ℤ total_below (λ e. total_below (λ z. g *ℤ next e z) t.observations) t.states)
+      (sum_twice_scale x (λ e z. u *ℤ reward e z) t.observations t.states
+      ∙ ap (λ (y : ℤ). x *ℤ y) (sum_twice_scale u reward t.observations t.states))
+      ∙ ap (λ (y : ℤ). x *ℤ (u *ℤ expected_reward t (policy []) s) +ℤ y)
+      (sum_twice_scale g next t.observations t.states ∙ ap (λ (y : ℤ). g *ℤ y) (swapped next t.observations t.states))
 
 -- ---- sums over a belief
 sum_parts : (b x u r g v : ℤ) → b *ℤ (x *ℤ (u *ℤ r) +ℤ g *ℤ v) ≡ x *ℤ (u *ℤ (b *ℤ r)) +ℤ g *ℤ (b *ℤ v)
 sum_parts b x u r g v = simp products
 
-pub belief_parts : (t : CellTable) (b : Belief) (x u g : ℤ) (r v : ℕ → ℤ) → sum_over_belief t b (λ s. x *ℤ (u *ℤ r s) +ℤ g *ℤ v s) ≡ x *ℤ (u *ℤ sum_over_belief t b r) +ℤ g *ℤ sum_over_belief t b v
+pub belief_parts : (t : CellTable) (b : Belief) (x u g : ℤ) (r v : ℕ → ℤ)
+    → sum_over_belief t b (λ s. x *ℤ (u *ℤ r s) +ℤ g *ℤ v s) ≡ x *ℤ (u *ℤ sum_over_belief t b r) +ℤ g *ℤ sum_over_belief t b v
 belief_parts t b x u g r v =
-    sum_below_same _ (λ s. x *ℤ (u *ℤ (pos (b s) *ℤ r s)) +ℤ g *ℤ (pos (b s) *ℤ v s)) t.states (λ s _. sum_parts (pos (b s)) x u (r s) g (v s))
+    sum_below_same _ (λ s. x *ℤ (u *ℤ (pos (b s) *ℤ r s)) +ℤ g *ℤ (pos (b s) *ℤ v s)) t.states
+    (λ s _. sum_parts (pos (b s)) x u (r s) g (v s))
     ∙ sum_below_add (λ s. x *ℤ (u *ℤ (pos (b s) *ℤ r s))) (λ s. g *ℤ (pos (b s) *ℤ v s)) t.states
-    ∙ ap (λ (y : ℤ). y +ℤ total_below (λ s. g *ℤ (pos (b s) *ℤ v s)) t.states) (sum_below_scale x (λ s. u *ℤ (pos (b s) *ℤ r s)) t.states ∙ ap (λ (y : ℤ). x *ℤ y) (sum_below_scale u (λ s. pos (b s) *ℤ r s) t.states))
+    ∙ ap (λ (y : ℤ). y +ℤ total_below (λ s. g *ℤ (pos (b s) *ℤ v s)) t.states)
+    (sum_below_scale x (λ s. u *ℤ (pos (b s) *ℤ r s)) t.states
+    ∙ ap (λ (y : ℤ). x *ℤ y) (sum_below_scale u (λ s. pos (b s) *ℤ r s) t.states))
     ∙ ap (λ (y : ℤ). x *ℤ (u *ℤ sum_over_belief t b r) +ℤ y) (sum_below_scale g (λ s. pos (b s) *ℤ v s) t.states)
 
 -- a sum of weights times one number
@@ -62,7 +75,8 @@ pub sum_below_times : (f : ℕ → ℤ) (x : ℤ) (n : ℕ) → total_below (λ 
 sum_below_times f x n = sum_below_same _ (λ i. x *ℤ f i) n (λ i _. *ℤ_comm (f i) x) ∙ sum_below_scale x f n ∙ *ℤ_comm x (total_below f n)
 
 -- what is expected after an observation, over a belief, is a sum over the belief that follows
-pub after_is : (t : CellTable) (b : Belief) (a z : ℕ) (f : ℕ → ℤ) → sum_over_belief t b (λ s. total_below (λ e. pos (step_weight t a s e z) *ℤ f e) t.states) ≡ sum_over_belief t (belief_after t b a z) f
+pub after_is : (t : CellTable) (b : Belief) (a z : ℕ) (f : ℕ → ℤ)
+    → sum_over_belief t b (λ s. total_below (λ e. pos (step_weight t a s e z) *ℤ f e) t.states) ≡ sum_over_belief t (belief_after t b a z) f
 after_is t b a z f =
     let term = λ (s e : ℕ). pos (b s * step_weight t a s e z) *ℤ f e in
     sum_below_same _ (λ s. total_below (λ e. term s e) t.states) t.states (λ s _.
@@ -74,11 +88,13 @@ after_is t b a z f =
     ∙ ap (λ (y : ℤ). y *ℤ f e) (sum_of_pos (λ s. b s * step_weight t a s e z) t.states))
 
 -- and over all observations
-pub afters_are : (t : CellTable) (b : Belief) (a : ℕ) (f : ℕ → ℕ → ℤ) → sum_over_belief t b (λ s. total_below (λ z. total_below (λ e. pos (step_weight t a s e z) *ℤ f z e) t.states) t.observations)
+pub afters_are : (t : CellTable) (b : Belief) (a : ℕ) (f : ℕ → ℕ → ℤ)
+    → sum_over_belief t b (λ s. total_below (λ z. total_below (λ e. pos (step_weight t a s e z) *ℤ f z e) t.states) t.observations)
     ≡ total_below (λ z. sum_over_belief t (belief_after t b a z) (f z)) t.observations
 afters_are t b a f =
     let part = λ (s z : ℕ). total_below (λ e. pos (step_weight t a s e z) *ℤ f z e) t.states in
-    sum_below_same _ (λ s. total_below (λ z. pos (b s) *ℤ part s z) t.observations) t.states (λ s _. sym (sum_below_scale (pos (b s)) (part s) t.observations))
+    sum_below_same _ (λ s. total_below (λ z. pos (b s) *ℤ part s z) t.observations) t.states
+    (λ s _. sym (sum_below_scale (pos (b s)) (part s) t.observations))
     ∙ swapped (λ s z. pos (b s) *ℤ part s z) t.observations t.states
     ∙ sum_below_same _ (λ z. sum_over_belief t (belief_after t b a z) (f z)) t.observations (λ z _. after_is t b a z (f z))
 
@@ -88,30 +104,37 @@ left_algebra b n p x l =
     let whole : pos b ≡ pos (n * p) +ℤ pos (b - n * p) = omega (arith, linear, l) in
     rw whole (+ℤ-*ℤ (pos (n * p)) (pos (b - n * p)) x ∙ ap (λ (y : ℤ). y +ℤ pos (b - n * p) *ℤ x) (*ℤ_assoc (pos n) (pos p) x))
 
-pub taken_out : (t : CellTable) (b point : Belief) (n : ℕ) (f : ℕ → ℤ) → ((s : ℕ) → s < t.states → n * point s ≤ b s) → sum_over_belief t b f ≡ pos n *ℤ sum_over_belief t point f +ℤ sum_over_belief t (left_of b point n) f
+pub taken_out : (t : CellTable) (b point : Belief) (n : ℕ) (f : ℕ → ℤ) → ((s : ℕ) → s < t.states → n * point s ≤ b s)
+    → sum_over_belief t b f ≡ pos n *ℤ sum_over_belief t point f +ℤ sum_over_belief t (left_of b point n) f
 taken_out t b point n f fits =
-    sum_below_same _ (λ s. pos n *ℤ (pos (point s) *ℤ f s) +ℤ pos (b s - n * point s) *ℤ f s) t.states (λ s sl. left_algebra (b s) n (point s) (f s) (fits s sl))
+    sum_below_same _ (λ s. pos n *ℤ (pos (point s) *ℤ f s) +ℤ pos (b s - n * point s) *ℤ f s) t.states
+    (λ s sl. left_algebra (b s) n (point s) (f s) (fits s sl))
     ∙ sum_below_add (λ s. pos n *ℤ (pos (point s) *ℤ f s)) (λ s. pos (b s - n * point s) *ℤ f s) t.states
     ∙ ap (λ (y : ℤ). y +ℤ sum_over_belief t (left_of b point n) f) (sum_below_scale (pos n) (λ s. pos (point s) *ℤ f s) t.states)
 
-pub belief_le : (t : CellTable) (x : ℕ) (b : Belief) (f g : ℕ → ℤ) → ((s : ℕ) → s < t.states → f s ≤ℤ (pos x *ℤ g s)) → sum_over_belief t b f ≤ℤ (pos x *ℤ sum_over_belief t b g)
+pub belief_le : (t : CellTable) (x : ℕ) (b : Belief) (f g : ℕ → ℤ) → ((s : ℕ) → s < t.states → f s ≤ℤ (pos x *ℤ g s))
+    → sum_over_belief t b f ≤ℤ (pos x *ℤ sum_over_belief t b g)
 belief_le t x b f g each =
-    ≤ℤ_trans _ _ _ (sum_below_le _ (λ s. pos x *ℤ (pos (b s) *ℤ g s)) t.states (λ s sl. ≤ℤ_trans _ _ _ (mul_le (b s) _ _ (each s sl)) (≤ℤ_from_eq _ _ (simp products))))
+    ≤ℤ_trans _ _ _ (sum_below_le _ (λ s. pos x *ℤ (pos (b s) *ℤ g s)) t.states
+    (λ s sl. ≤ℤ_trans _ _ _ (mul_le (b s) _ _ (each s sl)) (≤ℤ_from_eq _ _ (simp products))))
     (≤ℤ_from_eq _ _ (sum_below_scale (pos x) (λ s. pos (b s) *ℤ g s) t.states))
 
-cover_algebra : (x n : ℕ) (at_point worth rest covered : ℤ) → at_point ≤ℤ (pos x *ℤ worth) → rest ≤ℤ (pos x *ℤ covered) → (pos n *ℤ at_point +ℤ rest) ≤ℤ (pos x *ℤ (pos n *ℤ worth +ℤ covered))
+cover_algebra : (x n : ℕ) (at_point worth rest covered : ℤ) → at_point ≤ℤ (pos x *ℤ worth) → rest ≤ℤ (pos x *ℤ covered)
+    → (pos n *ℤ at_point +ℤ rest) ≤ℤ (pos x *ℤ (pos n *ℤ worth +ℤ covered))
 cover_algebra x n at_point worth rest covered h k =
     let turned : pos n *ℤ (pos x *ℤ worth) ≡ pos x *ℤ (pos n *ℤ worth) = simp products in
     omega (arith, linear, mul_le n _ _ h, turned, *ℤ-+ℤ (pos x) (pos n *ℤ worth) covered, k)
 
 -- What is at most x times the vector at each state, and at most x times the worth at each point, is so of a belief with a cover.
-pub cover_le : (t : CellTable) (charges : ℕ → ℕ → ℤ) (points : Points) (a x : ℕ) (f : ℕ → ℤ) → ((s : ℕ) → s < t.states → f s ≤ℤ (pos x *ℤ charges a s))
+pub cover_le : (t : CellTable) (charges : ℕ → ℕ → ℤ) (points : Points) (a x : ℕ) (f : ℕ → ℤ)
+    → ((s : ℕ) → s < t.states → f s ≤ℤ (pos x *ℤ charges a s))
     → ((i : ℕ) → i < points.count → sum_over_belief t (points.belief i) f ≤ℤ (pos x *ℤ point_worth t points i a))
     → (cover : Cover) (b : Belief) → IsCover t points b cover → sum_over_belief t b f ≤ℤ (pos x *ℤ covered_worth t charges points a b cover)
 cover_le t charges points a x f states at_points [] b is = belief_le t x b f (charges a) states
 cover_le t charges points a x f states at_points (c ∷ cover) b is =
     ≤ℤ_trans _ _ _ (≤ℤ_from_eq _ _ (taken_out t b (points.belief c.0) c.1 f is.1))
-    (cover_algebra x c.1 _ _ _ _ (at_points c.0 is.0) (cover_le t charges points a x f states at_points cover (left_of b (points.belief c.0) c.1) is.2))
+    (cover_algebra x c.1 _ _ _ _ (at_points c.0 is.0) (cover_le t charges points a x f states at_points cover
+    (left_of b (points.belief c.0) c.1) is.2))
 
 -- ---- charges
 pub cancel : (n : ℕ) (x y : ℤ) → 0 < n → (pos n *ℤ x) ≤ℤ (pos n *ℤ y) → x ≤ℤ y
@@ -124,28 +147,38 @@ pub one_term : (g : ℕ → ℤ) (s n : ℕ) → s < n → ((e : ℕ) → e < n 
 one_term g s zero l others = absurd (omega arith)
 one_term g s (suc n) l others =
     ⊎_elim
-    (λ (k : s < n). let zero_at : g n ≡ pos 0 = others n (omega arith) (λ e. omega (arith, e, k)) in omega (arith, linear, zero_at, one_term g s n k (λ e el no. others e (omega (arith, el)) no)))
-    (λ (k : n ≤ s). let is : s ≡ n = omega arith in let rest : total_below g n ≡ pos 0 = none_below g n (λ e el. others e (omega (arith, el)) (λ same. omega (arith, el, same, k))) in rw is (omega (arith, linear, rest)))
+    (λ (k : s < n). let zero_at : g n ≡ pos 0 = others n (omega arith) (λ e. omega (arith, e, k)) in
+    omega (arith, linear, zero_at, one_term g s n k (λ e el no. others e (omega (arith, el)) no)))
+    (λ (k : n ≤ s). let is : s ≡ n = omega arith in let rest : total_below g n ≡ pos 0 =
+    none_below g n (λ e el. others e (omega (arith, el)) (λ same. omega (arith, el, same, k))) in rw is (omega (arith, linear, rest)))
     (cases_lt s n)
 
 -- a point that is one state alone
-corner_sum : (t : CellTable) (points : Points) (i s : ℕ) (f : ℕ → ℤ) → s < t.states → IsAtState t points i s → sum_over_belief t (points.belief i) f ≡ pos (points.belief i s) *ℤ f s
-corner_sum t points i s f sl at = one_term (λ e. pos (points.belief i e) *ℤ f e) s t.states sl (λ e el no. rw (at.alone e el no) (zero-*ℤ (f e)))
+corner_sum : (t : CellTable) (points : Points) (i s : ℕ) (f : ℕ → ℤ) → s < t.states → IsAtState t points i s
+    → sum_over_belief t (points.belief i) f ≡ pos (points.belief i s) *ℤ f s
+corner_sum t points i s f sl at = one_term (λ e. pos (points.belief i e) *ℤ f e) s t.states sl
+    (λ e el no. rw (at.alone e el no) (zero-*ℤ (f e)))
 
-corner_mass : (t : CellTable) (points : Points) (i s : ℕ) → s < t.states → IsAtState t points i s → pos (mass t (points.belief i)) ≡ pos (points.belief i s)
-corner_mass t points i s sl at = sym (sum_of_pos (points.belief i) t.states) ∙ one_term (λ e. pos (points.belief i e)) s t.states sl (λ e el no. ap pos (at.alone e el no))
+corner_mass : (t : CellTable) (points : Points) (i s : ℕ) → s < t.states → IsAtState t points i s
+    → pos (mass t (points.belief i)) ≡ pos (points.belief i s)
+corner_mass t points i s sl at = sym (sum_of_pos (points.belief i) t.states)
+    ∙ one_term (λ e. pos (points.belief i e)) s t.states sl (λ e el no. ap pos (at.alone e el no))
 
 -- What is at most x times the vector at each state, and at most x times the worth at each point, is at most x times the charge.
-pub charge_le : (t : CellTable) (vectors charges : ℕ → ℕ → ℤ) (points : Points) → AreCharges t vectors points charges → (a x : ℕ) (f : ℕ → ℤ) → a < t.actions → ((s : ℕ) → s < t.states → f s ≤ℤ (pos x *ℤ vectors a s))
-    → ((i : ℕ) → i < points.count → sum_over_belief t (points.belief i) f ≤ℤ (pos x *ℤ point_worth t points i a)) → (s : ℕ) → s < t.states → f s ≤ℤ (pos x *ℤ charges a s)
+pub charge_le : (t : CellTable) (vectors charges : ℕ → ℕ → ℤ) (points : Points) → AreCharges t vectors points charges
+    → (a x : ℕ) (f : ℕ → ℤ) → a < t.actions → ((s : ℕ) → s < t.states → f s ≤ℤ (pos x *ℤ vectors a s))
+    → ((i : ℕ) → i < points.count → sum_over_belief t (points.belief i) f ≤ℤ (pos x *ℤ point_worth t points i a)) → (s : ℕ) → s < t.states
+    → f s ≤ℤ (pos x *ℤ charges a s)
 charge_le t vectors charges points are a x f al states at_points s sl =
     ⊎_elim
     (λ (e : charges a s ≡ vectors a s). rw e (states s sl))
     (λ (c : (i : ℕ) × (i < points.count) × IsAtState t points i s × (charges a s ≡ points.value i a)).
     let w : ℕ = points.belief c.0 s in
-    let worth : point_worth t points c.0 a ≡ pos w *ℤ points.value c.0 a = ap (λ (y : ℤ). y *ℤ points.value c.0 a) (corner_mass t points c.0 s sl c.2) in
+    let worth : point_worth t points c.0 a ≡ pos w *ℤ points.value c.0 a =
+    ap (λ (y : ℤ). y *ℤ points.value c.0 a) (corner_mass t points c.0 s sl c.2) in
     let le : (pos w *ℤ f s) ≤ℤ (pos w *ℤ (pos x *ℤ points.value c.0 a)) =
     ≤ℤ_trans _ _ _ (≤ℤ_from_eq _ _ (sym (corner_sum t points c.0 s f sl c.2)))
-    (≤ℤ_trans _ _ _ (at_points c.0 c.1) (≤ℤ_from_eq _ _ (ap (λ (y : ℤ). pos x *ℤ y) worth ∙ *ℤ_left_comm (pos x) (pos w) (points.value c.0 a)))) in
+    (≤ℤ_trans _ _ _ (at_points c.0 c.1) (≤ℤ_from_eq _ _
+    (ap (λ (y : ℤ). pos x *ℤ y) worth ∙ *ℤ_left_comm (pos x) (pos w) (points.value c.0 a)))) in
     rw c.3 (cancel w (f s) (pos x *ℤ points.value c.0 a) c.2.some le))
     (are a s al sl)

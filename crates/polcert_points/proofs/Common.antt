@@ -1,7 +1,10 @@
 -- names
 pub use Rattle.polcert_optimum.specs.Bound.{DominatesBackup, IsBounded, backup}
-pub use Rattle.polcert_optimum.specs.Informed.{AreInformed, BoundEveryObservationPolicy, IsInformed, excess, expected_reward, expected_value, greatest_below}
-pub use Rattle.polcert_optimum.specs.Policy.{History, IsPolicyOf, ObservationPolicy, Policy, after, as_policy, discounted_rewards, end_state, expected_rewards, expected_total, history_weight, step_scale, step_weight, total_weight}
+pub use Rattle.polcert_optimum.specs.Informed.{AreInformed, BoundEveryObservationPolicy, IsInformed, excess, expected_reward}
+pub use Rattle.polcert_optimum.specs.Informed.{expected_value, greatest_below}
+pub use Rattle.polcert_optimum.specs.Policy.{History, IsPolicyOf, ObservationPolicy, Policy, after, as_policy, discounted_rewards}
+pub use Rattle.polcert_optimum.specs.Policy.{end_state, expected_rewards, expected_total, history_weight, step_scale, step_weight}
+pub use Rattle.polcert_optimum.specs.Policy.{total_weight}
 pub use Rattle.std.proofs.Math.IntN.{*ℤ_comm, zero-*ℤ}
 pub use Rattle.std.proofs.Math.Nat.{pow-zero}
 pub use Rattle.std.proofs.lemmas.Bool.{cases_lt}

@@ -11,30 +11,42 @@ use Rattle.polcert_points.specs.Points.{Points, point_worth, Cover, IsCover, lef
 use Rattle.polcert_points.proofs.Charging.{charge_small}
 use Rattle.polcert_points.proofs.PointRaises.{mass_taken, masses_after}
 
-both_small : (x y : ℤ) (n p left whole large : ℕ) → unsigned_abs x ≤ n * (p * large) → unsigned_abs y ≤ left * large → whole ≡ n * p + left → unsigned_abs (x +ℤ y) ≤ whole * large
+both_small : (x y : ℤ) (n p left whole large : ℕ) → unsigned_abs x ≤ n * (p * large) → unsigned_abs y ≤ left * large → whole ≡ n * p + left
+    → unsigned_abs (x +ℤ y) ≤ whole * large
 both_small x y n p left whole large h k is = rw is (omega (arith, abs-+ℤ x y, h, k))
 
-module _ (t : CellTable) (charges : ℕ → ℕ → ℤ) (points : Points) (large : ℕ) (charges_small : (a s : ℕ) → a < t.actions → s < t.states → unsigned_abs (charges a s) ≤ large) (values_small : (i a : ℕ) → i < points.count → a < t.actions → unsigned_abs (points.value i a) ≤ large) where
+module _ (t : CellTable) (charges : ℕ → ℕ → ℤ) (points : Points) (large : ℕ)
+    (charges_small : (a s : ℕ) → a < t.actions → s < t.states → unsigned_abs (charges a s) ≤ large)
+    (values_small : (i a : ℕ) → i < points.count → a < t.actions → unsigned_abs (points.value i a) ≤ large) where
   -- what a belief with a cover is worth is at most its mass times the largest value in size
-  pub covered_small : (a : ℕ) → a < t.actions → (cover : Cover) (b : Belief) → IsCover t points b cover → unsigned_abs (covered_worth t charges points a b cover) ≤ mass t b * large
-  covered_small a al [] b is = charge_small b (charges a) (mass t b) large t.states t.states (omega arith) (λ s sl. charges_small a s al sl) (omega arith)
+  pub covered_small : (a : ℕ) → a < t.actions → (cover : Cover) (b : Belief) → IsCover t points b cover
+      → unsigned_abs (covered_worth t charges points a b cover) ≤ mass t b * large
+  covered_small a al [] b is = charge_small b (charges a) (mass t b) large t.states t.states (omega arith) (λ s sl. charges_small a s al sl)
+      (omega arith)
   covered_small a al (c ∷ cover) b is =
-      let whole : mass t b ≡ c.1 * mass t (points.belief c.0) + mass t (left_of b (points.belief c.0) c.1) = omega (arith, linear, mass_taken t b (points.belief c.0) c.1 is.1) in
-      both_small (pos c.1 *ℤ point_worth t points c.0 a) (covered_worth t charges points a (left_of b (points.belief c.0) c.1) cover) c.1 (mass t (points.belief c.0)) (mass t (left_of b (points.belief c.0) c.1)) (mass t b) large
-      (abs-*ℤ_le (pos c.1) (point_worth t points c.0 a) c.1 (mass t (points.belief c.0) * large) (omega arith) (abs-*ℤ_le (pos (mass t (points.belief c.0))) (points.value c.0 a) (mass t (points.belief c.0)) large (omega arith) (values_small c.0 a is.0 al)))
+      let whole : mass t b ≡ c.1 * mass t (points.belief c.0) + mass t (left_of b (points.belief c.0) c.1) =
+      omega (arith, linear, mass_taken t b (points.belief c.0) c.1 is.1) in
+      both_small (pos c.1 *ℤ point_worth t points c.0 a) (covered_worth t charges points a (left_of b (points.belief c.0) c.1) cover) c.1
+      (mass t (points.belief c.0)) (mass t (left_of b (points.belief c.0) c.1)) (mass t b) large
+      (abs-*ℤ_le (pos c.1) (point_worth t points c.0 a) c.1 (mass t (points.belief c.0) * large) (omega arith)
+      (abs-*ℤ_le (pos (mass t (points.belief c.0))) (points.value c.0 a) (mass t (points.belief c.0)) large (omega arith)
+      (values_small c.0 a is.0 al)))
       (covered_small a al cover (left_of b (points.belief c.0) c.1) is.2)
       whole
 
-  pub best_small : (cover : Cover) (b : Belief) → 0 < t.actions → IsCover t points b cover → unsigned_abs (best_worth t charges points b cover) ≤ mass t b * large
+  pub best_small : (cover : Cover) (b : Belief) → 0 < t.actions → IsCover t points b cover
+      → unsigned_abs (best_worth t charges points b cover) ≤ mass t b * large
   best_small cover b some is =
       let (a, al, reached) = greatest_reached (λ a. covered_worth t charges points a b cover) t.actions some in
       subst (λ (x : ℤ). unsigned_abs x ≤ mass t b * large) reached (covered_small a al cover b is)
 
   -- and so are its parts over the observations, however many are added
-  pub later_small : IsProper t → (b : Belief) (a : ℕ) → a < t.actions → (covers : ℕ → Cover) → ((z : ℕ) → z < t.observations → IsCover t points (belief_after t b a z) (covers z)) → (k : ℕ) → k ≤ t.observations
+  pub later_small : IsProper t → (b : Belief) (a : ℕ) → a < t.actions → (covers : ℕ → Cover)
+      → ((z : ℕ) → z < t.observations → IsCover t points (belief_after t b a z) (covers z)) → (k : ℕ) → k ≤ t.observations
       → unsigned_abs (total_below (λ z. best_worth t charges points (belief_after t b a z) (covers z)) k) ≤ mass t b * step_scale t * large
   later_small p b a al covers are k kl =
-      abs_part_le (λ z. best_worth t charges points (belief_after t b a z) (covers z)) (λ z. mass t (belief_after t b a z)) large k t.observations (mass t b * step_scale t) (masses_after t p b a al) kl
+      abs_part_le (λ z. best_worth t charges points (belief_after t b a z) (covers z)) (λ z. mass t (belief_after t b a z)) large k
+      t.observations (mass t b * step_scale t) (masses_after t p b a al) kl
       (λ z zl. best_small (covers z) (belief_after t b a z) (omega (arith, al)) (are z zl))
 
 -- in figures: a mass of at most a million, and values within ten million
@@ -44,7 +56,8 @@ scale_figures s z ts os few is also = rw (is, also) (omega (arith, few))
 pub scale_small : (t : CellTable) → IsWithinLimits t → step_scale t ≤ 5000000000000000000
 scale_small t limits = scale_figures t.states t.observations t.t_scale t.o_scale limits.pairs limits.t_scale limits.o_scale
 
-pub in_figures : (t : CellTable) → IsWithinLimits t → (n : ℕ) → n ≤ 1000000 → n * step_scale t * 10000000000000 ≤ 50000000000000000000000000000000000000
+pub in_figures : (t : CellTable) → IsWithinLimits t → (n : ℕ) → n ≤ 1000000
+    → n * step_scale t * 10000000000000 ≤ 50000000000000000000000000000000000000
 in_figures t limits n few =
     mul-le-mul_right 10000000000000 (mul-le-mul few (scale_small t limits))
 

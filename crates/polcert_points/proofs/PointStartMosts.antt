@@ -1,8 +1,11 @@
 -- What the start is worth at most, covered by one point or by none.
-use Rattle.std.proofs.Common.{◌≡◌, ◌⊎◌, inl, inr, ⊎_elim, ℕ, zero, suc, ◌+◌, ◌*◌, ◌<◌, ◌≤◌, ℤ, pos, ◌+ℤ◌, ◌-ℤ◌, ◌*ℤ◌, ◌≤ℤ◌, ◌<ℤ◌, neg_ℤ, unsigned_abs, FitsSigned, to_z, of_z, w64, Option, Some, None, List, [], ◌∷◌, refl, sym, ap, subst, ◌∙◌, arith}
+use Rattle.std.proofs.Common.{◌≡◌, ◌⊎◌, inl, inr, ⊎_elim, ℕ, zero, suc, ◌+◌, ◌*◌, ◌<◌, ◌≤◌, ℤ, pos, ◌+ℤ◌, ◌-ℤ◌, ◌*ℤ◌, ◌≤ℤ◌, ◌<ℤ◌, neg_ℤ}
+use Rattle.std.proofs.Common.{unsigned_abs, FitsSigned, to_z, of_z, w64, Option, Some, None, List, [], ◌∷◌, refl, sym, ap, subst, ◌∙◌}
+use Rattle.std.proofs.Common.{arith}
 use Rattle.std.specs.Int.{int_min, int_div_euclid}
 use Rattle.std.proofs.lemmas.Int.{by_lt_z, fits_signed_from_abs, to_z-of_z, to_z_pos}
-use Rattle.polcert_points.proofs.Common.{cases_lt, w128, ints, clamps, CellTable, Meaning, HasLimitedNumbers, states_of, start_weight, start_total, table_of, greatest_below, AreInformed}
+use Rattle.polcert_points.proofs.Common.{cases_lt, w128, ints, clamps, CellTable, Meaning, HasLimitedNumbers, states_of, start_weight}
+use Rattle.polcert_points.proofs.Common.{start_total, table_of, greatest_below, AreInformed}
 use Rattle.polcert_cells.specs.Meaning.{sum_below}
 use Rattle.polcert_check.specs.StartWorth.{IsCeilQuotient, IsFloorQuotient}
 use Rattle.polcert_check.proofs.Sums.Ring.{linear, ≤ℤ_from_eq, ≤ℤ_trans}
@@ -37,27 +40,43 @@ min_one : (x y : ℤ) → (int_min x y ≡ x) ⊎ (int_min x y ≡ y)
 min_one x y = by_lt_z x y (λ l. inl (omega (arith, ints, clamps, l))) (λ le. inr (omega (arith, ints, clamps, le)))
 
 module _ (t : CellTable) (charges : ℕ → ℕ → ℤ) (points : Points) (b : Belief) where
-  wider : (n : ℕ) (x : ℤ) → (named : Option ℕ) × (cover : Cover) × ((j : ℕ) → named ≡ Some j → j < n) × IsCoverBy t points b named cover × (x ≡ best_worth t charges points b cover)
-      → (named : Option ℕ) × (cover : Cover) × ((j : ℕ) → named ≡ Some j → j < n + 1) × IsCoverBy t points b named cover × (x ≡ best_worth t charges points b cover)
+  wider : (n : ℕ) (x : ℤ) → (named : Option ℕ) × (cover : Cover) × ((j : ℕ) → named ≡ Some j → j < n) × IsCoverBy t points b named cover
+      × (x ≡ best_worth t charges points b cover)
+      → (named : Option ℕ) × (cover : Cover) × ((j : ℕ) → named ≡ Some j → j < n + 1) × IsCoverBy t points b named cover
+      × (x ≡ best_worth t charges points b cover)
   wider n x r = (r.0, r.1, λ j is. omega (arith, r.2 j is), r.3, r.4)
 
-  pub none_tried : (x : ℤ) → ((cover : Cover) → IsCoverBy t points b None cover → x ≡ best_worth t charges points b cover) → IsLeastWorth t charges points b 0 x
+  pub none_tried : (x : ℤ) → ((cover : Cover) → IsCoverBy t points b None cover → x ≡ best_worth t charges points b cover)
+      → IsLeastWorth t charges points b 0 x
   none_tried x worth = record {
     uncovered = λ cover by. ≤ℤ_from_eq _ _ (worth cover by);
     covered = λ j cover l by. absurd (omega (arith, l));
     is_reached = (None, [], λ j named. cc, refl, worth [] refl);
   }
 
-  pub one_tried : (n : ℕ) (x y : ℤ) → 1 ≤ mass t (points.belief n) → IsLeastWorth t charges points b n x → ((cover : Cover) → IsCoverBy t points b (Some n) cover → y ≡ best_worth t charges points b cover) → IsLeastWorth t charges points b (n + 1) (int_min x y)
+  pub one_tried : (n : ℕ) (x y : ℤ) → 1 ≤ mass t (points.belief n) → IsLeastWorth t charges points b n x
+      → ((cover : Cover) → IsCoverBy t points b (Some n) cover → y ≡ best_worth t charges points b cover)
+      → IsLeastWorth t charges points b (n + 1) (int_min x y)
   one_tried n x y some before worth = record {
     uncovered = λ cover by. min_le x y _ (before.uncovered cover by);
     covered = λ j cover l by.
         ⊎_elim (λ (k : j < n). min_le x y _ (before.covered j cover k by))
-        (λ (k : n ≤ j). let e : j ≡ n = omega (arith, l, k) in ≤ℤ_trans _ _ _ (min_below x y) (≤ℤ_from_eq _ _ (worth cover (subst (λ (i : ℕ). IsCoverBy t points b (Some i) cover) e by))))
+        (λ (k : n ≤ j). let e : j ≡ n = omega (arith, l, k) in
+        ≤ℤ_trans _ _ _ (min_below x y) (≤ℤ_from_eq _ _ (worth cover (subst (λ (i : ℕ). IsCoverBy t points b (Some i) cover) e by))))
         (cases_lt j n);
     is_reached = ⊎_elim
         (λ (e : int_min x y ≡ x). rw e (wider n x before.is_reached))
-        (λ (e : int_min x y ≡ y). (Some n, cover_of t points b (Some n), λ j is. let same : n ≡ j = cc in omega (arith, same), is_cover_by t points b (Some n) (λ j is. let same : n ≡ j = cc in subst (λ (i : ℕ). 1 ≤ mass t (points.belief i)) same some), e ∙ worth (cover_of t points b (Some n)) (is_cover_by t points b (Some n) (λ j is. let same : n ≡ j = cc in subst (λ (i : ℕ). 1 ≤ mass t (points.belief i)) same some))))
+        (λ (e : int_min x y ≡ y). (
+          Some n,
+          cover_of t points b (Some n),
+          λ j is. let same : n ≡ j = cc in
+              omega (arith, same),
+          is_cover_by t points b (Some n)
+              (λ j is. let same : n ≡ j = cc in subst (λ (i : ℕ). 1 ≤ mass t (points.belief i)) same some),
+          e
+              ∙ worth (cover_of t points b (Some n)) (is_cover_by t points b (Some n)
+              (λ j is. let same : n ≡ j = cc in subst (λ (i : ℕ). 1 ≤ mass t (points.belief i)) same some)),
+        ))
         (min_one x y);
   }
 
@@ -65,23 +84,29 @@ module _ (t : CellTable) (charges : ℕ → ℕ → ℤ) (points : Points) (b : 
 quotient_fits : (q : ℤ) → unsigned_abs q ≤ 10000000000000 → FitsSigned w64 q
 quotient_fits q small = fits_signed_from_abs w64 q (omega (arith, small))
 
-pub floor_back : (a : ℤ) (k : ℕ) (q : ℤ) → 0 < k → k ≤ 1000000000000000000 → unsigned_abs a ≤ k * 10000000000000 → FitsSigned w128 a → q ≡ int_div_euclid (to_z w128 (of_z w128 a)) (to_z w128 k)
-    → IsFloorQuotient a k (to_z w64 (of_z w64 (to_z w128 (of_z w128 q)))) × (unsigned_abs (to_z w64 (of_z w64 (to_z w128 (of_z w128 q)))) ≤ 10000000000000)
+pub floor_back : (a : ℤ) (k : ℕ) (q : ℤ) → 0 < k → k ≤ 1000000000000000000 → unsigned_abs a ≤ k * 10000000000000 → FitsSigned w128 a
+    → q ≡ int_div_euclid (to_z w128 (of_z w128 a)) (to_z w128 k)
+    → IsFloorQuotient a k (to_z w64 (of_z w64 (to_z w128 (of_z w128 q))))
+    × (unsigned_abs (to_z w64 (of_z w64 (to_z w128 (of_z w128 q)))) ≤ 10000000000000)
 floor_back a k q some few small fa is =
     let same : q ≡ int_div_euclid a (pos k) = rw (to_z-of_z w128 a fa, to_z_pos w128 k (omega (arith, few))) at is in
     let small_q : unsigned_abs q ≤ 10000000000000 = rw same (floor_small a k 10000000000000 some small) in
-    rw (to_z-of_z w128 q (fits_signed_from_abs w128 q (omega (arith, small_q))), to_z-of_z w64 q (quotient_fits q small_q)) (rw same (floor_is a k some), small_q)
+    rw (to_z-of_z w128 q (fits_signed_from_abs w128 q (omega (arith, small_q))), to_z-of_z w64 q (quotient_fits q small_q))
+    (rw same (floor_is a k some), small_q)
 
 times_small : (k x : ℕ) → k ≤ 1000000000000000000 → x ≤ k * 10000000000000 → x ≤ 10000000000000000000000000000000
 times_small k x few small = omega (arith, few, small)
 
-pub negated_is : (k : ℕ) (a : ℤ) → k ≤ 1000000000000000000 → unsigned_abs a ≤ k * 10000000000000 → to_z w128 (of_z w128 (pos 0 -ℤ to_z w128 (of_z w128 a))) ≡ neg_ℤ a
+pub negated_is : (k : ℕ) (a : ℤ) → k ≤ 1000000000000000000 → unsigned_abs a ≤ k * 10000000000000
+    → to_z w128 (of_z w128 (pos 0 -ℤ to_z w128 (of_z w128 a))) ≡ neg_ℤ a
 negated_is k a few small =
     let size : unsigned_abs a ≤ 10000000000000000000000000000000 = times_small k (unsigned_abs a) few small in
     let negated : pos 0 -ℤ a ≡ neg_ℤ a = omega (arith, ints) in
-    rw (to_z-of_z w128 a (fits_signed_from_abs w128 a (omega (arith, size))), negated) (to_z-of_z w128 (neg_ℤ a) (fits_signed_from_abs w128 (neg_ℤ a) (omega (arith, ints, size))))
+    rw (to_z-of_z w128 a (fits_signed_from_abs w128 a (omega (arith, size))), negated)
+    (to_z-of_z w128 (neg_ℤ a) (fits_signed_from_abs w128 (neg_ℤ a) (omega (arith, ints, size))))
 
-pub least_is : (x y m : ℤ) → FitsSigned w128 y → FitsSigned w128 m → m ≡ int_min x (to_z w128 (of_z w128 y)) → to_z w128 (of_z w128 m) ≡ int_min x y
+pub least_is : (x y m : ℤ) → FitsSigned w128 y → FitsSigned w128 m → m ≡ int_min x (to_z w128 (of_z w128 y))
+    → to_z w128 (of_z w128 m) ≡ int_min x y
 least_is x y m fy fm is = to_z-of_z w128 m fm ∙ rw (to_z-of_z w128 y fy) at is
 
 -- ---- the start
@@ -102,20 +127,28 @@ module _ (m : Meaning) (limits : HasLimitedNumbers m) where
   pub start_few : (b : Belief) → ((s : ℕ) → s < states_of m → b s ≡ scaled_start m s) → mass (table_of m) b ≤ 5000000000000000000000000
   start_few b same = rw (same_sum b (scaled_start m) (states_of m) same ∙ start_is) (omega (arith, limits.start_most))
 
-  module _ (p : PointTable) (fit : FitPoints (table_of m) p) (proper : AreProperPoints p) (charges : List ℤ) (small : AreSmallCharges p charges) (x : ℤ) (least : IsLeastWorth (table_of m) (charge_at p charges) p.points (scaled_start m) p.points.count x) where
+  module _ (p : PointTable) (fit : FitPoints (table_of m) p) (proper : AreProperPoints p) (charges : List ℤ)
+      (small : AreSmallCharges p charges) (x : ℤ) (least : IsLeastWorth (table_of m) (charge_at p charges) p.points (scaled_start m)
+      p.points.count x) where
     pub least_small : unsigned_abs x ≤ start_times * start_total m * 10000000000000
     least_small =
         let r = least.is_reached in
         let t : CellTable = table_of m in
         subst (λ (n : ℕ). unsigned_abs x ≤ n * 10000000000000) start_is
         (subst (λ (y : ℤ). unsigned_abs y ≤ mass t (scaled_start m) * 10000000000000) (sym r.4)
-        (best_small t (charge_at p charges) p.points 10000000000000 (λ c s cl sl. small c s (omega (arith, cl, fit.actions)) (omega (arith, sl, fit.states))) (λ j c jl cl. proper.values j c jl (omega (arith, cl, fit.actions))) r.1 (scaled_start m) (omega (arith, limits.actions.0)) (is_cover t p.points (scaled_start m) r.0 r.1 r.2 r.3)))
+        (best_small t (charge_at p charges) p.points 10000000000000
+        (λ c s cl sl. small c s (omega (arith, cl, fit.actions)) (omega (arith, sl, fit.states)))
+        (λ j c jl cl. proper.values j c jl (omega (arith, cl, fit.actions))) r.1 (scaled_start m) (omega (arith, limits.actions.0))
+        (is_cover t p.points (scaled_start m) r.0 r.1 r.2 r.3)))
 
-    worth_above : (other : Option ℕ) (its : Cover) → ((j : ℕ) → other ≡ Some j → j < p.points.count) → IsCoverBy (table_of m) p.points (scaled_start m) other its → x ≤ℤ best_worth (table_of m) (charge_at p charges) p.points (scaled_start m) its
+    worth_above : (other : Option ℕ) (its : Cover) → ((j : ℕ) → other ≡ Some j → j < p.points.count)
+        → IsCoverBy (table_of m) p.points (scaled_start m) other its
+        → x ≤ℤ best_worth (table_of m) (charge_at p charges) p.points (scaled_start m) its
     worth_above None its is_point by = least.uncovered its by
     worth_above (Some j) its is_point by = least.covered j its (is_point j refl) by
 
-    pub most_is : (total : ℕ) (q : ℤ) → total ≡ start_times * start_total m → IsCeilQuotient x total q → IsStartMostBy m (charge_at p charges) p.points q
+    pub most_is : (total : ℕ) (q : ℤ) → total ≡ start_times * start_total m → IsCeilQuotient x total q
+        → IsStartMostBy m (charge_at p charges) p.points q
     most_is total q is ceil =
         let r = least.is_reached in
         let t : CellTable = table_of m in
@@ -124,7 +157,8 @@ module _ (m : Meaning) (limits : HasLimitedNumbers m) where
           cover = r.1;
           is_point = r.2;
           covered = r.3;
-          at_most = subst (λ (n : ℕ). best_worth t (charge_at p charges) p.points (scaled_start m) r.1 ≤ℤ (pos n *ℤ q)) is (subst (λ (y : ℤ). y ≤ℤ (pos total *ℤ q)) r.4 ceil.0);
+          at_most = subst (λ (n : ℕ). best_worth t (charge_at p charges) p.points (scaled_start m) r.1 ≤ℤ (pos n *ℤ q)) is
+              (subst (λ (y : ℤ). y ≤ℤ (pos total *ℤ q)) r.4 ceil.0);
           least = λ other its is_point by.
               subst (λ (n : ℕ). (pos n *ℤ (q -ℤ pos 1)) <ℤ best_worth t (charge_at p charges) p.points (scaled_start m) its) is
               (below_le _ x _ ceil.1 (worth_above other its is_point by));
@@ -134,7 +168,8 @@ module _ (m : Meaning) (limits : HasLimitedNumbers m) where
         below_le a b c h k = omega (arith, linear, h, k)
 
 -- ---- the certificate
-one_charge : (p : PointTable) (vectors : ℕ → ℕ → ℤ) (a s n : ℕ) (x y : ℤ) → IsLeastCharge p vectors a s n x → IsLeastCharge p vectors a s n y → x ≤ℤ y
+one_charge : (p : PointTable) (vectors : ℕ → ℕ → ℤ) (a s n : ℕ) (x y : ℤ) → IsLeastCharge p vectors a s n x
+    → IsLeastCharge p vectors a s n y → x ≤ℤ y
 one_charge p vectors a s n x y first second =
     ⊎_elim (λ (e : y ≡ vectors a s). rw e first.vector)
     (λ (r : (i : ℕ) × (i < n) × IsOneState p.states (p.points.belief i) s × (y ≡ p.points.value i a)). rw r.3 (first.corners r.0 r.1 r.2))
@@ -143,28 +178,39 @@ one_charge p vectors a s n x y first second =
 both_ways : (x y : ℤ) → x ≤ℤ y → y ≤ℤ x → x ≡ y
 both_ways x y h k = omega (arith, ints, h, k)
 
-pub same_charge : (p : PointTable) (vectors : ℕ → ℕ → ℤ) (a s n : ℕ) (x y : ℤ) → IsLeastCharge p vectors a s n x → IsLeastCharge p vectors a s n y → x ≡ y
-same_charge p vectors a s n x y first second = both_ways x y (one_charge p vectors a s n x y first second) (one_charge p vectors a s n y x second first)
+pub same_charge : (p : PointTable) (vectors : ℕ → ℕ → ℤ) (a s n : ℕ) (x y : ℤ) → IsLeastCharge p vectors a s n x
+    → IsLeastCharge p vectors a s n y → x ≡ y
+same_charge p vectors a s n x y first second = both_ways x y (one_charge p vectors a s n x y first second)
+    (one_charge p vectors a s n y x second first)
 
-charged_same : (t : CellTable) (c d : ℕ → ℕ → ℤ) (points : Points) (a : ℕ) → ((s : ℕ) → s < t.states → c a s ≡ d a s) → (cover : Cover) (b : Belief) → covered_worth t c points a b cover ≡ covered_worth t d points a b cover
-charged_same t c d points a same [] b = sum_below_same _ (λ s. pos (b s) *ℤ d a s) t.states (λ s sl. ap (λ (x : ℤ). pos (b s) *ℤ x) (same s sl))
-charged_same t c d points a same (x ∷ cover) b = ap (λ (y : ℤ). pos x.1 *ℤ point_worth t points x.0 a +ℤ y) (charged_same t c d points a same cover (left_of b (points.belief x.0) x.1))
+charged_same : (t : CellTable) (c d : ℕ → ℕ → ℤ) (points : Points) (a : ℕ) → ((s : ℕ) → s < t.states → c a s ≡ d a s)
+    → (cover : Cover) (b : Belief) → covered_worth t c points a b cover ≡ covered_worth t d points a b cover
+charged_same t c d points a same [] b = sum_below_same _ (λ s. pos (b s) *ℤ d a s) t.states
+    (λ s sl. ap (λ (x : ℤ). pos (b s) *ℤ x) (same s sl))
+charged_same t c d points a same (x ∷ cover) b = ap (λ (y : ℤ). pos x.1 *ℤ point_worth t points x.0 a +ℤ y)
+    (charged_same t c d points a same cover (left_of b (points.belief x.0) x.1))
 
 greatest_same : (f g : ℕ → ℤ) (n : ℕ) → ((i : ℕ) → i < n → f i ≡ g i) → greatest_below f n ≡ greatest_below g n
 greatest_same f g zero same = refl
 greatest_same f g (suc zero) same = same 0 (omega arith)
 greatest_same f g (suc (suc n)) same = cc (greatest_same f g (suc n) (λ i l. same i (omega (arith, l))), same (suc n) (omega arith))
 
-best_same : (t : CellTable) (c d : ℕ → ℕ → ℤ) (points : Points) (cover : Cover) (b : Belief) → ((a s : ℕ) → a < t.actions → s < t.states → c a s ≡ d a s) → best_worth t c points b cover ≡ best_worth t d points b cover
+best_same : (t : CellTable) (c d : ℕ → ℕ → ℤ) (points : Points) (cover : Cover) (b : Belief)
+    → ((a s : ℕ) → a < t.actions → s < t.states → c a s ≡ d a s) → best_worth t c points b cover ≡ best_worth t d points b cover
 best_same t c d points cover b same = greatest_same _ _ t.actions (λ a al. charged_same t c d points a (λ s sl. same a s al sl) cover b)
 
-pub certificate_of : (m : Meaning) (limits : HasLimitedNumbers m) (vectors charges : ℕ → ℕ → ℤ) (p : PointTable) (fit : FitPoints (table_of m) p) (proper : AreProperPoints p) (most : ℤ) → AreLeastCharges p vectors charges → IsStartMostBy m charges p.points most
+pub certificate_of : (m : Meaning) (limits : HasLimitedNumbers m) (vectors charges : ℕ → ℕ → ℤ) (p : PointTable)
+    (fit : FitPoints (table_of m) p) (proper : AreProperPoints p) (most : ℤ) → AreLeastCharges p vectors charges
+    → IsStartMostBy m charges p.points most
     → AreInformed (table_of m) vectors → IsPointVerdict (table_of m) vectors p Yes → HasPointCertificate m vectors p most
 certificate_of m limits vectors charges p fit proper most charged is informed v =
     let t : CellTable = table_of m in
     let whole : mass t (start_weight m) ≡ start_total m = omega (arith, linear, start_mass m limits) in
     let same : best_worth t charges p.points (scaled_start m) is.cover ≡ best_worth t v.charges p.points (scaled_start m) is.cover =
-    best_same t charges v.charges p.points is.cover (scaled_start m) (λ a s al sl. same_charge p vectors a s p.points.count (charges a s) (v.charges a s) (charged a s (omega (arith, al, fit.actions)) (omega (arith, sl, fit.states))) (v.charged a s (omega (arith, al, fit.actions)) (omega (arith, sl, fit.states)))) in
+    best_same t charges v.charges p.points is.cover (scaled_start m)
+    (λ a s al sl. same_charge p vectors a s p.points.count (charges a s) (v.charges a s)
+    (charged a s (omega (arith, al, fit.actions)) (omega (arith, sl, fit.states)))
+    (v.charged a s (omega (arith, al, fit.actions)) (omega (arith, sl, fit.states)))) in
     record {
       charges = v.charges;
       covers = v.covers;
@@ -176,7 +222,8 @@ certificate_of m limits vectors charges p fit proper most charged is informed v 
         start = record {
           some = omega arith;
           cover_is = is_cover t p.points (scaled_start m) is.named is.cover is.is_point is.covered;
-          at_most = subst (λ (n : ℕ). best_worth t v.charges p.points (scaled_start m) is.cover ≤ℤ (pos (start_times * n) *ℤ most)) (sym whole) (subst (λ (y : ℤ). y ≤ℤ (pos (start_times * start_total m) *ℤ most)) same is.at_most);
+          at_most = subst (λ (n : ℕ). best_worth t v.charges p.points (scaled_start m) is.cover ≤ℤ (pos (start_times * n) *ℤ most))
+              (sym whole) (subst (λ (y : ℤ). y ≤ℤ (pos (start_times * start_total m) *ℤ most)) same is.at_most);
         };
       };
     }

@@ -30,18 +30,24 @@ module _ (p : PointValues) (all : HasAllValues p) (proper : sets.AreProperPoints
   proper_raised by can = record {
     some = λ i l. (proper.mass i l).some;
     few = λ i l. (proper.mass i l).few;
-    values = λ i a il al. subst (λ (x : ℤ). unsigned_abs x ≤ largest) (sym (value_raised p all by i a il al)) (in_size (value_at p i a +ℤ pos by) (can i a il al));
+    values = λ i a il al. subst (λ (x : ℤ). unsigned_abs x ≤ largest) (sym (value_raised p all by i a il al))
+        (in_size (value_at p i a +ℤ pos by) (can i a il al));
     named = proper.named;
   }
 
   module _ (t : CellTable) (m : IsProper t) (less : t.discount ≤ one) (vectors : ℕ → ℕ → ℤ) (fit : FitPoints t (table_of_set p)) where
     -- what doesn't pass raised by a constant doesn't pass raised by less
-    pub fails_below : (by d i a : ℕ) (amount : ℤ) → d ≤ by → CanRaisePoints p by → IsPointVerdict t vectors (table_of_set (raised_set p by)) (Exceeded i a amount) → PassRaised t vectors p d → ⊥
+    pub fails_below : (by d i a : ℕ) (amount : ℤ) → d ≤ by → CanRaisePoints p by
+        → IsPointVerdict t vectors (table_of_set (raised_set p by)) (Exceeded i a amount) → PassRaised t vectors p d → ⊥
     fails_below by d i a amount l can exceeded passes =
-        not_exceeded t m less vectors (table_of_set (raised_set p d)) (record { states = fit.states; actions = fit.actions; observations = fit.observations }) (proper_raised d (can_raise_less p proper by d l can)) (value_at (raised_set p by)) (by - d)
-        (λ j b jl bl. raised_more (value_at p j b) (value_at (raised_set p d) j b) (value_at (raised_set p by) j b) d by l (value_raised p all d j b jl bl) (value_raised p all by j b jl bl))
+        not_exceeded t m less vectors (table_of_set (raised_set p d))
+        (record { states = fit.states; actions = fit.actions; observations = fit.observations })
+        (proper_raised d (can_raise_less p proper by d l can)) (value_at (raised_set p by)) (by - d)
+        (λ j b jl bl. raised_more (value_at p j b) (value_at (raised_set p d) j b) (value_at (raised_set p by) j b) d by l
+        (value_raised p all d j b jl bl) (value_raised p all by j b jl bl))
         i a amount passes exceeded
 
-    pub yes_above : (by d : ℕ) → d ≤ by → CanRaisePoints p by → PassRaised t vectors p d → (verdict : PointVerdict) → IsPointVerdict t vectors (table_of_set (raised_set p by)) verdict → verdict ≡ Yes
+    pub yes_above : (by d : ℕ) → d ≤ by → CanRaisePoints p by → PassRaised t vectors p d → (verdict : PointVerdict)
+        → IsPointVerdict t vectors (table_of_set (raised_set p by)) verdict → verdict ≡ Yes
     yes_above by d l can passes Yes is = refl
     yes_above by d l can passes (Exceeded i a amount) is = absurd (fails_below by d i a amount l can is passes)

@@ -1,10 +1,12 @@
 -- Points that pass still pass if every value is raised by one constant.
-use Rattle.std.proofs.Common.{◌≡◌, ⊎_elim, ℕ, zero, suc, ◌+◌, ◌-◌, ◌*◌, ◌<◌, ◌≤◌, ℤ, pos, ◌+ℤ◌, ◌-ℤ◌, ◌*ℤ◌, ◌≤ℤ◌, Option, Some, None, [], ◌∷◌, refl, sym, ap, subst, arith}
+use Rattle.std.proofs.Common.{◌≡◌, ⊎_elim, ℕ, zero, suc, ◌+◌, ◌-◌, ◌*◌, ◌<◌, ◌≤◌, ℤ, pos, ◌+ℤ◌, ◌-ℤ◌, ◌*ℤ◌, ◌≤ℤ◌, Option, Some, None, []}
+use Rattle.std.proofs.Common.{◌∷◌, refl, sym, ap, subst, arith}
 use Rattle.polcert_points.proofs.Common.{int_max, ints, clamps, CellTable, IsProper, one, step_scale, greatest_below, expected_reward}
 use Rattle.polcert_check.proofs.Sums.Ring.{linear, mul_le, ≤ℤ_from_eq}
 use Rattle.polcert_check.proofs.Sums.SumLaws.{sum_below_le}
 use Rattle.polcert_points.specs.Belief.{Belief, mass, sum_over_belief, belief_after}
-use Rattle.polcert_points.specs.Points.{Points, point_worth, Cover, IsCover, left_of, covered_worth, best_worth, Covers, belief_backup, IsBacked}
+use Rattle.polcert_points.specs.Points.{Points, point_worth, Cover, IsCover, left_of, covered_worth, best_worth, Covers, belief_backup}
+use Rattle.polcert_points.specs.Points.{IsBacked}
 use Rattle.polcert_points.specs.PointRaise.{point_excess, raised_table, raised_points, taken_by_raise}
 use Rattle.polcert_points.specs.PointCheck.{IsCoverBy, AreCoversBy}
 use Rattle.polcert_points.specs.PointTable.{PointTable, AreProperPoints, FitPoints, IsOneState, IsLeastCharge, AreLeastCharges}
@@ -28,7 +30,8 @@ greatest_rises : (f g : ℕ → ℤ) (n : ℕ) → ((i : ℕ) → i < n → f i 
 greatest_rises f g zero each = ≤ℤ_from_eq _ _ refl
 greatest_rises f g (suc zero) each = each 0 (omega arith)
 greatest_rises f g (suc (suc n)) each =
-    max_le (greatest_below f (suc n)) (greatest_below g (suc n)) (f (suc n)) (g (suc n)) (greatest_rises f g (suc n) (λ i l. each i (omega (arith, l)))) (each (suc n) (omega arith))
+    max_le (greatest_below f (suc n)) (greatest_below g (suc n)) (f (suc n)) (g (suc n))
+    (greatest_rises f g (suc n) (λ i l. each i (omega (arith, l)))) (each (suc n) (omega arith))
 
 -- ---- points with other values, each raised by the same, and charges that rise by no more
 abbrev pub with_values : Points → (ℕ → ℕ → ℤ) → Points
@@ -41,7 +44,8 @@ less_than_none : (x y : ℤ) (n : ℕ) → x ≡ y -ℤ pos n → y ≤ℤ pos 0
 less_than_none x y n is h = omega (arith, linear, is, h)
 
 module _ (t : CellTable) (points : Points) (value : ℕ → ℕ → ℤ) (by : ℕ) (c d : ℕ → ℕ → ℤ)
-    (raised : (i a : ℕ) → i < points.count → a < t.actions → value i a ≡ points.value i a +ℤ pos by) (charged : (a s : ℕ) → a < t.actions → s < t.states → d a s ≤ℤ (c a s +ℤ pos by)) where
+    (raised : (i a : ℕ) → i < points.count → a < t.actions → value i a ≡ points.value i a +ℤ pos by)
+    (charged : (a s : ℕ) → a < t.actions → s < t.states → d a s ≤ℤ (c a s +ℤ pos by)) where
   covered_le : (a : ℕ) → a < t.actions → (cover : Cover) (b : Belief) → IsCover t points b cover
       → covered_worth t d (with_values points value) a b cover ≤ℤ covered_worth t (raised_table c by) (raised_points points by) a b cover
   covered_le a al [] b is = sum_below_le _ _ t.states (λ s sl. mul_le (b s) _ _ (charged a s al sl))
@@ -49,23 +53,30 @@ module _ (t : CellTable) (points : Points) (value : ℕ → ℕ → ℤ) (by : �
       sum_le _ _ _ _ (mul_le x.1 _ _ (mul_le (mass t (points.belief x.0)) _ _ (≤ℤ_from_eq _ _ (raised x.0 a is.0 al))))
       (covered_le a al cover (left_of b (points.belief x.0) x.1) is.2)
 
-  best_le : (cover : Cover) (b : Belief) → IsCover t points b cover → best_worth t d (with_values points value) b cover ≤ℤ best_worth t (raised_table c by) (raised_points points by) b cover
+  best_le : (cover : Cover) (b : Belief) → IsCover t points b cover
+      → best_worth t d (with_values points value) b cover ≤ℤ best_worth t (raised_table c by) (raised_points points by) b cover
   best_le cover b is =
-      greatest_rises (λ a. covered_worth t d (with_values points value) a b cover) (λ a. covered_worth t (raised_table c by) (raised_points points by) a b cover) t.actions (λ a al. covered_le a al cover b is)
+      greatest_rises (λ a. covered_worth t d (with_values points value) a b cover)
+      (λ a. covered_worth t (raised_table c by) (raised_points points by) a b cover) t.actions (λ a al. covered_le a al cover b is)
 
   module _ (m : IsProper t) (less : t.discount ≤ one) (covers : Covers) (i a : ℕ) (il : i < points.count) (al : a < t.actions)
       (are : (z : ℕ) → z < t.observations → IsCover t points (belief_after t (points.belief i) a z) (covers i a z)) where
-    backup_le : belief_backup t d (with_values points value) (covers i a) a (points.belief i) ≤ℤ belief_backup t (raised_table c by) (raised_points points by) (covers i a) a (points.belief i)
+    backup_le : belief_backup t d (with_values points value) (covers i a) a (points.belief i) ≤ℤ belief_backup t (raised_table c by)
+        (raised_points points by) (covers i a) a (points.belief i)
     backup_le =
         sum_le _ _ _ _ (≤ℤ_from_eq (pos one *ℤ sum_over_belief t (points.belief i) (expected_reward t a)) _ refl)
-        (mul_le t.discount _ _ (sum_below_le _ _ t.observations (λ z zl. best_le (covers i a z) (belief_after t (points.belief i) a z) (are z zl))))
+        (mul_le t.discount _ _ (sum_below_le _ _ t.observations
+        (λ z zl. best_le (covers i a z) (belief_after t (points.belief i) a z) (are z zl))))
 
     pub backed_raised : IsBacked t c points covers i a → IsBacked t d (with_values points value) covers i a
     backed_raised backed =
-        let worth : point_worth t (with_values points value) i a ≡ point_worth t (raised_points points by) i a = ap (λ (x : ℤ). pos (mass t (points.belief i)) *ℤ x) (raised i a il al) in
-        subst (λ (x : ℤ). belief_backup t d (with_values points value) (covers i a) a (points.belief i) ≤ℤ (pos (step_scale t * one) *ℤ x)) (sym worth)
+        let worth : point_worth t (with_values points value) i a ≡ point_worth t (raised_points points by) i a =
+        ap (λ (x : ℤ). pos (mass t (points.belief i)) *ℤ x) (raised i a il al) in
+        subst (λ (x : ℤ). belief_backup t d (with_values points value) (covers i a) a (points.belief i) ≤ℤ (pos (step_scale t * one) *ℤ x))
+        (sym worth)
         (at_most_zero _ _ _ backup_le
-        (less_than_none _ (point_excess t c points covers i a) (taken_by_raise t points i by) (excess_raised t m less c points covers by i a al are) (no_excess t c points covers i a backed)))
+        (less_than_none _ (point_excess t c points covers i a) (taken_by_raise t points i by)
+        (excess_raised t m less c points covers by i a al are) (no_excess t c points covers i a backed)))
 
 -- ---- the least charges rise by no more
 charge_more : (x v w : ℤ) (by : ℕ) → x ≤ℤ w → w ≡ v +ℤ pos by → x ≤ℤ (v +ℤ pos by)
@@ -75,10 +86,19 @@ charge_same : (x v : ℤ) (by : ℕ) → x ≤ℤ v → x ≤ℤ (v +ℤ pos by)
 charge_same x v by h = omega (arith, linear, h)
 
 abbrev pub with_point_values : PointTable → (ℕ → ℕ → ℤ) → PointTable
-with_point_values p value = record { states = p.states; actions = p.actions; observations = p.observations; points = with_values p.points value; next = p.next }
+with_point_values p value = record {
+  states = p.states;
+  actions = p.actions;
+  observations = p.observations;
+  points =
+      with_values p.points value;
+  next = p.next;
+}
 
-module _ (p : PointTable) (value : ℕ → ℕ → ℤ) (by : ℕ) (vectors c d : ℕ → ℕ → ℤ) (raised : (i a : ℕ) → i < p.points.count → a < p.actions → value i a ≡ p.points.value i a +ℤ pos by) where
-  charges_raised : AreLeastCharges p vectors c → AreLeastCharges (with_point_values p value) vectors d → (a s : ℕ) → a < p.actions → s < p.states → d a s ≤ℤ (c a s +ℤ pos by)
+module _ (p : PointTable) (value : ℕ → ℕ → ℤ) (by : ℕ) (vectors c d : ℕ → ℕ → ℤ)
+    (raised : (i a : ℕ) → i < p.points.count → a < p.actions → value i a ≡ p.points.value i a +ℤ pos by) where
+  charges_raised : AreLeastCharges p vectors c → AreLeastCharges (with_point_values p value) vectors d → (a s : ℕ) → a < p.actions
+      → s < p.states → d a s ≤ℤ (c a s +ℤ pos by)
   charges_raised first second a s al sl =
       let least : IsLeastCharge (with_point_values p value) vectors a s p.points.count (d a s) = second a s al sl in
       ⊎_elim (λ (e : c a s ≡ vectors a s). rw e (charge_same (d a s) (vectors a s) by least.vector))
@@ -87,29 +107,38 @@ module _ (p : PointTable) (value : ℕ → ℕ → ℤ) (by : ℕ) (vectors c d 
       (first a s al sl).is_reached
 
 -- ---- covers depend on no value
-same_by : (t : CellTable) (points : Points) (value : ℕ → ℕ → ℤ) (b : Belief) (named : Option ℕ) (cover : Cover) → IsCoverBy t (with_values points value) b named cover → IsCoverBy t points b named cover
+same_by : (t : CellTable) (points : Points) (value : ℕ → ℕ → ℤ) (b : Belief) (named : Option ℕ) (cover : Cover)
+    → IsCoverBy t (with_values points value) b named cover → IsCoverBy t points b named cover
 same_by t points value b None cover by = by
 same_by t points value b (Some j) cover by = by
 
 -- ---- a yes stays
-module _ (t : CellTable) (m : IsProper t) (less : t.discount ≤ one) (vectors : ℕ → ℕ → ℤ) (p : PointTable) (fit : FitPoints t p) (proper : AreProperPoints p) (value : ℕ → ℕ → ℤ) (by : ℕ)
+module _ (t : CellTable) (m : IsProper t) (less : t.discount ≤ one) (vectors : ℕ → ℕ → ℤ) (p : PointTable) (fit : FitPoints t p)
+    (proper : AreProperPoints p) (value : ℕ → ℕ → ℤ) (by : ℕ)
     (raised : (i a : ℕ) → i < p.points.count → a < p.actions → value i a ≡ p.points.value i a +ℤ pos by) where
   raised_here : (i a : ℕ) → i < p.points.count → a < t.actions → value i a ≡ p.points.value i a +ℤ pos by
   raised_here i a il al = raised i a il (omega (arith, al, fit.actions))
 
-  pub not_exceeded : (i a : ℕ) (amount : ℤ) → IsPointVerdict t vectors p Yes → IsPointVerdict t vectors (with_point_values p value) (Exceeded i a amount) → ⊥
+  pub not_exceeded : (i a : ℕ) (amount : ℤ) → IsPointVerdict t vectors p Yes
+      → IsPointVerdict t vectors (with_point_values p value) (Exceeded i a amount) → ⊥
   not_exceeded i a amount passes exceeded =
       let (il, al, before, rounded, above) = exceeded.found in
-      let covered : AreCoversBy t p.points p.next exceeded.covers = λ j b z jl bl zl. same_by t p.points value (belief_after t (p.points.belief j) b z) (p.next j b z) (exceeded.covers j b z) (exceeded.covered j b z jl bl zl) in
+      let covered : AreCoversBy t p.points p.next exceeded.covers =
+      λ j b z jl bl zl. same_by t p.points value (belief_after t (p.points.belief j) b z) (p.next j b z) (exceeded.covers j b z)
+      (exceeded.covered j b z jl bl zl) in
       let are = are_covers t p.points p.next exceeded.covers (known t p fit proper) covered in
       let backed : IsVerdictWith t passes.charges p.points exceeded.covers Yes =
       found_there t t (itself t) p.points passes.charges passes.charges (λ _ _ _ _. refl) passes.covers exceeded.covers
-      (λ j b z jl bl zl. one_cover t p.points (belief_after t (p.points.belief j) b z) (p.next j b z) (passes.covers j b z) (exceeded.covers j b z) (passes.covered j b z jl bl zl) (covered j b z jl bl zl)) Yes passes.found in
+      (λ j b z jl bl zl. one_cover t p.points (belief_after t (p.points.belief j) b z) (p.next j b z) (passes.covers j b z)
+      (exceeded.covers j b z) (passes.covered j b z jl bl zl) (covered j b z jl bl zl)) Yes passes.found in
       let charged : (b s : ℕ) → b < t.actions → s < t.states → exceeded.charges b s ≤ℤ (passes.charges b s +ℤ pos by) =
-      λ b s bl sl. charges_raised p value by vectors passes.charges exceeded.charges raised passes.charged exceeded.charged b s (omega (arith, bl, fit.actions)) (omega (arith, sl, fit.states)) in
+      λ b s bl sl. charges_raised p value by vectors passes.charges exceeded.charges raised passes.charged exceeded.charged b s
+      (omega (arith, bl, fit.actions)) (omega (arith, sl, fit.states)) in
       fails_there t exceeded.charges (with_values p.points value) exceeded.covers i a amount exceeded.found
-      (backed_raised t p.points value by passes.charges exceeded.charges raised_here charged m less exceeded.covers i a il al (λ z zl. are i a z il al zl) (backed i a il al))
+      (backed_raised t p.points value by passes.charges exceeded.charges raised_here charged m less exceeded.covers i a il al
+      (λ z zl. are i a z il al zl) (backed i a il al))
 
-  pub still_yes : (verdict : PointVerdict) → IsPointVerdict t vectors p Yes → IsPointVerdict t vectors (with_point_values p value) verdict → verdict ≡ Yes
+  pub still_yes : (verdict : PointVerdict) → IsPointVerdict t vectors p Yes → IsPointVerdict t vectors (with_point_values p value) verdict
+      → verdict ≡ Yes
   still_yes Yes passes is = refl
   still_yes (Exceeded i a amount) passes is = absurd (not_exceeded i a amount passes is)

@@ -14,7 +14,8 @@ pub raised_less : (h : ℤ) (by d : ℕ) → unsigned_abs h ≤ largest → d �
 raised_less h by d small l r = (omega (arith, ints, small), omega (arith, ints, l, r.1))
 
 module _ (p : PointValues) where
-  pub value_raised : HasAllValues p → (by i a : ℕ) → i < point_count p → a < p.actions → value_at (raised_set p by) i a ≡ value_at p i a +ℤ pos by
+  pub value_raised : HasAllValues p → (by i a : ℕ) → i < point_count p → a < p.actions
+      → value_at (raised_set p by) i a ≡ value_at p i a +ℤ pos by
   value_raised all by i a il al =
       let k : ℕ = i * p.actions + a in
       let inside : k < length p.values = subst (λ (n : ℕ). k < n) (sym all) (place_inside p.actions i a (point_count p) il al) in
@@ -33,4 +34,5 @@ gap_greatest h gap by is r = omega (arith, ints, is, r.1)
 
 -- what holds before a place and there, holds before the next place
 pub up_to : (P : ℕ → Type 0) (k : ℕ) → ((j : ℕ) → j < k → P j) → P k → (j : ℕ) → j < k + 1 → P j
-up_to P k before here j l = ⊎_elim (λ (h : j < k). before j h) (λ (h : k ≤ j). let e : k ≡ j = omega (arith, l, h) in subst P e here) (cases_lt j k)
+up_to P k before here j l = ⊎_elim (λ (h : j < k). before j h) (λ (h : k ≤ j). let e : k ≡ j = omega (arith, l, h) in subst P e here)
+    (cases_lt j k)

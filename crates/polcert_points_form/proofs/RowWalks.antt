@@ -10,6 +10,7 @@ use Rattle.polcert_points_form.specs.Steps.RowWalk.{IsStepFrom}
 pub start_of_row : (row : Row) → reached (Some row) 0 ≡ 0
 start_of_row row = grind arith
 
-pub step_from : (f : ℕ → ℕ) (count : ℕ) (row : Row) (at column : ℕ) (step : Option Step) → reached (Some row) at ≡ column → IsStep f count (Some row) at step → IsStepFrom f count row column step
+pub step_from : (f : ℕ → ℕ) (count : ℕ) (row : Row) (at column : ℕ) (step : Option Step) → reached (Some row) at ≡ column
+    → IsStep f count (Some row) at step → IsStepFrom f count row column step
 step_from f count row at column None is h = subst (λ (n : ℕ). IsNext f count n None) is h
 step_from f count row at column (Some step) is h = (subst (λ (n : ℕ). IsNext f count n (Some (step.column, step.weight))) is h.0, h.1)

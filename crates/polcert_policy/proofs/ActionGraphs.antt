@@ -1,6 +1,8 @@
 -- The graph whose node a takes action a: one node more, and that it is a proper graph.
-use Rattle.std.proofs.Common.{◌≡◌, ◌∙◌, ℕ, zero, suc, ◌+◌, ◌<◌, ◌≤◌, Option, Some, None, List, [], ◌∷◌, ◌++◌, slice_get, length, replicate, ap, arith}
-use Rattle.polcert_policy.proofs.Common.{range_with_len, get_or_from_slice_get, most_actions, most_states, nodes, action_of, IsProperGraph, PolicyVectors, AreProperVectors, Up}
+use Rattle.std.proofs.Common.{◌≡◌, ◌∙◌, ℕ, zero, suc, ◌+◌, ◌<◌, ◌≤◌, Option, Some, None, List, [], ◌∷◌, ◌++◌, slice_get, length, replicate}
+use Rattle.std.proofs.Common.{ap, arith}
+use Rattle.polcert_policy.proofs.Common.{range_with_len, get_or_from_slice_get, most_actions, most_states, nodes, action_of, IsProperGraph}
+use Rattle.polcert_policy.proofs.Common.{PolicyVectors, AreProperVectors, Up}
 use Rattle.std.proofs.lemmas.List.{length-replicate, get_or-replicate}
 use Rattle.std.proofs.lemmas.List.FromFn.{length-range_with_len, get_or-range_with_len}
 use Rattle.polcert_policy.specs.ActionVectors.{action_graph, IsActionVectorsText}
@@ -37,10 +39,13 @@ pub action_graph_proper : (actions : ℕ) → 1 ≤ actions → actions ≤ most
 action_graph_proper actions some few = grind (arith, length-replicate, node_count, takes_its_action, no_successor)
 
 -- ---- the vectors that a text denotes
-pub action_counts : (actions states : ℕ) (text : List ℕ) (v : PolicyVectors) → IsActionVectorsText actions states text v → (v.nodes ≡ actions) × (v.states ≡ states)
+pub action_counts : (actions states : ℕ) (text : List ℕ) (v : PolicyVectors) → IsActionVectorsText actions states text v
+    → (v.nodes ≡ actions) × (v.states ≡ states)
 action_counts actions states text v is = (is.2.nodes_are ∙ node_count actions, is.2.states_are)
 
-pub action_vectors_proper : (actions states : ℕ) (text : List ℕ) (v : PolicyVectors) → 1 ≤ actions → actions ≤ most_actions → 1 ≤ states → states ≤ most_states → IsActionVectorsText actions states text v → AreProperVectors v
+pub action_vectors_proper : (actions states : ℕ) (text : List ℕ) (v : PolicyVectors) → 1 ≤ actions → actions ≤ most_actions → 1 ≤ states
+    → states ≤ most_states → IsActionVectorsText actions states text v → AreProperVectors v
 action_vectors_proper actions states text v some few some_states few_states is =
     let proper = action_graph_proper actions some few in
-    vectors_proper (action_graph actions) states is.0 v proper.some_nodes proper.few_nodes some_states few_states (parts_from Up (action_graph actions) states is.0 v is.2)
+    vectors_proper (action_graph actions) states is.0 v proper.some_nodes proper.few_nodes some_states few_states
+    (parts_from Up (action_graph actions) states is.0 v is.2)

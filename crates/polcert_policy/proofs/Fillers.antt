@@ -1,7 +1,8 @@
 -- Tokens that spell an action, and the value 0.
 use Rattle.std.proofs.Common.{◌≡◌, ◌∙◌, ℕ, ◌*◌, ◌^◌, ◌<◌, ◌<◌, Bool, true, false, Some, None, List, [], ◌∷◌, decimal, pos, refl, ap, arith}
 use Rattle.std.proofs.lemmas.Fmt.{decimal_is_IsNumeral, decimal_nonempty}
-use Rattle.polcert_policy.proofs.Common.{is_digit, size_of, IsRounded, Measures, Lexeme, Numeral, Part, sign_kind, IsActionPart, IsValuePart, Rounding}
+use Rattle.polcert_policy.proofs.Common.{is_digit, size_of, IsRounded, Measures, Lexeme, Numeral, Part, sign_kind, IsActionPart}
+use Rattle.polcert_policy.proofs.Common.{IsValuePart, Rounding}
 use Rattle.polcert_text.specs.Bytes.{is_point, is_exponent_mark}
 use Rattle.polcert_text.specs.Lexemes.{is_numeral}
 use Rattle.polcert_text.specs.Numbers.{number_of, exponent_size, power_of}

@@ -1,6 +1,11 @@
 -- The tokens of a graph, field after field, and the same by the index of each token.
-use Rattle.std.proofs.Common.{◌≡◌, ◌∙◌, ℕ, suc, zero, ◌+◌, ◌*◌, ◌<◌, Bool, true, false, ◌&&◌, Option, Some, None, IfSome, List, [], length, map, codes, slice_get, get_or, refl, sym, ap, subst, arith}
-use Rattle.polcert_policy.proofs.Common.{range_with_len, length-map-range_with_len, get_or-map-range_with_len, get_or_from_slice_get, slice_get-get_or, Lexeme, IsCut, text_rest, text_limit, are_digits, TokenKind, Name, Numeral, Minus, numeral_kind, minus_kind, is_whole, whole_of, is_successor, is_successor_of, successor_of, number_at, is_joined, PolicyGraph, nodes, action_of, next_of, width, IsLooseGraph, HasNodesOnly, IsGraph, IsGraphText}
+use Rattle.std.proofs.Common.{◌≡◌, ◌∙◌, ℕ, suc, zero, ◌+◌, ◌*◌, ◌<◌, Bool, true, false, ◌&&◌, Option, Some, None, IfSome, List, [], length}
+use Rattle.std.proofs.Common.{map, codes, slice_get, get_or, refl, sym, ap, subst, arith}
+use Rattle.polcert_policy.proofs.Common.{range_with_len, length-map-range_with_len, get_or-map-range_with_len, get_or_from_slice_get}
+use Rattle.polcert_policy.proofs.Common.{slice_get-get_or, Lexeme, IsCut, text_rest, text_limit, are_digits, TokenKind, Name, Numeral}
+use Rattle.polcert_policy.proofs.Common.{Minus, numeral_kind, minus_kind, is_whole, whole_of, is_successor, is_successor_of, successor_of}
+use Rattle.polcert_policy.proofs.Common.{number_at, is_joined, PolicyGraph, nodes, action_of, next_of, width, IsLooseGraph, HasNodesOnly}
+use Rattle.polcert_policy.proofs.Common.{IsGraph, IsGraphText}
 use Rattle.std.proofs.lemmas.Bool.Decides.{nat_tests}
 use Rattle.polcert_text.proofs.Scanning.CleanCut.{clean_cut, clean_tokens}
 use Rattle.polcert_cells.specs.Numbers.{IsWhole}
@@ -16,7 +21,8 @@ whole_parts : (k : TokenKind) (b : Bool) → (numeral_kind k && b) ≡ true → 
 whole_parts k b h1 = grind arith
 
 pub whole_is : (t : Lexeme) (n : ℕ) → is_whole t ≡ true → whole_of t ≡ n → IsWhole t n
-whole_is t n whole value = let parts = whole_parts t.kind (are_digits t.bytes) whole in record { kind = parts.0; digits = parts.1; value = value }
+whole_is t n whole value = let parts = whole_parts t.kind (are_digits t.bytes) whole in
+    record { kind = parts.0; digits = parts.1; value = value }
 
 pub is_whole_of : (t : Lexeme) (n : ℕ) → IsWhole t n → is_whole t ≡ true
 is_whole_of t n is = simp (is.kind, is.digits)
@@ -52,14 +58,16 @@ wide g n = omega (arith, length-map-range_with_len (next_of g n) 0 g.observation
 
 next_field : (g : PolicyGraph) (n z : ℕ) → z < g.observations → slice_get (fields_of g n) (suc (suc z)) ≡ Some (next_of g n z)
 next_field g n z l =
-    slice_get-get_or (map (next_of g n) (range_with_len 0 g.observations)) z None (omega (arith, l, length-map-range_with_len (next_of g n) 0 g.observations))
+    slice_get-get_or (map (next_of g n) (range_with_len 0 g.observations)) z None
+    (omega (arith, l, length-map-range_with_len (next_of g n) 0 g.observations))
     ∙ ap Some (get_or-map-range_with_len (next_of g n) 0 g.observations z z None l (omega arith))
 
 -- ---- graphs
 
 module _ (a o : ℕ) (ts : List Lexeme) (g : PolicyGraph) where
   module _ (are : AreGraphTokens a o ts g) where
-    at_column : (n j : ℕ) (t : Lexeme) (f : Option ℕ) → j < width o → slice_get ts (n * width o + j) ≡ Some t → slice_get (fields_of g n) j ≡ Some f → IsField t f
+    at_column : (n j : ℕ) (t : Lexeme) (f : Option ℕ) → j < width o → slice_get ts (n * width o + j) ≡ Some t
+        → slice_get (fields_of g n) j ≡ Some f → IsField t f
     at_column n j t f l at is =
         row_at (fields_of g) (width o) (λ n. wide g n ∙ ap width are.observations_are) IsField ts (nodes g) are.fields n j t f l at is
 
@@ -79,25 +87,29 @@ module _ (a o : ℕ) (ts : List Lexeme) (g : PolicyGraph) where
       successors = are.filled;
       records = record {
         number = λ n t at.
-            let is = field_whole t n (at_column n 0 t (Some n) (omega arith) (subst (λ k. slice_get ts k ≡ Some t) (omega arith) at) refl) in
+            let is = field_whole t n (at_column n 0 t (Some n) (omega arith) (subst (λ k. slice_get ts k ≡ Some t) (omega arith) at) refl)
+            in
             (is_whole_of t n is, is.value);
         action = λ n t at.
             let below = node_below n 1 t at in
-            let is = field_whole t (action_of g n) (at_column n (suc zero) t (Some (action_of g n)) (omega arith) (subst (λ k. slice_get ts k ≡ Some t) (omega arith) at) refl) in
+            let is = field_whole t (action_of g n) (at_column n (suc zero) t (Some (action_of g n)) (omega arith)
+            (subst (λ k. slice_get ts k ≡ Some t) (omega arith) at) refl) in
             record {
               whole = is_whole_of t (action_of g n) is;
               known = subst (λ x. x < a) (sym is.value) (are.actions_known n 0 below);
               value = slice_get-get_or g.chosen n 0 below ∙ ap Some (sym is.value);
             };
         next = λ n z t below at.
-            let is = field_successor t (next_of g n z) (at_column n (suc (suc z)) t (next_of g n z) (omega (arith, below)) (subst (λ k. slice_get ts k ≡ Some t) (omega arith) at) (next_field g n z (omega (arith, below, are.observations_are)))) in
+            let is = field_successor t (next_of g n z) (at_column n (suc (suc z)) t (next_of g n z) (omega (arith, below))
+            (subst (λ k. slice_get ts k ≡ Some t) (omega arith) at) (next_field g n z (omega (arith, below, are.observations_are)))) in
             let inside = place_inside o n z (nodes g) (node_below n (2 + z) t at) below in
             record {
               right = is.0;
               value = slice_get-get_or g.successors (n * o + z) None (omega (arith, inside, are.filled))
                   ∙ ap (λ w. Some (get_or g.successors (n * w + z) None)) (sym are.observations_are) ∙ ap Some (sym is.1);
             };
-        apart = λ k s t first second. joined_parts s.kind t.kind _ (λ e f. let other = are.apart k s t first second e f in grind (arith, nat_tests));
+        apart = λ k s t first second. joined_parts s.kind t.kind _
+            (λ e f. let other = are.apart k s t first second e f in grind (arith, nat_tests));
       };
     }
 
@@ -114,14 +126,16 @@ module _ (a o : ℕ) (ts : List Lexeme) (g : PolicyGraph) where
     some = loose.some;
     few = loose.few;
     filled = loose.successors;
-    fields = rows_zip (fields_of g) (width o) (λ n. wide g n ∙ ap width loose.observations_are) IsField ts (nodes g) (omega arith) loose.tokens at;
+    fields = rows_zip (fields_of g) (width o) (λ n. wide g n ∙ ap width loose.observations_are) IsField ts (nodes g) (omega arith)
+        loose.tokens at;
     actions_known = λ n d l. actions_below n d l;
     successors_known = λ k d l. successors_below k d l;
     apart = λ k s t first second e f same.
         let free = loose.records.apart k s t first second in joined k s t e f same free;
   }
     where
-      at : (n j : ℕ) (t : Lexeme) (f : Option ℕ) → n < nodes g → j < width o → slice_get ts (n * width o + j) ≡ Some t → slice_get (fields_of g n) j ≡ Some f → IsField t f
+      at : (n j : ℕ) (t : Lexeme) (f : Option ℕ) → n < nodes g → j < width o → slice_get ts (n * width o + j) ≡ Some t
+          → slice_get (fields_of g n) j ≡ Some f → IsField t f
       at n zero t f l k here is =
           let was = loose.records.number n t (subst (λ p. slice_get ts p ≡ Some t) (omega arith) here) in
           subst (IsField t) (same_some (Some n) f is) (graphs.number (whole_is t n was.0 was.1))
@@ -133,7 +147,8 @@ module _ (a o : ℕ) (ts : List Lexeme) (g : PolicyGraph) where
           let below : z < o = omega (arith, k) in
           let was = loose.records.next n z t below (subst (λ p. slice_get ts p ≡ Some t) (omega arith) here) in
           let next : next_of g n z ≡ successor_of t =
-          ap (λ w. get_or g.successors (n * w + z) None) loose.observations_are ∙ get_or_from_slice_get g.successors (n * o + z) (successor_of t) None was.value in
+          ap (λ w. get_or g.successors (n * w + z) None) loose.observations_are
+          ∙ get_or_from_slice_get g.successors (n * o + z) (successor_of t) None was.value in
           let same : next_of g n z ≡ f = same_some _ f (sym (next_field g n z (omega (arith, below, loose.observations_are))) ∙ is) in
           subst (IsField t) (sym next ∙ same) (successor_field t was.right)
 
@@ -167,5 +182,6 @@ IsIndexedText a o text g = (ts : List Lexeme) × IsCut (text_rest text text_limi
 pub indexed : (a o : ℕ) (text : List ℕ) (g : PolicyGraph) → IsGraphText a o text g → IsIndexedText a o text g
 indexed a o text g is = (is.0, clean_cut text is.0 is.1, graph_from a o is.0 g is.2)
 
-pub graph_text : (a o : ℕ) (text : List ℕ) (g : PolicyGraph) (ts : List Lexeme) → IsCut (text_rest text text_limit) ts None → IsGraph a o ts g → IsGraphText a o text g
+pub graph_text : (a o : ℕ) (text : List ℕ) (g : PolicyGraph) (ts : List Lexeme) → IsCut (text_rest text text_limit) ts None
+    → IsGraph a o ts g → IsGraphText a o text g
 graph_text a o text g ts cut is = (ts, clean_tokens text ts cut, tokens_of_graph a o ts g is.loose is.bound)

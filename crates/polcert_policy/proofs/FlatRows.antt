@@ -1,6 +1,7 @@
 -- Lists that are rows of one width, one after another, and what stands at a place of them.
 use Rattle.polcert_policy.proofs.Common.{common_steps, range_with_len, AllZip}
-use Rattle.std.proofs.Common.{◌≡◌, ◌∙◌, ℕ, suc, zero, ◌+◌, ◌*◌, ◌<◌, ◌≤◌, Some, List, [], ◌∷◌, ◌++◌, length, flat_map, slice_get, refl, sym, ap, subst, arith, length-append}
+use Rattle.std.proofs.Common.{◌≡◌, ◌∙◌, ℕ, suc, zero, ◌+◌, ◌*◌, ◌<◌, ◌≤◌, Some, List, [], ◌∷◌, ◌++◌, length, flat_map, slice_get, refl, sym}
+use Rattle.std.proofs.Common.{ap, subst, arith, length-append}
 use Rattle.std.proofs.lemmas.Slice.Zip.{AllZip-long}
 use Rattle.polcert_policy.proofs.Places.{same_some, row_of, row_below, within_get}
 
@@ -14,12 +15,14 @@ get_after [] ys k n e = ap (slice_get ys) (e ∙ omega arith)
 get_after (x ∷ xs) ys zero n e = absurd (omega (arith, e))
 get_after (x ∷ xs) ys (suc k) n e = get_after xs ys k n (omega (arith, e))
 
-zip_at : {X Y : Type 0} (R : X → Y → Type 0) (xs : List X) (ys : List Y) → AllZip R xs ys → (k : ℕ) (x : X) (y : Y) → slice_get xs k ≡ Some x → slice_get ys k ≡ Some y → R x y
+zip_at : {X Y : Type 0} (R : X → Y → Type 0) (xs : List X) (ys : List Y) → AllZip R xs ys → (k : ℕ) (x : X) (y : Y)
+    → slice_get xs k ≡ Some x → slice_get ys k ≡ Some y → R x y
 zip_at R (x ∷ xs) (y ∷ ys) are zero z w at also = subst (λ v. R v w) (same_some x z at) (subst (R x) (same_some y w also) are.0)
 zip_at R (x ∷ xs) (y ∷ ys) are (suc k) z w at also = zip_at R xs ys are.1 k z w at also
 zip_at c d e are f g p at also = cc
 
-zip_from : {X Y : Type 0} (R : X → Y → Type 0) (xs : List X) (ys : List Y) → length xs ≡ length ys → ((k : ℕ) (x : X) (y : Y) → slice_get xs k ≡ Some x → slice_get ys k ≡ Some y → R x y) → AllZip R xs ys
+zip_from : {X Y : Type 0} (R : X → Y → Type 0) (xs : List X) (ys : List Y) → length xs ≡ length ys
+    → ((k : ℕ) (x : X) (y : Y) → slice_get xs k ≡ Some x → slice_get ys k ≡ Some y → R x y) → AllZip R xs ys
 zip_from R [] [] l each = tt
 zip_from R (x ∷ xs) (y ∷ ys) l each = (each 0 x y refl refl, zip_from R xs ys (omega (arith, l)) (λ k. each (suc k)))
 zip_from c d e l each = cc
@@ -45,10 +48,12 @@ module _ {Y : Type 0} (F : ℕ → List Y) (w : ℕ) (wide : (n : ℕ) → lengt
     pub row_long : AllZip R xs (rows_from 0 n) → length xs ≡ n * w
     row_long are = sym (AllZip-long R xs (rows_from 0 n) are) ∙ length_rows 0 n
 
-    pub row_at : AllZip R xs (rows_from 0 n) → (i j : ℕ) (x : X) (y : Y) → j < w → slice_get xs (i * w + j) ≡ Some x → slice_get (F i) j ≡ Some y → R x y
+    pub row_at : AllZip R xs (rows_from 0 n) → (i j : ℕ) (x : X) (y : Y) → j < w → slice_get xs (i * w + j) ≡ Some x
+        → slice_get (F i) j ≡ Some y → R x y
     row_at are i j x y k at also = grind (arith, common_steps, slice_get, row_below, within_get, zip_at, get_first, row_long)
 
-    pub rows_zip : 1 ≤ w → length xs ≡ n * w → ((i j : ℕ) (x : X) (y : Y) → i < n → j < w → slice_get xs (i * w + j) ≡ Some x → slice_get (F i) j ≡ Some y → R x y)
+    pub rows_zip : 1 ≤ w → length xs ≡ n * w → ((i j : ℕ) (x : X) (y : Y) → i < n → j < w → slice_get xs (i * w + j) ≡ Some x
+        → slice_get (F i) j ≡ Some y → R x y)
         → AllZip R xs (rows_from 0 n)
     rows_zip some long each = zip_from R xs (rows_from 0 n) (long ∙ sym (length_rows 0 n)) at
       where

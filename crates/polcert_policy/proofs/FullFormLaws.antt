@@ -1,6 +1,12 @@
 -- The full form of vectors, read with their graph, gives the vectors back.
-use Rattle.polcert_policy.proofs.Common.{common_steps, list_all, ints, take_more, slice_get-get_or, is_blank, IsCut, text_rest, text_limit, scaled_text, largest, Measures, Rounding, PolicyGraph, nodes, action_of, IsProperGraph, PolicyVectors, Part, sign_kind, tokens_of, value_of, IsActionPart, IsValuePart, IsRoundedVectors, IsInRange, AreProperVectors, IsRoundedVectorsText, AreVectorsUpTo, after_value, values_text, action_text, vectors_text_up_to}
-use Rattle.std.proofs.Common.{◌≡◌, ◌∙◌, ℕ, ℤ, suc, zero, ◌+◌, ◌-◌, ◌*◌, ◌^◌, ◌<◌, ◌≤◌, Bool, true, false, cond, pos, negsuc, None, List, [], ◌∷◌, ◌++◌, length, take, decimal, codes, refl, sym, ap, subst, arith, append_assoc, append-nil, length-append, take_all}
+use Rattle.polcert_policy.proofs.Common.{common_steps, list_all, ints, take_more, slice_get-get_or, is_blank, IsCut, text_rest, text_limit}
+use Rattle.polcert_policy.proofs.Common.{scaled_text, largest, Measures, Rounding, PolicyGraph, nodes, action_of, IsProperGraph}
+use Rattle.polcert_policy.proofs.Common.{PolicyVectors, Part, sign_kind, tokens_of, value_of, IsActionPart, IsValuePart, IsRoundedVectors}
+use Rattle.polcert_policy.proofs.Common.{IsInRange, AreProperVectors, IsRoundedVectorsText, AreVectorsUpTo, after_value, values_text}
+use Rattle.polcert_policy.proofs.Common.{action_text, vectors_text_up_to}
+use Rattle.std.proofs.Common.{◌≡◌, ◌∙◌, ℕ, ℤ, suc, zero, ◌+◌, ◌-◌, ◌*◌, ◌^◌, ◌<◌, ◌≤◌, Bool, true, false, cond, pos, negsuc, None, List, []}
+use Rattle.std.proofs.Common.{◌∷◌, ◌++◌, length, take, decimal, codes, refl, sym, ap, subst, arith, append_assoc, append-nil, length-append}
+use Rattle.std.proofs.Common.{take_all}
 use Rattle.std.proofs.Math.Path.{subst₂}
 use Rattle.std.specs.Prelude.{◌==◌}
 use Rattle.std.proofs.lemmas.Bool.{le-ltb}
@@ -115,7 +121,8 @@ all_printed g v (suc n) = all_printed g v n ++ vector_printed g v n
 
 texts-append : (us ws : List Printed) → texts_of (us ++ ws) ≡ texts_of us ++ texts_of ws
 texts-append [] ws = refl
-texts-append (u ∷ us) ws = ap (λ bs. printed_text u ++ bs) (texts-append us ws) ∙ sym (append_assoc (printed_text u) (texts_of us) (texts_of ws))
+texts-append (u ∷ us) ws = ap (λ bs. printed_text u ++ bs) (texts-append us ws)
+    ∙ sym (append_assoc (printed_text u) (texts_of us) (texts_of ws))
 
 text-values : (v : PolicyVectors) (n s : ℕ) → texts_of (values_printed v n s) ≡ values_text v n s
 text-values v n zero = refl
@@ -129,7 +136,8 @@ text-all g v zero = refl
 text-all g v (suc n) =
     texts-append (all_printed g v n) (vector_printed g v n) ∙ (λ i. text-all g v n i ++ (action_text g n ++ text-values v n v.states i))
 
-parts-append : (place : ℕ) (us ws : List Printed) → parts_from place (us ++ ws) ≡ parts_from place us ++ parts_from (place + length (texts_of us)) ws
+parts-append : (place : ℕ) (us ws : List Printed) → parts_from place (us ++ ws)
+    ≡ parts_from place us ++ parts_from (place + length (texts_of us)) ws
 parts-append place [] ws = ap (λ p. parts_from p ws) (omega arith)
 parts-append place (u ∷ us) ws = grind (arith, length-append, parts-append (place + length (printed_text u)) us ws)
 
@@ -141,89 +149,104 @@ text_short : (us : List Printed) → AllPrinted us → length (texts_of us) ≤ 
 text_short [] a = omega arith
 text_short (u ∷ us) a = grind (arith, length-append, text_short us a.1)
 
-module _ (g : PolicyGraph) (v : PolicyVectors) (proper_g : IsProperGraph g) (proper_v : AreProperVectors v) (same : v.nodes ≡ nodes g) where
-  in_place : (n s : ℕ) → n < nodes g → s < v.states → n * v.states + s < length v.values
-  in_place n s l k = grind arith
+module _ (g : PolicyGraph) (v : PolicyVectors) (proper_g : IsProperGraph g) (proper_v : AreProperVectors v) (same : v.nodes ≡ nodes g)
+  where
+    in_place : (n s : ℕ) → n < nodes g → s < v.states → n * v.states + s < length v.values
+    in_place n s l k = grind arith
 
-  value_fits : (n s : ℕ) → n < nodes g → s < v.states → IsInRange (value_of v n s)
-  value_fits n s l k = proper_v.in_range (n * v.states + s) (value_of v n s) (slice_get-get_or v.values (n * v.states + s) (pos 0) (in_place n s l k))
+    value_fits : (n s : ℕ) → n < nodes g → s < v.states → IsInRange (value_of v n s)
+    value_fits n s l k = proper_v.in_range (n * v.states + s) (value_of v n s)
+        (slice_get-get_or v.values (n * v.states + s) (pos 0) (in_place n s l k))
 
-  values_are_printed : (n s : ℕ) → n < nodes g → s ≤ v.states → AllPrinted (values_printed v n s)
-  values_are_printed n zero l k = tt
-  values_are_printed n (suc s) l k = grind (arith, value_is_printed, all-append, value_fits, values_are_printed n s l (omega (arith, k)))
+    values_are_printed : (n s : ℕ) → n < nodes g → s ≤ v.states → AllPrinted (values_printed v n s)
+    values_are_printed n zero l k = tt
+    values_are_printed n (suc s) l k = grind (arith, value_is_printed, all-append, value_fits, values_are_printed n s l (omega (arith, k)))
 
-  known_action : (n : ℕ) → n < nodes g → action_of g n < 1_001
-  known_action n l = omega (arith, proper_g.known n l, proper_g.few_actions)
+    known_action : (n : ℕ) → n < nodes g → action_of g n < 1_001
+    known_action n l = omega (arith, proper_g.known n l, proper_g.few_actions)
 
-  all_are_printed : (n : ℕ) → n ≤ nodes g → AllPrinted (all_printed g v n)
-  all_are_printed zero l = tt
-  all_are_printed (suc n) l = grind (arith, action_is_printed, all-append, values_are_printed, all_are_printed n (omega (arith, l)))
+    all_are_printed : (n : ℕ) → n ≤ nodes g → AllPrinted (all_printed g v n)
+    all_are_printed zero l = tt
+    all_are_printed (suc n) l = grind (arith, action_is_printed, all-append, values_are_printed, all_are_printed n (omega (arith, l)))
 
-  length-values : (n s : ℕ) → length (values_printed v n s) ≡ s
-  length-values n zero = refl
-  length-values n (suc s) = length-append (values_printed v n s) (value_printed v n s ∷ []) ∙ omega (arith, length-values n s)
+    length-values : (n s : ℕ) → length (values_printed v n s) ≡ s
+    length-values n zero = refl
+    length-values n (suc s) = length-append (values_printed v n s) (value_printed v n s ∷ []) ∙ omega (arith, length-values n s)
 
-  length-all : (n : ℕ) → length (all_printed g v n) ≡ n * (1 + v.states)
-  length-all zero = omega arith
-  length-all (suc n) = length-append (all_printed g v n) (vector_printed g v n) ∙ omega (arith, length-all n, length-values n v.states)
+    length-all : (n : ℕ) → length (all_printed g v n) ≡ n * (1 + v.states)
+    length-all zero = omega arith
+    length-all (suc n) = length-append (all_printed g v n) (vector_printed g v n) ∙ omega (arith, length-all n, length-values n v.states)
 
-  values_more : (n s : ℕ) → n < nodes g → s < v.states → take (n * v.states + s) v.values ++ value_of v n s ∷ [] ≡ take (n * v.states + suc s) v.values
-  values_more n s l k = sym (take_more v.values (n * v.states + s) (pos 0) (in_place n s l k)) ∙ ap (λ m. take m v.values) (omega arith)
+    values_more : (n s : ℕ) → n < nodes g → s < v.states
+        → take (n * v.states + s) v.values ++ value_of v n s ∷ [] ≡ take (n * v.states + suc s) v.values
+    values_more n s l k = sym (take_more v.values (n * v.states + s) (pos 0) (in_place n s l k)) ∙ ap (λ m. take m v.values) (omega arith)
 
-  parts_more : (ps : List Part) (n place s : ℕ) → (ps ++ parts_from place (action_printed g n ∷ values_printed v n s)) ++ part_with (place + length (texts_of (action_printed g n ∷ values_printed v n s))) (is_below_zero (value_of v n s)) (size_text (value_of v n s)) ∷ []
-      ≡ ps ++ parts_from place (action_printed g n ∷ values_printed v n (suc s))
-  parts_more ps n place s = grind (arith, common_steps, append_assoc, texts_of, part_with, parts_from, parts-append)
+    parts_more : (ps : List Part) (n place s : ℕ) → (ps ++ parts_from place (action_printed g n ∷ values_printed v n s)) ++ part_with
+        (place + length (texts_of (action_printed g n ∷ values_printed v n s))) (is_below_zero (value_of v n s))
+        (size_text (value_of v n s)) ∷
+        []
+        ≡ ps ++ parts_from place (action_printed g n ∷ values_printed v n (suc s))
+    parts_more ps n place s = grind (arith, common_steps, append_assoc, texts_of, part_with, parts_from, parts-append)
 
-  abbrev UpTo : Rounding → List Part → ℕ → ℕ → List ℤ → Type 0
-  UpTo way ps n c vs = AreVectorsUpTo way g v.states ps n c vs
+    abbrev UpTo : Rounding → List Part → ℕ → ℕ → List ℤ → Type 0
+    UpTo way ps n c vs = AreVectorsUpTo way g v.states ps n c vs
 
-  short_text : length (texts_of (all_printed g v (nodes g))) ≤ text_limit
-  short_text = grind (arith, text_short, all_are_printed, length-all)
+    short_text : length (texts_of (all_printed g v (nodes g))) ≤ text_limit
+    short_text = grind (arith, text_short, all_are_printed, length-all)
 
-  module _ (way : Rounding) where
-    -- one value more
-    one_value : (ps : List Part) (n place s m c : ℕ) → n < nodes g → s < v.states → IsAfter 1 v.states n s m c
-        → UpTo way (ps ++ parts_from place (action_printed g n ∷ values_printed v n s)) n (1 + s) (take (n * v.states + s) v.values)
-        → UpTo way (ps ++ parts_from place (action_printed g n ∷ values_printed v n (suc s))) m c (take (n * v.states + suc s) v.values)
-    one_value ps n place s m c l k following old =
-        let right = value_part way _ (value_of v n s) (value_fits n s l k) in
-        subst₂ (λ qs vs. UpTo way qs m c vs) (parts_more ps n place s) (values_more n s l k)
-        (step_value g v.states (ps ++ parts_from place (action_printed g n ∷ values_printed v n s)) _ (value_of v n s) n s m c (take (n * v.states + s) v.values) old right following)
+    module _ (way : Rounding) where
+      -- one value more
+      one_value : (ps : List Part) (n place s m c : ℕ) → n < nodes g → s < v.states → IsAfter 1 v.states n s m c
+          → UpTo way (ps ++ parts_from place (action_printed g n ∷ values_printed v n s)) n (1 + s) (take (n * v.states + s) v.values)
+          → UpTo way (ps ++ parts_from place (action_printed g n ∷ values_printed v n (suc s))) m c (take (n * v.states + suc s) v.values)
+      one_value ps n place s m c l k following old =
+          let right = value_part way _ (value_of v n s) (value_fits n s l k) in
+          subst₂ (λ qs vs. UpTo way qs m c vs) (parts_more ps n place s) (values_more n s l k)
+          (step_value g v.states (ps ++ parts_from place (action_printed g n ∷ values_printed v n s)) _ (value_of v n s) n s m c
+          (take (n * v.states + s) v.values) old right following)
 
-    row : (ps : List Part) (n place : ℕ) → n < nodes g → UpTo way ps n 0 (take (n * v.states) v.values) → (s : ℕ) → s < v.states
-        → UpTo way (ps ++ parts_from place (action_printed g n ∷ values_printed v n s)) n (1 + s) (take (n * v.states + s) v.values)
-    row ps n place l old zero k =
-        let part = part_with place false (decimal (action_of g n)) in
-        subst (λ m. UpTo way (ps ++ part ∷ []) n 1 (take m v.values)) (omega arith)
-        (step_vector_action g v.states ps part n (take (n * v.states) v.values) proper_v.some_states old l (action_part place (action_of g n) (omega (arith, known_action n l))))
-    row ps n place l old (suc s) k =
-        let inside : s < v.states = omega (arith, k) in
-        one_value ps n place s n (1 + suc s) l inside (record { inside = λ k. (refl, refl); last = λ e. absurd (omega (arith, e, k)) }) (row ps n place l old s inside)
+      row : (ps : List Part) (n place : ℕ) → n < nodes g → UpTo way ps n 0 (take (n * v.states) v.values) → (s : ℕ) → s < v.states
+          → UpTo way (ps ++ parts_from place (action_printed g n ∷ values_printed v n s)) n (1 + s) (take (n * v.states + s) v.values)
+      row ps n place l old zero k =
+          let part = part_with place false (decimal (action_of g n)) in
+          subst (λ m. UpTo way (ps ++ part ∷ []) n 1 (take m v.values)) (omega arith)
+          (step_vector_action g v.states ps part n (take (n * v.states) v.values) proper_v.some_states old l
+          (action_part place (action_of g n) (omega (arith, known_action n l))))
+      row ps n place l old (suc s) k =
+          let inside : s < v.states = omega (arith, k) in
+          one_value ps n place s n (1 + suc s) l inside (record { inside = λ k. (refl, refl); last = λ e. absurd (omega (arith, e, k)) })
+          (row ps n place l old s inside)
 
-    whole_row : (ps : List Part) (n place : ℕ) → n < nodes g → UpTo way ps n 0 (take (n * v.states) v.values)
-        → UpTo way (ps ++ parts_from place (vector_printed g v n)) (suc n) 0 (take (suc n * v.states) v.values)
-    whole_row ps n place l old =
-        let s = v.states - 1 in
-        let last : suc s ≡ v.states = omega (arith, proper_v.some_states) in
-        let inside : s < v.states = omega (arith, last) in
-        let read = one_value ps n place s (suc n) 0 l inside (record { inside = λ k. absurd (omega (arith, k, last)); last = λ e. (refl, refl) }) (row ps n place l old s inside) in
-        subst₂ (λ c m. UpTo way (ps ++ parts_from place (action_printed g n ∷ values_printed v n c)) (suc n) 0 (take m v.values)) last (omega (arith, last)) read
+      whole_row : (ps : List Part) (n place : ℕ) → n < nodes g → UpTo way ps n 0 (take (n * v.states) v.values)
+          → UpTo way (ps ++ parts_from place (vector_printed g v n)) (suc n) 0 (take (suc n * v.states) v.values)
+      whole_row ps n place l old =
+          let s = v.states - 1 in
+          let last : suc s ≡ v.states = omega (arith, proper_v.some_states) in
+          let inside : s < v.states = omega (arith, last) in
+          let read = one_value ps n place s (suc n) 0 l inside
+          (record { inside = λ k. absurd (omega (arith, k, last)); last = λ e. (refl, refl) }) (row ps n place l old s inside) in
+          subst₂ (λ c m. UpTo way (ps ++ parts_from place (action_printed g n ∷ values_printed v n c)) (suc n) 0 (take m v.values)) last
+          (omega (arith, last)) read
 
-    all_rows : (n : ℕ) → n ≤ nodes g → UpTo way (parts_from 0 (all_printed g v n)) n 0 (take (n * v.states) v.values)
-    all_rows zero l = grind arith
-    all_rows (suc n) l =
-        subst (λ qs. UpTo way qs (suc n) 0 (take (suc n * v.states) v.values)) (sym (parts-append 0 (all_printed g v n) (vector_printed g v n)))
-        (whole_row (parts_from 0 (all_printed g v n)) n (0 + length (texts_of (all_printed g v n))) (omega (arith, l)) (all_rows n (omega (arith, l))))
+      all_rows : (n : ℕ) → n ≤ nodes g → UpTo way (parts_from 0 (all_printed g v n)) n 0 (take (n * v.states) v.values)
+      all_rows zero l = grind arith
+      all_rows (suc n) l =
+          subst (λ qs. UpTo way qs (suc n) 0 (take (suc n * v.states) v.values))
+          (sym (parts-append 0 (all_printed g v n) (vector_printed g v n)))
+          (whole_row (parts_from 0 (all_printed g v n)) n (0 + length (texts_of (all_printed g v n))) (omega (arith, l))
+          (all_rows n (omega (arith, l))))
 
-    tokens_read_back : IsRoundedVectors way g v.states (tokens_of (parts_from 0 (all_printed g v (nodes g)))) v
-    tokens_read_back =
-        grind (arith, take_all, parts_from, all_rows (nodes g) (omega arith))
+      tokens_read_back : IsRoundedVectors way g v.states (tokens_of (parts_from 0 (all_printed g v (nodes g)))) v
+      tokens_read_back =
+          grind (arith, take_all, parts_from, all_rows (nodes g) (omega arith))
 
-    -- the full form reads back
-    pub reads_back : IsRoundedVectorsText way g v.states (vectors_text g v) v
-    reads_back =
-        let us = all_printed g v (nodes g) in
-        let cut = cut_printed us 0 [] (all_are_printed (nodes g) (omega arith)) refl in
-        let whole : text_rest (texts_of us) text_limit ≡ rest_at 0 (texts_of us) = simp (le-ltb text_limit (length (texts_of us)) short_text) in
-        subst (λ text. IsRoundedVectorsText way g v.states text v) (text-all g v (nodes g))
-        (flat_vectors.vectors_text way g v.states (texts_of us) v (tokens_of (parts_from 0 us)) (subst (λ r. IsCut r (tokens_of (parts_from 0 us)) None) (sym whole) cut) tokens_read_back)
+      -- the full form reads back
+      pub reads_back : IsRoundedVectorsText way g v.states (vectors_text g v) v
+      reads_back =
+          let us = all_printed g v (nodes g) in
+          let cut = cut_printed us 0 [] (all_are_printed (nodes g) (omega arith)) refl in
+          let whole : text_rest (texts_of us) text_limit ≡ rest_at 0 (texts_of us) =
+          simp (le-ltb text_limit (length (texts_of us)) short_text) in
+          subst (λ text. IsRoundedVectorsText way g v.states text v) (text-all g v (nodes g))
+          (flat_vectors.vectors_text way g v.states (texts_of us) v (tokens_of (parts_from 0 us))
+          (subst (λ r. IsCut r (tokens_of (parts_from 0 us)) None) (sym whole) cut) tokens_read_back)

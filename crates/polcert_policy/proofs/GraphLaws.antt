@@ -1,9 +1,13 @@
 -- How the tokens of a graph are read on, and what can't follow.
-use Rattle.std.proofs.Common.{◌≡◌, ◌∙◌, ℕ, suc, zero, ◌+◌, ◌-◌, ◌*◌, ◌<◌, ◌≤◌, ◌==◌, Bool, true, false, ◌&&◌, ⊎_elim, Option, Some, List, [], ◌∷◌, ◌++◌, length, slice_get, refl, sym, ap, subst, arith, length-append, append_assoc, append-nil, lit<}
+use Rattle.std.proofs.Common.{◌≡◌, ◌∙◌, ℕ, suc, zero, ◌+◌, ◌-◌, ◌*◌, ◌<◌, ◌≤◌, ◌==◌, Bool, true, false, ◌&&◌, ⊎_elim, Option, Some, List}
+use Rattle.std.proofs.Common.{[], ◌∷◌, ◌++◌, length, slice_get, refl, sym, ap, subst, arith, length-append, append_assoc, append-nil, lit<}
 use Rattle.std.proofs.Math.Path.{subst₂}
-use Rattle.polcert_policy.proofs.Common.{is_digit, Lexeme, TokenKind, Name, Numeral, numeral_kind, minus_kind, is_whole, whole_of, is_successor, successor_of, is_joined, PolicyGraph, nodes, IsLooseGraph, IsPossible, width, most_nodes, AreNodesUpTo, IsApartFrom}
+use Rattle.polcert_policy.proofs.Common.{is_digit, Lexeme, TokenKind, Name, Numeral, numeral_kind, minus_kind, is_whole, whole_of}
+use Rattle.polcert_policy.proofs.Common.{is_successor, successor_of, is_joined, PolicyGraph, nodes, IsLooseGraph, IsPossible, width}
+use Rattle.polcert_policy.proofs.Common.{most_nodes, AreNodesUpTo, IsApartFrom}
 use Rattle.polcert_policy.specs.Graphs.{IsAction, IsSuccessor, AreNodes}
-use Rattle.polcert_policy.proofs.Places.{some_columns, row_above, same_row, same_column, get_snoc, get_more, get_here, get_within, within_get, same_some, same_list, row_of, row_below, below_or_at}
+use Rattle.polcert_policy.proofs.Places.{some_columns, row_above, same_row, same_column, get_snoc, get_more, get_here, get_within}
+use Rattle.polcert_policy.proofs.Places.{within_get, same_some, same_list, row_of, row_below, below_or_at}
 
 -- what a token is at its place
 pub record Fits (actions observations node column : ℕ) (t : Lexeme) (chosen : List ℕ) (successors : List (Option ℕ)) : Type 0 where
@@ -93,8 +97,15 @@ pub step_action : (a o : ℕ) (ts : List Lexeme) (t : Lexeme) (node : ℕ) (cs :
 step_action a o ts t node cs ss some old apart whole known =
     let place : node ≡ length cs = sym (old.chosen_before (omega arith)) in
     record {
-      records = more_nodes a o ts t cs (cs ++ whole_of t ∷ []) ss ss node 1 old.records old.count old.within (pushed_places cs (whole_of t)) (same_places ss) apart
-          (record { number = λ e. absurd (omega (arith, e)); action = λ e. record { whole = whole; known = known; value = at_end cs (whole_of t) node place }; next = λ z e. absurd (omega (arith, e)) });
+      records = more_nodes a o ts t cs (cs ++ whole_of t ∷ []) ss ss node 1 old.records old.count old.within (pushed_places cs (whole_of t))
+          (same_places ss) apart
+          (record {
+            number = λ e. absurd (omega (arith, e));
+            action =
+                λ e. record { whole = whole; known = known; value = at_end cs (whole_of t) node place };
+            next =
+                λ z e. absurd (omega (arith, e));
+          });
       count = omega (arith, length_snoc ts t, old.count);
       within = omega arith;
       chosen_before = λ l. absurd (omega (arith, l));
@@ -123,7 +134,8 @@ pub step_successor : (a o : ℕ) (ts : List Lexeme) (t : Lexeme) (node z n c : �
     → AreNodesUpTo a o ts node (2 + z) cs ss → IsApartFrom ts t → is_successor t ≡ true → IsAfter 2 o node z n c
     → AreNodesUpTo a o (ts ++ t ∷ []) n c cs (ss ++ successor_of t ∷ [])
 step_successor a o ts t node z n c cs ss old apart right following =
-    let new = more_nodes a o ts t cs cs ss (ss ++ successor_of t ∷ []) node (2 + z) old.records old.count old.within (same_places cs) (pushed_places ss (successor_of t)) apart
+    let new = more_nodes a o ts t cs cs ss (ss ++ successor_of t ∷ []) node (2 + z) old.records old.count old.within (same_places cs)
+    (pushed_places ss (successor_of t)) apart
     (record {
       number = λ e. absurd (omega (arith, e));
       action = λ e. absurd (omega (arith, e));
@@ -170,11 +182,14 @@ zero_whole = refl
 possible_successors : (a o : ℕ) (left : ℕ) (ts : List Lexeme) (node z : ℕ) (cs : List ℕ) (ss : List (Option ℕ))
     → suc z + left ≡ o → AreNodesUpTo a o ts node (2 + z) cs ss → IsPossible a o ts
 possible_successors a o zero ts node z cs ss e old =
-    let new = step_successor a o ts letter_x node z (suc node) 0 cs ss old (x_apart ts) refl (record { inside = λ l. absurd (omega (arith, l, e)); last = λ e. (refl, refl) }) in
+    let new = step_successor a o ts letter_x node z (suc node) 0 cs ss old (x_apart ts) refl
+    (record { inside = λ l. absurd (omega (arith, l, e)); last = λ e. (refl, refl) }) in
     possible_before a o ts (letter_x ∷ []) (possible_loose a o _ _ (loose_of a o _ (suc node) cs _ (omega arith) new))
 possible_successors a o (suc left) ts node z cs ss e old =
-    let new = step_successor a o ts letter_x node z node (3 + z) cs ss old (x_apart ts) refl (record { inside = λ l. (refl, omega arith); last = λ f. absurd (omega (arith, f, e)) }) in
-    possible_before a o ts (letter_x ∷ []) (possible_successors a o left (ts ++ letter_x ∷ []) node (suc z) cs _ (omega (arith, e)) (subst (λ c. AreNodesUpTo a o (ts ++ letter_x ∷ []) node c cs (ss ++ successor_of letter_x ∷ [])) (omega arith) new))
+    let new = step_successor a o ts letter_x node z node (3 + z) cs ss old (x_apart ts) refl
+    (record { inside = λ l. (refl, omega arith); last = λ f. absurd (omega (arith, f, e)) }) in
+    possible_before a o ts (letter_x ∷ []) (possible_successors a o left (ts ++ letter_x ∷ []) node (suc z) cs _ (omega (arith, e))
+    (subst (λ c. AreNodesUpTo a o (ts ++ letter_x ∷ []) node c cs (ss ++ successor_of letter_x ∷ [])) (omega arith) new))
 
 no_minus_whole : (k : TokenKind) (b c : Bool) → (numeral_kind k && b) ≡ true → (minus_kind k && c) ≡ false
 no_minus_whole k b c h1 = grind arith
@@ -202,7 +217,8 @@ possible a o ts (suc node) zero cs ss some_a some_o old =
     possible_loose a o ts _ (loose_of a o ts (suc node) cs ss (omega arith) old)
 possible a o ts node (suc zero) cs ss some_a some_o old = possible_action a o ts node cs ss some_a some_o old
 possible a o ts node (suc (suc z)) cs ss some_a some_o old =
-    possible_successors a o (o - suc z) ts node z cs ss (omega (arith, old.within)) (subst (λ c. AreNodesUpTo a o ts node c cs ss) (omega arith) old)
+    possible_successors a o (o - suc z) ts node z cs ss (omega (arith, old.within))
+    (subst (λ c. AreNodesUpTo a o ts node c cs ss) (omega arith) old)
 
 -- a graph that continues from what is read has the next token at its place
 pub needed : (a o : ℕ) (ts more : List Lexeme) (t : Lexeme) (node column : ℕ) (cs : List ℕ) (ss : List (Option ℕ)) (g : PolicyGraph)
@@ -243,7 +259,8 @@ same_action : (a o : ℕ) (ts : List Lexeme) (g h : PolicyGraph) → IsLooseGrap
     → (k : ℕ) (x y : ℕ) → slice_get g.chosen k ≡ Some x → slice_get h.chosen k ≡ Some y → x ≡ y
 same_action a o ts g h p q k x y ex ey =
     let token = get_within ts (k * width o + 1) (omega (arith, row_above (width o) k (nodes g) (within_get g.chosen k x ex), p.tokens)) in
-    same_values x y (whole_of token.0) (sym ex ∙ (p.records.action k token.0 token.1).value) (sym ey ∙ (q.records.action k token.0 token.1).value)
+    same_values x y (whole_of token.0) (sym ex ∙ (p.records.action k token.0 token.1).value)
+    (sym ey ∙ (q.records.action k token.0 token.1).value)
 
 same_next : (a o : ℕ) (ts : List Lexeme) (g h : PolicyGraph) → IsLooseGraph a o ts g → IsLooseGraph a o ts h
     → (k : ℕ) (x y : Option ℕ) → slice_get g.successors k ≡ Some x → slice_get h.successors k ≡ Some y → x ≡ y
@@ -260,7 +277,8 @@ same_next a o ts g h p q k x y ex ey =
         let inside : n * o + z < nodes g * o = omega (arith, within_get g.successors k x ex, p.successors, e) in
         let rows = row_above (width o) n (nodes g) (row_below o n z (nodes g) inside) in
         let token = get_within ts (n * width o + (2 + z)) (omega (arith, rows, p.tokens, l)) in
-        named n z token.0 l token.1 (subst (λ j. slice_get g.successors j ≡ Some x) e ex) (subst (λ j. slice_get h.successors j ≡ Some y) e ey)
+        named n z token.0 l token.1 (subst (λ j. slice_get g.successors j ≡ Some x) e ex)
+        (subst (λ j. slice_get h.successors j ≡ Some y) e ey)
 
 -- tokens are at most one graph
 pub one_loose : (a o : ℕ) (ts : List Lexeme) (g h : PolicyGraph) → IsLooseGraph a o ts g → IsLooseGraph a o ts h → g ≡ h
@@ -268,5 +286,6 @@ one_loose a o ts g h p q =
     let rows = same_nodes a o ts g h p q in
     let os_are = p.observations_are ∙ sym q.observations_are in
     let cs_are = same_list g.chosen h.chosen rows (same_action a o ts g h p q) in
-    let ss_are = same_list g.successors h.successors (omega (arith, p.successors, q.successors, ap (λ n. n * o) rows)) (same_next a o ts g h p q) in
+    let ss_are = same_list g.successors h.successors (omega (arith, p.successors, q.successors, ap (λ n. n * o) rows))
+    (same_next a o ts g h p q) in
     λ i. record { actions = (p.actions_are ∙ sym q.actions_are) i; observations = os_are i; chosen = cs_are i; successors = ss_are i }

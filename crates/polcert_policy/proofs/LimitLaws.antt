@@ -1,6 +1,8 @@
 -- What a text denotes is within its limits.
 use Rattle.std.proofs.Common.{◌≡◌, ◌∙◌, ℕ, ◌+◌, ◌*◌, ◌<◌, ◌≤◌, List, Some, None, slice_get, length, sym, ap, subst, arith, rules}
-use Rattle.polcert_policy.proofs.Common.{get_or_from_slice_get, slice_get-get_or, Lexeme, most_states, most_actions, PolicyGraph, nodes, action_of, IsLooseGraph, IsGraph, IsProperGraph, width, most_nodes, PolicyVectors, IsRoundedVectors, IsInRange, AreProperVectors, value_of, Rounding}
+use Rattle.polcert_policy.proofs.Common.{get_or_from_slice_get, slice_get-get_or, Lexeme, most_states, most_actions, PolicyGraph, nodes}
+use Rattle.polcert_policy.proofs.Common.{action_of, IsLooseGraph, IsGraph, IsProperGraph, width, most_nodes, PolicyVectors}
+use Rattle.polcert_policy.proofs.Common.{IsRoundedVectors, IsInRange, AreProperVectors, value_of, Rounding}
 use Rattle.polcert_cells.specs.Elements.{most_observations}
 use Rattle.polcert_policy.proofs.Places.{row_above, row_below, row_of, get_within, within_get, place_inside}
 use Rattle.polcert_policy.proofs.VectorEndLaws.{values_in_range}
@@ -11,7 +13,8 @@ loose_actions a o ts g h n l =
     let action = h.records.action n token.0 token.1 in
     subst (λ x. x < a) (sym (get_or_from_slice_get g.chosen n _ 0 action.value)) action.known
 
-pub graph_proper : (a o : ℕ) (ts : List Lexeme) (g : PolicyGraph) → a ≤ most_actions → 1 ≤ o → o ≤ most_observations → IsGraph a o ts g → IsProperGraph g
+pub graph_proper : (a o : ℕ) (ts : List Lexeme) (g : PolicyGraph) → a ≤ most_actions → 1 ≤ o → o ≤ most_observations → IsGraph a o ts g
+    → IsProperGraph g
 graph_proper a o ts g few_a some_o few_o is =
     let h = is.loose in
     record {
@@ -32,10 +35,14 @@ graph_proper a o ts g few_a some_o few_o is =
     }
 
 module _ {way : Rounding} where
-  pub vector_values : (graph : PolicyGraph) (states : ℕ) (ts : List Lexeme) (v : PolicyVectors) → IsRoundedVectors way graph states ts v → (n s : ℕ) → n < nodes graph → s < states → IsInRange (value_of v n s)
+  pub vector_values : (graph : PolicyGraph) (states : ℕ) (ts : List Lexeme) (v : PolicyVectors) → IsRoundedVectors way graph states ts v
+      → (n s : ℕ) → n < nodes graph → s < states → IsInRange (value_of v n s)
   vector_values graph states ts v is n s l k =
-      let inside : n * v.states + s < length v.values = omega (arith, place_inside states n s (nodes graph) l k, is.filled, ap (λ z. n * z) is.states_are) in
-      values_in_range graph states is.parts (nodes graph) v.values is.records is.count is.filled (n * v.states + s) (value_of v n s) (slice_get-get_or v.values (n * v.states + s) _ inside)
+      let inside : n * v.states + s < length v.values = omega
+      (arith, place_inside states n s (nodes graph) l k, is.filled, ap (λ z. n * z) is.states_are) in
+      values_in_range graph states is.parts (nodes graph) v.values is.records is.count is.filled (n * v.states + s) (value_of v n s)
+      (slice_get-get_or v.values (n * v.states + s) _ inside)
 
-  pub vectors_proper : (graph : PolicyGraph) (states : ℕ) (ts : List Lexeme) (v : PolicyVectors) → 1 ≤ nodes graph → nodes graph ≤ most_nodes → 1 ≤ states → states ≤ most_states → IsRoundedVectors way graph states ts v → AreProperVectors v
+  pub vectors_proper : (graph : PolicyGraph) (states : ℕ) (ts : List Lexeme) (v : PolicyVectors) → 1 ≤ nodes graph
+      → nodes graph ≤ most_nodes → 1 ≤ states → states ≤ most_states → IsRoundedVectors way graph states ts v → AreProperVectors v
   vectors_proper graph states ts v some few some_s few_s is = search (rules, values_in_range)

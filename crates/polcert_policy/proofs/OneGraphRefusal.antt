@@ -1,6 +1,9 @@
 -- A text is refused as a graph for one reason.
-use Rattle.std.proofs.Common.{◌≡◌, ◌∙◌, ℕ, ◌+◌, ◌*◌, ◌<◌, inl, inr, true, false, Option, Some, None, List, length, refl, sym, ap, subst, arith}
-use Rattle.polcert_policy.proofs.Common.{Lexeme, text_rest, text_limit, TokenFault, PolicyGraph, nodes, IsLooseGraph, IsFirstBeyond, IsPossible, width, most_nodes, IsColumn, joined_minus, IsMisfit, IsWrong, IsGraphRefusal, GraphFault}
+use Rattle.std.proofs.Common.{◌≡◌, ◌∙◌, ℕ, ◌+◌, ◌*◌, ◌<◌, inl, inr, true, false, Option, Some, None, List, length, refl, sym, ap, subst}
+use Rattle.std.proofs.Common.{arith}
+use Rattle.polcert_policy.proofs.Common.{Lexeme, text_rest, text_limit, TokenFault, PolicyGraph, nodes, IsLooseGraph, IsFirstBeyond}
+use Rattle.polcert_policy.proofs.Common.{IsPossible, width, most_nodes, IsColumn, joined_minus, IsMisfit, IsWrong, IsGraphRefusal}
+use Rattle.polcert_policy.proofs.Common.{GraphFault}
 use Rattle.polcert_policy.specs.GraphText.{is_shaped}
 use Rattle.polcert_policy.specs.declared.fault.GraphFault.TheVariants as faults
 use Rattle.polcert_policy.proofs.Places.{true_false, same_row, same_column}
@@ -13,7 +16,8 @@ columns o ts n c m d x y =
     let e : n * width o + c ≡ m * width o + d = omega (arith, x.count, y.count) in
     (same_row (width o) n m c d x.within y.within e, same_column (width o) n m c d x.within y.within e)
 
-wrong_shape : (o : ℕ) (ts : List Lexeme) (t : Lexeme) (n c m d : ℕ) → IsColumn o ts n c → is_shaped c t ≡ false → IsColumn o ts m d → is_shaped d t ≡ true → ⊥
+wrong_shape : (o : ℕ) (ts : List Lexeme) (t : Lexeme) (n c m d : ℕ) → IsColumn o ts n c → is_shaped c t ≡ false → IsColumn o ts m d
+    → is_shaped d t ≡ true → ⊥
 wrong_shape o ts t n c m d x wrong y right =
     true_false right (subst (λ e. is_shaped e t ≡ false) (columns o ts n c m d x y).1 wrong)
 
@@ -30,7 +34,8 @@ one_misfit a o ts t (faults.ActionOutOfRange p) (faults.ActionOutOfRange q) x y 
 one_misfit a o ts t (faults.TooManyNodes p) (faults.TooManyNodes q) x y = ap faults.TooManyNodes (x.0 ∙ sym y.0)
 one_misfit a o ts t _ _ x y = absurd (search (wrong_shape, not_after, other_column, x, y))
 
-one_wrong : (m : Option Lexeme) (a o : ℕ) (ts : List Lexeme) (t : Lexeme) (f g : GraphFault) → IsWrong m a o ts t f → IsWrong m a o ts t g → f ≡ g
+one_wrong : (m : Option Lexeme) (a o : ℕ) (ts : List Lexeme) (t : Lexeme) (f g : GraphFault) → IsWrong m a o ts t f → IsWrong m a o ts t g
+    → f ≡ g
 one_wrong m a o ts t f g h1 h2 = grind (arith, one_misfit)
 
 -- what a refusal at the end of a text says
@@ -51,7 +56,8 @@ part_or_whole o ts n c m x begun y = let e = (columns o ts n c m 0 x y).1 in ome
 none_or_some : (a o : ℕ) (ts : List Lexeme) (g : PolicyGraph) → IsColumn o ts 0 0 → IsLooseGraph a o ts g → ⊥
 none_or_some a o ts g x loose = let e = (columns o ts 0 0 (nodes g) 0 x (whole_nodes a o ts g loose)).0 in omega (arith, e, loose.some)
 
-one_end : (a o : ℕ) (text : List ℕ) (ts : List Lexeme) (end : Option TokenFault) (f g : GraphFault) → EndsFor a o text ts end f → EndsFor a o text ts end g → f ≡ g
+one_end : (a o : ℕ) (text : List ℕ) (ts : List Lexeme) (end : Option TokenFault) (f g : GraphFault) → EndsFor a o text ts end f
+    → EndsFor a o text ts end g → f ≡ g
 one_end a o text ts (Some e) (faults.Token p) (faults.Token q) x y = ap faults.Token (x ∙ sym y)
 one_end a o text ts None (faults.Truncated p) (faults.Truncated q) x y = ap faults.Truncated (x.0 ∙ sym y.0)
 one_end a o text ts None (faults.NoNodes p) (faults.NoNodes q) x y = ap faults.NoNodes (x.0 ∙ sym y.0)
@@ -62,18 +68,22 @@ one_end a o text ts _ _ _ x y = absurd (search (part_or_whole, none_or_some, who
 
 module _ (a o : ℕ) (text : List ℕ) where
   abbrev HasReason : GraphFault → Type 0
-  HasReason f = stops.HasReason (λ ts. IsPossible a o ts) (possible_before a o) (λ ts t. IsWrong (joined_minus ts t) a o ts t) (EndsFor a o text) (text_rest text text_limit) f
+  HasReason f = stops.HasReason (λ ts. IsPossible a o ts) (possible_before a o) (λ ts t. IsWrong (joined_minus ts t) a o ts t)
+      (EndsFor a o text) (text_rest text text_limit) f
 
   reason : (f : GraphFault) → (f ≡ faults.Memory → ⊥) → IsGraphRefusal a o text f → HasReason f
   reason (faults.Token x) no_memory h = inr (h.0, (Some x, h.1, h.2, refl))
-  reason (faults.Truncated p) no_memory h = let e = h.1.1 in inr (e.tokens, (None, e.cut, e.possible, (e.place_is, (h.0, (h.1.0, e.column_is, h.1.2)))))
+  reason (faults.Truncated p) no_memory h = let e = h.1.1 in
+      inr (e.tokens, (None, e.cut, e.possible, (e.place_is, (h.0, (h.1.0, e.column_is, h.1.2)))))
   reason (faults.NoNodes p) no_memory h = inr (h.tokens, (None, h.cut, h.possible, (h.place_is, h.column_is)))
   reason (faults.SuccessorOutOfRange n z) no_memory h = inr (h.0, (None, h.1.1, possible_loose a o h.0 h.1.0 h.1.2, (h.1.0, h.1.2, h.1.3)))
   reason faults.Memory no_memory h = absurd (no_memory refl)
   reason f no_memory h = inl h
 
   -- a refused text has one refusal
-  pub one_refusal : (f g : GraphFault) → (f ≡ faults.Memory → ⊥) → (g ≡ faults.Memory → ⊥) → IsGraphRefusal a o text f → IsGraphRefusal a o text g → f ≡ g
+  pub one_refusal : (f g : GraphFault) → (f ≡ faults.Memory → ⊥) → (g ≡ faults.Memory → ⊥) → IsGraphRefusal a o text f
+      → IsGraphRefusal a o text g → f ≡ g
   one_refusal f g f_says g_says x y =
-      stops.one_reason (λ ts. IsPossible a o ts) (possible_before a o) (λ ts t. IsWrong (joined_minus ts t) a o ts t) (EndsFor a o text) (text_rest text text_limit)
+      stops.one_reason (λ ts. IsPossible a o ts) (possible_before a o) (λ ts t. IsWrong (joined_minus ts t) a o ts t) (EndsFor a o text)
+      (text_rest text text_limit)
       (λ ts t. one_wrong (joined_minus ts t) a o ts t) (one_end a o text) f g (reason f f_says x) (reason g g_says y)

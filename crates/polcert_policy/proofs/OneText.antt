@@ -10,7 +10,14 @@ use Rattle.polcert_policy.proofs.VectorLaws as vectors
 pub one_graph : (actions observations : ℕ) (text : List ℕ) (g h : PolicyGraph)
     → IsGraphText actions observations text g → IsGraphText actions observations text h → g ≡ h
 one_graph actions observations text g h a b =
-    grind (arith, cuts.one_cut, graphs.one_loose, flat_graphs.indexed actions observations text h b, flat_graphs.indexed actions observations text g a)
+    grind (
+      arith,
+      cuts.one_cut,
+      graphs.one_loose,
+      flat_graphs.indexed actions observations text h b,
+      flat_graphs.indexed actions
+          observations text g a,
+    )
 
 module _ {way : Rounding} where
   pub one_vectors : (graph : PolicyGraph) (states : ℕ) (text : List ℕ) (v w : PolicyVectors)
@@ -18,4 +25,5 @@ module _ {way : Rounding} where
   one_vectors graph states text v w a b =
       let x = flat_vectors.indexed way graph states text v a in
       let y = flat_vectors.indexed way graph states text w b in
-      vectors.one_list graph states y.0 v w (subst (λ ts. IsRoundedVectors way graph states ts v) ((cuts.one_cut _ x.0 y.0 _ _ x.1 y.1).0) x.2) y.2
+      vectors.one_list graph states y.0 v w (subst (λ ts. IsRoundedVectors way graph states ts v) ((cuts.one_cut _ x.0 y.0 _ _ x.1 y.1).0)
+      x.2) y.2

@@ -1,6 +1,9 @@
 -- A text is refused as vectors for one reason.
-use Rattle.std.proofs.Common.{◌≡◌, ◌∙◌, ℕ, suc, ◌+◌, ◌*◌, ◌<◌, inl, inr, true, false, Option, Some, None, List, ◌++◌, length, refl, sym, ap, subst, arith, append_assoc}
-use Rattle.polcert_policy.proofs.Common.{Lexeme, text_rest, text_limit, TokenFault, numeral_kind, PolicyGraph, nodes, ArePossible, IsPartColumn, last_sign, is_part_shaped, IsPartMisfit, IsRoundedVectorsRefusal, VectorFault, Rounding}
+use Rattle.std.proofs.Common.{◌≡◌, ◌∙◌, ℕ, suc, ◌+◌, ◌*◌, ◌<◌, inl, inr, true, false, Option, Some, None, List, ◌++◌, length, refl, sym, ap}
+use Rattle.std.proofs.Common.{subst, arith, append_assoc}
+use Rattle.polcert_policy.proofs.Common.{Lexeme, text_rest, text_limit, TokenFault, numeral_kind, PolicyGraph, nodes, ArePossible}
+use Rattle.polcert_policy.proofs.Common.{IsPartColumn, last_sign, is_part_shaped, IsPartMisfit, IsRoundedVectorsRefusal, VectorFault}
+use Rattle.polcert_policy.proofs.Common.{Rounding}
 use Rattle.polcert_policy.specs.declared.fault.VectorFault.TheVariants as faults
 use Rattle.polcert_policy.proofs.Places.{true_false, same_row, same_column}
 use Rattle.polcert_policy.proofs.OneStop as stops
@@ -10,7 +13,8 @@ columns o ts n c m d x y =
     let e : n * (1 + o) + c ≡ m * (1 + o) + d = omega (arith, x.count, y.count) in
     (same_row (1 + o) n m c d x.within y.within e, same_column (1 + o) n m c d x.within y.within e)
 
-wrong_shape : (o : ℕ) (ts : List Lexeme) (s : Option Lexeme) (t : Lexeme) (n c m d : ℕ) → IsPartColumn o ts n c → is_part_shaped c s t ≡ false → IsPartColumn o ts m d → is_part_shaped d s t ≡ true → ⊥
+wrong_shape : (o : ℕ) (ts : List Lexeme) (s : Option Lexeme) (t : Lexeme) (n c m d : ℕ) → IsPartColumn o ts n c
+    → is_part_shaped c s t ≡ false → IsPartColumn o ts m d → is_part_shaped d s t ≡ true → ⊥
 wrong_shape o ts s t n c m d x wrong y right =
     true_false right (subst (λ e. is_part_shaped e s t ≡ false) (columns o ts n c m d x y).1 wrong)
 
@@ -19,8 +23,10 @@ value_shape : (s : Option Lexeme) (t : Lexeme) (c : ℕ) → numeral_kind t.kind
 value_shape s t c h1 = grind arith
 
 -- a numeral hasn't the wrong shape in a value's column
-wrong_value : (o : ℕ) (ts : List Lexeme) (t : Lexeme) (n c m d : ℕ) → IsPartColumn o ts n (suc c) → numeral_kind t.kind ≡ true → IsPartColumn o ts m d → is_part_shaped d (last_sign ts) t ≡ false → ⊥
-wrong_value o ts t n c m d x numeral y wrong = wrong_shape o ts (last_sign ts) t m d n (suc c) y wrong x (value_shape (last_sign ts) t c numeral)
+wrong_value : (o : ℕ) (ts : List Lexeme) (t : Lexeme) (n c m d : ℕ) → IsPartColumn o ts n (suc c) → numeral_kind t.kind ≡ true
+    → IsPartColumn o ts m d → is_part_shaped d (last_sign ts) t ≡ false → ⊥
+wrong_value o ts t n c m d x numeral y wrong = wrong_shape o ts (last_sign ts) t m d n (suc c) y wrong x
+    (value_shape (last_sign ts) t c numeral)
 
 not_after : (g : PolicyGraph) (o : ℕ) (ts : List Lexeme) (n c : ℕ) → IsPartColumn o ts n c → n < nodes g → IsPartColumn o ts (nodes g) 0 → ⊥
 not_after g o ts n c x few y = let e = (columns o ts n c (nodes g) 0 x y).0 in omega (arith, e, few)
@@ -31,7 +37,8 @@ other_column o ts n c m x begun y = let e = (columns o ts n c m 0 x y).1 in omeg
 value_or_action : (o : ℕ) (ts : List Lexeme) (n c m : ℕ) → IsPartColumn o ts n (suc c) → IsPartColumn o ts m 0 → ⊥
 value_or_action o ts n c m x y = other_column o ts n (suc c) m x (omega arith) y
 
-one_misfit : (g : PolicyGraph) (o : ℕ) (ts : List Lexeme) (t : Lexeme) (f h : VectorFault) → IsPartMisfit g o ts t f → IsPartMisfit g o ts t h → f ≡ h
+one_misfit : (g : PolicyGraph) (o : ℕ) (ts : List Lexeme) (t : Lexeme) (f h : VectorFault) → IsPartMisfit g o ts t f
+    → IsPartMisfit g o ts t h → f ≡ h
 one_misfit g o ts t (faults.Number a p) (faults.Number b q) x y = grind arith
 one_misfit g o ts t (faults.BadShape p) (faults.BadShape q) x y = ap faults.BadShape (x.0 ∙ sym y.0)
 one_misfit g o ts t (faults.ActionMismatch p) (faults.ActionMismatch q) x y = ap faults.ActionMismatch (x.0 ∙ sym y.0)
@@ -46,7 +53,8 @@ EndsFor o text ts None (faults.Truncated p) = (p ≡ length text) × ((n : ℕ) 
 EndsFor o text ts None (faults.WrongVectorCount p) = (p ≡ length text) × ((n : ℕ) × IsPartColumn o ts n 0)
 EndsFor o text ts None _ = ⊥
 
-one_end : (o : ℕ) (text : List ℕ) (ts : List Lexeme) (end : Option TokenFault) (f h : VectorFault) → EndsFor o text ts end f → EndsFor o text ts end h → f ≡ h
+one_end : (o : ℕ) (text : List ℕ) (ts : List Lexeme) (end : Option TokenFault) (f h : VectorFault) → EndsFor o text ts end f
+    → EndsFor o text ts end h → f ≡ h
 one_end o text ts (Some e) (faults.Token p) (faults.Token q) x y = ap faults.Token (x ∙ sym y)
 one_end o text ts None (faults.Truncated p) (faults.Truncated q) x y = ap faults.Truncated (x.0 ∙ sym y.0)
 one_end o text ts None (faults.WrongVectorCount p) (faults.WrongVectorCount q) x y = ap faults.WrongVectorCount (x.0 ∙ sym y.0)
@@ -57,11 +65,13 @@ module _ (way : Rounding) (g : PolicyGraph) (o : ℕ) (text : List ℕ) where
   possible_before ts us h = grind (arith, append_assoc)
 
   abbrev HasReason : VectorFault → Type 0
-  HasReason f = stops.HasReason (λ ts. ArePossible way g o ts) possible_before (λ ts t. IsPartMisfit g o ts t) (EndsFor o text) (text_rest text text_limit) f
+  HasReason f = stops.HasReason (λ ts. ArePossible way g o ts) possible_before (λ ts t. IsPartMisfit g o ts t) (EndsFor o text)
+      (text_rest text text_limit) f
 
   reason : (f : VectorFault) → (f ≡ faults.Memory → ⊥) → IsRoundedVectorsRefusal way g o text f → HasReason f
   reason (faults.Token x) no_memory h = inr (h.0, (Some x, h.1, h.2, refl))
-  reason (faults.Truncated p) no_memory h = let e = h.1.1 in inr (e.tokens, (None, e.cut, e.possible, (e.place_is, (h.0, (h.1.0, e.column_is, h.1.2)))))
+  reason (faults.Truncated p) no_memory h = let e = h.1.1 in
+      inr (e.tokens, (None, e.cut, e.possible, (e.place_is, (h.0, (h.1.0, e.column_is, h.1.2)))))
   reason (faults.WrongVectorCount p) no_memory h = grind arith
   reason faults.Memory no_memory h = absurd (no_memory refl)
   reason f no_memory h = inl h
@@ -70,5 +80,6 @@ module _ (way : Rounding) (g : PolicyGraph) (o : ℕ) (text : List ℕ) where
   pub one_refusal : (f h : VectorFault) → (f ≡ faults.Memory → ⊥) → (h ≡ faults.Memory → ⊥)
       → IsRoundedVectorsRefusal way g o text f → IsRoundedVectorsRefusal way g o text h → f ≡ h
   one_refusal f h f_says h_says x y =
-      stops.one_reason (λ ts. ArePossible way g o ts) possible_before (λ ts t. IsPartMisfit g o ts t) (EndsFor o text) (text_rest text text_limit)
+      stops.one_reason (λ ts. ArePossible way g o ts) possible_before (λ ts t. IsPartMisfit g o ts t) (EndsFor o text)
+      (text_rest text text_limit)
       (one_misfit g o) (one_end o text) f h (reason f f_says x) (reason h h_says y)

@@ -1,5 +1,6 @@
 -- What is said of points where their tokens end.
-use Rattle.std.proofs.Common.{◌≡◌, ◌∙◌, ℕ, ◌+◌, ◌*◌, ◌/◌, ◌%◌, ◌<◌, ◌≤◌, inl, ◌⊎◌, Some, Result, Ok, Err, List, [], length, slice_get, refl, sym, ap, subst, arith, MatchResult}
+use Rattle.std.proofs.Common.{◌≡◌, ◌∙◌, ℕ, ◌+◌, ◌*◌, ◌/◌, ◌%◌, ◌<◌, ◌≤◌, inl, ◌⊎◌, Some, Result, Ok, Err, List, [], length, slice_get, refl}
+use Rattle.std.proofs.Common.{sym, ap, subst, arith, MatchResult}
 use Rattle.std.proofs.lemmas.Nat.{div-add-mod', mod_below}
 use Rattle.polcert_policy.proofs.Common.{Lexeme, Minus, is_joined, AllBelow}
 use Rattle.polcert_policy.specs.Steps.GraphRead.{IsFirstBeyondAt}
@@ -23,34 +24,41 @@ pub memory_or : (IsWrong : PointFault → Type 0) (fault : PointFault) → IsWro
 memory_or IsWrong faults.Memory h = tt
 memory_or IsWrong fault h = h
 
-pub sign_taken : (a : ℕ) (old new : PointsSoFar) (t : Lexeme) (r : Result (Unit {0}) PointFault) → MatchResult r (λ _. TakesSign old t new) (IsWrongValue old t)
+pub sign_taken : (a : ℕ) (old new : PointsSoFar) (t : Lexeme) (r : Result (Unit {0}) PointFault)
+    → MatchResult r (λ _. TakesSign old t new) (IsWrongValue old t)
     → MatchResult r (λ _. TakesSign old t new ⊎ TakesValue a old t new) (IsMemoryOr (IsWrongValue old t))
 sign_taken a old new t (Ok u) h = inl h
 sign_taken a old new t (Err fault) h = memory_or (IsWrongValue old t) fault h
 
-module _ (S A Z : ℕ) (ts : List Lexeme) (st : PointsSoFar) (read : TakesAll S A Z nothing_read ts st) (whole : st.field ≡ fields.Number) where
-  abbrev read_points : PointValues
-  read_points = record { states = S; actions = A; observations = Z; rows = st.rows; values = st.values; names = st.names }
+module _ (S A Z : ℕ) (ts : List Lexeme) (st : PointsSoFar) (read : TakesAll S A Z nothing_read ts st) (whole : st.field ≡ fields.Number)
+  where
+    abbrev read_points : PointValues
+    read_points = record { states = S; actions = A; observations = Z; rows = st.rows; values = st.values; names = st.names }
 
-  pub loose_read : (p : PointValues) → p ≡ read_points → AreLoosePoints S A Z ts p
-  loose_read p e = record { last = st; read = read; whole = whole; points_are = e }
+    pub loose_read : (p : PointValues) → p ≡ read_points → AreLoosePoints S A Z ts p
+    loose_read p e = record { last = st; read = read; whole = whole; points_are = e }
 
-  pub points_read : (p : PointValues) → p ≡ read_points → AllBelow (length st.rows) st.names → ArePointTokens S A Z ts p
-  points_read p e below = record { loose = loose_read p e; bound = λ k m named. subst (λ q. m < length q.rows) (sym e) (below k m (subst (λ q. slice_get q.names k ≡ Some (Some m)) e named)) }
+    pub points_read : (p : PointValues) → p ≡ read_points → AllBelow (length st.rows) st.names → ArePointTokens S A Z ts p
+    points_read p e below = record {
+      loose = loose_read p e;
+      bound =
+          λ k m named. subst (λ q. m < length q.rows) (sym e) (below k m (subst (λ q. slice_get q.names k ≡ Some (Some m)) e named));
+    }
 
-  pub unknown_read : (place : ℕ) → 1 ≤ A → 1 ≤ Z → IsFirstBeyondAt (length st.rows) st.names place
-      → (p : PointValues) × AreLoosePoints S A Z ts p × IsFirstUnknown p (place / Z / A) (place / Z % A) (place % Z)
-  unknown_read place some_a some_z first =
-      let of_action : place / Z / A * A + place / Z % A ≡ place / Z = div-add-mod' (place / Z) A in
-      let at : (place / Z / A * A + place / Z % A) * Z + place % Z ≡ place = ap (λ n. n * Z + place % Z) of_action ∙ div-add-mod' place Z in (
-        read_points,
-        loose_read read_points refl,
-        record {
-          number = first.node;
-          action_is = mod_below (place / Z) A some_a;
-          observation_is = mod_below place Z some_z;
-          named = ap (slice_get st.names) at ∙ first.beyond;
-          unknown = first.above;
-          first = λ k m before named. first.first k m (subst (λ n. k < n) at before) named;
-        },
-      )
+    pub unknown_read : (place : ℕ) → 1 ≤ A → 1 ≤ Z → IsFirstBeyondAt (length st.rows) st.names place
+        → (p : PointValues) × AreLoosePoints S A Z ts p × IsFirstUnknown p (place / Z / A) (place / Z % A) (place % Z)
+    unknown_read place some_a some_z first =
+        let of_action : place / Z / A * A + place / Z % A ≡ place / Z = div-add-mod' (place / Z) A in
+        let at : (place / Z / A * A + place / Z % A) * Z + place % Z ≡ place = ap (λ n. n * Z + place % Z) of_action
+        ∙ div-add-mod' place Z in (
+          read_points,
+          loose_read read_points refl,
+          record {
+            number = first.node;
+            action_is = mod_below (place / Z) A some_a;
+            observation_is = mod_below place Z some_z;
+            named = ap (slice_get st.names) at ∙ first.beyond;
+            unknown = first.above;
+            first = λ k m before named. first.first k m (subst (λ n. k < n) at before) named;
+          },
+        )

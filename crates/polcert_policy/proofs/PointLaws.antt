@@ -4,7 +4,9 @@ use Rattle.polcert_policy.proofs.Common.{Lexeme}
 use Rattle.polcert_text.proofs.TextLaws.{readable_not_refused, one_floor, one_ceil}
 use Rattle.polcert_text.specs.declared.number.NumberFault.{NumberFault}
 use Rattle.polcert_policy.specs.Points.{IsMass}
-use Rattle.polcert_policy.specs.PointTokens.{PointsSoFar, IsWeight, IsRefusedWeight, TakesNumber, TakesWeight, TakesSign, TakesValue, TakesField, Takes, TakesAll, IsWrongNumber, IsWrongWeight, IsWrongValue, IsWrongField, IsWrongPoint, after_weight, is_value_shaped}
+use Rattle.polcert_policy.specs.PointTokens.{PointsSoFar, IsWeight, IsRefusedWeight, TakesNumber, TakesWeight, TakesSign, TakesValue}
+use Rattle.polcert_policy.specs.PointTokens.{TakesField, Takes, TakesAll, IsWrongNumber, IsWrongWeight, IsWrongValue, IsWrongField}
+use Rattle.polcert_policy.specs.PointTokens.{IsWrongPoint, after_weight, is_value_shaped}
 use Rattle.polcert_policy.specs.declared.points_reading.PointField.{PointField}
 use Rattle.polcert_policy.specs.declared.points_reading.PointField.TheVariants as fields
 use Rattle.polcert_policy.specs.declared.fault.PointFault.{PointFault}
@@ -24,14 +26,17 @@ weight_not_refused bs w fault a b = grind (arith, readable_not_refused)
 
 module _ (S A Z : ℕ) where
   same_weight : (s : ℕ) (old a b : PointsSoFar) (t : Lexeme) → TakesWeight S s old t a → TakesWeight S s old t b → a ≡ b
-  same_weight s old a b t x y = x.new_is ∙ ap (λ w. after_weight S s w old) (one_weight t.bytes x.weight y.weight x.is_weight y.is_weight) ∙ sym y.new_is
+  same_weight s old a b t x y = x.new_is ∙ ap (λ w. after_weight S s w old) (one_weight t.bytes x.weight y.weight x.is_weight y.is_weight)
+      ∙ sym y.new_is
 
-  same_value : (a : ℕ) (old x y : PointsSoFar) (t : Lexeme) → TakesSign old t x ⊎ TakesValue a old t x → TakesSign old t y ⊎ TakesValue a old t y → x ≡ y
+  same_value : (a : ℕ) (old x y : PointsSoFar) (t : Lexeme) → TakesSign old t x ⊎ TakesValue a old t x → TakesSign old t y
+      ⊎ TakesValue a old t y → x ≡ y
   same_value a old x y t (inl p) (inl q) = p.new_is ∙ sym q.new_is
   same_value a old x y t (inl p) (inr q) = absurd (no_sign_numeral t.kind q.numeral p.sign)
   same_value a old x y t (inr p) (inl q) = absurd (no_sign_numeral t.kind p.numeral q.sign)
   same_value a old x y t (inr p) (inr q) =
-      p.new_is ∙ ap (λ v. record old { field = fields.Name a 0; sign = None; values = old.values ++ v ∷ [] }) (one_ceil _ t.bytes p.value q.value p.rounded q.rounded) ∙ sym q.new_is
+      p.new_is ∙ ap (λ v. record old { field = fields.Name a 0; sign = None; values = old.values ++ v ∷ [] })
+      (one_ceil _ t.bytes p.value q.value p.rounded q.rounded) ∙ sym q.new_is
 
   same_field : (f : PointField) (old a b : PointsSoFar) (t : Lexeme) → TakesField S A Z f old t a → TakesField S A Z f old t b → a ≡ b
   same_field fields.Number old a b t x y = x.new_is ∙ sym y.new_is
@@ -47,12 +52,14 @@ module _ (S A Z : ℕ) where
   all_taken old a b [] x y = sym x ∙ y
   all_taken old a b (t ∷ ts) x y = all_taken x.0 a b ts x.2 (subst (λ m. TakesAll S A Z m ts b) (one_taken old y.0 x.0 t y.1 x.1) y.2)
 
-  pub one_more : (old mid new : PointsSoFar) (ts : List Lexeme) (t : Lexeme) → TakesAll S A Z old ts mid → Takes S A Z mid t new → TakesAll S A Z old (ts ++ t ∷ []) new
+  pub one_more : (old mid new : PointsSoFar) (ts : List Lexeme) (t : Lexeme) → TakesAll S A Z old ts mid → Takes S A Z mid t new
+      → TakesAll S A Z old (ts ++ t ∷ []) new
   one_more old mid new [] t x y = (new, subst (λ m. Takes S A Z m t new) (sym x) y, refl)
   one_more old mid new (u ∷ us) t x y = (x.0, x.1, one_more x.0 mid new us t x.2 y)
 
   -- what begins the tokens is taken, and then the rest
-  pub front_taken : (old new : PointsSoFar) (ts us : List Lexeme) → TakesAll S A Z old (ts ++ us) new → (mid : PointsSoFar) × TakesAll S A Z old ts mid × TakesAll S A Z mid us new
+  pub front_taken : (old new : PointsSoFar) (ts us : List Lexeme) → TakesAll S A Z old (ts ++ us) new → (mid : PointsSoFar)
+      × TakesAll S A Z old ts mid × TakesAll S A Z mid us new
   front_taken old new [] us h = (old, refl, h)
   front_taken old new (t ∷ ts) us h = let rest = front_taken h.0 new ts us h.2 in (rest.0, (h.0, h.1, rest.1), rest.2)
 
@@ -61,7 +68,8 @@ module _ (S A Z : ℕ) where
   number_right : (old new : PointsSoFar) (t : Lexeme) (fault : PointFault) → TakesNumber old t new → IsWrongNumber old t fault → ⊥
   number_right old new t fault x y = grind arith
 
-  weight_right : (s : ℕ) (old new : PointsSoFar) (t : Lexeme) (fault : PointFault) → TakesWeight S s old t new → IsWrongWeight S s old t fault → ⊥
+  weight_right : (s : ℕ) (old new : PointsSoFar) (t : Lexeme) (fault : PointFault) → TakesWeight S s old t new
+      → IsWrongWeight S s old t fault → ⊥
   weight_right s old new t (faults.BadShape place) x y = true_false x.numeral y.1
   weight_right s old new t (faults.Number fault place) x y = weight_not_refused t.bytes x.weight fault x.is_weight y.2
   weight_right s old new t (faults.WrongMass place) x y =
@@ -79,7 +87,8 @@ module _ (S A Z : ℕ) where
   value_right a old new t (faults.Number fault place) x y = readable_not_refused t.bytes fault x.readable y.2
   value_right a old new t _ x y = absurd y
 
-  field_right : (f : PointField) (old new : PointsSoFar) (t : Lexeme) (fault : PointFault) → TakesField S A Z f old t new → IsWrongField S f old t fault → ⊥
+  field_right : (f : PointField) (old new : PointsSoFar) (t : Lexeme) (fault : PointFault) → TakesField S A Z f old t new
+      → IsWrongField S f old t fault → ⊥
   field_right fields.Number old new t fault x y = number_right old new t fault x y
   field_right (fields.Weight s) old new t fault x y = weight_right s old new t fault x y
   field_right (fields.Value a) old new t fault (inl x) y = sign_right old new t fault x y

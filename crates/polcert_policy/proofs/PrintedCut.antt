@@ -1,10 +1,12 @@
 -- The tokens of numbers that are written one after another, with blanks or line ends after each.
-use Rattle.std.proofs.Common.{◌≡◌, ◌∙◌, ℕ, ◌+◌, ◌≤◌, Bool, true, false, Some, None, List, [], ◌∷◌, ◌++◌, length, refl, ap, subst, arith, length-append}
+use Rattle.std.proofs.Common.{◌≡◌, ◌∙◌, ℕ, ◌+◌, ◌≤◌, Bool, true, false, Some, None, List, [], ◌∷◌, ◌++◌, length, refl, ap, subst, arith}
+use Rattle.std.proofs.Common.{length-append}
 use Rattle.polcert_policy.proofs.Common.{list_all, is_blank, Lexeme, IsCut, Numeral, Minus, Part, tokens_of}
 use Rattle.polcert_text.proofs.Printing.Numerals.{IsPlain}
 use Rattle.polcert_text.proofs.Printing.PrintedCut as cuts
 use Rattle.polcert_text.proofs.Printing.PrintedCut.{rest_at}
-use Rattle.polcert_text.proofs.Printing.PrintedWords.{Word, plain, minus, word_text, spelled, IsSpelling, text_word, word_printed, numeral_piece}
+use Rattle.polcert_text.proofs.Printing.PrintedWords.{Word, plain, minus, word_text, spelled, IsSpelling, text_word, word_printed}
+use Rattle.polcert_text.proofs.Printing.PrintedWords.{numeral_piece}
 
 -- a number as it is written, and what stands after it
 pub record Printed : Type 0 where
@@ -37,7 +39,8 @@ AllPrinted (u ∷ us) = IsPrinted u × AllPrinted us
 
 -- the part that a number's text is
 abbrev pub part_with : ℕ → Bool → List ℕ → Part
-part_with place true w = let s : Lexeme = record { kind = Minus; place = place; bytes = 45 ∷ [] } in let t : Lexeme = record { kind = Numeral; place = place + 1; bytes = w } in record { sign = Some s; token = t }
+part_with place true w = let s : Lexeme = record { kind = Minus; place = place; bytes = 45 ∷ [] } in let t : Lexeme =
+    record { kind = Numeral; place = place + 1; bytes = w } in record { sign = Some s; token = t }
 part_with place false w = let t : Lexeme = record { kind = Numeral; place = place; bytes = w } in record { sign = None; token = t }
 
 abbrev pub parts_from : ℕ → List Printed → List Part
@@ -66,7 +69,8 @@ pieces_printed : (us : List Printed) → AllPrinted us → cuts.ArePrinted (piec
 pieces_printed [] a = tt
 pieces_printed (u ∷ us) a =
     cuts.printed-append (spelled (word_of u.negative u.numeral) u.following) (pieces us)
-    (word_printed (word_of u.negative u.numeral) u.following (spelling u.negative) (record { all = a.0.blank; first = a.0.first; more = a.0.more; is = a.0.after_is }))
+    (word_printed (word_of u.negative u.numeral) u.following (spelling u.negative)
+    (record { all = a.0.blank; first = a.0.first; more = a.0.more; is = a.0.after_is }))
     (pieces_printed us a.1)
   where
     spelling : (b : Bool) → IsSpelling (word_of b u.numeral)
@@ -78,11 +82,13 @@ lexemes_are [] place = refl
 lexemes_are (u ∷ us) place = at u.negative (λ n. lexemes_are us n)
   where
     at : (b : Bool) → ((n : ℕ) → cuts.lexemes_at n (pieces us) ≡ tokens_of (parts_from n us))
-        → cuts.lexemes_at place (spelled (word_of b u.numeral) u.following ++ pieces us) ≡ tokens_of (part_with place b u.numeral ∷ parts_from (place + length (signed_text b u.numeral ++ u.following)) us)
+        → cuts.lexemes_at place (spelled (word_of b u.numeral) u.following ++ pieces us)
+        ≡ tokens_of (part_with place b u.numeral ∷ parts_from (place + length (signed_text b u.numeral ++ u.following)) us)
     at b h1 = grind (arith, length-append, cuts.lexemes_at)
 
 -- the text of the numbers is cut into their tokens
-pub cut_printed : (us : List Printed) (place : ℕ) (gap : List ℕ) → AllPrinted us → list_all is_blank gap ≡ true → IsCut (rest_at place (gap ++ texts_of us)) (tokens_of (parts_from (place + length gap) us)) None
+pub cut_printed : (us : List Printed) (place : ℕ) (gap : List ℕ) → AllPrinted us → list_all is_blank gap ≡ true
+    → IsCut (rest_at place (gap ++ texts_of us)) (tokens_of (parts_from (place + length gap) us)) None
 cut_printed us place gap all h =
     subst (λ ls. IsCut (rest_at place (gap ++ texts_of us)) ls None) (lexemes_are us (place + length gap))
     (subst (λ bs. IsCut (rest_at place (gap ++ bs)) (cuts.lexemes_at (place + length gap) (pieces us)) None) (text_pieces us)

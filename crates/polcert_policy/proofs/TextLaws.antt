@@ -1,7 +1,8 @@
 -- What a refused or accepted list of tokens says of the whole text.
 use Rattle.std.proofs.Common.{◌≡◌, ℕ, None, List, length, ◌<◌, ◌+◌, ◌*◌, ◌⊎◌, inl, inr, subst, arith}
 use Rattle.std.proofs.Math.Path.{subst₂}
-use Rattle.polcert_policy.proofs.Common.{Lexeme, Rest, IsCut, text_rest, text_limit, Taken, PolicyGraph, IsLooseGraph, IsFirstBeyond, HasNodesOnly, IsPossible, IsGraphRefusal, IsTokenRefusal, IsUnfinished, GraphFault}
+use Rattle.polcert_policy.proofs.Common.{Lexeme, Rest, IsCut, text_rest, text_limit, Taken, PolicyGraph, IsLooseGraph, IsFirstBeyond}
+use Rattle.polcert_policy.proofs.Common.{HasNodesOnly, IsPossible, IsGraphRefusal, IsTokenRefusal, IsUnfinished, GraphFault}
 use Rattle.polcert_policy.specs.GraphText.{EndsEarly, HasWrongToken, HasFirstBeyond, IsNoGraphText, NamesSuccessor, IsRefusedGraphText}
 use Rattle.polcert_policy.specs.Steps.GraphRead.{IsEndRefusal}
 use Rattle.polcert_policy.specs.declared.fault.GraphFault.TheVariants as faults
@@ -14,8 +15,17 @@ pub token_refusal : (a o b p : ℕ) (text : List ℕ) (ts : List Lexeme) (rest :
     → a ≡ b → o ≡ p → Taken (text_rest text text_limit) ts rest → IsTokenRefusal a o ts fault → IsGraphRefusal b p text fault
 token_refusal a o b p text ts rest fault ea eo taken h = grind arith
 
-early : (a o : ℕ) (text : List ℕ) (ts : List Lexeme) (place n column : ℕ) → IsCut (text_rest text text_limit) ts None → place ≡ length text → IsUnfinished a o ts n column → EndsEarly a o text place n column
-early a o text ts place n column cut e h = record { tokens = ts; cut = cut; place_is = e; possible = h.possible; unfinished = h.unfinished; column_is = h.column_is }
+early : (a o : ℕ) (text : List ℕ) (ts : List Lexeme) (place n column : ℕ) → IsCut (text_rest text text_limit) ts None → place ≡ length text
+    → IsUnfinished a o ts n column → EndsEarly a o text place n column
+early a o text ts place n column cut e h = record {
+  tokens = ts;
+  cut = cut;
+  place_is = e;
+  possible = h.possible;
+  unfinished =
+      h.unfinished;
+  column_is = h.column_is;
+}
 
 end_refusal : (a o : ℕ) (text : List ℕ) (ts : List Lexeme) (fault : GraphFault)
     → IsCut (text_rest text text_limit) ts None → IsEndRefusal a o ts (length text) fault → IsGraphRefusal a o text fault
@@ -33,7 +43,8 @@ NamesBeyond g (faults.SuccessorOutOfRange n z) = IsFirstBeyond g n z
 NamesBeyond g faults.Memory = Unit {0}
 NamesBeyond g _ = ⊥
 
-module _ (a o : ℕ) (text : List ℕ) (ts : List Lexeme) (g : PolicyGraph) (cut : IsCut (text_rest text text_limit) ts None) (loose : IsLooseGraph a o ts g) where
+module _ (a o : ℕ) (text : List ℕ) (ts : List Lexeme) (g : PolicyGraph) (cut : IsCut (text_rest text text_limit) ts None)
+    (loose : IsLooseGraph a o ts g) where
   no_wrong : (fault : GraphFault) → HasWrongToken a o text fault → ⊥
   no_wrong fault h = not_stopped (IsLooseGraph a o) text g ts cut loose h.0 h.1.0 h.1.1 h.1.2.impossible
 
@@ -49,7 +60,8 @@ module _ (a o : ℕ) (text : List ℕ) (ts : List Lexeme) (g : PolicyGraph) (cut
   names_beyond (faults.Truncated place) h = not_early place h.0 h.1.0 h.1.1
   names_beyond (faults.NoNodes place) h = not_early place 0 0 h
   names_beyond (faults.SuccessorOutOfRange n z) h =
-      subst (λ x. IsFirstBeyond x n z) (one_loose a o h.0 h.1.0 g h.1.2 (same_tokens (IsLooseGraph a o) text g ts cut loose h.0 h.1.1)) h.1.3
+      subst (λ x. IsFirstBeyond x n z) (one_loose a o h.0 h.1.0 g h.1.2 (same_tokens (IsLooseGraph a o) text g ts cut loose h.0 h.1.1))
+      h.1.3
   names_beyond faults.Memory h = tt
 
 pub no_graph : (a o : ℕ) (text : List ℕ) (fault : GraphFault) → IsGraphRefusal a o text fault → IsNoGraphText a o text fault
@@ -69,9 +81,14 @@ one_first g n z m y a b = at (order (n * g.observations + z) (m * g.observations
     not_before : (n z m y : ℕ) → IsFirstBeyond g n z → IsFirstBeyond g m y → n * g.observations + z < m * g.observations + y → ⊥
     not_before n z m y a b l = let small = b.first n z a.observation l a.beyond.0 a.beyond.1 in omega (arith, small, a.beyond.2)
 
-    at : (n * g.observations + z < m * g.observations + y) ⊎ ((n * g.observations + z ≡ m * g.observations + y) ⊎ (m * g.observations + y < n * g.observations + z)) → (n ≡ m) × (z ≡ y)
+    at : (n * g.observations + z < m * g.observations + y)
+        ⊎ ((n * g.observations + z ≡ m * g.observations + y) ⊎ (m * g.observations + y < n * g.observations + z)) → (n ≡ m) × (z ≡ y)
     at (inl l) = absurd (not_before n z m y a b l)
-    at (inr (inl e)) = (same_row g.observations n m z y a.observation b.observation e, same_column g.observations n m z y a.observation b.observation e)
+    at (inr (inl e)) = (
+      same_row g.observations n m z y a.observation b.observation e,
+      same_column g.observations n m z y a.observation
+          b.observation e,
+    )
     at (inr (inr l)) = absurd (not_before m y n z b a l)
 
 -- where only the bound on successors fails, the answer names the first that breaks it
@@ -87,12 +104,14 @@ beyond_named a o text fault r n z h = at fault (names_beyond a o text h.0 h.1.0 
 -- a graph's successors all name nodes
 pub none_beyond : (a o : ℕ) (text : List ℕ) (g : PolicyGraph) → IsIndexedText a o text g → (n z : ℕ) → HasFirstBeyond a o text n z → ⊥
 none_beyond a o text g is n z h =
-    not_beyond h.1.0 n z h.1.3 (subst HasNodesOnly (one_loose a o h.0 g h.1.0 (same_tokens (IsLooseGraph a o) text g is.0 is.1 is.2.loose h.0 h.1.1) h.1.2) is.2.bound)
+    not_beyond h.1.0 n z h.1.3 (subst HasNodesOnly (one_loose a o h.0 g h.1.0
+    (same_tokens (IsLooseGraph a o) text g is.0 is.1 is.2.loose h.0 h.1.1) h.1.2) is.2.bound)
 
 -- all that is promised of a refusal
 pub refused_text : (a o : ℕ) (text : List ℕ) (fault : GraphFault) → IsGraphRefusal a o text fault → IsRefusedGraphText a o fault text
 refused_text a o text fault r = grind (arith, no_graph, beyond_named)
 
 pub end_refused : (a o b p : ℕ) (text : List ℕ) (ts : List Lexeme) (end : ℕ) (fault : GraphFault)
-    → a ≡ b → o ≡ p → IsCut (text_rest text text_limit) ts None → end ≡ length text → IsEndRefusal a o ts end fault → IsRefusedGraphText b p fault text
+    → a ≡ b → o ≡ p → IsCut (text_rest text text_limit) ts None → end ≡ length text → IsEndRefusal a o ts end fault
+    → IsRefusedGraphText b p fault text
 end_refused a o b p text ts end fault ea eo cut place h = grind (arith, end_refusal, refused_text)

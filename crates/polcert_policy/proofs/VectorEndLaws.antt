@@ -1,6 +1,10 @@
 -- What is read of vectors where the text ends.
-use Rattle.std.proofs.Common.{◌≡◌, ◌∙◌, ℕ, ℤ, ◌+◌, ◌*◌, ◌<◌, ◌≤◌, ◌≤ℤ◌, ◌*ℤ◌, Bool, true, false, pos, neg_ℤ, Option, Some, None, List, [], ◌∷◌, ◌++◌, length, slice_get, get_or, refl, sym, ap, subst, arith, append-nil, length-append}
-use Rattle.polcert_policy.proofs.Common.{ints, slice_get-get_or, Lexeme, size_of, largest, IsReadable, IsRounded, PolicyGraph, nodes, PolicyVectors, Part, sign_kind, with_sign, tokens_of, AreVectors, IsRoundedVectors, IsInRange, AreProper, IsPartColumn, AreVectorsUpTo, open_of, HasVectors, AreUnfinished, VectorsReading, Rounding, Down, Up}
+use Rattle.std.proofs.Common.{◌≡◌, ◌∙◌, ℕ, ℤ, ◌+◌, ◌*◌, ◌<◌, ◌≤◌, ◌≤ℤ◌, ◌*ℤ◌, Bool, true, false, pos, neg_ℤ, Option, Some, None, List, []}
+use Rattle.std.proofs.Common.{◌∷◌, ◌++◌, length, slice_get, get_or, refl, sym, ap, subst, arith, append-nil, length-append}
+use Rattle.polcert_policy.proofs.Common.{ints, slice_get-get_or, Lexeme, size_of, largest, IsReadable, IsRounded, PolicyGraph, nodes}
+use Rattle.polcert_policy.proofs.Common.{PolicyVectors, Part, sign_kind, with_sign, tokens_of, AreVectors, IsRoundedVectors, IsInRange}
+use Rattle.polcert_policy.proofs.Common.{AreProper, IsPartColumn, AreVectorsUpTo, open_of, HasVectors, AreUnfinished, VectorsReading}
+use Rattle.polcert_policy.proofs.Common.{Rounding, Down, Up}
 use Rattle.std.proofs.lemmas.Int.{to_z-of_z, fits_signed_from_abs}
 use Rattle.std.specs.Prelude.{FitsSigned}
 use mir.Syntax.{w64}
@@ -31,14 +35,25 @@ pub rounded_in_range : (rounding : Rounding) (b : Bool) (bs : List ℕ) (h : ℤ
 rounded_in_range rounding b bs h readable rounded = at rounding rounded
   where
     low : (neg_ℤ (pos largest) *ℤ pos millionth) ≤ℤ signed b (size_of bs)
-    low = subst (λ z. z ≤ℤ signed b (size_of bs)) (sym (signed-mul true largest millionth)) (low_end b (size_of bs) (largest * millionth) readable.size)
+    low = subst (λ z. z ≤ℤ signed b (size_of bs)) (sym (signed-mul true largest millionth))
+        (low_end b (size_of bs) (largest * millionth) readable.size)
 
     high : signed b (size_of bs) ≤ℤ (pos largest *ℤ pos millionth)
-    high = subst (λ z. signed b (size_of bs) ≤ℤ z) (sym (signed-mul false largest millionth)) (high_end b (size_of bs) (largest * millionth) readable.size)
+    high = subst (λ z. signed b (size_of bs) ≤ℤ z) (sym (signed-mul false largest millionth))
+        (high_end b (size_of bs) (largest * millionth) readable.size)
 
     at : (r : Rounding) → IsRounded r b bs h → IsInRange h
-    at Down is = (is.greatest (neg_ℤ (pos largest)) low, le_times_back millionth millionth_pos h (pos largest) (le_through (h *ℤ pos millionth) (signed b (size_of bs)) (pos largest *ℤ pos millionth) is.not_above high))
-    at Up is = (le_times_back millionth millionth_pos (neg_ℤ (pos largest)) h (le_through (neg_ℤ (pos largest) *ℤ pos millionth) (signed b (size_of bs)) (h *ℤ pos millionth) low is.not_below), is.least (pos largest) high)
+    at Down is = (
+      is.greatest (neg_ℤ (pos largest)) low,
+      le_times_back millionth millionth_pos h (pos largest)
+          (le_through (h *ℤ pos millionth) (signed b (size_of bs)) (pos largest *ℤ pos millionth) is.not_above high),
+    )
+    at Up is = (
+      le_times_back millionth millionth_pos (neg_ℤ (pos largest)) h
+          (le_through (neg_ℤ (pos largest) *ℤ pos millionth) (signed b (size_of bs)) (h *ℤ pos millionth) low is.not_below),
+      is.least
+          (pos largest) high,
+    )
 
 abbrev pub vectors_of : ℕ → ℕ → List ℤ → PolicyVectors
 vectors_of node o vs = record { nodes = node; states = o; values = vs }
@@ -50,19 +65,23 @@ in_range_fits x h = fits_signed_from_abs w64 x (omega (arith, ints, h.0, h.1))
 pub kept_in_range : (x : ℤ) → IsInRange x → IsInRange (to_z w64 (of_z w64 x))
 kept_in_range x h = subst IsInRange (sym (to_z-of_z w64 x (in_range_fits x h))) h
 
-pub value_in_range : (count o n s : ℕ) (vs : List ℤ) (x d : ℤ) → AreProper count o vs → n < count → s < o → x ≡ get_or vs (n * o + s) d → IsInRange (to_z w64 (of_z w64 x))
+pub value_in_range : (count o n s : ℕ) (vs : List ℤ) (x d : ℤ) → AreProper count o vs → n < count → s < o → x ≡ get_or vs (n * o + s) d
+    → IsInRange (to_z w64 (of_z w64 x))
 value_in_range count o n s vs x d proper l k e =
-    kept_in_range x (proper.in_range (n * o + s) x (slice_get-get_or vs (n * o + s) d (omega (arith, row_above o n count l, k, proper.filled)) ∙ ap Some (sym e)))
+    kept_in_range x (proper.in_range (n * o + s) x (slice_get-get_or vs (n * o + s) d
+    (omega (arith, row_above o n count l, k, proper.filled)) ∙ ap Some (sym e)))
 
 module _ {way : Rounding} where
   -- the parts of whole vectors
-  whole_count : (g : PolicyGraph) (o : ℕ) (ps : List Part) (vs : List ℤ) (v : PolicyVectors) → AreVectors way g o ps vs → IsRoundedVectors way g o (tokens_of ps ++ []) v → length ps ≡ nodes g * (1 + o)
+  whole_count : (g : PolicyGraph) (o : ℕ) (ps : List Part) (vs : List ℤ) (v : PolicyVectors) → AreVectors way g o ps vs
+      → IsRoundedVectors way g o (tokens_of ps ++ []) v → length ps ≡ nodes g * (1 + o)
   whole_count g o ps vs v old all =
       let found = front_parts ps all.parts [] (vector_parts g o ps vs old) (vector_parts g o all.parts v.values all.records) all.spelled in
       grind (arith, length-append, tokens-append, drop_same, no_tokens)
 
   -- no vectors end in a sign
-  open_ended : (g : PolicyGraph) (o : ℕ) (ps : List Part) (node column : ℕ) (vs : List ℤ) (s : Lexeme) (v : PolicyVectors) → sign_kind s.kind ≡ true
+  open_ended : (g : PolicyGraph) (o : ℕ) (ps : List Part) (node column : ℕ) (vs : List ℤ) (s : Lexeme) (v : PolicyVectors)
+      → sign_kind s.kind ≡ true
       → AreVectorsUpTo way g o ps node column vs → IsRoundedVectors way g o (tokens_of ps ++ s ∷ []) v → ⊥
   open_ended g o ps node column vs s v sign old all = at n.part.sign n.tokens
     where
@@ -72,42 +91,52 @@ module _ {way : Rounding} where
       at : (u : Option Lexeme) → s ∷ [] ≡ with_sign u n.part.token ++ tokens_of n.rest → ⊥
       at u h1 = grind (arith, head_of, tail_of, cons_not_nil, not_sign, n)
 
-  pub unfinished_vector : (g : PolicyGraph) (seen : List Lexeme) (r : VectorsReading) → 1 ≤ r.states → 0 < r.column → HasVectors way g seen r → AreUnfinished way g r.states seen r.node r.column
+  pub unfinished_vector : (g : PolicyGraph) (seen : List Lexeme) (r : VectorsReading) → 1 ≤ r.states → 0 < r.column
+      → HasVectors way g seen r → AreUnfinished way g r.states seen r.node r.column
   unfinished_vector g seen r some begun h = record {
     column_is = column_read g seen r h;
     possible = possible_seen g seen r some h;
     unfinished = λ v all. at h.sign h.signed v (subst (λ ts. IsRoundedVectors way g r.states ts v) h.spelled all);
   }
     where
-      at : (sign : Option Lexeme) → ((s : Lexeme) → sign ≡ Some s → (sign_kind s.kind ≡ true) × (0 < r.column)) → (v : PolicyVectors) → IsRoundedVectors way g r.states (tokens_of h.parts ++ open_of sign) v → ⊥
+      at : (sign : Option Lexeme) → ((s : Lexeme) → sign ≡ Some s → (sign_kind s.kind ≡ true) × (0 < r.column)) → (v : PolicyVectors)
+          → IsRoundedVectors way g r.states (tokens_of h.parts ++ open_of sign) v → ⊥
       at None signed v all =
           let count = whole_count g r.states h.parts r.values.items v h.vectors.records all in
-          let zero_is = same_column (1 + r.states) r.node (nodes g) r.column 0 h.vectors.within (omega arith) (omega (arith, count, h.vectors.count)) in
+          let zero_is = same_column (1 + r.states) r.node (nodes g) r.column 0 h.vectors.within (omega arith)
+          (omega (arith, count, h.vectors.count)) in
           omega (arith, zero_is, begun)
       at (Some s) signed v all = open_ended g r.states h.parts r.node r.column r.values.items s v (signed s refl).0 h.vectors all
 
-  pub at_column : (g : PolicyGraph) (seen : List Lexeme) (r : VectorsReading) → r.column ≤ 0 → (h : HasVectors way g seen r) → AreVectorsUpTo way g r.states h.parts r.node 0 r.values.items
+  pub at_column : (g : PolicyGraph) (seen : List Lexeme) (r : VectorsReading) → r.column ≤ 0 → (h : HasVectors way g seen r)
+      → AreVectorsUpTo way g r.states h.parts r.node 0 r.values.items
   at_column g seen r e h = grind arith
 
   -- at a vector's action the tokens are the parts'
-  spelled_whole : (g : PolicyGraph) (seen : List Lexeme) (r : VectorsReading) → r.column ≤ 0 → (h : HasVectors way g seen r) → seen ≡ tokens_of h.parts ++ []
+  spelled_whole : (g : PolicyGraph) (seen : List Lexeme) (r : VectorsReading) → r.column ≤ 0 → (h : HasVectors way g seen r)
+      → seen ≡ tokens_of h.parts ++ []
   spelled_whole g seen r e h = h.spelled ∙ ap (λ s. tokens_of h.parts ++ open_of s) (closed_lexeme g seen r h (omega (arith, e)))
 
-  pub too_few : (g : PolicyGraph) (seen : List Lexeme) (r : VectorsReading) → 1 ≤ r.states → r.column ≤ 0 → r.node < nodes g → HasVectors way g seen r → AreUnfinished way g r.states seen r.node 0
+  pub too_few : (g : PolicyGraph) (seen : List Lexeme) (r : VectorsReading) → 1 ≤ r.states → r.column ≤ 0 → r.node < nodes g
+      → HasVectors way g seen r → AreUnfinished way g r.states seen r.node 0
   too_few g seen r some e fewer h = record {
-    column_is = (let zero_is : r.column ≡ 0 = omega (arith, e) in subst (λ c. IsPartColumn r.states seen r.node c) zero_is (column_read g seen r h));
+    column_is = (let zero_is : r.column ≡ 0 = omega (arith, e) in
+        subst (λ c. IsPartColumn r.states seen r.node c) zero_is (column_read g seen r h));
     possible = possible_seen g seen r some h;
     unfinished = λ v all.
-        let count = whole_count g r.states h.parts r.values.items v h.vectors.records (subst (λ ts. IsRoundedVectors way g r.states ts v) (spelled_whole g seen r e h) all) in
+        let count = whole_count g r.states h.parts r.values.items v h.vectors.records
+        (subst (λ ts. IsRoundedVectors way g r.states ts v) (spelled_whole g seen r e h) all) in
         omega (arith, count, (at_column g seen r e h).count, row_above (1 + r.states) r.node (nodes g) fewer);
   }
 
-  pub values_in_range : (g : PolicyGraph) (o : ℕ) (ps : List Part) (node : ℕ) (vs : List ℤ) → AreVectors way g o ps vs → length ps ≡ node * (1 + o) → length vs ≡ node * o
+  pub values_in_range : (g : PolicyGraph) (o : ℕ) (ps : List Part) (node : ℕ) (vs : List ℤ) → AreVectors way g o ps vs
+      → length ps ≡ node * (1 + o) → length vs ≡ node * o
       → (k : ℕ) (h : ℤ) → slice_get vs k ≡ Some h → IsInRange h
   values_in_range g o ps node vs records count filled k h e = grind (arith, part_of_value, rounded_in_range)
 
   -- whole vectors, one for each node
-  pub vectors_read : (g : PolicyGraph) (seen : List Lexeme) (r : VectorsReading) → r.column ≤ 0 → nodes g ≤ r.node → HasVectors way g seen r → IsRoundedVectors way g r.states seen (vectors_of r.node r.states r.values.items)
+  pub vectors_read : (g : PolicyGraph) (seen : List Lexeme) (r : VectorsReading) → r.column ≤ 0 → nodes g ≤ r.node → HasVectors way g seen r
+      → IsRoundedVectors way g r.states seen (vectors_of r.node r.states r.values.items)
   vectors_read g seen r e enough h =
       let at = at_column g seen r e h in
       let all : r.node ≡ nodes g = omega (arith, enough, at.few) in

@@ -1,5 +1,6 @@
 -- What backs a value in the worst case, from the least means that are found, and the verdicts that follow.
-use Rattle.std.proofs.Common.{◌≡◌, ℕ, ◌+◌, ◌*◌, ◌<◌, ◌≤◌, ◌⊎◌, inl, inr, ⊎_elim, ℤ, pos, ◌-ℤ◌, ◌*ℤ◌, ◌≤ℤ◌, Option, Some, None, refl, sym, ap, subst, ◌∙◌, arith}
+use Rattle.std.proofs.Common.{◌≡◌, ℕ, ◌+◌, ◌*◌, ◌<◌, ◌≤◌, ◌⊎◌, inl, inr, ⊎_elim, ℤ, pos, ◌-ℤ◌, ◌*ℤ◌, ◌≤ℤ◌, Option, Some, None, refl, sym}
+use Rattle.std.proofs.Common.{ap, subst, ◌∙◌, arith}
 use Rattle.std.proofs.lemmas.Bool.{cases_lt}
 use Rattle.polcert_cells.specs.Tables.{IsProper}
 use Rattle.polcert_check.specs.Horizon.{Controller, one}
@@ -31,11 +32,13 @@ high_none by w e = rw e refl
 as_it_is : (x y : ℤ) → y ≡ x → y ≡ x -ℤ pos 0
 as_it_is x y e = omega (arith, linear, e)
 
-module _ (f : ℕ → ℕ) (by scale n : ℕ) (x y : ℕ → ℤ) (row : ℕ → ℕ) (worst : IsWorstRow (λ j. low_of by (f j)) (λ j. high_of by (f j)) scale n x row) (same : (j : ℕ) → j < n → 0 < f j → y j ≡ x j) where
+module _ (f : ℕ → ℕ) (by scale n : ℕ) (x y : ℕ → ℤ) (row : ℕ → ℕ)
+    (worst : IsWorstRow (λ j. low_of by (f j)) (λ j. high_of by (f j)) scale n x row) (same : (j : ℕ) → j < n → 0 < f j → y j ≡ x j) where
   pub worst_for : IsWorstRow (λ j. low_of by (f j)) (λ j. high_of by (f j)) scale n y row
   worst_for =
       lowered_row (λ j. low_of by (f j)) (λ j. high_of by (f j)) scale n x row worst (pos 0) y
-      (λ j l. ⊎_elim (λ (none : f j ≡ 0). inr (high_none by (f j) none)) (λ (some : 0 < f j). inl (as_it_is (x j) (y j) (same j l some))) (none_or_some (f j)))
+      (λ j l. ⊎_elim (λ (none : f j ≡ 0). inr (high_none by (f j) none)) (λ (some : 0 < f j). inl (as_it_is (x j) (y j) (same j l some)))
+      (none_or_some (f j)))
 
   pub mean_for : mean row x n ≡ mean row y n
   mean_for =
@@ -48,23 +51,32 @@ module _ (f : ℕ → ℕ) (by scale n : ℕ) (x y : ℕ → ℤ) (row : ℕ →
 -- the mean of known values
 pub exact_mean : (f : ℕ → ℕ) (by scale n : ℕ) (y : ℕ → ℤ) (value : ℤ) → IsWorstMean (λ j v. v ≡ y j) f by scale n value
     → (row : ℕ → ℕ) × IsWorstRow (λ j. low_of by (f j)) (λ j. high_of by (f j)) scale n y row × (value ≡ mean row y n)
-exact_mean f by scale n y value w =
-    (w.row, worst_for f by scale n w.x y w.row w.worst (λ j l some. sym (w.each j l some)), w.is ∙ mean_for f by scale n w.x y w.row w.worst (λ j l some. sym (w.each j l some)))
+exact_mean f by scale n y value w = (
+  w.row,
+  worst_for f by scale n w.x y w.row w.worst (λ j l some. sym (w.each j l some)),
+  w.is
+      ∙ mean_for f by scale n w.x y w.row w.worst (λ j l some. sym (w.each j l some)),
+)
 
 -- ---- a pair
-module _ (side : Side) (c : Controller) (t_by o_by r_by n s : ℕ) (proper : IsProper c.cells) (al : c.action n < c.cells.actions) (sl : s < c.cells.states) where
+module _ (side : Side) (c : Controller) (t_by o_by r_by n s : ℕ) (proper : IsProper c.cells) (al : c.action n < c.cells.actions)
+    (sl : s < c.cells.states) where
   abbrev pub table : IntervalTable
   table = sided_table side (around c.cells t_by o_by r_by)
 
   abbrev pub EndRow : ℕ → ℤ → Type 0
-  EndRow e v = (row : ℕ → ℕ) × IsWorstRow (λ z. low_of o_by (c.cells.o (c.action n) e z)) (λ z. high_of o_by (c.cells.o (c.action n) e z)) c.cells.o_scale c.cells.observations (step_worth table c n s e) row
+  EndRow e v = (row : ℕ → ℕ) × IsWorstRow (λ z. low_of o_by (c.cells.o (c.action n) e z)) (λ z. high_of o_by (c.cells.o (c.action n) e z))
+      c.cells.o_scale c.cells.observations (step_worth table c n s e) row
       × (0 < c.cells.t (c.action n) s e → v ≡ mean row (step_worth table c n s e) c.cells.observations)
 
   -- a worst row at each end state, also at those that are not reached
-  end_row : (v : ℕ → ℤ) → ((e : ℕ) → e < c.cells.states → 0 < c.cells.t (c.action n) s e → IsEndMean table c n s e (v e)) → (e : ℕ) → e < c.cells.states → EndRow e (v e)
+  end_row : (v : ℕ → ℤ) → ((e : ℕ) → e < c.cells.states → 0 < c.cells.t (c.action n) s e → IsEndMean table c n s e (v e)) → (e : ℕ)
+      → e < c.cells.states → EndRow e (v e)
   end_row v each e el =
       ⊎_elim
-      (λ (none : c.cells.t (c.action n) s e ≡ 0). let (row, worst) = around_row (c.cells.o (c.action n) e) o_by c.cells.o_scale c.cells.observations (step_worth table c n s e) (proper.o_rows (c.action n) e al el) in
+      (λ (none : c.cells.t (c.action n) s e ≡ 0). let (row, worst) =
+      around_row (c.cells.o (c.action n) e) o_by c.cells.o_scale c.cells.observations (step_worth table c n s e)
+      (proper.o_rows (c.action n) e al el) in
       (row, worst, λ some. absurd (omega (arith, none, some))))
       (λ (some : 0 < c.cells.t (c.action n) s e). let (row, worst, is) = each e el some in (row, worst, λ _. is))
       (none_or_some (c.cells.t (c.action n) s e))
@@ -73,14 +85,17 @@ module _ (side : Side) (c : Controller) (t_by o_by r_by n s : ℕ) (proper : IsP
   row_or v rows e (inl el) = (rows e el).0
   row_or v rows e (inr beyond) = λ z. 0
 
-  row_or_is : (v : ℕ → ℤ) (rows : (e : ℕ) → e < c.cells.states → EndRow e (v e)) (e : ℕ) → e < c.cells.states → (k : (e < c.cells.states) ⊎ (c.cells.states ≤ e))
-      → IsWorstRow (λ z. low_of o_by (c.cells.o (c.action n) e z)) (λ z. high_of o_by (c.cells.o (c.action n) e z)) c.cells.o_scale c.cells.observations (step_worth table c n s e) (row_or v rows e k)
+  row_or_is : (v : ℕ → ℤ) (rows : (e : ℕ) → e < c.cells.states → EndRow e (v e)) (e : ℕ) → e < c.cells.states
+      → (k : (e < c.cells.states) ⊎ (c.cells.states ≤ e))
+      → IsWorstRow (λ z. low_of o_by (c.cells.o (c.action n) e z)) (λ z. high_of o_by (c.cells.o (c.action n) e z)) c.cells.o_scale
+      c.cells.observations (step_worth table c n s e) (row_or v rows e k)
       × (0 < c.cells.t (c.action n) s e → v e ≡ mean (row_or v rows e k) (step_worth table c n s e) c.cells.observations)
   unfolding row_or
   row_or_is v rows e el (inl k) = ((rows e k).1, (rows e k).2)
   row_or_is v rows e el (inr beyond) = absurd (omega arith)
 
-  pub backing_of : (value : ℤ) → IsWorstMean (IsEndMean table c n s) (c.cells.t (c.action n) s) t_by c.cells.t_scale c.cells.states value → IsWorstBacking table c n s value
+  pub backing_of : (value : ℤ) → IsWorstMean (IsEndMean table c n s) (c.cells.t (c.action n) s) t_by c.cells.t_scale c.cells.states value
+      → IsWorstBacking table c n s value
   backing_of value w = record {
     seen = seen;
     ends = w.row;
@@ -108,18 +123,35 @@ module _ (side : Side) (c : Controller) (t_by o_by r_by n s : ℕ) (proper : IsP
   some_high by w some = omega (arith, some, high_ge by w)
 
   may_lack_if : (z : ℕ) → IsMissedBefore c n s c.cells.states z → (z < c.cells.observations) × MayLack table c n s z
-  may_lack_if z (e, el, some, (zl, none, seen)) =
-      (zl, (none, (e, el, some_product (high_of t_by (c.cells.t (c.action n) s e)) (high_of o_by (c.cells.o (c.action n) e z)) (some_high t_by (c.cells.t (c.action n) s e) some) (some_high o_by (c.cells.o (c.action n) e z) seen))))
+  may_lack_if z (e, el, some, (zl, none, seen)) = (
+    zl,
+    (
+      none,
+      (
+        e,
+        el,
+        some_product (high_of t_by (c.cells.t (c.action n) s e)) (high_of o_by (c.cells.o (c.action n) e z))
+            (some_high t_by (c.cells.t (c.action n) s e) some) (some_high o_by (c.cells.o (c.action n) e z) seen),
+      ),
+    ),
+  )
 
   missed_if : (z : ℕ) → z < c.cells.observations → MayLack table c n s z → IsMissedBefore c n s c.cells.states z
   missed_if z zl (none, (e, el, some)) = (
     e,
     el,
-    high_some t_by (c.cells.t (c.action n) s e) (left_some (high_of t_by (c.cells.t (c.action n) s e)) (high_of o_by (c.cells.o (c.action n) e z)) some),
-    (zl, none, high_some o_by (c.cells.o (c.action n) e z) (right_some (high_of t_by (c.cells.t (c.action n) s e)) (high_of o_by (c.cells.o (c.action n) e z)) some)),
+    high_some t_by (c.cells.t (c.action n) s e) (left_some (high_of t_by (c.cells.t (c.action n) s e))
+        (high_of o_by (c.cells.o (c.action n) e z)) some),
+    (
+      zl,
+      none,
+      high_some o_by (c.cells.o (c.action n) e z)
+          (right_some (high_of t_by (c.cells.t (c.action n) s e)) (high_of o_by (c.cells.o (c.action n) e z)) some),
+    ),
   )
 
-  pub least_may_lack : (missing : Option ℕ) → IsLeastOf (IsMissedBefore c n s c.cells.states) missing → IsLeastThatMayLack table c n s missing
+  pub least_may_lack : (missing : Option ℕ) → IsLeastOf (IsMissedBefore c n s c.cells.states) missing
+      → IsLeastThatMayLack table c n s missing
   least_may_lack None least = λ z zl lack. least z (missed_if z zl lack)
   least_may_lack (Some z) least =
       let here = may_lack_if z least.0 in
@@ -127,10 +159,19 @@ module _ (side : Side) (c : Controller) (t_by o_by r_by n s : ℕ) (proper : IsP
 
 -- ---- the verdict on a pair
 module _ (i : IntervalTable) (c : Controller) where
-  pub robust_if : (n s : ℕ) (value : ℤ) → IsLeastThatMayLack i c n s None → IsWorstBacking i c n s value → (pos (i.t_scale * i.o_scale * one) *ℤ c.value n s -ℤ value) ≤ℤ pos 0 → PairIsRobust i c n s
-  robust_if n s value none b h = record { lacks_none = none; seen = b.seen; ends = b.ends; worst = b.worst; not_short = omega (arith, linear, h, b.is) }
+  pub robust_if : (n s : ℕ) (value : ℤ) → IsLeastThatMayLack i c n s None → IsWorstBacking i c n s value
+      → (pos (i.t_scale * i.o_scale * one) *ℤ c.value n s -ℤ value) ≤ℤ pos 0 → PairIsRobust i c n s
+  robust_if n s value none b h = record {
+    lacks_none = none;
+    seen = b.seen;
+    ends = b.ends;
+    worst = b.worst;
+    not_short =
+        omega (arith, linear, h, b.is);
+  }
 
-  pub short_by : (n s : ℕ) (value amount : ℤ) → IsWorstBacking i c n s value → amount ≡ pos (i.t_scale * i.o_scale * one) *ℤ c.value n s -ℤ value → IsRobustShort i c n s amount
+  pub short_by : (n s : ℕ) (value amount : ℤ) → IsWorstBacking i c n s value
+      → amount ≡ pos (i.t_scale * i.o_scale * one) *ℤ c.value n s -ℤ value → IsRobustShort i c n s amount
   short_by n s value amount b is = record { seen = b.seen; ends = b.ends; worst = b.worst; is = omega (arith, linear, is, b.is) }
 
   -- ---- the walk
@@ -141,7 +182,8 @@ module _ (i : IntervalTable) (c : Controller) where
   one_more n s before here m t ml tl is =
       ⊎_elim
       (λ (h : IsBefore m t n s). before m t ml tl h)
-      (λ (h : (m ≡ n) × (t ≡ s)). subst (λ (k : ℕ). PairIsRobust i c k t) (sym h.0) (subst (λ (k : ℕ). PairIsRobust i c n k) (sym h.1) here))
+      (λ (h : (m ≡ n) × (t ≡ s)). subst (λ (k : ℕ). PairIsRobust i c k t) (sym h.0)
+      (subst (λ (k : ℕ). PairIsRobust i c n k) (sym h.1) here))
       (split is)
     where
       split : IsBefore m t n (s + 1) → IsBefore m t n s ⊎ ((m ≡ n) × (t ≡ s))
@@ -156,7 +198,8 @@ module _ (i : IntervalTable) (c : Controller) where
   pub all_before : (n : ℕ) → c.nodes ≤ n → IsRobustBefore i c n 0 → IsRobust i c
   all_before n all before m t ml tl = before m t ml tl (inl (omega (arith, all, ml)))
 
-  pub first_no : (n s : ℕ) (v : Verdict) → n < c.nodes → s < i.states → IsRobustBefore i c n s → IsRobustPair i c n s v → (v ≡ Yes → ⊥) → IsRobustVerdict i c v
+  pub first_no : (n s : ℕ) (v : Verdict) → n < c.nodes → s < i.states → IsRobustBefore i c n s → IsRobustPair i c n s v → (v ≡ Yes → ⊥)
+      → IsRobustVerdict i c v
   first_no n s Yes nl sl before is is_no = absurd (is_no refl)
   first_no n s (Short m t amount) nl sl before (me, te, lacks, short, some) is_no = rw (me, te) (nl, sl, before, lacks, short, some)
   first_no n s (NoSuccessor m t z) nl sl before (me, te, lacks) is_no = rw (me, te) (nl, sl, before, lacks)
@@ -166,5 +209,13 @@ module _ (i : IntervalTable) (c : Controller) where
   not_robust Yes t_some o_some is robust = refl
   not_robust (Short n s amount) t_some o_some (nl, sl, before, lacks, short, some) robust =
       let pair : PairIsRobust i c n s = robust n s nl sl in
-      absurd (omega (arith, linear, some, short.is, pair.not_short, one_worst i c n s t_some o_some short.seen short.ends short.worst pair.seen pair.ends pair.worst))
+      absurd (omega (
+        arith,
+        linear,
+        some,
+        short.is,
+        pair.not_short,
+        one_worst i c n s t_some o_some short.seen short.ends short.worst
+            pair.seen pair.ends pair.worst,
+      ))
   not_robust (NoSuccessor n s z) t_some o_some (nl, sl, before, (zl, lack, least)) robust = absurd ((robust n s nl sl).lacks_none z zl lack)

@@ -19,7 +19,8 @@ use Rattle.polcert_robust.proofs.Horizons.{near}
 use Rattle.polcert_robust.proofs.Refuting.{refutes}
 use Rattle.polcert_robust.proofs.Step.{left_some, passes_within, right_some, some_product}
 
-module _ (x : CellTable) (graph : PolicyGraph) (vectors : PolicyVectors) (t_by o_by r_by : ℕ) (t_some : 0 < x.t_scale) (o_some : 0 < x.o_scale)
+module _ (x : CellTable) (graph : PolicyGraph) (vectors : PolicyVectors) (t_by o_by r_by : ℕ) (t_some : 0 < x.t_scale)
+    (o_some : 0 < x.o_scale)
     (proper : IsProper x) (is_graph : IsProperGraph graph) (fits : Fits x graph vectors) where
   abbrev pub intervals : IntervalTable
   intervals = around x t_by o_by r_by
@@ -53,16 +54,24 @@ module _ (x : CellTable) (graph : PolicyGraph) (vectors : PolicyVectors) (t_by o
       e,
       el,
       some_product (x.t (c.action n) s e) (x.o (c.action n) e z)
-          (high_some t_by (x.t (c.action n) s e) (left_some (high_of t_by (x.t (c.action n) s e)) (high_of o_by (x.o (c.action n) e z)) some))
-          (high_some o_by (x.o (c.action n) e z) (right_some (high_of t_by (x.t (c.action n) s e)) (high_of o_by (x.o (c.action n) e z)) some)),
+          (high_some t_by (x.t (c.action n) s e) (left_some (high_of t_by (x.t (c.action n) s e)) (high_of o_by (x.o (c.action n) e z))
+          some))
+          (high_some o_by (x.o (c.action n) e z) (right_some (high_of t_by (x.t (c.action n) s e)) (high_of o_by (x.o (c.action n) e z))
+          some)),
     ),
   )
 
   pub horizon : (v : Verdict) → IsRobustVerdict intervals c v → MeetsHorizonInEveryModel intervals c v
   horizon Yes robust = near x graph vectors t_by o_by r_by t_some o_some is_graph fits robust
   horizon (Short n s amount) (nl, sl, before, lacks, short, some) =
-      let (m, lies, fails) = refutes intervals c x (lies_around x t_by o_by r_by proper) refl refl n s (known n nl) sl short.seen short.ends short.worst
-      (short_fails (pos (x.t_scale * x.o_scale * one) *ℤ c.value n s) (worst_backing intervals c n s short.seen short.ends) amount short.is some) in
+      let (m, lies, fails) = refutes intervals c x (lies_around x t_by o_by r_by proper) refl refl n s (known n nl) sl short.seen short.ends
+      short.worst
+      (short_fails (pos (x.t_scale * x.o_scale * one) *ℤ c.value n s) (worst_backing intervals c n s short.seen short.ends) amount short.is
+      some) in
       (m, lies, λ promise. fails (passes_if_promised (within_model c 1 m) n s promise))
-  horizon (NoSuccessor n s z) (nl, sl, before, (zl, lack, least)) =
-      (x, lies_around x t_by o_by r_by proper, λ promise. (passes_if_promised (within_model c 1 x) n s promise).lacks_none z zl (lacks_itself n s z lack))
+  horizon (NoSuccessor n s z) (nl, sl, before, (zl, lack, least)) = (
+    x,
+    lies_around x t_by o_by r_by proper,
+    λ promise. (passes_if_promised (within_model c 1 x) n s promise).lacks_none z zl
+        (lacks_itself n s z lack),
+  )

@@ -26,7 +26,11 @@ neg_neg : (x : ℤ) → x ≡ neg_ℤ (neg_ℤ x)
 neg_neg x = omega (arith, linear)
 
 turned_back : (l r h : ℤ) → (pos 1 *ℤ neg_ℤ h) ≤ℤ r → r ≤ℤ (pos 1 *ℤ neg_ℤ l) → ((pos 1 *ℤ l) ≤ℤ neg_ℤ r) × (neg_ℤ r ≤ℤ (pos 1 *ℤ h))
-turned_back l r h from to = (omega (arith, linear, from, to, one-*ℤ (neg_ℤ l), one-*ℤ l), omega (arith, linear, from, to, one-*ℤ (neg_ℤ h), one-*ℤ h))
+turned_back l r h from to = (
+  omega (arith, linear, from, to, one-*ℤ (neg_ℤ l), one-*ℤ l),
+  omega
+      (arith, linear, from, to, one-*ℤ (neg_ℤ h), one-*ℤ h),
+)
 
 lies_back : (i : IntervalTable) (m : CellTable) → LiesWithin (negated i) 1 m → LiesWithin i 1 (negated_model m)
 lies_back i m lies = record {
@@ -37,11 +41,13 @@ lies_back i m lies = record {
   rows = record { t_rows = lies.rows.t_rows; o_rows = lies.rows.o_rows };
   t = lies.t;
   o = lies.o;
-  r = λ a s e z al sl el zl. turned_back (i.r_low a s e z) (m.r a s e z) (i.r_high a s e z) (lies.r a s e z al sl el zl).0 (lies.r a s e z al sl el zl).1;
+  r = λ a s e z al sl el zl. turned_back (i.r_low a s e z) (m.r a s e z) (i.r_high a s e z) (lies.r a s e z al sl el zl).0
+      (lies.r a s e z al sl el zl).1;
 }
 
 same_back : (c : Controller) (m : CellTable) → mirrored (within_model c 1 (negated_model m)) ≡ within_model (negated_values c) 1 m
-same_back c m = sym (λ j. record (mirrored (within_model c 1 (negated_model m))) { cells = record m { r = λ a s e z. neg_neg (m.r a s e z) j }; value = λ n s. neg_product (pos 1) (c.value n s) j })
+same_back c m = sym (λ j. record (mirrored (within_model c 1 (negated_model m)))
+    { cells = record m { r = λ a s e z. neg_neg (m.r a s e z) j }; value = λ n s. neg_product (pos 1) (c.value n s) j })
 
 low_same : (r : ℤ) (by : ℕ) → neg_ℤ r -ℤ pos by ≡ neg_ℤ (r +ℤ pos by)
 low_same r by = omega (arith, linear)
@@ -50,12 +56,14 @@ high_same : (r : ℤ) (by : ℕ) → neg_ℤ r +ℤ pos by ≡ neg_ℤ (r -ℤ p
 high_same r by = omega (arith, linear)
 
 same_intervals : (x : CellTable) (t_by o_by r_by : ℕ) → around (negated_model x) t_by o_by r_by ≡ negated (around x t_by o_by r_by)
-same_intervals x t_by o_by r_by = λ j. record (negated (around x t_by o_by r_by)) { r_low = λ a s e z. low_same (x.r a s e z) r_by j; r_high = λ a s e z. high_same (x.r a s e z) r_by j }
+same_intervals x t_by o_by r_by = λ j. record (negated (around x t_by o_by r_by))
+    { r_low = λ a s e z. low_same (x.r a s e z) r_by j; r_high = λ a s e z. high_same (x.r a s e z) r_by j }
 
 yes_above : (v : AboveVerdict) → below_of v ≡ Yes → v ≡ above.Yes
 yes_above v e = grind arith
 
-module _ (x : CellTable) (graph : PolicyGraph) (vectors : PolicyVectors) (t_by o_by r_by : ℕ) (t_some : 0 < x.t_scale) (o_some : 0 < x.o_scale)
+module _ (x : CellTable) (graph : PolicyGraph) (vectors : PolicyVectors) (t_by o_by r_by : ℕ) (t_some : 0 < x.t_scale)
+    (o_some : 0 < x.o_scale)
     (proper : IsProper x) (is_graph : IsProperGraph graph) (fits : Fits x graph vectors) where
   abbrev pub intervals : IntervalTable
   intervals = around x t_by o_by r_by
@@ -68,18 +76,22 @@ module _ (x : CellTable) (graph : PolicyGraph) (vectors : PolicyVectors) (t_by o
 
   passes_if_robust : IsRobust (negated intervals) (negated_values c) → PassesAboveInEveryModel intervals c
   passes_if_robust robust =
-      passes_above_within intervals c t_some o_some (is_for_around x graph vectors t_by o_by r_by is_graph fits) (robust_mirrored (negated intervals) c robust)
+      passes_above_within intervals c t_some o_some (is_for_around x graph vectors t_by o_by r_by is_graph fits)
+      (robust_mirrored (negated intervals) c robust)
 
   -- each model near the negated one is the negative of one near the model
-  passes_negated : PassesAboveInEveryModel intervals c → (m : CellTable) → LiesWithin (around (negated_model x) t_by o_by r_by) 1 m → Passes (within_model (negated_values c) 1 m)
+  passes_negated : PassesAboveInEveryModel intervals c → (m : CellTable) → LiesWithin (around (negated_model x) t_by o_by r_by) 1 m
+      → Passes (within_model (negated_values c) 1 m)
   passes_negated passes m lies =
       subst Passes (same_back c m)
-      (passes_below (within_model c 1 (negated_model m)) (passes 1 (negated_model m) (lies_back intervals m (subst (λ (i : IntervalTable). LiesWithin i 1 m) (same_intervals x t_by o_by r_by) lies))))
+      (passes_below (within_model c 1 (negated_model m)) (passes 1 (negated_model m)
+      (lies_back intervals m (subst (λ (i : IntervalTable). LiesWithin i 1 m) (same_intervals x t_by o_by r_by) lies))))
 
   robust_if_passes : PassesAboveInEveryModel intervals c → IsRobust (negated intervals) (negated_values c)
   robust_if_passes passes =
       subst (λ (i : IntervalTable). IsRobust i (negated_values c)) (same_intervals x t_by o_by r_by)
-      (only_then (negated_model x) (negated_values c) t_by o_by r_by (record { t_rows = proper.t_rows; o_rows = proper.o_rows }) known_here (passes_negated passes))
+      (only_then (negated_model x) (negated_values c) t_by o_by r_by (record { t_rows = proper.t_rows; o_rows = proper.o_rows }) known_here
+      (passes_negated passes))
 
   pub exact_above : (v : AboveVerdict) → IsRobustAboveVerdict intervals c v → (v ≡ above.Yes) ↔ PassesAboveInEveryModel intervals c
   exact_above v is = (
@@ -87,15 +99,25 @@ module _ (x : CellTable) (graph : PolicyGraph) (vectors : PolicyVectors) (t_by o
     (λ passes. yes_above v (not_robust (negated intervals) (negated_values c) (below_of v) t_some o_some is (robust_if_passes passes))),
   )
 
-  fails_above : (m : CellTable) (n s : ℕ) → (PairPasses (within_model (negated_values c) 1 m) n s → ⊥) → PromiseAbove (within_model c 1 (negated_model m)) 1 n s → ⊥
+  fails_above : (m : CellTable) (n s : ℕ) → (PairPasses (within_model (negated_values c) 1 m) n s → ⊥)
+      → PromiseAbove (within_model c 1 (negated_model m)) 1 n s → ⊥
   fails_above m n s fails promise =
-      fails (subst (λ (k : Controller). PairPasses k n s) (same_back c m) (pair_below (within_model c 1 (negated_model m)) n s (passes_if_promised_above (within_model c 1 (negated_model m)) n s promise)))
+      fails (subst (λ (k : Controller). PairPasses k n s) (same_back c m)
+      (pair_below (within_model c 1 (negated_model m)) n s (passes_if_promised_above (within_model c 1 (negated_model m)) n s promise)))
 
   pub horizon_above : (v : AboveVerdict) → IsRobustAboveVerdict intervals c v → MeetsHorizonAboveInEveryModel intervals c v
   horizon_above above.Yes robust = near_above x graph vectors t_by o_by r_by t_some o_some is_graph fits robust
   horizon_above (above.Long n s amount) (nl, sl, before, lacks, short, some) =
-      let (m, lies, fails) = refutes (negated intervals) (negated_values c) (negated_model x) (negated_lies intervals 1 x (lies_around x t_by o_by r_by proper)) refl refl n s (known_here n nl) sl short.seen short.ends short.worst
-      (short_fails x graph vectors t_by o_by r_by t_some o_some proper is_graph fits (pos (x.t_scale * x.o_scale * one) *ℤ neg_ℤ (c.value n s)) (worst_backing (negated intervals) (negated_values c) n s short.seen short.ends) amount short.is some) in
+      let (m, lies, fails) = refutes (negated intervals) (negated_values c) (negated_model x)
+      (negated_lies intervals 1 x (lies_around x t_by o_by r_by proper)) refl refl n s (known_here n nl) sl short.seen short.ends
+      short.worst
+      (short_fails x graph vectors t_by o_by r_by t_some o_some proper is_graph fits
+      (pos (x.t_scale * x.o_scale * one) *ℤ neg_ℤ (c.value n s))
+      (worst_backing (negated intervals) (negated_values c) n s short.seen short.ends) amount short.is some) in
       (negated_model m, lies_back intervals m lies, fails_above m n s fails)
-  horizon_above (above.NoSuccessor n s z) (nl, sl, before, (zl, lack, least)) =
-      (x, lies_around x t_by o_by r_by proper, λ promise. (passes_if_promised_above (within_model c 1 x) n s promise).lacks_none z zl (lacks_itself x graph vectors t_by o_by r_by t_some o_some proper is_graph fits n s z lack))
+  horizon_above (above.NoSuccessor n s z) (nl, sl, before, (zl, lack, least)) = (
+    x,
+    lies_around x t_by o_by r_by proper,
+    λ promise. (passes_if_promised_above (within_model c 1 x) n s promise).lacks_none z zl
+        (lacks_itself x graph vectors t_by o_by r_by t_some o_some proper is_graph fits n s z lack),
+  )

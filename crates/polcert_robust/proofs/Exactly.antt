@@ -90,7 +90,8 @@ only_then x c t_by o_by r_by proper known passes n s nl sl =
         )
 
     -- the worst row of an end state that is in range
-    seen_found : (e : ℕ) → e < x.states → (row : ℕ → ℕ) × IsWorstRow (λ z. low_of o_by (x.o a e z)) (λ z. high_of o_by (x.o a e z)) x.o_scale x.observations (step_worth i c n s e) row
+    seen_found : (e : ℕ) → e < x.states → (row : ℕ → ℕ)
+        × IsWorstRow (λ z. low_of o_by (x.o a e z)) (λ z. high_of o_by (x.o a e z)) x.o_scale x.observations (step_worth i c n s e) row
     seen_found e el = around_row (x.o a e) o_by x.o_scale x.observations (step_worth i c n s e) (proper.o_rows a e al el)
 
     seen_or : (e : ℕ) → (e < x.states) ⊎ (x.states ≤ e) → ℕ → ℕ
@@ -100,12 +101,16 @@ only_then x c t_by o_by r_by proper known passes n s nl sl =
     seen : ℕ → ℕ → ℕ
     seen e = seen_or e (cases_lt e x.states)
 
-    seen_or_worst : (e : ℕ) → e < x.states → (k : (e < x.states) ⊎ (x.states ≤ e)) → IsWorstRow (λ z. low_of o_by (x.o a e z)) (λ z. high_of o_by (x.o a e z)) x.o_scale x.observations (step_worth i c n s e) (seen_or e k)
+    seen_or_worst : (e : ℕ) → e < x.states → (k : (e < x.states) ⊎ (x.states ≤ e))
+        → IsWorstRow (λ z. low_of o_by (x.o a e z)) (λ z. high_of o_by (x.o a e z)) x.o_scale x.observations (step_worth i c n s e)
+        (seen_or e k)
     seen_or_worst e el (inl k) = (seen_found e k).1
     seen_or_worst e el (inr beyond) = absurd (omega arith)
 
-    ends_found : (row : ℕ → ℕ) × IsWorstRow (λ e. low_of t_by (x.t a s e)) (λ e. high_of t_by (x.t a s e)) x.t_scale x.states (λ e. mean (seen e) (step_worth i c n s e) x.observations) row
-    ends_found = around_row (x.t a s) t_by x.t_scale x.states (λ e. mean (seen e) (step_worth i c n s e) x.observations) (proper.t_rows a s al sl)
+    ends_found : (row : ℕ → ℕ) × IsWorstRow (λ e. low_of t_by (x.t a s e)) (λ e. high_of t_by (x.t a s e)) x.t_scale x.states
+        (λ e. mean (seen e) (step_worth i c n s e) x.observations) row
+    ends_found = around_row (x.t a s) t_by x.t_scale x.states (λ e. mean (seen e) (step_worth i c n s e) x.observations)
+        (proper.t_rows a s al sl)
 
     worst : IsWorstStep (around x t_by o_by r_by) c n s seen ends_found.0
     worst = record { seen_worst = λ e el. seen_or_worst e el (cases_lt e x.states); ends_worst = ends_found.1 }

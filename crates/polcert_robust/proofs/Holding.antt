@@ -1,5 +1,6 @@
 -- The weights above 0 of a row, gathered in a list, and the worst row that the list shows.
-use Rattle.std.proofs.Common.{◌≡◌, ℕ, suc, ◌+◌, ◌-◌, ◌<◌, ◌≤◌, ◌==◌, if◌then◌else◌, ◌⊎◌, inl, inr, ⊎_elim, ℤ, pos, ◌+ℤ◌, ◌*ℤ◌, ◌≤ℤ◌, List, length, set, unsigned_abs, refl, sym, ap, subst, ◌∙◌, arith}
+use Rattle.std.proofs.Common.{◌≡◌, ℕ, suc, ◌+◌, ◌-◌, ◌<◌, ◌≤◌, ◌==◌, if◌then◌else◌, ◌⊎◌, inl, inr, ⊎_elim, ℤ, pos, ◌+ℤ◌, ◌*ℤ◌, ◌≤ℤ◌, List}
+use Rattle.std.proofs.Common.{length, set, unsigned_abs, refl, sym, ap, subst, ◌∙◌, arith}
 use Rattle.std.proofs.lemmas.Bool.{cases_lt, cases_eq}
 use Rattle.std.proofs.lemmas.Grind.{get_or-set_at}
 use Rattle.std.proofs.lemmas.List.{get_or-set_other}
@@ -46,20 +47,25 @@ two_same g a b x y e d = rw (e, d) refl
 abbrev pub updated : ℕ → ℤ → (ℕ → ℤ) → ℕ → ℤ
 updated z v x j = if j == z then v else x j
 
-module _ (P : ℕ → ℤ → Type 0) (f : ℕ → ℕ) (from bound : ℕ) (weights : List ℕ) (values : List ℤ) (count : ℕ) (held : HoldsRow P f from bound weights values count) where
+module _ (P : ℕ → ℤ → Type 0) (f : ℕ → ℕ) (from bound : ℕ) (weights : List ℕ) (values : List ℤ) (count : ℕ)
+    (held : HoldsRow P f from bound weights values count) where
   -- up to a later column, before which there is no weight
   pub holds_on : (z : ℕ) → from ≤ z → ((k : ℕ) → from ≤ k → k < z → f k ≡ 0) → HoldsRow P f z bound weights values count
   holds_on z l none = record {
     x = held.x;
-    each = λ j jl some. ⊎_elim (λ (h : j < from). held.each j h some) (λ (h : from ≤ j). absurd (omega (arith, none j h jl, some))) (cases_lt j from);
-    place = λ j jl some. ⊎_elim (λ (h : j < from). held.place j h some) (λ (h : from ≤ j). absurd (omega (arith, none j h jl, some))) (cases_lt j from);
-    sums = λ g nothing. held.sums g nothing ∙ sym (gap (λ j. g (f j) (held.x j)) from z l (λ k a b. two_same g (f k) 0 (held.x k) (held.x k) (none k a b) refl ∙ nothing (held.x k)));
+    each = λ j jl some. ⊎_elim (λ (h : j < from). held.each j h some) (λ (h : from ≤ j). absurd (omega (arith, none j h jl, some)))
+        (cases_lt j from);
+    place = λ j jl some. ⊎_elim (λ (h : j < from). held.place j h some) (λ (h : from ≤ j). absurd (omega (arith, none j h jl, some)))
+        (cases_lt j from);
+    sums = λ g nothing. held.sums g nothing ∙ sym (gap (λ j. g (f j) (held.x j)) from z l
+        (λ k a b. two_same g (f k) 0 (held.x k) (held.x k) (none k a b) refl ∙ nothing (held.x k)));
     few = omega (arith, held.few);
     small = held.small;
   }
 
   -- one weight more
-  pub holds_more : (z w : ℕ) (v : ℤ) → from ≤ z → ((k : ℕ) → from ≤ k → k < z → f k ≡ 0) → w ≡ f z → P z v → unsigned_abs v ≤ bound → count < length weights → count < length values
+  pub holds_more : (z w : ℕ) (v : ℤ) → from ≤ z → ((k : ℕ) → from ≤ k → k < z → f k ≡ 0) → w ≡ f z → P z v → unsigned_abs v ≤ bound
+      → count < length weights → count < length values
       → HoldsRow P f (z + 1) bound (set weights count w) (set values count v) (count + 1)
   unfolding holds_on
   holds_more z w v l none is here small room more_room = record {
@@ -92,19 +98,31 @@ module _ (P : ℕ → ℤ → Type 0) (f : ℕ → ℕ) (from bound : ℕ) (weig
       below_count : (j : ℕ) → j < count + 1 → (j ≡ count → ⊥) → j < count
       below_count j jl ne = ⊎_elim (λ (h : j < count). h) (λ (h : count ≤ j). absurd (ne (omega (arith, h, jl)))) (cases_lt j count)
 
-      at_place : (j : ℕ) → (j ≡ z → ⊥) → (k : ℕ) × (k < count) × (value_at values k ≡ held.x j) → (k : ℕ) × (k < count + 1) × (value_at (set values count v) k ≡ updated z v held.x j)
-      at_place j ne (k, kl, e) = (k, omega (arith, kl), value_other values count k v (λ (same : k ≡ count). omega (arith, same, kl)) ∙ e ∙ sym (at_other j z v (held.x j) ne))
+      at_place : (j : ℕ) → (j ≡ z → ⊥) → (k : ℕ) × (k < count) × (value_at values k ≡ held.x j) → (k : ℕ) × (k < count + 1)
+          × (value_at (set values count v) k ≡ updated z v held.x j)
+      at_place j ne (k, kl, e) = (
+        k,
+        omega (arith, kl),
+        value_other values count k v (λ (same : k ≡ count). omega (arith, same, kl)) ∙ e
+            ∙ sym (at_other j z v (held.x j) ne),
+      )
 
       two_sums : (g : ℕ → ℤ → ℤ) → ((u : ℤ) → g 0 u ≡ pos 0)
-          → total_below (λ k. g (weight_at (set weights count w) k) (value_at (set values count v) k)) (suc count) ≡ total_below (λ j. g (f j) (updated z v held.x j)) (suc z)
+          → total_below (λ k. g (weight_at (set weights count w) k) (value_at (set values count v) k)) (suc count)
+          ≡ total_below (λ j. g (f j) (updated z v held.x j)) (suc z)
       two_sums g nothing =
           ap (λ (s : ℤ). s +ℤ g (weight_at (set weights count w) count) (value_at (set values count v) count))
-          (sum_below_same (λ k. g (weight_at (set weights count w) k) (value_at (set values count v) k)) (λ k. g (weight_at weights k) (value_at values k)) count
-          (λ k kl. two_same g _ _ _ _ (weight_other weights count k w (λ (same : k ≡ count). omega (arith, same, kl))) (value_other values count k v (λ (same : k ≡ count). omega (arith, same, kl))))
+          (sum_below_same (λ k. g (weight_at (set weights count w) k) (value_at (set values count v) k))
+          (λ k. g (weight_at weights k) (value_at values k)) count
+          (λ k kl. two_same g _ _ _ _ (weight_other weights count k w (λ (same : k ≡ count). omega (arith, same, kl)))
+          (value_other values count k v (λ (same : k ≡ count). omega (arith, same, kl))))
           ∙ before.sums g nothing
-          ∙ sum_below_same (λ j. g (f j) (held.x j)) (λ j. g (f j) (updated z v held.x j)) z (λ j jl. two_same g (f j) (f j) (held.x j) (updated z v held.x j) refl (sym (at_other j z v (held.x j) (λ (same : j ≡ z). omega (arith, same, jl))))))
+          ∙ sum_below_same (λ j. g (f j) (held.x j)) (λ j. g (f j) (updated z v held.x j)) z
+          (λ j jl. two_same g (f j) (f j) (held.x j) (updated z v held.x j) refl
+          (sym (at_other j z v (held.x j) (λ (same : j ≡ z). omega (arith, same, jl))))))
           ∙ ap (λ (s : ℤ). total_below (λ j. g (f j) (updated z v held.x j)) z +ℤ s)
-          (two_same g _ _ _ _ (weight_here weights count w room ∙ is) (value_here values count v more_room ∙ sym (at_same z z v (held.x z) refl)))
+          (two_same g _ _ _ _ (weight_here weights count w room ∙ is)
+          (value_here values count v more_room ∙ sym (at_same z z v (held.x z) refl)))
 
 -- ---- the worst row
 end_of_none : (by : ℕ) (level v : ℤ) → end_until by level 0 v ≡ 0
@@ -119,7 +137,8 @@ end_of_none by level v =
 same_pos : (a b : ℕ) → pos a ≡ pos b → a ≡ b
 same_pos a b e = omega (arith, linear, e)
 
-module _ (P : ℕ → ℤ → Type 0) (f : ℕ → ℕ) (n bound : ℕ) (weights : List ℕ) (values : List ℤ) (count : ℕ) (held : HoldsRow P f n bound weights values count) where
+module _ (P : ℕ → ℤ → Type 0) (f : ℕ → ℕ) (n bound : ℕ) (weights : List ℕ) (values : List ℤ) (count : ℕ)
+    (held : HoldsRow P f n bound weights values count) where
   -- with a value that no level splits where the weight is 0
   abbrev leveled : ℤ → ℕ → ℤ
   leveled high j = if f j == 0 then high else held.x j
@@ -130,21 +149,25 @@ module _ (P : ℕ → ℤ → Type 0) (f : ℕ → ℕ) (n bound : ℕ) (weights
   none_or_some : (j : ℕ) → (f j ≡ 0) ⊎ (0 < f j)
   none_or_some j = ⊎_elim (λ (h : 0 < f j). inr h) (λ (h : f j ≤ 0). inl (omega (arith, h))) (cases_lt 0 (f j))
 
-  sums_leveled : (high : ℤ) (g : ℕ → ℤ → ℤ) → ((v : ℤ) → g 0 v ≡ pos 0) → total_below (λ k. g (weight_at weights k) (value_at values k)) count ≡ total_below (λ j. g (f j) (leveled high j)) n
+  sums_leveled : (high : ℤ) (g : ℕ → ℤ → ℤ) → ((v : ℤ) → g 0 v ≡ pos 0)
+      → total_below (λ k. g (weight_at weights k) (value_at values k)) count ≡ total_below (λ j. g (f j) (leveled high j)) n
   sums_leveled high g nothing =
       held.sums g nothing
       ∙ sum_below_same (λ j. g (f j) (held.x j)) (λ j. g (f j) (leveled high j)) n (λ j jl. ⊎_elim
-      (λ (none : f j ≡ 0). (two_same g (f j) 0 (held.x j) (held.x j) none refl ∙ nothing (held.x j)) ∙ sym (two_same g (f j) 0 (leveled high j) (leveled high j) none refl ∙ nothing (leveled high j)))
+      (λ (none : f j ≡ 0). (two_same g (f j) 0 (held.x j) (held.x j) none refl ∙ nothing (held.x j))
+      ∙ sym (two_same g (f j) 0 (leveled high j) (leveled high j) none refl ∙ nothing (leveled high j)))
       (λ (some : 0 < f j). two_same g (f j) (f j) (held.x j) (leveled high j) refl (sym (leveled_some high j some)))
       (none_or_some j))
 
-  ends_same : (by : ℕ) (high level : ℤ) → sum_below (ends_until by level (weight_at weights) (value_at values)) count ≡ sum_below (ends_until by level f (leveled high)) n
+  ends_same : (by : ℕ) (high level : ℤ) → sum_below (ends_until by level (weight_at weights) (value_at values)) count
+      ≡ sum_below (ends_until by level f (leveled high)) n
   ends_same by high level =
       same_pos _ _ (sym (total_pos (ends_until by level (weight_at weights) (value_at values)) count)
       ∙ sums_leveled high (λ w v. pos (end_until by level w v)) (λ v. ap pos (end_of_none by level v))
       ∙ total_pos (ends_until by level f (leveled high)) n)
 
-  levels_same : (by scale : ℕ) (low high : ℤ) → AreLevels by scale count (weight_at weights) (value_at values) low high → AreLevels by scale n f (leveled high) low high
+  levels_same : (by scale : ℕ) (low high : ℤ) → AreLevels by scale count (weight_at weights) (value_at values) low high
+      → AreLevels by scale n f (leveled high) low high
   levels_same by scale low high are = record {
     order = are.order;
     from = rw (← ends_same by high low) are.from;
@@ -158,11 +181,17 @@ module _ (P : ℕ → ℤ → Type 0) (f : ℕ → ℕ) (n bound : ℕ) (weights
       found : {v : ℤ} → (k : ℕ) × (k < count) × (value_at values k ≡ v) → (v ≤ℤ low) ⊎ (high ≤ℤ v)
       found (k, kl, e) = subst (λ (u : ℤ). (u ≤ℤ low) ⊎ (high ≤ℤ u)) e (are.between k kl)
 
-  mean_same : (by scale : ℕ) (low high : ℤ) → level_mean by scale count (weight_at weights) (value_at values) low high ≡ level_mean by scale n f (leveled high) low high
+  mean_same : (by scale : ℕ) (low high : ℤ) → level_mean by scale count (weight_at weights) (value_at values) low high
+      ≡ level_mean by scale n f (leveled high) low high
   mean_same by scale low high =
-      cc (sums_leveled high (λ w v. pos (end_until by low w v) *ℤ v) (λ v. ap (λ (k : ℕ). pos k *ℤ v) (end_of_none by low v) ∙ zero-*ℤ v), ends_same by high low)
+      cc (
+        sums_leveled high (λ w v. pos (end_until by low w v) *ℤ v)
+            (λ v. ap (λ (k : ℕ). pos k *ℤ v) (end_of_none by low v) ∙ zero-*ℤ v),
+        ends_same by high low,
+      )
 
-  pub worst_mean_of : (by scale : ℕ) (value : ℤ) → IsLevelMean by scale count (weight_at weights) (value_at values) value → IsWorstMean P f by scale n value
+  pub worst_mean_of : (by scale : ℕ) (value : ℤ) → IsLevelMean by scale count (weight_at weights) (value_at values) value
+      → IsWorstMean P f by scale n value
   worst_mean_of by scale value at =
       let are : AreLevels by scale n f (leveled at.high) at.low at.high = levels_same by scale at.low at.high at.levels in
       record {

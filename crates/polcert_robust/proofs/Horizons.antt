@@ -26,19 +26,22 @@ pub record IsFor (i : IntervalTable) (c : Controller) : Type 0 where
 known_in : (i : IntervalTable) (c : Controller) → IsFor i c → (n : ℕ) → n < c.nodes → c.action n < i.actions
 known_in i c is n nl = subst (λ (k : ℕ). c.action n < k) is.actions (is.closed.actions_in_range n nl)
 
-controller_within : (i : IntervalTable) (c : Controller) → IsFor i c → (parts : ℕ) (m : CellTable) → LiesWithin i parts m → IsController (within_model c parts m)
+controller_within : (i : IntervalTable) (c : Controller) → IsFor i c → (parts : ℕ) (m : CellTable) → LiesWithin i parts m
+    → IsController (within_model c parts m)
 controller_within i c is parts m lies = record {
   cells = lies.rows;
   closed = record {
     actions_in_range = λ n nl. subst (λ (k : ℕ). c.action n < k) (sym lies.actions) (known_in i c is n nl);
-    next_in_range = λ n z k nl zl some. is.closed.next_in_range n z k nl (subst (λ (j : ℕ). z < j) (sym is.observations) (subst (λ (j : ℕ). z < j) lies.observations zl)) some;
+    next_in_range = λ n z k nl zl some. is.closed.next_in_range n z k nl
+        (subst (λ (j : ℕ). z < j) (sym is.observations) (subst (λ (j : ℕ). z < j) lies.observations zl)) some;
   };
 }
 
 pub horizons_within : (i : IntervalTable) (c : Controller) → 0 < i.t_scale → 0 < i.o_scale → IsFor i c → IsRobust i c
     → (parts : ℕ) (m : CellTable) → LiesWithin i parts m → MeetsEveryHorizon (within_model c parts m)
 horizons_within i c t_some o_some is robust parts m lies =
-    every_horizon (within_model c parts m) (controller_within i c is parts m lies) (passes_within i c t_some o_some (known_in i c is) robust parts m lies)
+    every_horizon (within_model c parts m) (controller_within i c is parts m lies)
+    (passes_within i c t_some o_some (known_in i c is) robust parts m lies)
 
 -- ---- from above
 abbrev pub negated_model : CellTable → CellTable
@@ -56,43 +59,64 @@ negated_lies i parts m lies = record {
   rows = record { t_rows = lies.rows.t_rows; o_rows = lies.rows.o_rows };
   t = lies.t;
   o = lies.o;
-  r = λ a s e z al sl el zl. turned (pos parts) (i.r_low a s e z) (m.r a s e z) (i.r_high a s e z) (lies.r a s e z al sl el zl).0 (lies.r a s e z al sl el zl).1;
+  r = λ a s e z al sl el zl. turned (pos parts) (i.r_low a s e z) (m.r a s e z) (i.r_high a s e z) (lies.r a s e z al sl el zl).0
+      (lies.r a s e z al sl el zl).1;
 }
 
-same_model : (c : Controller) (parts : ℕ) (m : CellTable) → within_model (mirrored c) parts (negated_model m) ≡ mirrored (within_model c parts m)
+same_model : (c : Controller) (parts : ℕ) (m : CellTable)
+    → within_model (mirrored c) parts (negated_model m) ≡ mirrored (within_model c parts m)
 same_model c parts m = λ j. record (mirrored (within_model c parts m)) { value = λ n s. neg_product (pos parts) (c.value n s) j }
 
-pub passes_above_within : (i : IntervalTable) (c : Controller) → 0 < i.t_scale → 0 < i.o_scale → IsFor i c → IsRobust (negated i) (mirrored c)
+pub passes_above_within : (i : IntervalTable) (c : Controller) → 0 < i.t_scale → 0 < i.o_scale → IsFor i c
+    → IsRobust (negated i) (mirrored c)
     → (parts : ℕ) (m : CellTable) → LiesWithin i parts m → PassesAbove (within_model c parts m)
 passes_above_within i c t_some o_some is robust parts m lies =
     passes_above (within_model c parts m)
-    (subst Passes (same_model c parts m) (passes_within (negated i) (mirrored c) t_some o_some (known_in i c is) robust parts (negated_model m) (negated_lies i parts m lies)))
+    (subst Passes (same_model c parts m) (passes_within (negated i) (mirrored c) t_some o_some (known_in i c is) robust parts
+    (negated_model m) (negated_lies i parts m lies)))
 
-pub horizons_above_within : (i : IntervalTable) (c : Controller) → 0 < i.t_scale → 0 < i.o_scale → IsFor i c → IsRobust (negated i) (mirrored c)
+pub horizons_above_within : (i : IntervalTable) (c : Controller) → 0 < i.t_scale → 0 < i.o_scale → IsFor i c
+    → IsRobust (negated i) (mirrored c)
     → (parts : ℕ) (m : CellTable) → LiesWithin i parts m → MeetsEveryHorizonAbove (within_model c parts m)
 horizons_above_within i c t_some o_some is robust parts m lies =
-    horizons_above (within_model c parts m) (controller_within i c is parts m lies) (passes_above_within i c t_some o_some is robust parts m lies)
+    horizons_above (within_model c parts m) (controller_within i c is parts m lies)
+    (passes_above_within i c t_some o_some is robust parts m lies)
 
 -- ---- around a model
-pub is_for_around : (x : CellTable) (graph : PolicyGraph) (vectors : PolicyVectors) (t_by o_by r_by : ℕ) → IsProperGraph graph → Fits x graph vectors
+pub is_for_around : (x : CellTable) (graph : PolicyGraph) (vectors : PolicyVectors) (t_by o_by r_by : ℕ) → IsProperGraph graph
+    → Fits x graph vectors
     → IsFor (around x t_by o_by r_by) (controller_of x graph vectors)
-is_for_around x graph vectors t_by o_by r_by proper fits = record { actions = λ j. x.actions; observations = λ j. x.observations; closed = closed_is x graph vectors fits proper }
+is_for_around x graph vectors t_by o_by r_by proper fits =
+    record { actions = λ j. x.actions; observations = λ j. x.observations; closed = closed_is x graph vectors fits proper }
 
-pub near : (x : CellTable) (graph : PolicyGraph) (vectors : PolicyVectors) (t_by o_by r_by : ℕ) → 0 < x.t_scale → 0 < x.o_scale → IsProperGraph graph → Fits x graph vectors
+pub near : (x : CellTable) (graph : PolicyGraph) (vectors : PolicyVectors) (t_by o_by r_by : ℕ) → 0 < x.t_scale → 0 < x.o_scale
+    → IsProperGraph graph → Fits x graph vectors
     → IsRobust (around x t_by o_by r_by) (controller_of x graph vectors)
-    → (parts : ℕ) (m : CellTable) → LiesWithin (around x t_by o_by r_by) parts m → MeetsEveryHorizon (within_model (controller_of x graph vectors) parts m)
+    → (parts : ℕ) (m : CellTable) → LiesWithin (around x t_by o_by r_by) parts m
+    → MeetsEveryHorizon (within_model (controller_of x graph vectors) parts m)
 near x graph vectors t_by o_by r_by t_some o_some proper fits =
-    horizons_within (around x t_by o_by r_by) (controller_of x graph vectors) t_some o_some (is_for_around x graph vectors t_by o_by r_by proper fits)
+    horizons_within (around x t_by o_by r_by) (controller_of x graph vectors) t_some o_some
+    (is_for_around x graph vectors t_by o_by r_by proper fits)
 
 -- rewards of the cells play no part in the worst case
 pub robust_mirrored : (i : IntervalTable) (c : Controller) → IsRobust i (negated_values c) → IsRobust i (mirrored c)
 robust_mirrored i c robust n s nl sl =
     let p : PairIsRobust i (negated_values c) n s = robust n s nl sl in
-    record { lacks_none = p.lacks_none; seen = p.seen; ends = p.ends; worst = record { seen_worst = p.worst.seen_worst; ends_worst = p.worst.ends_worst }; not_short = p.not_short }
+    record {
+      lacks_none = p.lacks_none;
+      seen = p.seen;
+      ends = p.ends;
+      worst =
+          record { seen_worst = p.worst.seen_worst; ends_worst = p.worst.ends_worst };
+      not_short = p.not_short;
+    }
 
-pub near_above : (x : CellTable) (graph : PolicyGraph) (vectors : PolicyVectors) (t_by o_by r_by : ℕ) → 0 < x.t_scale → 0 < x.o_scale → IsProperGraph graph → Fits x graph vectors
+pub near_above : (x : CellTable) (graph : PolicyGraph) (vectors : PolicyVectors) (t_by o_by r_by : ℕ) → 0 < x.t_scale → 0 < x.o_scale
+    → IsProperGraph graph → Fits x graph vectors
     → IsRobust (negated (around x t_by o_by r_by)) (negated_values (controller_of x graph vectors))
-    → (parts : ℕ) (m : CellTable) → LiesWithin (around x t_by o_by r_by) parts m → MeetsEveryHorizonAbove (within_model (controller_of x graph vectors) parts m)
+    → (parts : ℕ) (m : CellTable) → LiesWithin (around x t_by o_by r_by) parts m
+    → MeetsEveryHorizonAbove (within_model (controller_of x graph vectors) parts m)
 near_above x graph vectors t_by o_by r_by t_some o_some proper fits robust =
-    horizons_above_within (around x t_by o_by r_by) (controller_of x graph vectors) t_some o_some (is_for_around x graph vectors t_by o_by r_by proper fits)
+    horizons_above_within (around x t_by o_by r_by) (controller_of x graph vectors) t_some o_some
+    (is_for_around x graph vectors t_by o_by r_by proper fits)
     (robust_mirrored (negated (around x t_by o_by r_by)) (controller_of x graph vectors) robust)

@@ -1,7 +1,8 @@
 -- The greatest robust shortfall, and the least constant that it gives.
 use Rattle.std.proofs.lemmas.Nat.{div-add-mod', mod_below}
 use Rattle.std.proofs.Math.Nat.{mul-le-mul_left}
-use Rattle.std.proofs.Common.{◌≡◌, ℕ, zero, suc, ◌+◌, ◌-◌, ◌*◌, ◌/◌, ◌<◌, ◌≤◌, ◌⊎◌, inl, inr, ⊎_elim, ℤ, pos, ◌+ℤ◌, ◌-ℤ◌, ◌*ℤ◌, ◌≤ℤ◌, ◌<ℤ◌, None, refl, sym, ap, subst, arith}
+use Rattle.std.proofs.Common.{◌≡◌, ℕ, zero, suc, ◌+◌, ◌-◌, ◌*◌, ◌/◌, ◌<◌, ◌≤◌, ◌⊎◌, inl, inr, ⊎_elim, ℤ, pos, ◌+ℤ◌, ◌-ℤ◌, ◌*ℤ◌, ◌≤ℤ◌, ◌<ℤ◌}
+use Rattle.std.proofs.Common.{None, refl, sym, ap, subst, arith}
 use Rattle.polcert_check.specs.Horizon.{Controller, one}
 use Rattle.polcert_check.specs.Lower.{lowered_by}
 use Rattle.polcert_check.specs.Verdict.{IsBefore}
@@ -54,35 +55,55 @@ split t o u d by l =
     let e : (u - d) + d ≡ u = omega arith in
     subst (λ (k : ℕ). t * o * k * by ≡ t * o * (u - d) * by + t * (o * (d * by))) e (parts t o (u - d) d by)
 
-lowered_amount : (t o d by : ℕ) (v b b' amount : ℤ) → d ≤ one → amount ≡ pos (t * o * one) *ℤ v -ℤ b → b' ≡ b -ℤ pos t *ℤ (pos o *ℤ (pos d *ℤ pos by))
+lowered_amount : (t o d by : ℕ) (v b b' amount : ℤ) → d ≤ one → amount ≡ pos (t * o * one) *ℤ v -ℤ b
+    → b' ≡ b -ℤ pos t *ℤ (pos o *ℤ (pos d *ℤ pos by))
     → amount -ℤ pos (t * o * (one - d) * by) ≡ pos (t * o * one) *ℤ (v -ℤ pos by) -ℤ b'
 lowered_amount t o d by v b b' amount l is is' =
-    let e : pos (t * o * one) *ℤ pos by ≡ pos (t * o * (one - d) * by) +ℤ pos t *ℤ (pos o *ℤ (pos d *ℤ pos by)) = ap (λ (k : ℕ). pos k) (split t o one d by l) in
+    let e : pos (t * o * one) *ℤ pos by ≡ pos (t * o * (one - d) * by) +ℤ pos t *ℤ (pos o *ℤ (pos d *ℤ pos by)) =
+    ap (λ (k : ℕ). pos k) (split t o one d by l) in
     omega (arith, linear, is, is', e, times_less (pos (t * o * one)) v (pos by))
 
 module _ (i : IntervalTable) (c : Controller) (few : i.discount ≤ one) where
   abbrev pub factor : ℕ
   factor = i.t_scale * i.o_scale * (one - i.discount)
 
-  lowered_short : (n s by : ℕ) (amount : ℤ) → IsLeastThatMayLack i c n s None → IsRobustShort i c n s amount → IsRobustShort i (lowered_by c by) n s (amount -ℤ pos (factor * by))
+  lowered_short : (n s by : ℕ) (amount : ℤ) → IsLeastThatMayLack i c n s None → IsRobustShort i c n s amount
+      → IsRobustShort i (lowered_by c by) n s (amount -ℤ pos (factor * by))
   lowered_short n s by amount lacks short =
       let (seen, worst, is) = lowered_step i c n s by lacks short.seen short.ends short.worst in
       record {
         seen = seen;
         ends = short.ends;
         worst = worst;
-        is = lowered_amount i.t_scale i.o_scale i.discount by (c.value n s) (worst_backing i c n s short.seen short.ends) (worst_backing i (lowered_by c by) n s seen short.ends) amount few short.is is;
+        is = lowered_amount i.t_scale i.o_scale i.discount by (c.value n s) (worst_backing i c n s short.seen short.ends)
+            (worst_backing i (lowered_by c by) n s seen short.ends) amount few short.is is;
       }
 
   pub robust_lowered : (n s worst by : ℕ) → IsMeasured i c n s worst → worst ≤ factor * by → PairIsRobust i (lowered_by c by) n s
   robust_lowered n s worst by m l =
       let low : IsRobustShort i (lowered_by c by) n s (m.amount -ℤ pos (factor * by)) = lowered_short n s by m.amount m.lacks m.short in
-      record { lacks_none = m.lacks; seen = low.seen; ends = low.ends; worst = low.worst; not_short = omega (arith, linear, low.is, m.most, l) }
+      record {
+        lacks_none = m.lacks;
+        seen = low.seen;
+        ends = low.ends;
+        worst = low.worst;
+        not_short =
+            omega (arith, linear, low.is, m.most, l);
+      }
 
-  pub short_lowered : 0 < i.t_scale → 0 < i.o_scale → (n s d : ℕ) (amount : ℤ) → IsLeastThatMayLack i c n s None → IsRobustShort i c n s amount → pos (factor * d) <ℤ amount → PairIsRobust i (lowered_by c d) n s → ⊥
+  pub short_lowered : 0 < i.t_scale → 0 < i.o_scale → (n s d : ℕ) (amount : ℤ) → IsLeastThatMayLack i c n s None
+      → IsRobustShort i c n s amount → pos (factor * d) <ℤ amount → PairIsRobust i (lowered_by c d) n s → ⊥
   short_lowered t_some o_some n s d amount lacks short more pair =
       let low : IsRobustShort i (lowered_by c d) n s (amount -ℤ pos (factor * d)) = lowered_short n s d amount lacks short in
-      absurd (omega (arith, linear, more, low.is, pair.not_short, one_worst i (lowered_by c d) n s t_some o_some low.seen low.ends low.worst pair.seen pair.ends pair.worst))
+      absurd (omega (
+        arith,
+        linear,
+        more,
+        low.is,
+        pair.not_short,
+        one_worst i (lowered_by c d) n s t_some o_some low.seen low.ends low.worst
+            pair.seen pair.ends pair.worst,
+      ))
 
   pub least_robust : 0 < i.t_scale → 0 < i.o_scale → (worst by : ℕ) → ((n s : ℕ) → n < c.nodes → s < i.states → IsMeasured i c n s worst)
       → (worst ≡ 0) ⊎ ((n : ℕ) × (s : ℕ) × (n < c.nodes) × (s < i.states) × IsRobustShort i c n s (pos worst))
@@ -95,8 +116,10 @@ module _ (i : IntervalTable) (c : Controller) (few : i.discount ≤ one) where
         is_reached),
   )
     where
-      fails : (d : ℕ) → d < by → (n : ℕ) × (s : ℕ) × (n < c.nodes) × (s < i.states) × IsRobustShort i c n s (pos worst) → IsRobust i (lowered_by c d) → ⊥
-      fails d dl (n, s, nl, sl, short) robust = short_lowered t_some o_some n s d (pos worst) (measured n s nl sl).lacks short (omega (arith, linear, less d dl)) (robust n s nl sl)
+      fails : (d : ℕ) → d < by → (n : ℕ) × (s : ℕ) × (n < c.nodes) × (s < i.states) × IsRobustShort i c n s (pos worst)
+          → IsRobust i (lowered_by c d) → ⊥
+      fails d dl (n, s, nl, sl, short) robust = short_lowered t_some o_some n s d (pos worst) (measured n s nl sl).lacks short
+          (omega (arith, linear, less d dl)) (robust n s nl sl)
 
 -- ---- with a discount of one
 no_factor : (t o d by : ℕ) → one ≤ d → t * o * (one - d) * by ≡ 0
@@ -107,22 +130,35 @@ no_factor t o d by l = let e : one - d ≡ 0 = omega (arith, l) in rw e (none (t
 
 module _ (i : IntervalTable) (c : Controller) (few : i.discount ≤ one) where
   pub least_zero : IsRobust i c → ((n s : ℕ) → n < c.nodes → s < i.states → IsMeasured i c n s 0) → IsLeastRobust i c 0
-  least_zero robust measured = ((λ n s nl sl. robust_lowered i c few n s 0 0 (measured n s nl sl) (omega arith)), (λ d dl h. absurd (omega (arith, dl))))
+  least_zero robust measured = (
+    (λ n s nl sl. robust_lowered i c few n s 0 0 (measured n s nl sl) (omega arith)),
+    (λ d dl h. absurd
+        (omega (arith, dl))),
+  )
 
-  pub no_constant : 0 < i.t_scale → 0 < i.o_scale → one ≤ i.discount → (n s : ℕ) (amount : ℤ) → n < c.nodes → s < i.states → IsLeastThatMayLack i c n s None → IsRobustShort i c n s amount → pos 0 <ℤ amount → (by : ℕ) → IsRobust i (lowered_by c by) → ⊥
+  pub no_constant : 0 < i.t_scale → 0 < i.o_scale → one ≤ i.discount → (n s : ℕ) (amount : ℤ) → n < c.nodes → s < i.states
+      → IsLeastThatMayLack i c n s None → IsRobustShort i c n s amount → pos 0 <ℤ amount → (by : ℕ) → IsRobust i (lowered_by c by) → ⊥
   no_constant t_some o_some all n s amount nl sl lacks short some by robust =
-      short_lowered i c few t_some o_some n s by amount lacks short (rw (no_factor i.t_scale i.o_scale i.discount by all) some) (robust n s nl sl)
+      short_lowered i c few t_some o_some n s by amount lacks short (rw (no_factor i.t_scale i.o_scale i.discount by all) some)
+      (robust n s nl sl)
 
   -- ---- what is said of a survey
   pub none_lacks : (f : RobustFindings) → IsSurveyedBefore i c c.nodes 0 f → NoneMayLack i c
   none_lacks f is n s nl sl = (is.measured n s nl sl (inl nl)).lacks
 
-  pub refused_robustly : 0 < i.t_scale → 0 < i.o_scale → one ≤ i.discount → (f : RobustFindings) → IsSurveyedBefore i c c.nodes 0 f → (fault : LowerFault) → IsRefused f.first fault → (vectors : PolicyVectors) → IsNotLoweredRobustly i c vectors fault
+  pub refused_robustly : 0 < i.t_scale → 0 < i.o_scale → one ≤ i.discount → (f : RobustFindings) → IsSurveyedBefore i c c.nodes 0 f
+      → (fault : LowerFault) → IsRefused f.first fault → (vectors : PolicyVectors) → IsNotLoweredRobustly i c vectors fault
   refused_robustly t_some o_some all f is fault refused vectors = go f.first is.first refused
     where
       go : (v : Verdict) → IsFirstBefore i c c.nodes 0 v → IsRefused v fault → IsNotLoweredRobustly i c vectors fault
       go Yes first e = absurd e
-      go (Short n s amount) (nl, sl, short, some, before) e = rw e (none_lacks f is, no_constant t_some o_some all n s amount nl sl (none_lacks f is n s nl sl) short some, (nl, sl, short, some, before))
+      go (Short n s amount) (nl, sl, short, some, before) e =
+          rw e (
+            none_lacks f is,
+            no_constant t_some o_some all n s amount nl sl (none_lacks f is n s nl sl) short
+                some,
+            (nl, sl, short, some, before),
+          )
       go (NoSuccessor n s z) first e = absurd first
 
   pub zero_robustly : (f : RobustFindings) → IsSurveyedBefore i c c.nodes 0 f → f.first ≡ Yes → IsLeastRobust i c 0

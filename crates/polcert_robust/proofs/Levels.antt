@@ -1,5 +1,6 @@
 -- Levels, the rows of their ends, and the worst row that lies between two of them.
-use Rattle.std.proofs.Common.{◌≡◌, ℕ, ◌+◌, ◌-◌, ◌*◌, ◌<◌, ◌≤◌, ◌⊎◌, ⊎_elim, ℤ, pos, ◌+ℤ◌, ◌-ℤ◌, ◌*ℤ◌, ◌≤ℤ◌, ◌<ℤ◌, ◌^◌, FitsSigned, to_z, of_z, int_le, Option, Some, None, IfSome, true, false, unsigned_abs, refl, sym, ap, ◌∙◌, arith}
+use Rattle.std.proofs.Common.{◌≡◌, ℕ, ◌+◌, ◌-◌, ◌*◌, ◌<◌, ◌≤◌, ◌⊎◌, ⊎_elim, ℤ, pos, ◌+ℤ◌, ◌-ℤ◌, ◌*ℤ◌, ◌≤ℤ◌, ◌<ℤ◌, ◌^◌, FitsSigned, to_z}
+use Rattle.std.proofs.Common.{of_z, int_le, Option, Some, None, IfSome, true, false, unsigned_abs, refl, sym, ap, ◌∙◌, arith}
 use Rattle.std.proofs.lemmas.Int.{by_lt_z, ints, to_z-of_z}
 use Rattle.std.proofs.Math.Nat.{mul-le-mul_left}
 use mir.Syntax.{w128}
@@ -41,11 +42,13 @@ end_rises by low high w v order =
     (λ l. omega (arith, end_at_most by low w v l, end_at_most by high w v (omega (arith, linear))))
 
 -- ---- below all values, and at least at all
-pub sum_below_all : (by count : ℕ) (level : ℤ) (f : ℕ → ℕ) (x : ℕ → ℤ) → ((i : ℕ) → i < count → level <ℤ x i) → sum_below (ends_until by level f x) count ≤ sum_below f count
+pub sum_below_all : (by count : ℕ) (level : ℤ) (f : ℕ → ℕ) (x : ℕ → ℤ) → ((i : ℕ) → i < count → level <ℤ x i)
+    → sum_below (ends_until by level f x) count ≤ sum_below f count
 sum_below_all by count level f x h =
     sum_le (ends_until by level f x) f count (λ i l. omega (arith, end_above by level (f i) (x i) (h i l), low_le by (f i)))
 
-pub sum_above_all : (by count : ℕ) (level : ℤ) (f : ℕ → ℕ) (x : ℕ → ℤ) → ((i : ℕ) → i < count → x i ≤ℤ level) → sum_below f count ≤ sum_below (ends_until by level f x) count
+pub sum_above_all : (by count : ℕ) (level : ℤ) (f : ℕ → ℕ) (x : ℕ → ℤ) → ((i : ℕ) → i < count → x i ≤ℤ level)
+    → sum_below f count ≤ sum_below (ends_until by level f x) count
 sum_above_all by count level f x h =
     sum_le f (ends_until by level f x) count (λ i l. omega (arith, end_at_most by level (f i) (x i) (h i l), high_ge by (f i)))
 
@@ -118,7 +121,8 @@ module _ (by scale count : ℕ) (f : ℕ → ℕ) (x : ℕ → ℤ) (low high : 
       ∙ centered lower x high count)
 
 -- ---- a value between two levels
-pub chosen_some : (low high v : ℤ) (found r : Option ℤ) → (low <ℤ v) × (v <ℤ high) → IfSome found (λ u. (low <ℤ u) × (u <ℤ high)) → (r ≡ Some v) ⊎ ((r ≡ found) × (found ≡ None → ⊥))
+pub chosen_some : (low high v : ℤ) (found r : Option ℤ) → (low <ℤ v) × (v <ℤ high) → IfSome found (λ u. (low <ℤ u) × (u <ℤ high))
+    → (r ≡ Some v) ⊎ ((r ≡ found) × (found ≡ None → ⊥))
     → IfSome r (λ u. (low <ℤ u) × (u <ℤ high))
 chosen_some low high v found r here before is =
     ⊎_elim
@@ -133,7 +137,8 @@ chosen_is_some v found r is none = grind arith
 pub less_times : (a b k : ℕ) → a ≤ b → a * k ≤ b * k
 less_times a b k l = omega (arith, mul-le-mul_left k l)
 
-pub two_small : (a b : ℤ) (sum left scale bound : ℕ) → unsigned_abs a ≤ sum * bound → unsigned_abs b ≤ left * bound → sum + left ≡ scale → unsigned_abs (a +ℤ b) ≤ scale * bound
+pub two_small : (a b : ℤ) (sum left scale bound : ℕ) → unsigned_abs a ≤ sum * bound → unsigned_abs b ≤ left * bound → sum + left ≡ scale
+    → unsigned_abs (a +ℤ b) ≤ scale * bound
 two_small a b sum left scale bound h k is =
     omega (arith, abs-+ℤ a b, h, k, parts sum left bound, ap (λ (j : ℕ). j * bound) is)
   where
@@ -141,6 +146,7 @@ two_small a b sum left scale bound h k is =
     parts u v w = omega arith
 
 pub two_fit : (a b : ℤ) (m : ℕ) → FitsSigned w128 a → FitsSigned w128 b → unsigned_abs (a +ℤ b) ≤ m → m < 2 ^ 127
-    → FitsSigned w128 (to_z w128 (of_z w128 a) +ℤ to_z w128 (of_z w128 b)) × (to_z w128 (of_z w128 (to_z w128 (of_z w128 a) +ℤ to_z w128 (of_z w128 b))) ≡ a +ℤ b)
+    → FitsSigned w128 (to_z w128 (of_z w128 a) +ℤ to_z w128 (of_z w128 b))
+    × (to_z w128 (of_z w128 (to_z w128 (of_z w128 a) +ℤ to_z w128 (of_z w128 b))) ≡ a +ℤ b)
 two_fit a b m fa fb small fits =
     rw (to_z-of_z w128 a fa, to_z-of_z w128 b fb) (fits_128 (a +ℤ b) m small fits, to_z-of_z w128 (a +ℤ b) (fits_128 (a +ℤ b) m small fits))

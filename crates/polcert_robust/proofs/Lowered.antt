@@ -1,5 +1,6 @@
 -- Lowering every vector by one constant lowers what is worst by the scale, the discount and the constant.
-use Rattle.std.proofs.Common.{◌≡◌, ℕ, ◌*◌, ◌<◌, ◌≤◌, ◌⊎◌, inl, inr, ⊎_elim, ℤ, pos, ◌+ℤ◌, ◌-ℤ◌, ◌*ℤ◌, Option, Some, None, refl, sym, ap, ◌∙◌, arith}
+use Rattle.std.proofs.Common.{◌≡◌, ℕ, ◌*◌, ◌<◌, ◌≤◌, ◌⊎◌, inl, inr, ⊎_elim, ℤ, pos, ◌+ℤ◌, ◌-ℤ◌, ◌*ℤ◌, Option, Some, None, refl, sym, ap}
+use Rattle.std.proofs.Common.{◌∙◌, arith}
 use Rattle.std.proofs.Math.IntN.{zero-*ℤ}
 use Rattle.std.proofs.lemmas.Bool.{cases_lt}
 use Rattle.polcert_check.specs.Horizon.{Controller, one}
@@ -18,7 +19,8 @@ use Rattle.polcert_robust.proofs.Found.{sum_le, found}
 abbrev AreLowered : (ℕ → ℕ) → ℕ → (ℕ → ℤ) → ℤ → (ℕ → ℤ) → Type 0
 AreLowered high count x d y = (j : ℕ) → j < count → (y j ≡ x j -ℤ d) ⊎ (high j ≡ 0)
 
-pub lowered_row : (low high : ℕ → ℕ) (scale count : ℕ) (x : ℕ → ℤ) (row : ℕ → ℕ) → IsWorstRow low high scale count x row → (d : ℤ) (y : ℕ → ℤ) → AreLowered high count x d y
+pub lowered_row : (low high : ℕ → ℕ) (scale count : ℕ) (x : ℕ → ℤ) (row : ℕ → ℕ) → IsWorstRow low high scale count x row
+    → (d : ℤ) (y : ℕ → ℤ) → AreLowered high count x d y
     → IsWorstRow low high scale count y row
 lowered_row low high scale count x row worst d y lowered = record {
   sums = worst.sums;
@@ -38,7 +40,8 @@ lowered_row low high scale count x row worst d y lowered = record {
 pub no_weight : (w : ℕ) (x y : ℤ) → w ≡ 0 → pos w *ℤ x ≡ pos w *ℤ y
 no_weight w x y e = rw e (zero-*ℤ x ∙ sym (zero-*ℤ y))
 
-lowered_mean : (low high : ℕ → ℕ) (scale count : ℕ) (x : ℕ → ℤ) (row : ℕ → ℕ) → IsWorstRow low high scale count x row → (d : ℤ) (y : ℕ → ℤ) → AreLowered high count x d y
+lowered_mean : (low high : ℕ → ℕ) (scale count : ℕ) (x : ℕ → ℤ) (row : ℕ → ℕ) → IsWorstRow low high scale count x row → (d : ℤ) (y : ℕ → ℤ)
+    → AreLowered high count x d y
     → mean row y count ≡ mean row x count -ℤ pos scale *ℤ d
 lowered_mean low high scale count x row worst d y lowered =
     sum_below_same _ (λ j. pos (row j) *ℤ (x j -ℤ d)) count (λ j l. ⊎_elim
@@ -62,7 +65,8 @@ no_high t o some none = ⊎_elim (λ (l : 0 < o). absurd (none (some_product t o
 pub lowered_step : (i : IntervalTable) (c : Controller) (n s by : ℕ) → ((z : ℕ) → z < i.observations → MayLack i c n s z → ⊥)
     → (seen : ℕ → ℕ → ℕ) (ends : ℕ → ℕ) → IsWorstStep i c n s seen ends
     → (lowered_seen : ℕ → ℕ → ℕ) × IsWorstStep i (lowered_by c by) n s lowered_seen ends
-    × (worst_backing i (lowered_by c by) n s lowered_seen ends ≡ worst_backing i c n s seen ends -ℤ pos i.t_scale *ℤ (pos i.o_scale *ℤ (pos i.discount *ℤ pos by)))
+    × (worst_backing i (lowered_by c by) n s lowered_seen ends ≡ worst_backing i c n s seen ends -ℤ pos i.t_scale
+    *ℤ (pos i.o_scale *ℤ (pos i.discount *ℤ pos by)))
 lowered_step i c n s by lacks_none seen ends worst = (
   lowered_seen,
   record {
@@ -103,13 +107,16 @@ lowered_step i c n s by lacks_none seen ends worst = (
     of_end e el (inl some) = (
       seen e,
       (
-        lowered_row (i.o_low a e) (i.o_high a e) i.o_scale i.observations (w e) (seen e) (worst.seen_worst e el) d (u e) (seen_lowered e el some),
-        inl (lowered_mean (i.o_low a e) (i.o_high a e) i.o_scale i.observations (w e) (seen e) (worst.seen_worst e el) d (u e) (seen_lowered e el some)),
+        lowered_row (i.o_low a e) (i.o_high a e) i.o_scale i.observations (w e) (seen e) (worst.seen_worst e el) d (u e)
+            (seen_lowered e el some),
+        inl (lowered_mean (i.o_low a e) (i.o_high a e) i.o_scale i.observations (w e) (seen e) (worst.seen_worst e el) d (u e)
+            (seen_lowered e el some)),
       ),
     )
     of_end e el (inr none) =
         let old = worst.seen_worst e el in
-        let (row, new) = found (i.o_low a e) (i.o_high a e) i.o_scale i.observations (u e) (λ z zl. omega (arith, old.from z zl, old.to z zl))
+        let (row, new) = found (i.o_low a e) (i.o_high a e) i.o_scale i.observations (u e)
+        (λ z zl. omega (arith, old.from z zl, old.to z zl))
         (omega (arith, old.sums, sum_le (i.o_low a e) (seen e) i.observations old.from))
         (omega (arith, old.sums, sum_le (seen e) (i.o_high a e) i.observations old.to)) in
         (row, (new, inr (omega arith)))

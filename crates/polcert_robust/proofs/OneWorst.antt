@@ -9,26 +9,39 @@ use Rattle.polcert_robust.proofs.Lowered.{lowered_row}
 use Rattle.polcert_robust.proofs.Refuting.{worst_within}
 use Rattle.polcert_robust.proofs.Rows.{le_cancel, worst_row_is_least}
 
-mean_at_most : (low high : ℕ → ℕ) (scale count : ℕ) (x : ℕ → ℤ) (row other : ℕ → ℕ) → 0 < scale → IsWorstRow low high scale count x row → IsWorstRow low high scale count x other
+mean_at_most : (low high : ℕ → ℕ) (scale count : ℕ) (x : ℕ → ℤ) (row other : ℕ → ℕ) → 0 < scale → IsWorstRow low high scale count x row
+    → IsWorstRow low high scale count x other
     → mean row x count ≤ℤ mean other x count
 mean_at_most low high scale count x row other some worst worst_too =
     let within = worst_within low high scale count x other worst_too in
-    le_cancel scale (mean row x count) (mean other x count) some (worst_row_is_least low high scale count x row worst other scale within.1 within.0)
+    le_cancel scale (mean row x count) (mean other x count) some
+    (worst_row_is_least low high scale count x row worst other scale within.1 within.0)
 
-pub one_mean : (low high : ℕ → ℕ) (scale count : ℕ) (x : ℕ → ℤ) (row other : ℕ → ℕ) → 0 < scale → IsWorstRow low high scale count x row → IsWorstRow low high scale count x other
+pub one_mean : (low high : ℕ → ℕ) (scale count : ℕ) (x : ℕ → ℤ) (row other : ℕ → ℕ) → 0 < scale → IsWorstRow low high scale count x row
+    → IsWorstRow low high scale count x other
     → mean row x count ≡ mean other x count
 one_mean low high scale count x row other some worst worst_too =
-    omega (arith, linear, mean_at_most low high scale count x row other some worst worst_too, mean_at_most low high scale count x other row some worst_too worst)
+    omega (
+      arith,
+      linear,
+      mean_at_most low high scale count x row other some worst worst_too,
+      mean_at_most low high scale count x other row
+          some worst_too worst,
+    )
 
 no_less : (x y : ℤ) → x ≡ y → x ≡ y -ℤ pos 0
 no_less x y e = omega (arith, linear)
 
-pub one_worst : (i : IntervalTable) (c : Controller) (n s : ℕ) → 0 < i.t_scale → 0 < i.o_scale → (seen : ℕ → ℕ → ℕ) (ends : ℕ → ℕ) → IsWorstStep i c n s seen ends
-    → (seen_too : ℕ → ℕ → ℕ) (ends_too : ℕ → ℕ) → IsWorstStep i c n s seen_too ends_too → worst_backing i c n s seen ends ≡ worst_backing i c n s seen_too ends_too
+pub one_worst : (i : IntervalTable) (c : Controller) (n s : ℕ) → 0 < i.t_scale → 0 < i.o_scale → (seen : ℕ → ℕ → ℕ) (ends : ℕ → ℕ)
+    → IsWorstStep i c n s seen ends
+    → (seen_too : ℕ → ℕ → ℕ) (ends_too : ℕ → ℕ) → IsWorstStep i c n s seen_too ends_too
+    → worst_backing i c n s seen ends ≡ worst_backing i c n s seen_too ends_too
 one_worst i c n s t_some o_some seen ends worst seen_too ends_too worst_too =
     one_mean (i.t_low (c.action n) s) (i.t_high (c.action n) s) i.t_scale i.states x ends ends_too t_some worst.ends_worst
-    (lowered_row (i.t_low (c.action n) s) (i.t_high (c.action n) s) i.t_scale i.states y ends_too worst_too.ends_worst (pos 0) x (λ e el. inl (no_less (x e) (y e) (same e el))))
-    ∙ sum_below_same (λ e. pos (ends_too e) *ℤ x e) (λ e. pos (ends_too e) *ℤ y e) i.states (λ e el. ap (λ (v : ℤ). pos (ends_too e) *ℤ v) (same e el))
+    (lowered_row (i.t_low (c.action n) s) (i.t_high (c.action n) s) i.t_scale i.states y ends_too worst_too.ends_worst (pos 0) x
+    (λ e el. inl (no_less (x e) (y e) (same e el))))
+    ∙ sum_below_same (λ e. pos (ends_too e) *ℤ x e) (λ e. pos (ends_too e) *ℤ y e) i.states
+    (λ e el. ap (λ (v : ℤ). pos (ends_too e) *ℤ v) (same e el))
   where
     x : ℕ → ℤ
     x e = mean (seen e) (step_worth i c n s e) i.observations
@@ -37,4 +50,5 @@ one_worst i c n s t_some o_some seen ends worst seen_too ends_too worst_too =
     y e = mean (seen_too e) (step_worth i c n s e) i.observations
 
     same : (e : ℕ) → e < i.states → x e ≡ y e
-    same e el = one_mean (i.o_low (c.action n) e) (i.o_high (c.action n) e) i.o_scale i.observations (step_worth i c n s e) (seen e) (seen_too e) o_some (worst.seen_worst e el) (worst_too.seen_worst e el)
+    same e el = one_mean (i.o_low (c.action n) e) (i.o_high (c.action n) e) i.o_scale i.observations (step_worth i c n s e) (seen e)
+        (seen_too e) o_some (worst.seen_worst e el) (worst_too.seen_worst e el)

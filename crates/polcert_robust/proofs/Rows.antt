@@ -8,7 +8,8 @@ use Rattle.polcert_check.specs.Horizon.{total_below}
 use Rattle.polcert_robust.specs.Worst.{IsWorstRow, mean}
 use Rattle.polcert_robust.specs.Intervals.{IsBetween}
 use Rattle.polcert_check.proofs.Sums.SumLaws.{sum_below_same, sum_below_le, sum_below_scale}
-use Rattle.polcert_check.proofs.Sums.Ring.{linear, mul_le, ≤ℤ_trans, ≤ℤ_from_eq, *ℤ-+ℤ, +ℤ-*ℤ, *ℤ_assoc, *ℤ_left_comm, one-*ℤ, neg_product, sub_add_cancel}
+use Rattle.polcert_check.proofs.Sums.Ring.{linear, mul_le, ≤ℤ_trans, ≤ℤ_from_eq, *ℤ-+ℤ, +ℤ-*ℤ, *ℤ_assoc, *ℤ_left_comm, one-*ℤ, neg_product}
+use Rattle.polcert_check.proofs.Sums.Ring.{sub_add_cancel}
 
 -- ---- products
 pub pos_product : (a b : ℕ) (x : ℤ) → pos (a * b) *ℤ x ≡ pos a *ℤ (pos b *ℤ x)
@@ -43,17 +44,26 @@ no_weight a b x e = rw e (≤ℤ_from_eq _ _ (*ℤ-zero (pos a) ∙ sym (*ℤ-ze
 pub le_cancel : (a : ℕ) (x y : ℤ) → 0 < a → (pos a *ℤ x) ≤ℤ (pos a *ℤ y) → x ≤ℤ y
 le_cancel a x y some h =
     by_lt_z y x
-    (λ l. absurd (omega (arith, linear, mul_le a (y +ℤ pos 1) x (omega (arith, linear)), *ℤ-+ℤ (pos a) y (pos 1), *ℤ_comm (pos a) (pos 1) ∙ one-*ℤ (pos a))))
+    (λ l. absurd (omega (
+      arith,
+      linear,
+      mul_le a (y +ℤ pos 1) x (omega (arith, linear)),
+      *ℤ-+ℤ (pos a) y (pos 1),
+      *ℤ_comm (pos a) (pos 1)
+          ∙ one-*ℤ (pos a),
+    )))
     (λ le. le)
 
 -- ---- means
 -- the mean of what is left above a level
-pub centered : (w : ℕ → ℕ) (x : ℕ → ℤ) (level : ℤ) (n : ℕ) → total_below (λ i. pos (w i) *ℤ (x i -ℤ level)) n ≡ mean w x n -ℤ pos (sum_below w n) *ℤ level
+pub centered : (w : ℕ → ℕ) (x : ℕ → ℤ) (level : ℤ) (n : ℕ)
+    → total_below (λ i. pos (w i) *ℤ (x i -ℤ level)) n ≡ mean w x n -ℤ pos (sum_below w n) *ℤ level
 centered w x level zero = omega (arith, linear, zero-*ℤ level)
 centered w x level (suc n) =
     omega (arith, linear, centered w x level n, times_less (pos (w n)) (x n) level, pos_sum (sum_below w n) (w n) level)
 
-pub mean_le : (q : ℕ → ℕ) (f g : ℕ → ℤ) (n b c : ℕ) → ((e : ℕ) → e < n → (pos b *ℤ f e) ≤ℤ (pos c *ℤ g e)) → (pos b *ℤ mean q f n) ≤ℤ (pos c *ℤ mean q g n)
+pub mean_le : (q : ℕ → ℕ) (f g : ℕ → ℤ) (n b c : ℕ) → ((e : ℕ) → e < n → (pos b *ℤ f e) ≤ℤ (pos c *ℤ g e))
+    → (pos b *ℤ mean q f n) ≤ℤ (pos c *ℤ mean q g n)
 mean_le q f g n b c h =
     ≤ℤ_trans _ _ _ (≤ℤ_from_eq _ _ (sym (sum_below_scale (pos b) (λ e. pos (q e) *ℤ f e) n)))
     (≤ℤ_trans _ _ _ (sum_below_le (λ e. pos b *ℤ (pos (q e) *ℤ f e)) (λ e. pos c *ℤ (pos (q e) *ℤ g e)) n (λ e l. each e (h e l)))
@@ -63,7 +73,8 @@ mean_le q f g n b c h =
     each e k = omega (arith, linear, *ℤ_left_comm (pos b) (pos (q e)) (f e), *ℤ_left_comm (pos c) (pos (q e)) (g e), mul_le (q e) _ _ k)
 
 -- ---- one weight of a worst row, and of another row
-term : (low high scale w q q_scale : ℕ) (x level : ℤ) → IsBetween low high scale q q_scale → (x <ℤ level → w ≡ high) → (level <ℤ x → w ≡ low)
+term : (low high scale w q q_scale : ℕ) (x level : ℤ) → IsBetween low high scale q q_scale → (x <ℤ level → w ≡ high)
+    → (level <ℤ x → w ≡ low)
     → (pos (w * q_scale) *ℤ (x -ℤ level)) ≤ℤ (pos (q * scale) *ℤ (x -ℤ level))
 term low high scale w q q_scale x level between below above =
     by_lt_z x level
@@ -74,7 +85,8 @@ term low high scale w q q_scale x level between below above =
     (λ at_most. no_weight (w * q_scale) (q * scale) (x -ℤ level) (omega (arith, linear))))
 
 -- ---- the law
-cancel_level : (p q : ℕ) (a b level : ℤ) → (pos q *ℤ (a -ℤ pos p *ℤ level)) ≤ℤ (pos p *ℤ (b -ℤ pos q *ℤ level)) → (pos q *ℤ a) ≤ℤ (pos p *ℤ b)
+cancel_level : (p q : ℕ) (a b level : ℤ) → (pos q *ℤ (a -ℤ pos p *ℤ level)) ≤ℤ (pos p *ℤ (b -ℤ pos q *ℤ level))
+    → (pos q *ℤ a) ≤ℤ (pos p *ℤ b)
 cancel_level p q a b level h =
     omega (arith, linear, times_less (pos q) a (pos p *ℤ level), times_less (pos p) b (pos q *ℤ level), *ℤ_left_comm (pos q) (pos p) level)
 

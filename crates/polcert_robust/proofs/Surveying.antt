@@ -1,5 +1,6 @@
 -- What a walk over all pairs has found, with one pair more.
-use Rattle.std.proofs.Common.{◌≡◌, ℕ, ◌+◌, ◌*◌, ◌<◌, ◌≤◌, ◌⊎◌, inl, inr, ⊎_elim, ℤ, pos, ◌-ℤ◌, ◌*ℤ◌, ◌≤ℤ◌, ◌<ℤ◌, None, Some, unsigned_abs, refl, sym, subst, arith}
+use Rattle.std.proofs.Common.{◌≡◌, ℕ, ◌+◌, ◌*◌, ◌<◌, ◌≤◌, ◌⊎◌, inl, inr, ⊎_elim, ℤ, pos, ◌-ℤ◌, ◌*ℤ◌, ◌≤ℤ◌, ◌<ℤ◌, None, Some, unsigned_abs}
+use Rattle.std.proofs.Common.{refl, sym, subst, arith}
 use Rattle.std.proofs.lemmas.Int.{ints}
 use Rattle.polcert_policy.specs.Vectors.{PolicyVectors}
 use Rattle.polcert_check.specs.Horizon.{Controller, one}
@@ -52,17 +53,20 @@ module _ (i : IntervalTable) (c : Controller) where
   first_yes n s (Short m t amount) is pair = is
   first_yes n s (NoSuccessor m t z) is pair = is
 
-  first_short : (n s : ℕ) (v : Verdict) (amount : ℤ) (r : Verdict) → IsFirstBefore i c n s v → (n < c.nodes) → (s < i.states) → IsRobustShort i c n s amount → pos 0 <ℤ amount → IsEarlier v (Short n s amount) r → IsFirstBefore i c n (s + 1) r
+  first_short : (n s : ℕ) (v : Verdict) (amount : ℤ) (r : Verdict) → IsFirstBefore i c n s v → (n < c.nodes) → (s < i.states)
+      → IsRobustShort i c n s amount → pos 0 <ℤ amount → IsEarlier v (Short n s amount) r → IsFirstBefore i c n (s + 1) r
   first_short n s Yes amount r is nl sl short some e = rw e (nl, sl, short, some, is)
   first_short n s (Short m t other) amount r is nl sl short some e = rw e is
   first_short n s (NoSuccessor m t z) amount r is nl sl short some e = absurd is
 
   module _ (n s : ℕ) (f : RobustFindings) (nl : n < c.nodes) (sl : s < i.states) (is : IsSurveyedBefore i c n s f) where
-    more_measured : (worst : ℕ) → f.worst ≤ worst → IsMeasured i c n s worst → (m t : ℕ) → m < c.nodes → t < i.states → IsBefore m t n (s + 1) → IsMeasured i c m t worst
+    more_measured : (worst : ℕ) → f.worst ≤ worst → IsMeasured i c n s worst → (m t : ℕ) → m < c.nodes → t < i.states
+        → IsBefore m t n (s + 1) → IsMeasured i c m t worst
     more_measured worst l here m t ml tl b =
         ⊎_elim
         (λ (h : IsBefore m t n s). wider m t f.worst worst l (is.measured m t ml tl h))
-        (λ (h : (m ≡ n) × (t ≡ s)). subst (λ (k : ℕ). IsMeasured i c k t worst) (sym h.0) (subst (λ (k : ℕ). IsMeasured i c n k worst) (sym h.1) here))
+        (λ (h : (m ≡ n) × (t ≡ s)). subst (λ (k : ℕ). IsMeasured i c k t worst) (sym h.0)
+        (subst (λ (k : ℕ). IsMeasured i c n k worst) (sym h.1) here))
         (before_split m t n s b)
 
     pub yes_noted : PairIsRobust i c n s → IsSurveyedBefore i c n (s + 1) f
@@ -72,12 +76,21 @@ module _ (i : IntervalTable) (c : Controller) where
       first = first_yes n s f.first is.first pair;
     }
 
-    pub short_noted : (m t : ℕ) (amount : ℤ) (r : Verdict) (size worst : ℕ) → IsRobustPair i c n s (Short m t amount) → IsEarlier f.first (Short m t amount) r → size ≡ unsigned_abs amount → f.worst ≤ worst → size ≤ worst → (worst ≡ f.worst) ⊎ (worst ≡ size)
+    pub short_noted : (m t : ℕ) (amount : ℤ) (r : Verdict) (size worst : ℕ) → IsRobustPair i c n s (Short m t amount)
+        → IsEarlier f.first (Short m t amount) r → size ≡ unsigned_abs amount → f.worst ≤ worst → size ≤ worst → (worst ≡ f.worst)
+        ⊎ (worst ≡ size)
         → IsSurveyedBefore i c n (s + 1) (record { first = r; worst = worst })
     short_noted m t amount r size worst (me, te, lacks, short, some) earlier is_size left right is_one = record {
-      measured = more_measured worst left (record { lacks = lacks; amount = amount; short = short; most = size_bounds amount worst (omega (arith, is_size, right)) });
+      measured = more_measured worst left (record {
+        lacks = lacks;
+        amount = amount;
+        short = short;
+        most =
+            size_bounds amount worst (omega (arith, is_size, right));
+      });
       is_reached = ⊎_elim
-          (λ (e : worst ≡ f.worst). subst (λ (k : ℕ). (k ≡ 0) ⊎ ((x : ℕ) × (y : ℕ) × (x < c.nodes) × (y < i.states) × IsRobustShort i c x y (pos k))) (sym e) is.is_reached)
+          (λ (e : worst ≡ f.worst). subst (λ (k : ℕ). (k ≡ 0)
+          ⊎ ((x : ℕ) × (y : ℕ) × (x < c.nodes) × (y < i.states) × IsRobustShort i c x y (pos k))) (sym e) is.is_reached)
           (λ (e : worst ≡ size). inr (n, s, nl, sl, subst (IsRobustShort i c n s) (sym (same e)) short))
           is_one;
       first = first_short n s f.first amount r is.first nl sl short some (rw (me, te) at earlier);
@@ -86,10 +99,12 @@ module _ (i : IntervalTable) (c : Controller) where
         same : worst ≡ size → pos worst ≡ amount
         same e = rw (e, is_size) (positive_is amount some)
 
-    pub lack_noted : (v : Verdict) (fault : LowerFault) (vectors : PolicyVectors) → IsRobustPair i c n s v → IsLackFault v fault → IsNotLoweredRobustly i c vectors fault
+    pub lack_noted : (v : Verdict) (fault : LowerFault) (vectors : PolicyVectors) → IsRobustPair i c n s v → IsLackFault v fault
+        → IsNotLoweredRobustly i c vectors fault
     lack_noted Yes fault vectors pair e = absurd e
     lack_noted (Short m t amount) fault vectors pair e = absurd e
-    lack_noted (NoSuccessor m t z) fault vectors (me, te, lacks) e = rw (e, me, te) (nl, sl, lacks, λ x y xl yl b. (is.measured x y xl yl b).lacks)
+    lack_noted (NoSuccessor m t z) fault vectors (me, te, lacks) e =
+        rw (e, me, te) (nl, sl, lacks, λ x y xl yl b. (is.measured x y xl yl b).lacks)
 
   pub node_surveyed : (n s : ℕ) (f : RobustFindings) → i.states ≤ s → IsSurveyedBefore i c n s f → IsSurveyedBefore i c (n + 1) 0 f
   node_surveyed n s f all is = record {

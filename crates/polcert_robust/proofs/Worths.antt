@@ -16,13 +16,16 @@ use Rattle.polcert_robust.specs.Steps.Pairs.{most_scales, most_worth}
 use Rattle.polcert_robust.specs.Steps.Sides.{least_end, turned}
 use Rattle.polcert_robust.proofs.Levels.{less_times}
 
-pub worth_is : (reward least value a b : ℤ) (by d : ℕ) → least ≡ reward -ℤ pos by → a ≡ pos 1000000 *ℤ least → b ≡ pos d *ℤ value → a +ℤ b ≡ pos one *ℤ (reward -ℤ pos by) +ℤ pos d *ℤ value
+pub worth_is : (reward least value a b : ℤ) (by d : ℕ) → least ≡ reward -ℤ pos by → a ≡ pos 1000000 *ℤ least → b ≡ pos d *ℤ value
+    → a +ℤ b ≡ pos one *ℤ (reward -ℤ pos by) +ℤ pos d *ℤ value
 unfolding one
 worth_is reward least value a b by d e h k = rw (h, k, e) refl
 
-pub worth_small : (least value a b : ℤ) (d : ℕ) → unsigned_abs least ≤ 11000000000000 → d ≤ 1000000 → unsigned_abs value ≤ largest → a ≡ pos 1000000 *ℤ least → b ≡ pos d *ℤ value → unsigned_abs (a +ℤ b) ≤ most_worth
+pub worth_small : (least value a b : ℤ) (d : ℕ) → unsigned_abs least ≤ 11000000000000 → d ≤ 1000000 → unsigned_abs value ≤ largest
+    → a ≡ pos 1000000 *ℤ least → b ≡ pos d *ℤ value → unsigned_abs (a +ℤ b) ≤ most_worth
 worth_small least value a b d small few low h k =
-    let left : unsigned_abs (pos 1000000 *ℤ least) ≤ 1000000 * 11000000000000 = abs-*ℤ_le (pos 1000000) least 1000000 11000000000000 (omega arith) small in
+    let left : unsigned_abs (pos 1000000 *ℤ least) ≤ 1000000 * 11000000000000 =
+    abs-*ℤ_le (pos 1000000) least 1000000 11000000000000 (omega arith) small in
     let right : unsigned_abs (pos d *ℤ value) ≤ 1000000 * largest = abs-*ℤ_le (pos d) value 1000000 largest few low in
     rw (h, k) (omega (arith, abs-+ℤ (pos 1000000 *ℤ least) (pos d *ℤ value), left, right))
 
@@ -44,17 +47,24 @@ unfolding one
 o_scale_small m limits = omega (arith, limits.o_scale, limits.observations.1)
 
 pub backing_small : (m : CellTable) → IsWithinLimits m → m.t_scale * (m.o_scale * most_worth) ≤ most_scales * most_worth
-backing_small m limits = omega (arith, sym (mul_assoc m.t_scale m.o_scale most_worth), less_times (m.t_scale * m.o_scale) most_scales most_worth (scales_le m limits))
+backing_small m limits = omega (
+  arith,
+  sym (mul_assoc m.t_scale m.o_scale most_worth),
+  less_times (m.t_scale * m.o_scale) most_scales
+      most_worth (scales_le m limits),
+)
 
 -- ---- the value's side
 pub scaled_value : (q : ℕ) (v a b : ℤ) → a ≡ pos q *ℤ v → b ≡ pos 1000000 *ℤ a → b ≡ pos (q * one) *ℤ v
 unfolding one
 scaled_value q v a b h k = k ∙ ap (λ (y : ℤ). pos 1000000 *ℤ y) h ∙ *ℤ_left_comm (pos 1000000) (pos q) v ∙ sym (pos_product q 1000000 v)
 
-pub scaled_small : (q : ℕ) (v a b : ℤ) → q ≤ most_scales → unsigned_abs v ≤ largest → a ≡ pos q *ℤ v → b ≡ pos 1000000 *ℤ a → unsigned_abs b ≤ most_scales * 1000000 * largest
+pub scaled_small : (q : ℕ) (v a b : ℤ) → q ≤ most_scales → unsigned_abs v ≤ largest → a ≡ pos q *ℤ v → b ≡ pos 1000000 *ℤ a
+    → unsigned_abs b ≤ most_scales * 1000000 * largest
 scaled_small q v a b few small h k =
     let inner : unsigned_abs a ≤ most_scales * largest = rw h (abs-*ℤ_le (pos q) v most_scales largest few small) in
     rw k (omega (arith, abs-*ℤ_le (pos 1000000) a 1000000 (most_scales * largest) (omega arith) inner))
 
-pub difference_small : (b w : ℤ) → unsigned_abs b ≤ most_scales * 1000000 * largest → unsigned_abs w ≤ most_scales * most_worth → unsigned_abs (b -ℤ w) < 2 ^ 127
+pub difference_small : (b w : ℤ) → unsigned_abs b ≤ most_scales * 1000000 * largest → unsigned_abs w ≤ most_scales * most_worth
+    → unsigned_abs (b -ℤ w) < 2 ^ 127
 difference_small b w h k = omega (arith, ints, h, k)

@@ -1,5 +1,6 @@
 -- The names of std and of specs that several proofs of this crate cite, passed on from one place. Declares nothing.
-pub use Rattle.polcert_cells.specs.Cells.{IsLastCovering, covers, fit_places, fits_place, is_table, last, last_covering, reward, reward_of, value_or, weight, weight_of}
+pub use Rattle.polcert_cells.specs.Cells.{IsLastCovering, covers, fit_places, fits_place, is_table, last, last_covering, reward, reward_of}
+pub use Rattle.polcert_cells.specs.Cells.{value_or, weight, weight_of}
 pub use Rattle.polcert_cells.specs.CommonRewards.{AreOrdered, IsCommonReward, cell_at}
 pub use Rattle.polcert_cells.specs.Elements.{count_of, most_actions, most_elements, most_observations, most_states}
 pub use Rattle.polcert_cells.specs.Entry.{forms}
@@ -30,14 +31,18 @@ pub use Rattle.polcert_rules.specs.Steps.Given.{FitsShape, IsWithin, given}
 pub use Rattle.polcert_rules.specs.Steps.Lists.{part_in, row_in, stored_cells}
 pub use Rattle.polcert_rules.specs.Steps.Merging.{Rises, before, following, from, given_at, merged, newer_cells, weight_in, weight_over}
 pub use Rattle.polcert_rules.specs.Steps.Named.{noted_at}
-pub use Rattle.polcert_rules.specs.Steps.Newest.{AreKeyed, IsEntry, IsIndexOf, IsLastNumber, IsNewest, IsRising, entry_at, newest_from, newest_of_each, rules_from}
+pub use Rattle.polcert_rules.specs.Steps.Newest.{AreKeyed, IsEntry, IsIndexOf, IsLastNumber, IsNewest, IsRising, entry_at, newest_from}
+pub use Rattle.polcert_rules.specs.Steps.Newest.{newest_of_each, rules_from}
 pub use Rattle.polcert_rules.specs.Steps.Noting.{IsLastPlace, IsNoted}
 pub use Rattle.polcert_rules.specs.Steps.RewardSearch.{AreWithin, Begins, IsAnswer, IsLastBody}
 pub use Rattle.polcert_rules.specs.Steps.Rewards.{AreBodiesOf, AreRewardsOf, IsBodyOf, reward_rules, worth}
-pub use Rattle.polcert_rules.specs.Steps.Rows.{HasNoSuchColumn, HaveColumns, IsCell, IsSingle, IsSingleEntry, at_column, columns_of, no_column, number_in}
+pub use Rattle.polcert_rules.specs.Steps.Rows.{HasNoSuchColumn, HaveColumns, IsCell, IsSingle, IsSingleEntry, at_column, columns_of}
+pub use Rattle.polcert_rules.specs.Steps.Rows.{no_column, number_in}
 pub use Rattle.polcert_rules.specs.Steps.Shapes.{AreSound, IsShapeOf}
-pub use Rattle.polcert_rules.specs.Steps.Sources.{AreKept, AreLine, AreLines, AreNumbersOf, IsAfter, IsFrom, IsKeptRow, IsShared, IsWhole, Stays, total}
-pub use Rattle.polcert_rules.specs.Steps.Zeros.{IsRowOf, IsSplit, covering_entry, is_zero, newest_zero, number_under, others_in, others_of, overrides, shown, shown_under, zero_of, zeros_of}
+pub use Rattle.polcert_rules.specs.Steps.Sources.{AreKept, AreLine, AreLines, AreNumbersOf, IsAfter, IsFrom, IsKeptRow, IsShared, IsWhole}
+pub use Rattle.polcert_rules.specs.Steps.Sources.{Stays, total}
+pub use Rattle.polcert_rules.specs.Steps.Zeros.{IsRowOf, IsSplit, covering_entry, is_zero, newest_zero, number_under, others_in, others_of}
+pub use Rattle.polcert_rules.specs.Steps.Zeros.{overrides, shown, shown_under, zero_of, zeros_of}
 pub use Rattle.polcert_rules.specs.declared.index.Rule.{Rule}
 pub use Rattle.polcert_rules.specs.declared.named_rules.NamedRule.{NamedRule}
 pub use Rattle.polcert_cells.specs.declared.entries.RewardBody.{RewardBody}
@@ -54,10 +59,13 @@ pub use Rattle.polcert_rules.specs.declared.zeros.RowZeros.{RowZeros}
 pub use Rattle.polcert_rules.specs.declared.zeros.SplitRules.{SplitRules}
 pub use Rattle.std.proofs.lemmas.Bool.{cases_lt}
 pub use Rattle.std.proofs.lemmas.Bool.Decides.{nat_tests}
-pub use Rattle.std.proofs.lemmas.List.{drop_all, drop_more, get_or-replicate, get_or_append_left, get_or_default, get_or_past, map-append, take_more}
-pub use Rattle.std.proofs.lemmas.List.Elements.{All-cons, All-head, All-nil, All-push, All-tail, Contains-append_cases, Contains-append_left, Contains-append_right, Contains-get_or}
+pub use Rattle.std.proofs.lemmas.List.{drop_all, drop_more, get_or-replicate, get_or_append_left, get_or_default, get_or_past, map-append}
+pub use Rattle.std.proofs.lemmas.List.{take_more}
+pub use Rattle.std.proofs.lemmas.List.Elements.{All-cons, All-head, All-nil, All-push, All-tail, Contains-append_cases}
+pub use Rattle.std.proofs.lemmas.List.Elements.{Contains-append_left, Contains-append_right, Contains-get_or}
 pub use Rattle.std.proofs.lemmas.List.Kept.{AllPairs-cons}
-pub use Rattle.std.proofs.lemmas.List.Sorted.{Contains-permutation, IsNonDecreasingBy-from_sort_by_key, IsPartitionPoint-from_clause, IsPartitionedBy-ltb, IsPermutation-sym}
+pub use Rattle.std.proofs.lemmas.List.Sorted.{Contains-permutation, IsNonDecreasingBy-from_sort_by_key, IsPartitionPoint-from_clause}
+pub use Rattle.std.proofs.lemmas.List.Sorted.{IsPartitionedBy-ltb, IsPermutation-sym}
 pub use Rattle.std.proofs.lemmas.Nat.{div-mul-add, mod-mul-add, mul-add-lt}
 pub use Rattle.std.proofs.lemmas.Option.{get_or_from_slice_get, same_Some, slice_get-get_or, slice_get-map, slice_get_within}
 pub use Rattle.std.specs.List.{list_any}

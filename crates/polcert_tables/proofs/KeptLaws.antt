@@ -1,6 +1,9 @@
 -- What a model keeps has the meaning of the items of its text.
-use Rattle.std.proofs.Common.{◌≡◌, ◌∙◌, ℕ, zero, suc, ◌<◌, ◌≤◌, ◌==◌, false, cond, List, [], ◌∷◌, ℤ, pos, true, Option, sym, ap, subst, arith, refl, ◌*◌, ◌/◌, ◌%◌, div-lt_iff_lt-mul, mod-lt}
-use Rattle.polcert_tables.proofs.Common.{ForSome, Entry, Table, count_of, most_states, most_actions, most_observations, Preamble, is_mdp, observed, weight, reward, IsCommonReward, sum_below, AreRewardsOf, Kept, IsKeptOf, IsKeptModel, Transition, Draft}
+use Rattle.std.proofs.Common.{◌≡◌, ◌∙◌, ℕ, zero, suc, ◌<◌, ◌≤◌, ◌==◌, false, cond, List, [], ◌∷◌, ℤ, pos, true, Option, sym, ap, subst}
+use Rattle.std.proofs.Common.{arith, refl, ◌*◌, ◌/◌, ◌%◌, div-lt_iff_lt-mul, mod-lt}
+use Rattle.polcert_tables.proofs.Common.{ForSome, Entry, Table, count_of, most_states, most_actions, most_observations, Preamble, is_mdp}
+use Rattle.polcert_tables.proofs.Common.{observed, weight, reward, IsCommonReward, sum_below, AreRewardsOf, Kept, IsKeptOf, IsKeptModel}
+use Rattle.polcert_tables.proofs.Common.{Transition, Draft}
 use Rattle.polcert_cells.specs.Preamble.{rewarded, columns}
 use Rattle.polcert_cells.specs.CommonRewards.{cell_at}
 use Rattle.polcert_cells.specs.Meaning.{observation_weight, reward_index, IsSame}
@@ -22,7 +25,8 @@ use Rattle.polcert_rules.specs.Steps.Shapes.{AreSound}
 use Rattle.polcert_cells.specs.Steps.Drafts as drafts
 
 same_cell : (p : Preamble) (entries : List Entry) (table : Table) (t : RowTable) → AreRowsOf p entries table t
-    → (a s c : ℕ) → a < count_of p.actions → s < count_of p.states → c < columns p table → weight_at (row_at t a s) c ≡ weight p entries table (a ∷ s ∷ c ∷ [])
+    → (a s c : ℕ) → a < count_of p.actions → s < count_of p.states → c < columns p table
+    → weight_at (row_at t a s) c ≡ weight p entries table (a ∷ s ∷ c ∷ [])
 same_cell p entries table t h a s c i j k =
     (h.each a s (omega (arith, i, h.actions)) (omega (arith, j, h.states))).each c (omega (arith, k, h.width))
 
@@ -32,7 +36,8 @@ AreFew p = (count_of p.actions ≤ most_actions) × (count_of p.states ≤ most_
 
 -- the rows of O
 observed_cell : (p : Preamble) (entries : List Entry) (rows : Option RowTable) → AreObservationsOf p entries rows
-    → (a e z : ℕ) → a < count_of p.actions → e < count_of p.states → z < count_of (observed p) → observed_at p rows a e z ≡ observation_weight p entries a e z
+    → (a e z : ℕ) → a < count_of p.actions → e < count_of p.states → z < count_of (observed p)
+    → observed_at p rows a e z ≡ observation_weight p entries a e z
 observed_cell p entries rows h1 a e z h2 h3 h4 = grind (arith, same_cell)
 
 -- what a reward depends on is one of so many
@@ -61,7 +66,8 @@ pub sum_at : (f : ℕ → ℕ) (k n c : ℕ) → k < n → f k ≡ c → ((i : �
 sum_at f k zero c l here others = absurd (omega (arith, l))
 sum_at f k (suc n) c l here others = one_more f k n c (λ b. sum_at f k n c b here (λ i m. others i (omega (arith, m)))) l here others
   where
-    one_more : (f : ℕ → ℕ) (k n c : ℕ) → (k < n → sum_below f n ≡ c) → k < suc n → f k ≡ c → ((i : ℕ) → i < suc n → (i ≡ k → ⊥) → f i ≡ 0) → sum_below f (suc n) ≡ c
+    one_more : (f : ℕ → ℕ) (k n c : ℕ) → (k < n → sum_below f n ≡ c) → k < suc n → f k ≡ c → ((i : ℕ) → i < suc n → (i ≡ k → ⊥) → f i ≡ 0)
+        → sum_below f (suc n) ≡ c
     one_more f k n c before l here others = grind (arith, sum_of_same f 0 n)
 
 -- a row whose whole weight stands in one column
@@ -90,12 +96,21 @@ module _ (k : Kept) (d : IsKeptModel k) where
   model_index z l = subst (λ n. reward_index k.preamble z < n) d.r_counts.observations (index_within k.preamble z l)
 
   -- what all entries give a cell of R is what the rules give it
-  pub model_reward : (a s e z : ℕ) (h : ℤ) → a < count_of k.preamble.actions → s < count_of k.preamble.states → e < count_of k.preamble.states → z < count_of (observed k.preamble)
-      → ((p : Preamble) (entries : List Entry) → AreRewardsOf p entries k.rewards → h ≡ reward p entries (a ∷ s ∷ e ∷ reward_index k.preamble z ∷ [])) → h ≡ (meaning k).r a s e z
-  model_reward a s e z h i j l m is = grind (arith, (kept_same d.items k (few_in k d) d.said).r a s e z, is d.items.preamble d.items.entries d.said.rewards)
+  pub model_reward : (a s e z : ℕ) (h : ℤ) → a < count_of k.preamble.actions → s < count_of k.preamble.states
+      → e < count_of k.preamble.states → z < count_of (observed k.preamble)
+      → ((p : Preamble) (entries : List Entry) → AreRewardsOf p entries k.rewards
+      → h ≡ reward p entries (a ∷ s ∷ e ∷ reward_index k.preamble z ∷ [])) → h ≡ (meaning k).r a s e z
+  model_reward a s e z h i j l m is = grind (
+    arith,
+    (kept_same d.items k (few_in k d) d.said).r a s e z,
+    is d.items.preamble d.items.entries
+        d.said.rewards,
+  )
 
-  pub model_for_all_observations : (a s e : ℕ) (found : Option ℤ) → a < count_of k.preamble.actions → s < count_of k.preamble.states → e < count_of k.preamble.states
-      → ((p : Preamble) (entries : List Entry) → AreRewardsOf p entries k.rewards → ForSome found (λ h. (z : ℕ) → z < k.rewards.shape.observations → reward p entries (a ∷ s ∷ e ∷ z ∷ []) ≡ h))
+  pub model_for_all_observations : (a s e : ℕ) (found : Option ℤ) → a < count_of k.preamble.actions → s < count_of k.preamble.states
+      → e < count_of k.preamble.states
+      → ((p : Preamble) (entries : List Entry) → AreRewardsOf p entries k.rewards
+      → ForSome found (λ h. (z : ℕ) → z < k.rewards.shape.observations → reward p entries (a ∷ s ∷ e ∷ z ∷ []) ≡ h))
       → ForSome found (λ h. (z : ℕ) → z < count_of (observed k.preamble) → (meaning k).r a s e z ≡ h)
   model_for_all_observations a s e found i j l alike = λ h is z m. grind (arith, kept_same d.items k (few_in k d), model_index z)
 
@@ -103,7 +118,8 @@ module _ (k : Kept) (d : IsKeptModel k) where
   rewards_seen : is_mdp k.preamble ≡ false → k.rewards.shape.observations ≡ count_of (observed k.preamble)
   rewards_seen pomdp = sym d.r_counts.observations ∙ same_count k.preamble pomdp
 
-  pub model_common_reward : (a s e : ℕ) (found : Option CommonReward) (cells : List RewardCell) → a < count_of k.preamble.actions → s < count_of k.preamble.states → e < count_of k.preamble.states
+  pub model_common_reward : (a s e : ℕ) (found : Option CommonReward) (cells : List RewardCell) → a < count_of k.preamble.actions
+      → s < count_of k.preamble.states → e < count_of k.preamble.states
       → is_mdp k.preamble ≡ false
       → ((p : Preamble) (entries : List Entry) → AreRewardsOf p entries k.rewards
       → ForSome found (λ common. IsCommonReward (λ z. reward p entries (a ∷ s ∷ e ∷ z ∷ [])) k.rewards.shape.observations common cells))
@@ -111,8 +127,10 @@ module _ (k : Kept) (d : IsKeptModel k) where
   model_common_reward a s e found cells i j l pomdp given = λ common is.
       let c = given d.items.preamble d.items.entries d.said.rewards common is in
       let same = rewards_seen pomdp in
-      let within : (n : ℕ) → n < common.exceptions → (cell_at cells n).observation < count_of (observed k.preamble) = λ n m. subst (λ size. (cell_at cells n).observation < size) same (c.within n m) in
-      let there : (z : ℕ) → z < count_of (observed k.preamble) → (meaning k).r a s e z ≡ reward d.items.preamble d.items.entries (a ∷ s ∷ e ∷ z ∷ []) = λ z m.
+      let within : (n : ℕ) → n < common.exceptions → (cell_at cells n).observation < count_of (observed k.preamble) =
+      λ n m. subst (λ size. (cell_at cells n).observation < size) same (c.within n m) in
+      let there : (z : ℕ) → z < count_of (observed k.preamble)
+      → (meaning k).r a s e z ≡ reward d.items.preamble d.items.entries (a ∷ s ∷ e ∷ z ∷ []) = λ z m.
       (kept_same d.items k (few_in k d) d.said).r a s e z i j l m
       ∙ ap (λ (p : Preamble). reward d.items.preamble d.items.entries (a ∷ s ∷ e ∷ reward_index p z ∷ [])) (sym d.said.preamble)
       ∙ ap (λ y. reward d.items.preamble d.items.entries (a ∷ s ∷ e ∷ y ∷ [])) (observed_index k.preamble z pomdp) in
@@ -125,21 +143,28 @@ module _ (k : Kept) (d : IsKeptModel k) where
       }
 
   -- the same of all end states
-  pub model_row_reward : (a s : ℕ) (found : Option CommonReward) (cells : List RewardCell) → a < count_of k.preamble.actions → s < count_of k.preamble.states
+  pub model_row_reward : (a s : ℕ) (found : Option CommonReward) (cells : List RewardCell) → a < count_of k.preamble.actions
+      → s < count_of k.preamble.states
       → is_mdp k.preamble ≡ false
       → ((p : Preamble) (entries : List Entry) → AreRewardsOf p entries k.rewards
-      → ForSome found (λ common. IsCommonReward (λ n. reward p entries (a ∷ s ∷ n / k.rewards.shape.observations ∷ n % k.rewards.shape.observations ∷ []))
+      → ForSome found (λ common. IsCommonReward (λ n. reward p entries
+      (a ∷ s ∷ n / k.rewards.shape.observations ∷ n % k.rewards.shape.observations ∷ []))
       (k.rewards.shape.states * k.rewards.shape.observations) common cells))
-      → ForSome found (λ common. IsCommonReward (λ n. (meaning k).r a s (n / count_of (observed k.preamble)) (n % count_of (observed k.preamble)))
+      → ForSome found (λ common. IsCommonReward (λ n. (meaning k).r a s (n / count_of (observed k.preamble))
+      (n % count_of (observed k.preamble)))
       (count_of k.preamble.states * count_of (observed k.preamble)) common cells)
   model_row_reward a s found cells i j pomdp given = λ common is.
       let given_here = given d.items.preamble d.items.entries d.said.rewards common is in
       let states : k.rewards.shape.states ≡ count_of k.preamble.states = sym d.r_counts.states in
-      let c = subst (λ (z : ℕ). IsCommonReward (λ n. reward d.items.preamble d.items.entries (a ∷ s ∷ n / z ∷ n % z ∷ [])) (count_of k.preamble.states * z) common cells) (rewards_seen pomdp)
-      (subst (λ (e : ℕ). IsCommonReward (λ n. reward d.items.preamble d.items.entries (a ∷ s ∷ n / k.rewards.shape.observations ∷ n % k.rewards.shape.observations ∷ []))
+      let c = subst (λ (z : ℕ). IsCommonReward (λ n. reward d.items.preamble d.items.entries (a ∷ s ∷ n / z ∷ n % z ∷ []))
+      (count_of k.preamble.states * z) common cells) (rewards_seen pomdp)
+      (subst (λ (e : ℕ). IsCommonReward (λ n. reward d.items.preamble d.items.entries
+      (a ∷ s ∷ n / k.rewards.shape.observations ∷ n % k.rewards.shape.observations ∷ []))
       (e * k.rewards.shape.observations) common cells) states given_here) in
       let there : (n : ℕ) → n < count_of k.preamble.states * count_of (observed k.preamble)
-      → (meaning k).r a s (n / count_of (observed k.preamble)) (n % count_of (observed k.preamble)) ≡ reward d.items.preamble d.items.entries (a ∷ s ∷ n / count_of (observed k.preamble) ∷ n % count_of (observed k.preamble) ∷ []) = λ n m.
+      → (meaning k).r a s (n / count_of (observed k.preamble)) (n % count_of (observed k.preamble))
+      ≡ reward d.items.preamble d.items.entries (a ∷ s ∷ n / count_of (observed k.preamble) ∷ n % count_of (observed k.preamble) ∷ []) =
+      λ n m.
       let some = some_factor n (count_of k.preamble.states) (count_of (observed k.preamble)) m in
       let e = n / count_of (observed k.preamble) in
       let z = n % count_of (observed k.preamble) in
@@ -155,19 +180,24 @@ module _ (k : Kept) (d : IsKeptModel k) where
       }
 
   -- the same in an MDP, of end states alone
-  pub model_end_reward : (a s z : ℕ) (found : Option CommonReward) (cells : List RewardCell) → a < count_of k.preamble.actions → s < count_of k.preamble.states → z < count_of (observed k.preamble)
+  pub model_end_reward : (a s z : ℕ) (found : Option CommonReward) (cells : List RewardCell) → a < count_of k.preamble.actions
+      → s < count_of k.preamble.states → z < count_of (observed k.preamble)
       → is_mdp k.preamble ≡ true
       → ((p : Preamble) (entries : List Entry) → AreRewardsOf p entries k.rewards
-      → ForSome found (λ common. IsCommonReward (λ n. reward p entries (a ∷ s ∷ n / k.rewards.shape.observations ∷ n % k.rewards.shape.observations ∷ []))
+      → ForSome found (λ common. IsCommonReward (λ n. reward p entries
+      (a ∷ s ∷ n / k.rewards.shape.observations ∷ n % k.rewards.shape.observations ∷ []))
       (k.rewards.shape.states * k.rewards.shape.observations) common cells))
       → ForSome found (λ common. IsCommonReward (λ e. (meaning k).r a s e z) (count_of k.preamble.states) common cells)
   model_end_reward a s z found cells i j l mdp given = λ common is.
       let states : k.rewards.shape.states ≡ count_of k.preamble.states = sym d.r_counts.states in
       let one : k.rewards.shape.observations ≡ 1 = sym d.r_counts.observations ∙ one_rewarded k.preamble mdp in
-      let c = subst (λ (n : ℕ). IsCommonReward (λ e. reward d.items.preamble d.items.entries (a ∷ s ∷ e / n ∷ e % n ∷ [])) (count_of k.preamble.states * n) common cells) one
-      (subst (λ (n : ℕ). IsCommonReward (λ e. reward d.items.preamble d.items.entries (a ∷ s ∷ e / k.rewards.shape.observations ∷ e % k.rewards.shape.observations ∷ []))
+      let c = subst (λ (n : ℕ). IsCommonReward (λ e. reward d.items.preamble d.items.entries (a ∷ s ∷ e / n ∷ e % n ∷ []))
+      (count_of k.preamble.states * n) common cells) one
+      (subst (λ (n : ℕ). IsCommonReward (λ e. reward d.items.preamble d.items.entries
+      (a ∷ s ∷ e / k.rewards.shape.observations ∷ e % k.rewards.shape.observations ∷ []))
       (n * k.rewards.shape.observations) common cells) states (given d.items.preamble d.items.entries d.said.rewards common is)) in
-      let there : (e : ℕ) → e < count_of k.preamble.states → (meaning k).r a s e z ≡ reward d.items.preamble d.items.entries (a ∷ s ∷ e / 1 ∷ e % 1 ∷ []) = λ e m.
+      let there : (e : ℕ) → e < count_of k.preamble.states
+      → (meaning k).r a s e z ≡ reward d.items.preamble d.items.entries (a ∷ s ∷ e / 1 ∷ e % 1 ∷ []) = λ e m.
       (kept_same d.items k (few_in k d) d.said).r a s e z i j m l
       ∙ ap (λ (p : Preamble). reward d.items.preamble d.items.entries (a ∷ s ∷ e ∷ reward_index p z ∷ [])) (sym d.said.preamble)
       ∙ ap (λ b. reward d.items.preamble d.items.entries (a ∷ s ∷ e ∷ cond b 0 z ∷ [])) mdp
@@ -182,26 +212,41 @@ module _ (k : Kept) (d : IsKeptModel k) where
 
   pub model_for_all_ends : (a s : ℕ) (found : Option ℤ) → a < count_of k.preamble.actions → s < count_of k.preamble.states
       → ((p : Preamble) (entries : List Entry) → AreRewardsOf p entries k.rewards
-      → ForSome found (λ h. (e z : ℕ) → e < k.rewards.shape.states → z < k.rewards.shape.observations → reward p entries (a ∷ s ∷ e ∷ z ∷ []) ≡ h))
+      → ForSome found (λ h. (e z : ℕ) → e < k.rewards.shape.states → z < k.rewards.shape.observations
+      → reward p entries (a ∷ s ∷ e ∷ z ∷ []) ≡ h))
       → ForSome found (λ h. (e z : ℕ) → e < count_of k.preamble.states → z < count_of (observed k.preamble) → (meaning k).r a s e z ≡ h)
   model_for_all_ends a s found i j common = λ h is e z l m. grind (arith, kept_same d.items k (few_in k d), model_index z)
 
   pub model_same : (a s other : ℕ) → a < count_of k.preamble.actions → s < count_of k.preamble.states → other < count_of k.preamble.states
-      → ((p : Preamble) (entries : List Entry) → AreRewardsOf p entries k.rewards → (e z : ℕ) → e < k.rewards.shape.states → z < k.rewards.shape.observations
+      → ((p : Preamble) (entries : List Entry) → AreRewardsOf p entries k.rewards → (e z : ℕ) → e < k.rewards.shape.states
+      → z < k.rewards.shape.observations
       → reward p entries (a ∷ s ∷ e ∷ z ∷ []) ≡ reward p entries (a ∷ other ∷ e ∷ z ∷ []))
       → (e z : ℕ) → e < count_of k.preamble.states → z < count_of (observed k.preamble) → (meaning k).r a s e z ≡ (meaning k).r a other e z
-  model_same a s other i j o same e z l m = grind (arith, kept_same d.items k (few_in k d) d.said, same d.items.preamble d.items.entries d.said.rewards, model_index z m)
+  model_same a s other i j o same e z l m = grind (
+    arith,
+    kept_same d.items k (few_in k d) d.said,
+    same d.items.preamble d.items.entries
+        d.said.rewards,
+    model_index z m,
+  )
 
   pub model_unpaid : (a s : ℕ) → a < count_of k.preamble.actions → s < count_of k.preamble.states
-      → ((p : Preamble) (entries : List Entry) → AreRewardsOf p entries k.rewards → (e z : ℕ) → reward p entries (a ∷ s ∷ e ∷ z ∷ []) ≡ pos 0)
+      → ((p : Preamble) (entries : List Entry) → AreRewardsOf p entries k.rewards → (e z : ℕ)
+      → reward p entries (a ∷ s ∷ e ∷ z ∷ []) ≡ pos 0)
       → (e z : ℕ) → e < count_of k.preamble.states → z < count_of (observed k.preamble) → (meaning k).r a s e z ≡ pos 0
-  model_unpaid a s i j none e z l m = grind (arith, (kept_same d.items k (few_in k d) d.said).r a s e z, none d.items.preamble d.items.entries d.said.rewards e (reward_index d.items.preamble z))
+  model_unpaid a s i j none e z l m = grind (
+    arith,
+    (kept_same d.items k (few_in k d) d.said).r a s e z,
+    none d.items.preamble
+        d.items.entries d.said.rewards e (reward_index d.items.preamble z),
+  )
 
 -- ---- what a model is built of
 pub are_sound : (d : Draft) → IsSound d → AreSound d.preamble d.entries
 are_sound d s = record { states = s.states; actions = s.actions; observations = s.observations; each = s.entries }
 
-module _ (d : Draft) (s : IsSound d) (t : RowTable) (o : Option RowTable) (r : RewardRules) (transitions : AreRowsOf d.preamble d.entries Transition t)
+module _ (d : Draft) (s : IsSound d) (t : RowTable) (o : Option RowTable) (r : RewardRules)
+    (transitions : AreRowsOf d.preamble d.entries Transition t)
     (observations : AreObservationsOf d.preamble d.entries o) (rewards : AreRewardsOf d.preamble d.entries r) where
   abbrev kept : Kept
   kept = record { preamble = d.preamble; start = d.start; transitions = t; observations = o; rewards = r }

@@ -1,6 +1,7 @@
 -- The names of std and of specs that several proofs of this crate cite, passed on from one place. Declares nothing.
 pub use Rattle.polcert_text.specs.Beginning.{BeginWith, passed}
-unfoldable pub use Rattle.polcert_text.specs.Bytes.{is_blank, is_digit, is_exponent_mark, is_hash, is_letter, is_line_end, is_name_byte, is_point}
+unfoldable pub use Rattle.polcert_text.specs.Bytes.{is_blank, is_digit, is_exponent_mark, is_hash, is_letter, is_line_end, is_name_byte}
+unfoldable pub use Rattle.polcert_text.specs.Bytes.{is_point}
 pub use Rattle.polcert_text.specs.Cut.{Ends, EndsAt, IsCut, IsFaultAt, IsTokenAt, Lexeme, Rest, TakesToken, is_glued, text_rest}
 pub use Rattle.polcert_text.specs.Device.{HasFailed}
 pub use Rattle.polcert_text.specs.FrontValues.{BeginWithValue}
@@ -10,7 +11,8 @@ pub use Rattle.polcert_text.specs.Lexemes.{are_digits, is_empty, is_numeral, wit
 unfoldable pub use Rattle.polcert_text.specs.Lexemes.{kind_of}
 pub use Rattle.polcert_text.specs.Millionths.{fraction_text, unsigned_text}
 unfoldable pub use Rattle.polcert_text.specs.Millionths.{decimals}
-pub use Rattle.polcert_text.specs.Numbers.{IsCeil, IsExact, IsFloor, IsReadable, IsRounded, exponent_of, fraction_of, is_lowering, largest, signed, whole_of}
+pub use Rattle.polcert_text.specs.Numbers.{IsCeil, IsExact, IsFloor, IsReadable, IsRounded, exponent_of, fraction_of, is_lowering, largest}
+pub use Rattle.polcert_text.specs.Numbers.{signed, whole_of}
 unfoldable pub use Rattle.polcert_text.specs.Numbers.{exponent_size, millionth, number_of, power_of, size_of}
 pub use Rattle.polcert_text.specs.ReadTexts.{ReadsText}
 pub use Rattle.polcert_text.specs.Reading.{lexeme_of}
@@ -21,7 +23,8 @@ unfoldable pub use Rattle.polcert_text.specs.Steps.Classes.{class_of}
 pub use Rattle.polcert_text.specs.Steps.FrontSizes.{AreDigitsFrom, EndsAsSize}
 pub use Rattle.polcert_text.specs.Steps.Scaling.{IsScaled, Measures, cap, ceiling, is_away, is_nonzero, rounded, separates}
 pub use Rattle.polcert_text.specs.Steps.Scan.{gap_after, gap_through, is_numeral_kind, kind_at, state_after, state_through}
-pub use Rattle.polcert_text.specs.Steps.ScanOf.{EndsAsDigits, EndsWithin, IsFrontOf, IsNameOrMark, IsNumberFrom, IsScanOf, front_len, is_over, is_stuck, pending}
+pub use Rattle.polcert_text.specs.Steps.ScanOf.{EndsAsDigits, EndsWithin, IsFrontOf, IsNameOrMark, IsNumberFrom, IsScanOf, front_len}
+pub use Rattle.polcert_text.specs.Steps.ScanOf.{is_over, is_stuck, pending}
 pub use Rattle.polcert_text.specs.Steps.StreamTaken.{TakenFrom}
 pub use Rattle.polcert_text.specs.Steps.Streaming.{Fills, IsComplete, IsSeen, ReadsOn, ScansLexeme, SkipsGap, StopsRightly}
 pub use Rattle.polcert_text.specs.Stream.{Ahead, CanFollow, Fails, GivesEnd, GivesToken, ReadsFrom, Stream, rest_with, skip, visible}

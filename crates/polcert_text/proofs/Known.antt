@@ -58,7 +58,8 @@ writer_took held after bytes = took_known (λ xs. xs)
 -- ---- where no bytes are known
 
 -- one read may have given the whole text, and the next one nothing
-pub unknown_text : {S : Type 0} (s t : S) (text : List ℕ) → IsText (λ (x : S) room answer (y : S). ReadsKnown None room answer None) s text t
+pub unknown_text : {S : Type 0} (s t : S) (text : List ℕ)
+    → IsText (λ (x : S) room answer (y : S). ReadsKnown None room answer None) s text t
 unknown_text s t [] = record { before = s; room = 1; has_room = omega arith; gave = nothing; ended = (tt, λ none some. tt) }
 unknown_text s t (b ∷ bs) = record {
   before = t;

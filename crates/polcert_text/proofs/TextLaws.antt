@@ -1,6 +1,7 @@
 -- The laws of the definitions that proofs of the crates above may cite. Each is the contract of a public function.
 use Rattle.std.proofs.Common.{◌≡◌, ◌∙◌, ℕ, Bool, Option, Some, None, Result, Ok, Err, List, refl, sym, subst, arith, ℤ, ◌≤ℤ◌, rules}
-use Rattle.polcert_text.proofs.Common.{ints, Lexeme, Rest, TakesToken, Ends, IsCut, lexeme_of, millionth, IsReadable, IsExact, IsFloor, IsCeil, IsRounded, TokenFault, Rounding}
+use Rattle.polcert_text.proofs.Common.{ints, Lexeme, Rest, TakesToken, Ends, IsCut, lexeme_of, millionth, IsReadable, IsExact, IsFloor}
+use Rattle.polcert_text.proofs.Common.{IsCeil, IsRounded, TokenFault, Rounding}
 use Rattle.polcert_text.specs.Reading.{GivesNext}
 use Rattle.polcert_text.specs.Numbers.{IsRefused, IsRefusedExactly}
 use Rattle.polcert_text.specs.declared.tokens.Token.{Token}
@@ -28,7 +29,8 @@ none≢some : {A : Type 0} (x : A) → None ≡ Some x → ⊥
 none≢some x e = cc
 
 -- what ends stays as it was
-ends_again : (rest : Rest) (x : Option TokenFault) (answer : Option (Result Token TokenFault)) (later : Rest) → Ends rest x → GivesNext rest answer later
+ends_again : (rest : Rest) (x : Option TokenFault) (answer : Option (Result Token TokenFault)) (later : Rest) → Ends rest x
+    → GivesNext rest answer later
     → (answer ≡ (elim x as (λ _. Option (Result Token TokenFault)) [ None ↦ None | Some f ↦ Some (Err f) ])) × (later ≡ rest)
 ends_again rest None None later ends next = (refl, next.1)
 ends_again rest (Some f) None later ends next = absurd (none≢some f (one_end rest None (Some f) next.0 ends))
@@ -36,11 +38,13 @@ ends_again rest x (Some (Ok token)) later ends next = absurd (token_or_end rest 
 ends_again rest None (Some (Err f)) later ends next = absurd (none≢some f (one_end rest None (Some f) ends next.0))
 ends_again rest (Some g) (Some (Err f)) later ends next = grind (arith, one_end, some-eq)
 
-pub refusal_again : (old new later : Rest) (fault : TokenFault) (answer : Option (Result Token TokenFault)) → GivesNext old (Some (Err fault)) new → GivesNext new answer later → (answer ≡ Some (Err fault)) × (later ≡ new)
+pub refusal_again : (old new later : Rest) (fault : TokenFault) (answer : Option (Result Token TokenFault))
+    → GivesNext old (Some (Err fault)) new → GivesNext new answer later → (answer ≡ Some (Err fault)) × (later ≡ new)
 refusal_again old new later fault answer was next =
     ends_again new (Some fault) answer later (subst (λ r. Ends r (Some fault)) (sym was.1) was.0) next
 
-pub end_again : (old new later : Rest) (answer : Option (Result Token TokenFault)) → GivesNext old None new → GivesNext new answer later → (answer ≡ None) × (later ≡ new)
+pub end_again : (old new later : Rest) (answer : Option (Result Token TokenFault)) → GivesNext old None new → GivesNext new answer later
+    → (answer ≡ None) × (later ≡ new)
 end_again old new later answer was next =
     ends_again new None answer later (subst (λ r. Ends r None) (sym was.1) was.0) next
 
@@ -59,7 +63,8 @@ le_refl x y e = omega (arith, ints)
 le_through : (x y z : ℤ) → x ≤ℤ y → y ≤ℤ z → x ≤ℤ z
 le_through x y z a b = omega (arith, ints)
 
-pub exact_is_rounded : (rounding : Rounding) (negative : Bool) (bs : List ℕ) (h : ℤ) → IsExact negative bs h → IsRounded rounding negative bs h
+pub exact_is_rounded : (rounding : Rounding) (negative : Bool) (bs : List ℕ) (h : ℤ) → IsExact negative bs h
+    → IsRounded rounding negative bs h
 exact_is_rounded rounding negative bs h h1 = grind (arith, millionth_pos, le_times_back, le_refl)
 
 pub floor_below_ceil : (negative : Bool) (bs : List ℕ) (h k : ℤ) → IsFloor negative bs h → IsCeil negative bs k → h ≤ℤ k
@@ -68,8 +73,10 @@ floor_below_ceil negative bs h k f c = search (rules, millionth_pos, le_times_ba
 pub readable_not_refused : (bs : List ℕ) (f : NumberFault) → IsReadable bs → IsRefused bs f → ⊥
 readable_not_refused bs f h1 h2 = grind arith
 
-pub exact_not_refused : (negative : Bool) (bs : List ℕ) (f : NumberFault) (h : ℤ) → IsReadable bs → IsExact negative bs h → IsRefusedExactly negative bs f → ⊥
+pub exact_not_refused : (negative : Bool) (bs : List ℕ) (f : NumberFault) (h : ℤ) → IsReadable bs → IsExact negative bs h
+    → IsRefusedExactly negative bs f → ⊥
 exact_not_refused negative bs f h h1 h2 h3 = grind arith
 
-pub one_exact_fault : (negative : Bool) (bs : List ℕ) (f g : NumberFault) → IsRefusedExactly negative bs f → IsRefusedExactly negative bs g → f ≡ g
+pub one_exact_fault : (negative : Bool) (bs : List ℕ) (f g : NumberFault) → IsRefusedExactly negative bs f → IsRefusedExactly negative bs g
+    → f ≡ g
 one_exact_fault negative bs f g h1 h2 = grind arith

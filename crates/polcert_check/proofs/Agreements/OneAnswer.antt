@@ -1,6 +1,9 @@
 -- A check has one verdict, lowering one outcome, and a start one best node with one worth.
 use Rattle.std.proofs.Common.{◌≡◌, ◌∙◌, ℕ, ◌<◌, ℤ, pos, ◌≤ℤ◌, ◌<ℤ◌, ◌+ℤ◌, Some, None, sym, refl, ap, subst, arith}
-use Rattle.polcert_check.proofs.Common.{Meaning, start_total, PolicyVectors, LowerFault, Verdict, Yes, Short, NoSuccessor, Controller, short, PairPasses, Passes, IsBefore, IsVerdict, IsLeastLacking, lowered_by, IsLeast, CanLower, IsFirstLack, IsNotMended, IsNotLowered, IsLeastConstant, IsLeastMove, start_sum, IsFirstGreatest, IsFloorQuotient, IsBestStart, IsStartWorth}
+use Rattle.polcert_check.proofs.Common.{Meaning, start_total, PolicyVectors, LowerFault, Verdict, Yes, Short, NoSuccessor, Controller}
+use Rattle.polcert_check.proofs.Common.{short, PairPasses, Passes, IsBefore, IsVerdict, IsLeastLacking, lowered_by, IsLeast, CanLower}
+use Rattle.polcert_check.proofs.Common.{IsFirstLack, IsNotMended, IsNotLowered, IsLeastConstant, IsLeastMove, start_sum, IsFirstGreatest}
+use Rattle.polcert_check.proofs.Common.{IsFloorQuotient, IsBestStart, IsStartWorth}
 use Rattle.polcert_check.specs.declared.fault.LowerFault.TheVariants as faults
 use Rattle.polcert_check.proofs.Sums.Ring.{linear, below_cancel}
 
@@ -13,7 +16,8 @@ record IsFirstFailing (Good : ℕ → ℕ → Type 0) (nodes states n s : ℕ) :
   fails : Good n s → ⊥
   before : (m t : ℕ) → m < nodes → t < states → IsBefore m t n s → Good m t
 
-one_first : (Good : ℕ → ℕ → Type 0) (nodes states n s m t : ℕ) → IsFirstFailing Good nodes states n s → IsFirstFailing Good nodes states m t → (n ≡ m) × (s ≡ t)
+one_first : (Good : ℕ → ℕ → Type 0) (nodes states n s m t : ℕ) → IsFirstFailing Good nodes states n s → IsFirstFailing Good nodes states m t
+    → (n ≡ m) × (s ≡ t)
 one_first Good nodes states n s m t h g = grind arith
 
 one_least_number : (P : ℕ → Type 0) (a b : ℕ) → P a → ((d : ℕ) → d < a → P d → ⊥) → P b → ((d : ℕ) → d < b → P d → ⊥) → a ≡ b
@@ -24,7 +28,8 @@ one_least_number P a b is least also before = grind arith
 some_not_none : (c : Controller) (n s z : ℕ) → IsLeastLacking c n s (Some z) → IsLeastLacking c n s None → ⊥
 some_not_none c n s z lacks none = none z lacks.0 lacks.1
 
-one_least_lacking : (c : Controller) (n s m t z y : ℕ) → n ≡ m → s ≡ t → IsLeastLacking c n s (Some z) → IsLeastLacking c m t (Some y) → z ≡ y
+one_least_lacking : (c : Controller) (n s m t z y : ℕ) → n ≡ m → s ≡ t → IsLeastLacking c n s (Some z) → IsLeastLacking c m t (Some y)
+    → z ≡ y
 one_least_lacking c n s m t z y e f h g = grind arith
 
 not_above : (x : ℤ) → x ≤ℤ pos 0 → pos 0 <ℤ x → ⊥
@@ -44,7 +49,8 @@ lack_first c n s z h = record { node = h.0; state = h.1; fails = λ p. p.lacks_n
 not_both : (c : Controller) (n s m t z : ℕ) (a : ℤ) → IsVerdict c (Short n s a) → IsVerdict c (NoSuccessor m t z) → ⊥
 not_both c n s m t z a h g =
     let same = one_first (PairPasses c) c.nodes c.cells.states n s m t (short_first c n s a h) (lack_first c m t z g) in
-    some_not_none c m t z g.3 (subst (λ (k : ℕ). IsLeastLacking c m k None) same.1 (subst (λ (k : ℕ). IsLeastLacking c k s None) same.0 h.3))
+    some_not_none c m t z g.3 (subst (λ (k : ℕ). IsLeastLacking c m k None) same.1
+    (subst (λ (k : ℕ). IsLeastLacking c k s None) same.0 h.3))
 
 pub one_verdict : (c : Controller) (x y : Verdict) → IsVerdict c x → IsVerdict c y → x ≡ y
 one_verdict c Yes Yes h g = refl
@@ -68,10 +74,12 @@ one_least c a b h g = one_least_number (λ d. Passes (lowered_by c d)) a b h.0 h
 pub one_move : (c : Controller) (Can : ℕ → Type 0) (x y : ℤ) → IsLeastMove c Can x → IsLeastMove c Can y → x ≡ y
 one_move c Can x y h g = h.1 ∙ ap pos (one_least c h.0 g.0 h.2 g.2) ∙ sym g.1
 
-first_lack : (c : Controller) (n s z : ℕ) → IsFirstLack c n s z → IsFirstFailing (λ m t. IsLeastLacking c m t None) c.nodes c.cells.states n s
+first_lack : (c : Controller) (n s z : ℕ) → IsFirstLack c n s z
+    → IsFirstFailing (λ m t. IsLeastLacking c m t None) c.nodes c.cells.states n s
 first_lack c n s z h = record { node = h.0; state = h.1; fails = some_not_none c n s z h.2; before = h.3 }
 
-lack_and_none : (c : Controller) (n s z : ℕ) → IsFirstLack c n s z → ((m t : ℕ) → m < c.nodes → t < c.cells.states → IsLeastLacking c m t None) → ⊥
+lack_and_none : (c : Controller) (n s z : ℕ) → IsFirstLack c n s z
+    → ((m t : ℕ) → m < c.nodes → t < c.cells.states → IsLeastLacking c m t None) → ⊥
 lack_and_none c n s z h none = some_not_none c n s z h.2 (none n s h.0 h.1)
 
 pub one_fault : (c : Controller) (Can : ℕ → Type 0) (f g : LowerFault) → IsNotMended c Can f → IsNotMended c Can g → f ≡ g
@@ -103,7 +111,8 @@ one_constant c v = one_move c (CanLower v)
 pub one_reason : (c : Controller) (v : PolicyVectors) (f g : LowerFault) → IsNotLowered c v f → IsNotLowered c v g → f ≡ g
 one_reason c v = one_fault c (CanLower v)
 
-pub not_lowered_has_no_constant : (c : Controller) (v : PolicyVectors) (x : ℤ) (f : LowerFault) → IsLeastConstant c v x → IsNotLowered c v f → ⊥
+pub not_lowered_has_no_constant : (c : Controller) (v : PolicyVectors) (x : ℤ) (f : LowerFault) → IsLeastConstant c v x → IsNotLowered c v f
+    → ⊥
 not_lowered_has_no_constant c v = move_or_fault c (CanLower v)
 
 -- ---- one best node, and one worth

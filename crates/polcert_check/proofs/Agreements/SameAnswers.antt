@@ -1,12 +1,17 @@
 -- What a check says of one table it says of every table with the same cells.
 use Rattle.std.proofs.Common.{◌≡◌, ℕ, ◌<◌, ℤ, Some, None, List, [], ◌∷◌, length, sym, refl, ◌∙◌, subst, arith}
-use Rattle.polcert_check.proofs.Common.{All-contains, CellTable, PolicyGraph, IsProperGraph, nodes, PolicyVectors, LowerFault, Verdict, Controller, controller_of, runs, Promise, RewardPromise, HasCutRun, MeetsHorizon, IsRunInRange, Passes, PassesBefore, IsLeastLacking, IsVerdict, lowered_by, IsLeast, CanLower, NoneLacks, IsFirstLack, IsFirstShort, IsNotMended, IsNotLowered, IsLeastConstant, IsLeastMove, IsClosed, HasSameCells}
+use Rattle.polcert_check.proofs.Common.{All-contains, CellTable, PolicyGraph, IsProperGraph, nodes, PolicyVectors, LowerFault, Verdict}
+use Rattle.polcert_check.proofs.Common.{Controller, controller_of, runs, Promise, RewardPromise, HasCutRun, MeetsHorizon, IsRunInRange}
+use Rattle.polcert_check.proofs.Common.{Passes, PassesBefore, IsLeastLacking, IsVerdict, lowered_by, IsLeast, CanLower, NoneLacks}
+use Rattle.polcert_check.proofs.Common.{IsFirstLack, IsFirstShort, IsNotMended, IsNotLowered, IsLeastConstant, IsLeastMove, IsClosed}
+use Rattle.polcert_check.proofs.Common.{HasSameCells}
 use Rattle.polcert_check.specs.Horizon.{Fits}
 use Rattle.polcert_check.specs.declared.fault.LowerFault.TheVariants as faults
 use Rattle.polcert_check.specs.declared.survey.Verdict.TheVariants as verdicts
 use Rattle.polcert_check.proofs.Horizons.Enumerated.{All-runs}
 use Rattle.polcert_check.proofs.Certificates.{closed_is}
-use Rattle.polcert_check.proofs.Agreements.SameCells.{with_cells, runs_same, is_cut_same, weight_same, promise_same, reward_promise_same, short_same, lacks_same, lacks_back, pair_same, passes_same}
+use Rattle.polcert_check.proofs.Agreements.SameCells.{with_cells, runs_same, is_cut_same, weight_same, promise_same, reward_promise_same}
+use Rattle.polcert_check.proofs.Agreements.SameCells.{short_same, lacks_same, lacks_back, pair_same, passes_same}
 
 -- ---- a controller over cells that agree, and back
 module _ (c : Controller) (p : IsClosed c) (y : CellTable) (same : HasSameCells c.cells y) where
@@ -23,9 +28,14 @@ module _ (c : Controller) (p : IsClosed c) (y : CellTable) (same : HasSameCells 
   none_lacking : (n s : ℕ) → n < c.nodes → s < c.cells.states → IsLeastLacking c n s None → IsLeastLacking (with_cells c y) n s None
   none_lacking n s nl sl none z zl lacks = none z zl (lacks_back c p y same n s z nl sl zl lacks)
 
-  least_lacking : (n s z : ℕ) → n < c.nodes → s < c.cells.states → IsLeastLacking c n s (Some z) → IsLeastLacking (with_cells c y) n s (Some z)
-  least_lacking n s z nl sl (zl, lacks, least) =
-      (zl, lacks_same c p y same n s z nl sl zl lacks, λ i less also. least i less (lacks_back c p y same n s i nl sl (omega (arith, less, zl)) also))
+  least_lacking : (n s z : ℕ) → n < c.nodes → s < c.cells.states → IsLeastLacking c n s (Some z)
+      → IsLeastLacking (with_cells c y) n s (Some z)
+  least_lacking n s z nl sl (zl, lacks, least) = (
+    zl,
+    lacks_same c p y same n s z nl sl zl lacks,
+    λ i less also. least i less
+        (lacks_back c p y same n s i nl sl (omega (arith, less, zl)) also),
+  )
 
   pub verdict_with : (answer : Verdict) → IsVerdict c answer → IsVerdict (with_cells c y) answer
   verdict_with verdicts.Yes passes = passes_same c p y same passes
@@ -41,7 +51,8 @@ module _ (c : Controller) (p : IsClosed c) (y : CellTable) (same : HasSameCells 
   cut_run_with : (n s z : ℕ) → n < c.nodes → s < c.cells.states → HasCutRun c n s z → HasCutRun (with_cells c y) n s z
   cut_run_with n s z nl sl (e, among, cut, some) =
       let run : List (ℕ × ℕ) = (e, z) ∷ [] in
-      let in_range : IsRunInRange c.cells run = (All-contains (λ u. (length u ≡ 1) × IsRunInRange c.cells u) (runs c.cells 1) run (All-runs c.cells 1) among).1 in
+      let in_range : IsRunInRange c.cells run = (All-contains (λ u. (length u ≡ 1) × IsRunInRange c.cells u) (runs c.cells 1) run
+      (All-runs c.cells 1) among).1 in
       (e, rw (runs_same c y 1) among, is_cut_same c y (Some n) run ∙ cut, rw (weight_same c p y same run n s nl sl in_range) some)
 
   pub horizon_with : (answer : Verdict) → IsVerdict c answer → MeetsHorizon c answer → MeetsHorizon (with_cells c y) answer
@@ -55,10 +66,12 @@ module _ (c : Controller) (p : IsClosed c) (y : CellTable) (same : HasSameCells 
 
   -- ---- lowering
   lowered_passes : (by : ℕ) → Passes (lowered_by c by) → Passes (lowered_by (with_cells c y) by)
-  lowered_passes by = passes_same (lowered_by c by) (record { actions_in_range = p.actions_in_range; next_in_range = p.next_in_range }) y same
+  lowered_passes by = passes_same (lowered_by c by) (record { actions_in_range = p.actions_in_range; next_in_range = p.next_in_range }) y
+      same
 
   lowered_back : (by : ℕ) → Passes (lowered_by (with_cells c y) by) → Passes (lowered_by c by)
-  lowered_back by = passes_same (lowered_by (with_cells c y) by) (record { actions_in_range = p.actions_in_range; next_in_range = p.next_in_range }) c.cells agrees_back
+  lowered_back by = passes_same (lowered_by (with_cells c y) by)
+      (record { actions_in_range = p.actions_in_range; next_in_range = p.next_in_range }) c.cells agrees_back
 
   least_with : (by : ℕ) → IsLeast c by → IsLeast (with_cells c y) by
   least_with by (passes, least) = (lowered_passes by passes, λ d less also. least d less (lowered_back d also))
@@ -71,8 +84,14 @@ module _ (c : Controller) (p : IsClosed c) (y : CellTable) (same : HasSameCells 
       (nl, sl, least_lacking n s z nl sl least, λ m t ml tl earlier. none_lacking m t ml tl (first m t ml tl earlier))
 
   first_short_with : (n s : ℕ) (amount : ℤ) → IsFirstShort c n s amount → IsFirstShort (with_cells c y) n s amount
-  first_short_with n s amount (nl, sl, is, more, first) =
-      (nl, sl, is ∙ sym (short_same c p y same n s nl sl), more, λ m t ml tl earlier. rw (short_same c p y same m t ml tl) (first m t ml tl earlier))
+  first_short_with n s amount (nl, sl, is, more, first) = (
+    nl,
+    sl,
+    is ∙ sym (short_same c p y same n s nl sl),
+    more,
+    λ m t ml tl earlier. rw (short_same c p y same m t ml tl)
+        (first m t ml tl earlier),
+  )
 
   -- `Can` says by which constants all values stay in range
   pub not_mended_with : (Can : ℕ → Type 0) (fault : LowerFault) → IsNotMended c Can fault → IsNotMended (with_cells c y) Can fault
@@ -102,7 +121,8 @@ module _ (x y : CellTable) (graph : PolicyGraph) (vectors : PolicyVectors) (same
         states = fits.states ∙ same.states;
       }
 
-module _ (x y : CellTable) (graph : PolicyGraph) (vectors : PolicyVectors) (same : HasSameCells x y) (proper : IsProperGraph graph) (fits : Fits x graph vectors) where
+module _ (x y : CellTable) (graph : PolicyGraph) (vectors : PolicyVectors) (same : HasSameCells x y) (proper : IsProperGraph graph)
+    (fits : Fits x graph vectors) where
   abbrev of_x : Controller
   of_x = controller_of x graph vectors
 
@@ -133,7 +153,8 @@ module _ (x y : CellTable) (graph : PolicyGraph) (vectors : PolicyVectors) (same
 
   pub same_least_constant : (constant : ℤ) → IsLeastConstant of_x vectors constant → IsLeastConstant of_y vectors constant
   same_least_constant constant least =
-      moved x y graph vectors same (λ d. IsLeastConstant d vectors constant) (least_move_with of_x closed y same (CanLower vectors) constant least)
+      moved x y graph vectors same (λ d. IsLeastConstant d vectors constant)
+      (least_move_with of_x closed y same (CanLower vectors) constant least)
 
   pub same_refused : (fault : LowerFault) → IsNotLowered of_x vectors fault → IsNotLowered of_y vectors fault
   same_refused fault refused =

@@ -1,6 +1,7 @@
 -- Where every pair passes, and only there, the promise holds for every horizon.
 use Rattle.std.proofs.Common.{ℕ, ℤ, pos, ◌≤ℤ◌, ◌<ℤ◌, arith}
-use Rattle.polcert_check.proofs.Common.{CellTable, IsProper, PolicyGraph, IsProperGraph, PolicyVectors, Controller, controller_of, Promise, MeetsEveryHorizon, PairPasses, Passes, IsController}
+use Rattle.polcert_check.proofs.Common.{CellTable, IsProper, PolicyGraph, IsProperGraph, PolicyVectors, Controller, controller_of, Promise}
+use Rattle.polcert_check.proofs.Common.{MeetsEveryHorizon, PairPasses, Passes, IsController}
 use Rattle.polcert_check.specs.Horizon.{Fits}
 use Rattle.polcert_check.proofs.Certificates.{controller_is}
 use Rattle.polcert_check.proofs.Horizons.Cuts.{promise_all}
@@ -10,7 +11,8 @@ use Rattle.polcert_check.proofs.Horizons.Refused.{refused_short, refused_lacking
 pub every_horizon : (c : Controller) → IsController c → Passes c → MeetsEveryHorizon c
 every_horizon c proper passes k n s nl sl = (promise_all c proper passes k n s nl sl, rewards_all c proper passes k n s nl sl)
 
-pub promised : (x : CellTable) (graph : PolicyGraph) (vectors : PolicyVectors) → IsProper x → IsProperGraph graph → Fits x graph vectors → Passes (controller_of x graph vectors) → MeetsEveryHorizon (controller_of x graph vectors)
+pub promised : (x : CellTable) (graph : PolicyGraph) (vectors : PolicyVectors) → IsProper x → IsProperGraph graph → Fits x graph vectors
+    → Passes (controller_of x graph vectors) → MeetsEveryHorizon (controller_of x graph vectors)
 promised x graph vectors proper known fits = every_horizon (controller_of x graph vectors) (controller_is x graph vectors fits proper known)
 
 not_above : (x : ℤ) → (pos 0 <ℤ x → ⊥) → x ≤ℤ pos 0

@@ -1,5 +1,6 @@
 -- `runs t k` holds no list twice.
-use Rattle.std.proofs.Common.{◌≡◌, ℕ, zero, suc, ◌+◌, ◌<◌, ◌≤◌, ◌⊎◌, inl, inr, ⊎_elim, List, [], ◌∷◌, ◌++◌, map, flat_map, sym, refl, ap, ◌∙◌, subst, arith, Contains}
+use Rattle.std.proofs.Common.{◌≡◌, ℕ, zero, suc, ◌+◌, ◌<◌, ◌≤◌, ◌⊎◌, inl, inr, ⊎_elim, List, [], ◌∷◌, ◌++◌, map, flat_map, sym, refl, ap}
+use Rattle.std.proofs.Common.{◌∙◌, subst, arith, Contains}
 use Rattle.polcert_check.proofs.Common.{All-contains, range_with_len, CellTable, pairs, runs}
 use Rattle.std.proofs.lemmas.List.Elements.{Contains-append_cases}
 use Rattle.polcert_check.specs.Horizon.{HasNoRepeat}
@@ -13,19 +14,24 @@ pub Contains-map_cases : {X Y : Type 0} (f : X → Y) (xs : List X) (y : Y) → 
 Contains-map_cases f [] y c = absurd (Contains-nil y c)
 Contains-map_cases {X} {Y} f (w ∷ xs) y c = go (Contains-cons_cases (f w) (map f xs) y c) (λ d. Contains-map_cases f xs y d)
   where
-    go : (f w ≡ y) ⊎ Contains (map f xs) y → (Contains (map f xs) y → (x : X) × Contains xs x × (f x ≡ y)) → (x : X) × Contains (w ∷ xs) x × (f x ≡ y)
+    go : (f w ≡ y) ⊎ Contains (map f xs) y → (Contains (map f xs) y → (x : X) × Contains xs x × (f x ≡ y)) → (x : X) × Contains (w ∷ xs) x
+        × (f x ≡ y)
     go (inl e) later = (w, Contains-first w xs w refl, e)
     go (inr d) later = let (x, h, e) = later d in (x, Contains-cons w xs x h, e)
 
-pub Contains-flat_map_cases : {X Y : Type 0} (f : X → List Y) (xs : List X) (y : Y) → Contains (flat_map f xs) y → (x : X) × Contains xs x × Contains (f x) y
+pub Contains-flat_map_cases : {X Y : Type 0} (f : X → List Y) (xs : List X) (y : Y) → Contains (flat_map f xs) y → (x : X) × Contains xs x
+    × Contains (f x) y
 Contains-flat_map_cases f [] y c = absurd (Contains-nil y c)
-Contains-flat_map_cases {X} {Y} f (w ∷ xs) y c = go (Contains-append_cases (f w) (flat_map f xs) y c) (λ d. Contains-flat_map_cases f xs y d)
+Contains-flat_map_cases {X} {Y} f (w ∷ xs) y c = go (Contains-append_cases (f w) (flat_map f xs) y c)
+    (λ d. Contains-flat_map_cases f xs y d)
   where
-    go : Contains (f w) y ⊎ Contains (flat_map f xs) y → (Contains (flat_map f xs) y → (x : X) × Contains xs x × Contains (f x) y) → (x : X) × Contains (w ∷ xs) x × Contains (f x) y
+    go : Contains (f w) y ⊎ Contains (flat_map f xs) y → (Contains (flat_map f xs) y → (x : X) × Contains xs x × Contains (f x) y) → (x : X)
+        × Contains (w ∷ xs) x × Contains (f x) y
     go (inl h) later = (w, Contains-first w xs w refl, h)
     go (inr d) later = let (x, h, k) = later d in (x, Contains-cons w xs x h, k)
 
-pub HasNoRepeat-append : {X : Type 0} (xs ys : List X) → HasNoRepeat xs → HasNoRepeat ys → ((x : X) → Contains xs x → Contains ys x → ⊥) → HasNoRepeat (xs ++ ys)
+pub HasNoRepeat-append : {X : Type 0} (xs ys : List X) → HasNoRepeat xs → HasNoRepeat ys → ((x : X) → Contains xs x → Contains ys x → ⊥)
+    → HasNoRepeat (xs ++ ys)
 HasNoRepeat-append [] ys p q apart = q
 HasNoRepeat-append {X} (x ∷ xs) ys p q apart = (
   (λ c. ⊎_elim (λ d. p.0 d) (λ d. apart x (Contains-first x xs x refl) d) (Contains-append_cases xs ys x c)),
@@ -37,7 +43,8 @@ HasNoRepeat-map f inj [] p = tt
 HasNoRepeat-map f inj (x ∷ xs) p =
     ((λ c. let (y, h, e) = Contains-map_cases f xs (f x) c in p.0 (subst (λ z. Contains xs z) (inj y x e) h)), HasNoRepeat-map f inj xs p.1)
 
-pub HasNoRepeat-flat_map : {X Y : Type 0} (f : X → List Y) → ((x : X) → HasNoRepeat (f x)) → ((x z : X) (y : Y) → Contains (f x) y → Contains (f z) y → x ≡ z) → (xs : List X) → HasNoRepeat xs → HasNoRepeat (flat_map f xs)
+pub HasNoRepeat-flat_map : {X Y : Type 0} (f : X → List Y) → ((x : X) → HasNoRepeat (f x))
+    → ((x z : X) (y : Y) → Contains (f x) y → Contains (f z) y → x ≡ z) → (xs : List X) → HasNoRepeat xs → HasNoRepeat (flat_map f xs)
 HasNoRepeat-flat_map f each apart [] p = tt
 HasNoRepeat-flat_map f each apart (x ∷ xs) p =
     HasNoRepeat-append (f x) (flat_map f xs) (each x) (HasNoRepeat-flat_map f each apart xs p.1)
@@ -46,7 +53,8 @@ HasNoRepeat-flat_map f each apart (x ∷ xs) p =
 HasNoRepeat-from : (a n : ℕ) → HasNoRepeat (range_with_len a n)
 HasNoRepeat-from a zero = tt
 HasNoRepeat-from a (suc n) = (
-  (λ c. let later = All-contains (λ i. (a + 1 ≤ i) × (i < a + 1 + n)) (range_with_len (a + 1) n) a (All-from (a + 1) n) c in omega (arith, later.0)),
+  (λ c. let later = All-contains (λ i. (a + 1 ≤ i) × (i < a + 1 + n)) (range_with_len (a + 1) n) a (All-from (a + 1) n) c in
+      omega (arith, later.0)),
   HasNoRepeat-from (a + 1) n,
 )
 
@@ -61,7 +69,11 @@ HasNoRepeat-runs t zero = ((λ d. Contains-nil [] d), tt)
 HasNoRepeat-runs t (suc k) =
     HasNoRepeat-flat_map (λ p. map (λ run. p ∷ run) (runs t k))
     (λ p. HasNoRepeat-map (λ run. p ∷ run) (λ x y e. cons_tail p x y e) (runs t k) (HasNoRepeat-runs t k))
-    (λ p q run a b. let (x, h, d) = Contains-map_cases (λ u. p ∷ u) (runs t k) run a in let (y, i, e) = Contains-map_cases (λ u. q ∷ u) (runs t k) run b in cons_head p q x y (d ∙ sym e))
+    (λ p q run a b. let (x, h, d) = Contains-map_cases (λ u. p ∷ u) (runs t k) run a in let (y, i, e) =
+    Contains-map_cases (λ u. q ∷ u) (runs t k) run b in cons_head p q x y (d ∙ sym e))
     (pairs t)
-    (HasNoRepeat-flat_map (λ e. map (λ z. (e, z)) (range_with_len 0 t.observations)) (λ e. HasNoRepeat-map (λ z. (e, z)) (λ x y h. ap (λ p. p.1) h) (range_with_len 0 t.observations) (HasNoRepeat-from 0 t.observations))
-    (λ e f p a b. let (x, h, d) = Contains-map_cases (λ z. (e, z)) (range_with_len 0 t.observations) p a in let (y, i, j) = Contains-map_cases (λ z. (f, z)) (range_with_len 0 t.observations) p b in ap (λ (q : ℕ × ℕ). q.0) (d ∙ sym j)) (range_with_len 0 t.states) (HasNoRepeat-from 0 t.states))
+    (HasNoRepeat-flat_map (λ e. map (λ z. (e, z)) (range_with_len 0 t.observations))
+    (λ e. HasNoRepeat-map (λ z. (e, z)) (λ x y h. ap (λ p. p.1) h) (range_with_len 0 t.observations) (HasNoRepeat-from 0 t.observations))
+    (λ e f p a b. let (x, h, d) = Contains-map_cases (λ z. (e, z)) (range_with_len 0 t.observations) p a in let (y, i, j) =
+    Contains-map_cases (λ z. (f, z)) (range_with_len 0 t.observations) p b in ap (λ (q : ℕ × ℕ). q.0) (d ∙ sym j))
+    (range_with_len 0 t.states) (HasNoRepeat-from 0 t.states))

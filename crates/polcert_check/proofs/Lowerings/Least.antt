@@ -1,6 +1,9 @@
 -- The greatest short, and the least constant that it gives.
-use Rattle.std.proofs.Common.{◌≡◌, ℕ, ◌+◌, ◌-◌, ◌*◌, ◌^◌, ◌<◌, ◌≤◌, ℤ, pos, ◌≤ℤ◌, ◌<ℤ◌, inl, ⊎_elim, sym, refl, subst, arith, ◌+ℤ◌, ◌-ℤ◌, neg_ℤ, FitsSigned, to_z, of_z, unsigned_abs, w64}
-use Rattle.polcert_check.proofs.Common.{w128, ints, fits_signed_from_abs, largest, CellTable, IsWithinLimits, Controller, one, step_scale, short, Passes, IsController, most_scales, most_sum, lowered_by, NoneLacks, IsLeast, CanLower, IsPair, IsWorstOf, Side, Below, signed_from, CanMove, PolicyVectors, AreProperVectors, IsInRange}
+use Rattle.std.proofs.Common.{◌≡◌, ℕ, ◌+◌, ◌-◌, ◌*◌, ◌^◌, ◌<◌, ◌≤◌, ℤ, pos, ◌≤ℤ◌, ◌<ℤ◌, inl, ⊎_elim, sym, refl, subst, arith, ◌+ℤ◌, ◌-ℤ◌}
+use Rattle.std.proofs.Common.{neg_ℤ, FitsSigned, to_z, of_z, unsigned_abs, w64}
+use Rattle.polcert_check.proofs.Common.{w128, ints, fits_signed_from_abs, largest, CellTable, IsWithinLimits, Controller, one, step_scale}
+use Rattle.polcert_check.proofs.Common.{short, Passes, IsController, most_scales, most_sum, lowered_by, NoneLacks, IsLeast, CanLower}
+use Rattle.polcert_check.proofs.Common.{IsPair, IsWorstOf, Side, Below, signed_from, CanMove, PolicyVectors, AreProperVectors, IsInRange}
 use Rattle.polcert_check.proofs.Sums.Bounds.{negated_is}
 use Rattle.std.proofs.Math.Nat.{mul-le-mul}
 use Rattle.polcert_check.proofs.Walking.Verdicts.{positive_product}
@@ -16,16 +19,22 @@ at_most_nat : (a b : ℕ) → pos a ≤ℤ pos b → b < a → ⊥
 at_most_nat a b h l = omega (arith, linear)
 
 -- the least constant, where the discount is below 1: `by` is the worst short over the factor, rounded up
-pub least_passes : (c : Controller) → IsController c → c.cells.discount ≤ one → LacksNone c → (worst by : ℕ) → IsWorstOf c (IsPair c) worst → worst ≤ step_scale c * (one - c.cells.discount) * by → Passes (lowered_by c by)
+pub least_passes : (c : Controller) → IsController c → c.cells.discount ≤ one → LacksNone c → (worst by : ℕ) → IsWorstOf c (IsPair c) worst
+    → worst ≤ step_scale c * (one - c.cells.discount) * by → Passes (lowered_by c by)
 least_passes c p gl fine worst by w h =
-    passes_lowered c p gl by fine (λ n s nl sl. wider (short c n s) worst (step_scale c * ((one - c.cells.discount) * by)) (w.bounds n s (nl, sl)) (omega arith))
+    passes_lowered c p gl by fine (λ n s nl sl. wider (short c n s) worst (step_scale c * ((one - c.cells.discount) * by))
+    (w.bounds n s (nl, sl)) (omega arith))
 
-pub less_fails : (c : Controller) → IsController c → c.cells.discount ≤ one → (worst d : ℕ) → IsWorstOf c (IsPair c) worst → step_scale c * (one - c.cells.discount) * d < worst → Passes (lowered_by c d) → ⊥
+pub less_fails : (c : Controller) → IsController c → c.cells.discount ≤ one → (worst d : ℕ) → IsWorstOf c (IsPair c) worst
+    → step_scale c * (one - c.cells.discount) * d < worst → Passes (lowered_by c d) → ⊥
 less_fails c p gl worst d w h passes =
     ⊎_elim (λ (e : worst ≡ 0). omega arith)
     (λ (r : (n : ℕ) × (s : ℕ) × IsPair c n s × (pos worst ≡ short c n s)).
-    let le : short c r.0 r.1 ≤ℤ pos (step_scale c * ((one - c.cells.discount) * d)) = from_passes_lowered c p gl d passes r.0 r.1 r.2.0 r.2.1 in
-    at_most_nat worst (step_scale c * (one - c.cells.discount) * d) (subst (λ (x : ℤ). x ≤ℤ pos (step_scale c * (one - c.cells.discount) * d)) (sym r.3) (subst (λ (x : ℕ). short c r.0 r.1 ≤ℤ pos x) (sym (mul_assoc (step_scale c) (one - c.cells.discount) d)) le)) h)
+    let le : short c r.0 r.1 ≤ℤ pos (step_scale c * ((one - c.cells.discount) * d)) =
+    from_passes_lowered c p gl d passes r.0 r.1 r.2.0 r.2.1 in
+    at_most_nat worst (step_scale c * (one - c.cells.discount) * d)
+    (subst (λ (x : ℤ). x ≤ℤ pos (step_scale c * (one - c.cells.discount) * d)) (sym r.3)
+    (subst (λ (x : ℕ). short c r.0 r.1 ≤ℤ pos x) (sym (mul_assoc (step_scale c) (one - c.cells.discount) d)) le)) h)
     w.is_reached
 
 -- ---- the value less `by`
@@ -42,7 +51,8 @@ low_is_small : (v : ℤ) (by : ℕ) → IsInRange v → IsInRange (v +ℤ neg_�
 low_is_small v by r l = omega (arith, ints, r.0, r.1, l.0, l.1)
 
 -- ---- the factor by which a constant lowers each short
-pub factor_room : (t o d x : ℕ) → t * o ≤ most_scales → x ≤ 3 * most_sum → (t * o < 2 ^ 64) × (t * o * (1000000 - d) < 2 ^ 128) × (x + t * o * (1000000 - d) ≤ 2 ^ 127)
+pub factor_room : (t o d x : ℕ) → t * o ≤ most_scales → x ≤ 3 * most_sum → (t * o < 2 ^ 64) × (t * o * (1000000 - d) < 2 ^ 128)
+    × (x + t * o * (1000000 - d) ≤ 2 ^ 127)
 factor_room t o d x q xl =
     let f : t * o * (1000000 - d) ≤ most_scales * 1000000 = mul-le-mul q (at_most_million d) in
     (omega (arith, q), omega (arith, f), omega (arith, f, xl))
@@ -51,13 +61,16 @@ factor_room t o d x q xl =
     at_most_million d = omega arith
 
 pub factor_positive : (t o d : ℕ) → 0 < t → 0 < o → d < 1000000 → 0 < t * o * (1000000 - d)
-factor_positive t o d tl ol dl = let f : 0 < 1000000 - d = omega arith in positive_product (t * o) (1000000 - d) (positive_product t o tl ol) f
+factor_positive t o d tl ol dl = let f : 0 < 1000000 - d = omega arith in
+    positive_product (t * o) (1000000 - d) (positive_product t o tl ol) f
 
 pub NoneLacks-gives : (c : Controller) → NoneLacks c → LacksNone c
 NoneLacks-gives c none n s z nl sl zl = none n s nl sl z zl
 
 -- the candidate is least
-pub candidate_least : (c : Controller) → IsController c → NoneLacks c → (ts os d worst by : ℕ) → ts ≡ c.cells.t_scale → os ≡ c.cells.o_scale → d ≡ c.cells.discount → c.cells.discount < one → IsWorstOf c (IsPair c) worst → worst ≤ ts * os * (1000000 - d) * by → ((e : ℕ) → e < by → ts * os * (1000000 - d) * e < worst) → IsLeast c by
+pub candidate_least : (c : Controller) → IsController c → NoneLacks c → (ts os d worst by : ℕ) → ts ≡ c.cells.t_scale → os ≡ c.cells.o_scale
+    → d ≡ c.cells.discount → c.cells.discount < one → IsWorstOf c (IsPair c) worst → worst ≤ ts * os * (1000000 - d) * by
+    → ((e : ℕ) → e < by → ts * os * (1000000 - d) * e < worst) → IsLeast c by
 unfolding one
 candidate_least c p none ts os d worst by te oe de gl w enough least =
     let same : ts * os * (1000000 - d) ≡ step_scale c * (1000000 - c.cells.discount) = rw (te, oe, de) refl in (
@@ -66,14 +79,19 @@ candidate_least c p none ts os d worst by te oe de gl w enough least =
     )
 
 pub least_zero : (c : Controller) → IsController c → c.cells.discount ≤ one → NoneLacks c → Passes c → IsLeast c 0
-least_zero c p gl none passes =
-    (least_passes c p gl (NoneLacks-gives c none) 0 0 (record { bounds = λ n s p. (passes n s p.0 p.1).not_short; is_reached = inl refl }) (omega arith), (λ d l. absurd (omega arith)))
+least_zero c p gl none passes = (
+  least_passes c p gl (NoneLacks-gives c none) 0 0 (record { bounds = λ n s p. (passes n s p.0 p.1).not_short; is_reached = inl refl })
+      (omega arith),
+  (λ d l. absurd (omega arith)),
+)
 
 -- at a discount of one nothing helps a pair that is short
-pub no_constant : (c : Controller) → IsController c → c.cells.discount ≡ one → (n s : ℕ) → n < c.nodes → s < c.cells.states → pos 0 <ℤ short c n s → (by : ℕ) → Passes (lowered_by c by) → ⊥
+pub no_constant : (c : Controller) → IsController c → c.cells.discount ≡ one → (n s : ℕ) → n < c.nodes → s < c.cells.states
+    → pos 0 <ℤ short c n s → (by : ℕ) → Passes (lowered_by c by) → ⊥
 no_constant c p ge n s nl sl h by passes =
     let none : one - c.cells.discount ≡ 0 = omega arith in
-    positive_not (short c n s) (step_scale c * ((one - c.cells.discount) * by)) (rw none (omega arith)) (from_passes_lowered c p (omega arith) by passes n s nl sl) h
+    positive_not (short c n s) (step_scale c * ((one - c.cells.discount) * by)) (rw none (omega arith))
+    (from_passes_lowered c p (omega arith) by passes n s nl sl) h
   where
     positive_not : (x : ℤ) (y : ℕ) → y ≡ 0 → x ≤ℤ pos y → pos 0 <ℤ x → ⊥
     positive_not x y e l h = omega (arith, linear)
@@ -85,9 +103,11 @@ constant_small : (side : Side) (v : PolicyVectors) → AreProperVectors v → (b
 constant_small side v proper by can = grind (arith, value_is_in_range, low_is_small, turned_in_range)
 
 pub constant_fits : (side : Side) (v : PolicyVectors) → AreProperVectors v → (by : ℕ) → CanMove side v by → FitsSigned w64 (pos by)
-constant_fits side v proper by can = let small : by ≤ 2 * largest = constant_small side v proper by can in record { sfits = omega (arith, ints) }
+constant_fits side v proper by can = let small : by ≤ 2 * largest = constant_small side v proper by can in
+    record { sfits = omega (arith, ints) }
 
-pub negated : (v : PolicyVectors) → AreProperVectors v → (by : ℕ) → CanLower v by → (x : ℤ) → x ≡ pos by → to_z w64 (of_z w64 (pos 0 -ℤ to_z w64 (of_z w64 x))) ≡ neg_ℤ (pos by)
+pub negated : (v : PolicyVectors) → AreProperVectors v → (by : ℕ) → CanLower v by → (x : ℤ) → x ≡ pos by
+    → to_z w64 (of_z w64 (pos 0 -ℤ to_z w64 (of_z w64 x))) ≡ neg_ℤ (pos by)
 negated v proper by can x e =
     let small : by ≤ 2 * largest = constant_small Below v proper by can in
     rw e (negated_is w64 (pos by) (constant_fits Below v proper by can) (fits_signed_from_abs w64 (neg_ℤ (pos by)) (omega (arith, ints))))

@@ -1,6 +1,8 @@
 -- What lowers the mirror image raises the controller.
 use Rattle.std.proofs.Common.{◌≡◌, ◌↔◌, ℕ, ◌<◌, ℤ, pos, neg_ℤ, ◌+ℤ◌, ◌-ℤ◌, sym, ap, subst, arith}
-use Rattle.polcert_check.proofs.Common.{ints, CellTable, PolicyGraph, PolicyVectors, IsInRange, value_of, Controller, controller_of, Passes, IsController, lowered_by, IsLeast, IsFirstShort, IsNotMended, RefusesSmallAmount, PassesAbove, IsNotRaised, IsLeastRaise, LowerFault, RaiseFault, Above, mirrored, CanMove, IsLeastMove}
+use Rattle.polcert_check.proofs.Common.{ints, CellTable, PolicyGraph, PolicyVectors, IsInRange, value_of, Controller, controller_of, Passes}
+use Rattle.polcert_check.proofs.Common.{IsController, lowered_by, IsLeast, IsFirstShort, IsNotMended, RefusesSmallAmount, PassesAbove}
+use Rattle.polcert_check.proofs.Common.{IsNotRaised, IsLeastRaise, LowerFault, RaiseFault, Above, mirrored, CanMove, IsLeastMove}
 use Rattle.polcert_check.specs.Horizon.{Fits}
 use Rattle.polcert_check.specs.Raise.{raised_by, IsLeastAbove, CanRaise, IsFirstLong, RefusesSmallRaise}
 use Rattle.polcert_check.specs.Steps.Mirrored.{raise_of}
@@ -19,7 +21,11 @@ same_moved : (c : Controller) (by : ℕ) → lowered_by (mirrored c) by ≡ mirr
 same_moved c by = λ i. record (mirrored c) { value = λ n s. turned_sum (c.value n s) by i }
 
 passes_moved : (c : Controller) (by : ℕ) → Passes (lowered_by (mirrored c) by) ↔ PassesAbove (raised_by c by)
-passes_moved c by = ((λ h. passes_above (raised_by c by) (subst Passes (same_moved c by) h)), (λ h. subst Passes (sym (same_moved c by)) (passes_below (raised_by c by) h)))
+passes_moved c by = (
+  (λ h. passes_above (raised_by c by) (subst Passes (same_moved c by) h)),
+  (λ h. subst Passes (sym (same_moved c by))
+      (passes_below (raised_by c by) h)),
+)
 
 least_moved : (c : Controller) (by : ℕ) → IsLeast (mirrored c) by ↔ IsLeastAbove c by
 least_moved c by = (
@@ -32,7 +38,11 @@ range_turned : (x : ℤ) (by : ℕ) → IsInRange (neg_ℤ x +ℤ neg_ℤ (pos b
 range_turned x by = omega (arith, ints)
 
 can_raise : (v : PolicyVectors) (by : ℕ) → CanMove Above v by ↔ CanRaise v by
-can_raise v by = ((λ h n s nl sl. (range_turned (value_of v n s) by).0 (h n s nl sl)), (λ h n s nl sl. (range_turned (value_of v n s) by).1 (h n s nl sl)))
+can_raise v by = (
+  (λ h n s nl sl. (range_turned (value_of v n s) by).0 (h n s nl sl)),
+  (λ h n s nl sl. (range_turned (value_of v n s) by).1
+      (h n s nl sl)),
+)
 
 -- ---- what is answered
 pub least_raise_is : (c : Controller) (v : PolicyVectors) (x : ℤ) → IsLeastMove (mirrored c) (CanMove Above v) x → IsLeastRaise c v x
@@ -47,7 +57,8 @@ first_long c n s amount h = grind (arith, mirrored_short, turn_short)
 first_short : (c : Controller) (n s : ℕ) (amount : ℤ) → IsFirstLong c n s amount → IsFirstShort (mirrored c) n s amount
 first_short c n s amount h = grind (arith, linear, mirrored_short)
 
-pub not_raised_is : (c : Controller) (v : PolicyVectors) (fault : LowerFault) → IsNotMended (mirrored c) (CanMove Above v) fault → IsNotRaised c v (raise_of fault)
+pub not_raised_is : (c : Controller) (v : PolicyVectors) (fault : LowerFault) → IsNotMended (mirrored c) (CanMove Above v) fault
+    → IsNotRaised c v (raise_of fault)
 not_raised_is c v (lower.NoSuccessor n s z) h = h
 not_raised_is c v (lower.NoConstant n s amount) h = (h.0, (λ by p. h.1 by ((passes_moved c by).1 p)), first_long c n s amount h.2)
 not_raised_is c v lower.OutOfRange h = (h.0, (h.1.0, (least_moved c h.1.0).0 h.1.1, (λ can. h.1.2 ((can_raise v h.1.0).1 can))))
@@ -63,7 +74,8 @@ lower_of raise.Memory = lower.Memory
 pub raise_again : (fault : RaiseFault) → raise_of (lower_of fault) ≡ fault
 raise_again fault = grind arith
 
-pub not_mended_is : (c : Controller) (v : PolicyVectors) (fault : RaiseFault) → IsNotRaised c v fault → IsNotMended (mirrored c) (CanMove Above v) (lower_of fault)
+pub not_mended_is : (c : Controller) (v : PolicyVectors) (fault : RaiseFault) → IsNotRaised c v fault
+    → IsNotMended (mirrored c) (CanMove Above v) (lower_of fault)
 not_mended_is c v (raise.NoSuccessor n s z) h = h
 not_mended_is c v (raise.NoConstant n s amount) h = (h.0, (λ by p. h.1 by ((passes_moved c by).0 p)), first_short c n s amount h.2)
 not_mended_is c v raise.OutOfRange h = (h.0, (h.1.0, (least_moved c h.1.0).1 h.1.1, (λ can. h.1.2 ((can_raise v h.1.0).0 can))))
@@ -73,10 +85,12 @@ pub small_raise : (c : Controller) (fault : LowerFault) → RefusesSmallAmount (
 small_raise c fault h1 = grind arith
 
 -- ---- the raised vectors
-pub raised_passes : (t : CellTable) (g : PolicyGraph) (v w : PolicyVectors) → Fits t g v → IsController (controller_of t g v) → (by : ℕ) → PassesAbove (raised_by (controller_of t g v) by)
+pub raised_passes : (t : CellTable) (g : PolicyGraph) (v w : PolicyVectors) → Fits t g v → IsController (controller_of t g v) → (by : ℕ)
+    → PassesAbove (raised_by (controller_of t g v) by)
     → ((n s : ℕ) → n < v.nodes → s < v.states → value_of w n s ≡ value_of v n s +ℤ pos by) → PassesAbove (controller_of t g w)
 raised_passes t g v w fits p by passes shifted =
     let c : Controller = raised_by (controller_of t g v) by in
     passes_above (controller_of t g w)
-    (passes_alike (mirrored c) (record { actions_in_range = p.closed.actions_in_range; next_in_range = p.closed.next_in_range }) (λ n s. neg_ℤ (value_of w n s))
+    (passes_alike (mirrored c) (record { actions_in_range = p.closed.actions_in_range; next_in_range = p.closed.next_in_range })
+    (λ n s. neg_ℤ (value_of w n s))
     (λ n s nl sl. ap neg_ℤ (shifted n s (omega (arith, nl, fits.nodes_same)) (omega (arith, sl, fits.states)))) (passes_below c passes))

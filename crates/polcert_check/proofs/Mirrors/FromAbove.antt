@@ -1,13 +1,18 @@
 -- What passes from below in the mirror image passes from above, and its promises are promises from above.
-use Rattle.std.proofs.Common.{◌≡◌, ◌∙◌, ℕ, ◌*◌, ◌^◌, ◌<◌, ℤ, pos, neg_ℤ, ◌+ℤ◌, ◌*ℤ◌, ◌≤ℤ◌, IsTrue, Contains, Some, ◌∷◌, [], sym, subst, arith}
-use Rattle.polcert_check.proofs.Common.{AboveVerdict, Verdict, Yes, Short, NoSuccessor, Above, Controller, one, step_scale, Promise, RewardPromise, AtMost, MeetsEveryHorizon, MeetsHorizon, HasCutRun, short, PairPasses, Passes, PassesBefore, IsVerdict, NamesSmallAmount, PromiseAbove, RewardPromiseAbove, MeetsHorizonAbove, PassesAbove, IsAboveVerdict, NamesSmallAmountAbove, mirrored, IsController}
+use Rattle.std.proofs.Common.{◌≡◌, ◌∙◌, ℕ, ◌*◌, ◌^◌, ◌<◌, ℤ, pos, neg_ℤ, ◌+ℤ◌, ◌*ℤ◌, ◌≤ℤ◌, IsTrue, Contains, Some, ◌∷◌, [], sym, subst}
+use Rattle.std.proofs.Common.{arith}
+use Rattle.polcert_check.proofs.Common.{AboveVerdict, Verdict, Yes, Short, NoSuccessor, Above, Controller, one, step_scale, Promise}
+use Rattle.polcert_check.proofs.Common.{RewardPromise, AtMost, MeetsEveryHorizon, MeetsHorizon, HasCutRun, short, PairPasses, Passes}
+use Rattle.polcert_check.proofs.Common.{PassesBefore, IsVerdict, NamesSmallAmount, PromiseAbove, RewardPromiseAbove, MeetsHorizonAbove}
+use Rattle.polcert_check.proofs.Common.{PassesAbove, IsAboveVerdict, NamesSmallAmountAbove, mirrored, IsController}
 use Rattle.polcert_check.specs.Above.{AtLeast, MeetsEveryHorizonAbove, PairPassesAbove, PassesAboveBefore}
 use Rattle.polcert_check.specs.Steps.Mirrored.{above_of}
 use Rattle.polcert_check.specs.declared.above.AboveVerdict.TheVariants as above
 use Rattle.polcert_check.proofs.Horizons.EveryHorizon.{every_horizon, passes_if_promised}
 use Rattle.polcert_check.proofs.Sums.Ring.{linear, neg_product}
 use Rattle.polcert_check.proofs.Mirrors.Sides.{sided_proper}
-use Rattle.polcert_check.proofs.Mirrors.Mirrored.{mirrored_short, mirrored_runs, mirrored_cut, mirrored_weight, mirrored_weights, mirrored_worth, mirrored_earned}
+use Rattle.polcert_check.proofs.Mirrors.Mirrored.{mirrored_short, mirrored_runs, mirrored_cut, mirrored_weight, mirrored_weights}
+use Rattle.polcert_check.proofs.Mirrors.Mirrored.{mirrored_worth, mirrored_earned}
 
 -- ---- numbers
 pub le_below : (x v w w' : ℤ) → w' ≡ neg_ℤ w → w ≤ℤ (x *ℤ v) → (x *ℤ neg_ℤ v) ≤ℤ w'
@@ -33,10 +38,18 @@ turn_long x y e h = omega (arith, linear)
 
 -- ---- pairs
 pub pair_above : (c : Controller) (n s : ℕ) → PairPasses (mirrored c) n s → PairPassesAbove c n s
-pair_above c n s h = record { lacks_none = h.lacks_none; not_long = turn_short (short (mirrored c) n s) (short c n s) (mirrored_short c n s) h.not_short }
+pair_above c n s h = record {
+  lacks_none = h.lacks_none;
+  not_long =
+      turn_short (short (mirrored c) n s) (short c n s) (mirrored_short c n s) h.not_short;
+}
 
 pub pair_below : (c : Controller) (n s : ℕ) → PairPassesAbove c n s → PairPasses (mirrored c) n s
-pair_below c n s h = record { lacks_none = h.lacks_none; not_short = turn_long (short (mirrored c) n s) (short c n s) (mirrored_short c n s) h.not_long }
+pair_below c n s h = record {
+  lacks_none = h.lacks_none;
+  not_short =
+      turn_long (short (mirrored c) n s) (short c n s) (mirrored_short c n s) h.not_long;
+}
 
 pub passes_above : (c : Controller) → Passes (mirrored c) → PassesAbove c
 passes_above c h = λ n s nl sl. pair_above c n s (h n s nl sl)
@@ -85,7 +98,8 @@ at_most c m h = λ n s nl sl. turn_back (c.value n s) m (h n s nl sl)
 pub rewards_above : (c : Controller) (k n s : ℕ) → RewardPromise (mirrored c) k n s → RewardPromiseAbove c k n s
 rewards_above c k n s h = record {
   weights = sym (mirrored_weights c k (Some n) s) ∙ h.weights;
-  rewarded = λ m least. sum_above (pos (step_scale c ^ k * one ^ k)) (c.value n s) _ _ (pos (c.cells.discount ^ k * step_scale c ^ k)) m (mirrored_earned c k (Some n) s) (h.rewarded (neg_ℤ m) (at_most c m least));
+  rewarded = λ m least. sum_above (pos (step_scale c ^ k * one ^ k)) (c.value n s) _ _ (pos (c.cells.discount ^ k * step_scale c ^ k)) m
+      (mirrored_earned c k (Some n) s) (h.rewarded (neg_ℤ m) (at_most c m least));
 }
 
 at_least : (c : Controller) (m : ℤ) → AtMost (mirrored c) m → AtLeast c (neg_ℤ m)
@@ -94,14 +108,16 @@ at_least c m h = λ n s nl sl. turn_up m (c.value n s) (h n s nl sl)
 pub rewards_below : (c : Controller) (k n s : ℕ) → RewardPromiseAbove c k n s → RewardPromise (mirrored c) k n s
 rewards_below c k n s h = record {
   weights = mirrored_weights c k (Some n) s ∙ h.weights;
-  rewarded = λ m most. sum_below (pos (step_scale c ^ k * one ^ k)) (c.value n s) _ _ (pos (c.cells.discount ^ k * step_scale c ^ k)) m (mirrored_earned c k (Some n) s) (h.rewarded (neg_ℤ m) (at_least c m most));
+  rewarded = λ m most. sum_below (pos (step_scale c ^ k * one ^ k)) (c.value n s) _ _ (pos (c.cells.discount ^ k * step_scale c ^ k)) m
+      (mirrored_earned c k (Some n) s) (h.rewarded (neg_ℤ m) (at_least c m most));
 }
 
 pub every_horizon_above : (c : Controller) → MeetsEveryHorizon (mirrored c) → MeetsEveryHorizonAbove c
 every_horizon_above c h = λ k n s nl sl. let both = h k n s nl sl in (promise_above c k n s both.0, rewards_above c k n s both.1)
 
 cut_run_turned : (c : Controller) (n s z : ℕ) → HasCutRun (mirrored c) n s z ≡ HasCutRun c n s z
-cut_run_turned c n s z = λ i. (e : ℕ) × Contains (mirrored_runs c 1 i) ((e, z) ∷ []) × IsTrue (mirrored_cut c (Some n) ((e, z) ∷ []) i) × (0 < mirrored_weight c (Some n) s ((e, z) ∷ []) i)
+cut_run_turned c n s z = λ i. (e : ℕ) × Contains (mirrored_runs c 1 i) ((e, z) ∷ []) × IsTrue (mirrored_cut c (Some n) ((e, z) ∷ []) i)
+    × (0 < mirrored_weight c (Some n) s ((e, z) ∷ []) i)
 
 every_horizon_below : (c : Controller) → MeetsEveryHorizonAbove c → MeetsEveryHorizon (mirrored c)
 every_horizon_below c h = λ k n s nl sl. let both = h k n s nl sl in (promise_below c k n s both.0, rewards_below c k n s both.1)
@@ -114,7 +130,11 @@ horizon_above c (NoSuccessor n s z) h = ((λ p. h.0 (promise_below c 1 n s p)), 
 pub horizon_below : (c : Controller) (v : AboveVerdict) → MeetsHorizonAbove c v → MeetsHorizon (mirrored c) (below_of v)
 horizon_below c above.Yes h = every_horizon_below c h
 horizon_below c (above.Long n s amount) h = λ p. h (promise_above c 1 n s p)
-horizon_below c (above.NoSuccessor n s z) h = ((λ p. h.0 (promise_above c 1 n s p)), subst (λ (T : Type 0). T) (sym (cut_run_turned c n s z)) h.1)
+horizon_below c (above.NoSuccessor n s z) h = (
+  (λ p. h.0 (promise_above c 1 n s p)),
+  subst (λ (T : Type 0). T)
+      (sym (cut_run_turned c n s z)) h.1,
+)
 
 -- ---- where every pair passes, and only there
 pub horizons_above : (c : Controller) → IsController c → PassesAbove c → MeetsEveryHorizonAbove c

@@ -1,6 +1,7 @@
 -- A check from above has one verdict, raising one outcome, and a start one most: each is that of the mirror image from below.
 use Rattle.std.proofs.Common.{◌≡◌, ℕ, ℤ, neg_ℤ, arith, rules}
-use Rattle.polcert_check.proofs.Common.{Meaning, PolicyVectors, AboveVerdict, RaiseFault, Above, IsAboveVerdict, Controller, mirrored, CanMove, IsLeastRaise, IsNotRaised, IsStartMost, IsCeilQuotient}
+use Rattle.polcert_check.proofs.Common.{Meaning, PolicyVectors, AboveVerdict, RaiseFault, Above, IsAboveVerdict, Controller, mirrored}
+use Rattle.polcert_check.proofs.Common.{CanMove, IsLeastRaise, IsNotRaised, IsStartMost, IsCeilQuotient}
 use Rattle.polcert_check.proofs.Mirrors.FromAbove.{verdict_below}
 use Rattle.polcert_check.proofs.Agreements.OneAnswer.{one_verdict, one_move, one_fault, move_or_fault, one_quotient}
 use Rattle.polcert_check.proofs.Lowerings.Raising.{lower_of, least_move_is, not_mended_is}
@@ -18,14 +19,16 @@ one_raise_reason c v f g is also = grind (arith, one_fault, not_mended_is)
 
 -- not both a constant and a reason why there is none
 pub raise_or_reason : (c : Controller) (v : PolicyVectors) (x : ℤ) (f : RaiseFault) → IsLeastRaise c v x → IsNotRaised c v f → ⊥
-raise_or_reason c v x f is refused = move_or_fault (mirrored c) (CanMove Above v) x (lower_of f) (least_move_is c v x is) (not_mended_is c v f refused)
+raise_or_reason c v x f is refused = move_or_fault (mirrored c) (CanMove Above v) x (lower_of f) (least_move_is c v x is)
+    (not_mended_is c v f refused)
 
 -- ---- the start
 same_negatives : (x y : ℤ) → neg_ℤ x ≡ neg_ℤ y → x ≡ y
 same_negatives x y e = omega (arith, linear)
 
 one_ceil : (sum : ℤ) (total : ℕ) (x y : ℤ) → IsCeilQuotient sum total x → IsCeilQuotient sum total y → x ≡ y
-one_ceil sum total x y is also = same_negatives x y (one_quotient (neg_ℤ sum) total (neg_ℤ x) (neg_ℤ y) (floor_is_neg sum total x is) (floor_is_neg sum total y also))
+one_ceil sum total x y is also = same_negatives x y
+    (one_quotient (neg_ℤ sum) total (neg_ℤ x) (neg_ℤ y) (floor_is_neg sum total x is) (floor_is_neg sum total y also))
 
 pub one_start_most : (m : Meaning) (v : PolicyVectors) (x y : ℤ) → IsStartMost m v x → IsStartMost m v y → x ≡ y
 one_start_most m v x y is also = search (rules, one_ceil)

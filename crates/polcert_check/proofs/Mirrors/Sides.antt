@@ -1,6 +1,7 @@
 -- What is so of a controller from either side.
 use Rattle.std.proofs.Common.{◌≡◌, ℕ, ◌≤◌, ℤ, unsigned_abs, refl, sym, subst, arith}
-use Rattle.polcert_check.proofs.Common.{largest, IsWithinLimits, Controller, short, IsClosed, IsController, ValuesAreWithin, Side, Below, Above, signed_from, sided}
+use Rattle.polcert_check.proofs.Common.{largest, IsWithinLimits, Controller, short, IsClosed, IsController, ValuesAreWithin, Side, Below}
+use Rattle.polcert_check.proofs.Common.{Above, signed_from, sided}
 use Rattle.polcert_check.proofs.Mirrors.Mirrored.{mirrored_short}
 
 pub turned_size : (side : Side) (x : ℤ) → unsigned_abs (signed_from side x) ≡ unsigned_abs x

@@ -1,5 +1,6 @@
 -- Absolute values, and which sums fit 128 bits.
-use Rattle.std.proofs.Common.{◌≡◌, ℕ, zero, suc, ◌+◌, ◌*◌, ◌^◌, ◌<◌, ◌≤◌, ℤ, pos, ◌+ℤ◌, ◌-ℤ◌, ◌*ℤ◌, ◌≤ℤ◌, neg_ℤ, unsigned_abs, FitsSigned, to_z, of_z, ap, arith, ◌⊎◌}
+use Rattle.std.proofs.Common.{◌≡◌, ℕ, zero, suc, ◌+◌, ◌*◌, ◌^◌, ◌<◌, ◌≤◌, ℤ, pos, ◌+ℤ◌, ◌-ℤ◌, ◌*ℤ◌, ◌≤ℤ◌, neg_ℤ, unsigned_abs, FitsSigned}
+use Rattle.std.proofs.Common.{to_z, of_z, ap, arith, ◌⊎◌}
 use Rattle.polcert_check.proofs.Common.{w128, ints, unsigned_abs-mul, fits_signed_from_abs, cases_lt, *ℤ_comm, total_below}
 use Rattle.std.proofs.Math.Nat.{mul-le-mul}
 use Rattle.polcert_check.proofs.Sums.Ring.{linear, mul_le, +ℤ-*ℤ}
@@ -21,26 +22,39 @@ pub negated_is : (w : _) (x : ℤ) → FitsSigned w x → FitsSigned w (neg_ℤ 
 negated_is w x fits signed_from = grind arith
 
 -- ---- bounds of sums
-pub abs_sum_le : (f : ℕ → ℤ) (w : ℕ → ℕ) (b n : ℕ) → ((i : ℕ) → i < n → unsigned_abs (f i) ≤ w i * b) → pos (unsigned_abs (total_below f n)) ≤ℤ (total_below (λ i. pos (w i)) n *ℤ pos b)
+pub abs_sum_le : (f : ℕ → ℤ) (w : ℕ → ℕ) (b n : ℕ) → ((i : ℕ) → i < n → unsigned_abs (f i) ≤ w i * b)
+    → pos (unsigned_abs (total_below f n)) ≤ℤ (total_below (λ i. pos (w i)) n *ℤ pos b)
 abs_sum_le f w b zero h = omega (arith, ints)
 abs_sum_le f w b (suc n) h =
-    let before : pos (unsigned_abs (total_below f n)) ≤ℤ (total_below (λ i. pos (w i)) n *ℤ pos b) = abs_sum_le f w b n (λ i l. h i (omega arith)) in
+    let before : pos (unsigned_abs (total_below f n)) ≤ℤ (total_below (λ i. pos (w i)) n *ℤ pos b) =
+    abs_sum_le f w b n (λ i l. h i (omega arith)) in
     let here : unsigned_abs (f n) ≤ w n * b = h n (omega arith) in
-    let both : unsigned_abs (total_below f n +ℤ f n) ≤ unsigned_abs (total_below f n) + unsigned_abs (f n) = abs-+ℤ (total_below f n) (f n) in
+    let both : unsigned_abs (total_below f n +ℤ f n) ≤ unsigned_abs (total_below f n) + unsigned_abs (f n) =
+    abs-+ℤ (total_below f n) (f n) in
     rw (+ℤ-*ℤ (total_below (λ i. pos (w i)) n) (pos (w n)) (pos b)) (omega (arith, linear))
 
 pub sum_below_upto : (w : ℕ → ℕ) (i n : ℕ) → i ≤ n → total_below (λ i. pos (w i)) i ≤ℤ total_below (λ i. pos (w i)) n
 sum_below_upto w i zero h = let e : i ≡ 0 = omega arith in rw e (omega (arith, linear))
 sum_below_upto w i (suc n) h = go (cases_lt n i) (λ l. sum_below_upto w i n l)
   where
-    go : (n < i) ⊎ (i ≤ n) → (i ≤ n → total_below (λ i. pos (w i)) i ≤ℤ total_below (λ i. pos (w i)) n) → total_below (λ i. pos (w i)) i ≤ℤ (total_below (λ i. pos (w i)) n +ℤ pos (w n))
+    go : (n < i) ⊎ (i ≤ n) → (i ≤ n → total_below (λ i. pos (w i)) i ≤ℤ total_below (λ i. pos (w i)) n)
+        → total_below (λ i. pos (w i)) i ≤ℤ (total_below (λ i. pos (w i)) n +ℤ pos (w n))
     go h1 h2 = grind (arith, linear)
 
 -- a part of the sum of terms that are at most w times b, where all w sum to the scale
-pub abs_part_le : (f : ℕ → ℤ) (w : ℕ → ℕ) (b i n scale : ℕ) → total_below (λ i. pos (w i)) n ≡ pos scale → i ≤ n → ((i : ℕ) → i < n → unsigned_abs (f i) ≤ w i * b) → unsigned_abs (total_below f i) ≤ scale * b
+pub abs_part_le : (f : ℕ → ℤ) (w : ℕ → ℕ) (b i n scale : ℕ) → total_below (λ i. pos (w i)) n ≡ pos scale → i ≤ n
+    → ((i : ℕ) → i < n → unsigned_abs (f i) ≤ w i * b) → unsigned_abs (total_below f i) ≤ scale * b
 abs_part_le f w b i n scale all l h =
-    let part : pos (unsigned_abs (total_below f i)) ≤ℤ (total_below (λ i. pos (w i)) i *ℤ pos b) = abs_sum_le f w b i (λ j k. h j (omega arith)) in
-    omega (arith, linear, *ℤ_comm (total_below (λ i. pos (w i)) i) (pos b), ap (λ (x : ℤ). pos b *ℤ x) all, mul_le b _ _ (sum_below_upto w i n l))
+    let part : pos (unsigned_abs (total_below f i)) ≤ℤ (total_below (λ i. pos (w i)) i *ℤ pos b) =
+    abs_sum_le f w b i (λ j k. h j (omega arith)) in
+    omega (
+      arith,
+      linear,
+      *ℤ_comm (total_below (λ i. pos (w i)) i) (pos b),
+      ap (λ (x : ℤ). pos b *ℤ x) all,
+      mul_le b _ _
+          (sum_below_upto w i n l),
+    )
 
 pub term_le : (w : ℕ → ℕ) (i n scale : ℕ) → total_below (λ i. pos (w i)) n ≡ pos scale → i < n → w i ≤ scale
 term_le w i n scale all l =

@@ -1,5 +1,6 @@
 -- Sums that pass over what adds nothing, and their steps in 128 bits.
-use Rattle.std.proofs.Common.{◌≡◌, ℕ, zero, suc, ◌+◌, ◌^◌, ◌<◌, ◌≤◌, ◌⊎◌, ℤ, pos, ◌+ℤ◌, ◌*ℤ◌, unsigned_abs, FitsSigned, to_z, of_z, arith, refl}
+use Rattle.std.proofs.Common.{◌≡◌, ℕ, zero, suc, ◌+◌, ◌^◌, ◌<◌, ◌≤◌, ◌⊎◌, ℤ, pos, ◌+ℤ◌, ◌*ℤ◌, unsigned_abs, FitsSigned, to_z, of_z, arith}
+use Rattle.std.proofs.Common.{refl}
 use Rattle.polcert_check.proofs.Common.{w128, cases_lt, +ℤ_idr, zero-*ℤ, total_below}
 use Rattle.std.proofs.lemmas.Int.{to_z-of_z}
 
@@ -16,14 +17,19 @@ pub no_weight : (w : ℕ) (x : ℤ) → w ≡ 0 → pos w *ℤ x ≡ pos 0
 no_weight w x e = rw e (zero-*ℤ x)
 
 -- one entry more, after a gap
-pub past_gap : (f : ℕ → ℤ) (i j : ℕ) (sum x : ℤ) → i ≤ j → ((k : ℕ) → i ≤ k → k < j → f k ≡ pos 0) → sum ≡ total_below f i → x ≡ f j → sum +ℤ x ≡ total_below f (suc j)
+pub past_gap : (f : ℕ → ℤ) (i j : ℕ) (sum x : ℤ) → i ≤ j → ((k : ℕ) → i ≤ k → k < j → f k ≡ pos 0) → sum ≡ total_below f i → x ≡ f j
+    → sum +ℤ x ≡ total_below f (suc j)
 past_gap f i j sum x l h before is = grind (arith, gap)
 
 -- a sum in 128 bits
-pub add_step : (sum x next : ℤ) (b : ℕ) → FitsSigned w128 x → sum +ℤ x ≡ next → unsigned_abs next ≤ b → b < 2 ^ 127 → FitsSigned w128 (sum +ℤ to_z w128 (of_z w128 x)) × (to_z w128 (of_z w128 (sum +ℤ to_z w128 (of_z w128 x))) ≡ next)
+pub add_step : (sum x next : ℤ) (b : ℕ) → FitsSigned w128 x → sum +ℤ x ≡ next → unsigned_abs next ≤ b → b < 2 ^ 127
+    → FitsSigned w128 (sum +ℤ to_z w128 (of_z w128 x)) × (to_z w128 (of_z w128 (sum +ℤ to_z w128 (of_z w128 x))) ≡ next)
 add_step sum x next b f is small fits = grind arith
 
-pub cursor_step : (f : ℕ → ℤ) (b i j : ℕ) (sum x : ℤ) → i ≤ j → ((k : ℕ) → i ≤ k → k < j → f k ≡ pos 0) → sum ≡ total_below f i → FitsSigned w128 x → x ≡ f j → unsigned_abs (total_below f (suc j)) ≤ b → b < 2 ^ 127 → FitsSigned w128 (sum +ℤ to_z w128 (of_z w128 x)) × (to_z w128 (of_z w128 (sum +ℤ to_z w128 (of_z w128 x))) ≡ total_below f (j + 1))
+pub cursor_step : (f : ℕ → ℤ) (b i j : ℕ) (sum x : ℤ) → i ≤ j → ((k : ℕ) → i ≤ k → k < j → f k ≡ pos 0) → sum ≡ total_below f i
+    → FitsSigned w128 x → x ≡ f j → unsigned_abs (total_below f (suc j)) ≤ b → b < 2 ^ 127
+    → FitsSigned w128 (sum +ℤ to_z w128 (of_z w128 x))
+    × (to_z w128 (of_z w128 (sum +ℤ to_z w128 (of_z w128 x))) ≡ total_below f (j + 1))
 cursor_step f b i j sum x l h before fx is small fits = grind (arith, past_gap)
 
 -- a product in 128 bits

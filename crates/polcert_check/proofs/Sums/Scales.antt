@@ -13,7 +13,8 @@ unfolding one
 scales_small m limits = (omega (arith, limits.t_scale, limits.states.1), omega (arith, limits.o_scale, limits.observations.1))
 
 products_of : (a b s z : ℕ) → (a * s) * (b * z) ≡ a * b * (s * z)
-products_of a b s z = mul_assoc a s (b * z) ∙ ap (λ x. a * x) (sym (mul_assoc s b z) ∙ ap (λ x. x * z) (mul_comm s b) ∙ mul_assoc b s z) ∙ sym (mul_assoc a b (s * z))
+products_of a b s z = mul_assoc a s (b * z) ∙ ap (λ x. a * x) (sym (mul_assoc s b z) ∙ ap (λ x. x * z) (mul_comm s b) ∙ mul_assoc b s z)
+    ∙ sym (mul_assoc a b (s * z))
 
 pub scales_le : (m : CellTable) → IsWithinLimits m → m.t_scale * m.o_scale ≤ most_scales
 unfolding one

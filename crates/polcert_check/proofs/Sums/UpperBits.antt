@@ -1,6 +1,7 @@
 -- Numbers compared by their upper bits.
 use Rattle.polcert_check.proofs.Common.{one, fits_signed_from_abs}
-use Rattle.std.proofs.Common.{◌≡◌, ℕ, ◌+◌, ◌*◌, ◌^◌, ◌≤◌, ℤ, pos, ◌+ℤ◌, ◌-ℤ◌, ◌*ℤ◌, ◌<ℤ◌, ◌≤ℤ◌, neg_ℤ, unsigned_abs, FitsSigned, IsTrue, to_z, of_z, w64, ap, refl, arith}
+use Rattle.std.proofs.Common.{◌≡◌, ℕ, ◌+◌, ◌*◌, ◌^◌, ◌≤◌, ℤ, pos, ◌+ℤ◌, ◌-ℤ◌, ◌*ℤ◌, ◌<ℤ◌, ◌≤ℤ◌, neg_ℤ, unsigned_abs, FitsSigned, IsTrue}
+use Rattle.std.proofs.Common.{to_z, of_z, w64, ap, refl, arith}
 use Rattle.std.specs.Int.Signed.{le_z}
 use Rattle.std.proofs.lemmas.Int.{to_z-of_z}
 use Rattle.polcert_check.proofs.Sums.Amounts.{scaled_is}
@@ -14,7 +15,8 @@ product_fits w x wl xl =
     fits_signed_from_abs w64 (pos w *ℤ x) (omega (arith, le))
 
 -- w times x is at most v times y if that is so of their upper bits, rounded up and down
-pub by_upper_bits : (w v : ℕ) (x y h k : ℤ) → x <ℤ (pos (2 ^ 64) *ℤ (h +ℤ pos 1)) → (pos (2 ^ 64) *ℤ k) ≤ℤ y → (pos w *ℤ (h +ℤ pos 1)) ≤ℤ (pos v *ℤ k) → (pos w *ℤ x) ≤ℤ (pos v *ℤ y)
+pub by_upper_bits : (w v : ℕ) (x y h k : ℤ) → x <ℤ (pos (2 ^ 64) *ℤ (h +ℤ pos 1)) → (pos (2 ^ 64) *ℤ k) ≤ℤ y
+    → (pos w *ℤ (h +ℤ pos 1)) ≤ℤ (pos v *ℤ k) → (pos w *ℤ x) ≤ℤ (pos v *ℤ y)
 by_upper_bits w v x y h k above below le =
     let first = mul_le w x (pos (2 ^ 64) *ℤ (h +ℤ pos 1)) (omega (arith, linear, above)) in
     let last = mul_le v (pos (2 ^ 64) *ℤ k) y below in
@@ -34,9 +36,14 @@ le_from : (a b : ℤ) → IsTrue (le_z a b) → a ≤ℤ b
 le_from a b t = record { le = rw t tt }
 
 -- two products compared in 64 bits
-pub product_le : (w v : ℕ) (x y : ℤ) → w ≤ 1000000 → v ≤ 1000000 → unsigned_abs x ≤ 2 ^ 43 + 1 → unsigned_abs y ≤ 2 ^ 43 + 1 → IsTrue (le_z (to_z w64 (of_z w64 (pos w *ℤ x))) (to_z w64 (of_z w64 (pos v *ℤ y)))) → (pos w *ℤ x) ≤ℤ (pos v *ℤ y)
+pub product_le : (w v : ℕ) (x y : ℤ) → w ≤ 1000000 → v ≤ 1000000 → unsigned_abs x ≤ 2 ^ 43 + 1 → unsigned_abs y ≤ 2 ^ 43 + 1
+    → IsTrue (le_z (to_z w64 (of_z w64 (pos w *ℤ x))) (to_z w64 (of_z w64 (pos v *ℤ y)))) → (pos w *ℤ x) ≤ℤ (pos v *ℤ y)
 product_le w v x y wl vl xl yl test =
-    le_from (pos w *ℤ x) (pos v *ℤ y) (rw (to_z-of_z w64 (pos w *ℤ x) (product_fits w x wl xl), to_z-of_z w64 (pos v *ℤ y) (product_fits v y vl yl)) at test)
+    le_from (pos w *ℤ x) (pos v *ℤ y) (rw (
+      to_z-of_z w64 (pos w *ℤ x) (product_fits w x wl xl),
+      to_z-of_z w64 (pos v *ℤ y)
+          (product_fits v y vl yl),
+    ) at test)
 
 -- one more than a number of 43 bits
 pub one_more : (x : ℤ) → unsigned_abs x ≤ 2 ^ 43 → to_z w64 (of_z w64 (to_z w64 (of_z w64 x) +ℤ pos 1)) ≡ x +ℤ pos 1

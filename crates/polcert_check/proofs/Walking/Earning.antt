@@ -9,14 +9,19 @@ use Rattle.polcert_check.proofs.Sums.Scales.{ahead_room}
 use Rattle.polcert_check.proofs.Walking.Weighed.{ends_weighed, seen_weighed, part_le}
 
 module _ (m : CellTable) (p : IsProper m) (limits : IsWithinLimits m) where
-  pub reward_at_end_le : (a s e : ℕ) → a < m.actions → s < m.states → e < m.states → unsigned_abs (reward_at_end m a s e) ≤ m.o_scale * largest
-  reward_at_end_le a s e al sl el = part_le (seen_weighed m p limits a e al el) (m.r a s e) (λ z zl. limits.r a s e z al sl el zl) m.observations (omega arith)
+  pub reward_at_end_le : (a s e : ℕ) → a < m.actions → s < m.states → e < m.states
+      → unsigned_abs (reward_at_end m a s e) ≤ m.o_scale * largest
+  reward_at_end_le a s e al sl el = part_le (seen_weighed m p limits a e al el) (m.r a s e) (λ z zl. limits.r a s e z al sl el zl)
+      m.observations (omega arith)
 
-  pub expected_reward_le : (a s : ℕ) → a < m.actions → s < m.states → unsigned_abs (expected_reward m a s) ≤ m.t_scale * (m.o_scale * largest)
-  expected_reward_le a s al sl = part_le (ends_weighed m p limits a s al sl) (reward_at_end m a s) (λ e el. reward_at_end_le a s e al sl el) m.states (omega arith)
+  pub expected_reward_le : (a s : ℕ) → a < m.actions → s < m.states
+      → unsigned_abs (expected_reward m a s) ≤ m.t_scale * (m.o_scale * largest)
+  expected_reward_le a s al sl = part_le (ends_weighed m p limits a s al sl) (reward_at_end m a s) (λ e el. reward_at_end_le a s e al sl el)
+      m.states (omega arith)
 
   -- every observation earns the same
-  pub alike : (a s e : ℕ) (h : ℤ) → a < m.actions → e < m.states → ((z : ℕ) → z < m.observations → m.r a s e z ≡ h) → pos m.o_scale *ℤ h ≡ reward_at_end m a s e
+  pub alike : (a s e : ℕ) (h : ℤ) → a < m.actions → e < m.states → ((z : ℕ) → z < m.observations → m.r a s e z ≡ h)
+      → pos m.o_scale *ℤ h ≡ reward_at_end m a s e
   alike a s e h al el same =
       *ℤ_comm (pos m.o_scale) h
       ∙ ap (λ (x : ℤ). h *ℤ x) (sym (o_rows m p a e al el))
@@ -31,7 +36,8 @@ module _ (m : CellTable) (p : IsProper m) (limits : IsWithinLimits m) where
       *ℤ_comm (pos m.t_scale) x
       ∙ ap (λ (y : ℤ). x *ℤ y) (sym (t_rows m p a s al sl))
       ∙ sym (sum_below_scale x (λ e. pos (m.t a s e)) m.states)
-      ∙ sum_below_same _ _ m.states (λ e el. *ℤ_comm x (pos (m.t a s e)) ∙ ap (λ (y : ℤ). pos (m.t a s e) *ℤ y) (alike a s e h al el (λ z zl. same e z el zl)))
+      ∙ sum_below_same _ _ m.states (λ e el. *ℤ_comm x (pos (m.t a s e))
+      ∙ ap (λ (y : ℤ). pos (m.t a s e) *ℤ y) (alike a s e h al el (λ z zl. same e z el zl)))
 
   pub common_room : (a s : ℕ) (h : ℤ) → a < m.actions → s < m.states → ((e z : ℕ) → e < m.states → z < m.observations → m.r a s e z ≡ h)
       → m.t_scale * unsigned_abs (pos m.o_scale *ℤ h) ≤ most_sum

@@ -1,6 +1,8 @@
 -- Weighted rewards, summed from one that most have in common and from its exceptions.
-use Rattle.std.proofs.Common.{◌≡◌, ◌∙◌, ℕ, zero, suc, ◌+◌, ◌*◌, ◌^◌, ◌<◌, ◌≤◌, true, false, cond, ◌⊎◌, inl, inr, List, ℤ, pos, ◌+ℤ◌, ◌-ℤ◌, ◌*ℤ◌, unsigned_abs, FitsSigned, w64, to_z, of_z, refl, sym, ap, arith, rules, lit<, add-one}
-use Rattle.polcert_check.proofs.Common.{w128, ints, fits_signed_from_abs, *ℤ_comm, *ℤ-zero, +ℤ_idr, largest, CommonReward, RewardCell, total_below, most_sum, AreExcepted, weighed_total}
+use Rattle.std.proofs.Common.{◌≡◌, ◌∙◌, ℕ, zero, suc, ◌+◌, ◌*◌, ◌^◌, ◌<◌, ◌≤◌, true, false, cond, ◌⊎◌, inl, inr, List, ℤ, pos, ◌+ℤ◌, ◌-ℤ◌}
+use Rattle.std.proofs.Common.{◌*ℤ◌, unsigned_abs, FitsSigned, w64, to_z, of_z, refl, sym, ap, arith, rules, lit<, add-one}
+use Rattle.polcert_check.proofs.Common.{w128, ints, fits_signed_from_abs, *ℤ_comm, *ℤ-zero, +ℤ_idr, largest, CommonReward, RewardCell}
+use Rattle.polcert_check.proofs.Common.{total_below, most_sum, AreExcepted, weighed_total}
 use Rattle.std.proofs.lemmas.Int.{to_z-of_z}
 use Rattle.polcert_cells.specs.CommonRewards.{cell_at}
 use Rattle.std.specs.Prelude.{◌==◌}
@@ -27,18 +29,22 @@ miss : (a b : ℕ) (x y : ℤ) → (a ≡ b → ⊥) → cond (a == b) x y ≡ y
 miss a b x y d = ap (λ t. cond t x y) (other_number a b d)
 
 -- ---- a sum of which one term changes
-one_term_more : (f g : ℕ → ℤ) (i : ℕ) (x : ℤ) (n : ℕ) → i < n → ((k : ℕ) → k < n → (k ≡ i → ⊥) → g k ≡ f k) → g i ≡ f i +ℤ x → total_below g n ≡ total_below f n +ℤ x
+one_term_more : (f g : ℕ → ℤ) (i : ℕ) (x : ℤ) (n : ℕ) → i < n → ((k : ℕ) → k < n → (k ≡ i → ⊥) → g k ≡ f k) → g i ≡ f i +ℤ x
+    → total_below g n ≡ total_below f n +ℤ x
 one_term_more f g i x zero l same here = absurd (omega (arith, l))
-one_term_more f g i x (suc n) l same here = at (cases_eq n i) (λ d. one_term_more f g i x n (omega (arith, l, d)) (λ k m. same k (omega (arith, m))) here)
+one_term_more f g i x (suc n) l same here = at (cases_eq n i)
+    (λ d. one_term_more f g i x n (omega (arith, l, d)) (λ k m. same k (omega (arith, m))) here)
   where
-    at : (n ≡ i) ⊎ (n ≡ i → ⊥) → ((n ≡ i → ⊥) → total_below g n ≡ total_below f n +ℤ x) → total_below g n +ℤ g n ≡ (total_below f n +ℤ f n) +ℤ x
+    at : (n ≡ i) ⊎ (n ≡ i → ⊥) → ((n ≡ i → ⊥) → total_below g n ≡ total_below f n +ℤ x)
+        → total_below g n +ℤ g n ≡ (total_below f n +ℤ f n) +ℤ x
     at h1 h2 = search (rules, linear, sum_below_same)
 
 -- ---- the differences of the first cells
 module _ (r : ℕ → ℤ) (h : ℤ) (cells : List RewardCell) where
   no_difference : (n z : ℕ) → ((k : ℕ) → k < n → (cell_at cells k).observation ≡ z → ⊥) → difference_in r h cells n z ≡ pos 0
   no_difference zero z d = refl
-  no_difference (suc n) z d = miss (cell_at cells n).observation z _ _ (d n (omega arith)) ∙ no_difference n z (λ k l. d k (omega (arith, l)))
+  no_difference (suc n) z d = miss (cell_at cells n).observation z _ _ (d n (omega arith))
+      ∙ no_difference n z (λ k l. d k (omega (arith, l)))
 
   -- each is that of the observation, or there is none
   cases_difference : (n z : ℕ) → ((k : ℕ) × (k < n) × ((cell_at cells k).observation ≡ z) × (difference_in r h cells n z ≡ r z -ℤ h))
@@ -50,7 +56,8 @@ pub small_of : (h : ℤ) → FitsSigned w64 h → unsigned_abs h ≤ 2 ^ 63
 small_of h h1 = grind arith
 
 -- the difference, as the code computes it
-pub difference_is : (x h : ℤ) → FitsSigned w64 x → FitsSigned w64 h → to_z w128 (of_z w128 (to_z w64 (of_z w64 x))) -ℤ to_z w128 (of_z w128 (to_z w64 (of_z w64 h))) ≡ x -ℤ h
+pub difference_is : (x h : ℤ) → FitsSigned w64 x → FitsSigned w64 h
+    → to_z w128 (of_z w128 (to_z w64 (of_z w64 x))) -ℤ to_z w128 (of_z w128 (to_z w64 (of_z w64 h))) ≡ x -ℤ h
 difference_is x h f k = grind arith
 
 abs-minus : (x h : ℤ) (b : ℕ) → unsigned_abs x ≤ largest → unsigned_abs h + largest ≤ b → unsigned_abs (x -ℤ h) ≤ b
@@ -68,7 +75,8 @@ abbrev pub sum_until : (ℕ → ℕ) → (ℕ → ℤ) → ℕ → ℕ → Commo
 sum_until w r count scale common cells n =
     pos scale *ℤ common.reward +ℤ total_below (λ k. pos (w k) *ℤ difference_in r common.reward cells n k) count
 
-module _ (answers : ℕ → ℕ → Type 0) (scale : ℕ) (common : CommonReward) (cells : List RewardCell) (w : ℕ → ℕ) (r : ℕ → ℤ) (count b : ℕ) (are : AreExcepted answers scale common cells w r count b) where
+module _ (answers : ℕ → ℕ → Type 0) (scale : ℕ) (common : CommonReward) (cells : List RewardCell) (w : ℕ → ℕ) (r : ℕ → ℤ) (count b : ℕ)
+    (are : AreExcepted answers scale common cells w r count b) where
   abbrev differs : ℕ → ℕ → ℤ
   differs n k = difference_in r common.reward cells n k
 
@@ -83,13 +91,15 @@ module _ (answers : ℕ → ℕ → Type 0) (scale : ℕ) (common : CommonReward
 
   sum_until_le : (n : ℕ) → unsigned_abs (until n) ≤ 2 * most_sum
   sum_until_le n =
-      let first : unsigned_abs (pos scale *ℤ common.reward) ≤ scale * b = abs-*ℤ_le (pos scale) common.reward scale b (omega arith) (omega (arith, are.small)) in
+      let first : unsigned_abs (pos scale *ℤ common.reward) ≤ scale * b =
+      abs-*ℤ_le (pos scale) common.reward scale b (omega arith) (omega (arith, are.small)) in
       let both : unsigned_abs (until n) ≤ _ = abs-+ℤ (pos scale *ℤ common.reward) (total_below (λ k. pos (w k) *ℤ differs n k) count) in
       omega (arith, first, part_le are.weighed (differs n) (λ k l. differs_le n k l) count (omega arith), both, are.weighed.room)
 
   pub sum_until_none : pos scale *ℤ common.reward ≡ until 0
   sum_until_none =
-      let none : total_below (λ k. pos (w k) *ℤ pos 0) count ≡ pos 0 = cc (sum_below_same _ (λ k. pos 0) count (λ k l. *ℤ-zero (pos (w k))), zeros count) in
+      let none : total_below (λ k. pos (w k) *ℤ pos 0) count ≡ pos 0 =
+      cc (sum_below_same _ (λ k. pos 0) count (λ k l. *ℤ-zero (pos (w k))), zeros count) in
       sym (ap (λ (x : ℤ). pos scale *ℤ common.reward +ℤ x) none ∙ +ℤ_idr (pos scale *ℤ common.reward))
     where
       zeros : (n : ℕ) → total_below (λ z. pos 0) n ≡ pos 0
@@ -105,7 +115,8 @@ module _ (answers : ℕ → ℕ → Type 0) (scale : ℕ) (common : CommonReward
       let before : differs i z ≡ pos 0 = no_difference r common.reward cells i z (λ k n f. are.rewards.distinct k i n l f) in
       let x = pos (w z) *ℤ (r z -ℤ common.reward) in
       let more = one_term_more (λ y. pos (w y) *ℤ differs i y) (λ y. pos (w y) *ℤ differs (suc i) y) z x count (are.rewards.within i l)
-      (λ k n d. ap (λ (y : ℤ). pos (w k) *ℤ y) (miss z k _ _ (λ f. d (sym f)))) (rw (here, before, *ℤ-zero (pos (w z))) (omega (arith, linear))) in
+      (λ k n d. ap (λ (y : ℤ). pos (w k) *ℤ y) (miss z k _ _ (λ f. d (sym f))))
+      (rw (here, before, *ℤ-zero (pos (w z))) (omega (arith, linear))) in
       rw more (omega (arith, linear))
 
   -- with all exceptions it is the reward
@@ -118,7 +129,8 @@ module _ (answers : ℕ → ℕ → Type 0) (scale : ℕ) (common : CommonReward
       ∙ sym (sum_below_add (λ k. h *ℤ pos (w k)) (λ k. pos (w k) *ℤ differs common.exceptions k) count)
       ∙ sum_below_same _ _ count (λ k l. whole k (is_sum k l (cases_difference r h cells common.exceptions k)))
     where
-      is_sum : (k : ℕ) → k < count → ((i : ℕ) × (i < common.exceptions) × ((cell_at cells i).observation ≡ k) × (differs common.exceptions k ≡ r k -ℤ common.reward))
+      is_sum : (k : ℕ) → k < count → ((i : ℕ) × (i < common.exceptions) × ((cell_at cells i).observation ≡ k)
+          × (differs common.exceptions k ≡ r k -ℤ common.reward))
           ⊎ (((i : ℕ) → i < common.exceptions → (cell_at cells i).observation ≡ k → ⊥) × (differs common.exceptions k ≡ pos 0))
           → common.reward +ℤ differs common.exceptions k ≡ r k
       is_sum k l (inl f) = ap (λ (y : ℤ). common.reward +ℤ y) f.3 ∙ sym (whole_part (r k) common.reward)
@@ -131,27 +143,33 @@ module _ (answers : ℕ → ℕ → Type 0) (scale : ℕ) (common : CommonReward
           ∙ sym (*ℤ-+ℤ (pos (w k)) common.reward (differs common.exceptions k)) ∙ ap (λ (y : ℤ). pos (w k) *ℤ y) f
 
   -- ---- the steps in the code
-  module _ (fits : FitsSigned w64 common.reward) (i : ℕ) (il : i < common.exceptions) (weight : ℕ) (answer : answers (cell_at cells i).observation weight) where
+  module _ (fits : FitsSigned w64 common.reward) (i : ℕ) (il : i < common.exceptions) (weight : ℕ)
+      (answer : answers (cell_at cells i).observation weight) where
     abbrev pub computed : ℤ
-    computed = to_z w128 (of_z w128 (to_z w64 (of_z w64 (cell_at cells i).reward))) -ℤ to_z w128 (of_z w128 (to_z w64 (of_z w64 common.reward)))
+    computed = to_z w128 (of_z w128 (to_z w64 (of_z w64 (cell_at cells i).reward))) -ℤ to_z w128
+        (of_z w128 (to_z w64 (of_z w64 common.reward)))
 
     weight_is : weight ≡ w (cell_at cells i).observation
     weight_is = are.answer _ _ (are.rewards.within i il) answer
 
     computed_is : computed ≡ r (cell_at cells i).observation -ℤ common.reward
-    computed_is = rw (are.rewards.each i il) (difference_is _ _ (exception_fits _ _ (are.rewards.each i il) (are.limited _ (are.rewards.within i il))) fits)
+    computed_is = rw (are.rewards.each i il) (difference_is _ _
+        (exception_fits _ _ (are.rewards.each i il) (are.limited _ (are.rewards.within i il))) fits)
 
     pub exception_small : weight < 2 ^ 63
     exception_small = weight_small are.weighed _ weight (are.rewards.within i il) weight_is
 
     pub exception_room : FitsSigned w128 computed → weight * unsigned_abs (to_z w128 (of_z w128 computed)) ≤ most_sum
     exception_room f =
-        rw (to_z-of_z w128 computed f, computed_is) (weight_room are.weighed (cell_at cells i).observation weight (r (cell_at cells i).observation -ℤ common.reward) (are.rewards.within i il) weight_is
+        rw (to_z-of_z w128 computed f, computed_is) (weight_room are.weighed (cell_at cells i).observation weight
+        (r (cell_at cells i).observation -ℤ common.reward) (are.rewards.within i il) weight_is
         (difference_le (cell_at cells i).observation (are.rewards.within i il)))
 
     -- the sum after one exception more
-    pub exception_more : (sum x : ℤ) → FitsSigned w128 x → FitsSigned w128 computed → x ≡ pos weight *ℤ to_z w128 (of_z w128 computed) → sum ≡ until i
+    pub exception_more : (sum x : ℤ) → FitsSigned w128 x → FitsSigned w128 computed → x ≡ pos weight *ℤ to_z w128 (of_z w128 computed)
+        → sum ≡ until i
         → FitsSigned w128 (sum +ℤ to_z w128 (of_z w128 x)) × (to_z w128 (of_z w128 (sum +ℤ to_z w128 (of_z w128 x))) ≡ until (i + 1))
     exception_more sum x fx fd xe before =
         let part = weighed_is weight _ x computed _ fd xe weight_is computed_is in
-        rw add-one (add_step sum x (until (suc i)) (2 * most_sum) fx (rw (before, part) (sum_until_more i il)) (sum_until_le (suc i)) (lit< tt))
+        rw add-one (add_step sum x (until (suc i)) (2 * most_sum) fx (rw (before, part) (sum_until_more i il)) (sum_until_le (suc i))
+        (lit< tt))

@@ -8,15 +8,22 @@ use Rattle.polcert_check.proofs.Walking.Verdicts.{positive_product}
 pub least_same : (P R : ℕ → Type 0) (x : Option ℕ) → IsLeastOf P x → ((z : ℕ) → R z → P z) → ((z : ℕ) → P z → R z) → IsLeastOf R x
 least_same P R x h1 h2 h3 = grind arith
 
-least_or : (P Q R : ℕ → Type 0) (x y r : Option ℕ) → IsLeastOf P x → IsLeastOf Q y → IsMinOption x y r → ((z : ℕ) → R z → P z ⊎ Q z) → ((z : ℕ) → P z → R z) → ((z : ℕ) → Q z → R z) → IsLeastOf R r
+least_or : (P Q R : ℕ → Type 0) (x y r : Option ℕ) → IsLeastOf P x → IsLeastOf Q y → IsMinOption x y r → ((z : ℕ) → R z → P z ⊎ Q z)
+    → ((z : ℕ) → P z → R z) → ((z : ℕ) → Q z → R z) → IsLeastOf R r
 least_or P Q R x y r h1 h2 h3 h4 h5 h6 = grind arith
 
 -- ---- at one end state
-pub end_more : (c : Controller) (n e from z w : ℕ) (x y r : Option ℕ) → from ≤ z → ((k : ℕ) → from ≤ k → k < z → c.cells.o (c.action n) e k ≡ 0) → w ≡ c.cells.o (c.action n) e z → 0 < w → IsLeastOf (Misses c n e from) x → IsMissedAt c n z y → IsMinOption x y r → IsLeastOf (Misses c n e (z + 1)) r
+pub end_more : (c : Controller) (n e from z w : ℕ) (x y r : Option ℕ) → from ≤ z
+    → ((k : ℕ) → from ≤ k → k < z → c.cells.o (c.action n) e k ≡ 0) → w ≡ c.cells.o (c.action n) e z → 0 < w
+    → IsLeastOf (Misses c n e from) x
+    → IsMissedAt c n z y → IsMinOption x y r → IsLeastOf (Misses c n e (z + 1)) r
 end_more c n e from z w x y r fl none we some least here is = grind arith
 
 -- ---- at one start state
-pub before_more : (c : Controller) (n s from e w : ℕ) (x y r : Option ℕ) → from ≤ e → ((k : ℕ) → from ≤ k → k < e → c.cells.t (c.action n) s k ≡ 0) → w ≡ c.cells.t (c.action n) s e → 0 < w → IsLeastOf (IsMissedBefore c n s from) x → IsLeastOf (Misses c n e c.cells.observations) y → IsMinOption x y r → IsLeastOf (IsMissedBefore c n s (e + 1)) r
+pub before_more : (c : Controller) (n s from e w : ℕ) (x y r : Option ℕ) → from ≤ e
+    → ((k : ℕ) → from ≤ k → k < e → c.cells.t (c.action n) s k ≡ 0) → w ≡ c.cells.t (c.action n) s e → 0 < w
+    → IsLeastOf (IsMissedBefore c n s from) x → IsLeastOf (Misses c n e c.cells.observations) y → IsMinOption x y r
+    → IsLeastOf (IsMissedBefore c n s (e + 1)) r
 before_more c n s from e w x y r fl none we some least here is = grind (arith, least_or)
 
 -- no weight between two places
@@ -41,5 +48,9 @@ before_lack c n s z h1 = grind (arith, positive_product)
 pub pair_lacking : (c : Controller) (n s : ℕ) (x : Option ℕ) → IsLeastOf (IsMissedBefore c n s c.cells.states) x → IsLeastLacking c n s x
 pair_lacking c n s None least = λ z zl lack. least z (lack_before c n s z zl lack)
 pair_lacking c n s (Some z) least =
-    let here = before_lack c n s z least.0 in
-    (here.0, here.1, λ y l lack. let zl : z < c.cells.observations = here.0 in least.1 y l (lack_before c n s y (omega (arith, l, zl)) lack))
+    let here = before_lack c n s z least.0 in (
+      here.0,
+      here.1,
+      λ y l lack. let zl : z < c.cells.observations = here.0 in
+          least.1 y l (lack_before c n s y (omega (arith, l, zl)) lack),
+    )

@@ -1,6 +1,8 @@
 -- What is found over all pairs says: the verdict; and why vectors are not lowered.
 use Rattle.std.proofs.Common.{◌≡◌, ℕ, ◌≤◌, ⊎_elim, ℤ, pos, ◌<ℤ◌, unsigned_abs, sym, subst, arith}
-use Rattle.polcert_check.proofs.Common.{IsWithinLimits, Controller, one, short, most_short, IsVerdict, NoneLacks, IsNotMended, RefusesSmallAmount, IsController, ValuesAreWithin, IsPairVerdict, IsPair, IsVerdictFor, IsFirstOf, IsWorstOf, IsFound, LowerFault, Mode, Check, Lowering, Findings, Verdict, Yes, Short, NoSuccessor}
+use Rattle.polcert_check.proofs.Common.{IsWithinLimits, Controller, one, short, most_short, IsVerdict, NoneLacks, IsNotMended}
+use Rattle.polcert_check.proofs.Common.{RefusesSmallAmount, IsController, ValuesAreWithin, IsPairVerdict, IsPair, IsVerdictFor, IsFirstOf}
+use Rattle.polcert_check.proofs.Common.{IsWorstOf, IsFound, LowerFault, Mode, Check, Lowering, Findings, Verdict, Yes, Short, NoSuccessor}
 use Rattle.polcert_check.specs.Steps.Findings.{IsLackVerdict, IsRefused}
 use Rattle.polcert_check.proofs.Lowerings.Least.{no_constant}
 use Rattle.polcert_check.proofs.Lowerings.Shorts.{short_le}
@@ -25,16 +27,23 @@ module _ (c : Controller) where
     lack_refused : (x : Verdict) → IsFirstOf (IsLackVerdict c) (IsPair c) x → IsRefused x fault → IsNotMended c Can fault
     lack_refused Yes is refused = absurd refused
     lack_refused (Short n s amount) is refused = absurd is.1
-    lack_refused (NoSuccessor n s z) is refused = subst (IsNotMended c Can) (sym refused) (is.0.0, is.0.1, is.1.2, λ m t ml tl before. is.2 m t (ml, tl) before)
+    lack_refused (NoSuccessor n s z) is refused = subst (IsNotMended c Can) (sym refused)
+        (is.0.0, is.0.1, is.1.2, λ m t ml tl before. is.2 m t (ml, tl) before)
 
     pub refused_lack : (f : Findings) → f.mode ≡ Lowering → IsFound c (IsPair c) f → IsRefused f.first fault → IsNotMended c Can fault
     refused_lack f mode is refused = lack_refused f.first (first_lack f mode is) refused
 
-    pub refused_short : IsController c → c.cells.discount ≡ one → NoneLacks c → (x : Verdict) → IsFirstOf (IsPairVerdict c) (IsPair c) x → IsRefused x fault → IsNotMended c Can fault
+    pub refused_short : IsController c → c.cells.discount ≡ one → NoneLacks c → (x : Verdict) → IsFirstOf (IsPairVerdict c) (IsPair c) x
+        → IsRefused x fault → IsNotMended c Can fault
     refused_short p is_one none Yes is refused = absurd refused
     refused_short p is_one none (Short n s amount) is refused =
         let positive : pos 0 <ℤ short c n s = subst (λ (x : ℤ). pos 0 <ℤ x) is.1.3 is.1.4 in
-        subst (IsNotMended c Can) (sym refused) (none, no_constant c p is_one n s is.0.0 is.0.1 positive, (is.0.0, is.0.1, is.1.3, is.1.4, λ m t ml tl before. (is.2 m t (ml, tl) before).not_short))
+        subst (IsNotMended c Can) (sym refused) (
+          none,
+          no_constant c p is_one n s is.0.0 is.0.1
+              positive,
+          (is.0.0, is.0.1, is.1.3, is.1.4, λ m t ml tl before. (is.2 m t (ml, tl) before).not_short),
+        )
     refused_short p is_one none (NoSuccessor n s z) is refused = absurd (none n s is.0.0 is.0.1 z is.1.2.0 is.1.2.1)
 
   -- ---- how large an amount is
@@ -48,5 +57,6 @@ module _ (c : Controller) where
     pub worst_small : (worst : ℕ) → IsWorstOf c (IsPair c) worst → worst ≤ most_short c
     worst_small worst is =
         ⊎_elim (λ (e : worst ≡ 0). omega arith)
-        (λ (r : (n : ℕ) × (s : ℕ) × IsPair c n s × (pos worst ≡ short c n s)). reached_small (short c r.0 r.1) worst (most_short c) r.3 (short_le c p limits values r.0 r.1 r.2.0 r.2.1))
+        (λ (r : (n : ℕ) × (s : ℕ) × IsPair c n s × (pos worst ≡ short c n s)). reached_small (short c r.0 r.1) worst (most_short c) r.3
+        (short_le c p limits values r.0 r.1 r.2.0 r.2.1))
         is.is_reached

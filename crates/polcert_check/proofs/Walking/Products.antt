@@ -1,6 +1,8 @@
 -- Rows that are numbers times a scale, added up before they are scaled.
-use Rattle.std.proofs.Common.{◌≡◌, ℕ, zero, suc, ◌+◌, ◌*◌, ◌^◌, ◌<◌, ◌≤◌, ⊎_elim, ℤ, pos, ◌+ℤ◌, ◌*ℤ◌, unsigned_abs, FitsSigned, to_z, of_z, Option, Some, None, List, length, slice_index, refl, sym, ap, subst, ◌∙◌, arith, add-one}
-use Rattle.polcert_check.proofs.Common.{w128, cases_lt, unsigned_abs-mul, *ℤ-zero, zero-*ℤ, IsRow, Controller, total_below, at_node, value_term, value_at_end, IsLeastOf, Misses, successors_below}
+use Rattle.std.proofs.Common.{◌≡◌, ℕ, zero, suc, ◌+◌, ◌*◌, ◌^◌, ◌<◌, ◌≤◌, ⊎_elim, ℤ, pos, ◌+ℤ◌, ◌*ℤ◌, unsigned_abs, FitsSigned, to_z, of_z}
+use Rattle.std.proofs.Common.{Option, Some, None, List, length, slice_index, refl, sym, ap, subst, ◌∙◌, arith, add-one}
+use Rattle.polcert_check.proofs.Common.{w128, cases_lt, unsigned_abs-mul, *ℤ-zero, zero-*ℤ, IsRow, Controller, total_below, at_node}
+use Rattle.polcert_check.proofs.Common.{value_term, value_at_end, IsLeastOf, Misses, successors_below}
 use Rattle.polcert_cells.specs.Sparse.{scaled_cells}
 use Rattle.std.proofs.lemmas.List.{get_or_past}
 use Rattle.std.proofs.Math.Nat.{mul_comm, mul-le-mul}
@@ -21,7 +23,8 @@ same_if_some : (w : ℕ) (x y : ℤ) → (0 < w → x ≡ y) → pos w *ℤ x �
 same_if_some zero x y h = zero-*ℤ x ∙ sym (zero-*ℤ y)
 same_if_some (suc w) x y h = ap (λ (t : ℤ). pos (suc w) *ℤ t) (h (omega arith))
 
-scaled_successor : (n scale : ℕ) (v : ℕ → ℤ) (at : Option ℕ) → pos scale *ℤ at_node (λ m. pos n *ℤ v m) at ≡ at_node (λ m. pos (n * scale) *ℤ v m) at
+scaled_successor : (n scale : ℕ) (v : ℕ → ℤ) (at : Option ℕ)
+    → pos scale *ℤ at_node (λ m. pos n *ℤ v m) at ≡ at_node (λ m. pos (n * scale) *ℤ v m) at
 scaled_successor n scale v None = *ℤ-zero (pos scale)
 scaled_successor n scale v (Some m) = scaled_term n scale (v m)
 
@@ -39,7 +42,8 @@ module _ (f : ℕ → ℕ) (count scale : ℕ) (ns : List ℕ) (row : IsRow coun
       sym (weight_of_number c l) ∙ ap (λ (n : ℕ). n * scale) none ∙ zero
 
   -- the sum of numbers times values, scaled, is the sum of weights times values
-  pub scaled_total : (v g : ℕ → ℤ) (upto : ℕ) → ((c : ℕ) → c < count → 0 < f c → v c ≡ g c) → upto ≤ count → (upto < count → length ns ≤ upto)
+  pub scaled_total : (v g : ℕ → ℤ) (upto : ℕ) → ((c : ℕ) → c < count → 0 < f c → v c ≡ g c) → upto ≤ count
+      → (upto < count → length ns ≤ upto)
       → pos scale *ℤ total_below (λ i. pos (slice_index ns i) *ℤ v i) upto ≡ total_below (λ i. pos (f i) *ℤ g i) count
   scaled_total v g upto same within all =
       sym (sum_below_scale (pos scale) (λ i. pos (slice_index ns i) *ℤ v i) upto)
@@ -49,44 +53,55 @@ module _ (f : ℕ → ℕ) (count scale : ℕ) (ns : List ℕ) (row : IsRow coun
       each : (i : ℕ) → i < upto → pos scale *ℤ (pos (slice_index ns i) *ℤ v i) ≡ pos (f i) *ℤ g i
       each i l =
           let inside : i < count = omega arith in
-          scaled_term (slice_index ns i) scale (v i) ∙ ap (λ (w : ℕ). pos w *ℤ v i) (weight_of_number i inside) ∙ same_if_some (f i) (v i) (g i) (same i inside)
+          scaled_term (slice_index ns i) scale (v i) ∙ ap (λ (w : ℕ). pos w *ℤ v i) (weight_of_number i inside)
+          ∙ same_if_some (f i) (v i) (g i) (same i inside)
 
 -- ---- a row of O
 
-module _ (c : Controller) (n e scale : ℕ) (ns : List ℕ) (row : IsRow c.cells.observations (c.cells.o (c.action n) e) (scaled_cells scale 0 ns)) where
-  pub scaled_value : (upto : ℕ) → upto ≤ c.cells.observations → (upto < c.cells.observations → length ns ≤ upto) → pos scale *ℤ successors_below c n e ns upto ≡ value_at_end c n e
+module _ (c : Controller) (n e scale : ℕ) (ns : List ℕ)
+    (row : IsRow c.cells.observations (c.cells.o (c.action n) e) (scaled_cells scale 0 ns)) where
+  pub scaled_value : (upto : ℕ) → upto ≤ c.cells.observations → (upto < c.cells.observations → length ns ≤ upto)
+      → pos scale *ℤ successors_below c n e ns upto ≡ value_at_end c n e
   scaled_value upto within all =
       sym (sum_below_scale (pos scale) (λ z. at_node (λ m. pos (slice_index ns z) *ℤ c.value m e) (c.next n z)) upto)
-      ∙ sum_below_same (λ z. pos scale *ℤ at_node (λ m. pos (slice_index ns z) *ℤ c.value m e) (c.next n z)) (λ z. value_term c n e z (c.next n z)) upto each
+      ∙ sum_below_same (λ z. pos scale *ℤ at_node (λ m. pos (slice_index ns z) *ℤ c.value m e) (c.next n z))
+      (λ z. value_term c n e z (c.next n z)) upto each
       ∙ sym (gap (λ z. value_term c n e z (c.next n z)) upto c.cells.observations within
-      (λ k from l. no_value c n e k (c.next n k) (none_after (c.cells.o (c.action n) e) c.cells.observations scale ns row upto k all from l)))
+      (λ k from l. no_value c n e k (c.next n k) (none_after (c.cells.o (c.action n) e) c.cells.observations scale ns row upto k all from
+      l)))
     where
-      each : (z : ℕ) → z < upto → pos scale *ℤ at_node (λ m. pos (slice_index ns z) *ℤ c.value m e) (c.next n z) ≡ value_term c n e z (c.next n z)
+      each : (z : ℕ) → z < upto → pos scale *ℤ at_node (λ m. pos (slice_index ns z) *ℤ c.value m e) (c.next n z)
+          ≡ value_term c n e z (c.next n z)
       each z l =
           let inside : z < c.cells.observations = omega arith in
           scaled_successor (slice_index ns z) scale (λ m. c.value m e) (c.next n z)
-          ∙ ap (λ (w : ℕ). at_node (λ m. pos w *ℤ c.value m e) (c.next n z)) (weight_of_number (c.cells.o (c.action n) e) c.cells.observations scale ns row z inside)
+          ∙ ap (λ (w : ℕ). at_node (λ m. pos w *ℤ c.value m e) (c.next n z))
+          (weight_of_number (c.cells.o (c.action n) e) c.cells.observations scale ns row z inside)
 
   -- one observation more for which a successor is not missed
-  pub none_more : (z : ℕ) → z < c.cells.observations → (c.next n z ≡ None → slice_index ns z ≡ 0) → IsLeastOf (Misses c n e z) None → IsLeastOf (Misses c n e (z + 1)) None
+  pub none_more : (z : ℕ) → z < c.cells.observations → (c.next n z ≡ None → slice_index ns z ≡ 0) → IsLeastOf (Misses c n e z) None
+      → IsLeastOf (Misses c n e (z + 1)) None
   none_more z l here before = λ y missed. ⊎_elim
       (λ less. before y (less, missed.1, missed.2))
       (λ ge.
       let is : y ≡ z = let low = missed.0 in omega arith in
       let number : slice_index ns z ≡ 0 = here (ap (c.next n) (sym is) ∙ missed.1) in
       let zero : 0 * scale ≡ 0 = omega arith in
-      let none : c.cells.o (c.action n) e z ≡ 0 = sym (weight_of_number (c.cells.o (c.action n) e) c.cells.observations scale ns row z l) ∙ ap (λ (k : ℕ). k * scale) number ∙ zero in
+      let none : c.cells.o (c.action n) e z ≡ 0 = sym (weight_of_number (c.cells.o (c.action n) e) c.cells.observations scale ns row z l)
+      ∙ ap (λ (k : ℕ). k * scale) number ∙ zero in
       let some : 0 < c.cells.o (c.action n) e y = missed.2 in
       let same : c.cells.o (c.action n) e y ≡ c.cells.o (c.action n) e z = ap (c.cells.o (c.action n) e) is in
       absurd (omega arith))
       (cases_lt y z)
 
   -- no observation after the numbers
-  pub none_at_all : (upto : ℕ) → (upto < c.cells.observations → length ns ≤ upto) → IsLeastOf (Misses c n e upto) None → IsLeastOf (Misses c n e c.cells.observations) None
+  pub none_at_all : (upto : ℕ) → (upto < c.cells.observations → length ns ≤ upto) → IsLeastOf (Misses c n e upto) None
+      → IsLeastOf (Misses c n e c.cells.observations) None
   none_at_all upto all before = λ y missed. ⊎_elim
       (λ less. before y (less, missed.1, missed.2))
       (λ ge.
-      let none : c.cells.o (c.action n) e y ≡ 0 = none_after (c.cells.o (c.action n) e) c.cells.observations scale ns row upto y all ge missed.0 in
+      let none : c.cells.o (c.action n) e y ≡ 0 = none_after (c.cells.o (c.action n) e) c.cells.observations scale ns row upto y all ge
+      missed.0 in
       let some : 0 < c.cells.o (c.action n) e y = missed.2 in
       absurd (omega arith))
       (cases_lt y upto)
@@ -107,11 +122,14 @@ product_small n v few small =
     let q : n * unsigned_abs v ≤ 2 ^ 32 * 2 ^ 63 = mul-le-mul most small in
     omega (arith, q)
 
-pub product_more : (f : ℕ → ℤ) (i : ℕ) (sum x : ℤ) → sum ≡ total_below f i → unsigned_abs sum ≤ i * 2 ^ 95 → i < 2 ^ 20 → FitsSigned w128 x → x ≡ f i → unsigned_abs x ≤ 2 ^ 95
-    → FitsSigned w128 (sum +ℤ to_z w128 (of_z w128 x)) × (to_z w128 (of_z w128 (sum +ℤ to_z w128 (of_z w128 x))) ≡ total_below f (i + 1)) × (unsigned_abs (to_z w128 (of_z w128 (sum +ℤ to_z w128 (of_z w128 x)))) ≤ (i + 1) * 2 ^ 95)
+pub product_more : (f : ℕ → ℤ) (i : ℕ) (sum x : ℤ) → sum ≡ total_below f i → unsigned_abs sum ≤ i * 2 ^ 95 → i < 2 ^ 20 → FitsSigned w128 x
+    → x ≡ f i → unsigned_abs x ≤ 2 ^ 95
+    → FitsSigned w128 (sum +ℤ to_z w128 (of_z w128 x)) × (to_z w128 (of_z w128 (sum +ℤ to_z w128 (of_z w128 x))) ≡ total_below f (i + 1))
+    × (unsigned_abs (to_z w128 (of_z w128 (sum +ℤ to_z w128 (of_z w128 x)))) ≤ (i + 1) * 2 ^ 95)
 product_more f i sum x before small few fits is le =
     let next : sum +ℤ x ≡ total_below f (suc i) = rw (before, is) refl in
     let both : unsigned_abs (sum +ℤ x) ≤ unsigned_abs sum + unsigned_abs x = abs-+ℤ sum x in
-    let bound : unsigned_abs (total_below f (suc i)) ≤ (i + 1) * 2 ^ 95 = subst (λ (t : ℤ). unsigned_abs t ≤ (i + 1) * 2 ^ 95) next (omega (arith, both, small, le)) in
+    let bound : unsigned_abs (total_below f (suc i)) ≤ (i + 1) * 2 ^ 95 =
+    subst (λ (t : ℤ). unsigned_abs t ≤ (i + 1) * 2 ^ 95) next (omega (arith, both, small, le)) in
     let step = add_step sum x (total_below f (suc i)) ((i + 1) * 2 ^ 95) fits next bound (omega (arith, few)) in
     (step.0, rw add-one step.1, subst (λ (t : ℤ). unsigned_abs t ≤ (i + 1) * 2 ^ 95) (sym step.1) bound)

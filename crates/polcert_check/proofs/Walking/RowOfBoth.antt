@@ -1,6 +1,8 @@
 -- A row of T and the rows of O at its end states as one row of weights, end state after end state.
 use Rattle.std.proofs.Common.{◌≡◌, ◌∙◌, ℕ, ◌+◌, ◌*◌, ◌/◌, ◌%◌, ◌^◌, ◌<◌, ◌≤◌, ℤ, pos, ◌*ℤ◌, unsigned_abs, List, refl, ap, arith}
-use Rattle.polcert_check.proofs.Common.{*ℤ_comm, largest, CellTable, IsProper, IsWithinLimits, CommonReward, RewardCell, row_reward, one, total_below, expected_reward, reward_at_end, most_scales, AreExcepted, IsWeighed, row_weight, weighed_total}
+use Rattle.polcert_check.proofs.Common.{*ℤ_comm, largest, CellTable, IsProper, IsWithinLimits, CommonReward, RewardCell, row_reward, one}
+use Rattle.polcert_check.proofs.Common.{total_below, expected_reward, reward_at_end, most_scales, AreExcepted, IsWeighed, row_weight}
+use Rattle.polcert_check.proofs.Common.{weighed_total}
 use Rattle.polcert_cells.specs.CommonRewards.{IsCommonReward}
 use Rattle.std.proofs.Math.Nat.{mul-le-mul, div-lt_iff_lt-mul, mod-lt}
 use Rattle.std.proofs.lemmas.Nat.{div-mul-add, mod-mul-add}
@@ -17,7 +19,8 @@ module _ (m : CellTable) (a s : ℕ) where
   weight_at e z l = rw (div-mul-add e m.observations z l, mod-mul-add e m.observations z l) refl
 
   reward_at : (e z : ℕ) → z < m.observations → row_reward m a s (e * m.observations + z) ≡ m.r a s e z
-  reward_at e z l = ap (λ (k : ℕ). m.r a s k ((e * m.observations + z) % m.observations)) (div-mul-add e m.observations z l) ∙ ap (m.r a s e) (mod-mul-add e m.observations z l)
+  reward_at e z l = ap (λ (k : ℕ). m.r a s k ((e * m.observations + z) % m.observations)) (div-mul-add e m.observations z l)
+      ∙ ap (m.r a s e) (mod-mul-add e m.observations z l)
 
   -- the sum of all is the nested one
   pub row_total : weighed_total (row_weight m a s) (row_reward m a s) (m.states * m.observations) ≡ expected_reward m a s
@@ -27,7 +30,8 @@ module _ (m : CellTable) (a s : ℕ) where
       sum_below_same _ (λ z. pos (m.t a s e) *ℤ (pos (m.o a e z) *ℤ m.r a s e z)) m.observations (λ z zl. here e z zl)
       ∙ sum_below_scale (pos (m.t a s e)) (λ z. pos (m.o a e z) *ℤ m.r a s e z) m.observations)
     where
-      here : (e z : ℕ) → z < m.observations → pos (row_weight m a s (e * m.observations + z)) *ℤ row_reward m a s (e * m.observations + z) ≡ pos (m.t a s e) *ℤ (pos (m.o a e z) *ℤ m.r a s e z)
+      here : (e z : ℕ) → z < m.observations → pos (row_weight m a s (e * m.observations + z)) *ℤ row_reward m a s (e * m.observations + z)
+          ≡ pos (m.t a s e) *ℤ (pos (m.o a e z) *ℤ m.r a s e z)
       here e z l =
           ap (λ (k : ℕ). pos k *ℤ row_reward m a s (e * m.observations + z)) (weight_at e z l)
           ∙ ap (λ (x : ℤ). pos (m.t a s e * m.o a e z) *ℤ x) (reward_at e z l) ∙ *ℤ_assoc (pos (m.t a s e)) (pos (m.o a e z)) (m.r a s e z)
@@ -60,13 +64,17 @@ module _ (m : CellTable) (p : IsProper m) (limits : IsWithinLimits m) (a s : ℕ
   -- a weight of both has 63 bits
   pub weight_of_both : (e z : ℕ) → e < m.states → z < m.observations → m.t a s e * m.o a e z ≤ most_scales
   weight_of_both e z el zl =
-      let q : m.t a s e * m.o a e z ≤ m.t_scale * m.o_scale = mul-le-mul (term_le (m.t a s) e m.states m.t_scale (t_rows m p a s al sl) el) (term_le (m.o a e) z m.observations m.o_scale (o_rows m p a e al el) zl) in
+      let q : m.t a s e * m.o a e z ≤ m.t_scale * m.o_scale =
+      mul-le-mul (term_le (m.t a s) e m.states m.t_scale (t_rows m p a s al sl) el)
+      (term_le (m.o a e) z m.observations m.o_scale (o_rows m p a e al el) zl) in
       omega (arith, q, scales_le m limits)
 
   -- ---- rewards of a start state, and of an end state
 
-  pub row_excepted : (answers : ℕ → ℕ → Type 0) (scale : ℕ) (common : CommonReward) (cells : List RewardCell) → ((k weight : ℕ) → k < m.states * m.observations → answers k weight → weight ≡ row_weight m a s k)
-      → scale ≡ m.t_scale * m.o_scale → unsigned_abs common.reward ≤ largest → IsCommonReward (row_reward m a s) (m.states * m.observations) common cells
+  pub row_excepted : (answers : ℕ → ℕ → Type 0) (scale : ℕ) (common : CommonReward) (cells : List RewardCell)
+      → ((k weight : ℕ) → k < m.states * m.observations → answers k weight → weight ≡ row_weight m a s k)
+      → scale ≡ m.t_scale * m.o_scale → unsigned_abs common.reward ≤ largest
+      → IsCommonReward (row_reward m a s) (m.states * m.observations) common cells
       → AreExcepted answers scale common cells (row_weight m a s) (row_reward m a s) (m.states * m.observations) (2 * largest)
   row_excepted answers scale common cells answer same small is = record {
     answer = answer;
@@ -76,7 +84,8 @@ module _ (m : CellTable) (p : IsProper m) (limits : IsWithinLimits m) (a s : ℕ
     limited = λ k l. limits.r a s _ _ al sl (end_of m limits k l) (observation_of m limits k);
   }
 
-  pub end_excepted : (e : ℕ) → e < m.states → (answers : ℕ → ℕ → Type 0) (scale : ℕ) (common : CommonReward) (cells : List RewardCell) → ((z weight : ℕ) → z < m.observations → answers z weight → weight ≡ m.o a e z)
+  pub end_excepted : (e : ℕ) → e < m.states → (answers : ℕ → ℕ → Type 0) (scale : ℕ) (common : CommonReward) (cells : List RewardCell)
+      → ((z weight : ℕ) → z < m.observations → answers z weight → weight ≡ m.o a e z)
       → scale ≡ m.o_scale → unsigned_abs common.reward ≤ 2 ^ 63 → IsCommonReward (m.r a s e) m.observations common cells
       → AreExcepted answers scale common cells (m.o a e) (m.r a s e) m.observations (2 ^ 64)
   unfolding one

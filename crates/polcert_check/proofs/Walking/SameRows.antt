@@ -7,7 +7,9 @@ use Rattle.polcert_check.proofs.Sums.SumLaws.{sum_below_same}
 use Rattle.polcert_check.proofs.Walking.Missing.{least_same}
 
 -- what a node expects at one of two states with the same row, it expects at the other
-pub expected_same : (c : Controller) (n s t : ℕ) (x : PartialValue) → ((e : ℕ) → e < c.cells.states → c.cells.t (c.action n) s e ≡ c.cells.t (c.action n) t e) → IsExpectedValue c n s x → IsExpectedValue c n t x
+pub expected_same : (c : Controller) (n s t : ℕ) (x : PartialValue)
+    → ((e : ℕ) → e < c.cells.states → c.cells.t (c.action n) s e ≡ c.cells.t (c.action n) t e) → IsExpectedValue c n s x
+    → IsExpectedValue c n t x
 expected_same c n s t x same is = record {
   value = is.value ∙ sum_below_same _ _ c.cells.states (λ e l. ap (λ (w : ℕ). pos w *ℤ value_at_end c n e) (same e l));
   missing = least_same (IsMissedBefore c n s c.cells.states) (IsMissedBefore c n t c.cells.states) x.missing is.missing

@@ -10,9 +10,11 @@ module _ (f : ℕ → ℤ) (count : ℕ) (xs : List ℤ) (e : ℕ) (x : ℤ) (ro
   one_known known = grind (arith, get_or-set_at, get_or-set_other)
 
 -- two start states with the same rewards share those at end states
-pub at_end_same : (m : CellTable) (a s other e : ℕ) → ((z : ℕ) → z < m.observations → m.r a s e z ≡ m.r a other e z) → reward_at_end m a s e ≡ reward_at_end m a other e
+pub at_end_same : (m : CellTable) (a s other e : ℕ) → ((z : ℕ) → z < m.observations → m.r a s e z ≡ m.r a other e z)
+    → reward_at_end m a s e ≡ reward_at_end m a other e
 at_end_same m a s other e same = sum_below_same _ _ m.observations (λ z l. ap (λ (x : ℤ). pos (m.o a e z) *ℤ x) (same z l))
 
-pub known_of_other : (m : CellTable) (a s other : ℕ) (xs : List ℤ) → ((e z : ℕ) → e < m.states → z < m.observations → m.r a s e z ≡ m.r a other e z)
+pub known_of_other : (m : CellTable) (a s other : ℕ) (xs : List ℤ)
+    → ((e z : ℕ) → e < m.states → z < m.observations → m.r a s e z ≡ m.r a other e z)
     → AreKnown (reward_at_end m a other) m.states xs → AreKnown (reward_at_end m a s) m.states xs
 known_of_other m a s other xs same known = grind (arith, at_end_same)

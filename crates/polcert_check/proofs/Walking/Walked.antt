@@ -9,8 +9,10 @@ module _ (c : Controller) where
   pub next_pair : (n s : ℕ) → IsPair c n s → IsNext (IsWalked c (c.action n) n s) (IsWalked c (c.action n) n (s + 1)) n s
   next_pair n s pair = grind arith
 
-  pub pair_passed : (n s : ℕ) (f : Findings) → IsPair c n s → PairPasses c n s → IsFoundBefore c (c.action n) n s f → IsFoundBefore c (c.action n) n (s + 1) f
-  pair_passed n s f pair passes is = noted_pass c (IsWalked c (c.action n) n s) (IsWalked c (c.action n) n (s + 1)) n s (next_pair n s pair) f is passes
+  pub pair_passed : (n s : ℕ) (f : Findings) → IsPair c n s → PairPasses c n s → IsFoundBefore c (c.action n) n s f
+      → IsFoundBefore c (c.action n) n (s + 1) f
+  pair_passed n s f pair passes is = noted_pass c (IsWalked c (c.action n) n s) (IsWalked c (c.action n) n (s + 1)) n s (next_pair n s pair)
+      f is passes
 
   -- ---- the states are done at a node
   -- what is walked with the whole node was walked before, or is one of its pairs from s on
@@ -20,7 +22,8 @@ module _ (c : Controller) where
   from_node : (a n s m t : ℕ) → IsWalked c a (n + 1) 0 m t → IsWalked c a n s m t ⊎ IsLeft a n s m t
   from_node a n s m t p = grind arith
 
-  node_over : (a n s : ℕ) (f : Findings) → IsFoundBefore c a n s f → ((m t : ℕ) → IsLeft a n s m t → IsAfter f.first m t) → IsFoundBefore c a (n + 1) 0 f
+  node_over : (a n s : ℕ) (f : Findings) → IsFoundBefore c a n s f → ((m t : ℕ) → IsLeft a n s m t → IsAfter f.first m t)
+      → IsFoundBefore c a (n + 1) 0 f
   node_over a n s f is left =
       found_wider c (IsWalked c a n s) (IsWalked c a (n + 1) 0) f is
       (λ m t p. grind arith)
@@ -30,7 +33,8 @@ module _ (c : Controller) where
   node_done a n s f is all =
       node_over a n s f is (λ m t k. let l : s ≤ t = k.2 in let h : t < c.cells.states = k.3 in absurd (omega (arith, l, h, all)))
 
-  pub node_settled : (n s : ℕ) (f : Findings) → IsFoundBefore c (c.action n) n s f → NamesUntil f.first n → IsFoundBefore c (c.action n) (n + 1) 0 f
+  pub node_settled : (n s : ℕ) (f : Findings) → IsFoundBefore c (c.action n) n s f → NamesUntil f.first n
+      → IsFoundBefore c (c.action n) (n + 1) 0 f
   node_settled n s f is until_n = grind arith
 
   pub node_passed : (a n : ℕ) (f : Findings) → IsFoundBefore c a n 0 f → (c.action n ≡ a → ⊥) → IsFoundBefore c a (n + 1) 0 f
@@ -48,4 +52,5 @@ module _ (c : Controller) where
 
   pub all_walked : IsClosed c → (a : ℕ) (f : Findings) → IsFoundBefore c a 0 0 f → c.cells.actions ≤ a → IsFound c (IsPair c) f
   all_walked closed a f is all =
-      found_wider c (IsWalked c a 0 0) (IsPair c) f is (λ m t p. p.0) (λ m t q. inl (q, inl (let l : c.action m < c.cells.actions = closed.actions_in_range m q.0 in omega (arith, l, all))))
+      found_wider c (IsWalked c a 0 0) (IsPair c) f is (λ m t p. p.0)
+      (λ m t q. inl (q, inl (let l : c.action m < c.cells.actions = closed.actions_in_range m q.0 in omega (arith, l, all))))

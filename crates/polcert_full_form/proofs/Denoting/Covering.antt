@@ -1,5 +1,6 @@
 -- Which entry covers a cell last, where entries stand in groups.
-use Rattle.std.proofs.Common.{◌≡◌, ◌∙◌, ℕ, zero, suc, ◌<◌, ◌⊎◌, ⊎_elim, Bool, false, cond, Option, Some, List, [], ◌∷◌, ◌++◌, reverse, refl, ap, subst, arith}
+use Rattle.std.proofs.Common.{◌≡◌, ◌∙◌, ℕ, zero, suc, ◌<◌, ◌⊎◌, ⊎_elim, Bool, false, cond, Option, Some, List, [], ◌∷◌, ◌++◌, reverse, refl}
+use Rattle.std.proofs.Common.{ap, subst, arith}
 use Rattle.polcert_full_form.proofs.Common.{list_any, Entry, for_each}
 use Rattle.std.specs.List.{find}
 use Rattle.std.proofs.lemmas.List.{reverse-append, append_assoc}
@@ -22,7 +23,8 @@ module _ (p : Entry → Bool) where
   passed_over [] ys e = refl
   passed_over (x ∷ xs) ys e =
       let both = or_false (p x) (list_any p xs) e in
-      let turned : reverse (x ∷ xs) ++ ys ≡ reverse xs ++ x ∷ ys = ap (λ (l : List Entry). l ++ ys) (reverse-append (x ∷ []) xs) ∙ append_assoc (reverse xs) (x ∷ []) ys in
+      let turned : reverse (x ∷ xs) ++ ys ≡ reverse xs ++ x ∷ ys = ap (λ (l : List Entry). l ++ ys) (reverse-append (x ∷ []) xs)
+      ∙ append_assoc (reverse xs) (x ∷ []) ys in
       ap (find p) turned ∙ passed_over xs (x ∷ ys) both.1 ∙ ap (λ b. cond b (Some x) (find p ys)) both.0
 
   -- after, the last is the last
@@ -44,9 +46,11 @@ module _ (p : Entry → Bool) where
   here_or_before i n l = grind arith
 
   -- of groups, just one passes
-  pub last_of_each : (n i : ℕ) (f : ℕ → List Entry) (e : Entry) → i < n → last_of (f i) ≡ Some e → ((j : ℕ) → j < n → (i ≡ j → ⊥) → none_of (f j) ≡ false) → last_of (for_each n f) ≡ Some e
+  pub last_of_each : (n i : ℕ) (f : ℕ → List Entry) (e : Entry) → i < n → last_of (f i) ≡ Some e
+      → ((j : ℕ) → j < n → (i ≡ j → ⊥) → none_of (f j) ≡ false) → last_of (for_each n f) ≡ Some e
   last_of_each zero i f e l h others = absurd (omega (arith, l))
   last_of_each (suc n) i f e l h others = ⊎_elim
       (λ same. last_after (for_each n f) (f n) e (subst (λ j. last_of (f j) ≡ Some e) same h))
-      (λ less. last_before (for_each n f) (f n) (others n (omega arith) (λ same. omega (arith, less, same))) ∙ last_of_each n i f e less h (λ j m apart. others j (omega (arith, m)) apart))
+      (λ less. last_before (for_each n f) (f n) (others n (omega arith) (λ same. omega (arith, less, same)))
+      ∙ last_of_each n i f e less h (λ j m apart. others j (omega (arith, m)) apart))
       (here_or_before i n l)

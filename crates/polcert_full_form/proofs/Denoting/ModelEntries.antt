@@ -1,10 +1,13 @@
 -- The entries of a printed model give each cell of the model back.
 use Rattle.std.proofs.Common.{◌≡◌, ◌∙◌, ℕ, ◌<◌, ◌==◌, Bool, true, false, ◌&&◌, cond, Some, List, [], ◌∷◌, ◌++◌, refl, sym, ap, arith, rules}
-use Rattle.polcert_full_form.proofs.Common.{Table, Transition, Observation, Reward, Entry, is_mdp, is_table, covers, weight, weight_of, reward, value_or, Meaning, states_of, actions_of, observations_of, for_each}
+use Rattle.polcert_full_form.proofs.Common.{Table, Transition, Observation, Reward, Entry, is_mdp, is_table, covers, weight, weight_of}
+use Rattle.polcert_full_form.proofs.Common.{reward, value_or, Meaning, states_of, actions_of, observations_of, for_each}
 use Rattle.polcert_cells.specs.Meaning.{reward_index}
 use Rattle.polcert_full_form.proofs.Denoting.Covering.{last_of, none_of, last_after, last_before, none_both, none_of_each, last_of_each}
-use Rattle.polcert_full_form.proofs.Denoting.RowEntries.{row_entries, Fits, test_apart, entries_elsewhere, transition_rows, observation_rows, row_covered}
-use Rattle.polcert_full_form.proofs.Denoting.RewardEntries.{entries_from, IsGiven, given_is, given_after, given_each, from_elsewhere, from_given}
+use Rattle.polcert_full_form.proofs.Denoting.RowEntries.{row_entries, Fits, test_apart, entries_elsewhere, transition_rows}
+use Rattle.polcert_full_form.proofs.Denoting.RowEntries.{observation_rows, row_covered}
+use Rattle.polcert_full_form.proofs.Denoting.RewardEntries.{entries_from, IsGiven, given_is, given_after, given_each, from_elsewhere}
+use Rattle.polcert_full_form.proofs.Denoting.RewardEntries.{from_given}
 
 abbrev pub transition_entries : Meaning → List Entry
 transition_entries m = for_each (actions_of m) (λ a. for_each (states_of m) (λ s. row_entries Transition a s (states_of m) (m.t a s)))
@@ -39,7 +42,8 @@ module _ (table asked : Table) (i j : ℕ) (more : List ℕ) where
 
 -- the row that is asked for
 module _ (table : Table) (i j c : ℕ) (actions states n : ℕ) (w : ℕ → ℕ → ℕ → ℕ) where
-  other_action : (a : ℕ) → (i ≡ a → ⊥) → none_of (covers table (i ∷ j ∷ c ∷ [])) (for_each states (λ s. row_entries table a s n (w a s))) ≡ false
+  other_action : (a : ℕ) → (i ≡ a → ⊥) → none_of (covers table (i ∷ j ∷ c ∷ [])) (for_each states (λ s. row_entries table a s n (w a s)))
+      ≡ false
   other_action a apart = grind (arith, none_of_each)
 
   other_state : (s : ℕ) → (j ≡ s → ⊥) → none_of (covers table (i ∷ j ∷ c ∷ [])) (row_entries table i s n (w i s)) ≡ false
@@ -49,15 +53,18 @@ module _ (table : Table) (i j c : ℕ) (actions states n : ℕ) (w : ℕ → ℕ
       → last_of (covers table (i ∷ j ∷ c ∷ [])) (for_each actions (λ a. for_each states (λ s. row_entries table a s n (w a s)))) ≡ Some e
   row_of_table e l k found =
       last_of_each (covers table (i ∷ j ∷ c ∷ [])) actions i (λ a. for_each states (λ s. row_entries table a s n (w a s))) e l
-      (last_of_each (covers table (i ∷ j ∷ c ∷ [])) states j (λ s. row_entries table i s n (w i s)) e k found (λ s m apart. other_state s apart))
+      (last_of_each (covers table (i ∷ j ∷ c ∷ [])) states j (λ s. row_entries table i s n (w i s)) e k found
+      (λ s m apart. other_state s apart))
       (λ a m apart. other_action a apart)
 
 -- ---- the cells of T and O
 module _ (m : Meaning) where
-  no_rewards : (asked : Table) (i j k : ℕ) (more : List ℕ) → is_table Reward asked ≡ false → none_of (covers asked (i ∷ j ∷ k ∷ more)) (rewards_entries m) ≡ false
+  no_rewards : (asked : Table) (i j k : ℕ) (more : List ℕ) → is_table Reward asked ≡ false
+      → none_of (covers asked (i ∷ j ∷ k ∷ more)) (rewards_entries m) ≡ false
   no_rewards asked i j k more e = grind (arith, none_of_each, from_elsewhere)
 
-  no_observations : (asked : Table) (i j : ℕ) (more : List ℕ) → is_table Observation asked ≡ false → none_of (covers asked (i ∷ j ∷ more)) (observation_entries m) ≡ false
+  no_observations : (asked : Table) (i j : ℕ) (more : List ℕ) → is_table Observation asked ≡ false
+      → none_of (covers asked (i ∷ j ∷ more)) (observation_entries m) ≡ false
   no_observations asked i j more e = at (is_mdp m.preamble)
     where
       at : (b : Bool) → none_of (covers asked (i ∷ j ∷ more)) (cond b [] (seen_entries m)) ≡ false
@@ -69,20 +76,25 @@ module _ (m : Meaning) where
   transition_back a s e l k d f =
       let covered = row_covered m.preamble Transition a s (states_of m) (m.t a s) (transition_rows m.preamble) (omega (arith, k)) e d f in
       let test = covers Transition (a ∷ s ∷ e ∷ []) in
-      let found : last_of test (transition_entries m) ≡ Some covered.entry = row_of_table Transition a s e (actions_of m) (states_of m) (states_of m) m.t covered.entry l k covered.last in
+      let found : last_of test (transition_entries m) ≡ Some covered.entry =
+      row_of_table Transition a s e (actions_of m) (states_of m) (states_of m) m.t covered.entry l k covered.last in
       let all : last_of test (all_entries m) ≡ Some covered.entry =
       last_before test (transition_entries m ++ observation_entries m) (rewards_entries m) (no_rewards Transition a s e [] refl)
       ∙ last_before test (transition_entries m) (observation_entries m) (no_observations Transition a s (e ∷ []) refl)
       ∙ found in
       ap (value_or 0 (weight_of m.preamble (a ∷ s ∷ e ∷ []))) all ∙ covered.weight
 
-  pub observation_back : (a e z : ℕ) → is_mdp m.preamble ≡ false → a < actions_of m → e < states_of m → z < observations_of m → Fits (observations_of m) (m.o a e z)
+  pub observation_back : (a e z : ℕ) → is_mdp m.preamble ≡ false → a < actions_of m → e < states_of m → z < observations_of m
+      → Fits (observations_of m) (m.o a e z)
       → weight m.preamble (all_entries m) Observation (a ∷ e ∷ z ∷ []) ≡ m.o a e z
   observation_back a e z seen l k d f =
-      let covered = row_covered m.preamble Observation a e (observations_of m) (m.o a e) (observation_rows m.preamble seen) (omega (arith, d)) z d f in
+      let covered = row_covered m.preamble Observation a e (observations_of m) (m.o a e) (observation_rows m.preamble seen)
+      (omega (arith, d)) z d f in
       let test = covers Observation (a ∷ e ∷ z ∷ []) in
-      let found : last_of test (seen_entries m) ≡ Some covered.entry = row_of_table Observation a e z (actions_of m) (states_of m) (observations_of m) m.o covered.entry l k covered.last in
-      let here : last_of test (observation_entries m) ≡ Some covered.entry = ap (λ b. last_of test (cond b [] (seen_entries m))) seen ∙ found in
+      let found : last_of test (seen_entries m) ≡ Some covered.entry =
+      row_of_table Observation a e z (actions_of m) (states_of m) (observations_of m) m.o covered.entry l k covered.last in
+      let here : last_of test (observation_entries m) ≡ Some covered.entry = ap (λ b. last_of test (cond b [] (seen_entries m))) seen
+      ∙ found in
       let all : last_of test (all_entries m) ≡ Some covered.entry =
       last_before test (transition_entries m ++ observation_entries m) (rewards_entries m) (no_rewards Observation a e z [] refl)
       ∙ last_after test (transition_entries m) (observation_entries m) covered.entry here in
@@ -97,7 +109,8 @@ module _ (m : Meaning) where
     indices = a ∷ s ∷ e ∷ last_index ∷ []
 
     elsewhere : (i j : ℕ) → ((i == a) && (j == s)) ≡ false → none_of (covers Reward indices) (rewards_at m i j) ≡ false
-    elsewhere i j apart = from_elsewhere (is_mdp m.preamble) m.preamble.costs i j (states_of m) (observations_of m) (m.r i j) Reward a s e (last_index ∷ []) apart
+    elsewhere i j apart = from_elsewhere (is_mdp m.preamble) m.preamble.costs i j (states_of m) (observations_of m) (m.r i j) Reward a s e
+        (last_index ∷ []) apart
 
     not_action : (i j : ℕ) → (a ≡ i → ⊥) → none_of (covers Reward indices) (rewards_at m i j) ≡ false
     not_action i j apart = elsewhere i j (and_first (i == a) (j == s) (test_apart i a (λ q. apart (sym q))))

@@ -1,6 +1,9 @@
 -- A row of rewards that is read block by block.
-use Rattle.std.proofs.Common.{◌≡◌, ◌∙◌, ℕ, zero, suc, ◌+◌, ◌-◌, ◌<◌, ◌≤◌, ◌⊎◌, ⊎_elim, Bool, true, false, Option, Some, None, List, [], ◌∷◌, ◌++◌, length, min, take, get_or, ℤ, pos, unsigned_abs, refl, sym, ap, subst, arith, append_assoc, codes}
-use Rattle.polcert_full_form.proofs.Common.{list_all, largest, Reward, Meaning, HasLimitedNumbers, states_of, actions_of, observations_of, most_elements, meaning, ForSome, for_each, all_below, written, is_zero, row_words, reward_words, number_text, reward_row_text, block_text, IsFilled, row_width, row_rewards, rewarded_text}
+use Rattle.std.proofs.Common.{◌≡◌, ◌∙◌, ℕ, zero, suc, ◌+◌, ◌-◌, ◌<◌, ◌≤◌, ◌⊎◌, ⊎_elim, Bool, true, false, Option, Some, None, List, [], ◌∷◌}
+use Rattle.std.proofs.Common.{◌++◌, length, min, take, get_or, ℤ, pos, unsigned_abs, refl, sym, ap, subst, arith, append_assoc, codes}
+use Rattle.polcert_full_form.proofs.Common.{list_all, largest, Reward, Meaning, HasLimitedNumbers, states_of, actions_of, observations_of}
+use Rattle.polcert_full_form.proofs.Common.{most_elements, meaning, ForSome, for_each, all_below, written, is_zero, row_words, reward_words}
+use Rattle.polcert_full_form.proofs.Common.{number_text, reward_row_text, block_text, IsFilled, row_width, row_rewards, rewarded_text}
 use Rattle.std.proofs.lemmas.List.{length-take-le, get_or-take}
 use Rattle.polcert_cells.proofs.Basics.{is_true_or_false, true≢false}
 use Rattle.polcert_full_form.specs.Steps.Printing.{zeros_text, reward_columns, reward_in, reward_head, reward_text, IsPaidFrom}
@@ -16,7 +19,8 @@ written_zero : (costs : Bool) → written costs (pos 0) ≡ pos 0
 written_zero costs = grind arith
 
 -- ---- a block of a row of n columns, from `first` on
-module _ (r : ℕ → ℤ) (n first size : ℕ) (block : List ℤ) (filled : IsFilled r n first block) (size_room : size ≡ min (n - first) (length block))
+module _ (r : ℕ → ℤ) (n first size : ℕ) (block : List ℤ) (filled : IsFilled r n first block)
+    (size_room : size ≡ min (n - first) (length block))
     (before_end : first ≤ n) where
   room : size ≤ length block
   room = omega (arith, size_room)
@@ -46,7 +50,8 @@ module _ (r : ℕ → ℤ) (n first size : ℕ) (block : List ℤ) (filled : IsF
       following : first ≤ c → r c ≡ pos 0
       following b =
           let place : first + (c - first) ≡ c = omega (arith, b) in
-          subst (λ k. r k ≡ pos 0) place (zero_is (r (first + (c - first))) (test_below size (c - first) (λ i. is_zero (r (first + i))) (sym tests_are ∙ all) (omega (arith, b, l))))
+          subst (λ k. r k ≡ pos 0) place (zero_is (r (first + (c - first)))
+          (test_below size (c - first) (λ i. is_zero (r (first + i))) (sym tests_are ∙ all) (omega (arith, b, l))))
 
   -- one isn't 0, and so the row has such a reward
   pub paid_from : list_all is_zero (take size block) ≡ false → all_below n (λ c. is_zero (r c)) ≡ false
@@ -60,35 +65,45 @@ module _ (r : ℕ → ℤ) (n first size : ℕ) (block : List ℤ) (filled : IsF
       all_of (suc k) test h = let before = all_of k test (λ i l. h i (omega (arith, l))) in let here = h k (omega arith) in grind arith
 
       none : all_below n (λ c. is_zero (r c)) ≡ true → list_all is_zero (take size block) ≡ true
-      none all = tests_are ∙ all_of size (λ i. is_zero (r (first + i))) (λ i l. test_below n (first + i) (λ c. is_zero (r c)) all (omega (arith, l, within)))
+      none all = tests_are ∙ all_of size (λ i. is_zero (r (first + i)))
+          (λ i l. test_below n (first + i) (λ c. is_zero (r c)) all (omega (arith, l, within)))
 
   -- the numbers are small, and printed as those of the row
-  pub small_in : ((c : ℕ) → c < n → unsigned_abs (r c) ≤ largest) → (i : ℕ) → i < length (take size block) → unsigned_abs (get_or (take size block) i (pos 0)) ≤ largest
+  pub small_in : ((c : ℕ) → c < n → unsigned_abs (r c) ≤ largest) → (i : ℕ) → i < length (take size block)
+      → unsigned_abs (get_or (take size block) i (pos 0)) ≤ largest
   small_in small i l = grind (arith, size_is, each_is)
 
-  block_is : (costs : Bool) → for_each (length (take size block)) (block_text costs first (take size block)) ≡ for_each size (λ i. reward_text costs r (first + i))
+  block_is : (costs : Bool) → for_each (length (take size block)) (block_text costs first (take size block))
+      ≡ for_each size (λ i. reward_text costs r (first + i))
   block_is costs = grind (arith, same_for_each, size_is, each_is)
 
   -- after those from `start` on
   pub block_more : (costs : Bool) (start : ℕ) → start ≤ first
-      → for_each (first - start) (λ i. reward_text costs r (start + i)) ++ for_each (length (take size block)) (block_text costs first (take size block))
+      → for_each (first - start) (λ i. reward_text costs r (start + i)) ++ for_each (length (take size block))
+      (block_text costs first (take size block))
       ≡ for_each (first + size - start) (λ i. reward_text costs r (start + i))
   block_more costs start l =
       ap (λ xs. for_each (first - start) (λ i. reward_text costs r (start + i)) ++ xs) (block_is costs)
       ∙ run_more start first size (reward_text costs r) l
 
 -- ---- the whole row
-pub row_unpaid : (m : Meaning) (a s : ℕ) (end : Option ℕ) → all_below (reward_columns m end) (λ c. is_zero (reward_in m a s end c)) ≡ true → [] ≡ reward_row_text m a s end
+pub row_unpaid : (m : Meaning) (a s : ℕ) (end : Option ℕ) → all_below (reward_columns m end) (λ c. is_zero (reward_in m a s end c)) ≡ true
+    → [] ≡ reward_row_text m a s end
 row_unpaid m a s (Some e) all = texts.unpaid_is m.preamble.costs (reward_words a s e) (observations_of m) (m.r a s e) all
 row_unpaid m a s None all = texts.unpaid_is m.preamble.costs (row_words Reward a s) (states_of m) (λ e. m.r a s e 0) all
 
-paid_is : (m : Meaning) (a s : ℕ) (end : Option ℕ) → 0 < reward_columns m end → all_below (reward_columns m end) (λ c. is_zero (reward_in m a s end c)) ≡ false
-    → reward_head a s end ++ for_each (reward_columns m end) (reward_text m.preamble.costs (reward_in m a s end)) ++ codes "\n" ≡ reward_row_text m a s end
-paid_is m a s (Some e) some paid = texts.paid_is m.preamble.costs (a ∷ s ∷ e ∷ []) (reward_words a s e) (observations_of m) (m.r a s e) (texts.cell_head a s e) some paid
-paid_is m a s None some paid = texts.paid_is m.preamble.costs (a ∷ s ∷ []) (row_words Reward a s) (states_of m) (λ e. m.r a s e 0) (texts.row_head a s) some paid
+paid_is : (m : Meaning) (a s : ℕ) (end : Option ℕ) → 0 < reward_columns m end
+    → all_below (reward_columns m end) (λ c. is_zero (reward_in m a s end c)) ≡ false
+    → reward_head a s end ++ for_each (reward_columns m end) (reward_text m.preamble.costs (reward_in m a s end)) ++ codes "\n"
+    ≡ reward_row_text m a s end
+paid_is m a s (Some e) some paid = texts.paid_is m.preamble.costs (a ∷ s ∷ e ∷ []) (reward_words a s e) (observations_of m) (m.r a s e)
+    (texts.cell_head a s e) some paid
+paid_is m a s None some paid = texts.paid_is m.preamble.costs (a ∷ s ∷ []) (row_words Reward a s) (states_of m) (λ e. m.r a s e 0)
+    (texts.row_head a s) some paid
 
 pub row_paid : (row : RewardRow) (first : ℕ) → IsPaidFrom (row_rewards row) (row_width row) first
-    → reward_head row.action row.start row.end ++ zeros_text 0 first ++ for_each (row_width row - first) (λ i. rewarded_text row (first + i)) ++ codes "\n"
+    → reward_head row.action row.start row.end ++ zeros_text 0 first ++ for_each (row_width row - first)
+    (λ i. rewarded_text row (first + i)) ++ codes "\n"
     ≡ paid_row_text row
 row_paid row first p =
     let m = meaning row.model.now in
@@ -104,7 +119,8 @@ row_paid row first p =
 pub few_columns : (m : Meaning) → HasLimitedNumbers m → (end : Option ℕ) → reward_columns m end ≤ most_elements
 few_columns m h1 end = grind arith
 
-small_at : (m : Meaning) → HasLimitedNumbers m → (a s : ℕ) (end : Option ℕ) → a < actions_of m → s < states_of m → ForSome end (λ e. e < states_of m)
+small_at : (m : Meaning) → HasLimitedNumbers m → (a s : ℕ) (end : Option ℕ) → a < actions_of m → s < states_of m
+    → ForSome end (λ e. e < states_of m)
     → (c : ℕ) → c < reward_columns m end → unsigned_abs (reward_in m a s end c) ≤ largest
 small_at m h1 a s end h2 h3 h4 c h5 = grind arith
 

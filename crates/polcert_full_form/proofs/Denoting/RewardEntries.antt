@@ -1,6 +1,7 @@
 -- The entry of a row of rewards as it is printed gives the row's rewards back.
 use Rattle.std.proofs.Common.{◌≡◌, ℕ, ◌+◌, ◌<◌, ◌==◌, ⊎_elim, Bool, true, false, ◌&&◌, cond, Some, List, [], ◌∷◌, ◌++◌, ℤ, pos, refl, arith}
-use Rattle.polcert_full_form.proofs.Common.{get_or-map-range_with_len, Table, Reward, Only, Rewards, Entry, Preamble, is_mdp, is_table, covers, reward, for_each, values, all_below, is_zero, written}
+use Rattle.polcert_full_form.proofs.Common.{get_or-map-range_with_len, Table, Reward, Only, Rewards, Entry, Preamble, is_mdp, is_table}
+use Rattle.polcert_full_form.proofs.Common.{covers, reward, for_each, values, all_below, is_zero, written}
 use Rattle.polcert_cells.specs.Cells.{reward_of}
 use Rattle.polcert_cells.proofs.Basics.{is_true_or_false, true≢false}
 use Rattle.polcert_cells.proofs.CellLaws.{uncovered_reward}
@@ -8,7 +9,12 @@ use Rattle.polcert_full_form.proofs.Denoting.Covering.{last_of, none_of, last_af
 use Rattle.polcert_full_form.proofs.Denoting.RowEntries.{IsOtherRow, test_below, test_same, test_itself}
 
 abbrev pub reward_row : Bool → ℕ → ℕ → ℕ → ℕ → (ℕ → ℤ) → Entry
-reward_row costs a s e n r = record { table = Reward; places = Only a ∷ Only s ∷ Only e ∷ []; body = Rewards (values n (λ z. written costs (r z))) }
+reward_row costs a s e n r = record {
+  table = Reward;
+  places = Only a ∷ Only s ∷ Only e ∷ [];
+  body =
+      Rewards (values n (λ z. written costs (r z)));
+}
 
 abbrev pub reward_entries : Bool → ℕ → ℕ → ℕ → ℕ → (ℕ → ℤ) → List Entry
 reward_entries costs a s e n r = cond (all_below n (λ z. is_zero (r z))) [] (reward_row costs a s e n r ∷ [])
@@ -36,7 +42,8 @@ pub rewards_elsewhere : (costs : Bool) (a s e n : ℕ) (r : ℕ → ℤ) (asked 
 rewards_elsewhere costs a s e n r asked i j k more apart = grind arith
 
 -- the entries of another action or state, or of another table
-pub from_elsewhere : (mdp costs : Bool) (a s k n : ℕ) (r : ℕ → ℕ → ℤ) (asked : Table) (i j e : ℕ) (more : List ℕ) → IsOtherRow Reward a s asked i j
+pub from_elsewhere : (mdp costs : Bool) (a s k n : ℕ) (r : ℕ → ℕ → ℤ) (asked : Table) (i j e : ℕ) (more : List ℕ)
+    → IsOtherRow Reward a s asked i j
     → none_of (covers asked (i ∷ j ∷ e ∷ more)) (entries_from mdp costs a s k n r) ≡ false
 from_elsewhere mdp costs a s k n r asked i j e more h1 = grind (arith, none_of_each)
 
@@ -50,13 +57,16 @@ module _ (p : Preamble) (indices : List ℕ) (h : ℤ) where
   pub given_is : (es : List Entry) → IsGiven p indices es h → reward p es indices ≡ h
   given_is es h1 = grind (arith, uncovered_reward)
 
-  pub given_after : (before es : List Entry) → none_of (covers Reward indices) before ≡ false → IsGiven p indices es h → IsGiven p indices (before ++ es) h
+  pub given_after : (before es : List Entry) → none_of (covers Reward indices) before ≡ false → IsGiven p indices es h
+      → IsGiven p indices (before ++ es) h
   given_after before es clear (nothing none unpaid) = nothing (none_both (covers Reward indices) before es clear none) unpaid
   given_after before es clear (entry e last same) = entry e (last_after (covers Reward indices) before es e last) same
 
-  pub given_each : (n i : ℕ) (f : ℕ → List Entry) → i < n → IsGiven p indices (f i) h → ((j : ℕ) → j < n → (i ≡ j → ⊥) → none_of (covers Reward indices) (f j) ≡ false)
+  pub given_each : (n i : ℕ) (f : ℕ → List Entry) → i < n → IsGiven p indices (f i) h
+      → ((j : ℕ) → j < n → (i ≡ j → ⊥) → none_of (covers Reward indices) (f j) ≡ false)
       → IsGiven p indices (for_each n f) h
-  given_each n i f l (nothing none unpaid) apart = grind (arith, ⊎_elim, is_true_or_false, true≢false, none_of, none_of_each, test_same, test_itself)
+  given_each n i f l (nothing none unpaid) apart = grind
+      (arith, ⊎_elim, is_true_or_false, true≢false, none_of, none_of_each, test_same, test_itself)
   given_each n i f l (entry e last same) apart = entry e (last_of_each (covers Reward indices) n i f e l last apart) same
 
 found_alone : (test : Entry → Bool) (x : Entry) → test x ≡ true → last_of test (x ∷ []) ≡ Some x
@@ -73,9 +83,11 @@ module _ (p : Preamble) (a s e n z : ℕ) (r : ℕ → ℤ) (l : z < n) where
   row_given : IsGiven p (a ∷ s ∷ e ∷ z ∷ []) (reward_entries p.costs a s e n r) (r z)
   row_given = at (all_below n (λ z. is_zero (r z))) refl
     where
-      at : (b : Bool) → all_below n (λ z. is_zero (r z)) ≡ b → IsGiven p (a ∷ s ∷ e ∷ z ∷ []) (cond b [] (reward_row p.costs a s e n r ∷ [])) (r z)
+      at : (b : Bool) → all_below n (λ z. is_zero (r z)) ≡ b
+          → IsGiven p (a ∷ s ∷ e ∷ z ∷ []) (cond b [] (reward_row p.costs a s e n r ∷ [])) (r z)
       at true all = nothing refl (zero_is (r z) (test_below n z (λ z. is_zero (r z)) all l))
-      at false some = entry (reward_row p.costs a s e n r) (found_alone (covers Reward (a ∷ s ∷ e ∷ z ∷ [])) (reward_row p.costs a s e n r) reward_covers) reward_back
+      at false some = entry (reward_row p.costs a s e n r)
+          (found_alone (covers Reward (a ∷ s ∷ e ∷ z ∷ [])) (reward_row p.costs a s e n r) reward_covers) reward_back
 
 -- ---- a row of end states, in an MDP
 module _ (p : Preamble) (a s n e : ℕ) (r : ℕ → ℤ) (mdp : is_mdp p ≡ true) (l : e < n) where
@@ -88,9 +100,11 @@ module _ (p : Preamble) (a s n e : ℕ) (r : ℕ → ℤ) (mdp : is_mdp p ≡ tr
   end_given : IsGiven p (a ∷ s ∷ e ∷ 0 ∷ []) (end_entries p.costs a s n r) (r e)
   end_given = at (all_below n (λ e. is_zero (r e))) refl
     where
-      at : (b : Bool) → all_below n (λ e. is_zero (r e)) ≡ b → IsGiven p (a ∷ s ∷ e ∷ 0 ∷ []) (cond b [] (end_row p.costs a s n r ∷ [])) (r e)
+      at : (b : Bool) → all_below n (λ e. is_zero (r e)) ≡ b
+          → IsGiven p (a ∷ s ∷ e ∷ 0 ∷ []) (cond b [] (end_row p.costs a s n r ∷ [])) (r e)
       at true all = nothing refl (zero_is (r e) (test_below n e (λ e. is_zero (r e)) all l))
-      at false some = entry (end_row p.costs a s n r) (found_alone (covers Reward (a ∷ s ∷ e ∷ 0 ∷ [])) (end_row p.costs a s n r) end_covers) end_back
+      at false some = entry (end_row p.costs a s n r) (found_alone (covers Reward (a ∷ s ∷ e ∷ 0 ∷ [])) (end_row p.costs a s n r)
+          end_covers) end_back
 
 -- ---- the entries of an action in a state
 another_end : (a s e b : ℕ) → (e ≡ b → ⊥) → IsElsewhere a s b Reward a s e

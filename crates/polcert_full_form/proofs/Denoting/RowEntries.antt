@@ -1,6 +1,10 @@
 -- The entries of a row as it is printed give the row's weights back.
-use Rattle.std.proofs.Common.{◌≡◌, ◌∙◌, ℕ, zero, suc, ◌+◌, ◌*◌, ◌/◌, ◌%◌, ◌<◌, ◌==◌, ◌≢◌, ◌⊎◌, ⊎_elim, inl, inr, Bool, true, false, ◌&&◌, cond, Some, List, [], ◌∷◌, ◌++◌, refl, sym, ap, subst, arith}
-use Rattle.polcert_full_form.proofs.Common.{list_any, nat_tests, get_or-map-range_with_len, Table, Transition, Observation, Only, Body, Probabilities, Uniform, Entry, Elements, one, count_of, Preamble, is_mdp, dimensions, named, columns, observed, forms, MayBeGiven, is_table, covers, weight_of, for_each, values, all_below, is_uniform, is_decimal}
+use Rattle.std.proofs.Common.{◌≡◌, ◌∙◌, ℕ, zero, suc, ◌+◌, ◌*◌, ◌/◌, ◌%◌, ◌<◌, ◌==◌, ◌≢◌, ◌⊎◌, ⊎_elim, inl, inr, Bool, true, false, ◌&&◌}
+use Rattle.std.proofs.Common.{cond, Some, List, [], ◌∷◌, ◌++◌, refl, sym, ap, subst, arith}
+use Rattle.polcert_full_form.proofs.Common.{list_any, nat_tests, get_or-map-range_with_len, Table, Transition, Observation, Only, Body}
+use Rattle.polcert_full_form.proofs.Common.{Probabilities, Uniform, Entry, Elements, one, count_of, Preamble, is_mdp, dimensions, named}
+use Rattle.polcert_full_form.proofs.Common.{columns, observed, forms, MayBeGiven, is_table, covers, weight_of, for_each, values, all_below}
+use Rattle.polcert_full_form.proofs.Common.{is_uniform, is_decimal}
 use Rattle.polcert_cells.proofs.Basics.{and_true, is_true_or_false, true≢false}
 use Rattle.polcert_full_form.proofs.Denoting.Covering.{last_of, none_of, last_after, last_before, none_of_each, last_of_each}
 
@@ -99,10 +103,32 @@ pub record HasRows (p : Preamble) (table : Table) (n : ℕ) : Type 0 where
   pub cell : (ps : List ℕ) → list_any (λ k. k == 3) (forms (is_mdp p) table (Probabilities ps)) ≡ true
 
 pub transition_rows : (p : Preamble) → HasRows p Transition (count_of p.states)
-transition_rows p = record { column = p.states; given = tt; dimensions_are = refl; named_are = refl; columns_are = refl; count = refl; uniform = refl; row = λ ps. refl; cell = λ ps. refl }
+transition_rows p = record {
+  column = p.states;
+  given = tt;
+  dimensions_are = refl;
+  named_are = refl;
+  columns_are = refl;
+  count =
+      refl;
+  uniform = refl;
+  row = λ ps. refl;
+  cell = λ ps. refl;
+}
 
 pub observation_rows : (p : Preamble) → is_mdp p ≡ false → HasRows p Observation (count_of (observed p))
-observation_rows p seen = record { column = observed p; given = seen; dimensions_are = refl; named_are = refl; columns_are = refl; count = refl; uniform = refl; row = λ ps. refl; cell = λ ps. refl }
+observation_rows p seen = record {
+  column = observed p;
+  given = seen;
+  dimensions_are = refl;
+  named_are = refl;
+  columns_are = refl;
+  count =
+      refl;
+  uniform = refl;
+  row = λ ps. refl;
+  cell = λ ps. refl;
+}
 
 module _ (p : Preamble) (table : Table) (a s n : ℕ) (w : ℕ → ℕ) (rows : HasRows p table n) (some : 0 < n) where
   -- the entry that covers the cell last, and its weight there
@@ -121,13 +147,15 @@ module _ (p : Preamble) (table : Table) (a s n : ℕ) (w : ℕ → ℕ) (rows : 
     weight = sym e;
   }
 
-  decimal_weight : (c : ℕ) → c < n → (w c % n == 0) ≡ true → weight_of p (a ∷ s ∷ c ∷ []) (whole_row table a s (Probabilities (values n (λ c. w c / n)))) ≡ w c
+  decimal_weight : (c : ℕ) → c < n → (w c % n == 0) ≡ true
+      → weight_of p (a ∷ s ∷ c ∷ []) (whole_row table a s (Probabilities (values n (λ c. w c / n)))) ≡ w c
   decimal_weight c l e = grind (arith, get_or-map-range_with_len)
 
   decimal_covered : (c : ℕ) → c < n → (w c % n == 0) ≡ true → Covered (decimal_row table a s n w) c
   decimal_covered c l e = record {
     entry = whole_row table a s (Probabilities (values n (λ c. w c / n)));
-    last = found_alone c (whole_row table a s (Probabilities (values n (λ c. w c / n)))) (row_covers table a s c (Probabilities (values n (λ c. w c / n))));
+    last = found_alone c (whole_row table a s (Probabilities (values n (λ c. w c / n))))
+        (row_covers table a s c (Probabilities (values n (λ c. w c / n))));
     weight = decimal_weight c l e;
   }
 
@@ -150,22 +178,27 @@ module _ (p : Preamble) (table : Table) (a s n : ℕ) (w : ℕ → ℕ) (rows : 
           none_of_each (covers table (a ∷ s ∷ c ∷ [])) n (cell_entries table a s n w) (λ d m. empty_or_other d e) in
           record {
             entry = whole_row table a s Uniform;
-            last = last_before (covers table (a ∷ s ∷ c ∷ [])) (uniform_row table a s) (for_each n (cell_entries table a s n w)) none ∙ found_alone c (whole_row table a s Uniform) (row_covers table a s c Uniform);
+            last = last_before (covers table (a ∷ s ∷ c ∷ [])) (uniform_row table a s) (for_each n (cell_entries table a s n w)) none
+                ∙ found_alone c (whole_row table a s Uniform) (row_covers table a s c Uniform);
             weight = sym same_one;
           }
         where
           empty_or_other : (d : ℕ) → (w c == one) ≡ true → none_of (covers table (a ∷ s ∷ c ∷ [])) (cell_entries table a s n w d) ≡ false
           empty_or_other d e = ⊎_elim
-              (λ same. ap (λ b. none_of (covers table (a ∷ s ∷ c ∷ [])) (cond b [] (one_cell table a s d (w d / n) ∷ []))) (ap (λ x. w x == one) (sym (test_same c d same)) ∙ e))
+              (λ same. ap (λ b. none_of (covers table (a ∷ s ∷ c ∷ [])) (cond b [] (one_cell table a s d (w d / n) ∷ [])))
+              (ap (λ x. w x == one) (sym (test_same c d same)) ∙ e))
               (λ other. other_cells c d (λ k. true≢false (ap (λ x. c == x) (sym k) ∙ test_itself c) other))
               (is_true_or_false (c == d))
       at false e =
           let alone : last_of (covers table (a ∷ s ∷ c ∷ [])) (cell_entries table a s n w c) ≡ Some (one_cell table a s c (w c / n)) =
-          ap (λ b. last_of (covers table (a ∷ s ∷ c ∷ [])) (cond b [] (one_cell table a s c (w c / n) ∷ []))) e ∙ found_alone c (one_cell table a s c (w c / n)) (cell_covers table a s c (w c / n)) in
+          ap (λ b. last_of (covers table (a ∷ s ∷ c ∷ [])) (cond b [] (one_cell table a s c (w c / n) ∷ []))) e
+          ∙ found_alone c (one_cell table a s c (w c / n)) (cell_covers table a s c (w c / n)) in
           record {
             entry = one_cell table a s c (w c / n);
-            last = last_after (covers table (a ∷ s ∷ c ∷ [])) (uniform_row table a s) (for_each n (cell_entries table a s n w)) (one_cell table a s c (w c / n))
-                (last_of_each (covers table (a ∷ s ∷ c ∷ [])) n c (cell_entries table a s n w) (one_cell table a s c (w c / n)) l alone (λ d m apart. other_cells c d apart));
+            last = last_after (covers table (a ∷ s ∷ c ∷ [])) (uniform_row table a s) (for_each n (cell_entries table a s n w))
+                (one_cell table a s c (w c / n))
+                (last_of_each (covers table (a ∷ s ∷ c ∷ [])) n c (cell_entries table a s n w) (one_cell table a s c (w c / n)) l alone
+                (λ d m apart. other_cells c d apart));
             weight = cell_weight c f e;
           }
 
@@ -174,9 +207,13 @@ module _ (p : Preamble) (table : Table) (a s n : ℕ) (w : ℕ → ℕ) (rows : 
   row_covered c l f = at (is_uniform n w) (is_decimal n w) refl refl
     where
       at : (u d : Bool) → is_uniform n w ≡ u → is_decimal n w ≡ d → Covered (row_entries table a s n w) c
-      at true d e g = subst (λ b. Covered (cond b (uniform_row table a s) (cond (is_decimal n w) (decimal_row table a s n w) (single_cells table a s n w))) c) (sym e)
+      at true d e g = subst (λ b. Covered (cond b (uniform_row table a s)
+          (cond (is_decimal n w) (decimal_row table a s n w) (single_cells table a s n w))) c) (sym e)
           (uniform_covered c (test_same (w c) one (test_below n c (λ c. w c == one) e l)))
-      at false true e g = subst (λ b. Covered (cond b (uniform_row table a s) (cond (is_decimal n w) (decimal_row table a s n w) (single_cells table a s n w))) c) (sym e)
-          (subst (λ b. Covered (cond b (decimal_row table a s n w) (single_cells table a s n w)) c) (sym g) (decimal_covered c l (test_below n c (λ c. w c % n == 0) g l)))
-      at false false e g = subst (λ b. Covered (cond b (uniform_row table a s) (cond (is_decimal n w) (decimal_row table a s n w) (single_cells table a s n w))) c) (sym e)
+      at false true e g = subst (λ b. Covered (cond b (uniform_row table a s)
+          (cond (is_decimal n w) (decimal_row table a s n w) (single_cells table a s n w))) c) (sym e)
+          (subst (λ b. Covered (cond b (decimal_row table a s n w) (single_cells table a s n w)) c) (sym g)
+          (decimal_covered c l (test_below n c (λ c. w c % n == 0) g l)))
+      at false false e g = subst (λ b. Covered (cond b (uniform_row table a s)
+          (cond (is_decimal n w) (decimal_row table a s n w) (single_cells table a s n w))) c) (sym e)
           (subst (λ b. Covered (cond b (decimal_row table a s n w) (single_cells table a s n w)) c) (sym g) (cells_covered c l f))

@@ -1,5 +1,6 @@
 -- Lines and rows as a printer's loop makes them: part by part, each after those so far.
-use Rattle.std.proofs.Common.{◌≡◌, ◌∙◌, ℕ, zero, suc, ◌+◌, List, [], ◌∷◌, ◌++◌, flat_map, map, codes, refl, sym, ap, arith, append_assoc, append-nil, decimal}
+use Rattle.std.proofs.Common.{◌≡◌, ◌∙◌, ℕ, zero, suc, ◌+◌, List, [], ◌∷◌, ◌++◌, flat_map, map, codes, refl, sym, ap, arith, append_assoc}
+use Rattle.std.proofs.Common.{append-nil, decimal}
 use Rattle.polcert_full_form.proofs.Common.{range_with_len, line, Table, Reward, for_each, values, millionths_text, table_word, row_words}
 use Rattle.std.proofs.lemmas.List.FromFn.{map-range_with_len_more}
 
@@ -13,7 +14,8 @@ line_is w (v ∷ ws) = grind (arith, append_assoc, line_is v ws)
 
 flat-append : (xs ys : List (List ℕ)) → flat_map after_blank (xs ++ ys) ≡ flat_map after_blank xs ++ flat_map after_blank ys
 flat-append [] ys = refl
-flat-append (x ∷ xs) ys = ap (λ bs. after_blank x ++ bs) (flat-append xs ys) ∙ sym (append_assoc (after_blank x) (flat_map after_blank xs) (flat_map after_blank ys))
+flat-append (x ∷ xs) ys = ap (λ bs. after_blank x ++ bs) (flat-append xs ys)
+    ∙ sym (append_assoc (after_blank x) (flat_map after_blank xs) (flat_map after_blank ys))
 
 further_words : (n : ℕ) (f : ℕ → List ℕ) → flat_map after_blank (map f (range_with_len 1 n)) ≡ for_each n (λ i. codes " " ++ f (i + 1))
 further_words zero f = refl
@@ -30,8 +32,10 @@ values_line n f = line_is (f 0) (map f (range_with_len 1 n)) ∙ ap (λ bs. f 0 
 
 -- ---- the lines that begin an entry, part after part
 pub cell_line_is : (table : Table) (a s c q : ℕ) → line (row_words table a s ++ codes ":" ∷ decimal c ∷ millionths_text q ∷ [])
-    ≡ table_word table ++ codes " " ++ decimal a ++ codes " : " ++ decimal s ++ codes " : " ++ decimal c ++ codes " " ++ millionths_text q ++ codes "\n"
+    ≡ table_word table ++ codes " " ++ decimal a ++ codes " : " ++ decimal s ++ codes " : " ++ decimal c ++ codes " " ++ millionths_text q
+    ++ codes "\n"
 cell_line_is table a s c q = simp append_assoc
 
-pub reward_line_is : (a s e : ℕ) → line (row_words Reward a s ++ codes ":" ∷ decimal e ∷ []) ≡ codes "R: " ++ decimal a ++ codes " : " ++ decimal s ++ codes " : " ++ decimal e ++ codes "\n"
+pub reward_line_is : (a s e : ℕ) → line (row_words Reward a s ++ codes ":" ∷ decimal e ∷ [])
+    ≡ codes "R: " ++ decimal a ++ codes " : " ++ decimal s ++ codes " : " ++ decimal e ++ codes "\n"
 reward_line_is a s e = simp append_assoc

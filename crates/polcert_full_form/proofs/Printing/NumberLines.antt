@@ -1,10 +1,13 @@
 -- A line of numbers.
-use Rattle.std.proofs.Common.{◌≡◌, ◌∙◌, ℕ, ℤ, zero, suc, ◌+◌, ◌<◌, ◌≤◌, false, pos, List, [], ◌∷◌, length, map, All, refl, sym, ap, subst, arith, unsigned_abs}
-use Rattle.polcert_full_form.proofs.Common.{list_any, range_with_len, get_or-map-range_with_len, scaled_text, largest, begins_item, AreNumbers, one, line, values, millionths_text}
+use Rattle.std.proofs.Common.{◌≡◌, ◌∙◌, ℕ, ℤ, zero, suc, ◌+◌, ◌<◌, ◌≤◌, false, pos, List, [], ◌∷◌, length, map, All, refl, sym, ap, subst}
+use Rattle.std.proofs.Common.{arith, unsigned_abs}
+use Rattle.polcert_full_form.proofs.Common.{list_any, range_with_len, get_or-map-range_with_len, scaled_text, largest, begins_item}
+use Rattle.polcert_full_form.proofs.Common.{AreNumbers, one, line, values, millionths_text}
 use Rattle.std.proofs.lemmas.List.FromFn.{length-map-range_with_len}
 use Rattle.polcert_text.proofs.Printing.PrintedCut.{Printed, text_of, lexemes_at, ArePrinted}
 use Rattle.polcert_text.proofs.Printing.PrintedWords.{spelled_line, text_line, line_printed}
-use Rattle.polcert_full_form.proofs.Printing.PrintedNumbers.{number_word, text_numbers, AreSmall, spells_number, spells_numbers, numbers_at, numbers_inside}
+use Rattle.polcert_full_form.proofs.Printing.PrintedNumbers.{number_word, text_numbers, AreSmall, spells_number, spells_numbers, numbers_at}
+use Rattle.polcert_full_form.proofs.Printing.PrintedNumbers.{numbers_inside}
 
 -- the line's lexemes, and what they are
 pub record IsNumberLine (text : List ℕ) (hs : List ℤ) : Type 0 where
@@ -22,7 +25,8 @@ number_line (h ∷ hs) some small = record {
   numbers = numbers_at h hs small;
 }
 
-pub inside : (text : List ℕ) (hs : List ℤ) (l : IsNumberLine text hs) (place : ℕ) → list_any begins_item (lexemes_at place l.lexemes) ≡ false
+pub inside : (text : List ℕ) (hs : List ℤ) (l : IsNumberLine text hs) (place : ℕ)
+    → list_any begins_item (lexemes_at place l.lexemes) ≡ false
 inside text hs l place = numbers_inside (l.numbers place)
 
 -- ---- lists of values
@@ -44,15 +48,21 @@ map_twice f g [] = refl
 map_twice f g (x ∷ xs) = ap (λ ys. g (f x) ∷ ys) (map_twice f g xs)
 
 -- the line of probabilities, as millionths
-pub share_line : (n : ℕ) (f : ℕ → ℕ) → 0 < n → ((i : ℕ) → i < n → f i ≤ one) → IsNumberLine (line (values n (λ c. millionths_text (f c)))) (map pos (values n f))
+pub share_line : (n : ℕ) (f : ℕ → ℕ) → 0 < n → ((i : ℕ) → i < n → f i ≤ one)
+    → IsNumberLine (line (values n (λ c. millionths_text (f c)))) (map pos (values n f))
 share_line n f some small =
     let numbers : map pos (values n f) ≡ values n (λ c. pos (f c)) = map_twice f pos (range_with_len 0 n) in
-    let texts : map scaled_text (values n (λ c. pos (f c))) ≡ values n (λ c. millionths_text (f c)) = map_twice (λ c. pos (f c)) scaled_text (range_with_len 0 n) in
+    let texts : map scaled_text (values n (λ c. pos (f c))) ≡ values n (λ c. millionths_text (f c)) =
+    map_twice (λ c. pos (f c)) scaled_text (range_with_len 0 n) in
     let below : (i : ℕ) → i < n → unsigned_abs (pos (f i)) ≤ largest = λ i l. let m = small i l in omega (arith, m) in
-    let made = number_line (values n (λ c. pos (f c))) (omega (arith, some, length_values n (λ c. pos (f c)))) (small_values n (λ c. pos (f c)) below) in
-    subst (IsNumberLine (line (values n (λ c. millionths_text (f c))))) (sym numbers) (subst (λ t. IsNumberLine (line t) (values n (λ c. pos (f c)))) texts made)
+    let made = number_line (values n (λ c. pos (f c))) (omega (arith, some, length_values n (λ c. pos (f c))))
+    (small_values n (λ c. pos (f c)) below) in
+    subst (IsNumberLine (line (values n (λ c. millionths_text (f c))))) (sym numbers)
+    (subst (λ t. IsNumberLine (line t) (values n (λ c. pos (f c)))) texts made)
 
-pub reward_line : (n : ℕ) (f : ℕ → ℤ) → 0 < n → ((i : ℕ) → i < n → unsigned_abs (f i) ≤ largest) → IsNumberLine (line (values n (λ c. scaled_text (f c)))) (values n f)
+pub reward_line : (n : ℕ) (f : ℕ → ℤ) → 0 < n → ((i : ℕ) → i < n → unsigned_abs (f i) ≤ largest)
+    → IsNumberLine (line (values n (λ c. scaled_text (f c)))) (values n f)
 reward_line n f some small =
     let texts : map scaled_text (values n f) ≡ values n (λ c. scaled_text (f c)) = map_twice f scaled_text (range_with_len 0 n) in
-    subst (λ t. IsNumberLine (line t) (values n f)) texts (number_line (values n f) (omega (arith, some, length_values n f)) (small_values n f small))
+    subst (λ t. IsNumberLine (line t) (values n f)) texts
+    (number_line (values n f) (omega (arith, some, length_values n f)) (small_values n f small))

@@ -1,6 +1,10 @@
 -- The lines of an entry are an item, and that entry.
-use Rattle.std.proofs.Common.{◌≡◌, ◌∙◌, ℕ, zero, suc, ◌^◌, ◌<◌, ◌≤◌, ◌==◌, true, false, Some, List, [], ◌∷◌, ◌++◌, length, drop, codes, decimal, refl, sym, ap, subst, arith, append_assoc, append-nil}
-use Rattle.polcert_full_form.proofs.Common.{list_any, is_letter, is_name_byte, is_digit, is_point, is_exponent_mark, kind_of, Lexeme, Name, Colon, Table, Transition, Observation, Reward, Only, Body, Entry, Elements, StartWeights, topic, topic_of, begins_item, count_of, by_number, Preamble, is_mdp, dimensions, named, cells_in, forms, MayBeGiven, IsBody, ModelSoFar, IsComplete, for_each, table_word}
+use Rattle.std.proofs.Common.{◌≡◌, ◌∙◌, ℕ, zero, suc, ◌^◌, ◌<◌, ◌≤◌, ◌==◌, true, false, Some, List, [], ◌∷◌, ◌++◌, length, drop, codes}
+use Rattle.std.proofs.Common.{decimal, refl, sym, ap, subst, arith, append_assoc, append-nil}
+use Rattle.polcert_full_form.proofs.Common.{list_any, is_letter, is_name_byte, is_digit, is_point, is_exponent_mark, kind_of, Lexeme, Name}
+use Rattle.polcert_full_form.proofs.Common.{Colon, Table, Transition, Observation, Reward, Only, Body, Entry, Elements, StartWeights, topic}
+use Rattle.polcert_full_form.proofs.Common.{topic_of, begins_item, count_of, by_number, Preamble, is_mdp, dimensions, named, cells_in}
+use Rattle.polcert_full_form.proofs.Common.{forms, MayBeGiven, IsBody, ModelSoFar, IsComplete, for_each, table_word}
 use Rattle.polcert_cells.specs.declared.words.Topic.TheVariants.{Cells}
 use Rattle.polcert_cells.specs.Entry.{ArePlaces, IsEntry}
 use Rattle.polcert_cells.specs.Entry as entries
@@ -66,57 +70,75 @@ module _ (p : Preamble) (start : StartWeights) (room : HasRoom p) where
   PrintsEntries text new = (es : List Entry) → Prints text (known_of p start es) (known_of p start (es ++ new))
 
   pub no_entries : PrintsEntries [] []
-  no_entries es = subst (λ xs. Prints [] (known_of p start es) (known_of p start xs)) (sym (append-nil es)) (prints_nothing (known_of p start es))
+  no_entries es = subst (λ xs. Prints [] (known_of p start es) (known_of p start xs)) (sym (append-nil es))
+      (prints_nothing (known_of p start es))
 
   pub entries_then : (s t : List ℕ) (xs ys : List Entry) → PrintsEntries s xs → PrintsEntries t ys → PrintsEntries (s ++ t) (xs ++ ys)
   entries_then s t xs ys a b es = grind (arith, append_assoc, prints_then)
 
-  pub entries_each : (n : ℕ) (f : ℕ → List ℕ) (g : ℕ → List Entry) → ((i : ℕ) → i < n → PrintsEntries (f i) (g i)) → PrintsEntries (for_each n f) (for_each n g)
+  pub entries_each : (n : ℕ) (f : ℕ → List ℕ) (g : ℕ → List Entry) → ((i : ℕ) → i < n → PrintsEntries (f i) (g i))
+      → PrintsEntries (for_each n f) (for_each n g)
   entries_each zero f g h = no_entries
-  entries_each (suc n) f g h = entries_then (for_each n f) (f n) (for_each n g) (g n) (entries_each n f g (λ i l. h i (omega (arith, l)))) (h n (omega arith))
+  entries_each (suc n) f g h = entries_then (for_each n f) (f n) (for_each n g) (g n) (entries_each n f g (λ i l. h i (omega (arith, l))))
+      (h n (omega arith))
 
   -- ---- one entry
-  right_entry : (table : Table) (word : Lexeme) (body : List Lexeme) (e : Entry) (es : List Entry) → word.kind ≡ Name → word.bytes ≡ letter table → list_any begins_item body ≡ false
+  right_entry : (table : Table) (word : Lexeme) (body : List Lexeme) (e : Entry) (es : List Entry) → word.kind ≡ Name
+      → word.bytes ≡ letter table → list_any begins_item body ≡ false
       → MayBeGiven p table → IsEntry p table body e → AreItems (word ∷ body) (known_of p start es) (known_of p start (es ++ e ∷ []))
   right_entry table word body e es k b none given a =
-      one_item word body (Cells table) (known_of p start es) (known_of p start (es ++ e ∷ [])) (letter_topic table word k b) none (texts.entry (complete p start es room) given a (printable_cells p (es ++ e ∷ []) room.printable))
+      one_item word body (Cells table) (known_of p start es) (known_of p start (es ++ e ∷ [])) (letter_topic table word k b) none
+      (texts.entry (complete p start es room) given a (printable_cells p (es ++ e ∷ []) room.printable))
 
   -- two places before a body
-  pub two_places : (table : Table) (a s : ℕ) (column names : List Elements) (body : Body) → MayBeGiven p table → dimensions p table ≡ p.actions ∷ p.states ∷ column → named p table ≡ p.actions ∷ p.states ∷ names → a < count_of p.actions → s < count_of p.states
+  pub two_places : (table : Table) (a s : ℕ) (column names : List Elements) (body : Body) → MayBeGiven p table
+      → dimensions p table ≡ p.actions ∷ p.states ∷ column → named p table ≡ p.actions ∷ p.states ∷ names → a < count_of p.actions
+      → s < count_of p.states
       → a < 2 ^ 64 → s < 2 ^ 64 → list_any (λ n. n == 2) (forms (is_mdp p) table body) ≡ true
-      → (rest : List Lexeme) → IsBody (cells_in column) rest body → list_any begins_item rest ≡ false → (p0 p1 p2 p3 p4 : ℕ) (es : List Entry)
-      → AreItems (name_at p0 (letter table) ∷ colon_at p1 ∷ numeral_at p2 (decimal a) ∷ colon_at p3 ∷ numeral_at p4 (decimal s) ∷ rest) (known_of p start es)
+      → (rest : List Lexeme) → IsBody (cells_in column) rest body → list_any begins_item rest ≡ false
+      → (p0 p1 p2 p3 p4 : ℕ) (es : List Entry)
+      → AreItems (name_at p0 (letter table) ∷ colon_at p1 ∷ numeral_at p2 (decimal a) ∷ colon_at p3 ∷ numeral_at p4 (decimal s) ∷ rest)
+      (known_of p start es)
       (known_of p start (es ++ record { table = table; places = Only a ∷ Only s ∷ []; body = body } ∷ []))
   two_places table a s column names body given dims names_are l k al sl form rest b none p0 p1 p2 p3 p4 es =
-      right_entry table (name_at p0 (letter table)) _ (record { table = table; places = Only a ∷ Only s ∷ []; body = body }) es refl refl none given
+      right_entry table (name_at p0 (letter table)) _ (record { table = table; places = Only a ∷ Only s ∷ []; body = body }) es refl refl
+      none given
       (record {
         pattern = colon_at p1 ∷ numeral_at p2 (decimal a) ∷ colon_at p3 ∷ numeral_at p4 (decimal s) ∷ [];
         rest = rest;
         whole = refl;
         table_is = refl;
         form = form;
-        places = subst (λ ds. ArePlaces ds (colon_at p1 ∷ numeral_at p2 (decimal a) ∷ colon_at p3 ∷ numeral_at p4 (decimal s) ∷ []) (Only a ∷ Only s ∷ [])) (sym names_are)
+        places = subst (λ ds. ArePlaces ds (colon_at p1 ∷ numeral_at p2 (decimal a) ∷ colon_at p3 ∷ numeral_at p4 (decimal s) ∷ [])
+            (Only a ∷ Only s ∷ [])) (sym names_are)
             (entries.more refl (by_number (whole_at p2 a al) l) (entries.more refl (by_number (whole_at p4 s sl) k) entries.none));
         body = subst (λ ds. IsBody (cells_in (drop 2 ds)) rest body) (sym dims) b;
       })
 
   -- three places before a body
-  pub three_places : (table : Table) (a s c : ℕ) (column : Elements) (more names : List Elements) (body : Body) → MayBeGiven p table → dimensions p table ≡ p.actions ∷ p.states ∷ column ∷ more
+  pub three_places : (table : Table) (a s c : ℕ) (column : Elements) (more names : List Elements) (body : Body) → MayBeGiven p table
+      → dimensions p table ≡ p.actions ∷ p.states ∷ column ∷ more
       → named p table ≡ p.actions ∷ p.states ∷ column ∷ names
       → a < count_of p.actions → s < count_of p.states → c < count_of column
       → a < 2 ^ 64 → s < 2 ^ 64 → c < 2 ^ 64 → list_any (λ n. n == 3) (forms (is_mdp p) table body) ≡ true
-      → (rest : List Lexeme) → IsBody (cells_in more) rest body → list_any begins_item rest ≡ false → (p0 p1 p2 p3 p4 p5 p6 : ℕ) (es : List Entry)
-      → AreItems (name_at p0 (letter table) ∷ colon_at p1 ∷ numeral_at p2 (decimal a) ∷ colon_at p3 ∷ numeral_at p4 (decimal s) ∷ colon_at p5 ∷ numeral_at p6 (decimal c) ∷ rest) (known_of p start es)
+      → (rest : List Lexeme) → IsBody (cells_in more) rest body → list_any begins_item rest ≡ false
+      → (p0 p1 p2 p3 p4 p5 p6 : ℕ) (es : List Entry)
+      → AreItems (name_at p0 (letter table) ∷ colon_at p1 ∷ numeral_at p2 (decimal a) ∷ colon_at p3 ∷ numeral_at p4 (decimal s) ∷ colon_at
+      p5 ∷ numeral_at p6 (decimal c) ∷ rest) (known_of p start es)
       (known_of p start (es ++ record { table = table; places = Only a ∷ Only s ∷ Only c ∷ []; body = body } ∷ []))
   three_places table a s c column more names body given dims names_are l k d al sl cl form rest b none p0 p1 p2 p3 p4 p5 p6 es =
-      right_entry table (name_at p0 (letter table)) _ (record { table = table; places = Only a ∷ Only s ∷ Only c ∷ []; body = body }) es refl refl none given
+      right_entry table (name_at p0 (letter table)) _ (record { table = table; places = Only a ∷ Only s ∷ Only c ∷ []; body = body }) es
+      refl refl none given
       (record {
-        pattern = colon_at p1 ∷ numeral_at p2 (decimal a) ∷ colon_at p3 ∷ numeral_at p4 (decimal s) ∷ colon_at p5 ∷ numeral_at p6 (decimal c) ∷ [];
+        pattern = colon_at p1 ∷ numeral_at p2 (decimal a) ∷ colon_at p3 ∷ numeral_at p4 (decimal s) ∷ colon_at p5 ∷ numeral_at p6
+            (decimal c) ∷ [];
         rest = rest;
         whole = refl;
         table_is = refl;
         form = form;
-        places = subst (λ ds. ArePlaces ds (colon_at p1 ∷ numeral_at p2 (decimal a) ∷ colon_at p3 ∷ numeral_at p4 (decimal s) ∷ colon_at p5 ∷ numeral_at p6 (decimal c) ∷ []) (Only a ∷ Only s ∷ Only c ∷ [])) (sym names_are)
-            (entries.more refl (by_number (whole_at p2 a al) l) (entries.more refl (by_number (whole_at p4 s sl) k) (entries.more refl (by_number (whole_at p6 c cl) d) entries.none)));
+        places = subst (λ ds. ArePlaces ds (colon_at p1 ∷ numeral_at p2 (decimal a) ∷ colon_at p3 ∷ numeral_at p4 (decimal s) ∷ colon_at p5
+            ∷ numeral_at p6 (decimal c) ∷ []) (Only a ∷ Only s ∷ Only c ∷ [])) (sym names_are)
+            (entries.more refl (by_number (whole_at p2 a al) l)
+            (entries.more refl (by_number (whole_at p4 s sl) k) (entries.more refl (by_number (whole_at p6 c cl) d) entries.none)));
         body = subst (λ ds. IsBody (cells_in (drop 3 ds)) rest body) (sym dims) b;
       })

@@ -1,13 +1,17 @@
 -- Texts that are whole items, each right after those before it.
-use Rattle.std.proofs.Common.{◌≡◌, ◌∙◌, ℕ, ◌+◌, ◌≤◌, false, Some, None, List, [], ◌∷◌, ◌++◌, length, flat_map, All, refl, sym, ap, subst, append-nil, arith}
-use Rattle.polcert_full_form.proofs.Common.{list_any, All-cons, All-nil, Lexeme, IsCut, text_limit, Topic, topic, begins_item, Item, lexemes_of, Preamble, Meaning, meaning_of, IsSame, HasProperRows, ModelSoFar, nothing_known, IsComplete, IsRight, AreRight, IsModelText}
+use Rattle.std.proofs.Common.{◌≡◌, ◌∙◌, ℕ, ◌+◌, ◌≤◌, false, Some, None, List, [], ◌∷◌, ◌++◌, length, flat_map, All, refl, sym, ap, subst}
+use Rattle.std.proofs.Common.{append-nil, arith}
+use Rattle.polcert_full_form.proofs.Common.{list_any, All-cons, All-nil, Lexeme, IsCut, text_limit, Topic, topic, begins_item, Item}
+use Rattle.polcert_full_form.proofs.Common.{lexemes_of, Preamble, Meaning, meaning_of, IsSame, HasProperRows, ModelSoFar, nothing_known}
+use Rattle.polcert_full_form.proofs.Common.{IsComplete, IsRight, AreRight, IsModelText}
 use Rattle.std.proofs.lemmas.List.Elements.{All-append}
 use Rattle.polcert_text.proofs.Scanning.CleanCut.{tokens_from}
 use Rattle.polcert_format.specs.Items.{IsItem}
 use Rattle.polcert_format.specs.Text as texts
 use Rattle.polcert_format.proofs.Dividing.{all_append, begins}
 use Rattle.polcert_format.proofs.RightItems.{append_right}
-use Rattle.polcert_text.proofs.Printing.PrintedCut.{Printed, text_of, lexemes_at, ArePrinted, rest_at, cut_printed, text-append, lexemes-append, printed-append}
+use Rattle.polcert_text.proofs.Printing.PrintedCut.{Printed, text_of, lexemes_at, ArePrinted, rest_at, cut_printed, text-append}
+use Rattle.polcert_text.proofs.Printing.PrintedCut.{lexemes-append, printed-append}
 
 -- the lexemes are these right items
 pub record AreItems (ls : List Lexeme) (k next : ModelSoFar) : Type 0 where
@@ -43,7 +47,8 @@ pub prints_then : (s t : List ℕ) (k m n : ModelSoFar) → Prints s k m → Pri
 prints_then s t k m n a b = grind (arith, text-append, lexemes-append, printed-append, items_then)
 
 -- one item
-pub one_item : (word : Lexeme) (body : List Lexeme) (t : Topic) (k next : ModelSoFar) → topic word ≡ Some t → list_any begins_item body ≡ false → IsRight k t body next → AreItems (word ∷ body) k next
+pub one_item : (word : Lexeme) (body : List Lexeme) (t : Topic) (k next : ModelSoFar) → topic word ≡ Some t
+    → list_any begins_item body ≡ false → IsRight k t body next → AreItems (word ∷ body) k next
 one_item word body t k next e none right =
     let item : Item = record { word = word; body = body } in
     record {
@@ -54,19 +59,27 @@ one_item word body t k next e none right =
     }
 
 -- the text of a model, from its items
-pub text_from_items : (text : List ℕ) (m : Meaning) (p : Preamble) (k : ModelSoFar) → length text ≤ text_limit → Prints text nothing_known k → IsComplete k p
+pub text_from_items : (text : List ℕ) (m : Meaning) (p : Preamble) (k : ModelSoFar) → length text ≤ text_limit → Prints text nothing_known k
+    → IsComplete k p
     → IsSame m (meaning_of p k.start k.entries) → HasProperRows m → IsModelText text m
 text_from_items text m p k short prints complete same rows =
     let us = prints.lexemes in
     let found = prints.items 0 in
-    let cut : IsCut (rest_at 0 text) (lexemes_at 0 us) None = subst (λ bs. IsCut (rest_at 0 bs) (lexemes_at 0 us) None) prints.text_is (cut_printed us 0 [] prints.printed refl) in
+    let cut : IsCut (rest_at 0 text) (lexemes_at 0 us) None =
+    subst (λ bs. IsCut (rest_at 0 bs) (lexemes_at 0 us) None) prints.text_is (cut_printed us 0 [] prints.printed refl) in
     record {
       lexemes = lexemes_at 0 us;
       tokens = record { short = short; each = tokens_from (rest_at 0 text) (lexemes_at 0 us) cut };
       denotes = record {
         preamble = p;
         known = k;
-        right = record { items = found.items; divided = record { whole = found.whole; no_word = refl; each = found.each }; right = found.right; complete = complete };
+        right = record {
+          items = found.items;
+          divided = record { whole = found.whole; no_word = refl; each = found.each };
+          right =
+              found.right;
+          complete = complete;
+        };
         same = same;
         rows = rows;
       };

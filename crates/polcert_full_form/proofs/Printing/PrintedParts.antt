@@ -1,9 +1,17 @@
 -- The lines of the full form, as a printer puts them together.
-use Rattle.std.proofs.Common.{◌≡◌, ◌∙◌, ℕ, zero, suc, ◌+◌, ◌/◌, ◌==◌, ◌<◌, ◌≤◌, ◌||◌, ◌&&◌, Bool, true, false, cond, if◌then◌else◌, ⊎_elim, List, [], ◌∷◌, ◌++◌, length, get_or, map, filter, flat_map, sum, ℤ, pos, decimal, codes, refl, sym, ap, arith, append_assoc, append-nil, zero-add}
-use Rattle.polcert_full_form.proofs.Common.{list_all, range_with_len, nat_tests, sum_by-cons, line, scaled_text, Table, Observation, Reward, Elements, one, StartWeights, is_mdp, Meaning, states_of, actions_of, observations_of, for_each, values, all_below, millionths_text, element_words, observations_line, preamble_text, chosen, is_whole, is_choice, start_text, table_word, row_words, is_uniform, is_decimal, cell_text, row_text, observations_text, written, is_zero, reward_words, rewards_row, rewards_from, after_blank, values_line, name_text, share_of}
+use Rattle.std.proofs.Common.{◌≡◌, ◌∙◌, ℕ, zero, suc, ◌+◌, ◌/◌, ◌==◌, ◌<◌, ◌≤◌, ◌||◌, ◌&&◌, Bool, true, false, cond, if◌then◌else◌, ⊎_elim}
+use Rattle.std.proofs.Common.{List, [], ◌∷◌, ◌++◌, length, get_or, map, filter, flat_map, sum, ℤ, pos, decimal, codes, refl, sym, ap, arith}
+use Rattle.std.proofs.Common.{append_assoc, append-nil, zero-add}
+use Rattle.polcert_full_form.proofs.Common.{list_all, range_with_len, nat_tests, sum_by-cons, line, scaled_text, Table, Observation, Reward}
+use Rattle.polcert_full_form.proofs.Common.{Elements, one, StartWeights, is_mdp, Meaning, states_of, actions_of, observations_of, for_each}
+use Rattle.polcert_full_form.proofs.Common.{values, all_below, millionths_text, element_words, observations_line, preamble_text, chosen}
+use Rattle.polcert_full_form.proofs.Common.{is_whole, is_choice, start_text, table_word, row_words, is_uniform, is_decimal, cell_text}
+use Rattle.polcert_full_form.proofs.Common.{row_text, observations_text, written, is_zero, reward_words, rewards_row, rewards_from}
+use Rattle.polcert_full_form.proofs.Common.{after_blank, values_line, name_text, share_of}
 use Rattle.std.proofs.lemmas.List.FromFn.{length-range_with_len, get_or-range_with_len}
 use Rattle.std.proofs.lemmas.List.Sums.{get_or-le-sum_by}
-use Rattle.polcert_full_form.specs.Steps.Printing.{settings_text, elements_line, chosen_text, share_text, pattern_text, blank_before, body_text, reward_rows}
+use Rattle.polcert_full_form.specs.Steps.Printing.{settings_text, elements_line, chosen_text, share_text, pattern_text, blank_before}
+use Rattle.polcert_full_form.specs.Steps.Printing.{body_text, reward_rows}
 use Rattle.polcert_cells.proofs.Basics.{is_true_or_false, true≢false, and_true}
 use Rattle.polcert_full_form.proofs.Denoting.RowEntries.{test_below, test_same, test_itself}
 use Rattle.polcert_full_form.proofs.Denoting.SameForms.{same_for_each}
@@ -11,7 +19,8 @@ use Rattle.polcert_full_form.proofs.Printing.LineLoops as lines
 
 -- ---- tests of all below a bound
 pub test_fails : (n k : ℕ) (test : ℕ → Bool) → k < n → test k ≡ false → false ≡ all_below n test
-test_fails n k test l e = ⊎_elim (λ all. absurd (true≢false (test_below n k test all l) e)) (λ none. sym none) (is_true_or_false (all_below n test))
+test_fails n k test l e = ⊎_elim (λ all. absurd (true≢false (test_below n k test all l) e)) (λ none. sym none)
+    (is_true_or_false (all_below n test))
 
 pub test_more : (k : ℕ) (test : ℕ → Bool) → true ≡ all_below k test → test k ≡ true → true ≡ all_below (k + 1) test
 test_more k test before here = grind arith
@@ -42,13 +51,16 @@ words_line w ws = ap (λ bs. w ++ bs ++ codes "\n") (sym (flat_each after_blank 
 pub elements_is : (w : List ℕ) (elements : Elements) → elements_line w elements ≡ line (w ∷ element_words elements)
 elements_is w elements = grind (arith, append_assoc, words_line)
 
-pub preamble_is : (m : Meaning) → settings_text m ++ elements_line (codes "states:") m.preamble.states ++ elements_line (codes "actions:") m.preamble.actions
+pub preamble_is : (m : Meaning) → settings_text m ++ elements_line (codes "states:") m.preamble.states ++ elements_line (codes "actions:")
+    m.preamble.actions
     ++ observations_line m.preamble.observations ≡ preamble_text m
-preamble_is m = λ i. settings m.preamble.costs i ++ elements_is (codes "states:") m.preamble.states i ++ elements_is (codes "actions:") m.preamble.actions i
+preamble_is m = λ i. settings m.preamble.costs i ++ elements_is (codes "states:") m.preamble.states i ++ elements_is (codes "actions:")
+    m.preamble.actions i
     ++ observations_line m.preamble.observations
   where
     settings : (costs : Bool) → codes "discount: " ++ millionths_text m.preamble.discount ++ codes "\n" ++ values_line costs
-        ≡ line (codes "discount:" ∷ millionths_text m.preamble.discount ∷ []) ++ line (codes "values:" ∷ (if costs then codes "cost" else codes "reward") ∷ [])
+        ≡ line (codes "discount:" ∷ millionths_text m.preamble.discount ∷ []) ++ line
+        (codes "values:" ∷ (if costs then codes "cost" else codes "reward") ∷ [])
     settings true = simp append_assoc
     settings false = simp append_assoc
 
@@ -68,36 +80,47 @@ numbers_line (suc n) f some =
     next i = omega arith
 
 -- ---- rows of T and O
-pub row_is : (table : Table) (a s n : ℕ) (w : ℕ → ℕ) → pattern_text table (a ∷ s ∷ []) ++ codes "\n" ++ body_text table a s n w ≡ row_text table a s n w
+pub row_is : (table : Table) (a s n : ℕ) (w : ℕ → ℕ)
+    → pattern_text table (a ∷ s ∷ []) ++ codes "\n" ++ body_text table a s n w ≡ row_text table a s n w
 row_is table a s n w = grind (arith, append_assoc)
 
 flat : (t b a m s c : List ℕ) → t ++ ((b ++ a ++ (m ++ s)) ++ (m ++ c)) ≡ t ++ b ++ a ++ m ++ s ++ m ++ c
 flat t b a m s c = simp append_assoc
 
-three_indices : (table : Table) (a s c : ℕ) → pattern_text table (a ∷ s ∷ c ∷ []) ≡ table_word table ++ codes " " ++ decimal a ++ codes " : " ++ decimal s ++ codes " : " ++ decimal c
+three_indices : (table : Table) (a s c : ℕ) → pattern_text table (a ∷ s ∷ c ∷ [])
+    ≡ table_word table ++ codes " " ++ decimal a ++ codes " : " ++ decimal s ++ codes " : " ++ decimal c
 three_indices table a s c = flat (table_word table) (codes " ") (decimal a) (codes " : ") (decimal s) (decimal c)
 
 pub cell_is : (table : Table) (a s c q : ℕ) → pattern_text table (a ∷ s ∷ c ∷ []) ++ codes " " ++ millionths_text q ++ codes "\n"
     ≡ line (row_words table a s ++ codes ":" ∷ decimal c ∷ millionths_text q ∷ [])
-cell_is table a s c q = ap (λ bs. bs ++ codes " " ++ millionths_text q ++ codes "\n") (three_indices table a s c) ∙ sym (lines.cell_line_is table a s c q)
+cell_is table a s c q = ap (λ bs. bs ++ codes " " ++ millionths_text q ++ codes "\n") (three_indices table a s c)
+    ∙ sym (lines.cell_line_is table a s c q)
 
 module _ (table : Table) (a s n : ℕ) (w : ℕ → ℕ) where
   pub body_uniform : is_uniform n w ≡ true → codes "uniform\n" ≡ body_text table a s n w
-  body_uniform e = sym (ap (λ b. cond b (line (codes "uniform" ∷ [])) (cond (is_decimal n w) (line (values n (λ c. millionths_text (w c / n)))) (line (codes "uniform" ∷ []) ++ for_each n (cell_text table a s n w)))) e)
+  body_uniform e = sym (ap (λ b. cond b (line (codes "uniform" ∷ []))
+      (cond (is_decimal n w) (line (values n (λ c. millionths_text (w c / n))))
+      (line (codes "uniform" ∷ []) ++ for_each n (cell_text table a s n w)))) e)
 
-  body_other : (d : Bool) → is_uniform n w ≡ false → is_decimal n w ≡ d → cond d (line (values n (λ c. millionths_text (w c / n)))) (line (codes "uniform" ∷ []) ++ for_each n (cell_text table a s n w)) ≡ body_text table a s n w
+  body_other : (d : Bool) → is_uniform n w ≡ false → is_decimal n w ≡ d
+      → cond d (line (values n (λ c. millionths_text (w c / n)))) (line (codes "uniform" ∷ []) ++ for_each n (cell_text table a s n w))
+      ≡ body_text table a s n w
   body_other d e f = grind arith
 
-  pub body_decimal : is_uniform n w ≡ false → is_decimal n w ≡ true → 0 < n → for_each n (λ c. blank_before c ++ millionths_text (w c / n)) ++ codes "\n" ≡ body_text table a s n w
+  pub body_decimal : is_uniform n w ≡ false → is_decimal n w ≡ true → 0 < n
+      → for_each n (λ c. blank_before c ++ millionths_text (w c / n)) ++ codes "\n" ≡ body_text table a s n w
   body_decimal e f some = numbers_line n (λ c. millionths_text (w c / n)) some ∙ body_other true e f
 
-  pub body_cells : is_uniform n w ≡ false → is_decimal n w ≡ false → codes "uniform\n" ++ for_each n (cell_text table a s n w) ≡ body_text table a s n w
+  pub body_cells : is_uniform n w ≡ false → is_decimal n w ≡ false
+      → codes "uniform\n" ++ for_each n (cell_text table a s n w) ≡ body_text table a s n w
   body_cells e f = body_other false e f
 
   pub cell_uniform : (c : ℕ) → w c ≡ one → [] ≡ cell_text table a s n w c
-  cell_uniform c e = sym (ap (λ x. cond (x == one) [] (line (row_words table a s ++ codes ":" ∷ decimal c ∷ millionths_text (x / n) ∷ []))) e)
+  cell_uniform c e = sym (ap (λ x. cond (x == one) [] (line (row_words table a s ++ codes ":" ∷ decimal c ∷ millionths_text (x / n) ∷ [])))
+      e)
 
-  pub cell_single : (c : ℕ) → (w c == one) ≡ false → line (row_words table a s ++ codes ":" ∷ decimal c ∷ millionths_text (w c / n) ∷ []) ≡ cell_text table a s n w c
+  pub cell_single : (c : ℕ) → (w c == one) ≡ false → line (row_words table a s ++ codes ":" ∷ decimal c ∷ millionths_text (w c / n) ∷ [])
+      ≡ cell_text table a s n w c
   cell_single c e = sym (ap (λ b. cond b [] (line (row_words table a s ++ codes ":" ∷ decimal c ∷ millionths_text (w c / n) ∷ []))) e)
 
 -- ---- rewards
@@ -107,47 +130,62 @@ cell_head a s e = ap (λ bs. bs ++ codes "\n") (three_indices Reward a s e) ∙ 
 pub row_head : (a s : ℕ) → pattern_text Reward (a ∷ s ∷ []) ++ codes "\n" ≡ line (row_words Reward a s)
 row_head a s = simp append_assoc
 
-pub paid_is : (costs : Bool) (indices : List ℕ) (words : List (List ℕ)) (n : ℕ) (r : ℕ → ℤ) → pattern_text Reward indices ++ codes "\n" ≡ line words
+pub paid_is : (costs : Bool) (indices : List ℕ) (words : List (List ℕ)) (n : ℕ) (r : ℕ → ℤ)
+    → pattern_text Reward indices ++ codes "\n" ≡ line words
     → 0 < n → all_below n (λ z. is_zero (r z)) ≡ false
-    → pattern_text Reward indices ++ codes "\n" ++ for_each n (λ z. blank_before z ++ scaled_text (written costs (r z))) ++ codes "\n" ≡ rewards_row costs words n r
+    → pattern_text Reward indices ++ codes "\n" ++ for_each n (λ z. blank_before z ++ scaled_text (written costs (r z))) ++ codes "\n"
+    ≡ rewards_row costs words n r
 paid_is costs indices words n r head some f =
     ap (λ bs. bs ++ for_each n (λ z. blank_before z ++ scaled_text (written costs (r z))) ++ codes "\n") head
     ∙ append_assoc (line words) (for_each n (λ z. blank_before z ++ scaled_text (written costs (r z)))) (codes "\n")
     ∙ ap (λ bs. line words ++ bs) (numbers_line n (λ z. scaled_text (written costs (r z))) some)
     ∙ sym (ap (λ b. cond b [] (line words ++ line (values n (λ z. scaled_text (written costs (r z)))))) f)
 
-pub unpaid_is : (costs : Bool) (words : List (List ℕ)) (n : ℕ) (r : ℕ → ℤ) → all_below n (λ z. is_zero (r z)) ≡ true → [] ≡ rewards_row costs words n r
+pub unpaid_is : (costs : Bool) (words : List (List ℕ)) (n : ℕ) (r : ℕ → ℤ) → all_below n (λ z. is_zero (r z)) ≡ true
+    → [] ≡ rewards_row costs words n r
 unpaid_is costs words n r f = sym (ap (λ b. cond b [] (line words ++ line (values n (λ z. scaled_text (written costs (r z)))))) f)
 
 pub all_zero : (n : ℕ) (q : ℕ → ℤ) → ((z : ℕ) → z < n → q z ≡ pos 0) → all_below n (λ z. is_zero (q z)) ≡ true
 all_zero zero q h = refl
-all_zero (suc n) q h = let before = all_zero n q (λ z l. h z (omega (arith, l))) in let here = h n (omega arith) in λ i. before i && is_zero (here i)
+all_zero (suc n) q h = let before = all_zero n q (λ z l. h z (omega (arith, l))) in let here = h n (omega arith) in
+    λ i. before i && is_zero (here i)
 
 -- no row is written where there are no rewards
-none_in_rows : (costs : Bool) (a s n k : ℕ) (r : ℕ → ℕ → ℤ) → ((e z : ℕ) → e < k → z < n → r e z ≡ pos 0) → [] ≡ for_each k (λ e. rewards_row costs (reward_words a s e) n (r e))
+none_in_rows : (costs : Bool) (a s n k : ℕ) (r : ℕ → ℕ → ℤ) → ((e z : ℕ) → e < k → z < n → r e z ≡ pos 0)
+    → [] ≡ for_each k (λ e. rewards_row costs (reward_words a s e) n (r e))
 none_in_rows costs a s n zero r h = refl
 none_in_rows costs a s n (suc k) r h = grind (arith, unpaid_is, all_zero, none_in_rows costs a s n k r)
 
 pub none_paid : (mdp costs : Bool) (a s n k : ℕ) (r : ℕ → ℕ → ℤ) → 0 < n → ((e z : ℕ) → e < k → z < n → r e z ≡ pos 0)
-    → [] ≡ (if mdp then rewards_row costs (row_words Reward a s) k (λ e. r e 0) else for_each k (λ e. rewards_row costs (reward_words a s e) n (r e)))
+    → [] ≡ (if mdp then rewards_row costs (row_words Reward a s) k (λ e. r e 0) else for_each k
+    (λ e. rewards_row costs (reward_words a s e) n (r e)))
 none_paid mdp costs a s n k r h1 h2 = grind (arith, all_zero, none_in_rows)
 
 -- ---- what an MDP has, and what it leaves out
 module _ (m : Meaning) where
   pub no_observations : is_mdp m.preamble ≡ true → [] ≡ observations_text m
-  no_observations e = sym (ap (λ b. cond b [] (for_each (actions_of m) (λ a. for_each (states_of m) (λ s. row_text Observation a s (observations_of m) (m.o a s))))) e)
+  no_observations e = sym (ap
+      (λ b. cond b [] (for_each (actions_of m) (λ a. for_each (states_of m) (λ s. row_text Observation a s (observations_of m) (m.o a s)))))
+      e)
 
-  pub some_observations : is_mdp m.preamble ≡ false → for_each (actions_of m) (λ a. for_each (states_of m) (λ s. row_text Observation a s (observations_of m) (m.o a s))) ≡ observations_text m
-  some_observations e = sym (ap (λ b. cond b [] (for_each (actions_of m) (λ a. for_each (states_of m) (λ s. row_text Observation a s (observations_of m) (m.o a s))))) e)
+  pub some_observations : is_mdp m.preamble ≡ false → for_each (actions_of m)
+      (λ a. for_each (states_of m) (λ s. row_text Observation a s (observations_of m) (m.o a s))) ≡ observations_text m
+  some_observations e = sym (ap
+      (λ b. cond b [] (for_each (actions_of m) (λ a. for_each (states_of m) (λ s. row_text Observation a s (observations_of m) (m.o a s)))))
+      e)
 
-  pub end_rewards_are : (a s : ℕ) → is_mdp m.preamble ≡ true → rewards_row m.preamble.costs (row_words Reward a s) (states_of m) (λ e. m.r a s e 0) ≡ rewards_from m a s
-  end_rewards_are a s e = sym (ap (λ b. cond b (rewards_row m.preamble.costs (row_words Reward a s) (states_of m) (λ e. m.r a s e 0)) (reward_rows m a s)) e)
+  pub end_rewards_are : (a s : ℕ) → is_mdp m.preamble ≡ true
+      → rewards_row m.preamble.costs (row_words Reward a s) (states_of m) (λ e. m.r a s e 0) ≡ rewards_from m a s
+  end_rewards_are a s e = sym (ap (λ b. cond b (rewards_row m.preamble.costs (row_words Reward a s) (states_of m) (λ e. m.r a s e 0))
+      (reward_rows m a s)) e)
 
   pub reward_rows_are : (a s : ℕ) → is_mdp m.preamble ≡ false → reward_rows m a s ≡ rewards_from m a s
-  reward_rows_are a s e = sym (ap (λ b. cond b (rewards_row m.preamble.costs (row_words Reward a s) (states_of m) (λ e. m.r a s e 0)) (reward_rows m a s)) e)
+  reward_rows_are a s e = sym (ap (λ b. cond b (rewards_row m.preamble.costs (row_words Reward a s) (states_of m) (λ e. m.r a s e 0))
+      (reward_rows m a s)) e)
 
 -- ---- the start
-chosen_parts : (picks : ℕ → Bool) (xs : List ℕ) → flat_map (λ s. cond (picks s) (after_blank (decimal s)) []) xs ≡ flat_map after_blank (map decimal (filter picks xs))
+chosen_parts : (picks : ℕ → Bool) (xs : List ℕ) → flat_map (λ s. cond (picks s) (after_blank (decimal s)) []) xs
+    ≡ flat_map after_blank (map decimal (filter picks xs))
 chosen_parts picks [] = refl
 chosen_parts picks (x ∷ xs) = grind (arith, chosen_parts picks xs)
 
@@ -172,36 +210,46 @@ module _ (start : StartWeights) (n : ℕ) (count : length start.weights ≡ n) (
   whole_if e = grind (arith, sum_ones, all_shares)
 
   pub start_whole : all_below n (λ s. share_of start s == 1) ≡ true → codes "start: uniform\n" ≡ start_text start
-  start_whole e = sym (ap (λ b. cond b (line (codes "start:" ∷ codes "uniform" ∷ [])) (cond (is_choice start) (line (codes "start" ∷ codes "include:" ∷ map decimal (chosen start))) (line (codes "start:" ∷ map millionths_text start.weights)))) (whole_if e))
+  start_whole e = sym (ap (λ b. cond b (line (codes "start:" ∷ codes "uniform" ∷ []))
+      (cond (is_choice start) (line (codes "start" ∷ codes "include:" ∷ map decimal (chosen start)))
+      (line (codes "start:" ∷ map millionths_text start.weights)))) (whole_if e))
 
   other : (c : Bool) → all_below n (λ s. share_of start s == 1) ≡ false → is_choice start ≡ c
-      → cond c (line (codes "start" ∷ codes "include:" ∷ map decimal (chosen start))) (line (codes "start:" ∷ map millionths_text start.weights)) ≡ start_text start
+      → cond c (line (codes "start" ∷ codes "include:" ∷ map decimal (chosen start)))
+      (line (codes "start:" ∷ map millionths_text start.weights)) ≡ start_text start
   other c e f = grind (arith, all_shares)
 
-  pub start_choice : all_below n (λ s. share_of start s == 1) ≡ false → all_below n (λ s. share_of start s == 0 || share_of start s == 1) ≡ true
+  pub start_choice : all_below n (λ s. share_of start s == 1) ≡ false
+      → all_below n (λ s. share_of start s == 0 || share_of start s == 1) ≡ true
       → codes "start include:" ++ for_each n (chosen_text start) ++ codes "\n" ≡ start_text start
   start_choice e f =
       let bits : list_all (λ w. w == 0 || w == 1) start.weights ≡ true = all_shares (λ w. w == 0 || w == 1) ∙ f in
       let yes : is_choice start ≡ true = (λ i. bits i && (ap (λ k. start.total == k) total ∙ test_itself start.total) i) in
       let parts : for_each n (chosen_text start) ≡ flat_map after_blank (map decimal (chosen start)) =
-      same_for_each n (chosen_text start) (λ i. chosen_text start (get_or (range_with_len 0 n) i 0)) (λ i l. ap (chosen_text start) (sym (get_or-range_with_len 0 n i 0 l ∙ zero-add i)))
+      same_for_each n (chosen_text start) (λ i. chosen_text start (get_or (range_with_len 0 n) i 0))
+      (λ i l. ap (chosen_text start) (sym (get_or-range_with_len 0 n i 0 l ∙ zero-add i)))
       ∙ ap (λ k. for_each k (λ i. chosen_text start (get_or (range_with_len 0 n) i 0))) (sym (length-range_with_len 0 n))
       ∙ sym (flat_each (chosen_text start) (range_with_len 0 n) 0)
       ∙ chosen_parts (λ s. share_of start s == 1) (range_with_len 0 n)
       ∙ ap (λ k. flat_map after_blank (map decimal (filter (λ s. share_of start s == 1) (range_with_len 0 k)))) (sym count) in
-      ap (λ bs. codes "start include:" ++ bs ++ codes "\n") parts ∙ sym (lines.line_is (codes "start include:") (map decimal (chosen start))) ∙ two_words (map decimal (chosen start)) ∙ other true e yes
+      ap (λ bs. codes "start include:" ++ bs ++ codes "\n") parts
+      ∙ sym (lines.line_is (codes "start include:") (map decimal (chosen start))) ∙ two_words (map decimal (chosen start))
+      ∙ other true e yes
     where
       two_words : (ws : List (List ℕ)) → line (codes "start include:" ∷ ws) ≡ line (codes "start" ∷ codes "include:" ∷ ws)
       two_words [] = refl
       two_words (w ∷ ws) = refl
 
-  pub start_shares : all_below n (λ s. share_of start s == 1) ≡ false → all_below n (λ s. share_of start s == 0 || share_of start s == 1) ≡ false
+  pub start_shares : all_below n (λ s. share_of start s == 1) ≡ false
+      → all_below n (λ s. share_of start s == 0 || share_of start s == 1) ≡ false
       → codes "start:" ++ for_each n (share_text start) ++ codes "\n" ≡ start_text start
   start_shares e f =
       let no : is_choice start ≡ false = ap (λ b. b && start.total == sum start.weights) (all_shares (λ w. w == 0 || w == 1) ∙ f) in
       let parts : for_each n (share_text start) ≡ flat_map after_blank (map millionths_text start.weights) =
-      ap (λ k. for_each k (share_text start)) (sym count) ∙ sym (flat_each (λ w. after_blank (millionths_text w)) start.weights 0) ∙ mapped millionths_text start.weights in
-      ap (λ bs. codes "start:" ++ bs ++ codes "\n") parts ∙ sym (lines.line_is (codes "start:") (map millionths_text start.weights)) ∙ other false e no
+      ap (λ k. for_each k (share_text start)) (sym count) ∙ sym (flat_each (λ w. after_blank (millionths_text w)) start.weights 0)
+      ∙ mapped millionths_text start.weights in
+      ap (λ bs. codes "start:" ++ bs ++ codes "\n") parts ∙ sym (lines.line_is (codes "start:") (map millionths_text start.weights))
+      ∙ other false e no
 
   -- no share is larger than one
   pub share_small : start.total ≤ one → (s : ℕ) → s < n → share_of start s ≤ one

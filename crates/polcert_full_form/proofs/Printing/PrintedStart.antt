@@ -1,6 +1,10 @@
 -- The printed start item is read as the start.
-use Rattle.std.proofs.Common.{◌≡◌, ◌∙◌, ℕ, zero, suc, ◌+◌, ◌<◌, ◌≤◌, ◌==◌, ◌||◌, ◌⊎◌, ⊎_elim, Bool, true, false, cond, List, [], ◌∷◌, length, get_or, map, filter, sum, codes, decimal, pos, refl, sym, ap, subst, arith}
-use Rattle.polcert_full_form.proofs.Common.{list_any, list_all, range_with_len, sum-map, sum_by-cons, scaled_text, Lexeme, Name, Numeral, Elements, StartWeights, Start, topic_of, begins_item, one, count_of, by_number, most_states, Preamble, equal_weights, all_states, is_level, shares_of, included, IsStart, IsStartBody, line, IsMillionthsStart, millionths_text, chosen, is_whole, is_choice, start_text}
+use Rattle.std.proofs.Common.{◌≡◌, ◌∙◌, ℕ, zero, suc, ◌+◌, ◌<◌, ◌≤◌, ◌==◌, ◌||◌, ◌⊎◌, ⊎_elim, Bool, true, false, cond, List, [], ◌∷◌}
+use Rattle.std.proofs.Common.{length, get_or, map, filter, sum, codes, decimal, pos, refl, sym, ap, subst, arith}
+use Rattle.polcert_full_form.proofs.Common.{list_any, list_all, range_with_len, sum-map, sum_by-cons, scaled_text, Lexeme, Name, Numeral}
+use Rattle.polcert_full_form.proofs.Common.{Elements, StartWeights, Start, topic_of, begins_item, one, count_of, by_number, most_states}
+use Rattle.polcert_full_form.proofs.Common.{Preamble, equal_weights, all_states, is_level, shares_of, included, IsStart, IsStartBody, line}
+use Rattle.polcert_full_form.proofs.Common.{IsMillionthsStart, millionths_text, chosen, is_whole, is_choice, start_text}
 use Rattle.std.specs.List.{AllZip}
 use Rattle.std.proofs.lemmas.List.FromFn.{fill_by_all}
 use Rattle.polcert_cells.specs.Elements.{StandsFor}
@@ -10,7 +14,8 @@ use Rattle.polcert_cells.proofs.Basics.{and_true, or_false_from}
 use Rattle.polcert_text.proofs.Printing.PrintedCut.{Printed, text_of, lexemes_at, ArePrinted}
 use Rattle.polcert_text.proofs.Printing.PrintedWords.{Word, plain, key, word_text, spelled_line, AreSpellings, text_line, line_printed}
 use Rattle.polcert_full_form.proofs.Writable.Printable.{HasRoom}
-use Rattle.polcert_full_form.proofs.Printing.PrintedNumbers.{whole_at, whole_piece, number_word, text_numbers, AreSmall, spells_numbers, numbers_at, numbers_inside}
+use Rattle.polcert_full_form.proofs.Printing.PrintedNumbers.{whole_at, whole_piece, number_word, text_numbers, AreSmall, spells_numbers}
+use Rattle.polcert_full_form.proofs.Printing.PrintedNumbers.{numbers_at, numbers_inside}
 use Rattle.polcert_full_form.proofs.Printing.NumberLines.{map_twice}
 use Rattle.polcert_full_form.proofs.Printing.PrintedItems.{AreItems, Prints, one_item}
 use Rattle.polcert_full_form.proofs.Printing.PrintedEntries.{known_of}
@@ -51,24 +56,29 @@ all_at test (w ∷ ws) (suc i) e l = all_at test ws i (and_true (test w) (list_a
 zero_or_one : (w : ℕ) → (w == 0 || w == 1) ≡ true → cond (w == 1) 1 0 ≡ w
 zero_or_one w h1 = grind arith
 
-shares_are : (start : StartWeights) (n : ℕ) (picks : ℕ → Bool) → length start.weights ≡ n → ((s : ℕ) → s < n → get_or start.weights s 0 ≡ cond (picks s) 1 0) → start.total ≡ sum start.weights
+shares_are : (start : StartWeights) (n : ℕ) (picks : ℕ → Bool) → length start.weights ≡ n
+    → ((s : ℕ) → s < n → get_or start.weights s 0 ≡ cond (picks s) 1 0) → start.total ≡ sum start.weights
     → start ≡ equal_weights n picks
 shares_are start n picks count weights total =
     let same : start.weights ≡ (equal_weights n picks).weights = fill_by_all (λ s. cond (picks s) 1 0) start.weights n 0 count weights in
-    let totals : start.total ≡ (equal_weights n picks).total = total ∙ ap sum same ∙ sum-map (λ s. cond (picks s) 1 0) (range_with_len 0 n) in
+    let totals : start.total ≡ (equal_weights n picks).total = total ∙ ap sum same
+    ∙ sum-map (λ s. cond (picks s) 1 0) (range_with_len 0 n) in
     λ i. record { weights = same i; total = totals i }
 
 -- the included states make the start
-chosen_start : (start : StartWeights) (n : ℕ) → is_choice start ≡ true → length start.weights ≡ n → start ≡ equal_weights n (included (chosen start))
+chosen_start : (start : StartWeights) (n : ℕ) → is_choice start ≡ true → length start.weights ≡ n
+    → start ≡ equal_weights n (included (chosen start))
 chosen_start start n e count =
     let both = and_true (list_all (λ w. w == 0 || w == 1) start.weights) (start.total == sum start.weights) e in
     shares_are start n (included (chosen start)) count
     (λ s l. let inside : s < length start.weights = omega (arith, l, count) in
     sym (zero_or_one (get_or start.weights s 0) (all_at (λ w. w == 0 || w == 1) start.weights s both.0 inside))
-    ∙ ap (λ b. cond b 1 0) (sym (listed_is (λ s. get_or start.weights s 0 == 1) 0 (length start.weights) s (omega arith) (omega (arith, inside)))))
+    ∙ ap (λ b. cond b 1 0) (sym (listed_is (λ s. get_or start.weights s 0 == 1) 0 (length start.weights) s (omega arith)
+    (omega (arith, inside)))))
     (test_same start.total (sum start.weights) both.1)
 
-whole_start : (start : StartWeights) (states : Elements) → is_whole start ≡ true → length start.weights ≡ count_of states → start ≡ all_states states
+whole_start : (start : StartWeights) (states : Elements) → is_whole start ≡ true → length start.weights ≡ count_of states
+    → start ≡ all_states states
 whole_start start states e count = grind (arith, sum_ones, all_at, shares_are)
 
 -- ---- a list of states
@@ -88,7 +98,8 @@ states_at : (states : Elements) (s : ℕ) (ss : List ℕ) → count_of states �
 states_at states s [] few a place = (by_number (whole_at place s (omega (arith, a.0, few))) a.0, tt)
 states_at states s (r ∷ rs) few a place = (by_number (whole_at place s (omega (arith, a.0, few))) a.0, states_at states r rs few a.1 _)
 
-states_begin_none : (s : ℕ) (ss : List ℕ) (place : ℕ) → list_any begins_item (lexemes_at place (spelled_line (state_word s) (map state_word ss))) ≡ false
+states_begin_none : (s : ℕ) (ss : List ℕ) (place : ℕ)
+    → list_any begins_item (lexemes_at place (spelled_line (state_word s) (map state_word ss))) ≡ false
 states_begin_none s [] place = refl
 states_begin_none s (r ∷ rs) place = states_begin_none r rs _
 
@@ -97,26 +108,32 @@ below_more n m [] l a = tt
 below_more n m (s ∷ ss) l a = (omega (arith, l, a.0), below_more n m ss l a.1)
 
 -- ---- the three forms
-module _ (p : Preamble) (start : StartWeights) (room : HasRoom p) (few : count_of p.states ≤ most_states) (count : length start.weights ≡ count_of p.states) where
+module _ (p : Preamble) (start : StartWeights) (room : HasRoom p) (few : count_of p.states ≤ most_states)
+    (count : length start.weights ≡ count_of p.states) where
   prints_start : (us : List Printed) (text : List ℕ) → text_of us ≡ text → ArePrinted us
-      → ((place : ℕ) → AreItems (lexemes_at place us) (lines_known p) (known_of p start [])) → Prints text (lines_known p) (known_of p start [])
+      → ((place : ℕ) → AreItems (lexemes_at place us) (lines_known p) (known_of p start []))
+      → Prints text (lines_known p) (known_of p start [])
   prints_start us text e made items = record { lexemes = us; text_is = e; printed = made; items = items }
 
-  right_start : (word : Lexeme) (body : List Lexeme) → word.kind ≡ Name → word.bytes ≡ codes "start" → list_any begins_item body ≡ false → IsStart p.states body start
+  right_start : (word : Lexeme) (body : List Lexeme) → word.kind ≡ Name → word.bytes ≡ codes "start" → list_any begins_item body ≡ false
+      → IsStart p.states body start
       → AreItems (word ∷ body) (lines_known p) (known_of p start [])
   right_start word body k b none s =
       one_item word body Start (lines_known p) (known_of p start []) (simp k (ap topic_of b ∙ words.start.topic_is)) none
       (texts.start (record { no_start = refl; no_entry = refl })
-      (record { lines = record { discount = refl; costs = refl; states = refl; actions = refl; observations = refl }; pairs = room.pairs }) s)
+      (record { lines = record { discount = refl; costs = refl; states = refl; actions = refl; observations = refl }; pairs = room.pairs })
+      s)
 
   uniform_prints : is_whole start ≡ true → Prints (line (codes "start:" ∷ codes "uniform" ∷ [])) (lines_known p) (known_of p start [])
   uniform_prints e = prints_start (spelled_line (key (codes "start")) (plain Name (codes "uniform") ∷ [])) _
       (text_line (key (codes "start")) (plain Name (codes "uniform") ∷ []))
       (line_printed (key (codes "start")) (plain Name (codes "uniform") ∷ []) words.start.piece (words.uniform.piece, tt))
       (λ place. right_start _ _ refl refl (or_false_from _ _ (words.uniform.begins_none place) refl)
-      (starts.plain refl (subst (IsStartBody p.states _) (sym (whole_start start p.states e count)) (starts.uniform (record { kind = refl; bytes = refl })))))
+      (starts.plain refl (subst (IsStartBody p.states _) (sym (whole_start start p.states e count))
+      (starts.uniform (record { kind = refl; bytes = refl })))))
 
-  include_prints : is_choice start ≡ true → 0 < start.total → Prints (line (codes "start" ∷ codes "include:" ∷ map decimal (chosen start))) (lines_known p) (known_of p start [])
+  include_prints : is_choice start ≡ true → 0 < start.total
+      → Prints (line (codes "start" ∷ codes "include:" ∷ map decimal (chosen start))) (lines_known p) (known_of p start [])
   include_prints e some = at (chosen start) same (chosen_below _ (count_of p.states) 0 (length start.weights) (omega (arith, count)))
     where
       same : start ≡ equal_weights (count_of p.states) (included (chosen start))
@@ -128,12 +145,16 @@ module _ (p : Preamble) (start : StartWeights) (room : HasRoom p) (few : count_o
           (text_line (plain Name (codes "start")) (key (codes "include") ∷ []))
           (line_printed (plain Name (codes "start")) (key (codes "include") ∷ []) words.start.piece (words.include.piece, tt))
           (λ place. right_start _ _ refl refl (or_false_from _ _ (words.include.begins_none place) refl)
-          (subst (IsStart p.states _) (sym is) (starts.include [] (record { kind = refl; bytes = refl }) refl tt (subst (λ n. 0 < n) (ap (λ x. x.total) is) some))))
+          (subst (IsStart p.states _) (sym is) (starts.include [] (record { kind = refl; bytes = refl }) refl tt
+          (subst (λ n. 0 < n) (ap (λ x. x.total) is) some))))
       at (s ∷ ss) is below = prints_start (spelled_line (plain Name (codes "start")) (key (codes "include") ∷ map state_word (s ∷ ss))) _
-          (text_line (plain Name (codes "start")) (key (codes "include") ∷ map state_word (s ∷ ss)) ∙ ap (λ ws. line (codes "start" ∷ codes "include:" ∷ ws)) (text_states (s ∷ ss)))
-          (line_printed (plain Name (codes "start")) (key (codes "include") ∷ map state_word (s ∷ ss)) words.start.piece (words.include.piece, spells_states (s ∷ ss) (below_more (count_of p.states) most_states (s ∷ ss) few below)))
+          (text_line (plain Name (codes "start")) (key (codes "include") ∷ map state_word (s ∷ ss))
+          ∙ ap (λ ws. line (codes "start" ∷ codes "include:" ∷ ws)) (text_states (s ∷ ss)))
+          (line_printed (plain Name (codes "start")) (key (codes "include") ∷ map state_word (s ∷ ss)) words.start.piece
+          (words.include.piece, spells_states (s ∷ ss) (below_more (count_of p.states) most_states (s ∷ ss) few below)))
           (λ place. right_start _ _ refl refl (or_false_from _ _ (words.include.begins_none place) (states_begin_none s ss _))
-          (subst (IsStart p.states _) (sym is) (starts.include (s ∷ ss) (record { kind = refl; bytes = refl }) refl (states_at p.states s ss few below _) (subst (λ n. 0 < n) (ap (λ x. x.total) is) some))))
+          (subst (IsStart p.states _) (sym is) (starts.include (s ∷ ss) (record { kind = refl; bytes = refl }) refl
+          (states_at p.states s ss few below _) (subst (λ n. 0 < n) (ap (λ x. x.total) is) some))))
 
   small_shares : (ws : List ℕ) → sum ws ≤ one → AreSmall (map pos ws)
   small_shares [] l = tt
@@ -142,21 +163,27 @@ module _ (p : Preamble) (start : StartWeights) (room : HasRoom p) (few : count_o
   shares_back : (ws : List ℕ) → is_level ws ≡ false → start.weights ≡ ws → start.total ≡ one → shares_of ws ≡ start
   shares_back ws e w t = simp e (λ i. record { weights = sym w i; total = sym t i })
 
-  millionths_prints : IsMillionthsStart (count_of p.states) start → sum start.weights ≡ start.total → Prints (line (codes "start:" ∷ map millionths_text start.weights)) (lines_known p) (known_of p start [])
+  millionths_prints : IsMillionthsStart (count_of p.states) start → sum start.weights ≡ start.total
+      → Prints (line (codes "start:" ∷ map millionths_text start.weights)) (lines_known p) (known_of p start [])
   millionths_prints m adds = at start.weights refl
     where
-      at : (ws : List ℕ) → start.weights ≡ ws → Prints (line (codes "start:" ∷ map millionths_text ws)) (lines_known p) (known_of p start [])
+      at : (ws : List ℕ) → start.weights ≡ ws → Prints (line (codes "start:" ∷ map millionths_text ws)) (lines_known p)
+          (known_of p start [])
       at [] is = absurd (let e = ap length is in omega (arith, e, count, m.several))
       at (w ∷ ws) is =
           let small = small_shares (w ∷ ws) (let e = ap sum is in omega (arith, e, adds, m.total_is)) in
           let numbers : map scaled_text (map pos (w ∷ ws)) ≡ map millionths_text (w ∷ ws) = map_twice pos scaled_text (w ∷ ws) in
           prints_start (spelled_line (key (codes "start")) (map number_word (map pos (w ∷ ws)))) _
-          (text_line (key (codes "start")) (map number_word (map pos (w ∷ ws))) ∙ ap (λ ts. line (codes "start:" ∷ ts)) (text_numbers (map pos (w ∷ ws)) ∙ numbers))
-          (line_printed (key (codes "start")) (map number_word (map pos (w ∷ ws))) words.start.piece (spells_numbers (map pos (w ∷ ws)) small))
+          (text_line (key (codes "start")) (map number_word (map pos (w ∷ ws)))
+          ∙ ap (λ ts. line (codes "start:" ∷ ts)) (text_numbers (map pos (w ∷ ws)) ∙ numbers))
+          (line_printed (key (codes "start")) (map number_word (map pos (w ∷ ws))) words.start.piece
+          (spells_numbers (map pos (w ∷ ws)) small))
           (λ place. right_start _ _ refl refl (numbers_inside (numbers_at (pos w) (map pos ws) small _))
           (starts.plain refl (subst (IsStartBody p.states _) (shares_back (w ∷ ws) (ap is_level (sym is) ∙ m.uneven) is m.total_is)
-          (starts.probabilities (w ∷ ws) m.several (numbers_at (pos w) (map pos ws) small _) (sym (ap length is) ∙ count) (sym (ap sum is) ∙ adds ∙ m.total_is)))))
+          (starts.probabilities (w ∷ ws) m.several (numbers_at (pos w) (map pos ws) small _) (sym (ap length is) ∙ count)
+          (sym (ap sum is) ∙ adds ∙ m.total_is)))))
 
   -- states that are the same, or millionths
-  pub start_prints : sum start.weights ≡ start.total → 0 < start.total → (is_choice start ≡ true) ⊎ IsMillionthsStart (count_of p.states) start → Prints (start_text start) (lines_known p) (known_of p start [])
+  pub start_prints : sum start.weights ≡ start.total → 0 < start.total → (is_choice start ≡ true)
+      ⊎ IsMillionthsStart (count_of p.states) start → Prints (start_text start) (lines_known p) (known_of p start [])
   start_prints adds some form = grind (arith, uniform_prints, include_prints, millionths_prints)

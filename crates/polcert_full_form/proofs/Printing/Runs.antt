@@ -1,5 +1,6 @@
 -- Parts of a line or of lines, some of which are written in a run: those of zeros up to the next column that has a weight.
-use Rattle.std.proofs.Common.{◌≡◌, ◌∙◌, ℕ, zero, suc, ◌+◌, ◌-◌, ◌<◌, ◌≤◌, Some, None, Option, Result, Ok, Err, IsErr, List, ◌++◌, sym, ap, subst, arith, append_assoc, append-nil, zero-add}
+use Rattle.std.proofs.Common.{◌≡◌, ◌∙◌, ℕ, zero, suc, ◌+◌, ◌-◌, ◌<◌, ◌≤◌, Some, None, Option, Result, Ok, Err, IsErr, List, ◌++◌, sym, ap}
+use Rattle.std.proofs.Common.{subst, arith, append_assoc, append-nil, zero-add}
 use Rattle.polcert_full_form.proofs.Common.{WritesText, IsNext, for_each}
 use Rattle.polcert_text.proofs.Printing.Written.{HasWritten, next_written, fails_at, fails_before, as_text}
 use Rattle.polcert_full_form.proofs.Denoting.SameForms.{same_for_each}
@@ -9,7 +10,8 @@ pub each_add : (m k : ℕ) (f : ℕ → List ℕ) → for_each (m + k) f ≡ for
 each_add m zero f = let none : m + 0 ≡ m = omega arith in ap (λ n. for_each n f) none ∙ sym (append-nil (for_each m f))
 each_add m (suc k) f =
     let next : m + suc k ≡ suc (m + k) = omega arith in
-    ap (λ n. for_each n f) next ∙ ap (λ xs. xs ++ f (m + k)) (each_add m k f) ∙ append_assoc (for_each m f) (for_each k (λ i. f (m + i))) (f (m + k))
+    ap (λ n. for_each n f) next ∙ ap (λ xs. xs ++ f (m + k)) (each_add m k f)
+    ∙ append_assoc (for_each m f) (for_each k (λ i. f (m + i))) (f (m + k))
 
 -- the parts up to one, and those from there on
 pub each_from : (from to : ℕ) (f : ℕ → List ℕ) → from ≤ to → for_each to f ≡ for_each from f ++ for_each (to - from) (λ i. f (from + i))
@@ -36,11 +38,13 @@ module _ (f : ℕ → ℕ) (n : ℕ) (part none : ℕ → List ℕ) (nothing_the
       ∙ ap (λ k. for_each k part) more
 
   -- up to the end
-  pub rest_is : (from : ℕ) → from ≤ n → IsNext f n from None → for_each from part ++ for_each (n - from) (λ i. none (from + i)) ≡ for_each n part
+  pub rest_is : (from : ℕ) → from ≤ n → IsNext f n from None
+      → for_each from part ++ for_each (n - from) (λ i. none (from + i)) ≡ for_each n part
   rest_is from l h = zeros_are from n l (omega arith) h
 
 -- the parts up to a column are written, or failed, and so did all
-module _ {S T E : Type 0} {writes : S → Option (List ℕ) → S → Type 0} {failures : S → ℕ} {from s t : S} (part : ℕ → List ℕ) (k m : ℕ) {piece : List ℕ}
+module _ {S T E : Type 0} {writes : S → Option (List ℕ) → S → Type 0} {failures : S → ℕ} {from s t : S} (part : ℕ → List ℕ) (k m : ℕ)
+    {piece : List ℕ}
     (whole : for_each k part ++ piece ≡ for_each m part) (so_far : HasWritten writes failures from (for_each k part) s) where
   pub run_written : {v : T} → WritesText {E = E} writes failures s piece (Ok v) t → HasWritten writes failures from (for_each m part) t
   run_written run = subst (λ text. HasWritten writes failures from text t) whole (next_written so_far run)
@@ -53,10 +57,12 @@ module _ {S T E : Type 0} {writes : S → Option (List ℕ) → S → Type 0} {f
 -- ---- runs from one part on
 -- a run continues
 pub run_more : (first from count : ℕ) (f : ℕ → List ℕ) → first ≤ from
-    → for_each (from - first) (λ i. f (first + i)) ++ for_each count (λ i. f (from + i)) ≡ for_each (from + count - first) (λ i. f (first + i))
+    → for_each (from - first) (λ i. f (first + i)) ++ for_each count (λ i. f (from + i))
+    ≡ for_each (from + count - first) (λ i. f (first + i))
 run_more first from count f l =
     let whole : from - first + count ≡ from + count - first = omega (arith, l) in
-    ap (λ xs. for_each (from - first) (λ i. f (first + i)) ++ xs) (same_for_each count (λ i. f (from + i)) (λ i. f (first + (from - first + i))) (λ i k. ap f (place i)))
+    ap (λ xs. for_each (from - first) (λ i. f (first + i)) ++ xs)
+    (same_for_each count (λ i. f (from + i)) (λ i. f (first + (from - first + i))) (λ i k. ap f (place i)))
     ∙ sym (each_add (from - first) count (λ i. f (first + i)))
     ∙ ap (λ n. for_each n (λ i. f (first + i))) whole
   where

@@ -1,5 +1,6 @@
 -- A row that is walked from one weight above 0 to the next: what is known of the columns passed, and what is printed of them.
-use Rattle.std.proofs.Common.{◌≡◌, ◌≢◌, ◌∙◌, ℕ, zero, suc, ◌+◌, ◌-◌, ◌%◌, ◌<◌, ◌≤◌, ◌==◌, Bool, true, false, Some, None, [], pos, ap, subst, arith}
+use Rattle.std.proofs.Common.{◌≡◌, ◌≢◌, ◌∙◌, ℕ, zero, suc, ◌+◌, ◌-◌, ◌%◌, ◌<◌, ◌≤◌, ◌==◌, Bool, true, false, Some, None, [], pos, ap, subst}
+use Rattle.std.proofs.Common.{arith}
 use Rattle.std.proofs.Math.Nat.{zero-mod}
 use Rattle.polcert_full_form.proofs.Common.{Table, IsNext, reached, one, all_below, is_uniform, is_decimal, cell_text, cell_line}
 use Rattle.polcert_cells.specs.declared.cells.Row.{Row}
@@ -17,9 +18,11 @@ test_on : (test : ℕ → Bool) (k j : ℕ) → true ≡ all_below k test → ((
 test_on test k zero before h = let same : k ≡ k + 0 = omega arith in subst (λ n. true ≡ all_below n test) same before
 test_on test k (suc j) before h =
     let next : k + j + 1 ≡ k + suc j = omega arith in
-    subst (λ n. true ≡ all_below n test) next (texts.test_more (k + j) test (test_on test k j before (λ i l. h i (omega (arith, l)))) (h j (omega arith)))
+    subst (λ n. true ≡ all_below n test) next (texts.test_more (k + j) test (test_on test k j before (λ i l. h i (omega (arith, l))))
+    (h j (omega arith)))
 
-test_up_to : (test : ℕ → Bool) (k m : ℕ) → k ≤ m → true ≡ all_below k test → ((i : ℕ) → k ≤ i → i < m → test i ≡ true) → true ≡ all_below m test
+test_up_to : (test : ℕ → Bool) (k m : ℕ) → k ≤ m → true ≡ all_below k test → ((i : ℕ) → k ≤ i → i < m → test i ≡ true)
+    → true ≡ all_below m test
 test_up_to test k m l before h =
     let whole : k + (m - k) ≡ m = omega (arith, l) in
     subst (λ n. true ≡ all_below n test) whole (test_on test k (m - k) before (λ i j. h (k + i) (omega arith) (omega (arith, j, l))))
@@ -43,7 +46,8 @@ module _ (n : ℕ) (w : ℕ → ℕ) where
   uniform_other k column weight next apart =
       texts.test_fails n column (λ c. w c == one) next.1 (test_apart (w column) one (λ same. apart (next.2 ∙ same)))
 
-  pub uniform_more : (k column weight : ℕ) → IsNext w n k (Some (column, weight)) → column ≡ k → weight ≡ one → true ≡ all_below k (λ c. w c == one)
+  pub uniform_more : (k column weight : ℕ) → IsNext w n k (Some (column, weight)) → column ≡ k → weight ≡ one
+      → true ≡ all_below k (λ c. w c == one)
       → true ≡ all_below (column + 1) (λ c. w c == one)
   uniform_more k column weight next here is before = grind arith
 

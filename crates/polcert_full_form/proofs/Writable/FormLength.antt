@@ -1,6 +1,14 @@
 -- The full form is shorter than a text may be.
-use Rattle.std.proofs.Common.{◌≡◌, ◌∙◌, ℕ, zero, suc, ◌+◌, ◌*◌, ◌/◌, ◌<◌, ◌≤◌, ◌==◌, Bool, true, false, cond, List, [], ◌∷◌, ◌++◌, length, map, filter, sum, All, codes, decimal, ℤ, refl, sym, ap, subst, arith, length-append, unsigned_abs}
-use Rattle.polcert_full_form.proofs.Common.{range_with_len, ForSome, div_below, All-head, All-tail, sum_by-cons, text_limit, unsigned_text, scaled_text, largest, Table, Transition, Observation, Reward, Elements, Count, Names, StartWeights, one, IsPrintable, count_of, most_states, most_actions, most_observations, most_elements, is_mdp, rewarded, Meaning, HasLimitedNumbers, states_of, actions_of, observations_of, line, for_each, values, all_below, millionths_text, element_words, preamble_text, start_text, table_word, row_words, is_uniform, is_decimal, cell_text, row_text, transitions_text, observations_text, written, is_zero, reward_words, rewards_row, rewards_from, rewards_text, full_form, IsWritableName}
+use Rattle.std.proofs.Common.{◌≡◌, ◌∙◌, ℕ, zero, suc, ◌+◌, ◌*◌, ◌/◌, ◌<◌, ◌≤◌, ◌==◌, Bool, true, false, cond, List, [], ◌∷◌, ◌++◌, length}
+use Rattle.std.proofs.Common.{map, filter, sum, All, codes, decimal, ℤ, refl, sym, ap, subst, arith, length-append, unsigned_abs}
+use Rattle.polcert_full_form.proofs.Common.{range_with_len, ForSome, div_below, All-head, All-tail, sum_by-cons, text_limit, unsigned_text}
+use Rattle.polcert_full_form.proofs.Common.{scaled_text, largest, Table, Transition, Observation, Reward, Elements, Count, Names}
+use Rattle.polcert_full_form.proofs.Common.{StartWeights, one, IsPrintable, count_of, most_states, most_actions, most_observations}
+use Rattle.polcert_full_form.proofs.Common.{most_elements, is_mdp, rewarded, Meaning, HasLimitedNumbers, states_of, actions_of}
+use Rattle.polcert_full_form.proofs.Common.{observations_of, line, for_each, values, all_below, millionths_text, element_words}
+use Rattle.polcert_full_form.proofs.Common.{preamble_text, start_text, table_word, row_words, is_uniform, is_decimal, cell_text, row_text}
+use Rattle.polcert_full_form.proofs.Common.{transitions_text, observations_text, written, is_zero, reward_words, rewards_row, rewards_from}
+use Rattle.polcert_full_form.proofs.Common.{rewards_text, full_form, IsWritableName}
 use Rattle.std.proofs.Math.Nat.{mul_assoc, mul-le-mul_right}
 use Rattle.std.proofs.lemmas.Fmt.{length-decimal-le}
 use Rattle.polcert_format.specs.Limits.{most_cells}
@@ -23,7 +31,8 @@ each_length : (n b : ℕ) (f : ℕ → List ℕ) → ((i : ℕ) → i < n → le
 each_length zero b f h = omega arith
 each_length (suc n) b f h = grind (arith, length-append, each_length n b f)
 
-words_from : (k n b : ℕ) (f : ℕ → List ℕ) → ((i : ℕ) → i < k + n → length (f i) ≤ b) → words_length (map f (range_with_len k n)) ≤ n * (b + 1)
+words_from : (k n b : ℕ) (f : ℕ → List ℕ) → ((i : ℕ) → i < k + n → length (f i) ≤ b)
+    → words_length (map f (range_with_len k n)) ≤ n * (b + 1)
 words_from k zero b f h = omega arith
 words_from k (suc n) b f h = grind (arith, words_from (k + 1) n b f)
 
@@ -47,7 +56,8 @@ table_length table = grind arith
 an_element : (a : ℕ) → a < most_actions → a < most_elements
 an_element a l = omega (arith, l)
 
-module _ (table : Table) (a s n : ℕ) (w : ℕ → ℕ) (la : a < most_actions) (ls : s < most_states) (some : 0 < n) (few : n ≤ most_elements) (within : (c : ℕ) → c < n → w c ≤ one * n) where
+module _ (table : Table) (a s n : ℕ) (w : ℕ → ℕ) (la : a < most_actions) (ls : s < most_states) (some : 0 < n) (few : n ≤ most_elements)
+    (within : (c : ℕ) → c < n → w c ≤ one * n) where
   share_small : (c : ℕ) → c < n → w c / n ≤ largest
   share_small c d = grind (arith, div_below)
 
@@ -59,7 +69,17 @@ module _ (table : Table) (a s n : ℕ) (w : ℕ → ℕ) (la : a < most_actions)
     where
       at : (b : Bool) → length (cond b [] (line (row_words table a s ++ codes ":" ∷ decimal c ∷ millionths_text (w c / n) ∷ []))) ≤ 54
       at true = omega arith
-      at false = omega (arith, line_length (row_words table a s ++ codes ":" ∷ decimal c ∷ millionths_text (w c / n) ∷ []), table_length table, index_length a (an_element a la), index_length s ls, index_length c (omega (arith, d, few)), unsigned_length (w c / n) (share_small c d))
+      at false = omega (
+        arith,
+        line_length (row_words table a s ++ codes ":" ∷ decimal c ∷ millionths_text (w c / n) ∷ []),
+        table_length
+            table,
+        index_length a (an_element a la),
+        index_length s ls,
+        index_length c (omega (arith, d, few)),
+        unsigned_length (w c / n)
+            (share_small c d),
+      )
 
   row_length : length (row_text table a s n w) ≤ n * 80
   row_length = at (is_uniform n w) (is_decimal n w)
@@ -77,12 +97,29 @@ module _ (table : Table) (a s n : ℕ) (w : ℕ → ℕ) (la : a < most_actions)
           let all = each_length n 54 (cell_text table a s n w) cell_length in
           omega (arith, all, uniform_length, length-append (line (codes "uniform" ∷ [])) (for_each n (cell_text table a s n w)))
 
-      at : (u d : Bool) → length (line (row_words table a s) ++ cond u (line (codes "uniform" ∷ [])) (cond d (line (values n (λ c. millionths_text (w c / n)))) (line (codes "uniform" ∷ []) ++ for_each n (cell_text table a s n w)))) ≤ n * 80
+      at : (u d : Bool) → length (line (row_words table a s) ++ cond u (line (codes "uniform" ∷ []))
+          (cond d (line (values n (λ c. millionths_text (w c / n)))) (line (codes "uniform" ∷ []) ++ for_each n (cell_text table a s n w))))
+          ≤ n * 80
       at true d = omega (arith, some, head_length, uniform_length, length-append (line (row_words table a s)) (line (codes "uniform" ∷ [])))
-      at false true = omega (arith, some, head_length, numbers_length, length-append (line (row_words table a s)) (line (values n (λ c. millionths_text (w c / n)))))
-      at false false = omega (arith, some, head_length, cells_length, length-append (line (row_words table a s)) (line (codes "uniform" ∷ []) ++ for_each n (cell_text table a s n w)))
+      at false true = omega (
+        arith,
+        some,
+        head_length,
+        numbers_length,
+        length-append (line (row_words table a s))
+            (line (values n (λ c. millionths_text (w c / n)))),
+      )
+      at false false = omega (
+        arith,
+        some,
+        head_length,
+        cells_length,
+        length-append (line (row_words table a s))
+            (line (codes "uniform" ∷ []) ++ for_each n (cell_text table a s n w)),
+      )
 
-rewards_length : (costs : Bool) (words : List (List ℕ)) (n : ℕ) (r : ℕ → ℤ) → length (line words) ≤ 23 → 0 < n → ((z : ℕ) → z < n → unsigned_abs (written costs (r z)) ≤ largest) → length (rewards_row costs words n r) ≤ n * 56
+rewards_length : (costs : Bool) (words : List (List ℕ)) (n : ℕ) (r : ℕ → ℤ) → length (line words) ≤ 23 → 0 < n
+    → ((z : ℕ) → z < n → unsigned_abs (written costs (r z)) ≤ largest) → length (rewards_row costs words n r) ≤ n * 56
 rewards_length costs words n r head some small = at (all_below n (λ z. is_zero (r z)))
   where
     numbers_length : length (line (values n (λ z. scaled_text (written costs (r z))))) ≤ n * 32 + 1
@@ -92,11 +129,25 @@ rewards_length costs words n r head some small = at (all_below n (λ z. is_zero 
 
     at : (b : Bool) → length (cond b [] (line words ++ line (values n (λ z. scaled_text (written costs (r z)))))) ≤ n * 56
     at true = omega arith
-    at false = omega (arith, some, head, numbers_length, length-append (line words) (line (values n (λ z. scaled_text (written costs (r z))))))
+    at false = omega (
+      arith,
+      some,
+      head,
+      numbers_length,
+      length-append (line words)
+          (line (values n (λ z. scaled_text (written costs (r z))))),
+    )
 
 -- the lines that begin a row of rewards
 cell_head : (a s e : ℕ) → a < most_actions → s < most_states → e < most_states → length (line (reward_words a s e)) ≤ 23
-cell_head a s e la ls le = omega (arith, line_length (reward_words a s e), index_length a (an_element a la), index_length s ls, index_length e le)
+cell_head a s e la ls le = omega (
+  arith,
+  line_length (reward_words a s e),
+  index_length a (an_element a la),
+  index_length s ls,
+  index_length
+      e le,
+)
 
 row_head : (a s : ℕ) → a < most_actions → s < most_states → length (line (row_words Reward a s)) ≤ 23
 row_head a s la ls = omega (arith, line_length (row_words Reward a s), index_length a (an_element a la), index_length s ls)
@@ -109,13 +160,16 @@ names_length (x ∷ xs) a =
     let here = (All-head IsWritableName x xs a).short in
     omega (arith, rest, here)
 
-elements_length : (word : List ℕ) (elements : Elements) → length word ≤ 20 → AreWritable most_elements elements → length (line (word ∷ element_words elements)) ≤ 4_100_000
+elements_length : (word : List ℕ) (elements : Elements) → length word ≤ 20 → AreWritable most_elements elements
+    → length (line (word ∷ element_words elements)) ≤ 4_100_000
 elements_length word (Count n) l w =
     let count : length (decimal n) ≤ 5 = length-decimal-le 5 n (omega arith) (omega (arith, w.1)) (omega (arith, w.1)) in
     omega (arith, l, count, line_length (word ∷ decimal n ∷ []))
 elements_length word (Names names) l w = omega (arith, l, names_length names w.0, w.2, line_length (word ∷ names))
 
-preamble_length : (m : Meaning) → m.preamble.discount ≤ one → AreWritable most_states m.preamble.states → AreWritable most_actions m.preamble.actions → ForSome m.preamble.observations (AreWritable most_observations) → length (preamble_text m) ≤ 13_000_000
+preamble_length : (m : Meaning) → m.preamble.discount ≤ one → AreWritable most_states m.preamble.states
+    → AreWritable most_actions m.preamble.actions → ForSome m.preamble.observations (AreWritable most_observations)
+    → length (preamble_text m) ≤ 13_000_000
 preamble_length m small states actions observations = grind (arith, length-append, unsigned_length, elements_length)
 
 states_length : (p : ℕ → Bool) (k n : ℕ) → k + n ≤ most_states → words_length (map decimal (filter p (range_with_len k n))) ≤ n * 5
@@ -139,8 +193,11 @@ grouped a s n k = ap (λ x. a * x) (sym (mul_assoc s n k)) ∙ sym (mul_assoc a 
 cells_bound : (a s n k : ℕ) → a * s * n ≤ most_cells → a * (s * (n * k)) ≤ most_cells * k
 cells_bound a s n k l = subst (λ x. x ≤ most_cells * k) (sym (grouped a s n k)) (mul-le-mul_right k l)
 
-module _ (m : Meaning) (limits : HasLimitedNumbers m) (printable : IsPrintable m.preamble) (states : AreWritable most_states m.preamble.states) (actions : AreWritable most_actions m.preamble.actions) (observations : ForSome m.preamble.observations (AreWritable most_observations))
-    (small : (a s e z : ℕ) → a < actions_of m → s < states_of m → e < states_of m → z < observations_of m → unsigned_abs (written m.preamble.costs (m.r a s e z)) ≤ largest) where
+module _ (m : Meaning) (limits : HasLimitedNumbers m) (printable : IsPrintable m.preamble)
+    (states : AreWritable most_states m.preamble.states) (actions : AreWritable most_actions m.preamble.actions)
+    (observations : ForSome m.preamble.observations (AreWritable most_observations))
+    (small : (a s e z : ℕ) → a < actions_of m → s < states_of m → e < states_of m → z < observations_of m
+    → unsigned_abs (written m.preamble.costs (m.r a s e z)) ≤ largest) where
   -- the rows of a table, by action and state
   rows_length : (table : Table) (n : ℕ) (w : ℕ → ℕ → ℕ → ℕ) → 0 < n → n ≤ most_elements
       → ((a s c : ℕ) → a < actions_of m → s < states_of m → c < n → w a s c ≤ one * n) → actions_of m * states_of m * n ≤ most_cells
@@ -149,8 +206,10 @@ module _ (m : Meaning) (limits : HasLimitedNumbers m) (printable : IsPrintable m
       let A = actions_of m in
       let S = states_of m in
       let all : length (for_each A (λ a. for_each S (λ s. row_text table a s n (w a s)))) ≤ A * (S * (n * 80)) =
-      each_length A (S * (n * 80)) (λ a. for_each S (λ s. row_text table a s n (w a s))) (λ a l. each_length S (n * 80) (λ s. row_text table a s n (w a s)) (λ s k.
-      row_length table a s n (w a s) (omega (arith, l, limits.actions.1)) (omega (arith, k, limits.states.1)) some few (λ c d. within a s c l k d))) in
+      each_length A (S * (n * 80)) (λ a. for_each S (λ s. row_text table a s n (w a s)))
+      (λ a l. each_length S (n * 80) (λ s. row_text table a s n (w a s)) (λ s k.
+      row_length table a s n (w a s) (omega (arith, l, limits.actions.1)) (omega (arith, k, limits.states.1)) some few
+      (λ c d. within a s c l k d))) in
       omega (arith, all, cells_bound A S n 80 cells)
 
   transitions_length : length (transitions_text m) ≤ most_cells * 80
@@ -159,12 +218,14 @@ module _ (m : Meaning) (limits : HasLimitedNumbers m) (printable : IsPrintable m
   observations_length : length (observations_text m) ≤ most_cells * 80
   observations_length = at (is_mdp m.preamble)
     where
-      at : (b : Bool) → length (cond b [] (for_each (actions_of m) (λ a. for_each (states_of m) (λ e. row_text Observation a e (observations_of m) (m.o a e))))) ≤ most_cells * 80
+      at : (b : Bool) → length (cond b [] (for_each (actions_of m)
+          (λ a. for_each (states_of m) (λ e. row_text Observation a e (observations_of m) (m.o a e))))) ≤ most_cells * 80
       at true = omega arith
       at false = rows_length Observation (observations_of m) m.o limits.observations.0 limits.observations.1 limits.o printable.observations
 
   -- the rewards of an action in a state: a number for each end state and each thing that a reward depends on
-  from_length : (a s : ℕ) → a < actions_of m → s < states_of m → length (rewards_from m a s) ≤ states_of m * (count_of (rewarded m.preamble) * 56)
+  from_length : (a s : ℕ) → a < actions_of m → s < states_of m
+      → length (rewards_from m a s) ≤ states_of m * (count_of (rewarded m.preamble) * 56)
   from_length a s l k = at (is_mdp m.preamble) refl
     where
       S : ℕ
@@ -177,13 +238,19 @@ module _ (m : Meaning) (limits : HasLimitedNumbers m) (printable : IsPrintable m
       costs = m.preamble.costs
 
       at : (b : Bool) → is_mdp m.preamble ≡ b
-          → length (cond b (rewards_row costs (row_words Reward a s) S (λ e. m.r a s e 0)) (for_each S (λ e. rewards_row costs (reward_words a s e) Z (m.r a s e)))) ≤ S * (count_of (rewarded m.preamble) * 56)
-      at true mdp = subst (λ n. length (rewards_row costs (row_words Reward a s) S (λ e. m.r a s e 0)) ≤ S * (n * 56)) (sym (one_rewarded m.preamble mdp))
-          (rewards_length costs (row_words Reward a s) S (λ e. m.r a s e 0) (row_head a s (omega (arith, l, limits.actions.1)) (omega (arith, k, limits.states.1))) limits.states.0
+          → length (cond b (rewards_row costs (row_words Reward a s) S (λ e. m.r a s e 0))
+          (for_each S (λ e. rewards_row costs (reward_words a s e) Z (m.r a s e)))) ≤ S * (count_of (rewarded m.preamble) * 56)
+      at true mdp = subst (λ n. length (rewards_row costs (row_words Reward a s) S (λ e. m.r a s e 0)) ≤ S * (n * 56))
+          (sym (one_rewarded m.preamble mdp))
+          (rewards_length costs (row_words Reward a s) S (λ e. m.r a s e 0)
+          (row_head a s (omega (arith, l, limits.actions.1)) (omega (arith, k, limits.states.1))) limits.states.0
           (λ e d. small a s e 0 l k d limits.observations.0))
-      at false seen = subst (λ n. length (for_each S (λ e. rewards_row costs (reward_words a s e) Z (m.r a s e))) ≤ S * (n * 56)) (sym (seen_rewarded m.preamble seen))
+      at false seen = subst (λ n. length (for_each S (λ e. rewards_row costs (reward_words a s e) Z (m.r a s e))) ≤ S * (n * 56))
+          (sym (seen_rewarded m.preamble seen))
           (each_length S (Z * 56) (λ e. rewards_row costs (reward_words a s e) Z (m.r a s e)) (λ e d.
-          rewards_length costs (reward_words a s e) Z (m.r a s e) (cell_head a s e (omega (arith, l, limits.actions.1)) (omega (arith, k, limits.states.1)) (omega (arith, d, limits.states.1))) limits.observations.0
+          rewards_length costs (reward_words a s e) Z (m.r a s e)
+          (cell_head a s e (omega (arith, l, limits.actions.1)) (omega (arith, k, limits.states.1)) (omega (arith, d, limits.states.1)))
+          limits.observations.0
           (λ z x. small a s e z l k d x)))
 
   rewards_short : length (rewards_text m) ≤ most_cells * 56
@@ -192,7 +259,8 @@ module _ (m : Meaning) (limits : HasLimitedNumbers m) (printable : IsPrintable m
       let S = states_of m in
       let R = count_of (rewarded m.preamble) in
       let all : length (rewards_text m) ≤ A * (S * (S * (R * 56))) =
-      each_length A (S * (S * (R * 56))) (λ a. for_each S (rewards_from m a)) (λ a l. each_length S (S * (R * 56)) (rewards_from m a) (λ s k. from_length a s l k)) in
+      each_length A (S * (S * (R * 56))) (λ a. for_each S (rewards_from m a))
+      (λ a l. each_length S (S * (R * 56)) (rewards_from m a) (λ s k. from_length a s l k)) in
       let same : A * (S * (S * (R * 56))) ≡ A * S * S * R * 56 = grouped A S S (R * 56) ∙ sym (mul_assoc (A * S * S) R 56) in
       let bound : A * S * S * R * 56 ≤ most_cells * 56 = mul-le-mul_right 56 printable.rewards in
       omega (arith, all, same, bound)

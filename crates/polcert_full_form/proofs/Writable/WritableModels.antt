@@ -1,7 +1,12 @@
 -- The full form of a model that is not too large to print is a text of that model.
-use Rattle.std.proofs.Common.{◌≡◌, ◌∙◌, ℕ, ◌/◌, ◌%◌, ◌<◌, ◌≤◌, ◌⊎◌, ⊎_elim, inl, inr, Bool, true, false, cond, Some, [], ◌++◌, ◌≢◌, ℤ, refl, sym, ap, subst, unsigned_abs, length, arith}
+use Rattle.std.proofs.Common.{◌≡◌, ◌∙◌, ℕ, ◌/◌, ◌%◌, ◌<◌, ◌≤◌, ◌⊎◌, ⊎_elim, inl, inr, Bool, true, false, cond, Some, [], ◌++◌, ◌≢◌, ℤ, refl}
+use Rattle.std.proofs.Common.{sym, ap, subst, unsigned_abs, length, arith}
 use Rattle.std.proofs.Math.Nat.{mul-mod_left, mod-add-div'}
-use Rattle.polcert_full_form.proofs.Common.{text_limit, largest, Transition, Observation, most_states, most_actions, most_observations, Preamble, is_mdp, ForSome, Meaning, meaning_of, states_of, actions_of, observations_of, IsSame, HasProperRows, HasLimitedNumbers, nothing_known, IsModelText, IsPrintable, for_each, row_text, written, is_choice, transitions_text, observations_text, rewards_text, full_form, one, IsMillionthsStart, IsEndObserved, IsWritable, Elements}
+use Rattle.polcert_full_form.proofs.Common.{text_limit, largest, Transition, Observation, most_states, most_actions, most_observations}
+use Rattle.polcert_full_form.proofs.Common.{Preamble, is_mdp, ForSome, Meaning, meaning_of, states_of, actions_of, observations_of, IsSame}
+use Rattle.polcert_full_form.proofs.Common.{HasProperRows, HasLimitedNumbers, nothing_known, IsModelText, IsPrintable, for_each, row_text}
+use Rattle.polcert_full_form.proofs.Common.{written, is_choice, transitions_text, observations_text, rewards_text, full_form, one}
+use Rattle.polcert_full_form.proofs.Common.{IsMillionthsStart, IsEndObserved, IsWritable, Elements}
 use Rattle.polcert_format.specs.Writable.{HasProperNames, IsWritableWeight}
 use Rattle.polcert_tables.specs.Contents.{Contents}
 use Rattle.polcert_tables.specs.Kept.{Kept, meaning}
@@ -13,7 +18,8 @@ use Rattle.polcert_full_form.proofs.Printing.PrintedPreamble.{AreWritable, lines
 use Rattle.polcert_full_form.proofs.Printing.PrintedStart.{start_prints}
 use Rattle.polcert_full_form.proofs.Denoting.RowEntries.{Fits, same_or_other, transition_rows, observation_rows}
 use Rattle.polcert_full_form.proofs.Printing.PrintedRows.{row_prints, from_prints}
-use Rattle.polcert_full_form.proofs.Denoting.ModelEntries.{transition_entries, seen_entries, observation_entries, rewards_entries, all_entries, transition_back, observation_back, reward_again}
+use Rattle.polcert_full_form.proofs.Denoting.ModelEntries.{transition_entries, seen_entries, observation_entries, rewards_entries}
+use Rattle.polcert_full_form.proofs.Denoting.ModelEntries.{all_entries, transition_back, observation_back, reward_again}
 use Rattle.polcert_full_form.proofs.Writable.FormLength.{form_short}
 
 -- What has to be known of a model, beside that it is not too large, for its full form to be a text.
@@ -38,28 +44,33 @@ module _ (m : Meaning) (w : CanBeWritten m) (printable : IsPrintable m.preamble)
   room : HasRoom p
   room = has_room m w.limits printable
 
-  small : (a s e z : ℕ) → a < actions_of m → s < states_of m → e < states_of m → z < observations_of m → unsigned_abs (written p.costs (m.r a s e z)) ≤ largest
+  small : (a s e z : ℕ) → a < actions_of m → s < states_of m → e < states_of m → z < observations_of m
+      → unsigned_abs (written p.costs (m.r a s e z)) ≤ largest
   small a s e z l k d x = subst (λ n. n ≤ largest) (sym (abs_written p.costs (m.r a s e z))) (w.limits.r a s e z l k d x)
 
   transitions_print : PrintsEntries p m.start room (transitions_text m) (transition_entries m)
   transitions_print =
       entries_each p m.start room (actions_of m) _ _ (λ a l. entries_each p m.start room (states_of m) _ _ (λ s k.
-      row_prints p m.start room w.limits.actions.1 w.limits.states.1 Transition a s (states_of m) (m.t a s) (transition_rows p) l k w.limits.states.0 w.limits.states.1 (λ c d. w.limits.t a s c l k d)))
+      row_prints p m.start room w.limits.actions.1 w.limits.states.1 Transition a s (states_of m) (m.t a s) (transition_rows p) l k
+      w.limits.states.0 w.limits.states.1 (λ c d. w.limits.t a s c l k d)))
 
   observations_print : PrintsEntries p m.start room (observations_text m) (observation_entries m)
   observations_print = at (is_mdp p) refl
     where
       at : (b : Bool) → is_mdp p ≡ b → PrintsEntries p m.start room
-          (cond b [] (for_each (actions_of m) (λ a. for_each (states_of m) (λ e. row_text Observation a e (observations_of m) (m.o a e))))) (cond b [] (seen_entries m))
+          (cond b [] (for_each (actions_of m) (λ a. for_each (states_of m) (λ e. row_text Observation a e (observations_of m) (m.o a e)))))
+          (cond b [] (seen_entries m))
       at true mdp = no_entries p m.start room
       at false seen =
           entries_each p m.start room (actions_of m) _ _ (λ a l. entries_each p m.start room (states_of m) _ _ (λ e k.
-          row_prints p m.start room w.limits.actions.1 w.limits.states.1 Observation a e (observations_of m) (m.o a e) (observation_rows p seen) l k w.limits.observations.0 w.limits.observations.1 (λ c d. w.limits.o a e c l k d)))
+          row_prints p m.start room w.limits.actions.1 w.limits.states.1 Observation a e (observations_of m) (m.o a e)
+          (observation_rows p seen) l k w.limits.observations.0 w.limits.observations.1 (λ c d. w.limits.o a e c l k d)))
 
   all_rewards_print : PrintsEntries p m.start room (rewards_text m) (rewards_entries m)
   all_rewards_print =
       entries_each p m.start room (actions_of m) _ _ (λ a l. entries_each p m.start room (states_of m) _ _ (λ s k.
-      from_prints p m.start room w.limits.actions.1 w.limits.states.1 (is_mdp p) a s (states_of m) (observations_of m) (m.r a s) refl l k refl refl w.limits.states.0 w.limits.observations.0 (λ e z d x. small a s e z l k d x)))
+      from_prints p m.start room w.limits.actions.1 w.limits.states.1 (is_mdp p) a s (states_of m) (observations_of m) (m.r a s) refl l k
+      refl refl w.limits.states.0 w.limits.observations.0 (λ e z d x. small a s e z l k d x)))
 
   all_print : Prints (full_form m) nothing_known (known_of p m.start (all_entries m))
   all_print =
@@ -91,7 +102,8 @@ weight_there : (n w : ℕ) → Fits n w → IsWritableWeight n w
 weight_there n w f other = ⊎_elim (λ e. absurd (other e)) (λ m. ap (λ k. k % n) m.1 ∙ mul-mod_left m.0 n) f
 
 weight_back : (n w : ℕ) → IsWritableWeight n w → Fits n w
-weight_back n w f = ⊎_elim (λ e. inl e) (λ other. let none = f other in let all = mod-add-div' w n in inr (w / n, omega (arith, none, all))) (same_or_other w one)
+weight_back n w f = ⊎_elim (λ e. inl e) (λ other. let none = f other in let all = mod-add-div' w n in inr (w / n, omega (arith, none, all)))
+    (same_or_other w one)
 
 pub kept_writes : (d : Kept) → HasProperRows (meaning d) → HasLimitedNumbers (meaning d) → IsWritable (meaning d) → CanBeWritten (meaning d)
 kept_writes d rows limits w = grind (arith, weight_back)

@@ -1,6 +1,7 @@
 -- The greatest excess of the actions and states so far: one more at a time.
 use Rattle.std.proofs.Common.{◌≡◌, ℕ, ◌+◌, ◌<◌, ◌≤◌, inl, inr, ⊎_elim, ℤ, pos, ◌≤ℤ◌, unsigned_abs, sym, subst, arith}
-use Rattle.polcert_optimum.proofs.Common.{int_max, cases_lt, ints, CellTable, IsProper, IsWithinLimits, largest, excess, most_excess, IsGreatestExcess}
+use Rattle.polcert_optimum.proofs.Common.{int_max, cases_lt, ints, CellTable, IsProper, IsWithinLimits, largest, excess, most_excess}
+use Rattle.polcert_optimum.proofs.Common.{IsGreatestExcess}
 use Rattle.polcert_check.specs.Verdict.{IsBefore}
 use Rattle.polcert_check.proofs.Sums.Ring.{≤ℤ_trans}
 use Rattle.polcert_optimum.proofs.Checking.Amounts.{excess_le}
@@ -8,7 +9,8 @@ use Rattle.polcert_optimum.proofs.Greatest.{max_left, max_right}
 
 module _ (t : CellTable) (vectors : ℕ → ℕ → ℤ) where
   module _ (a s : ℕ) (x : ℤ) (before : IsGreatestExcess t vectors a s x) where
-    above : (y : ℤ) → y ≡ excess t vectors a s → (b u : ℕ) → b < t.actions → u < t.states → IsBefore b u a (s + 1) → excess t vectors b u ≤ℤ int_max x y
+    above : (y : ℤ) → y ≡ excess t vectors a s → (b u : ℕ) → b < t.actions → u < t.states → IsBefore b u a (s + 1)
+        → excess t vectors b u ≤ℤ int_max x y
     above y is b u bl ul earlier =
         ⊎_elim (λ (l : b < a). ≤ℤ_trans _ _ _ (before.bounds b u bl ul (inl l)) (max_left x y))
         (λ (h : (b ≡ a) × (u < s + 1)). ⊎_elim
@@ -24,7 +26,10 @@ module _ (t : CellTable) (vectors : ℕ → ℕ → ℤ) where
     one_more y is al sl = grind (arith, above)
 
 -- how large it is
-pub greatest_small : (t : CellTable) → IsProper t → IsWithinLimits t → (vectors : ℕ → ℕ → ℤ) → ((b e : ℕ) → b < t.actions → e < t.states → unsigned_abs (vectors b e) ≤ largest) → (a s : ℕ) (x : ℤ) → IsGreatestExcess t vectors a s x → unsigned_abs x ≤ most_excess t
+pub greatest_small : (t : CellTable) → IsProper t → IsWithinLimits t → (vectors : ℕ → ℕ → ℤ)
+    → ((b e : ℕ) → b < t.actions → e < t.states → unsigned_abs (vectors b e) ≤ largest) → (a s : ℕ) (x : ℤ)
+    → IsGreatestExcess t vectors a s x
+    → unsigned_abs x ≤ most_excess t
 greatest_small t p limits vectors small a s x is = grind (arith, excess_le)
 
 pub pos_abs : (x : ℤ) → pos 0 ≤ℤ x → x ≡ pos (unsigned_abs x)

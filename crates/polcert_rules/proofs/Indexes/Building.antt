@@ -1,7 +1,10 @@
 -- Building an index.
-use Rattle.std.proofs.Common.{◌≡◌, ◌∙◌, ℕ, zero, suc, ◌+◌, ◌<◌, ◌≤◌, ◌⊎◌, inl, inr, ⊎_elim, Bool, true, false, cond, eqb, max, Some, List, [], ◌∷◌, length, get_or, Contains, All, refl, sym, ap, subst, arith}
+use Rattle.std.proofs.Common.{◌≡◌, ◌∙◌, ℕ, zero, suc, ◌+◌, ◌<◌, ◌≤◌, ◌⊎◌, inl, inr, ⊎_elim, Bool, true, false, cond, eqb, max, Some, List}
+use Rattle.std.proofs.Common.{[], ◌∷◌, length, get_or, Contains, All, refl, sym, ap, subst, arith}
 use Rattle.std.specs.List.{slice_get}
-use Rattle.polcert_rules.proofs.Common.{IsNonDecreasingBy, Table, nat_tests, AllPairs-cons, All-nil, All-cons, Contains-permutation, IsPermutation-sym, Entry, Rule, key_of, AreDigits, most_places, AreKeyed, IsRising, IsEntry, IsIndexOf, rules_from, newest_from, newest_of_each}
+use Rattle.polcert_rules.proofs.Common.{IsNonDecreasingBy, Table, nat_tests, AllPairs-cons, All-nil, All-cons, Contains-permutation}
+use Rattle.polcert_rules.proofs.Common.{IsPermutation-sym, Entry, Rule, key_of, AreDigits, most_places, AreKeyed, IsRising, IsEntry}
+use Rattle.polcert_rules.proofs.Common.{IsIndexOf, rules_from, newest_from, newest_of_each}
 use Rattle.std.specs.List.Sorted.{IsPermutation}
 use Rattle.polcert_rules.specs.Keys.{table_digit}
 use Rattle.polcert_rules.proofs.Keyed.Covering.{keyed_at, table_of_digit}
@@ -42,17 +45,35 @@ rules_sound d n [] r a = absurd a
 rules_sound d n (e ∷ es) r a = at (eqb (table_digit e.table) d) refl (rules_sound d (n + 1) es r) a
   where
     later : IsRuleOf d (n + 1) es r → IsRuleOf d n (e ∷ es) r
-    later i = record { place = suc i.place; entry = i.entry; number = (let f = i.number in omega arith); is = i.is; key = i.key; of_table = i.of_table }
+    later i = record {
+      place = suc i.place;
+      entry = i.entry;
+      number = (let f = i.number in omega arith);
+      is = i.is;
+      key = i.key;
+      of_table =
+          i.of_table;
+    }
 
     here : table_digit e.table ≡ d → record { key = key_of e; number = n } ≡ r → IsRuleOf d n (e ∷ es) r
-    here t is = record { place = 0; entry = e; number = (let f : n ≡ r.number = ap (λ (x : Rule). x.number) is in omega arith); is = refl; key = ap (λ (x : Rule). x.key) is; of_table = t }
+    here t is = record {
+      place = 0;
+      entry = e;
+      number = (let f : n ≡ r.number = ap (λ (x : Rule). x.number) is in omega arith);
+      is =
+          refl;
+      key = ap (λ (x : Rule). x.key) is;
+      of_table = t;
+    }
 
     at : (b : Bool) → eqb (table_digit e.table) d ≡ b → (Among r (rules_from d (n + 1) es) → IsRuleOf d (n + 1) es r)
-        → Among r (cond b (record { key = key_of e; number = n } ∷ rules_from d (n + 1) es) (rules_from d (n + 1) es)) → IsRuleOf d n (e ∷ es) r
+        → Among r (cond b (record { key = key_of e; number = n } ∷ rules_from d (n + 1) es) (rules_from d (n + 1) es))
+        → IsRuleOf d n (e ∷ es) r
     at true t ih a = ⊎_elim (here (grind (arith, nat_tests))) (λ b. later (ih b)) a
     at false t ih a = later (ih a)
 
-rules_complete : (d n : ℕ) (es : List Entry) (k : ℕ) (e : Entry) → slice_get es k ≡ Some e → table_digit e.table ≡ d → Among (record { key = key_of e; number = n + k }) (rules_from d n es)
+rules_complete : (d n : ℕ) (es : List Entry) (k : ℕ) (e : Entry) → slice_get es k ≡ Some e → table_digit e.table ≡ d
+    → Among (record { key = key_of e; number = n + k }) (rules_from d n es)
 rules_complete d n [] k e is t = cc
 rules_complete d n (x ∷ es) zero e is t = grind (arith, nat_tests)
 rules_complete d n (x ∷ es) (suc k) e is t = grind (arith, nat_tests, rules_complete d (n + 1) es k e is t)
@@ -69,7 +90,13 @@ abbrev joined : Rule → Rule → Rule
 joined last r = rule_of last.key (max last.number r.number)
 
 itself : (last r : Rule) (rs : List Rule) → last ≡ r → Stands (last ∷ rs) r
-itself last r rs e = record { rule = last; among = inl refl; key = ap (λ (x : Rule). x.key) e; number = (let f : last.number ≡ r.number = ap (λ (x : Rule). x.number) e in omega arith) }
+itself last r rs e = record {
+  rule = last;
+  among = inl refl;
+  key = ap (λ (x : Rule). x.key) e;
+  number =
+      (let f : last.number ≡ r.number = ap (λ (x : Rule). x.number) e in omega arith);
+}
 
 -- what stands for a rule stands for one that it stands for
 stands_for : (xs : List Rule) (r q : Rule) → q.key ≡ r.key → r.number ≤ q.number → Stands xs q → Stands xs r
@@ -79,7 +106,8 @@ none_lost : (last : Rule) (rs : List Rule) (r : Rule) → Among r (last ∷ rs) 
 none_lost last [] r a = ⊎_elim (itself last r []) (λ n. absurd n) a
 none_lost last (s ∷ rs) r a = at (λ m q b. none_lost m rs q b) (eqb s.key last.key) refl
   where
-    at : ((m q : Rule) → Among q (m ∷ rs) → Stands (newest_from m rs) q) → (b : Bool) → eqb s.key last.key ≡ b → Stands (cond b (newest_from (joined last s) rs) (last ∷ newest_from s rs)) r
+    at : ((m q : Rule) → Among q (m ∷ rs) → Stands (newest_from m rs) q) → (b : Bool) → eqb s.key last.key ≡ b
+        → Stands (cond b (newest_from (joined last s) rs) (last ∷ newest_from s rs)) r
     at ih true e =
         let same : s.key ≡ last.key = grind (arith, nat_tests) in
         let here = ih (joined last s) (joined last s) (inl refl) in
@@ -116,7 +144,11 @@ RisesAbove k (x ∷ xs) = (k < x.key) × RisesAbove x.key xs
 
 rises_from : (x : Rule) (xs : List Rule) → IsNonDecreasingBy (λ r. r.key) (x ∷ xs) → RisesFrom x.key xs
 rises_from x [] up = tt
-rises_from x (y ∷ ys) up = (up 0 1 x (omega arith) (omega arith), rises_from y ys (λ i j d le l. up (suc i) (suc j) d (omega arith) (omega arith)))
+rises_from x (y ∷ ys) up = (
+  up 0 1 x (omega arith) (omega arith),
+  rises_from y ys
+      (λ i j d le l. up (suc i) (suc j) d (omega arith) (omega arith)),
+)
 
 above_all : (k : ℕ) (xs : List Rule) → RisesAbove k xs → All (λ r. k < r.key) xs
 above_all k [] up = All-nil (λ r. k < r.key)
@@ -166,21 +198,31 @@ each_old xs r h1 = grind (arith, none_new)
 pub each_kept : (xs : List Rule) (r : Rule) → Among r xs → Stands (newest_of_each xs) r
 each_kept xs r h1 = grind (arith, none_lost)
 
-pub is_index : (table : Table) (entries : List Entry) (sorted : List Rule) → AreKeyed entries → IsPermutation (rules_from (table_digit table) 0 entries) sorted
+pub is_index : (table : Table) (entries : List Entry) (sorted : List Rule) → AreKeyed entries
+    → IsPermutation (rules_from (table_digit table) 0 entries) sorted
     → IsIndexOf table entries (newest_of_each sorted)
 is_index table entries sorted keyed p = record { sound = sound; complete = complete }
   where
     sound : (r : Rule) → Contains (newest_of_each sorted) r → IsEntry table entries r
     sound r c =
         let old : Contains sorted r = contains_from sorted r (each_old sorted r (among_from (newest_of_each sorted) r c)) in
-        let found = rules_sound (table_digit table) 0 entries r (among_from _ r (Contains-permutation sorted _ r (IsPermutation-sym _ sorted p) old)) in
+        let found = rules_sound (table_digit table) 0 entries r
+        (among_from _ r (Contains-permutation sorted _ r (IsPermutation-sym _ sorted p) old)) in
         let at : found.place ≡ r.number = let e = found.number in omega arith in
-        let is = subst (λ k. slice_get entries k ≡ Some found.entry) at found.is in
-        (found.entry, is, found.key, table_of_digit found.entry.table table found.of_table, keyed_at (λ (e : Entry). AreDigits most_places e.places) entries r.number found.entry keyed is)
+        let is = subst (λ k. slice_get entries k ≡ Some found.entry) at found.is in (
+          found.entry,
+          is,
+          found.key,
+          table_of_digit found.entry.table table found.of_table,
+          keyed_at
+              (λ (e : Entry). AreDigits most_places e.places) entries r.number found.entry keyed is,
+        )
 
-    complete : (n : ℕ) (e : Entry) → slice_get entries n ≡ Some e → e.table ≡ table → (r : Rule) × Contains (newest_of_each sorted) r × (r.key ≡ key_of e) × (n ≤ r.number)
+    complete : (n : ℕ) (e : Entry) → slice_get entries n ≡ Some e → e.table ≡ table → (r : Rule) × Contains (newest_of_each sorted) r
+        × (r.key ≡ key_of e) × (n ≤ r.number)
     complete n e is t =
         let rule = rule_of (key_of e) (0 + n) in
-        let old : Contains sorted rule = Contains-permutation _ sorted rule p (contains_from _ rule (rules_complete (table_digit table) 0 entries n e is (ap table_digit t))) in
+        let old : Contains sorted rule = Contains-permutation _ sorted rule p
+        (contains_from _ rule (rules_complete (table_digit table) 0 entries n e is (ap table_digit t))) in
         let stands = each_kept sorted rule (among_from sorted _ old) in
         (stands.rule, contains_from (newest_of_each sorted) stands.rule stands.among, stands.key, (let l = stands.number in omega arith))

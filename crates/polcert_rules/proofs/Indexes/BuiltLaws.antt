@@ -1,6 +1,9 @@
 -- Rows as they are built, action by action and state by state.
-use Rattle.std.proofs.Common.{◌≡◌, ◌∙◌, ℕ, ◌+◌, ◌-◌, ◌<◌, ⊎_elim, true, List, [], ◌∷◌, ◌++◌, length, get_or, slice_index, slice_index_or, All, sym, ap, subst, arith}
-use Rattle.polcert_rules.proofs.Common.{cases_lt, get_or_append_left, get_or_default, All-push, get_or_from_slice_get, Cell, Preamble, weight, IsSparse, IsRow, key_base, Rule, IsRising, IsIndexOf, IsSplit, zeros_of, others_of, others_in, IsWeighted, IsShapeOf, AreSound, IsKeptRow, Stays, AreLine, AreLines}
+use Rattle.std.proofs.Common.{◌≡◌, ◌∙◌, ℕ, ◌+◌, ◌-◌, ◌<◌, ⊎_elim, true, List, [], ◌∷◌, ◌++◌, length, get_or, slice_index, slice_index_or}
+use Rattle.std.proofs.Common.{All, sym, ap, subst, arith}
+use Rattle.polcert_rules.proofs.Common.{cases_lt, get_or_append_left, get_or_default, All-push, get_or_from_slice_get, Cell, Preamble}
+use Rattle.polcert_rules.proofs.Common.{weight, IsSparse, IsRow, key_base, Rule, IsRising, IsIndexOf, IsSplit, zeros_of, others_of}
+use Rattle.polcert_rules.proofs.Common.{others_in, IsWeighted, IsShapeOf, AreSound, IsKeptRow, Stays, AreLine, AreLines}
 use Rattle.std.proofs.lemmas.List.{length-append}
 use Rattle.polcert_rules.specs.Steps.Sources.{AreGiven, weights_at, HasScale, HasRows, IsFirstWrongIn}
 use Rattle.std.proofs.Math.Seq.{get_or-append_seam}
@@ -27,7 +30,8 @@ module _ (given : TableEntries) where
   pub line_none : (a : ℕ) (rows : List (List Cell)) (numbers : List ℕ) → numbers ≡ [] → AreLine given a 0 rows numbers
   line_none a rows numbers e = grind arith
 
-  pub line_stays : (a count : ℕ) (old new : List (List Cell)) (numbers : List ℕ) → Stays old new → AreLine given a count old numbers → AreLine given a count new numbers
+  pub line_stays : (a count : ℕ) (old new : List (List Cell)) (numbers : List ℕ) → Stays old new → AreLine given a count old numbers
+      → AreLine given a count new numbers
   line_stays a count old new numbers stays h = record {
     size = h.size;
     within = numbers_stay numbers old new stays h.within;
@@ -35,36 +39,44 @@ module _ (given : TableEntries) where
     proper = h.proper;
   }
 
-  pub line_more : (a s n : ℕ) (old new : List (List Cell)) (numbers longer : List ℕ) → AreLine given a s old numbers → Stays old new → IsKeptRow width (weights_at given a s) new n → HasScale given a s
+  pub line_more : (a s n : ℕ) (old new : List (List Cell)) (numbers longer : List ℕ) → AreLine given a s old numbers → Stays old new
+      → IsKeptRow width (weights_at given a s) new n → HasScale given a s
       → longer ≡ numbers ++ n ∷ [] → AreLine given a (s + 1) new longer
   line_more a s n old new numbers longer h stays here scale e =
       let now = line_stays a s old new numbers stays h in
       record {
         size = ap length e ∙ length-append numbers (n ∷ []) ∙ ap (λ k. k + 1) h.size;
-        within = subst (λ (xs : List ℕ). All (λ n. n < length new) xs) (sym e) (All-push (λ n. n < length new) numbers n now.within (row_within width (weights_at given a s) new n here));
+        within = subst (λ (xs : List ℕ). All (λ n. n < length new) xs) (sym e)
+            (All-push (λ n. n < length new) numbers n now.within (row_within width (weights_at given a s) new n here));
         each = λ t l. ⊎_elim (λ less. old_row now.each t less) (λ ge. new_row t (omega arith)) (cases_lt t s);
-        proper = λ t l. ⊎_elim (λ less. h.proper t less) (λ ge. let same : s ≡ t = omega arith in subst (HasScale given a) same scale) (cases_lt t s);
+        proper = λ t l. ⊎_elim (λ less. h.proper t less) (λ ge. let same : s ≡ t = omega arith in subst (HasScale given a) same scale)
+            (cases_lt t s);
       }
     where
-      old_row : ((t : ℕ) → t < s → IsKeptRow width (weights_at given a t) new (slice_index numbers t)) → (t : ℕ) → t < s → IsKeptRow width (weights_at given a t) new (slice_index longer t)
+      old_row : ((t : ℕ) → t < s → IsKeptRow width (weights_at given a t) new (slice_index numbers t)) → (t : ℕ) → t < s
+          → IsKeptRow width (weights_at given a t) new (slice_index longer t)
       old_row each t less = grind (arith, get_or_append_left)
 
       new_row : (t : ℕ) → t ≡ s → IsKeptRow width (weights_at given a t) new (slice_index longer t)
       new_row t at = grind (arith, get_or-append_seam)
 
   -- the row of a state, as callers see it
-  pub line_row : (a s count : ℕ) (rows : List (List Cell)) (numbers : List ℕ) → AreLine given a count rows numbers → All (IsSparse width) rows → s < count
+  pub line_row : (a s count : ℕ) (rows : List (List Cell)) (numbers : List ℕ) → AreLine given a count rows numbers
+      → All (IsSparse width) rows → s < count
       → IsRow width (weights_at given a s) (slice_index_or rows (slice_index numbers s) [])
   line_row a s count rows numbers h sparse l =
       let k = h.each s l in
-      let found : slice_index_or rows (slice_index numbers s) [] ≡ k.row = get_or_from_slice_get rows (slice_index numbers s) k.row [] k.is in
-      subst (λ (xs : List Cell). IsRow width (weights_at given a s) xs) (sym found) (record { sparse = at_number (IsSparse width) rows _ k.row sparse k.is; each = k.each })
+      let found : slice_index_or rows (slice_index numbers s) [] ≡ k.row =
+      get_or_from_slice_get rows (slice_index numbers s) k.row [] k.is in
+      subst (λ (xs : List Cell). IsRow width (weights_at given a s) xs) (sym found)
+      (record { sparse = at_number (IsSparse width) rows _ k.row sparse k.is; each = k.each })
 
   -- ---- the rows of the first actions
   pub lines_none : (rows : List (List Cell)) (numbers : List (List ℕ)) → numbers ≡ [] → AreLines given 0 rows numbers
   lines_none rows numbers e = record { size = ap length e; each = λ a l. absurd (omega arith) }
 
-  pub lines_more : (a : ℕ) (old new : List (List Cell)) (numbers longer : List (List ℕ)) (line : List ℕ) → AreLines given a old numbers → Stays old new → AreLine given a given.bodies.shape.states new line
+  pub lines_more : (a : ℕ) (old new : List (List Cell)) (numbers longer : List (List ℕ)) (line : List ℕ) → AreLines given a old numbers
+      → Stays old new → AreLine given a given.bodies.shape.states new line
       → longer ≡ numbers ++ line ∷ [] → AreLines given (a + 1) new longer
   lines_more a old new numbers longer line h stays here e = record {
     size = ap length e ∙ length-append numbers (line ∷ []) ∙ ap (λ k. k + 1) h.size;
@@ -74,13 +86,15 @@ module _ (given : TableEntries) where
       old_line : (b : ℕ) → b < a → AreLine given b given.bodies.shape.states new (slice_index_or longer b [])
       old_line b less =
           let size = h.size in
-          let same : slice_index_or numbers b [] ≡ slice_index_or longer b [] = sym (ap (λ (xs : List (List ℕ)). get_or xs b []) e ∙ get_or_append_left numbers (line ∷ []) [] b (omega arith)) in
+          let same : slice_index_or numbers b [] ≡ slice_index_or longer b [] =
+          sym (ap (λ (xs : List (List ℕ)). get_or xs b []) e ∙ get_or_append_left numbers (line ∷ []) [] b (omega arith)) in
           subst (AreLine given b given.bodies.shape.states new) same (line_stays b _ old new _ stays (h.each b less))
 
       new_line : (b : ℕ) → b ≡ a → AreLine given b given.bodies.shape.states new (slice_index_or longer b [])
       new_line b at = grind (arith, get_or-append_seam)
 
-  pub all_within : (count : ℕ) (rows : List (List Cell)) (numbers : List (List ℕ)) → AreLines given count rows numbers → All (HasRows given.bodies.shape.states (length rows)) numbers
+  pub all_within : (count : ℕ) (rows : List (List Cell)) (numbers : List (List ℕ)) → AreLines given count rows numbers
+      → All (HasRows given.bodies.shape.states (length rows)) numbers
   all_within count rows numbers h k d l = grind (arith, get_or_default)
 
   -- ---- an action that no entry tells from the one before
@@ -97,18 +111,22 @@ module _ (given : TableEntries) where
         as_before : (s c : ℕ) → s < given.bodies.shape.states → c < width → weights_at given (a - 1) s c ≡ weights_at given a s c
         as_before s c l m = grind (arith, as_named, sound_within)
 
-    pub lines_before : (a : ℕ) (rows : List (List Cell)) (numbers longer : List (List ℕ)) → IsAsBefore given.index.now given.table a → a + 2 < key_base → AreLines given a rows numbers
+    pub lines_before : (a : ℕ) (rows : List (List Cell)) (numbers longer : List (List ℕ)) → IsAsBefore given.index.now given.table a
+        → a + 2 < key_base → AreLines given a rows numbers
         → longer ≡ numbers ++ slice_index_or numbers (length numbers - 1) [] ∷ [] → AreLines given (a + 1) rows longer
     lines_before a rows numbers longer same la h e =
         let some = same.some in
         let size = h.size in
-        let last = subst (λ n. AreLine given (a - 1) given.bodies.shape.states rows (slice_index_or numbers (n - 1) [])) (sym size) (h.each (a - 1) (omega (arith, some))) in
-        lines_more a rows rows numbers longer (slice_index_or numbers (length numbers - 1) []) h (λ n row i. i) (line_before a rows _ same la last) e
+        let last = subst (λ n. AreLine given (a - 1) given.bodies.shape.states rows (slice_index_or numbers (n - 1) [])) (sym size)
+        (h.each (a - 1) (omega (arith, some))) in
+        lines_more a rows rows numbers longer (slice_index_or numbers (length numbers - 1) []) h (λ n row i. i)
+        (line_before a rows _ same la last) e
 
     -- ---- sums, under any preamble of the shape
     module _ (p : Preamble) (is : IsShapeOf p given.table given.bodies.shape) where
       pub same_weights : (a s c : ℕ) → weights_at given a s c ≡ weight p given.bodies.entries.now given.table (a ∷ s ∷ c ∷ [])
-      same_weights a s c = weight_is sound.preamble given.table given.bodies.shape given.bodies.entries.now sound.weighted sound.shape sound.sound.each p a s c is
+      same_weights a s c = weight_is sound.preamble given.table given.bodies.shape given.bodies.entries.now sound.weighted sound.shape
+          sound.sound.each p a s c is
 
       pub to_proper : (a s : ℕ) → HasScale given a s → IsProperRow p given.bodies.entries.now given.table a s
       to_proper a s h = grind (arith, sum_same, same_weights)
@@ -116,7 +134,8 @@ module _ (given : TableEntries) where
       of_proper : (a s : ℕ) → IsProperRow p given.bodies.entries.now given.table a s → HasScale given a s
       of_proper a s h = grind (arith, sum_same, same_weights)
 
-      pub wrong_row : (a : ℕ) (rows : List (List Cell)) (numbers : List (List ℕ)) (x : WrongRow) → AreLines given a rows numbers → a < given.bodies.shape.actions → IsFirstWrongIn given a x
+      pub wrong_row : (a : ℕ) (rows : List (List Cell)) (numbers : List (List ℕ)) (x : WrongRow) → AreLines given a rows numbers
+          → a < given.bodies.shape.actions → IsFirstWrongIn given a x
           → IsFirstWrong p given.bodies.entries.now given.table x
       wrong_row a rows numbers x h l w =
           let actions = is.actions in
@@ -127,19 +146,25 @@ module _ (given : TableEntries) where
             table_is = w.table_is;
             action = omega (arith, l, here, actions);
             state = omega (arith, room, states);
-            wrong = λ proper. w.wrong (of_proper a x.row (subst (λ b. IsProperRow p given.bodies.entries.now given.table b x.row) here proper));
+            wrong = λ proper. w.wrong (of_proper a x.row (subst (λ b. IsProperRow p given.bodies.entries.now given.table b x.row) here
+                proper));
             earlier_actions = λ b r less m. to_proper b r ((h.each b (omega (arith, less, here))).proper r (omega (arith, m, states)));
-            same_action = λ r less. subst (λ b. IsProperRow p given.bodies.entries.now given.table b r) (sym here) (to_proper a r (w.before r less));
+            same_action = λ r less. subst (λ b. IsProperRow p given.bodies.entries.now given.table b r) (sym here)
+                (to_proper a r (w.before r less));
           }
 
       -- each row of all actions is that of the entries, and proper
-      pub lines_rows : (count : ℕ) (rows : List (List Cell)) (numbers : List (List ℕ)) → count ≡ given.bodies.shape.actions → AreLines given count rows numbers → All (IsSparse width) rows
+      pub lines_rows : (count : ℕ) (rows : List (List Cell)) (numbers : List (List ℕ)) → count ≡ given.bodies.shape.actions
+          → AreLines given count rows numbers → All (IsSparse width) rows
           → (a s : ℕ) → a < given.bodies.shape.actions → s < given.bodies.shape.states
-          → IsRow width (λ c. weight p given.bodies.entries.now given.table (a ∷ s ∷ c ∷ [])) (slice_index_or rows (slice_index (slice_index_or numbers a []) s) [])
+          → IsRow width (λ c. weight p given.bodies.entries.now given.table (a ∷ s ∷ c ∷ []))
+          (slice_index_or rows (slice_index (slice_index_or numbers a []) s) [])
       lines_rows count rows numbers e h sparse a s l m =
-          row_same width _ _ _ (λ c n. same_weights a s c) (line_row a s given.bodies.shape.states rows (slice_index_or numbers a []) (h.each a (omega (arith, e, l))) sparse m)
+          row_same width _ _ _ (λ c n. same_weights a s c) (line_row a s given.bodies.shape.states rows (slice_index_or numbers a [])
+          (h.each a (omega (arith, e, l))) sparse m)
 
-      pub lines_proper : (count : ℕ) (rows : List (List Cell)) (numbers : List (List ℕ)) → count ≡ given.bodies.shape.actions → AreLines given count rows numbers
+      pub lines_proper : (count : ℕ) (rows : List (List Cell)) (numbers : List (List ℕ)) → count ≡ given.bodies.shape.actions
+          → AreLines given count rows numbers
           → AreProperRows p given.bodies.entries.now given.table
       lines_proper count rows numbers e h a s l m =
           let actions = is.actions in
@@ -147,18 +172,23 @@ module _ (given : TableEntries) where
           to_proper a s ((h.each a (omega (arith, e, l, actions))).proper s (omega (arith, m, states)))
 
 -- sound entries, and what is found among them
-pub given_is : (given : TableEntries) (rules : List Rule) → IsWeighted given.table → (p : Preamble) × IsShapeOf p given.table given.bodies.shape × AreSound p given.bodies.entries.now
+pub given_is : (given : TableEntries) (rules : List Rule) → IsWeighted given.table → (p : Preamble)
+    × IsShapeOf p given.table given.bodies.shape × AreSound p given.bodies.entries.now
     → IsIndexOf given.table given.bodies.entries.now given.index.now → rules ≡ given.index.now → IsRising rules
-    → given.split.now.zeros.items ≡ zeros_of given.bodies.entries.now rules → others_in given.split.now.others ≡ others_of given.bodies.entries.now rules → (given.split.now.is_exact ≡ true → AreExact rules) → AreGiven given
+    → given.split.now.zeros.items ≡ zeros_of given.bodies.entries.now rules
+    → others_in given.split.now.others ≡ others_of given.bodies.entries.now rules → (given.split.now.is_exact ≡ true → AreExact rules)
+    → AreGiven given
 given_is given rs weighted sound index same rising zeros others exact = record {
   weighted = weighted;
   preamble = sound.0;
   shape = sound.1;
   sound = sound.2;
   index = index;
-  split = subst (λ (xs : List Rule). IsSplit given.bodies.entries.now xs given.split.now) same (split_is given.bodies.entries.now rs given.split.now rising zeros others exact);
+  split = subst (λ (xs : List Rule). IsSplit given.bodies.entries.now xs given.split.now) same
+      (split_is given.bodies.entries.now rs given.split.now rising zeros others exact);
 }
 
 -- the numbers of the rows so far are those of rows
-pub all_below : (given : TableEntries) (count : ℕ) (rows : List (List Cell)) (numbers : List (List ℕ)) → AreLines given count rows numbers → All (All (λ n. n < length rows)) numbers
+pub all_below : (given : TableEntries) (count : ℕ) (rows : List (List Cell)) (numbers : List (List ℕ)) → AreLines given count rows numbers
+    → All (All (λ n. n < length rows)) numbers
 all_below given count rows numbers h k d l = (all_within given count rows numbers h k d l).1

@@ -1,5 +1,6 @@
 -- Rules of which each names a cell: what the newest is, from parts that have it.
-use Rattle.std.proofs.Common.{◌≡◌, ◌∙◌, ⊎_elim, ℕ, suc, ◌+◌, ◌*◌, ◌^◌, ◌<◌, ◌≤◌, ◌↔◌, ◌⊎◌, inl, inr, Option, None, List, [], ◌∷◌, Contains, sym, ap, subst, arith}
+use Rattle.std.proofs.Common.{◌≡◌, ◌∙◌, ⊎_elim, ℕ, suc, ◌+◌, ◌*◌, ◌^◌, ◌<◌, ◌≤◌, ◌↔◌, ◌⊎◌, inl, inr, Option, None, List, [], ◌∷◌, Contains}
+use Rattle.std.proofs.Common.{sym, ap, subst, arith}
 use Rattle.polcert_rules.proofs.Common.{Rule, IsNewest, max_option, key_base, AreIndices, CellRules, NamesEnd, AreCellRules, AreJoined}
 use Rattle.polcert_rules.specs.Keys.{Fits}
 use Rattle.polcert_rules.proofs.Keyed.Fitting.{fits_low, fits_high, fits_end, fits_here, fits_next, fits_every, fits_only}
@@ -10,10 +11,13 @@ use Rattle.polcert_rules.proofs.Indexes.NotedLaws.{later_none, later_of_later}
 abbrev pub IsFrom : List Rule → List Rule → ℕ → Type 0
 IsFrom rules part low = (r : Rule) → Contains part r ↔ (Contains rules r × (low ≤ r.key))
 
-part_here : (rules part : List Rule) (low : ℕ) (here : Option ℕ) → IsFrom rules part low → IsNewest part (λ k. k ≡ low) here → IsNewest rules (λ k. k ≡ low) here
-part_here rules part low here from n = newest_of_part rules part (λ k. k ≡ low) here (λ r c. ((from r).0 c).0) (λ r c e. (from r).1 (c, omega (arith, e))) n
+part_here : (rules part : List Rule) (low : ℕ) (here : Option ℕ) → IsFrom rules part low → IsNewest part (λ k. k ≡ low) here
+    → IsNewest rules (λ k. k ≡ low) here
+part_here rules part low here from n = newest_of_part rules part (λ k. k ≡ low) here (λ r c. ((from r).0 c).0)
+    (λ r c e. (from r).1 (c, omega (arith, e))) n
 
-later_three : (h o b x : Option ℕ) → max_option h (max_option (max_option o (max_option b None)) x) ≡ max_option (max_option h (max_option o b)) x
+later_three : (h o b x : Option ℕ) → max_option h (max_option (max_option o (max_option b None)) x)
+    ≡ max_option (max_option h (max_option o b)) x
 later_three h o b x = grind (arith, later_none, later_of_later)
 
 -- after two places
@@ -24,13 +28,17 @@ pub named_cells : (rules starred both named : List Rule) (low e z : ℕ) (h o b 
     → IsNewest named (NamesEnd low e z) x → IsNewest rules (Fits 2 low (e ∷ z ∷ [])) (max_option (max_option h (max_option o b)) x)
 named_cells rules starred both named low e z h o b x zl from_starred from_both from_named far here at_open at_both n =
     let every = low + key_base in
-    let all_both : (r : Rule) → Contains rules r → every + 1 ≤ r.key → Contains both r = λ r c l. (from_both r).1 ((from_starred r).1 (c, omega (arith, l)), l) in
-    let all_named : (r : Rule) → Contains rules r → every + 2 ≤ r.key → Contains named r = λ r c l. (from_named r).1 (all_both r c (omega (arith, l)), l) in
+    let all_both : (r : Rule) → Contains rules r → every + 1 ≤ r.key → Contains both r =
+    λ r c l. (from_both r).1 ((from_starred r).1 (c, omega (arith, l)), l) in
+    let all_named : (r : Rule) → Contains rules r → every + 2 ≤ r.key → Contains named r =
+    λ r c l. (from_named r).1 (all_both r c (omega (arith, l)), l) in
     let sub : (r : Rule) → Contains named r → Contains rules r = λ r c. ((from_starred r).0 ((from_both r).0 ((from_named r).0 c).0).0).0 in
     let only : IsNewest rules (NamesEnd low e z) x = newest_of_part rules named (NamesEnd low e z) x sub
     (λ r c f. let l = fits_low 1 (low + (e + 2) * key_base ^ 1) (z ∷ []) r.key f in all_named r c (omega (arith, l))) n in
     let star : IsNewest rules (λ k. k ≡ every) o = part_here rules starred every o from_starred at_open in
-    let stars : IsNewest rules (λ k. k ≡ every + 1) b = newest_of_part rules both (λ k. k ≡ every + 1) b (λ r c. ((from_starred r).0 ((from_both r).0 c).0).0) (λ r c f. all_both r c (omega (arith, f))) at_both in
+    let stars : IsNewest rules (λ k. k ≡ every + 1) b =
+    newest_of_part rules both (λ k. k ≡ every + 1) b (λ r c. ((from_starred r).0 ((from_both r).0 c).0).0)
+    (λ r c f. all_both r c (omega (arith, f))) at_both in
     let seen : IsNewest rules (Fits 0 (every + (z + 2) * key_base ^ 0) []) None = λ r c f.
     let is = fits_end 0 (every + (z + 2) * key_base ^ 0) r.key f in
     let l = far r (all_named r c (omega (arith, is))) in
@@ -42,12 +50,16 @@ named_cells rules starred both named low e z h o b x zl from_starred from_both f
 
 -- ---- from parts
 -- a part of the rules that has all that pass
-pub cells_of_part : (rules part : List Rule) (P : ℕ → ℕ → ℕ → Type 0) (cells : CellRules) → ((r : Rule) → Contains part r → Contains rules r)
-    → ((e z : ℕ) (r : Rule) → e + 2 < key_base → z + 2 < key_base → Contains rules r → P e z r.key → Contains part r) → AreCellRules part P cells → AreCellRules rules P cells
-cells_of_part rules part P cells sub all are = λ e z el zl x n. newest_of_part rules part (P e z) _ sub (λ r c f. all e z r el zl c f) (are e z el zl x n)
+pub cells_of_part : (rules part : List Rule) (P : ℕ → ℕ → ℕ → Type 0) (cells : CellRules)
+    → ((r : Rule) → Contains part r → Contains rules r)
+    → ((e z : ℕ) (r : Rule) → e + 2 < key_base → z + 2 < key_base → Contains rules r → P e z r.key → Contains part r)
+    → AreCellRules part P cells → AreCellRules rules P cells
+cells_of_part rules part P cells sub all are = λ e z el zl x n. newest_of_part rules part (P e z) _ sub (λ r c f. all e z r el zl c f)
+    (are e z el zl x n)
 
 -- a span of keys
-pub cells_of_span : (rules part : List Rule) (low : ℕ) (cells : CellRules) → IsSpan rules part low (key_base ^ 2) → AreCellRules part (λ e z. Fits 2 low (e ∷ z ∷ [])) cells
+pub cells_of_span : (rules part : List Rule) (low : ℕ) (cells : CellRules) → IsSpan rules part low (key_base ^ 2)
+    → AreCellRules part (λ e z. Fits 2 low (e ∷ z ∷ [])) cells
     → AreCellRules rules (λ e z. Fits 2 low (e ∷ z ∷ [])) cells
 cells_of_span rules part low cells span are =
     cells_of_part rules part (λ e z. Fits 2 low (e ∷ z ∷ [])) cells (λ r c. ((span r).0 c).0)
@@ -62,39 +74,52 @@ later_joined_2 v w x = grind (arith, later_none, later_of_later)
 none_named : (cells : CellRules) (e z : ℕ) → cells.named.now ≡ [] → IsNewest cells.named.now (NamesEnd cells.low e z) None
 none_named cells e z none r c f = let is : Contains [] r = subst (λ (rs : List Rule). Contains rs r) none c in grind (arith, is)
 
-pub joined_cells : (rules : List Rule) (P Q : ℕ → ℕ → ℕ → Type 0) (a b joined : CellRules) → AreCellRules rules P a → AreCellRules rules Q b → AreJoined a b joined
+pub joined_cells : (rules : List Rule) (P Q : ℕ → ℕ → ℕ → Type 0) (a b joined : CellRules) → AreCellRules rules P a → AreCellRules rules Q b
+    → AreJoined a b joined
     → AreCellRules rules (λ e z k. P e z k ⊎ Q e z k) joined
 joined_cells rules P Q a b joined p q (whole, inl is) = λ e z el zl x n.
-    let here = subst (λ (l : ℕ). IsNewest a.named.now (NamesEnd l e z) x) is.2 (subst (λ named. IsNewest named.now (NamesEnd joined.low e z) x) is.1 n) in
+    let here = subst (λ (l : ℕ). IsNewest a.named.now (NamesEnd l e z) x) is.2
+    (subst (λ named. IsNewest named.now (NamesEnd joined.low e z) x) is.1 n) in
     subst (IsNewest rules (λ k. P e z k ⊎ Q e z k)) (later_joined a.whole b.whole x ∙ ap (λ (w : Option ℕ). max_option w x) (sym whole))
     (newest_of_two rules (P e z) (Q e z) _ _ (p e z el zl x here) (q e z el zl None (none_named b e z is.0)))
 joined_cells rules P Q a b joined p q (whole, inr is) = λ e z el zl x n.
-    let here = subst (λ (l : ℕ). IsNewest b.named.now (NamesEnd l e z) x) is.2 (subst (λ named. IsNewest named.now (NamesEnd joined.low e z) x) is.1 n) in
+    let here = subst (λ (l : ℕ). IsNewest b.named.now (NamesEnd l e z) x) is.2
+    (subst (λ named. IsNewest named.now (NamesEnd joined.low e z) x) is.1 n) in
     subst (IsNewest rules (λ k. P e z k ⊎ Q e z k)) (later_joined_2 a.whole b.whole x ∙ ap (λ (w : Option ℕ). max_option w x) (sym whole))
     (newest_of_two rules (P e z) (Q e z) _ _ (p e z el zl None (none_named a e z is.0)) (q e z el zl x here))
 
 -- a rule that covers all cells
-pub whole_cells : (rules : List Rule) (P : ℕ → ℕ → ℕ → Type 0) (key : ℕ) (number : Option ℕ) (cells with_whole : CellRules) → AreCellRules rules P cells → IsNewest rules (λ k. k ≡ key) number
-    → with_whole.whole ≡ max_option number cells.whole → with_whole.low ≡ cells.low → with_whole.named ≡ cells.named → AreCellRules rules (λ e z k. (k ≡ key) ⊎ P e z k) with_whole
+pub whole_cells : (rules : List Rule) (P : ℕ → ℕ → ℕ → Type 0) (key : ℕ) (number : Option ℕ) (cells with_whole : CellRules)
+    → AreCellRules rules P cells → IsNewest rules (λ k. k ≡ key) number
+    → with_whole.whole ≡ max_option number cells.whole → with_whole.low ≡ cells.low → with_whole.named ≡ cells.named
+    → AreCellRules rules (λ e z k. (k ≡ key) ⊎ P e z k) with_whole
 whole_cells rules P key number cells with_whole p here whole low named = λ e z el zl x n.
-    let old = subst (λ (l : ℕ). IsNewest cells.named.now (NamesEnd l e z) x) low (subst (λ ns. IsNewest ns.now (NamesEnd with_whole.low e z) x) named n) in
-    subst (IsNewest rules (λ k. (k ≡ key) ⊎ P e z k)) (sym (ap (λ (w : Option ℕ). max_option w x) whole ∙ later_of_later number cells.whole x))
+    let old = subst (λ (l : ℕ). IsNewest cells.named.now (NamesEnd l e z) x) low
+    (subst (λ ns. IsNewest ns.now (NamesEnd with_whole.low e z) x) named n) in
+    subst (IsNewest rules (λ k. (k ≡ key) ⊎ P e z k)) (sym
+    (ap (λ (w : Option ℕ). max_option w x) whole ∙ later_of_later number cells.whole x))
     (newest_of_two rules (λ k. k ≡ key) (P e z) number (max_option cells.whole x) here (p e z el zl x old))
 
 -- one place more: no place, `*`, or the index
 pub placed_cells : (rules : List Rule) (m low i : ℕ) (rest : ℕ → ℕ → List ℕ) (cells : CellRules)
-    → AreCellRules rules (λ e z k. (k ≡ low) ⊎ (Fits m (low + key_base ^ m) (rest e z) k ⊎ Fits m (low + (i + 2) * key_base ^ m) (rest e z) k)) cells
+    → AreCellRules rules (λ e z k. (k ≡ low) ⊎ (Fits m (low + key_base ^ m) (rest e z) k
+    ⊎ Fits m (low + (i + 2) * key_base ^ m) (rest e z) k)) cells
     → AreCellRules rules (λ e z. Fits (suc m) low (i ∷ rest e z)) cells
 placed_cells rules m low i rest cells are = λ e z el zl x n.
-    newest_as rules (λ k. (k ≡ low) ⊎ (Fits m (low + key_base ^ m) (rest e z) k ⊎ Fits m (low + (i + 2) * key_base ^ m) (rest e z) k)) (Fits (suc m) low (i ∷ rest e z)) _
-    (λ k f. ⊎_elim (fits_here (suc m) low k (i ∷ rest e z)) (λ g. ⊎_elim (fits_every m low i (rest e z) k) (fits_only m low i (rest e z) k) g) f)
+    newest_as rules (λ k. (k ≡ low) ⊎ (Fits m (low + key_base ^ m) (rest e z) k ⊎ Fits m (low + (i + 2) * key_base ^ m) (rest e z) k))
+    (Fits (suc m) low (i ∷ rest e z)) _
+    (λ k f. ⊎_elim (fits_here (suc m) low k (i ∷ rest e z))
+    (λ g. ⊎_elim (fits_every m low i (rest e z) k) (fits_only m low i (rest e z) k) g) f)
     (λ k f. fits_next m low i (rest e z) k f) (are e z el zl x n)
 
 -- no key ends before this place or is for every index
 pub cells_of_only : (rules : List Rule) (m low i step : ℕ) (rest : ℕ → ℕ → List ℕ) (cells : CellRules) → step ≡ key_base ^ m
-    → ((e z : ℕ) → e + 2 < key_base → z + 2 < key_base → AreIndices m (rest e z)) → ((r : Rule) → Contains rules r → low ≤ r.key → r.key < low + step + step → ⊥)
-    → AreCellRules rules (λ e z. Fits m (low + (i + 2) * step) (rest e z)) cells → AreCellRules rules (λ e z. Fits (suc m) low (i ∷ rest e z)) cells
-cells_of_only rules m low i step rest cells is small none are = λ e z el zl x n. newest_only rules m low i step (rest e z) _ is (small e z el zl) none (are e z el zl x n)
+    → ((e z : ℕ) → e + 2 < key_base → z + 2 < key_base → AreIndices m (rest e z))
+    → ((r : Rule) → Contains rules r → low ≤ r.key → r.key < low + step + step → ⊥)
+    → AreCellRules rules (λ e z. Fits m (low + (i + 2) * step) (rest e z)) cells
+    → AreCellRules rules (λ e z. Fits (suc m) low (i ∷ rest e z)) cells
+cells_of_only rules m low i step rest cells is small none are =
+    λ e z el zl x n. newest_only rules m low i step (rest e z) _ is (small e z el zl) none (are e z el zl x n)
 
 -- ---- one cell
 -- no place, `*`, or the observation
@@ -102,7 +127,9 @@ abbrev pub IsLast : ℕ → ℕ → ℕ → Type 0
 IsLast base z key = (key ≡ base) ⊎ ((key ≡ base + 1) ⊎ (key ≡ base + (z + 2)))
 
 pub last_place : (base z key : ℕ) → Fits 1 base (z ∷ []) key → IsLast base z key
-last_place base z key f = ⊎_elim (λ is. inl is) (λ g. inr (⊎_elim (λ h. inl (fits_end 0 (base + key_base ^ 0) key h)) (λ h. inr (let is = fits_end 0 (base + (z + 2) * key_base ^ 0) key h in omega (arith, is))) g)) (fits_next 0 base z [] key f)
+last_place base z key f = ⊎_elim (λ is. inl is) (λ g. inr
+    (⊎_elim (λ h. inl (fits_end 0 (base + key_base ^ 0) key h))
+    (λ h. inr (let is = fits_end 0 (base + (z + 2) * key_base ^ 0) key h in omega (arith, is))) g)) (fits_next 0 base z [] key f)
 
 pub place_last : (base z key : ℕ) → IsLast base z key → Fits 1 base (z ∷ []) key
 place_last base z key (inl is) = fits_here 1 base key (z ∷ []) is

@@ -1,7 +1,11 @@
 -- Rows that are kept, and what they are made of.
-use Rattle.std.proofs.Common.{◌≡◌, ◌∙◌, ℕ, zero, suc, ◌*◌, ◌<◌, ◌≤◌, ◌==◌, ◌↔◌, ⊎_elim, Bool, cond, eqb, IsTrue, Option, Some, List, [], ◌∷◌, ◌++◌, length, map, get_or, slice_index, All, refl, sym, ap, subst, arith, rules, tests}
+use Rattle.std.proofs.Common.{◌≡◌, ◌∙◌, ℕ, zero, suc, ◌*◌, ◌<◌, ◌≤◌, ◌==◌, ◌↔◌, ⊎_elim, Bool, cond, eqb, IsTrue, Option, Some, List, []}
+use Rattle.std.proofs.Common.{◌∷◌, ◌++◌, length, map, get_or, slice_index, All, refl, sym, ap, subst, arith, rules, tests}
 use Rattle.std.specs.Option.{option_map}
-use Rattle.polcert_rules.proofs.Common.{map-append, get_or_past, cases_lt, All-push, slice_get_within, slice_get-get_or, slice_get-map, get_or_from_slice_get, same_Some, Place, Body, Entry, one, Fills, Cell, Shape, RowOrigin, SharedRow, IsWithin, FitsShape, given, sum_below, scaled_cells, IsSparse, IsRow, given_at, IsFrom, IsWhole, AreKept, IsKeptRow, IsShared, IsAfter, Stays}
+use Rattle.polcert_rules.proofs.Common.{map-append, get_or_past, cases_lt, All-push, slice_get_within, slice_get-get_or, slice_get-map}
+use Rattle.polcert_rules.proofs.Common.{get_or_from_slice_get, same_Some, Place, Body, Entry, one, Fills, Cell, Shape, RowOrigin, SharedRow}
+use Rattle.polcert_rules.proofs.Common.{IsWithin, FitsShape, given, sum_below, scaled_cells, IsSparse, IsRow, given_at, IsFrom, IsWhole}
+use Rattle.polcert_rules.proofs.Common.{AreKept, IsKeptRow, IsShared, IsAfter, Stays}
 use Rattle.std.proofs.lemmas.List.Elements.{All-weaker}
 use Rattle.polcert_rules.specs.Steps.Given.{given_by}
 use Rattle.polcert_rules.specs.Steps.Sources.{source_of, IsSharedRow, is_proper}
@@ -28,7 +32,11 @@ get_last [] x = refl
 get_last (y ∷ xs) x = get_last xs x
 
 equal_test : (x a b : ℕ) → x ≡ a → IsTrue (x == b) ↔ (a ≡ b)
-equal_test x a b e = (λ t. let same : x ≡ b = search (rules, tests) in sym e ∙ same, λ same. let same : x ≡ b = e ∙ same in search (rules, tests))
+equal_test x a b e = (
+  λ t. let same : x ≡ b = search (rules, tests) in sym e ∙ same,
+  λ same. let same : x ≡ b = e ∙ same in
+      search (rules, tests),
+)
 
 -- ---- rows that are made of the same
 module _ (columns : ℕ) (entries : List Entry) where
@@ -42,62 +50,81 @@ module _ (columns : ℕ) (entries : List Entry) where
   by_source : (whole : Option ℕ) (s c : ℕ) → given_at columns entries whole s c ≡ made_of (source_of entries whole s) c
   by_source whole s c = grind arith
 
-  same_source : (one other : Option ℕ) (s t c : ℕ) → source_of entries one s ≡ source_of entries other t → given_at columns entries one s c ≡ given_at columns entries other t c
+  same_source : (one other : Option ℕ) (s t c : ℕ) → source_of entries one s ≡ source_of entries other t
+      → given_at columns entries one s c ≡ given_at columns entries other t c
   same_source one other s t c e = by_source one s c ∙ ap (λ (x : RowOrigin). made_of x c) e ∙ sym (by_source other t c)
 
-  pub from_row : (whole : Option ℕ) (s : ℕ) (cells : List Cell) → IsRow columns (given_at columns entries whole s) cells → IsFrom columns entries (source_of entries whole s) cells
+  pub from_row : (whole : Option ℕ) (s : ℕ) (cells : List Cell) → IsRow columns (given_at columns entries whole s) cells
+      → IsFrom columns entries (source_of entries whole s) cells
   from_row whole s cells r other t e c l = r.each c l ∙ sym (same_source other whole t s c e)
 
   -- ---- a row that is kept already, and one more
-  pub known_row : (whole : Option ℕ) (s n : ℕ) (k : RowStore) → AreKept columns entries k → IsShared k.shared.items (source_of entries whole s) n → IsKeptRow columns (given_at columns entries whole s) k.rows n
+  pub known_row : (whole : Option ℕ) (s n : ℕ) (k : RowStore) → AreKept columns entries k
+      → IsShared k.shared.items (source_of entries whole s) n → IsKeptRow columns (given_at columns entries whole s) k.rows n
   known_row whole s n k all m =
-      let x = at_number (IsSharedRow columns entries k.rows) k.shared.items m.place (record { source = source_of entries whole s; number = n }) all.common m.is in
+      let x = at_number (IsSharedRow columns entries k.rows) k.shared.items m.place
+      (record { source = source_of entries whole s; number = n }) all.common m.is in
       record { row = x.row; is = x.is; each = x.made whole s refl }
 
   -- the cells of a row that is kept
-  pub cells_row : (cells : List Cell) (k : RowStore) (f : ℕ → ℕ) (n : ℕ) → AreKept columns entries k → IsKeptRow columns f k.rows n → slice_get k.rows n ≡ Some cells → IsRow columns f cells
+  pub cells_row : (cells : List Cell) (k : RowStore) (f : ℕ → ℕ) (n : ℕ) → AreKept columns entries k → IsKeptRow columns f k.rows n
+      → slice_get k.rows n ≡ Some cells → IsRow columns f cells
   cells_row cells k f n all h is =
       let same : h.row ≡ cells = same_Some h.row cells (sym h.is ∙ is) in
-      subst (λ (xs : List Cell). IsRow columns f xs) same (record { sparse = at_number (IsSparse columns) k.rows n h.row all.sparse h.is; each = h.each })
+      subst (λ (xs : List Cell). IsRow columns f xs) same
+      (record { sparse = at_number (IsSparse columns) k.rows n h.row all.sparse h.is; each = h.each })
 
   -- a row with these cells, where they are a row of these weights
-  pub weighed_row : (cells : List Cell) (rows : List (List Cell)) (f : ℕ → ℕ) (n : ℕ) → slice_get rows n ≡ Some cells → IsRow columns f cells → IsKeptRow columns f rows n
+  pub weighed_row : (cells : List Cell) (rows : List (List Cell)) (f : ℕ → ℕ) (n : ℕ) → slice_get rows n ≡ Some cells
+      → IsRow columns f cells → IsKeptRow columns f rows n
   weighed_row cells rows f n is r = record { row = cells; is = is; each = r.each }
 
   pub after_stays : (cells : List Cell) (old new : RowStore) → IsAfter columns cells old new → Stays old.rows new.rows
-  after_stays cells old new b n row e = subst (λ (xs : List (List Cell)). slice_get xs n ≡ Some row) (sym b.rows_are) (get_front old.rows (cells ∷ []) n row e)
+  after_stays cells old new b n row e = subst (λ (xs : List (List Cell)). slice_get xs n ≡ Some row) (sym b.rows_are)
+      (get_front old.rows (cells ∷ []) n row e)
 
-  common_stays : (old new : List (List Cell)) → Stays old new → (x : SharedRow) → IsSharedRow columns entries old x → IsSharedRow columns entries new x
+  common_stays : (old new : List (List Cell)) → Stays old new → (x : SharedRow) → IsSharedRow columns entries old x
+      → IsSharedRow columns entries new x
   common_stays old new stays x h = record { row = h.row; is = stays x.number h.row h.is; made = h.made }
 
-  pub after_kept : (cells : List Cell) (old new : RowStore) → IsAfter columns cells old new → IsSparse columns cells → AreKept columns entries old → AreKept columns entries new
+  pub after_kept : (cells : List Cell) (old new : RowStore) → IsAfter columns cells old new → IsSparse columns cells
+      → AreKept columns entries old → AreKept columns entries new
   after_kept cells old new b sparse all = record {
-    sparse = subst (λ (xs : List (List Cell)). All (IsSparse columns) xs) (sym b.rows_are) (All-push (IsSparse columns) old.rows cells all.sparse sparse);
+    sparse = subst (λ (xs : List (List Cell)). All (IsSparse columns) xs) (sym b.rows_are)
+        (All-push (IsSparse columns) old.rows cells all.sparse sparse);
     tested =
-        b.tests_are ∙ ap (λ (bs : List Bool). bs ++ is_proper columns cells ∷ []) all.tested ∙ sym (map-append (is_proper columns) old.rows (cells ∷ []))
+        b.tests_are ∙ ap (λ (bs : List Bool). bs ++ is_proper columns cells ∷ []) all.tested
+        ∙ sym (map-append (is_proper columns) old.rows (cells ∷ []))
         ∙ sym (ap (map (is_proper columns)) b.rows_are);
     common = subst (λ (xs : List SharedRow). All (IsSharedRow columns entries new.rows) xs) (sym b.common_are)
-        (All-weaker (IsSharedRow columns entries old.rows) (IsSharedRow columns entries new.rows) (common_stays old.rows new.rows (after_stays cells old new b)) old.shared.items all.common);
+        (All-weaker (IsSharedRow columns entries old.rows) (IsSharedRow columns entries new.rows)
+        (common_stays old.rows new.rows (after_stays cells old new b)) old.shared.items all.common);
   }
 
-  pub after_row : (cells : List Cell) (old new : RowStore) (n : ℕ) → IsAfter columns cells old new → n ≡ length old.rows → slice_get new.rows n ≡ Some cells
+  pub after_row : (cells : List Cell) (old new : RowStore) (n : ℕ) → IsAfter columns cells old new → n ≡ length old.rows
+      → slice_get new.rows n ≡ Some cells
   after_row cells old new n b e = grind (arith, get_last)
 
   -- one more row that one entry gives alone
-  pub one_more_common : (old new : RowStore) (x : SharedRow) → new.rows ≡ old.rows → new.proper.items ≡ old.proper.items → new.shared.items ≡ old.shared.items ++ x ∷ []
+  pub one_more_common : (old new : RowStore) (x : SharedRow) → new.rows ≡ old.rows → new.proper.items ≡ old.proper.items
+      → new.shared.items ≡ old.shared.items ++ x ∷ []
       → IsSharedRow columns entries old.rows x → AreKept columns entries old → AreKept columns entries new
   one_more_common old new x rows tests more here all = record {
     sparse = subst (λ (xs : List (List Cell)). All (IsSparse columns) xs) (sym rows) all.sparse;
     tested = tests ∙ all.tested ∙ sym (ap (map (is_proper columns)) rows);
     common = subst (λ (xs : List (List Cell)). All (IsSharedRow columns entries xs) new.shared.items) (sym rows)
-        (subst (λ (xs : List SharedRow). All (IsSharedRow columns entries old.rows) xs) (sym more) (All-push (IsSharedRow columns entries old.rows) old.shared.items x all.common here));
+        (subst (λ (xs : List SharedRow). All (IsSharedRow columns entries old.rows) xs) (sym more)
+        (All-push (IsSharedRow columns entries old.rows) old.shared.items x all.common here));
   }
 
   -- what is known of the sum of a row
-  pub proper_is : (k : RowStore) (f : ℕ → ℕ) (n : ℕ) (b : Bool) → AreKept columns entries k → IsKeptRow columns f k.rows n → slice_get k.proper.items n ≡ Some b → IsTrue b ↔ (sum_below f columns ≡ one * columns)
+  pub proper_is : (k : RowStore) (f : ℕ → ℕ) (n : ℕ) (b : Bool) → AreKept columns entries k → IsKeptRow columns f k.rows n
+      → slice_get k.proper.items n ≡ Some b → IsTrue b ↔ (sum_below f columns ≡ one * columns)
   proper_is k f n b all h is =
-      let at : slice_get (map (is_proper columns) k.rows) n ≡ Some (is_proper columns h.row) = slice_get-map (is_proper columns) k.rows n ∙ ap (option_map (is_proper columns)) h.is in
-      let same : is_proper columns h.row ≡ b = same_Some (is_proper columns h.row) b (sym at ∙ ap (λ (bs : List Bool). slice_get bs n) (sym all.tested) ∙ is) in
+      let at : slice_get (map (is_proper columns) k.rows) n ≡ Some (is_proper columns h.row) = slice_get-map (is_proper columns) k.rows n
+      ∙ ap (option_map (is_proper columns)) h.is in
+      let same : is_proper columns h.row ≡ b = same_Some (is_proper columns h.row) b
+      (sym at ∙ ap (λ (bs : List Bool). slice_get bs n) (sym all.tested) ∙ is) in
       let sum = sum_is columns h.row (at_number (IsSparse columns) k.rows n h.row all.sparse h.is) ∙ sum_same _ _ columns h.each in
       subst (λ t. IsTrue t ↔ (sum_below f columns ≡ one * columns)) same (equal_test _ _ _ sum)
 
@@ -108,24 +135,31 @@ row_within columns f rows n k = slice_get_within rows n k.row k.is
 pub number_stays : (old new : List (List Cell)) (n : ℕ) → Stays old new → n < length old → n < length new
 number_stays old new n stays l = slice_get_within new n _ (stays n _ (slice_get-get_or old n [] l))
 
-pub numbers_stay : (numbers : List ℕ) (old new : List (List Cell)) → Stays old new → All (λ n. n < length old) numbers → All (λ n. n < length new) numbers
+pub numbers_stay : (numbers : List ℕ) (old new : List (List Cell)) → Stays old new → All (λ n. n < length old) numbers
+    → All (λ n. n < length new) numbers
 numbers_stay numbers old new stays all k d l = number_stays old new (get_or numbers k d) stays (all k d l)
 
 -- ---- how large weights are
 number_small : (ps : List ℕ) (k : ℕ) → All (λ p. p ≤ one) ps → slice_index ps k ≤ one
-number_small ps k all = ⊎_elim (all k 0) (λ ge. let past : get_or ps k 0 ≡ 0 = get_or_past ps k 0 ge in omega arith) (cases_lt k (length ps))
+number_small ps k all = ⊎_elim (all k 0) (λ ge. let past : get_or ps k 0 ≡ 0 = get_or_past ps k 0 ge in omega arith)
+    (cases_lt k (length ps))
 
-given_by_small : (columns cells : ℕ) (places : List Place) (body : Body) (s c : ℕ) → 1 ≤ columns → Fills cells body → given_by columns places body s c ≤ one * columns
+given_by_small : (columns cells : ℕ) (places : List Place) (body : Body) (s c : ℕ) → 1 ≤ columns → Fills cells body
+    → given_by columns places body s c ≤ one * columns
 given_by_small columns cells places body s c h1 h2 = grind (arith, mul-le-mul_left, mul_comm, number_small)
 
-pub given_small : (shape : Shape) (e : Entry) (s c : ℕ) → IsWithin shape → FitsShape shape e → given shape.columns e s c ≤ one * shape.columns
+pub given_small : (shape : Shape) (e : Entry) (s c : ℕ) → IsWithin shape → FitsShape shape e
+    → given shape.columns e s c ≤ one * shape.columns
 given_small shape e s c w f = given_by_small shape.columns _ e.places e.body s c w.columns.0 f.body
 
-pub whole_small : (shape : Shape) (entries : List Entry) (whole : Option ℕ) (s c : ℕ) → IsWithin shape → IsWhole shape entries whole → given_at shape.columns entries whole s c ≤ one * shape.columns
+pub whole_small : (shape : Shape) (entries : List Entry) (whole : Option ℕ) (s c : ℕ) → IsWithin shape → IsWhole shape entries whole
+    → given_at shape.columns entries whole s c ≤ one * shape.columns
 whole_small shape entries whole s c h1 h2 = grind (arith, given_small)
 
 -- ---- rows of numbers
 pub full_row : (n : ℕ) (f : ℕ → ℕ) (ns : List ℕ) → IsFullLine n f ns → IsRow n f (scaled_cells (length ns) 0 ns)
 full_row n f ns line =
-    let row : IsRow n (λ c. slice_index ns c * length ns) (scaled_cells (length ns) 0 ns) = subst (λ (m : ℕ). IsRow m (λ c. slice_index ns c * length ns) (scaled_cells (length ns) 0 ns)) line.size (scaled_row (length ns) ns) in
+    let row : IsRow n (λ c. slice_index ns c * length ns) (scaled_cells (length ns) 0 ns) =
+    subst (λ (m : ℕ). IsRow m (λ c. slice_index ns c * length ns) (scaled_cells (length ns) 0 ns)) line.size (scaled_row (length ns) ns)
+    in
     row_same n _ f (scaled_cells (length ns) 0 ns) (λ c l. ap (λ m. slice_index ns c * m) line.size ∙ line.each c l) row

@@ -1,5 +1,6 @@
 -- The newest rule is the one that the function of the rules gives.
-use Rattle.std.proofs.Common.{◌≡◌, ◌∙◌, ℕ, zero, suc, ◌+◌, ◌*◌, ◌^◌, Bool, true, false, ◌⊎◌, inl, inr, ⊎_elim, Option, Some, List, [], ◌∷◌, Contains, refl, ap, subst, arith}
+use Rattle.std.proofs.Common.{◌≡◌, ◌∙◌, ℕ, zero, suc, ◌+◌, ◌*◌, ◌^◌, Bool, true, false, ◌⊎◌, inl, inr, ⊎_elim, Option, Some, List, [], ◌∷◌}
+use Rattle.std.proofs.Common.{Contains, refl, ap, subst, arith}
 use Rattle.std.specs.Prelude.{◌||◌, ◌==◌}
 use Rattle.polcert_rules.proofs.Common.{Place, Rule, key_base, key_in, IsNewest, max_option, newest_in}
 use Rattle.polcert_rules.specs.Keys.{Fits}
@@ -63,10 +64,13 @@ front_or_after : (r q : Rule) (rs : List Rule) → Contains (r ∷ rs) q → (r 
 front_or_after r q rs c = ⊎_elim inl (λ a. inr (contains_from rs q a)) (among_from (r ∷ rs) q c)
 
 -- the first rule passes
-with_first : (r : Rule) (rs : List Rule) (P : ℕ → Type 0) (x : Option ℕ) → P r.key → IsNewest rs P x → IsNewest (r ∷ rs) P (max_option (Some r.number) x)
+with_first : (r : Rule) (rs : List Rule) (P : ℕ → Type 0) (x : Option ℕ) → P r.key → IsNewest rs P x
+    → IsNewest (r ∷ rs) P (max_option (Some r.number) x)
 with_first r rs P x p n =
-    newest_of (r ∷ rs) P (max_option (Some r.number) x) (greatest_as (λ q. (r ≡ q) ⊎ (Contains rs q × P q.key)) _ (max_option (Some r.number) x)
-    (λ q e. ⊎_elim (λ same. subst (λ (y : Rule). Contains (r ∷ rs) y × P y.key) same (in_front r rs, p)) (λ c. (following r q rs c.0, c.1)) e)
+    newest_of (r ∷ rs) P (max_option (Some r.number) x)
+    (greatest_as (λ q. (r ≡ q) ⊎ (Contains rs q × P q.key)) _ (max_option (Some r.number) x)
+    (λ q e. ⊎_elim (λ same. subst (λ (y : Rule). Contains (r ∷ rs) y × P y.key) same (in_front r rs, p)) (λ c. (following r q rs c.0, c.1))
+    e)
     (λ q f. ⊎_elim inl (λ c. inr (c, f.1)) (front_or_after r q rs f.0))
     (greatest_of_two _ _ (Some r.number) x (greatest_itself r) (greatest_of rs P x n)))
 
@@ -77,7 +81,8 @@ without_first r rs P x fails n = grind (arith, ⊎_elim, newest_of_part, followi
 not_both : (b : Bool) → b ≡ false → b ≡ true → ⊥
 not_both b f t = cc
 
-pub newest_by_is : (rules : List Rule) (passes : ℕ → Bool) (P : ℕ → Type 0) → ((k : ℕ) → passes k ≡ true → P k) → ((k : ℕ) → P k → passes k ≡ true) → IsNewest rules P (newest_by passes rules)
+pub newest_by_is : (rules : List Rule) (passes : ℕ → Bool) (P : ℕ → Type 0) → ((k : ℕ) → passes k ≡ true → P k)
+    → ((k : ℕ) → P k → passes k ≡ true) → IsNewest rules P (newest_by passes rules)
 newest_by_is [] passes P sound complete = λ r c p. among_from [] r c
 newest_by_is (r ∷ rs) passes P sound complete = grind (arith, with_first, without_first, not_both, newest_by_is rs passes P sound complete)
 
@@ -86,5 +91,7 @@ pub one_newest : (rules : List Rule) (P : ℕ → Type 0) (m n : Option ℕ) →
 one_newest rs0 P m n h1 h2 = grind arith
 
 -- ---- the newest rule, computed
-pub newest_is : (levels low : ℕ) (rules : List Rule) (indices : List ℕ) → IsNewest rules (Fits levels low indices) (newest_in levels low rules indices)
-newest_is levels low rules indices = newest_by_is rules (fits_key levels low indices) (Fits levels low indices) (fits_is levels low indices) (is_fits levels low indices)
+pub newest_is : (levels low : ℕ) (rules : List Rule) (indices : List ℕ)
+    → IsNewest rules (Fits levels low indices) (newest_in levels low rules indices)
+newest_is levels low rules indices = newest_by_is rules (fits_key levels low indices) (Fits levels low indices) (fits_is levels low indices)
+    (is_fits levels low indices)

@@ -1,5 +1,6 @@
 -- Rules of few observations, one after another.
-use Rattle.std.proofs.Common.{◌≡◌, ◌∙◌, ℕ, zero, suc, ◌+◌, ◌<◌, false, cond, ◌⊎◌, inl, Option, Some, None, List, length, set, refl, sym, ap, arith, get_or-set_other}
+use Rattle.std.proofs.Common.{◌≡◌, ◌∙◌, ℕ, zero, suc, ◌+◌, ◌<◌, false, cond, ◌⊎◌, inl, Option, Some, None, List, length, set, refl, sym, ap}
+use Rattle.std.proofs.Common.{arith, get_or-set_other}
 use Rattle.std.specs.Prelude.{◌==◌}
 use Rattle.polcert_rules.proofs.Common.{nat_tests, NamedRule, max_option, rule_at}
 use Rattle.polcert_rules.specs.Steps.Distinct.{AreDistinct}
@@ -21,18 +22,22 @@ miss a b x y d = ap (λ t. cond t x y) (other_number a b d)
 -- ---- what the first rules have for an observation
 pub unnamed_in : (rules : List NamedRule) (n z : ℕ) → ((k : ℕ) → k < n → (rule_at rules k).observation ≡ z → ⊥) → number_in rules n z ≡ None
 unnamed_in rules zero z d = refl
-unnamed_in rules (suc n) z d = miss (rule_at rules n).observation z _ _ (d n (omega arith)) ∙ unnamed_in rules n z (λ k l. d k (omega (arith, l)))
+unnamed_in rules (suc n) z d = miss (rule_at rules n).observation z _ _ (d n (omega arith))
+    ∙ unnamed_in rules n z (λ k l. d k (omega (arith, l)))
 
-pub found_in : (rules : List NamedRule) (n k z : ℕ) → k < n → (rule_at rules k).observation ≡ z → AreDistinct rules n → number_in rules n z ≡ Some (rule_at rules k).number
+pub found_in : (rules : List NamedRule) (n k z : ℕ) → k < n → (rule_at rules k).observation ≡ z → AreDistinct rules n
+    → number_in rules n z ≡ Some (rule_at rules k).number
 found_in rules zero k z l e d = absurd (omega (arith, l))
-found_in rules (suc n) k z l e d = at (same_or_not k n) (λ m. found_in rules n k z m e (record { each = λ i j il jl. d.each i j il (omega (arith, jl)) }))
+found_in rules (suc n) k z l e d = at (same_or_not k n)
+    (λ m. found_in rules n k z m e (record { each = λ i j il jl. d.each i j il (omega (arith, jl)) }))
   where
     at : (k ≡ n) ⊎ (k ≡ n → ⊥) → (k < n → number_in rules n z ≡ Some (rule_at rules k).number)
         → cond ((rule_at rules n).observation == z) (Some (rule_at rules n).number) (number_in rules n z) ≡ Some (rule_at rules k).number
     at h1 h2 = grind (arith, hit, miss)
 
 -- two lists that have the same for an observation
-same_in : (xs ys : List NamedRule) (n z : ℕ) → ((k : ℕ) → k < n → (rule_at xs k ≡ rule_at ys k) ⊎ (((rule_at xs k).observation ≡ z → ⊥) × ((rule_at ys k).observation ≡ z → ⊥)))
+same_in : (xs ys : List NamedRule) (n z : ℕ) → ((k : ℕ) → k < n → (rule_at xs k ≡ rule_at ys k)
+    ⊎ (((rule_at xs k).observation ≡ z → ⊥) × ((rule_at ys k).observation ≡ z → ⊥)))
     → number_in xs n z ≡ number_in ys n z
 same_in xs ys zero z h = refl
 same_in xs ys (suc n) z h = grind (arith, miss, same_in xs ys n z)
@@ -53,11 +58,14 @@ module _ (rules : List NamedRule) (p : ℕ) (x : NamedRule) (room : p < length r
     pub renewed_distinct : AreDistinct rules n → AreDistinct (set rules p x) n
     renewed_distinct d = record { each = λ j k l m e. d.each j k l m (sym (same_observation j) ∙ e ∙ same_observation k) }
 
-    pub renewed_here : (w : Option ℕ) (number : ℕ) → AreDistinct rules n → max_option (Some (rule_at rules p).number) (Some number) ≡ Some x.number
-        → max_option w (number_in (set rules p x) n (rule_at rules p).observation) ≡ max_option (max_option w (number_in rules n (rule_at rules p).observation)) (Some number)
+    pub renewed_here : (w : Option ℕ) (number : ℕ) → AreDistinct rules n
+        → max_option (Some (rule_at rules p).number) (Some number) ≡ Some x.number
+        → max_option w (number_in (set rules p x) n (rule_at rules p).observation)
+        ≡ max_option (max_option w (number_in rules n (rule_at rules p).observation)) (Some number)
     renewed_here w number d e = grind (arith, later_of_later, found_in, at_place, same_observation, renewed_distinct)
 
-    pub renewed_other : (w : Option ℕ) (z : ℕ) → (z ≡ (rule_at rules p).observation → ⊥) → max_option w (number_in (set rules p x) n z) ≡ max_option w (number_in rules n z)
+    pub renewed_other : (w : Option ℕ) (z : ℕ) → (z ≡ (rule_at rules p).observation → ⊥)
+        → max_option w (number_in (set rules p x) n z) ≡ max_option w (number_in rules n z)
     renewed_other w z d = grind (arith, same_or_not, same_in, at_other, same_observation)
 
   one_more : p + 1 ≡ suc p
@@ -67,8 +75,10 @@ module _ (rules : List NamedRule) (p : ℕ) (x : NamedRule) (room : p < length r
   still_before z = same_in (set rules p x) rules p z (λ k l. inl (at_other k (λ f. absurd (omega (arith, f, l)))))
 
   pub pushed_here : (w : Option ℕ) → ((k : ℕ) → k < p → (rule_at rules k).observation ≡ x.observation → ⊥)
-      → max_option w (number_in (set rules p x) (p + 1) x.observation) ≡ max_option (max_option w (number_in rules p x.observation)) (Some x.number)
+      → max_option w (number_in (set rules p x) (p + 1) x.observation)
+      ≡ max_option (max_option w (number_in rules p x.observation)) (Some x.number)
   pushed_here w new = grind (arith, later_none, hit, unnamed_in, at_place, one_more)
 
-  pub pushed_other : (w : Option ℕ) (z : ℕ) → (z ≡ x.observation → ⊥) → max_option w (number_in (set rules p x) (p + 1) z) ≡ max_option w (number_in rules p z)
+  pub pushed_other : (w : Option ℕ) (z : ℕ) → (z ≡ x.observation → ⊥)
+      → max_option w (number_in (set rules p x) (p + 1) z) ≡ max_option w (number_in rules p z)
   pushed_other w z d = grind (arith, miss, at_place, one_more, still_before)

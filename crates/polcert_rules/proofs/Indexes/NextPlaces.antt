@@ -20,7 +20,8 @@ pub record GoesDeeper (rules : List Rule) (m low i : ℕ) (indices : List ℕ) (
   pub span_every : IsSpan rules next.of_every.now (low + key_base ^ (m - 1)) (key_base ^ (m - 1))
   pub span_only : IsSpan rules next.of_only.now (low + (i + 2) * key_base ^ (m - 1)) (key_base ^ (m - 1))
 
-pub goes_deeper : (rules : List Rule) (m low i : ℕ) (indices : List ℕ) (next : NextPlace) → m ≤ most_places → AreIndices m (i ∷ indices) → IsNextPlace rules low m i next
+pub goes_deeper : (rules : List Rule) (m low i : ℕ) (indices : List ℕ) (next : NextPlace) → m ≤ most_places → AreIndices m (i ∷ indices)
+    → IsNextPlace rules low m i next
     → GoesDeeper rules m low i indices next
 goes_deeper rules m low i indices next few a n =
     let d = is_deeper m low i indices (key_base ^ (m - 1)) a refl in
@@ -37,8 +38,10 @@ goes_deeper rules m low i indices next few a n =
     }
 
 -- what is so after the next keys is so at their numbers
-pub at_every : (P : ℕ → ℕ → Type 0) (rules : List Rule) (m low i : ℕ) (next : NextPlace) → IsNextPlace rules low m i next → P next.levels next.every → P (m - 1) (low + key_base ^ (m - 1))
+pub at_every : (P : ℕ → ℕ → Type 0) (rules : List Rule) (m low i : ℕ) (next : NextPlace) → IsNextPlace rules low m i next
+    → P next.levels next.every → P (m - 1) (low + key_base ^ (m - 1))
 at_every P rules m low i next n p = subst (P (m - 1)) n.every_is (subst (λ k. P k next.every) n.levels_are p)
 
-pub at_only : (P : ℕ → ℕ → Type 0) (rules : List Rule) (m low i : ℕ) (next : NextPlace) → IsNextPlace rules low m i next → P next.levels next.only → P (m - 1) (low + (i + 2) * key_base ^ (m - 1))
+pub at_only : (P : ℕ → ℕ → Type 0) (rules : List Rule) (m low i : ℕ) (next : NextPlace) → IsNextPlace rules low m i next
+    → P next.levels next.only → P (m - 1) (low + (i + 2) * key_base ^ (m - 1))
 at_only P rules m low i next n p = subst (P (m - 1)) n.only_is (subst (λ k. P k next.only) n.levels_are p)

@@ -1,6 +1,8 @@
 -- The newest rules of cells that have all indices but the last in common, step by step.
-use Rattle.std.proofs.Common.{◌≡◌, ◌∙◌, ℕ, zero, suc, ◌+◌, ◌-◌, ◌*◌, ◌^◌, ◌<◌, ◌≤◌, ◌↔◌, ◌⊎◌, inl, inr, ⊎_elim, Option, Some, None, List, [], ◌∷◌, ◌++◌, Contains, length, refl, sym, ap, subst, arith}
-use Rattle.polcert_rules.proofs.Common.{Contains-append_left, Contains-append_right, Contains-append_cases, Rule, key_base, AreIndices, IsNewest, max_option, IsNoted, IsLastPlace}
+use Rattle.std.proofs.Common.{◌≡◌, ◌∙◌, ℕ, zero, suc, ◌+◌, ◌-◌, ◌*◌, ◌^◌, ◌<◌, ◌≤◌, ◌↔◌, ◌⊎◌, inl, inr, ⊎_elim, Option, Some, None, List}
+use Rattle.std.proofs.Common.{[], ◌∷◌, ◌++◌, Contains, length, refl, sym, ap, subst, arith}
+use Rattle.polcert_rules.proofs.Common.{Contains-append_left, Contains-append_right, Contains-append_cases, Rule, key_base, AreIndices}
+use Rattle.polcert_rules.proofs.Common.{IsNewest, max_option, IsNoted, IsLastPlace}
 use Rattle.polcert_rules.specs.Keys.{Fits}
 use Rattle.polcert_rules.proofs.Keyed.Fitting.{fits_next, fits_here, fits_end, fits_every, fits_only}
 use Rattle.polcert_rules.proofs.Indexes.Greatest.{greatest_as, greatest_of, newest_of, greatest_of_two, greatest_itself}
@@ -26,20 +28,26 @@ only_one r y h1 = grind arith
 
 newest_skip : (xs : List Rule) (r : Rule) (P : ℕ → Type 0) (x : Option ℕ) → IsNewest xs P x → (P r.key → ⊥) → IsNewest (xs ++ r ∷ []) P x
 newest_skip xs r P x n d = newest_of_part (xs ++ r ∷ []) xs P x (λ y c. Contains-append_left xs (r ∷ []) y c)
-    (λ y c p. ⊎_elim (λ old. old) (λ new. absurd (d (subst (λ (z : Rule). P z.key) (sym (only_one r y new)) p))) (Contains-append_cases xs (r ∷ []) y c)) n
+    (λ y c p. ⊎_elim (λ old. old) (λ new. absurd (d (subst (λ (z : Rule). P z.key) (sym (only_one r y new)) p)))
+    (Contains-append_cases xs (r ∷ []) y c)) n
 
-newest_hit : (xs : List Rule) (r : Rule) (P : ℕ → Type 0) (x : Option ℕ) → IsNewest xs P x → P r.key → IsNewest (xs ++ r ∷ []) P (max_option x (Some r.number))
+newest_hit : (xs : List Rule) (r : Rule) (P : ℕ → Type 0) (x : Option ℕ) → IsNewest xs P x → P r.key
+    → IsNewest (xs ++ r ∷ []) P (max_option x (Some r.number))
 newest_hit xs r P x n h =
-    newest_of (xs ++ r ∷ []) P (max_option x (Some r.number)) (greatest_as (λ y. (Contains xs y × P y.key) ⊎ (r ≡ y)) _ (max_option x (Some r.number))
+    newest_of (xs ++ r ∷ []) P (max_option x (Some r.number))
+    (greatest_as (λ y. (Contains xs y × P y.key) ⊎ (r ≡ y)) _ (max_option x (Some r.number))
     (λ y e. ⊎_elim (λ old. (Contains-append_left xs (r ∷ []) y old.0, old.1))
-    (λ same. subst (λ (z : Rule). Contains (xs ++ r ∷ []) z × P z.key) same (Contains-append_right xs (r ∷ []) r (0, omega arith, refl), h)) e)
+    (λ same. subst (λ (z : Rule). Contains (xs ++ r ∷ []) z × P z.key) same (Contains-append_right xs (r ∷ []) r (0, omega arith, refl), h))
+    e)
     (λ y f. ⊎_elim (λ old. inl (old, f.1)) (λ new. inr (only_one r y new)) (Contains-append_cases xs (r ∷ []) y f.0))
     (greatest_of_two _ _ x (Some r.number) (greatest_of xs P x n) (greatest_itself r)))
 
-pub noted_skip : (xs : List Rule) (r : Rule) (P : ℕ → Type 0) (before old new : Option ℕ) → IsNoted xs P before old → (P r.key → ⊥) → new ≡ old → IsNoted (xs ++ r ∷ []) P before new
+pub noted_skip : (xs : List Rule) (r : Rule) (P : ℕ → Type 0) (before old new : Option ℕ) → IsNoted xs P before old → (P r.key → ⊥)
+    → new ≡ old → IsNoted (xs ++ r ∷ []) P before new
 noted_skip xs r P before old new n d e = record { found = n.found; newest = newest_skip xs r P n.found n.newest d; is = e ∙ n.is }
 
-pub noted_hit : (xs : List Rule) (r : Rule) (P : ℕ → Type 0) (before old new : Option ℕ) → IsNoted xs P before old → P r.key → new ≡ max_option old (Some r.number) → IsNoted (xs ++ r ∷ []) P before new
+pub noted_hit : (xs : List Rule) (r : Rule) (P : ℕ → Type 0) (before old new : Option ℕ) → IsNoted xs P before old → P r.key
+    → new ≡ max_option old (Some r.number) → IsNoted (xs ++ r ∷ []) P before new
 noted_hit xs r P before old new n h e = grind (arith, later_of_later, newest_hit)
 
 -- whether two numbers are the same
@@ -47,16 +55,20 @@ pub same_or_not : (a b : ℕ) → (a ≡ b) ⊎ (a ≡ b → ⊥)
 same_or_not a b = grind arith
 
 -- ---- place after place
-pub one_more_index : (m : ℕ) (indices : List ℕ) (z : ℕ) → AreIndices m indices → m ≡ length indices + 1 → z + 2 < key_base → AreIndices m (indices ++ z ∷ [])
+pub one_more_index : (m : ℕ) (indices : List ℕ) (z : ℕ) → AreIndices m indices → m ≡ length indices + 1 → z + 2 < key_base
+    → AreIndices m (indices ++ z ∷ [])
 one_more_index zero [] z a e l = absurd (omega arith)
 one_more_index zero (i ∷ indices) z a e l = absurd a
 one_more_index (suc m) [] z a e l = (l, tt)
 one_more_index (suc m) (i ∷ indices) z a e l = (a.0, one_more_index m indices z a.1 (omega arith) l)
 
 -- the last place: `*`, or the number itself, as the rules from their keys on have it
-pub noted_last : (rules following named : List Rule) (low first count i start : ℕ) (here before between after : Option ℕ) → i < count → start ≡ low + 2 + first
-    → ((r : Rule) → Contains following r ↔ (Contains rules r × (low + 1 ≤ r.key))) → IsNewest following (λ k. k ≡ low + 1) here → between ≡ max_option before here
-    → IsSpan rules named start count → IsNoted named (λ k. k ≡ start + i) between after → IsNoted rules (IsLastPlace low (first + i)) before after
+pub noted_last : (rules following named : List Rule) (low first count i start : ℕ) (here before between after : Option ℕ) → i < count
+    → start ≡ low + 2 + first
+    → ((r : Rule) → Contains following r ↔ (Contains rules r × (low + 1 ≤ r.key))) → IsNewest following (λ k. k ≡ low + 1) here
+    → between ≡ max_option before here
+    → IsSpan rules named start count → IsNoted named (λ k. k ≡ start + i) between after
+    → IsNoted rules (IsLastPlace low (first + i)) before after
 noted_last rules following named low first count i start here before between after l is from h e span n = record {
   found = max_option here n.found;
   newest = newest_as rules (λ k. (k ≡ low + 1) ⊎ (k ≡ start + i)) (IsLastPlace low (first + i)) (max_option here n.found)
@@ -64,17 +76,21 @@ noted_last rules following named low first count i start here before between aft
       (λ k f. ⊎_elim (λ every. inl every) (λ only. inr (omega arith)) f)
       (newest_of_two rules (λ k. k ≡ low + 1) (λ k. k ≡ start + i) here n.found
       (newest_of_part rules following (λ k. k ≡ low + 1) here (λ r c. ((from r).0 c).0) (λ r c f. (from r).1 (c, omega arith)) h)
-      (newest_of_part rules named (λ k. k ≡ start + i) n.found (λ r c. ((span r).0 c).0) (λ r c f. (span r).1 (c, omega arith, omega arith)) n.newest));
+      (newest_of_part rules named (λ k. k ≡ start + i) n.found (λ r c. ((span r).0 c).0) (λ r c f. (span r).1 (c, omega arith, omega arith))
+      n.newest));
   is = n.is ∙ ap (λ x. max_option x n.found) e ∙ later_of_later before here n.found;
 }
 
-pub noted_end : (rules : List Rule) (low z : ℕ) (here before between after : Option ℕ) → IsNewest rules (λ k. k ≡ low) here → between ≡ max_option before here
+pub noted_end : (rules : List Rule) (low z : ℕ) (here before between after : Option ℕ) → IsNewest rules (λ k. k ≡ low) here
+    → between ≡ max_option before here
     → IsNoted rules (IsLastPlace low z) between after → IsNoted rules (Fits 1 low (z ∷ [])) before after
 noted_end rules low z here before between after h e n = record {
   found = max_option here n.found;
   newest = newest_as rules (λ k. (k ≡ low) ⊎ IsLastPlace low z k) (Fits 1 low (z ∷ [])) (max_option here n.found)
-      (λ k f. ⊎_elim (fits_here 1 low k (z ∷ [])) (λ g. ⊎_elim (λ i. fits_every 0 low z [] k (fits_here 0 (low + key_base ^ 0) k [] i)) (λ i. fits_only 0 low z [] k (fits_here 0 (low + (z + 2) * key_base ^ 0) k [] (omega arith))) g) f)
-      (λ k f. ⊎_elim (λ i. inl i) (λ g. inr (⊎_elim (λ i. inl (fits_end 0 (low + key_base ^ 0) k i)) (λ i. inr (let j = fits_end 0 (low + (z + 2) * key_base ^ 0) k i in omega arith)) g)) (fits_next 0 low z [] k f))
+      (λ k f. ⊎_elim (fits_here 1 low k (z ∷ [])) (λ g. ⊎_elim (λ i. fits_every 0 low z [] k (fits_here 0 (low + key_base ^ 0) k [] i))
+      (λ i. fits_only 0 low z [] k (fits_here 0 (low + (z + 2) * key_base ^ 0) k [] (omega arith))) g) f)
+      (λ k f. ⊎_elim (λ i. inl i) (λ g. inr (⊎_elim (λ i. inl (fits_end 0 (low + key_base ^ 0) k i))
+      (λ i. inr (let j = fits_end 0 (low + (z + 2) * key_base ^ 0) k i in omega arith)) g)) (fits_next 0 low z [] k f))
       (newest_of_two rules (λ k. k ≡ low) (IsLastPlace low z) here n.found h n.newest);
   is = n.is ∙ ap (λ x. max_option x n.found) e ∙ later_of_later before here n.found;
 }
@@ -89,16 +105,20 @@ noted_deeper rules evens onlys m low i rest z step here before first second afte
     let d = is_deeper m low i (rest ++ z ∷ []) step (one_more_index m (i ∷ rest) z a size l) is in
     record {
       found = max_option here (max_option n.found o.found);
-      newest = newest_deeper rules evens onlys m low i (rest ++ z ∷ []) step here n.found o.found d h spanned n.newest spanned_only o.newest;
-      is = o.is ∙ ap (λ x. max_option x o.found) (n.is ∙ ap (λ x. max_option x n.found) e) ∙ later_of_later (max_option before here) n.found o.found ∙ later_of_later before here (max_option n.found o.found);
+      newest = newest_deeper rules evens onlys m low i (rest ++ z ∷ []) step here n.found o.found d h spanned n.newest spanned_only
+          o.newest;
+      is = o.is ∙ ap (λ x. max_option x o.found) (n.is ∙ ap (λ x. max_option x n.found) e)
+          ∙ later_of_later (max_option before here) n.found o.found ∙ later_of_later before here (max_option n.found o.found);
     }
 
 -- the same of all rules
 pub noted_of_three : (rules : List Rule) (m low i : ℕ) (indices : List ℕ) (here before first second after : Option ℕ)
     → IsNewest rules (λ k. k ≡ low) here → first ≡ max_option before here → IsNoted rules (Fits m (low + key_base ^ m) indices) first second
-    → IsNoted rules (Fits m (low + (i + 2) * key_base ^ m) indices) second after → IsNoted rules (Fits (suc m) low (i ∷ indices)) before after
+    → IsNoted rules (Fits m (low + (i + 2) * key_base ^ m) indices) second after
+    → IsNoted rules (Fits (suc m) low (i ∷ indices)) before after
 noted_of_three rs0 m low i indices here before first second after h e n o = grind (arith, newest_of_three, later_of_later)
 
 -- where nothing was noted before, the newest is noted
-pub noted_first : (rules : List Rule) (P : ℕ → Type 0) (before after : Option ℕ) → before ≡ None → IsNoted rules P before after → IsNewest rules P after
+pub noted_first : (rules : List Rule) (P : ℕ → Type 0) (before after : Option ℕ) → before ≡ None → IsNoted rules P before after
+    → IsNewest rules P after
 noted_first rules P before after none n = subst (IsNewest rules P) (sym (n.is ∙ ap (λ x. max_option x n.found) none)) n.newest

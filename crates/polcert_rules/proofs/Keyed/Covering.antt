@@ -1,6 +1,9 @@
 -- An entry covers a cell exactly where its key fits the indices: the newest that fits is the last that covers.
-use Rattle.std.proofs.Common.{◌≡◌, ◌∙◌, ℕ, suc, ◌+◌, ◌*◌, ◌^◌, ◌<◌, ◌≤◌, Bool, true, false, ◌&&◌, ◌||◌, Option, Some, None, List, [], ◌∷◌, ◌++◌, take, drop, length, All, Contains, refl, sym, ap, subst, arith}
-use Rattle.polcert_rules.proofs.Common.{list_any, drop_more, slice_get_within, get_or_from_slice_get, Table, Place, Entry, is_table, fit_places, covers, IsLastCovering, last, Rule, key_base, key_in, key_of, table_key, AreDigits, AreIndices, most_places, IsNewest, IsIndexOf, IsLastNumber, entry_at}
+use Rattle.std.proofs.Common.{◌≡◌, ◌∙◌, ℕ, suc, ◌+◌, ◌*◌, ◌^◌, ◌<◌, ◌≤◌, Bool, true, false, ◌&&◌, ◌||◌, Option, Some, None, List, [], ◌∷◌}
+use Rattle.std.proofs.Common.{◌++◌, take, drop, length, All, Contains, refl, sym, ap, subst, arith}
+use Rattle.polcert_rules.proofs.Common.{list_any, drop_more, slice_get_within, get_or_from_slice_get, Table, Place, Entry, is_table}
+use Rattle.polcert_rules.proofs.Common.{fit_places, covers, IsLastCovering, last, Rule, key_base, key_in, key_of, table_key, AreDigits}
+use Rattle.polcert_rules.proofs.Common.{AreIndices, most_places, IsNewest, IsIndexOf, IsLastNumber, entry_at}
 use Rattle.std.specs.List.{slice_get}
 use Rattle.polcert_cells.proofs.Basics.{slice_get-drop}
 use Rattle.std.proofs.lemmas.List.{take-append-drop}
@@ -20,15 +23,18 @@ pub table_of_digit : (t u : Table) → table_digit t ≡ table_digit u → t ≡
 table_of_digit t u h1 = grind arith
 
 -- the one fact: what covers fits, and what fits covers
-pub covered_fits : (table : Table) (indices : List ℕ) (e : Entry) → covers table indices e ≡ true → Fits most_places (table_key table) indices (key_of e)
+pub covered_fits : (table : Table) (indices : List ℕ) (e : Entry) → covers table indices e ≡ true
+    → Fits most_places (table_key table) indices (key_of e)
 covered_fits table indices e c = grind arith
 
-pub same_keys : (t u : Table) (ps qs : List Place) → AreDigits most_places ps → AreDigits most_places qs → key_in most_places (table_key t) ps ≡ key_in most_places (table_key u) qs
+pub same_keys : (t u : Table) (ps qs : List Place) → AreDigits most_places ps → AreDigits most_places qs
+    → key_in most_places (table_key t) ps ≡ key_in most_places (table_key u) qs
     → (t ≡ u) × (ps ≡ qs)
 same_keys t u ps qs a b e =
     let zero_t : 0 + table_key t ≡ table_key t = omega arith in
     let zero_u : 0 + table_key u ≡ table_key u = omega arith in
-    let moved : key_in most_places (0 + table_digit t * key_base ^ most_places) ps ≡ key_in most_places (0 + table_digit u * key_base ^ most_places) qs =
+    let moved : key_in most_places (0 + table_digit t * key_base ^ most_places) ps
+    ≡ key_in most_places (0 + table_digit u * key_base ^ most_places) qs =
     ap (λ l. key_in most_places l ps) zero_t ∙ e ∙ ap (λ l. key_in most_places l qs) (sym zero_u) in
     let tables : t ≡ u = table_of_digit t u (same_digit most_places 0 (table_digit t) (table_digit u) ps qs a b moved) in
     (tables, same_places most_places (table_key t) ps qs a b (e ∙ ap (λ v. key_in most_places (table_key v) qs) (sym tables)))
@@ -51,40 +57,48 @@ none_of p (e ∷ es) h =
     let rest : list_any p es ≡ false = none_of p es (λ k x is. h (suc k) x is) in
     ap (λ b. b || list_any p es) here ∙ rest
 
-last_at : (entries : List Entry) (table : Table) (indices : List ℕ) (n : ℕ) (e : Entry) → slice_get entries n ≡ Some e → covers table indices e ≡ true
-    → ((k : ℕ) (x : Entry) → slice_get entries k ≡ Some x → covers table indices x ≡ true → k ≤ n) → IsLastCovering entries table indices (Some e)
+last_at : (entries : List Entry) (table : Table) (indices : List ℕ) (n : ℕ) (e : Entry) → slice_get entries n ≡ Some e
+    → covers table indices e ≡ true
+    → ((k : ℕ) (x : Entry) → slice_get entries k ≡ Some x → covers table indices x ≡ true → k ≤ n)
+    → IsLastCovering entries table indices (Some e)
 last_at entries table indices n e is covered greatest =
     let inside = slice_get_within entries n e is in
     let split : drop n entries ≡ e ∷ drop (n + 1) entries =
     drop_more entries n e inside ∙ ap (λ (x : Entry). x ∷ drop (n + 1) entries) (get_or_from_slice_get entries n e e is) in
-    last (take n entries) e (drop (n + 1) entries) (sym (take-append-drop n entries) ∙ ap (λ (xs : List Entry). take n entries ++ xs) split) covered
+    last (take n entries) e (drop (n + 1) entries) (sym (take-append-drop n entries) ∙ ap (λ (xs : List Entry). take n entries ++ xs) split)
+    covered
     (none_of (covers table indices) (drop (n + 1) entries)
     (λ k x found c. let at = greatest (n + 1 + k) x (sym (slice_get-drop (n + 1) k entries) ∙ found) c in absurd (omega arith)))
 
 -- the entry of the last number is the last
-pub last_is : (entries : List Entry) (table : Table) (indices : List ℕ) (number : Option ℕ) → IsLastNumber entries table indices number → IsLastCovering entries table indices (entry_at entries number)
+pub last_is : (entries : List Entry) (table : Table) (indices : List ℕ) (number : Option ℕ) → IsLastNumber entries table indices number
+    → IsLastCovering entries table indices (entry_at entries number)
 last_is entries table indices None l = none (none_of (covers table indices) entries l)
 last_is entries table indices (Some n) l = grind (arith, last_at)
 
 pub keyed_at : (P : Entry → Type 0) (entries : List Entry) (k : ℕ) (e : Entry) → All P entries → slice_get entries k ≡ Some e → P e
 keyed_at P entries k e keyed is = subst P (get_or_from_slice_get entries k e e is) (keyed k e (slice_get_within entries k e is))
 
-pub number_within : (table : Table) (entries : List Entry) (rules : List Rule) → IsIndexOf table entries rules → (r : Rule) → Contains rules r → r.number < length entries
+pub number_within : (table : Table) (entries : List Entry) (rules : List Rule) → IsIndexOf table entries rules → (r : Rule)
+    → Contains rules r → r.number < length entries
 number_within table entries rules index r among = let e = index.sound r among in slice_get_within entries r.number e.0 e.1
 
 -- what covers a cell is an entry of the table
 pub covers_own : (table : Table) (indices : List ℕ) (e : Entry) → covers table indices e ≡ true → e.table ≡ table
 covers_own table indices e c = same_table e.table table (and_true (is_table e.table table) (fit_places e.places indices) c).0
 
-pub last_number : (entries : List Entry) (rules : List Rule) (table : Table) (indices : List ℕ) (result : Option ℕ) → IsIndexOf table entries rules
-    → AreIndices most_places indices → IsNewest rules (Fits most_places (table_key table) indices) result → IsLastNumber entries table indices result
+pub last_number : (entries : List Entry) (rules : List Rule) (table : Table) (indices : List ℕ) (result : Option ℕ)
+    → IsIndexOf table entries rules
+    → AreIndices most_places indices → IsNewest rules (Fits most_places (table_key table) indices) result
+    → IsLastNumber entries table indices result
 last_number entries rules table indices None index a n = λ k e is c.
     let r = index.complete k e is (covers_own table indices e c) in
     n r.0 r.1 (subst (Fits most_places (table_key table) indices) (sym r.2) (covered_fits table indices e c))
 last_number entries rules table indices (Some m) index a n =
     let entry = index.sound n.0.rule n.0.among in
     let is : slice_get entries m ≡ Some entry.0 = subst (λ k. slice_get entries k ≡ Some entry.0) n.0.is entry.1 in
-    let covered : covers table indices entry.0 ≡ true = fits_covered table indices entry.0 entry.4 a (subst (Fits most_places (table_key table) indices) (sym entry.2) n.0.passes) in (
+    let covered : covers table indices entry.0 ≡ true =
+    fits_covered table indices entry.0 entry.4 a (subst (Fits most_places (table_key table) indices) (sym entry.2) n.0.passes) in (
       (entry.0, is, covered),
       λ k x found c.
           let r = index.complete k x found (covers_own table indices x c) in
@@ -93,7 +107,8 @@ last_number entries rules table indices (Some m) index a n =
     )
 
 -- from the part of the rules that has the table's
-pub newest_in : (rules part : List Rule) (table : Table) (indices : List ℕ) (low size : ℕ) (result : Option ℕ) → low ≡ table_key table → size ≡ key_base ^ most_places
+pub newest_in : (rules part : List Rule) (table : Table) (indices : List ℕ) (low size : ℕ) (result : Option ℕ) → low ≡ table_key table
+    → size ≡ key_base ^ most_places
     → AreIndices most_places indices → IsSpan rules part low size → IsNewest part (Fits most_places low indices) result
     → IsNewest rules (Fits most_places (table_key table) indices) result
 newest_in rules part table indices low size result at full a span n =

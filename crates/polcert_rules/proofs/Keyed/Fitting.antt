@@ -85,6 +85,7 @@ fits_every m low i indices key f =
     let one : low + key_base ^ m ≡ low + 1 * key_base ^ m = omega arith in
     record { places = Every ∷ f.places; fits = f.fits; is = f.is ∙ ap (λ l. key_in m l f.places) one }
 
-pub fits_only : (m low i : ℕ) (indices : List ℕ) (key : ℕ) → Fits m (low + (i + 2) * key_base ^ m) indices key → Fits (suc m) low (i ∷ indices) key
+pub fits_only : (m low i : ℕ) (indices : List ℕ) (key : ℕ) → Fits m (low + (i + 2) * key_base ^ m) indices key
+    → Fits (suc m) low (i ∷ indices) key
 fits_only m low i indices key f =
     record { places = Only i ∷ f.places; fits = ap (λ b. b && fit_places f.places indices) (equal_numbers i) ∙ f.fits; is = f.is }

@@ -1,7 +1,9 @@
 -- The part of a rising list between two keys.
-use Rattle.std.proofs.Common.{◌≡◌, ℕ, ◌-◌, ◌<◌, ◌≤◌, ◌↔◌, ◌⊎◌, Some, true, false, ltb, List, [], AllPairs, length, take, drop, ⊎_elim, sym, ap, subst, arith, length-drop, length-take, take_all, get_or-drop, get_or-take, Contains}
+use Rattle.std.proofs.Common.{◌≡◌, ℕ, ◌-◌, ◌<◌, ◌≤◌, ◌↔◌, ◌⊎◌, Some, true, false, ltb, List, [], AllPairs, length, take, drop, ⊎_elim, sym}
+use Rattle.std.proofs.Common.{ap, subst, arith, length-drop, length-take, take_all, get_or-drop, get_or-take, Contains}
 use Rattle.std.specs.List.{slice_get}
-use Rattle.polcert_rules.proofs.Common.{IsPartitionedBy, IsNonDecreasingBy, cases_lt, Contains-append_left, Contains-append_right, Contains-append_cases, IsPartitionedBy-ltb, get_or_from_slice_get, Rule, IsRising}
+use Rattle.polcert_rules.proofs.Common.{IsPartitionedBy, IsNonDecreasingBy, cases_lt, Contains-append_left, Contains-append_right}
+use Rattle.polcert_rules.proofs.Common.{Contains-append_cases, IsPartitionedBy-ltb, get_or_from_slice_get, Rule, IsRising}
 use Rattle.std.specs.List.Sorted.{IsPartitionPoint}
 use Rattle.polcert_rules.specs.Steps.Newest.{IsCut}
 use Rattle.std.proofs.lemmas.List.{take-append-drop}
@@ -34,43 +36,67 @@ drop_whole n xs = take_all (length xs - n) (drop n xs) (omega (arith, length-dro
 
 -- ---- a cut that is known
 of_front : (rules : List Rule) (place : ℕ) (r : Rule) → Contains (take place rules) r → Contains rules r
-of_front rules place r c = subst (λ (xs : List Rule). Contains xs r) (take-append-drop place rules) (Contains-append_left (take place rules) (drop place rules) r c)
+of_front rules place r c = subst (λ (xs : List Rule). Contains xs r) (take-append-drop place rules)
+    (Contains-append_left (take place rules) (drop place rules) r c)
 
 of_rest : (rules : List Rule) (place : ℕ) (r : Rule) → Contains (drop place rules) r → Contains rules r
-of_rest rules place r c = subst (λ (xs : List Rule). Contains xs r) (take-append-drop place rules) (Contains-append_right (take place rules) (drop place rules) r c)
+of_rest rules place r c = subst (λ (xs : List Rule). Contains xs r) (take-append-drop place rules)
+    (Contains-append_right (take place rules) (drop place rules) r c)
 
-front_or_rest : (rules : List Rule) (place : ℕ) (r : Rule) → Contains rules r → Contains (take place rules) r ⊎ Contains (drop place rules) r
-front_or_rest rules place r c = Contains-append_cases (take place rules) (drop place rules) r (subst (λ (xs : List Rule). Contains xs r) (sym (take-append-drop place rules)) c)
+front_or_rest : (rules : List Rule) (place : ℕ) (r : Rule) → Contains rules r → Contains (take place rules) r
+    ⊎ Contains (drop place rules) r
+front_or_rest rules place r c = Contains-append_cases (take place rules) (drop place rules) r
+    (subst (λ (xs : List Rule). Contains xs r) (sym (take-append-drop place rules)) c)
 
-pub cut_front : (rules : List Rule) (key place : ℕ) → IsCut rules key place → (r : Rule) → Contains (take place rules) r ↔ (Contains rules r × (r.key < key))
-cut_front rules key place cut r =
-    ((λ c. (of_front rules place r c, cut.front r c)), (λ h. ⊎_elim (λ c. c) (λ c. let high = cut.rest r c in let low = h.1 in absurd (omega arith)) (front_or_rest rules place r h.0)))
+pub cut_front : (rules : List Rule) (key place : ℕ) → IsCut rules key place → (r : Rule) → Contains (take place rules) r
+    ↔ (Contains rules r × (r.key < key))
+cut_front rules key place cut r = (
+  (λ c. (of_front rules place r c, cut.front r c)),
+  (λ h. ⊎_elim (λ c. c)
+      (λ c. let high = cut.rest r c in let low = h.1 in absurd (omega arith)) (front_or_rest rules place r h.0)),
+)
 
-pub cut_rest : (rules : List Rule) (key place : ℕ) → IsCut rules key place → (r : Rule) → Contains (drop place rules) r ↔ (Contains rules r × (key ≤ r.key))
-cut_rest rules key place cut r =
-    ((λ c. (of_rest rules place r c, cut.rest r c)), (λ h. ⊎_elim (λ c. let low = cut.front r c in let high = h.1 in absurd (omega arith)) (λ c. c) (front_or_rest rules place r h.0)))
+pub cut_rest : (rules : List Rule) (key place : ℕ) → IsCut rules key place → (r : Rule) → Contains (drop place rules) r
+    ↔ (Contains rules r × (key ≤ r.key))
+cut_rest rules key place cut r = (
+  (λ c. (of_rest rules place r c, cut.rest r c)),
+  (λ h. ⊎_elim (λ c. let low = cut.front r c in let high = h.1 in absurd (omega arith))
+      (λ c. c) (front_or_rest rules place r h.0)),
+)
 
 -- those in front are below one key, and the others not below another
-pub gap_between : (rules : List Rule) (low high place : ℕ) → ((r : Rule) → Contains (take place rules) r → r.key < low) → ((r : Rule) → Contains (drop place rules) r → high ≤ r.key)
+pub gap_between : (rules : List Rule) (low high place : ℕ) → ((r : Rule) → Contains (take place rules) r → r.key < low)
+    → ((r : Rule) → Contains (drop place rules) r → high ≤ r.key)
     → (r : Rule) → Contains rules r → low ≤ r.key → r.key < high → ⊥
 gap_between rules low high place front rest r among from below =
-    ⊎_elim (λ c. let under = front r c in absurd (omega (arith, under, from))) (λ c. let over = rest r c in absurd (omega (arith, over, below))) (front_or_rest rules place r among)
+    ⊎_elim (λ c. let under = front r c in absurd (omega (arith, under, from)))
+    (λ c. let over = rest r c in absurd (omega (arith, over, below))) (front_or_rest rules place r among)
 
 -- where the others are not below the key, those in front are all that are
 pub near_front : (rules : List Rule) (key place : ℕ) → ((r : Rule) → Contains (drop place rules) r → key ≤ r.key) → (r : Rule)
     → (Contains (take place rules) r × (r.key < key)) ↔ (Contains rules r × (r.key < key))
-near_front rules key place above r =
-    ((λ h. (of_front rules place r h.0, h.1)), (λ h. (⊎_elim (λ c. c) (λ c. let high = above r c in let low = h.1 in absurd (omega arith)) (front_or_rest rules place r h.0), h.1)))
+near_front rules key place above r = (
+  (λ h. (of_front rules place r h.0, h.1)),
+  (λ h. (
+    ⊎_elim (λ c. c) (λ c. let high = above r c in let low = h.1 in absurd (omega arith))
+        (front_or_rest rules place r h.0),
+    h.1,
+  )),
+)
 
 -- ---- the first and the last of a rising list
-pub below_last : (rules : List Rule) (x : Rule) (key : ℕ) → IsRising rules → slice_get rules (length rules - 1) ≡ Some x → x.key < key → (r : Rule) → Contains rules r → r.key < key
+pub below_last : (rules : List Rule) (x : Rule) (key : ℕ) → IsRising rules → slice_get rules (length rules - 1) ≡ Some x → x.key < key
+    → (r : Rule) → Contains rules r → r.key < key
 below_last rs0 x key h1 h2 h3 r h4 = grind (arith, ⊎_elim, cases_lt, get_or_from_slice_get)
 
-pub above_first : (rules : List Rule) (x : Rule) (key : ℕ) → IsRising rules → slice_get rules 0 ≡ Some x → key ≤ x.key → (r : Rule) → Contains rules r → key ≤ r.key
+pub above_first : (rules : List Rule) (x : Rule) (key : ℕ) → IsRising rules → slice_get rules 0 ≡ Some x → key ≤ x.key → (r : Rule)
+    → Contains rules r → key ≤ r.key
 above_first rules x key up is less r among =
-    ⊎_elim (λ same. let here : r.key ≡ x.key = ap (λ (y : Rule). y.key) same in omega (arith, here, less)) (λ more. omega (arith, more, less)) (after_first rules x up is r among)
+    ⊎_elim (λ same. let here : r.key ≡ x.key = ap (λ (y : Rule). y.key) same in omega (arith, here, less))
+    (λ more. omega (arith, more, less)) (after_first rules x up is r among)
 
 -- ---- no rule stands below a key
-pub none_between : (rules : List Rule) (low high : ℕ) → ((r : Rule) → Contains rules r → high ≤ r.key) → (r : Rule) → Contains [] r ↔ (Contains rules r × (low ≤ r.key) × (r.key < high))
+pub none_between : (rules : List Rule) (low high : ℕ) → ((r : Rule) → Contains rules r → high ≤ r.key) → (r : Rule) → Contains [] r
+    ↔ (Contains rules r × (low ≤ r.key) × (r.key < high))
 none_between rules low high above r =
     ((λ none. let no : ⊥ = omega (arith, none.1) in absurd no), (λ h. let no : ⊥ = omega (arith, above r h.0, h.2) in absurd no))

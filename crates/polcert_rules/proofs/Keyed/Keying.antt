@@ -18,10 +18,12 @@ beyond m low p ps e = grind (arith, mul-le-mul_right, power_some, key_low, digit
 pub next_digit : (c d s : ℕ) → c < d → c * s + s ≤ d * s
 next_digit c d s l = let more : suc c * s ≤ d * s = mul-le-mul_right s l in let one : suc c * s ≡ c * s + s = suc-mul c s in omega arith
 
-lower_digit : (m low c d : ℕ) (ps qs : List Place) → AreDigits m ps → c < d → key_in m (low + c * key_base ^ m) ps < key_in m (low + d * key_base ^ m) qs
+lower_digit : (m low c d : ℕ) (ps qs : List Place) → AreDigits m ps → c < d
+    → key_in m (low + c * key_base ^ m) ps < key_in m (low + d * key_base ^ m) qs
 lower_digit m low c d ps qs a l = grind (arith, key_low, key_high, next_digit)
 
-pub same_digit : (m low c d : ℕ) (ps qs : List Place) → AreDigits m ps → AreDigits m qs → key_in m (low + c * key_base ^ m) ps ≡ key_in m (low + d * key_base ^ m) qs → c ≡ d
+pub same_digit : (m low c d : ℕ) (ps qs : List Place) → AreDigits m ps → AreDigits m qs
+    → key_in m (low + c * key_base ^ m) ps ≡ key_in m (low + d * key_base ^ m) qs → c ≡ d
 same_digit m low c d ps qs a b e = grind (arith, ⊎_elim, cases_lt, lower_digit)
 
 -- the same key comes from the same places
@@ -34,6 +36,7 @@ same_places (suc m) low (p ∷ ps) [] a b e = absurd (beyond m low p ps (sym e))
 same_places (suc m) low (p ∷ ps) (q ∷ qs) a b e =
     let digits : digit p ≡ digit q = same_digit m low (digit p) (digit q) ps qs a.1 b.1 e in
     let first : p ≡ q = same_place p q digits in
-    let covering_entry : key_in m (low + digit p * key_base ^ m) ps ≡ key_in m (low + digit p * key_base ^ m) qs = e ∙ ap (λ d. key_in m (low + d * key_base ^ m) qs) (sym digits) in
+    let covering_entry : key_in m (low + digit p * key_base ^ m) ps ≡ key_in m (low + digit p * key_base ^ m) qs = e
+    ∙ ap (λ d. key_in m (low + d * key_base ^ m) qs) (sym digits) in
     let rest : ps ≡ qs = same_places m (low + digit p * key_base ^ m) ps qs a.1 b.1 covering_entry in
     ap (λ (x : Place). x ∷ ps) first ∙ ap (λ (xs : List Place). q ∷ xs) rest

@@ -1,7 +1,10 @@
 -- Where no entry names either of two start states.
-use Rattle.std.proofs.Common.{◌≡◌, ◌∙◌, ℕ, zero, suc, ◌+◌, ◌*◌, ◌^◌, ◌<◌, ◌≤◌, Bool, true, false, ◌&&◌, inl, inr, Option, Some, None, List, [], ◌∷◌, length, drop, Contains, refl, sym, ap, subst, arith, pos, rules}
+use Rattle.std.proofs.Common.{◌≡◌, ◌∙◌, ℕ, zero, suc, ◌+◌, ◌*◌, ◌^◌, ◌<◌, ◌≤◌, Bool, true, false, ◌&&◌, inl, inr, Option, Some, None, List}
+use Rattle.std.proofs.Common.{[], ◌∷◌, length, drop, Contains, refl, sym, ap, subst, arith, pos, rules}
 use Rattle.std.specs.Prelude.{◌==◌, not, is_some, IsTrue, IsFalse}
-use Rattle.polcert_rules.proofs.Common.{nat_tests, Reward, Place, Every, Only, Entry, Preamble, fits_place, fit_places, is_table, covers, reward, reward_of, value_or, Rule, key_base, digit, key_in, table_key, AreDigits, AreIndices, most_places, newest_in, IsNewest, IsLastNumber, entry_at, AreRewardsOf, RewardRules}
+use Rattle.polcert_rules.proofs.Common.{nat_tests, Reward, Place, Every, Only, Entry, Preamble, fits_place, fit_places, is_table, covers}
+use Rattle.polcert_rules.proofs.Common.{reward, reward_of, value_or, Rule, key_base, digit, key_in, table_key, AreDigits, AreIndices}
+use Rattle.polcert_rules.proofs.Common.{most_places, newest_in, IsNewest, IsLastNumber, entry_at, AreRewardsOf, RewardRules}
 use Rattle.std.specs.List.{slice_get}
 use Rattle.polcert_rules.specs.Steps.RewardSearch.{NamesStart, NamesStartAfter}
 use Rattle.polcert_rules.proofs.Keyed.Fitting.{and_true, same_number, key_low, key_high}
@@ -19,12 +22,14 @@ pub is_false : (b : Bool) → IsFalse b → b ≡ false
 is_false b h = grind arith
 
 -- ---- what the search finds
-none_here : (rules part : List Rule) (low : ℕ) (here : Option ℕ) → IsSpan rules part low (key_base ^ 2) → IsNewest part (λ k. k ≡ low) here → false ≡ is_some here
+none_here : (rules part : List Rule) (low : ℕ) (here : Option ℕ) → IsSpan rules part low (key_base ^ 2) → IsNewest part (λ k. k ≡ low) here
+    → false ≡ is_some here
     → (r : Rule) → Contains rules r → r.key ≡ low → ⊥
 none_here rules part low None span newest none = newest_here rules part low (key_base ^ 2) None (omega arith) span newest
 none_here rules part low (Some n) span newest none = cc
 
-none_within : (rules part : List Rule) (low : ℕ) (empty : Bool) → IsSpan rules part low (key_base ^ 2) → empty ≡ (length part == 0) → empty ≡ true
+none_within : (rules part : List Rule) (low : ℕ) (empty : Bool) → IsSpan rules part low (key_base ^ 2) → empty ≡ (length part == 0)
+    → empty ≡ true
     → (r : Rule) → Contains rules r → low ≤ r.key → r.key < low + key_base ^ 2 → ⊥
 none_within rules [] low empty span is some_left r among from to =
     let inside = (span r).1 (among, from, to) in
@@ -33,17 +38,21 @@ none_within rules [] low empty span is some_left r among from to =
 none_within rules-0 (x ∷ xs) low empty span is some_left r among from to = grind (arith, nat_tests, true≢false)
 
 pub unnamed_after : (rules first second : List Rule) (low s : ℕ) (here : Option ℕ) (empty : Bool) → IsSpan rules first low (key_base ^ 2)
-    → IsNewest first (λ k. k ≡ low) here → false ≡ is_some here → IsSpan rules second (low + (s + 2) * key_base ^ 2) (key_base ^ 2) → empty ≡ (length second == 0)
+    → IsNewest first (λ k. k ≡ low) here → false ≡ is_some here → IsSpan rules second (low + (s + 2) * key_base ^ 2) (key_base ^ 2)
+    → empty ≡ (length second == 0)
     → empty ≡ true → (r : Rule) → Contains rules r → NamesStartAfter low s r.key → ⊥
-unnamed_after rules first second low s here empty span newest none named is some_left r among (inl at) = none_here rules first low here span newest none r among at
+unnamed_after rules first second low s here empty span newest none named is some_left r among (inl at) =
+    none_here rules first low here span newest none r among at
 unnamed_after rules-0 first second low s here empty span newest none named is some_left r among (inr within) = search (rules, none_within)
 
-pub unnamed : (rules first : List Rule) (a s step : ℕ) (here : Option ℕ) → step ≡ key_base ^ 3 → IsSpan rules first (table_key Reward) (key_base ^ 2)
+pub unnamed : (rules first : List Rule) (a s step : ℕ) (here : Option ℕ) → step ≡ key_base ^ 3
+    → IsSpan rules first (table_key Reward) (key_base ^ 2)
     → IsNewest first (λ k. k ≡ table_key Reward) here → false ≡ is_some here
     → ((r : Rule) → Contains rules r → NamesStartAfter (table_key Reward + step) s r.key → ⊥)
     → ((r : Rule) → Contains rules r → NamesStartAfter (table_key Reward + (a + 2) * step) s r.key → ⊥)
     → (r : Rule) → Contains rules r → NamesStart a s r.key → ⊥
-unnamed rules first a s step here full span newest none every only r among (inl at) = none_here rules first (table_key Reward) here span newest none r among at
+unnamed rules first a s step here full span newest none every only r among (inl at) =
+    none_here rules first (table_key Reward) here span newest none r among at
 unnamed rules first a s step here full span newest none every only r among (inr (inl names)) =
     every r among (subst (λ k. NamesStartAfter (table_key Reward + k) s r.key) (sym full) names)
 unnamed rules first a s step here full span newest none every only r among (inr (inr names)) =
@@ -51,7 +60,8 @@ unnamed rules first a s step here full span newest none every only r among (inr 
 
 -- ---- what covers a cell
 -- what is known of the key after the first place is known of the key
-after_first : (a s key : ℕ) (p : Place) → fits_place p a ≡ true → NamesStartAfter (table_key Reward + digit p * key_base ^ 3) s key → NamesStart a s key
+after_first : (a s key : ℕ) (p : Place) → fits_place p a ≡ true → NamesStartAfter (table_key Reward + digit p * key_base ^ 3) s key
+    → NamesStart a s key
 after_first a s key p h1 h2 = grind arith
 
 -- Places that fit a cell leave the start state open, if the key does not name it; they are two at least.
@@ -64,14 +74,16 @@ leaves_open : (a s other e z : ℕ) (ps : List Place) (key : ℕ) → fit_places
 leaves_open a s other e z [] key fits digits is unnamed = absurd (unnamed (inl is))
 leaves_open a s other e z (p ∷ []) key fits digits is unnamed = grind (arith, and_true, unnamed, after_first)
 leaves_open a s other e z (p ∷ Every ∷ ps) key fits digits is unnamed = record { fits = fits; two = omega arith }
-leaves_open a s other e z (p ∷ Only n ∷ ps) key fits digits is unnamed = grind (arith, and_true, same_number, key_low, key_high, unnamed, after_first)
+leaves_open a s other e z (p ∷ Only n ∷ ps) key fits digits is unnamed =
+    grind (arith, and_true, same_number, key_low, key_high, unnamed, after_first)
 
 -- no rule that fits the action names this start state
 abbrev pub NoneNames : RewardRules → ℕ → ℕ → Type 0
 NoneNames rewards a s = (r : Rule) → Contains rewards.rules r → NamesStart a s r.key → ⊥
 
 module _ (p : Preamble) (entries : List Entry) (rewards : RewardRules) (are : AreRewardsOf p entries rewards) (a : ℕ) where
-  opened : (s other e z k : ℕ) (x : Entry) → NoneNames rewards a s → slice_get entries k ≡ Some x → covers Reward (a ∷ s ∷ e ∷ z ∷ []) x ≡ true
+  opened : (s other e z k : ℕ) (x : Entry) → NoneNames rewards a s → slice_get entries k ≡ Some x
+      → covers Reward (a ∷ s ∷ e ∷ z ∷ []) x ≡ true
       → (covers Reward (a ∷ other ∷ e ∷ z ∷ []) x ≡ true) × (2 ≤ length x.places)
   opened s other e z k x unnamed is c =
       let d = covering p entries rewards (a ∷ s ∷ e ∷ z ∷ []) k x are is c in
@@ -82,8 +94,11 @@ module _ (p : Preamble) (entries : List Entry) (rewards : RewardRules) (are : Ar
   number_moved : (s other e z : ℕ) (number : Option ℕ) → NoneNames rewards a s → NoneNames rewards a other
       → IsLastNumber entries Reward (a ∷ s ∷ e ∷ z ∷ []) number → IsLastNumber entries Reward (a ∷ other ∷ e ∷ z ∷ []) number
   number_moved s other e z None here there last = λ k x is c. last k x is (opened other s e z k x there is c).0
-  number_moved s other e z (Some n) here there last =
-      ((last.0.0, last.0.1, (opened s other e z n last.0.0 here last.0.1 last.0.2).0), λ k x is c. last.1 k x is (opened other s e z k x there is c).0)
+  number_moved s other e z (Some n) here there last = (
+    (last.0.0, last.0.1, (opened s other e z n last.0.0 here last.0.1 last.0.2).0),
+    λ k x is c. last.1 k x is
+        (opened other s e z k x there is c).0,
+  )
 
   open_cell : (s other e z n : ℕ) → 2 ≤ n → drop n (a ∷ s ∷ e ∷ z ∷ []) ≡ drop n (a ∷ other ∷ e ∷ z ∷ [])
   open_cell s other e z zero two = absurd (omega (arith, two))
@@ -91,7 +106,8 @@ module _ (p : Preamble) (entries : List Entry) (rewards : RewardRules) (are : Ar
   open_cell s other e z (suc (suc n)) two = refl
 
   given_same : (s other e z : ℕ) (number : Option ℕ) → NoneNames rewards a s → IsLastNumber entries Reward (a ∷ s ∷ e ∷ z ∷ []) number
-      → value_or (pos 0) (reward_of p (a ∷ s ∷ e ∷ z ∷ [])) (entry_at entries number) ≡ value_or (pos 0) (reward_of p (a ∷ other ∷ e ∷ z ∷ [])) (entry_at entries number)
+      → value_or (pos 0) (reward_of p (a ∷ s ∷ e ∷ z ∷ [])) (entry_at entries number)
+      ≡ value_or (pos 0) (reward_of p (a ∷ other ∷ e ∷ z ∷ [])) (entry_at entries number)
   given_same s other e z number h1 h2 = grind (arith, opened, open_cell)
 
   pub same_rewards : (s other e z : ℕ) → NoneNames rewards a s → NoneNames rewards a other → AreIndices most_places (a ∷ s ∷ e ∷ z ∷ [])

@@ -1,7 +1,11 @@
 -- The number that a body has for a cell is what the entry gives it.
-use Rattle.std.proofs.Common.{◌≡◌, ◌∙◌, ℕ, zero, suc, ◌+◌, ◌<◌, ◌≤◌, Bool, true, ◌⊎◌, Option, Some, None, List, [], ◌∷◌, length, drop, map, get_or, All, sym, ap, subst, arith, ℤ, pos, neg_ℤ, unsigned_abs, if◌then◌else◌}
+use Rattle.std.proofs.Common.{◌≡◌, ◌∙◌, ℕ, zero, suc, ◌+◌, ◌<◌, ◌≤◌, Bool, true, ◌⊎◌, Option, Some, None, List, [], ◌∷◌, length, drop, map}
+use Rattle.std.proofs.Common.{get_or, All, sym, ap, subst, arith, ℤ, pos, neg_ℤ, unsigned_abs, if◌then◌else◌}
 use Rattle.std.specs.Prelude.{◌==◌}
-use Rattle.polcert_rules.proofs.Common.{list_any, drop_all, All-cons, All-nil, slice_get-get_or, get_or_from_slice_get, Reward, Body, Entry, count_of, forms, Preamble, dimensions, rewarded, IsSoundEntry, Fills, reward_of, reward, value_or, RewardBody, key_base, AreIndices, IsLastNumber, entry_at, worth, IsBodyOf, AreRewardsOf, cell_in, RewardRules, AreWithin, IsLastBody}
+use Rattle.polcert_rules.proofs.Common.{list_any, drop_all, All-cons, All-nil, slice_get-get_or, get_or_from_slice_get, Reward, Body, Entry}
+use Rattle.polcert_rules.proofs.Common.{count_of, forms, Preamble, dimensions, rewarded, IsSoundEntry, Fills, reward_of, reward, value_or}
+use Rattle.polcert_rules.proofs.Common.{RewardBody, key_base, AreIndices, IsLastNumber, entry_at, worth, IsBodyOf, AreRewardsOf, cell_in}
+use Rattle.polcert_rules.proofs.Common.{RewardRules, AreWithin, IsLastBody}
 use Rattle.std.specs.List.{slice_get}
 use Rattle.polcert_cells.specs.Entry.{cells_in}
 use Rattle.polcert_cells.specs.Preamble.{is_mdp}
@@ -14,7 +18,8 @@ use Rattle.polcert_cells.proofs.SoundLaws.{covered_table}
 use Rattle.polcert_rules.proofs.Keyed.Covering.{last_is, keyed_at}
 
 -- ---- the reward of a cell is what the entry of its last number gives
-pub number_reward : (p : Preamble) (entries : List Entry) (indices : List ℕ) (number : Option ℕ) → IsLastNumber entries Reward indices number
+pub number_reward : (p : Preamble) (entries : List Entry) (indices : List ℕ) (number : Option ℕ)
+    → IsLastNumber entries Reward indices number
     → reward p entries indices ≡ value_or (pos 0) (reward_of p indices) (entry_at entries number)
 number_reward p entries indices number l = grind (arith, last_is_one, last_is)
 
@@ -32,22 +37,29 @@ form_of mdp n h1 = grind arith
 
 -- the number of the cell is the one of the definition, and there is one
 pub record IsOpen (p : Preamble) (n : ℕ) (indices : List ℕ) : Type 0 where
-  pub cell : cell_in (count_of p.states) (count_of (rewarded p)) (drop n indices) ≡ row_major (drop n (dimensions p Reward)) (drop n indices)
+  pub cell : cell_in (count_of p.states) (count_of (rewarded p)) (drop n indices)
+      ≡ row_major (drop n (dimensions p Reward)) (drop n indices)
   pub within : row_major (drop n (dimensions p Reward)) (drop n indices) < cells_in (drop n (dimensions p Reward))
 
-pub is_open : (p : Preamble) (n a s e z : ℕ) → IsForm n → s < count_of p.states → e < count_of p.states → z < count_of (rewarded p) → IsOpen p n (a ∷ s ∷ e ∷ z ∷ [])
+pub is_open : (p : Preamble) (n a s e z : ℕ) → IsForm n → s < count_of p.states → e < count_of p.states → z < count_of (rewarded p)
+    → IsOpen p n (a ∷ s ∷ e ∷ z ∷ [])
 is_open p n a s e z h1 h2 h3 h4 = grind arith
 
 -- ---- the number at the cell
-number_at : (costs : Bool) (hs numbers : List ℤ) (start k : ℕ) → ((k : ℕ) (h : ℤ) → slice_get hs k ≡ Some h → slice_get numbers (start + k) ≡ Some (worth costs h))
-    → All (λ h. unsigned_abs h ≤ largest) hs → k < length hs → get_or numbers (start + k) (pos 0) ≡ (if costs then neg_ℤ (get_or hs k (pos 0)) else get_or hs k (pos 0))
+number_at : (costs : Bool) (hs numbers : List ℤ) (start k : ℕ)
+    → ((k : ℕ) (h : ℤ) → slice_get hs k ≡ Some h → slice_get numbers (start + k) ≡ Some (worth costs h))
+    → All (λ h. unsigned_abs h ≤ largest) hs → k < length hs
+    → get_or numbers (start + k) (pos 0) ≡ (if costs then neg_ℤ (get_or hs k (pos 0)) else get_or hs k (pos 0))
 number_at costs hs numbers start k stands small l = grind (arith, slice_get-get_or, get_or_from_slice_get, worth_is)
 
 -- a sound entry of R has rewards
-in_body : (p : Preamble) (body : Body) (numbers : List ℤ) (n start : ℕ) (indices : List ℕ) → list_any (λ k. k == n) (forms (is_mdp p) Reward body) ≡ true
+in_body : (p : Preamble) (body : Body) (numbers : List ℤ) (n start : ℕ) (indices : List ℕ)
+    → list_any (λ k. k == n) (forms (is_mdp p) Reward body) ≡ true
     → Fills (cells_in (drop n (dimensions p Reward))) body
-    → ((k : ℕ) (h : ℤ) → slice_get (rewards_in body) k ≡ Some h → slice_get numbers (start + k) ≡ Some (worth p.costs h)) → (IsForm n → IsOpen p n indices)
-    → get_or numbers (start + cell_in (count_of p.states) (count_of (rewarded p)) (drop n indices)) (pos 0) ≡ reward_in p.costs body (drop n (dimensions p Reward)) (drop n indices)
+    → ((k : ℕ) (h : ℤ) → slice_get (rewards_in body) k ≡ Some h → slice_get numbers (start + k) ≡ Some (worth p.costs h))
+    → (IsForm n → IsOpen p n indices)
+    → get_or numbers (start + cell_in (count_of p.states) (count_of (rewarded p)) (drop n indices)) (pos 0)
+    ≡ reward_in p.costs body (drop n (dimensions p Reward)) (drop n indices)
 in_body p body numbers n start indices h1 h2 h3 h4 = grind (arith, form_of, number_at)
 
 -- at an entry of R
@@ -58,12 +70,15 @@ pub record IsOfEntry (p : Preamble) (entry : Entry) : Type 0 where
 pub of_entry : (p : Preamble) (entry : Entry) → entry.table ≡ Reward → IsSoundEntry p entry → IsOfEntry p entry
 of_entry p entry t s = grind arith
 
-entry_number : (p : Preamble) (entry : Entry) (numbers : List ℤ) (b : RewardBody) (indices : List ℕ) → entry.table ≡ Reward → IsSoundEntry p entry → IsBodyOf p.costs entry numbers b
-    → ((n : ℕ) → IsForm n → IsOpen p n indices) → get_or numbers (b.start + cell_in (count_of p.states) (count_of (rewarded p)) (drop b.places indices)) (pos 0) ≡ reward_of p indices entry
+entry_number : (p : Preamble) (entry : Entry) (numbers : List ℤ) (b : RewardBody) (indices : List ℕ) → entry.table ≡ Reward
+    → IsSoundEntry p entry → IsBodyOf p.costs entry numbers b
+    → ((n : ℕ) → IsForm n → IsOpen p n indices) → get_or numbers
+    (b.start + cell_in (count_of p.states) (count_of (rewarded p)) (drop b.places indices)) (pos 0) ≡ reward_of p indices entry
 entry_number p entry numbers b indices t s body opens = grind (arith, in_body, of_entry)
 
 -- ---- the cell of a body
-pub all_open : (p : Preamble) (indices : List ℕ) → AreWithin (map count_of (dimensions p Reward)) indices → (n : ℕ) → IsForm n → IsOpen p n indices
+pub all_open : (p : Preamble) (indices : List ℕ) → AreWithin (map count_of (dimensions p Reward)) indices → (n : ℕ) → IsForm n
+    → IsOpen p n indices
 all_open p [] w n f = absurd w
 all_open p (a ∷ []) w n f = absurd w.1
 all_open p (a ∷ s ∷ []) w n f = absurd w.1.1
@@ -71,9 +86,11 @@ all_open p (a ∷ s ∷ e ∷ []) w n f = absurd w.1.1.1
 all_open p (a ∷ s ∷ e ∷ z ∷ []) w n f = is_open p n a s e z f w.1.0 w.1.1.0 w.1.1.1.0
 all_open p (a ∷ s ∷ e ∷ z ∷ x ∷ xs) w n f = absurd w.1.1.1.1
 
-pub body_reward : (p : Preamble) (entries : List Entry) (rewards : RewardRules) (indices : List ℕ) (b : RewardBody) → AreRewardsOf p entries rewards
+pub body_reward : (p : Preamble) (entries : List Entry) (rewards : RewardRules) (indices : List ℕ) (b : RewardBody)
+    → AreRewardsOf p entries rewards
     → ((n : ℕ) → IsForm n → IsOpen p n indices) → IsLastBody p.costs entries rewards.numbers indices (Some b)
-    → get_or rewards.numbers (b.start + cell_in rewards.shape.states rewards.shape.observations (drop b.places indices)) (pos 0) ≡ reward p entries indices
+    → get_or rewards.numbers (b.start + cell_in rewards.shape.states rewards.shape.observations (drop b.places indices)) (pos 0)
+    ≡ reward p entries indices
 body_reward p entries rewards indices b a opens last =
     let entry = last.last.0.0 in
     let found = last.last.0.1 in
@@ -84,28 +101,35 @@ body_reward p entries rewards indices b a opens last =
     ∙ entry_number p entry rewards.numbers b indices t s (last.body entry found) opens
     ∙ ap (value_or (pos 0) (reward_of p indices)) (sym found) ∙ sym (number_reward p entries indices (Some last.number) last.last)
 
-pub no_reward : (p : Preamble) (entries : List Entry) (indices : List ℕ) → IsLastNumber entries Reward indices None → pos 0 ≡ reward p entries indices
+pub no_reward : (p : Preamble) (entries : List Entry) (indices : List ℕ) → IsLastNumber entries Reward indices None
+    → pos 0 ≡ reward p entries indices
 no_reward p entries indices last = sym (number_reward p entries indices None last)
 
 -- ---- a body with a single number
-pub only_cell : (states observations places a s e z : ℕ) → IsSingle observations places → z < observations → cell_in states observations (drop places (a ∷ s ∷ e ∷ z ∷ [])) ≡ 0
+pub only_cell : (states observations places a s e z : ℕ) → IsSingle observations places → z < observations
+    → cell_in states observations (drop places (a ∷ s ∷ e ∷ z ∷ [])) ≡ 0
 only_cell states observations places a s e z h1 h2 = grind (arith, drop_all)
 
-only_cell_of : (p : Preamble) (states observations n : ℕ) (indices : List ℕ) → AreWithin (map count_of (dimensions p Reward)) indices → count_of (rewarded p) ≡ observations → IsSingle observations n
+only_cell_of : (p : Preamble) (states observations n : ℕ) (indices : List ℕ) → AreWithin (map count_of (dimensions p Reward)) indices
+    → count_of (rewarded p) ≡ observations → IsSingle observations n
     → cell_in states observations (drop n indices) ≡ 0
 only_cell_of p states observations n [] w is single = absurd w
 only_cell_of p states observations n (a ∷ []) w is single = absurd w.1
 only_cell_of p states observations n (a ∷ s ∷ []) w is single = absurd w.1.1
 only_cell_of p states observations n (a ∷ s ∷ e ∷ []) w is single = absurd w.1.1.1
-only_cell_of p states observations n (a ∷ s ∷ e ∷ z ∷ []) w is single = only_cell states observations n a s e z single (subst (λ c. z < c) is w.1.1.1.0)
+only_cell_of p states observations n (a ∷ s ∷ e ∷ z ∷ []) w is single =
+    only_cell states observations n a s e z single (subst (λ c. z < c) is w.1.1.1.0)
 only_cell_of p states observations n (a ∷ s ∷ e ∷ z ∷ x ∷ xs) w is single = absurd w.1.1.1.1
 
-pub single_reward : (p : Preamble) (entries : List Entry) (rewards : RewardRules) (indices : List ℕ) (b : RewardBody) → AreRewardsOf p entries rewards
-    → AreWithin (map count_of (dimensions p Reward)) indices → IsSingle rewards.shape.observations b.places → IsLastBody p.costs entries rewards.numbers indices (Some b)
+pub single_reward : (p : Preamble) (entries : List Entry) (rewards : RewardRules) (indices : List ℕ) (b : RewardBody)
+    → AreRewardsOf p entries rewards
+    → AreWithin (map count_of (dimensions p Reward)) indices → IsSingle rewards.shape.observations b.places
+    → IsLastBody p.costs entries rewards.numbers indices (Some b)
     → reward p entries indices ≡ get_or rewards.numbers (b.start + 0) (pos 0)
 single_reward p entries rewards indices b are within single last =
     sym (body_reward p entries rewards indices b are (all_open p indices within) last)
-    ∙ ap (λ k. get_or rewards.numbers (b.start + k) (pos 0)) (only_cell_of p rewards.shape.states rewards.shape.observations b.places indices within are.shape.observations single)
+    ∙ ap (λ k. get_or rewards.numbers (b.start + k) (pos 0))
+    (only_cell_of p rewards.shape.states rewards.shape.observations b.places indices within are.shape.observations single)
 
 -- ---- indices
 pub small_indices : (m : ℕ) (indices : List ℕ) → AreIndices m indices → All (λ i. i < key_base) indices

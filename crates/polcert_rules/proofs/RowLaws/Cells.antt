@@ -1,7 +1,10 @@
 -- The single cells of a row.
-use Rattle.std.proofs.Common.{◌≡◌, ◌∙◌, ℕ, ◌+◌, ◌-◌, ◌*◌, ◌/◌, ◌%◌, ◌<◌, ◌≤◌, ◌↔◌, ◌⊎◌, inl, inr, ⊎_elim, Bool, true, false, cond, eqb, Option, Some, None, List, [], ◌∷◌, ◌++◌, get_or, Contains, All, refl, sym, ap, subst, arith}
+use Rattle.std.proofs.Common.{◌≡◌, ◌∙◌, ℕ, ◌+◌, ◌-◌, ◌*◌, ◌/◌, ◌%◌, ◌<◌, ◌≤◌, ◌↔◌, ◌⊎◌, inl, inr, ⊎_elim, Bool, true, false, cond, eqb}
+use Rattle.std.proofs.Common.{Option, Some, None, List, [], ◌∷◌, ◌++◌, get_or, Contains, All, refl, sym, ap, subst, arith}
 use Rattle.std.specs.List.Sorted.{IsPermutation}
-use Rattle.polcert_rules.proofs.Common.{cases_lt, nat_tests, get_or_default, Contains-permutation, IsPermutation-sym, Contains-append_left, Contains-append_right, Contains-append_cases, Contains-get_or, Place, Every, Only, fits_place, Rule, key_base, digit, IsRising, IsNewest, newest_of_each, IsSingle, IsCell, columns_of, at_column}
+use Rattle.polcert_rules.proofs.Common.{cases_lt, nat_tests, get_or_default, Contains-permutation, IsPermutation-sym, Contains-append_left}
+use Rattle.polcert_rules.proofs.Common.{Contains-append_right, Contains-append_cases, Contains-get_or, Place, Every, Only, fits_place, Rule}
+use Rattle.polcert_rules.proofs.Common.{key_base, digit, IsRising, IsNewest, newest_of_each, IsSingle, IsCell, columns_of, at_column}
 use Rattle.polcert_rules.specs.Steps.Rows.{HasSharedColumns, IsColumn, start_of}
 use Rattle.polcert_rules.proofs.Keyed.Fitting.{equal_numbers}
 use Rattle.polcert_rules.proofs.Indexes.Building.{Among, Stands, among_from, contains_from, each_old, each_kept, rule_of}
@@ -28,18 +31,21 @@ columns_old start (r ∷ rs) x low a = at (eqb ((r.key - start) % key_base) 0) r
         (λ b. let i = ih b in (i.0, inr i.1, i.2, i.3)) a
     at false e ih a = let i = ih a in (i.0, inr i.1, i.2, i.3)
 
-columns_new : (start : ℕ) (part : List Rule) (r : Rule) (c : ℕ) → Among r part → r.key ≡ start + c * key_base → Among (rule_of c r.number) (columns_of start part)
+columns_new : (start : ℕ) (part : List Rule) (r : Rule) (c : ℕ) → Among r part → r.key ≡ start + c * key_base
+    → Among (rule_of c r.number) (columns_of start part)
 columns_new start [] r c a is = absurd a
 columns_new start (x ∷ xs) r c a is = at (eqb ((x.key - start) % key_base) 0) refl (λ b. columns_new start xs r c b is) a
   where
-    at : (b : Bool) → eqb ((x.key - start) % key_base) 0 ≡ b → (Among r xs → Among (rule_of c r.number) (columns_of start xs)) → (x ≡ r) ⊎ Among r xs
+    at : (b : Bool) → eqb ((x.key - start) % key_base) 0 ≡ b → (Among r xs → Among (rule_of c r.number) (columns_of start xs)) → (x ≡ r)
+        ⊎ Among r xs
         → Among (rule_of c r.number) (cond b (rule_of ((x.key - start) / key_base) x.number ∷ columns_of start xs) (columns_of start xs))
     at b h1 h2 h3 = grind (arith, ⊎_elim, nat_tests, rule_of)
 
 abbrev pub IsBetween : List Rule → List Rule → ℕ → ℕ → Type 0
 IsBetween rules part low high = (r : Rule) → Contains part r ↔ (Contains rules r × (low ≤ r.key) × (r.key < high))
 
-pub columns_are : (rules part : List Rule) (start : ℕ) → IsBetween rules part start (start + (key_base - 2) * key_base) → (x : Rule) → Contains (columns_of start part) x ↔ IsColumn rules start x
+pub columns_are : (rules part : List Rule) (start : ℕ) → IsBetween rules part start (start + (key_base - 2) * key_base) → (x : Rule)
+    → Contains (columns_of start part) x ↔ IsColumn rules start x
 columns_are rules part start between x = (forth, back)
   where
     forth : Contains (columns_of start part) x → IsColumn rules start x
@@ -59,19 +65,25 @@ columns_are rules part start between x = (forth, back)
         contains_from (columns_of start part) x (subst (λ n. Among (rule_of x.key n) (columns_of start part)) c.number_is found)
 
 -- with those that stand in front
-pub with_columns : (rules part old new : List Rule) (start : ℕ) → IsBetween rules part start (start + (key_base - 2) * key_base) → new ≡ old ++ columns_of start part
+pub with_columns : (rules part old new : List Rule) (start : ℕ) → IsBetween rules part start (start + (key_base - 2) * key_base)
+    → new ≡ old ++ columns_of start part
     → (x : Rule) → Contains new x ↔ (Contains old x ⊎ IsColumn rules start x)
 with_columns rules part old new start between is x = (
-  (λ c. ⊎_elim inl (λ b. inr ((columns_are rules part start between x).0 b)) (Contains-append_cases old (columns_of start part) x (subst (λ (xs : List Rule). Contains xs x) is c))),
-  (λ e. subst (λ (xs : List Rule). Contains xs x) (sym is) (⊎_elim (Contains-append_left old (columns_of start part) x) (λ c. Contains-append_right old (columns_of start part) x ((columns_are rules part start between x).1 c)) e)),
+  (λ c. ⊎_elim inl (λ b. inr ((columns_are rules part start between x).0 b))
+      (Contains-append_cases old (columns_of start part) x (subst (λ (xs : List Rule). Contains xs x) is c))),
+  (λ e. subst (λ (xs : List Rule). Contains xs x) (sym is)
+      (⊎_elim (Contains-append_left old (columns_of start part) x)
+      (λ c. Contains-append_right old (columns_of start part) x ((columns_are rules part start between x).1 c)) e)),
 )
 
 -- ---- the four kinds of single cells
-cell_from : (rules : List Rule) (low action state start : ℕ) (p q : Place) (x : Rule) → start ≡ start_of low (digit p) (digit q) → fits_place p action ≡ true → fits_place q state ≡ true
+cell_from : (rules : List Rule) (low action state start : ℕ) (p q : Place) (x : Rule) → start ≡ start_of low (digit p) (digit q)
+    → fits_place p action ≡ true → fits_place q state ≡ true
     → IsColumn rules start x → IsCell rules low action state x
 cell_from rs0 low action state start p q x is a s c = grind arith
 
-cell_to : (rules : List Rule) (low action state start : ℕ) (x : Rule) → (c : IsCell rules low action state x) → start ≡ start_of low (digit c.single.first) (digit c.single.second) → IsColumn rules start x
+cell_to : (rules : List Rule) (low action state start : ℕ) (x : Rule) → (c : IsCell rules low action state x)
+    → start ≡ start_of low (digit c.single.first) (digit c.single.second) → IsColumn rules start x
 cell_to rs0 low action state start x c is = grind arith
 
 -- a place that fits an index has one of two digits
@@ -99,8 +111,10 @@ gathered_are rules v0 v3 v4 low action state s4 empty i4 shared step4 x = (forth
         (cell_from rules low action state (start_of low (action + 2) 1) (Only action) Every x refl (fit action) refl) ((shared x).0 c3))
         (cell_from rules low action state s4 (Only action) (Only state) x i4 (fit action) (fit state)) ((step4 x).0 c4)
 
-    to : (c : IsCell rules low action state x) (start a b : ℕ) → start ≡ start_of low a b → digit c.single.first ≡ a → digit c.single.second ≡ b → IsColumn rules start x
-    to c start a b i e f = cell_to rules low action state start x c (i ∙ ap (λ d. start_of low d b) (sym e) ∙ ap (start_of low (digit c.single.first)) (sym f))
+    to : (c : IsCell rules low action state x) (start a b : ℕ) → start ≡ start_of low a b → digit c.single.first ≡ a
+        → digit c.single.second ≡ b → IsColumn rules start x
+    to c start a b i e f = cell_to rules low action state start x c
+        (i ∙ ap (λ d. start_of low d b) (sym e) ∙ ap (start_of low (digit c.single.first)) (sym f))
 
     back : IsCell rules low action state x → Contains v4 x
     back c =
@@ -117,9 +131,11 @@ gathered_are rules v0 v3 v4 low action state s4 empty i4 shared step4 x = (forth
 -- ---- the newest in each column
 pub same_key : (xs : List Rule) (x y : Rule) → IsRising xs → Contains xs x → Contains xs y → x.key ≡ y.key → x.number ≡ y.number
 same_key xs x y up (k, kl, ke) (l, ll, le) e = ⊎_elim
-    (λ less. let h = up k l x less ll in absurd (apart (get_or xs k x) (get_or xs l x) h (ap (λ (r : Rule). r.key) ke, ap (λ (r : Rule). r.key) (other ∙ le) ∙ sym e)))
+    (λ less. let h = up k l x less ll in absurd (apart (get_or xs k x) (get_or xs l x) h
+    (ap (λ (r : Rule). r.key) ke, ap (λ (r : Rule). r.key) (other ∙ le) ∙ sym e)))
     (λ ge. ⊎_elim
-    (λ less. let h = up l k x less kl in absurd (apart (get_or xs l x) (get_or xs k x) h (ap (λ (r : Rule). r.key) (other ∙ le) ∙ sym e, ap (λ (r : Rule). r.key) ke)))
+    (λ less. let h = up l k x less kl in absurd (apart (get_or xs l x) (get_or xs k x) h
+    (ap (λ (r : Rule). r.key) (other ∙ le) ∙ sym e, ap (λ (r : Rule). r.key) ke)))
     (λ le2. let same : k ≡ l = omega arith in
     ap (λ (r : Rule). r.number) (sym ke ∙ ap (λ i. get_or xs i x) same ∙ other ∙ le)) (cases_lt l k))
     (cases_lt k l)
@@ -134,24 +150,29 @@ pub column_found : (xs : List Rule) (c n : ℕ) → at_column xs c ≡ Some n �
 column_found [] c n e = cc
 column_found (x ∷ xs) c n e = at (eqb x.key c) refl (λ f. column_found xs c n f) e
   where
-    at : (b : Bool) → eqb x.key c ≡ b → (at_column xs c ≡ Some n → Among (rule_of c n) xs) → cond b (Some x.number) (at_column xs c) ≡ Some n → (x ≡ rule_of c n) ⊎ Among (rule_of c n) xs
+    at : (b : Bool) → eqb x.key c ≡ b → (at_column xs c ≡ Some n → Among (rule_of c n) xs)
+        → cond b (Some x.number) (at_column xs c) ≡ Some n → (x ≡ rule_of c n) ⊎ Among (rule_of c n) xs
     at b h1 h2 h3 = grind (arith, nat_tests, rule_of)
 
 pub column_missed : (xs : List Rule) (c : ℕ) (r : Rule) → at_column xs c ≡ None → Among r xs → r.key ≡ c → ⊥
 column_missed [] c r e a k = a
 column_missed (x ∷ xs) c r e a k = at (eqb x.key c) refl (λ f b. column_missed xs c r f b k) e a
   where
-    at : (b : Bool) → eqb x.key c ≡ b → (at_column xs c ≡ None → Among r xs → ⊥) → cond b (Some x.number) (at_column xs c) ≡ None → (x ≡ r) ⊎ Among r xs → ⊥
+    at : (b : Bool) → eqb x.key c ≡ b → (at_column xs c ≡ None → Among r xs → ⊥) → cond b (Some x.number) (at_column xs c) ≡ None → (x ≡ r)
+        ⊎ Among r xs → ⊥
     at b h1 h2 h3 h4 = grind (arith, ⊎_elim, nat_tests)
 
-pub newest_at : (rules gathered sorted : List Rule) (low action state : ℕ) → ((x : Rule) → Contains gathered x ↔ IsCell rules low action state x) → IsPermutation gathered sorted
-    → IsRising (newest_of_each sorted) → (c : ℕ) → c + 2 < key_base → IsNewest rules (IsSingle low action state c) (at_column (newest_of_each sorted) c)
+pub newest_at : (rules gathered sorted : List Rule) (low action state : ℕ)
+    → ((x : Rule) → Contains gathered x ↔ IsCell rules low action state x) → IsPermutation gathered sorted
+    → IsRising (newest_of_each sorted) → (c : ℕ) → c + 2 < key_base
+    → IsNewest rules (IsSingle low action state c) (at_column (newest_of_each sorted) c)
 newest_at rules gathered sorted low action state are p up c small = at (at_column (newest_of_each sorted) c) refl
   where
     -- a rule of the column has a cell that stands for it
     stands : (r : Rule) → Contains rules r → IsSingle low action state c r.key → Stands (newest_of_each sorted) (rule_of c r.number)
     stands r among single =
-        let cell : IsCell rules low action state (rule_of c r.number) = record { rule = r; among = among; single = single; column = small; number_is = refl } in
+        let cell : IsCell rules low action state (rule_of c r.number) =
+        record { rule = r; among = among; single = single; column = small; number_is = refl } in
         let inside : Contains sorted (rule_of c r.number) = Contains-permutation gathered sorted _ p ((are (rule_of c r.number)).1 cell) in
         each_kept sorted (rule_of c r.number) (among_from sorted _ inside)
 
@@ -164,13 +185,16 @@ newest_at rules gathered sorted low action state are p up c small = at (at_colum
           record { rule = cell.rule; among = cell.among; passes = cell.single; is = cell.number_is },
           λ r among single.
               let s = stands r among single in
-              let same : s.rule.number ≡ n = same_key (newest_of_each sorted) s.rule (rule_of c n) up (contains_from (newest_of_each sorted) s.rule s.among) (contains_from (newest_of_each sorted) _ found) s.key in
+              let same : s.rule.number ≡ n = same_key (newest_of_each sorted) s.rule (rule_of c n) up
+              (contains_from (newest_of_each sorted) s.rule s.among) (contains_from (newest_of_each sorted) _ found) s.key in
               let high = s.number in
               omega arith,
         )
 
 -- each cell that is kept is one of the row's
-pub each_cell : (rules gathered sorted : List Rule) (low action state : ℕ) → ((x : Rule) → Contains gathered x ↔ IsCell rules low action state x) → IsPermutation gathered sorted
+pub each_cell : (rules gathered sorted : List Rule) (low action state : ℕ)
+    → ((x : Rule) → Contains gathered x ↔ IsCell rules low action state x) → IsPermutation gathered sorted
     → All (IsCell rules low action state) (newest_of_each sorted)
 each_cell rules gathered sorted low action state are p = all_of (IsCell rules low action state) (newest_of_each sorted)
-    (λ x c. (are x).0 (Contains-permutation sorted gathered x (IsPermutation-sym gathered sorted p) (contains_from sorted x (each_old sorted x (among_from (newest_of_each sorted) x c)))))
+    (λ x c. (are x).0 (Contains-permutation sorted gathered x (IsPermutation-sym gathered sorted p)
+    (contains_from sorted x (each_old sorted x (among_from (newest_of_each sorted) x c)))))

@@ -21,7 +21,8 @@ of_no_state low x s is key exact f =
     (in_no_column _ (x * key_base + (s + 2)) (omega arith) key exact) o) (fits_next 2 low s (no_column ∷ []) key f)
 
 -- such a key covers no whole row
-pub covers_no_row : (low d a s : ℕ) → low ≡ d * key_base ^ 4 → (key : ℕ) → IsExactKey key → Fits most_places low (a ∷ s ∷ no_column ∷ []) key → ⊥
+pub covers_no_row : (low d a s : ℕ) → low ≡ d * key_base ^ 4 → (key : ℕ) → IsExactKey key
+    → Fits most_places low (a ∷ s ∷ no_column ∷ []) key → ⊥
 covers_no_row low d a s is key exact f =
     let column = exact.column in
     ⊎_elim (λ e. absurd (omega arith)) (λ o. ⊎_elim

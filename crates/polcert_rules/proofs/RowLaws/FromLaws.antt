@@ -1,7 +1,9 @@
 -- The cells of a row from a column on.
-use Rattle.std.proofs.Common.{◌≡◌, ◌∙◌, ℕ, zero, suc, ◌+◌, ◌<◌, ◌≤◌, true, false, cond, ltb, Some, None, List, [], ◌∷◌, length, get_or, drop, refl, sym, ap, arith}
+use Rattle.std.proofs.Common.{◌≡◌, ◌∙◌, ℕ, zero, suc, ◌+◌, ◌<◌, ◌≤◌, true, false, cond, ltb, Some, None, List, [], ◌∷◌, length, get_or}
+use Rattle.std.proofs.Common.{drop, refl, sym, ap, arith}
 use Rattle.std.specs.List.{slice_get}
-use Rattle.polcert_rules.proofs.Common.{IsPartitionedBy, slice_get_within, get_or_from_slice_get, nat_tests, IsPartitionedBy-ltb, Cell, weight_at, IsSparse, from}
+use Rattle.polcert_rules.proofs.Common.{IsPartitionedBy, slice_get_within, get_or_from_slice_get, nat_tests, IsPartitionedBy-ltb, Cell}
+use Rattle.polcert_rules.proofs.Common.{weight_at, IsSparse, from}
 use Rattle.polcert_cells.specs.Sparse.{AreRising}
 use Rattle.std.proofs.lemmas.Bool.{lt-ltb, le-ltb}
 use Rattle.polcert_rules.proofs.Keyed.KeyRanges.{in_order}
@@ -24,7 +26,8 @@ drop_is_from (x ∷ xs) (suc k) column low high =
     ∙ sym (ap (λ b. cond b (from column xs) (x ∷ xs)) here)
 
 -- where no column below is missing, it is at its own number
-pub full_up_to : (xs : List Cell) (column : ℕ) (x : Cell) → AreRising xs → slice_get xs column ≡ Some x → x.column ≡ column → drop column xs ≡ from column xs
+pub full_up_to : (xs : List Cell) (column : ℕ) (x : Cell) → AreRising xs → slice_get xs column ≡ Some x → x.column ≡ column
+    → drop column xs ≡ from column xs
 full_up_to xs column x up is same =
     let inside = slice_get_within xs column x is in
     drop_is_from xs column column

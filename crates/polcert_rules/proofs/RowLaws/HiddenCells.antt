@@ -1,6 +1,7 @@
 -- What covers the whole row, where newer zeros hide it.
 use Rattle.std.proofs.Common.{◌≡◌, ◌∙◌, ℕ, ◌+◌, ◌<◌, Bool, true, cond, Option, Some, None, List, [], ◌∷◌, sym, ap, arith, rules}
-use Rattle.polcert_rules.proofs.Common.{nat_tests, Entry, Cell, weight_at, IsRow, RowZeros, max_option, given_at, is_zero, zero_of, number_under, overrides, shown, shown_under}
+use Rattle.polcert_rules.proofs.Common.{nat_tests, Entry, Cell, weight_at, IsRow, RowZeros, max_option, given_at, is_zero, zero_of}
+use Rattle.polcert_rules.proofs.Common.{number_under, overrides, shown, shown_under}
 use Rattle.polcert_cells.proofs.SparseLaws.{Climbs, climbs_lower, climbs_from, sparse_from}
 use Rattle.polcert_rules.proofs.RowLaws.NewerCells.{picked_number}
 
@@ -20,7 +21,8 @@ shown_weight : (hidden : ℕ → Bool) (xs : List Cell) (c : ℕ) → weight_at 
 shown_weight hidden [] c = grind arith
 shown_weight hidden (x ∷ xs) c = grind (arith, nat_tests, shown_weight hidden xs c)
 
-shown_row : (n : ℕ) (hidden : ℕ → Bool) (f g : ℕ → ℕ) (xs : List Cell) → ((c : ℕ) → c < n → g c ≡ cond (hidden c) 0 (f c)) → IsRow n f xs → IsRow n g (shown hidden xs)
+shown_row : (n : ℕ) (hidden : ℕ → Bool) (f g : ℕ → ℕ) (xs : List Cell) → ((c : ℕ) → c < n → g c ≡ cond (hidden c) 0 (f c)) → IsRow n f xs
+    → IsRow n g (shown hidden xs)
 shown_row n hidden f g xs same row = record {
   sparse = sparse_from 0 n (shown hidden xs) (shown_climbs 0 n hidden xs (climbs_from n xs row.sparse));
   each = λ c l. shown_weight hidden xs c ∙ ap (cond (hidden c) 0) (row.each c l) ∙ sym (same c l);
@@ -32,7 +34,8 @@ under_given : (columns : ℕ) (entries : List Entry) (whole zero : Option ℕ) (
 under_given columns entries whole zero s c h1 = grind (arith, picked_number, zero_given)
 
 pub under_row : (columns : ℕ) (entries : List Entry) (whole : Option ℕ) (zeros : Option RowZeros) (s : ℕ) (base : List Cell)
-    → ((c n : ℕ) → c < columns → zero_of zeros c ≡ Some n → is_zero entries n ≡ true) → IsRow columns (given_at columns entries whole s) base
+    → ((c n : ℕ) → c < columns → zero_of zeros c ≡ Some n → is_zero entries n ≡ true)
+    → IsRow columns (given_at columns entries whole s) base
     → IsRow columns (λ c. given_at columns entries (number_under whole zeros c) s c) (shown_under whole zeros base)
 under_row columns entries whole None s base h row = row
 under_row columns entries whole (Some z) s base h row = search (rules, shown_row, under_given)

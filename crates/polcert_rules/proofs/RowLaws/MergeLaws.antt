@@ -10,22 +10,26 @@ climbs_before : (low n k : ℕ) (base rest : List Cell) → Climbs low n base �
 climbs_before low n k [] rest h le g = climbs_lower low k n rest le g
 climbs_before low n k (x ∷ xs) rest h le g = at (ltb x.column k) refl (λ l. climbs_before (x.column + 1) n k xs rest h.3 l g)
   where
-    at : (b : Bool) → ltb x.column k ≡ b → (x.column + 1 ≤ k → Climbs (x.column + 1) n (before k xs ++ rest)) → Climbs low n (cond b (x ∷ before k xs) [] ++ rest)
+    at : (b : Bool) → ltb x.column k ≡ b → (x.column + 1 ≤ k → Climbs (x.column + 1) n (before k xs ++ rest))
+        → Climbs low n (cond b (x ∷ before k xs) [] ++ rest)
     at b h1 h2 = grind (arith, nat_tests, climbs_lower)
 
 climbs_after : (low n k : ℕ) (base : List Cell) → Climbs low n base → Climbs (k + 1) n (following k base)
 climbs_after low n k [] h = tt
 climbs_after low n k (x ∷ xs) h = at (ltb x.column k) refl (eqb x.column k) refl (climbs_after (x.column + 1) n k xs h.3)
   where
-    at : (b : Bool) → ltb x.column k ≡ b → (t : Bool) → eqb x.column k ≡ t → Climbs (k + 1) n (following k xs) → Climbs (k + 1) n (cond b (following k xs) (cond t xs (x ∷ xs)))
+    at : (b : Bool) → ltb x.column k ≡ b → (t : Bool) → eqb x.column k ≡ t → Climbs (k + 1) n (following k xs)
+        → Climbs (k + 1) n (cond b (following k xs) (cond t xs (x ∷ xs)))
     at b h1 t h2 h3 = grind (arith, nat_tests)
 
 -- a column before the given one
-weight_before : (low n k c : ℕ) (base rest : List Cell) → Climbs low n base → c < k → weight_at rest c ≡ 0 → weight_at (before k base ++ rest) c ≡ weight_at base c
+weight_before : (low n k c : ℕ) (base rest : List Cell) → Climbs low n base → c < k → weight_at rest c ≡ 0
+    → weight_at (before k base ++ rest) c ≡ weight_at base c
 weight_before low n k c [] rest h l z = z
 weight_before low n k c (x ∷ xs) rest h l z = at (ltb x.column k) refl (weight_before (x.column + 1) n k c xs rest h.3 l z)
   where
-    at : (b : Bool) → ltb x.column k ≡ b → weight_at (before k xs ++ rest) c ≡ weight_at xs c → weight_at (cond b (x ∷ before k xs) [] ++ rest) c ≡ weight_at (x ∷ xs) c
+    at : (b : Bool) → ltb x.column k ≡ b → weight_at (before k xs ++ rest) c ≡ weight_at xs c
+        → weight_at (cond b (x ∷ before k xs) [] ++ rest) c ≡ weight_at (x ∷ xs) c
     at b h1 h2 = grind (arith, nat_tests, weight_below)
 
 -- a column from the given one on
@@ -63,9 +67,11 @@ pub merged_climbs : (low n : ℕ) (base newer : List Cell) → Climbs low n base
 merged_climbs low n base [] h r = h
 merged_climbs low n base (x ∷ xs) h r =
     climbs_before low n x.column base (with_cell x (merged (following x.column base) xs)) h r.0
-    (climbs_with x.column n x (merged (following x.column base) xs) refl r.1 (merged_climbs (x.column + 1) n (following x.column base) xs (climbs_after low n x.column base h) r.2))
+    (climbs_with x.column n x (merged (following x.column base) xs) refl r.1
+    (merged_climbs (x.column + 1) n (following x.column base) xs (climbs_after low n x.column base h) r.2))
 
-pub merged_weights : (low n c : ℕ) (base newer : List Cell) → Climbs low n base → Rises low n newer → weight_at (merged base newer) c ≡ weight_over newer (weight_at base) c
+pub merged_weights : (low n c : ℕ) (base newer : List Cell) → Climbs low n base → Rises low n newer
+    → weight_at (merged base newer) c ≡ weight_over newer (weight_at base) c
 merged_weights low n c base [] h r = refl
 merged_weights low n c base (x ∷ xs) h r =
     at (ltb c x.column) refl (eqb x.column c) refl (merged_weights (k + 1) n c (following k base) xs (climbs_after low n k base h) r.2)
@@ -81,10 +87,26 @@ merged_weights low n c base (x ∷ xs) h r =
 
     at : (b : Bool) → ltb c k ≡ b → (t : Bool) → eqb k c ≡ t → weight_at rest c ≡ weight_over xs (weight_at (following k base)) c
         → weight_at (before k base ++ with_cell x rest) c ≡ cond t x.weight (weight_over xs (weight_at base) c)
-    at b h1 t h2 h3 = grind (arith, nat_tests, weight_below, weight_before, weight_after, weight_following, climbs_with, weight_with_here, weight_with_there, over_low, over_same, k, rest, rest_climbs)
+    at b h1 t h2 h3 = grind (
+      arith,
+      nat_tests,
+      weight_below,
+      weight_before,
+      weight_after,
+      weight_following,
+      climbs_with,
+      weight_with_here,
+      weight_with_there,
+      over_low,
+      over_same,
+      k,
+      rest,
+      rest_climbs,
+    )
 
 -- newer cells over a row are a row
-pub merged_row : (n : ℕ) (f : ℕ → ℕ) (base newer : List Cell) → IsRow n f base → Rises 0 n newer → IsRow n (weight_over newer f) (merged base newer)
+pub merged_row : (n : ℕ) (f : ℕ → ℕ) (base newer : List Cell) → IsRow n f base → Rises 0 n newer
+    → IsRow n (weight_over newer f) (merged base newer)
 merged_row n f base newer row r =
     let h = climbs_from n base row.sparse in
     record {

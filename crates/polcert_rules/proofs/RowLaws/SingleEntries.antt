@@ -6,13 +6,15 @@ use Rattle.polcert_rules.proofs.Keyed.Fitting.{fit_digits}
 use Rattle.polcert_rules.proofs.Keyed.Covering.{same_keys}
 use Rattle.polcert_rules.proofs.RowLaws.RowNumbers.{single_fit}
 
-pub single_entry : (entries : List Entry) (rules : List Rule) (table : Table) (a s : ℕ) → IsIndexOf table entries rules → a + 2 < key_base → s + 2 < key_base
+pub single_entry : (entries : List Entry) (rules : List Rule) (table : Table) (a s : ℕ) → IsIndexOf table entries rules → a + 2 < key_base
+    → s + 2 < key_base
     → (x : Rule) → IsCell rules (table_key table) a s x → IsSingleEntry entries table x
 single_entry entries rules table a s index la ls x c =
     let entry = index.sound c.rule c.among in
     let places : List Place = c.single.first ∷ c.single.second ∷ Only x.key ∷ [] in
     let small = c.column in
-    let named = fit_digits most_places places (a ∷ s ∷ x.key ∷ []) (omega arith, (omega arith, (omega arith, tt))) (single_fit (table_key table) a s x.key c.rule.key c.single) in
+    let named = fit_digits most_places places (a ∷ s ∷ x.key ∷ []) (omega arith, (omega arith, (omega arith, tt)))
+    (single_fit (table_key table) a s x.key c.rule.key c.single) in
     let same = same_keys entry.0.table table entry.0.places places entry.4 named (entry.2 ∙ c.single.is) in
     record {
       entry = entry.0;
@@ -23,6 +25,7 @@ single_entry entries rules table a s index la ls x c =
       places = same.1;
     }
 
-pub single_entries : (entries : List Entry) (rules : List Rule) (table : Table) (a s : ℕ) (xs : List Rule) → IsIndexOf table entries rules → a + 2 < key_base → s + 2 < key_base
+pub single_entries : (entries : List Entry) (rules : List Rule) (table : Table) (a s : ℕ) (xs : List Rule) → IsIndexOf table entries rules
+    → a + 2 < key_base → s + 2 < key_base
     → All (IsCell rules (table_key table) a s) xs → All (IsSingleEntry entries table) xs
 single_entries entries rules table a s xs index la ls h k d l = single_entry entries rules table a s index la ls _ (h k d l)

@@ -1,7 +1,13 @@
 -- Sound entries: their keys, and the numbers and weights of their rows.
-use Rattle.std.proofs.Common.{◌≡◌, ◌∙◌, ℕ, zero, suc, ◌+◌, ◌*◌, ◌<◌, ◌≤◌, lit≤, Option, Some, None, List, [], ◌∷◌, ◌++◌, length, All, refl, sym, ap, subst, arith, rules}
+use Rattle.std.proofs.Common.{◌≡◌, ◌∙◌, ℕ, zero, suc, ◌+◌, ◌*◌, ◌<◌, ◌≤◌, lit≤, Option, Some, None, List, [], ◌∷◌, ◌++◌, length, All, refl}
+use Rattle.std.proofs.Common.{sym, ap, subst, arith, rules}
 use Rattle.std.specs.List.{slice_get}
-use Rattle.polcert_rules.proofs.Common.{Table, Reward, Place, Only, Entry, Elements, count_of, most_states, most_actions, most_observations, is_table, fit_places, last_covering, IsLastCovering, last, weight, weight_of, value_or, one, Preamble, dimensions, IsWeighted, IsSoundEntry, Rule, Shape, SplitRules, Row, IsSplit, IsRowOf, covering_entry, key_base, AreDigits, most_places, IsIndexOf, AreKeyed, IsLastNumber, entry_at, HaveColumns, IsSingleEntry, no_column, number_in, IsWithin, FitsShape, given, IsShapeOf, AreSound, weight_in, IsWhole, AreNumbersOf}
+use Rattle.polcert_rules.proofs.Common.{Table, Reward, Place, Only, Entry, Elements, count_of, most_states, most_actions, most_observations}
+use Rattle.polcert_rules.proofs.Common.{is_table, fit_places, last_covering, IsLastCovering, last, weight, weight_of, value_or, one}
+use Rattle.polcert_rules.proofs.Common.{Preamble, dimensions, IsWeighted, IsSoundEntry, Rule, Shape, SplitRules, Row, IsSplit, IsRowOf}
+use Rattle.polcert_rules.proofs.Common.{covering_entry, key_base, AreDigits, most_places, IsIndexOf, AreKeyed, IsLastNumber, entry_at}
+use Rattle.polcert_rules.proofs.Common.{HaveColumns, IsSingleEntry, no_column, number_in, IsWithin, FitsShape, given, IsShapeOf, AreSound}
+use Rattle.polcert_rules.proofs.Common.{weight_in, IsWhole, AreNumbersOf}
 use Rattle.polcert_cells.specs.declared.entries.Table.TheVariants.{Transition, Observation}
 use Rattle.polcert_cells.specs.Preamble.{observed}
 use Rattle.polcert_cells.specs.Steps.Sound.{ArePlacesIn}
@@ -28,12 +34,20 @@ digits_in m [] (x ∷ ps) l few h = absurd h
 digits_in zero (d ∷ ds) (x ∷ ps) l few h = absurd (omega arith)
 digits_in (suc m) (d ∷ ds) (x ∷ ps) l few h = (place_digit d x few.0 h.0, digits_in m ds ps (omega arith) few.1 h.1)
 
-module _ (p : Preamble) (sound : (count_of p.states ≤ most_states) × (count_of p.actions ≤ most_actions) × (count_of (observed p) ≤ most_observations)) where
+module _ (p : Preamble) (sound : (count_of p.states ≤ most_states) × (count_of p.actions ≤ most_actions)
+    × (count_of (observed p) ≤ most_observations)) where
   keyed : (t : Table) (ps : List Place) → ArePlacesIn (dimensions p t) ps → AreDigits most_places ps
   keyed Transition ps h = digits_in 4 _ ps (lit≤ tt) (action_digit _ sound.1, (element_digit _ sound.0, (element_digit _ sound.0, tt))) h
   keyed Observation ps h = digits_in 4 _ ps (lit≤ tt) (action_digit _ sound.1, (element_digit _ sound.0, (element_digit _ sound.2, tt))) h
   keyed Reward ps h =
-      digits_in 4 _ ps (lit≤ tt) (action_digit _ sound.1, (element_digit _ sound.0, (element_digit _ sound.0, (element_digit _ (rewarded_few p sound.2), tt)))) h
+      digits_in 4 _ ps (lit≤ tt) (
+        action_digit _ sound.1,
+        (
+          element_digit _
+              sound.0,
+          (element_digit _ sound.0, (element_digit _ (rewarded_few p sound.2), tt)),
+        ),
+      ) h
 
 -- sound entries have keys
 pub sound_keyed : (p : Preamble) (entries : List Entry) → AreSound p entries → AreKeyed entries
@@ -53,7 +67,8 @@ record IsCovering (entries : List Entry) (table : Table) (e : Entry) : Type 0 wh
   is : slice_get entries number ≡ Some e
   of_table : e.table ≡ table
 
-covering : (entries : List Entry) (table : Table) (indices : List ℕ) (e : Entry) → last_covering entries table indices ≡ Some e → IsCovering entries table e
+covering : (entries : List Entry) (table : Table) (indices : List ℕ) (e : Entry) → last_covering entries table indices ≡ Some e
+    → IsCovering entries table e
 covering entries table indices e f = at (Some e) refl (subst (IsLastCovering entries table indices) f (cells.last_is entries table indices))
   where
     at : (o : Option Entry) → o ≡ Some e → IsLastCovering entries table indices o → IsCovering entries table e
@@ -67,15 +82,18 @@ covering entries table indices e f = at (Some e) refl (subst (IsLastCovering ent
           of_table = ap (λ (z : Entry). z.table) (sym same) ∙ same_table x.table table both.0;
         }
 
-module _ (p : Preamble) (table : Table) (shape : Shape) (entries : List Entry) (w : IsWeighted table) (is : IsShapeOf p table shape) (each : All (IsSoundEntry p) entries) where
+module _ (p : Preamble) (table : Table) (shape : Shape) (entries : List Entry) (w : IsWeighted table) (is : IsShapeOf p table shape)
+    (each : All (IsSoundEntry p) entries) where
   fits : (n : ℕ) (e : Entry) → slice_get entries n ≡ Some e → e.table ≡ table → FitsShape shape e
   fits n e at t = sound_fits p table shape e w is t (at_number (IsSoundEntry p) entries n e each at)
 
   -- the weight of a cell, under any preamble of the shape
-  pub weight_is : (q : Preamble) (a s c : ℕ) → IsShapeOf q table shape → weight_in shape.columns entries table a s c ≡ weight q entries table (a ∷ s ∷ c ∷ [])
+  pub weight_is : (q : Preamble) (a s c : ℕ) → IsShapeOf q table shape
+      → weight_in shape.columns entries table a s c ≡ weight q entries table (a ∷ s ∷ c ∷ [])
   weight_is q a s c like = at (last_covering entries table (a ∷ s ∷ c ∷ [])) refl
     where
-      at : (o : Option Entry) → last_covering entries table (a ∷ s ∷ c ∷ []) ≡ o → value_or 0 (λ e. given shape.columns e s c) o ≡ value_or 0 (weight_of q (a ∷ s ∷ c ∷ [])) o
+      at : (o : Option Entry) → last_covering entries table (a ∷ s ∷ c ∷ []) ≡ o
+          → value_or 0 (λ e. given shape.columns e s c) o ≡ value_or 0 (weight_of q (a ∷ s ∷ c ∷ [])) o
       at None f = refl
       at (Some e) f =
           let i = covering entries table (a ∷ s ∷ c ∷ []) e f in
@@ -88,7 +106,15 @@ module _ (p : Preamble) (table : Table) (shape : Shape) (entries : List Entry) (
       let one_number = single_number shape table e.entry e.first e.second (Only r.key) w e.of_table e.places f in
       let column : HasColumn shape.columns (e.first ∷ e.second ∷ Only r.key ∷ []) = subst (HasColumn shape.columns) e.places f.column in (
         column,
-        record { entry = e.entry; is = e.is; written = one_number.written; body = one_number.is; small = one_number.small; places = ap length e.places },
+        record {
+          entry = e.entry;
+          is = e.is;
+          written = one_number.written;
+          body = one_number.is;
+          small = one_number.small;
+          places =
+              ap length e.places;
+        },
       )
 
   module _ (within : IsWithin shape) (a s : ℕ) (row : Row) (h : IsRowOf entries table a s row) where
@@ -101,7 +127,8 @@ module _ (p : Preamble) (table : Table) (shape : Shape) (entries : List Entry) (
     small_is : (c : ℕ) → weight_in shape.columns entries table a s c ≤ one * shape.columns
     small_is c = at (last_covering entries table (a ∷ s ∷ c ∷ [])) refl
       where
-        at : (o : Option Entry) → last_covering entries table (a ∷ s ∷ c ∷ []) ≡ o → value_or 0 (λ e. given shape.columns e s c) o ≤ one * shape.columns
+        at : (o : Option Entry) → last_covering entries table (a ∷ s ∷ c ∷ []) ≡ o
+            → value_or 0 (λ e. given shape.columns e s c) o ≤ one * shape.columns
         at None f = omega arith
         at (Some e) f =
             let i = covering entries table (a ∷ s ∷ c ∷ []) e f in
@@ -118,17 +145,23 @@ module _ (p : Preamble) (table : Table) (shape : Shape) (entries : List Entry) (
           covering = whole_is row.whole h.whole;
           last = λ c l.
               let number = number_in (covering_entry row c) row.cells.rules.items c in
-              sym (cells.last_is_one entries table (a ∷ s ∷ c ∷ []) (entry_at entries number) (last_is entries table (a ∷ s ∷ c ∷ []) number (h.last c (omega arith))));
+              sym (cells.last_is_one entries table (a ∷ s ∷ c ∷ []) (entry_at entries number)
+              (last_is entries table (a ∷ s ∷ c ∷ []) number (h.last c (omega arith))));
           small = λ c l. small_is c;
         }
 
 -- the counts of a shape are within their limits
-pub sound_within : (p : Preamble) (table : Table) (shape : Shape) (entries : List Entry) → IsWeighted table → IsShapeOf p table shape → AreSound p entries → IsWithin shape
+pub sound_within : (p : Preamble) (table : Table) (shape : Shape) (entries : List Entry) → IsWeighted table → IsShapeOf p table shape
+    → AreSound p entries → IsWithin shape
 sound_within p table shape entries h1 h2 h3 = grind arith
 
 -- the numbers of a row, by what the index says of it
-pub row_numbers : (p : Preamble) (table : Table) (shape : Shape) (entries : List Entry) (rules : List Rule) (split : SplitRules) (a s : ℕ) (whole : Option ℕ) (row : Row)
-    → IsWeighted table → IsShapeOf p table shape → AreSound p entries → IsIndexOf table entries rules → IsSplit entries rules split → IsWholeNumber rules table a s whole
-    → ((es : List Entry) (rs : List Rule) → HaveColumns es → IsIndexOf table es rs → IsSplit es rs split → IsWholeNumber rs table a s whole → IsRowOf es table a s row)
+pub row_numbers : (p : Preamble) (table : Table) (shape : Shape) (entries : List Entry) (rules : List Rule) (split : SplitRules) (a s : ℕ)
+    (whole : Option ℕ) (row : Row)
+    → IsWeighted table → IsShapeOf p table shape → AreSound p entries → IsIndexOf table entries rules → IsSplit entries rules split
+    → IsWholeNumber rules table a s whole
+    → ((es : List Entry) (rs : List Rule) → HaveColumns es → IsIndexOf table es rs → IsSplit es rs split → IsWholeNumber rs table a s whole
+    → IsRowOf es table a s row)
     → AreNumbersOf shape entries table a s row
-row_numbers p table shape entries rs0 split a s whole row w is sound index parted coverings0 of_row = search (rules, sound_columns, covering, numbers_are, sound_within)
+row_numbers p table shape entries rs0 split a s whole row w is sound index parted coverings0 of_row =
+    search (rules, sound_columns, covering, numbers_are, sound_within)

@@ -1,6 +1,8 @@
 -- The rules of a table in two lists.
-use Rattle.std.proofs.Common.{◌≡◌, ◌∙◌, ◌==◌, suc, ◌<◌, ◌⊎◌, inl, inr, ⊎_elim, Bool, true, false, cond, List, [], ◌∷◌, Contains, length, refl, sym, subst, arith}
-use Rattle.polcert_rules.proofs.Common.{nat_tests, AllPairs-cons, Entry, Rule, SplitRules, IsRising, IsSplit, others_in, is_zero, zeros_of, others_of}
+use Rattle.std.proofs.Common.{◌≡◌, ◌∙◌, ◌==◌, suc, ◌<◌, ◌⊎◌, inl, inr, ⊎_elim, Bool, true, false, cond, List, [], ◌∷◌, Contains, length}
+use Rattle.std.proofs.Common.{refl, sym, subst, arith}
+use Rattle.polcert_rules.proofs.Common.{nat_tests, AllPairs-cons, Entry, Rule, SplitRules, IsRising, IsSplit, others_in, is_zero, zeros_of}
+use Rattle.polcert_rules.proofs.Common.{others_of}
 use Rattle.polcert_rules.specs.Steps.Rows.{AreExact}
 use Rattle.polcert_rules.proofs.Indexes.Building.{Among, among_from, contains_from}
 use Rattle.polcert_rules.proofs.RowLaws.Cells.{all_of}
@@ -34,7 +36,8 @@ module _ (entries : List Entry) where
     where
       at : (b : Bool) → IsRising (zeros_of entries rs) → IsRising (cond b (r ∷ zeros_of entries rs) (zeros_of entries rs))
       at true ih = AllPairs-cons (λ x y. x.key < y.key) r (zeros_of entries rs)
-          (all_of (λ q. r.key < q.key) (zeros_of entries rs) (λ q c. below_rest r rs q up (zeros_old rs q (among_from (zeros_of entries rs) q c)).0)) ih
+          (all_of (λ q. r.key < q.key) (zeros_of entries rs) (λ q c. below_rest r rs q up
+          (zeros_old rs q (among_from (zeros_of entries rs) q c)).0)) ih
       at false ih = ih
 
   pub others_rise : (rs : List Rule) → IsRising rs → IsRising (others_of entries rs)
@@ -44,9 +47,11 @@ module _ (entries : List Entry) where
       at : (b : Bool) → IsRising (others_of entries rs) → IsRising (cond b (others_of entries rs) (r ∷ others_of entries rs))
       at true ih = ih
       at false ih = AllPairs-cons (λ x y. x.key < y.key) r (others_of entries rs)
-          (all_of (λ q. r.key < q.key) (others_of entries rs) (λ q c. below_rest r rs q up (others_old rs q (among_from (others_of entries rs) q c)))) ih
+          (all_of (λ q. r.key < q.key) (others_of entries rs)
+          (λ q c. below_rest r rs q up (others_old rs q (among_from (others_of entries rs) q c)))) ih
 
-  pub split_is : (rules : List Rule) (split : SplitRules) → IsRising rules → split.zeros.items ≡ zeros_of entries rules → others_in split.others ≡ others_of entries rules
+  pub split_is : (rules : List Rule) (split : SplitRules) → IsRising rules → split.zeros.items ≡ zeros_of entries rules
+      → others_in split.others ≡ others_of entries rules
       → (split.is_exact ≡ true → AreExact rules) → IsSplit entries rules split
   split_is rules split up z o exact = record {
     zeros_rise = subst IsRising (sym z) (zeros_rise rules up);

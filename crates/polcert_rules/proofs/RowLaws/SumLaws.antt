@@ -1,5 +1,6 @@
 -- The sum of a sparse row.
-use Rattle.std.proofs.Common.{◌≡◌, ◌∙◌, ℕ, zero, suc, ◌+◌, ◌-◌, ◌*◌, ◌<◌, ◌≤◌, ⊎_elim, List, [], ◌∷◌, mul-suc, Bool, cond, ltb, length, sum, All, refl, sym, ap, subst, arith}
+use Rattle.std.proofs.Common.{◌≡◌, ◌∙◌, ℕ, zero, suc, ◌+◌, ◌-◌, ◌*◌, ◌<◌, ◌≤◌, ⊎_elim, List, [], ◌∷◌, mul-suc, Bool, cond, ltb, length, sum}
+use Rattle.std.proofs.Common.{All, refl, sym, ap, subst, arith}
 use Rattle.polcert_rules.proofs.Common.{cases_lt, nat_tests, sum_below, Cell, weight_at, scaled_cells, IsSparse, total, one}
 use Rattle.std.proofs.lemmas.List.Sums.{sum_by-cons, sum_by-le}
 use Rattle.std.proofs.Math.Nat.{mul_comm}
@@ -12,7 +13,8 @@ sum_without x xs (suc n) l =
     let here : weight_at (x ∷ xs) n ≡ weight_at xs n = weight_tail x xs n (λ e. omega arith) in
     omega (arith, before, here)
 
-sum_with : (x : Cell) (xs : List Cell) (n : ℕ) → x.column < n → weight_at xs x.column ≡ 0 → sum_below (weight_at (x ∷ xs)) n ≡ x.weight + sum_below (weight_at xs) n
+sum_with : (x : Cell) (xs : List Cell) (n : ℕ) → x.column < n → weight_at xs x.column ≡ 0
+    → sum_below (weight_at (x ∷ xs)) n ≡ x.weight + sum_below (weight_at xs) n
 sum_with x xs zero l z = absurd (omega arith)
 sum_with x xs (suc n) l z = ⊎_elim
     (λ less.
@@ -34,7 +36,8 @@ sum_none (suc n) = let before = sum_none n in omega (arith, before)
 sum_climbs : (low n : ℕ) (xs : List Cell) → Climbs low n xs → sum_below (weight_at xs) n ≡ total xs
 sum_climbs low n [] h = sum_none n
 sum_climbs low n (x ∷ xs) h =
-    sum_with x xs n h.1 (weight_below (x.column + 1) n x.column xs h.3 (omega arith)) ∙ ap (λ k. x.weight + k) (sum_climbs (x.column + 1) n xs h.3)
+    sum_with x xs n h.1 (weight_below (x.column + 1) n x.column xs h.3 (omega arith))
+    ∙ ap (λ k. x.weight + k) (sum_climbs (x.column + 1) n xs h.3)
 
 pub sum_is : (n : ℕ) (xs : List Cell) → IsSparse n xs → total xs ≡ sum_below (weight_at xs) n
 sum_is n xs s = sym (sum_climbs 0 n xs (climbs_from n xs s))
@@ -64,7 +67,8 @@ total_scaled scale k (n ∷ ns) =
     xs : List Cell
     xs = scaled_cells scale (k + 1) ns
 
-    at : total xs ≡ sum ns * scale → (n + sum ns) * scale ≡ n * scale + sum ns * scale → (b : Bool) → ltb 0 (n * scale) ≡ b → total (cond b (cell_of k (n * scale) ∷ xs) xs) ≡ (n + sum ns) * scale
+    at : total xs ≡ sum ns * scale → (n + sum ns) * scale ≡ n * scale + sum ns * scale → (b : Bool) → ltb 0 (n * scale) ≡ b
+        → total (cond b (cell_of k (n * scale) ∷ xs) xs) ≡ (n + sum ns) * scale
     at h1 h2 b h3 = grind (arith, nat_tests)
 
 pub sum_most : (ns : List ℕ) → All (λ n. n ≤ one) ns → sum ns ≤ one * length ns

@@ -1,5 +1,6 @@
 -- The decimals of a number, digit by digit.
-use Rattle.std.proofs.Common.{◌≡◌, ◌∙◌, ℕ, suc, ◌+◌, ◌-◌, ◌*◌, ◌/◌, ◌%◌, ◌^◌, ◌<◌, ◌≤◌, false, List, [], ◌∷◌, ◌++◌, ap, sym, subst, refl, length, length-append, arith, append_assoc}
+use Rattle.std.proofs.Common.{◌≡◌, ◌∙◌, ℕ, suc, ◌+◌, ◌-◌, ◌*◌, ◌/◌, ◌%◌, ◌^◌, ◌<◌, ◌≤◌, false, List, [], ◌∷◌, ◌++◌, ap, sym, subst, refl}
+use Rattle.std.proofs.Common.{length, length-append, arith, append_assoc}
 use Rattle.std.specs.Prelude.{◌==◌}
 use Rattle.polcert_text.proofs.Common.{nat_tests, one-le-pow, decimals}
 use Rattle.std.proofs.Math.Nat.{pow-suc, mod-lt, div-lt_iff_lt-mul}
@@ -59,10 +60,18 @@ next_digit unit rest front whole u h =
     let tenth : unit / 10 ≡ 10 ^ (k - 1) = omega (arith, u.power, ap (λ n. 10 ^ n) e, pow-suc 10 (k - 1)) in
     let digit : List ℕ = (48 + rest / 10 ^ (k - 1)) ∷ [] in
     let more : (front ++ digit) ++ decimals (k - 1) (rest % 10 ^ (k - 1)) ≡ whole =
-    one_digit front (48 + rest / 10 ^ (k - 1)) (decimals (k - 1) (rest % 10 ^ (k - 1))) ∙ ap (λ ds. front ++ ds) (sym (decimals-step k rest h pos)) ∙ u.written in
+    one_digit front (48 + rest / 10 ^ (k - 1)) (decimals (k - 1) (rest % 10 ^ (k - 1)))
+    ∙ ap (λ ds. front ++ ds) (sym (decimals-step k rest h pos)) ∙ u.written in
     subst (λ t. IsDigit t rest front whole) (sym tenth) (record {
       some = ten_pos (k - 1);
       digit = digit_below k rest pos u.below;
       room = omega (arith, u.room, pos);
-      next = record { places = k - 1; power = refl; below = mod-lt rest (ten_pos (k - 1)); room = omega (arith, length-append front digit, u.room, pos); written = more };
+      next = record {
+        places = k - 1;
+        power = refl;
+        below = mod-lt rest (ten_pos (k - 1));
+        room =
+            omega (arith, length-append front digit, u.room, pos);
+        written = more;
+      };
     })

@@ -1,6 +1,8 @@
 -- Numerals that end within some bytes, and their values.
-use Rattle.std.proofs.Common.{◌≡◌, ◌∙◌, ◌⊎◌, ⊎_elim, ℕ, suc, ◌+◌, ◌-◌, ◌*◌, ◌^◌, ◌<◌, ◌≤◌, ◌&&◌, ◌||◌, min, true, false, List, [], ◌∷◌, length, take, drop, get_or, pos, refl, sym, ap, arith}
-use Rattle.polcert_text.proofs.Common.{list_all, list_any, is_digit, class_of, glue_class, is_glued, are_digits, largest, IsExact, cap, Measures, state_through, ByteClass, Digit, Start, Whole, Numeral}
+use Rattle.std.proofs.Common.{◌≡◌, ◌∙◌, ◌⊎◌, ⊎_elim, ℕ, suc, ◌+◌, ◌-◌, ◌*◌, ◌^◌, ◌<◌, ◌≤◌, ◌&&◌, ◌||◌, min, true, false, List, [], ◌∷◌}
+use Rattle.std.proofs.Common.{length, take, drop, get_or, pos, refl, sym, ap, arith}
+use Rattle.polcert_text.proofs.Common.{list_all, list_any, is_digit, class_of, glue_class, is_glued, are_digits, largest, IsExact, cap}
+use Rattle.polcert_text.proofs.Common.{Measures, state_through, ByteClass, Digit, Start, Whole, Numeral}
 use Rattle.std.proofs.lemmas.List.{get_or-take, get_or-drop, length-take-le, length-drop}
 use Rattle.polcert_text.specs.declared.bytes.ByteClass.TheVariants.{Blank, LineEnd}
 use Rattle.polcert_text.proofs.Numbers.MeasureLaws.{ten_pos, and-true_left}
@@ -25,7 +27,8 @@ pub whole_read : (bs : List ℕ) (p : ℕ) → 0 < p → p ≤ length bs → Are
 whole_read bs p some high digits =
     let begun = begins_whole bs (omega arith) (digits 0 (omega arith) some) in
     let all : 1 + (p - 1) ≡ p = omega arith in
-    ap (λ k. state_through Start (take k bs)) (sym all) ∙ run bs 1 (p - 1) Whole (omega arith) refl begun (λ k l. digits (1 + k) (omega arith) (omega arith))
+    ap (λ k. state_through Start (take k bs)) (sym all)
+    ∙ run bs 1 (p - 1) Whole (omega arith) refl begun (λ k l. digits (1 + k) (omega arith) (omega arith))
 
 blank_no_glue : (c : ByteClass) → ((c ≡ Blank) ⊎ (c ≡ LineEnd)) → glue_class c ≡ false
 blank_no_glue c h = ⊎_elim (ap glue_class) (ap glue_class) h
@@ -34,11 +37,13 @@ glued_at : (bs : List ℕ) → 0 < length bs → is_glued Numeral bs ≡ glue_cl
 glued_at bs h1 = grind (arith, glue_by)
 
 -- nor is one that such a byte follows
-pub apart_after : (bs : List ℕ) (n : ℕ) → n < length bs → glue_class (class_of (get_or bs n 0)) ≡ false → is_glued Numeral (drop n bs) ≡ false
+pub apart_after : (bs : List ℕ) (n : ℕ) → n < length bs → glue_class (class_of (get_or bs n 0)) ≡ false
+    → is_glued Numeral (drop n bs) ≡ false
 apart_after bs n inside apart = grind (arith, get_or-drop, length-drop, glued_at)
 
 -- a numeral that a blank follows is not glued to it
-pub blank_after : (bs : List ℕ) (n : ℕ) → n < length bs → ((class_of (get_or bs n 0) ≡ Blank) ⊎ (class_of (get_or bs n 0) ≡ LineEnd)) → is_glued Numeral (drop n bs) ≡ false
+pub blank_after : (bs : List ℕ) (n : ℕ) → n < length bs → ((class_of (get_or bs n 0) ≡ Blank) ⊎ (class_of (get_or bs n 0) ≡ LineEnd))
+    → is_glued Numeral (drop n bs) ≡ false
 blank_after bs n inside blank = grind (arith, get_or-drop, length-drop, blank_no_glue, glued_at)
 
 digits_in_front : (bs : List ℕ) (n from until : ℕ) → until ≤ n → AreDigitsAt bs from until → AreDigitsAt (take n bs) from until
@@ -57,7 +62,8 @@ pub below_scaled : (number k floor : ℕ) → floor ≡ number * 10 ^ k → floo
 below_scaled number k floor scaled small = grind (arith, ten_pos)
 
 -- a number below the limit, with zeros at its end
-pub unscaled : (number zeros floor : ℕ) → number ≤ largest → floor ≡ number * 10 ^ zeros → floor < largest → (m : ℕ) → number ≡ min cap m → floor ≡ min cap (m * 10 ^ zeros)
+pub unscaled : (number zeros floor : ℕ) → number ≤ largest → floor ≡ number * 10 ^ zeros → floor < largest → (m : ℕ) → number ≡ min cap m
+    → floor ≡ min cap (m * 10 ^ zeros)
 unscaled number zeros floor below is small m capped =
     let same : m ≡ number = omega arith in
     let here : floor ≡ min cap (number * 10 ^ zeros) = omega arith in

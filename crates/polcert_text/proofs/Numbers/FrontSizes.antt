@@ -1,6 +1,8 @@
 -- Numerals that end within some bytes, measured: digits, a point, and however many decimals.
-use Rattle.std.proofs.Common.{◌≡◌, ◌∙◌, ◌⊎◌, inl, inr, ⊎_elim, ℕ, ◌+◌, ◌-◌, ◌*◌, ◌^◌, ◌<◌, ◌≤◌, ◌||◌, min, nat_lt, Bool, true, false, not, List, ◌++◌, length, take, drop, get_or, sym, ap, subst, arith}
-use Rattle.polcert_text.proofs.Common.{drop-take, list_any, digits_value, class_of, largest, IsReadable, AreDigitsFrom, EndsAsSize, is_nonzero, ceiling, Measures, Point}
+use Rattle.std.proofs.Common.{◌≡◌, ◌∙◌, ◌⊎◌, inl, inr, ⊎_elim, ℕ, ◌+◌, ◌-◌, ◌*◌, ◌^◌, ◌<◌, ◌≤◌, ◌||◌, min, nat_lt, Bool, true, false, not}
+use Rattle.std.proofs.Common.{List, ◌++◌, length, take, drop, get_or, sym, ap, subst, arith}
+use Rattle.polcert_text.proofs.Common.{drop-take, list_any, digits_value, class_of, largest, IsReadable, AreDigitsFrom, EndsAsSize}
+use Rattle.polcert_text.proofs.Common.{is_nonzero, ceiling, Measures, Point}
 use Rattle.std.proofs.lemmas.List.{get_or-take, get_or-drop, length-take-le, length-drop, take-take}
 use Rattle.std.proofs.lemmas.List.Folds.{list_any_at, list_any_more}
 use Rattle.std.proofs.lemmas.Bool.{lt-ltb, le-ltb}
@@ -14,14 +16,17 @@ in_front : (bs : List ℕ) (n from until : ℕ) → until ≤ n → AreDigitsFro
 in_front bs n from until few digits = λ k low below. ap class_of (get_or-take n bs k 0 (omega arith)) ∙ digits k low below
 
 -- the size of a numeral of digits
-pub digits_measure : (bs : List ℕ) (n number : ℕ) → 0 < n → n ≤ 400 → n ≤ length bs → AreDigitsFrom bs 0 n → number ≡ digits_value 10 (take n bs) → number * 1000000 < largest
+pub digits_measure : (bs : List ℕ) (n number : ℕ) → 0 < n → n ≤ 400 → n ≤ length bs → AreDigitsFrom bs 0 n
+    → number ≡ digits_value 10 (take n bs) → number * 1000000 < largest
     → IsReadable (take n bs) × Measures (take n bs) (number * 1000000) false × (ceiling (number * 1000000) false ≤ largest)
 digits_measure bs n number some short high digits value small =
     let len : length (take n bs) ≡ n = length-take-le n bs high in
-    whole_measures (take n bs) (omega (arith, len)) (λ k low below. in_front bs n 0 n (omega arith) digits k low (omega (arith, len))) number (omega (arith, len)) value small
+    whole_measures (take n bs) (omega (arith, len)) (λ k low below. in_front bs n 0 n (omega arith) digits k low (omega (arith, len)))
+    number (omega (arith, len)) value small
 
 -- the size of a numeral of digits, a point and decimals, of which those after the sixth are not kept
-pub decimal_measures : (bs : List ℕ) (p kept n floor : ℕ) (is_inexact : Bool) → ((0 < p) ⊎ (1 < n)) → p + 1 ≤ kept → kept ≤ n → kept ≡ min n (p + 7) → n ≤ 400 → n ≤ length bs
+pub decimal_measures : (bs : List ℕ) (p kept n floor : ℕ) (is_inexact : Bool) → ((0 < p) ⊎ (1 < n)) → p + 1 ≤ kept → kept ≤ n
+    → kept ≡ min n (p + 7) → n ≤ 400 → n ≤ length bs
     → AreDigitsFrom bs 0 p → class_of (get_or bs p 0) ≡ Point → AreDigitsFrom bs (p + 1) n
     → floor ≡ digits_value 10 (take p bs ++ take (kept - (p + 1)) (drop (p + 1) bs)) * 10 ^ (p + 7 - kept) → floor < largest
     → is_inexact ≡ list_any is_nonzero (take (n - kept) (drop kept bs))
@@ -42,10 +47,12 @@ decimal_measures bs p kept n floor is_inexact some low few kept_is short high fi
     let rest : kept + (n - kept) ≡ n = omega arith in
     let front : take p ns ≡ take p bs = take-take p n bs (omega arith) in
     let following : take (kept - (p + 1)) (drop (p + 1) ns) ≡ take (kept - (p + 1)) (drop (p + 1) bs) =
-    ap (λ m. take (kept - (p + 1)) (drop (p + 1) (take m bs))) (sym all) ∙ ap (take (kept - (p + 1))) (drop-take (p + 1) (n - (p + 1)) bs) ∙ take-take (kept - (p + 1)) (n - (p + 1)) (drop (p + 1) bs) (omega arith) in
+    ap (λ m. take (kept - (p + 1)) (drop (p + 1) (take m bs))) (sym all) ∙ ap (take (kept - (p + 1))) (drop-take (p + 1) (n - (p + 1)) bs)
+    ∙ take-take (kept - (p + 1)) (n - (p + 1)) (drop (p + 1) bs) (omega arith) in
     let left : drop kept ns ≡ take (n - kept) (drop kept bs) = ap (λ m. drop kept (take m bs)) (sym rest) ∙ drop-take kept (n - kept) bs in
     plain_measures ns p plain number floor kept is_inexact (omega (arith, len)) (kept_is ∙ ap (λ m. min m (p + 7)) (sym len))
-    (ap (digits_value 10) (λ i. sym front i ++ sym following i)) below (unscaled number (p + 7 - kept) floor below scaled small) small (inexact ∙ ap (list_any is_nonzero) (sym left))
+    (ap (digits_value 10) (λ i. sym front i ++ sym following i)) below (unscaled number (p + 7 - kept) floor below scaled small) small
+    (inexact ∙ ap (list_any is_nonzero) (sym left))
 
 zero_digit : (b : ℕ) → b ≡ 48 → is_nonzero b ≡ false
 zero_digit b e = ap is_nonzero e
@@ -54,41 +61,50 @@ or_both : (x y : Bool) → x ≡ false → y ≡ false → (x || y) ≡ false
 or_both x y a b = (λ i. a i || b i)
 
 -- one more 0
-pub zeros_more : (bs : List ℕ) (from at : ℕ) → from ≤ at → at < length bs → get_or bs at 0 ≡ 48 → list_any is_nonzero (take (at - from) (drop from bs)) ≡ false
+pub zeros_more : (bs : List ℕ) (from at : ℕ) → from ≤ at → at < length bs → get_or bs at 0 ≡ 48
+    → list_any is_nonzero (take (at - from) (drop from bs)) ≡ false
     → list_any is_nonzero (take (at + 1 - from) (drop from bs)) ≡ false
 zeros_more bs from at low inside zero was =
     let n : ℕ = at - from in
     let next : at + 1 - from ≡ n + 1 = omega arith in
     let place : from + n ≡ at = omega arith in
     let here : get_or (drop from bs) n 0 ≡ 48 = get_or-drop from bs n 0 ∙ ap (λ k. get_or bs k 0) place ∙ zero in
-    ap (λ m. list_any is_nonzero (take m (drop from bs))) next ∙ list_any_more is_nonzero (drop from bs) n 0 (omega (arith, length-drop from bs))
+    ap (λ m. list_any is_nonzero (take m (drop from bs))) next
+    ∙ list_any_more is_nonzero (drop from bs) n 0 (omega (arith, length-drop from bs))
     ∙ or_both _ _ was (zero_digit _ here)
 
 -- a digit that isn't 0
-pub nonzero_there : (bs : List ℕ) (from at end : ℕ) → from ≤ at → at < end → end ≤ length bs → is_nonzero (get_or bs at 0) ≡ true → list_any is_nonzero (take (end - from) (drop from bs)) ≡ true
+pub nonzero_there : (bs : List ℕ) (from at end : ℕ) → from ≤ at → at < end → end ≤ length bs → is_nonzero (get_or bs at 0) ≡ true
+    → list_any is_nonzero (take (end - from) (drop from bs)) ≡ true
 nonzero_there bs from at end low below high nonzero =
     let n : ℕ = at - from in
     let place : from + n ≡ at = omega arith in
-    let long : length (take (end - from) (drop from bs)) ≡ end - from = length-take-le (end - from) (drop from bs) (omega (arith, length-drop from bs)) in
-    let here : get_or (take (end - from) (drop from bs)) n 0 ≡ get_or bs at 0 = get_or-take (end - from) (drop from bs) n 0 (omega arith) ∙ get_or-drop from bs n 0 ∙ ap (λ k. get_or bs k 0) place in
+    let long : length (take (end - from) (drop from bs)) ≡ end - from =
+    length-take-le (end - from) (drop from bs) (omega (arith, length-drop from bs)) in
+    let here : get_or (take (end - from) (drop from bs)) n 0 ≡ get_or bs at 0 = get_or-take (end - from) (drop from bs) n 0 (omega arith)
+    ∙ get_or-drop from bs n 0 ∙ ap (λ k. get_or bs k 0) place in
     list_any_at is_nonzero (take (end - from) (drop from bs)) n 0 (omega (arith, long)) (ap is_nonzero here ∙ nonzero)
 
 -- after the zeros all are digits: one that isn't 0 is there if they go on
-pub tail_inexact : (bs : List ℕ) (from zeros end : ℕ) → from ≤ zeros → zeros ≤ end → end ≤ length bs → list_any is_nonzero (take (zeros - from) (drop from bs)) ≡ false
+pub tail_inexact : (bs : List ℕ) (from zeros end : ℕ) → from ≤ zeros → zeros ≤ end → end ≤ length bs
+    → list_any is_nonzero (take (zeros - from) (drop from bs)) ≡ false
     → (zeros < end → is_nonzero (get_or bs zeros 0) ≡ true) → nat_lt zeros end ≡ list_any is_nonzero (take (end - from) (drop from bs))
 tail_inexact bs from zeros end low on high none stops = ⊎_elim
     (λ below. lt-ltb zeros end below ∙ sym (nonzero_there bs from zeros end low below high (stops below)))
-    (λ same. let is : zeros ≡ end = omega (arith, on, same) in le-ltb zeros end same ∙ sym none ∙ ap (λ n. list_any is_nonzero (take (n - from) (drop from bs))) is)
+    (λ same. let is : zeros ≡ end = omega (arith, on, same) in le-ltb zeros end same ∙ sym none
+    ∙ ap (λ n. list_any is_nonzero (take (n - from) (drop from bs))) is)
     (at_or_after zeros end)
 
 -- what is left where nothing was cut off
-pub exact_number : (bs : List ℕ) (numeral : FrontSize) → numeral.size.is_inexact ≡ false → EndsAsSize bs numeral → EndsAsNumber bs (record { len = numeral.len; value = numeral.size.floor })
+pub exact_number : (bs : List ℕ) (numeral : FrontSize) → numeral.size.is_inexact ≡ false → EndsAsSize bs numeral
+    → EndsAsNumber bs (record { len = numeral.len; value = numeral.size.floor })
 exact_number bs numeral exact e = record {
   begins = e.begins;
   ends = e.ends;
   short = e.short;
   apart = e.apart;
   readable = e.readable;
-  exact = measured_exactly (take numeral.len bs) numeral.size.floor (subst (Measures (take numeral.len bs) numeral.size.floor) exact e.measures);
+  exact = measured_exactly (take numeral.len bs) numeral.size.floor
+      (subst (Measures (take numeral.len bs) numeral.size.floor) exact e.measures);
   small = subst (λ b. ceiling numeral.size.floor b ≤ largest) exact e.top;
 }

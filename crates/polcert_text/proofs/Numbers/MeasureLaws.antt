@@ -1,7 +1,9 @@
 -- Digits as a number, cut off after the millionths.
-use Rattle.std.proofs.Common.{◌≡◌, ◌∙◌, ℕ, suc, ◌+◌, ◌-◌, ◌*◌, ◌^◌, ◌<◌, ◌≤◌, Bool, true, false, not, ◌&&◌, ◌||◌, ◌⊎◌, inl, inr, ⊎_elim, List, [], ◌∷◌, ◌++◌, length, take, drop, refl, sym, ap, subst, arith}
+use Rattle.std.proofs.Common.{◌≡◌, ◌∙◌, ℕ, suc, ◌+◌, ◌-◌, ◌*◌, ◌^◌, ◌<◌, ◌≤◌, Bool, true, false, not, ◌&&◌, ◌||◌, ◌⊎◌, inl, inr, ⊎_elim}
+use Rattle.std.proofs.Common.{List, [], ◌∷◌, ◌++◌, length, take, drop, refl, sym, ap, subst, arith}
 use Rattle.std.specs.Prelude.{◌==◌}
-use Rattle.polcert_text.proofs.Common.{nat_tests, digit_value, list_all, list_any, digits_value, digits_value_after, pow-le-pow_right, one-le-pow, drop_all, list_all-append, is_digit, is_nonzero}
+use Rattle.polcert_text.proofs.Common.{nat_tests, digit_value, list_all, list_any, digits_value, digits_value_after, pow-le-pow_right}
+use Rattle.polcert_text.proofs.Common.{one-le-pow, drop_all, list_all-append, is_digit, is_nonzero}
 use Rattle.std.specs.Str.Parse.{AllDigits}
 use Rattle.std.proofs.Math.Nat.{pow-suc, mul-pos, mul-lt-mul_of_pos_right, mul_assoc}
 use Rattle.std.proofs.lemmas.List.{take-append-drop, length-drop, take_all}
@@ -76,7 +78,8 @@ value_pos : (ds : List ℕ) → list_all is_digit ds ≡ true → list_any is_no
 value_pos [] a h = cc
 value_pos (c ∷ cs) a h = at (c == 48) refl (λ more. value_pos cs (and-true_right (is_digit c) (list_all is_digit cs) a) more)
   where
-    at : (z : Bool) → (c == 48) ≡ z → (list_any is_nonzero cs ≡ true → 0 < digits_value 10 cs) → 0 < digits_value_after 10 (0 * 10 + digit_value c) cs
+    at : (z : Bool) → (c == 48) ≡ z → (list_any is_nonzero cs ≡ true → 0 < digits_value 10 cs)
+        → 0 < digits_value_after 10 (0 * 10 + digit_value c) cs
     at true e rest =
         let first : c ≡ 48 = is_zero c e in
         let value : digit_value c ≡ 0 = ap digit_value first in
@@ -107,15 +110,19 @@ Fits e kept len power = (power + len ≡ e + kept) ⊎ ((kept ≡ 0) × (power +
 
 module _ (ds : List ℕ) (digits : list_all is_digit ds ≡ true) (e power : ℕ) where
   -- more digits are kept than there are
-  measure_over : (kept : ℕ) → length ds ≤ kept → power + length ds ≡ e + kept → IsPart (digits_value 10 ds * 10 ^ power) (digits_value 10 (take kept ds) * 10 ^ (kept - length ds)) e (list_any is_nonzero (drop kept ds))
+  measure_over : (kept : ℕ) → length ds ≤ kept → power + length ds ≡ e + kept
+      → IsPart (digits_value 10 ds * 10 ^ power) (digits_value 10 (take kept ds) * 10 ^ (kept - length ds)) e
+      (list_any is_nonzero (drop kept ds))
   measure_over kept over fits =
       let all : take kept ds ≡ ds = take_all kept ds over in
       let none : drop kept ds ≡ [] = drop_all kept ds over in
       let left = kept - length ds in
       let split : power ≡ left + e = omega arith in
       let v = digits_value 10 ds in
-      let product : v * 10 ^ power ≡ v * 10 ^ left * 10 ^ e = ap (λ p. v * 10 ^ p) split ∙ ap (λ p. v * p) (pow-add 10 left e) ∙ sym (mul_assoc v (10 ^ left) (10 ^ e)) in
-      let same : v * 10 ^ left * 10 ^ e ≡ digits_value 10 (take kept ds) * 10 ^ left * 10 ^ e = ap (λ xs. digits_value 10 xs * 10 ^ left * 10 ^ e) (sym all) in
+      let product : v * 10 ^ power ≡ v * 10 ^ left * 10 ^ e = ap (λ p. v * 10 ^ p) split ∙ ap (λ p. v * p) (pow-add 10 left e)
+      ∙ sym (mul_assoc v (10 ^ left) (10 ^ e)) in
+      let same : v * 10 ^ left * 10 ^ e ≡ digits_value 10 (take kept ds) * 10 ^ left * 10 ^ e =
+      ap (λ xs. digits_value 10 xs * 10 ^ left * 10 ^ e) (sym all) in
       record {
         part = 0;
         size_is = omega (arith, product ∙ same);
@@ -124,7 +131,8 @@ module _ (ds : List ℕ) (digits : list_all is_digit ds ≡ true) (e power : ℕ
         inexact = λ h. absurd (true≢false h (ap (list_any is_nonzero) none));
       }
 
-  front_units : (kept j : ℕ) → j + kept ≡ length ds → Fits e kept (length ds) power → digits_value 10 (take kept ds) * 10 ^ j * 10 ^ power ≡ digits_value 10 (take kept ds) * 10 ^ e
+  front_units : (kept j : ℕ) → j + kept ≡ length ds → Fits e kept (length ds) power
+      → digits_value 10 (take kept ds) * 10 ^ j * 10 ^ power ≡ digits_value 10 (take kept ds) * 10 ^ e
   front_units kept j split (inl fits) =
       let v = digits_value 10 (take kept ds) in
       let joined : j + power ≡ e = omega arith in
@@ -133,16 +141,20 @@ module _ (ds : List ℕ) (digits : list_all is_digit ds ≡ true) (e power : ℕ
 
   back_digits : (kept : ℕ) → list_all is_digit (drop kept ds) ≡ true
   back_digits kept =
-      and-true_right (list_all is_digit (take kept ds)) (list_all is_digit (drop kept ds)) (sym (list_all-append is_digit (take kept ds) (drop kept ds)) ∙ ap (list_all is_digit) (take-append-drop kept ds) ∙ digits)
+      and-true_right (list_all is_digit (take kept ds)) (list_all is_digit (drop kept ds))
+      (sym (list_all-append is_digit (take kept ds) (drop kept ds)) ∙ ap (list_all is_digit) (take-append-drop kept ds) ∙ digits)
 
   -- some digits are cut off
-  measure_cut : (kept : ℕ) → kept ≤ length ds → Fits e kept (length ds) power → IsPart (digits_value 10 ds * 10 ^ power) (digits_value 10 (take kept ds) * 10 ^ (kept - length ds)) e (list_any is_nonzero (drop kept ds))
+  measure_cut : (kept : ℕ) → kept ≤ length ds → Fits e kept (length ds) power
+      → IsPart (digits_value 10 ds * 10 ^ power) (digits_value 10 (take kept ds) * 10 ^ (kept - length ds)) e
+      (list_any is_nonzero (drop kept ds))
   measure_cut kept inside fits =
       let j = length ds - kept in
       let front = digits_value 10 (take kept ds) in
       let back = digits_value 10 (drop kept ds) in
       let len : length (drop kept ds) ≡ j = length-drop kept ds in
-      let value : digits_value 10 ds ≡ front * 10 ^ j + back = ap (digits_value 10) (sym (take-append-drop kept ds)) ∙ value-append (take kept ds) (drop kept ds) ∙ ap (λ n. front * 10 ^ n + back) len in
+      let value : digits_value 10 ds ≡ front * 10 ^ j + back = ap (digits_value 10) (sym (take-append-drop kept ds))
+      ∙ value-append (take kept ds) (drop kept ds) ∙ ap (λ n. front * 10 ^ n + back) len in
       let size : digits_value 10 ds * 10 ^ power ≡ (front * 10 ^ j + back) * 10 ^ power = ap (λ v. v * 10 ^ power) value in
       let units = front_units kept j (omega arith) fits in
       let nothing : kept - length ds ≡ 0 = omega arith in
@@ -160,5 +172,7 @@ module _ (ds : List ℕ) (digits : list_all is_digit ds ≡ true) (e power : ℕ
         inexact = λ h. mul-pos (value_pos (drop kept ds) (back_digits kept) h) (ten_pos power);
       }
 
-  pub measure : (kept : ℕ) → Fits e kept (length ds) power → IsPart (digits_value 10 ds * 10 ^ power) (digits_value 10 (take kept ds) * 10 ^ (kept - length ds)) e (list_any is_nonzero (drop kept ds))
+  pub measure : (kept : ℕ) → Fits e kept (length ds) power
+      → IsPart (digits_value 10 ds * 10 ^ power) (digits_value 10 (take kept ds) * 10 ^ (kept - length ds)) e
+      (list_any is_nonzero (drop kept ds))
   measure kept fits = grind (arith, ⊎_elim, order, measure_over, measure_cut)

@@ -1,6 +1,9 @@
 -- Digits, and the parts of a numeral.
-use Rattle.std.proofs.Common.{◌≡◌, ◌∙◌, ℕ, ◌+◌, ◌-◌, ◌*◌, ◌^◌, ◌<◌, ◌≤◌, min, Bool, true, false, cond, ◌&&◌, Option, Some, None, List, [], ◌∷◌, ◌++◌, length, take, drop, get_or, sym, ap, arith}
-use Rattle.polcert_text.proofs.Common.{nat_tests, digit_value, digits_value_push, take_more, drop_all, list_all, before_first, after_first, digits_value, is_letter, is_digit, is_point, is_numeral, kind_of, mark_kind, cap, IsScaled, ByteClass, TokenKind, state_through, kind_at, is_numeral_kind, State, Start}
+use Rattle.std.proofs.Common.{◌≡◌, ◌∙◌, ℕ, ◌+◌, ◌-◌, ◌*◌, ◌^◌, ◌<◌, ◌≤◌, min, Bool, true, false, cond, ◌&&◌, Option, Some, None, List, []}
+use Rattle.std.proofs.Common.{◌∷◌, ◌++◌, length, take, drop, get_or, sym, ap, arith}
+use Rattle.polcert_text.proofs.Common.{nat_tests, digit_value, digits_value_push, take_more, drop_all, list_all, before_first, after_first}
+use Rattle.polcert_text.proofs.Common.{digits_value, is_letter, is_digit, is_point, is_numeral, kind_of, mark_kind, cap, IsScaled}
+use Rattle.polcert_text.proofs.Common.{ByteClass, TokenKind, state_through, kind_at, is_numeral_kind, State, Start}
 use Rattle.std.proofs.lemmas.Int.Digits.{digits_value_more}
 use Rattle.std.proofs.lemmas.List.{take_all, length-append, append_assoc}
 use Rattle.polcert_text.specs.Lexemes.{is_name}
@@ -26,21 +29,26 @@ pub digit_is : (b : ℕ) → is_digit b ≡ true → digit_value b ≡ b - 48
 digit_is b h = let l = digit_from b h in let u = digit_to b h in grind (arith, nat_tests)
 
 -- what stands before the first byte that passes, and after it
-pub before_at : (p : ℕ → Bool) (bs : List ℕ) (i : ℕ) → i < length bs → ((k : ℕ) → k < i → p (get_or bs k 0) ≡ false) → p (get_or bs i 0) ≡ true → before_first p bs ≡ take i bs
+pub before_at : (p : ℕ → Bool) (bs : List ℕ) (i : ℕ) → i < length bs → ((k : ℕ) → k < i → p (get_or bs k 0) ≡ false)
+    → p (get_or bs i 0) ≡ true → before_first p bs ≡ take i bs
 before_at p bs i h none at = ap (λ n. take n bs) (position_or_len_is p bs i 0 (omega arith) none (λ _. at))
 
-pub after_at : (p : ℕ → Bool) (bs : List ℕ) (i : ℕ) → i < length bs → ((k : ℕ) → k < i → p (get_or bs k 0) ≡ false) → p (get_or bs i 0) ≡ true → after_first p bs ≡ drop (i + 1) bs
+pub after_at : (p : ℕ → Bool) (bs : List ℕ) (i : ℕ) → i < length bs → ((k : ℕ) → k < i → p (get_or bs k 0) ≡ false)
+    → p (get_or bs i 0) ≡ true → after_first p bs ≡ drop (i + 1) bs
 after_at p bs i h none at = ap (λ n. drop (n + 1) bs) (position_or_len_is p bs i 0 (omega arith) none (λ _. at))
 
 pub before_all : (p : ℕ → Bool) (bs : List ℕ) → ((k : ℕ) → k < length bs → p (get_or bs k 0) ≡ false) → before_first p bs ≡ bs
 before_all p bs none =
-    ap (λ n. take n bs) (position_or_len_is p bs (length bs) 0 (omega arith) none (λ l. absurd (omega (arith, l)))) ∙ take_all (length bs) bs (omega arith)
+    ap (λ n. take n bs) (position_or_len_is p bs (length bs) 0 (omega arith) none (λ l. absurd (omega (arith, l))))
+    ∙ take_all (length bs) bs (omega arith)
 
 pub after_all : (p : ℕ → Bool) (bs : List ℕ) → ((k : ℕ) → k < length bs → p (get_or bs k 0) ≡ false) → after_first p bs ≡ []
 after_all p bs none =
-    ap (λ n. drop (n + 1) bs) (position_or_len_is p bs (length bs) 0 (omega arith) none (λ l. absurd (omega (arith, l)))) ∙ drop_all (length bs + 1) bs (omega arith)
+    ap (λ n. drop (n + 1) bs) (position_or_len_is p bs (length bs) 0 (omega arith) none (λ l. absurd (omega (arith, l))))
+    ∙ drop_all (length bs + 1) bs (omega arith)
 
-chosen_numeral : (name numeral empty : Bool) (c : ByteClass) → cond name (Some kinds.Name) (cond numeral (Some kinds.Numeral) (cond empty (mark_kind c) None)) ≡ Some kinds.Numeral → numeral ≡ true
+chosen_numeral : (name numeral empty : Bool) (c : ByteClass)
+    → cond name (Some kinds.Name) (cond numeral (Some kinds.Numeral) (cond empty (mark_kind c) None)) ≡ Some kinds.Numeral → numeral ≡ true
 chosen_numeral name numeral empty c h1 = grind arith
 
 pub numeral_from_kind : (bs : List ℕ) → kind_of bs ≡ Some kinds.Numeral → is_numeral bs ≡ true
@@ -72,7 +80,8 @@ numeral_by_kind bs = grind (arith, true≢false, numeral_from_kind, kind_from_nu
 
 -- what the state after the bytes says of them
 pub numeral_at_state : (bs : List ℕ) (state : State) → state_through Start bs ≡ state → is_numeral_kind (kind_at state) ≡ is_numeral bs
-numeral_at_state bs state e = ap (λ s. is_numeral_kind (kind_at s)) (sym e) ∙ ap is_numeral_kind (sym (kind_of-through bs)) ∙ numeral_by_kind bs
+numeral_at_state bs state e = ap (λ s. is_numeral_kind (kind_at s)) (sym e) ∙ ap is_numeral_kind (sym (kind_of-through bs))
+    ∙ numeral_by_kind bs
 
 pub digit_at : (bs : List ℕ) (i : ℕ) → list_all is_digit bs ≡ true → i < length bs → is_digit (get_or bs i 0) ≡ true
 digit_at bs i h l = AllPass-from_list_all is_digit bs h i 0 l
@@ -81,12 +90,17 @@ digit_at bs i h l = AllPass-from_list_all is_digit bs h i 0 l
 pub capped_more : (most v d : ℕ) → 0 < most → min (min most v * 10 + d) most ≡ min most (v * 10 + d)
 capped_more most v d h = omega arith
 
-pub number_step : (most : ℕ) (bs : List ℕ) (i n m : ℕ) → 0 < most → list_all is_digit bs ≡ true → i < length bs → n ≡ min most (digits_value 10 (take i bs)) → m ≡ min (n * 10 + (get_or bs i 0 - 48)) most → m ≡ min most (digits_value 10 (take (i + 1) bs))
+pub number_step : (most : ℕ) (bs : List ℕ) (i n m : ℕ) → 0 < most → list_all is_digit bs ≡ true → i < length bs
+    → n ≡ min most (digits_value 10 (take i bs)) → m ≡ min (n * 10 + (get_or bs i 0 - 48)) most
+    → m ≡ min most (digits_value 10 (take (i + 1) bs))
 number_step most bs i n m pos h l before next = grind (arith, digits_value_more, digit_is, digit_at, capped_more)
 
 -- the step of a scaling at one more digit
-pub scaled_more : (kept : ℕ) (front : List ℕ) (d : ℕ) (old new : Scaling) → is_digit d ≡ true → 0 < old.left → IsScaled kept front old → new.floor ≡ min (old.floor * 10 + (d - 48)) cap → new.left ≡ old.left - 1 → new.is_inexact ≡ old.is_inexact → IsScaled kept (front ++ d ∷ []) new
-scaled_more kept front d old new digit some was floor_is left_is inexact_is = grind (arith, digits_value_push, take_all, drop_all, length-append, digit_is, capped_more)
+pub scaled_more : (kept : ℕ) (front : List ℕ) (d : ℕ) (old new : Scaling) → is_digit d ≡ true → 0 < old.left → IsScaled kept front old
+    → new.floor ≡ min (old.floor * 10 + (d - 48)) cap → new.left ≡ old.left - 1 → new.is_inexact ≡ old.is_inexact
+    → IsScaled kept (front ++ d ∷ []) new
+scaled_more kept front d old new digit some was floor_is left_is inexact_is =
+    grind (arith, digits_value_push, take_all, drop_all, length-append, digit_is, capped_more)
 
 pub pow_next : (n k : ℕ) → n * 10 ^ (k + 1) ≡ n * 10 ^ k * 10
 pow_next n k = omega (arith, ap (λ p. n * p) (pow_more 10 k))
@@ -94,5 +108,6 @@ pow_next n k = omega (arith, ap (λ p. n * p) (pow_more 10 k))
 pub zeros_step : (number n k next : ℕ) → number ≡ min cap (n * 10 ^ k) → next ≡ min (number * 10) cap → next ≡ min cap (n * 10 ^ (k + 1))
 zeros_step number n k next before is = grind (arith, pow_next)
 
-pub scaled_through : (kept : ℕ) (front ds : List ℕ) (i : ℕ) (new : Scaling) → i < length ds → IsScaled kept ((front ++ take i ds) ++ get_or ds i 0 ∷ []) new → IsScaled kept (front ++ take (i + 1) ds) new
+pub scaled_through : (kept : ℕ) (front ds : List ℕ) (i : ℕ) (new : Scaling) → i < length ds
+    → IsScaled kept ((front ++ take i ds) ++ get_or ds i 0 ∷ []) new → IsScaled kept (front ++ take (i + 1) ds) new
 scaled_through kept front ds i new h was = grind (arith, take_more, append_assoc)

@@ -1,6 +1,9 @@
 -- A numeral of digits alone, read without a point and an exponent.
-use Rattle.std.proofs.Common.{◌≡◌, ◌∙◌, ℕ, ◌+◌, ◌-◌, ◌*◌, ◌^◌, ◌<◌, ◌≤◌, true, false, List, [], ◌++◌, length, take, drop, take_all, append-nil, get_or, refl, sym, ap, subst, arith}
-use Rattle.polcert_text.proofs.Common.{drop_all, list_any, before_first, after_first, digits_value, is_exponent_mark, is_point, class_of, is_numeral, without_sign, whole_of, fraction_of, exponent_of, is_lowering, exponent_size, largest, IsReadable, is_nonzero, ceiling, Measures, state_through, Digit}
+use Rattle.std.proofs.Common.{◌≡◌, ◌∙◌, ℕ, ◌+◌, ◌-◌, ◌*◌, ◌^◌, ◌<◌, ◌≤◌, true, false, List, [], ◌++◌, length, take, drop, take_all}
+use Rattle.std.proofs.Common.{append-nil, get_or, refl, sym, ap, subst, arith}
+use Rattle.polcert_text.proofs.Common.{drop_all, list_any, before_first, after_first, digits_value, is_exponent_mark, is_point, class_of}
+use Rattle.polcert_text.proofs.Common.{is_numeral, without_sign, whole_of, fraction_of, exponent_of, is_lowering, exponent_size, largest}
+use Rattle.polcert_text.proofs.Common.{IsReadable, is_nonzero, ceiling, Measures, state_through, Digit}
 use Rattle.std.specs.Prelude.{Option, IfSome}
 use Rattle.polcert_text.specs.declared.number.Size.{Size}
 use Rattle.polcert_text.specs.declared.tokens.State.TheVariants as states
@@ -25,8 +28,10 @@ module _ (bs : List ℕ) (some : 0 < length bs) (digits : (k : ℕ) → 0 ≤ k 
 
   numeral : is_numeral bs ≡ true
   numeral =
-      let begun : state_through states.Start (take (0 + 1) bs) ≡ states.Whole = state_step bs 0 states.Start Digit states.Whole some refl (sym (digits 0 (omega arith) some)) refl in
-      let done = run bs 1 (length bs - 1) states.Whole (omega (arith, some)) refl begun (λ k l. digits (1 + k) (omega arith) (omega (arith, some))) in
+      let begun : state_through states.Start (take (0 + 1) bs) ≡ states.Whole =
+      state_step bs 0 states.Start Digit states.Whole some refl (sym (digits 0 (omega arith) some)) refl in
+      let done = run bs 1 (length bs - 1) states.Whole (omega (arith, some)) refl begun
+      (λ k l. digits (1 + k) (omega arith) (omega (arith, some))) in
       let all : take (1 + (length bs - 1)) bs ≡ bs = take_all (1 + (length bs - 1)) bs (omega (arith, some)) in
       sym (numeral_at_state bs states.Whole (ap (state_through states.Start) (sym all) ∙ done))
 
@@ -41,18 +46,30 @@ module _ (bs : List ℕ) (some : 0 < length bs) (digits : (k : ℕ) → 0 ≤ k 
       let all : bs ++ [] ≡ bs = append-nil bs in
       let none : drop kept (bs ++ []) ≡ [] = ap (drop kept) all ∙ drop_all kept bs (omega arith) in
       let measures : Measures bs (digits_value 10 (take kept (bs ++ [])) * 10 ^ (kept - length (bs ++ []))) false =
-      parts_measure bs bs [] false 0 kept false numeral short (sym whole) (sym fraction) (sym (ap is_lowering exponent)) (sym no_exponent) (omega arith) (omega arith) (sym (ap (list_any is_nonzero) none)) in
+      parts_measure bs bs [] false 0 kept false numeral short (sym whole) (sym fraction) (sym (ap is_lowering exponent)) (sym no_exponent)
+      (omega arith) (omega arith) (sym (ap (list_any is_nonzero) none)) in
       let front : take kept (bs ++ []) ≡ bs = ap (take kept) all ∙ take_all kept bs (omega arith) in
       let six : length bs + 6 - length bs ≡ 6 = omega arith in
       let left : kept - length (bs ++ []) ≡ 6 = ap (λ xs. kept - length xs) all ∙ six in
-      let size : digits_value 10 (take kept (bs ++ [])) * 10 ^ (kept - length (bs ++ [])) ≡ number * 1000000 = (λ i. digits_value 10 (front i) * 10 ^ left i) ∙ ap (λ n. n * 1000000) (sym value) in
+      let size : digits_value 10 (take kept (bs ++ [])) * 10 ^ (kept - length (bs ++ [])) ≡ number * 1000000 =
+      (λ i. digits_value 10 (front i) * 10 ^ left i) ∙ ap (λ n. n * 1000000) (sym value) in
       let exact : Measures bs (number * 1000000) false = subst (λ n. Measures bs n false) size measures in
-      let top : ceiling (number * 1000000) false ≤ largest = omega (arith, small) in
-      (record { numeral = numeral; short = short; exponent = omega (arith, no_exponent); size = within bs (number * 1000000) false exact top }, exact, top)
+      let top : ceiling (number * 1000000) false ≤ largest = omega (arith, small) in (
+        record {
+          numeral = numeral;
+          short = short;
+          exponent = omega (arith, no_exponent);
+          size =
+              within bs (number * 1000000) false exact top;
+        },
+        exact,
+        top,
+      )
 
   abbrev IsSizeOf : Size → Type 0
   IsSizeOf size = IsReadable bs × Measures bs size.floor size.is_inexact × (ceiling size.floor size.is_inexact ≤ largest)
 
   pub whole_is_plain : (number : ℕ) → length bs ≤ 400 → number ≡ digits_value 10 bs → (size : Option Size)
-      → IfSome size (λ s. s.floor ≡ number * 1000000) → IfSome size (λ s. s.is_inexact ≡ false) → IfSome size (λ s. number * 1000000 < largest) → IfSome size IsSizeOf
+      → IfSome size (λ s. s.floor ≡ number * 1000000) → IfSome size (λ s. s.is_inexact ≡ false)
+      → IfSome size (λ s. number * 1000000 < largest) → IfSome size IsSizeOf
   whole_is_plain number h1 h2 size h3 h4 h5 = grind (arith, whole_measures)

@@ -1,6 +1,8 @@
 -- A sign and a size as a whole number.
-use Rattle.std.proofs.Common.{◌≡◌, ◌∙◌, ℕ, suc, ◌+◌, ◌*◌, ◌/◌, ◌<◌, ◌≤◌, Bool, true, false, not, List, ◌⊎◌, ⊎_elim, ℤ, pos, negsuc, neg_ℤ, ◌*ℤ◌, ◌≤ℤ◌, refl, sym, ap, subst, arith, rules}
-use Rattle.polcert_text.proofs.Common.{ints, pos-*ℤ-pos, millionth, size_of, signed, IsExact, IsFloor, IsCeil, IsRounded, Rounding, ceiling, rounded, is_away, Measures}
+use Rattle.std.proofs.Common.{◌≡◌, ◌∙◌, ℕ, suc, ◌+◌, ◌*◌, ◌/◌, ◌<◌, ◌≤◌, Bool, true, false, not, List, ◌⊎◌, ⊎_elim, ℤ, pos, negsuc, neg_ℤ}
+use Rattle.std.proofs.Common.{◌*ℤ◌, ◌≤ℤ◌, refl, sym, ap, subst, arith, rules}
+use Rattle.polcert_text.proofs.Common.{ints, pos-*ℤ-pos, millionth, size_of, signed, IsExact, IsFloor, IsCeil, IsRounded, Rounding, ceiling}
+use Rattle.polcert_text.proofs.Common.{rounded, is_away, Measures}
 use Rattle.std.proofs.Math.IntN.{negsuc-*ℤ-pos}
 use Rattle.std.proofs.Math.Nat.{mul-le-mul_right, mul-div_cancel, mul-pos}
 use Rattle.polcert_text.specs.declared.number.Rounding.TheVariants.{Down, Up}
@@ -45,11 +47,13 @@ negative_le_pos n b = omega (arith, ints)
 
 module _ (bs : List ℕ) (floor : ℕ) where
   between : (n d part : ℕ) → n * d ≡ floor * d + part → 0 < part → part < d → ⊥
-  between n d part e some below = ⊎_elim (λ l. let p = mul-le-mul_right d l in omega arith) (λ l. let p : (floor + 1) * d ≤ n * d = mul-le-mul_right d l in omega arith) (order n floor)
+  between n d part e some below = ⊎_elim (λ l. let p = mul-le-mul_right d l in omega arith)
+      (λ l. let p : (floor + 1) * d ≤ n * d = mul-le-mul_right d l in omega arith) (order n floor)
 
   pub no_exact : (negative : Bool) → Measures bs floor true → (h : ℤ) → IsExact negative bs h → ⊥
   no_exact negative m h exact =
-      let e : size_without_sign h * millionth ≡ size_of bs = sym (size-mul h millionth) ∙ ap size_without_sign exact ∙ size-signed negative (size_of bs) in
+      let e : size_without_sign h * millionth ≡ size_of bs = sym (size-mul h millionth) ∙ ap size_without_sign exact
+      ∙ size-signed negative (size_of bs) in
       between (size_without_sign h) millionth m.part (e ∙ m.size) (m.inexact refl) m.below
 
   -- a number of whole units that isn't above the size isn't above its floor
@@ -76,10 +80,12 @@ module _ (bs : List ℕ) (floor : ℕ) where
   above_ceiling is_inexact m n h1 = search (rules, ⊎_elim, mul-le-mul_right, order)
 
   pub floor_negative : (is_inexact : Bool) → Measures bs floor is_inexact → IsFloor true bs (signed true (ceiling floor is_inexact))
-  floor_negative is_inexact m = grind (arith, ⊎_elim, mul-le-mul_right, order, neg-mul, le_pos_from, le_neg, le_neg_from, pos_le_neg, ceiling_above, above_ceiling)
+  floor_negative is_inexact m = grind
+      (arith, ⊎_elim, mul-le-mul_right, order, neg-mul, le_pos_from, le_neg, le_neg_from, pos_le_neg, ceiling_above, above_ceiling)
 
   -- rounded down is rounded up in size where the number is negative
-  pub floor_signed : (negative is_inexact : Bool) → Measures bs floor is_inexact → IsFloor negative bs (signed negative (rounded negative floor is_inexact))
+  pub floor_signed : (negative is_inexact : Bool) → Measures bs floor is_inexact
+      → IsFloor negative bs (signed negative (rounded negative floor is_inexact))
   floor_signed true is_inexact m = floor_negative is_inexact m
   floor_signed false is_inexact m = floor_positive is_inexact m
 
@@ -103,14 +109,17 @@ le_turned_back x y h = subst (λ z. z ≤ℤ y) (neg_neg x) (subst (λ z. neg_�
 pub ceil_of_floor : (negative : Bool) (bs : List ℕ) (h : ℤ) → IsFloor (not negative) bs (neg_ℤ h) → IsCeil negative bs h
 ceil_of_floor negative bs h f = grind (arith, neg_signed, neg_times, le_turned, le_turned_back)
 
-pub ceil_signed : (bs : List ℕ) (floor : ℕ) (negative is_inexact : Bool) → Measures bs floor is_inexact → IsCeil negative bs (signed negative (rounded (not negative) floor is_inexact))
+pub ceil_signed : (bs : List ℕ) (floor : ℕ) (negative is_inexact : Bool) → Measures bs floor is_inexact
+    → IsCeil negative bs (signed negative (rounded (not negative) floor is_inexact))
 ceil_signed bs floor negative is_inexact m = search (rules, floor_signed, neg_signed, ceil_of_floor)
 
-pub rounded_signed : (rounding : Rounding) (bs : List ℕ) (floor : ℕ) (negative is_inexact : Bool) → Measures bs floor is_inexact → IsRounded rounding negative bs (signed negative (rounded (is_away rounding negative) floor is_inexact))
+pub rounded_signed : (rounding : Rounding) (bs : List ℕ) (floor : ℕ) (negative is_inexact : Bool) → Measures bs floor is_inexact
+    → IsRounded rounding negative bs (signed negative (rounded (is_away rounding negative) floor is_inexact))
 rounded_signed rounding bs floor negative is_inexact h1 = grind (arith, floor_signed, ceil_signed)
 
 -- a whole number of millionths is not rounded
-pub rounded_whole : (rounding : Rounding) (negative : Bool) (bs : List ℕ) (n : ℕ) → Measures bs n false → IsRounded rounding negative bs (signed negative n)
+pub rounded_whole : (rounding : Rounding) (negative : Bool) (bs : List ℕ) (n : ℕ) → Measures bs n false
+    → IsRounded rounding negative bs (signed negative n)
 rounded_whole Down true bs n m = floor_negative bs n false m
 rounded_whole Down false bs n m = floor_positive bs n false m
 rounded_whole Up true bs n m = ceil_signed bs n true false m

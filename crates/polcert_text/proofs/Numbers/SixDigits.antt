@@ -1,5 +1,6 @@
 -- Decimals that are read at once, as one number of which each byte is one of them.
-use Rattle.std.proofs.Common.{◌≡◌, ◌∙◌, ◌≢◌, ℕ, zero, suc, ◌+◌, ◌-◌, ◌*◌, ◌/◌, ◌%◌, ◌^◌, ◌<◌, ◌≤◌, ⊎_elim, nat_lt, cond, min, max, List, ◌++◌, length, take, drop, get_or, refl, sym, ap, subst, append-nil, bit_and, bit_or, arith}
+use Rattle.std.proofs.Common.{◌≡◌, ◌∙◌, ◌≢◌, ℕ, zero, suc, ◌+◌, ◌-◌, ◌*◌, ◌/◌, ◌%◌, ◌^◌, ◌<◌, ◌≤◌, ⊎_elim, nat_lt, cond, min, max, List}
+use Rattle.std.proofs.Common.{◌++◌, length, take, drop, get_or, refl, sym, ap, subst, append-nil, bit_and, bit_or, arith}
 use Rattle.std.specs.Int.{bit_at, w64, trailing_zeros}
 use Rattle.std.proofs.lemmas.Nat.{and_mask, and_le_r}
 use Rattle.std.proofs.lemmas.Bool.{lt-ltb, le-ltb}
@@ -31,7 +32,8 @@ high_bit n (suc k) = high_bit (n / 256) k
 
 high_bit_is : (n k : ℕ) → k ≤ 6 → high_bit n k ≡ bit_at n (8 * k + 7)
 unfolding high_bit
-high_bit_is n k l = up_to_six (λ k. high_bit n k ≡ bit_at n (8 * k + 7)) (omega arith) (omega arith) (omega arith) (omega arith) (omega arith) (omega arith) (omega arith) k l
+high_bit_is n k l = up_to_six (λ k. high_bit n k ≡ bit_at n (8 * k + 7)) (omega arith) (omega arith) (omega arith) (omega arith)
+    (omega arith) (omega arith) (omega arith) k l
 
 -- the lowest byte of a difference n and of the sum m, where their highest bits are 0
 record IsLowest (n m w b z a c d : ℕ) : Type 0 where
@@ -40,7 +42,8 @@ record IsLowest (n m w b z a c d : ℕ) : Type 0 where
   rest : n / 256 + z ≡ w + c
   above : m / 256 + d ≡ n / 256 + a
 
-lowest : (n m w b z a c d : ℕ) → n + (z * 256 + 48) ≡ w * 256 + b + c * 256 → m + d * 256 ≡ n + (a * 256 + 118) → b < 256 → n / 128 % 2 ≡ 0 → m / 128 % 2 ≡ 0 → IsLowest n m w b z a c d
+lowest : (n m w b z a c d : ℕ) → n + (z * 256 + 48) ≡ w * 256 + b + c * 256 → m + d * 256 ≡ n + (a * 256 + 118) → b < 256 → n / 128 % 2 ≡ 0
+    → m / 128 % 2 ≡ 0 → IsLowest n m w b z a c d
 lowest n m w b z a c d sum more fits first second = record {
   digit = omega (arith, sum, fits, first);
   few = omega (arith, more, first, second);
@@ -50,7 +53,8 @@ lowest n m w b z a c d sum more fits first second = record {
 
 -- as six digits do
 abbrev pub Spells : ℕ → ℕ → Type 0
-Spells digits number = (a b c d e f : ℕ) → AreDigits a b c d e f → digits ≡ packed a b c d e f → number ≡ ((((a * 10 + b) * 10 + c) * 10 + d) * 10 + e) * 10 + f
+Spells digits number = (a b c d e f : ℕ) → AreDigits a b c d e f → digits ≡ packed a b c d e f
+    → number ≡ ((((a * 10 + b) * 10 + c) * 10 + d) * 10 + e) * 10 + f
 
 -- so many bytes, and what stands above them
 repeated : ℕ → ℕ → ℕ
@@ -76,12 +80,15 @@ module _ (bs : List ℕ) (from : ℕ) (room : from + 6 ≤ length bs) (bytes : (
   unfolding repeated word raised high_bit byte
   digit_there q zero j n m c d inside sum more clear = absurd (omega (arith, inside))
   digit_there zero (suc k) j n m c d inside sum more clear =
-      let here = lowest n m (word (suc j) k) (at j) (repeated 48 k) (repeated 118 k) (raised c k) (raised d k) sum more (bytes (from + j)) (clear 0 (omega arith)).0 (clear 0 (omega arith)).1 in
+      let here = lowest n m (word (suc j) k) (at j) (repeated 48 k) (repeated 118 k) (raised c k) (raised d k) sum more (bytes (from + j))
+      (clear 0 (omega arith)).0 (clear 0 (omega arith)).1 in
       let place : j ≡ j + 0 = omega arith in
       (here.digit ∙ ap at place, here.few)
   digit_there (suc q) (suc k) j n m c d inside sum more clear =
-      let here = lowest n m (word (suc j) k) (at j) (repeated 48 k) (repeated 118 k) (raised c k) (raised d k) sum more (bytes (from + j)) (clear 0 (omega arith)).0 (clear 0 (omega arith)).1 in
-      let there = digit_there q k (suc j) (n / 256) (m / 256) c d (omega (arith, inside)) here.rest here.above (λ i l. clear (suc i) (omega (arith, l))) in
+      let here = lowest n m (word (suc j) k) (at j) (repeated 48 k) (repeated 118 k) (raised c k) (raised d k) sum more (bytes (from + j))
+      (clear 0 (omega arith)).0 (clear 0 (omega arith)).1 in
+      let there = digit_there q k (suc j) (n / 256) (m / 256) c d (omega (arith, inside)) here.rest here.above
+      (λ i l. clear (suc i) (omega (arith, l))) in
       let place : suc j + q ≡ j + suc q = omega arith in
       (there.0 ∙ ap at place, there.1)
 
@@ -100,18 +107,21 @@ module _ (bs : List ℕ) (from : ℕ) (room : from + 6 ≤ length bs) (bytes : (
     both_clear x y h none one = (omega (arith, none, one), omega (arith, none, one))
 
     one_there : (q : ℕ) → q < 6 → bit_at 141289400074368 (8 * q + 7) ≡ 1
-    one_there q l = up_to_six (λ q. q < 6 → bit_at 141289400074368 (8 * q + 7) ≡ 1) (λ l. refl) (λ l. refl) (λ l. refl) (λ l. refl) (λ l. refl) (λ l. refl) (λ l. absurd (omega (arith, l))) q (omega (arith, l)) l
+    one_there q l = up_to_six (λ q. q < 6 → bit_at 141289400074368 (8 * q + 7) ≡ 1) (λ l. refl) (λ l. refl) (λ l. refl) (λ l. refl)
+        (λ l. refl) (λ l. refl) (λ l. absurd (omega (arith, l))) q (omega (arith, l)) l
 
     clear_at : (q : ℕ) → q < 6 → bit_at others (8 * q + 7) ≡ 0 → (high_bit n q ≡ 0) × (high_bit m q ≡ 0)
     clear_at q l none =
         let parts : min (max (bit_at n (8 * q + 7)) (bit_at m (8 * q + 7))) (bit_at 141289400074368 (8 * q + 7)) ≡ 0 =
-        (λ i. min (sym (bit_at_or n m (8 * q + 7)) i) (bit_at 141289400074368 (8 * q + 7))) ∙ sym (bit_at_and (bit_or n m) 141289400074368 (8 * q + 7)) ∙ none in
+        (λ i. min (sym (bit_at_or n m (8 * q + 7)) i) (bit_at 141289400074368 (8 * q + 7)))
+        ∙ sym (bit_at_and (bit_or n m) 141289400074368 (8 * q + 7)) ∙ none in
         let clear = both_clear _ _ _ parts (one_there q l) in
         (high_bit_is n q (omega (arith, l)) ∙ clear.0, high_bit_is m q (omega (arith, l)) ∙ clear.1)
 
     lowered : (c : ℕ) × (n + repeated 48 6 ≡ word 0 6 + raised c 6)
     unfolding repeated raised
-    lowered = ⊎_elim (λ below. (65536, omega (arith, is, fits, below))) (λ above. (0, omega (arith, is, fits, above))) (at_or_after w 52983525027888)
+    lowered = ⊎_elim (λ below. (65536, omega (arith, is, fits, below))) (λ above. (0, omega (arith, is, fits, above)))
+        (at_or_after w 52983525027888)
 
     added : (d : ℕ) × (m + raised d 6 ≡ n + repeated 118 6)
     unfolding repeated raised
@@ -121,12 +131,16 @@ module _ (bs : List ℕ) (from : ℕ) (room : from + 6 ≤ length bs) (bytes : (
     some : ℕ → ℕ → ℕ
     some k q = cond (nat_lt q k) (byte n q) 0
 
-    first_bytes : (k : ℕ) → k ≤ 6 → bit_and n (1 * 2 ^ (8 * k) % 18446744073709551616 - 1) ≡ packed (some k 0) (some k 1) (some k 2) (some k 3) (some k 4) (some k 5)
+    first_bytes : (k : ℕ) → k ≤ 6 → bit_and n (1 * 2 ^ (8 * k) % 18446744073709551616 - 1)
+        ≡ packed (some k 0) (some k 1) (some k 2) (some k 3) (some k 4) (some k 5)
     unfolding some byte
     first_bytes k few =
         let mask : bit_and n (2 ^ (8 * k) - 1) ≡ n % 2 ^ (8 * k) = and_mask n (8 * k) in
-        up_to_six (λ k. bit_and n (2 ^ (8 * k) - 1) ≡ n % 2 ^ (8 * k) → bit_and n (1 * 2 ^ (8 * k) % 18446744073709551616 - 1) ≡ packed (some k 0) (some k 1) (some k 2) (some k 3) (some k 4) (some k 5))
-        (λ mask. omega (arith, mask)) (λ mask. omega (arith, mask)) (λ mask. omega (arith, mask)) (λ mask. omega (arith, mask)) (λ mask. omega (arith, mask)) (λ mask. omega (arith, mask)) (λ mask. omega (arith, mask)) k few mask
+        up_to_six (λ k. bit_and n (2 ^ (8 * k) - 1) ≡ n % 2 ^ (8 * k)
+        → bit_and n (1 * 2 ^ (8 * k) % 18446744073709551616 - 1)
+        ≡ packed (some k 0) (some k 1) (some k 2) (some k 3) (some k 4) (some k 5))
+        (λ mask. omega (arith, mask)) (λ mask. omega (arith, mask)) (λ mask. omega (arith, mask)) (λ mask. omega (arith, mask))
+        (λ mask. omega (arith, mask)) (λ mask. omega (arith, mask)) (λ mask. omega (arith, mask)) k few mask
 
     -- what they spell after others
     read : ℕ → ℕ → ℕ
@@ -138,30 +152,44 @@ module _ (bs : List ℕ) (from : ℕ) (room : from + 6 ≤ length bs) (bytes : (
 
     scaled : (number k : ℕ) → k ≤ 6 → number * 1_000_000 + spelled k ≡ read number k * 10 ^ (6 - k)
     unfolding read spelled some
-    scaled number k few = up_to_six (λ k. number * 1_000_000 + spelled k ≡ read number k * 10 ^ (6 - k)) (omega arith) (omega arith) (omega arith) (omega arith) (omega arith) (omega arith) (omega arith) k few
+    scaled number k few = up_to_six (λ k. number * 1_000_000 + spelled k ≡ read number k * 10 ^ (6 - k)) (omega arith) (omega arith)
+        (omega arith) (omega arith) (omega arith) (omega arith) (omega arith) k few
 
     -- before the first of the others
     module _ (k : ℕ) (few : k ≤ 6) (clear : (q : ℕ) → q < k → bit_at others (8 * q + 7) ≡ 0) where
       digit : (q : ℕ) → q < k → (byte n q + 48 ≡ at q) × (byte n q ≤ 9)
       digit q l =
-          let there = digit_there q 6 0 n m lowered.0 added.0 (omega (arith, l, few)) lowered.1 added.1 (λ i le. clear_at i (omega (arith, le, l, few)) (clear i (omega (arith, le, l)))) in
+          let there = digit_there q 6 0 n m lowered.0 added.0 (omega (arith, l, few)) lowered.1 added.1
+          (λ i le. clear_at i (omega (arith, le, l, few)) (clear i (omega (arith, le, l)))) in
           let place : 0 + q ≡ q = omega arith in
           (there.0 ∙ ap at place, there.1)
 
       each : (q : ℕ) → some k q ≤ 9
       unfolding some
-      each q = ⊎_elim (λ below. let here = ap (λ b. cond b (byte n q) 0) (lt-ltb q k below) in omega (arith, here, (digit q below).1)) (λ above. let none = ap (λ b. cond b (byte n q) 0) (le-ltb q k above) in omega (arith, none)) (at_or_after q k)
+      each q = ⊎_elim (λ below. let here = ap (λ b. cond b (byte n q) 0) (lt-ltb q k below) in omega (arith, here, (digit q below).1))
+          (λ above. let none = ap (λ b. cond b (byte n q) 0) (le-ltb q k above) in omega (arith, none)) (at_or_after q k)
 
       are_digits : AreDigits (some k 0) (some k 1) (some k 2) (some k 3) (some k 4) (some k 5)
       are_digits = record { a_is = each 0; b_is = each 1; c_is = each 2; d_is = each 3; e_is = each 4; f_is = each 5 }
 
       in_six_bytes : bit_and n (1 * 2 ^ (8 * k) % 18446744073709551616 - 1) < 2 ^ 48
-      in_six_bytes = omega (arith, first_bytes k few, are_digits.a_is, are_digits.b_is, are_digits.c_is, are_digits.d_is, are_digits.e_is, are_digits.f_is)
+      in_six_bytes = omega (
+        arith,
+        first_bytes k
+            few,
+        are_digits.a_is,
+        are_digits.b_is,
+        are_digits.c_is,
+        are_digits.d_is,
+        are_digits.e_is,
+        are_digits.f_is,
+      )
 
       class_at : (q : ℕ) → q < k → class_of (at q) ≡ Digit
       class_at q l = let here = digit q l in digit_between (at q) (omega (arith, here.0)) (omega (arith, here.0, here.1))
 
-      spell : (front : List ℕ) (number q : ℕ) → number ≡ digits_value 10 front → q ≤ k → read number q ≡ digits_value 10 (front ++ take (from + q - from) (drop from bs))
+      spell : (front : List ℕ) (number q : ℕ) → number ≡ digits_value 10 front → q ≤ k
+          → read number q ≡ digits_value 10 (front ++ take (from + q - from) (drop from bs))
       unfolding read
       spell front number zero was l =
           let none : from + 0 - from ≡ 0 = omega arith in
@@ -170,26 +198,42 @@ module _ (bs : List ℕ) (from : ℕ) (room : from + 6 ≤ length bs) (bytes : (
           let next : from + q + 1 - from ≡ from + suc q - from = omega arith in
           let difference : byte n q ≡ at q - 48 = omega (arith, (digit q (omega (arith, l))).0) in
           ap (λ b. read number q * 10 + b) difference
-          ∙ after_more front bs from (from + q) (read number q) (omega arith) (omega (arith, l, few, room)) (class_at q (omega (arith, l))) (spell front number q was (omega (arith, l)))
+          ∙ after_more front bs from (from + q) (read number q) (omega arith) (omega (arith, l, few, room)) (class_at q (omega (arith, l)))
+          (spell front number q was (omega (arith, l)))
           ∙ ap (λ n. digits_value 10 (front ++ take n (drop from bs))) next
 
       -- what the bytes before it spell
-      are_decimals : (millionths : ℕ) → Spells (bit_and n (1 * 2 ^ (8 * k) % 18446744073709551616 - 1)) millionths → AreDecimals bs from (record { millionths = millionths; end = from + k })
+      are_decimals : (millionths : ℕ) → Spells (bit_and n (1 * 2 ^ (8 * k) % 18446744073709551616 - 1)) millionths
+          → AreDecimals bs from (record { millionths = millionths; end = from + k })
       unfolding spelled
       are_decimals millionths spells =
-          let is_spelled : millionths ≡ spelled k = spells (some k 0) (some k 1) (some k 2) (some k 3) (some k 4) (some k 5) are_digits (first_bytes k few) in
+          let is_spelled : millionths ≡ spelled k = spells (some k 0) (some k 1) (some k 2) (some k 3) (some k 4) (some k 5) are_digits
+          (first_bytes k few) in
           let left : 6 - k ≡ from + 6 - (from + k) = omega arith in
           record {
             low = omega arith;
             high = omega (arith, few);
-            digits = λ i low high. let sum : from + (i - from) ≡ i = omega (arith, low) in subst (λ i. class_of (get_or bs i 0) ≡ Digit) sum (class_at (i - from) (omega (arith, low, high)));
-            value = λ front number was. ap (λ m. number * 1_000_000 + m) is_spelled ∙ scaled number k few ∙ (λ i. spell front number k was (omega arith) i * 10 ^ left i);
-            few = omega (arith, is_spelled, are_digits.a_is, are_digits.b_is, are_digits.c_is, are_digits.d_is, are_digits.e_is, are_digits.f_is);
+            digits = λ i low high. let sum : from + (i - from) ≡ i = omega (arith, low) in
+                subst (λ i. class_of (get_or bs i 0) ≡ Digit) sum (class_at (i - from) (omega (arith, low, high)));
+            value = λ front number was. ap (λ m. number * 1_000_000 + m) is_spelled ∙ scaled number k few
+                ∙ (λ i. spell front number k was (omega arith) i * 10 ^ left i);
+            few = omega (
+              arith,
+              is_spelled,
+              are_digits.a_is,
+              are_digits.b_is,
+              are_digits.c_is,
+              are_digits.d_is,
+              are_digits.e_is,
+              are_digits.f_is,
+            );
           }
 
     -- ---- none of the six is another byte
-    pub six : others ≡ 0 → (millionths : ℕ) → Spells (bit_and n 281474976710655) millionths → AreDecimals bs from (record { millionths = millionths; end = from + 6 })
-    six none millionths spells = are_decimals 6 (omega arith) (λ q l. ap (λ n. bit_at n (8 * q + 7)) none ∙ bit_at-zero (8 * q + 7)) millionths spells
+    pub six : others ≡ 0 → (millionths : ℕ) → Spells (bit_and n 281474976710655) millionths
+        → AreDecimals bs from (record { millionths = millionths; end = from + 6 })
+    six none millionths spells = are_decimals 6 (omega arith) (λ q l. ap (λ n. bit_at n (8 * q + 7)) none ∙ bit_at-zero (8 * q + 7))
+        millionths spells
 
     -- ---- one is
     module _ (any : others ≢ 0) where
@@ -203,7 +247,8 @@ module _ (bs : List ℕ) (from : ℕ) (room : from + 6 ≤ length bs) (bytes : (
       first = bit_at-trailing_zeros w64 others (omega (arith, any)) (omega (arith, small))
 
       few : place / 8 ≤ 6
-      few = ⊎_elim (λ below. omega (arith, below)) (λ above. let zero_there = bit_at_above others 48 place small above in absurd (omega (arith, zero_there, first.1))) (at_or_after place 48)
+      few = ⊎_elim (λ below. omega (arith, below)) (λ above. let zero_there = bit_at_above others 48 place small above in
+          absurd (omega (arith, zero_there, first.1))) (at_or_after place 48)
 
       clear : (q : ℕ) → q < place / 8 → bit_at others (8 * q + 7) ≡ 0
       clear q l = first.2 (8 * q + 7) (omega (arith, l))
@@ -211,7 +256,8 @@ module _ (bs : List ℕ) (from : ℕ) (room : from + 6 ≤ length bs) (bytes : (
       pub fewer_bytes : bit_and n (1 * 2 ^ (8 * (place / 8)) % 18446744073709551616 - 1) < 2 ^ 48
       fewer_bytes = in_six_bytes (place / 8) few clear
 
-      pub fewer : (millionths : ℕ) → Spells (bit_and n (1 * 2 ^ (8 * (place / 8)) % 18446744073709551616 - 1)) millionths → AreDecimals bs from (record { millionths = millionths; end = from + place / 8 })
+      pub fewer : (millionths : ℕ) → Spells (bit_and n (1 * 2 ^ (8 * (place / 8)) % 18446744073709551616 - 1)) millionths
+          → AreDecimals bs from (record { millionths = millionths; end = from + place / 8 })
       fewer = are_decimals (place / 8) few clear
 
   pub word_is : (w : ℕ) → w ≡ packed (get_or bs from 0) (at 1) (at 2) (at 3) (at 4) (at 5) → w ≡ word 0 6

@@ -1,7 +1,11 @@
 -- The size of a numeral, from its digits.
-use Rattle.std.proofs.Common.{◌≡◌, ◌∙◌, ℕ, ◌+◌, ◌-◌, ◌*◌, ◌^◌, ◌<◌, ◌≤◌, min, Bool, true, false, ◌&&◌, inl, List, [], ◌∷◌, ◌++◌, length, take, drop, refl, ap, subst, arith, length-append}
+use Rattle.std.proofs.Common.{◌≡◌, ◌∙◌, ℕ, ◌+◌, ◌-◌, ◌*◌, ◌^◌, ◌<◌, ◌≤◌, min, Bool, true, false, ◌&&◌, inl, List, [], ◌∷◌, ◌++◌, length}
+use Rattle.std.proofs.Common.{take, drop, refl, ap, subst, arith, length-append}
 use Rattle.std.specs.Prelude.{if◌then◌else◌}
-use Rattle.polcert_text.proofs.Common.{list_all, list_any, before_first, after_first, position_or_len, digits_value, one-le-pow, list_all-append, is_digit, is_exponent_mark, is_point, without_sign, is_numeral, whole_of, fraction_of, exponent_of, is_lowering, number_of, exponent_size, power_of, size_of, millionth, largest, cap, is_nonzero, IsScaled, ceiling, Measures}
+use Rattle.polcert_text.proofs.Common.{list_all, list_any, before_first, after_first, position_or_len, digits_value, one-le-pow}
+use Rattle.polcert_text.proofs.Common.{list_all-append, is_digit, is_exponent_mark, is_point, without_sign, is_numeral, whole_of}
+use Rattle.polcert_text.proofs.Common.{fraction_of, exponent_of, is_lowering, number_of, exponent_size, power_of, size_of, millionth}
+use Rattle.polcert_text.proofs.Common.{largest, cap, is_nonzero, IsScaled, ceiling, Measures}
 use Rattle.std.proofs.Math.Nat.{mul-le-mul_right}
 use Rattle.std.proofs.lemmas.List.{length-take, length-drop}
 use Rattle.polcert_text.proofs.Scanning.BeforeFirst.{after_first-pass}
@@ -14,7 +18,8 @@ length-after : (p : ℕ → Bool) (bs : List ℕ) → length (after_first p bs) 
 length-after p bs = omega (arith, length-drop (position_or_len p bs + 1) bs)
 
 pub length-fraction : (bs : List ℕ) → length (fraction_of bs) ≤ length bs
-length-fraction bs = let inner = length-after is_point (before_first is_exponent_mark bs) in let outer = length-before is_exponent_mark bs in omega arith
+length-fraction bs = let inner = length-after is_point (before_first is_exponent_mark bs) in let outer =
+    length-before is_exponent_mark bs in omega arith
 
 pub whole_digits : (bs : List ℕ) → is_numeral bs ≡ true → list_all is_digit (whole_of bs) ≡ true
 whole_digits bs h = grind arith
@@ -31,7 +36,8 @@ exponent_digits bs h = grind (arith, and-true_left, and-true_right, after-none)
 
 -- how many digits are kept
 abbrev pub kept_of : List ℕ → ℕ
-kept_of bs = if is_lowering (exponent_of bs) then length (whole_of bs) + 6 - exponent_size bs else length (whole_of bs) + 6 + exponent_size bs
+kept_of bs = if is_lowering (exponent_of bs) then length (whole_of bs) + 6 - exponent_size bs else length (whole_of bs) + 6
+    + exponent_size bs
 
 abbrev pub digits_of : List ℕ → List ℕ
 digits_of bs = whole_of bs ++ fraction_of bs
@@ -46,10 +52,13 @@ power_fits : (bs : List ℕ) → length bs ≤ 400 → exponent_size bs ≤ 400 
 unfolding power_of
 power_fits bs short small = grind (arith, length-append, length-fraction, lowering_fits, raising_fits)
 
-pub numeral_measure : (bs : List ℕ) → is_numeral bs ≡ true → length bs ≤ 400 → exponent_size bs ≤ 400 → Measures bs (digits_value 10 (take (kept_of bs) (digits_of bs)) * 10 ^ (kept_of bs - length (digits_of bs))) (list_any is_nonzero (drop (kept_of bs) (digits_of bs)))
+pub numeral_measure : (bs : List ℕ) → is_numeral bs ≡ true → length bs ≤ 400 → exponent_size bs ≤ 400
+    → Measures bs (digits_value 10 (take (kept_of bs) (digits_of bs)) * 10 ^ (kept_of bs - length (digits_of bs)))
+    (list_any is_nonzero (drop (kept_of bs) (digits_of bs)))
 unfolding size_of number_of millionth
 numeral_measure bs numeral short small =
-    let digits : list_all is_digit (digits_of bs) ≡ true = list_all-append is_digit (whole_of bs) (fraction_of bs) ∙ (λ i. whole_digits bs numeral i && fraction_digits bs numeral i) in
+    let digits : list_all is_digit (digits_of bs) ≡ true = list_all-append is_digit (whole_of bs) (fraction_of bs)
+    ∙ (λ i. whole_digits bs numeral i && fraction_digits bs numeral i) in
     let part = measure (digits_of bs) digits 994 (power_of bs) (kept_of bs) (power_fits bs short small) in
     record { part = part.part; size = part.size_is; below = part.below; exact = part.exact; inexact = part.inexact }
 
@@ -62,27 +71,36 @@ unfolding millionth
 millionth_pos = one-le-pow 994 10 (omega arith)
 
 module _ (bs : List ℕ) where
-  pub beyond : (size floor : ℕ) (is_inexact : Bool) → Measures bs size is_inexact → floor ≡ min cap size → largest < ceiling floor is_inexact → largest * millionth < size_of bs
+  pub beyond : (size floor : ℕ) (is_inexact : Bool) → Measures bs size is_inexact → floor ≡ min cap size
+      → largest < ceiling floor is_inexact → largest * millionth < size_of bs
   beyond size floor true m is more = grind (arith, mul-le-mul_right)
   beyond size floor false m is more =
       let at : largest + 1 ≤ size = omega arith in
       let product : (largest + 1) * millionth ≤ size * millionth = mul-le-mul_right millionth at in
       omega (arith, product, m.size, millionth_pos)
 
-  pub within : (floor : ℕ) (is_inexact : Bool) → Measures bs floor is_inexact → ceiling floor is_inexact ≤ largest → size_of bs ≤ largest * millionth
+  pub within : (floor : ℕ) (is_inexact : Bool) → Measures bs floor is_inexact → ceiling floor is_inexact ≤ largest
+      → size_of bs ≤ largest * millionth
   within floor is_inexact h1 h2 = grind (arith, mul-le-mul_right)
 
   -- a size below the bound isn't cut off
   below_cap : (size floor : ℕ) (is_inexact : Bool) → floor ≡ min cap size → ceiling floor is_inexact ≤ largest → size ≡ floor
   below_cap size floor is_inexact h1 h2 = grind arith
 
-  pub exact_floor : (size floor : ℕ) (is_inexact : Bool) → Measures bs size is_inexact → floor ≡ min cap size → ceiling floor is_inexact ≤ largest → Measures bs floor is_inexact
+  pub exact_floor : (size floor : ℕ) (is_inexact : Bool) → Measures bs size is_inexact → floor ≡ min cap size
+      → ceiling floor is_inexact ≤ largest → Measures bs floor is_inexact
   exact_floor size floor is_inexact m is small = subst (λ n. Measures bs n is_inexact) (below_cap size floor is_inexact is small) m
 
   -- the same of the parts that the code has
-  pub parts_measure : (whole fraction : List ℕ) (lowers : Bool) (exponent kept : ℕ) (is_inexact : Bool) → is_numeral bs ≡ true → length bs ≤ 400 → whole ≡ whole_of bs → fraction ≡ fraction_of bs → lowers ≡ is_lowering (exponent_of bs) → exponent ≡ exponent_size bs → exponent ≤ 400 → kept ≡ (if lowers then length whole + 6 - exponent else length whole + 6 + exponent) → is_inexact ≡ list_any is_nonzero (drop kept (whole ++ fraction)) → Measures bs (digits_value 10 (take kept (whole ++ fraction)) * 10 ^ (kept - length (whole ++ fraction))) is_inexact
-  parts_measure whole fraction lowers exponent kept is_inexact numeral short whole_is fraction_is lowers_is exponent_is small kept_is inexact_is = grind (arith, numeral_measure)
+  pub parts_measure : (whole fraction : List ℕ) (lowers : Bool) (exponent kept : ℕ) (is_inexact : Bool) → is_numeral bs ≡ true
+      → length bs ≤ 400 → whole ≡ whole_of bs → fraction ≡ fraction_of bs → lowers ≡ is_lowering (exponent_of bs)
+      → exponent ≡ exponent_size bs → exponent ≤ 400 → kept ≡ (if lowers then length whole + 6 - exponent else length whole + 6 + exponent)
+      → is_inexact ≡ list_any is_nonzero (drop kept (whole ++ fraction))
+      → Measures bs (digits_value 10 (take kept (whole ++ fraction)) * 10 ^ (kept - length (whole ++ fraction))) is_inexact
+  parts_measure whole fraction lowers exponent kept is_inexact numeral short whole_is fraction_is lowers_is exponent_is small kept_is
+      inexact_is = grind (arith, numeral_measure)
 
-pub capped_exponent : (bs digits : List ℕ) (e : ℕ) → digits ≡ without_sign (exponent_of bs) → e ≡ min 401 (digits_value 10 digits) → e ≡ min 401 (exponent_size bs)
+pub capped_exponent : (bs digits : List ℕ) (e : ℕ) → digits ≡ without_sign (exponent_of bs) → e ≡ min 401 (digits_value 10 digits)
+    → e ≡ min 401 (exponent_size bs)
 unfolding exponent_size
 capped_exponent bs digits e is at = at ∙ ap (λ ds. min 401 (digits_value 10 ds)) is

@@ -1,7 +1,10 @@
 -- What is written of a number is a numeral that a blank or a line end stops.
-use Rattle.std.proofs.Common.{◌≡◌, ◌∙◌, ℕ, suc, zero, ◌+◌, ◌/◌, ◌%◌, ◌^◌, ◌<◌, ◌≤◌, Bool, true, false, cond, ◌||◌, Some, List, [], ◌∷◌, ◌++◌, length, refl, sym, ap, subst, arith, decimal, append-nil, length-append}
+use Rattle.std.proofs.Common.{◌≡◌, ◌∙◌, ℕ, suc, zero, ◌+◌, ◌/◌, ◌%◌, ◌^◌, ◌<◌, ◌≤◌, Bool, true, false, cond, ◌||◌, Some, List, [], ◌∷◌}
+use Rattle.std.proofs.Common.{◌++◌, length, refl, sym, ap, subst, arith, decimal, append-nil, length-append}
 use Rattle.std.specs.Prelude.{◌==◌}
-use Rattle.polcert_text.proofs.Common.{list_all, list_any, list_any-append, decimal_nonempty, length-decimal-le, is_digit, is_exponent_mark, kind_of, decimals, fraction_text, unsigned_text, state_after, state_through, kind_at, State, Start, Whole, Fraction, Numeral}
+use Rattle.polcert_text.proofs.Common.{list_all, list_any, list_any-append, decimal_nonempty, length-decimal-le, is_digit, is_exponent_mark}
+use Rattle.polcert_text.proofs.Common.{kind_of, decimals, fraction_text, unsigned_text, state_after, state_through, kind_at, State, Start}
+use Rattle.polcert_text.proofs.Common.{Whole, Fraction, Numeral}
 use Rattle.polcert_text.specs.declared.bytes.ByteClass.TheVariants as classes
 use Rattle.polcert_text.proofs.Scanning.LexemeLaws.{kind_of-through, state_through-append}
 use Rattle.polcert_text.proofs.Numbers.MeasureLaws.{and-true_left, and-true_right}
@@ -18,7 +21,8 @@ decimals_short (suc k) r = at (r == 0) (decimals_short k (r % 10 ^ k))
     at true h = omega arith
     at false h = omega (arith, h)
 
-digits_stay : (state : State) → state_after state classes.Digit ≡ state → (ds : List ℕ) → list_all is_digit ds ≡ true → state_through state ds ≡ state
+digits_stay : (state : State) → state_after state classes.Digit ≡ state → (ds : List ℕ) → list_all is_digit ds ≡ true
+    → state_through state ds ≡ state
 digits_stay state stays [] h = refl
 digits_stay state stays (d ∷ ds) h =
     ap (λ c. state_through (state_after state c) ds) (digit_class_is d (and-true_left (is_digit d) (list_all is_digit ds) h))
@@ -53,17 +57,20 @@ plain_whole (d ∷ ds) h some few = record {
   short = omega (arith, few);
 }
 
-plain_point : (ds fs : List ℕ) → list_all is_digit ds ≡ true → 0 < length ds → length ds ≤ 20 → list_all is_digit fs ≡ true → length fs ≤ 6 → IsPlain (ds ++ 46 ∷ fs)
+plain_point : (ds fs : List ℕ) → list_all is_digit ds ≡ true → 0 < length ds → length ds ≤ 20 → list_all is_digit fs ≡ true → length fs ≤ 6
+    → IsPlain (ds ++ 46 ∷ fs)
 plain_point [] fs h some few f small = absurd (omega (arith, some))
 plain_point (d ∷ ds) fs h some few f small =
-    let state : state_through Start ((d ∷ ds) ++ 46 ∷ fs) ≡ Fraction = state_through-append Start (d ∷ ds) (46 ∷ fs) ∙ ap (λ s. state_through s (46 ∷ fs)) (whole_state d ds h)
+    let state : state_through Start ((d ∷ ds) ++ 46 ∷ fs) ≡ Fraction = state_through-append Start (d ∷ ds) (46 ∷ fs)
+    ∙ ap (λ s. state_through s (46 ∷ fs)) (whole_state d ds h)
     ∙ ap (λ c. state_through (state_after Whole c) fs) point_class_is ∙ digits_stay Fraction refl fs f in
     record {
       digit = d;
       rest = ds ++ 46 ∷ fs;
       begins = refl;
       kind = kind_of-through ((d ∷ ds) ++ 46 ∷ fs) ∙ ap kind_at state;
-      unmarked = list_any-append is_exponent_mark (d ∷ ds) (46 ∷ fs) ∙ (λ i. digits_unmarked (d ∷ ds) h i || (point_no_mark i || digits_unmarked fs f i));
+      unmarked = list_any-append is_exponent_mark (d ∷ ds) (46 ∷ fs)
+          ∙ (λ i. digits_unmarked (d ∷ ds) h i || (point_no_mark i || digits_unmarked fs f i));
       short = omega (arith, length-append (d ∷ ds) (46 ∷ fs), few, small);
     }
 
@@ -80,15 +87,19 @@ plain_unsigned n h = at (n % 1_000_000 == 0) refl
     some = decimal_nonempty (n / 1_000_000) small
 
     few : length (decimal (n / 1_000_000)) ≤ 20
-    few = let l : length (decimal (n / 1_000_000)) ≤ 19 = length-decimal-le 19 (n / 1_000_000) (omega arith) (omega (arith, h)) small in omega (arith, l)
+    few = let l : length (decimal (n / 1_000_000)) ≤ 19 = length-decimal-le 19 (n / 1_000_000) (omega arith) (omega (arith, h)) small in
+        omega (arith, l)
 
     at : (z : Bool) → (n % 1_000_000 == 0) ≡ z → IsPlain (decimal (n / 1_000_000) ++ fraction_text (n % 1_000_000))
     at true e =
-        let text : decimal (n / 1_000_000) ≡ decimal (n / 1_000_000) ++ fraction_text (n % 1_000_000) = sym (simp e (append-nil (decimal (n / 1_000_000)))) in
+        let text : decimal (n / 1_000_000) ≡ decimal (n / 1_000_000) ++ fraction_text (n % 1_000_000) =
+        sym (simp e (append-nil (decimal (n / 1_000_000)))) in
         subst IsPlain text (plain_whole (decimal (n / 1_000_000)) digits some few)
     at false e =
-        let text : decimal (n / 1_000_000) ++ 46 ∷ decimals 6 (n % 1_000_000) ≡ decimal (n / 1_000_000) ++ fraction_text (n % 1_000_000) = sym (simp e) in
-        subst IsPlain text (plain_point (decimal (n / 1_000_000)) (decimals 6 (n % 1_000_000)) digits some few (decimals_digits 6 (n % 1_000_000) (omega arith)) (decimals_short 6 (n % 1_000_000)))
+        let text : decimal (n / 1_000_000) ++ 46 ∷ decimals 6 (n % 1_000_000) ≡ decimal (n / 1_000_000) ++ fraction_text (n % 1_000_000) =
+        sym (simp e) in
+        subst IsPlain text (plain_point (decimal (n / 1_000_000)) (decimals 6 (n % 1_000_000)) digits some few
+        (decimals_digits 6 (n % 1_000_000) (omega arith)) (decimals_short 6 (n % 1_000_000)))
 
 pub plain_decimal : (a : ℕ) → a < 10 ^ 19 → IsPlain (decimal a)
 plain_decimal a h =

@@ -1,6 +1,8 @@
 -- The lexemes of lines of words.
-use Rattle.std.proofs.Common.{◌≡◌, ◌∙◌, ℕ, ◌≤◌, true, false, Some, List, [], ◌∷◌, ◌++◌, length, map, codes, refl, sym, ap, arith, append_assoc, append-nil, rules}
-use Rattle.polcert_text.proofs.Common.{list_all, is_blank, is_letter, is_digit, is_point, is_exponent_mark, class_of, blank_class, kind_of, is_glued, state_after, state_through, kind_at, State, TokenKind, Numeral, Colon, Minus}
+use Rattle.std.proofs.Common.{◌≡◌, ◌∙◌, ℕ, ◌≤◌, true, false, Some, List, [], ◌∷◌, ◌++◌, length, map, codes, refl, sym, ap, arith}
+use Rattle.std.proofs.Common.{append_assoc, append-nil, rules}
+use Rattle.polcert_text.proofs.Common.{list_all, is_blank, is_letter, is_digit, is_point, is_exponent_mark, class_of, blank_class, kind_of}
+use Rattle.polcert_text.proofs.Common.{is_glued, state_after, state_through, kind_at, State, TokenKind, Numeral, Colon, Minus}
 use Rattle.polcert_text.specs.declared.tokens.TokenKind.TheVariants.{Name}
 use Rattle.polcert_text.specs.Lines.{line}
 use Rattle.polcert_text.specs.declared.bytes.ByteClass.TheVariants as classes
@@ -9,7 +11,8 @@ use Rattle.polcert_text.proofs.Scanning.LexemeLaws.{kind_of-through}
 use Rattle.polcert_text.proofs.Numbers.MeasureLaws.{and-true_left}
 use Rattle.polcert_text.proofs.Scanning.Tests.{blank_by, glue_by}
 use Rattle.polcert_text.proofs.Printing.Numerals.{IsPlain}
-use Rattle.polcert_text.proofs.Printing.PrintedCut.{Printed, text_of, Stops, IsPrinted, ArePrinted, blank_stops, blank_no_glue, text-append, printed-append}
+use Rattle.polcert_text.proofs.Printing.PrintedCut.{Printed, text_of, Stops, IsPrinted, ArePrinted, blank_stops, blank_no_glue, text-append}
+use Rattle.polcert_text.proofs.Printing.PrintedCut.{printed-append}
 use Rattle.polcert_text.proofs.Scanning.Classes.{colon_at_58 as colon_class}
 
 -- What stands between blanks: one lexeme, a name and a colon, or a minus and a numeral.
@@ -25,8 +28,10 @@ word_text (minus numeral) = 45 ∷ numeral
 
 abbrev pub spelled : Word → List ℕ → List Printed
 spelled (plain kind bytes) following = record { kind = kind; bytes = bytes; following = following } ∷ []
-spelled (key name) following = record { kind = Name; bytes = name; following = [] } ∷ record { kind = Colon; bytes = codes ":"; following = following } ∷ []
-spelled (minus numeral) following = record { kind = Minus; bytes = 45 ∷ []; following = [] } ∷ record { kind = Numeral; bytes = numeral; following = following } ∷ []
+spelled (key name) following = record { kind = Name; bytes = name; following = [] } ∷ record
+    { kind = Colon; bytes = codes ":"; following = following } ∷ []
+spelled (minus numeral) following = record { kind = Minus; bytes = 45 ∷ []; following = [] } ∷ record
+    { kind = Numeral; bytes = numeral; following = following } ∷ []
 
 pub record IsPiece (kind : TokenKind) (bytes : List ℕ) : Type 0 where
   pub kind_is : kind_of bytes ≡ Some kind
@@ -69,12 +74,14 @@ unfolding is_blank
 line_end = record { all = refl; first = 10; more = []; is = refl }
 
 first_blank : (following : List ℕ) (b : Blank following) → blank_class (class_of b.first) ≡ true
-first_blank following b = sym (blank_by b.first refl) ∙ and-true_left (is_blank b.first) (list_all is_blank b.more) (ap (list_all is_blank) (sym b.is) ∙ b.all)
+first_blank following b = sym (blank_by b.first refl)
+    ∙ and-true_left (is_blank b.first) (list_all is_blank b.more) (ap (list_all is_blank) (sym b.is) ∙ b.all)
 
 not_glued : (kind : TokenKind) (b : ℕ) (more : List ℕ) → blank_class (class_of b) ≡ true → is_glued kind (b ∷ more) ≡ false
 not_glued kind b more h1 = grind (arith, glue_by, blank_no_glue)
 
-piece_printed : (kind : TokenKind) (bytes following : List ℕ) → IsPiece kind bytes → Blank following → IsPrinted (record { kind = kind; bytes = bytes; following = following }) []
+piece_printed : (kind : TokenKind) (bytes following : List ℕ) → IsPiece kind bytes → Blank following
+    → IsPrinted (record { kind = kind; bytes = bytes; following = following }) []
 piece_printed kind bytes following p b = search (rules, append-nil, blank_stops, first_blank, not_glued)
 
 colon_piece : IsPiece Colon (codes ":")
@@ -107,4 +114,5 @@ word_printed w following h1 h2 = grind (arith, append-nil, piece_printed, colon_
 
 pub line_printed : (w : Word) (ws : List Word) → IsSpelling w → AreSpellings ws → ArePrinted (spelled_line w ws)
 line_printed w [] a b = word_printed w (codes "\n") a line_end
-line_printed w (v ∷ ws) a b = printed-append (spelled w (codes " ")) (spelled_line v ws) (word_printed w (codes " ") a space) (line_printed v ws b.0 b.1)
+line_printed w (v ∷ ws) a b = printed-append (spelled w (codes " ")) (spelled_line v ws) (word_printed w (codes " ") a space)
+    (line_printed v ws b.0 b.1)

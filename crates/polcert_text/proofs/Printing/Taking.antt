@@ -13,7 +13,8 @@ module _ {S : Type 0} {writes : S → Option (List ℕ) → S → Type 0} {from 
   -- one more write of a loop over the bytes
   pub took_more : (bytes : List ℕ) (at n : ℕ) (s t : S) → Takes writes from (take at bytes) s
       → writes s (Some (take n (drop at bytes))) t → Takes writes from (take (at + n) bytes) t
-  took_more bytes at n s t took call = let all : Takes writes from (take at bytes ++ take n (drop at bytes)) t = more took call in rw (take-add at n bytes) all
+  took_more bytes at n s t took call = let all : Takes writes from (take at bytes ++ take n (drop at bytes)) t = more took call in
+      rw (take-add at n bytes) all
 
   -- the loop's last write failed
   pub took_front : (bytes : List ℕ) (at : ℕ) (s t : S) → Takes writes from (take at bytes) s

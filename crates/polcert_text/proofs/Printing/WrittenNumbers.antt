@@ -1,6 +1,7 @@
 -- What is written of a number is a numeral that a reader takes.
 use Rattle.std.proofs.Common.{◌≡◌, ◌∙◌, ℕ, ◌*◌, ◌≤◌, false, pos, List, sym, ap, arith}
-use Rattle.polcert_text.proofs.Common.{list_any, digits_value, pos-*ℤ-pos, is_exponent_mark, unsigned_text, exponent_size, size_of, millionth, largest, IsReadable, without_sign}
+use Rattle.polcert_text.proofs.Common.{list_any, digits_value, pos-*ℤ-pos, is_exponent_mark, unsigned_text, exponent_size, size_of}
+use Rattle.polcert_text.proofs.Common.{millionth, largest, IsReadable, without_sign}
 use Rattle.std.proofs.Math.Nat.{mul-le-mul_right}
 use Rattle.polcert_text.proofs.Printing.PrintLaws.{written_exact}
 use Rattle.polcert_text.proofs.Numbers.SizeLaws.{after-none}

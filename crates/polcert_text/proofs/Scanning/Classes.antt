@@ -1,5 +1,6 @@
 -- The classes of some bytes.
-use Rattle.std.proofs.Common.{◌≡◌, ℕ, zero, suc, ◌+◌, ◌-◌, ◌<◌, ◌≤◌, ◌==◌, ◌&&◌, ◌||◌, ◌⊎◌, Bool, true, false, cond, refl, subst, arith, inl, inr}
+use Rattle.std.proofs.Common.{◌≡◌, ℕ, zero, suc, ◌+◌, ◌-◌, ◌<◌, ◌≤◌, ◌==◌, ◌&&◌, ◌||◌, ◌⊎◌, Bool, true, false, cond, refl, subst, arith}
+use Rattle.std.proofs.Common.{inl, inr}
 use Rattle.std.specs.Prelude.{IsTrue}
 use Rattle.std.proofs.lemmas.Bool.{and_parts, cases_lt}
 use Rattle.polcert_text.proofs.Common.{nat_tests, class_of, blank_class, hash_class, digit_class, letter_class, ByteClass}
@@ -76,22 +77,29 @@ pub small_between : (b : ℕ) → 97 ≤ b → b ≤ 122 → IsLetter (class_of 
 small_between b low high =
     let n : ℕ = b - 97 in
     let same : 97 + n ≡ b = omega arith in
-    subst (λ k. IsLetter (class_of k)) same (is_letter_class (class_of (97 + n)) (all_below_at (λ n. letter_class (class_of (97 + n))) 26 n all_small (omega arith)))
+    subst (λ k. IsLetter (class_of k)) same (is_letter_class (class_of (97 + n))
+    (all_below_at (λ n. letter_class (class_of (97 + n))) 26 n all_small (omega arith)))
 
 pub capital_between : (b : ℕ) → 65 ≤ b → b ≤ 90 → IsLetter (class_of b)
 capital_between b low high =
     let n : ℕ = b - 65 in
     let same : 65 + n ≡ b = omega arith in
-    subst (λ k. IsLetter (class_of k)) same (is_letter_class (class_of (65 + n)) (all_below_at (λ n. letter_class (class_of (65 + n))) 26 n all_capital (omega arith)))
+    subst (λ k. IsLetter (class_of k)) same (is_letter_class (class_of (65 + n))
+    (all_below_at (λ n. letter_class (class_of (65 + n))) 26 n all_capital (omega arith)))
 
 -- of the tests of `class_of`, in their order, the first three failed
 abbrev class_after : (mark letter digit low point colon star plus minus : Bool) → ByteClass
-class_after mark letter digit low point colon star plus minus = cond mark classes.ExponentMark (cond letter classes.Letter (cond digit classes.Digit (cond low classes.Underscore (cond point classes.Point (cond colon classes.Colon (cond star classes.Star (cond plus classes.Plus (cond minus classes.Minus classes.Other))))))))
+class_after mark letter digit low point colon star plus minus =
+    cond mark classes.ExponentMark (cond letter classes.Letter
+    (cond digit classes.Digit (cond low classes.Underscore
+    (cond point classes.Point (cond colon classes.Colon
+    (cond star classes.Star (cond plus classes.Plus (cond minus classes.Minus classes.Other))))))))
 
 abbrev EndsGap : ByteClass → Type 0
 EndsGap c = (blank_class c ≡ false) × (hash_class c ≡ false)
 
-ends_after : (mark letter digit low point colon star plus minus : Bool) → EndsGap (class_after mark letter digit low point colon star plus minus)
+ends_after : (mark letter digit low point colon star plus minus : Bool)
+    → EndsGap (class_after mark letter digit low point colon star plus minus)
 ends_after mark letter digit low point colon star plus minus = grind arith
 
 pub not_equal : (b n : ℕ) → n < b → (b == n) ≡ false

@@ -11,7 +11,8 @@ rest_of place bytes ending = record { place = place; bytes = bytes; ending = end
 ends_clean : (place : ℕ) (bytes : List ℕ) → is_gap bytes ≡ true → Ends (rest_of place bytes None) None
 ends_clean place bytes gap = grind (arith, take_all, drop_all)
 
-cut_from : (place : ℕ) (bytes : List ℕ) (tokens : List Lexeme) → AreTokensFrom place bytes tokens → IsCut (rest_of place bytes None) tokens None
+cut_from : (place : ℕ) (bytes : List ℕ) (tokens : List Lexeme) → AreTokensFrom place bytes tokens
+    → IsCut (rest_of place bytes None) tokens None
 cut_from place bytes [] gap = ends_clean place bytes gap
 cut_from place bytes (token ∷ tokens) (gap, longest, at, are) = (
   rest_of (place + gap + length token.bytes) (drop (length token.bytes) (drop gap bytes)) None,
@@ -35,7 +36,8 @@ tokens_from rest (token ∷ tokens) (following, takes, cut) = grind (arith, toke
 -- a cut that ends cleanly is one of bytes that do
 pub ends_cleanly : (rest : Rest) (tokens : List Lexeme) → IsCut rest tokens None → rest.ending ≡ None
 ends_cleanly rest [] ends = (no_bytes _ _ _ ends.ends_at).1
-ends_cleanly rest (token ∷ tokens) (following, takes, cut) = ap (λ (r : Rest). r.ending) (sym takes.rest) ∙ ends_cleanly following tokens cut
+ends_cleanly rest (token ∷ tokens) (following, takes, cut) = ap (λ (r : Rest). r.ending) (sym takes.rest)
+    ∙ ends_cleanly following tokens cut
 
 some≢none : {A : Type 0} {x : A} → Some x ≡ None → ⊥
 some≢none e = cc

@@ -5,7 +5,8 @@ use Rattle.polcert_text.proofs.Common.{kind_of, IsLongestGap, Lexeme, Rest, IsTo
 pub one_gap : (bs : List ℕ) (m n : ℕ) → IsLongestGap bs m → IsLongestGap bs n → m ≡ n
 one_gap bs m n a b = grind arith
 
-no_token_at_end : (place : ℕ) (bs : List ℕ) (ending : Option TokenFault) (x : Option TokenFault) (t : Lexeme) → IsTokenAt place bs t → EndsAt place bs ending x → ⊥
+no_token_at_end : (place : ℕ) (bs : List ℕ) (ending : Option TokenFault) (x : Option TokenFault) (t : Lexeme) → IsTokenAt place bs t
+    → EndsAt place bs ending x → ⊥
 unfolding kind_of
 no_token_at_end place bs ending x t h1 h2 = grind arith
 

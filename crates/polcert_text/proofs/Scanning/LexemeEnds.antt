@@ -1,7 +1,8 @@
 -- How far a scan may be behind the longest lexeme that it found.
 use Rattle.std.proofs.Common.{◌≡◌, ◌+◌, ℕ, Bool, true, false, None, Some, List, ◌++◌, length, take, drop, take_all, refl, subst, ◌∙◌, arith}
 use Rattle.std.proofs.lemmas.List.{take-append-drop}
-use Rattle.polcert_text.proofs.Common.{is_stuck, pending, IsFrontOf, IsScanOf, LexemeScan, state_after, kind_at, ByteClass, TokenKind, State}
+use Rattle.polcert_text.proofs.Common.{is_stuck, pending, IsFrontOf, IsScanOf, LexemeScan, state_after, kind_at, ByteClass, TokenKind}
+use Rattle.polcert_text.proofs.Common.{State}
 use Rattle.polcert_text.proofs.Scanning.LexemeLaws.{front_whatever_follows, stuck_state}
 
 -- a state that has read a lexeme waits for nothing
@@ -24,5 +25,6 @@ scanned bs scan was all = go (is_stuck scan.state) refl
     joined = take-append-drop scan.len bs
 
     go : (b : Bool) → is_stuck scan.state ≡ b → IsFrontOf bs scan.longest
-    go true stuck = subst (λ xs. IsFrontOf xs scan.longest) joined (front_whatever_follows (take scan.len bs) (drop scan.len bs) scan.longest was.longest (was.state ∙ stuck_state scan.state stuck))
+    go true stuck = subst (λ xs. IsFrontOf xs scan.longest) joined
+        (front_whatever_follows (take scan.len bs) (drop scan.len bs) scan.longest was.longest (was.state ∙ stuck_state scan.state stuck))
     go false not_stuck = subst (λ xs. IsFrontOf xs scan.longest) (take_all scan.len bs (omega (arith, all not_stuck))) was.longest

@@ -1,6 +1,10 @@
 -- Reading a lexeme byte by byte tells what kind of lexeme each front is.
-use Rattle.std.proofs.Common.{◌≡◌, ◌∙◌, ℕ, ◌+◌, Bool, true, false, not, ◌&&◌, ◌||◌, cond, Option, Some, None, List, [], ◌∷◌, ◌++◌, take, drop, refl, sym, ap, append-nil, arith, ◌<◌, ◌≤◌, length, get_or, ◌⊎◌, ⊎_elim, take_all, append_assoc, subst}
-use Rattle.polcert_text.proofs.Common.{take_more, take-append-le, is_stuck, IsFrontOf, list_all, list_any, LexemePrefix, is_digit, is_exponent_mark, is_point, is_name_byte, class_of, point_class, digit_class, letter_class, mark_kind, are_digits, without_sign, is_numeral, kind_of, is_empty, state_after, state_through, kind_at, ByteClass, TokenKind, State, Start, Name, Whole, Fraction, Single, Stuck}
+use Rattle.std.proofs.Common.{◌≡◌, ◌∙◌, ℕ, ◌+◌, Bool, true, false, not, ◌&&◌, ◌||◌, cond, Option, Some, None, List, [], ◌∷◌, ◌++◌, take}
+use Rattle.std.proofs.Common.{drop, refl, sym, ap, append-nil, arith, ◌<◌, ◌≤◌, length, get_or, ◌⊎◌, ⊎_elim, take_all, append_assoc, subst}
+use Rattle.polcert_text.proofs.Common.{take_more, take-append-le, is_stuck, IsFrontOf, list_all, list_any, LexemePrefix, is_digit}
+use Rattle.polcert_text.proofs.Common.{is_exponent_mark, is_point, is_name_byte, class_of, point_class, digit_class, letter_class}
+use Rattle.polcert_text.proofs.Common.{mark_kind, are_digits, without_sign, is_numeral, kind_of, is_empty, state_after, state_through}
+use Rattle.polcert_text.proofs.Common.{kind_at, ByteClass, TokenKind, State, Start, Name, Whole, Fraction, Single, Stuck}
 use Rattle.std.proofs.lemmas.List.{take-take, take-append-drop, take_at, length-append}
 use Rattle.polcert_text.specs.declared.tokens.State.TheVariants.{Point, Mark, Sign, Exponent}
 use Rattle.polcert_text.specs.declared.bytes.ByteClass.TheVariants as classes
@@ -58,10 +62,12 @@ module _ (b : ℕ) (bs : List ℕ) where
   m = before is_exponent_mark bs
 
   -- a byte that begins no numeral
-  no_numeral_at : (c : ByteClass) → class_of b ≡ c → digit_class c ≡ false → point_class c ≡ false → kind_of (b ∷ bs) ≡ cond (letter_class c && list_all is_name_byte bs) (Some kinds.Name) (cond (is_empty bs) (mark_kind c) None)
+  no_numeral_at : (c : ByteClass) → class_of b ≡ c → digit_class c ≡ false → point_class c ≡ false
+      → kind_of (b ∷ bs) ≡ cond (letter_class c && list_all is_name_byte bs) (Some kinds.Name) (cond (is_empty bs) (mark_kind c) None)
   no_numeral_at c e d p = kind_by b bs c false e (no_numeral b bs (digit_by b e ∙ d) (point_by b e ∙ p))
 
-  numeral_at_digit : class_of b ≡ classes.Digit → is_numeral (b ∷ bs) ≡ (list_all is_digit (before is_point m) && list_all is_digit (after is_point m) && exponent_fits bs)
+  numeral_at_digit : class_of b ≡ classes.Digit → is_numeral (b ∷ bs)
+      ≡ (list_all is_digit (before is_point m) && list_all is_digit (after is_point m) && exponent_fits bs)
   numeral_at_digit e = numeral_cut (b ∷ bs) ∙ simp (digit_by b e, mark_by b e, point_by b e, and-true)
 
   numeral_at_point : class_of b ≡ classes.Point → is_numeral (b ∷ bs) ≡ (are_digits m && exponent_fits bs)
@@ -85,9 +91,11 @@ module _ (b : ℕ) (bs : List ℕ) where
 -- the same for several bytes
 pub completed_through : (state : State) (front rest : List ℕ) → completed state (front ++ rest) ≡ completed (state_through state front) rest
 completed_through state [] rest = refl
-completed_through state (b ∷ bs) rest = completed_at b (bs ++ rest) state (class_of b) refl ∙ completed_through (state_after state (class_of b)) bs rest
+completed_through state (b ∷ bs) rest = completed_at b (bs ++ rest) state (class_of b) refl
+    ∙ completed_through (state_after state (class_of b)) bs rest
 
-pub state_through-append : (state : State) (front rest : List ℕ) → state_through state (front ++ rest) ≡ state_through (state_through state front) rest
+pub state_through-append : (state : State) (front rest : List ℕ)
+    → state_through state (front ++ rest) ≡ state_through (state_through state front) rest
 state_through-append state [] rest = refl
 state_through-append state (b ∷ bs) rest = state_through-append (state_after state (class_of b)) bs rest
 
@@ -103,11 +111,14 @@ completed-none state = grind (arith, none_empty)
 pub kind_of-through : (bs : List ℕ) → kind_of bs ≡ kind_at (state_through Start bs)
 kind_of-through bs = ap kind_of (sym (append-nil bs)) ∙ completed_through Start bs [] ∙ completed-none (state_through Start bs)
 
-state_through_more : (bs : List ℕ) (i : ℕ) → i < length bs → state_through Start (take (i + 1) bs) ≡ state_after (state_through Start (take i bs)) (class_of (get_or bs i 0))
+state_through_more : (bs : List ℕ) (i : ℕ) → i < length bs
+    → state_through Start (take (i + 1) bs) ≡ state_after (state_through Start (take i bs)) (class_of (get_or bs i 0))
 state_through_more bs i h = ap (state_through Start) (take_more bs i 0 h) ∙ state_through-append Start (take i bs) (get_or bs i 0 ∷ [])
 
 -- a step of the loop
-pub state_step : (bs : List ℕ) (i : ℕ) (state : State) (c : ByteClass) (next : State) → i < length bs → state_through Start (take i bs) ≡ state → c ≡ class_of (get_or bs i 0) → next ≡ state_after state c → state_through Start (take (i + 1) bs) ≡ next
+pub state_step : (bs : List ℕ) (i : ℕ) (state : State) (c : ByteClass) (next : State) → i < length bs
+    → state_through Start (take i bs) ≡ state → c ≡ class_of (get_or bs i 0) → next ≡ state_after state c
+    → state_through Start (take (i + 1) bs) ≡ next
 state_step bs i state c next h read class_is next_is = grind (arith, state_through_more)
 
 le_or_ge : (k n : ℕ) → (k ≤ n) ⊎ (n ≤ k)
@@ -117,7 +128,8 @@ le_or_ge k n = grind arith
 none_past : (bs : List ℕ) (n k : ℕ) → n ≤ k → state_through Start (take n bs) ≡ Stuck → kind_of (take k bs) ≡ None
 none_past bs n k h stuck =
     let front : take n (take k bs) ≡ take n bs = take-take n k bs h in
-    let joined : take n bs ++ drop n (take k bs) ≡ take k bs = ap (λ xs. xs ++ drop n (take k bs)) (sym front) ∙ take-append-drop n (take k bs) in
+    let joined : take n bs ++ drop n (take k bs) ≡ take k bs = ap (λ xs. xs ++ drop n (take k bs)) (sym front)
+    ∙ take-append-drop n (take k bs) in
     let rest = drop n (take k bs) in
     ap kind_of (sym joined) ∙ completed_through Start (take n bs) rest ∙ ap (λ state. completed state rest) stuck
 
@@ -135,21 +147,27 @@ module _ (read : List ℕ) (b : ℕ) where
   all_same k h = take_all k (read ++ b ∷ []) (omega (arith, one_more))
 
   -- no lexeme of at least `low` bytes, where there was none and the whole isn't one
-  none_more : (low : ℕ) → ((k : ℕ) → low ≤ k → k ≤ length read → kind_of (take k read) ≡ None) → kind_of (read ++ b ∷ []) ≡ None → (k : ℕ) → low ≤ k → k ≤ length (read ++ b ∷ []) → kind_of (take k (read ++ b ∷ [])) ≡ None
+  none_more : (low : ℕ) → ((k : ℕ) → low ≤ k → k ≤ length read → kind_of (take k read) ≡ None) → kind_of (read ++ b ∷ []) ≡ None → (k : ℕ)
+      → low ≤ k → k ≤ length (read ++ b ∷ []) → kind_of (take k (read ++ b ∷ [])) ≡ None
   none_more low none whole k from h = grind (arith, ⊎_elim, at_or_below, one_more, front_same, all_same)
 
   -- the front of one byte more
-  pub front_keeps : (front : Option LexemePrefix) → IsFrontOf read front → kind_of (read ++ b ∷ []) ≡ None → IsFrontOf (read ++ b ∷ []) front
+  pub front_keeps : (front : Option LexemePrefix) → IsFrontOf read front → kind_of (read ++ b ∷ []) ≡ None
+      → IsFrontOf (read ++ b ∷ []) front
   front_keeps front h1 h2 = grind (arith, one_more, front_same, none_more)
 
-  pub front_takes : (front : LexemePrefix) → front.len ≡ length read + 1 → kind_of (read ++ b ∷ []) ≡ Some front.kind → IsFrontOf (read ++ b ∷ []) (Some front)
+  pub front_takes : (front : LexemePrefix) → front.len ≡ length read + 1 → kind_of (read ++ b ∷ []) ≡ Some front.kind
+      → IsFrontOf (read ++ b ∷ []) (Some front)
   front_takes front len whole = grind (arith, one_more, all_same)
 
-  pub state_fed : (state next : State) (c : ByteClass) → state_through Start read ≡ state → c ≡ class_of b → next ≡ state_after state c → state_through Start (read ++ b ∷ []) ≡ next
-  state_fed state next c was class_is next_is = state_through-append Start read (b ∷ []) ∙ (λ j. state_after (was j) (sym class_is j)) ∙ sym next_is
+  pub state_fed : (state next : State) (c : ByteClass) → state_through Start read ≡ state → c ≡ class_of b → next ≡ state_after state c
+      → state_through Start (read ++ b ∷ []) ≡ next
+  state_fed state next c was class_is next_is = state_through-append Start read (b ∷ []) ∙ (λ j. state_after (was j) (sym class_is j))
+      ∙ sym next_is
 
 -- where no lexeme continues, bytes that follow change nothing
-pub front_whatever_follows : (read tail : List ℕ) (front : Option LexemePrefix) → IsFrontOf read front → state_through Start read ≡ Stuck → IsFrontOf (read ++ tail) front
+pub front_whatever_follows : (read tail : List ℕ) (front : Option LexemePrefix) → IsFrontOf read front → state_through Start read ≡ Stuck
+    → IsFrontOf (read ++ tail) front
 front_whatever_follows read tail front was stuck = go front was
   where
     whole : take (length read) (read ++ tail) ≡ read
@@ -158,9 +176,11 @@ front_whatever_follows read tail front was stuck = go front was
     stuck_at : state_through Start (take (length read) (read ++ tail)) ≡ Stuck
     stuck_at = ap (state_through Start) whole ∙ stuck
 
-    none : (low k : ℕ) → ((k : ℕ) → low ≤ k → k ≤ length read → kind_of (take k read) ≡ None) → low ≤ k → kind_of (take k (read ++ tail)) ≡ None
+    none : (low k : ℕ) → ((k : ℕ) → low ≤ k → k ≤ length read → kind_of (take k read) ≡ None) → low ≤ k
+        → kind_of (take k (read ++ tail)) ≡ None
     none low k before from =
-        ⊎_elim (λ below. ap kind_of (take-append-le k read tail below) ∙ before k from below) (λ above. none_past (read ++ tail) (length read) k above stuck_at) (le_or_ge k (length read))
+        ⊎_elim (λ below. ap kind_of (take-append-le k read tail below) ∙ before k from below)
+        (λ above. none_past (read ++ tail) (length read) k above stuck_at) (le_or_ge k (length read))
 
     go : (front : Option LexemePrefix) → IsFrontOf read front → IsFrontOf (read ++ tail) front
     go None was = λ k _. none 0 k (λ k _ h. was k h) (omega arith)
@@ -171,7 +191,8 @@ front_whatever_follows read tail front was stuck = go front was
     }
 
 -- nor do bytes that follow one with which no lexeme continues
-pub front_before : (read : List ℕ) (b : ℕ) (tail : List ℕ) (front : Option LexemePrefix) → IsFrontOf read front → state_through Start (read ++ b ∷ []) ≡ Stuck → IsFrontOf (read ++ b ∷ tail) front
+pub front_before : (read : List ℕ) (b : ℕ) (tail : List ℕ) (front : Option LexemePrefix) → IsFrontOf read front
+    → state_through Start (read ++ b ∷ []) ≡ Stuck → IsFrontOf (read ++ b ∷ tail) front
 front_before read b tail front was stuck =
     let keeps = front_keeps read b front was (kind_of-through (read ++ b ∷ []) ∙ ap kind_at stuck) in
     subst (λ xs. IsFrontOf xs front) (append_assoc read (b ∷ []) tail) (front_whatever_follows (read ++ b ∷ []) tail front keeps stuck)

@@ -1,7 +1,9 @@
 -- Each text has a cut.
-use Rattle.std.proofs.Common.{◌≡◌, ◌∙◌, ℕ, zero, suc, ◌+◌, ◌<◌, ◌≤◌, Bool, true, false, ◌⊎◌, inl, inr, Option, Some, None, is_some, List, [], ◌∷◌, length, take, drop, refl, sym, ap, subst, arith}
+use Rattle.std.proofs.Common.{◌≡◌, ◌∙◌, ℕ, zero, suc, ◌+◌, ◌<◌, ◌≤◌, Bool, true, false, ◌⊎◌, inl, inr, Option, Some, None, is_some, List}
+use Rattle.std.proofs.Common.{[], ◌∷◌, length, take, drop, refl, sym, ap, subst, arith}
 use Rattle.std.proofs.lemmas.List.{length-take-le, length-drop}
-use Rattle.polcert_text.proofs.Common.{kind_of, is_gap, IsLongestGap, IsLongestLexeme, Lexeme, Rest, is_glued, IsTokenAt, IsFaultAt, TakesToken, EndsAt, Ends, TokenKind, Numeral, TokenFault}
+use Rattle.polcert_text.proofs.Common.{kind_of, is_gap, IsLongestGap, IsLongestLexeme, Lexeme, Rest, is_glued, IsTokenAt, IsFaultAt}
+use Rattle.polcert_text.proofs.Common.{TakesToken, EndsAt, Ends, TokenKind, Numeral, TokenFault}
 use Rattle.polcert_text.specs.Cut.{HasCut}
 use Rattle.polcert_text.specs.declared.tokens.TokenFault.TheVariants.{BadByte, TokenTooLong, Glued}
 
@@ -61,10 +63,20 @@ at_most n = grind arith
 glued_kind : (k : TokenKind) (bs : List ℕ) → is_glued k bs ≡ true → k ≡ Numeral
 glued_kind k bs h1 = grind arith
 
-short_front : (place : ℕ) (bs : List ℕ) (kind : TokenKind) (m : ℕ) → IsLongestLexeme bs kind m → m ≤ 400 → (b : Bool) → is_glued kind (drop m bs) ≡ b → LexemePrefix place bs
+short_front : (place : ℕ) (bs : List ℕ) (kind : TokenKind) (m : ℕ) → IsLongestLexeme bs kind m → m ≤ 400 → (b : Bool)
+    → is_glued kind (drop m bs) ≡ b → LexemePrefix place bs
 short_front place bs kind m is short true e =
     let numeral = glued_kind kind (drop m bs) e in
-    fault (Glued place) (refl, (m, subst (λ k. IsLongestLexeme bs k m) numeral is, short, subst (λ k. is_glued k (drop m bs) ≡ true) numeral e))
+    fault (Glued place) (
+      refl,
+      (
+        m,
+        subst (λ k. IsLongestLexeme bs k m) numeral is,
+        short,
+        subst (λ k. is_glued k (drop m bs) ≡ true) numeral
+            e,
+      ),
+    )
 short_front place bs kind m is short false e =
     let same : m ≡ length (take m bs) = sym (length-take-le m bs is.within) in
     token (record { kind = kind; place = place; bytes = take m bs }) (record {
@@ -80,13 +92,15 @@ some_front place bs = at (last (λ k. is_some (kind_of (take k bs))) (length bs)
   where
     of_size : (m : ℕ) (kind : TokenKind) → IsLongestLexeme bs kind m → (m ≤ 400) ⊎ (400 < m) → LexemePrefix place bs
     of_size m kind is (inl short) = short_front place bs kind m is short (is_glued kind (drop m bs)) refl
-    of_size m kind is (inr long) = fault (TokenTooLong place) (refl, record { kind = kind; len = m; within = is.within; lexeme = is.lexeme; long = long })
+    of_size m kind is (inr long) = fault (TokenTooLong place)
+        (refl, record { kind = kind; len = m; within = is.within; lexeme = is.lexeme; long = long })
 
     at : Last (λ k. is_some (kind_of (take k bs))) (length bs) → LexemePrefix place bs
     at (nothing f) = fault (BadByte place) (refl, λ k l. no_kind (kind_of (take k bs)) (f k l))
     at (found m w t f) =
         let kind = some_kind (kind_of (take m bs)) t in
-        of_size m kind.0 (record { within = w; lexeme = kind.1; longest = λ k more l. no_kind (kind_of (take k bs)) (f k more l) }) (at_most m)
+        of_size m kind.0 (record { within = w; lexeme = kind.1; longest = λ k more l. no_kind (kind_of (take k bs)) (f k more l) })
+        (at_most m)
 
 -- ---- the cut
 
@@ -103,7 +117,8 @@ pub shorter : (old new : Rest) (t : Lexeme) → TakesToken old t new → length 
 shorter old new t takes =
     let some = has_bytes old new t takes in
     let within = takes.token_at.lexeme.within in
-    let bytes : length new.bytes ≡ length (drop (length t.bytes) (drop takes.gap old.bytes)) = ap (λ (r : Rest). length r.bytes) takes.rest in
+    let bytes : length new.bytes ≡ length (drop (length t.bytes) (drop takes.gap old.bytes)) =
+    ap (λ (r : Rest). length r.bytes) takes.rest in
     omega (arith, some, within, bytes, length-drop (length t.bytes) (drop takes.gap old.bytes), length-drop takes.gap old.bytes)
 
 -- what comes next
@@ -111,13 +126,25 @@ data Next (rest : Rest) : Type 0 where
   end : (answer : Option TokenFault) → Ends rest answer → Next rest
   takes : (t : Lexeme) (new : Rest) → TakesToken rest t new → length new.bytes < length rest.bytes → Next rest
 
-next_front : (rest : Rest) (gap : ℕ) → IsLongestGap rest.bytes gap → (b : ℕ) (bs : List ℕ) → drop gap rest.bytes ≡ b ∷ bs → LexemePrefix (rest.place + gap) (b ∷ bs) → Next rest
+next_front : (rest : Rest) (gap : ℕ) → IsLongestGap rest.bytes gap → (b : ℕ) (bs : List ℕ) → drop gap rest.bytes ≡ b ∷ bs
+    → LexemePrefix (rest.place + gap) (b ∷ bs) → Next rest
 next_front rest gap longest b bs e (fault f is) =
-    end (Some f) (record { gap = gap; longest = longest; ends_at = subst (λ xs. EndsAt (rest.place + gap) xs rest.ending (Some f)) (sym e) is })
+    end (Some f) (record {
+      gap = gap;
+      longest = longest;
+      ends_at =
+          subst (λ xs. EndsAt (rest.place + gap) xs rest.ending (Some f)) (sym e) is;
+    })
 next_front rest gap longest b bs e (token t is) =
-    let new : Rest = record { place = rest.place + gap + length t.bytes; bytes = drop (length t.bytes) (drop gap rest.bytes); ending = rest.ending } in
+    let new : Rest = record {
+      place = rest.place + gap + length t.bytes;
+      bytes = drop (length t.bytes) (drop gap rest.bytes);
+      ending =
+          rest.ending;
+    } in
     let some = some_bytes (rest.place + gap) (b ∷ bs) t is (length t.bytes) refl in
-    let within : length t.bytes ≤ length (drop gap rest.bytes) = subst (λ (xs : List ℕ). length t.bytes ≤ length xs) (sym e) is.lexeme.within in
+    let within : length t.bytes ≤ length (drop gap rest.bytes) =
+    subst (λ (xs : List ℕ). length t.bytes ≤ length xs) (sym e) is.lexeme.within in
     let less = length-drop gap rest.bytes in
     let lesser = length-drop (length t.bytes) (drop gap rest.bytes) in
     let new_takes : TakesToken rest t new =
@@ -126,7 +153,12 @@ next_front rest gap longest b bs e (token t is) =
 
 next_at : (rest : Rest) (gap : ℕ) → IsLongestGap rest.bytes gap → (bs : List ℕ) → drop gap rest.bytes ≡ bs → Next rest
 next_at rest gap longest [] e =
-    end rest.ending (record { gap = gap; longest = longest; ends_at = subst (λ xs. EndsAt (rest.place + gap) xs rest.ending rest.ending) (sym e) refl })
+    end rest.ending (record {
+      gap = gap;
+      longest = longest;
+      ends_at =
+          subst (λ xs. EndsAt (rest.place + gap) xs rest.ending rest.ending) (sym e) refl;
+    })
 next_at rest gap longest (b ∷ bs) e = next_front rest gap longest b bs e (some_front (rest.place + gap) (b ∷ bs))
 
 next_of : (rest : Rest) → Next rest

@@ -1,8 +1,11 @@
 -- What the class of a byte tells of it: the tests of bytes agree with the classes.
-use Rattle.std.proofs.Common.{◌≡◌, ◌∙◌, ℕ, ◌<◌, ◌==◌, ◌&&◌, ◌||◌, ◌⊎◌, ⊎_elim, Bool, true, false, not, cond, Option, Some, None, List, ◌∷◌, codes, refl, sym, ap, arith}
+use Rattle.std.proofs.Common.{◌≡◌, ◌∙◌, ℕ, ◌<◌, ◌==◌, ◌&&◌, ◌||◌, ◌⊎◌, ⊎_elim, Bool, true, false, not, cond, Option, Some, None, List, ◌∷◌}
+use Rattle.std.proofs.Common.{codes, refl, sym, ap, arith}
 use Rattle.std.specs.Prelude.{bytes_eq}
 use Rattle.std.specs.Char.{is_ascii_digit, is_ascii_alphabetic}
-use Rattle.polcert_text.proofs.Common.{list_all, nat_tests, is_blank, is_line_end, is_hash, is_letter, is_digit, is_exponent_mark, is_point, is_name_byte, is_numeral, is_empty, kind_of, class_of, blank_class, hash_class, letter_class, digit_class, point_class, glue_class, mark_kind, ByteClass, TokenKind}
+use Rattle.polcert_text.proofs.Common.{list_all, nat_tests, is_blank, is_line_end, is_hash, is_letter, is_digit, is_exponent_mark, is_point}
+use Rattle.polcert_text.proofs.Common.{is_name_byte, is_numeral, is_empty, kind_of, class_of, blank_class, hash_class, letter_class}
+use Rattle.polcert_text.proofs.Common.{digit_class, point_class, glue_class, mark_kind, ByteClass, TokenKind}
 use Rattle.polcert_text.specs.Bytes.{is_sign, is_glue}
 use Rattle.polcert_text.specs.Steps.Classes.{line_end_class, mark_class, sign_class, name_class, minus_class}
 use Rattle.polcert_text.specs.declared.bytes.ByteClass.TheVariants as classes
@@ -28,12 +31,16 @@ beyond b h =
     let letter : is_ascii_alphabetic b ≡ false = grind (arith, nat_tests) in
     let digit : is_ascii_digit b ≡ false = grind (arith, nat_tests) in
     let not : (n : ℕ) → n < 127 → (b == n) ≡ false = λ n l. not_equal b n (omega arith) in
-    (λ i. cond (blank i) classes.Blank (cond (not 10 (omega arith) i) classes.LineEnd (cond (not 35 (omega arith) i) classes.Hash (cond (mark i) classes.ExponentMark
-    (cond (letter i) classes.Letter (cond (digit i) classes.Digit (cond (not 95 (omega arith) i) classes.Underscore (cond (not 46 (omega arith) i) classes.Point
-    (cond (not 58 (omega arith) i) classes.Colon (cond (not 42 (omega arith) i) classes.Star (cond (not 43 (omega arith) i) classes.Plus (cond (not 45 (omega arith) i) classes.Minus classes.Other))))))))))))
+    (λ i. cond (blank i) classes.Blank (cond (not 10 (omega arith) i) classes.LineEnd
+    (cond (not 35 (omega arith) i) classes.Hash (cond (mark i) classes.ExponentMark
+    (cond (letter i) classes.Letter (cond (digit i) classes.Digit
+    (cond (not 95 (omega arith) i) classes.Underscore (cond (not 46 (omega arith) i) classes.Point
+    (cond (not 58 (omega arith) i) classes.Colon (cond (not 42 (omega arith) i) classes.Star
+    (cond (not 43 (omega arith) i) classes.Plus (cond (not 45 (omega arith) i) classes.Minus classes.Other))))))))))))
 
 -- a test that agrees with the classes of all ASCII bytes, and that no other byte passes
-agrees : (test : ℕ → Bool) (of_class : ByteClass → Bool) → all_below (λ n. same (test n) (of_class (class_of n))) 128 ≡ true → ((b : ℕ) → 127 < b → test b ≡ false) → of_class classes.Other ≡ false
+agrees : (test : ℕ → Bool) (of_class : ByteClass → Bool) → all_below (λ n. same (test n) (of_class (class_of n))) 128 ≡ true
+    → ((b : ℕ) → 127 < b → test b ≡ false) → of_class classes.Other ≡ false
     → (b : ℕ) (c : ByteClass) → class_of b ≡ c → test b ≡ of_class c
 agrees test of_class below above other b c is =
     ⊎_elim (λ ascii. same_is (test b) (of_class (class_of b)) (all_below_at (λ n. same (test n) (of_class (class_of n))) 128 b below ascii))
@@ -114,18 +121,24 @@ module _ (b : ℕ) (c : ByteClass) (is : class_of b ≡ c) where
 
 -- the last four tests of `kind_of`
 abbrev marked : (colon star plus minus : Bool) → Option TokenKind
-marked colon star plus minus = cond colon (Some kinds.Colon) (cond star (Some kinds.Star) (cond plus (Some kinds.Plus) (cond minus (Some kinds.Minus) None)))
+marked colon star plus minus = cond colon (Some kinds.Colon)
+    (cond star (Some kinds.Star) (cond plus (Some kinds.Plus) (cond minus (Some kinds.Minus) None)))
 
-marked_class : (c : ByteClass) → marked (colon_class c && true) (star_class c && true) (plus_class c && true) (minus_class c && true) ≡ mark_kind c
+marked_class : (c : ByteClass) → marked (colon_class c && true) (star_class c && true) (plus_class c && true) (minus_class c && true)
+    ≡ mark_kind c
 marked_class c = grind arith
 
 and-false : (b : Bool) → (b && false) ≡ false
 and-false b = grind arith
 
-marked_at : (b : ℕ) (bs : List ℕ) (c : ByteClass) → class_of b ≡ c → marked (bytes_eq (b ∷ bs) (codes ":")) (bytes_eq (b ∷ bs) (codes "*")) (bytes_eq (b ∷ bs) (codes "+")) (bytes_eq (b ∷ bs) (codes "-")) ≡ cond (is_empty bs) (mark_kind c) None
+marked_at : (b : ℕ) (bs : List ℕ) (c : ByteClass) → class_of b ≡ c
+    → marked (bytes_eq (b ∷ bs) (codes ":")) (bytes_eq (b ∷ bs) (codes "*")) (bytes_eq (b ∷ bs) (codes "+")) (bytes_eq (b ∷ bs) (codes "-"))
+    ≡ cond (is_empty bs) (mark_kind c) None
 marked_at b bs c h1 = grind (arith, colon_at, star_at, plus_at, minus_at, marked_class, and-false)
 
 -- the kind of a list that begins with b, by its class
-pub kind_by : (b : ℕ) (bs : List ℕ) (c : ByteClass) (numeral : Bool) → class_of b ≡ c → is_numeral (b ∷ bs) ≡ numeral → kind_of (b ∷ bs) ≡ cond (letter_class c && list_all is_name_byte bs) (Some kinds.Name) (cond numeral (Some kinds.Numeral) (cond (is_empty bs) (mark_kind c) None))
+pub kind_by : (b : ℕ) (bs : List ℕ) (c : ByteClass) (numeral : Bool) → class_of b ≡ c → is_numeral (b ∷ bs) ≡ numeral
+    → kind_of (b ∷ bs) ≡ cond (letter_class c && list_all is_name_byte bs) (Some kinds.Name)
+    (cond numeral (Some kinds.Numeral) (cond (is_empty bs) (mark_kind c) None))
 unfolding kind_of
 kind_by b bs c numeral e is = grind (arith, letter_by, marked_at)

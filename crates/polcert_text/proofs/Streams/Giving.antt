@@ -10,7 +10,8 @@ module _ {S : Type 0} {reads : S → ℕ → Option (List ℕ) → S → Type 0}
       let both : Gives reads from (bytes ++ front) t = more gave call some in rw same both
 
   -- what was given by further reads comes after
-  pub gave_then : {s t : S} {first second : List ℕ} → Gives reads from first s → Gives reads s second t → Gives reads from (first ++ second) t
+  pub gave_then : {s t : S} {first second : List ℕ} → Gives reads from first s → Gives reads s second t
+      → Gives reads from (first ++ second) t
   gave_then {s} {t} {first} gave nothing = rw (append-nil first) gave
   gave_then {s} {t} {first} gave (more {bytes} {front} gave_more call some) =
       let all = more (gave_then gave gave_more) call some in rw (← append_assoc) all

@@ -16,7 +16,8 @@ module _ {S V F : Type 0} {reads : S → ℕ → Option (List ℕ) → S → Typ
   text_refused fault each same = grind arith
 
   -- a read failed after the tokens taken
-  pub read_failed : (limit : ℕ) (tokens : List Lexeme) (old : Stream) (s : S) → TakenFrom reads failures limit first tokens old s → Fails reads failures s u
+  pub read_failed : (limit : ℕ) (tokens : List Lexeme) (old : Stream) (s : S) → TakenFrom reads failures limit first tokens old s
+      → Fails reads failures s u
       → ReadsText reads failures first u Denotes Refuses (Err Device)
   read_failed limit tokens old s was failed = grind arith
 
@@ -24,12 +25,14 @@ module _ {S V F : Type 0} {reads : S → ℕ → Option (List ℕ) → S → Typ
 module _ {S V W F : Type 0} {reads : S → ℕ → Option (List ℕ) → S → Type 0} {failures : S → ℕ} {first u : S}
     {Denotes : List ℕ → V → Type 0} {DenotesOther : List ℕ → W → Type 0} {Refuses : F → List ℕ → Type 0} where
   -- another value
-  pub value_turned : {v : V} (w : W) → ReadsText reads failures first u Denotes Refuses (Ok v) → ((text : List ℕ) → Denotes text v → DenotesOther text w)
+  pub value_turned : {v : V} (w : W) → ReadsText reads failures first u Denotes Refuses (Ok v)
+      → ((text : List ℕ) → Denotes text v → DenotesOther text w)
       → ReadsText reads failures first u DenotesOther Refuses (Ok w)
   value_turned w was turned = grind arith
 
   -- a refusal of what the text denotes
-  pub value_refused : {v : V} (fault : F) → ReadsText reads failures first u Denotes Refuses (Ok v) → ((text : List ℕ) → Denotes text v → Refuses fault text)
+  pub value_refused : {v : V} (fault : F) → ReadsText reads failures first u Denotes Refuses (Ok v)
+      → ((text : List ℕ) → Denotes text v → Refuses fault text)
       → ReadsText reads failures first u DenotesOther Refuses (Err (Refused fault))
   value_refused fault was wrong = grind arith
 

@@ -22,7 +22,8 @@ module _ {S : Type 0} (rest : S → List ℕ) {old new : S} {slice : List ℕ} (
     pub slice_denotes : {v : V} → ReadsText (slice_reads rest) (λ _. 0) old new Denotes Refuses (Ok v) → Denotes slice v
     slice_denotes {v} read = of_slice_text (λ text. Denotes text v) read.accepted.0 read.accepted.1 read.accepted.2
 
-    pub slice_refused : {fault : F} → ReadsText (slice_reads rest) (λ _. 0) old new Denotes Refuses (Err (Refused fault)) → Refuses fault slice
+    pub slice_refused : {fault : F} → ReadsText (slice_reads rest) (λ _. 0) old new Denotes Refuses (Err (Refused fault))
+        → Refuses fault slice
     slice_refused {fault} read = of_slice (Refuses fault) (read.refused fault refl)
 
     pub slice_failed : ReadsText (slice_reads rest) (λ _. 0) old new Denotes Refuses (Err Device) → ⊥

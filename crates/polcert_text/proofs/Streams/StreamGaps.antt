@@ -1,24 +1,30 @@
 -- The gap that a stream skips, in pieces.
-use Rattle.std.proofs.Common.{◌≡◌, ◌∙◌, ◌+◌, ◌-◌, ◌<◌, ◌≤◌, ◌⊎◌, inl, inr, ℕ, take_all, not, Bool, true, false, Option, List, [], ◌∷◌, ◌++◌, length, take, drop, get_or, refl, sym, ap, subst, append-nil, append_assoc, length-append, arith}
+use Rattle.std.proofs.Common.{◌≡◌, ◌∙◌, ◌+◌, ◌-◌, ◌<◌, ◌≤◌, ◌⊎◌, inl, inr, ℕ, take_all, not, Bool, true, false, Option, List, [], ◌∷◌, ◌++◌}
+use Rattle.std.proofs.Common.{length, take, drop, get_or, refl, sym, ap, subst, append-nil, append_assoc, length-append, arith}
 use Rattle.std.proofs.lemmas.List.{take_at, length-drop, get_or-drop}
-use Rattle.polcert_text.proofs.Common.{class_of, IsLongestGap, is_gap, is_empty, gap_after, gap_through, Ahead, rest_with, CanFollow, visible, skip, IsComplete, Fills, ReadsOn, SkipsGap, Gap, Between, Ended, ByteClass, nat_tests}
+use Rattle.polcert_text.proofs.Common.{class_of, IsLongestGap, is_gap, is_empty, gap_after, gap_through, Ahead, rest_with, CanFollow}
+use Rattle.polcert_text.proofs.Common.{visible, skip, IsComplete, Fills, ReadsOn, SkipsGap, Gap, Between, Ended, ByteClass, nat_tests}
 use Rattle.std.specs.Bool.{◌==◌}
 use Rattle.polcert_text.proofs.Scanning.GapLaws.{gap_through-append, gap_until_open, longest_gap_at}
 use Rattle.polcert_text.proofs.Streams.StreamLaws.{rest_bytes, tail_of, visible_len, no_tail, reads_nothing, reads_skip, reads_fill}
 
 -- a byte that no gap continues with ends the longest gap, whatever follows
-found : (skipped : List ℕ) (b : ℕ) (more : List ℕ) (gap : Gap) → gap_through Between skipped ≡ gap → (gap ≡ Ended → ⊥) → gap_after gap (class_of b) ≡ Ended → IsLongestGap (skipped ++ b ∷ more) (length skipped)
+found : (skipped : List ℕ) (b : ℕ) (more : List ℕ) (gap : Gap) → gap_through Between skipped ≡ gap → (gap ≡ Ended → ⊥)
+    → gap_after gap (class_of b) ≡ Ended → IsLongestGap (skipped ++ b ∷ more) (length skipped)
 found skipped b more gap was continues ends =
     let all = skipped ++ b ∷ more in
     let front : take (length skipped) all ≡ skipped = take_at skipped (b ∷ more) (length skipped) refl in
     let regrouped : (skipped ++ b ∷ []) ++ more ≡ all = append_assoc skipped (b ∷ []) more in
-    let one_more : take (length skipped + 1) all ≡ skipped ++ b ∷ [] = ap (take (length skipped + 1)) (sym regrouped) ∙ take_at (skipped ++ b ∷ []) more (length skipped + 1) (length-append skipped (b ∷ [])) in
-    let ended : gap_through Between (take (length skipped + 1) all) ≡ Ended = ap (gap_through Between) one_more ∙ gap_through-append Between skipped (b ∷ []) ∙ ap (λ g. gap_after g (class_of b)) was ∙ ends in
+    let one_more : take (length skipped + 1) all ≡ skipped ++ b ∷ [] = ap (take (length skipped + 1)) (sym regrouped)
+    ∙ take_at (skipped ++ b ∷ []) more (length skipped + 1) (length-append skipped (b ∷ [])) in
+    let ended : gap_through Between (take (length skipped + 1) all) ≡ Ended = ap (gap_through Between) one_more
+    ∙ gap_through-append Between skipped (b ∷ []) ∙ ap (λ g. gap_after g (class_of b)) was ∙ ends in
     let gap_is : is_gap (take (length skipped) all) ≡ true = ap is_gap front ∙ gap_until_open skipped (λ e. continues (sym was ∙ e)) in
     longest_gap_at all (length skipped) (omega (arith, length-append skipped (b ∷ more))) gap_is ended
 
 -- a gap with nothing after it
-all_gap : (skipped : List ℕ) (gap : Gap) → gap_through Between skipped ≡ gap → (gap ≡ Ended → ⊥) → IsLongestGap (skipped ++ []) (length skipped)
+all_gap : (skipped : List ℕ) (gap : Gap) → gap_through Between skipped ≡ gap → (gap ≡ Ended → ⊥)
+    → IsLongestGap (skipped ++ []) (length skipped)
 all_gap skipped gap was continues = grind (arith, take_all, append-nil, gap_until_open)
 
 -- the bytes below the limit begin with the first that is kept
@@ -34,13 +40,16 @@ longest_gap a skipped gap was continues stops complete rest can = go (visible a)
   where
     go : (v : List ℕ) → visible a ≡ v → IsLongestGap (skipped ++ (rest_with a rest).bytes) (length skipped)
     go [] e =
-        let none : (rest_with a rest).bytes ≡ [] = rest_bytes a rest ∙ ap (λ xs. xs ++ tail_of a rest) e ∙ no_tail a rest can (complete (ap length e)) in
+        let none : (rest_with a rest).bytes ≡ [] = rest_bytes a rest ∙ ap (λ xs. xs ++ tail_of a rest) e
+        ∙ no_tail a rest can (complete (ap length e)) in
         subst (λ xs. IsLongestGap (skipped ++ xs) (length skipped)) (sym none) (all_gap skipped gap was continues)
     go (b ∷ bs) e =
         let some : 0 < length (visible a) = omega (arith, ap length e) in
         let first = first_visible (a.limit - a.place) a.kept some in
-        let bytes : (rest_with a rest).bytes ≡ get_or a.kept 0 0 ∷ (drop 1 (visible a) ++ tail_of a rest) = rest_bytes a rest ∙ ap (λ xs. xs ++ tail_of a rest) first in
-        subst (λ xs. IsLongestGap (skipped ++ xs) (length skipped)) (sym bytes) (found skipped (get_or a.kept 0 0) (drop 1 (visible a) ++ tail_of a rest) gap was continues (stops some))
+        let bytes : (rest_with a rest).bytes ≡ get_or a.kept 0 0 ∷ (drop 1 (visible a) ++ tail_of a rest) = rest_bytes a rest
+        ∙ ap (λ xs. xs ++ tail_of a rest) first in
+        subst (λ xs. IsLongestGap (skipped ++ xs) (length skipped)) (sym bytes)
+        (found skipped (get_or a.kept 0 0) (drop 1 (visible a) ++ tail_of a rest) gap was continues (stops some))
 
 ended_from : (gap : Gap) (c : ByteClass) → gap_after gap c ≡ Ended → (gap ≡ Ended → ⊥) → gap ≡ Between
 ended_from gap c h1 h2 = grind arith
@@ -78,7 +87,8 @@ module _ {S : Type 0} (reads : S → ℕ → Option (List ℕ) → S → Type 0)
 
   -- from some bytes that were skipped to those that are skipped next
   skipped_next : (old : Ahead) (s : S) (skipped given : List ℕ) (mid : Ahead) (t : S) (gap next : Gap) (new : Ahead)
-      → ReadsOn reads failures old s skipped given mid t → gap_through Between skipped ≡ gap → Skipped gap mid next new → InGap old s next new t
+      → ReadsOn reads failures old s skipped given mid t → gap_through Between skipped ≡ gap → Skipped gap mid next new
+      → InGap old s next new t
   skipped_next old s skipped given mid t gap next new on was skips =
       let n = skips.0 in
       let there : InGap old s next (skip n mid) t = record {
@@ -89,22 +99,29 @@ module _ {S : Type 0} (reads : S → ℕ → Option (List ℕ) → S → Type 0)
         continues = skips.4;
         stops = λ some.
             let place : n + 0 ≡ n = omega arith in
-            let byte : get_or (drop n mid.kept) 0 0 ≡ get_or mid.kept n 0 = get_or-drop n mid.kept 0 0 ∙ ap (λ k. get_or mid.kept k 0) place in
-            ap (λ b. gap_after next (class_of b)) byte ∙ skips.5 (omega (arith, visible_len (skip n mid), visible_len mid, length-drop n mid.kept));
+            let byte : get_or (drop n mid.kept) 0 0 ≡ get_or mid.kept n 0 = get_or-drop n mid.kept 0 0
+            ∙ ap (λ k. get_or mid.kept k 0) place in
+            ap (λ b. gap_after next (class_of b)) byte ∙ skips.5
+            (omega (arith, visible_len (skip n mid), visible_len mid, length-drop n mid.kept));
       } in
       subst (λ a. InGap old s next a t) (sym skips.2) there
 
-  pub gap_begins : (old : Ahead) (s : S) (next : Gap) (new : Ahead) → old.place ≤ old.limit → Skipped Between old next new → InGap old s next new s
-  gap_begins old s next new below skips = skipped_next old s [] [] old s Between next new (reads_nothing reads failures old s below) refl skips
+  pub gap_begins : (old : Ahead) (s : S) (next : Gap) (new : Ahead) → old.place ≤ old.limit → Skipped Between old next new
+      → InGap old s next new s
+  gap_begins old s next new below skips = skipped_next old s [] [] old s Between next new (reads_nothing reads failures old s below) refl
+      skips
 
   pub gap_continues : (old : Ahead) (s : S) (gap : Gap) (now : Ahead) (t : S) (mid : Ahead) (u : S) (next : Gap) (new : Ahead)
-      → InGap old s gap now t → now.is_whole ≡ false → Fills reads failures now t true mid u → Skipped gap mid next new → InGap old s next new u
+      → InGap old s gap now t → now.is_whole ≡ false → Fills reads failures now t true mid u → Skipped gap mid next new
+      → InGap old s next new u
   gap_continues old s gap now t mid u next new was unended f skips =
-      skipped_next old s was.skipped (was.given ++ f.given) mid u gap next new (reads_fill reads failures old s was.skipped was.given now t true mid u was.on unended f) was.read skips
+      skipped_next old s was.skipped (was.given ++ f.given) mid u gap next new
+      (reads_fill reads failures old s was.skipped was.given now t true mid u was.on unended f) was.read skips
 
   -- after the gap
   pub gap_ends : (old : Ahead) (s : S) (gap : Gap) (now : Ahead) (t : S) (is_found : Bool) → InGap old s gap now t
-      → (now.is_whole ≡ true) ⊎ (0 < length now.kept) → (is_found ≡ true → 0 < length (visible now)) → (is_found ≡ false → length (visible now) ≡ 0)
+      → (now.is_whole ≡ true) ⊎ (0 < length now.kept) → (is_found ≡ true → 0 < length (visible now))
+      → (is_found ≡ false → length (visible now) ≡ 0)
       → SkipsGap reads failures old s is_found now t
   gap_ends old s gap now t is_found was has some none = record {
     skipped = was.skipped;

@@ -1,7 +1,10 @@
 -- The tokens that were taken from a source, and the cut of each text that fits.
-use Rattle.std.proofs.Common.{◌≡◌, ◌∙◌, ◌++◌, ◌∷◌, ℕ, Bool, true, false, List, [], Option, Some, None, length, refl, sym, ap, subst, append-nil, append_assoc, length-append, take, drop, ◌<◌, ◌≤◌, arith}
+use Rattle.std.proofs.Common.{◌≡◌, ◌∙◌, ◌++◌, ◌∷◌, ℕ, Bool, true, false, List, [], Option, Some, None, length, refl, sym, ap, subst}
+use Rattle.std.proofs.Common.{append-nil, append_assoc, length-append, take, drop, ◌<◌, ◌≤◌, arith}
 use Rattle.std.proofs.lemmas.List.{length-drop, length-take}
-use Rattle.polcert_text.proofs.Common.{nat_tests, IsLongestLexeme, kind_of, TokenKind, Lexeme, Rest, IsCut, TakesToken, text_rest, IsText, EachTextThatFits, nothing, Ahead, Stream, rest_with, CanFollow, GivesToken, GivesEnd, TakenFrom, Taken, TokenFault}
+use Rattle.polcert_text.proofs.Common.{nat_tests, IsLongestLexeme, kind_of, TokenKind, Lexeme, Rest, IsCut, TakesToken, text_rest, IsText}
+use Rattle.polcert_text.proofs.Common.{EachTextThatFits, nothing, Ahead, Stream, rest_with, CanFollow, GivesToken, GivesEnd, TakenFrom}
+use Rattle.polcert_text.proofs.Common.{Taken, TokenFault}
 use Rattle.polcert_text.specs.Cut.{end_place}
 use Rattle.polcert_text.specs.Source.{Fits}
 use Rattle.polcert_text.specs.Stream.{fresh}
@@ -20,12 +23,15 @@ module _ {S : Type 0} (reads : S → ℕ → Option (List ℕ) → S → Type 0)
     same_count = refl;
     size = refl;
     continues = refl;
-    taken = λ more can. subst (λ r. Taken (text_rest more limit) [] r) (sym (ap (λ s. rest_with s.ahead more) (sym is) ∙ text more)) (none (text_rest more limit));
+    taken = λ more can. subst (λ r. Taken (text_rest more limit) [] r) (sym (ap (λ s. rest_with s.ahead more) (sym is) ∙ text more))
+        (none (text_rest more limit));
   })
 
   -- one token more
-  pub token_taken : (tokens : List Lexeme) (old : Stream) (s : S) (t : Lexeme) (new : Stream) (u : S) → TakenFrom reads failures limit first tokens old s
-      → GivesToken reads failures old.ahead s t new.ahead u → new.stop ≡ None → TakenFrom reads failures limit first (tokens ++ t ∷ []) new u
+  pub token_taken : (tokens : List Lexeme) (old : Stream) (s : S) (t : Lexeme) (new : Stream) (u : S)
+      → TakenFrom reads failures limit first tokens old s
+      → GivesToken reads failures old.ahead s t new.ahead u → new.stop ≡ None
+      → TakenFrom reads failures limit first (tokens ++ t ∷ []) new u
   token_taken tokens old s t new u was g continues = record {
     given = was.given ++ g.given;
     was_read = from_both reads failures false old.ahead.is_whole new.ahead.is_whole first s u was.given g.given was.was_read g.was_read;
@@ -34,7 +40,8 @@ module _ {S : Type 0} (reads : S → ℕ → Option (List ℕ) → S → Type 0)
     continues = continues;
     taken = λ more can.
         let before = was.taken (g.given ++ more) (could_follow reads failures old.ahead s g.given more new.ahead u g.was_read can) in
-        subst (λ text. Taken (text_rest text limit) (tokens ++ t ∷ []) (rest_with new.ahead more)) (sym (append_assoc was.given g.given more))
+        subst (λ text. Taken (text_rest text limit) (tokens ++ t ∷ []) (rest_with new.ahead more))
+        (sym (append_assoc was.given g.given more))
         (one_more _ _ _ tokens t before (g.next more can));
   }
 
@@ -43,7 +50,8 @@ module _ {S : Type 0} (reads : S → ℕ → Option (List ℕ) → S → Type 0)
   fits_of is_whole ahead h1 given text h2 = grind (arith, append-nil)
 
   -- each text that fits begins with the tokens taken
-  pub each_taken : (tokens : List Lexeme) (stream : Stream) (s : S) (P : List ℕ → Type 0) → TakenFrom reads failures limit first tokens stream s
+  pub each_taken : (tokens : List Lexeme) (stream : Stream) (s : S) (P : List ℕ → Type 0)
+      → TakenFrom reads failures limit first tokens stream s
       → ((text : List ℕ) (rest : Rest) → Taken (text_rest text limit) tokens rest → P text) → EachTextThatFits reads first s P
   each_taken tokens stream s P was holds = record {
     bytes = was.given;
@@ -51,16 +59,21 @@ module _ {S : Type 0} (reads : S → ℕ → Option (List ℕ) → S → Type 0)
     was_read = was.was_read;
     each = λ text fits.
         let f = fits_of stream.ahead.is_whole stream.ahead refl was.given text fits in
-        holds text (rest_with stream.ahead f.0) (subst (λ x. Taken (text_rest x limit) tokens (rest_with stream.ahead f.0)) (sym f.1) (was.taken f.0 f.2));
+        holds text (rest_with stream.ahead f.0) (subst (λ x. Taken (text_rest x limit) tokens (rest_with stream.ahead f.0)) (sym f.1)
+        (was.taken f.0 f.2));
   }
 
-  ended_cut : (tokens : List Lexeme) (old : Stream) (s : S) (answer : Option TokenFault) (new : Ahead) (u : S) → (was : TakenFrom reads failures limit first tokens old s)
-      → (g : GivesEnd reads failures old.ahead s answer new u) → (more : List ℕ) → CanFollow new more → IsCut (text_rest ((was.given ++ g.given) ++ more) limit) tokens answer
+  ended_cut : (tokens : List Lexeme) (old : Stream) (s : S) (answer : Option TokenFault) (new : Ahead) (u : S)
+      → (was : TakenFrom reads failures limit first tokens old s)
+      → (g : GivesEnd reads failures old.ahead s answer new u) → (more : List ℕ) → CanFollow new more
+      → IsCut (text_rest ((was.given ++ g.given) ++ more) limit) tokens answer
   ended_cut tokens old s answer new u was g more can = grind (arith, append_assoc, could_follow, all_taken)
 
   -- each text that fits has these tokens, and ends so
-  pub each_cut : (tokens : List Lexeme) (old : Stream) (s : S) (answer : Option TokenFault) (new : Ahead) (u : S) (P : List ℕ → Type 0) → TakenFrom reads failures limit first tokens old s
-      → GivesEnd reads failures old.ahead s answer new u → ((text : List ℕ) → IsCut (text_rest text limit) tokens answer → P text) → EachTextThatFits reads first u P
+  pub each_cut : (tokens : List Lexeme) (old : Stream) (s : S) (answer : Option TokenFault) (new : Ahead) (u : S) (P : List ℕ → Type 0)
+      → TakenFrom reads failures limit first tokens old s
+      → GivesEnd reads failures old.ahead s answer new u → ((text : List ℕ) → IsCut (text_rest text limit) tokens answer → P text)
+      → EachTextThatFits reads first u P
   each_cut tokens old s answer new u P was g holds = record {
     bytes = was.given ++ g.given;
     is_whole = new.is_whole;
@@ -85,7 +98,8 @@ module _ {S : Type 0} (reads : S → ℕ → Option (List ℕ) → S → Type 0)
       )
 
 -- what holds of the text of a source holds of each text that fits
-pub each_whole : {S : Type 0} (reads : S → ℕ → Option (List ℕ) → S → Type 0) (first : S) (text : List ℕ) (u : S) (P : List ℕ → Type 0) → IsText reads first text u → P text → EachTextThatFits reads first u P
+pub each_whole : {S : Type 0} (reads : S → ℕ → Option (List ℕ) → S → Type 0) (first : S) (text : List ℕ) (u : S) (P : List ℕ → Type 0)
+    → IsText reads first text u → P text → EachTextThatFits reads first u P
 each_whole reads first text u P is_text holds = record {
   bytes = text;
   is_whole = true;
@@ -94,7 +108,8 @@ each_whole reads first text u P is_text holds = record {
 }
 
 -- a token takes at least one byte
-pub place_grows : (old new : Ahead) (given : List ℕ) (t : Lexeme) → ((more : List ℕ) → CanFollow new more → TakesToken (rest_with old (given ++ more)) t (rest_with new more)) → old.place < new.place
+pub place_grows : (old new : Ahead) (given : List ℕ) (t : Lexeme)
+    → ((more : List ℕ) → CanFollow new more → TakesToken (rest_with old (given ++ more)) t (rest_with new more)) → old.place < new.place
 place_grows old new given t next =
     let takes = next [] (λ _. refl) in
     let place = ap (λ r. r.place) takes.rest in
@@ -117,7 +132,8 @@ text_end : (text : List ℕ) (limit : ℕ) → end_place (text_rest text limit) 
 text_end text limit = grind (arith, length-take, nat_tests)
 
 -- what is ahead stands below the limit
-pub place_within : {S : Type 0} (reads : S → ℕ → Option (List ℕ) → S → Type 0) (failures : S → ℕ) (limit : ℕ) (first : S) (ts : List Lexeme) (stream : Stream) (s : S)
+pub place_within : {S : Type 0} (reads : S → ℕ → Option (List ℕ) → S → Type 0) (failures : S → ℕ) (limit : ℕ) (first : S) (ts : List Lexeme)
+    (stream : Stream) (s : S)
     → TakenFrom reads failures limit first ts stream s → stream.ahead.place ≤ limit
 place_within reads failures limit first ts stream s was =
     let taken = was.taken [] (λ _. refl) in

@@ -15,7 +15,8 @@ module _ {X R : Type 0} (IsRead : X → List Lexeme → R → Type 0) where
 
   -- some, and more after them
   pub takes_more : (a b c : R) (bytes : List ℕ) (at n : ℕ) → TakesAhead (ReadsOn IsRead a b) bytes at
-      → ((place : ℕ) → (ts : List Lexeme) × (BeginWith place (drop at bytes) n ts × ReadsOn IsRead b c ts)) → TakesAhead (ReadsOn IsRead a c) bytes (at + n)
+      → ((place : ℕ) → (ts : List Lexeme) × (BeginWith place (drop at bytes) n ts × ReadsOn IsRead b c ts))
+      → TakesAhead (ReadsOn IsRead a c) bytes (at + n)
   takes_more a b c bytes at n was more = record {
     within = omega (arith, was.within, (more 0).1.0.within, length-drop at bytes);
     taken = λ place.
@@ -35,12 +36,15 @@ front_within bytes at n high within = omega (arith, high, within, length-drop at
 
 module _ {Reads : List Lexeme → Type 0} where
   -- what was taken is passed
-  pub ahead_passed : (tokens after : Stream) (bytes : List ℕ) (count : ℕ) → bytes ≡ visible tokens.ahead → after ≡ passed count tokens → TakesAhead Reads bytes count → ArePassed Reads tokens after
+  pub ahead_passed : (tokens after : Stream) (bytes : List ℕ) (count : ℕ) → bytes ≡ visible tokens.ahead → after ≡ passed count tokens
+      → TakesAhead Reads bytes count → ArePassed Reads tokens after
   ahead_passed tokens after bytes count is tokens_are takes =
       let here = (subst (λ xs. TakesAhead Reads xs count) is takes).taken tokens.ahead.place in
       record { count = count; ts = here.0; front = here.1.0; tokens_are = tokens_are; reads_on = here.1.1 }
 
   -- and taken from the source
-  pub all_passed : {S : Type 0} (reads : S → ℕ → Option (List ℕ) → S → Type 0) (failures : S → ℕ) (limit : ℕ) (first : S) (seen : List Lexeme) (tokens after : Stream) (s : S)
-      → TakenFrom reads failures limit first seen tokens s → (p : ArePassed Reads tokens after) → TakenFrom reads failures limit first (seen ++ p.ts) after s
+  pub all_passed : {S : Type 0} (reads : S → ℕ → Option (List ℕ) → S → Type 0) (failures : S → ℕ) (limit : ℕ) (first : S)
+      (seen : List Lexeme) (tokens after : Stream) (s : S)
+      → TakenFrom reads failures limit first seen tokens s → (p : ArePassed Reads tokens after)
+      → TakenFrom reads failures limit first (seen ++ p.ts) after s
   all_passed reads failures limit first seen tokens after s was p = grind (arith, passed_taken)

@@ -13,4 +13,5 @@ returns-then-is_mdp g c = wrote_nothing (sym (ap (λ b. cond b [] (count c.args.
 
 pub returns-else-is_mdp : goal.returns-else-is_mdp
 returns-else-is_mdp g c =
-    as_text (sym (ap (λ b. cond b [] (count c.args.model.now)) (sym c.is_mdp.ensures ∙ c.if-is_mdp.false))) (rw c.observations.ensures.elements at c.write_count.ensures)
+    as_text (sym (ap (λ b. cond b [] (count c.args.model.now)) (sym c.is_mdp.ensures ∙ c.if-is_mdp.false)))
+    (rw c.observations.ensures.elements at c.write_count.ensures)

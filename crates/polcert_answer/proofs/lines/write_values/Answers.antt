@@ -12,7 +12,8 @@ widened n m small same = to_z_pos w64 n (omega arith) ∙ ap pos same
 pub returns-in_err-write_all : goal.returns-in_err-write_all
 returns-in_err-write_all g c =
     let m = meaning c.args.model.now in
-    stopped (search rules) (unwritten (earnings_word m.preamble.costs) (unwritten (scaled_text (pos m.preamble.discount)) c.in_err-write_all.ensures))
+    stopped (search rules) (unwritten (earnings_word m.preamble.costs)
+    (unwritten (scaled_text (pos m.preamble.discount)) c.in_err-write_all.ensures))
 
 pub returns-in_err-write_scaled : goal.returns-in_err-write_scaled
 returns-in_err-write_scaled g c =
@@ -22,4 +23,5 @@ returns-in_err-write_scaled g c =
 pub returns : goal.returns
 returns g c =
     let same = widened c.discount.result (meaning c.args.model.now).preamble.discount (search rules) c.discount.ensures in
-    and_then (and_then c.in_ok-write_all.ensures (rw same at c.in_ok-write_scaled.ensures.written)) (rw (c.earnings_word.ensures, c.is_cost.ensures) at c.write_all-2.ensures)
+    and_then (and_then c.in_ok-write_all.ensures (rw same at c.in_ok-write_scaled.ensures.written))
+    (rw (c.earnings_word.ensures, c.is_cost.ensures) at c.write_all-2.ensures)

@@ -6,10 +6,13 @@ use Rattle.polcert_text.proofs.Printing.Written.{and_then, unwritten, stopped}
 use Rattle.polcert_answer.proofs.lines.write_yes.Goals as goal
 
 pub returns-in_err-write_all : goal.returns-in_err-write_all
-returns-in_err-write_all g c = stopped (search rules) (unwritten (codes "\n") (unwritten (scaled_text c.args.worth) (unwritten (counted c.args.node (codes ", at least ")) c.in_err-write_all.ensures)))
+returns-in_err-write_all g c = stopped (search rules)
+    (unwritten (codes "\n") (unwritten (scaled_text c.args.worth)
+    (unwritten (counted c.args.node (codes ", at least ")) c.in_err-write_all.ensures)))
 
 pub returns-in_err-write_count : goal.returns-in_err-write_count
-returns-in_err-write_count g c = stopped (search rules) (unwritten _ (unwritten _ (and_then c.in_ok-write_all.ensures c.in_err-write_count.ensures)))
+returns-in_err-write_count g c = stopped (search rules)
+    (unwritten _ (unwritten _ (and_then c.in_ok-write_all.ensures c.in_err-write_count.ensures)))
 
 pub returns-in_err-write_scaled : goal.returns-in_err-write_scaled
 returns-in_err-write_scaled g c =

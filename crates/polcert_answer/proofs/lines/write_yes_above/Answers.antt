@@ -6,12 +6,15 @@ use Rattle.polcert_text.proofs.Printing.Written.{and_then, unwritten, stopped}
 use Rattle.polcert_answer.proofs.lines.write_yes_above.Goals as goal
 
 pub returns-in_err-write_all : goal.returns-in_err-write_all
-returns-in_err-write_all g c = stopped (search rules) (unwritten (codes "\n") (unwritten (scaled_text c.args.most) c.in_err-write_all.ensures))
+returns-in_err-write_all g c = stopped (search rules)
+    (unwritten (codes "\n") (unwritten (scaled_text c.args.most) c.in_err-write_all.ensures))
 
 pub returns-in_err-write_scaled : goal.returns-in_err-write_scaled
 returns-in_err-write_scaled g c =
-    stopped (search rules) (unwritten _ (and_then c.in_ok-write_all.ensures (rw (to_z-of_z w64 c.args.most c.ranges.most) at c.in_err-write_scaled.ensures.written)))
+    stopped (search rules) (unwritten _ (and_then c.in_ok-write_all.ensures
+    (rw (to_z-of_z w64 c.args.most c.ranges.most) at c.in_err-write_scaled.ensures.written)))
 
 pub returns : goal.returns
 returns g c =
-    and_then (and_then c.in_ok-write_all.ensures (rw (to_z-of_z w64 c.args.most c.ranges.most) at c.in_ok-write_scaled.ensures.written)) c.write_all-2.ensures
+    and_then (and_then c.in_ok-write_all.ensures (rw (to_z-of_z w64 c.args.most c.ranges.most) at c.in_ok-write_scaled.ensures.written))
+    c.write_all-2.ensures

@@ -3,7 +3,8 @@ use Rattle.polcert_answer.proofs.Common.{meaning, IsCheckRunFault, IsNoReadFault
 use Rattle.polcert_answer.proofs.Denoted.{fits_of}
 use Rattle.polcert_answer.proofs.OfSources.{wrote_mapped, text_of_answer, answered_with}
 use Rattle.polcert_answer.proofs.Answering.{has_verdict, has_promise, has_start_promise, has_horizon}
-use Rattle.polcert_answer.proofs.Passing.{is_err, not_ok, no_ok, of_fault, nothing_written, stops_again, stops_after, read_in_check, of_writing, is_write}
+use Rattle.polcert_answer.proofs.Passing.{is_err, not_ok, no_ok, of_fault, nothing_written, stops_again, stops_after, read_in_check}
+use Rattle.polcert_answer.proofs.Passing.{of_writing, is_write}
 use Rattle.polcert_answer.proofs.runs.check_run.Goals as goal
 
 pub write_answer-requires : goal.write_answer-requires
@@ -25,7 +26,8 @@ returns g c =
     record {
       answered = wrote_mapped _ _ (has_verdict laws m graph v d) _ wrote.answered;
       promise = λ yes. let (line, is, took) = text_of_answer _ _ _ wrote.answered yes in has_promise laws m graph v d line is;
-      start_promise = λ yes. let (line, is, took) = text_of_answer _ _ _ wrote.answered yes in (line, has_start_promise laws m graph v d line is, took);
+      start_promise = λ yes. let (line, is, took) = text_of_answer _ _ _ wrote.answered yes in
+          (line, has_start_promise laws m graph v d line is, took);
       horizon = answered_with _ _ (has_horizon laws m graph v d) _ wrote.answered;
       stops = stops_after _ (of_writing _ wrote.of_write IsNoReadFault tt) _ c.in_ok-read.ensures.read wrote.write
           (λ fault same other. absurd (other (is_write _ wrote.of_write fault same)));

@@ -4,7 +4,18 @@ use Rattle.polcert_answer.proofs.runs.write_answer.Goals as goal
 
 pub returns-in-Ok-clause-answered : goal.returns-in-Ok-clause-answered
 returns-in-Ok-clause-answered g c =
-    record { took = (line_text c.line.result, record { verdict_is = c.check-verdict.ensures.verdict; line_is = c.line.ensures }, c.in-Ok.ensures.ok); begun = λ failed. absurd (cc) }
+    record {
+      took = (
+        line_text c.line.result,
+        record {
+          verdict_is = c.check-verdict.ensures.verdict;
+          line_is =
+              c.line.ensures;
+        },
+        c.in-Ok.ensures.ok,
+      );
+      begun = λ failed. absurd (cc);
+    }
 
 pub returns-in-Err-clause-answered : goal.returns-in-Err-clause-answered
 returns-in-Err-clause-answered g c = grind arith

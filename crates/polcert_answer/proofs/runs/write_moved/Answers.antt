@@ -14,7 +14,8 @@ returns-in-Ok-write_full_vectors-clause-moved g c =
     let found = c.in-Ok.found in
     let fits : FitsSigned w64 found.0 = search rules in
     let back : to_z w64 (of_z w64 found.0) ≡ found.0 = to_z-of_z fits in
-    let are = are_written g.B.Bound.side (meaning c.args.given.now.model) c.args.given.now.graph c.args.given.now.vectors found.0 found.1 c.in-Ok.ensures.moved
+    let are = are_written g.B.Bound.side (meaning c.args.given.now.model) c.args.given.now.graph c.args.given.now.vectors found.0 found.1
+    c.in-Ok.ensures.moved
     (c.in-Ok-write_full_vectors.ensures.reads_back g.B.Bound.side.rounding) in
     record { took = (_, rw back are, c.in-Ok-write_full_vectors.ensures.written.ok); begun = λ failed. absurd (cc) }
 
@@ -22,7 +23,8 @@ returns-in-Ok-write_full_vectors-clause-moved g c =
 pub returns-clause-moved : goal.returns-clause-moved
 returns-clause-moved g c =
     let found = c.in-Ok.found in
-    let are = are_written g.B.Bound.side (meaning c.args.given.now.model) c.args.given.now.graph c.args.given.now.vectors found.0 found.1 c.in-Ok.ensures.moved
+    let are = are_written g.B.Bound.side (meaning c.args.given.now.model) c.args.given.now.graph c.args.given.now.vectors found.0 found.1
+    c.in-Ok.ensures.moved
     (c.write_full_vectors.ensures.reads_back g.B.Bound.side.rounding) in
     record { took = tt; begun = λ failed. (found.0, _, are, c.in-Err-write_full_vectors.ensures.written.err) }
 

@@ -17,7 +17,12 @@ returns-in_err-vectors-clause-refused g c =
     let of = c.in_err-vectors.ensures.of_vectors in
     record {
       of_model = λ fault is. absurd (said _ _ same IsVectorsReadFault of (Text (Model fault)) is);
-      of_vectors = λ fault is. (first.0, first.1, c.in_err-vectors.ensures.refused fault (of_read _ _ same (Text (Vectors fault)) is) first.0 first.2);
+      of_vectors = λ fault is. (
+        first.0,
+        first.1,
+        c.in_err-vectors.ensures.refused fault (of_read _ _ same (Text (Vectors fault)) is)
+            first.0 first.2,
+      );
     }
 
 pub returns-clause-refused : goal.returns-clause-refused

@@ -8,7 +8,8 @@ use Rattle.polcert_bound_answer.proofs.lines.write_exceeded.Goals as goal
 
 pub returns-in_err-write_all : goal.returns-in_err-write_all
 returns-in_err-write_all g c = stopped (search rules) (unwritten (codes "\n") (unwritten (scaled_text c.args.by)
-    (unwritten (counted c.args.state (codes ", exceeded by ")) (unwritten (counted c.args.action (codes ", state ")) c.in_err-write_all.ensures))))
+    (unwritten (counted c.args.state (codes ", exceeded by "))
+    (unwritten (counted c.args.action (codes ", state ")) c.in_err-write_all.ensures))))
 
 pub returns-in_err-write_count : goal.returns-in_err-write_count
 returns-in_err-write_count g c =
@@ -16,11 +17,13 @@ returns-in_err-write_count g c =
 
 pub returns-in_err-write_count-2 : goal.returns-in_err-write_count-2
 returns-in_err-write_count-2 g c =
-    stopped (search rules) (unwritten _ (unwritten _ (and_then (and_then c.in_ok-write_all.ensures c.in_ok-write_count.ensures) c.in_err-write_count-2.ensures)))
+    stopped (search rules) (unwritten _
+    (unwritten _ (and_then (and_then c.in_ok-write_all.ensures c.in_ok-write_count.ensures) c.in_err-write_count-2.ensures)))
 
 pub returns-in_err-write_scaled : goal.returns-in_err-write_scaled
 returns-in_err-write_scaled g c =
-    stopped (search rules) (unwritten _ (and_then (and_then (and_then c.in_ok-write_all.ensures c.in_ok-write_count.ensures) c.in_ok-write_count-2.ensures)
+    stopped (search rules) (unwritten _
+    (and_then (and_then (and_then c.in_ok-write_all.ensures c.in_ok-write_count.ensures) c.in_ok-write_count-2.ensures)
     (rw (to_z-of_z w64 c.args.by c.ranges.by) at c.in_err-write_scaled.ensures.written)))
 
 pub returns : goal.returns

@@ -17,7 +17,8 @@ returns-in-Ok-write_full_vectors-clause-raised g c =
     let back : to_z w64 (of_z w64 by) ≡ by = to_z-of_z fits in
     let raised = c.in-Ok-raised_for_writing.raised in
     let e = c.in-Ok-raised_for_writing.ensures in
-    let are = raised_text (meaning c.args.given.now.model) c.args.given.now.vectors by raised.vectors raised.graph e.graph (rw back at e.shifted) c.requires.fit.states c.in-Ok.ensures.least e.informed (c.in-Ok-write_full_vectors.ensures.reads_back Up) in
+    let are = raised_text (meaning c.args.given.now.model) c.args.given.now.vectors by raised.vectors raised.graph e.graph
+    (rw back at e.shifted) c.requires.fit.states c.in-Ok.ensures.least e.informed (c.in-Ok-write_full_vectors.ensures.reads_back Up) in
     record { took = (_, rw back are, c.in-Ok-write_full_vectors.ensures.written.ok); begun = λ failed. absurd (cc) }
 
 pub returns-clause-raised : goal.returns-clause-raised
@@ -27,5 +28,6 @@ returns-clause-raised g c =
     let back : to_z w64 (of_z w64 by) ≡ by = to_z-of_z fits in
     let raised = c.in-Ok-raised_for_writing.raised in
     let e = c.in-Ok-raised_for_writing.ensures in
-    let are = raised_text (meaning c.args.given.now.model) c.args.given.now.vectors by raised.vectors raised.graph e.graph (rw back at e.shifted) c.requires.fit.states c.in-Ok.ensures.least e.informed (c.write_full_vectors.ensures.reads_back Up) in
+    let are = raised_text (meaning c.args.given.now.model) c.args.given.now.vectors by raised.vectors raised.graph e.graph
+    (rw back at e.shifted) c.requires.fit.states c.in-Ok.ensures.least e.informed (c.write_full_vectors.ensures.reads_back Up) in
     record { took = tt; begun = λ failed. (by, _, are, c.in-Err-write_full_vectors.ensures.written.err) }

@@ -26,7 +26,8 @@ returns g c =
     record {
       answered = wrote_mapped _ _ (has_verdict _ _ m v d) _ wrote.answered;
       promise = λ yes. let (line, is, took) = text_of_answer _ _ Yes wrote.answered yes in has_promise _ _ m v d line is;
-      start_promise = λ yes. let (line, is, took) = text_of_answer _ _ Yes wrote.answered yes in (line, has_start_promise _ _ m v d line is, took);
+      start_promise = λ yes. let (line, is, took) = text_of_answer _ _ Yes wrote.answered yes in
+          (line, has_start_promise _ _ m v d line is, took);
       horizon = answered_with _ _ (has_horizon _ _ m v d) _ wrote.answered;
       stops = stops_after _ (of_writing _ wrote.of_write IsBoundWriteFault tt) _ c.in_ok-read.ensures.read wrote.write
           (λ fault same other. absurd (other (is_write _ wrote.of_write fault same)));

@@ -2,7 +2,17 @@ use Rattle.std.proofs.Common.{rules, refl, ℕ, ◌≡◌, ◌<◌, ◌≤◌}
 use Rattle.polcert_cells.proofs.cells.first_weight.Goals as goal
 
 pub returns-then-weight-gt0 : goal.returns-then-weight-gt0
-returns-then-weight-gt0 g c = λ f is. ((search rules, search rules, is _ _ c.loop-column-test.true c.weight_at-weight.ensures, search rules, c.loop-column.invariant f is), refl)
+returns-then-weight-gt0 g c = λ f is. (
+  (
+    search rules,
+    search rules,
+    is _ _ c.loop-column-test.true c.weight_at-weight.ensures,
+    search
+        rules,
+    c.loop-column.invariant f is,
+  ),
+  refl,
+)
 
 pub returns : goal.returns
 returns g c = λ f is i low high. c.loop-column.invariant f is i low (search rules)

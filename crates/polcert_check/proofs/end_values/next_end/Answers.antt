@@ -5,4 +5,5 @@ pub returns-in-Some : goal.returns-in-Some
 returns-in-Some g c = rw c.in-Some.is (c.step.ensures _ _ (c.requires.row c.in-Some.row c.in-Some.is))
 
 pub returns-in-None : goal.returns-in-None
-returns-in-None g c = rw c.in-None.is (rw c.states.ensures at (c.first_weight.ensures ((g.C.Cells.table c.args.cells.now).t c.args.a c.args.s) (λ k weight l post. search rules)))
+returns-in-None g c = rw c.in-None.is (rw c.states.ensures at
+    (c.first_weight.ensures ((g.C.Cells.table c.args.cells.now).t c.args.a c.args.s) (λ k weight l post. search rules)))

@@ -23,6 +23,7 @@ returns-clause-small c =
     let few : c.args.number < 2 ^ 32 = search rules in
     let small : c.args.number * unsigned_abs c.args.value ≤ 2 ^ 95 = product_small c.args.number c.args.value few le in
     let same : c.weigh.result ≡ pos c.args.number *ℤ c.args.value = c.weigh.ensures ∙ (simp to_z-of_z refl) in
-    let size : unsigned_abs (pos c.args.number *ℤ c.args.value) ≡ c.args.number * unsigned_abs c.args.value = unsigned_abs-mul (pos c.args.number) c.args.value in
+    let size : unsigned_abs (pos c.args.number *ℤ c.args.value) ≡ c.args.number * unsigned_abs c.args.value =
+    unsigned_abs-mul (pos c.args.number) c.args.value in
     let result : unsigned_abs c.weigh.result ≡ unsigned_abs (pos c.args.number *ℤ c.args.value) = ap (λ (x : ℤ). unsigned_abs x) same in
     rw (to_z-of_z w128 c.weigh.result (search rules)) (omega (arith, small, size, result))

@@ -7,4 +7,5 @@ pub value_of_cells-requires-clause-row : goal.value_of_cells-requires-clause-row
 value_of_cells-requires-clause-row g c =
     let k : Controller = node_controller c.args.node.now in
     let is : c.in-Some-Sparse.field-0 ≡ Sparse c.in-Some-Sparse.cells = search rules in
-    subst (λ (r : Row). IsRowOf (k.cells.t (k.action c.args.node.now.n) c.args.s) k.cells.states r) is (c.requires.row c.in-Some-Sparse.field-0 (search rules))
+    subst (λ (r : Row). IsRowOf (k.cells.t (k.action c.args.node.now.n) c.args.s) k.cells.states r) is
+    (c.requires.row c.in-Some-Sparse.field-0 (search rules))

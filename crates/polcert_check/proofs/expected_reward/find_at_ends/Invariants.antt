@@ -7,7 +7,8 @@ use Rattle.polcert_check.proofs.expected_reward.find_at_ends.Given as goal
 abbrev pub invariant-loop-end : goal.invariant-loop-end
 invariant-loop-end g l = record {
   known : AreKnown (reward_at_end (g.C.Cells.table l.cells) l.a l.s) (g.C.Cells.table l.cells).states l.at_ends;
-  found : (e : ℕ) → e < reached l.row l.at → 0 < (g.C.Cells.table l.cells).t l.a l.s e → slice_index_or l.at_ends e (pos 0) ≡ reward_at_end (g.C.Cells.table l.cells) l.a l.s e;
+  found : (e : ℕ) → e < reached l.row l.at → 0 < (g.C.Cells.table l.cells).t l.a l.s e
+      → slice_index_or l.at_ends e (pos 0) ≡ reward_at_end (g.C.Cells.table l.cells) l.a l.s e;
   within : reached l.row l.at ≤ (g.C.Cells.table l.cells).states;
 }
 

@@ -8,5 +8,6 @@ overflow_mul-result g c =
     let m : CellTable = g.C.Cells.table c.args.cells.now in
     let p = g.met.C.Cells.is_proper c.args.cells.now in
     let limits = g.met.C.Cells.is_within_limits c.args.cells.now in
-    let small = weight_of_both m p limits c.args.a c.args.s c.requires.action c.requires.start _ _ (end_of m limits c.args.k c.requires.number) (observation_of m limits c.args.k) in
+    let small = weight_of_both m p limits c.args.a c.args.s c.requires.action c.requires.start _ _
+    (end_of m limits c.args.k c.requires.number) (observation_of m limits c.args.k) in
     rw (c.t.ensures, c.o.ensures, c.observations-observations.ensures) (omega (arith, small))

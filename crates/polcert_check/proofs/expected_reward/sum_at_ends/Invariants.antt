@@ -5,7 +5,8 @@ use Rattle.polcert_check.proofs.expected_reward.sum_at_ends.Given as goal
 -- the sum so far
 abbrev pub invariant-loop-end : goal.invariant-loop-end
 invariant-loop-end g l = record {
-  sum : l.sum ≡ total_below (λ e. pos ((g.C.Cells.table l.cells).t l.a l.s e) *ℤ reward_at_end (g.C.Cells.table l.cells) l.a l.s e) (reached l.row l.at);
+  sum : l.sum ≡ total_below (λ e. pos ((g.C.Cells.table l.cells).t l.a l.s e) *ℤ reward_at_end (g.C.Cells.table l.cells) l.a l.s e)
+      (reached l.row l.at);
   within : reached l.row l.at ≤ (g.C.Cells.table l.cells).states;
 }
 

@@ -12,7 +12,8 @@ sum_excepted-requires-clause-rewards g c =
       m.r c.args.a c.args.s c.args.e,
       m.observations,
       2 ^ 64,
-      end_excepted m (g.met.C.Cells.is_proper c.args.cells.now) (g.met.C.Cells.is_within_limits c.args.cells.now) c.args.a c.args.s c.requires.action c.requires.start c.args.e c.requires.end _ _ _ _
+      end_excepted m (g.met.C.Cells.is_proper c.args.cells.now) (g.met.C.Cells.is_within_limits c.args.cells.now) c.args.a c.args.s
+          c.requires.action c.requires.start c.args.e c.requires.end _ _ _ _
           (λ k weight l post. search rules) (search rules) (small_of c.in_ok-common.common.reward (search rules)) (search rules),
     )
 
@@ -21,6 +22,7 @@ returns g c = λ x e.
     let m : CellTable = g.C.Cells.table c.args.cells.now in
     let is : to_z w128 (of_z w128 c.sum_excepted.result) ≡ reward_at_end m c.args.a c.args.s c.args.e =
     to_z-of_z w128 c.sum_excepted.result (search rules)
-    ∙ c.sum_excepted.ensures _ _ _ _ (end_excepted m (g.met.C.Cells.is_proper c.args.cells.now) (g.met.C.Cells.is_within_limits c.args.cells.now) c.args.a c.args.s c.requires.action c.requires.start c.args.e c.requires.end _ _ _ _
+    ∙ c.sum_excepted.ensures _ _ _ _ (end_excepted m (g.met.C.Cells.is_proper c.args.cells.now)
+    (g.met.C.Cells.is_within_limits c.args.cells.now) c.args.a c.args.s c.requires.action c.requires.start c.args.e c.requires.end _ _ _ _
     (λ k weight l post. search rules) (search rules) (small_of c.in_ok-common.common.reward (search rules)) (search rules)) in
     grind (arith, is, e)

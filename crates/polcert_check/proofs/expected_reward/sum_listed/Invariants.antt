@@ -5,7 +5,8 @@ use Rattle.polcert_check.proofs.expected_reward.sum_listed.Given as goal
 -- the sum so far, and where the listed end states stand
 abbrev pub invariant-loop-end : goal.invariant-loop-end
 invariant-loop-end g l = record {
-  sum : l.sum ≡ total_below (λ e. pos ((g.C.Cells.table l.cells).t l.a l.s e) *ℤ reward_at_end (g.C.Cells.table l.cells) l.a l.s e) (reached l.row l.at);
+  sum : l.sum ≡ total_below (λ e. pos ((g.C.Cells.table l.cells).t l.a l.s e) *ℤ reward_at_end (g.C.Cells.table l.cells) l.a l.s e)
+      (reached l.row l.at);
   within : reached l.row l.at ≤ (g.C.Cells.table l.cells).states;
   before : AreBefore l.listed l.next (reached l.row l.at);
   listed : l.next ≤ l.common.exceptions;

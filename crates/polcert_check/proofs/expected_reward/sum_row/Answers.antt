@@ -6,7 +6,8 @@ use Rattle.polcert_check.proofs.Walking.RowOfBoth.{row_excepted, row_total}
 use Rattle.polcert_check.proofs.expected_reward.sum_row.Goals as goal
 
 pub overflow_mul-scale : goal.overflow_mul-scale
-overflow_mul-scale g c = rw (c.t_scale.ensures, c.o_scale.ensures) (omega (arith, scales_le (g.C.Cells.table c.args.cells.now) (g.met.C.Cells.is_within_limits c.args.cells.now)))
+overflow_mul-scale g c = rw (c.t_scale.ensures, c.o_scale.ensures)
+    (omega (arith, scales_le (g.C.Cells.table c.args.cells.now) (g.met.C.Cells.is_within_limits c.args.cells.now)))
 
 pub sum_excepted-requires-clause-rewards : goal.sum_excepted-requires-clause-rewards
 sum_excepted-requires-clause-rewards g c =
@@ -15,7 +16,8 @@ sum_excepted-requires-clause-rewards g c =
       row_reward m c.args.a c.args.s,
       m.states * m.observations,
       2 * largest,
-      row_excepted m (g.met.C.Cells.is_proper c.args.cells.now) (g.met.C.Cells.is_within_limits c.args.cells.now) c.args.a c.args.s c.requires.action c.requires.start _ _ _ _
+      row_excepted m (g.met.C.Cells.is_proper c.args.cells.now) (g.met.C.Cells.is_within_limits c.args.cells.now) c.args.a c.args.s
+          c.requires.action c.requires.start _ _ _ _
           (λ k weight l post. search rules) (search rules) (search rules) (search rules),
     )
 
@@ -24,6 +26,7 @@ returns g c = λ x e.
     let m : CellTable = g.C.Cells.table c.args.cells.now in
     let is : to_z w128 (of_z w128 c.sum_excepted.result) ≡ expected_reward m c.args.a c.args.s =
     to_z-of_z w128 c.sum_excepted.result (search rules)
-    ∙ c.sum_excepted.ensures _ _ _ _ (row_excepted m (g.met.C.Cells.is_proper c.args.cells.now) (g.met.C.Cells.is_within_limits c.args.cells.now) c.args.a c.args.s c.requires.action c.requires.start _ _ _ _
+    ∙ c.sum_excepted.ensures _ _ _ _ (row_excepted m (g.met.C.Cells.is_proper c.args.cells.now)
+    (g.met.C.Cells.is_within_limits c.args.cells.now) c.args.a c.args.s c.requires.action c.requires.start _ _ _ _
     (λ k weight l post. search rules) (search rules) (search rules) (search rules)) ∙ row_total m c.args.a c.args.s in
     grind (arith, is, e)

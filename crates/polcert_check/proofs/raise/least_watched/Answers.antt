@@ -10,7 +10,8 @@ returns-in-Ok g c =
     let of = c.new-input.ensures in
     let is : to_z w64 (of_z w64 c.in-Ok.by) ≡ c.in-Ok.by = to_z-of_z w64 c.in-Ok.by (search rules) in
     let parts = c.new-input.result in
-    let moves = subst (λ (j : Controller). IsLeastMove j (CanMove parts.side parts.vectors.now) c.in-Ok.by) of.checked_controller c.in-Ok.ensures.least in
+    let moves = subst (λ (j : Controller). IsLeastMove j (CanMove parts.side parts.vectors.now) c.in-Ok.by) of.checked_controller
+    c.in-Ok.ensures.least in
     record {
       least = rw is (least_raise_is k c.args.vectors.now c.in-Ok.by (rw (of.side, of.vectors) at moves));
       refused = search rules;
@@ -23,6 +24,7 @@ returns-in-Err g c =
     let of = c.new-input.ensures in
     record {
       least = search rules;
-      refused = rw c.raise_of.ensures (not_raised_is k c.args.vectors.now c.in-Err.fault (rw (of.checked_controller, of.side, of.vectors) at c.in-Err.ensures.refused));
+      refused = rw c.raise_of.ensures (not_raised_is k c.args.vectors.now c.in-Err.fault
+          (rw (of.checked_controller, of.side, of.vectors) at c.in-Err.ensures.refused));
       small = rw c.raise_of.ensures (small_raise k c.in-Err.fault (rw of.checked_controller at c.in-Err.ensures.small));
     }

@@ -12,7 +12,11 @@ pub shortfall-requires-clause-reward : goal.shortfall-requires-clause-reward
 shortfall-requires-clause-reward g c =
     let k : Controller = node_controller c.args.node.now in
     let same = to_z-of_z w128 c.followed_reward-reward.result (search rules) ∙ c.followed_reward-reward.ensures in
-    rw same (expected_reward_le (followed k c.args.node.now.n) (followed_is_proper k c.args.node.now.n c.args.node.now.input.proper.cells) (followed_is_within k c.args.node.now.n (g.met.C.Cells.is_within_limits c.args.node.now.input.cells.now)) (k.action c.args.node.now.n) c.args.s (c.args.node.now.input.proper.closed.actions_in_range c.args.node.now.n c.args.node.now.within) c.requires.start)
+    rw same (expected_reward_le (followed k c.args.node.now.n)
+    (followed_is_proper k c.args.node.now.n c.args.node.now.input.proper.cells)
+    (followed_is_within k c.args.node.now.n (g.met.C.Cells.is_within_limits c.args.node.now.input.cells.now))
+    (k.action c.args.node.now.n)
+    c.args.s (c.args.node.now.input.proper.closed.actions_in_range c.args.node.now.n c.args.node.now.within) c.requires.start)
 
 pub shortfall-requires-clause-expected : goal.shortfall-requires-clause-expected
 shortfall-requires-clause-expected g c = grind (arith, to_z-of_z, expected_value_le)
@@ -21,7 +25,14 @@ pub returns-clause-is : goal.returns-clause-is
 returns-clause-is g c =
     let k : Controller = node_controller c.args.node.now in
     to_z-of_z w128 c.shortfall.result (search rules)
-    ∙ amount_is k c.args.node.now.n c.args.s _ _ (followed_split k c.args.node.now.n c.args.s) c.shortfall.result _ _ _ c.shortfall.ensures (to_z-of_z w64 c.at-value.result (search rules) ∙ c.at-value.ensures.value) (to_z-of_z w128 c.followed_reward-reward.result (search rules) ∙ c.followed_reward-reward.ensures) (to_z-of_z w128 c.expected_value-expected.result.value (search rules) ∙ c.expected_value-expected.ensures.value)
+    ∙ amount_is k c.args.node.now.n c.args.s _ _ (followed_split k c.args.node.now.n c.args.s) c.shortfall.result _ _ _
+    c.shortfall.ensures
+    (to_z-of_z w64 c.at-value.result (search rules) ∙ c.at-value.ensures.value)
+    (to_z-of_z w128 c.followed_reward-reward.result (search rules) ∙ c.followed_reward-reward.ensures)
+    (to_z-of_z w128 c.expected_value-expected.result.value (search rules) ∙ c.expected_value-expected.ensures.value)
 
 pub returns-clause-small : goal.returns-clause-small
-returns-clause-small g c = rw (returns-clause-is g c) (short_le _ c.args.node.now.input.proper (g.met.C.Cells.is_within_limits c.args.node.now.input.cells.now) c.args.node.now.input.values _ _ c.args.node.now.within c.requires.start)
+returns-clause-small g c = rw (returns-clause-is g c)
+    (short_le _ c.args.node.now.input.proper (g.met.C.Cells.is_within_limits c.args.node.now.input.cells.now)
+    c.args.node.now.input.values _ _
+    c.args.node.now.within c.requires.start)

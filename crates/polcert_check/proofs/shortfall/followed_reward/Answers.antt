@@ -5,4 +5,5 @@ use Rattle.polcert_check.proofs.shortfall.followed_reward.Goals as goal
 
 pub returns : goal.returns
 returns g c =
-    to_z-of_z w128 c.expected_reward.result (search rules) ∙ c.expected_reward.ensures ∙ ap (λ (a : ℕ). expected_reward (followed (node_controller c.args.node.now) c.args.node.now.n) a c.args.s) c.action.ensures.value
+    to_z-of_z w128 c.expected_reward.result (search rules) ∙ c.expected_reward.ensures
+    ∙ ap (λ (a : ℕ). expected_reward (followed (node_controller c.args.node.now) c.args.node.now.n) a c.args.s) c.action.ensures.value

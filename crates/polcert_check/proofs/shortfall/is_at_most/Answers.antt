@@ -4,7 +4,8 @@ use Rattle.polcert_check.proofs.Sums.UpperBits.{product_fits, product_le}
 use Rattle.polcert_check.proofs.shortfall.is_at_most.Goals as goal
 
 pub overflow_mul-result : goal.overflow_mul-result
-overflow_mul-result c = rw (to_z-of_z w64 c.args.number c.ranges.number, to_z-of_z w64 c.from.result (search rules), c.from.ensures) (product_fits c.args.weight c.args.number c.requires.weight c.requires.number)
+overflow_mul-result c = rw (to_z-of_z w64 c.args.number c.ranges.number, to_z-of_z w64 c.from.result (search rules), c.from.ensures)
+    (product_fits c.args.weight c.args.number c.requires.weight c.requires.number)
 
 pub returns : goal.returns
 returns c test =
@@ -12,4 +13,5 @@ returns c test =
     let other = to_z-of_z w64 c.args.other c.ranges.other in
     let weight = to_z-of_z w64 c.from.result (search rules) ∙ c.from.ensures in
     let other_weight = to_z-of_z w64 c.from-2.result (search rules) ∙ c.from-2.ensures in
-    product_le c.args.weight c.args.other_weight c.args.number c.args.other c.requires.weight c.requires.other_weight c.requires.number c.requires.other (rw (weight, number, other_weight, other) at test)
+    product_le c.args.weight c.args.other_weight c.args.number c.args.other c.requires.weight c.requires.other_weight c.requires.number
+    c.requires.other (rw (weight, number, other_weight, other) at test)

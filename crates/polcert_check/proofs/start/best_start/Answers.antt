@@ -18,17 +18,21 @@ loop-n-preserved c =
     let same = to_z-of_z w128 c.start_sum-sum.result (search rules) in
     elim c.if-sum-greatest.branch [
       | then-sum-greatest w ↦
-          let more : to_z w128 c.loop-n.greatest-bits <ℤ to_z w128 (of_z w128 c.start_sum-sum.result) = let test = w.if-sum-greatest.true in grind (arith, ints) in
+          let more : to_z w128 c.loop-n.greatest-bits <ℤ to_z w128 (of_z w128 c.start_sum-sum.result) = let test = w.if-sum-greatest.true in
+          grind (arith, ints) in
           let sum = w.greatest-is ∙ same in
           rw w.best-is (record {
-            node = greater _ c.loop-n.n c.loop-n.best c.loop-n.invariant.node (rw (same, c.start_sum-sum.ensures.is, c.loop-n.invariant.sum) at more);
+            node = greater _ c.loop-n.n c.loop-n.best c.loop-n.invariant.node
+                (rw (same, c.start_sum-sum.ensures.is, c.loop-n.invariant.sum) at more);
             sum = sum ∙ c.start_sum-sum.ensures.is;
             small = rw sum c.start_sum-sum.ensures.small;
           })
       | else-sum-greatest w ↦
-          let no_more : to_z w128 (of_z w128 c.start_sum-sum.result) ≤ℤ to_z w128 c.loop-n.greatest-bits = let test = w.if-sum-greatest.false in grind (arith, ints) in
+          let no_more : to_z w128 (of_z w128 c.start_sum-sum.result) ≤ℤ to_z w128 c.loop-n.greatest-bits = let test =
+          w.if-sum-greatest.false in grind (arith, ints) in
           rw w.best-is (record {
-            node = not_greater _ c.loop-n.n c.loop-n.best c.loop-n.invariant.node (rw (same, c.start_sum-sum.ensures.is, c.loop-n.invariant.sum) at no_more);
+            node = not_greater _ c.loop-n.n c.loop-n.best c.loop-n.invariant.node
+                (rw (same, c.start_sum-sum.ensures.is, c.loop-n.invariant.sum) at no_more);
             sum = w.greatest-is ∙ c.loop-n.invariant.sum;
             small = rw w.greatest-is c.loop-n.invariant.small;
           })

@@ -6,5 +6,9 @@ use Rattle.polcert_check.proofs.start.most_from_start.Goals as goal
 pub returns : goal.returns
 returns c =
     let m : Meaning = meaning c.args.model.now in
-    let best = c.best_start-sum in
-    (best.result.0, best.ensures.node, rw (to_z-of_z w64 c.ceil_quotient.result (search rules)) (rw (to_z-of_z w128 best.result.1 (search rules) ∙ best.ensures.sum, c.start_total.ensures) at c.ceil_quotient.ensures))
+    let best = c.best_start-sum in (
+      best.result.0,
+      best.ensures.node,
+      rw (to_z-of_z w64 c.ceil_quotient.result (search rules))
+          (rw (to_z-of_z w128 best.result.1 (search rules) ∙ best.ensures.sum, c.start_total.ensures) at c.ceil_quotient.ensures),
+    )

@@ -8,7 +8,8 @@ pairs-preserved g c =
     record {
       from = omega (arith, c.pairs.invariant.from);
       within = search rules;
-      passed = λ f is. pair_passed _ _ _ f (c.args.node.now.within, c.pairs.invariant.within) (rw c.in-Yes.is at c.pair_verdict-verdict.ensures) (c.pairs.invariant.passed f is);
+      passed = λ f is. pair_passed _ _ _ f (c.args.node.now.within, c.pairs.invariant.within)
+          (rw c.in-Yes.is at c.pair_verdict-verdict.ensures) (c.pairs.invariant.passed f is);
     }
 
 pub returns-then-reward-clause-passed : goal.returns-then-reward-clause-passed
@@ -16,4 +17,5 @@ returns-then-reward-clause-passed g c = λ f is. rw c.unknown.ensures.state (c.p
 
 pub returns-then-state-states-clause-passed : goal.returns-then-state-states-clause-passed
 returns-then-state-states-clause-passed g c = λ f is.
-    rw c.unknown-then-state-states.ensures.state (pair_passed (checked_controller c.args.node.now.input) c.args.node.now.n c.pairs.state f (c.args.node.now.within, c.pairs.invariant.within) (rw c.in-Yes.is at c.pair_verdict-verdict.ensures) (c.pairs.invariant.passed f is))
+    rw c.unknown-then-state-states.ensures.state (pair_passed (checked_controller c.args.node.now.input) c.args.node.now.n c.pairs.state f
+    (c.args.node.now.within, c.pairs.invariant.within) (rw c.in-Yes.is at c.pair_verdict-verdict.ensures) (c.pairs.invariant.passed f is))

@@ -20,11 +20,13 @@ loop-n-preserved g c =
       | else-action-a w ↦
           rw w.survey-is (record {
             of_action = c.loop-n.invariant.of_action;
-            found = node_passed j c.args.a c.loop-n.n c.loop-n.survey.findings c.loop-n.invariant.found (λ same. w.if-action-a.false (c.action.ensures.value ∙ same));
+            found = node_passed j c.args.a c.loop-n.n c.loop-n.survey.findings c.loop-n.invariant.found
+                (λ same. w.if-action-a.false (c.action.ensures.value ∙ same));
             mode = c.loop-n.invariant.mode;
           })
     ]
 
 pub returns-clause-found : goal.returns-clause-found
 returns-clause-found g c =
-    action_done (checked_controller c.args.input.now) c.args.a c.loop-n.n c.loop-n.survey.findings c.loop-n.invariant.found (omega (arith, c.nodes-n-end.ensures.count))
+    action_done (checked_controller c.args.input.now) c.args.a c.loop-n.n c.loop-n.survey.findings c.loop-n.invariant.found
+    (omega (arith, c.nodes-n-end.ensures.count))

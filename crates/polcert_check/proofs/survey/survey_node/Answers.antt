@@ -11,11 +11,20 @@ pub pairs-preserved-then-s-states : goal.pairs-preserved-then-s-states
 pairs-preserved-then-s-states g c =
     let j : Controller = checked_controller c.args.node.now.input in
     let s = c.first_failure-failure.result.state in
-    let passed = subst (λ (f : Findings). IsFoundBefore j (j.action c.args.node.now.n) c.args.node.now.n s f) (sym c.verdict_at-verdict.ensures.findings) (c.first_failure-failure.ensures.passed c.pairs.survey.findings c.pairs.invariant.found) in
+    let passed = subst (λ (f : Findings). IsFoundBefore j (j.action c.args.node.now.n) c.args.node.now.n s f)
+    (sym c.verdict_at-verdict.ensures.findings) (c.first_failure-failure.ensures.passed c.pairs.survey.findings c.pairs.invariant.found)
+    in
     record {
-      prepared = record { rewards = c.verdict_at-verdict.ensures.prepared.rewards; marks = c.verdict_at-verdict.ensures.prepared.marks; same = c.verdict_at-verdict.ensures.prepared.same };
-      ends = subst (λ (ends : EndValues). AreEndValues (node_controller c.args.node.now) c.args.node.now.n (node_controller c.args.node.now).cells.states ends) (sym c.verdict_at-verdict.ensures.ends) c.pairs.invariant.ends;
-      found = c.note.ensures.found j s (c.args.node.now.within, omega (arith, c.if-s-states.true, c.states-states.ensures)) c.verdict_at-verdict.ensures.verdict passed;
+      prepared = record {
+        rewards = c.verdict_at-verdict.ensures.prepared.rewards;
+        marks =
+            c.verdict_at-verdict.ensures.prepared.marks;
+        same = c.verdict_at-verdict.ensures.prepared.same;
+      };
+      ends = subst (λ (ends : EndValues). AreEndValues (node_controller c.args.node.now) c.args.node.now.n
+          (node_controller c.args.node.now).cells.states ends) (sym c.verdict_at-verdict.ensures.ends) c.pairs.invariant.ends;
+      found = c.note.ensures.found j s (c.args.node.now.within, omega (arith, c.if-s-states.true, c.states-states.ensures))
+          c.verdict_at-verdict.ensures.verdict passed;
       mode = c.note.ensures.mode ∙ ap (λ (f : Findings). f.mode) c.verdict_at-verdict.ensures.findings ∙ c.pairs.invariant.mode;
     }
 
@@ -31,8 +40,12 @@ pub returns-then-note-clause-found : goal.returns-then-note-clause-found
 returns-then-note-clause-found g c =
     let j : Controller = checked_controller c.args.node.now.input in
     let s = c.first_failure-failure.result.state in
-    let passed = subst (λ (f : Findings). IsFoundBefore j (j.action c.args.node.now.n) c.args.node.now.n s f) (sym c.verdict_at-verdict.ensures.findings) (c.first_failure-failure.ensures.passed c.pairs.survey.findings c.pairs.invariant.found) in
-    node_settled j c.args.node.now.n (s + 1) c.note.new.self (c.note.ensures.found j s (c.args.node.now.within, omega (arith, c.if-s-states.true, c.states-states.ensures)) c.verdict_at-verdict.ensures.verdict passed) (c.note.ensures.settled c.if-note.true)
+    let passed = subst (λ (f : Findings). IsFoundBefore j (j.action c.args.node.now.n) c.args.node.now.n s f)
+    (sym c.verdict_at-verdict.ensures.findings) (c.first_failure-failure.ensures.passed c.pairs.survey.findings c.pairs.invariant.found)
+    in
+    node_settled j c.args.node.now.n (s + 1) c.note.new.self
+    (c.note.ensures.found j s (c.args.node.now.within, omega (arith, c.if-s-states.true, c.states-states.ensures))
+    c.verdict_at-verdict.ensures.verdict passed) (c.note.ensures.settled c.if-note.true)
 
 pub returns-clause-found : goal.returns-clause-found
 returns-clause-found g c = node_done _ _ _ _ _ c.pairs.invariant.found (omega (arith, c.pairs-test.false, c.states-states.ensures))

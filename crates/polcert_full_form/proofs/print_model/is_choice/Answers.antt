@@ -10,8 +10,14 @@ bit_test w h = grind (arith, nat_tests)
 
 pub returns-then-start_weight-gt1 : goal.returns-then-start_weight-gt1
 returns-then-start_weight-gt1 c =
-    texts.test_fails (states_of (meaning c.args.model.now)) c.loop-state.state (λ s. share_of (meaning c.args.model.now).start s == 0 || share_of (meaning c.args.model.now).start s == 1) (search rules) (ap (λ w. w == 0 || w == 1) (sym c.start_weight.ensures) ∙ or_false_from _ _ (test_apart c.start_weight.result 0 (λ e. omega (arith, e))) (test_apart c.start_weight.result 1 (λ e. omega (arith, e))))
+    texts.test_fails (states_of (meaning c.args.model.now)) c.loop-state.state
+    (λ s. share_of (meaning c.args.model.now).start s == 0 || share_of (meaning c.args.model.now).start s == 1) (search rules)
+    (ap (λ w. w == 0 || w == 1) (sym c.start_weight.ensures)
+    ∙ or_false_from _ _ (test_apart c.start_weight.result 0 (λ e. omega (arith, e)))
+    (test_apart c.start_weight.result 1 (λ e. omega (arith, e))))
 
 pub loop-state-preserved : goal.loop-state-preserved
 loop-state-preserved c =
-    texts.test_more c.loop-state.state (λ s. share_of (meaning c.args.model.now).start s == 0 || share_of (meaning c.args.model.now).start s == 1) c.loop-state.invariant (ap (λ w. w == 0 || w == 1) (sym c.start_weight.ensures) ∙ bit_test c.start_weight.result c.if-start_weight-gt1.false)
+    texts.test_more c.loop-state.state (λ s. share_of (meaning c.args.model.now).start s == 0 || share_of (meaning c.args.model.now).start s
+    == 1) c.loop-state.invariant (ap (λ w. w == 0 || w == 1) (sym c.start_weight.ensures)
+    ∙ bit_test c.start_weight.result c.if-start_weight-gt1.false)

@@ -11,7 +11,8 @@ returns-in_err-write_preamble g c = record {
 
 pub returns-in_err-write_start : goal.returns-in_err-write_start
 returns-in_err-write_start g c = record {
-  written = stopped (search rules) (unwritten _ (unwritten _ (unwritten _ (and_then c.in_ok-write_preamble.ensures c.in_err-write_start.ensures))));
+  written = stopped (search rules) (unwritten _ (unwritten _
+      (unwritten _ (and_then c.in_ok-write_preamble.ensures c.in_err-write_start.ensures))));
   reads_back = kept_reads_back c.args.model.now c.requires.printable;
 }
 
@@ -24,7 +25,8 @@ returns-in_err-write_rows g c = record {
 
 pub returns-in_err-write_observation_rows : goal.returns-in_err-write_observation_rows
 returns-in_err-write_observation_rows g c = record {
-  written = stopped (search rules) (unwritten _ (and_then (and_then (and_then c.in_ok-write_preamble.ensures c.in_ok-write_start.ensures) c.in_ok-write_rows.ensures)
+  written = stopped (search rules) (unwritten _ (and_then
+      (and_then (and_then c.in_ok-write_preamble.ensures c.in_ok-write_start.ensures) c.in_ok-write_rows.ensures)
       c.in_err-write_observation_rows.ensures));
   reads_back = kept_reads_back c.args.model.now c.requires.printable;
 }

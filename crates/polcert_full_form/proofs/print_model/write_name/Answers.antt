@@ -5,7 +5,8 @@ use Rattle.std.proofs.lemmas.Option.{slice_get-get_or}
 use Rattle.polcert_cells.proofs.Basics.{some≢none}
 use Rattle.polcert_full_form.proofs.print_model.write_name.Goals as goal
 
-found : (xs : List (List ℕ)) (k : ℕ) (x : List ℕ) → k < length xs → Some x ≡ slice_get xs k → after_blank x ≡ after_blank (slice_index_or xs k [])
+found : (xs : List (List ℕ)) (k : ℕ) (x : List ℕ) → k < length xs → Some x ≡ slice_get xs k
+    → after_blank x ≡ after_blank (slice_index_or xs k [])
 found xs k x l e = let here : slice_get xs k ≡ Some (get_or xs k []) = slice_get-get_or xs k [] l in ap after_blank (cc)
 
 missing : (xs : List (List ℕ)) (k : ℕ) → k < length xs → None ≡ slice_get xs k → ⊥

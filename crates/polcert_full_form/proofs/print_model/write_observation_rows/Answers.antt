@@ -9,4 +9,5 @@ pub returns-then-is_mdp : goal.returns-then-is_mdp
 returns-then-is_mdp g c = wrote_nothing (texts.no_observations (meaning c.args.model.now) (sym c.is_mdp.ensures ∙ c.if-is_mdp.true))
 
 pub returns-else-is_mdp : goal.returns-else-is_mdp
-returns-else-is_mdp g c = as_text (texts.some_observations (meaning c.args.model.now) (sym c.is_mdp.ensures ∙ c.if-is_mdp.false)) c.write_rows.ensures
+returns-else-is_mdp g c = as_text (texts.some_observations (meaning c.args.model.now) (sym c.is_mdp.ensures ∙ c.if-is_mdp.false))
+    c.write_rows.ensures

@@ -6,7 +6,8 @@ use Rattle.polcert_full_form.proofs.print_model.write_preamble.Goals as goal
 
 pub returns-in_err-write_settings : goal.returns-in_err-write_settings
 returns-in_err-write_settings g c =
-    as_text (texts.preamble_is (meaning c.args.model.now)) (stopped (search rules) (unwritten _ (unwritten _ (unwritten _ c.in_err-write_settings.ensures))))
+    as_text (texts.preamble_is (meaning c.args.model.now))
+    (stopped (search rules) (unwritten _ (unwritten _ (unwritten _ c.in_err-write_settings.ensures))))
 
 pub returns-in_err-write_elements : goal.returns-in_err-write_elements
 returns-in_err-write_elements g c =
@@ -25,4 +26,5 @@ pub returns : goal.returns
 returns g c =
     let states = rw c.elements.ensures at c.in_ok-write_elements.ensures in
     let actions = rw c.elements-2.ensures at c.in_ok-write_elements-2.ensures in
-    as_text (texts.preamble_is (meaning c.args.model.now)) (and_then (and_then (and_then c.in_ok-write_settings.ensures states) actions) c.write_observations.ensures)
+    as_text (texts.preamble_is (meaning c.args.model.now))
+    (and_then (and_then (and_then c.in_ok-write_settings.ensures states) actions) c.write_observations.ensures)

@@ -12,7 +12,8 @@ widened n m small same = ap scaled_text (to_z_pos w64 n (omega arith) ∙ ap pos
 pub returns-in_err-write_all : goal.returns-in_err-write_all
 returns-in_err-write_all g c =
     let p = (meaning c.args.model.now).preamble in
-    stopped (search rules) (unwritten (values_line p.costs) (unwritten _ (unwritten (scaled_text (pos p.discount)) c.in_err-write_all.ensures)))
+    stopped (search rules) (unwritten (values_line p.costs)
+    (unwritten _ (unwritten (scaled_text (pos p.discount)) c.in_err-write_all.ensures)))
 
 pub returns-in_err-write_scaled : goal.returns-in_err-write_scaled
 returns-in_err-write_scaled g c =
@@ -27,4 +28,5 @@ returns-in_err-write_all-2 g c =
 pub returns : goal.returns
 returns g c =
     let discount = as_text (widened _ _ (search rules) c.discount.ensures) c.in_ok-write_scaled.ensures.written in
-    and_then (and_then (and_then c.in_ok-write_all.ensures discount) c.in_ok-write_all-2.ensures) (as_text (c.values_line.ensures ∙ ap values_line c.is_cost.ensures) c.write_all-3.ensures)
+    and_then (and_then (and_then c.in_ok-write_all.ensures discount) c.in_ok-write_all-2.ensures)
+    (as_text (c.values_line.ensures ∙ ap values_line c.is_cost.ensures) c.write_all-3.ensures)

@@ -8,7 +8,8 @@ loop-state-init g c = no_turn
 
 pub returns-in_err-write_start_part : goal.returns-in_err-write_start_part
 returns-in_err-write_start_part g c =
-    turn_failed (states_of (meaning c.args.model.now)) c.loop-state.invariant c.in_err-write_start_part.ensures (search rules) (search rules)
+    turn_failed (states_of (meaning c.args.model.now)) c.loop-state.invariant c.in_err-write_start_part.ensures (search rules)
+    (search rules)
 
 pub loop-state-preserved : goal.loop-state-preserved
 loop-state-preserved g c = turn_written c.loop-state.invariant c.in_ok-write_start_part.ensures

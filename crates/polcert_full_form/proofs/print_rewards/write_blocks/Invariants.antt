@@ -5,7 +5,8 @@ use Rattle.polcert_full_form.proofs.print_rewards.write_blocks.Given as goal
 
 abbrev pub invariant-loop-column : goal.invariant-loop-column
 invariant-loop-column g l = record {
-  written : HasWritten g.W.Sink.writes g.W.Sink.failures l.fn.out (for_each (l.column - l.fn.first) (λ i. rewarded_text l.row (l.fn.first + i))) l.out;
+  written : HasWritten g.W.Sink.writes g.W.Sink.failures l.fn.out
+      (for_each (l.column - l.fn.first) (λ i. rewarded_text l.row (l.fn.first + i))) l.out;
   from : l.fn.first ≤ l.column;
   within : l.column ≤ row_width l.row;
   filled : IsFilled (row_rewards l.row) (row_width l.row) l.column l.block;

@@ -6,7 +6,8 @@ use Rattle.polcert_full_form.proofs.Denoting.RewardBlocks.{row_paid, row_unpaid,
 use Rattle.polcert_full_form.proofs.print_rewards.write_reward_row.Goals as goal
 
 pub returns-in_default : goal.returns-in_default
-returns-in_default g c = wrote_nothing (row_unpaid (meaning c.args.row.now.model.now) c.args.row.now.action c.args.row.now.start c.args.row.now.end c.in_default.ensures.paid)
+returns-in_default g c = wrote_nothing (row_unpaid (meaning c.args.row.now.model.now) c.args.row.now.action c.args.row.now.start
+    c.args.row.now.end c.in_default.ensures.paid)
 
 pub write_zeros-requires : goal.write_zeros-requires
 write_zeros-requires g c =
@@ -29,9 +30,11 @@ returns-in_err-write_zeros g c =
 pub returns-in_err-write_blocks : goal.returns-in_err-write_blocks
 returns-in_err-write_blocks g c =
     as_text (row_paid c.args.row.now c.in-Some.first c.in-Some.ensures.paid)
-    (stopped (search rules) (unwritten _ (and_then (and_then c.in_ok-write_reward_head.ensures c.in_ok-write_zeros.ensures) c.in_err-write_blocks.ensures)))
+    (stopped (search rules) (unwritten _ (and_then (and_then c.in_ok-write_reward_head.ensures c.in_ok-write_zeros.ensures)
+    c.in_err-write_blocks.ensures)))
 
 pub returns : goal.returns
 returns g c =
     as_text (row_paid c.args.row.now c.in-Some.first c.in-Some.ensures.paid)
-    (and_then (and_then (and_then c.in_ok-write_reward_head.ensures c.in_ok-write_zeros.ensures) c.in_ok-write_blocks.ensures) c.write_all.ensures)
+    (and_then (and_then (and_then c.in_ok-write_reward_head.ensures c.in_ok-write_zeros.ensures) c.in_ok-write_blocks.ensures)
+    c.write_all.ensures)

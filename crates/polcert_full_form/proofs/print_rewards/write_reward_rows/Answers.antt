@@ -8,7 +8,8 @@ loop-end-init g c = no_turn
 
 pub returns-in_err-write_reward_row : goal.returns-in_err-write_reward_row
 returns-in_err-write_reward_row g c =
-    turn_failed (states_of (meaning c.args.whole.now.model.now)) c.loop-end.invariant c.in_err-write_reward_row.ensures (search rules) (search rules)
+    turn_failed (states_of (meaning c.args.whole.now.model.now)) c.loop-end.invariant c.in_err-write_reward_row.ensures (search rules)
+    (search rules)
 
 pub loop-end-preserved : goal.loop-end-preserved
 loop-end-preserved g c = turn_written c.loop-end.invariant c.in_ok-write_reward_row.ensures

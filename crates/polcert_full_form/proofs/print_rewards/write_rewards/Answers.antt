@@ -8,7 +8,8 @@ loop-action-init g c = no_turn
 
 pub returns-in_err-write_rewards_at : goal.returns-in_err-write_rewards_at
 returns-in_err-write_rewards_at g c =
-    turn_failed (actions_of (meaning c.args.model.now)) c.loop-action.invariant c.in_err-write_rewards_at.ensures (search rules) (search rules)
+    turn_failed (actions_of (meaning c.args.model.now)) c.loop-action.invariant c.in_err-write_rewards_at.ensures (search rules)
+    (search rules)
 
 pub loop-action-preserved : goal.loop-action-preserved
 loop-action-preserved g c = turn_written c.loop-action.invariant c.in_ok-write_rewards_at.ensures

@@ -8,7 +8,8 @@ loop-start-init g c = no_turn
 
 pub returns-in_err-write_rewards_from : goal.returns-in_err-write_rewards_from
 returns-in_err-write_rewards_from g c =
-    turn_failed (states_of (meaning c.args.model.now)) c.loop-start.invariant c.in_err-write_rewards_from.ensures (search rules) (search rules)
+    turn_failed (states_of (meaning c.args.model.now)) c.loop-start.invariant c.in_err-write_rewards_from.ensures (search rules)
+    (search rules)
 
 pub loop-start-preserved : goal.loop-start-preserved
 loop-start-preserved g c = turn_written c.loop-start.invariant c.in_ok-write_rewards_from.ensures

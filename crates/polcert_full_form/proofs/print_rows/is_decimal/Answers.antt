@@ -9,7 +9,8 @@ loop-step-init c = rw (at_start c.weights-weights.result) (record { within = ome
 pub returns-then-step-columns-ne0 : goal.returns-then-step-columns-ne0
 returns-then-step-columns-ne0 c =
     let next = (c.in-Some.ensures _ _ c.weights-weights.ensures).0 in
-    decimal_other c.args.row.now.columns (row_weights c.args.row.now) (reached (Some c.weights-weights.result) c.loop-step.at) c.in-Some.step.column
+    decimal_other c.args.row.now.columns (row_weights c.args.row.now) (reached (Some c.weights-weights.result) c.loop-step.at)
+    c.in-Some.step.column
     c.in-Some.step.weight next c.if-step-columns-ne0.true
 
 pub loop-step-smaller : goal.loop-step-smaller
@@ -31,5 +32,6 @@ loop-step-preserved c =
 pub returns : goal.returns
 returns c =
     let end = c.in_default.ensures _ _ c.weights-weights.ensures in
-    decimal_end c.args.row.now.columns (row_weights c.args.row.now) (reached (Some c.weights-weights.result) c.loop-step.at) c.loop-step.invariant.within end
+    decimal_end c.args.row.now.columns (row_weights c.args.row.now) (reached (Some c.weights-weights.result) c.loop-step.at)
+    c.loop-step.invariant.within end
     c.loop-step.invariant.multiples

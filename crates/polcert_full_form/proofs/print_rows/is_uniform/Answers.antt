@@ -9,7 +9,8 @@ loop-step-init c = record { reached = at_start c.weights-weights.result; within 
 pub returns-then-step-column : goal.returns-then-step-column
 returns-then-step-column c =
     let next = rw c.loop-step.invariant.reached at (c.in-Some.ensures _ _ c.weights-weights.ensures).0 in
-    uniform_gap c.args.row.now.columns (row_weights c.args.row.now) c.loop-step.column c.in-Some.step.column c.in-Some.step.weight next c.if-step-column.true
+    uniform_gap c.args.row.now.columns (row_weights c.args.row.now) c.loop-step.column c.in-Some.step.column c.in-Some.step.weight next
+    c.if-step-column.true
 
 pub returns-then-step-ne-ONE : goal.returns-then-step-ne-ONE
 returns-then-step-ne-ONE c =
@@ -33,11 +34,13 @@ loop-step-preserved c =
     record {
       reached = (c.in-Some.ensures _ _ c.weights-weights.ensures).1;
       within = omega (arith, next.1);
-      ones = uniform_more c.args.row.now.columns (row_weights c.args.row.now) c.loop-step.column c.in-Some.step.column c.in-Some.step.weight next
+      ones = uniform_more c.args.row.now.columns (row_weights c.args.row.now) c.loop-step.column c.in-Some.step.column c.in-Some.step.weight
+          next
           c.if-step-column.false c.if-step-ne-ONE.false c.loop-step.invariant.ones;
     }
 
 pub returns : goal.returns
 returns c =
     let end = rw c.loop-step.invariant.reached at c.in_default.ensures _ _ c.weights-weights.ensures in
-    uniform_end c.args.row.now.columns (row_weights c.args.row.now) c.loop-step.column c.loop-step.invariant.within end c.loop-step.invariant.ones
+    uniform_end c.args.row.now.columns (row_weights c.args.row.now) c.loop-step.column c.loop-step.invariant.within end
+    c.loop-step.invariant.ones

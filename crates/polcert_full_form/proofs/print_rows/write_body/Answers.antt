@@ -8,7 +8,8 @@ use Rattle.polcert_full_form.proofs.print_rows.write_body.Goals as goal
 pub returns-then-is_uniform : goal.returns-then-is_uniform
 returns-then-is_uniform g c =
     let r = c.args.row.now in
-    as_text (texts.body_uniform r.table r.action r.state r.columns (row_weights r) (sym c.is_uniform.ensures ∙ c.if-is_uniform.true)) c.write_all.ensures
+    as_text (texts.body_uniform r.table r.action r.state r.columns (row_weights r) (sym c.is_uniform.ensures ∙ c.if-is_uniform.true))
+    c.write_all.ensures
 
 pub returns-then-is_decimal : goal.returns-then-is_decimal
 returns-then-is_decimal g c =

@@ -9,7 +9,8 @@ pub returns-in_err-write_pattern : goal.returns-in_err-write_pattern
 returns-in_err-write_pattern g c = stopped (search rules) (unwritten _ (unwritten _ (unwritten _ c.in_err-write_pattern.ensures)))
 
 pub returns-in_err-write_all : goal.returns-in_err-write_all
-returns-in_err-write_all g c = stopped (search rules) (unwritten _ (unwritten _ (and_then c.in_ok-write_pattern.ensures c.in_err-write_all.ensures)))
+returns-in_err-write_all g c = stopped (search rules)
+    (unwritten _ (unwritten _ (and_then c.in_ok-write_pattern.ensures c.in_err-write_all.ensures)))
 
 pub returns-in_err-write_scaled : goal.returns-in_err-write_scaled
 returns-in_err-write_scaled g c =

@@ -35,7 +35,8 @@ returns-in_err-write_columns_to g c =
     let next = rw c.loop-step.invariant.reached at (c.in-Some.ensures _ _ c.weights-weights.ensures).0 in
     let part = column_text c.args.form row in
     let zeros = zero_column c.args.form row in
-    let whole = step_is (row_weights row) row.columns part (zero_text c.args.form row) zeros c.loop-step.column c.in-Some.step.column c.in-Some.step.weight next in
+    let whole = step_is (row_weights row) row.columns part (zero_text c.args.form row) zeros c.loop-step.column c.in-Some.step.column
+    c.in-Some.step.weight next in
     run_failed part c.loop-step.column (c.in-Some.step.column + 1) whole c.loop-step.invariant.written row.columns (omega (arith, next.1))
     c.in_err-write_columns_to.ensures (search rules)
 
@@ -50,9 +51,11 @@ loop-step-preserved g c =
     let next = rw c.loop-step.invariant.reached at (c.in-Some.ensures _ _ c.weights-weights.ensures).0 in
     let part = column_text c.args.form row in
     let zeros = zero_column c.args.form row in
-    let whole = step_is (row_weights row) row.columns part (zero_text c.args.form row) zeros c.loop-step.column c.in-Some.step.column c.in-Some.step.weight next in
+    let whole = step_is (row_weights row) row.columns part (zero_text c.args.form row) zeros c.loop-step.column c.in-Some.step.column
+    c.in-Some.step.weight next in
     record {
-      written = run_written part c.loop-step.column (c.in-Some.step.column + 1) whole c.loop-step.invariant.written c.in_ok-write_columns_to.ensures;
+      written = run_written part c.loop-step.column (c.in-Some.step.column + 1) whole c.loop-step.invariant.written
+          c.in_ok-write_columns_to.ensures;
       reached = (c.in-Some.ensures _ _ c.weights-weights.ensures).1;
       within = omega (arith, next.1);
     }
@@ -69,5 +72,6 @@ returns g c =
     let end = rw c.loop-step.invariant.reached at c.in_default.ensures _ _ c.weights-weights.ensures in
     let zeros = zero_column c.args.form row in
     as_text
-    (rest_is (row_weights row) row.columns (column_text c.args.form row) (zero_text c.args.form row) zeros c.loop-step.column c.loop-step.invariant.within end)
+    (rest_is (row_weights row) row.columns (column_text c.args.form row) (zero_text c.args.form row) zeros c.loop-step.column
+    c.loop-step.invariant.within end)
     (ends_with _ _ _ c.loop-step.invariant.written c.write_zero_columns.ensures)

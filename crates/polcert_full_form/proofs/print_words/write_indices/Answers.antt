@@ -6,7 +6,8 @@ pub loop-number-init : goal.loop-number-init
 loop-number-init g c = no_turn
 
 pub returns-in_err-write_index : goal.returns-in_err-write_index
-returns-in_err-write_index g c = turn_failed (length c.args.indices.now) c.loop-number.invariant c.in_err-write_index.ensures (search rules) (search rules)
+returns-in_err-write_index g c = turn_failed (length c.args.indices.now) c.loop-number.invariant c.in_err-write_index.ensures (search rules)
+    (search rules)
 
 pub loop-number-preserved : goal.loop-number-preserved
 loop-number-preserved g c = turn_written c.loop-number.invariant c.in_ok-write_index.ensures

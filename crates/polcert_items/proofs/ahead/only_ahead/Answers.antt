@@ -10,6 +10,7 @@ returns-in-None g c =
     let worth = simp to_z-of_z at c.of_millionths.ensures in
     let in_range = simp to_z-of_z at (rw c.range.ensures at c.in-None.ensures) in
     record {
-      ahead = number_ahead g.T.ListNumber.kind (no_numbers 1) c.of_millionths.result c.args.bytes.now number g.met.T.ListNumber.distinct worth in_range refl (omega arith) c.in-Some.ensures _ c.with_first.ensures;
+      ahead = number_ahead g.T.ListNumber.kind (no_numbers 1) c.of_millionths.result c.args.bytes.now number g.met.T.ListNumber.distinct
+          worth in_range refl (omega arith) c.in-Some.ensures _ c.with_first.ensures;
       some = omega (arith, ap (λ (n : Numbers g.row.T.Denot). length n.read) c.with_first.ensures);
     }

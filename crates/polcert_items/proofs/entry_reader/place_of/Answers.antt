@@ -9,10 +9,12 @@ returns-in_err-element_of-in_default-Some c =
     let p = err_from_is_err_and c.from_residual.result c.from_residual.ensures.1 in
     let e = c.in_err-element_of-in_default-Some.ensures in
     let l = lexeme_of c.args.token in
-    let are : unwrap_or (option_copied c.args.elements) (Count 0) ≡ c.in_default-Some.elements.now = ap (λ o. unwrap_or (option_copied o) (Count 0)) c.in_default-Some.is-1 in
+    let are : unwrap_or (option_copied c.args.elements) (Count 0) ≡ c.in_default-Some.elements.now =
+    ap (λ o. unwrap_or (option_copied o) (Count 0)) c.in_default-Some.is-1 in
     rw (p.1, p.2) (record {
       place = tt;
-      refused = subst (λ d. (q : Place) → IsPlace d l q → ⊥) (sym are) (no_place c.in_default-Some.elements.now l c.in_default-Some.not-Star-0 e.refused);
+      refused = subst (λ d. (q : Place) → IsPlace d l q → ⊥) (sym are)
+          (no_place c.in_default-Some.elements.now l c.in_default-Some.not-Star-0 e.refused);
       reason = e.reason;
       kind = e.kind;
     })

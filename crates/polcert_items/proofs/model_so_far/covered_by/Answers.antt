@@ -9,9 +9,11 @@ overflow_mul-result-3 c =
     let a = c.args in
     let body = body_of a.entry.body in
     let written = c.as_slice-places.result.now in
-    let few = subst (λ (ps : List Place). nonzero_cells body a.states (open_cells a.states a.columns (length ps)) ≤ a.states * a.columns) (sym c.as_slice-places.ensures) c.requires.nonzero_cells in
+    let few = subst (λ (ps : List Place). nonzero_cells body a.states (open_cells a.states a.columns (length ps)) ≤ a.states * a.columns)
+    (sym c.as_slice-places.ensures) c.requires.nonzero_cells in
     let cells = c.nonzero_cells.ensures ∙ ap (nonzero_cells body a.states) c.open_cells-cells.ensures in
-    covered_fits _ (subst (λ n. n ≤ most_covered) (λ i. sym c.count_elements.ensures i * sym c.count_elements-2.ensures i * sym c.count_elements-3.ensures i * sym cells i)
+    covered_fits _ (subst (λ n. n ≤ most_covered) (λ i. sym c.count_elements.ensures i * sym c.count_elements-2.ensures i
+    * sym c.count_elements-3.ensures i * sym cells i)
     (covered_few a.actions a.states a.columns written body c.requires.actions c.requires.states c.requires.columns few))
 
 pub returns-clause-few : goal.returns-clause-few
@@ -19,7 +21,9 @@ returns-clause-few c =
     let a = c.args in
     let body = body_of a.entry.body in
     let written = c.as_slice-places.result.now in
-    let few = subst (λ (ps : List Place). nonzero_cells body a.states (open_cells a.states a.columns (length ps)) ≤ a.states * a.columns) (sym c.as_slice-places.ensures) c.requires.nonzero_cells in
+    let few = subst (λ (ps : List Place). nonzero_cells body a.states (open_cells a.states a.columns (length ps)) ≤ a.states * a.columns)
+    (sym c.as_slice-places.ensures) c.requires.nonzero_cells in
     let cells = c.nonzero_cells.ensures ∙ ap (nonzero_cells body a.states) c.open_cells-cells.ensures in
-    subst (λ n. n ≤ most_covered) (λ i. sym c.count_elements.ensures i * sym c.count_elements-2.ensures i * sym c.count_elements-3.ensures i * sym cells i)
+    subst (λ n. n ≤ most_covered) (λ i. sym c.count_elements.ensures i * sym c.count_elements-2.ensures i * sym c.count_elements-3.ensures i
+    * sym cells i)
     (covered_few a.actions a.states a.columns written body c.requires.actions c.requires.states c.requires.columns few)

@@ -9,5 +9,6 @@ returns-in-Some-clause-refused c =
     let fits : FitsSigned w64 h = search rules in
     let out = simp to_z-of_z at c.in-Some.ensures in
     let value = rw c.is_negative.ensures at c.in-Ok.ensures.value in
-    let is : IsMillionths (is_negative c.args.sign) (lexeme_of c.args.token) h = record { kind = c.requires; readable = value.0; value = value.1 } in
+    let is : IsMillionths (is_negative c.args.sign) (lexeme_of c.args.token) h =
+    record { kind = c.requires; readable = value.0; value = value.1 } in
     refuses_range c.args.range c.args.sign (lexeme_of c.args.token) h c.in-Some.kind _ is out.0 out.1 c.number_place-place.ensures

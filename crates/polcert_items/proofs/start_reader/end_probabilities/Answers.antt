@@ -9,4 +9,5 @@ returns-in-Some-clause-reason c = λ body. end_kind c.in-Some.fault (c.in-Some.e
 
 pub returns-clause-said : goal.returns-clause-said
 returns-clause-said c = λ states.
-    shares_end states c.args.numbers c.in_ok-shares_of.field-0 c.in_default.ensures.full (ap sum (sym c.as_slice.ensures) ∙ sym c.sum_of.ensures ∙ c.if-sum_of-ne-ONE.false) c.in_ok-shares_of.ensures
+    shares_end states c.args.numbers c.in_ok-shares_of.field-0 c.in_default.ensures.full
+    (ap sum (sym c.as_slice.ensures) ∙ sym c.sum_of.ensures ∙ c.if-sum_of-ne-ONE.false) c.in_ok-shares_of.ensures

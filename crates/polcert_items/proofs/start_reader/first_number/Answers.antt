@@ -9,7 +9,8 @@ use Rattle.polcert_items.proofs.start_reader.first_number.Goals as goal
 pub returns-in-Sign-clause-begun : goal.returns-in-Sign-clause-begun
 returns-in-Sign-clause-begun c = λ states.
     let step = rw c.in-Sign.is at c.in_ok-sign.ensures.step in
-    subst (λ s. Begins (NumbersGo states [] s) (lexeme_of c.args.token) (StartGoes states (reader.Sign c.in-Sign.sign))) (sym step.0) (sign_begins states [] (lexeme_of c.args.token) c.in-Sign.sign step.1)
+    subst (λ s. Begins (NumbersGo states [] s) (lexeme_of c.args.token) (StartGoes states (reader.Sign c.in-Sign.sign))) (sym step.0)
+    (sign_begins states [] (lexeme_of c.args.token) c.in-Sign.sign step.1)
 
 pub returns-in-Value-clause-begun : goal.returns-in-Value-clause-begun
 returns-in-Value-clause-begun c = λ states.

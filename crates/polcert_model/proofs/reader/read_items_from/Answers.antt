@@ -36,14 +36,21 @@ loop-token-preserved g c =
     let was = c.loop-token.invariant.seen in
     let new = c.next_token.follows.lender-at-none in
     let gives = rw (c.in-Ok-Some.is ∙ ap Ok c.in-Ok-Some.field-0-is) at c.next_token.follows.holds-at-none.answers in
-    let grows : c.loop-token.tokens.ahead.place < new.ahead.place = place_grows c.loop-token.tokens.ahead new.ahead gives.0.given (lexeme_of c.in-Ok-Some.token) gives.0.next in
-    let taken = token_taken _ _ _ _ was.0 c.loop-token.tokens c.loop-token.source (lexeme_of c.in-Ok-Some.token) new c.next_token.new.source was.1 gives.0 gives.2 in
+    let grows : c.loop-token.tokens.ahead.place < new.ahead.place =
+    place_grows c.loop-token.tokens.ahead new.ahead gives.0.given (lexeme_of c.in-Ok-Some.token) gives.0.next in
+    let taken = token_taken _ _ _ _ was.0 c.loop-token.tokens c.loop-token.source (lexeme_of c.in-Ok-Some.token) new c.next_token.new.source
+    was.1 gives.0 gives.2 in
     let ahead = c.in_default-read_ahead.ensures.read in
     let more = c.in_default.ensures.number in
     let same = c.in_default-read_ahead.ensures.number in
     let few = c.loop-token.invariant.few in
     record {
-      seen = ((was.0 ++ lexeme_of c.in-Ok-Some.token ∷ []) ++ ahead.ts, all_passed _ _ _ _ _ _ _ _ taken ahead, ahead.reads_on tt _ (c.in_default.ensures.read was.0 was.2));
+      seen = (
+        (was.0 ++ lexeme_of c.in-Ok-Some.token ∷ []) ++ ahead.ts,
+        all_passed _ _ _ _ _ _ _ _ taken ahead,
+        ahead.reads_on tt _
+            (c.in_default.ensures.read was.0 was.2),
+      );
       few = omega (arith, grows, more, same, few);
     }
 
@@ -52,11 +59,14 @@ loop-token-smaller g c =
     let was = c.loop-token.invariant.seen in
     let new = c.next_token.follows.lender-at-none in
     let gives = rw (c.in-Ok-Some.is ∙ ap Ok c.in-Ok-Some.field-0-is) at c.next_token.follows.holds-at-none.answers in
-    let grows : c.loop-token.tokens.ahead.place < new.ahead.place = place_grows c.loop-token.tokens.ahead new.ahead gives.0.given (lexeme_of c.in-Ok-Some.token) gives.0.next in
-    let taken = token_taken _ _ _ _ was.0 c.loop-token.tokens c.loop-token.source (lexeme_of c.in-Ok-Some.token) new c.next_token.new.source was.1 gives.0 gives.2 in
+    let grows : c.loop-token.tokens.ahead.place < new.ahead.place =
+    place_grows c.loop-token.tokens.ahead new.ahead gives.0.given (lexeme_of c.in-Ok-Some.token) gives.0.next in
+    let taken = token_taken _ _ _ _ was.0 c.loop-token.tokens c.loop-token.source (lexeme_of c.in-Ok-Some.token) new c.next_token.new.source
+    was.1 gives.0 gives.2 in
     let ahead = c.in_default-read_ahead.ensures.read in
     let place = ap (λ s. s.ahead.place) ahead.tokens_are in
-    let within : c.read_ahead.new.tokens.ahead.place ≤ text_limit = place_within _ _ _ _ _ c.read_ahead.new.tokens c.next_token.new.source (all_passed _ _ _ _ _ _ _ _ taken ahead) in
+    let within : c.read_ahead.new.tokens.ahead.place ≤ text_limit =
+    place_within _ _ _ _ _ c.read_ahead.new.tokens c.next_token.new.source (all_passed _ _ _ _ _ _ _ _ taken ahead) in
     omega (arith, grows, place, within)
 
 pub read_ahead-requires-clause-few : goal.read_ahead-requires-clause-few
@@ -74,10 +84,12 @@ returns-in-Err-read_ahead g c =
     let was = c.loop-token.invariant.seen in
     let new = c.next_token.follows.lender-at-none in
     let gives = rw (c.in-Ok-Some.is ∙ ap Ok c.in-Ok-Some.field-0-is) at c.next_token.follows.holds-at-none.answers in
-    let taken = token_taken _ _ _ _ was.0 c.loop-token.tokens c.loop-token.source (lexeme_of c.in-Ok-Some.token) new c.next_token.new.source was.1 gives.0 gives.2 in
+    let taken = token_taken _ _ _ _ was.0 c.loop-token.tokens c.loop-token.source (lexeme_of c.in-Ok-Some.token) new c.next_token.new.source
+    was.1 gives.0 gives.2 in
     rw c.in-Err-read_ahead.ensures.refused (record {
       read = text_refused Memory
-          (refused_at_token _ _ _ _ new c.next_token.new.source Memory taken (λ text ts further tokens all. record { refusal = tt; placed = tt }))
+          (refused_at_token _ _ _ _ new c.next_token.new.source Memory taken
+          (λ text ts further tokens all. record { refusal = tt; placed = tt }))
           taken.same_count;
     })
 
@@ -86,7 +98,8 @@ returns-in-Err g c =
     let was = c.loop-token.invariant.seen in
     let new = c.next_token.follows.lender-at-none in
     let gives = rw (c.in-Ok-Some.is ∙ ap Ok c.in-Ok-Some.field-0-is) at c.next_token.follows.holds-at-none.answers in
-    let taken = token_taken _ _ _ _ was.0 c.loop-token.tokens c.loop-token.source (lexeme_of c.in-Ok-Some.token) new c.next_token.new.source was.1 gives.0 gives.2 in
+    let taken = token_taken _ _ _ _ was.0 c.loop-token.tokens c.loop-token.source (lexeme_of c.in-Ok-Some.token) new c.next_token.new.source
+    was.1 gives.0 gives.2 in
     record {
       read = text_refused c.in-Err.fault
           (refused_at_token _ _ _ _ new c.next_token.new.source c.in-Err.fault taken (c.in-Err.ensures.read was.0 was.2))
@@ -109,7 +122,8 @@ returns-in-Err-finish g c =
     let gives = rw (c.in-Ok-None.is ∙ ap Ok c.in-Ok-None.field-0-is) at c.next_token.follows.holds-at-none.answers in
     record {
       read = text_refused c.in-Err-finish.fault
-          (refused_at_end _ _ _ was.0 _ _ _ _ c.in-Err-finish.fault c.place.result was.1 gives.0 c.place.ensures (c.in-Err-finish.ensures was.0 was.2))
+          (refused_at_end _ _ _ was.0 _ _ _ _ c.in-Err-finish.fault c.place.result was.1 gives.0 c.place.ensures
+          (c.in-Err-finish.ensures was.0 was.2))
           (gives.0.same_count ∙ was.1.same_count);
     }
 
@@ -121,7 +135,8 @@ returns-in-Err-Token g c =
     let gives = rw (c.in-Err-Token.is ∙ ap Err c.in-Err-Token.field-0-is) at c.next_token.follows.holds-at-none.answers in
     rw named (record {
       read = text_refused _
-          (refused_tokens _ _ _ was.0 c.loop-token.reader c.loop-token.tokens c.loop-token.source c.in-Err-Token.fault new.ahead c.next_token.new.source was.2 was.1 gives.0)
+          (refused_tokens _ _ _ was.0 c.loop-token.reader c.loop-token.tokens c.loop-token.source c.in-Err-Token.fault new.ahead
+          c.next_token.new.source was.2 was.1 gives.0)
           (gives.0.same_count ∙ was.1.same_count);
     })
 

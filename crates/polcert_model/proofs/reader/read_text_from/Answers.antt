@@ -5,7 +5,8 @@ use Rattle.polcert_model.proofs.reader.read_text_from.Goals as goal
 
 pub returns-in-Ok : goal.returns-in-Ok
 returns-in-Ok g c = record {
-  read = value_turned c.into_model_so_far.result c.in-Ok.ensures.read (λ text is. subst (IsTextOf text) (sym c.into_model_so_far.ensures) is);
+  read = value_turned c.into_model_so_far.result c.in-Ok.ensures.read
+      (λ text is. subst (IsTextOf text) (sym c.into_model_so_far.ensures) is);
 }
 
 pub returns-in-Err : goal.returns-in-Err

@@ -5,5 +5,6 @@ pub returns : goal.returns
 returns c = record {
   policies = λ m value most limits proper above mean. from_start m limits value proper above most mean;
   observation_policies = λ m vectors most limits proper informed mean. informed_from_start m limits vectors proper informed most mean;
-  mixtures = λ m vectors most limits proper informed mean. mixtures_from_start m vectors most (informed_from_start m limits vectors proper informed most mean);
+  mixtures = λ m vectors most limits proper informed mean. mixtures_from_start m vectors most
+      (informed_from_start m limits vectors proper informed most mean);
 }

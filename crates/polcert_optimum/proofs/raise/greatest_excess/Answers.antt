@@ -8,7 +8,11 @@ pub loop-state-preserved : goal.loop-state-preserved
 loop-state-preserved g c =
     let t : CellTable = g.C.Cells.table c.args.cells.now in
     let same = to_z-of_z w128 c.max-greatest.result (search rules) ∙ c.max-greatest.ensures.value in
-    let more = subst (λ (x : ℤ). IsGreatestExcess t (value_of c.args.vectors.now) c.loop-action.action (c.loop-state.state + 1) x) (sym same)
-    (one_more t (value_of c.args.vectors.now) c.loop-action.action c.loop-state.state (to_z w128 c.loop-state.greatest-bits) c.loop-state.invariant.greatest (to_z w128 (of_z w128 c.excess-amount.result)) (to_z-of_z w128 c.excess-amount.result (search rules) ∙ c.excess-amount.ensures.value)
-    (omega (arith, c.loop-action-test.true, c.actions-action-end.ensures)) (omega (arith, c.loop-state-test.true, c.states-state-end.ensures))) in
+    let more = subst (λ (x : ℤ). IsGreatestExcess t (value_of c.args.vectors.now) c.loop-action.action (c.loop-state.state + 1) x)
+    (sym same)
+    (one_more t (value_of c.args.vectors.now) c.loop-action.action c.loop-state.state (to_z w128 c.loop-state.greatest-bits)
+    c.loop-state.invariant.greatest (to_z w128 (of_z w128 c.excess-amount.result))
+    (to_z-of_z w128 c.excess-amount.result (search rules) ∙ c.excess-amount.ensures.value)
+    (omega (arith, c.loop-action-test.true, c.actions-action-end.ensures))
+    (omega (arith, c.loop-state-test.true, c.states-state-end.ensures))) in
     record { greatest = more; best = λ some. search rules }

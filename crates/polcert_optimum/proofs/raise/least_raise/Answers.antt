@@ -22,7 +22,9 @@ returns-in-Exceeded-clause-refused g c =
     let limits : IsWithinLimits t = g.met.C.Cells.is_within_limits c.args.cells.now in
     let v = c.in-Exceeded.ensures.verdict in
     rw (to_z-of_z w128 c.in-Exceeded.amount (search rules)) (
-      no_constant t (g.met.C.Cells.is_proper c.args.cells.now) (discount_le t limits) (value_of c.args.vectors.now) (at_one t limits (omega (arith, c.if-discount-lt1000000.false, c.discount.ensures))) c.in-Exceeded.action c.in-Exceeded.state v.0 v.1 (subst (λ (x : ℤ). pos 0 <ℤ x) v.3 v.4),
+      no_constant t (g.met.C.Cells.is_proper c.args.cells.now) (discount_le t limits) (value_of c.args.vectors.now)
+          (at_one t limits (omega (arith, c.if-discount-lt1000000.false, c.discount.ensures))) c.in-Exceeded.action c.in-Exceeded.state v.0
+          v.1 (subst (λ (x : ℤ). pos 0 <ℤ x) v.3 v.4),
       v,
       c.in-Exceeded.ensures.small,
     )

@@ -9,7 +9,8 @@ pub loop-n-preserved : goal.loop-n-preserved
 loop-n-preserved c =
     let f = λ (i : ℕ). value_of c.args.vectors.now i c.args.s in
     let n : ℕ = c.loop-n.n in
-    let both = one_value_more f n largest (to_z w64 c.loop-n.greatest-bits) (to_z w64 (of_z w64 c.max-greatest.result)) (to_z w64 (of_z w64 c.at.result)) (omega (arith, c.loop-n.auto.n))
+    let both = one_value_more f n largest (to_z w64 c.loop-n.greatest-bits) (to_z w64 (of_z w64 c.max-greatest.result))
+    (to_z w64 (of_z w64 c.at.result)) (omega (arith, c.loop-n.auto.n))
     c.loop-n.invariant.is c.loop-n.invariant.small
     (to_z-of_z w64 c.at.result (search rules) ∙ c.at.ensures.value)
     (value_is_within c.args.vectors.now c.nodes-nodes.ensures.proper n c.args.s (omega arith) c.requires)

@@ -7,13 +7,18 @@ use Rattle.polcert_optimum.proofs.seen_start.seen_sum.Goals as goal
 pub overflow_add-sum : goal.overflow_add-sum
 overflow_add-sum c =
     let m : Meaning = meaning c.args.model.now in
-    (best_step m c.args.vectors.now c.args.model.now.limits c.nodes-vectors.ensures.proper c.requires c.loop-s.s c.start_weight.result c.greatest_at.result c.start_term-sum.result (to_z w128 c.loop-s.sum-bits) (omega arith) c.start_weight.ensures c.greatest_at.ensures.is (search rules) (search rules) c.start_term-sum.ensures.is c.loop-s.invariant).0
+    (best_step m c.args.vectors.now c.args.model.now.limits c.nodes-vectors.ensures.proper c.requires c.loop-s.s c.start_weight.result
+    c.greatest_at.result c.start_term-sum.result (to_z w128 c.loop-s.sum-bits) (omega arith) c.start_weight.ensures
+    c.greatest_at.ensures.is (search rules) (search rules) c.start_term-sum.ensures.is c.loop-s.invariant).0
 
 pub loop-s-preserved : goal.loop-s-preserved
 loop-s-preserved c =
     let m : Meaning = meaning c.args.model.now in
-    (best_step m c.args.vectors.now c.args.model.now.limits c.nodes-vectors.ensures.proper c.requires c.loop-s.s c.start_weight.result c.greatest_at.result c.start_term-sum.result (to_z w128 c.loop-s.sum-bits) (omega arith) c.start_weight.ensures c.greatest_at.ensures.is (search rules) (search rules) c.start_term-sum.ensures.is c.loop-s.invariant).1
+    (best_step m c.args.vectors.now c.args.model.now.limits c.nodes-vectors.ensures.proper c.requires c.loop-s.s c.start_weight.result
+    c.greatest_at.result c.start_term-sum.result (to_z w128 c.loop-s.sum-bits) (omega arith) c.start_weight.ensures
+    c.greatest_at.ensures.is (search rules) (search rules) c.start_term-sum.ensures.is c.loop-s.invariant).1
 
 pub returns-clause-small : goal.returns-clause-small
 returns-clause-small c =
-    rw c.loop-s.invariant (best_part_le (meaning c.args.model.now) c.args.vectors.now c.args.model.now.limits c.nodes-vectors.ensures.proper c.requires c.loop-s.s (omega arith))
+    rw c.loop-s.invariant (best_part_le (meaning c.args.model.now) c.args.vectors.now c.args.model.now.limits c.nodes-vectors.ensures.proper
+    c.requires c.loop-s.s (omega arith))

@@ -11,7 +11,8 @@ loop-state-preserved g c = grind (arith, to_z-of_z, state_more)
 pub loop-action-preserved : goal.loop-action-preserved
 loop-action-preserved g c =
     let t : CellTable = g.C.Cells.table c.args.cells.now in
-    action_more t (value_of c.args.vectors.now) c.loop-action.action c.loop-state.invariant.actions (λ u ul. c.loop-state.invariant.states u (omega (arith, ul, c.loop-state-test.false, c.states-state-end.ensures)))
+    action_more t (value_of c.args.vectors.now) c.loop-action.action c.loop-state.invariant.actions
+    (λ u ul. c.loop-state.invariant.states u (omega (arith, ul, c.loop-state-test.false, c.states-state-end.ensures)))
 
 pub returns-then-is_above : goal.returns-then-is_above
 returns-then-is_above g c =
@@ -22,8 +23,16 @@ returns-then-is_above g c =
     let action = rw c.actions-action-end.ensures at c.loop-action-test.true in
     let state = rw c.states-state-end.ensures at c.loop-state-test.true in
     record {
-      verdict = (action, state, all_before t (value_of c.args.vectors.now) c.loop-action.action c.loop-state.state c.loop-state.invariant.actions c.loop-state.invariant.states, is, above);
-      promise = no_bound t (value_of c.args.vectors.now) c.loop-action.action c.loop-state.state action state (subst (λ (x : ℤ). pos 0 <ℤ x) is above);
+      verdict = (
+        action,
+        state,
+        all_before t (value_of c.args.vectors.now) c.loop-action.action c.loop-state.state
+            c.loop-state.invariant.actions c.loop-state.invariant.states,
+        is,
+        above,
+      );
+      promise = no_bound t (value_of c.args.vectors.now) c.loop-action.action c.loop-state.state action state
+          (subst (λ (x : ℤ). pos 0 <ℤ x) is above);
       small = rw same c.excess-amount.ensures.small;
     }
 

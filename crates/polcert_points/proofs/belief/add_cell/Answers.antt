@@ -5,7 +5,8 @@ use Rattle.polcert_points.proofs.belief.add_cell.Goals as goal
 
 pub returns-then-weight-eq0-clause-row : goal.returns-then-weight-eq0-clause-row
 returns-then-weight-eq0-clause-row c = λ b is before.
-    row_skip b c.args.state (c.args.state + 1) _ before (omega arith) (λ s l h. let e : s ≡ c.args.state = omega (arith, l, h) in rw e (omega (arith, is, c.if-weight-eq0.true)))
+    row_skip b c.args.state (c.args.state + 1) _ before (omega arith)
+    (λ s l h. let e : s ≡ c.args.state = omega (arith, l, h) in rw e (omega (arith, is, c.if-weight-eq0.true)))
 
 pub returns-clause-row : goal.returns-clause-row
 returns-clause-row c = λ b is before.

@@ -20,13 +20,19 @@ loop-end-preserved g c =
     let from : ℕ = reached (Some c.args.ends) c.loop-end.at in
     let next = c.in-Some.ensures.0 in
     let none : (k : ℕ) → from ≤ k → k < c.in-Some.end.column → h k ≡ 0 = λ k l m. rw (next.4 k l m) (omega arith) in
-    let same : (k : ℕ) → from ≤ k → k < c.in-Some.end.column → slice_index c.args.belief.now k ≡ h k = λ k l m. c.requires.others k (omega (arith, m, next.1)) (next.4 k l m) ∙ sym (none k l m) in
-    let here : c.in-Some.end.weight * c.o.result ≡ h c.in-Some.end.column = products c.in-Some.end.weight (f c.in-Some.end.column) c.o.result (t.o c.args.a c.in-Some.end.column c.args.observation) next.2 c.o.ensures in
+    let same : (k : ℕ) → from ≤ k → k < c.in-Some.end.column → slice_index c.args.belief.now k ≡ h k =
+    λ k l m. c.requires.others k (omega (arith, m, next.1)) (next.4 k l m) ∙ sym (none k l m) in
+    let here : c.in-Some.end.weight * c.o.result ≡ h c.in-Some.end.column =
+    products c.in-Some.end.weight (f c.in-Some.end.column) c.o.result (t.o c.args.a c.in-Some.end.column c.args.observation) next.2
+    c.o.ensures in
     let room : c.in-Some.end.column < length c.loop-end.belief = omega (arith, c.loop-end.auto, c.requires.room, next.1) in
     rw c.in-Some.ensures.1 (record {
-      done = done_more (slice_index c.args.belief.now) h c.loop-end.belief from c.loop-end.invariant.done c.loop-end.invariant.rest c.in-Some.end.column _ room same here;
-      rest = rest_more (slice_index c.args.belief.now) h c.loop-end.belief from c.loop-end.invariant.done c.loop-end.invariant.rest c.in-Some.end.column _ next.0;
-      greatest = greatest_more h from c.in-Some.end.column c.loop-end.greatest c.max-greatest.result c.loop-end.invariant.greatest none (omega (arith, c.max-greatest.ensures)) (rw (← here) (omega (arith, c.max-greatest.ensures)));
+      done = done_more (slice_index c.args.belief.now) h c.loop-end.belief from c.loop-end.invariant.done c.loop-end.invariant.rest
+          c.in-Some.end.column _ room same here;
+      rest = rest_more (slice_index c.args.belief.now) h c.loop-end.belief from c.loop-end.invariant.done c.loop-end.invariant.rest
+          c.in-Some.end.column _ next.0;
+      greatest = greatest_more h from c.in-Some.end.column c.loop-end.greatest c.max-greatest.result c.loop-end.invariant.greatest none
+          (omega (arith, c.max-greatest.ensures)) (rw (← here) (omega (arith, c.max-greatest.ensures)));
       within = omega (arith, next.1);
     })
 
@@ -39,8 +45,10 @@ returns-clause-belief g c =
     let b : Belief = p.points.belief c.args.i in
     let h : ℕ → ℕ = λ k. arrival t b c.args.a k * t.o c.args.a k c.args.observation in
     λ e el.
-    all_done (slice_index c.args.belief.now) h c.loop-end.belief (reached (Some c.args.ends) c.loop-end.at) c.loop-end.invariant.done c.loop-end.invariant.rest t.states
-    (λ k l n. c.requires.others k n (c.in_default.ensures k l n) ∙ sym (zero (arrival t b c.args.a k) (t.o c.args.a k c.args.observation) (c.in_default.ensures k l n))) e el
+    all_done (slice_index c.args.belief.now) h c.loop-end.belief (reached (Some c.args.ends) c.loop-end.at) c.loop-end.invariant.done
+    c.loop-end.invariant.rest t.states
+    (λ k l n. c.requires.others k n (c.in_default.ensures k l n)
+    ∙ sym (zero (arrival t b c.args.a k) (t.o c.args.a k c.args.observation) (c.in_default.ensures k l n))) e el
     ∙ sym (after_parts t m limits c.args.a c.requires.action b c.args.observation e)
   where
     zero : (x y : ℕ) → x ≡ 0 → x * y ≡ 0

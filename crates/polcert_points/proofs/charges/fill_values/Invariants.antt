@@ -4,4 +4,5 @@ use Rattle.polcert_points.proofs.charges.fill_values.Given as goal
 
 -- the values at the places so far
 abbrev pub invariant-loop-k : goal.invariant-loop-k
-invariant-loop-k l = (j : ℕ) → j < l.k → slice_index_or l.charges j (pos 0) ≡ value_of l.vectors (j / l.vectors.states) (j % l.vectors.states)
+invariant-loop-k l = (j : ℕ) → j < l.k → slice_index_or l.charges j (pos 0)
+    ≡ value_of l.vectors (j / l.vectors.states) (j % l.vectors.states)

@@ -4,7 +4,8 @@ use Rattle.polcert_points.proofs.cover.take_out.Given as goal
 
 abbrev pub invariant-loop-state : goal.invariant-loop-state
 invariant-loop-state g l = record {
-  done : (k : ℕ) → k < reached (Some l.point) l.at → slice_index l.belief k ≡ slice_index l.fn.belief k - l.times * (g.P.BeliefPoints.table l.points).points.belief l.j k;
+  done : (k : ℕ) → k < reached (Some l.point) l.at → slice_index l.belief k ≡ slice_index l.fn.belief k - l.times
+      * (g.P.BeliefPoints.table l.points).points.belief l.j k;
   rest : (k : ℕ) → reached (Some l.point) l.at ≤ k → slice_index l.belief k ≡ slice_index l.fn.belief k;
   within : reached (Some l.point) l.at ≤ (g.P.BeliefPoints.table l.points).states;
 }

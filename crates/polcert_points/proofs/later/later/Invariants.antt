@@ -10,6 +10,11 @@ use Rattle.polcert_points.proofs.later.later.Given as goal
 -- the sum over the observations so far, and no weight at end states that are not reached
 abbrev pub invariant-loop-z : goal.invariant-loop-z
 invariant-loop-z g l = record {
-  sum : l.sum ≡ total_below (λ z. best_worth (g.C.Cells.table l.input.cells.now) (charge_at (g.P.BeliefPoints.table l.input.points.now) l.input.charges.now) (g.P.BeliefPoints.table l.input.points.now).points (belief_after (g.C.Cells.table l.input.cells.now) ((g.P.BeliefPoints.table l.input.points.now).points.belief l.i) l.a z) (covers_of (g.C.Cells.table l.input.cells.now) (g.P.BeliefPoints.table l.input.points.now) l.i l.a z)) l.z;
-  others : (e : ℕ) → e < (g.C.Cells.table l.input.cells.now).states → arrival (g.C.Cells.table l.input.cells.now) ((g.P.BeliefPoints.table l.input.points.now).points.belief l.i) l.a e ≡ 0 → slice_index l.belief e ≡ 0;
+  sum : l.sum ≡ total_below (λ z. best_worth (g.C.Cells.table l.input.cells.now)
+      (charge_at (g.P.BeliefPoints.table l.input.points.now) l.input.charges.now) (g.P.BeliefPoints.table l.input.points.now).points
+      (belief_after (g.C.Cells.table l.input.cells.now) ((g.P.BeliefPoints.table l.input.points.now).points.belief l.i) l.a z)
+      (covers_of (g.C.Cells.table l.input.cells.now) (g.P.BeliefPoints.table l.input.points.now) l.i l.a z)) l.z;
+  others : (e : ℕ) → e < (g.C.Cells.table l.input.cells.now).states
+      → arrival (g.C.Cells.table l.input.cells.now) ((g.P.BeliefPoints.table l.input.points.now).points.belief l.i) l.a e ≡ 0
+      → slice_index l.belief e ≡ 0;
 }

@@ -17,8 +17,10 @@ returns-then-greatest-eq0-clause-value g c =
     let p : PointTable = g.P.BeliefPoints.table c.args.input.now.points.now in
     let proper : AreProperPoints p = g.met.P.BeliefPoints.is_proper c.args.input.now.points.now in
     λ cover by.
-    nothing_after t p c.args.input.now.fit proper c.args.input.now.charges.now c.args.input.now.small c.args.i c.args.a c.args.z cover c.requires.point c.requires.action c.requires.observation
-    (λ e el. omega (arith, c.fill_after-greatest.ensures.belief e el, c.fill_after-greatest.ensures.greatest e el, c.if-greatest-eq0.true)) by
+    nothing_after t p c.args.input.now.fit proper c.args.input.now.charges.now c.args.input.now.small c.args.i c.args.a c.args.z cover
+    c.requires.point c.requires.action c.requires.observation
+    (λ e el. omega (arith, c.fill_after-greatest.ensures.belief e el, c.fill_after-greatest.ensures.greatest e el, c.if-greatest-eq0.true))
+    by
 
 pub best_worth-requires-clause-ends : goal.best_worth-requires-clause-ends
 best_worth-requires-clause-ends g c =
@@ -29,7 +31,8 @@ best_worth-requires-clause-ends g c =
     record {
       weights = arrival t (p.points.belief c.args.i) c.args.a;
       is_row = c.requires.ends;
-      others = λ e el none. c.fill_after-greatest.ensures.belief e el ∙ not_after t m limits c.args.a c.requires.action (p.points.belief c.args.i) c.args.z e none;
+      others = λ e el none. c.fill_after-greatest.ensures.belief e el
+          ∙ not_after t m limits c.args.a c.requires.action (p.points.belief c.args.i) c.args.z e none;
     }
 
 pub best_worth-requires-clause-few : goal.best_worth-requires-clause-few
@@ -39,8 +42,10 @@ best_worth-requires-clause-few g c =
     let limits : IsWithinLimits t = g.met.C.Cells.is_within_limits c.args.input.now.cells.now in
     let p : PointTable = g.P.BeliefPoints.table c.args.input.now.points.now in
     let proper : AreProperPoints p = g.met.P.BeliefPoints.is_proper c.args.input.now.points.now in
-    rw (same_sum (slice_index c.fill_after-greatest.new.belief) (belief_after t (p.points.belief c.args.i) c.args.a c.args.z) t.states c.fill_after-greatest.ensures.belief)
-    (few_after t p c.args.input.now.fit proper m limits c.args.i c.args.a c.args.z c.requires.point c.requires.action c.requires.observation)
+    rw (same_sum (slice_index c.fill_after-greatest.new.belief) (belief_after t (p.points.belief c.args.i) c.args.a c.args.z) t.states
+    c.fill_after-greatest.ensures.belief)
+    (few_after t p c.args.input.now.fit proper m limits c.args.i c.args.a c.args.z c.requires.point c.requires.action
+    c.requires.observation)
 
 pub returns-clause-value : goal.returns-clause-value
 returns-clause-value g c =
@@ -49,8 +54,11 @@ returns-clause-value g c =
     let after : Belief = belief_after t (p.points.belief c.args.i) c.args.a c.args.z in
     λ cover by.
     to_z-of_z w128 c.best_worth.result (search rules)
-    ∙ (rw c.next.ensures at c.best_worth.ensures.value) cover (same_cover t p.points after (slice_index c.fill_after-greatest.new.belief) (p.next c.args.i c.args.a c.args.z) cover (λ e el. sym (c.fill_after-greatest.ensures.belief e el)) by)
-    ∙ same_best t (charge_at p c.args.input.now.charges.now) p.points cover (slice_index c.fill_after-greatest.new.belief) after c.fill_after-greatest.ensures.belief
+    ∙ (rw c.next.ensures at c.best_worth.ensures.value) cover
+    (same_cover t p.points after (slice_index c.fill_after-greatest.new.belief) (p.next c.args.i c.args.a c.args.z) cover
+    (λ e el. sym (c.fill_after-greatest.ensures.belief e el)) by)
+    ∙ same_best t (charge_at p c.args.input.now.charges.now) p.points cover (slice_index c.fill_after-greatest.new.belief) after
+    c.fill_after-greatest.ensures.belief
 
 pub returns-clause-others : goal.returns-clause-others
 returns-clause-others g c =
@@ -59,4 +67,10 @@ returns-clause-others g c =
     let limits : IsWithinLimits t = g.met.C.Cells.is_within_limits c.args.input.now.cells.now in
     let p : PointTable = g.P.BeliefPoints.table c.args.input.now.points.now in
     λ e el none.
-    omega (arith, c.best_worth.ensures.less e el, c.fill_after-greatest.ensures.belief e el, not_after t m limits c.args.a c.requires.action (p.points.belief c.args.i) c.args.z e none)
+    omega (
+      arith,
+      c.best_worth.ensures.less e el,
+      c.fill_after-greatest.ensures.belief e el,
+      not_after t m limits c.args.a c.requires.action
+          (p.points.belief c.args.i) c.args.z e none,
+    )

@@ -12,4 +12,5 @@ returns-else-pass_raised-clause-none g c =
     let proper = c.count-count.ensures.proper in
     λ by can yes.
     c.if-pass_raised.ensures.fails refl by
-    (c.room_above-most.ensures.greatest by (room_small (value_at c.args.points.now 0 0) by (proper.values 0 0 some (omega (arith, proper.some_actions))) (can 0 0 some (omega (arith, proper.some_actions)))) can) yes
+    (c.room_above-most.ensures.greatest by (room_small (value_at c.args.points.now 0 0) by
+    (proper.values 0 0 some (omega (arith, proper.some_actions))) (can 0 0 some (omega (arith, proper.some_actions)))) can) yes

@@ -17,7 +17,8 @@ returns-in-Exceeded-clause-fails g c =
     let limits : IsWithinLimits t = g.met.C.Cells.is_within_limits c.args.cells.now in
     let exceeded = rw (c.new-raised.ensures.set, c.new-raised.ensures.by) at c.in-Exceeded.ensures.verdict in
     λ is d l passes.
-    fails_below c.args.points.now c.requires.all_values c.count-count.ensures.proper t m (discount_le t limits) (value_of c.args.vectors.now) c.requires.points
+    fails_below c.args.points.now c.requires.all_values c.count-count.ensures.proper t m (discount_le t limits)
+    (value_of c.args.vectors.now) c.requires.points
     c.args.by d c.in-Exceeded.point c.in-Exceeded.action c.in-Exceeded.amount l c.requires.room exceeded passes
 
 pub returns-in-Exceeded-clause-some : goal.returns-in-Exceeded-clause-some

@@ -12,7 +12,8 @@ weighted_reward-sum-requires-clause-weight g c =
     let p : PointTable = g.P.BeliefPoints.table c.args.input.now.points.now in
     let proper : AreProperPoints p = g.met.P.BeliefPoints.is_proper c.args.input.now.points.now in
     let next = c.in-Some.ensures.0 in
-    let few : p.points.belief c.args.i c.in-Some.state.column ≤ 1000000 = weight_few (p.points.belief c.args.i) 1000000 p.states c.in-Some.state.column (proper.few c.args.i c.requires.point) next.1 in
+    let few : p.points.belief c.args.i c.in-Some.state.column ≤ 1000000 =
+    weight_few (p.points.belief c.args.i) 1000000 p.states c.in-Some.state.column (proper.few c.args.i c.requires.point) next.1 in
     omega (arith, next.2, few)
 
 pub overflow_add-sum : goal.overflow_add-sum
@@ -24,7 +25,10 @@ overflow_add-sum g c =
     let proper : AreProperPoints p = g.met.P.BeliefPoints.is_proper c.args.input.now.points.now in
     let few = few_at t p c.args.input.now.fit proper c.args.i c.requires.point in
     let next = c.in-Some.ensures.0 in
-    (reward_step t m limits (p.points.belief c.args.i) c.args.a c.requires.action few (reached (Some c.weights-point.result) c.loop-state.at) c.in-Some.state.column c.in-Some.state.weight (to_z w128 c.loop-state.sum-bits) c.weighted_reward-sum.result next.0 next.4 (omega (arith, next.1, c.args.input.now.fit.states)) (search rules) c.loop-state.invariant.sum next.2 c.weighted_reward-sum.ensures).0
+    (reward_step t m limits (p.points.belief c.args.i) c.args.a c.requires.action few
+    (reached (Some c.weights-point.result) c.loop-state.at) c.in-Some.state.column c.in-Some.state.weight
+    (to_z w128 c.loop-state.sum-bits) c.weighted_reward-sum.result next.0 next.4 (omega (arith, next.1, c.args.input.now.fit.states))
+    (search rules) c.loop-state.invariant.sum next.2 c.weighted_reward-sum.ensures).0
 
 pub loop-state-preserved : goal.loop-state-preserved
 loop-state-preserved g c =
@@ -36,7 +40,10 @@ loop-state-preserved g c =
     let few = few_at t p c.args.input.now.fit proper c.args.i c.requires.point in
     let next = c.in-Some.ensures.0 in
     rw c.in-Some.ensures.1 (record {
-      sum = (reward_step t m limits (p.points.belief c.args.i) c.args.a c.requires.action few (reached (Some c.weights-point.result) c.loop-state.at) c.in-Some.state.column c.in-Some.state.weight (to_z w128 c.loop-state.sum-bits) c.weighted_reward-sum.result next.0 next.4 (omega (arith, next.1, c.args.input.now.fit.states)) (search rules) c.loop-state.invariant.sum next.2 c.weighted_reward-sum.ensures).1;
+      sum = (reward_step t m limits (p.points.belief c.args.i) c.args.a c.requires.action few
+          (reached (Some c.weights-point.result) c.loop-state.at) c.in-Some.state.column c.in-Some.state.weight
+          (to_z w128 c.loop-state.sum-bits) c.weighted_reward-sum.result next.0 next.4 (omega (arith, next.1, c.args.input.now.fit.states))
+          (search rules) c.loop-state.invariant.sum next.2 c.weighted_reward-sum.ensures).1;
       within = omega (arith, next.1);
     })
 
@@ -44,7 +51,9 @@ pub returns-clause-value : goal.returns-clause-value
 returns-clause-value g c =
     let t : CellTable = g.C.Cells.table c.args.input.now.cells.now in
     let p : PointTable = g.P.BeliefPoints.table c.args.input.now.points.now in
-    charges_on (p.points.belief c.args.i) (expected_reward t c.args.a) (reached (Some c.weights-point.result) c.loop-state.at) t.states _ (omega (arith, c.loop-state.invariant.within, c.args.input.now.fit.states)) (λ k l h. c.in_default.ensures k l (omega (arith, h, c.args.input.now.fit.states))) c.loop-state.invariant.sum
+    charges_on (p.points.belief c.args.i) (expected_reward t c.args.a) (reached (Some c.weights-point.result) c.loop-state.at) t.states _
+    (omega (arith, c.loop-state.invariant.within, c.args.input.now.fit.states))
+    (λ k l h. c.in_default.ensures k l (omega (arith, h, c.args.input.now.fit.states))) c.loop-state.invariant.sum
 
 pub returns-clause-small : goal.returns-clause-small
 returns-clause-small g c =
@@ -54,4 +63,5 @@ returns-clause-small g c =
     let p : PointTable = g.P.BeliefPoints.table c.args.input.now.points.now in
     let proper : AreProperPoints p = g.met.P.BeliefPoints.is_proper c.args.input.now.points.now in
     let few = few_at t p c.args.input.now.fit proper c.args.i c.requires.point in
-    rw c.loop-state.invariant.sum (rewards_small t m limits (p.points.belief c.args.i) c.args.a c.requires.action few (reached (Some c.weights-point.result) c.loop-state.at) (omega (arith, c.loop-state.invariant.within, c.args.input.now.fit.states)))
+    rw c.loop-state.invariant.sum (rewards_small t m limits (p.points.belief c.args.i) c.args.a c.requires.action few
+    (reached (Some c.weights-point.result) c.loop-state.at) (omega (arith, c.loop-state.invariant.within, c.args.input.now.fit.states)))

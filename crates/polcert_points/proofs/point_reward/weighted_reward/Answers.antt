@@ -11,14 +11,21 @@ overflow_mul-result g c =
     let t : CellTable = g.C.Cells.table c.args.cells.now in
     let m : IsProper t = g.met.C.Cells.is_proper c.args.cells.now in
     let limits : IsWithinLimits t = g.met.C.Cells.is_within_limits c.args.cells.now in
-    let small : unsigned_abs c.expected_reward.result ≤ 50000000000000000000000000000000 = rw c.expected_reward.ensures (factored_small t m limits c.args.a c.args.s c.requires.action c.requires.state) in
-    rw (weighted_is c.args.weight c.expected_reward.result c.requires.weight (search rules)) (weighted_fits c.args.weight c.expected_reward.result c.requires.weight small)
+    let small : unsigned_abs c.expected_reward.result ≤ 50000000000000000000000000000000 =
+    rw c.expected_reward.ensures (factored_small t m limits c.args.a c.args.s c.requires.action c.requires.state) in
+    rw (weighted_is c.args.weight c.expected_reward.result c.requires.weight (search rules))
+    (weighted_fits c.args.weight c.expected_reward.result c.requires.weight small)
 
 pub returns : goal.returns
 returns g c =
     let t : CellTable = g.C.Cells.table c.args.cells.now in
     let m : IsProper t = g.met.C.Cells.is_proper c.args.cells.now in
     let limits : IsWithinLimits t = g.met.C.Cells.is_within_limits c.args.cells.now in
-    let small : unsigned_abs c.expected_reward.result ≤ 50000000000000000000000000000000 = rw c.expected_reward.ensures (factored_small t m limits c.args.a c.args.s c.requires.action c.requires.state) in
-    rw (weighted_is c.args.weight c.expected_reward.result c.requires.weight (search rules), to_z-of_z w128 (pos c.args.weight *ℤ c.expected_reward.result) (weighted_fits c.args.weight c.expected_reward.result c.requires.weight small))
+    let small : unsigned_abs c.expected_reward.result ≤ 50000000000000000000000000000000 =
+    rw c.expected_reward.ensures (factored_small t m limits c.args.a c.args.s c.requires.action c.requires.state) in
+    rw (
+      weighted_is c.args.weight c.expected_reward.result c.requires.weight (search rules),
+      to_z-of_z w128
+          (pos c.args.weight *ℤ c.expected_reward.result) (weighted_fits c.args.weight c.expected_reward.result c.requires.weight small),
+    )
     (ap (λ (x : ℤ). pos c.args.weight *ℤ x) (c.expected_reward.ensures ∙ reward_is t c.args.a c.args.s))

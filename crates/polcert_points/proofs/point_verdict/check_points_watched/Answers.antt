@@ -17,7 +17,8 @@ invariant_of-input g c =
     record {
       fit = c.requires.points;
       room = rw (c.requires.points.actions, c.requires.points.states) room;
-      small = small_charges t p c.args.vectors.now c.fill_charges.new.charges c.requires.vectors c.nodes-vectors.ensures.proper c.requires.points proper c.fill_charges.ensures;
+      small = small_charges t p c.args.vectors.now c.fill_charges.new.charges c.requires.vectors c.nodes-vectors.ensures.proper
+          c.requires.points proper c.fill_charges.ensures;
     }
 
 pub returns : goal.returns
@@ -29,6 +30,14 @@ returns g c =
     let proper : AreProperPoints p = g.met.P.BeliefPoints.is_proper c.args.points.now in
     let found = c.verdict_of.ensures (covers_of t p) (covers_are t p c.requires.points proper) in
     record {
-      verdict = record { charges = charge_at p c.fill_charges.new.charges; covers = covers_of t p; charged = c.fill_charges.ensures; covered = covers_are t p c.requires.points proper; found = found };
-      promise = promise_of t m limits (value_of c.args.vectors.now) (charge_at p c.fill_charges.new.charges) p c.requires.points proper c.fill_charges.ensures c.verdict_of.result found;
+      verdict = record {
+        charges = charge_at p c.fill_charges.new.charges;
+        covers = covers_of t p;
+        charged =
+            c.fill_charges.ensures;
+        covered = covers_are t p c.requires.points proper;
+        found = found;
+      };
+      promise = promise_of t m limits (value_of c.args.vectors.now) (charge_at p c.fill_charges.new.charges) p c.requires.points proper
+          c.fill_charges.ensures c.verdict_of.result found;
     }

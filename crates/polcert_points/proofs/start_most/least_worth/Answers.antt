@@ -14,7 +14,8 @@ loop-j-init g c =
     let m : Meaning = meaning c.args.input.now.cells.now in
     let p : PointTable = g.P.BeliefPoints.table c.args.input.now.points.now in
     rw (to_z-of_z w128 c.worth_covered-least.result (search rules)) (record {
-      least = none_tried (table_of m) (charge_at p c.args.input.now.charges.now) p.points (scaled_start m) c.worth_covered-least.result c.worth_covered-least.ensures.value;
+      least = none_tried (table_of m) (charge_at p c.args.input.now.charges.now) p.points (scaled_start m) c.worth_covered-least.result
+          c.worth_covered-least.ensures.value;
       others = c.worth_covered-least.ensures.others;
     })
 
@@ -24,9 +25,14 @@ loop-j-preserved g c =
     let p : PointTable = g.P.BeliefPoints.table c.args.input.now.points.now in
     let proper : AreProperPoints p = g.met.P.BeliefPoints.is_proper c.args.input.now.points.now in
     record {
-      least = subst (λ (x : ℤ). IsLeastWorth (table_of m) (charge_at p c.args.input.now.charges.now) p.points (scaled_start m) (c.loop-j.j + 1) x)
-          (sym (least_is (to_z w128 c.loop-j.least-bits) c.worth_covered.result c.min-least.result (search rules) (search rules) c.min-least.ensures.value))
-          (one_tried (table_of m) (charge_at p c.args.input.now.charges.now) p.points (scaled_start m) c.loop-j.j (to_z w128 c.loop-j.least-bits) c.worth_covered.result (some_at (table_of m) p c.args.input.now.fit proper c.loop-j.j (omega (arith, c.loop-j-test.true, c.count-j-end.ensures))) c.loop-j.invariant.least c.worth_covered.ensures.value);
+      least = subst (λ (x : ℤ). IsLeastWorth (table_of m) (charge_at p c.args.input.now.charges.now) p.points (scaled_start m)
+          (c.loop-j.j + 1) x)
+          (sym (least_is (to_z w128 c.loop-j.least-bits) c.worth_covered.result c.min-least.result (search rules) (search rules)
+          c.min-least.ensures.value))
+          (one_tried (table_of m) (charge_at p c.args.input.now.charges.now) p.points (scaled_start m) c.loop-j.j
+          (to_z w128 c.loop-j.least-bits) c.worth_covered.result
+          (some_at (table_of m) p c.args.input.now.fit proper c.loop-j.j (omega (arith, c.loop-j-test.true, c.count-j-end.ensures)))
+          c.loop-j.invariant.least c.worth_covered.ensures.value);
       others = c.worth_covered.ensures.others;
     }
 

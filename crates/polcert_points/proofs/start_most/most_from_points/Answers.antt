@@ -19,7 +19,8 @@ invariant_of-input g c =
     record {
       fit = c.requires.points;
       room = rw (c.requires.points.actions, c.requires.points.states) room;
-      small = small_charges t p c.args.vectors.now c.fill_charges.new.charges c.requires.vectors c.nodes-vectors.ensures.proper c.requires.points proper c.fill_charges.ensures;
+      small = small_charges t p c.args.vectors.now c.fill_charges.new.charges c.requires.vectors c.nodes-vectors.ensures.proper
+          c.requires.points proper c.fill_charges.ensures;
     }
 
 pub returns : goal.returns
@@ -29,8 +30,12 @@ returns g c =
     let proper : AreProperPoints p = g.met.P.BeliefPoints.is_proper c.args.points.now in
     rw (to_z-of_z w64 c.most_with.result (search rules)) (record {
       most = record { charges = charge_at p c.fill_charges.new.charges; charged = c.fill_charges.ensures; is_most = c.most_with.ensures };
-      certificate = certificate_of m c.args.model.now.limits (value_of c.args.vectors.now) (charge_at p c.fill_charges.new.charges) p c.requires.points proper c.most_with.result c.fill_charges.ensures c.most_with.ensures;
+      certificate = certificate_of m c.args.model.now.limits (value_of c.args.vectors.now) (charge_at p c.fill_charges.new.charges) p
+          c.requires.points proper c.most_with.result c.fill_charges.ensures c.most_with.ensures;
       promise = λ informed verdict.
-          let h = certificate_of m c.args.model.now.limits (value_of c.args.vectors.now) (charge_at p c.fill_charges.new.charges) p c.requires.points proper c.most_with.result c.fill_charges.ensures c.most_with.ensures informed verdict in
-          from_start m c.args.model.now.limits (value_of c.args.vectors.now) h.charges p.points h.covers start_times h.cover c.most_with.result (record { t_rows = c.args.model.now.rows.transitions; o_rows = c.args.model.now.rows.observations }) h.certificate;
+          let h = certificate_of m c.args.model.now.limits (value_of c.args.vectors.now) (charge_at p c.fill_charges.new.charges) p
+          c.requires.points proper c.most_with.result c.fill_charges.ensures c.most_with.ensures informed verdict in
+          from_start m c.args.model.now.limits (value_of c.args.vectors.now) h.charges p.points h.covers start_times h.cover
+          c.most_with.result (record { t_rows = c.args.model.now.rows.transitions; o_rows = c.args.model.now.rows.observations })
+          h.certificate;
     })

@@ -13,7 +13,8 @@ least_worth-least-requires-clause-start g c =
     let m : Meaning = meaning c.args.input.now.cells.now in
     let size : length c.fill_start.new.start ≡ states_of m = c.fill_start.auto.start ∙ c.requires.start in
     row_same (states_of m) (slice_index c.fill_start.new.start) (start_weight m) _ c.fill_start.ensures
-    (subst (λ (n : ℕ). IsRow n (slice_index c.fill_start.new.start) (take c.list_cells-count.result c.list_cells-count.new.cells)) size c.list_cells-count.ensures.row)
+    (subst (λ (n : ℕ). IsRow n (slice_index c.fill_start.new.start) (take c.list_cells-count.result c.list_cells-count.new.cells)) size
+    c.list_cells-count.ensures.row)
 
 pub quotient_up-requires-clause-small : goal.quotient_up-requires-clause-small
 quotient_up-requires-clause-small g c =
@@ -21,7 +22,8 @@ quotient_up-requires-clause-small g c =
     let p : PointTable = g.P.BeliefPoints.table c.args.input.now.points.now in
     let proper : AreProperPoints p = g.met.P.BeliefPoints.is_proper c.args.input.now.points.now in
     rw (to_z-of_z w128 c.least_worth-least.result (search rules), c.start_total.ensures)
-    (least_small m c.args.input.now.cells.now.limits p c.args.input.now.fit proper c.args.input.now.charges.now c.args.input.now.small c.least_worth-least.result c.least_worth-least.ensures)
+    (least_small m c.args.input.now.cells.now.limits p c.args.input.now.fit proper c.args.input.now.charges.now c.args.input.now.small
+    c.least_worth-least.result c.least_worth-least.ensures)
 
 pub returns : goal.returns
 returns g c =
@@ -29,5 +31,7 @@ returns g c =
     let p : PointTable = g.P.BeliefPoints.table c.args.input.now.points.now in
     let proper : AreProperPoints p = g.met.P.BeliefPoints.is_proper c.args.input.now.points.now in
     rw (to_z-of_z w64 c.quotient_up.result (search rules))
-    (most_is m c.args.input.now.cells.now.limits p c.args.input.now.fit proper c.args.input.now.charges.now c.args.input.now.small c.least_worth-least.result c.least_worth-least.ensures (1000000000000 * c.start_total.result) c.quotient_up.result
-    (ap (λ (n : ℕ). 1000000000000 * n) c.start_total.ensures) (rw (to_z-of_z w128 c.least_worth-least.result (search rules)) at c.quotient_up.ensures))
+    (most_is m c.args.input.now.cells.now.limits p c.args.input.now.fit proper c.args.input.now.charges.now c.args.input.now.small
+    c.least_worth-least.result c.least_worth-least.ensures (1000000000000 * c.start_total.result) c.quotient_up.result
+    (ap (λ (n : ℕ). 1000000000000 * n) c.start_total.ensures)
+    (rw (to_z-of_z w128 c.least_worth-least.result (search rules)) at c.quotient_up.ensures))

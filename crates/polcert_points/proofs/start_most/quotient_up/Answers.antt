@@ -7,4 +7,6 @@ use Rattle.polcert_points.proofs.start_most.quotient_up.Goals as goal
 pub returns : goal.returns
 returns c =
     subst (λ (x : ℤ). IsCeilQuotient c.args.sum c.args.total x) (sym (neg_quotient_is c.quotient_down.result c.quotient_down.ensures.small))
-    (ceil_is c.args.sum c.args.total c.quotient_down.result (subst (λ (x : ℤ). IsFloorQuotient x c.args.total c.quotient_down.result) (negated_is c.args.total c.args.sum c.requires.few c.requires.small) c.quotient_down.ensures.floor))
+    (ceil_is c.args.sum c.args.total c.quotient_down.result
+    (subst (λ (x : ℤ). IsFloorQuotient x c.args.total c.quotient_down.result)
+    (negated_is c.args.total c.args.sum c.requires.few c.requires.small) c.quotient_down.ensures.floor))

@@ -17,7 +17,8 @@ best_worth-requires-clause-ends g c = record {
 
 pub best_worth-requires-clause-few : goal.best_worth-requires-clause-few
 best_worth-requires-clause-few g c =
-    start_few (meaning c.args.input.now.cells.now) c.args.input.now.cells.now.limits (slice_index c.fill_scaled.new.belief) c.fill_scaled.ensures
+    start_few (meaning c.args.input.now.cells.now) c.args.input.now.cells.now.limits (slice_index c.fill_scaled.new.belief)
+    c.fill_scaled.ensures
 
 pub returns-clause-value : goal.returns-clause-value
 returns-clause-value g c =
@@ -25,9 +26,17 @@ returns-clause-value g c =
     let p : PointTable = g.P.BeliefPoints.table c.args.input.now.points.now in
     λ cover by.
     to_z-of_z w128 c.best_worth.result (search rules)
-    ∙ c.best_worth.ensures.value cover (same_cover (table_of m) p.points (scaled_start m) (slice_index c.fill_scaled.new.belief) c.args.named cover (λ s sl. sym (c.fill_scaled.ensures s sl)) by)
-    ∙ same_best (table_of m) (charge_at p c.args.input.now.charges.now) p.points cover (slice_index c.fill_scaled.new.belief) (scaled_start m) c.fill_scaled.ensures
+    ∙ c.best_worth.ensures.value cover (same_cover (table_of m) p.points (scaled_start m) (slice_index c.fill_scaled.new.belief)
+    c.args.named cover (λ s sl. sym (c.fill_scaled.ensures s sl)) by)
+    ∙ same_best (table_of m) (charge_at p c.args.input.now.charges.now) p.points cover (slice_index c.fill_scaled.new.belief)
+    (scaled_start m) c.fill_scaled.ensures
 
 pub returns-clause-others : goal.returns-clause-others
 returns-clause-others g c =
-    λ s sl none. omega (arith, c.best_worth.ensures.less s sl, c.fill_scaled.ensures s sl, not_started (meaning c.args.input.now.cells.now) s none)
+    λ s sl none. omega (
+      arith,
+      c.best_worth.ensures.less s sl,
+      c.fill_scaled.ensures s sl,
+      not_started (meaning c.args.input.now.cells.now)
+          s none,
+    )

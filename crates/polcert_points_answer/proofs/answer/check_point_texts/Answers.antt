@@ -6,10 +6,12 @@ use Rattle.polcert_points_answer.proofs.OfTexts.{refused_answer}
 use Rattle.polcert_points_answer.proofs.answer.check_point_texts.Goals as goal
 
 pub verdict_on-requires-clause-vectors : goal.verdict_on-requires-clause-vectors
-verdict_on-requires-clause-vectors c = fit_of (meaning c.in_ok-read.read.bound.model) c.in_ok-read.read.bound.vectors _ c.in_ok-read.ensures.vectors_accepted.are_vectors
+verdict_on-requires-clause-vectors c = fit_of (meaning c.in_ok-read.read.bound.model) c.in_ok-read.read.bound.vectors _
+    c.in_ok-read.ensures.vectors_accepted.are_vectors
 
 pub verdict_on-requires-clause-points : goal.verdict_on-requires-clause-points
-verdict_on-requires-clause-points c = fit_points_of (meaning c.in_ok-read.read.bound.model) c.in_ok-read.read.points _ c.in_ok-read.ensures.points_accepted
+verdict_on-requires-clause-points c = fit_points_of (meaning c.in_ok-read.read.bound.model) c.in_ok-read.read.points _
+    c.in_ok-read.ensures.points_accepted
 
 pub returns-in_err-read-clause-answer : goal.returns-in_err-read-clause-answer
 returns-in_err-read-clause-answer c =
@@ -27,5 +29,6 @@ returns-in-Ok c =
     (certificate_of m v p has are, verdict_of_each m v p has are verdict c.verdict_on.ensures.verdict) in
     record {
       answer = answer;
-      promise = λ yes. yes_certified _ _ _ (subst (λ r. IsPointBoundAnswer c.args.model.now c.args.vectors.now c.args.points.now r) yes answer);
+      promise = λ yes. yes_certified _ _ _ (subst (λ r. IsPointBoundAnswer c.args.model.now c.args.vectors.now c.args.points.now r) yes
+          answer);
     }

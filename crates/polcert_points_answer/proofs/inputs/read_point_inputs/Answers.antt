@@ -27,7 +27,14 @@ returns-in_err-points-clause-refused g c =
     record {
       of_model = λ fault is. absurd (said _ _ same IsPointsReadFault of (Text (Model fault)) is);
       of_vectors = λ fault is. absurd (said _ _ same IsPointsReadFault of (Text (Vectors fault)) is);
-      of_points = λ fault is. (d.first, d.second, d.model_read, d.vectors_read, c.in_err-points.ensures.refused fault (of_read _ _ same (Text (Points fault)) is) d.first d.second _ has);
+      of_points = λ fault is. (
+        d.first,
+        d.second,
+        d.model_read,
+        d.vectors_read,
+        c.in_err-points.ensures.refused fault
+            (of_read _ _ same (Text (Points fault)) is) d.first d.second _ has,
+      );
     }
 
 pub returns-clause-refused : goal.returns-clause-refused

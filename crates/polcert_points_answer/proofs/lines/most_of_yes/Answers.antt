@@ -11,4 +11,5 @@ returns-else-is_mdp c =
     let m = meaning c.args.read.now.bound.model in
     let hidden : is_mdp m.preamble ≡ false = cc in
     rw (to_z-of_z w64 c.most_from_points.result (search rules))
-    (most_if_hidden (is_mdp m.preamble) m c.args.read.now.bound.vectors (table_of_set c.args.read.now.points) c.most_from_points.result hidden (rw c.of-points.ensures at c.most_from_points.ensures.most))
+    (most_if_hidden (is_mdp m.preamble) m c.args.read.now.bound.vectors (table_of_set c.args.read.now.points) c.most_from_points.result
+    hidden (rw c.of-points.ensures at c.most_from_points.ensures.most))

@@ -33,7 +33,8 @@ returns g c =
     record {
       answered = wrote_mapped _ _ (has_verdict _ _ _ m v p d) _ wrote.answered;
       promise = λ yes. let (line, is, took) = text_of_answer _ _ Yes wrote.answered yes in has_promise _ _ _ m v p d line is;
-      start_promise = λ yes. let (line, is, took) = text_of_answer _ _ Yes wrote.answered yes in (line, has_start_promise _ _ _ m v p d line is, took);
+      start_promise = λ yes. let (line, is, took) = text_of_answer _ _ Yes wrote.answered yes in
+          (line, has_start_promise _ _ _ m v p d line is, took);
       stops = stops_after _ wrote.of_writing _ c.in_ok-read.ensures.read (memory_of_source m v p d) wrote.write wrote.untouched;
       of_a_check = each_fault _ IsPointCheckFault write_in_check _ wrote.of_writing;
     }

@@ -13,7 +13,8 @@ loop-a-init g c = record { took = nothing; same_count = refl }
 pub returns-in_err-write_action : goal.returns-in_err-write_action
 returns-in_err-write_action g c =
     let p : PointValues = c.args.points.now in
-    wrote_part (actions_text (raised_set p c.args.by) c.args.i) (action_text (raised_set p c.args.by) c.args.i) (λ n. refl) c.loop-a.a p.actions (search rules) _ (search rules)
+    wrote_part (actions_text (raised_set p c.args.by) c.args.i) (action_text (raised_set p c.args.by) c.args.i) (λ n. refl) c.loop-a.a
+    p.actions (search rules) _ (search rules)
     c.loop-a.invariant.took c.loop-a.invariant.same_count c.in_err-write_action.ensures.err c.in_err-write_action.ensures.count
 
 pub loop-a-preserved : goal.loop-a-preserved

@@ -12,7 +12,8 @@ loop-z-init g c = record { took = nothing; same_count = refl }
 pub returns-in_err-write_name : goal.returns-in_err-write_name
 returns-in_err-write_name g c =
     let p : PointValues = c.args.points.now in
-    wrote_part (names_text (named_at p c.args.i c.args.a) p.observations) (name_text (named_at p c.args.i c.args.a) p.observations) (λ n. refl) c.loop-z.z p.observations (search rules) _ (search rules)
+    wrote_part (names_text (named_at p c.args.i c.args.a) p.observations) (name_text (named_at p c.args.i c.args.a) p.observations)
+    (λ n. refl) c.loop-z.z p.observations (search rules) _ (search rules)
     c.loop-z.invariant.took c.loop-z.invariant.same_count c.in_err-write_name.ensures.err c.in_err-write_name.ensures.count
 
 pub loop-z-preserved : goal.loop-z-preserved

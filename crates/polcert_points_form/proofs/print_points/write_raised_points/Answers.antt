@@ -15,13 +15,16 @@ pub returns-in_err-write_point : goal.returns-in_err-write_point
 returns-in_err-write_point g c =
     let p : PointValues = c.args.points.now in
     record {
-      written = wrote_part (points_text_up_to (raised_set p c.args.by)) (point_text (raised_set p c.args.by)) (λ n. refl) c.loop-i.i (point_count p) (search rules) _ (search rules)
+      written = wrote_part (points_text_up_to (raised_set p c.args.by)) (point_text (raised_set p c.args.by)) (λ n. refl) c.loop-i.i
+          (point_count p) (search rules) _ (search rules)
           c.loop-i.invariant.took c.loop-i.invariant.same_count c.in_err-write_point.ensures.err c.in_err-write_point.ensures.count;
-      reads_back = λ states actions observations text is short. raised_reads_back states actions observations text p c.args.by c.count-i-end.ensures.proper is c.requires.room short;
+      reads_back = λ states actions observations text is short. raised_reads_back states actions observations text p c.args.by
+          c.count-i-end.ensures.proper is c.requires.room short;
     }
 
 pub loop-i-preserved : goal.loop-i-preserved
 loop-i-preserved g c = grind (arith, took_then)
 
 pub returns-clause-reads_back : goal.returns-clause-reads_back
-returns-clause-reads_back g c = λ states actions observations text is short. raised_reads_back states actions observations text c.args.points.now c.args.by c.count-i-end.ensures.proper is c.requires.room short
+returns-clause-reads_back g c = λ states actions observations text is short. raised_reads_back states actions observations text
+    c.args.points.now c.args.by c.count-i-end.ensures.proper is c.requires.room short

@@ -9,22 +9,42 @@ use Rattle.polcert_points_form.proofs.print_points.write_weight.Goals as goal
 pub overflow_cast-weight : goal.overflow_cast-weight
 overflow_cast-weight g c =
     let p : PointValues = c.args.points.now in
-    let small : c.args.weight ≤ 1000000 = omega (arith, c.requires.weight, weight_le (weight_of p c.args.i) c.args.s p.states c.requires.state, (c.count-count.ensures.proper.mass c.args.i c.requires.point).few) in
+    let small : c.args.weight ≤ 1000000 = omega (
+      arith,
+      c.requires.weight,
+      weight_le (weight_of p c.args.i) c.args.s p.states
+          c.requires.state,
+      (c.count-count.ensures.proper.mass c.args.i c.requires.point).few,
+    ) in
     record { sfits = omega (arith, ints, small) }
 
 pub returns-in_err-write_scaled : goal.returns-in_err-write_scaled
 returns-in_err-write_scaled g c =
     let p : PointValues = c.args.points.now in
-    let small : c.args.weight ≤ 1000000 = omega (arith, c.requires.weight, weight_le (weight_of p c.args.i) c.args.s p.states c.requires.state, (c.count-count.ensures.proper.mass c.args.i c.requires.point).few) in
+    let small : c.args.weight ≤ 1000000 = omega (
+      arith,
+      c.requires.weight,
+      weight_le (weight_of p c.args.i) c.args.s p.states
+          c.requires.state,
+      (c.count-count.ensures.proper.mass c.args.i c.requires.point).few,
+    ) in
     let fits : FitsSigned w64 (pos c.args.weight) = record { sfits = omega (arith, ints, small) } in
-    let is : to_z w64 c.args.weight ≡ pos (weight_of p c.args.i c.args.s) = to_z_pos w64 c.args.weight fits.sfits ∙ ap pos c.requires.weight in
+    let is : to_z w64 c.args.weight ≡ pos (weight_of p c.args.i c.args.s) = to_z_pos w64 c.args.weight fits.sfits
+    ∙ ap pos c.requires.weight in
     stopped (search rules) (unwritten _ (rw is at c.in_err-write_scaled.ensures.written))
 
 pub returns : goal.returns
 returns g c =
     let p : PointValues = c.args.points.now in
-    let small : c.args.weight ≤ 1000000 = omega (arith, c.requires.weight, weight_le (weight_of p c.args.i) c.args.s p.states c.requires.state, (c.count-count.ensures.proper.mass c.args.i c.requires.point).few) in
+    let small : c.args.weight ≤ 1000000 = omega (
+      arith,
+      c.requires.weight,
+      weight_le (weight_of p c.args.i) c.args.s p.states
+          c.requires.state,
+      (c.count-count.ensures.proper.mass c.args.i c.requires.point).few,
+    ) in
     let fits : FitsSigned w64 (pos c.args.weight) = record { sfits = omega (arith, ints, small) } in
-    let is : to_z w64 c.args.weight ≡ pos (weight_of p c.args.i c.args.s) = to_z_pos w64 c.args.weight fits.sfits ∙ ap pos c.requires.weight in
+    let is : to_z w64 c.args.weight ≡ pos (weight_of p c.args.i c.args.s) = to_z_pos w64 c.args.weight fits.sfits
+    ∙ ap pos c.requires.weight in
     let following : c.separator.result.now ≡ after_item p.states c.args.s = search rules in
     and_then (rw is at c.in_ok-write_scaled.ensures.written) (rw following at c.write_all.ensures)

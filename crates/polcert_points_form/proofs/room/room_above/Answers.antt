@@ -11,8 +11,11 @@ loop-i-preserved c =
       small = omega (arith, c.room_at-room.ensures.less, c.loop-i.invariant.small);
       room = λ j a jl al.
           up_to (λ k. IsInRange (value_at p k a +ℤ pos c.room_at-room.result)) c.loop-i.i
-          (λ k kl. raised_less (value_at p k a) c.loop-i.room c.room_at-room.result (c.count-i-end.ensures.proper.values k a (omega (arith, kl, c.loop-i-test.true, c.count-i-end.ensures.count)) al) c.room_at-room.ensures.less (c.loop-i.invariant.room k a kl al))
+          (λ k kl. raised_less (value_at p k a) c.loop-i.room c.room_at-room.result
+          (c.count-i-end.ensures.proper.values k a (omega (arith, kl, c.loop-i-test.true, c.count-i-end.ensures.count)) al)
+          c.room_at-room.ensures.less (c.loop-i.invariant.room k a kl al))
           (c.room_at-room.ensures.room a al) j jl;
       greatest = λ by few can.
-          c.room_at-room.ensures.greatest by (c.loop-i.invariant.greatest by few (λ j a jl al. can j a (omega (arith, jl)) al)) (λ a al. can c.loop-i.i a (omega arith) al);
+          c.room_at-room.ensures.greatest by (c.loop-i.invariant.greatest by few (λ j a jl al. can j a (omega (arith, jl)) al))
+          (λ a al. can c.loop-i.i a (omega arith) al);
     }

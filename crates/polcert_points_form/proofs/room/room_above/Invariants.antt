@@ -8,5 +8,6 @@ abbrev pub invariant-loop-i : goal.invariant-loop-i
 invariant-loop-i l = record {
   small : l.room ≤ 20000000000000;
   room : (j a : ℕ) → j < l.i → a < l.points.actions → IsInRange (value_at l.points j a +ℤ pos l.room);
-  greatest : (by : ℕ) → by ≤ 20000000000000 → ((j a : ℕ) → j < l.i → a < l.points.actions → IsInRange (value_at l.points j a +ℤ pos by)) → by ≤ l.room;
+  greatest : (by : ℕ) → by ≤ 20000000000000 → ((j a : ℕ) → j < l.i → a < l.points.actions → IsInRange (value_at l.points j a +ℤ pos by))
+      → by ≤ l.room;
 }

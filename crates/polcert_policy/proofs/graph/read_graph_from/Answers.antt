@@ -21,29 +21,41 @@ loop-token-preserved g c =
     let after = c.in_default-read_ahead.ensures.counts in
     let new = c.next_token.follows.lender-at-none in
     let gives = rw (c.in-Ok-Some.is ∙ ap Ok c.in-Ok-Some.field-0-is) at c.next_token.follows.holds-at-none.answers in
-    let taken = token_taken _ _ _ _ was.0 c.loop-token.tokens c.loop-token.source (lexeme_of c.in-Ok-Some.token) new c.next_token.new.source was.1 gives.0 gives.2 in
+    let taken = token_taken _ _ _ _ was.0 c.loop-token.tokens c.loop-token.source (lexeme_of c.in-Ok-Some.token) new c.next_token.new.source
+    was.1 gives.0 gives.2 in
     let ahead = c.in_default-read_ahead.ensures.read in
     record {
-      seen = ((was.0 ++ lexeme_of c.in-Ok-Some.token ∷ []) ++ ahead.ts, all_passed _ _ _ _ _ _ _ _ taken ahead, ahead.reads_on tt _ (c.in_default.ensures.read was.0 was.2));
+      seen = (
+        (was.0 ++ lexeme_of c.in-Ok-Some.token ∷ []) ++ ahead.ts,
+        all_passed _ _ _ _ _ _ _ _ taken ahead,
+        ahead.reads_on tt _
+            (c.in_default.ensures.read was.0 was.2),
+      );
       counts = (after.0 ∙ counts.0 ∙ c.loop-token.invariant.counts.0, after.1 ∙ counts.1 ∙ c.loop-token.invariant.counts.1);
     }
 
 pub loop-token-smaller : goal.loop-token-smaller
 loop-token-smaller g c =
     let gives = rw (c.in-Ok-Some.is ∙ ap Ok c.in-Ok-Some.field-0-is) at c.next_token.follows.holds-at-none.answers in
-    less_left _ _ _ c.loop-token.invariant.seen.0 _ _ _ c.next_token.follows.lender-at-none _ c.loop-token.invariant.seen.1 gives.0 gives.2 c.in_default-read_ahead.ensures.read
+    less_left _ _ _ c.loop-token.invariant.seen.0 _ _ _ c.next_token.follows.lender-at-none _ c.loop-token.invariant.seen.1 gives.0 gives.2
+    c.in_default-read_ahead.ensures.read
 
 pub returns-in-Err-read_ahead : goal.returns-in-Err-read_ahead
 returns-in-Err-read_ahead g c =
     let gives = rw (c.in-Ok-Some.is ∙ ap Ok c.in-Ok-Some.field-0-is) at c.next_token.follows.holds-at-none.answers in
-    record { read = refused_at_token c.loop-token.invariant.seen.0 c.loop-token.invariant.seen.1 _ faults.Memory _ c.next_token.follows.lender-at-none gives.0 gives.2 (λ text rest t. refused_text _ _ text faults.Memory tt) }
+    record {
+      read = refused_at_token c.loop-token.invariant.seen.0 c.loop-token.invariant.seen.1 _ faults.Memory _
+          c.next_token.follows.lender-at-none gives.0 gives.2 (λ text rest t. refused_text _ _ text faults.Memory tt);
+    }
 
 pub returns-in-Err : goal.returns-in-Err
 returns-in-Err g c =
     let gives = rw (c.in-Ok-Some.is ∙ ap Ok c.in-Ok-Some.field-0-is) at c.next_token.follows.holds-at-none.answers in
     record {
-      read = refused_at_token c.loop-token.invariant.seen.0 c.loop-token.invariant.seen.1 _ _ _ c.next_token.follows.lender-at-none gives.0 gives.2 (λ text rest t.
-          refused_text _ _ text _ (token_refusal _ _ _ _ text _ rest _ c.loop-token.invariant.counts.0 c.loop-token.invariant.counts.1 t (c.in-Err.ensures.read c.loop-token.invariant.seen.0 c.loop-token.invariant.seen.2)));
+      read = refused_at_token c.loop-token.invariant.seen.0 c.loop-token.invariant.seen.1 _ _ _ c.next_token.follows.lender-at-none gives.0
+          gives.2 (λ text rest t.
+          refused_text _ _ text _ (token_refusal _ _ _ _ text _ rest _ c.loop-token.invariant.counts.0 c.loop-token.invariant.counts.1 t
+          (c.in-Err.ensures.read c.loop-token.invariant.seen.0 c.loop-token.invariant.seen.2)));
     }
 
 pub returns-in-Ok : goal.returns-in-Ok
@@ -53,7 +65,8 @@ returns-in-Ok g c =
     let gives = rw (c.in-Ok-None.is ∙ ap Ok c.in-Ok-None.field-0-is) at c.next_token.follows.holds-at-none.answers in
     record {
       read = read_at_end was.0 was.1 _ _ gives.0 c.in-Ok.graph (λ text cut place.
-          graph_text c.args.actions c.args.observations text c.in-Ok.graph was.0 cut (subst₂ (λ a o. IsGraph a o was.0 c.in-Ok.graph) counts.0 counts.1 (c.in-Ok.ensures was.0 was.2)));
+          graph_text c.args.actions c.args.observations text c.in-Ok.graph was.0 cut
+          (subst₂ (λ a o. IsGraph a o was.0 c.in-Ok.graph) counts.0 counts.1 (c.in-Ok.ensures was.0 was.2)));
     }
 
 pub returns-in-Err-finish : goal.returns-in-Err-finish
@@ -62,7 +75,8 @@ returns-in-Err-finish g c =
     let gives = rw (c.in-Ok-None.is ∙ ap Ok c.in-Ok-None.field-0-is) at c.next_token.follows.holds-at-none.answers in
     record {
       read = refused_at_end was.0 was.1 _ _ gives.0 _ (λ text cut place.
-          end_refused _ _ _ _ text was.0 _ _ c.loop-token.invariant.counts.0 c.loop-token.invariant.counts.1 cut (c.place.ensures ∙ place) (c.in-Err-finish.ensures was.0 was.2));
+          end_refused _ _ _ _ text was.0 _ _ c.loop-token.invariant.counts.0 c.loop-token.invariant.counts.1 cut (c.place.ensures ∙ place)
+          (c.in-Err-finish.ensures was.0 was.2));
     }
 
 pub returns-in-Err-Token : goal.returns-in-Err-Token
@@ -72,8 +86,14 @@ returns-in-Err-Token g c =
     let r = c.loop-token.reading in
     let gives = rw (c.in-Err-Token.is ∙ ap Err c.in-Err-Token.field-0-is) at c.next_token.follows.holds-at-none.answers in
     record {
-      read = refused_at_fault was.0 was.1 _ (faults.Token c.in-Err-Token.fault) _ c.next_token.follows.lender-at-none.ahead gives.0 (λ text cut.
-          refused_text _ _ text _ (was.0, cut, possible_at _ _ _ _ was.0 counts.0 counts.1 (possible_read was.0 r r.some_actions r.some_observations was.2.nodes)));
+      read = refused_at_fault was.0 was.1 _ (faults.Token c.in-Err-Token.fault) _ c.next_token.follows.lender-at-none.ahead gives.0
+          (λ text cut.
+          refused_text _ _ text _ (
+            was.0,
+            cut,
+            possible_at _ _ _ _ was.0 counts.0 counts.1
+                (possible_read was.0 r r.some_actions r.some_observations was.2.nodes),
+          ));
     }
 
 pub returns-in-Err-Device : goal.returns-in-Err-Device

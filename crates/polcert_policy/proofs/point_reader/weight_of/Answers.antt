@@ -16,4 +16,5 @@ pub returns : goal.returns
 returns c =
     let floor = c.in_ok-floor.ensures.value in
     let ceiling = c.in_ok-ceiling.ensures.value in
-    floor_weight c.args.numeral.now c.in_ok-floor.floor floor.0 (small_ceiling c.args.numeral.now c.in_ok-ceiling.ceiling ceiling.0 ceiling.1 c.if-ceiling.false) floor.1
+    floor_weight c.args.numeral.now c.in_ok-floor.floor floor.0
+    (small_ceiling c.args.numeral.now c.in_ok-ceiling.ceiling ceiling.0 ceiling.1 c.if-ceiling.false) floor.1

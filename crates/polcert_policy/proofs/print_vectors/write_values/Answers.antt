@@ -11,7 +11,8 @@ loop-state-init g c = record { took = nothing; same_count = refl }
 pub returns-in_err-write_value : goal.returns-in_err-write_value
 returns-in_err-write_value g c =
     let v = c.args.vectors.now in
-    wrote_part (values_text v c.args.node) (value_text v c.args.node) (λ n. refl) c.loop-state.state v.states (search rules) _ (search rules)
+    wrote_part (values_text v c.args.node) (value_text v c.args.node) (λ n. refl) c.loop-state.state v.states (search rules) _
+    (search rules)
     c.loop-state.invariant.took c.loop-state.invariant.same_count c.in_err-write_value.ensures.err c.in_err-write_value.ensures.count
 
 pub loop-state-preserved : goal.loop-state-preserved

@@ -15,10 +15,26 @@ pub loop-value-init : goal.loop-value-init
 loop-value-init c =
     let b : ℕ = c.args.row.now.bound in
     let n : ℕ = c.args.row.now.count in
-    rw (to_z-of_z w128 c.outer_levels-outer.result.low (search rules), to_z-of_z w128 c.outer_levels-outer.result.high (search rules), c.outer_levels-outer.ensures.low, c.outer_levels-outer.ensures.high) (record {
+    rw (
+      to_z-of_z w128 c.outer_levels-outer.result.low (search rules),
+      to_z-of_z w128 c.outer_levels-outer.result.high
+          (search rules),
+      c.outer_levels-outer.ensures.low,
+      c.outer_levels-outer.ensures.high,
+    ) (record {
       order = omega (arith, ints);
-      from = omega (arith, sum_below_all c.args.row.now.by n (neg_ℤ (pos b) -ℤ pos 1) (weight_at c.args.row.now.weights.now) (value_at c.args.row.now.values.now) (λ i l. below_bound _ b (c.args.row.now.small i l)), c.args.row.now.sums);
-      to = omega (arith, sum_above_all c.args.row.now.by n (pos b) (weight_at c.args.row.now.weights.now) (value_at c.args.row.now.values.now) (λ i l. at_most_bound _ b (c.args.row.now.small i l)), c.args.row.now.sums);
+      from = omega (
+        arith,
+        sum_below_all c.args.row.now.by n (neg_ℤ (pos b) -ℤ pos 1) (weight_at c.args.row.now.weights.now)
+            (value_at c.args.row.now.values.now) (λ i l. below_bound _ b (c.args.row.now.small i l)),
+        c.args.row.now.sums,
+      );
+      to = omega (
+        arith,
+        sum_above_all c.args.row.now.by n (pos b) (weight_at c.args.row.now.weights.now)
+            (value_at c.args.row.now.values.now) (λ i l. at_most_bound _ b (c.args.row.now.small i l)),
+        c.args.row.now.sums,
+      );
       least = omega (arith, ints);
       most = omega (arith, ints);
     })

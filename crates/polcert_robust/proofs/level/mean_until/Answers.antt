@@ -11,19 +11,36 @@ pub overflow_add-sum : goal.overflow_add-sum
 overflow_add-sum c =
     let level : ℤ = to_z w128 (of_z w128 c.args.level) in
     let row : ℕ → ℕ = ends_until c.args.row.now.by level (weight_at c.args.row.now.weights.now) (value_at c.args.row.now.values.now) in
-    let room : sum_below row c.args.row.now.count ≤ c.args.row.now.scale = rw (to_z-of_z w128 c.args.level (search rules)) c.requires.room in
-    (mean_more row (value_at c.args.row.now.values.now) c.args.row.now.bound c.args.row.now.count c.loop-i.i (to_z w128 c.loop-i.sum-bits) c.term_until-sum.result
-    c.args.row.now.small c.loop-i-test.true (omega (arith, less_times (sum_below row c.args.row.now.count) c.args.row.now.scale c.args.row.now.bound room, c.args.row.now.fits)) c.loop-i.invariant (search rules) c.term_until-sum.ensures).0
+    let room : sum_below row c.args.row.now.count ≤ c.args.row.now.scale =
+    rw (to_z-of_z w128 c.args.level (search rules)) c.requires.room in
+    (mean_more row (value_at c.args.row.now.values.now) c.args.row.now.bound c.args.row.now.count c.loop-i.i (to_z w128 c.loop-i.sum-bits)
+    c.term_until-sum.result
+    c.args.row.now.small c.loop-i-test.true (omega (
+      arith,
+      less_times (sum_below row c.args.row.now.count) c.args.row.now.scale
+          c.args.row.now.bound room,
+      c.args.row.now.fits,
+    )) c.loop-i.invariant (search rules) c.term_until-sum.ensures).0
 
 pub loop-i-preserved : goal.loop-i-preserved
 loop-i-preserved c =
     let level : ℤ = to_z w128 (of_z w128 c.args.level) in
     let row : ℕ → ℕ = ends_until c.args.row.now.by level (weight_at c.args.row.now.weights.now) (value_at c.args.row.now.values.now) in
-    let room : sum_below row c.args.row.now.count ≤ c.args.row.now.scale = rw (to_z-of_z w128 c.args.level (search rules)) c.requires.room in
-    (mean_more row (value_at c.args.row.now.values.now) c.args.row.now.bound c.args.row.now.count c.loop-i.i (to_z w128 c.loop-i.sum-bits) c.term_until-sum.result
-    c.args.row.now.small c.loop-i-test.true (omega (arith, less_times (sum_below row c.args.row.now.count) c.args.row.now.scale c.args.row.now.bound room, c.args.row.now.fits)) c.loop-i.invariant (search rules) c.term_until-sum.ensures).1
+    let room : sum_below row c.args.row.now.count ≤ c.args.row.now.scale =
+    rw (to_z-of_z w128 c.args.level (search rules)) c.requires.room in
+    (mean_more row (value_at c.args.row.now.values.now) c.args.row.now.bound c.args.row.now.count c.loop-i.i (to_z w128 c.loop-i.sum-bits)
+    c.term_until-sum.result
+    c.args.row.now.small c.loop-i-test.true (omega (
+      arith,
+      less_times (sum_below row c.args.row.now.count) c.args.row.now.scale
+          c.args.row.now.bound room,
+      c.args.row.now.fits,
+    )) c.loop-i.invariant (search rules) c.term_until-sum.ensures).1
 
 pub returns-clause-small : goal.returns-clause-small
 returns-clause-small c =
-    let row : ℕ → ℕ = ends_until c.args.row.now.by c.args.level (weight_at c.args.row.now.weights.now) (value_at c.args.row.now.values.now) in
-    rw (c.loop-i.invariant, to_z-of_z w128 c.args.level (search rules)) (part_small row (value_at c.args.row.now.values.now) c.args.row.now.bound c.args.row.now.count c.loop-i.i c.args.row.now.small (search rules))
+    let row : ℕ → ℕ = ends_until c.args.row.now.by c.args.level (weight_at c.args.row.now.weights.now) (value_at c.args.row.now.values.now)
+    in
+    rw (c.loop-i.invariant, to_z-of_z w128 c.args.level (search rules))
+    (part_small row (value_at c.args.row.now.values.now) c.args.row.now.bound c.args.row.now.count c.loop-i.i c.args.row.now.small
+    (search rules))

@@ -8,11 +8,29 @@ use Rattle.polcert_robust.proofs.Means.{one_weight, product_small}
 use Rattle.polcert_robust.proofs.level.term_until.Goals as goal
 
 pub end_until-end-requires-clause-weight : goal.end_until-end-requires-clause-weight
-end_until-end-requires-clause-weight c = omega (arith, one_weight (weight_at c.args.row.now.weights.now) c.args.row.now.count c.args.i c.requires.place, c.args.row.now.sums, c.args.row.now.small_scale)
+end_until-end-requires-clause-weight c = omega (
+  arith,
+  one_weight (weight_at c.args.row.now.weights.now) c.args.row.now.count c.args.i
+      c.requires.place,
+  c.args.row.now.sums,
+  c.args.row.now.small_scale,
+)
 
 pub weigh-requires-clause-product : goal.weigh-requires-clause-product
 weigh-requires-clause-product c =
-    let row : ℕ → ℕ = ends_until c.args.row.now.by c.args.level (weight_at c.args.row.now.weights.now) (value_at c.args.row.now.values.now) in
-    rw (c.end_until-end.ensures.is, to_z-of_z w128 (slice_index_or c.args.row.now.values.now c.args.i (pos 0)) (search rules), to_z-of_z w128 c.args.level (search rules))
-    (product_small row (value_at c.args.row.now.values.now) c.args.row.now.bound c.args.row.now.count c.args.i c.args.row.now.small c.requires.place
-    (omega (arith, less_times (sum_below row c.args.row.now.count) c.args.row.now.scale c.args.row.now.bound c.requires.room, c.args.row.now.fits)))
+    let row : ℕ → ℕ = ends_until c.args.row.now.by c.args.level (weight_at c.args.row.now.weights.now) (value_at c.args.row.now.values.now)
+    in
+    rw (
+      c.end_until-end.ensures.is,
+      to_z-of_z w128 (slice_index_or c.args.row.now.values.now c.args.i (pos 0)) (search rules),
+      to_z-of_z
+          w128 c.args.level (search rules),
+    )
+    (product_small row (value_at c.args.row.now.values.now) c.args.row.now.bound c.args.row.now.count c.args.i c.args.row.now.small
+    c.requires.place
+    (omega (
+      arith,
+      less_times (sum_below row c.args.row.now.count) c.args.row.now.scale c.args.row.now.bound
+          c.requires.room,
+      c.args.row.now.fits,
+    )))

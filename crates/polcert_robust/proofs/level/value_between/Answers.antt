@@ -14,7 +14,8 @@ loop-i-preserved c =
     elim c.if-is_between.branch [
       | then-is_between w ↦ record {
         few = omega (arith, w.seen-is, c.loop-i.invariant.few);
-        some = rw w.found-is (chosen_some low high _ c.loop-i.found w.chosen-found.result (c.is_between.ensures.between w.if-is_between.true) c.loop-i.invariant.some w.chosen-found.ensures);
+        some = rw w.found-is (chosen_some low high _ c.loop-i.found w.chosen-found.result
+            (c.is_between.ensures.between w.if-is_between.true) c.loop-i.invariant.some w.chosen-found.ensures);
         none = λ e. absurd (chosen_is_some _ c.loop-i.found w.chosen-found.result w.chosen-found.ensures (sym w.found-is ∙ e));
       }
       | else-is_between w ↦ record {
@@ -24,7 +25,8 @@ loop-i-preserved c =
             ⊎_elim
             (λ (h : k < c.loop-i.i). c.loop-i.invariant.none (sym w.found-is ∙ e) k h)
             (λ (h : c.loop-i.i ≤ k). let same : k ≡ c.loop-i.i = omega (arith, h, kl) in
-            rw same (subst (λ (v : ℤ). (v ≤ℤ low) ⊎ (high ≤ℤ v)) (to_z-of_z w128 value (search rules)) (c.is_between.ensures.outside w.if-is_between.false)))
+            rw same (subst (λ (v : ℤ). (v ≤ℤ low) ⊎ (high ≤ℤ v)) (to_z-of_z w128 value (search rules))
+            (c.is_between.ensures.outside w.if-is_between.false)))
             (cases_lt k c.loop-i.i);
       }
     ]

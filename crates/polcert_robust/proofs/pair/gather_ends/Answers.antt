@@ -12,7 +12,15 @@ use Rattle.polcert_robust.proofs.pair.gather_ends.Goals as goal
 pub loop-end-init : goal.loop-end-init
 loop-end-init g c =
     let start : reached c.t_row-row.result 0 ≡ 0 = grind arith in
-    rw start (record { held = holds_none (IsEndMean (near_table c.args.pair.now.input.now) (near_controller c.args.pair.now.input.now) c.args.pair.now.n c.args.pair.now.s) ((cells_of c.args.pair.now.input.now).t ((near_controller c.args.pair.now.input.now).action c.args.pair.now.n) c.args.pair.now.s) ((cells_of c.args.pair.now.input.now).o_scale * most_worth) c.args.end_weights.now c.args.end_values.now; least = λ z missed. absurd (omega (arith, missed.1)); within = omega arith })
+    rw start (record {
+      held = holds_none (IsEndMean (near_table c.args.pair.now.input.now) (near_controller c.args.pair.now.input.now)
+          c.args.pair.now.n c.args.pair.now.s) ((cells_of c.args.pair.now.input.now).t
+          ((near_controller c.args.pair.now.input.now).action c.args.pair.now.n) c.args.pair.now.s)
+          ((cells_of c.args.pair.now.input.now).o_scale * most_worth) c.args.end_weights.now c.args.end_values.now;
+      least =
+          λ z missed. absurd (omega (arith, missed.1));
+      within = omega arith;
+    })
 
 pub loop-end-preserved : goal.loop-end-preserved
 loop-end-preserved g c =
@@ -22,11 +30,16 @@ loop-end-preserved g c =
     let next = rw same at c.in-Some.ensures.0 in
     let from : ℕ = reached c.t_row-row.result c.loop-end.at in
     rw (c.in-Some.ensures.1, to_z-of_z w128 c.end_mean-part.result.mean (search rules)) (record {
-      held = holds_more (IsEndMean (near_table c.args.pair.now.input.now) k c.args.pair.now.n c.args.pair.now.s) (t.t (k.action c.args.pair.now.n) c.args.pair.now.s) from (t.o_scale * most_worth) c.loop-end.end_weights c.loop-end.end_values c.loop-end.count c.loop-end.invariant.held
-          c.in-Some.end.column c.in-Some.end.weight c.end_mean-part.result.mean next.0 next.4 next.2 c.end_mean-part.ensures.is c.end_mean-part.ensures.small
+      held = holds_more (IsEndMean (near_table c.args.pair.now.input.now) k c.args.pair.now.n c.args.pair.now.s)
+          (t.t (k.action c.args.pair.now.n) c.args.pair.now.s) from (t.o_scale * most_worth) c.loop-end.end_weights c.loop-end.end_values
+          c.loop-end.count c.loop-end.invariant.held
+          c.in-Some.end.column c.in-Some.end.weight c.end_mean-part.result.mean next.0 next.4 next.2 c.end_mean-part.ensures.is
+          c.end_mean-part.ensures.small
           (omega (arith, c.loop-end.invariant.held.few, next.0, next.1, c.loop-end.auto.end_weights, c.requires.end_weights))
           (omega (arith, c.loop-end.invariant.held.few, next.0, next.1, c.loop-end.auto.end_values, c.requires.end_values));
-      least = before_more k c.args.pair.now.n c.args.pair.now.s from c.in-Some.end.column c.in-Some.end.weight c.loop-end.missing c.end_mean-part.result.missing c.min_option-missing.result next.0 next.4 next.2 next.3 c.loop-end.invariant.least c.end_mean-part.ensures.missing c.min_option-missing.ensures;
+      least = before_more k c.args.pair.now.n c.args.pair.now.s from c.in-Some.end.column c.in-Some.end.weight c.loop-end.missing
+          c.end_mean-part.result.missing c.min_option-missing.result next.0 next.4 next.2 next.3 c.loop-end.invariant.least
+          c.end_mean-part.ensures.missing c.min_option-missing.ensures;
       within = omega (arith, next.1);
     })
 
@@ -38,7 +51,10 @@ returns g c =
     let none = rw same at c.in_default.ensures in
     let from : ℕ = reached c.t_row-row.result c.loop-end.at in
     record {
-      held = holds_on (IsEndMean (near_table c.args.pair.now.input.now) k c.args.pair.now.n c.args.pair.now.s) (t.t (k.action c.args.pair.now.n) c.args.pair.now.s) from (t.o_scale * most_worth) c.loop-end.end_weights c.loop-end.end_values c.loop-end.count c.loop-end.invariant.held
+      held = holds_on (IsEndMean (near_table c.args.pair.now.input.now) k c.args.pair.now.n c.args.pair.now.s)
+          (t.t (k.action c.args.pair.now.n) c.args.pair.now.s) from (t.o_scale * most_worth) c.loop-end.end_weights c.loop-end.end_values
+          c.loop-end.count c.loop-end.invariant.held
           t.states c.loop-end.invariant.within none;
-      missing = before_on k c.args.pair.now.n c.args.pair.now.s from t.states c.loop-end.invariant.within none c.loop-end.missing c.loop-end.invariant.least;
+      missing = before_on k c.args.pair.now.n c.args.pair.now.s from t.states c.loop-end.invariant.within none c.loop-end.missing
+          c.loop-end.invariant.least;
     }

@@ -10,7 +10,8 @@ use Rattle.polcert_robust.proofs.pair.gather_ends.Given as goal
 abbrev pub invariant-loop-end : goal.invariant-loop-end
 invariant-loop-end g l = record {
   held : HoldsRow (IsEndMean (near_table l.pair.input.now) (near_controller l.pair.input.now) l.pair.n l.pair.s)
-      ((cells_of l.pair.input.now).t ((near_controller l.pair.input.now).action l.pair.n) l.pair.s) (reached l.row l.at) ((cells_of l.pair.input.now).o_scale * most_worth) l.end_weights l.end_values l.count;
+      ((cells_of l.pair.input.now).t ((near_controller l.pair.input.now).action l.pair.n) l.pair.s) (reached l.row l.at)
+      ((cells_of l.pair.input.now).o_scale * most_worth) l.end_weights l.end_values l.count;
   least : IsLeastOf (IsMissedBefore (near_controller l.pair.input.now) l.pair.n l.pair.s (reached l.row l.at)) l.missing;
   within : reached l.row l.at ≤ (cells_of l.pair.input.now).states;
 }

@@ -10,7 +10,8 @@ use Rattle.polcert_robust.proofs.pair.gather_observations.Given as goal
 abbrev pub invariant-loop-observation : goal.invariant-loop-observation
 invariant-loop-observation g l = record {
   held : HoldsRow (λ z v. v ≡ step_worth (near_table l.pair.input.now) (near_controller l.pair.input.now) l.pair.n l.pair.s l.e z)
-      ((cells_of l.pair.input.now).o ((near_controller l.pair.input.now).action l.pair.n) l.e) (reached l.row l.at) most_worth l.weights l.values l.count;
+      ((cells_of l.pair.input.now).o ((near_controller l.pair.input.now).action l.pair.n) l.e) (reached l.row l.at) most_worth l.weights
+      l.values l.count;
   least : IsLeastOf (Misses (near_controller l.pair.input.now) l.pair.n l.e (reached l.row l.at)) l.missing;
   within : reached l.row l.at ≤ (cells_of l.pair.input.now).observations;
 }

@@ -21,7 +21,9 @@ invariant_of-row g c =
       room_for_values = omega (arith, held.few, c.requires.end_values, c.gather_ends-gathered.auto.end_values);
       few = omega (arith, held.few, limits.states.1);
       near = c.args.pair.now.input.now.distance.t_small;
-      sums = rw c.t_scale.ensures (held_sum _ (t.t (k.action c.args.pair.now.n) c.args.pair.now.s) t.states _ c.gather_ends-gathered.new.end_weights c.gather_ends-gathered.new.end_values c.gather_ends-gathered.result.count held t.t_scale (m.t_rows (k.action c.args.pair.now.n) c.args.pair.now.s (search rules) c.args.pair.now.start));
+      sums = rw c.t_scale.ensures (held_sum _ (t.t (k.action c.args.pair.now.n) c.args.pair.now.s) t.states _
+          c.gather_ends-gathered.new.end_weights c.gather_ends-gathered.new.end_values c.gather_ends-gathered.result.count held t.t_scale
+          (m.t_rows (k.action c.args.pair.now.n) c.args.pair.now.s (search rules) c.args.pair.now.start));
       small_scale = omega (arith, c.t_scale.ensures, t_scale_small t limits);
       small = rw c.o_scale.ensures held.small;
       small_bound = omega (arith, c.o_scale.ensures, o_scale_small t limits);
@@ -35,6 +37,9 @@ returns-clause-is g c =
     let m : IsProper t = g.met.C.Cells.is_proper c.args.pair.now.input.now.cells.now in
     let is = rw c.t_scale.ensures at c.least_mean.ensures.is in
     rw (to_z-of_z w128 c.least_mean.result (search rules))
-    (backing_of c.args.pair.now.input.now.side k c.args.pair.now.input.now.distance.t_by c.args.pair.now.input.now.distance.o_by c.args.pair.now.input.now.distance.r_by c.args.pair.now.n c.args.pair.now.s m (search rules) c.args.pair.now.start c.least_mean.result
-    (worst_mean_of (IsEndMean (near_table c.args.pair.now.input.now) k c.args.pair.now.n c.args.pair.now.s) (t.t (k.action c.args.pair.now.n) c.args.pair.now.s) t.states (t.o_scale * most_worth) c.gather_ends-gathered.new.end_weights c.gather_ends-gathered.new.end_values c.gather_ends-gathered.result.count c.gather_ends-gathered.ensures.held
+    (backing_of c.args.pair.now.input.now.side k c.args.pair.now.input.now.distance.t_by c.args.pair.now.input.now.distance.o_by
+    c.args.pair.now.input.now.distance.r_by c.args.pair.now.n c.args.pair.now.s m (search rules) c.args.pair.now.start c.least_mean.result
+    (worst_mean_of (IsEndMean (near_table c.args.pair.now.input.now) k c.args.pair.now.n c.args.pair.now.s)
+    (t.t (k.action c.args.pair.now.n) c.args.pair.now.s) t.states (t.o_scale * most_worth) c.gather_ends-gathered.new.end_weights
+    c.gather_ends-gathered.new.end_values c.gather_ends-gathered.result.count c.gather_ends-gathered.ensures.held
     c.args.pair.now.input.now.distance.t_by t.t_scale c.least_mean.result is))

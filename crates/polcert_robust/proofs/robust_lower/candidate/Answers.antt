@@ -31,7 +31,10 @@ unfolding one
 quotient_up-requires g c =
     let t : CellTable = cells_of c.args.input.now in
     let some = scales t (g.met.C.Cells.is_within_limits c.args.input.now.cells.now) in
-    record { some = factor_positive c.t_scale.result c.o_scale.result c.discount.result (omega (arith, c.t_scale.ensures, some.0)) (omega (arith, c.o_scale.ensures, some.1)) (omega (arith, c.discount.ensures, c.requires.discount)) }
+    record {
+      some = factor_positive c.t_scale.result c.o_scale.result c.discount.result (omega (arith, c.t_scale.ensures, some.0))
+          (omega (arith, c.o_scale.ensures, some.1)) (omega (arith, c.discount.ensures, c.requires.discount));
+    }
 
 pub returns : goal.returns
 unfolding one
@@ -43,4 +46,5 @@ returns g c =
     let some = scales t limits in
     let enough = rw (c.t_scale.ensures, c.o_scale.ensures, c.discount.ensures) at c.quotient_up.ensures.enough in
     let least = rw (c.t_scale.ensures, c.o_scale.ensures, c.discount.ensures) at c.quotient_up.ensures.least in
-    least_robust i k (discount_le t limits) some.0 some.1 c.args.findings.worst c.quotient_up.result (λ n s nl sl. c.requires.found.measured n s nl sl (inl nl)) c.requires.found.is_reached enough least
+    least_robust i k (discount_le t limits) some.0 some.1 c.args.findings.worst c.quotient_up.result
+    (λ n s nl sl. c.requires.found.measured n s nl sl (inl nl)) c.requires.found.is_reached enough least

@@ -18,14 +18,21 @@ constant_fits v proper by can =
     fits_signed_from_abs w64 (pos by) (omega (arith, ints, small))
 
 pub invariant_of-input : goal.invariant_of-input
-invariant_of-input g c = record { fits = c.requires.fits; is_proper_graph = c.nodes-nodes.ensures.proper; are_proper = c.nodes-vector_count.ensures.proper }
+invariant_of-input g c = record {
+  fits = c.requires.fits;
+  is_proper_graph = c.nodes-nodes.ensures.proper;
+  are_proper =
+      c.nodes-vector_count.ensures.proper;
+}
 
 pub overflow_cast-result : goal.overflow_cast-result
-overflow_cast-result g c = constant_fits c.args.vectors.now c.nodes-vector_count.ensures.proper c.in_ok-by.by (c.if-stays_in_range.ensures.0 refl)
+overflow_cast-result g c = constant_fits c.args.vectors.now c.nodes-vector_count.ensures.proper c.in_ok-by.by
+    (c.if-stays_in_range.ensures.0 refl)
 
 pub returns-then-stays_in_range-clause-least : goal.returns-then-stays_in_range-clause-least
 returns-then-stays_in_range-clause-least g c =
-    let fits : FitsSigned w64 (pos c.in_ok-by.by) = constant_fits c.args.vectors.now c.nodes-vector_count.ensures.proper c.in_ok-by.by (c.if-stays_in_range.ensures.0 refl) in
+    let fits : FitsSigned w64 (pos c.in_ok-by.by) = constant_fits c.args.vectors.now c.nodes-vector_count.ensures.proper c.in_ok-by.by
+    (c.if-stays_in_range.ensures.0 refl) in
     (c.in_ok-by.by, to_z_pos w64 c.in_ok-by.by fits.sfits, c.in_ok-by.ensures.least, c.if-stays_in_range.ensures.0 refl)
 
 pub returns-in_err-findings-clause-refused : goal.returns-in_err-findings-clause-refused

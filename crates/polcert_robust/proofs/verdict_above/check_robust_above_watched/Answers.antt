@@ -10,16 +10,25 @@ use Rattle.polcert_robust.proofs.ExactAbove.{exact_above, horizon_above}
 use Rattle.polcert_robust.proofs.verdict_above.check_robust_above_watched.Goals as goal
 
 pub invariant_of-input : goal.invariant_of-input
-invariant_of-input g c = record { fits = c.requires.fits; is_proper_graph = c.nodes-nodes.ensures.proper; are_proper = c.nodes-vector_count.ensures.proper }
+invariant_of-input g c = record {
+  fits = c.requires.fits;
+  is_proper_graph = c.nodes-nodes.ensures.proper;
+  are_proper =
+      c.nodes-vector_count.ensures.proper;
+}
 
 pub returns : goal.returns
 returns g c =
     let t : CellTable = g.C.Cells.table c.args.cells.now in
     let some = scales t (g.met.C.Cells.is_within_limits c.args.cells.now) in
-    let is : IsRobustAboveVerdict (around t c.args.distance.t_by c.args.distance.o_by c.args.distance.r_by) (controller_of t c.args.graph.now c.args.vectors.now) c.above_of.result =
-    subst (IsRobustVerdict (negated (around t c.args.distance.t_by c.args.distance.o_by c.args.distance.r_by)) (negated_values (controller_of t c.args.graph.now c.args.vectors.now))) (sym c.above_of.ensures) c.first_failure.ensures in
+    let is : IsRobustAboveVerdict (around t c.args.distance.t_by c.args.distance.o_by c.args.distance.r_by)
+    (controller_of t c.args.graph.now c.args.vectors.now) c.above_of.result =
+    subst (IsRobustVerdict (negated (around t c.args.distance.t_by c.args.distance.o_by c.args.distance.r_by))
+    (negated_values (controller_of t c.args.graph.now c.args.vectors.now))) (sym c.above_of.ensures) c.first_failure.ensures in
     record {
       verdict = is;
-      exact = exact_above t c.args.graph.now c.args.vectors.now c.args.distance.t_by c.args.distance.o_by c.args.distance.r_by some.0 some.1 (g.met.C.Cells.is_proper c.args.cells.now) c.nodes-nodes.ensures.proper c.requires.fits c.above_of.result is;
-      horizon = horizon_above t c.args.graph.now c.args.vectors.now c.args.distance.t_by c.args.distance.o_by c.args.distance.r_by some.0 some.1 (g.met.C.Cells.is_proper c.args.cells.now) c.nodes-nodes.ensures.proper c.requires.fits c.above_of.result is;
+      exact = exact_above t c.args.graph.now c.args.vectors.now c.args.distance.t_by c.args.distance.o_by c.args.distance.r_by some.0 some.1
+          (g.met.C.Cells.is_proper c.args.cells.now) c.nodes-nodes.ensures.proper c.requires.fits c.above_of.result is;
+      horizon = horizon_above t c.args.graph.now c.args.vectors.now c.args.distance.t_by c.args.distance.o_by c.args.distance.r_by some.0
+          some.1 (g.met.C.Cells.is_proper c.args.cells.now) c.nodes-nodes.ensures.proper c.requires.fits c.above_of.result is;
     }

@@ -8,4 +8,5 @@ returns-then-rule-key c =
 
 pub returns-else-rule-key : goal.returns-else-rule-key
 returns-else-rule-key c =
-    first_is_not c.args.rules.now c.in-Some.rule.now c.args.key c.requires.rising c.requires.from (sym c.in-Some.ensures.value) c.if-rule-key.false
+    first_is_not c.args.rules.now c.in-Some.rule.now c.args.key c.requires.rising c.requires.from (sym c.in-Some.ensures.value)
+    c.if-rule-key.false

@@ -11,4 +11,5 @@ few (p ∷ q ∷ r ∷ s ∷ []) digits l = omega arith
 few (p ∷ q ∷ r ∷ s ∷ t ∷ ps) digits l = digits.1.1.1.1
 
 pub returns-in_default-2 : goal.returns-in_default-2
-returns-in_default-2 c = absurd (few (entry_of c.args.entry).places c.requires (subst (λ (ps : List Place). 5 ≤ length ps) c.as_slice.ensures c.in_default.len_at_least))
+returns-in_default-2 c = absurd (few (entry_of c.args.entry).places c.requires
+    (subst (λ (ps : List Place). 5 ≤ length ps) c.as_slice.ensures c.in_default.len_at_least))

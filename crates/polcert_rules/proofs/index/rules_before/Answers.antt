@@ -7,7 +7,8 @@ pub returns-clause-kept : goal.returns-clause-kept
 returns-clause-kept c = λ r.
     let xs = c.rules_near-near.result.now in
     let n = c.partition_point-end.result in
-    let cut = IsPartitionPoint-from_clause (λ (x : Rule). ltb x.key c.args.high) xs n c.partition_point-end.ensures.partitioned (parted xs c.args.high c.rules_near-near.ensures.rising) (λ a x q k. search rules) in
+    let cut = IsPartitionPoint-from_clause (λ (x : Rule). ltb x.key c.args.high) xs n c.partition_point-end.ensures.partitioned
+    (parted xs c.args.high c.rules_near-near.ensures.rising) (λ a x q k. search rules) in
     let here = cut_front xs c.args.high n (found_cut xs n c.args.high c.partition_point-end.ensures.bound cut) r in
     let all = c.rules_near-near.ensures.kept r in
     ((λ among. all.0 (here.0 among)), (λ h. here.1 (all.1 h)))

@@ -12,4 +12,5 @@ returns-then-none_below-clause-rising c = rising_take 16 c.args.rules.now (omega
 pub returns-then-none_below-clause-kept : goal.returns-then-none_below-clause-kept
 returns-then-none_below-clause-kept c =
     near_front c.args.rules.now c.args.high 16
-    (λ r among. c.none_below.ensures c.if-none_below.true r (subst (λ (xs : List Rule). Contains xs r) (sym (drop_whole 16 c.args.rules.now)) among))
+    (λ r among. c.none_below.ensures c.if-none_below.true r
+    (subst (λ (xs : List Rule). Contains xs r) (sym (drop_whole 16 c.args.rules.now)) among))

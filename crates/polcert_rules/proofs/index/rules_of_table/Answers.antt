@@ -10,7 +10,8 @@ abbrev with_key : ℕ → ℕ → Rule
 with_key k n = record { key = k; number = n }
 
 module _ (d n : ℕ) (e : Entry) (es : List Entry) (old all : List Rule) (before : old ++ rules_from d n (e ∷ es) ≡ all) where
-  taken : (new : List Rule) → table_digit e.table ≡ d → new ≡ old ++ (record { key = key_of e; number = n }) ∷ [] → new ++ rules_from d (n + 1) es ≡ all
+  taken : (new : List Rule) → table_digit e.table ≡ d → new ≡ old ++ (record { key = key_of e; number = n }) ∷ []
+      → new ++ rules_from d (n + 1) es ≡ all
   taken new is pushed = grind (arith, nat_tests, append_assoc, before)
 
   passed : (table_digit e.table ≡ d → ⊥) → old ++ rules_from d (n + 1) es ≡ all
@@ -34,8 +35,10 @@ loop-number-preserved c =
       | then-eq+in_ok-push w ↦
           let same : c.table_of.result ≡ c.args.table = search rules in
           let key : w.key_of-key.result ≡ key_of entry = w.key_of-key.ensures ∙ ap key_of (same_Some _ _ (sym w.at.ensures ∙ found)) in
-          rw w.rules-is (taken d n entry (drop (n + 1) entries) old all before w.push.new.self.items (ap table_digit (c.table_of.ensures.2 ∙ same)) (w.in_ok-push.ensures.items ∙ ap (λ k. old ++ with_key k n ∷ []) key))
+          rw w.rules-is (taken d n entry (drop (n + 1) entries) old all before w.push.new.self.items
+          (ap table_digit (c.table_of.ensures.2 ∙ same)) (w.in_ok-push.ensures.items ∙ ap (λ k. old ++ with_key k n ∷ []) key))
       | else-eq w ↦
           let other : (c.table_of.result ≡ c.args.table) → ⊥ = search rules in
-          rw w.rules-is (passed d n entry (drop (n + 1) entries) old all before (λ e. other (sym c.table_of.ensures.2 ∙ table_of_digit entry.table c.args.table e)))
+          rw w.rules-is (passed d n entry (drop (n + 1) entries) old all before
+          (λ e. other (sym c.table_of.ensures.2 ∙ table_of_digit entry.table c.args.table e)))
     ]

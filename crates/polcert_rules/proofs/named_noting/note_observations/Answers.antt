@@ -18,6 +18,9 @@ returns c = λ t z l.
     let second = noted_at c.note_all-2.new.self z in
     let after = noted_at c.note_each.new.list z in
     let same : 0 + z ≡ z = omega arith in
-    let last = noted_last rules c.rules_from.result.now c.rules_between.result.now low 0 (key_base - 2) z (low + 2) c.first_at-2.result first second after
-    (omega (arith, l)) (omega arith) c.rules_from.ensures.kept c.first_at-2.ensures (c.note_all-2.ensures z) c.rules_between.ensures.kept (c.note_each.ensures t z) in
-    noted_end rules low z c.first_at.result before first after c.first_at.ensures (c.note_all.ensures z) (subst (λ y. IsNoted rules (IsLastPlace low y) first after) same last)
+    let last = noted_last rules c.rules_from.result.now c.rules_between.result.now low 0 (key_base - 2) z (low + 2) c.first_at-2.result
+    first second after
+    (omega (arith, l)) (omega arith) c.rules_from.ensures.kept c.first_at-2.ensures (c.note_all-2.ensures z) c.rules_between.ensures.kept
+    (c.note_each.ensures t z) in
+    noted_end rules low z c.first_at.result before first after c.first_at.ensures (c.note_all.ensures z)
+    (subst (λ y. IsNoted rules (IsLastPlace low y) first after) same last)

@@ -12,4 +12,5 @@ loop-h-preserved c =
     let fits_again : FitsSigned w64 c.reward_of.result = search rules in
     let pushed : c.push.new.self.items ≡ c.loop-h.numbers.items ++ c.reward_of.result ∷ [] =
     c.in_ok-push.ensures.items ∙ ap (λ (h : ℤ). c.loop-h.numbers.items ++ h ∷ []) (to_z-of_z w64 c.reward_of.result fits_again) in
-    one_more (worth c.args.costs) c.args.written.now c.loop-h.h-index (pos 0) c.reward_of.result c.loop-h.numbers.items _ _ c.loop-h-test.true is pushed c.loop-h.invariant
+    one_more (worth c.args.costs) c.args.written.now c.loop-h.h-index (pos 0) c.reward_of.result c.loop-h.numbers.items _ _
+    c.loop-h-test.true is pushed c.loop-h.invariant

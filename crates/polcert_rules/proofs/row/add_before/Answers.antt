@@ -1,4 +1,5 @@
-use Rattle.std.proofs.Common.{◌≡◌, ◌∙◌, ◌+◌, ◌-◌, ◌<◌, ◌≤◌, ◌==◌, ℕ, Bool, true, false, List, [], ◌∷◌, ◌++◌, length, drop, take, get_or, nat_lt, if◌then◌else◌, ap, sym, arith, append_assoc, take_all}
+use Rattle.std.proofs.Common.{◌≡◌, ◌∙◌, ◌+◌, ◌-◌, ◌<◌, ◌≤◌, ◌==◌, ℕ, Bool, true, false, List, [], ◌∷◌, ◌++◌, length, drop, take, get_or}
+use Rattle.std.proofs.Common.{nat_lt, if◌then◌else◌, ap, sym, arith, append_assoc, take_all}
 use Rattle.std.proofs.lemmas.List.{append-nil, length-drop}
 use Rattle.polcert_rules.proofs.Common.{Cell, before, following, drop_all, drop_more}
 use Rattle.polcert_rules.proofs.row.add_before.Goals as goal
@@ -20,14 +21,17 @@ module _ (k n : ℕ) (base cells all after : List Cell) (d : Cell) (inside : n <
   before_by : (b : Bool) → nat_lt x.column k ≡ b → before k (drop n base) ≡ (if b then (x ∷ before k rest) else [])
   before_by b is = ap (before k) cut ∙ ap (λ (b : Bool). if b then (x ∷ before k rest) else []) is
 
-  following_by : (b : Bool) → nat_lt x.column k ≡ b → following k (drop n base) ≡ (if b then following k rest else (if x.column == k then rest else (x ∷ rest)))
-  following_by b is = ap (following k) cut ∙ ap (λ (b : Bool). if b then following k rest else (if x.column == k then rest else (x ∷ rest))) is
+  following_by : (b : Bool) → nat_lt x.column k ≡ b → following k (drop n base)
+      ≡ (if b then following k rest else (if x.column == k then rest else (x ∷ rest)))
+  following_by b is = ap (following k) cut ∙ ap (λ (b : Bool). if b then following k rest else (if x.column == k then rest else (x ∷ rest)))
+      is
 
   -- a cell before the column is put in
   taken : (pushed : List Cell) → pushed ≡ cells ++ (x ∷ []) → (x.column ≡ k → ⊥) → x.column ≤ k → Stands k (n + 1) base pushed all after
   taken pushed is other most =
       let less : nat_lt x.column k ≡ true = grind arith in (
-        ap (λ (ys : List Cell). ys ++ before k rest) is ∙ append_assoc cells (x ∷ []) (before k rest) ∙ ap (λ (ys : List Cell). cells ++ ys) (sym (before_by true less)) ∙ stands.0,
+        ap (λ (ys : List Cell). ys ++ before k rest) is ∙ append_assoc cells (x ∷ []) (before k rest)
+            ∙ ap (λ (ys : List Cell). cells ++ ys) (sym (before_by true less)) ∙ stands.0,
         sym (following_by true less) ∙ stands.1,
       )
 
@@ -54,27 +58,35 @@ ended k n base cells all after past stands =
     (sym (append-nil cells) ∙ ap (λ (ys : List Cell). cells ++ before k ys) (sym none) ∙ stands.0, ap (following k) (sym none) ∙ stands.1)
 
 whole : (base : List Cell) (n : ℕ) → take (length base - n) (drop n base) ≡ drop n base
-whole base n = let long : length (drop n base) ≡ length base - n = length-drop n base in take_all (length base - n) (drop n base) (omega arith)
+whole base n = let long : length (drop n base) ≡ length base - n = length-drop n base in
+    take_all (length base - n) (drop n base) (omega arith)
 
 pub loop-number-preserved : goal.loop-number-preserved
-loop-number-preserved c = taken c.args.column c.loop-number.number c.args.base.now c.loop-number.cells.items _ _ _ c.loop-number-test.true c.loop-number.invariant c.push.new.self.items c.in_ok-push.ensures.items c.if-cell-column.false c.if-cell-column-2.false
+loop-number-preserved c = taken c.args.column c.loop-number.number c.args.base.now c.loop-number.cells.items _ _ _ c.loop-number-test.true
+    c.loop-number.invariant c.push.new.self.items c.in_ok-push.ensures.items c.if-cell-column.false c.if-cell-column-2.false
 
 pub returns-clause-cells : goal.returns-clause-cells
-returns-clause-cells c = (ended c.args.column c.loop-number.number c.args.base.now c.loop-number.cells.items _ _ c.loop-number-test.false c.loop-number.invariant).0
+returns-clause-cells c = (ended c.args.column c.loop-number.number c.args.base.now c.loop-number.cells.items _ _ c.loop-number-test.false
+    c.loop-number.invariant).0
 
 pub returns-clause-rest : goal.returns-clause-rest
-returns-clause-rest c = (ended c.args.column c.loop-number.number c.args.base.now c.loop-number.cells.items _ _ c.loop-number-test.false c.loop-number.invariant).1
+returns-clause-rest c = (ended c.args.column c.loop-number.number c.args.base.now c.loop-number.cells.items _ _ c.loop-number-test.false
+    c.loop-number.invariant).1
 
 pub returns-then-cell-column-clause-cells : goal.returns-then-cell-column-clause-cells
-returns-then-cell-column-clause-cells c = (met c.args.column c.loop-number.number c.args.base.now c.loop-number.cells.items _ _ _ c.loop-number-test.true c.loop-number.invariant c.if-cell-column.true).0
+returns-then-cell-column-clause-cells c = (met c.args.column c.loop-number.number c.args.base.now c.loop-number.cells.items _ _ _
+    c.loop-number-test.true c.loop-number.invariant c.if-cell-column.true).0
 
 pub returns-then-cell-column-clause-rest : goal.returns-then-cell-column-clause-rest
 returns-then-cell-column-clause-rest c =
-    whole c.args.base.now (c.loop-number.number + 1) ∙ (met c.args.column c.loop-number.number c.args.base.now c.loop-number.cells.items _ _ _ c.loop-number-test.true c.loop-number.invariant c.if-cell-column.true).1
+    whole c.args.base.now (c.loop-number.number + 1) ∙ (met c.args.column c.loop-number.number c.args.base.now c.loop-number.cells.items _ _
+    _ c.loop-number-test.true c.loop-number.invariant c.if-cell-column.true).1
 
 pub returns-then-cell-column-2-clause-cells : goal.returns-then-cell-column-2-clause-cells
-returns-then-cell-column-2-clause-cells c = (passed c.args.column c.loop-number.number c.args.base.now c.loop-number.cells.items _ _ _ c.loop-number-test.true c.loop-number.invariant c.if-cell-column-2.true).0
+returns-then-cell-column-2-clause-cells c = (passed c.args.column c.loop-number.number c.args.base.now c.loop-number.cells.items _ _ _
+    c.loop-number-test.true c.loop-number.invariant c.if-cell-column-2.true).0
 
 pub returns-then-cell-column-2-clause-rest : goal.returns-then-cell-column-2-clause-rest
 returns-then-cell-column-2-clause-rest c =
-    whole c.args.base.now c.loop-number.number ∙ (passed c.args.column c.loop-number.number c.args.base.now c.loop-number.cells.items _ _ _ c.loop-number-test.true c.loop-number.invariant c.if-cell-column-2.true).1
+    whole c.args.base.now c.loop-number.number ∙ (passed c.args.column c.loop-number.number c.args.base.now c.loop-number.cells.items _ _ _
+    c.loop-number-test.true c.loop-number.invariant c.if-cell-column-2.true).1

@@ -4,7 +4,8 @@ use Rattle.polcert_rules.proofs.RowLaws.Cells.{IsBetween, all_of, with_columns}
 use Rattle.polcert_rules.proofs.row.add_columns_at.Goals as goal
 
 pub add_part-requires : goal.add_part-requires
-add_part-requires c = all_of (λ (r : Rule). c.args.start ≤ r.key) _ (λ r among. ((c.rules_from_at-rest.ensures.kept r).0 ((c.rules_before-part.ensures.kept r).0 among).0).1)
+add_part-requires c = all_of (λ (r : Rule). c.args.start ≤ r.key) _
+    (λ r among. ((c.rules_from_at-rest.ensures.kept r).0 ((c.rules_before-part.ensures.kept r).0 among).0).1)
 
 pub returns : goal.returns
 returns c =

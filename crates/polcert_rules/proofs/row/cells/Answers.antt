@@ -1,28 +1,38 @@
 use Rattle.std.proofs.Common.{ℕ, ◌+◌, ◌<◌, List, All, subst, sym, rules}
-use Rattle.polcert_rules.proofs.Common.{IsNonDecreasingBy-from_sort_by_key, Rule, IsRising, IsNewest, IsSingle, IsCell, at_column, key_base, others_in}
+use Rattle.polcert_rules.proofs.Common.{IsNonDecreasingBy-from_sort_by_key, Rule, IsRising, IsNewest, IsSingle, IsCell, at_column, key_base}
+use Rattle.polcert_rules.proofs.Common.{others_in}
 use Rattle.polcert_rules.proofs.Indexes.Building.{each_rises}
 use Rattle.polcert_rules.proofs.RowLaws.Cells.{gathered_are, newest_at, each_cell}
 use Rattle.polcert_rules.proofs.row.cells.Goals as goal
 
 pub returns-clause-rising : goal.returns-clause-rising
 returns-clause-rising c =
-    let ordered = IsNonDecreasingBy-from_sort_by_key (λ (r : Rule). r.key) _ c.sort_unstable_by_key.ensures.sorted (λ a r q k. search rules) in
+    let ordered = IsNonDecreasingBy-from_sort_by_key (λ (r : Rule). r.key) _ c.sort_unstable_by_key.ensures.sorted (λ a r q k. search rules)
+    in
     let is = c.keep_newest_of_each.ensures in
     subst IsRising (sym is) (each_rises _ ordered)
 
 pub returns-clause-newest : goal.returns-clause-newest
 returns-clause-newest c =
-    let gathered = gathered_are (others_in c.args.split.now.others) c.clear.new.self.items c.add_shared_columns.new.cells.items c.add_columns_at.new.cells.items c.args.low c.args.action c.args.state
-    _ c.clear.ensures.items c.first_column-start.ensures.is c.in_ok-add_shared_columns.ensures (rw c.nonzero_rules.ensures at c.in_ok-next.ensures) in
-    let ordered = IsNonDecreasingBy-from_sort_by_key (λ (r : Rule). r.key) _ c.sort_unstable_by_key.ensures.sorted (λ a r q k. search rules) in
+    let gathered = gathered_are (others_in c.args.split.now.others) c.clear.new.self.items c.add_shared_columns.new.cells.items
+    c.add_columns_at.new.cells.items c.args.low c.args.action c.args.state
+    _ c.clear.ensures.items c.first_column-start.ensures.is c.in_ok-add_shared_columns.ensures
+    (rw c.nonzero_rules.ensures at c.in_ok-next.ensures) in
+    let ordered = IsNonDecreasingBy-from_sort_by_key (λ (r : Rule). r.key) _ c.sort_unstable_by_key.ensures.sorted (λ a r q k. search rules)
+    in
     let is = c.keep_newest_of_each.ensures in
-    let all = newest_at (others_in c.args.split.now.others) _ _ c.args.low c.args.action c.args.state gathered c.sort_unstable_by_key.ensures.permutation (each_rises _ ordered) in
-    subst (λ (xs : List Rule). (n : ℕ) → n + 2 < key_base → IsNewest (others_in c.args.split.now.others) (IsSingle c.args.low c.args.action c.args.state n) (at_column xs n)) (sym is) all
+    let all = newest_at (others_in c.args.split.now.others) _ _ c.args.low c.args.action c.args.state gathered
+    c.sort_unstable_by_key.ensures.permutation (each_rises _ ordered) in
+    subst (λ (xs : List Rule). (n : ℕ) → n + 2 < key_base
+    → IsNewest (others_in c.args.split.now.others) (IsSingle c.args.low c.args.action c.args.state n) (at_column xs n)) (sym is) all
 
 pub returns-clause-each : goal.returns-clause-each
 returns-clause-each c =
-    let gathered = gathered_are (others_in c.args.split.now.others) c.clear.new.self.items c.add_shared_columns.new.cells.items c.add_columns_at.new.cells.items c.args.low c.args.action c.args.state
-    _ c.clear.ensures.items c.first_column-start.ensures.is c.in_ok-add_shared_columns.ensures (rw c.nonzero_rules.ensures at c.in_ok-next.ensures) in
+    let gathered = gathered_are (others_in c.args.split.now.others) c.clear.new.self.items c.add_shared_columns.new.cells.items
+    c.add_columns_at.new.cells.items c.args.low c.args.action c.args.state
+    _ c.clear.ensures.items c.first_column-start.ensures.is c.in_ok-add_shared_columns.ensures
+    (rw c.nonzero_rules.ensures at c.in_ok-next.ensures) in
     let is = c.keep_newest_of_each.ensures in
-    let all = each_cell (others_in c.args.split.now.others) _ _ c.args.low c.args.action c.args.state gathered c.sort_unstable_by_key.ensures.permutation in
+    let all = each_cell (others_in c.args.split.now.others) _ _ c.args.low c.args.action c.args.state gathered
+    c.sort_unstable_by_key.ensures.permutation in
     subst (λ (xs : List Rule). All (IsCell (others_in c.args.split.now.others) c.args.low c.args.action c.args.state) xs) (sym is) all

@@ -4,4 +4,5 @@ use Rattle.polcert_rules.proofs.row.newer_cells.Given as goal
 
 abbrev pub invariant-loop-rule : goal.invariant-loop-rule
 invariant-loop-rule l = (s : ℕ) →
-    l.newer.items ++ newer_cells l.columns l.entries (covering_entry l.row) s (drop l.rule-index l.row.cells.rules.items) ≡ newer_cells l.columns l.entries (covering_entry l.row) s l.row.cells.rules.items
+    l.newer.items ++ newer_cells l.columns l.entries (covering_entry l.row) s (drop l.rule-index l.row.cells.rules.items)
+    ≡ newer_cells l.columns l.entries (covering_entry l.row) s l.row.cells.rules.items

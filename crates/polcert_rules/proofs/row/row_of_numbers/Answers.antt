@@ -12,8 +12,10 @@ loop-column-preserved c =
     let old = c.loop-column.cells.items in
     elim c.if-weight-gt0.branch [
       | then-weight-gt0+in_ok-push w ↦
-          subst (λ (cells : List Cell). IsRow (k + 1) f cells) (sym (ap (λ v. v.items) w.cells-is ∙ w.in_ok-push.ensures.items)) (row_push f k old (f k) c.loop-column.invariant refl w.if-weight-gt0.true)
+          subst (λ (cells : List Cell). IsRow (k + 1) f cells) (sym (ap (λ v. v.items) w.cells-is ∙ w.in_ok-push.ensures.items))
+          (row_push f k old (f k) c.loop-column.invariant refl w.if-weight-gt0.true)
       | else-weight-gt0 w ↦
           subst (λ (cells : List Cell). IsRow (k + 1) f cells) (sym (ap (λ v. v.items) w.cells-is))
-          (row_skip f k (k + 1) old c.loop-column.invariant (omega arith) (λ i low high. let same : k ≡ i = omega arith in sym (ap f same) ∙ omega (arith, w.if-weight-gt0.false)))
+          (row_skip f k (k + 1) old c.loop-column.invariant (omega arith)
+          (λ i low high. let same : k ≡ i = omega arith in sym (ap f same) ∙ omega (arith, w.if-weight-gt0.false)))
     ]

@@ -8,19 +8,64 @@ use Rattle.polcert_rules.proofs.row_rules.+note.Goals as goal
 
 pub next_place-next-requires : goal.next_place-next-requires
 next_place-next-requires t c =
-    record { rising = c.requires.rising; few = c.requires.few; room = c.requires.room; index = first_index _ _ _ (subst (AreIndices c.args.levels) c.in-Some.ensures.cases.0 c.requires.indices) }
+    record {
+      rising = c.requires.rising;
+      few = c.requires.few;
+      room = c.requires.room;
+      index =
+          first_index _ _ _ (subst (AreIndices c.args.levels) c.in-Some.ensures.cases.0 c.requires.indices);
+    }
 
 pub note-requires : goal.note-requires
 note-requires t c =
-    let d = goes_deeper c.args.rules.now c.args.levels c.args.low c.in-Some.index.now c.in-Some.rest.now c.next_place-next.result c.requires.few (subst (AreIndices c.args.levels) c.in-Some.ensures.cases.0 c.requires.indices) c.next_place-next.ensures in
-    let size : length c.args.indices.now ≡ length (c.in-Some.index.now ∷ c.in-Some.rest.now) = ap length c.in-Some.ensures.cases.0 in
-    (search rules, (c.next_place-next.ensures.every_rises, (d.from_every, (d.few, (omega (arith, size, c.requires.last, c.next_place-next.ensures.levels_are), (omega (arith, d.room_every, c.requires.room), (d.indices_are, omega (arith, c.note_all.auto.noted, c.requires.small))))))))
+    let d = goes_deeper c.args.rules.now c.args.levels c.args.low c.in-Some.index.now c.in-Some.rest.now c.next_place-next.result
+    c.requires.few (subst (AreIndices c.args.levels) c.in-Some.ensures.cases.0 c.requires.indices) c.next_place-next.ensures in
+    let size : length c.args.indices.now ≡ length (c.in-Some.index.now ∷ c.in-Some.rest.now) = ap length c.in-Some.ensures.cases.0 in (
+      search rules,
+      (
+        c.next_place-next.ensures.every_rises,
+        (
+          d.from_every,
+          (
+            d.few,
+            (
+              omega
+                  (arith, size, c.requires.last, c.next_place-next.ensures.levels_are),
+              (omega (arith, d.room_every, c.requires.room), (d.indices_are, omega (arith, c.note_all.auto.noted, c.requires.small))),
+            ),
+          ),
+        ),
+      ),
+    )
 
 pub note-requires-in-Some : goal.note-requires-in-Some
 note-requires-in-Some t c =
-    let d = goes_deeper c.args.rules.now c.args.levels c.args.low c.in-Some.index.now c.in-Some.rest.now c.next_place-next.result c.requires.few (subst (AreIndices c.args.levels) c.in-Some.ensures.cases.0 c.requires.indices) c.next_place-next.ensures in
-    let size : length c.args.indices.now ≡ length (c.in-Some.index.now ∷ c.in-Some.rest.now) = ap length c.in-Some.ensures.cases.0 in
-    (search rules, (c.next_place-next.ensures.only_rises, (d.from_only, (d.few, (omega (arith, size, c.requires.last, c.next_place-next.ensures.levels_are), (omega (arith, d.room_only, c.requires.room), (d.indices_are, omega (arith, c.note_all.auto.noted, c.note.auto.noted, c.requires.small))))))))
+    let d = goes_deeper c.args.rules.now c.args.levels c.args.low c.in-Some.index.now c.in-Some.rest.now c.next_place-next.result
+    c.requires.few (subst (AreIndices c.args.levels) c.in-Some.ensures.cases.0 c.requires.indices) c.next_place-next.ensures in
+    let size : length c.args.indices.now ≡ length (c.in-Some.index.now ∷ c.in-Some.rest.now) = ap length c.in-Some.ensures.cases.0 in (
+      search rules,
+      (
+        c.next_place-next.ensures.only_rises,
+        (
+          d.from_only,
+          (
+            d.few,
+            (
+              omega
+                  (arith, size, c.requires.last, c.next_place-next.ensures.levels_are),
+              (
+                omega (arith, d.room_only, c.requires.room),
+                (
+                  d.indices_are,
+                  omega
+                      (arith, c.note_all.auto.noted, c.note.auto.noted, c.requires.small),
+                ),
+              ),
+            ),
+          ),
+        ),
+      ),
+    )
 
 pub note_last-requires-clause-room : goal.note_last-requires-clause-room
 note_last-requires-clause-room t c =
@@ -35,20 +80,30 @@ returns-in-None t c = λ i l.
     let none : c.args.indices.now ≡ [] = no_more _ c.in-None.ensures.cases in
     let size : length c.args.indices.now ≡ 0 = c.in-None.ensures.cases in
     let one : 1 ≡ c.args.levels = omega (arith, size, c.requires.last) in
-    subst (λ (is : List ℕ). IsNoted c.args.rules.now (Fits c.args.levels c.args.low (is ++ z ∷ [])) (get_or c.args.noted.now i None) (get_or c.note_last.new.noted i None)) (sym none)
-    (subst (λ k. IsNoted c.args.rules.now (Fits k c.args.low (z ∷ [])) (get_or c.args.noted.now i None) (get_or c.note_last.new.noted i None)) one
-    (noted_end c.args.rules.now c.args.low z c.first_at.result _ _ _ c.first_at.ensures (c.note_all.ensures i l) (c.note_last.ensures i (omega (arith, l, c.note_all.auto.noted)))))
+    subst (λ (is : List ℕ). IsNoted c.args.rules.now (Fits c.args.levels c.args.low (is ++ z ∷ [])) (get_or c.args.noted.now i None)
+    (get_or c.note_last.new.noted i None)) (sym none)
+    (subst (λ k. IsNoted c.args.rules.now (Fits k c.args.low (z ∷ [])) (get_or c.args.noted.now i None)
+    (get_or c.note_last.new.noted i None)) one
+    (noted_end c.args.rules.now c.args.low z c.first_at.result _ _ _ c.first_at.ensures (c.note_all.ensures i l)
+    (c.note_last.ensures i (omega (arith, l, c.note_all.auto.noted)))))
 
 pub returns-in-Some : goal.returns-in-Some
 returns-in-Some t c = λ i l.
     let z = c.args.first + i in
     let next = c.next_place-next.result in
     let rest = c.in-Some.rest.now in
-    let d = goes_deeper c.args.rules.now c.args.levels c.args.low c.in-Some.index.now c.in-Some.rest.now c.next_place-next.result c.requires.few (subst (AreIndices c.args.levels) c.in-Some.ensures.cases.0 c.requires.indices) c.next_place-next.ensures in
+    let d = goes_deeper c.args.rules.now c.args.levels c.args.low c.in-Some.index.now c.in-Some.rest.now c.next_place-next.result
+    c.requires.few (subst (AreIndices c.args.levels) c.in-Some.ensures.cases.0 c.requires.indices) c.next_place-next.ensures in
     let size : length c.args.indices.now ≡ length (c.in-Some.index.now ∷ rest) = ap length c.in-Some.ensures.cases.0 in
-    subst (λ (is : List ℕ). IsNoted c.args.rules.now (Fits c.args.levels c.args.low (is ++ z ∷ [])) (get_or c.args.noted.now i None) (get_or c.note-in-Some.new.noted i None)) (sym c.in-Some.ensures.cases.0)
-    (noted_deeper c.args.rules.now next.of_every.now next.of_only.now c.args.levels c.args.low c.in-Some.index.now rest z _ c.first_at.result _ _ _ _
-    (subst (AreIndices c.args.levels) c.in-Some.ensures.cases.0 c.requires.indices) (omega (arith, size, c.requires.last)) (omega (arith, l, c.requires.small)) refl
+    subst (λ (is : List ℕ). IsNoted c.args.rules.now (Fits c.args.levels c.args.low (is ++ z ∷ [])) (get_or c.args.noted.now i None)
+    (get_or c.note-in-Some.new.noted i None)) (sym c.in-Some.ensures.cases.0)
+    (noted_deeper c.args.rules.now next.of_every.now next.of_only.now c.args.levels c.args.low c.in-Some.index.now rest z _
+    c.first_at.result _ _ _ _
+    (subst (AreIndices c.args.levels) c.in-Some.ensures.cases.0 c.requires.indices) (omega (arith, size, c.requires.last))
+    (omega (arith, l, c.requires.small)) refl
     c.first_at.ensures (c.note_all.ensures i l)
-    d.span_every (at_every (λ k low. IsNoted next.of_every.now (Fits k low (rest ++ z ∷ [])) (get_or c.note_all.new.noted i None) (get_or c.note.new.noted i None)) _ _ _ _ next c.next_place-next.ensures (c.note.ensures i (omega (arith, l, c.note_all.auto.noted))))
-    d.span_only (at_only (λ k low. IsNoted next.of_only.now (Fits k low (rest ++ z ∷ [])) (get_or c.note.new.noted i None) (get_or c.note-in-Some.new.noted i None)) _ _ _ _ next c.next_place-next.ensures (c.note-in-Some.ensures i (omega (arith, l, c.note_all.auto.noted, c.note.auto.noted)))))
+    d.span_every (at_every (λ k low. IsNoted next.of_every.now (Fits k low (rest ++ z ∷ [])) (get_or c.note_all.new.noted i None)
+    (get_or c.note.new.noted i None)) _ _ _ _ next c.next_place-next.ensures (c.note.ensures i (omega (arith, l, c.note_all.auto.noted))))
+    d.span_only (at_only (λ k low. IsNoted next.of_only.now (Fits k low (rest ++ z ∷ [])) (get_or c.note.new.noted i None)
+    (get_or c.note-in-Some.new.noted i None)) _ _ _ _ next c.next_place-next.ensures
+    (c.note-in-Some.ensures i (omega (arith, l, c.note_all.auto.noted, c.note.auto.noted)))))

@@ -15,5 +15,7 @@ note_each-requires-clause-to c = λ r among.
 
 pub returns : goal.returns
 returns c = λ i l.
-    noted_last c.args.rules.now c.rules_from.result.now c.rules_between.result.now c.args.low c.args.first (length c.note_all.new.noted) i (c.args.low + 2 + c.args.first) c.first_at.result _ _ _ (omega (arith, l, c.note_all.auto.noted)) (omega arith)
-    c.rules_from.ensures.kept c.first_at.ensures (c.note_all.ensures i l) c.rules_between.ensures.kept (c.note_each.ensures i (omega (arith, l, c.note_all.auto.noted)))
+    noted_last c.args.rules.now c.rules_from.result.now c.rules_between.result.now c.args.low c.args.first (length c.note_all.new.noted) i
+    (c.args.low + 2 + c.args.first) c.first_at.result _ _ _ (omega (arith, l, c.note_all.auto.noted)) (omega arith)
+    c.rules_from.ensures.kept c.first_at.ensures (c.note_all.ensures i l) c.rules_between.ensures.kept
+    (c.note_each.ensures i (omega (arith, l, c.note_all.auto.noted)))

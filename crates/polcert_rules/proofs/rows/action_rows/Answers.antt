@@ -22,25 +22,30 @@ row_number-requires-clause-row c =
     let g = c.requires.given in (
       c.args.given.table,
       c.args.action,
-      row_numbers g.preamble c.args.given.table c.args.given.bodies.shape c.args.given.bodies.entries.now c.args.given.index.now c.args.given.split.now c.args.action c.loop-state.state c.newest_whole-whole.result c.in_ok-row.row
+      row_numbers g.preamble c.args.given.table c.args.given.bodies.shape c.args.given.bodies.entries.now c.args.given.index.now
+          c.args.given.split.now c.args.action c.loop-state.state c.newest_whole-whole.result c.in_ok-row.row
           g.weighted g.shape g.sound g.index g.split c.newest_whole-whole.ensures c.in_ok-row.ensures,
     )
 
 pub is_proper-requires : goal.is_proper-requires
 is_proper-requires c =
     let g = c.requires.given in
-    let row = row_numbers g.preamble c.args.given.table c.args.given.bodies.shape c.args.given.bodies.entries.now c.args.given.index.now c.args.given.split.now c.args.action c.loop-state.state c.newest_whole-whole.result c.in_ok-row.row
+    let row = row_numbers g.preamble c.args.given.table c.args.given.bodies.shape c.args.given.bodies.entries.now c.args.given.index.now
+    c.args.given.split.now c.args.action c.loop-state.state c.newest_whole-whole.result c.in_ok-row.row
     g.weighted g.shape g.sound g.index g.split c.newest_whole-whole.ensures c.in_ok-row.ensures in
     record { number = row_within c.args.given.bodies.shape.columns _ _ _ (c.in_ok-number.ensures.row c.args.given.table c.args.action row) }
 
 pub loop-state-preserved : goal.loop-state-preserved
 loop-state-preserved c =
     let g = c.requires.given in
-    let row = row_numbers g.preamble c.args.given.table c.args.given.bodies.shape c.args.given.bodies.entries.now c.args.given.index.now c.args.given.split.now c.args.action c.loop-state.state c.newest_whole-whole.result c.in_ok-row.row
+    let row = row_numbers g.preamble c.args.given.table c.args.given.bodies.shape c.args.given.bodies.entries.now c.args.given.index.now
+    c.args.given.split.now c.args.action c.loop-state.state c.newest_whole-whole.result c.in_ok-row.row
     g.weighted g.shape g.sound g.index g.split c.newest_whole-whole.ensures c.in_ok-row.ensures in
     let here = c.in_ok-number.ensures.row c.args.given.table c.args.action row in
-    let scale = (c.is_proper.ensures c.args.given.bodies.shape.columns c.args.given.bodies.entries.now _ c.in_ok-number.ensures.kept here).0 (search rules) in (
-      line_more c.args.given c.args.action c.loop-state.state c.in_ok-number.number _ _ _ _ c.loop-state.invariant.0 c.in_ok-number.ensures.stays here scale c.in_ok-extend_from_slice.ensures.items,
+    let scale = (c.is_proper.ensures c.args.given.bodies.shape.columns c.args.given.bodies.entries.now _ c.in_ok-number.ensures.kept here).0
+    (search rules) in (
+      line_more c.args.given c.args.action c.loop-state.state c.in_ok-number.number _ _ _ _ c.loop-state.invariant.0
+          c.in_ok-number.ensures.stays here scale c.in_ok-extend_from_slice.ensures.items,
       c.in_ok-number.ensures.kept,
       λ n r e. c.in_ok-number.ensures.stays n r (c.loop-state.invariant.2 n r e),
     )
@@ -48,7 +53,8 @@ loop-state-preserved c =
 pub returns-then-not-is_proper-clause-rows : goal.returns-then-not-is_proper-clause-rows
 returns-then-not-is_proper-clause-rows c =
     let g = c.requires.given in
-    let row = row_numbers g.preamble c.args.given.table c.args.given.bodies.shape c.args.given.bodies.entries.now c.args.given.index.now c.args.given.split.now c.args.action c.loop-state.state c.newest_whole-whole.result c.in_ok-row.row
+    let row = row_numbers g.preamble c.args.given.table c.args.given.bodies.shape c.args.given.bodies.entries.now c.args.given.index.now
+    c.args.given.split.now c.args.action c.loop-state.state c.newest_whole-whole.result c.in_ok-row.row
     g.weighted g.shape g.sound g.index g.split c.newest_whole-whole.ensures c.in_ok-row.ensures in
     let here = c.in_ok-number.ensures.row c.args.given.table c.args.action row in
     let scale = c.is_proper.ensures c.args.given.bodies.shape.columns c.args.given.bodies.entries.now _ c.in_ok-number.ensures.kept here in

@@ -9,6 +9,7 @@ returns-in-Some c =
 
 pub returns-in-None : goal.returns-in-None
 returns-in-None c =
-    let past : slice_index c.args.numbers.now c.args.column ≡ 0 = get_or_past c.args.numbers.now c.args.column 0 c.in-None.ensures.lookup.3 in
+    let past : slice_index c.args.numbers.now c.args.column ≡ 0 =
+    get_or_past c.args.numbers.now c.args.column 0 c.in-None.ensures.lookup.3 in
     let none : 0 ≡ 0 * c.args.columns = omega arith in
     none ∙ ap (λ k. k * c.args.columns) (sym past)

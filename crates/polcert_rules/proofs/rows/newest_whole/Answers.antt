@@ -8,7 +8,8 @@ use Rattle.polcert_rules.proofs.rows.newest_whole.Goals as goal
 pub newest_rule-requires : goal.newest_rule-requires
 newest_rule-requires c =
     let g = c.requires.given in
-    let within = sound_within g.preamble c.args.given.table c.args.given.bodies.shape c.args.given.bodies.entries.now g.weighted g.shape g.sound in
+    let within = sound_within g.preamble c.args.given.table c.args.given.bodies.shape c.args.given.bodies.entries.now g.weighted g.shape
+    g.sound in
     let actions = within.actions.1 in
     let states = within.states.1 in
     let la = c.requires.action in
@@ -17,4 +18,5 @@ newest_rule-requires c =
 
 pub returns-then-given : goal.returns-then-given
 returns-then-given c r among f =
-    covers_no_row (table_key c.args.given.table) (table_digit c.args.given.table) c.args.action c.args.state refl r.key (c.requires.given.split.exact c.if-given.true r among) f
+    covers_no_row (table_key c.args.given.table) (table_digit c.args.given.table) c.args.action c.args.state refl r.key
+    (c.requires.given.split.exact c.if-given.true r among) f

@@ -13,6 +13,7 @@ pub loop-element-preserved : goal.loop-element-preserved
 loop-element-preserved c = elim c.if-len-lt4.branch [
   | then-len-lt4 w ↦
       subst (AreDigits most_places) (sym (w.places-is ∙ w.push.ensures))
-      (one_more most_places c.loop-element.places w.place.result c.loop-element.invariant (omega (arith, c.len.ensures, w.if-len-lt4.true)) w.place.ensures)
+      (one_more most_places c.loop-element.places w.place.result c.loop-element.invariant (omega (arith, c.len.ensures, w.if-len-lt4.true))
+      w.place.ensures)
   | else-len-lt4 w ↦ subst (AreDigits most_places) (sym w.places-is) c.loop-element.invariant
 ]

@@ -5,5 +5,6 @@ use Rattle.polcert_tables.proofs.dense.observed_of.Given as goal
 abbrev pub invariant-loop-place : goal.invariant-loop-place
 invariant-loop-place l = record {
   size : length l.cells.items ≡ l.place;
-  each : (k : ℕ) → k < l.place → get_or l.cells.items k 0 ≡ (meaning l.model).o (k / l.observations / l.states) (k / l.observations % l.states) (k % l.observations);
+  each : (k : ℕ) → k < l.place → get_or l.cells.items k 0
+      ≡ (meaning l.model).o (k / l.observations / l.states) (k / l.observations % l.states) (k % l.observations);
 }

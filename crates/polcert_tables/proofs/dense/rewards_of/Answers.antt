@@ -9,13 +9,18 @@ overflow_mul-rows-3 c =
     let actions = c.actions.ensures.count in
     let states = c.states-states.ensures.count in
     let observations = c.observations.ensures.count in
-    omega (arith, four_fit c.actions.result c.states-states.result c.states-states.result c.observations.result actions.1 states.1 states.1 observations.1)
+    omega (
+      arith,
+      four_fit c.actions.result c.states-states.result c.states-states.result c.observations.result actions.1 states.1 states.1
+          observations.1,
+    )
 
 pub push_rewards-requires-clause-action : goal.push_rewards-requires-clause-action
 push_rewards-requires-clause-action c =
     let states = c.states-states.result in
     let some = c.states-states.ensures.count in
-    let below = div_below (c.loop-row.row / states) states c.actions.result (omega (arith, some)) (div_below c.loop-row.row states (c.actions.result * states) (omega (arith, some)) c.loop-row-test.true) in
+    let below = div_below (c.loop-row.row / states) states c.actions.result (omega (arith, some))
+    (div_below c.loop-row.row states (c.actions.result * states) (omega (arith, some)) c.loop-row-test.true) in
     omega (arith, below, c.actions.ensures.elements)
 
 pub loop-row-preserved : goal.loop-row-preserved
@@ -27,9 +32,13 @@ loop-row-preserved c =
     let adds = c.in_ok-push_rewards.ensures in
     record {
       size = omega (arith, adds.size, c.loop-row.invariant.size);
-      each = row_added f c.loop-row.row columns c.loop-row.cells.items c.push_rewards.new.cells.items c.loop-row.invariant.size c.loop-row.invariant.each adds;
+      each = row_added f c.loop-row.row columns c.loop-row.cells.items c.push_rewards.new.cells.items c.loop-row.invariant.size
+          c.loop-row.invariant.each adds;
     }
 
 pub returns : goal.returns
 returns c =
-    rewards_are (table_of (meaning c.args.model.now)) c.actions.result c.states-states.result (observations_of (meaning c.args.model.now)) (c.loop-row.row * observations_of (meaning c.args.model.now)) c.loop-row.cells.items c.actions.ensures.elements c.states-states.ensures.elements refl (ap (λ n. n * observations_of (meaning c.args.model.now)) (omega (arith, c.loop-row-test.false, c.loop-row.auto.row-end))) c.loop-row.invariant.size c.loop-row.invariant.each
+    rewards_are (table_of (meaning c.args.model.now)) c.actions.result c.states-states.result (observations_of (meaning c.args.model.now))
+    (c.loop-row.row * observations_of (meaning c.args.model.now)) c.loop-row.cells.items c.actions.ensures.elements
+    c.states-states.ensures.elements refl (ap (λ n. n * observations_of (meaning c.args.model.now))
+    (omega (arith, c.loop-row-test.false, c.loop-row.auto.row-end))) c.loop-row.invariant.size c.loop-row.invariant.each

@@ -7,5 +7,7 @@ invariant-loop-row l =
     let columns = observations_of (meaning l.model) in
     record {
       size : length l.cells.items ≡ l.row * columns;
-      each : (k : ℕ) → k < l.row * columns → get_or l.cells.items k (pos 0) ≡ (meaning l.model).r (k / columns / l.states / l.states) (k / columns / l.states % l.states) (k / columns % l.states) (k % columns);
+      each : (k : ℕ) → k < l.row * columns → get_or l.cells.items k (pos 0)
+          ≡ (meaning l.model).r (k / columns / l.states / l.states) (k / columns / l.states % l.states) (k / columns % l.states)
+          (k % columns);
     }

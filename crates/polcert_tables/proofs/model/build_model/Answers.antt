@@ -34,7 +34,8 @@ pub returns-in-Err : goal.returns-in-Err
 returns-in-Err c =
     let d : Draft = draft_with c.args.preamble c.args.start c.args.entries in
     let found = rw c.in-Err.is at c.in_ok-rows.ensures in
-    wrong_transition d c.in-Err.wrong (found d.preamble (record { actions = c.count.ensures; states = c.count-2.ensures; columns = c.count-3.ensures }))
+    wrong_transition d c.in-Err.wrong (found d.preamble
+    (record { actions = c.count.ensures; states = c.count-2.ensures; columns = c.count-3.ensures }))
 
 pub returns-in-Err-2 : goal.returns-in-Err-2
 returns-in-Err-2 c =
@@ -54,7 +55,13 @@ invariant_of-result c =
     let rows = first d.preamble (record { actions = c.count.ensures; states = c.count-2.ensures; columns = c.count-3.ensures }) in
     let next = rw c.in-Ok-2.is at c.in_ok-rows-2.ensures in
     let seen = next d.preamble refl (record { actions = c.count.ensures; states = c.count-2.ensures; columns = c.count-3.ensures }) in
-    let rewards = c.in_ok-rewards.ensures.rewards d.preamble (record { actions = sym c.count-4.ensures; states = sym c.count-5.ensures; observations = sym (c.count_or.ensures ∙ count_of_line c.args.preamble.observations (Count 1)) }) refl keyed sound.each in
+    let rewards = c.in_ok-rewards.ensures.rewards d.preamble
+    (record {
+      actions = sym c.count-4.ensures;
+      states = sym c.count-5.ensures;
+      observations =
+          sym (c.count_or.ensures ∙ count_of_line c.args.preamble.observations (Count 1));
+    }) refl keyed sound.each in
     let kept = is_kept d c.requires.sound c.in-Ok.rows c.in-Ok-2.rows c.in_ok-rewards.rewards rows.0 seen.0 rewards in
     let few : AreFew d.preamble = (c.requires.sound.actions.1, c.requires.sound.states.1, c.requires.sound.observations.1) in
     let proper = kept_proper d _ few kept rows.1 seen.1 in
@@ -70,7 +77,13 @@ invariant_of-result-2 c =
     let rows = first d.preamble (record { actions = c.count.ensures; states = c.count-2.ensures; columns = c.count-3.ensures }) in
     let next = rw c.in-Ok-2.is at c.in_ok-rows-2.ensures in
     let seen = next d.preamble refl (record { actions = c.count.ensures; states = c.count-2.ensures; columns = c.count-3.ensures }) in
-    let rewards = c.in_ok-rewards.ensures.rewards d.preamble (record { actions = sym c.count-4.ensures; states = sym c.count-5.ensures; observations = sym (c.count_or.ensures ∙ count_of_line c.args.preamble.observations (Count 1)) }) refl keyed sound.each in
+    let rewards = c.in_ok-rewards.ensures.rewards d.preamble
+    (record {
+      actions = sym c.count-4.ensures;
+      states = sym c.count-5.ensures;
+      observations =
+          sym (c.count_or.ensures ∙ count_of_line c.args.preamble.observations (Count 1));
+    }) refl keyed sound.each in
     is_kept_model d c.requires.sound c.in-Ok.rows c.in-Ok-2.rows c.in_ok-rewards.rewards rows.0 seen.0 rewards
 
 pub returns : goal.returns
@@ -82,5 +95,11 @@ returns c =
     let rows = first d.preamble (record { actions = c.count.ensures; states = c.count-2.ensures; columns = c.count-3.ensures }) in
     let next = rw c.in-Ok-2.is at c.in_ok-rows-2.ensures in
     let seen = next d.preamble refl (record { actions = c.count.ensures; states = c.count-2.ensures; columns = c.count-3.ensures }) in
-    let rewards = c.in_ok-rewards.ensures.rewards d.preamble (record { actions = sym c.count-4.ensures; states = sym c.count-5.ensures; observations = sym (c.count_or.ensures ∙ count_of_line c.args.preamble.observations (Count 1)) }) refl keyed sound.each in
+    let rewards = c.in_ok-rewards.ensures.rewards d.preamble
+    (record {
+      actions = sym c.count-4.ensures;
+      states = sym c.count-5.ensures;
+      observations =
+          sym (c.count_or.ensures ∙ count_of_line c.args.preamble.observations (Count 1));
+    }) refl keyed sound.each in
     is_kept d c.requires.sound c.in-Ok.rows c.in-Ok-2.rows c.in_ok-rewards.rewards rows.0 seen.0 rewards

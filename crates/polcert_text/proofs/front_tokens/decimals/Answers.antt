@@ -27,4 +27,5 @@ returns c =
     let w = c.six_bytes-digits.result in
     let bytes : (k : ℕ) → get_or bs k 0 < 256 = λ k. (c.type_inv.bytes k).fits in
     let is : w ≡ word bs from c.requires bytes 0 6 = word_is bs from c.requires bytes w c.six_bytes-digits.ensures in
-    fewer bs from c.requires bytes w is c.six_bytes-digits.type_inv c.if-others-eq0.false c.six_digits_value-2.result c.six_digits_value-2.ensures
+    fewer bs from c.requires bytes w is c.six_bytes-digits.type_inv c.if-others-eq0.false c.six_digits_value-2.result
+    c.six_digits_value-2.ensures

@@ -7,4 +7,5 @@ pub returns-in-Some : goal.returns-in-Some
 returns-in-Some c = λ place.
     let bs = c.args.bytes.now in
     let gap = c.args.start in
-    digits_begin place bs gap c.in-Some.number c.requires.gap (subst (λ xs. EndsAsDigits xs c.in-Some.number) (take_rest bs gap) c.in-Some.ensures)
+    digits_begin place bs gap c.in-Some.number c.requires.gap
+    (subst (λ xs. EndsAsDigits xs c.in-Some.number) (take_rest bs gap) c.in-Some.ensures)

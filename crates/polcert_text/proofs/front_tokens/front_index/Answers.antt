@@ -13,4 +13,5 @@ slice_bounds-rest-start c =
 
 pub returns-in-Some-digits_from-clause-digits : goal.returns-in-Some-digits_from-clause-digits
 returns-in-Some-digits_from-clause-digits c =
-    subst (λ xs. (place : ℕ) → BeginWithDigits place xs c.in-Some-digits_from.digits) (take_rest c.args.bytes.now c.in-Some.colon) c.in-Some-digits_from.ensures
+    subst (λ xs. (place : ℕ) → BeginWithDigits place xs c.in-Some-digits_from.digits) (take_rest c.args.bytes.now c.in-Some.colon)
+    c.in-Some-digits_from.ensures

@@ -18,5 +18,6 @@ returns c =
       none = λ below. absurd (omega (arith, below));
       short = omega (arith, read.within.1);
       digits = λ k low below. ⊎_elim (λ before. was.digits k low before) (λ following. read.digits k following below) (at_or_after k zeros);
-      is_inexact = tail_inexact bs from zeros end was.within.0 read.within.0 (omega (arith, read.within.1)) was.none (λ below. was.stops (omega (arith, below, read.within.1)));
+      is_inexact = tail_inexact bs from zeros end was.within.0 read.within.0 (omega (arith, read.within.1)) was.none
+          (λ below. was.stops (omega (arith, below, read.within.1)));
     }

@@ -7,4 +7,5 @@ returns-in-None c = search (rules, if_some_map, numeral_begins)
 
 pub returns-in-Some : goal.returns-in-Some
 returns-in-Some c =
-    if_some_map c.number_from-in-Some.result _ _ (λ found v place. sign_begins place c.args.bytes.now c.gap-start.result found c.gap-start.ensures.gap c.in-Some.is_negative c.in-Some.ensures v) c.number_from-in-Some.ensures
+    if_some_map c.number_from-in-Some.result _ _ (λ found v place. sign_begins place c.args.bytes.now c.gap-start.result found
+    c.gap-start.ensures.gap c.in-Some.is_negative c.in-Some.ensures v) c.number_from-in-Some.ensures

@@ -1,4 +1,5 @@
-use Rattle.std.proofs.Common.{◌≡◌, Option, Some, None, IfSome, ◌⊎◌, ◌+◌, ◌≤◌, sym, ◌∙◌, ◌-◌, ⊎_elim, ℕ, List, false, take, drop, get_or, refl, ap, arith}
+use Rattle.std.proofs.Common.{◌≡◌, Option, Some, None, IfSome, ◌⊎◌, ◌+◌, ◌≤◌, sym, ◌∙◌, ◌-◌, ⊎_elim, ℕ, List, false, take, drop, get_or}
+use Rattle.std.proofs.Common.{refl, ap, arith}
 use Rattle.polcert_text.proofs.Common.{list_any, is_nonzero, class_of}
 use Rattle.polcert_text.proofs.Numbers.FrontSizes.{nonzero_there}
 use Rattle.polcert_text.specs.Steps.FrontSizes.{IsTail}
@@ -39,11 +40,14 @@ returns-then-ends_numeral-2 c =
       stops = c.ends_numeral-then-is_digit_above_zero.ensures c.if-ends_numeral-2.true;
       none = λ below. absurd (omega (arith, below));
       short = omega (arith, more.high);
-      digits = λ k low below. ⊎_elim (λ here. ap (λ i. class_of (get_or bs i 0)) here ∙ first.digit c.if-is_digit_above_zero.true) (λ after. more.digits k after below) (first_or_after k from low);
-      is_inexact = sym (nonzero_there bs from from _ (omega arith) (omega (arith, more.low)) (omega (arith, more.high)) (first.above c.if-is_digit_above_zero.true));
+      digits = λ k low below. ⊎_elim (λ here. ap (λ i. class_of (get_or bs i 0)) here ∙ first.digit c.if-is_digit_above_zero.true)
+          (λ after. more.digits k after below) (first_or_after k from low);
+      is_inexact = sym (nonzero_there bs from from _ (omega arith) (omega (arith, more.low)) (omega (arith, more.high))
+          (first.above c.if-is_digit_above_zero.true));
     }
 
-all_six : (bs : List ℕ) (from full : ℕ) → full ≤ from → (tail : Option Tail) → IfSome tail (IsTail bs from from) → IfSome tail (IsTail bs from full)
+all_six : (bs : List ℕ) (from full : ℕ) → full ≤ from → (tail : Option Tail) → IfSome tail (IsTail bs from from)
+    → IfSome tail (IsTail bs from full)
 all_six bs from full six None is = is
 all_six bs from full six (Some tail) is = record {
   low = is.low;

@@ -15,7 +15,8 @@ returns-then-quick_is_minus c = λ place.
     let rest : take (length bs - gap) (drop gap bs) ≡ drop gap bs = take_rest bs gap in
     let following = take_rest (take (length bs - gap) (drop gap bs)) 1 ∙ ap (drop 1) rest in
     let ends = subst (λ xs. EndsAsSize xs numeral) following c.in-Some.ensures in
-    let minus : class_of (get_or (drop gap bs) 0 0) ≡ Minus = ap (λ xs. class_of (get_or xs 0 0)) (sym rest) ∙ c.quick_is_minus.ensures c.if-quick_is_minus.true in
+    let minus : class_of (get_or (drop gap bs) 0 0) ≡ Minus = ap (λ xs. class_of (get_or xs 0 0)) (sym rest)
+    ∙ c.quick_is_minus.ensures c.if-quick_is_minus.true in
     let fits : SFits w64 c.value.result = record { sfits = c.value.type_inv } in
     let same : to_z w64 (of_z w64 c.value.result) ≡ c.value.result = to_z-of_z w64 c.value.result fits in
     subst (λ value. BeginWithValue c.args.rounding place bs (record { len = gap + 1 + numeral.len; value = value })) (sym same)

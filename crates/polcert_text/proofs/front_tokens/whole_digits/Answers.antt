@@ -22,9 +22,11 @@ loop-at-preserved c =
     let more : number * 10 + (get_or bs at 0 - 48) < 10 ^ (at + 1) = omega (arith, power, c.loop-at.invariant.few, high) in
     record {
       within = omega arith;
-      digits = λ k low below. ⊎_elim (λ before. c.loop-at.invariant.digits k low before) (λ here. ap (λ i. class_of (get_or bs i 0)) here ∙ digit) (below_or_at k at below);
+      digits = λ k low below. ⊎_elim (λ before. c.loop-at.invariant.digits k low before)
+          (λ here. ap (λ i. class_of (get_or bs i 0)) here ∙ digit) (below_or_at k at below);
       value = ap (λ d. number * 10 + (d - 48)) c.from-digit.ensures
-          ∙ after_more [] bs 0 at number (omega arith) (omega arith) digit (c.loop-at.invariant.value ∙ ap (λ k. digits_value 10 (take k bs)) first)
+          ∙ after_more [] bs 0 at number (omega arith) (omega arith) digit
+          (c.loop-at.invariant.value ∙ ap (λ k. digits_value 10 (take k bs)) first)
           ∙ ap (λ k. digits_value 10 (take k bs)) next;
       few = subst (λ d. number * 10 + (d - 48) < 10 ^ (at + 1)) (sym c.from-digit.ensures) more;
     }

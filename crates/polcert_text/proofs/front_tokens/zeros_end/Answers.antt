@@ -17,6 +17,7 @@ loop-at-preserved c =
     record {
       low = omega arith;
       high = omega arith;
-      digits = λ k low below. ⊎_elim (λ before. c.loop-at.invariant.digits k low before) (λ here. ap (λ i. class_of (get_or bs i 0)) here ∙ ap class_of zero ∙ digit_at_48) (below_or_at k at below);
+      digits = λ k low below. ⊎_elim (λ before. c.loop-at.invariant.digits k low before)
+          (λ here. ap (λ i. class_of (get_or bs i 0)) here ∙ ap class_of zero ∙ digit_at_48) (below_or_at k at below);
       none = zeros_more bs c.args.from at c.loop-at.invariant.low inside zero c.loop-at.invariant.none;
     }

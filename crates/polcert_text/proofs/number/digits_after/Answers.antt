@@ -15,8 +15,10 @@ loop-at-preserved c =
     record {
       low = omega arith;
       high = omega arith;
-      digits = λ k low below. ⊎_elim (λ before. c.loop-at.invariant.digits k low before) (λ at. ap (λ i. class_of (get_or c.args.bytes.now i 0)) at ∙ digit) (below_or_at k c.loop-at.at below);
+      digits = λ k low below. ⊎_elim (λ before. c.loop-at.invariant.digits k low before)
+          (λ at. ap (λ i. class_of (get_or c.args.bytes.now i 0)) at ∙ digit) (below_or_at k c.loop-at.at below);
       value = λ front was.
           ap (λ d. c.loop-at.read * 10 + d) c.from.ensures
-          ∙ after_more front c.args.bytes.now c.args.from c.loop-at.at c.loop-at.read c.loop-at.invariant.low inside digit (c.loop-at.invariant.value front was);
+          ∙ after_more front c.args.bytes.now c.args.from c.loop-at.at c.loop-at.read c.loop-at.invariant.low inside digit
+          (c.loop-at.invariant.value front was);
     }

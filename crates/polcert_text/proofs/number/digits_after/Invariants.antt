@@ -7,7 +7,8 @@ invariant-loop-at l = record {
   low : l.from ≤ l.at;
   high : l.at ≤ l.until;
   digits : (k : ℕ) → l.from ≤ k → k < l.at → class_of (get_or l.bytes k 0) ≡ Digit;
-  value : (front : List ℕ) → l.fn.number ≡ digits_value 10 front → l.read ≡ digits_value 10 (front ++ take (l.at - l.from) (drop l.from l.bytes));
+  value : (front : List ℕ) → l.fn.number ≡ digits_value 10 front
+      → l.read ≡ digits_value 10 (front ++ take (l.at - l.from) (drop l.from l.bytes));
 }
 
 abbrev pub decreases-loop-at : goal.decreases-loop-at

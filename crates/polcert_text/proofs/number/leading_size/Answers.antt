@@ -13,7 +13,8 @@ returns-clause-floor c =
 
 pub returns-clause-is_inexact : goal.returns-clause-is_inexact
 returns-clause-is_inexact c =
-    (c.after_digits-scaling.ensures.scaled c.args.kept c.args.whole.now (c.after_digits.ensures.scaled c.args.kept _ (scaled_none c.args.kept))).is_inexact
+    (c.after_digits-scaling.ensures.scaled c.args.kept c.args.whole.now
+    (c.after_digits.ensures.scaled c.args.kept _ (scaled_none c.args.kept))).is_inexact
 
 pub returns-clause-small : goal.returns-clause-small
 returns-clause-small c =

@@ -12,7 +12,11 @@ loop-piece-init g c = record {
 }
 
 pub returns-then-is_err-clause-memory : goal.returns-then-is_err-clause-memory
-returns-then-is_err-clause-memory g c = λ _. (_, gave_more _ _ _ _ _ _ c.loop-piece.invariant.gave c.in-Ok.ensures.call (grind (arith, common_steps)) refl)
+returns-then-is_err-clause-memory g c = λ _. (
+  _,
+  gave_more _ _ _ _ _ _ c.loop-piece.invariant.gave c.in-Ok.ensures.call
+      (grind (arith, common_steps)) refl,
+)
 
 pub loop-piece-preserved : goal.loop-piece-preserved
 loop-piece-preserved g c = record {

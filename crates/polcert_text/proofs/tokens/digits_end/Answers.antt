@@ -9,5 +9,6 @@ loop-at-preserved c =
       low = omega arith;
       high = omega arith;
       same = λ state on was.
-          state_step _ _ state _ state inside (c.loop-at.invariant.same state on was) (sym (c.quick_is_digit.ensures c.if-quick_is_digit.true)) (sym on);
+          state_step _ _ state _ state inside (c.loop-at.invariant.same state on was)
+          (sym (c.quick_is_digit.ensures c.if-quick_is_digit.true)) (sym on);
     }

@@ -7,7 +7,8 @@ abbrev pub invariant-loop-at : goal.invariant-loop-at
 invariant-loop-at l = record {
   low : l.fn.from ≤ l.at;
   high : l.at ≤ length l.bytes;
-  same : (state : State) → ContinuesWithDigits state → state_through Start (take l.fn.from l.bytes) ≡ state → state_through Start (take l.at l.bytes) ≡ state;
+  same : (state : State) → ContinuesWithDigits state → state_through Start (take l.fn.from l.bytes) ≡ state
+      → state_through Start (take l.at l.bytes) ≡ state;
 }
 
 abbrev pub decreases-loop-at : goal.decreases-loop-at

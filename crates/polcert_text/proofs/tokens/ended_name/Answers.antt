@@ -15,4 +15,5 @@ returns-clause-ends c =
 pub returns-then-quick_is_colon-clause-ends : goal.returns-then-quick_is_colon-clause-ends
 returns-then-quick_is_colon-clause-ends c =
     let bs = c.args.bytes.now in
-    ends_within bs 1 Name kinds.Name (omega arith) (begins_name bs _ c.requires.some refl c.requires.letter) refl refl (ap (state_after Name) (c.quick_is_colon.ensures c.if-quick_is_colon.true))
+    ends_within bs 1 Name kinds.Name (omega arith) (begins_name bs _ c.requires.some refl c.requires.letter) refl refl
+    (ap (state_after Name) (c.quick_is_colon.ensures c.if-quick_is_colon.true))

@@ -18,6 +18,7 @@ returns-then-ends_numeral-2 c =
     let e = c.digits_end-end.result in
     let inside : p < length bs = omega (arith, c.digits_end-point.ensures.within.1) in
     let whole = c.digits_end-point.ensures.same Whole refl (begins_whole bs c.requires.some c.requires.digit) in
-    let fraction = c.digits_end-end.ensures.same Fraction refl (at_point bs p inside whole (c.quick_is_point.ensures c.if-not-quick_is_point.false)) in
+    let fraction = c.digits_end-end.ensures.same Fraction refl
+    (at_point bs p inside whole (c.quick_is_point.ensures c.if-not-quick_is_point.false)) in
     ends_within bs e Fraction Numeral c.if-end-bytes.true fraction refl refl
     (c.ends_numeral-then-end-bytes.ensures c.if-ends_numeral-2.true).fraction

@@ -16,6 +16,7 @@ loop-at-preserved c =
     let inside : c.loop-at.at < length c.args.bytes.now = omega arith in
     record {
       high = omega arith;
-      read = skipped_step c.args.gap c.args.bytes.now c.loop-at.at c.loop-at.gap _ inside c.loop-at.invariant.read (c.after.ensures ∙ ap (gap_after c.loop-at.gap) c.class_of.ensures);
+      read = skipped_step c.args.gap c.args.bytes.now c.loop-at.at c.loop-at.gap _ inside c.loop-at.invariant.read
+          (c.after.ensures ∙ ap (gap_after c.loop-at.gap) c.class_of.ensures);
       not_ended = c.in_default-after.not-Ended;
     }

@@ -10,5 +10,6 @@ loop-at-preserved c =
       low = omega arith;
       high = omega arith;
       same = λ was.
-          state_step _ _ Name _ Name inside (c.loop-at.invariant.same was) refl (sym (c.continues_name.ensures.on c.if-continues_name.true));
+          state_step _ _ Name _ Name inside (c.loop-at.invariant.same was) refl
+          (sym (c.continues_name.ensures.on c.if-continues_name.true));
     }

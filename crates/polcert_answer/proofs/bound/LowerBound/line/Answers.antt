@@ -23,5 +23,6 @@ returns-in-Short c =
     let back : to_z w64 (of_z w64 by) ≡ by = to_z-of_z fits in
     let fits_amount : FitsSigned w128 c.in-Short.amount = search rules in
     let amount_back : to_z w128 (of_z w128 c.in-Short.amount) ≡ c.in-Short.amount = to_z-of_z fits_amount in
-    rw back (subst⁻¹ (λ u. IsVerdictLine m (controller_of (table_of m) c.args.given.now.graph v) v u (short_line c.in-Short.node c.in-Short.state by)) c.in-Short.is
+    rw back (subst⁻¹ (λ u. IsVerdictLine m (controller_of (table_of m) c.args.given.now.graph v) v u
+    (short_line c.in-Short.node c.in-Short.state by)) c.in-Short.is
     (by, rw amount_back at c.millionths_short-by.ensures, refl))

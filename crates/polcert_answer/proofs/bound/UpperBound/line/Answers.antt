@@ -10,4 +10,5 @@ returns-in-Yes c =
     let most = c.start_most-most.result in
     let fits : FitsSigned w64 most = search rules in
     let back : to_z w64 (of_z w64 most) ≡ most = to_z-of_z fits in
-    rw back (subst⁻¹ (λ u. IsAboveVerdictLine m (controller_of (table_of m) c.args.given.now.graph v) v u (yes_above_line most)) c.in-Yes.is (most, c.start_most-most.ensures.most, refl))
+    rw back (subst⁻¹ (λ u. IsAboveVerdictLine m (controller_of (table_of m) c.args.given.now.graph v) v u (yes_above_line most)) c.in-Yes.is
+    (most, c.start_most-most.ensures.most, refl))

@@ -5,7 +5,8 @@ use Rattle.polcert_cells.proofs.cells.Row.step.Goals as goal
 pub returns-in-Some : goal.returns-in-Some
 returns-in-Some c = λ f count is.
     let found = c.in-Some.ensures.lookup in
-    step_sparse f count c.args.self.now is c.args.at c.in-Sparse.cells c.in-Some.cell.now c.step_of.result c.in-Sparse.is (found_at c.in-Sparse.cells.now c.args.at c.in-Some.cell.now found.3.0 found.3.1) c.step_of.ensures
+    step_sparse f count c.args.self.now is c.args.at c.in-Sparse.cells c.in-Some.cell.now c.step_of.result c.in-Sparse.is
+    (found_at c.in-Sparse.cells.now c.args.at c.in-Some.cell.now found.3.0 found.3.1) c.step_of.ensures
 
 pub returns-in-None : goal.returns-in-None
 returns-in-None c = λ f count is.
@@ -23,4 +24,5 @@ returns-in-Filled c = λ f count is.
     here ∙ are.each k (subst (λ n. k < n) are.size l)))
 
 pub returns-in-Scaled : goal.returns-in-Scaled
-returns-in-Scaled c = λ f count is. step_scaled f count c.args.self.now is c.args.at c.in-Scaled.numbers c.in-Scaled.scale c.scaled_step.result c.in-Scaled.is c.scaled_step.ensures
+returns-in-Scaled c = λ f count is. step_scaled f count c.args.self.now is c.args.at c.in-Scaled.numbers c.in-Scaled.scale
+    c.scaled_step.result c.in-Scaled.is c.scaled_step.ensures

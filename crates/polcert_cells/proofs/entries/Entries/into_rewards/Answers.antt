@@ -8,4 +8,5 @@ use Rattle.polcert_cells.proofs.entries.Entries.into_rewards.Goals as goal
 pub returns-clause-bodies : goal.returns-clause-bodies
 returns-clause-bodies c =
     let heads = c.self.inside.heads.items in
-    subst (λ (es : List Entry). AreEntryBodies es (map reward_body heads)) c.self.view_is (bodies_stand c.self.inside.pools heads c.self.invariant)
+    subst (λ (es : List Entry). AreEntryBodies es (map reward_body heads)) c.self.view_is
+    (bodies_stand c.self.inside.pools heads c.self.invariant)

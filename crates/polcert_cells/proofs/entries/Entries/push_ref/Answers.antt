@@ -14,8 +14,10 @@ invariant_of-self-in-Err c =
     let p = c.self.inside.pools in
     let q = c.put_entry.new.pools in
     let r : EntryStore = record { probabilities = q.probabilities; rewards = c.truncate.new.self } in
-    let left : r.rewards.items ≡ take (length p.rewards.items) q.rewards.items = c.truncate.ensures.items ∙ ap (λ n. take n q.rewards.items) (search rules) in
-    subst (AreHeldIn r) (sym c.in-Err.ensures.err) (held_still p q r c.put_entry.ensures.go_on refl left c.self.inside.heads.items c.self.invariant)
+    let left : r.rewards.items ≡ take (length p.rewards.items) q.rewards.items = c.truncate.ensures.items
+    ∙ ap (λ n. take n q.rewards.items) (search rules) in
+    subst (AreHeldIn r) (sym c.in-Err.ensures.err) (held_still p q r c.put_entry.ensures.go_on refl left c.self.inside.heads.items
+    c.self.invariant)
 
 pub returns-in-Err-clause-err : goal.returns-in-Err-clause-err
 returns-in-Err-clause-err c = grind (arith, listed_still)

@@ -14,5 +14,6 @@ returns c =
     let inside : c.args.number < length heads = grind (arith, length-map) in
     let same : get_or heads c.args.number read ≡ read = search rules in
     let head = slice_get-get_or heads c.args.number read inside ∙ ap Some same in
-    let found = subst (λ (es : List Entry). slice_get es c.args.number ≡ Some (entry read)) c.self.view_is (slice_get-map entry heads c.args.number ∙ ap (option_map entry) head) in
+    let found = subst (λ (es : List Entry). slice_get es c.args.number ≡ Some (entry read)) c.self.view_is
+    (slice_get-map entry heads c.args.number ∙ ap (option_map entry) head) in
     (entry read, found, refl)

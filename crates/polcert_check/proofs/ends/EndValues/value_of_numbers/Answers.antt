@@ -14,12 +14,16 @@ weigh-requires-clause-product g c =
     let s = c.args.s in
     let sum = c.sum_of_products-sum.result in
     let back : to_z w128 (of_z w128 sum) ≡ sum = to_z-of_z w128 sum (search rules) in
-    let narrow : (e : ℕ) → e < k.cells.states → 0 < k.cells.t (k.action n) s e → slice_index_or c.args.self.now.narrow e (pos 0) ≡ value_at_end k n e =
+    let narrow : (e : ℕ) → e < k.cells.states → 0 < k.cells.t (k.action n) s e
+    → slice_index_or c.args.self.now.narrow e (pos 0) ≡ value_at_end k n e =
     λ e l some. (c.requires.ends.narrow c.requires.narrow s e c.requires.start l some).value in
     let is : pos c.args.scale *ℤ sum ≡ expected_value k n s =
     ap (λ (x : ℤ). pos c.args.scale *ℤ x) c.sum_of_products-sum.ensures
-    ∙ scaled_total (k.cells.t (k.action n) s) k.cells.states c.args.scale c.args.numbers.now c.requires.row (λ e. slice_index_or c.args.self.now.narrow e (pos 0)) (value_at_end k n) c.min-count.result narrow (omega (arith, c.min-count.ensures, c.states.ensures)) (λ less. omega (arith, less, c.min-count.ensures, c.states.ensures)) in
-    let le = expected_value_le k c.args.node.now.input.proper limits c.args.node.now.input.values n s c.args.node.now.within c.requires.start in
+    ∙ scaled_total (k.cells.t (k.action n) s) k.cells.states c.args.scale c.args.numbers.now c.requires.row
+    (λ e. slice_index_or c.args.self.now.narrow e (pos 0)) (value_at_end k n) c.min-count.result narrow
+    (omega (arith, c.min-count.ensures, c.states.ensures)) (λ less. omega (arith, less, c.min-count.ensures, c.states.ensures)) in
+    let le = expected_value_le k c.args.node.now.input.proper limits c.args.node.now.input.values n s c.args.node.now.within
+    c.requires.start in
     rw back (scaled_room c.args.scale sum (expected_value k n s) most_sum is (omega (arith, le, ahead_room k.cells limits)))
 
 pub returns : goal.returns
@@ -29,11 +33,14 @@ returns g c =
     let s = c.args.s in
     let sum = c.sum_of_products-sum.result in
     let back : to_z w128 (of_z w128 sum) ≡ sum = to_z-of_z w128 sum (search rules) in
-    let narrow : (e : ℕ) → e < k.cells.states → 0 < k.cells.t (k.action n) s e → slice_index_or c.args.self.now.narrow e (pos 0) ≡ value_at_end k n e =
+    let narrow : (e : ℕ) → e < k.cells.states → 0 < k.cells.t (k.action n) s e
+    → slice_index_or c.args.self.now.narrow e (pos 0) ≡ value_at_end k n e =
     λ e l some. (c.requires.ends.narrow c.requires.narrow s e c.requires.start l some).value in
     let is : pos c.args.scale *ℤ sum ≡ expected_value k n s =
     ap (λ (x : ℤ). pos c.args.scale *ℤ x) c.sum_of_products-sum.ensures
-    ∙ scaled_total (k.cells.t (k.action n) s) k.cells.states c.args.scale c.args.numbers.now c.requires.row (λ e. slice_index_or c.args.self.now.narrow e (pos 0)) (value_at_end k n) c.min-count.result narrow (omega (arith, c.min-count.ensures, c.states.ensures)) (λ less. omega (arith, less, c.min-count.ensures, c.states.ensures)) in
+    ∙ scaled_total (k.cells.t (k.action n) s) k.cells.states c.args.scale c.args.numbers.now c.requires.row
+    (λ e. slice_index_or c.args.self.now.narrow e (pos 0)) (value_at_end k n) c.min-count.result narrow
+    (omega (arith, c.min-count.ensures, c.states.ensures)) (λ less. omega (arith, less, c.min-count.ensures, c.states.ensures)) in
     record {
       value = to_z-of_z w128 c.weigh.result (search rules) ∙ c.weigh.ensures ∙ ap (λ (x : ℤ). pos c.args.scale *ℤ x) back ∙ is;
       missing = λ z missed. (c.requires.ends.narrow c.requires.narrow s missed.0 c.requires.start missed.1 missed.2).missing z missed.3;

@@ -16,7 +16,8 @@ returns-then-not-are_zero-clause-paid c =
     record {
       before = loop.before;
       within = omega (arith, c.loop-first-test.true, c.columns-columns.ensures.columns);
-      paid = paid_from (row_rewards row) (row_width row) c.loop-first.first c.min-size.result c.fill.new.block c.fill.ensures size loop.within some;
+      paid = paid_from (row_rewards row) (row_width row) c.loop-first.first c.min-size.result c.fill.new.block c.fill.ensures size
+          loop.within some;
     }
 
 pub loop-first-preserved : goal.loop-first-preserved
@@ -26,8 +27,10 @@ loop-first-preserved c =
     let size = rw c.columns-columns.ensures.columns at c.min-size.ensures in
     let none = sym c.are_zero.ensures ∙ c.if-not-are_zero.false in
     record {
-      within = within (row_rewards row) (row_width row) c.loop-first.first c.min-size.result c.fill.new.block c.fill.ensures size loop.within;
-      before = zero_to (row_rewards row) (row_width row) c.loop-first.first c.min-size.result c.fill.new.block c.fill.ensures size loop.within none loop.before;
+      within = within (row_rewards row) (row_width row) c.loop-first.first c.min-size.result c.fill.new.block c.fill.ensures size
+          loop.within;
+      before = zero_to (row_rewards row) (row_width row) c.loop-first.first c.min-size.result c.fill.new.block c.fill.ensures size
+          loop.within none loop.before;
     }
 
 pub returns-clause-paid : goal.returns-clause-paid

@@ -10,14 +10,17 @@ returns-in-Probabilities c =
     let k = c.args.known.now in
     let r = c.args.self.now in
     let other = (subst (λ s. IsStateWithin (indices_in k r.table) r.table r.places s) c.in-Probabilities.is c.requires).0 in
-    if_ok_map c.feed_ahead.result _ _ (λ count ahead. list_goes of_probabilities states.Probabilities k r (probabilities_stand r.table other) c.in-Probabilities.numbers c.feed_ahead.new.self c.args.bytes.now count c.in-Probabilities.is ahead) c.feed_ahead.ensures
+    if_ok_map c.feed_ahead.result _ _ (λ count ahead. list_goes of_probabilities states.Probabilities k r
+    (probabilities_stand r.table other) c.in-Probabilities.numbers c.feed_ahead.new.self c.args.bytes.now count c.in-Probabilities.is
+    ahead) c.feed_ahead.ensures
 
 pub returns-in-Rewards : goal.returns-in-Rewards
 returns-in-Rewards c =
     let k = c.args.known.now in
     let r = c.args.self.now in
     let rewards = (subst (λ s. IsStateWithin (indices_in k r.table) r.table r.places s) c.in-Rewards.is c.requires).0 in
-    if_ok_map c.feed_ahead-in-Rewards.result _ _ (λ count ahead. list_goes of_rewards states.Rewards k r (rewards_stand r.table rewards) c.in-Rewards.numbers c.feed_ahead-in-Rewards.new.self c.args.bytes.now count c.in-Rewards.is ahead) c.feed_ahead-in-Rewards.ensures
+    if_ok_map c.feed_ahead-in-Rewards.result _ _ (λ count ahead. list_goes of_rewards states.Rewards k r (rewards_stand r.table rewards)
+    c.in-Rewards.numbers c.feed_ahead-in-Rewards.new.self c.args.bytes.now count c.in-Rewards.is ahead) c.feed_ahead-in-Rewards.ensures
 
 pub returns-in_default : goal.returns-in_default
 returns-in_default c = fed_none c.args.known.now c.args.self.now c.args.bytes.now

@@ -10,5 +10,6 @@ loop-counts-preserved c =
     let bs = c.args.bytes.now in
     let at = c.loop-counts.at in
     let new = c.put_index-in-loop-counts.new.self in
-    let next = subst (λ xs. PlacesFed k c.loop-counts.self xs c.in-Some-put_index.len new) (take_rest bs at) c.in-Some-put_index.ensures.fed in
+    let next = subst (λ xs. PlacesFed k c.loop-counts.self xs c.in-Some-put_index.len new) (take_rest bs at) c.in-Some-put_index.ensures.fed
+    in
     places_then k c.args.self.now c.loop-counts.self new bs at c.in-Some-put_index.len c.loop-counts.invariant next

@@ -7,7 +7,8 @@ use Rattle.polcert_items.proofs.AheadPlaces.{places_taken}
 use Rattle.polcert_items.proofs.entry_reader.EntryReader.feed_line.Goals as goal
 
 pub returns-in_default : goal.returns-in_default
-returns-in_default c = subst (λ r. FedAhead c.args.known.now c.args.self.now c.args.bytes.now 0 r) (sym c.in_default.ensures.none) (fed_none c.args.known.now c.args.self.now c.args.bytes.now)
+returns-in_default c = subst (λ r. FedAhead c.args.known.now c.args.self.now c.args.bytes.now 0 r) (sym c.in_default.ensures.none)
+    (fed_none c.args.known.now c.args.self.now c.args.bytes.now)
 
 pub returns-in-Some-2 : goal.returns-in-Some-2
 returns-in-Some-2 c =

@@ -12,7 +12,8 @@ returns-clause-fed c =
     let bs = c.args.bytes.now in
     let colon = c.in-Some.colon in
     let room : length r.places < length (indices_in k r.table) = omega (arith, c.indices_of.ensures k, c.len.ensures) in
-    let second = subst (λ xs. (position : ℕ) → BeginWithPlace (drop (length r.places) (named_in k r.table)) position xs c.in-Some-place_ahead.front) (take_rest bs colon) c.in-Some-place_ahead.ensures in
+    let second = subst (λ xs. (position : ℕ) → BeginWithPlace (drop (length r.places) (named_in k r.table)) position xs
+    c.in-Some-place_ahead.front) (take_rest bs colon) c.in-Some-place_ahead.ensures in
     place_is_fed k r bs colon c.in-Some-place_ahead.front _ room c.in-Some.ensures second c.push.ensures
 
 pub returns-clause-grows : goal.returns-clause-grows
@@ -32,8 +33,10 @@ overflow_add-result c =
     let r = c.args.self.now in
     let bs = c.args.bytes.now in
     let colon = c.in-Some.colon in
-    let second = subst (λ xs. (position : ℕ) → BeginWithPlace (drop (length r.places) (named_in k r.table)) position xs c.in-Some-place_ahead.front) (take_rest bs colon) c.in-Some-place_ahead.ensures in
-    let few : colon + c.in-Some-place_ahead.front.len ≤ length bs = omega (arith, (c.in-Some.ensures 0).front.within, (second 0).front.within, length-drop colon bs) in
+    let second = subst (λ xs. (position : ℕ) → BeginWithPlace (drop (length r.places) (named_in k r.table)) position xs
+    c.in-Some-place_ahead.front) (take_rest bs colon) c.in-Some-place_ahead.ensures in
+    let few : colon + c.in-Some-place_ahead.front.len ≤ length bs =
+    omega (arith, (c.in-Some.ensures 0).front.within, (second 0).front.within, length-drop colon bs) in
     search rules
 
 pub push-requires : goal.push-requires

@@ -8,7 +8,8 @@ pub overflow_add-result : goal.overflow_add-result
 overflow_add-result c =
     let bs = c.args.bytes.now in
     let front = c.args.front in
-    let few : front.colon + front.digits.len ≤ length bs = omega (arith, (c.requires.colon 0).front.within, (c.requires.digits 0).front.within, length-drop front.colon bs) in
+    let few : front.colon + front.digits.len ≤ length bs =
+    omega (arith, (c.requires.colon 0).front.within, (c.requires.digits 0).front.within, length-drop front.colon bs) in
     search rules
 
 pub returns-clause-fed : goal.returns-clause-fed
@@ -24,4 +25,5 @@ returns-clause-fed c =
     let same : get_or c.args.counts.now c.len-written.result 0 ≡ count = ap (λ n. get_or c.args.counts.now n 0) c.len-written.ensures in
     let below : front.digits.value < count = omega (arith, same, c.if-index-counts.false) in
     let second = digits_place k r.table written (drop front.colon bs) count front.digits room c.requires.digits counts.0 below in
-    place_is_fed k r bs front.colon (record { len = front.digits.len; place = Only front.digits.value }) _ room c.requires.colon second c.push.ensures
+    place_is_fed k r bs front.colon (record { len = front.digits.len; place = Only front.digits.value }) _ room c.requires.colon second
+    c.push.ensures

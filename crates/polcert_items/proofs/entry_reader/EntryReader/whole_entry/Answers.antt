@@ -13,10 +13,13 @@ returns c = λ preamble.
     (elim c.match-self.branch [
       | in-Probabilities w ↦ subst (λ b. EntryGoes preamble r [] (entry_with r.table r.places (body_of b))) (sym w.body-is)
           (subst (λ read. EntryGoes preamble r [] (entry_with r.table r.places (bodies.Probabilities read))) (sym w.as_slice.ensures)
-          (ends_in preamble r (states.Probabilities w.in-Probabilities.numbers) (entry_with r.table r.places _) w.in-Probabilities.is (_, (full_list of_probabilities w.in-Probabilities.numbers (search rules), refl))))
+          (ends_in preamble r (states.Probabilities w.in-Probabilities.numbers) (entry_with r.table r.places _) w.in-Probabilities.is
+          (_, (full_list of_probabilities w.in-Probabilities.numbers (search rules), refl))))
       | in-Rewards w ↦ subst (λ b. EntryGoes preamble r [] (entry_with r.table r.places (body_of b))) (sym w.body-is)
           (subst (λ read. EntryGoes preamble r [] (entry_with r.table r.places (bodies.Rewards read))) (sym w.as_slice-in-Rewards.ensures)
-          (ends_in preamble r (states.Rewards w.in-Rewards.numbers) (entry_with r.table r.places _) w.in-Rewards.is (_, (full_list of_rewards w.in-Rewards.numbers (search rules), refl))))
+          (ends_in preamble r (states.Rewards w.in-Rewards.numbers) (entry_with r.table r.places _) w.in-Rewards.is
+          (_, (full_list of_rewards w.in-Rewards.numbers (search rules), refl))))
       | in-Word w ↦ subst (λ b. EntryGoes preamble r [] (entry_with r.table r.places (body_of b))) (sym w.body-is)
-          (ends_in preamble r (states.Word w.in-Word.word) (entry_with r.table r.places _) w.in-Word.is (refl, ap (entry_with r.table r.places) w.word_ref-body.ensures))
+          (ends_in preamble r (states.Word w.in-Word.word) (entry_with r.table r.places _) w.in-Word.is
+          (refl, ap (entry_with r.table r.places) w.word_ref-body.ensures))
     ])

@@ -31,7 +31,8 @@ loop-self-preserved g c =
     let fits : FitsSigned w64 number.value = search rules in
     let worth = simp to_z-of_z at c.of_millionths.ensures in
     let in_range = simp to_z-of_z at (rw c.range.ensures at c.in-None.ensures) in
-    let next = number_ahead kind c.loop-self.self c.of_millionths.result (drop at bs) number g.met.T.ListNumber.distinct worth in_range c.loop-self.invariant.sign (omega arith) front _
+    let next = number_ahead kind c.loop-self.self c.of_millionths.result (drop at bs) number g.met.T.ListNumber.distinct worth in_range
+    c.loop-self.invariant.sign (omega arith) front _
     (λ i. record { read = c.in_ok-push-in-None.ensures.ok i; needed = c.loop-self.self.needed; sign = c.loop-self.invariant.sign i }) in
     record {
       sign = c.loop-self.invariant.sign;

@@ -13,4 +13,5 @@ push_ref-requires c =
     let i = c.self.inside in
     let e : Entry = entry_of c.args.entry in
     let k : ModelSoFar = known_of i.discount i.costs i.states i.actions i.observations i.start i.entries in
-    can_be_kept k e c.self.invariant.0 c.self.invariant.1 c.self.invariant.2 (subst (λ (m : ModelSoFar). IsSoundEntry (preamble_in m) e) (sym c.self.view_is) c.requires.1)
+    can_be_kept k e c.self.invariant.0 c.self.invariant.1 c.self.invariant.2
+    (subst (λ (m : ModelSoFar). IsSoundEntry (preamble_in m) e) (sym c.self.view_is) c.requires.1)

@@ -13,7 +13,8 @@ returns-in_ok-self-in-First-clause-seen c = λ body seen.
 pub returns-in-Named-clause-fed : goal.returns-in-Named-clause-fed
 returns-in-Named-clause-fed c =
     record {
-      takes = on_ok_both c.add_name.result (λ name added. named_takes c.args.most c.args.self.now c.in-Named.names c.add_name.new.names (lexeme_of c.args.token) c.in-Named.is name added) c.add_name.ensures.name c.add_name.ensures.added;
+      takes = on_ok_both c.add_name.result (λ name added. named_takes c.args.most c.args.self.now c.in-Named.names c.add_name.new.names
+          (lexeme_of c.args.token) c.in-Named.is name added) c.add_name.ensures.name c.add_name.ensures.added;
       leads = grind (arith, common_steps);
       refused = search rules;
       reason = search rules;

@@ -5,6 +5,7 @@ use Rattle.polcert_items.proofs.start_reader.Chosen.shares.Goals as goal
 pub loop-state-preserved : goal.loop-state-preserved
 loop-state-preserved c = record {
   all = c.loop-state.invariant.all;
-  shares = shares_more (picks c.args.self.now.choice (marked c.args.self.now.marks)) c.loop-state.state c.loop-state.weights _ c.loop-state.total c.weight-weight.result
+  shares = shares_more (picks c.args.self.now.choice (marked c.args.self.now.marks)) c.loop-state.state c.loop-state.weights _
+      c.loop-state.total c.weight-weight.result
       c.in_ok-push.ensures.ok c.weight-weight.ensures c.loop-state.invariant.shares;
 }

@@ -5,7 +5,8 @@ use Rattle.polcert_model.proofs.reader.TextReader.feed.Goals as goal
 
 pub returns-in_default-clause-read : goal.returns-in_default-clause-read
 returns-in_default-clause-read c = λ seen read inside text ts further tokens same.
-    subst (Refuses ts) (sym c.fault.ensures) (not_begun seen c.args.self.now (lexeme_of c.args.token) read c.in_default.is inside text ts further tokens same)
+    subst (Refuses ts) (sym c.fault.ensures) (not_begun seen c.args.self.now (lexeme_of c.args.token) read c.in_default.is inside text ts
+    further tokens same)
 
 pub returns-in-Ok-clause-read : goal.returns-in-Ok-clause-read
 returns-in-Ok-clause-read c = λ seen read inside.
@@ -16,4 +17,5 @@ pub returns-in-Err-Refused-clause-read : goal.returns-in-Err-Refused-clause-read
 returns-in-Err-Refused-clause-read c = λ seen read inside text ts further tokens same.
     let refuses = rw c.in-Err-Refused.field-0-is at c.in-Err-Refused.ensures.refused in
     subst (Refuses ts) (sym c.fault-in-Err-Refused.ensures)
-    (item_refuses seen c.args.self.now (lexeme_of c.args.token) c.in-Some.item c.in-Err-Refused.refusal read c.in-Some.is inside refuses text ts further tokens same)
+    (item_refuses seen c.args.self.now (lexeme_of c.args.token) c.in-Some.item c.in-Err-Refused.refusal read c.in-Some.is inside refuses
+    text ts further tokens same)

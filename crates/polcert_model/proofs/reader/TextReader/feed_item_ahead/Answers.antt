@@ -12,4 +12,6 @@ pub returns-clause-read : goal.returns-clause-read
 returns-clause-read c =
     let r = c.args.self.now in
     let new = within_item r.known r.number c.feed_ahead.new.self in
-    if_ok_map c.feed_ahead.result _ _ (λ count fed. subst (λ o. TakesAhead (TextReadsOn o new) c.args.bytes.now count) (sym (same_item r c.in-Some.item c.in-Some.is)) (item_ahead r.known r.number c.in-Some.item c.feed_ahead.new.self c.args.bytes.now count fed)) c.feed_ahead.ensures
+    if_ok_map c.feed_ahead.result _ _ (λ count fed. subst (λ o. TakesAhead (TextReadsOn o new) c.args.bytes.now count)
+    (sym (same_item r c.in-Some.item c.in-Some.is)) (item_ahead r.known r.number c.in-Some.item c.feed_ahead.new.self c.args.bytes.now
+    count fed)) c.feed_ahead.ensures

@@ -11,7 +11,8 @@ returns-in_err-close c = λ seen read.
 pub returns-in-Some : goal.returns-in-Some
 returns-in-Some c = λ seen read text ts tokens same clean stop.
     subst (Refuses ts) (sym c.fault.ensures)
-    (whole_refused seen c.close.new.self c.in-Some.kind c.args.end (c.in_ok-close.ensures.items seen read) (sym c.preamble_fault.ensures ∙ c.in-Some.is) text ts tokens same clean stop)
+    (whole_refused seen c.close.new.self c.in-Some.kind c.args.end (c.in_ok-close.ensures.items seen read)
+    (sym c.preamble_fault.ensures ∙ c.in-Some.is) text ts tokens same clean stop)
 
 pub returns-in-None : goal.returns-in-None
 returns-in-None c = λ seen read. record {

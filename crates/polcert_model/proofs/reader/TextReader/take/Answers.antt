@@ -6,11 +6,13 @@ use Rattle.polcert_model.proofs.reader.TextReader.take.Goals as goal
 pub returns-in_err-close-in-Some-clause-read : goal.returns-in_err-close-in-Some-clause-read
 returns-in_err-close-in-Some-clause-read c = λ seen read.
     let p = err_from_is_err_and c.from_residual.result c.from_residual.ensures.1 in
-    rw (p.1, p.2) (refused_at_word seen (lexeme_of c.args.token) c.in-Some.topic _ (sym c.begun_topic.ensures ∙ c.in-Some.is) (c.in_err-close-in-Some.ensures.items seen read))
+    rw (p.1, p.2) (refused_at_word seen (lexeme_of c.args.token) c.in-Some.topic _ (sym c.begun_topic.ensures ∙ c.in-Some.is)
+    (c.in_err-close-in-Some.ensures.items seen read))
 
 pub returns-in_ok-close-in-Some-clause-read : goal.returns-in_ok-close-in-Some-clause-read
 returns-in_ok-close-in-Some-clause-read c = λ seen read.
-    c.open.ensures.read seen (lexeme_of c.args.token) (c.in_ok-close-in-Some.ensures.items seen read) (sym c.begun_topic.ensures ∙ c.in-Some.is) refl
+    c.open.ensures.read seen (lexeme_of c.args.token) (c.in_ok-close-in-Some.ensures.items seen read)
+    (sym c.begun_topic.ensures ∙ c.in-Some.is) refl
 
 pub returns-in-None-clause-read : goal.returns-in-None-clause-read
 returns-in-None-clause-read c = λ seen read.

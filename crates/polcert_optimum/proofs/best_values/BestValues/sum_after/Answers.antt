@@ -8,4 +8,6 @@ pub returns-then-has_row_before : goal.returns-then-has_row_before
 returns-then-has_row_before g c =
     let t : CellTable = g.C.Cells.table c.args.pair.now.cells.now in
     let pair = c.args.pair.now in
-    to_z-of_z w128 c.args.before (search rules) ∙ c.requires (c.has_row_before.ensures.some c.if-has_row_before.true) ∙ best_same t (value_of pair.vectors.now) pair.action (pair.state - 1) pair.state (c.has_row_before.ensures.same c.if-has_row_before.true)
+    to_z-of_z w128 c.args.before (search rules) ∙ c.requires (c.has_row_before.ensures.some c.if-has_row_before.true)
+    ∙ best_same t (value_of pair.vectors.now) pair.action (pair.state - 1) pair.state
+    (c.has_row_before.ensures.same c.if-has_row_before.true)

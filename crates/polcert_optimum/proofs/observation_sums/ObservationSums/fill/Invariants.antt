@@ -5,7 +5,8 @@ use Rattle.polcert_optimum.proofs.observation_sums.ObservationSums.fill.Given as
 -- the end states that are reached are added
 abbrev pub invariant-loop-end : goal.invariant-loop-end
 invariant-loop-end g l = record {
-  sums : AreValuesUntil (g.C.Cells.table l.cells) (value_of l.pair.vectors.now l.next) l.pair.action l.pair.state (reached l.row l.at) l.self.sums;
+  sums : AreValuesUntil (g.C.Cells.table l.cells) (value_of l.pair.vectors.now l.next) l.pair.action l.pair.state (reached l.row l.at)
+      l.self.sums;
   within : reached l.row l.at ≤ (g.C.Cells.table l.cells).states;
 }
 

@@ -21,7 +21,8 @@ overflow_add-at c =
     let bs = c.args.bytes.now in
     let at = c.loop-self.at in
     let begins = subst (λ xs. (place : ℕ) → BeginWithDigits place xs c.in-Some.front) (take_rest bs at) c.in-Some.ensures in
-    let high : at + c.in-Some.front.len ≤ length bs = front_within bs at c.in-Some.front.len c.loop-self.invariant.takes.within (begins 0).front.within in
+    let high : at + c.in-Some.front.len ≤ length bs = front_within bs at c.in-Some.front.len c.loop-self.invariant.takes.within
+    (begins 0).front.within in
     search rules
 
 pub loop-self-preserved : goal.loop-self-preserved
@@ -41,7 +42,8 @@ loop-self-preserved c =
             digits.token ∷ [],
             (
               digits.front,
-              successor_reads r _ c.advance.new.self digits.token front.value _ c.loop-self-test.true was.minus (next.minus_same ∙ was.minus) refl refl refl refl refl c.in_ok-push.ensures
+              successor_reads r _ c.advance.new.self digits.token front.value _ c.loop-self-test.true was.minus
+                  (next.minus_same ∙ was.minus) refl refl refl refl refl c.in_ok-push.ensures
                   next digits.kind_is digits.digits digits.value (c.of.ensures ∙ ap Some (omega (arith, c.min-node.ensures))),
             ),
           ));

@@ -11,13 +11,15 @@ returns-then-is_joined c =
     record {
       sign = m;
       sign_is = c.in-Some.is;
-      joined = sym (joined_as m (lexeme_of c.args.token)) ∙ sym (c.is_joined.ensures (minus_at m.stop) refl (omega arith)) ∙ c.if-is_joined.true;
+      joined = sym (joined_as m (lexeme_of c.args.token)) ∙ sym (c.is_joined.ensures (minus_at m.stop) refl (omega arith))
+          ∙ c.if-is_joined.true;
       fault_is = refl;
     }
 
 pub returns-else-is_joined : goal.returns-else-is_joined
 returns-else-is_joined c = λ m e.
     let old = c.in-Some.minus in
-    let apart = sym (joined_as old (lexeme_of c.args.token)) ∙ sym (c.is_joined.ensures (minus_at old.stop) refl (omega arith)) ∙ c.if-is_joined.false in
+    let apart = sym (joined_as old (lexeme_of c.args.token)) ∙ sym (c.is_joined.ensures (minus_at old.stop) refl (omega arith))
+    ∙ c.if-is_joined.false in
     let same : old ≡ m = same_some old m (sym c.in-Some.is ∙ e) in
     subst (λ s. is_joined_to s (lexeme_of c.args.token) ≡ false) same apart

@@ -18,5 +18,7 @@ pub of-requires : goal.of-requires
 of-requires c =
     let r = c.args.self in
     let none = none_from_not _ c.in_default-first_beyond.not-Some in
-    let below : AllBelow (length r.rows.rows) r.names.items = subst₂ (λ n xs. AllBelow n xs) c.len.ensures c.deref.ensures.value (rw none at c.first_beyond.ensures) in
-    proper_read _ _ _ r.some_states r.some_actions r.some_observations c.requires.0 (so_far r) r.few_states r.few_actions r.few_observations c.requires.1 c.in-Number.is below
+    let below : AllBelow (length r.rows.rows) r.names.items =
+    subst₂ (λ n xs. AllBelow n xs) c.len.ensures c.deref.ensures.value (rw none at c.first_beyond.ensures) in
+    proper_read _ _ _ r.some_states r.some_actions r.some_observations c.requires.0 (so_far r) r.few_states r.few_actions r.few_observations
+    c.requires.1 c.in-Number.is below

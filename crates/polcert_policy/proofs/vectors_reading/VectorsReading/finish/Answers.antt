@@ -5,7 +5,18 @@ use Rattle.polcert_policy.proofs.LimitLaws.{vectors_proper}
 use Rattle.polcert_policy.proofs.vectors_reading.VectorsReading.finish.Goals as goal
 
 pub returns-then-self-gt0 : goal.returns-then-self-gt0
-returns-then-self-gt0 c = λ way seen h. (refl, (c.args.self.node, (c.args.self.column, unfinished_vector _ seen c.args.self c.args.self.some_states c.if-self-gt0.true h, c.if-self-gt0.true)))
+returns-then-self-gt0 c = λ way seen h. (
+  refl,
+  (
+    c.args.self.node,
+    (
+      c.args.self.column,
+      unfinished_vector _ seen c.args.self c.args.self.some_states c.if-self-gt0.true
+          h,
+      c.if-self-gt0.true,
+    ),
+  ),
+)
 
 pub returns-then-self-nodes : goal.returns-then-self-nodes
 returns-then-self-nodes c = λ way seen h.

@@ -24,7 +24,8 @@ overflow_add-at c =
     let bs = c.args.bytes.now in
     let at = c.loop-self.at in
     let begins = subst (λ xs. (place : ℕ) → BeginWithValue c.args.rounding place xs c.in-Some.front) (take_rest bs at) c.in-Some.ensures in
-    let high : at + c.in-Some.front.len ≤ length bs = front_within bs at c.in-Some.front.len c.loop-self.invariant.takes.within (begins 0).front.within in
+    let high : at + c.in-Some.front.len ≤ length bs = front_within bs at c.in-Some.front.len c.loop-self.invariant.takes.within
+    (begins 0).front.within in
     search rules
 
 pub loop-self-preserved : goal.loop-self-preserved
@@ -45,7 +46,8 @@ loop-self-preserved c =
             with_minus value.minus value.token,
             (
               value.front,
-              value_reads r _ c.advance.new.self value.token front.value c.loop-self-test.true was.sign value.kind_is value.readable refl refl refl was.sign pushed c.advance.ensures value.minus value.minus_is value.rounded,
+              value_reads r _ c.advance.new.self value.token front.value c.loop-self-test.true was.sign value.kind_is value.readable refl
+                  refl refl was.sign pushed c.advance.ensures value.minus value.minus_is value.rounded,
             ),
           ));
     }

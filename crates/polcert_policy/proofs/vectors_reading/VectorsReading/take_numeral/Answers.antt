@@ -14,5 +14,6 @@ returns-in_ok-push-in-Ok-clause-takes c = λ graph seen h.
     let value = c.in-Ok.ensures.value in
     let fits = in_range_fits c.in-Ok.value (rounded_in_range c.args.rounding _ _ c.in-Ok.value value.0 value.1) in
     let pushed = rw (to_z-of_z w64 c.in-Ok.value fits) at c.in_ok-push-in-Ok.ensures in
-    read_value graph c.args.self.now _ _ seen _ c.in-Ok.value c.requires.column c.requires.numeral value.0 (subst (λ b. IsRounded c.args.rounding b c.args.token.bytes.now c.in-Ok.value) c.is_negative.ensures value.1)
+    read_value graph c.args.self.now _ _ seen _ c.in-Ok.value c.requires.column c.requires.numeral value.0
+    (subst (λ b. IsRounded c.args.rounding b c.args.token.bytes.now c.in-Ok.value) c.is_negative.ensures value.1)
     refl refl refl refl pushed c.advance.ensures h

@@ -7,4 +7,5 @@ returns-clause-number c entries index =
 
 pub returns-clause-last : goal.returns-clause-last
 returns-clause-last c entries index =
-    last_is entries c.args.table c.args.indices.now _ (last_number entries c.args.self.now c.args.table c.args.indices.now _ index c.requires c.newest_rule.ensures)
+    last_is entries c.args.table c.args.indices.now _ (last_number entries c.args.self.now c.args.table c.args.indices.now _ index
+    c.requires c.newest_rule.ensures)

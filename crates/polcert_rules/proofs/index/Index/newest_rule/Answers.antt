@@ -12,5 +12,7 @@ returns c =
     let low = c.table_digit.result * c.span.result in
     let low_is = ap (λ s. c.table_digit.result * s) c.span.ensures ∙ ap (λ d. d * key_base ^ 4) c.table_digit.ensures in
     let all_rules = c.as_slice.ensures.value ∙ c.self.view_is in
-    let span = subst (λ (rules : List Rule). IsSpan rules c.rules_between.result.now low c.span-2.result) all_rules c.rules_between.ensures.kept in
-    newest_in c.args.self.now c.rules_between.result.now c.args.table c.args.indices.now low c.span-2.result c.newest.result low_is c.span-2.ensures c.requires span c.newest.ensures
+    let span = subst (λ (rules : List Rule). IsSpan rules c.rules_between.result.now low c.span-2.result) all_rules
+    c.rules_between.ensures.kept in
+    newest_in c.args.self.now c.rules_between.result.now c.args.table c.args.indices.now low c.span-2.result c.newest.result low_is
+    c.span-2.ensures c.requires span c.newest.ensures

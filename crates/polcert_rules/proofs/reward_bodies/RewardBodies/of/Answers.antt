@@ -6,4 +6,5 @@ use Rattle.polcert_rules.proofs.reward_bodies.RewardBodies.of.Goals as goal
 pub returns : goal.returns
 returns c =
     subst (λ (numbers : List ℤ). AreBodiesOf c.args.costs c.args.entries numbers c.into_rewards-bodies.result.0)
-    (sym (c.in_ok-numbers.ensures ∙ ap (map (worth c.args.costs)) c.into_rewards-bodies.ensures.rewards)) (bodies_are c.args.costs c.args.entries c.into_rewards-bodies.result.0 c.into_rewards-bodies.ensures.bodies)
+    (sym (c.in_ok-numbers.ensures ∙ ap (map (worth c.args.costs)) c.into_rewards-bodies.ensures.rewards))
+    (bodies_are c.args.costs c.args.entries c.into_rewards-bodies.result.0 c.into_rewards-bodies.ensures.bodies)

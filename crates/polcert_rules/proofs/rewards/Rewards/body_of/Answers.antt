@@ -7,11 +7,14 @@ use Rattle.polcert_rules.proofs.rewards.Rewards.body_of.Goals as goal
 
 pub returns-in-Some : goal.returns-in-Some
 returns-in-Some c indices p entries small are newest =
-    let n = subst (λ (number : Option ℕ). IsNewest c.args.self.now.rules (Fits most_places (table_key Reward) indices) number) c.in-Some.is newest in
+    let n = subst (λ (number : Option ℕ). IsNewest c.args.self.now.rules (Fits most_places (table_key Reward) indices) number) c.in-Some.is
+    newest in
     let found = c.find.ensures ∙ ap (λ (rewards : RewardRules). slice_get rewards.bodies c.in-Some.number) c.self.view_is in
-    subst (IsLastBody p.costs entries c.args.self.now.numbers indices) (sym found) (last_body p entries c.args.self.now indices c.in-Some.number are small n)
+    subst (IsLastBody p.costs entries c.args.self.now.numbers indices) (sym found)
+    (last_body p entries c.args.self.now indices c.in-Some.number are small n)
 
 pub returns-in-None : goal.returns-in-None
 returns-in-None c indices p entries small are newest =
-    let n = subst (λ (number : Option ℕ). IsNewest c.args.self.now.rules (Fits most_places (table_key Reward) indices) number) c.in-None.is newest in
+    let n = subst (λ (number : Option ℕ). IsNewest c.args.self.now.rules (Fits most_places (table_key Reward) indices) number) c.in-None.is
+    newest in
     last_of_rules p entries _ indices None are small n

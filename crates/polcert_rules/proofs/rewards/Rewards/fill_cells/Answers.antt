@@ -1,6 +1,7 @@
 use Rattle.std.proofs.Common.{◌≡◌, ◌∙◌, ◌+◌, ◌*◌, [], ◌∷◌, map, FitsSigned, to_z, of_z, w64, sym, subst, arith, rules}
 use Rattle.std.proofs.lemmas.Int.{to_z-of_z}
-use Rattle.polcert_rules.proofs.Common.{slice_get-get_or, count_of, dimensions, Reward, AreIndices, table_key, most_places, IsNewest, AreWithin, RewardCell}
+use Rattle.polcert_rules.proofs.Common.{slice_get-get_or, count_of, dimensions, Reward, AreIndices, table_key, most_places, IsNewest}
+use Rattle.polcert_rules.proofs.Common.{AreWithin, RewardCell}
 use Rattle.polcert_rules.specs.Keys.{Fits}
 use Rattle.polcert_rules.proofs.RewardLaws.CellRewards.{cells_more}
 use Rattle.polcert_rules.proofs.rewards.Rewards.fill_cells.Goals as goal
@@ -12,12 +13,17 @@ loop-i-preserved c =
     let s = c.args.start in
     let at = c.in-Some.at in
     let list = c.args.list in
-    let x : RewardCell = record { observation = at.end * c.self.inside.shape.observations + at.observation; reward = to_z w64 (of_z w64 c.single_or_given-reward.result) } in
+    let x : RewardCell = record {
+      observation = at.end * c.self.inside.shape.observations + at.observation;
+      reward =
+          to_z w64 (of_z w64 c.single_or_given-reward.result);
+    } in
     let get = slice_get-get_or list.named.now i (record { key = 0; number = 0 }) c.loop-i-test.true in
     let shape : c.args.self.now.shape.observations ≡ c.self.inside.shape.observations = search rules in
     let small : AreIndices most_places (a ∷ s ∷ at.end ∷ at.observation ∷ []) = search rules in
     let fits : FitsSigned w64 c.single_or_given-reward.result = search rules in
-    cells_more c.args.self.now a s list i c.loop-i.next c.loop-i.cells x _ c.loop-i.invariant (omega (arith, c.loop-i-test.true, c.if-cells-list.false, c.loop-i.auto.cells)) (omega (arith, c.if-number-next.false)) get
+    cells_more c.args.self.now a s list i c.loop-i.next c.loop-i.cells x _ c.loop-i.invariant
+    (omega (arith, c.loop-i-test.true, c.if-cells-list.false, c.loop-i.auto.cells)) (omega (arith, c.if-number-next.false)) get
     (record {
       end = at.end;
       observation = at.observation;
@@ -30,5 +36,6 @@ loop-i-preserved c =
           let within : AreWithin (map count_of (dimensions p Reward)) (a ∷ s ∷ at.end ∷ at.observation ∷ []) = search rules in
           sym (to_z-of_z w64 c.single_or_given-reward.result fits ∙ c.single_or_given-reward.ensures p entries are within
           (c.body_of-covering.ensures (a ∷ s ∷ at.end ∷ at.observation ∷ []) p entries small are
-          (subst (IsNewest c.args.self.now.rules (Fits most_places (table_key Reward) (a ∷ s ∷ at.end ∷ at.observation ∷ []))) (sym c.max_option.ensures) newest)));
+          (subst (IsNewest c.args.self.now.rules (Fits most_places (table_key Reward) (a ∷ s ∷ at.end ∷ at.observation ∷ [])))
+          (sym c.max_option.ensures) newest)));
     })

@@ -12,7 +12,8 @@ loop-done-preserved c = record {
       (c.loop-done.invariant.filled p entries are)
       (λ i l.
       let place : c.args.first + c.loop-done.done + i ≡ c.args.first + (c.loop-done.done + i) = omega arith in
-      subst (λ z. get_or c.fill_noted.new.rewards i (pos 0) ≡ reward p entries (c.args.at.action ∷ c.args.at.start ∷ c.args.at.end ∷ z ∷ [])) place (c.fill_noted.ensures p entries are i l));
+      subst (λ z. get_or c.fill_noted.new.rewards i (pos 0)
+      ≡ reward p entries (c.args.at.action ∷ c.args.at.start ∷ c.args.at.end ∷ z ∷ [])) place (c.fill_noted.ensures p entries are i l));
 }
 
 pub fill_noted-requires-clause-nothing : goal.fill_noted-requires-clause-nothing

@@ -1,6 +1,7 @@
 use Rattle.std.proofs.Common.{◌∙◌, ℕ, [], ◌∷◌, map, FitsSigned, w64, sym, ap, subst, arith, rules}
 use Rattle.std.proofs.lemmas.Int.{to_z-of_z}
-use Rattle.polcert_rules.proofs.Common.{same_Some, count_of, dimensions, reward, Reward, AreIndices, table_key, most_places, max_option, RewardRules, noted_at, IsNewest, AreWithin, IsCommonReward, CommonReward}
+use Rattle.polcert_rules.proofs.Common.{same_Some, count_of, dimensions, reward, Reward, AreIndices, table_key, most_places, max_option}
+use Rattle.polcert_rules.proofs.Common.{RewardRules, noted_at, IsNewest, AreWithin, IsCommonReward, CommonReward}
 use Rattle.polcert_rules.specs.Keys.{Fits}
 use Rattle.polcert_rules.specs.Steps.NamedCells.{AreNewestAt}
 use Rattle.polcert_rules.proofs.Indexes.NotedLaws.{noted_first, later_none}
@@ -9,7 +10,8 @@ use Rattle.polcert_rules.proofs.rewards.Rewards.find.Goals as goal
 
 pub fill_named-requires-clause-newest : goal.fill_named-requires-clause-newest
 fill_named-requires-clause-newest c =
-    subst (λ (rewards : RewardRules). AreNewestAt rewards.rules (record { action = c.args.action; start = c.args.start; end = c.args.end }) c.note_named.new.list) c.self.view_is
+    subst (λ (rewards : RewardRules). AreNewestAt rewards.rules (record { action = c.args.action; start = c.args.start; end = c.args.end })
+    c.note_named.new.list) c.self.view_is
     (λ z l. noted_first _ _ _ _ (c.new-list.ensures z) (c.note_named.ensures c.if-not-note_named.false z l))
 
 pub returns : goal.returns
@@ -19,7 +21,8 @@ returns c p entries are common is =
     let named = c.fill_named.ensures.cells c.if-not-fill_named.false in
     let cell = λ (z : ℕ). c.args.action ∷ c.args.start ∷ c.args.end ∷ z ∷ [] in
     let fits : FitsSigned w64 c.in-Some.reward = search rules in
-    subst (λ (x : CommonReward). IsCommonReward (λ z. reward p entries (cell z)) c.args.self.now.shape.observations x cells) (same_Some _ _ is) (record {
+    subst (λ (x : CommonReward). IsCommonReward (λ z. reward p entries (cell z)) c.args.self.now.shape.observations x cells)
+    (same_Some _ _ is) (record {
       room = c.fill_named.ensures.room c.if-not-fill_named.false;
       distinct = λ j k l m e. list.distinct.each j k l m (sym (named.named j (omega (arith, l, m))) ∙ e ∙ named.named k m);
       within = named.within;
@@ -28,9 +31,13 @@ returns c p entries are common is =
           let within : AreWithin (map count_of (dimensions p Reward)) (cell z) = search rules in
           let small : AreIndices most_places (cell z) = search rules in
           let none = unnamed_in list.rules list.count z (λ k m e. unnamed k m (named.named k m ∙ e)) in
-          let first = noted_first _ (Fits most_places (table_key Reward) (cell z)) _ _ (c.new-list.ensures z) (c.note_named.ensures c.if-not-note_named.false z small.1.1.1.0) in
+          let first = noted_first _ (Fits most_places (table_key Reward) (cell z)) _ _ (c.new-list.ensures z)
+          (c.note_named.ensures c.if-not-note_named.false z small.1.1.1.0) in
           let here : IsNewest c.args.self.now.rules (Fits most_places (table_key Reward) (cell z)) (noted_at list z) =
-          subst (λ (rewards : RewardRules). IsNewest rewards.rules (Fits most_places (table_key Reward) (cell z)) (noted_at list z)) c.self.view_is first in
-          let whole = subst (IsNewest c.args.self.now.rules (Fits most_places (table_key Reward) (cell z))) (ap (max_option list.whole) none ∙ later_none list.whole) here in
-          c.single_number.ensures p entries are c.in-Some.reward c.in-Some.is (cell z) within (c.body_of-whole.ensures (cell z) p entries small are whole) ∙ sym (to_z-of_z w64 c.in-Some.reward fits);
+          subst (λ (rewards : RewardRules). IsNewest rewards.rules (Fits most_places (table_key Reward) (cell z)) (noted_at list z))
+          c.self.view_is first in
+          let whole = subst (IsNewest c.args.self.now.rules (Fits most_places (table_key Reward) (cell z)))
+          (ap (max_option list.whole) none ∙ later_none list.whole) here in
+          c.single_number.ensures p entries are c.in-Some.reward c.in-Some.is (cell z) within
+          (c.body_of-whole.ensures (cell z) p entries small are whole) ∙ sym (to_z-of_z w64 c.in-Some.reward fits);
     })

@@ -10,14 +10,18 @@ pub returns-in-None : goal.returns-in-None
 returns-in-None c p entries are h is e z m l =
     let unnamed = subst (λ (rewards : RewardRules). NoneBegins rewards (c.args.action ∷ c.args.start ∷ []) (key_base + 2)) c.self.view_is
     c.if-some_begins.ensures in
-    common_none p entries c.args.self.now c.args.action c.args.start are unnamed 0 0 e z (c.in-None.ensures p entries are) ∙ same_Some _ _ is
+    common_none p entries c.args.self.now c.args.action c.args.start are unnamed 0 0 e z (c.in-None.ensures p entries are)
+    ∙ same_Some _ _ is
 
 pub returns-then-is_single : goal.returns-then-is_single
 returns-then-is_single c p entries are h is e z m l =
     let unnamed = subst (λ (rewards : RewardRules). NoneBegins rewards (c.args.action ∷ c.args.start ∷ []) (key_base + 2)) c.self.view_is
     c.if-some_begins.ensures in
     let fits : FitsSigned w64 c.number_at.result = search rules in
-    let read = c.number_at.ensures ∙ ap (λ (rewards : RewardRules). get_or rewards.numbers (c.in-Some.found.start + 0) (pos 0)) c.self.view_is in
-    let single = subst (λ (rewards : RewardRules). IsSingle rewards.shape.observations c.in-Some.found.places) c.self.view_is (c.if-is_single.ensures refl) in
-    common_some p entries c.args.self.now c.args.action c.args.start are unnamed 0 0 e z c.in-Some.found c.requires.start m l single (c.in-Some.ensures p entries are)
+    let read = c.number_at.ensures ∙ ap (λ (rewards : RewardRules). get_or rewards.numbers (c.in-Some.found.start + 0) (pos 0))
+    c.self.view_is in
+    let single = subst (λ (rewards : RewardRules). IsSingle rewards.shape.observations c.in-Some.found.places) c.self.view_is
+    (c.if-is_single.ensures refl) in
+    common_some p entries c.args.self.now c.args.action c.args.start are unnamed 0 0 e z c.in-Some.found c.requires.start m l single
+    (c.in-Some.ensures p entries are)
     ∙ sym (to_z-of_z w64 c.number_at.result fits ∙ read) ∙ same_Some _ _ is

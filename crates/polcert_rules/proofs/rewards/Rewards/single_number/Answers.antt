@@ -12,7 +12,10 @@ returns-in-None c p entries are h is cell within last =
 pub returns-then-is_single : goal.returns-then-is_single
 returns-then-is_single c p entries are h is cell within last =
     let fits : FitsSigned w64 c.number_at.result = search rules in
-    let read = c.number_at.ensures ∙ ap (λ (rewards : RewardRules). get_or rewards.numbers (c.in-Some.body.start + 0) (pos 0)) c.self.view_is in
-    let single = subst (λ (rewards : RewardRules). IsSingle rewards.shape.observations c.in-Some.body.places) c.self.view_is (c.if-is_single.ensures refl) in
-    single_reward p entries c.args.self.now cell c.in-Some.body are within single (subst (IsLastBody p.costs entries c.args.self.now.numbers cell) c.in-Some.is last)
+    let read = c.number_at.ensures ∙ ap (λ (rewards : RewardRules). get_or rewards.numbers (c.in-Some.body.start + 0) (pos 0))
+    c.self.view_is in
+    let single = subst (λ (rewards : RewardRules). IsSingle rewards.shape.observations c.in-Some.body.places) c.self.view_is
+    (c.if-is_single.ensures refl) in
+    single_reward p entries c.args.self.now cell c.in-Some.body are within single
+    (subst (IsLastBody p.costs entries c.args.self.now.numbers cell) c.in-Some.is last)
     ∙ sym (to_z-of_z w64 c.number_at.result fits ∙ read) ∙ same_Some _ _ is

@@ -10,6 +10,8 @@ first_at-requires-clause-from c r among = ((c.rules_after-2.ensures.kept r).0 am
 pub returns : goal.returns
 returns c = λ unseen.
     let rules = c.args.self.now.rules.items in
-    let named = subst (λ s. IsSpan rules c.rules_after.result.now (c.args.low + (c.args.start + 2) * s) (key_base ^ 2)) c.span.ensures c.rules_after.ensures.kept in
-    unnamed_after rules c.rules_after-2.result.now c.rules_after.result.now c.args.low c.args.start c.first_at.result c.is_empty.result c.rules_after-2.ensures.kept c.first_at.ensures
+    let named = subst (λ s. IsSpan rules c.rules_after.result.now (c.args.low + (c.args.start + 2) * s) (key_base ^ 2)) c.span.ensures
+    c.rules_after.ensures.kept in
+    unnamed_after rules c.rules_after-2.result.now c.rules_after.result.now c.args.low c.args.start c.first_at.result c.is_empty.result
+    c.rules_after-2.ensures.kept c.first_at.ensures
     (sym (is_false c.is_some.result unseen) ∙ c.is_some.ensures) named c.is_empty.ensures c.if-not-is_empty.false

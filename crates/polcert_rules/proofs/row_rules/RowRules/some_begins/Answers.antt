@@ -8,7 +8,8 @@ returns-then-some_begins_after c =
     let rules = c.args.self.now.rules.items in
     let low = table_key Reward in
     let indices = c.args.start ∷ c.args.rest.now in
-    let every = subst (λ s. IsAnswer rules (Begins 3 (low + s) indices c.args.least) c.some_begins_after.result) c.span-step.ensures c.some_begins_after.ensures in
+    let every = subst (λ s. IsAnswer rules (Begins 3 (low + s) indices c.args.least) c.some_begins_after.result) c.span-step.ensures
+    c.some_begins_after.ensures in
     begins_first_of_all rules 3 low c.args.action indices c.args.least c.some_begins_after.result c.if-some_begins_after.true every
 
 pub returns-else-some_begins_after : goal.returns-else-some_begins_after
@@ -17,6 +18,9 @@ returns-else-some_begins_after c =
     let low = table_key Reward in
     let indices = c.args.start ∷ c.args.rest.now in
     let answer = c.some_begins_after-else-some_begins_after.result in
-    let every = subst (λ s. IsAnswer rules (Begins 3 (low + s) indices c.args.least) c.some_begins_after.result) c.span-step.ensures c.some_begins_after.ensures in
-    let only = subst (λ s. IsAnswer rules (Begins 3 (low + (c.args.action + 2) * s) indices c.args.least) answer) c.span-step.ensures c.some_begins_after-else-some_begins_after.ensures in
-    begins_second_of_all rules 3 low c.args.action indices c.args.least c.some_begins_after.result answer c.if-some_begins_after.false every only
+    let every = subst (λ s. IsAnswer rules (Begins 3 (low + s) indices c.args.least) c.some_begins_after.result) c.span-step.ensures
+    c.some_begins_after.ensures in
+    let only = subst (λ s. IsAnswer rules (Begins 3 (low + (c.args.action + 2) * s) indices c.args.least) answer) c.span-step.ensures
+    c.some_begins_after-else-some_begins_after.ensures in
+    begins_second_of_all rules 3 low c.args.action indices c.args.least c.some_begins_after.result answer c.if-some_begins_after.false every
+    only

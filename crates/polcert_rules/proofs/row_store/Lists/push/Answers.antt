@@ -10,5 +10,6 @@ returns g c =
     let p : Part = record { start = c.len-start.result; end = c.len-end.result } in
     let start : c.len-start.result ≡ length xs = search rules in
     let end : c.len-end.result ≡ length xs + length ys = search rules in
-    ap (λ zs. map (part_in zs) c.push.new.self.items) c.in_ok-extend_from_slice.ensures.items ∙ ap (map (part_in (xs ++ ys))) c.in_ok-push.ensures.items
+    ap (λ zs. map (part_in zs) c.push.new.self.items) c.in_ok-extend_from_slice.ensures.items
+    ∙ ap (map (part_in (xs ++ ys))) c.in_ok-push.ensures.items
     ∙ one_more_list xs ys c.self.inside.parts.items p c.self.invariant start end ∙ ap (λ ls. ls ++ ys ∷ []) c.self.view_is

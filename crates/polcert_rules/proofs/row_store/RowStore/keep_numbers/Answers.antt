@@ -17,7 +17,8 @@ overflow_mul-numbers_sum c =
     let most = sum_most c.args.numbers.now c.requires.small in
     let a : c.numbers_sum.result ≤ one * most_elements = omega (arith, most, few, sum_is) in
     let b : length c.args.numbers.now ≤ most_elements = few in
-    let product : c.numbers_sum.result * length c.args.numbers.now ≤ one * most_elements * most_elements = mul-le-mul {n₂ = one * most_elements} {m₂ = most_elements} a b in
+    let product : c.numbers_sum.result * length c.args.numbers.now ≤ one * most_elements * most_elements =
+    mul-le-mul {n₂ = one * most_elements} {m₂ = most_elements} a b in
     omega (arith, product)
 
 pub returns-clause-kept : goal.returns-clause-kept

@@ -16,7 +16,8 @@ returns-in-Some-clause-kept c =
     record {
       cells = scaled_cells (length ns) 0 ns;
       row = full_row n (given_at n c.args.bodies.entries.now c.args.whole c.args.state) ns c.in-Some.ensures;
-      kept = subst (λ (m : ℕ). IsAfter m (scaled_cells (length ns) 0 ns) c.args.self.now c.keep_numbers.new.self) c.in-Some.ensures.size c.in_ok-keep_numbers.ensures.kept;
+      kept = subst (λ (m : ℕ). IsAfter m (scaled_cells (length ns) 0 ns) c.args.self.now c.keep_numbers.new.self) c.in-Some.ensures.size
+          c.in_ok-keep_numbers.ensures.kept;
     }
 
 pub keep-requires-clause-sparse : goal.keep-requires-clause-sparse
@@ -24,7 +25,8 @@ keep-requires-clause-sparse c = subst (IsSparse c.args.bodies.shape.columns) (sy
 
 pub keep-requires-clause-small : goal.keep-requires-clause-small
 keep-requires-clause-small c i l =
-    subst (λ k. k ≤ one * c.args.bodies.shape.columns) (sym (ap (λ (xs : List Cell). weight_at xs i) c.as_slice.ensures.value ∙ c.in_ok-cells.ensures.each i l))
+    subst (λ k. k ≤ one * c.args.bodies.shape.columns) (sym
+    (ap (λ (xs : List Cell). weight_at xs i) c.as_slice.ensures.value ∙ c.in_ok-cells.ensures.each i l))
     (whole_small c.args.bodies.shape c.args.bodies.entries.now c.args.whole c.args.state i c.requires.within c.requires.whole)
 
 pub returns-clause-kept : goal.returns-clause-kept
@@ -32,6 +34,7 @@ returns-clause-kept c =
     let n = c.args.bodies.shape.columns in
     record {
       cells = c.as_slice.result.now;
-      row = subst (λ (xs : List Cell). IsRow n (given_at n c.args.bodies.entries.now c.args.whole c.args.state) xs) (sym c.as_slice.ensures.value) c.in_ok-cells.ensures;
+      row = subst (λ (xs : List Cell). IsRow n (given_at n c.args.bodies.entries.now c.args.whole c.args.state) xs)
+          (sym c.as_slice.ensures.value) c.in_ok-cells.ensures;
       kept = c.in_ok-keep.ensures.kept;
     }

@@ -7,7 +7,8 @@ use Rattle.polcert_rules.proofs.row_store.RowStore.row_number.Goals as goal
 pub returns-then-is_empty-clause-row : goal.returns-then-is_empty-clause-row
 returns-then-is_empty-clause-row c table a h =
     let size : length c.in_ok-newer.newer.items ≡ c.in_ok-newer.newer.len = search rules in
-    shared_weights c.args.bodies.shape c.args.bodies.entries.now table a c.args.state c.args.row.now c.in_ok-newer.newer.items h (c.in_ok-newer.ensures c.args.state) _ _
+    shared_weights c.args.bodies.shape c.args.bodies.entries.now table a c.args.state c.args.row.now c.in_ok-newer.newer.items h
+    (c.in_ok-newer.ensures c.args.state) _ _
     (search rules) (ap (λ k. k == 0) size ∙ sym c.if-is_empty.ensures) c.in_ok-base.ensures.row
 
 pub at-requires : goal.at-requires
@@ -15,7 +16,8 @@ at-requires c = row_within c.args.bodies.shape.columns _ _ _ c.in_ok-base.ensure
 
 pub cells_over-requires-clause-columns : goal.cells_over-requires-clause-columns
 cells_over-requires-clause-columns c k d l =
-    let sparse = at_number (IsSparse c.args.bodies.shape.columns) _ c.in_ok-base.base (stored_cells c.at.result) c.in_ok-base.ensures.kept.sparse c.at.ensures in
+    let sparse = at_number (IsSparse c.args.bodies.shape.columns) _ c.in_ok-base.base (stored_cells c.at.result)
+    c.in_ok-base.ensures.kept.sparse c.at.ensures in
     let within = sparse.within k d l in
     let few = c.requires.within.columns.1 in
     omega (arith, within, few)
@@ -30,8 +32,10 @@ pub own_row-requires-clause-sparse : goal.own_row-requires-clause-sparse
 own_row-requires-clause-sparse c =
     let n = c.args.bodies.shape.columns in
     let entries = c.args.bodies.entries.now in
-    let below = cells_row n entries (stored_cells c.at.result) _ _ c.in_ok-base.base c.in_ok-base.ensures.kept c.in_ok-base.ensures.row c.at.ensures in
-    let row = finished c.args.bodies.shape entries c.requires.row.0 c.requires.row.1 c.args.state c.args.row.now c.in_ok-newer.newer.items c.requires.row.2 (c.in_ok-newer.ensures c.args.state)
+    let below = cells_row n entries (stored_cells c.at.result) _ _ c.in_ok-base.base c.in_ok-base.ensures.kept c.in_ok-base.ensures.row
+    c.at.ensures in
+    let row = finished c.args.bodies.shape entries c.requires.row.0 c.requires.row.1 c.args.state c.args.row.now c.in_ok-newer.newer.items
+    c.requires.row.2 (c.in_ok-newer.ensures c.args.state)
     (stored_cells c.at.result) _ _ c.in_ok-cells.cells.items below refl refl c.in_ok-cells.ensures in
     subst (IsSparse n) (sym c.as_slice.ensures.value) row.sparse
 
@@ -39,11 +43,14 @@ pub own_row-requires-clause-small : goal.own_row-requires-clause-small
 own_row-requires-clause-small c i l =
     let n = c.args.bodies.shape.columns in
     let entries = c.args.bodies.entries.now in
-    let below = cells_row n entries (stored_cells c.at.result) _ _ c.in_ok-base.base c.in_ok-base.ensures.kept c.in_ok-base.ensures.row c.at.ensures in
-    let row = finished c.args.bodies.shape entries c.requires.row.0 c.requires.row.1 c.args.state c.args.row.now c.in_ok-newer.newer.items c.requires.row.2 (c.in_ok-newer.ensures c.args.state)
+    let below = cells_row n entries (stored_cells c.at.result) _ _ c.in_ok-base.base c.in_ok-base.ensures.kept c.in_ok-base.ensures.row
+    c.at.ensures in
+    let row = finished c.args.bodies.shape entries c.requires.row.0 c.requires.row.1 c.args.state c.args.row.now c.in_ok-newer.newer.items
+    c.requires.row.2 (c.in_ok-newer.ensures c.args.state)
     (stored_cells c.at.result) _ _ c.in_ok-cells.cells.items below refl refl c.in_ok-cells.ensures in
     subst (λ (xs : List Cell). weight_at xs i ≤ one * n) (sym c.as_slice.ensures.value)
-    (finished_small c.args.bodies.shape entries c.requires.row.0 c.requires.row.1 c.args.state c.args.row.now c.in_ok-newer.newer.items c.requires.row.2 (c.in_ok-newer.ensures c.args.state) c.in_ok-cells.cells.items row i l)
+    (finished_small c.args.bodies.shape entries c.requires.row.0 c.requires.row.1 c.args.state c.args.row.now c.in_ok-newer.newer.items
+    c.requires.row.2 (c.in_ok-newer.ensures c.args.state) c.in_ok-cells.cells.items row i l)
 
 pub returns-clause-stays : goal.returns-clause-stays
 returns-clause-stays c n row e = c.in_ok-own_row.ensures.stays n row (c.in_ok-base.ensures.stays n row e)
@@ -52,7 +59,10 @@ pub returns-clause-row : goal.returns-clause-row
 returns-clause-row c table a h =
     let n = c.args.bodies.shape.columns in
     let entries = c.args.bodies.entries.now in
-    let below = cells_row n entries (stored_cells c.at.result) _ _ c.in_ok-base.base c.in_ok-base.ensures.kept c.in_ok-base.ensures.row c.at.ensures in
-    let row = finished c.args.bodies.shape entries table a c.args.state c.args.row.now c.in_ok-newer.newer.items h (c.in_ok-newer.ensures c.args.state)
+    let below = cells_row n entries (stored_cells c.at.result) _ _ c.in_ok-base.base c.in_ok-base.ensures.kept c.in_ok-base.ensures.row
+    c.at.ensures in
+    let row = finished c.args.bodies.shape entries table a c.args.state c.args.row.now c.in_ok-newer.newer.items h
+    (c.in_ok-newer.ensures c.args.state)
     (stored_cells c.at.result) _ _ c.in_ok-cells.cells.items below refl refl c.in_ok-cells.ensures in
-    weighed_row n entries c.as_slice.result.now _ _ _ c.in_ok-own_row.ensures.row (subst (λ (xs : List Cell). IsRow n (weight_in n entries table a c.args.state) xs) (sym c.as_slice.ensures.value) row)
+    weighed_row n entries c.as_slice.result.now _ _ _ c.in_ok-own_row.ensures.row
+    (subst (λ (xs : List Cell). IsRow n (weight_in n entries table a c.args.state) xs) (sym c.as_slice.ensures.value) row)

@@ -13,5 +13,6 @@ returns-in-Sparse c =
 
 pub returns-in-Full : goal.returns-in-Full
 returns-in-Full c =
-    c.full_weight.ensures ∙ sym (scaled_weight c.in-Full.columns c.in-Full.numbers.now c.args.column) ∙ ap (λ r. weight_at (stored_cells r) c.args.column) (sym c.in-Full.is)
+    c.full_weight.ensures ∙ sym (scaled_weight c.in-Full.columns c.in-Full.numbers.now c.args.column)
+    ∙ ap (λ r. weight_at (stored_cells r) c.args.column) (sym c.in-Full.is)
     ∙ ap (λ (ys : List Cell). weight_at ys c.args.column) c.stored_row.ensures.row

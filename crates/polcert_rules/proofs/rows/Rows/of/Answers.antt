@@ -3,18 +3,21 @@ use Rattle.polcert_rules.proofs.Common.{key_base, Rule}
 use Rattle.polcert_rules.proofs.RowLaws.SoundRows.{sound_keyed, sound_within}
 use Rattle.polcert_rules.proofs.RowLaws.Cells.{all_of}
 use Rattle.polcert_rules.proofs.Keyed.Covering.{number_within}
-use Rattle.polcert_rules.proofs.Indexes.BuiltLaws.{given_is, lines_none, lines_more, lines_before, all_below, lines_rows, lines_proper, wrong_row}
+use Rattle.polcert_rules.proofs.Indexes.BuiltLaws.{given_is, lines_none, lines_more, lines_before, all_below, lines_rows, lines_proper}
+use Rattle.polcert_rules.proofs.Indexes.BuiltLaws.{wrong_row}
 use Rattle.polcert_rules.proofs.rows.Rows.of.Goals as goal
 
 pub of-requires : goal.of-requires
 of-requires c = sound_keyed c.requires.sound.0 c.args.entries.now c.requires.sound.2
 
 pub of-requires-2 : goal.of-requires-2
-of-requires-2 c = subst (All (λ (r : Rule). r.number < length c.args.entries.now)) (sym c.as_slice-rules.ensures.is) (all_of _ _ (number_within c.args.table c.args.entries.now c.in_ok-index.index c.in_ok-index.ensures))
+of-requires-2 c = subst (All (λ (r : Rule). r.number < length c.args.entries.now)) (sym c.as_slice-rules.ensures.is)
+    (all_of _ _ (number_within c.args.table c.args.entries.now c.in_ok-index.index c.in_ok-index.ensures))
 
 pub loop-action-init : goal.loop-action-init
 loop-action-init c = (
-  given_is _ c.as_slice-rules.result.now c.requires.weighted c.requires.sound c.in_ok-index.ensures c.as_slice-rules.ensures.is c.as_slice-rules.ensures.rising c.in_ok-split.ensures.zeros c.in_ok-split.ensures.others c.in_ok-split.ensures.exact,
+  given_is _ c.as_slice-rules.result.now c.requires.weighted c.requires.sound c.in_ok-index.ensures c.as_slice-rules.ensures.is
+      c.as_slice-rules.ensures.rising c.in_ok-split.ensures.zeros c.in_ok-split.ensures.others c.in_ok-split.ensures.exact,
   lines_none _ _ _ c.new-numbers.ensures,
   c.in_ok-keeper.ensures c.args.shape.columns,
 )
@@ -30,7 +33,8 @@ loop-action-preserved-then-is_as_before c =
     let less = c.loop-action-test.true in
     let small : c.loop-action.action + 2 < key_base = omega (arith, most, less) in (
       given,
-      lines_before _ given c.loop-action.action _ _ _ (c.is_as_before.ensures c.if-is_as_before.true) small c.loop-action.invariant.1 c.in_ok-repeat_last.ensures,
+      lines_before _ given c.loop-action.action _ _ _ (c.is_as_before.ensures c.if-is_as_before.true) small c.loop-action.invariant.1
+          c.in_ok-repeat_last.ensures,
       c.loop-action.invariant.2,
     )
 
@@ -45,7 +49,8 @@ loop-action-preserved c =
 
 pub returns-in-Err : goal.returns-in-Err
 returns-in-Err c p is =
-    wrong_row _ c.loop-action.invariant.0 p is c.loop-action.action _ _ c.in-Err.wrong c.loop-action.invariant.1 c.loop-action-test.true (rw c.in-Err.is at c.in_ok-line.ensures.rows)
+    wrong_row _ c.loop-action.invariant.0 p is c.loop-action.action _ _ c.in-Err.wrong c.loop-action.invariant.1 c.loop-action-test.true
+    (rw c.in-Err.is at c.in_ok-line.ensures.rows)
 
 pub returns : goal.returns
 returns c p is =
@@ -56,7 +61,8 @@ returns c p is =
         actions = is.actions;
         states = is.states;
         width = is.columns;
-        each = lines_rows _ c.loop-action.invariant.0 p is c.loop-action.action _ _ all c.loop-action.invariant.1 c.loop-action.invariant.2.sparse;
+        each = lines_rows _ c.loop-action.invariant.0 p is c.loop-action.action _ _ all c.loop-action.invariant.1
+            c.loop-action.invariant.2.sparse;
       },
       lines_proper _ c.loop-action.invariant.0 p is c.loop-action.action _ _ all c.loop-action.invariant.1,
     )

@@ -6,4 +6,5 @@ use Rattle.polcert_rules.proofs.rows.Rows.stored_row.Goals as goal
 
 pub returns-clause-sparse : goal.returns-clause-sparse
 returns-clause-sparse c =
-    subst (λ (t : RowTable). IsSparse t.columns (stored_cells c.at-2.result)) c.self.view_is (at_number (IsSparse c.self.inside.shape.columns) c.self.inside.rows _ (stored_cells c.at-2.result) c.self.invariant.2 c.at-2.ensures)
+    subst (λ (t : RowTable). IsSparse t.columns (stored_cells c.at-2.result)) c.self.view_is
+    (at_number (IsSparse c.self.inside.shape.columns) c.self.inside.rows _ (stored_cells c.at-2.result) c.self.invariant.2 c.at-2.ensures)

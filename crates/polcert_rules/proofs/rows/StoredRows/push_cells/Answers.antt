@@ -10,5 +10,6 @@ returns c =
     let more = c.args.more.now in
     let p : RowPart = record { start = c.len-start.result; count = length more; form = Sparse } in
     let start : c.len-start.result ≡ length xs = search rules in
-    ap (λ zs. map (row_in zs ns) c.push.new.self.items) c.in_ok-extend_from_slice.ensures.items ∙ ap (map (row_in (xs ++ more) ns)) c.in_ok-push.ensures.items
+    ap (λ zs. map (row_in zs ns) c.push.new.self.items) c.in_ok-extend_from_slice.ensures.items
+    ∙ ap (map (row_in (xs ++ more) ns)) c.in_ok-push.ensures.items
     ∙ push_sparse xs more ns c.self.inside.parts.items p c.self.invariant refl start refl ∙ ap (λ rs. rs ++ more ∷ []) c.self.view_is

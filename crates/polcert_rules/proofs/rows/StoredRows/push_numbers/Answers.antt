@@ -10,5 +10,7 @@ returns c =
     let more = c.args.more.now in
     let p : RowPart = record { start = c.len-start.result; count = length more; form = Full } in
     let start : c.len-start.result ≡ length ns = search rules in
-    ap (λ zs. map (row_in xs zs) c.push.new.self.items) c.in_ok-extend_from_slice.ensures.items ∙ ap (map (row_in xs (ns ++ more))) c.in_ok-push.ensures.items
-    ∙ push_full xs ns more c.self.inside.parts.items p c.self.invariant refl start refl ∙ ap (λ rs. rs ++ scaled_cells (length more) 0 more ∷ []) c.self.view_is
+    ap (λ zs. map (row_in xs zs) c.push.new.self.items) c.in_ok-extend_from_slice.ensures.items
+    ∙ ap (map (row_in xs (ns ++ more))) c.in_ok-push.ensures.items
+    ∙ push_full xs ns more c.self.inside.parts.items p c.self.invariant refl start refl
+    ∙ ap (λ rs. rs ++ scaled_cells (length more) 0 more ∷ []) c.self.view_is

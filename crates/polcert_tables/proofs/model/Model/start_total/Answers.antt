@@ -8,7 +8,8 @@ use Rattle.polcert_tables.proofs.model.Model.start_total.Goals as goal
 pub returns-in-None : goal.returns-in-None
 returns-in-None c =
     let i = c.self.inside in
-    let same : c.states.result ≡ count_of i.preamble.states = c.states.ensures.elements ∙ sym (ap (λ (m : Contents). states_of (meaning m.kept)) c.self.view_is) in
+    let same : c.states.result ≡ count_of i.preamble.states = c.states.ensures.elements
+    ∙ sym (ap (λ (m : Contents). states_of (meaning m.kept)) c.self.view_is) in
     ap (λ n. 1 * n) same
     ∙ alike_total (count_of i.preamble.states)
     ∙ ap (λ o. start_total (meaning (kept_of i.preamble o i.transitions i.observed i.rewards))) (sym c.in-None.is)

@@ -5,10 +5,13 @@ use Rattle.polcert_tables.proofs.model.ModelCells.find_rewards.Goals as goal
 
 pub returns-in-Some : goal.returns-in-Some
 returns-in-Some c =
-    let pomdp = sym (ap (λ (m : Contents). is_none m.kept.preamble.observations) c.self.view_is) ∙ ap (λ (o : Option Elements). is_none o) c.in-Some.is in
-    model_common_reward c.args.self.now.kept (subst (λ (m : Contents). IsKeptModel m.kept) c.self.view_is c.self.invariant) c.args.a c.args.s c.args.e c.find.result c.find.new.exceptions c.requires.action c.requires.start c.requires.end pomdp
+    let pomdp = sym (ap (λ (m : Contents). is_none m.kept.preamble.observations) c.self.view_is)
+    ∙ ap (λ (o : Option Elements). is_none o) c.in-Some.is in
+    model_common_reward c.args.self.now.kept (subst (λ (m : Contents). IsKeptModel m.kept) c.self.view_is c.self.invariant) c.args.a
+    c.args.s c.args.e c.find.result c.find.new.exceptions c.requires.action c.requires.start c.requires.end pomdp
     (subst (λ (m : Contents). (p : Preamble) (entries : List Entry) → AreRewardsOf p entries m.kept.rewards
-    → ForSome c.find.result (λ common. IsCommonReward (λ z. reward p entries (c.args.a ∷ c.args.s ∷ c.args.e ∷ z ∷ [])) m.kept.rewards.shape.observations common c.find.new.exceptions)) c.self.view_is c.find.ensures)
+    → ForSome c.find.result (λ common. IsCommonReward (λ z. reward p entries (c.args.a ∷ c.args.s ∷ c.args.e ∷ z ∷ []))
+    m.kept.rewards.shape.observations common c.find.new.exceptions)) c.self.view_is c.find.ensures)
 
 pub r-requires-clause-observation : goal.r-requires-clause-observation
 r-requires-clause-observation c = (subst (λ (m : Contents). IsKeptModel m.kept) c.self.view_is c.self.invariant).observations.0

@@ -4,4 +4,5 @@ use Rattle.polcert_text.proofs.stream_tokens.StreamBytes.scan_lexeme.Goals as go
 
 pub returns-in-Some : goal.returns-in-Some
 returns-in-Some g c =
-    lexeme_ended _ _ c.args.self.now c.args.source.now c.in-Some.front (omega (arith, c.visible.ensures.below)) (rw c.visible.ensures.bytes at c.in-Some.ensures)
+    lexeme_ended _ _ c.args.self.now c.args.source.now c.in-Some.front (omega (arith, c.visible.ensures.below))
+    (rw c.visible.ensures.bytes at c.in-Some.ensures)

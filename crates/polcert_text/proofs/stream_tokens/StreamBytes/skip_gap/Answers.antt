@@ -18,4 +18,5 @@ pub returns : goal.returns
 returns g c =
     let has = c.lacks_byte.ensures.has c.loop-gap-test.false in
     gap_ends _ _ _ _ c.loop-gap.gap c.loop-gap.self c.loop-gap.source _ c.loop-gap.invariant has
-    (λ e. rw (sym c.visible.ensures.bytes) (found_some _ _ c.is_empty.ensures e)) (λ e. rw (sym c.visible.ensures.bytes) (found_none _ _ c.is_empty.ensures e))
+    (λ e. rw (sym c.visible.ensures.bytes) (found_some _ _ c.is_empty.ensures e))
+    (λ e. rw (sym c.visible.ensures.bytes) (found_none _ _ c.is_empty.ensures e))

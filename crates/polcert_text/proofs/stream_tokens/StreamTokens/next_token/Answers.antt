@@ -10,5 +10,8 @@ returns-in-Ok-None g c =
     ((refl, λ _. tt, end_as _ _ (borrowed_lexeme c.advance.new.self) lexeme_of _ _ _ _ advanced), record { next = tt; stop = tt })
 
 pub returns-in-Err : goal.returns-in-Err
-returns-in-Err g c =
-    ((refl, λ _. tt, fault_as _ _ (borrowed_lexeme c.advance.new.self) lexeme_of _ _ _ _ c.in-Err.fault c.in-Err.ensures), record { next = tt; stop = tt })
+returns-in-Err g c = (
+  (refl, λ _. tt, fault_as _ _ (borrowed_lexeme c.advance.new.self) lexeme_of _ _ _ _ c.in-Err.fault c.in-Err.ensures),
+  record
+      { next = tt; stop = tt },
+)

@@ -2,7 +2,8 @@ use Rattle.std.proofs.Common.{◌≡◌, ◌∙◌, ◌++◌, ℕ, List, length,
 use Rattle.polcert_text.proofs.Common.{IsFaultAt, lexeme_of, IsSeen, StopsRightly, visible, skip}
 use Rattle.polcert_text.specs.Reading.{IsReadAt}
 use Rattle.polcert_text.proofs.Streams.StreamLaws.{tail_of}
-use Rattle.polcert_text.proofs.Streams.StreamTakes.{gives_end, few_bytes, token_given, fault_given, seen_more, fails_after, ended_as, given_as}
+use Rattle.polcert_text.proofs.Streams.StreamTakes.{gives_end, few_bytes, token_given, fault_given, seen_more, fails_after, ended_as}
+use Rattle.polcert_text.proofs.Streams.StreamTakes.{given_as}
 use Rattle.polcert_text.proofs.stream_tokens.StreamTokens.take_token.Goals as goal
 use Rattle.polcert_text.proofs.stream_tokens.StreamTokens.take_token.Goals.{in-None, in-Some}
 
@@ -20,9 +21,11 @@ invariant_of-self-in-Ok-token_of g c =
     let token = c.in-Ok-token_of.token in
     let seen : (tail : List ℕ) → IsSeen (visible new) tail c.in-Ok.front → IsReadAt new.place (visible new ++ tail) token
     = subst (λ p. (tail : List ℕ) → IsSeen (visible new) tail c.in-Ok.front → IsReadAt p (visible new ++ tail) token) c.place.ensures
-    (subst (λ v. (tail : List ℕ) → IsSeen v tail c.in-Ok.front → IsReadAt c.place.result (v ++ tail) token) c.visible.ensures.bytes c.in-Ok-token_of.ensures) in
+    (subst (λ v. (tail : List ℕ) → IsSeen v tail c.in-Ok.front → IsReadAt c.place.result (v ++ tail) token) c.visible.ensures.bytes
+    c.in-Ok-token_of.ensures) in
     let continues : None ≡ c.self.inside.stop = sym (ap (λ s. s.stop) c.self.view_is ∙ c.requires) in (
-      few_bytes _ _ _ _ _ _ _ _ _ skips scans (lexeme_of token) (λ more can. (seen (tail_of new more) (seen_more _ _ _ _ _ _ _ _ _ skips scans more can)).0),
+      few_bytes _ _ _ _ _ _ _ _ _ skips scans (lexeme_of token)
+          (λ more can. (seen (tail_of new more) (seen_more _ _ _ _ _ _ _ _ _ skips scans more can)).0),
       subst (StopsRightly (skip (length token.bytes.now) new)) continues tt,
     )
 
@@ -35,8 +38,10 @@ returns-in-Ok-token_of-clause-next g c =
     let ahead = c.consume.ensures ∙ ap (λ s. s.ahead) c.self.view_is in
     let seen : (tail : List ℕ) → IsSeen (visible new) tail c.in-Ok.front → IsReadAt new.place (visible new ++ tail) token
     = subst (λ p. (tail : List ℕ) → IsSeen (visible new) tail c.in-Ok.front → IsReadAt p (visible new ++ tail) token) c.place.ensures
-    (subst (λ v. (tail : List ℕ) → IsSeen v tail c.in-Ok.front → IsReadAt c.place.result (v ++ tail) token) c.visible.ensures.bytes c.in-Ok-token_of.ensures) in
-    let given = token_given _ _ _ _ _ _ _ _ _ skips scans (lexeme_of token) (λ more can. (seen (tail_of new more) (seen_more _ _ _ _ _ _ _ _ _ skips scans more can)).0) in
+    (subst (λ v. (tail : List ℕ) → IsSeen v tail c.in-Ok.front → IsReadAt c.place.result (v ++ tail) token) c.visible.ensures.bytes
+    c.in-Ok-token_of.ensures) in
+    let given = token_given _ _ _ _ _ _ _ _ _ skips scans (lexeme_of token)
+    (λ more can. (seen (tail_of new more) (seen_more _ _ _ _ _ _ _ _ _ skips scans more can)).0) in
     given_as _ _ _ _ _ _ _ _ ahead given
 
 pub returns-in-Err-token_of-clause-next : goal.returns-in-Err-token_of-clause-next
@@ -48,6 +53,8 @@ returns-in-Err-token_of-clause-next g c =
     let ahead = c.consume.ensures ∙ ap (λ s. s.ahead) c.self.view_is in
     let seen : (tail : List ℕ) → IsSeen (visible new) tail c.in-Ok.front → IsFaultAt new.place (visible new ++ tail) fault
     = subst (λ p. (tail : List ℕ) → IsSeen (visible new) tail c.in-Ok.front → IsFaultAt p (visible new ++ tail) fault) c.place.ensures
-    (subst (λ v. (tail : List ℕ) → IsSeen v tail c.in-Ok.front → IsFaultAt c.place.result (v ++ tail) fault) c.visible.ensures.bytes c.in-Err-token_of.ensures) in
+    (subst (λ v. (tail : List ℕ) → IsSeen v tail c.in-Ok.front → IsFaultAt c.place.result (v ++ tail) fault) c.visible.ensures.bytes
+    c.in-Err-token_of.ensures) in
     ended_as _ _ _ _ _ _ _ _ _ ahead refl
-    (fault_given _ _ _ _ _ _ _ _ _ skips scans fault (λ more can. seen (tail_of new more) (seen_more _ _ _ _ _ _ _ _ _ skips scans more can)))
+    (fault_given _ _ _ _ _ _ _ _ _ skips scans fault (λ more can. seen (tail_of new more)
+    (seen_more _ _ _ _ _ _ _ _ _ skips scans more can)))
