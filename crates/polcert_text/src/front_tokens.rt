@@ -4,22 +4,20 @@ ghost use Rattle.std.specs.Prelude.{List, drop, IsTrue, true, false, ◌⊎◌};
 ghost use Rattle.std.specs.List.{list_any};
 ghost use Rattle.polcert_text.specs.Steps.Classes.{class_of};
 ghost use Rattle.polcert_text.specs.declared.bytes.ByteClass.{ByteClass};
-ghost use Rattle.polcert_text.specs.Steps.Scaling.{is_nonzero};
 ghost use Rattle.polcert_text.specs.Steps.Scan.{gap_through, EndsNumeral};
-ghost use Rattle.polcert_text.specs.Beginning.{BeginWith, BeginWithOne, BeginWithNumber, BeginWithDigits};
-ghost use Rattle.polcert_text.specs.Beginning.{moved};
+ghost use Rattle.polcert_text.specs.Beginning.{BeginWith, BeginWithOne, BeginWithNumber, BeginWithDigits, moved};
 ghost use Rattle.polcert_text.specs.Reading.{lexeme_of};
 ghost use Rattle.polcert_text.specs.Steps.ScanOf.{EndsAsDigits, IsNumberFrom};
 ghost use Rattle.std.specs.Str.Parse.{digits_value};
 ghost use Rattle.polcert_text.specs.FrontValues.{BeginWithValue};
 ghost use Rattle.polcert_text.specs.Steps.FrontSizes.{AreDigitsFrom, AreDecimals, AreDigits, packed, IsTail, EndsAsSize};
-ghost use Rattle.polcert_text.specs.Steps.Scaling.{ceiling};
+ghost use Rattle.polcert_text.specs.Steps.Scaling.{ceiling, is_nonzero};
 ghost use Rattle.polcert_text.specs.Numbers.{largest};
 
 use crate::bytes::{
-    begins_numeral, ends_numeral, is_blank, quick_ends_gap, quick_ends_numeral, quick_is_blank,
-    quick_is_colon, quick_is_digit, quick_is_letter, quick_is_minus, quick_is_point,
-    quick_is_space, quick_sign,
+    begins_numeral, ends_numeral, is_blank, is_digit_above_zero, quick_ends_gap,
+    quick_ends_numeral, quick_is_blank, quick_is_colon, quick_is_digit, quick_is_letter,
+    quick_is_minus, quick_is_point, quick_is_space, quick_sign,
 };
 use crate::number::{MILLION, Rounding, Size, signed, size_of};
 use crate::tokens::{
@@ -764,15 +762,6 @@ fn long_tail(spelling: Spelling, bytes: &[u8], from: usize) -> Option<Tail>
         end,
         is_inexact: zeros < end,
     })
-}
-
-/// Tests whether the byte is a digit from 1 to 9.
-#[inline(always)]
-fn is_digit_above_zero(byte: u8) -> bool
-    ensures digit { IsTrue result → class_of byte ≡ ByteClass.Digit }
-    ensures above { IsTrue result → is_nonzero byte ≡ true }
-{
-    quick_is_digit(byte) && byte != b'0'
 }
 
 /// Returns where the zeros from `from` on end, or `until` if they continue there.
