@@ -7,7 +7,7 @@ pub use polcert_answer::{
     Fault, Outcome, RunFault, Task, check_texts, check_texts_above, run_check, run_check_above,
     run_lower, run_model, run_print, run_raise, run_task, status_of,
 };
-pub use polcert_terminal::controller::{Choice, choose};
+pub use polcert_terminal::polcert_command::{Choice, choose};
 use std::io::IsTerminal;
 use std::process::ExitCode;
 

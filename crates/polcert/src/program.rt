@@ -1,16 +1,16 @@
 //! The program, over the runtime that it is given.
 use polcert_answer::{Outcome, RunFault, Task, run_model, run_print, run_task, status_of_outcome};
 use polcert_lines::{LoweredLine, RaisedLine, end_run};
-use polcert_terminal::controller::{Choice, FileNames, Job, choose};
+use polcert_terminal::command_line::FileNames;
+use polcert_terminal::polcert_command::{Choice, Job, choose};
 use polcert_terminal::{
-    CheckProgress, DONE, InputText, WatchedSource, print_clap_error, refuse_for_memory,
-    refuse_words,
+    CheckProgress, DONE, InputText, WatchedSource, borrow_words, open_text, print_clap_error,
+    process_words, refuse_words,
 };
 use polcert_text::{ReaderSource, Source, WriterSink};
-use std::alloc::AllocError;
+use std::io;
 use std::rt::{Env, Files};
 use std::time::Clock;
-use std::{env, fs, io};
 
 /// The hint for a user who started the program without words and sees nothing happen.
 const WAITS_FOR_A_MODEL: &str =
@@ -29,29 +29,23 @@ pub fn run_program<R: Env + Files + Clock + AllocGlobal + Input + Print + Eprint
     rt: &R,
     terminals: Terminals,
 ) -> u8 {
-    match env::args(rt) {
-        Ok(args) => match args.collect(rt.alloc()) {
-            Ok(words) => run_words(rt, terminals, &words),
-            Err(AllocError) => refuse_for_memory(rt),
-        },
-        Err(error) if error.kind() == io::ErrorKind::OutOfMemory => refuse_for_memory(rt),
-        Err(_) => refuse_words(rt, "a word of the command line is no text"),
+    let words = match process_words(rt) {
+        Ok(words) => words,
+        Err(status) => return status,
+    };
+    match borrow_words(rt, &words) {
+        Ok(words) => run_words(rt, terminals, &words),
+        Err(status) => status,
     }
 }
 
 /// Does what the words ask for, of which the first is the program's name.
-fn run_words<R: Files + Clock + AllocGlobal + Input + Print + Eprint>(
+fn run_words<'a, R: Files + Clock + AllocGlobal + Input + Print + Eprint>(
     rt: &R,
     terminals: Terminals,
-    words: &Vec<String>,
+    words: &'a [&'a str],
 ) -> u8 {
-    let mut borrowed = Vec::new(rt.alloc());
-    for word in words {
-        if borrowed.push(word.as_str()).is_err() {
-            return refuse_for_memory(rt);
-        }
-    }
-    match choose(rt.alloc(), &borrowed) {
+    match choose(rt.alloc(), words) {
         Ok(Some(choice)) => run_choice(rt, terminals, choice),
         Ok(None) => refuse_words(rt, "a file's name is missing: see polcert --help"),
         Err(error) => print_clap_error(rt, &error),
@@ -93,7 +87,7 @@ fn summarize_file<R: Files + Clock + AllocGlobal + Print + Eprint>(
     shows_progress: bool,
     name: &str,
 ) -> Result<u8, RunFault> {
-    let mut source = open_source(rt, shows_progress, InputText::Model, name)?;
+    let mut source = open_text(rt, shows_progress, InputText::Model, name)?;
     summarize(rt, &mut source)
 }
 
@@ -115,7 +109,7 @@ fn print_file<R: Files + Clock + AllocGlobal + Print + Eprint>(
     shows_progress: bool,
     name: &str,
 ) -> Result<u8, RunFault> {
-    let mut source = open_source(rt, shows_progress, InputText::Model, name)?;
+    let mut source = open_text(rt, shows_progress, InputText::Model, name)?;
     let mut sink = WriterSink::new(io::writer(rt));
     let done = run_print(rt.alloc(), &mut source, &mut sink);
     source.clear_progress();
@@ -131,9 +125,9 @@ fn run_task_on_files<R: Files + Clock + AllocGlobal + Print + Eprint>(
     task: Task,
     names: FileNames<'_>,
 ) -> Result<u8, RunFault> {
-    let mut model = open_source(rt, shows_progress, InputText::Model, names.model)?;
-    let mut graph = open_source(rt, shows_progress, InputText::Graph, names.graph)?;
-    let mut vectors = open_source(rt, shows_progress, InputText::Vectors, names.vectors)?;
+    let mut model = open_text(rt, shows_progress, InputText::Model, names.model)?;
+    let mut graph = open_text(rt, shows_progress, InputText::Graph, names.graph)?;
+    let mut vectors = open_text(rt, shows_progress, InputText::Vectors, names.vectors)?;
     let sink = &mut WriterSink::new(io::writer(rt));
     let progress = &mut CheckProgress::new(rt, shows_progress);
     let done = run_task(
@@ -163,21 +157,5 @@ fn print_constant<R: Eprint>(rt: &R, outcome: Outcome) {
         Outcome::Raised(by) => {
             let _ = rt.eprintln(RaisedLine(by));
         }
-    }
-}
-
-/// Opens the source of a text by the name of its file.
-fn open_source<'a, R: Files + Clock + Eprint>(
-    rt: &'a R,
-    shows_progress: bool,
-    text: InputText,
-    name: &str,
-) -> Result<WatchedSource<'a, ReaderSource<R::File>, R>, RunFault> {
-    match fs::open(rt, name) {
-        Ok(file) => {
-            let reader = ReaderSource::new(file);
-            Ok(WatchedSource::new(reader, text, rt, shows_progress))
-        }
-        Err(_) => Err(text.read_fault()),
     }
 }

@@ -3,7 +3,7 @@
 
 mod program;
 
-pub use polcert_terminal::every_policy::{Choice, choose};
+pub use polcert_terminal::bound_command::{BoundChoice, choose_bound};
 use std::io::IsTerminal;
 use std::process::ExitCode;
 

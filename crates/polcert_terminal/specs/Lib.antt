@@ -1,4 +1,4 @@
+pub mod BoundCommand
 pub mod Command
-pub mod ControllerCommand
-pub mod EveryPolicyCommand
+pub mod PolcertCommand
 pub mod Statuses

@@ -3,9 +3,9 @@ use Rattle.std.specs.Prelude.{ℕ}
 use Rattle.clap.specs.declared.error.kind.ErrorKind.{ErrorKind}
 use Rattle.clap.specs.declared.error.kind.ErrorKind.TheVariants.{DisplayHelp, DisplayVersion, OutOfMemory}
 use Rattle.polcert_answer.specs.declared.fault.RunFault.{RunFault}
-use Rattle.polcert_answer.specs.declared.fault.RunFault.TheVariants.{ReadModel, ReadGraph, ReadVectors}
+use Rattle.polcert_answer.specs.declared.fault.RunFault.TheVariants.{ReadModel, ReadGraph, ReadVectors, ReadPoints}
 use Rattle.polcert_terminal.specs.declared.progress.InputText.{InputText}
-use Rattle.polcert_terminal.specs.declared.progress.InputText.TheVariants.{Model, Graph, Vectors}
+use Rattle.polcert_terminal.specs.declared.progress.InputText.TheVariants.{Model, Graph, Vectors, Points}
 
 -- the words are no command line
 abbrev pub refused_status : ℕ
@@ -31,3 +31,4 @@ abbrev pub read_fault_of : InputText → RunFault
 read_fault_of Model = ReadModel
 read_fault_of Graph = ReadGraph
 read_fault_of Vectors = ReadVectors
+read_fault_of Points = ReadPoints

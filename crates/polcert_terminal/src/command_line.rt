@@ -1,8 +1,8 @@
-//! What the command lines of both programs share: help texts, arguments, values, and how a program ends whose command line is refused.
+//! What the command lines of the programs share: help texts, arguments, values, and how a program ends whose command line is refused.
 ghost use Rattle.std.specs.Prelude.{◌≡◌, ◌⊎◌, false, IfOk, option_map};
 ghost use Rattle.clap.specs.Words.{app_of, first_of, found_of, kind_of, rows_of, rule_of};
 ghost use Rattle.clap.specs.declared.builder.Command.TheViews.{out-Command};
-ghost use Rattle.polcert_terminal.specs.Command.{file_rule, one_file};
+ghost use Rattle.polcert_terminal.specs.Command.{at_most_rule, bounds_above, file_rule, names_in, names_view, one_file, three_files};
 ghost use Rattle.polcert_terminal.specs.Statuses.{memory_status, refused_status, unwritten_status, words_status};
 
 use clap::error::ErrorKind;
@@ -18,6 +18,14 @@ pub struct HelpTexts<'a> {
     pub usage: &'a str,
     /// What follows the options: the files, notes and an example.
     pub details: &'a str,
+}
+
+/// The names of the files of a model, of a policy graph, and of its vectors.
+#[derive(Clone, Copy, Debug, PartialEq, Eq)]
+pub struct FileNames<'a> {
+    pub model: &'a str,
+    pub graph: &'a str,
+    pub vectors: &'a str,
 }
 
 /// Returns an argument that takes the name of a file. The help's details describe it, so clap lists it nowhere.
@@ -44,11 +52,57 @@ pub fn command_with_file<'a>(
         .arg(file(alloc, "FILE"))
 }
 
+/// Returns a subcommand that takes the names of the files of a model, a graph and vectors.
+pub fn command_with_files<'a>(
+    alloc: Global,
+    name: &'a str,
+    texts: HelpTexts<'a>,
+) -> Result<Command<'a>, AllocError>
+    ensures app { IfOk result (λ command. app_of command ≡ three_files name.entry.now) }
+    ensures local { IfOk result (λ command. (out-Command command).has_globals ≡ false) }
+{
+    command_with_file(alloc, name, texts)?
+        .arg(file(alloc, "PG"))?
+        .arg(file(alloc, "ALPHA"))
+}
+
+/// Returns the flag of a check from above.
+pub fn at_most<'a>(alloc: Global, help: &'a str) -> Arg<'a>
+    ensures rule { rule_of result ≡ at_most_rule }
+    ensures local { result.global ≡ false }
+{
+    Arg::new(alloc, "at-most")
+        .long("at-most")
+        .action(ArgAction::SetTrue)
+        .help(help)
+}
+
 /// Returns the value of an argument.
 pub fn value_of<'a>(inner: &ArgMatches<'a>, id: &str) -> Option<&'a str>
     ensures { option_map (λ text. text.now) result ≡ first_of id.now (rows_of (found_of inner.now)) }
 {
     inner.get_str(id)
+}
+
+/// Returns whether the flag of a check from above was given.
+pub fn has_at_most(inner: &ArgMatches<'_>) -> bool
+    ensures { result ≡ bounds_above (rows_of (found_of inner.now)) }
+{
+    match value_of(inner, "at-most") {
+        Some("true") => true,
+        _ => false,
+    }
+}
+
+/// Returns the names of the three files, if all were given.
+pub fn file_names_of<'a>(inner: &ArgMatches<'a>) -> Option<FileNames<'a>>
+    ensures { option_map names_view result ≡ names_in (rows_of (found_of inner.now)) }
+{
+    Some(FileNames {
+        model: value_of(inner, "FILE")?,
+        graph: value_of(inner, "PG")?,
+        vectors: value_of(inner, "ALPHA")?,
+    })
 }
 
 /// The exit status if all went well and there is no verdict.

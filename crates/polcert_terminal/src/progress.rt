@@ -191,6 +191,7 @@ pub enum InputText {
     Model,
     Graph,
     Vectors,
+    Points,
 }
 
 impl InputText {
@@ -202,6 +203,7 @@ impl InputText {
             InputText::Model => RunFault::ReadModel,
             InputText::Graph => RunFault::ReadGraph,
             InputText::Vectors => RunFault::ReadVectors,
+            InputText::Points => RunFault::ReadPoints,
         }
     }
 }
@@ -212,6 +214,7 @@ impl fmt::Display for InputText {
             InputText::Model => f.write_str("model"),
             InputText::Graph => f.write_str("graph"),
             InputText::Vectors => f.write_str("vectors"),
+            InputText::Points => f.write_str("points"),
         }
     }
 }

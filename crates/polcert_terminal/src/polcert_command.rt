@@ -1,24 +1,19 @@
 //! What the words of the command line of `polcert` ask for.
-ghost use Rattle.std.specs.Prelude.{◌≡◌, ℕ, List, false, IfOk, map, option_map};
-ghost use Rattle.clap.specs.Words.{FailsBy, app_of, fault_of, found_of, rows_of, rule_of, subcommand_of, subcommand_rows_of, with_subcommand};
+ghost use Rattle.std.specs.Prelude.{◌≡◌, List, false, IfOk, map, option_map};
+ghost use Rattle.clap.specs.Words.{FailsBy, app_of, fault_of, found_of, rows_of, subcommand_of, subcommand_rows_of, with_subcommand};
 ghost use Rattle.clap.specs.declared.builder.Command.TheViews.{out-Command};
-ghost use Rattle.polcert_terminal.specs.Command.{one_file};
-ghost use Rattle.polcert_terminal.specs.ControllerCommand.{the_app, at_most_rule, check_app, three_files, bounds_above, chosen, chosen_of, names_in, names_view, view_of, job_of, job_view};
+ghost use Rattle.polcert_terminal.specs.Command.{one_file, three_files};
+ghost use Rattle.polcert_terminal.specs.PolcertCommand.{polcert_app, check_app, chosen, chosen_of, view_of, job_of, job_view};
 
 mod help;
 
-use crate::command_line::{HelpTexts, command_with_file, file, value_of};
-use clap::{Arg, ArgAction, ArgMatches, Command, Error};
+use crate::command_line::{
+    FileNames, HelpTexts, at_most, command_with_file, command_with_files, file_names_of,
+    has_at_most, value_of,
+};
+use clap::{ArgMatches, Command, Error};
 use polcert_answer::Task;
 use std::alloc::{AllocError, Global};
-
-/// The names of the files of a model, of a policy graph, and of its vectors.
-#[derive(Clone, Copy, Debug, PartialEq, Eq)]
-pub struct FileNames<'a> {
-    pub model: &'a str,
-    pub graph: &'a str,
-    pub vectors: &'a str,
-}
 
 /// What the words ask for.
 #[derive(Clone, Copy, Debug, PartialEq, Eq)]
@@ -71,21 +66,21 @@ impl<'a> Choice<'a> {
 /// clap's, with its text: the words are no command line, or they ask for help or the version, or memory ran out.
 pub fn choose<'a>(alloc: Global, words: &'a [&'a str]) -> Result<Option<Choice<'a>>, Error>
     // The row of the subcommand and the values that clap's promise for simple commands gives for these words.
-    ensures choice { IfOk result (λ choice.
-        option_map view_of choice ≡ chosen (subcommand_of the_app (map (λ word. word.now) words.entry.now))) }
+    ensures choice { IfOk result (λ choice. option_map view_of choice ≡
+        chosen (subcommand_of polcert_app (map (λ word. word.now) words.entry.now))) }
 
     // An error comes exactly if clap's promise has a fault for the words, and has one of its kinds, out of
     // memory aside.
-    ensures faults { FailsBy (fault_of the_app (map (λ word. word.now) words.entry.now)) result }
+    ensures faults { FailsBy (fault_of polcert_app (map (λ word. word.now) words.entry.now)) result }
 {
-    let command = program_command(alloc)?;
+    let command = polcert_command(alloc)?;
     let matches = command.try_get_matches_from(words)?;
     Ok(choice_of(&matches))
 }
 
 /// Returns the program's command, with its subcommands.
-fn program_command<'a>(alloc: Global) -> Result<Command<'a>, AllocError>
-    ensures { IfOk result (λ command. app_of command ≡ the_app) }
+fn polcert_command<'a>(alloc: Global) -> Result<Command<'a>, AllocError>
+    ensures { IfOk result (λ command. app_of command ≡ polcert_app) }
 {
     let command = Command::new(alloc, "polcert")
         .version("1.0.0")
@@ -139,32 +134,7 @@ fn check_command<'a>(alloc: Global) -> Result<Command<'a>, AllocError>
     ensures app { IfOk result (λ command. app_of command ≡ check_app) }
     ensures local { IfOk result (λ command. (out-Command command).has_globals ≡ false) }
 {
-    command_with_files(alloc, "check", help::CHECK)?.arg(at_most(alloc))
-}
-
-/// Returns a subcommand that takes the names of the files of a model, a graph and vectors.
-fn command_with_files<'a>(
-    alloc: Global,
-    name: &'a str,
-    texts: HelpTexts<'a>,
-) -> Result<Command<'a>, AllocError>
-    ensures app { IfOk result (λ command. app_of command ≡ three_files name.entry.now) }
-    ensures local { IfOk result (λ command. (out-Command command).has_globals ≡ false) }
-{
-    command_with_file(alloc, name, texts)?
-        .arg(file(alloc, "PG"))?
-        .arg(file(alloc, "ALPHA"))
-}
-
-/// Returns the flag of a check from above.
-fn at_most<'a>(alloc: Global) -> Arg<'a>
-    ensures rule { rule_of result ≡ at_most_rule }
-    ensures local { result.global ≡ false }
-{
-    Arg::new(alloc, "at-most")
-        .long("at-most")
-        .action(ArgAction::SetTrue)
-        .help(help::AT_MOST)
+    command_with_files(alloc, "check", help::CHECK)?.arg(at_most(alloc, help::AT_MOST))
 }
 
 /// Returns the choice of a subcommand and its matches.
@@ -184,31 +154,10 @@ fn choice_by_name<'a>(name: &str, inner: &ArgMatches<'a>) -> Option<Choice<'a>>
     match name {
         "model" => Some(Choice::Model(Some(value_of(inner, "FILE")?))),
         "print" => Some(Choice::Print(value_of(inner, "FILE")?)),
-        "check" if is_above(inner) => Some(Choice::CheckAbove(file_names_of(inner)?)),
+        "check" if has_at_most(inner) => Some(Choice::CheckAbove(file_names_of(inner)?)),
         "check" => Some(Choice::Check(file_names_of(inner)?)),
         "lower" => Some(Choice::Lower(file_names_of(inner)?)),
         "raise" => Some(Choice::Raise(file_names_of(inner)?)),
         _ => None,
     }
-}
-
-/// Returns whether the flag of a check from above was given.
-fn is_above(inner: &ArgMatches<'_>) -> bool
-    ensures { result ≡ bounds_above (rows_of (found_of inner.now)) }
-{
-    match value_of(inner, "at-most") {
-        Some("true") => true,
-        _ => false,
-    }
-}
-
-/// Returns the names of the three files, if all were given.
-fn file_names_of<'a>(inner: &ArgMatches<'a>) -> Option<FileNames<'a>>
-    ensures { option_map names_view result ≡ names_in (rows_of (found_of inner.now)) }
-{
-    Some(FileNames {
-        model: value_of(inner, "FILE")?,
-        graph: value_of(inner, "PG")?,
-        vectors: value_of(inner, "ALPHA")?,
-    })
 }

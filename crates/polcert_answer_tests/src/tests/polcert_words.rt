@@ -1,6 +1,7 @@
 //! What the words of the command line of `polcert` ask for.
 use clap::error::ErrorKind;
-use polcert_terminal::controller::{Choice, FileNames, choose};
+use polcert_terminal::command_line::FileNames;
+use polcert_terminal::polcert_command::{Choice, choose};
 use std::alloc::Global;
 
 /// What is chosen; or the kind of fault with which the words are refused.

@@ -1,45 +1,45 @@
 //! What the words of the command line of `polcert_bound` ask for.
 use clap::error::ErrorKind;
-use polcert_terminal::every_policy::{Choice, FileNames, choose};
+use polcert_terminal::bound_command::{BoundChoice, BoundFiles, choose_bound};
 use std::alloc::Global;
 
 /// Returns what is chosen, or the kind of fault with which the words are refused.
-fn chosen<'a>(alloc: Global, words: &'a [&'a str]) -> Result<Option<Choice<'a>>, ErrorKind> {
-    match choose(alloc, words) {
+fn chosen<'a>(alloc: Global, words: &'a [&'a str]) -> Result<Option<BoundChoice<'a>>, ErrorKind> {
+    match choose_bound(alloc, words) {
         Ok(choice) => Ok(choice),
         Err(error) => Err(error.kind()),
     }
 }
 
-const NAMES: FileNames<'static> = FileNames {
+const NAMES: BoundFiles<'static> = BoundFiles {
     model: "a",
     vectors: "b",
 };
 
 /// Words, and what is chosen.
-const CHOICES: [(&[&str], Option<Choice<'static>>); 12] = [
+const CHOICES: [(&[&str], Option<BoundChoice<'static>>); 12] = [
     (&[], None),
     (&["polcert_bound"], None),
     (&["polcert_bound", "check"], None),
     (&["polcert_bound", "check", "a"], None),
     (
         &["polcert_bound", "check", "a", "b"],
-        Some(Choice::Check(NAMES)),
+        Some(BoundChoice::Check(NAMES)),
     ),
     (
         &["polcert_bound", "check", "--", "a", "b"],
-        Some(Choice::Check(NAMES)),
+        Some(BoundChoice::Check(NAMES)),
     ),
     (
         &["polcert_bound", "check", "a", "b", "c"],
-        Some(Choice::CheckPoints {
+        Some(BoundChoice::CheckPoints {
             files: NAMES,
             points: "c",
         }),
     ),
     (
         &["polcert_bound", "check", "a", "--", "b", "-c"],
-        Some(Choice::CheckPoints {
+        Some(BoundChoice::CheckPoints {
             files: NAMES,
             points: "-c",
         }),
@@ -48,11 +48,11 @@ const CHOICES: [(&[&str], Option<Choice<'static>>); 12] = [
     (&["polcert_bound", "raise", "a"], None),
     (
         &["polcert_bound", "raise", "a", "b"],
-        Some(Choice::Raise(NAMES)),
+        Some(BoundChoice::Raise(NAMES)),
     ),
     (
         &["polcert_bound", "raise", "a", "b", "c"],
-        Some(Choice::RaisePoints {
+        Some(BoundChoice::RaisePoints {
             files: NAMES,
             points: "c",
         }),

@@ -2,7 +2,7 @@
 ghost use Rattle.std.specs.Prelude.{◌≡◌, List, false, IfOk, map, option_map};
 ghost use Rattle.clap.specs.Words.{FailsBy, app_of, fault_of, found_of, rows_of, subcommand_of, subcommand_rows_of, with_subcommand};
 ghost use Rattle.clap.specs.declared.builder.Command.TheViews.{out-Command};
-ghost use Rattle.polcert_terminal.specs.EveryPolicyCommand.{the_app, two_files, three_files, check_of, raise_of, chosen, chosen_of, names_in, names_view, view_of};
+ghost use Rattle.polcert_terminal.specs.BoundCommand.{bound_app, two_files, files_and_points, check_chosen_of, raise_chosen_of, bound_chosen, bound_chosen_of, bound_names_in, bound_names_view, bound_view_of};
 
 mod help;
 
@@ -12,26 +12,26 @@ use std::alloc::{AllocError, Global};
 
 /// The names of the files of a model and of vectors, one for each of its actions.
 #[derive(Clone, Copy, Debug, PartialEq, Eq)]
-pub struct FileNames<'a> {
+pub struct BoundFiles<'a> {
     pub model: &'a str,
     pub vectors: &'a str,
 }
 
 /// What the words ask for.
 #[derive(Clone, Copy, Debug, PartialEq, Eq)]
-pub enum Choice<'a> {
+pub enum BoundChoice<'a> {
     /// Check that the vectors bound what every policy earns.
-    Check(FileNames<'a>),
+    Check(BoundFiles<'a>),
     /// Check that the vectors and the belief points of the file of this name do.
     CheckPoints {
-        files: FileNames<'a>,
+        files: BoundFiles<'a>,
         points: &'a str,
     },
     /// Raise the vectors so that they pass the check.
-    Raise(FileNames<'a>),
+    Raise(BoundFiles<'a>),
     /// Raise the belief points of the file of this name so that they pass the check with the raised vectors.
     RaisePoints {
-        files: FileNames<'a>,
+        files: BoundFiles<'a>,
         points: &'a str,
     },
 }
@@ -41,23 +41,26 @@ pub enum Choice<'a> {
 /// # Errors
 ///
 /// clap's, with its text: the words are no command line, or they ask for help or the version, or memory ran out.
-pub fn choose<'a>(alloc: Global, words: &'a [&'a str]) -> Result<Option<Choice<'a>>, Error>
+pub fn choose_bound<'a>(
+    alloc: Global,
+    words: &'a [&'a str],
+) -> Result<Option<BoundChoice<'a>>, Error>
     // The row of the subcommand and the values that clap's promise for simple commands gives for these words.
-    ensures choice { IfOk result (λ choice.
-        option_map view_of choice ≡ chosen (subcommand_of the_app (map (λ word. word.now) words.entry.now))) }
+    ensures choice { IfOk result (λ choice. option_map bound_view_of choice ≡
+        bound_chosen (subcommand_of bound_app (map (λ word. word.now) words.entry.now))) }
 
     // An error comes exactly if clap's promise has a fault for the words, and has one of its kinds, out of
     // memory aside.
-    ensures faults { FailsBy (fault_of the_app (map (λ word. word.now) words.entry.now)) result }
+    ensures faults { FailsBy (fault_of bound_app (map (λ word. word.now) words.entry.now)) result }
 {
-    let command = program_command(alloc)?;
+    let command = bound_command(alloc)?;
     let matches = command.try_get_matches_from(words)?;
-    Ok(choice_of(&matches))
+    Ok(bound_choice_of(&matches))
 }
 
 /// Returns the program's command, with its subcommands.
-fn program_command<'a>(alloc: Global) -> Result<Command<'a>, AllocError>
-    ensures { IfOk result (λ command. app_of command ≡ the_app) }
+fn bound_command<'a>(alloc: Global) -> Result<Command<'a>, AllocError>
+    ensures { IfOk result (λ command. app_of command ≡ bound_app) }
 {
     let command = Command::new(alloc, "polcert_bound")
         .version("1.0.0")
@@ -75,14 +78,14 @@ fn command_with_points<'a>(
     name: &'a str,
     texts: HelpTexts<'a>,
 ) -> Result<Command<'a>, AllocError>
-    ensures app { IfOk result (λ command. app_of command ≡ three_files name.entry.now) }
+    ensures app { IfOk result (λ command. app_of command ≡ files_and_points name.entry.now) }
     ensures local { IfOk result (λ command. (out-Command command).has_globals ≡ false) }
 {
-    command_with_files(alloc, name, texts)?.arg(file(alloc, "POINTS"))
+    command_with_vectors(alloc, name, texts)?.arg(file(alloc, "POINTS"))
 }
 
 /// Returns a subcommand that takes the names of the files of a model and of vectors.
-fn command_with_files<'a>(
+fn command_with_vectors<'a>(
     alloc: Global,
     name: &'a str,
     texts: HelpTexts<'a>,
@@ -94,53 +97,53 @@ fn command_with_files<'a>(
 }
 
 /// Returns the choice of a subcommand and its matches.
-fn choice_of<'a>(matches: &ArgMatches<'a>) -> Option<Choice<'a>>
-    ensures { option_map view_of result ≡ chosen (subcommand_rows_of matches.now) }
+fn bound_choice_of<'a>(matches: &ArgMatches<'a>) -> Option<BoundChoice<'a>>
+    ensures { option_map bound_view_of result ≡ bound_chosen (subcommand_rows_of matches.now) }
 {
     match matches.subcommand() {
         None => None,
-        Some((name, inner)) => choice_by_name(name, inner),
+        Some((name, inner)) => bound_choice_by_name(name, inner),
     }
 }
 
 /// Returns the choice of a subcommand's name and its matches.
-fn choice_by_name<'a>(name: &str, inner: &ArgMatches<'a>) -> Option<Choice<'a>>
-    ensures { option_map view_of result ≡ chosen_of name.now (rows_of (found_of inner.now)) }
+fn bound_choice_by_name<'a>(name: &str, inner: &ArgMatches<'a>) -> Option<BoundChoice<'a>>
+    ensures { option_map bound_view_of result ≡ bound_chosen_of name.now (rows_of (found_of inner.now)) }
 {
     match name {
-        "check" => Some(check_of(file_names_of(inner)?, value_of(inner, "POINTS"))),
-        "raise" => Some(raise_of(file_names_of(inner)?, value_of(inner, "POINTS"))),
+        "check" => Some(check_choice_of(bound_files_of(inner)?, value_of(inner, "POINTS"))),
+        "raise" => Some(raise_choice_of(bound_files_of(inner)?, value_of(inner, "POINTS"))),
         _ => None,
     }
 }
 
 /// Returns the check of two files, or of three if points are given.
-fn check_of<'a>(files: FileNames<'a>, points: Option<&'a str>) -> Choice<'a>
-    ensures { view_of result ≡
-        check_of (option_map (λ name. name.now) points.entry) (names_view files.entry) }
+fn check_choice_of<'a>(files: BoundFiles<'a>, points: Option<&'a str>) -> BoundChoice<'a>
+    ensures { bound_view_of result ≡
+        check_chosen_of (option_map (λ name. name.now) points.entry) (bound_names_view files.entry) }
 {
     match points {
-        Some(points) => Choice::CheckPoints { files, points },
-        None => Choice::Check(files),
+        Some(points) => BoundChoice::CheckPoints { files, points },
+        None => BoundChoice::Check(files),
     }
 }
 
 /// Returns the raise of two files, or of three if points are given.
-fn raise_of<'a>(files: FileNames<'a>, points: Option<&'a str>) -> Choice<'a>
-    ensures { view_of result ≡
-        raise_of (option_map (λ name. name.now) points.entry) (names_view files.entry) }
+fn raise_choice_of<'a>(files: BoundFiles<'a>, points: Option<&'a str>) -> BoundChoice<'a>
+    ensures { bound_view_of result ≡
+        raise_chosen_of (option_map (λ name. name.now) points.entry) (bound_names_view files.entry) }
 {
     match points {
-        Some(points) => Choice::RaisePoints { files, points },
-        None => Choice::Raise(files),
+        Some(points) => BoundChoice::RaisePoints { files, points },
+        None => BoundChoice::Raise(files),
     }
 }
 
 /// Returns the names of both files, if both were given.
-fn file_names_of<'a>(inner: &ArgMatches<'a>) -> Option<FileNames<'a>>
-    ensures { option_map names_view result ≡ names_in (rows_of (found_of inner.now)) }
+fn bound_files_of<'a>(inner: &ArgMatches<'a>) -> Option<BoundFiles<'a>>
+    ensures { option_map bound_names_view result ≡ bound_names_in (rows_of (found_of inner.now)) }
 {
-    Some(FileNames {
+    Some(BoundFiles {
         model: value_of(inner, "FILE")?,
         vectors: value_of(inner, "ALPHA")?,
     })

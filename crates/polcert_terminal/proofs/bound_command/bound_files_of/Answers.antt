@@ -1,5 +1,5 @@
 use Rattle.std.proofs.Common.{rules}
-use Rattle.polcert_terminal.proofs.every_policy.file_names_of.Goals as goal
+use Rattle.polcert_terminal.proofs.bound_command.bound_files_of.Goals as goal
 
 pub returns : goal.returns
 returns c = search rules

@@ -1,5 +1,5 @@
 use Rattle.std.proofs.Common.{rules}
-use Rattle.polcert_terminal.proofs.controller.is_above.Goals as goal
+use Rattle.polcert_terminal.proofs.command_line.has_at_most.Goals as goal
 
 pub returns-in_default : goal.returns-in_default
 returns-in_default c = search rules

@@ -1,10 +1,10 @@
 use Rattle.std.proofs.Common.{◌≡◌, ◌∙◌, ap, sym, refl, true, List, []}
 use Rattle.clap.specs.Words.{App, Text, app_of, fault_of, is_simple_and_free}
 use Rattle.clap.proofs.OnLiterals.{clap_on_literals}
-use Rattle.polcert_terminal.specs.EveryPolicyCommand.{the_app}
-use Rattle.polcert_terminal.proofs.every_policy.choose.Goals as goal
+use Rattle.polcert_terminal.specs.BoundCommand.{bound_app}
+use Rattle.polcert_terminal.proofs.bound_command.choose_bound.Goals as goal
 
-is_simple : is_simple_and_free the_app ≡ true
+is_simple : is_simple_and_free bound_app ≡ true
 unfolding clap_on_literals
 is_simple = refl
 
@@ -13,5 +13,5 @@ no_fault a b words same none = ap (λ (x : App). fault_of x words) (sym same) �
 
 pub returns-clause-faults : goal.returns-clause-faults
 returns-clause-faults c =
-    let same : app_of c.in_ok-command.command ≡ the_app = c.in_ok-command.ensures in
-    no_fault _ the_app _ same (c.in_ok-matches.ensures.kinds (ap is_simple_and_free same ∙ is_simple))
+    let same : app_of c.in_ok-command.command ≡ bound_app = c.in_ok-command.ensures in
+    no_fault _ bound_app _ same (c.in_ok-matches.ensures.kinds (ap is_simple_and_free same ∙ is_simple))
