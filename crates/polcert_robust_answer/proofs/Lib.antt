@@ -1,0 +1,5 @@
+mod Common
+mod NearSame
+mod Small
+mod NearLaws
+mod NearTexts

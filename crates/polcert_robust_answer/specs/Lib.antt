@@ -1,0 +1,5 @@
+pub mod Distances
+pub mod Lines
+pub mod Near
+pub mod Run
+pub mod Steps

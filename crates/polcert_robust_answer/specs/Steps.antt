@@ -1,0 +1,2 @@
+-- What nobody has to believe: only contracts of private functions cite these.
+pub mod Nearby

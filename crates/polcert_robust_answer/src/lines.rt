@@ -1,0 +1,125 @@
+//! The line of a verdict.
+ghost use Rattle.polcert_text.specs.Sink.{WritesText};
+ghost use Rattle.polcert_answer.specs.Lines.{amount_line, lack_line, pair_text};
+ghost use Rattle.polcert_robust_answer.specs.Lines.{line_text, rewards_words, yes_line};
+
+use crate::within::Within;
+use polcert_answer::write_count;
+use polcert_text::{BufferedSink, Sink, SinkFailed, write_all, write_scaled};
+
+/// What the line of a verdict says.
+#[derive(Clone, Copy, Debug, PartialEq, Eq)]
+pub(crate) enum NearLine {
+    /// A yes for every model within.
+    Every,
+    /// A no: the pair of a node and a state, and by how many millionths it is short in the worst case.
+    Short {
+        node: usize,
+        state: usize,
+        by: i64,
+    },
+    /// A no from above: the pair, and by how many millionths it is long.
+    Long {
+        node: usize,
+        state: usize,
+        by: i64,
+    },
+    /// A no: the pair, and an observation for which the node has no successor.
+    NoSuccessor {
+        node: usize,
+        state: usize,
+        observation: usize,
+    },
+}
+
+/// Writes the line of a verdict, through a buffer.
+pub(crate) fn write_verdict<W: Sink>(
+    within: &Within<'_>,
+    line: NearLine,
+    sink: &mut W,
+) -> Result<(), SinkFailed>
+    ensures { WritesText W.writes W.failures sink.old (line_text within.now line) result sink.new }
+{
+    let mut buffered = BufferedSink::new(sink);
+    write_line(within, line, &mut buffered)?;
+    buffered.flush()
+}
+
+/// Writes the line of a verdict.
+fn write_line<W: Sink>(within: &Within<'_>, line: NearLine, sink: &mut W) -> Result<(), SinkFailed>
+    ensures { WritesText W.writes W.failures sink.old (line_text within.now line) result sink.new }
+{
+    match line {
+        NearLine::Every => write_yes(within, sink),
+        NearLine::Short { node, state, by } => write_amount(node, state, b", short by ", by, sink),
+        NearLine::Long { node, state, by } => write_amount(node, state, b", long by ", by, sink),
+        NearLine::NoSuccessor {
+            node,
+            state,
+            observation,
+        } => write_no_successor(node, state, observation, sink),
+    }
+}
+
+/// Writes a yes.
+fn write_yes<W: Sink>(within: &Within<'_>, sink: &mut W) -> Result<(), SinkFailed>
+    ensures { WritesText W.writes W.failures sink.old (yes_line within.now) result sink.new }
+{
+    write_all(sink, b"yes: every model within ")?;
+    write_all(sink, within.text)?;
+    write_rewards(within, sink)?;
+    write_all(sink, b"\n")
+}
+
+/// Writes the distance of rewards, if they are not known.
+fn write_rewards<W: Sink>(within: &Within<'_>, sink: &mut W) -> Result<(), SinkFailed>
+    ensures { WritesText W.writes W.failures sink.old (rewards_words within.now) result sink.new }
+{
+    if within.rewards_by == 0 {
+        return Ok(());
+    }
+    write_all(sink, b", rewards within ")?;
+    write_all(sink, within.rewards_text)
+}
+
+/// Writes a no: the pair of a node and a state, these words, and by how much it fails, in millionths.
+fn write_amount<W: Sink>(
+    node: usize,
+    state: usize,
+    words: &[u8],
+    by: i64,
+    sink: &mut W,
+) -> Result<(), SinkFailed>
+    ensures { WritesText W.writes W.failures sink.old (amount_line node state words.now by) result sink.new }
+{
+    write_pair(node, state, words, sink)?;
+    write_scaled(by, sink)?;
+    write_all(sink, b"\n")
+}
+
+/// Writes a no: the pair, and the observation for which the node has no successor.
+fn write_no_successor<W: Sink>(
+    node: usize,
+    state: usize,
+    observation: usize,
+    sink: &mut W,
+) -> Result<(), SinkFailed>
+    ensures { WritesText W.writes W.failures sink.old (lack_line node state observation) result sink.new }
+{
+    write_pair(node, state, b", observation ", sink)?;
+    write_count(observation, b" has no successor\n", sink)
+}
+
+/// Writes the beginning of a no, and the words after it.
+fn write_pair<W: Sink>(
+    node: usize,
+    state: usize,
+    words: &[u8],
+    sink: &mut W,
+) -> Result<(), SinkFailed>
+    ensures { WritesText W.writes W.failures sink.old (pair_text node state words.now) result sink.new }
+{
+    write_all(sink, b"no: node ")?;
+    write_count(node, b", state ", sink)?;
+    write_count(state, words, sink)
+}
