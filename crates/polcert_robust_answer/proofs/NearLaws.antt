@@ -13,12 +13,14 @@ use Rattle.polcert_robust_answer.proofs.Common.{CellTable, PolicyGraph, PolicyVe
 use Rattle.polcert_robust_answer.proofs.NearSame.{lies_same, sym_same}
 
 module _ (w : Within) (x y : CellTable) (same : HasSameCells x y) (g : PolicyGraph) (v : PolicyVectors) where
-  meets_same : (u : Verdict) → MeetsHorizonInEveryModel (models_near w x) (controller_of x g v) u → MeetsHorizonInEveryModel (models_near w y) (controller_of y g v) u
+  meets_same : (u : Verdict) → MeetsHorizonInEveryModel (models_near w x) (controller_of x g v) u
+      → MeetsHorizonInEveryModel (models_near w y) (controller_of y g v) u
   meets_same Yes every = λ parts m lies. every parts m (lies_same y x (sym_same x y same) parts m w lies)
   meets_same (Short n s amount) (m, lies, fails) = (m, lies_same x y same 1 m w lies, fails)
   meets_same (NoSuccessor n s z) (m, lies, fails) = (m, lies_same x y same 1 m w lies, fails)
 
-  meets_above_same : (u : AboveVerdict) → MeetsHorizonAboveInEveryModel (models_near w x) (controller_of x g v) u → MeetsHorizonAboveInEveryModel (models_near w y) (controller_of y g v) u
+  meets_above_same : (u : AboveVerdict) → MeetsHorizonAboveInEveryModel (models_near w x) (controller_of x g v) u
+      → MeetsHorizonAboveInEveryModel (models_near w y) (controller_of y g v) u
   meets_above_same above.Yes every = λ parts m lies. every parts m (lies_same y x (sym_same x y same) parts m w lies)
   meets_above_same (above.Long n s amount) (m, lies, fails) = (m, lies_same x y same 1 m w lies, fails)
   meets_above_same (above.NoSuccessor n s z) (m, lies, fails) = (m, lies_same x y same 1 m w lies, fails)

@@ -17,7 +17,12 @@ returns-in_err-graph-clause-refused g c =
     let of = c.in_err-graph.ensures.of_a_graph in
     record {
       of_model = λ fault is. absurd (said _ _ same IsGraphReadFault of (Text (Model fault)) is);
-      of_graph = λ fault is. (first.0, first.1, c.in_err-graph.ensures.refused fault (of_read _ _ same (Text (Graph fault)) is) first.0 first.2);
+      of_graph = λ fault is. (
+        first.0,
+        first.1,
+        c.in_err-graph.ensures.refused fault (of_read _ _ same (Text (Graph fault)) is) first.0
+            first.2,
+      );
       of_vectors = λ fault is. absurd (said _ _ same IsGraphReadFault of (Text (Vectors fault)) is);
     }
 
@@ -25,14 +30,21 @@ pub returns-in_err-vectors-clause-refused : goal.returns-in_err-vectors-clause-r
 returns-in_err-vectors-clause-refused g c =
     let first = c.in_ok-model.ensures.accepted in
     let second = c.in_ok-graph.ensures.accepted in
-    let has : HasGraph first.0 second.0 (meaning c.in_ok-model.model) c.in_ok-graph.graph = record { is_model = first.2; is_graph = second.2 } in
+    let has : HasGraph first.0 second.0 (meaning c.in_ok-model.model) c.in_ok-graph.graph =
+    record { is_model = first.2; is_graph = second.2 } in
     let same = is_err _ _ c.from_residual-in_err-vectors.ensures.1 in
     let of = c.in_err-vectors.ensures.of_vectors in
     record {
       of_model = λ fault is. absurd (said _ _ same IsVectorsReadFault of (Text (Model fault)) is);
       of_graph = λ fault is. absurd (said _ _ same IsVectorsReadFault of (Text (Graph fault)) is);
-      of_vectors = λ fault is.
-          (first.0, second.0, first.1, second.1, c.in_err-vectors.ensures.refused fault (of_read _ _ same (Text (Vectors fault)) is) first.0 second.0 has);
+      of_vectors = λ fault is. (
+        first.0,
+        second.0,
+        first.1,
+        second.1,
+        c.in_err-vectors.ensures.refused fault (of_read _ _ same (Text (Vectors fault)) is) first.0
+            second.0 has,
+      );
     }
 
 pub returns-clause-refused : goal.returns-clause-refused
@@ -56,7 +68,8 @@ returns-clause-read g c = grind (arith, answered_well, unnamed, not_named)
 
 pub returns-in_err-graph-clause-in_order : goal.returns-in_err-graph-clause-in_order
 returns-in_err-graph-clause-in_order g c =
-    graph_in_order c.from_residual-in_err-graph.result _ _ _ _ _ c.from_residual-in_err-graph.ensures.1 c.in_err-graph.ensures.of_a_graph refl
+    graph_in_order c.from_residual-in_err-graph.result _ _ _ _ _ c.from_residual-in_err-graph.ensures.1 c.in_err-graph.ensures.of_a_graph
+    refl
 
 pub returns-clause-accepted : goal.returns-clause-accepted
 returns-clause-accepted g c = grind arith

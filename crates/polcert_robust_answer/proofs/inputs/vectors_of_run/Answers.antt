@@ -16,7 +16,8 @@ returns-in-Err-Refused g c =
     record {
       accepted = tt;
       refused = λ fault same first second has.
-          each_text (vectors_refused c.args.rounding first second fault (meaning c.args.model.now) c.args.graph.now has) (refused fault (cc));
+          each_text (vectors_refused c.args.rounding first second fault (meaning c.args.model.now) c.args.graph.now has)
+          (refused fault (cc));
       read = named_rightly c.in-Err-Refused.ensures.read (λ named. absurd (cc)) (λ is. absurd (cc));
       of_vectors = tt;
     }

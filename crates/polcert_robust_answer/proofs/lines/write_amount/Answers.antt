@@ -9,8 +9,10 @@ returns-in_err-write_pair g c = stopped (search rules) (unwritten _ (unwritten _
 
 pub returns-in_err-write_scaled : goal.returns-in_err-write_scaled
 returns-in_err-write_scaled g c =
-    stopped (search rules) (unwritten _ (and_then c.in_ok-write_pair.ensures (rw (to_z-of_z w64 c.args.by c.ranges.by) at c.in_err-write_scaled.ensures.written)))
+    stopped (search rules) (unwritten _ (and_then c.in_ok-write_pair.ensures
+    (rw (to_z-of_z w64 c.args.by c.ranges.by) at c.in_err-write_scaled.ensures.written)))
 
 pub returns : goal.returns
 returns g c =
-    and_then (and_then c.in_ok-write_pair.ensures (rw (to_z-of_z w64 c.args.by c.ranges.by) at c.in_ok-write_scaled.ensures.written)) c.write_all.ensures
+    and_then (and_then c.in_ok-write_pair.ensures (rw (to_z-of_z w64 c.args.by c.ranges.by) at c.in_ok-write_scaled.ensures.written))
+    c.write_all.ensures

@@ -18,7 +18,9 @@ returns-then-within-eq0 g c = wrote_nothing (known c.args.within.now.rewards_by 
 
 pub returns-in_err-write_all : goal.returns-in_err-write_all
 returns-in_err-write_all g c =
-    as_text (unknown c.args.within.now.rewards_by (words c.args.within.now) c.if-within-eq0.false) (stopped (search rules) (unwritten c.args.within.now.rewards_text.now c.in_err-write_all.ensures))
+    as_text (unknown c.args.within.now.rewards_by (words c.args.within.now) c.if-within-eq0.false)
+    (stopped (search rules) (unwritten c.args.within.now.rewards_text.now c.in_err-write_all.ensures))
 
 pub returns : goal.returns
-returns g c = as_text (unknown c.args.within.now.rewards_by (words c.args.within.now) c.if-within-eq0.false) (and_then c.in_ok-write_all.ensures c.write_all-2.ensures)
+returns g c = as_text (unknown c.args.within.now.rewards_by (words c.args.within.now) c.if-within-eq0.false)
+    (and_then c.in_ok-write_all.ensures c.write_all-2.ensures)

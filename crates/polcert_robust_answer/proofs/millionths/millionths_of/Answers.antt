@@ -1,4 +1,5 @@
-use Rattle.std.proofs.Common.{◌≡◌, ◌∙◌, ℕ, ◌*◌, ◌≤◌, ℤ, pos, negsuc, ◌<ℤ◌, unsigned_abs, arith, refl, ap, subst, rules, to_z, of_z, w64, to_z-of_z, FitsSigned}
+use Rattle.std.proofs.Common.{◌≡◌, ◌∙◌, ℕ, ◌*◌, ◌≤◌, ℤ, pos, negsuc, ◌<ℤ◌, unsigned_abs, arith, refl, ap, subst, rules, to_z, of_z, w64}
+use Rattle.std.proofs.Common.{to_z-of_z, FitsSigned}
 use Rattle.std.specs.Int.{w128}
 use Rattle.std.proofs.lemmas.Int.{ints}
 use Rattle.polcert_text.specs.Numbers.{largest}
@@ -15,7 +16,8 @@ positive : (amount : ℤ) → pos 0 <ℤ amount → pos (unsigned_abs amount) �
 positive (pos n) some = refl
 positive (negsuc n) some = absurd (omega (arith, ints, some))
 
-quotient : (amount : ℤ) (t o : ℕ) (q : ℤ) → pos 0 <ℤ amount → IsCeilQuotient (pos (unsigned_abs amount)) (t * o * 1000000) q → IsCeilQuotient amount (t * o * one) q
+quotient : (amount : ℤ) (t o : ℕ) (q : ℤ) → pos 0 <ℤ amount → IsCeilQuotient (pos (unsigned_abs amount)) (t * o * 1000000) q
+    → IsCeilQuotient amount (t * o * one) q
 unfolding one
 quotient amount t o q some is = subst (λ a. IsCeilQuotient a (t * o * 1000000) q) (positive amount some) is
 
@@ -33,4 +35,5 @@ returns g c =
     let same = c.unsigned_abs.ensures.value ∙ ap unsigned_abs (to_z-of_z {w = w128} fits) in
     let narrow_fits : FitsSigned w64 c.small_quotient.result = search rules in
     let narrow : to_z w64 (of_z w64 c.small_quotient.result) ≡ c.small_quotient.result = to_z-of_z {w = w64} narrow_fits in
-    rw narrow (quotient c.args.amount _ _ c.small_quotient.result c.requires.some (rw (same, c.t_scale.ensures, c.o_scale.ensures) at c.small_quotient.ensures))
+    rw narrow (quotient c.args.amount _ _ c.small_quotient.result c.requires.some
+    (rw (same, c.t_scale.ensures, c.o_scale.ensures) at c.small_quotient.ensures))

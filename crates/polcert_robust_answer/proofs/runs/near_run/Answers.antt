@@ -2,7 +2,8 @@ use Rattle.std.proofs.Common.{arith}
 use Rattle.polcert_answer.specs.Run.{IsCheckRunFault}
 use Rattle.polcert_answer.proofs.Denoted.{fits_of}
 use Rattle.polcert_answer.proofs.OfSources.{wrote_mapped, text_of_answer, answered_with}
-use Rattle.polcert_answer.proofs.Passing.{is_err, not_ok, no_ok, of_fault, nothing_written, stops_again, stops_after, read_in_check, of_writing, is_write}
+use Rattle.polcert_answer.proofs.Passing.{is_err, not_ok, no_ok, of_fault, nothing_written, stops_again, stops_after, read_in_check}
+use Rattle.polcert_answer.proofs.Passing.{of_writing, is_write}
 use Rattle.polcert_robust_answer.proofs.Common.{meaning, IsNoReadFault}
 use Rattle.polcert_robust_answer.proofs.NearTexts.{has_verdict, has_promise, has_horizon}
 use Rattle.polcert_robust_answer.proofs.runs.near_run.Goals as goal

@@ -11,7 +11,8 @@ pub millionths_near-by-requires-clause-is : goal.millionths_near-by-requires-cla
 millionths_near-by-requires-clause-is c =
     let fits : FitsSigned w128 c.in-Short.amount = search rules in
     let back : to_z w128 (of_z w128 c.in-Short.amount) ≡ c.in-Short.amount = to_z-of_z fits in
-    let (nl, sl, before, lacks, short, some) = subst (IsRobustVerdict (near_given c.args.within.now c.args.given.now) (controller_near c.args.given.now)) c.in-Short.is c.requires.verdict in
+    let (nl, sl, before, lacks, short, some) = subst (IsRobustVerdict (near_given c.args.within.now c.args.given.now)
+    (controller_near c.args.given.now)) c.in-Short.is c.requires.verdict in
     rw back (c.in-Short.node, c.in-Short.state, nl, sl, inl short)
 
 pub returns-in-Short : goal.returns-in-Short
@@ -21,5 +22,7 @@ returns-in-Short c =
     let back : to_z w64 (of_z w64 by) ≡ by = to_z-of_z fits in
     let fits_amount : FitsSigned w128 c.in-Short.amount = search rules in
     let amount_back : to_z w128 (of_z w128 c.in-Short.amount) ≡ c.in-Short.amount = to_z-of_z fits_amount in
-    rw back (subst⁻¹ (λ u. IsNearLine c.args.within.now (controller_of (table_of (meaning c.args.given.now.model)) c.args.given.now.graph c.args.given.now.vectors) u (short_line c.in-Short.node c.in-Short.state by)) c.in-Short.is
+    rw back (subst⁻¹ (λ u. IsNearLine c.args.within.now
+    (controller_of (table_of (meaning c.args.given.now.model)) c.args.given.now.graph c.args.given.now.vectors) u
+    (short_line c.in-Short.node c.in-Short.state by)) c.in-Short.is
     (by, rw amount_back at c.millionths_near-by.ensures, refl))

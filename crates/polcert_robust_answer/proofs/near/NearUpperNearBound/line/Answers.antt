@@ -11,7 +11,8 @@ pub millionths_near-by-requires-clause-is : goal.millionths_near-by-requires-cla
 millionths_near-by-requires-clause-is c =
     let fits : FitsSigned w128 c.in-Long.amount = search rules in
     let back : to_z w128 (of_z w128 c.in-Long.amount) ≡ c.in-Long.amount = to_z-of_z fits in
-    let (nl, sl, before, lacks, short, some) = subst (IsRobustAboveVerdict (near_given c.args.within.now c.args.given.now) (controller_near c.args.given.now)) c.in-Long.is c.requires.verdict in
+    let (nl, sl, before, lacks, short, some) = subst (IsRobustAboveVerdict (near_given c.args.within.now c.args.given.now)
+    (controller_near c.args.given.now)) c.in-Long.is c.requires.verdict in
     rw back (c.in-Long.node, c.in-Long.state, nl, sl, inr short)
 
 pub returns-in-Long : goal.returns-in-Long
@@ -21,5 +22,7 @@ returns-in-Long c =
     let back : to_z w64 (of_z w64 by) ≡ by = to_z-of_z fits in
     let fits_amount : FitsSigned w128 c.in-Long.amount = search rules in
     let amount_back : to_z w128 (of_z w128 c.in-Long.amount) ≡ c.in-Long.amount = to_z-of_z fits_amount in
-    rw back (subst⁻¹ (λ u. IsNearAboveLine c.args.within.now (controller_of (table_of (meaning c.args.given.now.model)) c.args.given.now.graph c.args.given.now.vectors) u (long_line c.in-Long.node c.in-Long.state by)) c.in-Long.is
+    rw back (subst⁻¹ (λ u. IsNearAboveLine c.args.within.now
+    (controller_of (table_of (meaning c.args.given.now.model)) c.args.given.now.graph c.args.given.now.vectors) u
+    (long_line c.in-Long.node c.in-Long.state by)) c.in-Long.is
     (by, rw amount_back at c.millionths_near-by.ensures, refl))
