@@ -1,4 +1,5 @@
 mod Common
+mod DistanceLaws
 mod NearSame
 mod Small
 mod NearLaws

@@ -1,15 +1,21 @@
 -- Distances, as they are typed and as they count on a scale. Our own.
-use Rattle.std.specs.Prelude.{ℕ, ◌+◌, ◌*◌, ◌/◌, List, ◌++◌, codes, false, pos}
-use Rattle.polcert_text.specs.Numbers.{IsExact, IsReadable}
+use Rattle.std.specs.Prelude.{◌≡◌, ℕ, ◌+◌, ◌*◌, ◌/◌, ◌≤◌, List, true, length}
+use Rattle.polcert_text.specs.Lexemes.{is_mantissa}
+use Rattle.polcert_text.specs.Numbers.{IsReadable, millionth, size_of}
 
--- The text is a distance of probabilities, in millionths of millionths: a decimal, which with `e6` after it is a numeral of so many
--- millionths.
-abbrev pub IsDistance : List ℕ → ℕ → Type 0
-IsDistance text by = IsReadable (text ++ codes "e6") × IsExact false (text ++ codes "e6") (pos by)
+-- The text is a distance of probabilities: a decimal with no sign and no exponent, of just `by` millionths of millionths, and at most 1.
+-- (Its value is `size_of` parts of 10 ^ 1000, and a millionth is `millionth` of them.)
+pub record IsDistance (text : List ℕ) (by : ℕ) : Type 0 where
+  pub decimal : is_mantissa text ≡ true
+  pub short : length text ≤ 398
+  pub exact : size_of text * 1_000_000 ≡ by * millionth
+  pub small : by ≤ 1_000_000_000_000
 
--- the text is a distance of rewards, in millionths
-abbrev pub IsRewardDistance : List ℕ → ℕ → Type 0
-IsRewardDistance text by = IsReadable text × IsExact false text (pos by)
+-- The text is a distance of rewards: a numeral with no sign, of just `by` millionths, and at most 1,000,000.
+pub record IsRewardDistance (text : List ℕ) (by : ℕ) : Type 0 where
+  pub readable : IsReadable text
+  pub exact : size_of text ≡ by * millionth
+  pub small : by ≤ 1_000_000_000_000
 
 -- The distance in whole parts of the scale of a row with so many columns, rounded up. (A scale is 1,000,000 for each column.)
 abbrev pub parts_of : ℕ → ℕ → ℕ

@@ -1,5 +1,5 @@
 //! How far models may lie from the text's, as it was typed.
-ghost use Rattle.std.specs.Prelude.{◌≡◌, ◌≤◌, IfOk, IfSome, pos};
+ghost use Rattle.std.specs.Prelude.{◌≡◌, ◌≤◌, ℕ, IfNone, IfOk, IfSome, pos};
 ghost use Rattle.polcert_cells.specs.Meaning.{observations_of, states_of};
 ghost use Rattle.polcert_model.specs.Contents.{meaning};
 ghost use Rattle.polcert_robust_answer.specs.Distances.{IsDistance, IsRewardDistance, parts_of};
@@ -22,14 +22,13 @@ pub struct Within<'a> {
     /// The distance of rewards, in millionths.
     pub rewards_by: u64,
     ghost is_typed: { IsDistance text.now by },
-    ghost is_small: { by ≤ 1_000_000_000_000 },
     ghost are_rewards_typed: { IsRewardDistance rewards_text.now rewards_by },
-    ghost are_rewards_small: { rewards_by ≤ 1_000_000_000_000 },
 }
 
 /// Returns a distance if it is not larger than the largest.
 fn small_distance(value: i64) -> Option<u64>
-    ensures { IfSome result (λ by. (value ≡ pos by) × (by ≤ 1_000_000_000_000)) }
+    ensures small { IfSome result (λ by. (value ≡ pos by) × (by ≤ 1_000_000_000_000)) }
+    ensures large { IfNone result ((by : ℕ) → value ≡ pos by → by ≤ 1_000_000_000_000 → ⊥) }
 {
     if 0 <= value && value <= 1_000_000_000_000 {
         Some(value as u64)
@@ -45,20 +44,19 @@ fn small_distance(value: i64) -> Option<u64>
 ///
 /// Out of memory.
 pub fn distance_of(alloc: Global, text: &[u8]) -> Result<Option<u64>, AllocError>
-    ensures { IfOk result (λ found. IfSome found (λ by. IsDistance text.now by × (by ≤ 1_000_000_000_000))) }
+    ensures found { IfOk result (λ found. IfSome found (IsDistance text.now)) }
+    ensures none { IfOk result (λ found. IfNone found ((by : ℕ) → IsDistance text.now by → ⊥)) }
 {
     let mut shifted = Vec::from_slice(alloc, text)?;
     shifted.extend_from_slice(b"e6")?;
-    Ok(match scaled_of(false, &shifted) {
-        Ok(value) => small_distance(value),
-        Err(_) => None,
-    })
+    Ok(reward_distance_of(&shifted))
 }
 
 /// Returns the distance of rewards that a text is, in millionths, or `None` if it is no number of at most 1,000,000 with at most six
 /// decimals.
 pub fn reward_distance_of(text: &[u8]) -> Option<u64>
-    ensures { IfSome result (λ by. IsRewardDistance text.now by × (by ≤ 1_000_000_000_000)) }
+    ensures found { IfSome result (IsRewardDistance text.now) }
+    ensures none { IfNone result ((by : ℕ) → IsRewardDistance text.now by → ⊥) }
 {
     match scaled_of(false, text) {
         Ok(value) => small_distance(value),

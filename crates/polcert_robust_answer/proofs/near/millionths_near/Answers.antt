@@ -12,5 +12,6 @@ millionths_of-requires-clause-small c = λ limits.
     let fits : FitsSigned w128 c.args.amount = search rules in
     let back : to_z w128 (of_z w128 c.args.amount) ≡ c.args.amount = to_z-of_z fits in
     let (n, s, nl, sl, short) = c.requires.is in
-    rw back (either_small t limits c.args.given.now.graph c.args.given.now.vectors c.nodes-nodes.ensures.proper c.nodes-vector_count.ensures.proper c.requires.fits
-    (parts_of w.by t.states) (parts_of w.by t.observations) w.rewards_by w.are_rewards_small n s nl sl c.args.amount short)
+    rw back (either_small t limits c.args.given.now.graph c.args.given.now.vectors c.nodes-nodes.ensures.proper
+    c.nodes-vector_count.ensures.proper c.requires.fits
+    (parts_of w.by t.states) (parts_of w.by t.observations) w.rewards_by w.are_rewards_typed.small n s nl sl c.args.amount short)
