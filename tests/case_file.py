@@ -1,4 +1,5 @@
-r"""The cases of the programs: a case is one file `NAME.case`, in tests/cases of polcert and in tests/bound-cases of polcert_bound.
+r"""The cases of the programs: a case is one file `NAME.case`, in tests/cases of polcert, in tests/bound-cases of polcert_bound, and in
+tests/robust-cases of polcert_robust.
 
     # Comments, if any, come first.
     $ polcert check files/coin.pomdp files/coin.pg files/coin.alpha
@@ -26,7 +27,7 @@ from runner import TESTS, Ran
 
 CLOSED = '&-'  # in place of a file: standard output is closed
 PARTS = re.compile(r'(?:#.*\n)*\$ (.+)\n((?:<.*\n)*)((?:>.*\n)*)((?:2>.*\n)*)status ([0-9]+)\n')
-COMMAND = re.compile(r"(polcert|polcert_bound)((?: (?:[\w./-]+|\$'[^']*'))*)(?: < ([\w./-]+))?(?: >(?: ([\w./-]+)|(&-)))?", re.ASCII)
+COMMAND = re.compile(r"(polcert(?:_bound|_robust)?)((?: (?:[\w./-]+|\$'[^']*'))*)(?: < ([\w./-]+))?(?: >(?: ([\w./-]+)|(&-)))?", re.ASCII)
 WORD = re.compile(r" (?:\$'([^']*)'|(\S+))")
 ESCAPE = re.compile(r'\\(?:([\\tr])|x([0-9a-f]{2})|(.?))')
 NAMED = {'\\': '\\', 't': '\t', 'r': '\r'}

@@ -71,10 +71,13 @@ def random_cases(count: int, first: int) -> Tuple[str, range]:
     return os.path.abspath(given.program), range(given.seed, given.seed + given.cases)
 
 
-def both_programs(program: str) -> Dict[str, str]:
-    """polcert as it is named, and polcert_bound, which stands beside it or in its crate."""
-    bound = pathlib.Path(program).with_name('polcert_bound')
-    return {'polcert': program, 'polcert_bound': str(bound if bound.exists() else TOP / 'crates/polcert_bound/out/polcert_bound')}
+def programs_beside(program: str) -> Dict[str, str]:
+    """polcert as it is named, and polcert_bound and polcert_robust, each of which stands beside it or in its crate."""
+    found = {'polcert': program}
+    for name, crate in (('polcert_bound', 'polcert_bound'), ('polcert_robust', 'polcert_robust_program')):
+        beside = pathlib.Path(program).with_name(name)
+        found[name] = str(beside if beside.exists() else TOP / 'crates' / crate / 'out' / crate)
+    return found
 
 
 def python() -> str:

@@ -9,7 +9,7 @@ from typing import Any, Dict
 from support import EXAMPLES, PROGRAM, FolderTest, Said, load, needs_program, run_script
 from polcert.certification import Certificate, percent
 from polcert.certification_report import markdown_of
-from runner import both_programs
+from runner import programs_beside
 
 script = load("polcert-certify")
 # The optimum of the tiger, by each point-based solver that is cited: 19.3713.
@@ -57,7 +57,7 @@ class Certificates(FolderTest):
         """A folder with both programs, which the gate has in two."""
         folder = self.folder / "programs"
         folder.mkdir(exist_ok=True)
-        for name, program in both_programs(str(PROGRAM)).items():
+        for name, program in programs_beside(str(PROGRAM)).items():
             if not (folder / name).exists():
                 os.symlink(os.path.realpath(program), folder / name)
         return str(folder)

@@ -15,7 +15,7 @@ from polcert.files import FileError, Model, Source, read_model
 from polcert.flattening import decimal_of
 from polcert.observability import states_by_seen
 from polcert.policies import Solved, read_solved
-from runner import both_programs
+from runner import programs_beside
 
 DATA = Path(__file__).resolve().parent / "pomdpx"
 ROCK = (DATA / "rock.pomdpx").read_text()
@@ -311,7 +311,7 @@ class Command(FolderTest):
     def test_the_certifier_takes_it(self) -> None:
         programs = self.folder / "programs"
         programs.mkdir()
-        for name, program in both_programs(str(PROGRAM)).items():
+        for name, program in programs_beside(str(PROGRAM)).items():
             os.symlink(os.path.realpath(program), programs / name)
         model, words = self.file("rock.pomdpx", ROCK.encode()), ["-o", str(self.folder / "out"), "--seconds", "20", "--programs", str(programs), "-q"]
         for given in ([model], [model, self.file("rock.policy", POLICY.encode())]):

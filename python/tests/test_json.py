@@ -10,7 +10,7 @@ from typing import Any, Callable, Dict, Iterator
 
 from support import EXAMPLES, PROGRAM, SCRIPTS, TOP, FolderTest, needs_numpy, needs_program, run_script
 from polcert.version import VERSION
-from runner import both_programs
+from runner import programs_beside
 from test_convert import ROCK
 
 SCHEMA: Dict[str, Any] = json.loads((TOP / "docs" / "output.schema.json").read_text())
@@ -178,7 +178,7 @@ class Reports(JsonTest):
         """examples/release.mk, in a folder with the model and the graph."""
         folder = self.folder / "programs"
         folder.mkdir()
-        for name, program in both_programs(str(PROGRAM)).items():
+        for name, program in programs_beside(str(PROGRAM)).items():
             os.symlink(os.path.realpath(program), folder / name)
         for name, program in (("polcert-certify", f'"{SCRIPTS / "polcert-certify"}"'), ("python3", "")):
             (folder / name).write_text(f'#!/bin/sh\nexec "{sys.executable}" {program} "$@"\n')

@@ -18,7 +18,7 @@ from polcert.answers import moved_of, refused_of, summary_of, verdict_of
 from polcert.files import Model, Source, read_model
 
 PAGE = load_file("refusals_page", TOP / "tests" / "refusals-page")
-BOUND = PAGE.both_programs(os.path.abspath(PROGRAM))["polcert_bound"] if PROGRAM else ""
+BOUND = PAGE.programs_beside(os.path.abspath(PROGRAM))["polcert_bound"] if PROGRAM else ""
 # The tiger: it is left or right; one listens, or opens left or right; and hears it left or right.
 ANYWHERE = [[0.5, 0.5], [0.5, 0.5]]
 TIGER: Dict[str, Any] = {

@@ -1,0 +1,17 @@
+use Rattle.std.proofs.Common.{◌≡◌, ◌∙◌, ap, sym, refl, true, List, []}
+use Rattle.clap.specs.Words.{App, Text, app_of, fault_of, is_simple_and_free}
+use Rattle.clap.proofs.OnLiterals.{clap_on_literals}
+use Rattle.polcert_robust_program.specs.RobustCommand.{the_app}
+use Rattle.polcert_robust_program.proofs.words.choose.Goals as goal
+
+is_simple : is_simple_and_free the_app ≡ true
+unfolding clap_on_literals
+is_simple = refl
+
+no_fault : (a b : App) (words : List Text) → a ≡ b → fault_of a words ≡ [] → fault_of b words ≡ []
+no_fault a b words same none = ap (λ (x : App). fault_of x words) (sym same) ∙ none
+
+pub returns-clause-faults : goal.returns-clause-faults
+returns-clause-faults c =
+    let same : app_of c.in_ok-command.command ≡ the_app = c.in_ok-command.ensures in
+    no_fault _ the_app _ same (c.in_ok-matches.ensures.kinds (ap is_simple_and_free same ∙ is_simple))

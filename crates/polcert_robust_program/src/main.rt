@@ -1,0 +1,12 @@
+//! Checks that vectors bound what a policy graph earns in every model near the text's.
+#![tactic(auto)]
+
+mod program;
+pub mod words;
+
+use std::io::IsTerminal;
+use std::process::ExitCode;
+
+fn main(rt: HostRuntime) -> ExitCode {
+    ExitCode::from(program::run_program(&rt, rt.stderr().is_terminal()))
+}
