@@ -5,7 +5,9 @@
 PREFIX ?= /usr/local
 program = crates/polcert/out/polcert
 bound = crates/polcert_bound/out/polcert_bound
-unproved = build/polcert-unproved build/polcert_bound-unproved
+robust = crates/polcert_robust_program/out/polcert_robust_program
+names = polcert polcert_bound polcert_robust
+unproved = $(names:%=build/%-unproved)
 bindir = $(DESTDIR)$(PREFIX)/bin
 mandir = $(DESTDIR)$(PREFIX)/share/man/man1
 sharedir = $(DESTDIR)$(PREFIX)/share/polcert
@@ -20,9 +22,9 @@ help: ## list the targets
 	@sed -n 's/^\([a-z]*\):.*## \(.*\)/make \1\t\2/p' $(MAKEFILE_LIST) | expand -t 16
 
 run: ## first answer in minutes: build the programs unproved and check a shipped model
-	@$(MAKE) -s -j 2 $(unproved)
+	@$(MAKE) -s -j 3 $(unproved)
 	@mkdir -p build/unproved
-	@for name in polcert polcert_bound; do ln -sf ../$$name-unproved build/unproved/$$name; done
+	@for name in $(names); do ln -sf ../$$name-unproved build/unproved/$$name; done
 	@build/polcert-unproved $(tiger)
 	@echo 'The programs in build are not proved, and slow (make program builds the proved ones). To try them and the scripts:' >&2
 	@echo 'export PATH="$(CURDIR)/build/unproved:$(CURDIR)/scripts:$$PATH"' >&2
@@ -30,7 +32,7 @@ run: ## first answer in minutes: build the programs unproved and check a shipped
 build/%-unproved: $(sources) | toolchain
 	@echo 'Building $* without proofs, one to three minutes.' >&2
 	@mkdir -p build
-	@tools/build-unproved $@ $*
+	@tools/build-unproved $@ $(patsubst polcert_robust,polcert_robust_program,$*)
 
 toolchain:
 	@command -v rt > /dev/null || { echo 'rt, the command of the Rattle toolchain, is not on the path: see Install in README.md' >&2; exit 1; }
@@ -41,13 +43,14 @@ program: toolchain ## prove and build the programs, and check a shipped model wi
 install: ## install the proved programs, the scripts and the pages below PREFIX (/usr/local), under DESTDIR
 	@tools/is-proved "$(program)"
 	@tools/is-proved "$(bound)"
-	@$(folders) tools/installation put "$(program)" "$(bound)"
+	@tools/is-proved "$(robust)"
+	@$(folders) tools/installation put "$(program)" "$(bound)" "$(robust)"
 
 uninstall: ## remove what install put there
 	@$(folders) tools/installation take
 
 dist: ## make an archive of the proved programs, the scripts, the pages and their checksums
-	@tools/make-dist "$(program)" "$(bound)"
+	@tools/make-dist "$(program)" "$(bound)" "$(robust)"
 
 test: ## run each test and each case in minutes, before any proof; last line: N passed, M failed
 	@tests/run

@@ -26,8 +26,22 @@ _polcert_bound() {
   fi
   mapfile -t COMPREPLY < <(compgen -W "$words" -- "$word")
 }
+
+_polcert_robust() {
+  local word=${COMP_WORDS[COMP_CWORD]} words='check'
+  case $COMP_CWORD:${COMP_WORDS[1]} in
+    1:*) words='check help --help --version' ;;
+    *:check) words='--within --rewards-within --at-most --help' ;;
+  esac
+  if [ "$COMP_CWORD" -gt 1 ] && [[ $word != -* ]] && [ "${COMP_WORDS[1]}" != help ]; then
+    COMPREPLY=()
+    return
+  fi
+  mapfile -t COMPREPLY < <(compgen -W "$words" -- "$word")
+}
 complete -o bashdefault -o default -F _polcert polcert
 complete -o bashdefault -o default -F _polcert_bound polcert_bound
+complete -o bashdefault -o default -F _polcert_robust polcert_robust
 # tools/command-pages writes what follows.
 _polcert_command() {
   local word=${COMP_WORDS[COMP_CWORD]} words
