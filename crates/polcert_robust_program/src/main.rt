@@ -2,7 +2,6 @@
 #![tactic(auto)]
 
 mod program;
-pub mod words;
 
 use std::io::IsTerminal;
 use std::process::ExitCode;

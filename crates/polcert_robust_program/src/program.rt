@@ -1,20 +1,21 @@
 //! The program, over the runtime that it is given.
-use crate::words::{Choice, DistanceWords, choose};
 use polcert_answer::{RunFault, status_of_above_verdict, status_of_verdict};
 use polcert_check::{AboveVerdict, Verdict};
 use polcert_lines::end_run;
 use polcert_robust_answer::{
     Within, distance_of, reward_distance_of, run_near_check, run_near_check_above,
 };
-use polcert_terminal::controller::FileNames;
+use polcert_terminal::command_line::FileNames;
+use polcert_terminal::robust_command::{DistanceWords, RobustChoice, choose_robust};
 use polcert_terminal::{
-    CheckProgress, InputText, WatchedSource, print_clap_error, refuse_for_memory, refuse_words,
+    CheckProgress, InputText, borrow_words, open_text, print_clap_error, process_words,
+    refuse_for_memory, refuse_words,
 };
-use polcert_text::{ReaderSource, WriterSink};
+use polcert_text::WriterSink;
 use std::alloc::AllocError;
+use std::io;
 use std::rt::{Env, Files};
 use std::time::Clock;
-use std::{env, fs, io};
 
 /// Does what the command line asks for, and returns the exit status. If standard error is a terminal, whatever takes long shows its
 /// progress there.
@@ -22,29 +23,23 @@ pub fn run_program<R: Env + Files + Clock + AllocGlobal + Print + Eprint>(
     rt: &R,
     shows_progress: bool,
 ) -> u8 {
-    match env::args(rt) {
-        Ok(args) => match args.collect(rt.alloc()) {
-            Ok(words) => run_words(rt, shows_progress, &words),
-            Err(AllocError) => refuse_for_memory(rt),
-        },
-        Err(error) if error.kind() == io::ErrorKind::OutOfMemory => refuse_for_memory(rt),
-        Err(_) => refuse_words(rt, "a word of the command line is no text"),
+    let words = match process_words(rt) {
+        Ok(words) => words,
+        Err(status) => return status,
+    };
+    match borrow_words(rt, &words) {
+        Ok(words) => run_words(rt, shows_progress, &words),
+        Err(status) => status,
     }
 }
 
 /// Does what the words ask for, of which the first is the program's name.
-fn run_words<R: Files + Clock + AllocGlobal + Print + Eprint>(
+fn run_words<'a, R: Files + Clock + AllocGlobal + Print + Eprint>(
     rt: &R,
     shows_progress: bool,
-    words: &Vec<String>,
+    words: &'a [&'a str],
 ) -> u8 {
-    let mut borrowed = Vec::new(rt.alloc());
-    for word in words {
-        if borrowed.push(word.as_str()).is_err() {
-            return refuse_for_memory(rt);
-        }
-    }
-    match choose(rt.alloc(), &borrowed) {
+    match choose_robust(rt.alloc(), words) {
         Ok(Some(choice)) => run_choice(rt, shows_progress, choice),
         Ok(None) => refuse_words(
             rt,
@@ -58,13 +53,13 @@ fn run_words<R: Files + Clock + AllocGlobal + Print + Eprint>(
 fn run_choice<R: Files + Clock + AllocGlobal + Print + Eprint>(
     rt: &R,
     shows_progress: bool,
-    choice: Choice<'_>,
+    choice: RobustChoice<'_>,
 ) -> u8 {
     match choice {
-        Choice::Check { files, distances } => {
+        RobustChoice::Check { files, distances } => {
             run_check(rt, shows_progress, false, files, distances)
         }
-        Choice::CheckAbove { files, distances } => {
+        RobustChoice::CheckAbove { files, distances } => {
             run_check(rt, shows_progress, true, files, distances)
         }
     }
@@ -116,9 +111,9 @@ fn check_files<R: Files + Clock + AllocGlobal + Print + Eprint>(
     names: FileNames<'_>,
     within: &Within<'_>,
 ) -> Result<u8, RunFault> {
-    let mut model = open_source(rt, shows_progress, InputText::Model, names.model)?;
-    let mut graph = open_source(rt, shows_progress, InputText::Graph, names.graph)?;
-    let mut vectors = open_source(rt, shows_progress, InputText::Vectors, names.vectors)?;
+    let mut model = open_text(rt, shows_progress, InputText::Model, names.model)?;
+    let mut graph = open_text(rt, shows_progress, InputText::Graph, names.graph)?;
+    let mut vectors = open_text(rt, shows_progress, InputText::Vectors, names.vectors)?;
     let sink = &mut WriterSink::new(io::writer(rt));
     let progress = &mut CheckProgress::new(rt, shows_progress);
     let done = if is_above {
@@ -156,20 +151,4 @@ fn status_below(ran: Result<Verdict, RunFault>) -> Result<u8, RunFault> {
 /// Returns the exit status of a check from above that ran.
 fn status_above(ran: Result<AboveVerdict, RunFault>) -> Result<u8, RunFault> {
     Ok(status_of_above_verdict(ran?))
-}
-
-/// Opens the source of a text by the name of its file.
-fn open_source<'a, R: Files + Clock + Eprint>(
-    rt: &'a R,
-    shows_progress: bool,
-    text: InputText,
-    name: &str,
-) -> Result<WatchedSource<'a, ReaderSource<R::File>, R>, RunFault> {
-    match fs::open(rt, name) {
-        Ok(file) => {
-            let reader = ReaderSource::new(file);
-            Ok(WatchedSource::new(reader, text, rt, shows_progress))
-        }
-        Err(_) => Err(text.read_fault()),
-    }
 }

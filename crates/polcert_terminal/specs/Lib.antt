@@ -1,4 +1,5 @@
 pub mod BoundCommand
 pub mod Command
 pub mod PolcertCommand
+pub mod RobustCommand
 pub mod Statuses

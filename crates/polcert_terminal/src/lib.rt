@@ -6,6 +6,7 @@ pub mod command_line;
 pub mod polcert_command;
 mod process;
 mod progress;
+pub mod robust_command;
 
 pub use command_line::{DONE, print_clap_error, refuse_for_memory, refuse_words};
 pub use process::{borrow_words, open_text, process_words};

@@ -1,5 +1,5 @@
 use Rattle.std.proofs.Common.{rules}
-use Rattle.polcert_robust_program.proofs.words.file_names_of.Goals as goal
+use Rattle.polcert_terminal.proofs.robust_command.distances_of.Goals as goal
 
 pub returns : goal.returns
 returns c = search rules

@@ -1,5 +1,7 @@
 //! The texts of the help of `polcert_robust`.
 
+use crate::command_line::HelpTexts;
+
 pub const ABOUT: &str =
     "Certify in exact arithmetic what a finite-state controller is worth in every model near a text's";
 
@@ -27,12 +29,10 @@ Exit status:
   3  a file cannot be read, or the output cannot be written
   4  out of memory";
 
-pub const CHECK_ABOUT: &str =
-    "Check that vectors are a lower bound in every model near, or with --at-most an upper bound";
-
-pub const CHECK_USAGE: &str = "polcert_robust check --within <X> [OPTIONS] <FILE> <PG> <ALPHA>";
-
-pub const CHECK: &str = "A probability of 0 stays 0, the discount is known, and the graph is fixed.
+pub const CHECK: HelpTexts<'static> = HelpTexts {
+    about: "Check that vectors are a lower bound in every model near, or with --at-most an upper bound",
+    usage: "polcert_robust check --within <X> [OPTIONS] <FILE> <PG> <ALPHA>",
+    details: "A probability of 0 stays 0, the discount is known, and the graph is fixed.
 
 Files:
   FILE   The model, in Cassandra's .POMDP format
@@ -47,7 +47,8 @@ Example:
   $ polcert_robust check --within 0.0000005 tiger.POMDP tiger.pg tiger.lowered.alpha
   no: node 0, state 0, short by 0.00001
   $ polcert_robust check --within 0 tiger.POMDP tiger.pg tiger.lowered.alpha
-  yes: every model within 0";
+  yes: every model within 0",
+};
 
 pub const WITHIN: &str =
     "How far each probability above 0 may lie from the text's: a decimal, at most 1";

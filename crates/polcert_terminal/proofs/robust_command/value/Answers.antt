@@ -1,5 +1,5 @@
 use Rattle.std.proofs.Common.{rules}
-use Rattle.polcert_robust_program.proofs.words.at_most.Goals as goal
+use Rattle.polcert_terminal.proofs.robust_command.value.Goals as goal
 
 pub returns-clause-rule : goal.returns-clause-rule
 returns-clause-rule c = search rules

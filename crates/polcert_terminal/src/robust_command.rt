@@ -1,0 +1,144 @@
+//! What the words of the command line of `polcert_robust` ask for.
+ghost use Rattle.std.specs.Prelude.{◌≡◌, List, false, IfOk, map, option_map};
+ghost use Rattle.clap.specs.Words.{FailsBy, app_of, fault_of, found_of, rows_of, rule_of, subcommand_of, subcommand_rows_of};
+ghost use Rattle.clap.specs.declared.builder.Command.TheViews.{out-Command};
+ghost use Rattle.polcert_terminal.specs.Command.{bounds_above, names_view};
+ghost use Rattle.polcert_terminal.specs.RobustCommand.{robust_app, robust_check_app, value_rule, robust_check_chosen, robust_chosen, robust_chosen_of, distances_in, distances_view, robust_view_of};
+
+mod help;
+
+use crate::command_line::{
+    FileNames, at_most, command_with_files, file_names_of, has_at_most, value_of,
+};
+use clap::{Arg, ArgAction, ArgMatches, Command, Error};
+use std::alloc::{AllocError, Global};
+
+/// The words of the distances of probabilities, and of rewards if it was given.
+#[derive(Clone, Copy, Debug, PartialEq, Eq)]
+pub struct DistanceWords<'a> {
+    pub within: &'a str,
+    pub rewards_within: Option<&'a str>,
+}
+
+/// What the words ask for.
+#[derive(Clone, Copy, Debug, PartialEq, Eq)]
+pub enum RobustChoice<'a> {
+    /// Check that the vectors are a lower bound in every model near the text's.
+    Check {
+        files: FileNames<'a>,
+        distances: DistanceWords<'a>,
+    },
+    /// Check that the vectors, rounded up, are an upper bound in every such model.
+    CheckAbove {
+        files: FileNames<'a>,
+        distances: DistanceWords<'a>,
+    },
+}
+
+/// Returns what the words ask for, of which the first is the program's name, or `None` if the command, `--within` or a file's name is
+/// missing.
+///
+/// # Errors
+///
+/// clap's, with its text: the words are no command line, or they ask for help or the version, or memory ran out.
+pub fn choose_robust<'a>(
+    alloc: Global,
+    words: &'a [&'a str],
+) -> Result<Option<RobustChoice<'a>>, Error>
+    // The row of the subcommand and the values that clap's promise for simple commands gives for these words.
+    ensures choice { IfOk result (λ choice. option_map robust_view_of choice ≡
+        robust_chosen (subcommand_of robust_app (map (λ word. word.now) words.entry.now))) }
+
+    // An error comes exactly if clap's promise has a fault for the words, and has one of its kinds, out of
+    // memory aside.
+    ensures faults { FailsBy (fault_of robust_app (map (λ word. word.now) words.entry.now)) result }
+{
+    let command = robust_command(alloc)?;
+    let matches = command.try_get_matches_from(words)?;
+    Ok(robust_choice_of(&matches))
+}
+
+/// Returns the program's command, with its subcommand.
+fn robust_command<'a>(alloc: Global) -> Result<Command<'a>, AllocError>
+    ensures { IfOk result (λ command. app_of command ≡ robust_app) }
+{
+    let command = Command::new(alloc, "polcert_robust")
+        .version("1.0.0")
+        .about(help::ABOUT)
+        .after_help(help::DETAILS);
+    let check = robust_check_command(alloc)?;
+    command.subcommand(check)
+}
+
+/// Returns the subcommand that checks.
+fn robust_check_command<'a>(alloc: Global) -> Result<Command<'a>, AllocError>
+    ensures app { IfOk result (λ command. app_of command ≡ robust_check_app) }
+    ensures local { IfOk result (λ command. (out-Command command).has_globals ≡ false) }
+{
+    command_with_files(alloc, "check", help::CHECK)?
+        .arg(value(alloc, "within", "X", help::WITHIN))?
+        .arg(value(alloc, "rewards-within", "Y", help::REWARDS_WITHIN))?
+        .arg(at_most(alloc, help::AT_MOST))
+}
+
+/// Returns an option of this name that takes a value.
+fn value<'a>(alloc: Global, id: &'a str, value: &'a str, help: &'a str) -> Arg<'a>
+    ensures rule { rule_of result ≡ value_rule id.entry.now }
+    ensures local { result.global ≡ false }
+{
+    Arg::new(alloc, id)
+        .long(id)
+        .value_name(value)
+        .action(ArgAction::Set)
+        .help(help)
+}
+
+/// Returns the choice of a subcommand and its matches.
+fn robust_choice_of<'a>(matches: &ArgMatches<'a>) -> Option<RobustChoice<'a>>
+    ensures { option_map robust_view_of result ≡ robust_chosen (subcommand_rows_of matches.now) }
+{
+    match matches.subcommand() {
+        None => None,
+        Some((name, inner)) => robust_choice_by_name(name, inner),
+    }
+}
+
+/// Returns the choice of a subcommand's name and its matches.
+fn robust_choice_by_name<'a>(name: &str, inner: &ArgMatches<'a>) -> Option<RobustChoice<'a>>
+    ensures { option_map robust_view_of result ≡ robust_chosen_of name.now (rows_of (found_of inner.now)) }
+{
+    match name {
+        "check" => Some(robust_check_of(
+            has_at_most(inner),
+            file_names_of(inner)?,
+            distances_of(inner)?,
+        )),
+        _ => None,
+    }
+}
+
+/// Returns the check from this side.
+fn robust_check_of<'a>(
+    is_above: bool,
+    files: FileNames<'a>,
+    distances: DistanceWords<'a>,
+) -> RobustChoice<'a>
+    ensures { robust_view_of result ≡
+        robust_check_chosen is_above (names_view files.entry) (distances_view distances.entry) }
+{
+    if is_above {
+        RobustChoice::CheckAbove { files, distances }
+    } else {
+        RobustChoice::Check { files, distances }
+    }
+}
+
+/// Returns the words of the distances, if that of probabilities was given.
+fn distances_of<'a>(inner: &ArgMatches<'a>) -> Option<DistanceWords<'a>>
+    ensures { option_map distances_view result ≡ distances_in (rows_of (found_of inner.now)) }
+{
+    Some(DistanceWords {
+        within: value_of(inner, "within")?,
+        rewards_within: value_of(inner, "rewards-within"),
+    })
+}
