@@ -3,13 +3,14 @@
 Values are rounded up to millionths, and those that fail the exact check are raised until it passes.
 """
 from math import inf
-from typing import List, Sequence
+from typing import List, Optional, Sequence
 
 import numpy as np
+from numpy.typing import NDArray
 
 from polcert.arrays import Floats
 from polcert.command import Refusal
-from polcert.covers import CoverGraph, IsOver
+from polcert.covers import LEAST_LEFT, CoverGraph, IsOver
 from polcert.files import MILLION
 from polcert.points import PointCheck, Points, WholeCells, least_raise, rounded_up
 from polcert.solver import Solver
@@ -23,6 +24,10 @@ LEAST_GAIN = 1e-8
 NOISE = 1e-6
 # So many sweeps raise values in floating point at most. If some fail the exact check after so many sweeps, one constant is added to all.
 MOST_FLOAT_RAISES, MOST_RAISES = 1_000, 20
+# Floating point is wrong by less than this in what follows an action, for values of size 1, if covers leave no weight out. (It rounds by 1.2e-16
+# at most, three times for each state and observation, which are 10,000 at most. The exact check takes points a whole number of times: once less,
+# in 9e11 or more.)
+FLOATING = 1e-10
 
 
 def informed_vectors(cells: WholeCells, vectors: Floats) -> List[List[int]]:
@@ -48,7 +53,8 @@ def certified_points(solver: Solver, cells: WholeCells, vectors: Sequence[Sequen
     graph.reset_others()
     graph.settle(lambda: False)
     round_up(graph)
-    return passing(PointCheck(cells, vectors, whole(graph)))
+    check = PointCheck(cells, vectors, whole(graph))
+    return passing(check, FloatCheck(graph, check))
 
 
 def round_up(graph: CoverGraph) -> None:
@@ -76,10 +82,33 @@ def whole(graph: CoverGraph) -> Points:
     return points
 
 
-def passing(check: PointCheck) -> Points:
-    """Raises values until the check passes."""
-    sweeps = 0
-    while raise_each(check):
+class FloatCheck:
+    """Finds in floating point which inequalities of a check hold by more than that may be wrong by."""
+
+    def __init__(self, graph: CoverGraph, check: PointCheck) -> None:
+        """The points of the check are those of the graph."""
+        self.graph, self.check = graph, check
+        self._points, self._actions = graph.row_belief.all[1:], graph.row_action.all[1:]
+        # (exact up to one rounding: numbers of R of both signs may nearly cancel each other)
+        scale, pairs = check.cells.step_scale * MILLION, zip(self._points.tolist(), self._actions.tolist())
+        self._gains = np.array([check.reward(point, action) / (check.masses[point] * scale) for point, action in pairs])
+
+    def undecided(self) -> NDArray[np.bool_]:
+        """Whether the inequality at each point and action needs the exact check, with the values that the check has now. Those of actions that
+        are not followed do."""
+        graph, shape = self.graph, self.graph.values.all.shape
+        graph.values.all[:] = np.array(self.check.points.values).reshape(shape) / MILLION
+        largest = max(float(abs(numbers).max(initial=0.0)) for numbers in (graph.values.all, graph.upper.vectors, self._gains))
+        wrong = largest * (LEAST_LEFT * graph.upper.vectors.shape[1] + FLOATING)
+        found = np.ones(shape, np.bool_)
+        found[self._points, self._actions] = graph.backups()[1:] - graph.gains.all[1:] + self._gains > graph.row_values()[1:] - wrong
+        return found
+
+
+def passing(check: PointCheck, quick: Optional[FloatCheck] = None) -> Points:
+    """Raises values until the check passes. With a check in floating point few inequalities are computed exactly."""
+    everything, sweeps = np.ones((len(check.points.beliefs), check.cells.actions), np.bool_), 0
+    while raise_each(check, quick.undecided() if quick else everything):
         sweeps += 1
         if sweeps == MOST_RAISES:
             raise_all(check)
@@ -88,19 +117,18 @@ def passing(check: PointCheck) -> Points:
     return check.points
 
 
-def raise_each(check: PointCheck) -> bool:
-    """Raises each value that fails to its backup, and tells whether there was one. An action that is not followed passes with the value of
-    its vector."""
+def raise_each(check: PointCheck, pairs: NDArray[np.bool_]) -> bool:
+    """Raises each value of these points and actions that fails to its backup, and tells whether there was one. An action that is not followed
+    passes with the value of its vector."""
     is_raised = False
-    for point in reversed(range(len(check.points.beliefs))):
+    for point, action in np.argwhere(pairs)[::-1].tolist():
         belief, mass = check.points.beliefs[point], check.masses[point]
-        for action, vector in enumerate(check.vectors):
-            value = mass * check.points.values[point][action]
-            is_plain = not check.points.following[point][action] and value >= sum([weight * vector[state] for state, weight in belief.items()])
-            excess = 0 if is_plain else check.excess(point, action)
-            if excess > 0:
-                check.points.values[point][action] += rounded_up(excess, mass * check.cells.step_scale * MILLION)
-                is_raised = True
+        vector, value = check.vectors[action], mass * check.points.values[point][action]
+        is_plain = not check.points.following[point][action] and value >= sum([weight * vector[state] for state, weight in belief.items()])
+        excess = 0 if is_plain else check.excess(point, action)
+        if excess > 0:
+            check.points.values[point][action] += rounded_up(excess, mass * check.cells.step_scale * MILLION)
+            is_raised = True
     check.charge_again()
     return is_raised
 

@@ -14,7 +14,7 @@ from polcert.points import MOST_POINTS
 from polcert.sawtooth import Growing, Sawtooth
 
 # What is left of a belief is charged at a corner only if it is more than this.
-LEAST_LEFT = 1e-9
+LEAST_LEFT = 1e-12
 # Values have settled once none moves by more than this part of its size, or after so many choices of actions.
 LEAST_MOVE, MOST_CHOICES = 1e-10, 200
 # The most steps that find values for chosen actions, and sweeps after these; and how near they come, for values of size 1.

@@ -163,11 +163,14 @@ class PointCheck:
     def step(self, point: int, action: int) -> Tuple[int, List[Cover]]:
         """The expected reward, and a cover of each belief that can follow."""
         if (point, action) not in self._steps:
-            belief, named = self.points.beliefs[point], self.points.following[point][action]
-            reward = sum(weight * self.cells.reward(action, state) for state, weight in belief.items())
-            after = self.cells.beliefs_after(belief, action)
-            self._steps[point, action] = reward, [cover_by(self.points, it, named.get(z)) for z, it in after.items()]
+            named, after = self.points.following[point][action], self.cells.beliefs_after(self.points.beliefs[point], action)
+            covers = [cover_by(self.points, it, named.get(z)) for z, it in after.items()]
+            self._steps[point, action] = self.reward(point, action), covers
         return self._steps[point, action]
+
+    def reward(self, point: int, action: int) -> int:
+        """The expected reward, on the scale of a step times the point's weight."""
+        return sum([weight * self.cells.reward(action, state) for state, weight in self.points.beliefs[point].items()])
 
     def best_worth(self, cover: Cover) -> int:
         """The most that a belief is worth by its cover, with the best next action."""

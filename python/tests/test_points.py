@@ -1,4 +1,5 @@
 """polcert-points and the exact check of points: rows worked by hand, policies of three steps in exact fractions, and what is written."""
+import contextlib
 import random
 import re
 import signal
@@ -13,7 +14,7 @@ from unittest.mock import patch
 from models import random_model
 from support import EXAMPLES, HAS_NUMPY, SCRIPTS, FolderTest, Said, needs_numpy, run_script
 from test_outputs import NO_FILES, OutputTest, disk
-from polcert.command import read_source
+from polcert.command import Refusal, read_source
 from polcert.files import MILLION, FileError, Model, Source, read_model, read_vectors
 from polcert.points import (
     Excess, PointCheck, Points, WholeCells, check_points, check_vectors, least_raise, most_from_points, points_text, read_points,
@@ -23,7 +24,7 @@ if HAS_NUMPY:
     import numpy as np
     import polcert.certificate
     from polcert.arrays import arrays_of
-    from polcert.certificate import certified_points, informed_vectors, passing
+    from polcert.certificate import FloatCheck, certified_points, informed_vectors, passing
     from polcert.evaluation import evaluate
     from polcert.informed import informed_bound
     from polcert.solver import Limits, Solver
@@ -344,6 +345,42 @@ class Certificates(FolderTest):
                 self.assertIsNone(check_points(cells, TIGER_VECTORS, points))
                 most = most_from_points(cells, TIGER_VECTORS, points)
                 self.assertTrue(19_371_368 <= most <= 19_371_380 + (0 if most_raises == 1000 else 40_000), most)
+
+    def float_checks(self) -> Iterator[FloatCheck]:
+        """Those of searches in a model of 256 states and in random ones, of the smallest and the largest numbers too."""
+        models = [read_model(read_source(str(EXAMPLES / "machine.POMDP")))]
+        models += [read_model(Source("M", random_model(random.Random(seed), exact=True).text())) for seed in range(50)]
+        for model in models:
+            with patch.object(polcert.certificate, "FloatCheck", side_effect=FloatCheck) as made, contextlib.suppress(Refusal):
+                if not model.is_mdp and model.discount < 1:
+                    certified(model, 6)
+            if made.called and made.call_args[0][1].points.beliefs:
+                yield FloatCheck(*made.call_args[0])
+
+    def count_decided(self, quick: FloatCheck) -> int:
+        """The pairs that floating point decides, which all pass the exact check."""
+        quick.check.charge_again()
+        pairs = np.argwhere(~quick.undecided()).tolist()
+        for point, action in pairs:
+            self.assertLessEqual(quick.check.excess(point, action), 0)
+        return len(pairs)
+
+    @patch("polcert.certificate.MOST_RAISES", 1_000_000)
+    def test_what_floating_point_decides_is_right(self) -> None:
+        decided, total = 0, 0
+        for seed, quick in enumerate(self.float_checks()):
+            points, random_ = quick.check.points, random.Random(seed)
+            decided, total = decided + self.count_decided(quick), total + sum(map(len, points.values))
+            for most in (1, 3, 1000):
+                lowered = [[value - random_.randint(0, most) for value in values] for values in points.values]
+                points.values = [list(values) for values in lowered]
+                self.count_decided(quick)
+                if quick.check.cells.discount <= 950_000:  # (others need many sweeps)
+                    with_floats = passing(quick.check, quick).values
+                    points.values = [list(values) for values in lowered]
+                    quick.check.charge_again()
+                    self.assertEqual(with_floats, passing(quick.check).values)
+        self.assertGreater(decided, total / 2)
 
     def test_few_points_are_kept_if_no_more_fit(self) -> None:
         model = read_model(read_source(str(EXAMPLES / "machine.POMDP")))
