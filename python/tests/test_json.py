@@ -102,6 +102,8 @@ class Results(JsonTest):
         self.assertEqual((found["read"], found["file"], found["rows"], found["numbers"], found["starts"], found["resets"]), (name, out, 3, 0, 0, 0))
         self.assertEqual(found["changes"], [{"line": 2, "change": "T: * : * summed to 0.999999: became `uniform`"}])
         self.assertEqual(found["bound"], "no value moves by more than 0")
+        rounded = {"probabilities": "0.000000834", "rewards": "0"}
+        self.assertEqual(found["within"], {"written": {"probabilities": "0", "rewards": "0"}, "rounded": rounded})
         self.assertIn(b"T: * : * uniform", (self.folder / "out").read_bytes())
 
     def test_the_converter(self) -> None:

@@ -2,11 +2,11 @@
 import random
 import re
 from fractions import Fraction
-from typing import Dict, List, Tuple
+from typing import Dict, Iterator, List, Tuple
 
 from models import random_model, tag
 from support import EXAMPLES, NAMES, PROGRAM, FolderTest, Said, load, polcert, present, refusals_rows, run_script
-from polcert.files import FileError, Model, Source, read_model
+from polcert.files import FileError, Model, Row, Source, read_model
 
 HEAD = b"discount: 0.9\nvalues: reward\nstates: 3\nactions: 2\nobservations: 2\n"
 TAIL = b"O: * uniform\nR: * : * : * : * 1\n"
@@ -184,9 +184,41 @@ class Changes(MendTest):
             "M:7: T: 0 : * summed to 0.999999: became `uniform`",
             "M:8: 0.1234567 became 0.123457",
             "M: 1 number rewritten, 3 rows mended, the start mended",
+            # 0.876543 / 0.9999997 is 0.876543263; the start became thirds, and each of its numbers may stand for any from 0.3325 on
+            "M: as it was written it lies within 0.000000263; what was rounded to it within 0.000834",
             "M: no value moves by more than 0.0000263",
         ])
         self.assertEqual((said.status, said.out), (0, b""))
+
+    def test_how_far_the_written_model_lies(self) -> None:
+        for rows, within in (
+            # a row over its sum has 1/3, of which 0.33335 lies 0.0000166.. away; 0.6666 became 0.66665, and may stand for 0.66655
+            (b"T: * identity\nT: 0 : 2 0.3333 0.6666 0\n", "as it was written it lies within 0.0000167; what was rounded to it within 0.0001"),
+            (b"T: * : * 0.5 0.25 0.25\nT: 1 : 0 0.12345678 0.87654322 0\n",
+             "as it was written it lies within 0.00000022; what was rounded to it within 0.000000225"),
+            (b"T: * : * 0.5 0.5 0\nT: 1 : 0 0.7 0.2999999 0.0000001\n",
+             "`T: 1 : 0 : 2` became 0: the model as it was written lies within no distance"),
+            # a probability has to be 12 decimals at most for polcert_robust, and a reward 6
+            (b"T: * identity\nT: 0 : 2 0.3 0.7000000000000001 0\n",
+             "as it was written it lies within 0.000000000001; what was rounded to it within 0.000000000001"),
+            (b"T: * identity\nR: 0 : 1 : * : * 1.2500004\nR: 0 : 2 : * : * 1.500\n",
+             "as it was written it lies within 0, rewards within 0.000001; what was rounded to it within 0, rewards within 0.0005"),
+        ):
+            said = self.mend(HEAD + rows + TAIL)
+            self.assertIn(f": {within}", said.err)
+
+    def test_the_distance_is_the_greatest_difference(self) -> None:
+        for seed in range(40):
+            text = rough_model(random.Random(seed))
+            made = script.mended(Source("m", text), Fraction(3, 100))
+            rows = [*rows_of_both(text, made.text), (made.model.start_weights(), read_model(Source("new", made.text)).start_weights())]
+            most = max(abs(p / sum(before.values()) - after.get(c, 0)) for before, after in rows for c, p in before.items() if p > 0)
+            lost = any(p > 0 and not after.get(c) for before, after in rows for c, p in before.items())
+            self.assertEqual((made.mend.written.probabilities, bool(made.mend.lost)), (most, lost), text)
+
+    def test_what_the_start_lost(self) -> None:
+        said = self.mend(HEAD + b"start: 0.9999999 0.0000001 0\nT: * identity\n" + TAIL)
+        self.assertIn(": `start : 1` became 0: the model as it was written lies within no distance\n", said.err)
 
     def test_lines_of_rows_with_the_same_change(self) -> None:
         row = b"0.333333 0.333333 0.333333\n"
@@ -230,7 +262,8 @@ class Resets(MendTest):
         self.assertEqual([line.split("m.POMDP")[1] for line in said.err.splitlines()], [
             ":6: 0.2333333 became 0.233333", ":6: 0.6666667 became 0.666667", ":7: `reset` became the row of the start",
             ":7: 0.2333333 became 0.233333", ":7: 0.6666667 became 0.666667", ": 4 numbers rewritten, 0 rows mended, the start mended, "
-            "1 `reset` written out", ": no value moves by more than 0, and from the start by no more than 0",
+            "1 `reset` written out", ": as it was written it lies within 0.0000003; what was rounded to it within 0.00000035",
+            ": no value moves by more than 0, and from the start by no more than 0",
         ])
 
     def test_three_states_of_four(self) -> None:
@@ -297,14 +330,17 @@ def perturbed(text: bytes, random_: random.Random) -> bytes:
 
 def most_moved(old: bytes, new: bytes) -> Fraction:
     """The most that a cell of T or O differs between two texts."""
+    return max((abs(before.get(c, Fraction(0)) - after.get(c, Fraction(0))) for before, after in rows_of_both(old, new) for c in {*before, *after}),
+               default=Fraction(0))
+
+
+def rows_of_both(old: bytes, new: bytes) -> Iterator[Tuple[Row, Row]]:
+    """Each row of T and O in two texts."""
     one, two = read_model(Source("old", old), tolerant=True), read_model(Source("new", new))
-    most = Fraction(0)
     for before, after in zip(one.tables(), two.tables()):
         for action in range(before.actions):
             for row in range(before.rows):
-                cells, others = before.row(action, row), after.row(action, row)
-                most = max([most, *(abs(cells.get(c, Fraction(0)) - others.get(c, Fraction(0))) for c in {*cells, *others})])
-    return most
+                yield before.row(action, row), after.row(action, row)
 
 
 class Bound(MendTest):

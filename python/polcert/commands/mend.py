@@ -1,9 +1,11 @@
-"""Makes a model that polcert refuses for its rounding (M2 N4, M17, M18) exact, and says how far that can move any value.
+"""Makes a model that polcert refuses for its rounding (M2 N4, M17, M18) exact, and says how far that moves it.
 
 The text stays as it is, comments too, except for this: numbers with more than six decimals are rounded, cells of rows that do not sum to
 one are written again after the text (of entries for a cell the last one holds), the numbers of a start that does not sum to one are
-replaced, and for `reset` (M14) in a row of T the start is written. Each change is named on standard error, and a bound on how far any value
-moves. A model that polcert accepts stays as it is.
+replaced, and for `reset` (M14) in a row of T the start is written. A model that polcert accepts stays as it is.
+
+Standard error names each change, the distance within which the model lies as it was written (each row divided by its sum), that of what was
+rounded to it, and how far any value moves. `polcert_robust check --within X` answers for every model within a distance.
 """
 import argparse
 from dataclasses import dataclass, field
@@ -15,6 +17,7 @@ from polcert.files import MILLION, Entry, FileError, Model, Numbers, Source, Tab
 from polcert.command import Parser, Refusal, read_source, refuse_json_beside_text, refuse_overwriting, say, show, write
 from polcert.json_output import json_text
 from polcert.resets import write_out_resets
+from polcert.tables import Elements
 from polcert.tokens import NumberFault, decimal, exact_value, is_numeral, written_decimals
 
 HEAD = "# Rows that did not sum to one, mended by polcert-mend:"
@@ -62,6 +65,28 @@ class TooFar(FileError):
 
 
 @dataclass
+class Distance:
+    """How far a model lies from the mended one: the greatest difference of a probability, and of a reward."""
+
+    probabilities: Fraction = Fraction(0)
+    rewards: Fraction = Fraction(0)
+
+    def add(self, probability: Fraction) -> None:
+        self.probabilities = max(self.probabilities, probability)
+
+    def add_reward(self, reward: Fraction) -> None:
+        self.rewards = max(self.rewards, reward)
+
+    def texts(self) -> Tuple[str, str]:
+        """Both as polcert_robust takes them: rounded up to at most twelve and six decimals."""
+        return decimal_up(self.probabilities, 12), decimal_up(self.rewards, 6)
+
+    def words(self) -> str:
+        probabilities, rewards = self.texts()
+        return f"within {probabilities}" + (f", rewards within {rewards}" if self.rewards else "")
+
+
+@dataclass
 class Mend:
     """The changes of a model, and how far they move it: by total variation for a row of T or O and the start, by size for a reward."""
 
@@ -73,9 +98,27 @@ class Mend:
     start: int = 0
     resets: int = 0
     moved: Dict[str, Fraction] = field(default_factory=lambda: dict.fromkeys(("T", "O", "start", "R"), Fraction(0)))
+    # how far the written model lies, each row divided by its sum; and any whose numbers of three decimals or more round to the written ones
+    written: Distance = field(default_factory=Distance)
+    rounded: Distance = field(default_factory=Distance)
+    # the first probability above 0 that became 0: with it those models lie within no distance
+    lost: str = ""
 
     def move(self, table: str, distance: Fraction) -> None:
         self.moved[table] = max(self.moved[table], distance)
+
+    def move_row(self, table: str, parts: Sequence[Fraction], cells: Sequence[Cell]) -> None:
+        """Counts how far a row of T or O or the start moves."""
+        self.move(table, total_variation(parts, cells))
+        total = total_of(cells)
+        for part, cell in zip(parts, cells):
+            self.written.add(abs(part / MILLION - cell.value / total))
+            self.rounded.add(abs(part - cell.value) / MILLION + half_unit(cell.decimals))
+
+
+def half_unit(decimals: int) -> Fraction:
+    """Half a unit of the last of so many decimals; 0 if they are so few that the number is taken as it stands."""
+    return Fraction(1, 2 * 10**decimals) if decimals >= FEWEST_DECIMALS else Fraction(0)
 
 
 def cell_of(column: int, value: Fraction, numeral: bytes) -> Cell:
@@ -138,7 +181,7 @@ def enough_for(cells: Sequence[Cell], equal: Optional[Fraction]) -> Optional[Fra
     return next((unit for unit in units if mended_parts(cells, equal, unit * MILLION) is not None), None)
 
 
-def distance(parts: Iterable[Fraction], cells: Sequence[Cell]) -> Fraction:
+def total_variation(parts: Iterable[Fraction], cells: Sequence[Cell]) -> Fraction:
     """Total variation between a mended row and the written one divided by its sum."""
     total = total_of(cells)
     return sum((abs(part / MILLION - cell.value / total) for part, cell in zip(parts, cells)), Fraction(0)) / 2
@@ -181,7 +224,14 @@ class Mender:
             self.mend_table(table)
         for entry in self.model.entries:
             self.round_numbers(entry)
+        self.count_roundings()
         return self.mend
+
+    def count_roundings(self) -> None:
+        """Counts how far what was rounded to the numbers of the text lies, as far as they stay."""
+        tables = [entry.numbers for entry in self.model.entries if entry.table != "R"]
+        numerals = {self.numeral(numbers, i) for numbers in [*tables, self.model.start.numbers] for i in range(len(numbers.values))}
+        self.mend.rounded.add(max(map(half_unit, map(written_decimals, numerals)), default=Fraction(0)))
 
     def say(self, byte: int, change: str) -> None:
         self.mend.lines.append((byte, change))
@@ -207,10 +257,14 @@ class Mender:
 
     def round_numbers(self, entry: Entry) -> None:
         for i, value in enumerate(entry.numbers.values):
+            moved = Fraction(0)
             if not is_millionths(value):
                 self.write_number(entry.numbers, i, round(value * MILLION))
-                if entry.table == "R":
-                    self.mend.move("R", abs(Fraction(round(value * MILLION), MILLION) - value))
+                moved = abs(Fraction(round(value * MILLION), MILLION) - value)
+            if entry.table == "R":
+                self.mend.move("R", moved)
+                self.mend.written.add_reward(moved)
+                self.mend.rounded.add_reward(moved + half_unit(written_decimals(self.numeral(entry.numbers, i))))
 
     def write_number(self, numbers: Numbers, i: int, millionths: int) -> None:
         old, new = self.numeral(numbers, i), decimal(abs(millionths))
@@ -242,15 +296,25 @@ class Mender:
             byte = place_of_row(self.model, table, action, row)
             raise FileError(self.source, "", byte, f"the row `{self.label(table, (action, row))}` is not given, or all of it is 0")
         if sum(cell.near for cell in cells) == MILLION:
-            self.mend.move(table.letter, distance((cell.near for cell in cells), cells))
+            self.move_row(table, (action, row), [cell.near for cell in cells], cells)
             return False
         parts = self.mended(table, action, row, cells)
         changed = tuple((cell.column, int(part)) for cell, part in zip(cells, parts) if part != cell.near)
         is_uniform = any(part.denominator > 1 for part in parts) or len(parts) == table.columns and len(set(parts)) == 1
         changes.setdefault(UNIFORM if is_uniform else changed, set()).add((action, row))
-        self.mend.move(table.letter, distance(parts, cells))
+        self.move_row(table, (action, row), parts, cells)
         self.mend.rows += 1
         return True
+
+    def move_row(self, table: Table, place: Tuple[int, int], parts: Sequence[Fraction], cells: Sequence[Cell]) -> None:
+        self.mend.move_row(table.letter, parts, cells)
+        columns = self.model.states if table.letter == "T" else self.model.observations
+        self.note_lost(self.label(table, place), columns, parts, cells)
+
+    def note_lost(self, row: str, columns: Elements, parts: Sequence[Fraction], cells: Sequence[Cell]) -> None:
+        """Takes note of the first probability that became 0."""
+        if not self.mend.lost and not all(parts):
+            self.mend.lost = f"{row} : {columns.label(cells[list(map(bool, parts)).index(False)].column)}"
 
     def cells(self, table: Table, action: int, row: int) -> List[Cell]:
         """The cells of a row above 0. One that `uniform` gives stays one part in the number of columns if that is possible."""
@@ -311,7 +375,8 @@ class Mender:
             self.list_start_states(numbers, [cell.column for cell in cells])
         else:
             self.write_start_numbers(numbers, dict(zip((cell.column for cell in cells), parts)))
-        self.mend.move("start", distance(parts, cells))
+        self.mend.move_row("start", parts, cells)
+        self.note_lost("start", self.model.states, parts, cells)
         self.mend.start = 1
 
     def list_start_states(self, numbers: Numbers, states: List[int]) -> None:
@@ -381,10 +446,10 @@ def off_one(total: Fraction) -> str:
     return f"{Decimal(shown(abs(1 - total))):f} {'less' if total < 1 else 'more'} than 1"
 
 
-def decimal_up(value: Fraction) -> str:
+def decimal_up(value: Fraction, most_decimals: int = 400) -> str:
     """A value from 0 on with three digits, rounded up."""
     places = 0
-    while 0 < value * 10**places < 100 and places < 400:
+    while 0 < value * 10**places < 100 and places < most_decimals:
         places += 1
     digits = -(-value * 10**places // 1)
     whole, rest = divmod(int(digits), 10**places)
@@ -435,7 +500,11 @@ def json_of(model: Model, mend: Mend, output: str) -> str:
     """The changes as JSON, and how far values move."""
     lines = [{"line": model.source.position(byte)[0], "change": change} for byte, change in sorted(mend.lines)]
     counts = {"numbers": mend.numbers, "rows": mend.rows, "starts": mend.start, "resets": mend.resets}
-    return json_text("polcert-mend", read=model.source.name, file=output, changes=lines, bound=bound(model, mend.moved), **counts)
+    within = {
+        name: dict(zip(("probabilities", "rewards"), distance.texts())) for name, distance in (("written", mend.written), ("rounded", mend.rounded))
+    }
+    found = {"changes": lines, "within": None if mend.lost else within, "bound": bound(model, mend.moved)}
+    return json_text("polcert-mend", read=model.source.name, file=output, **found, **counts)
 
 
 def report(model: Model, mend: Mend, is_quiet: bool) -> None:
@@ -454,7 +523,14 @@ def summary(model: Model, mend: Mend) -> List[str]:
     """How many changes there are, and how far values move."""
     parts = [count(mend.numbers, "number rewritten", "numbers rewritten"), count(mend.rows, "row mended", "rows mended")]
     parts += ["the start mended"] * mend.start + [count(mend.resets, "`reset` written out", "`reset` written out")] * (mend.resets > 0)
-    return [", ".join(parts), bound(model, mend.moved)]
+    return [", ".join(parts), nearness(mend), bound(model, mend.moved)]
+
+
+def nearness(mend: Mend) -> str:
+    """Within what distance the model lies as it was written."""
+    if mend.lost:
+        return f"`{mend.lost}` became 0: the model as it was written lies within no distance"
+    return f"as it was written it lies {mend.written.words()}; what was rounded to it {mend.rounded.words()}"
 
 
 def count(number: int, one: str, many: str) -> str:
