@@ -90,7 +90,7 @@ def _expected_rewards(model: Model, action: int, transitions: Matrix, observing:
     """The mean of the numbers of R in each start state."""
     rewards = np.zeros(model.states.count)
     sums = np.asarray(transitions.sum(axis=1)).ravel()
-    for block, states in _blocks(model, action):
+    for block, states in blocks_of_rewards(model, action):
         others = block.at_other_ends()
         if others is not None and len(others) == 1 and not block.named_ends():
             rewards[states] = float(others[0]) * sums[states]
@@ -100,7 +100,7 @@ def _expected_rewards(model: Model, action: int, transitions: Matrix, observing:
     return rewards
 
 
-def _blocks(model: Model, action: int) -> Iterator[Tuple[RewardBlock, NDArray[np.int64]]]:
+def blocks_of_rewards(model: Model, action: int) -> Iterator[Tuple[RewardBlock, NDArray[np.int64]]]:
     """The rewards of an action, each with the start states that have them: those that follow one another."""
     blocks = ((state, model.rewards.of(action, state)) for state in range(model.states.count))
     for _, group in groupby(blocks, key=lambda pair: id(pair[1])):

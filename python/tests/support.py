@@ -66,7 +66,12 @@ def load_file(name: str, path: Path) -> ModuleType:
 
 def polcert(*words: str, given: bytes = b"") -> Said:
     """Runs the program."""
-    return _run([PROGRAM, *words], given)
+    return run_program(PROGRAM, *words, given=given)
+
+
+def run_program(program: str, *words: str, given: bytes = b"") -> Said:
+    """Runs any program."""
+    return _run([program, *words], given)
 
 
 def _run(words: List[str], given: bytes) -> Said:

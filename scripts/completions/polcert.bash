@@ -49,7 +49,7 @@ _polcert_command() {
     polcert-bound-vectors) words='-o --output --tolerance --rounds -h --help -V --version' ;;
     polcert-certify) words='-o --output --seconds --gap --within --json --programs -q --quiet -h --help -V --version' ;;
     polcert-convert) words='-o --output --json -h --help -V --version' ;;
-    polcert-evaluate) words='-o --output -h --help -V --version' ;;
+    polcert-evaluate) words='-o --output --within --rewards-within --at-most -h --help -V --version' ;;
     polcert-graph) words='-o --output --nodes --beliefs --points --rounds --costs --own-vectors --within --tries --dot --json -q --quiet -h --help -V --version' ;;
     polcert-locate) words='--json -h --help -V --version' ;;
     polcert-mend) words='-o --output -q --quiet --within --json -h --help -V --version' ;;
