@@ -4,13 +4,13 @@ from importlib import import_module
 from typing import TYPE_CHECKING
 
 if TYPE_CHECKING:
-    from polcert.answers import Moved, No, Place, Refused, Summary, Yes
-    from polcert.programs import ProgramError, bound, check, lower, model, raise_, raise_bound
+    from polcert.answers import EveryModel, Moved, No, Place, Refused, Summary, Yes
+    from polcert.programs import ProgramError, bound, check, check_near, lower, model, raise_, raise_bound
     from polcert.texts import model_text
 
 __all__ = [
-    "Moved", "No", "Place", "ProgramError", "Refused", "Summary", "Yes",
-    "bound", "check", "lower", "model", "model_text", "raise_", "raise_bound",
+    "EveryModel", "Moved", "No", "Place", "ProgramError", "Refused", "Summary", "Yes",
+    "bound", "check", "check_near", "lower", "model", "model_text", "raise_", "raise_bound",
 ]
 
 

@@ -33,6 +33,18 @@ class Yes:
 
 
 @dataclass(frozen=True)
+class EveryModel:
+    """The vectors are a bound in every model within these distances. `node` and `amount` are the bound from the model's start, if the line
+    has it."""
+
+    line: str
+    within: Fraction
+    rewards_within: Fraction
+    node: Optional[int] = None
+    amount: Optional[Fraction] = None
+
+
+@dataclass(frozen=True)
 class No:
     """The first place that fails. `reason` is `short`, `long` or `exceeded`, each by the amount, or `no successor`, without one."""
 
@@ -102,6 +114,10 @@ _SUMMARY = re.compile(
     rf"(?:mdp|pomdp): ([0-9]+) states, ([0-9]+) actions, (?:([0-9]+) observations, )?discount ({_AMOUNT}), (reward|cost)"
 )
 _YES = re.compile(rf"yes: (?:start node ([0-9]+), at least|every (?:start node|policy), at most) ({_AMOUNT})")
+_EVERY = re.compile(
+    rf"yes: every model within ({_AMOUNT})(?:, rewards within ({_AMOUNT}))?"
+    rf"(?:, start node ([0-9]+), at least ({_AMOUNT})|, every start node, at most ({_AMOUNT}))?"
+)
 _NO = re.compile(
     rf"no: (?:node [0-9]+, state [0-9]+, (?P<off>short|long) by (?P<by>{_AMOUNT})|(?:action [0-9]+, state|point [0-9]+, action) [0-9]+, "
     rf"(?P<exceeded>exceeded) by (?P<more>{_AMOUNT})|node [0-9]+, state [0-9]+, observation [0-9]+ has (?P<missing>no successor))"
@@ -139,6 +155,15 @@ def verdict_of(line: str) -> Union[Yes, No, None]:
         place = (_number(line, kind) for kind in ("node", "state", "action", "observation", "point"))
         return No(line, no["off"] or no["exceeded"] or no["missing"], Fraction(amount) if amount else None, *place)
     return None
+
+
+def every_model_of(line: str) -> Optional[EveryModel]:
+    """A yes of polcert_robust, or None if the line is none."""
+    found = _EVERY.fullmatch(line)
+    if not found:
+        return None
+    node, amount = found[3], found[4] or found[5]
+    return EveryModel(line, Fraction(found[1]), Fraction(found[2] or 0), int(node) if node else None, Fraction(amount) if amount else None)
 
 
 def moved_of(line: str, vectors: bytes) -> Optional[Moved]:

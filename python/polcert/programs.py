@@ -1,4 +1,4 @@
-"""Calls the proved programs: `check`, `lower`, `raise_`, `model`, and of polcert_bound `bound` and `raise_bound`.
+"""Calls the proved programs: `check`, `lower`, `raise_`, `model`, of polcert_bound `bound` and `raise_bound`, and of polcert_robust `check_near`.
 
     import polcert
     answer = polcert.check("tiger.POMDP", "tiger.pg", "tiger.lowered.alpha")
@@ -15,7 +15,7 @@ import subprocess
 from contextlib import contextmanager
 from typing import Callable, Iterator, List, NamedTuple, Optional, Sequence, TypeVar, Union
 
-from polcert.answers import Moved, No, Refused, Summary, Yes, moved_of, refused_of, summary_of, verdict_of
+from polcert.answers import EveryModel, Moved, No, Refused, Summary, Yes, every_model_of, moved_of, refused_of, summary_of, verdict_of
 
 Text = Union[str, bytes, "os.PathLike[str]"]
 Answer = TypeVar("Answer")
@@ -63,6 +63,15 @@ def bound(model: Text, vectors: Text, points: Optional[Text] = None, *, program:
 def raise_bound(model: Text, vectors: Text, *, program: str = "polcert_bound") -> Union[Moved, Refused]:
     """Raises vectors, one for each action, by the least constant with which they pass `bound`. Raises ProgramError."""
     return _answer(program, ["raise"], [model, vectors], _moved)
+
+
+def check_near(
+    files: Sequence[Text], within: str, rewards_within: str = "0", above: bool = False, *, program: str = "polcert_robust"
+) -> Union[EveryModel, No, Refused]:
+    """Checks that vectors are a lower bound in every model near, or if `above` an upper bound. The files are a model, a graph and vectors, and
+    the distances decimals. Raises ProgramError."""
+    words = ["check", "--within", within, "--rewards-within", rewards_within]
+    return _answer(program, [*words, "--at-most"] if above else words, files, _verdict_near)
 
 
 def found(program: str) -> str:
@@ -135,6 +144,13 @@ def _verdict(ran: _Ran) -> Union[Yes, No, None]:
     line = _only_line(ran.out.decode(errors="replace"))
     verdict = verdict_of(line) if line is not None else None
     return verdict if isinstance(verdict, Yes) == (ran.status == 0) else None
+
+
+def _verdict_near(ran: _Ran) -> Union[EveryModel, No, None]:
+    line = _only_line(ran.out.decode(errors="replace"))
+    every = every_model_of(line) if line is not None and ran.status == 0 else None
+    verdict = verdict_of(line) if line is not None and ran.status == 1 else None
+    return every or (verdict if isinstance(verdict, No) else None)
 
 
 def _moved(ran: _Ran) -> Optional[Moved]:

@@ -14,11 +14,11 @@ import numpy
 
 from support import EXAMPLES, PROGRAM, TOP, FolderTest, load_file, needs_program
 import polcert
-from polcert.answers import moved_of, refused_of, summary_of, verdict_of
+from polcert.answers import every_model_of, moved_of, refused_of, summary_of, verdict_of
 from polcert.files import Model, Source, read_model
 
 PAGE = load_file("refusals_page", TOP / "tests" / "refusals-page")
-BOUND = PAGE.programs_beside(os.path.abspath(PROGRAM))["polcert_bound"] if PROGRAM else ""
+PROGRAMS = PAGE.programs_beside(os.path.abspath(PROGRAM)) if PROGRAM else {}
 # The tiger: it is left or right; one listens, or opens left or right; and hears it left or right.
 ANYWHERE = [[0.5, 0.5], [0.5, 0.5]]
 TIGER: Dict[str, Any] = {
@@ -51,6 +51,12 @@ class Lines(unittest.TestCase):
                 {"reason": "no successor", "amount": None, "node": 1, "state": 2, "observation": 3},
         }.items():
             self.assertEqual(verdict_of(line), polcert.No(line, **wanted))  # type: ignore[arg-type]
+        line = "yes: every model within 0.0000015"
+        self.assertEqual(every_model_of(line), polcert.EveryModel(line, Fraction(15, 10**7), Fraction(0)))
+        line = "yes: every model within 0.01, rewards within 0.5, start node 3, at least 0.25"
+        self.assertEqual(every_model_of(line), polcert.EveryModel(line, Fraction(1, 100), Fraction(1, 2), 3, Fraction(1, 4)))
+        line = "yes: every model within 0, every start node, at most 7"
+        self.assertEqual(every_model_of(line), polcert.EveryModel(line, Fraction(0), Fraction(0), None, Fraction(7)))
         for line in ("lowered by 0.25", "raised by 0.25"):
             self.assertEqual(moved_of(line, b"0 1\n"), polcert.Moved(line, Fraction(1, 4), b"0 1\n"))
 
@@ -84,7 +90,7 @@ class Lines(unittest.TestCase):
             elif item.line.startswith("pomdp"):
                 self.assertIsNotNone(summary_of(item.line), item.line)
             else:
-                self.assertRegex(item.line, "^(error: |cannot |a (file's name|word) )")
+                self.assertRegex(item.line, "^(error: |cannot |a (file's name|word) |--(rewards-)?within takes )")
         self.assertGreater(count, 100)
 
     def test_lines_that_are_none(self) -> None:
@@ -92,9 +98,9 @@ class Lines(unittest.TestCase):
             "", "yes", "yes: start node 0, at most 1", "yes: every policy, at least 1", "no: node 0, state 0, short by 1 ", "no: node 0, state 0",
             "model: M99 in item 0 at byte 1", "model: M1 K1 in item 0 at byte 1\n", "graph: G5 at node 1", "lowered by", "out of memory",
             "pomdp: 1 states, 1 actions, discount 1, reward", "mdp: 1 states, 1 actions, 1 observations, discount 1, reward",
-            "yes: start node \u0663, at least 1",
+            "yes: start node \u0663, at least 1", "yes: every model within", "yes: every model within 1, start node 0",
         ):
-            self.assertEqual((summary_of(line), verdict_of(line), moved_of(line, b""), refused_of(line)), (None,) * 4, line)
+            self.assertEqual((summary_of(line), verdict_of(line), every_model_of(line), moved_of(line, b""), refused_of(line)), (None,) * 5, line)
 
 
 @needs_program
@@ -103,7 +109,7 @@ class Calls(FolderTest):
         super().setUp()
         folder = self.folder / "bin"
         folder.mkdir()
-        for name, program in (("polcert", str(PROGRAM)), ("polcert_bound", BOUND)):
+        for name, program in PROGRAMS.items():
             (folder / name).symlink_to(os.path.abspath(program))
         before = os.environ["PATH"]
         self.addCleanup(os.environ.__setitem__, "PATH", before)
@@ -156,6 +162,12 @@ class Calls(FolderTest):
         no = polcert.check(text, LISTEN, b"0 -20 -19")
         self.assertEqual(no, polcert.No("no: node 0, state 1, short by 0.05", "short", Fraction(1, 20), 0, 1))
         self.assertFalse(no)
+        # (whatever is heard, listening costs 1, or as much more as rewards may lie apart)
+        every = polcert.check_near([text, LISTEN, LISTEN_VECTORS], "0.5")
+        self.assertEqual(every, polcert.EveryModel(every.line, Fraction(1, 2), Fraction(0)))
+        near = polcert.check_near([text, LISTEN, LISTEN_VECTORS], "0", "0.25")
+        self.assertEqual(near, polcert.No("no: node 0, state 0, short by 0.25", "short", Fraction(1, 4), 0, 0))
+        self.assertTrue(polcert.check_near([text, LISTEN, b"0 -15 -15"], "0", "0.25", above=True))
         # (from -20 and -19 the constant x with -19 - x = -1 + 0.95 * (-19 - x) is 1)
         lowered = polcert.lower(text, LISTEN, b"0 -20 -19")
         self.assertEqual(lowered, polcert.Moved("lowered by 1", Fraction(1), lowered.vectors))  # type: ignore[union-attr]
