@@ -7,14 +7,16 @@ from time import monotonic
 from typing import Callable, Dict, List, NamedTuple, Optional, Union
 
 from polcert import programs
-from polcert.answers import Moved, No, Refused, Yes
+from polcert.answers import EveryModel, Moved, No, Refused, Yes
 from polcert.command import Refusal
 from polcert.commands.convert import converted, summary_of_conversion
-from polcert.commands.mend import mended, summary
+from polcert.commands.mend import Mended, mended, summary
 from polcert.controllers import Controller
-from polcert.files import MENDABLE, Model, read_model
+from polcert.files import MENDABLE, Model, read_graph, read_model
 from polcert.pomdpx import is_pomdpx
 from polcert.tokens import MILLION, FileError, Source, decimal
+from polcert.values import vectors_text
+from polcert.written import Written, vectors_for_written, worth_from
 
 
 class Uncertified(Exception):
@@ -32,7 +34,8 @@ class Step(NamedTuple):
 @dataclass
 class Certificate:
     """The files by their names; the steps; and what the programs answered, exactly: the controller earns at least `low` and at most `high`,
-    every policy at most `most`. A side that has no certificate is None. If `is_mended`, all of it is about the mended model."""
+    every policy at most `most`. A side that has no certificate is None. If `is_mended`, all of it is about the mended model, and `written` is
+    about the model as it was written."""
 
     name: str
     files: Dict[str, bytes] = field(default_factory=dict)
@@ -41,6 +44,7 @@ class Certificate:
     high: Optional[Fraction] = None
     most: Optional[Fraction] = None
     is_mended: bool = False
+    written: Optional[Written] = None
 
     @property
     def gap(self) -> Optional[Fraction]:
@@ -57,6 +61,8 @@ class Certificate:
             lines.append(f"every policy at most {shown(self.most)}")
         if self.gap is not None and self.low is not None:
             lines.append(f"within {shown(self.gap)}{percent(self.gap, self.low)}")
+        if self.written is not None and self.written.low is not None:
+            lines.append(f"the model as it was written: at least {shown(self.written.low)}")
         return lines
 
 
@@ -80,7 +86,9 @@ class Certifier:
     def __init__(self, name: str, within: Fraction, folder: str, report: Callable[[Step], None]) -> None:
         """`folder` has the programs, or is empty if they are on the path."""
         self.found, self.within, self.report = Certificate(name), within, report
-        self.polcert, self.polcert_bound = (os.path.join(folder, program) for program in ("polcert", "polcert_bound"))
+        names = "polcert", "polcert_bound", "polcert_robust"
+        self.polcert, self.polcert_bound, self.polcert_robust = (os.path.join(folder, program) for program in names)
+        self.made: Optional[Mended] = None
         self._begin = monotonic()
 
     def done(self, name: str, line: str) -> None:
@@ -106,7 +114,7 @@ class Certifier:
         except FileError as fault:
             if fault.code not in MENDABLE:
                 raise
-            made = mended(source, self.within)
+            made = self.made = mended(source, self.within)
             self.found.is_mended = True
             self.done("mend", f"{'; '.join(summary(made.model, made.mend))}; what follows is about the mended model")
             model = read_model(Source(source.name, made.text))
@@ -145,6 +153,39 @@ class Certifier:
         self.keep("bound.alpha", vectors)
         if points is not None:
             self.keep("bound.points", points)
+
+    # The model as it was written
+
+    def certify_written(self, model: Model, is_quiet: bool) -> None:
+        """Certifies from below what the controller earns in the model as it was written, if that was mended."""
+        if self.made is not None:
+            near = self.made.mend.written.texts()
+            try:
+                self.found.written = Written(*near, self.least_of_written(self.made, model, is_quiet))
+            except (Uncertified, programs.ProgramError, Refusal) as fault:
+                self.found.written = Written(*near, why_not=str(fault))
+                self.done("the model as it was written", f"no certificate: {fault}")
+
+    def least_of_written(self, made: Mended, model: Model, is_quiet: bool) -> Fraction:
+        """What the controller earns at least. Raises Uncertified, ProgramError, and Refusal if vectors do not settle."""
+        if made.mend.lost:
+            raise Uncertified(f"`{made.mend.lost}` became 0")
+        programs.found(self.polcert_robust)
+        text = self.found.files[f"{self.found.name}.pg"]
+        graph = read_graph(Source("the graph", text), model)
+        values = vectors_for_written(made, model, graph, is_quiet)
+        files = model.source.text, text, vectors_text(graph.actions, values)
+        every = programs.check_near(files, *made.mend.written.texts(), program=self.polcert_robust)
+        if not isinstance(every, EveryModel):
+            raise Uncertified(every.line)
+        self.keep("written.alpha", files[2])
+        self.done("check of every model near", every.line)
+        if every.amount is not None:  # (for the worst start near)
+            return every.amount
+        answer = programs.check(*files, program=self.polcert)
+        self.yes("check of the same vectors", answer)
+        assert isinstance(answer, Yes) and answer.node is not None
+        return worth_from(made.model.start_weights(), values[answer.node])
 
     def moved(self, name: str, answer: Union[Moved, Refused]) -> Moved:
         if isinstance(answer, Refused):

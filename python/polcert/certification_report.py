@@ -13,6 +13,9 @@ LOW = """- From below: for every number of steps, every node and every state, th
 HIGH = """- From above, the same is at most the value of the raised vectors. So in the long run it earns at most the number of that line."""
 MOST = """- In the long run every policy that sees the observations alone (in an MDP the start state too) earns at most the number of the line on the
   bound."""
+WRITTEN = """- The model as it was written lies {} of the mended one. In every model whose probabilities above 0 and rewards lie so near the first of
+  these holds with the vectors of `{}.written.alpha`: in the long run this controller, started in the node that the last step names, earns at
+  least {} from the start as it was written."""
 PROVED = """A proved program's yes is a theorem about the bytes of these files; the last lines say whether a proof of these programs is recorded.
 What floating point computed beside them is not proved: it only had to pass."""
 
@@ -26,14 +29,23 @@ def markdown_of(found: Certificate, given: Dict[str, bytes], programs: Sequence[
     sentences = f"{'; '.join(found.sentences()) or 'nothing is certified'}."
     lines = [f"# {printable(found.name)}", "", sentences[0].upper() + sentences[1:], ""]
     if found.is_mended:
-        lines += ["The model was mended: all that is certified is about the mended one, which stands below among the files that were written.", ""]
+        lines += ["The model was mended: all but what is said of the written one is about the mended one, which stands below among the files.", ""]
     sides = ((found.low, LOW), (found.high, HIGH), (found.most, MOST))
-    promises = [promise for value, promise in sides if value is not None]
+    promises = [promise for value, promise in sides if value is not None] + about_written(found)
     lines += [*promises, *(["", PROVED] if promises else []), "", "| Step | Line | Seconds |", "|---|---|---|"]
     lines += [f"| {step.name} | {escaped(step.line)} | {step.seconds:.1f} |" for step in found.steps]
     lines += ["", "| File | | SHA-256 |", "|---|---|---|", *rows("read", given), *rows("written", found.files)]
     lines += ["", *(f"Checked by {program}." for program in programs), ""]
     return "\n".join(lines)
+
+
+def about_written(found: Certificate) -> List[str]:
+    """What is certified of the model as it was written, or why nothing is."""
+    if found.written is None:
+        return []
+    if found.written.low is None:
+        return [f"- No certificate of the model as it was written: {printable(found.written.why_not)}."]
+    return [WRITTEN.format(found.written.distances(), found.name, shown(found.written.low))]
 
 
 def rows(done: str, texts: Dict[str, bytes]) -> List[str]:
@@ -63,6 +75,9 @@ def json_of(found: Certificate, given: Dict[str, bytes], programs: Sequence[str]
         controller={"at_least": decimal(found.low), "at_most": decimal(found.high)},
         every_policy={"at_most": decimal(found.most)},
         gap=decimal(found.gap),
+        written=None if found.written is None else {
+            "at_least": decimal(found.written.low), "within": found.written.within, "rewards_within": found.written.rewards_within
+        },
         steps=[{"name": step.name, "line": step.line, "seconds": round(step.seconds, 3)} for step in found.steps],
         read=sums(given),
         files=sums(found.files),

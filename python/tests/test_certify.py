@@ -9,6 +9,7 @@ from typing import Any, Dict
 from support import EXAMPLES, PROGRAM, FolderTest, Said, load, needs_program, run_script
 from polcert.certification import Certificate, percent
 from polcert.certification_report import markdown_of
+from polcert.written import Written, worth_from
 from runner import programs_beside
 
 script = load("polcert-certify")
@@ -16,6 +17,8 @@ script = load("polcert-certify")
 TIGER = str(EXAMPLES / "tiger.POMDP")
 # One state is left with one half of the weight, 0.333333 + 0.333333 + 0.333333 is no 1, and each step earns 1: 10 in all.
 ROUGH = b"discount: 0.9 values: reward states: 3 actions: 1 observations: 1 T: 0 : * 0.333333 0.333333 0.333333 O: * uniform R: * : * : * : * 1\n"
+# A probability of 0.0000001 becomes 0.
+LOST = b"discount: 0.9 values: reward states: 2 actions: 1 observations: 1 T: 0 0.9999999 0.0000001 0 1 O: * uniform R: * : 0 : * : * 1\n"
 # Who takes action 1 earns 1 a step, which is 2 in all; action 0 earns nothing.
 TWO_ACTIONS = b"discount: 0.5 values: reward states: 1 actions: 2 observations: 1 T: * identity O: * uniform R: 1 : * : * : * 1\n"
 # An MDP: from each state the other one follows; a step from the second earns 1. So they are worth 2/3 and 4/3, of which the mean is 1.
@@ -50,11 +53,25 @@ class Reports(FolderTest):
         self.assertIn("was mended", markdown_of(Certificate("m", is_mended=True), {}, []))
         self.assertIn("\n\nNothing is certified.\n", markdown_of(Certificate("m"), {}, []))
 
+    def test_the_written_model(self) -> None:
+        found = Certificate("m", is_mended=True, written=Written("0.000001", "0", Fraction(3)))
+        text = markdown_of(found, {}, [])
+        self.assertTrue(text.startswith("# m\n\nThe model as it was written: at least 3.\n"), text)
+        self.assertIn("\n- The model as it was written lies within 0.000001 of the mended one.", text)
+        found.written = Written("0.000001", "0.000002", why_not="`T: 0 : 0 : 1` became 0")
+        self.assertIn("\n- No certificate of the model as it was written: `T: 0 : 0 : 1` became 0.\n", markdown_of(found, {}, []))
+        self.assertEqual(found.written.distances(), "within 0.000001, rewards within 0.000002")
+
+    def test_a_start_that_does_not_sum_to_one(self) -> None:
+        start = {0: Fraction("0.3333"), 1: Fraction("0.3333"), 2: Fraction("-0.0000001")}
+        self.assertEqual(worth_from(start, [1.0, 0.000001, 5.0]), Fraction("0.5"))
+        self.assertEqual(worth_from(start, [-1.0, -0.000001, 5.0]), Fraction("-0.500001"))
+
 
 @needs_program
 class Certificates(FolderTest):
     def programs(self) -> str:
-        """A folder with both programs, which the gate has in two."""
+        """A folder with the programs, which the gate has in one each."""
         folder = self.folder / "programs"
         folder.mkdir(exist_ok=True)
         for name, program in programs_beside(str(PROGRAM)).items():
@@ -108,6 +125,35 @@ class Certificates(FolderTest):
         steps = [step["name"] for step in self.report("rough")["steps"]]
         self.assertEqual(steps[:2], ["mend", "model"])
         self.assertTrue((self.folder / "out/rough.POMDP").read_bytes().endswith(b"T: * : * uniform\n"))
+
+    def test_the_model_as_it_was_written(self) -> None:
+        """Of rewards that are the same everywhere, no probability moves anything; of others, each row over its sum is one of those near."""
+        said = self.certify(self.file("rough.POMDP", ROUGH))
+        self.assertRegex(said.out, rb"; the model as it was written: at least (10|9\.99999[0-9]*)\n\Z")
+        written = self.report("rough")["written"]
+        self.assertEqual((written["within"], written["rewards_within"]), ("0", "0"))
+        # two states, of which the first earns 1: over its sum a row stays there with 0.9, and 1 / (1 - 0.81) is 5.263157
+        text = b"discount: 0.9 values: reward states: 2 actions: 1 observations: 1 start: 0 T: 0 0.9 0.1001 0 1 O: * uniform R: * : 0 : * : * 1\n"
+        self.certify(self.file("leaky.POMDP", text), "--within", "0.001", "--json")
+        report = self.report("leaky")
+        least = 1 / (1 - Fraction("0.9") * Fraction("0.9") / Fraction("1.0001"))
+        low, written = Fraction(report["controller"]["at_least"]), report["written"]
+        price = 90 * Fraction(written["within"]) * Fraction("0.9") * 10
+        self.assertTrue(low - price < Fraction(written["at_least"]) <= least, (low, written, least))
+        self.assertIn("leaky.written.alpha", [row["name"] for row in report["files"]])
+        self.assertEqual([step["name"] for step in report["steps"]][-2:], ["check of every model near", "check of the same vectors"])
+        self.assertRegex(report["programs"][-1], r"\Apolcert_robust ")
+
+    def test_why_the_written_model_has_no_certificate(self) -> None:
+        said = self.certify(self.file("lost.POMDP", LOST))
+        why = "`T: 0 : 0 : 1` became 0"
+        self.assertIn(f"polcert-certify: no certificate of the model as it was written: {why}\n", said.err)
+        self.assertIsNone(self.report("lost")["written"]["at_least"])
+        (self.folder / "programs" / "polcert_robust").unlink()
+        (self.folder / "programs" / "polcert_robust").write_text("no program")
+        said = self.certify(self.file("rough.POMDP", ROUGH))
+        self.assertRegex(said.err, r"no certificate of the model as it was written: [^\n]*polcert_robust: there is no such program on the path\n")
+        self.assertNotIn("written.alpha", str(self.report("rough")["files"]))
 
     def test_what_is_refused(self) -> None:
         for text, reason in (

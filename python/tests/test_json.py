@@ -176,6 +176,16 @@ class Reports(JsonTest):
         self.assertEqual((found["gap"], len(found["files"]), len(found["programs"])), ("1.12864", 4, 2))
 
     @needs_numpy
+    def test_a_mended_model(self) -> None:
+        folder = self.folder / "programs"
+        folder.mkdir()
+        for name, program in programs_beside(str(PROGRAM)).items():
+            os.symlink(os.path.realpath(program), folder / name)
+        model = self.file("m.POMDP", b"discount: 0.9 values: reward states: 2 actions: 1 observations: 1 T: 0 0.9 0.1001 0 1 O: * uniform\n")
+        found = self.result("polcert-certify", model, "-q", "-o", str(self.folder / "out"), "--within", "0.001", "--programs", str(folder))
+        self.assertEqual(found["written"], {"at_least": "0", "within": "0.000041", "rewards_within": "0"})
+
+    @needs_numpy
     def test_the_gate_of_a_release(self) -> None:
         """examples/release.mk, in a folder with the model and the graph."""
         folder = self.folder / "programs"

@@ -7,13 +7,15 @@ from typing import Dict, List, NamedTuple, Optional, Sequence, Tuple
 from unittest.mock import patch
 
 from models import random_model
-from support import EXAMPLES, HAS_NUMPY, NAMES, PROGRAM, Said, needs_numpy, needs_program, polcert, run_program, run_script
+from support import EXAMPLES, HAS_NUMPY, NAMES, PROGRAM, TOP, Said, needs_numpy, needs_program, polcert, run_program, run_script
 from test_outputs import PG, TIGER, OutputTest
 from polcert.command import read_source
+from polcert.commands.mend import mended
 from polcert.distances import Distances
 from polcert.files import Graph, Model, Row, Source, read_graph, read_model
 from polcert.tokens import MILLION, decimal
 from polcert.watch import Watch
+from polcert.written import vectors_for_written
 from runner import programs_beside
 
 if HAS_NUMPY:
@@ -201,6 +203,22 @@ class Programs(OutputTest):
         if not model.is_mdp:
             lines += [f"O: {action} : {end} : {z} {fixed(p)}" for end, (row, _) in ends.items() for z, p in row.items()]
         return "\n".join(["", *lines, ""]).encode()
+
+    def test_mended_models(self) -> None:
+        """Those of the recipes and of the benchmark, with a graph of nodes that repeat their action: the vectors hold in the written model."""
+        count = 0
+        for path in [*EXAMPLES.glob("recipes/*/*.POMDP"), *TOP.glob("tests/bench/models/*.POMDP")]:
+            made = mended(read_source(str(path)), Fraction(1, 100_000))
+            if made.mend.lines:
+                model, count = read_model(Source("mended", made.text)), count + 1
+                actions = list(range(model.actions.count))
+                graph = Graph(actions, [[action] * model.observations.count for action in actions])
+                probabilities, rewards = map(Fraction, made.mend.written.texts())
+                near = Near(model, graph, Distances(probabilities, rewards))
+                vectors = [[round(value * MILLION) for value in row] for row in vectors_for_written(made, model, graph, is_quiet=True)]
+                said = self.robust(near, *self.files(near, vectors, made.text))
+                self.assertTrue(said.out.startswith(b"yes: every model within "), (path.name, said))
+        self.assertGreater(count, 6)
 
     def test_the_commands_of_the_page(self) -> None:
         for name in NAMES:

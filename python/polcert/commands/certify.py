@@ -6,7 +6,8 @@
 A model in POMDPX is converted first, as by polcert-convert, and one whose rows sum to one only nearly is mended, as by polcert-mend; then all
 is about the model that this makes. DIR gets the model, the
 graph with its vectors, lowered and raised so that polcert says yes to them, a bound on every policy, and a report, each named for the
-model. The proved programs answer; what is computed here only has to pass.
+model. The proved programs answer; what is computed here only has to pass. For a mended model polcert_robust, if it is there, answers for the
+model as it was written too.
 
 Standard error has a line for each step, with its seconds. Standard output has what is certified, or with --json the report as JSON. The
 exit status is 0 if a lower bound is certified, and 1 if there is none. An interrupt (Ctrl-C) ends the search early.
@@ -29,7 +30,8 @@ from polcert.signals import Interrupt
 from polcert.values import refuse_discount_of_1
 
 SECONDS, PERCENT = 30.0, 0.00001
-ENDINGS = ("POMDP", "pg", "alpha", "lowered.alpha", "raised.alpha", "bound.alpha", "bound.points", "report.md", "report.json")
+ENDINGS = ("POMDP", "pg", "alpha", "lowered.alpha", "raised.alpha", "bound.alpha", "bound.points", "written.alpha", "report.md",
+           "report.json")
 
 
 class Work:
@@ -57,6 +59,10 @@ class Work:
             self.certifier.certify_bound(model.source.text, bound.vectors, bound.points)
         except Uncertified as fault:
             say(f"polcert-certify: no bound on every policy: {fault}")
+        self.certifier.certify_written(model, self.is_quiet)
+        written = self.certifier.found.written
+        if written is not None and written.low is None:
+            say(f"polcert-certify: no certificate of the model as it was written: {written.why_not}")
         return True
 
     def certify_controller(self, cells: WholeCells) -> BoundTexts:
@@ -78,8 +84,10 @@ class Work:
     def texts(self) -> Dict[str, bytes]:
         """The files of the certificate and its reports, by their names."""
         given: Dict[str, bytes] = {source.name: source.text for source in self.given}
-        programs = [Program(program).about() for program in (self.certifier.polcert, self.certifier.polcert_bound)]
         found = self.certifier.found
+        names = [self.certifier.polcert, self.certifier.polcert_bound]
+        names += [self.certifier.polcert_robust] if found.written is not None and found.written.low is not None else []
+        programs = [Program(program).about() for program in names]
         texts = dict(found.files)
         texts[f"{found.name}.report.md"] = markdown_of(found, given, programs).encode()
         texts[f"{found.name}.report.json"] = json_of(found, given, programs).encode()
@@ -105,7 +113,7 @@ def arguments() -> argparse.Namespace:
     most = "the most that mending may move a probability; default 0.00001"
     parser.add_argument("--within", metavar="X", type=probability, default=probability("0.00001"), help=most)
     parser.add_argument("--json", action="store_true", help="write the report as JSON to standard output")
-    parser.add_argument("--programs", metavar="DIR", default="", help="the folder of polcert and polcert_bound; default: the path")
+    parser.add_argument("--programs", metavar="DIR", default="", help="the folder of polcert, polcert_bound and polcert_robust; default: the path")
     parser.add_argument("-q", "--quiet", action="store_true", help="no lines of progress")
     return parser.parse_args()
 
