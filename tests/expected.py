@@ -1,4 +1,4 @@
-"""What both programs print of accepted texts, a second time: in exact numbers, straight from the definitions in crates/*/specs.
+"""What the programs print of accepted texts, a second time: in exact numbers, straight from the definitions in crates/*/specs.
 
 The cells are those that python/polcert/files.py reads, values and rewards are in millionths, and a pair is a node and a state (of
 polcert_bound: an action and a state).
@@ -50,6 +50,66 @@ class Controller(NamedTuple):
     def gaps(self, values: Sequence[Millionths], side: int) -> Gaps:
         """By how much each pair is short, from below, or long, from above."""
         return {(n, s): side * (values[n][s] - worth) for (n, s), worth in self.backing(values).items()}
+
+
+class Near(NamedTuple):
+    """How far models may lie from one, as it was typed: each probability above 0, and each reward."""
+
+    within: str
+    rewards_within: str
+
+    def part(self, columns: int) -> Fraction:
+        """The distance of probabilities in a row, rounded up to a whole part of its scale."""
+        return Fraction(ceil(Fraction(self.within) * columns * MILLION), columns * MILLION)
+
+    def yes(self) -> str:
+        rewards = f', rewards within {self.rewards_within}' if Fraction(self.rewards_within) else ''
+        return f'yes: every model within {self.within}{rewards}'
+
+
+def least_mean(row: Sequence[Tuple[Fraction, Fraction]], by: Fraction) -> Fraction:
+    """The least mean of values over all rows whose weights above 0 lie so near: least values first, each with as much weight as it can have.
+    A row has the weight and the value of each cell above 0."""
+    lows = [max(Fraction(0), weight - by) for weight, _ in row]
+    left, mean = 1 - sum(lows), sum((low * value for low, (_, value) in zip(lows, row)), Fraction(0))
+    for value, room in sorted((value, weight + by - low) for low, (weight, value) in zip(lows, row)):
+        taken = min(left, room)
+        mean, left = mean + taken * value, left - taken
+    return mean
+
+
+class NearController(NamedTuple):
+    """A controller, in all models near its own."""
+
+    controller: Controller
+    observations: int
+    near: Near
+
+    def gaps(self, values: Sequence[Millionths], side: int) -> Gaps:
+        """By how much each pair is short, from below, or long, from above, in the worst model for it."""
+        exact, graph = self.controller
+        ends: Dict[Tuple[int, int], List[Tuple[int, Fraction]]] = {}
+        for (a, s, e), p in exact.t.items():
+            ends.setdefault((a, s), []).append((e, p))
+        seen, gaps = exact.seen(), {}
+        for n, action in enumerate(graph.actions):
+            for s in range(exact.states):
+                means = [(p, self.of_end(n, s, e, seen[action, e], values, side)) for e, p in ends[action, s]]
+                gaps[n, s] = side * values[n][s] - least_mean(means, self.near.part(exact.states))
+        return gaps
+
+    def of_end(self, n: int, s: int, e: int, seen: Sequence[Tuple[int, Fraction]], values: Sequence[Millionths], side: int) -> Fraction:
+        """The least mean at an end state of what is earned there and after it; from above of its opposite."""
+        exact, graph = self.controller
+        row = []
+        for z, q in seen:
+            after = graph.successors[n][z]
+            worth = Fraction(0)
+            if after is not None:
+                reward = side * exact.r.get((graph.actions[n], s, e, z), 0) - Fraction(self.near.rewards_within)
+                worth = reward * MILLION + exact.discount * side * values[after][e]
+            row.append((q, worth))
+        return least_mean(row, self.near.part(self.observations))
 
 
 def rounded_values(vectors: Sequence[Vector], side: int) -> List[Millionths]:
@@ -127,6 +187,13 @@ def polcert_answers(exact: Exact, graph: Graph, vectors: Sequence[Vector]) -> Di
         lack = refusal(1, f'{word}: {code} at node %d, state %d, observation %d' % lacks[0]) if lacks else None
         found[f'polcert {word}'] = lack or move(gaps, values, graph.actions, exact.discount, side, 'node')
     return found
+
+
+def near_answer(exact: Exact, graph: Graph, vectors: Sequence[Vector], model: Model, near: Near, side: int) -> Ran:
+    """What polcert_robust answers to a check from this side."""
+    controller = Controller(exact, graph)
+    gaps = NearController(controller, model.observations.count, near).gaps(rounded_values(vectors, side), side)
+    return verdict(gaps, controller.lacks(), near.yes(), side)
 
 
 def bound_answers(exact: Exact, vectors: Sequence[Vector]) -> Dict[str, Ran]:
