@@ -1,7 +1,7 @@
 -- The names of std and of specs that several proofs of this crate cite, passed on from one place. Declares nothing.
 pub use Rattle.polcert_answer.specs.Answer.{AreRoundedVectorsRefused, HasGraph, IsAnswer, IsGraphRefused, IsModelFault, IsRoundedAnswer}
 pub use Rattle.polcert_answer.specs.Headline.{Certificate, controller}
-pub use Rattle.polcert_answer.specs.Lines.{IsAboveVerdictLine, IsVerdictLine, counted, line_text}
+pub use Rattle.polcert_answer.specs.Lines.{IsAboveVerdictLine, IsVerdictLine, count_text, line_text}
 pub use Rattle.polcert_answer.specs.Run.{HoldsOfTexts, IsCheckRunFault, IsNamedRightly, ReadsInOrder, RefusesRightly, WritesAnswer}
 pub use Rattle.polcert_answer.specs.Side.{Side}
 pub use Rattle.polcert_answer.specs.Steps.Laws.{SideLaws}

@@ -7,14 +7,14 @@ use Rattle.polcert_text.specs.declared.source.SourceFault.{SourceFault}
 use Rattle.polcert_text.specs.declared.source.SourceFault.TheVariants.{Device}
 use Rattle.polcert_answer.proofs.Common.{ModelFault, SaysOfText, RunFault, IsModelFault, IsNamedRightly, ReadsInOrder, IsGraphReadFault}
 use Rattle.polcert_model.specs.RefusedTexts.{IsRefusedModelText}
-use Rattle.polcert_answer.specs.Answer.{IsRefused}
+use Rattle.polcert_answer.specs.Answer.{IsModelRefused}
 
 -- what is promised of a refused text of a model
 pub model_refused : (fault : ModelFault) (text : List ℕ) → IsRefusedModelText fault text → IsModelFault text fault
 model_refused fault text h1 = grind arith
 
 -- out of memory aside, what is said of a model's refused text is that it is refused
-pub refused_of : (fault : ModelFault) (text : List ℕ) → SaysOfText fault → IsModelFault text fault → IsRefused fault text
+pub refused_of : (fault : ModelFault) (text : List ℕ) → SaysOfText fault → IsModelFault text fault → IsModelRefused fault text
 refused_of fault text h1 h2 = grind arith
 
 -- what follows for each text follows for those that fit

@@ -27,7 +27,7 @@ use Rattle.polcert_answer.specs.Headline.{RoundedCertificate, controller}
 
 -- The text is no model's, and the fault is what is promised of a refusal of this text's tokens, and stands where it is
 -- promised to stand.
-pub record IsRefused (fault : ModelFault) (text : List ℕ) : Type 0 where
+pub record IsModelRefused (fault : ModelFault) (text : List ℕ) : Type 0 where
   pub no_model : (m : Meaning) → IsModelText text m → ⊥
   pub refusal : (ts : TextTokens) → AreTokensOf text ts → IsRefusal ts fault
   pub placed : (ts : TextTokens) → AreTokensOf text ts → IsPlacedRight ts fault
@@ -57,7 +57,7 @@ pub record AreRoundedVectorsRefused (rounding : Rounding) (model graph : List �
 -- what a refusal says of the three texts, of which none has points; out of memory says nothing of the text that was being read
 abbrev pub IsModelFault : List ℕ → ModelFault → Type 0
 IsModelFault model models.Memory = Unit {0}
-IsModelFault model fault = IsRefused fault model
+IsModelFault model fault = IsModelRefused fault model
 
 abbrev pub IsFault : Rounding → List ℕ → List ℕ → List ℕ → Fault → Type 0
 IsFault rounding model graph vectors (Model fault) = IsModelFault model fault

@@ -19,8 +19,8 @@ use Rattle.polcert_answer.specs.declared.lines.VerdictLine.{VerdictLine}
 use Rattle.polcert_answer.specs.declared.lines.VerdictLine.TheVariants as lines
 
 -- a count, and the words after it
-abbrev pub counted : ℕ → List ℕ → List ℕ
-counted count words = decimal count ++ words
+abbrev pub count_text : ℕ → List ℕ → List ℕ
+count_text count words = decimal count ++ words
 
 -- the end of the line: whether the model's text gives rewards or costs
 abbrev pub earnings_word : Bool → List ℕ
@@ -31,30 +31,30 @@ abbrev pub kind_word : Bool → List ℕ
 kind_word mdp = if mdp then codes "mdp: " else codes "pomdp: "
 
 -- (an MDP has no observations of its own)
-abbrev pub observations_text : Meaning → List ℕ
-observations_text m = if is_mdp m.preamble then [] else counted (observations_of m) (codes " observations, ")
+abbrev pub observation_count_text : Meaning → List ℕ
+observation_count_text m = if is_mdp m.preamble then [] else count_text (observations_of m) (codes " observations, ")
 
 abbrev pub counts_text : Meaning → List ℕ
-counts_text m = kind_word (is_mdp m.preamble) ++ counted (states_of m) (codes " states, ") ++ counted (actions_of m) (codes " actions, ")
-    ++ observations_text m
+counts_text m = kind_word (is_mdp m.preamble) ++ count_text (states_of m) (codes " states, ") ++ count_text (actions_of m) (codes " actions, ")
+    ++ observation_count_text m
 
-abbrev pub values_text : Meaning → List ℕ
-values_text m = codes "discount " ++ scaled_text (pos m.preamble.discount) ++ earnings_word m.preamble.costs
+abbrev pub discount_text : Meaning → List ℕ
+discount_text m = codes "discount " ++ scaled_text (pos m.preamble.discount) ++ earnings_word m.preamble.costs
 
 abbrev pub summary_line : Meaning → List ℕ
-summary_line m = counts_text m ++ values_text m
+summary_line m = counts_text m ++ discount_text m
 
 -- ---- the lines of a verdict
 --
 -- Our own too: `yes: start node 0, at least -20`, `no: node 0, state 0, short by 0.000001`, and
 -- `no: node 0, state 0, observation 1 has no successor`, each with a line end.
 
-abbrev pub yes_line : ℕ → ℤ → List ℕ
-yes_line n worth = codes "yes: start node " ++ counted n (codes ", at least ") ++ scaled_text worth ++ codes "\n"
+abbrev pub at_least_line : ℕ → ℤ → List ℕ
+at_least_line n worth = codes "yes: start node " ++ count_text n (codes ", at least ") ++ scaled_text worth ++ codes "\n"
 
 -- the beginning of a no, as far as the words after the state
 abbrev pub pair_text : ℕ → ℕ → List ℕ → List ℕ
-pair_text n s words = codes "no: node " ++ counted n (codes ", state ") ++ counted s words
+pair_text n s words = codes "no: node " ++ count_text n (codes ", state ") ++ count_text s words
 
 -- a no for an amount, which these words lead to
 abbrev pub amount_line : ℕ → ℕ → List ℕ → ℤ → List ℕ
@@ -64,12 +64,12 @@ abbrev pub short_line : ℕ → ℕ → ℤ → List ℕ
 short_line n s by = amount_line n s (codes ", short by ") by
 
 abbrev pub lack_line : ℕ → ℕ → ℕ → List ℕ
-lack_line n s z = pair_text n s (codes ", observation ") ++ counted z (codes " has no successor\n")
+lack_line n s z = pair_text n s (codes ", observation ") ++ count_text z (codes " has no successor\n")
 
 -- The line of a verdict: a yes names the node that is worth most from the model's start, the least number on ties, and its
 -- worth there, rounded down; an amount is divided by its scale and rounded up, so that it is never 0.
 abbrev pub IsVerdictLine : Meaning → Controller → PolicyVectors → Verdict → List ℕ → Type 0
-IsVerdictLine m c v Yes line = (n : ℕ) × (worth : ℤ) × IsBestStart m v n × IsStartWorth m v n worth × (line ≡ yes_line n worth)
+IsVerdictLine m c v Yes line = (n : ℕ) × (worth : ℤ) × IsBestStart m v n × IsStartWorth m v n worth × (line ≡ at_least_line n worth)
 IsVerdictLine m c v (Short n s amount) line = (by : ℤ) × IsCeilQuotient amount (step_scale c * one) by × (line ≡ short_line n s by)
 IsVerdictLine m c v (NoSuccessor n s z) line = line ≡ lack_line n s z
 
@@ -77,8 +77,8 @@ IsVerdictLine m c v (NoSuccessor n s z) line = line ≡ lack_line n s z
 --
 -- `yes: every start node, at most -20`, `no: node 0, state 0, long by 0.000001`, and the line of a missing successor as before.
 
-abbrev pub yes_above_line : ℤ → List ℕ
-yes_above_line most = codes "yes: every start node, at most " ++ scaled_text most ++ codes "\n"
+abbrev pub at_most_line : ℤ → List ℕ
+at_most_line most = codes "yes: every start node, at most " ++ scaled_text most ++ codes "\n"
 
 abbrev pub long_line : ℕ → ℕ → ℤ → List ℕ
 long_line n s by = amount_line n s (codes ", long by ") by
@@ -86,14 +86,14 @@ long_line n s by = amount_line n s (codes ", long by ") by
 -- The line of a verdict from above: a yes names what no node is worth more than from the model's start, rounded up; an amount is
 -- divided by its scale and rounded up, so that it is never 0.
 abbrev pub IsAboveVerdictLine : Meaning → Controller → PolicyVectors → AboveVerdict → List ℕ → Type 0
-IsAboveVerdictLine m c v above.Yes line = (most : ℤ) × IsStartMost m v most × (line ≡ yes_above_line most)
+IsAboveVerdictLine m c v above.Yes line = (most : ℤ) × IsStartMost m v most × (line ≡ at_most_line most)
 IsAboveVerdictLine m c v (above.Long n s amount) line = (by : ℤ) × IsCeilQuotient amount (step_scale c * one) by × (line ≡ long_line n s by)
 IsAboveVerdictLine m c v (above.NoSuccessor n s z) line = line ≡ lack_line n s z
 
 -- the line that says this
 abbrev pub line_text : VerdictLine → List ℕ
-line_text (lines.AtLeast n worth) = yes_line n worth
-line_text (lines.AtMost most) = yes_above_line most
+line_text (lines.AtLeast n worth) = at_least_line n worth
+line_text (lines.AtMost most) = at_most_line most
 line_text (lines.Short n s by) = short_line n s by
 line_text (lines.Long n s by) = long_line n s by
 line_text (lines.NoSuccessor n s z) = lack_line n s z

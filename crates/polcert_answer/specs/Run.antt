@@ -20,7 +20,7 @@ use Rattle.polcert_answer.specs.declared.fault.RunFault.TheVariants.{Text, ReadM
 use Rattle.polcert_answer.specs.Answer.{IsModelFault, IsGraphRefused, AreRoundedVectorsRefused}
 use Rattle.polcert_answer.specs.Headline.{RoundedCertificate, Certificate, controller, IsCertified, AreRewardsCertified}
 use Rattle.polcert_answer.specs.HeadlineAbove.{CertificateAbove, IsCertifiedAbove, AreRewardsCertifiedAbove, BoundLowerVectors}
-use Rattle.polcert_answer.specs.Lines.{summary_line, yes_line, yes_above_line}
+use Rattle.polcert_answer.specs.Lines.{summary_line, at_least_line, at_most_line}
 
 -- a fault of a model's text or of its source
 abbrev pub IsModelReadFault : RunFault → Type 0
@@ -225,7 +225,7 @@ HavePromiseAbove model graph vectors = IsCertifiedAbove model graph vectors × A
 pub record HasStartPromise (line model graph vectors : List ℕ) : Type 0 where
   pub node : ℕ
   pub worth : ℤ
-  pub is_line : line ≡ yes_line node worth
+  pub is_line : line ≡ at_least_line node worth
   pub best : (c : Certificate model graph vectors) → IsBestStart c.meaning c.values node
   pub is_worth : (c : Certificate model graph vectors) → IsStartWorth c.meaning c.values node worth
   pub promise : (c : Certificate model graph vectors) (k : ℕ) → StartPromise c.meaning (controller c) k node worth
@@ -235,6 +235,6 @@ pub record HasStartPromise (line model graph vectors : List ℕ) : Type 0 where
 -- expected from the start.
 pub record HasStartPromiseAbove (line model graph vectors : List ℕ) : Type 0 where
   pub most : ℤ
-  pub is_line : line ≡ yes_above_line most
+  pub is_line : line ≡ at_most_line most
   pub is_most : (c : CertificateAbove model graph vectors) → IsStartMost c.meaning c.values most
   pub promise : (c : CertificateAbove model graph vectors) (k n : ℕ) → n < nodes c.policy → StartPromiseAbove c.meaning (controller c) k n most

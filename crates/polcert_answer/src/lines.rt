@@ -2,7 +2,7 @@
 ghost use Rattle.std.specs.Prelude.{◌≡◌};
 ghost use Rattle.polcert_text.specs.Sink.{WritesText};
 ghost use Rattle.polcert_model.specs.Contents.{meaning};
-ghost use Rattle.polcert_answer.specs.Lines.{counted, earnings_word, kind_word, observations_text, counts_text, values_text, summary_line, pair_text, amount_line, yes_line, yes_above_line, lack_line, line_text};
+ghost use Rattle.polcert_answer.specs.Lines.{count_text, earnings_word, kind_word, observation_count_text, counts_text, discount_text, summary_line, pair_text, amount_line, at_least_line, at_most_line, lack_line, line_text};
 
 use itoa::Buffer;
 use polcert_model::Model;
@@ -46,7 +46,7 @@ fn kind_word(is_mdp: bool) -> &'static [u8]
 /// Writes the count of observations, which an MDP has none of its own of.
 fn write_observations<W: Sink>(model: &Model, sink: &mut W) -> Result<(), SinkFailed>
     ensures { WritesText W.writes W.failures sink.old
-        (observations_text (meaning model.now)) result sink.new }
+        (observation_count_text (meaning model.now)) result sink.new }
 {
     if model.is_mdp() {
         Ok(())
@@ -57,7 +57,7 @@ fn write_observations<W: Sink>(model: &Model, sink: &mut W) -> Result<(), SinkFa
 
 /// Writes a count and the words after it.
 pub fn write_count<W: Sink>(count: usize, words: &[u8], sink: &mut W) -> Result<(), SinkFailed>
-    ensures { WritesText W.writes W.failures sink.old (counted count words.now) result sink.new }
+    ensures { WritesText W.writes W.failures sink.old (count_text count words.now) result sink.new }
 {
     let mut buffer = Buffer::new();
     write_all(sink, buffer.format(count).as_bytes())?;
@@ -66,7 +66,7 @@ pub fn write_count<W: Sink>(count: usize, words: &[u8], sink: &mut W) -> Result<
 
 /// Writes the discount, and whether the text gives rewards or costs.
 fn write_values<W: Sink>(model: &Model, sink: &mut W) -> Result<(), SinkFailed>
-    ensures { WritesText W.writes W.failures sink.old (values_text (meaning model.now)) result sink.new }
+    ensures { WritesText W.writes W.failures sink.old (discount_text (meaning model.now)) result sink.new }
 {
     write_all(sink, b"discount ")?;
     write_scaled(model.discount() as i64, sink)?;
@@ -144,7 +144,7 @@ fn write_verdict_line<W: Sink>(line: VerdictLine, sink: &mut W) -> Result<(), Si
 
 /// Writes a yes: the node that is worth most, and its worth in millionths.
 fn write_yes<W: Sink>(node: usize, worth: i64, sink: &mut W) -> Result<(), SinkFailed>
-    ensures { WritesText W.writes W.failures sink.old (yes_line node worth) result sink.new }
+    ensures { WritesText W.writes W.failures sink.old (at_least_line node worth) result sink.new }
 {
     write_all(sink, b"yes: start node ")?;
     write_count(node, b", at least ", sink)?;
@@ -154,7 +154,7 @@ fn write_yes<W: Sink>(node: usize, worth: i64, sink: &mut W) -> Result<(), SinkF
 
 /// Writes a yes from above: what no node is worth more than, in millionths.
 fn write_yes_above<W: Sink>(most: i64, sink: &mut W) -> Result<(), SinkFailed>
-    ensures { WritesText W.writes W.failures sink.old (yes_above_line most) result sink.new }
+    ensures { WritesText W.writes W.failures sink.old (at_most_line most) result sink.new }
 {
     write_all(sink, b"yes: every start node, at most ")?;
     write_scaled(most, sink)?;

@@ -5,7 +5,7 @@ ghost use Rattle.polcert_text.specs.Sink.{Takes, WritesText};
 ghost use Rattle.polcert_text.specs.Source.{EachTextThatFits, IsText};
 ghost use Rattle.polcert_model.specs.Refusals.{SaysOfText};
 ghost use Rattle.polcert_check.specs.declared.survey.Verdict.TheVariants.{Yes};
-ghost use Rattle.polcert_answer.specs.Answer.{IsRefused, IsModelFault, HasGraph, IsFault, IsGraphRefused};
+ghost use Rattle.polcert_answer.specs.Answer.{IsModelRefused, IsModelFault, HasGraph, IsFault, IsGraphRefused};
 ghost use Rattle.polcert_answer.specs.Answer.{AreRoundedVectorsRefused};
 ghost use Rattle.polcert_answer.specs.Run.{WritesAnswer, SumsUp, BeginsToSumUp, Prints, BeginsToPrint};
 ghost use Rattle.polcert_answer.specs.Run.{IsTooLargeToPrint, IsModelRunFault, IsPrintRunFault};
@@ -57,7 +57,7 @@ pub fn run_model<S: Source, W: Sink>(
     // of memory says nothing of the text.)
     ensures refused { (fault : _) → IsErrOf result (RunFault.Text (Fault.Model fault))
         → SaysOfText fault
-        → EachTextThatFits S.reads source.old source.new (IsRefused fault) }
+        → EachTextThatFits S.reads source.old source.new (IsModelRefused fault) }
 
     // A device is named only if it failed in this call.
     ensures read { IsErrOf result RunFault.ReadModel

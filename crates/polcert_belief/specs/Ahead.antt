@@ -4,7 +4,7 @@ use Rattle.std.specs.Prelude.{ℕ, ◌*◌, ◌<◌, ℤ, pos, ◌+ℤ◌, ◌*�
 use Rattle.polcert_check.specs.Horizon.{Controller, one, total_below}
 use Rattle.polcert_optimum.specs.Informed.{expected_reward, greatest_below}
 use Rattle.polcert_optimum.specs.Policy.{ObservationPolicy, step_scale}
-use Rattle.polcert_belief.specs.Belief.{Belief, mass, sum_over_belief, updated, belief_after, AreObservations}
+use Rattle.polcert_belief.specs.Belief.{Belief, mass, sum_over_belief, updated, belief_after, AreModelObservations}
 use Rattle.polcert_belief.specs.Following.{Selector}
 
 -- what action a comes to at a belief if a best vector follows each observation, on the scale step_scale * one
@@ -15,10 +15,10 @@ ahead_worth c belief a = pos one *ℤ sum_over_belief c.cells belief (λ s. expe
 -- After whatever observations the selector picks a best vector, and the policy takes an action that comes to most, within `by` / `d`
 -- millionths of the belief's mass.
 pub record LooksAheadWithin (by d : ℕ) (c : Controller) (policy : ObservationPolicy) (belief : Belief) (selector : Selector) : Type 0 where
-  pub are_nodes : (observations : List ℕ) → AreObservations c.cells observations → selector observations < c.nodes
-  pub none_better : (observations : List ℕ) (m : ℕ) → AreObservations c.cells observations → m < c.nodes
+  pub are_nodes : (observations : List ℕ) → AreModelObservations c.cells observations → selector observations < c.nodes
+  pub none_better : (observations : List ℕ) (m : ℕ) → AreModelObservations c.cells observations → m < c.nodes
       → sum_over_belief c.cells (belief_after c.cells policy belief observations) (c.value m) ≤ℤ sum_over_belief c.cells (belief_after c.cells policy belief observations) (c.value (selector observations))
-  pub known : (observations : List ℕ) → AreObservations c.cells observations → policy observations < c.cells.actions
-  pub none_comes_to_more : (observations : List ℕ) (a : ℕ) → AreObservations c.cells observations → a < c.cells.actions
+  pub known : (observations : List ℕ) → AreModelObservations c.cells observations → policy observations < c.cells.actions
+  pub none_comes_to_more : (observations : List ℕ) (a : ℕ) → AreModelObservations c.cells observations → a < c.cells.actions
       → (pos d *ℤ ahead_worth c (belief_after c.cells policy belief observations) a)
       ≤ℤ (pos d *ℤ ahead_worth c (belief_after c.cells policy belief observations) (policy observations) +ℤ pos (by * (step_scale c.cells * one * mass c.cells (belief_after c.cells policy belief observations))))

@@ -4,7 +4,7 @@ use Rattle.polcert_cells.specs.Tables.{CellTable}
 use Rattle.polcert_check.specs.Horizon.{one}
 use Rattle.polcert_optimum.specs.Bound.{backup}
 use Rattle.polcert_optimum.specs.Policy.{ObservationPolicy, as_policy, end_state, step_scale, expected_total}
-use Rattle.polcert_belief.specs.Belief.{Belief, sum_over_belief, belief_after, AreObservations}
+use Rattle.polcert_belief.specs.Belief.{Belief, sum_over_belief, belief_after, AreModelObservations}
 
 -- what one step by action a comes to at a belief if vector `next` z follows observation z, on the scale step_scale * one
 abbrev pub step_worth : CellTable → Belief → (ℕ → ℕ → ℤ) → ℕ → ℤ
@@ -12,8 +12,8 @@ step_worth t belief next a = sum_over_belief t belief (λ s. backup t (λ e z. n
 
 -- After whatever observations the vector there is worth at the belief at most one step of the policy, with the vectors after it.
 pub record IsBacked (t : CellTable) (policy : ObservationPolicy) (belief : Belief) (value : List ℕ → ℕ → ℤ) : Type 0 where
-  pub known : (observations : List ℕ) → AreObservations t observations → policy observations < t.actions
-  pub backed : (observations : List ℕ) → AreObservations t observations
+  pub known : (observations : List ℕ) → AreModelObservations t observations → policy observations < t.actions
+  pub backed : (observations : List ℕ) → AreModelObservations t observations
       → (pos (step_scale t * one) *ℤ sum_over_belief t (belief_after t policy belief observations) (value observations))
       ≤ℤ step_worth t (belief_after t policy belief observations) (λ z. value (observations ++ (z ∷ []))) (policy observations)
 

@@ -32,8 +32,8 @@ belief_after t policy belief [] = belief
 belief_after t policy belief (z ∷ observations) = belief_after t (λ rest. policy (z ∷ rest)) (updated t belief (policy []) z) observations
 
 -- each is an observation of the model
-abbrev pub AreObservations : CellTable → List ℕ → Type 0
-AreObservations t observations = AllByRecursion (λ z. z < t.observations) observations
+abbrev pub AreModelObservations : CellTable → List ℕ → Type 0
+AreModelObservations t observations = AllByRecursion (λ z. z < t.observations) observations
 
 -- ---- the same by histories
 
@@ -50,5 +50,5 @@ weight_of_histories t policy observations s e =
 
 -- the belief after observations is, at each state, the weight of the histories with these observations that end there
 abbrev pub AreWeightsOfHistories : CellTable → ObservationPolicy → Belief → Type 0
-AreWeightsOfHistories t policy belief = (observations : List ℕ) (e : ℕ) → AreObservations t observations → e < t.states
+AreWeightsOfHistories t policy belief = (observations : List ℕ) (e : ℕ) → AreModelObservations t observations → e < t.states
     → pos (belief_after t policy belief observations e) ≡ sum_over_belief t belief (λ s. weight_of_histories t policy observations s e)

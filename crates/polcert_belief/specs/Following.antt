@@ -5,7 +5,7 @@
 use Rattle.std.specs.Prelude.{◌≡◌, ℕ, ◌*◌, ◌^◌, ◌<◌, ℤ, pos, ◌+ℤ◌, ◌*ℤ◌, ◌≤ℤ◌, List, [], ◌∷◌, ◌++◌, map, Some}
 use Rattle.polcert_check.specs.Horizon.{Controller, one, AtMost}
 use Rattle.polcert_optimum.specs.Policy.{History, end_state, ObservationPolicy, as_policy, IsPolicyOf, step_scale, total_weight, expected_rewards, expected_total}
-use Rattle.polcert_belief.specs.Belief.{Belief, mass, sum_over_belief, belief_after, AreObservations}
+use Rattle.polcert_belief.specs.Belief.{Belief, mass, sum_over_belief, belief_after, AreModelObservations}
 
 -- A selector picks, by the observations so far, the node whose vector is followed next.
 abbrev pub Selector : Type 0
@@ -25,15 +25,15 @@ mass_after c belief selector observations = mass c.cells (belief_after c.cells (
 
 -- The selector picks a best vector at each belief: after whatever observations, no node's vector is worth more there.
 pub record PicksBest (c : Controller) (belief : Belief) (selector : Selector) : Type 0 where
-  pub are_nodes : (observations : List ℕ) → AreObservations c.cells observations → selector observations < c.nodes
-  pub none_better : (observations : List ℕ) (m : ℕ) → AreObservations c.cells observations → m < c.nodes
+  pub are_nodes : (observations : List ℕ) → AreModelObservations c.cells observations → selector observations < c.nodes
+  pub none_better : (observations : List ℕ) (m : ℕ) → AreModelObservations c.cells observations → m < c.nodes
       → worth_after c belief selector observations m ≤ℤ worth_after c belief selector observations (selector observations)
 
 -- The selector picks no worse than the graph: after each further observation a vector that is worth at least as much at the belief there
 -- as that of the successor of the node that was picked before.
 pub record PicksNoWorse (c : Controller) (belief : Belief) (selector : Selector) : Type 0 where
-  pub are_nodes : (observations : List ℕ) → AreObservations c.cells observations → selector observations < c.nodes
-  pub no_worse : (observations : List ℕ) (z m : ℕ) → AreObservations c.cells observations → z < c.cells.observations → c.next (selector observations) z ≡ Some m
+  pub are_nodes : (observations : List ℕ) → AreModelObservations c.cells observations → selector observations < c.nodes
+  pub no_worse : (observations : List ℕ) (z m : ℕ) → AreModelObservations c.cells observations → z < c.cells.observations → c.next (selector observations) z ≡ Some m
       → worth_after c belief selector (observations ++ (z ∷ [])) m ≤ℤ worth_after c belief selector (observations ++ (z ∷ [])) (selector (observations ++ (z ∷ [])))
 
 -- the value of the vector that is picked where a history from state s ends

@@ -14,10 +14,10 @@ use Rattle.polcert_check.proofs.Agreements.SameModels.{same_cells}
 use Rattle.polcert_optimum.specs.declared.fault.InformedRaiseFault.{InformedRaiseFault}
 use Rattle.polcert_optimum.specs.declared.fault.InformedRaiseFault.TheVariants.{NoConstant, OutOfRange}
 use Rattle.polcert_optimum.specs.InformedCheck.{NamesSmallExcess}
-use Rattle.polcert_optimum.specs.InformedRaise.{raised_by, IsLeastRaise, IsRaiseConstant, IsNotRaised}
+use Rattle.polcert_optimum.specs.InformedRaise.{vectors_raised_by, IsLeastInformedRaise, IsRaiseConstant, HasNoInformedRaise}
 use Rattle.polcert_answer.specs.declared.fault.RunFault.TheVariants.{Raise}
 use Rattle.polcert_answer.proofs.Denoted.{same_actions}
-use Rattle.polcert_bound_answer.specs.Raise.{HasRaisedBound, IsBoundNotRaisable, IsBoundRaiseFault, IsWhyNotRaised, raise_fault}
+use Rattle.polcert_bound_answer.specs.Raise.{HasRaisedBound, IsBoundNotRaisable, IsBoundRaiseFault, IsWhyNotBoundRaised, raise_fault}
 use Rattle.polcert_bound_answer.specs.Steps.Raising.{AreBoundRaised}
 use Rattle.polcert_bound_answer.proofs.OneAnswer.{but_for_memory}
 use Rattle.polcert_bound_answer.proofs.SameInformed.{all_there, all_back, verdict_there, informed_of}
@@ -27,11 +27,11 @@ use Rattle.polcert_bound_answer.proofs.Answering.{texts_of}
 
 -- ---- tables with the same cells have the same constants and reasons
 module _ (t u : CellTable) (same : HasSameCells t u) where
-  least_there : (vectors : ℕ → ℕ → ℤ) (by : ℕ) → IsLeastRaise t vectors by → IsLeastRaise u vectors by
+  least_there : (vectors : ℕ → ℕ → ℤ) (by : ℕ) → IsLeastInformedRaise t vectors by → IsLeastInformedRaise u vectors by
   least_there vectors by h = (
-    all_there t u same (raised_by vectors by) h.0,
+    all_there t u same (vectors_raised_by vectors by) h.0,
     λ d less informed. h.1 d less
-        (all_back t u same (raised_by vectors d) informed),
+        (all_back t u same (vectors_raised_by vectors d) informed),
   )
 
   constant_there : (v : PolicyVectors) (x : ℤ) → IsRaiseConstant t v x → IsRaiseConstant u v x
@@ -40,17 +40,17 @@ module _ (t u : CellTable) (same : HasSameCells t u) where
   small_there : (verdict : InformedVerdict) → NamesSmallExcess t verdict → NamesSmallExcess u verdict
   small_there verdict h1 = grind arith
 
-  reason_there : (v : PolicyVectors) (fault : InformedRaiseFault) → IsNotRaised t v fault → IsNotRaised u v fault
+  reason_there : (v : PolicyVectors) (fault : InformedRaiseFault) → HasNoInformedRaise t v fault → HasNoInformedRaise u v fault
   reason_there v (NoConstant a s amount) (none, is, small) = (
-    (λ by informed. none by (all_back t u same (raised_by (value_of v) by) informed)),
+    (λ by informed. none by (all_back t u same (vectors_raised_by (value_of v) by) informed)),
     verdict_there t u same (value_of v)
         (Exceeded a s amount) is,
     small_there (Exceeded a s amount) small,
   )
   reason_there v OutOfRange (by, least, no_room) = (by, least_there (value_of v) by least, no_room)
 
-why_there : (m n : Meaning) (v : PolicyVectors) → IsSame m n → (fault : RaiseFault) → IsWhyNotRaised (table_of m) v fault
-    → IsWhyNotRaised (table_of n) v fault
+why_there : (m n : Meaning) (v : PolicyVectors) → IsSame m n → (fault : RaiseFault) → IsWhyNotBoundRaised (table_of m) v fault
+    → IsWhyNotBoundRaised (table_of n) v fault
 why_there m n v same faults.Memory (by, h) = (by, constant_there (table_of m) (table_of n) (same_cells m n same) v by h)
 why_there m n v same (faults.NoConstant a s amount) (informed, is, why) =
     (informed, is, reason_there (table_of m) (table_of n) (same_cells m n same) v informed why)
@@ -67,9 +67,9 @@ module _ {model vectors : List ℕ} (m : Meaning) (v : PolicyVectors) (is : IsMo
   constant_of_each by h = of_each m v is are (λ n w. IsRaiseConstant (table_of n) w by)
       (λ n same. constant_there (table_of m) (table_of n) (same_cells m n same) v by h)
 
-  pub why_of_each : (fault : RaiseFault) → IsWhyNotRaised (table_of m) v fault → (c : BoundCertificate model vectors)
-      → IsWhyNotRaised (table_of c.meaning) c.values fault
-  why_of_each fault h = of_each m v is are (λ n w. IsWhyNotRaised (table_of n) w fault) (λ n same. why_there m n v same fault h)
+  pub why_of_each : (fault : RaiseFault) → IsWhyNotBoundRaised (table_of m) v fault → (c : BoundCertificate model vectors)
+      → IsWhyNotBoundRaised (table_of c.meaning) c.values fault
+  why_of_each fault h = of_each m v is are (λ n w. IsWhyNotBoundRaised (table_of n) w fault) (λ n same. why_there m n v same fault h)
 
   pub text_of_each : (by : ℤ) (c : BoundCertificate model vectors)
       → vectors_text (action_graph (actions_of m)) (shifted_by v by)
@@ -98,7 +98,7 @@ module _ (of_model of_vectors : List ℕ → Type 0) (m : Meaning) (v : PolicyVe
         promise = yes_certified d.first text passed;
       }
 
-  pub not_raisable : (fault : RaiseFault) → IsWhyNotRaised (table_of m) v fault → IsBoundNotRaisable of_model of_vectors fault
+  pub not_raisable : (fault : RaiseFault) → IsWhyNotBoundRaised (table_of m) v fault → IsBoundNotRaisable of_model of_vectors fault
   not_raisable fault why = record {
     texts = texts_of of_model of_vectors m v d;
     reason =
@@ -106,8 +106,8 @@ module _ (of_model of_vectors : List ℕ → Type 0) (m : Meaning) (v : PolicyVe
   }
 
 -- why vectors are not raised
-pub why_of : (t : CellTable) (v : PolicyVectors) (informed : InformedRaiseFault) → IsNotRaised t v informed
-    → IsWhyNotRaised t v (raise_fault informed)
+pub why_of : (t : CellTable) (v : PolicyVectors) (informed : InformedRaiseFault) → HasNoInformedRaise t v informed
+    → IsWhyNotBoundRaised t v (raise_fault informed)
 why_of t v informed h1 = grind arith
 
 -- the least constant leaves every value in range
@@ -119,7 +119,7 @@ pub raised_informed : (t : CellTable) (v : PolicyVectors) (by : ℤ) → FitActi
     → ((n s : ℕ) → n < v.nodes → s < v.states → value_of (shifted_by v by) n s ≡ value_of v n s +ℤ by)
     → AreInformed t (value_of (shifted_by v by))
 raised_informed t v by fit (k, is, least, room) shifted =
-    informed_of t (raised_by (value_of v) k) (value_of (shifted_by v by))
+    informed_of t (vectors_raised_by (value_of v) k) (value_of (shifted_by v by))
     (λ a s al sl. ap (λ (x : ℤ). value_of v a s +ℤ x) (sym is)
     ∙ sym (shifted a s (subst (λ (n : ℕ). a < n) (sym fit.actions) al) (subst (λ (n : ℕ). s < n) (sym fit.states) sl)))
     least.0

@@ -11,7 +11,7 @@ use Rattle.polcert_optimum.specs.declared.verdict.InformedVerdict.{InformedVerdi
 use Rattle.polcert_optimum.specs.declared.verdict.InformedVerdict.TheVariants.{Yes}
 use Rattle.polcert_optimum.specs.declared.fault.InformedRaiseFault.{InformedRaiseFault}
 use Rattle.polcert_optimum.specs.declared.fault.InformedRaiseFault.TheVariants.{NoConstant, OutOfRange}
-use Rattle.polcert_optimum.specs.InformedRaise.{IsRaiseConstant, IsNotRaised}
+use Rattle.polcert_optimum.specs.InformedRaise.{IsRaiseConstant, HasNoInformedRaise}
 use Rattle.polcert_answer.specs.declared.fault.Fault.{Fault}
 use Rattle.polcert_answer.specs.declared.fault.RunFault.{RunFault}
 use Rattle.polcert_answer.specs.declared.fault.RunFault.TheVariants.{Raise}
@@ -33,9 +33,9 @@ raise_fault (NoConstant a s amount) = raises.NoConstant a s amount
 raise_fault OutOfRange = raises.OutOfRange
 
 -- a reason of the definition, or out of memory if there is a constant
-abbrev pub IsWhyNotRaised : CellTable → PolicyVectors → RaiseFault → Type 0
-IsWhyNotRaised t v raises.Memory = (by : ℤ) × IsRaiseConstant t v by
-IsWhyNotRaised t v fault = (informed : InformedRaiseFault) × (fault ≡ raise_fault informed) × IsNotRaised t v informed
+abbrev pub IsWhyNotBoundRaised : CellTable → PolicyVectors → RaiseFault → Type 0
+IsWhyNotBoundRaised t v raises.Memory = (by : ℤ) × IsRaiseConstant t v by
+IsWhyNotBoundRaised t v fault = (informed : InformedRaiseFault) × (fault ≡ raise_fault informed) × HasNoInformedRaise t v informed
 
 module _ (of_model of_vectors : List ℕ → Type 0) where
   -- This is the least constant by which the vectors of the second source can be raised to pass, and the text is the full form of the
@@ -53,4 +53,4 @@ module _ (of_model of_vectors : List ℕ → Type 0) where
   -- such a constant, and memory ran out.
   pub record IsBoundNotRaisable (fault : RaiseFault) : Type 0 where
     pub texts : AreBoundTexts of_model of_vectors
-    pub reason : (c : BoundCertificate texts.model texts.vectors) → IsWhyNotRaised (table_of c.meaning) c.values fault
+    pub reason : (c : BoundCertificate texts.model texts.vectors) → IsWhyNotBoundRaised (table_of c.meaning) c.values fault

@@ -4,7 +4,7 @@ ghost use Rattle.polcert_model.specs.Contents.{meaning};
 ghost use Rattle.polcert_cells.specs.Tables.{table_of};
 ghost use Rattle.polcert_policy.specs.Vectors.{value_of};
 ghost use Rattle.polcert_optimum.specs.InformedCheck.{FitActions, IsInformedVerdict, NamesSmallExcess};
-ghost use Rattle.polcert_bound_answer.specs.Lines.{bound_line, exceeded_line, line_text, IsBoundLine};
+ghost use Rattle.polcert_bound_answer.specs.Lines.{bound_line, exceeded_line, bound_line_text, IsBoundLine};
 
 use polcert_answer::write_count;
 use polcert_check::millionths_short;
@@ -33,7 +33,7 @@ pub fn line_of_verdict(model: &Model, vectors: &Vectors, verdict: InformedVerdic
     requires fit { FitActions (table_of (meaning model.now)) vectors.now }
     requires verdict { IsInformedVerdict (table_of (meaning model.now)) (value_of vectors.now) verdict }
     requires small { NamesSmallExcess (table_of (meaning model.now)) verdict }
-    ensures { IsBoundLine (meaning model.now) vectors.now verdict (line_text result) }
+    ensures { IsBoundLine (meaning model.now) vectors.now verdict (bound_line_text result) }
 {
     match verdict {
         InformedVerdict::Yes => {
@@ -53,7 +53,7 @@ pub fn line_of_verdict(model: &Model, vectors: &Vectors, verdict: InformedVerdic
 
 /// Writes the line of a verdict, through a buffer.
 pub fn write_verdict<W: Sink>(line: BoundLine, sink: &mut W) -> Result<(), SinkFailed>
-    ensures { WritesText W.writes W.failures sink.old (line_text line) result sink.new }
+    ensures { WritesText W.writes W.failures sink.old (bound_line_text line) result sink.new }
 {
     let mut buffered = BufferedSink::new(sink);
     write_line(line, &mut buffered)?;
@@ -61,7 +61,7 @@ pub fn write_verdict<W: Sink>(line: BoundLine, sink: &mut W) -> Result<(), SinkF
 }
 
 fn write_line<W: Sink>(line: BoundLine, sink: &mut W) -> Result<(), SinkFailed>
-    ensures { WritesText W.writes W.failures sink.old (line_text line) result sink.new }
+    ensures { WritesText W.writes W.failures sink.old (bound_line_text line) result sink.new }
 {
     match line {
         BoundLine::AtMost { most } => write_at_most(most, sink),

@@ -11,7 +11,7 @@ ghost use Rattle.polcert_optimum.specs.InformedCheck.{FitActions};
 ghost use Rattle.polcert_optimum.specs.InformedRaise.{IsRaiseConstant};
 ghost use Rattle.polcert_answer.specs.Run.{WritesAnswer, IsNamedRightly, text_of};
 ghost use Rattle.polcert_bound_answer.specs.Run.{StopsBoundRightly};
-ghost use Rattle.polcert_bound_answer.specs.Raise.{HasRaisedBound, IsBoundNotRaisable, IsBoundRaiseFault, IsWhyNotRaised, raise_fault};
+ghost use Rattle.polcert_bound_answer.specs.Raise.{HasRaisedBound, IsBoundNotRaisable, IsBoundRaiseFault, IsWhyNotBoundRaised, raise_fault};
 ghost use Rattle.polcert_bound_answer.specs.Steps.Reading.{IsBoundWriteFault};
 ghost use Rattle.polcert_bound_answer.specs.Steps.Raising.{AreBoundRaised};
 
@@ -72,7 +72,7 @@ fn write_raised_vectors<W: Sink>(
     ensures raised { WritesAnswer W.writes (AreBoundRaised (meaning given.now.model) given.now.vectors)
         result sink.old sink.new }
     ensures not_raised { (fault : RaiseFault) → IsErrOf result (RunFault.Raise fault)
-        → IsWhyNotRaised (table_of (meaning given.now.model)) given.now.vectors fault }
+        → IsWhyNotBoundRaised (table_of (meaning given.now.model)) given.now.vectors fault }
     ensures write { IsNamedRightly (IsErrOf result RunFault.Write)
         (W.failures sink.old) (W.failures sink.new) }
     ensures untouched { (fault : RunFault) → IsErrOf result fault

@@ -14,7 +14,8 @@ pub use Rattle.polcert_check.specs.Above.{IsAboveVerdict, MeetsHorizonAbove, Nam
 pub use Rattle.polcert_check.specs.Above.{RewardPromiseAbove}
 pub use Rattle.polcert_check.specs.Horizon.{AtMost, Controller, HasCutRun, IsRunInRange, MeetsEveryHorizon, MeetsHorizon, Promise}
 pub use Rattle.polcert_check.specs.Horizon.{RewardPromise, controller_of, end_value, is_cut, pairs, reward_part, rewards, rewards_sum, runs}
-pub use Rattle.polcert_check.specs.Horizon.{step_scale, step_weight, sum_over, total, total_below, uncut, weight, weights_sum, worth_sum}
+pub use Rattle.polcert_check.specs.Horizon.{step_scale, step_weight, sum_over, total, total_below, uncut, run_weight, weights_sum}
+pub use Rattle.polcert_check.specs.Horizon.{worth_sum}
 unfoldable pub use Rattle.polcert_check.specs.Horizon.{one}
 pub use Rattle.polcert_check.specs.Lower.{CanLower, IsFirstLack, IsFirstShort, IsLeast, IsLeastConstant, IsNotLowered, IsNotMended}
 pub use Rattle.polcert_check.specs.Lower.{NoneLacks, RefusesSmallAmount, lowered_by}
@@ -24,10 +25,10 @@ unfoldable pub use Rattle.polcert_check.specs.Shortfall.{largest_amount}
 pub use Rattle.polcert_check.specs.StartMost.{IsStartMost, StartPromiseAbove}
 pub use Rattle.polcert_check.specs.StartWorth.{IsBestStart, IsCeilQuotient, IsFirstGreatest, IsFloorQuotient, IsStartWorth, StartPromise}
 pub use Rattle.polcert_check.specs.StartWorth.{start_sum}
-pub use Rattle.polcert_check.specs.Steps.CheckInput.{checked_controller, controller}
+pub use Rattle.polcert_check.specs.Steps.CheckInput.{checked_controller, input_controller}
 pub use Rattle.polcert_check.specs.Steps.Exceptions.{AreBefore, AreExcepted, IsWeighed, row_weight, weighed_total}
-pub use Rattle.polcert_check.specs.Steps.Factored.{AreKnown, IsLeastOf, IsPairVerdict, Misses, expected_reward, expected_value}
-pub use Rattle.polcert_check.specs.Steps.Factored.{reward_at_end, value_at_end, value_term}
+pub use Rattle.polcert_check.specs.Steps.Factored.{AreKnown, IsLeastOf, IsPairVerdict, Misses, factored_reward, factored_value}
+pub use Rattle.polcert_check.specs.Steps.Factored.{reward_at_end, factored_value_at_end, value_term}
 pub use Rattle.polcert_check.specs.Steps.Findings.{IsFirstOf, IsFound, IsFoundBefore, IsPair, IsVerdictFor, IsWalked, IsWorstOf}
 pub use Rattle.polcert_check.specs.Steps.FollowedCells.{followed, followed_is_proper, followed_is_within}
 pub use Rattle.polcert_check.specs.Steps.Mirrored.{CanMove, IsLeastMove, mirrored, sided, signed_from}

@@ -6,13 +6,13 @@ use Rattle.polcert_policy.specs.Graphs.{PolicyGraph, nodes}
 use Rattle.polcert_policy.specs.Vectors.{PolicyVectors, value_of}
 use Rattle.polcert_check.specs.declared.above.AboveVerdict.{AboveVerdict}
 use Rattle.polcert_check.specs.declared.above.AboveVerdict.TheVariants.{Yes, Long, NoSuccessor}
-use Rattle.polcert_check.specs.Horizon.{Controller, Fits, controller_of, one, step_scale, runs, is_cut, weight, weights_sum, worth_sum, rewards_sum, HasCutRun}
+use Rattle.polcert_check.specs.Horizon.{Controller, Fits, controller_of, one, step_scale, runs, is_cut, run_weight, weights_sum, worth_sum, rewards_sum, HasCutRun}
 use Rattle.polcert_check.specs.Shortfall.{short, most_short, Lacks, Passes}
 use Rattle.polcert_check.specs.Verdict.{IsBefore, IsLeastLacking}
 
 -- From n and s each cut run of k steps weighs nothing, and the others are worth at most the vector's value.
 pub record PromiseAbove (c : Controller) (k n s : ℕ) : Type 0 where
-  pub cut_runs : All (λ run. IsTrue (is_cut c (Some n) run) → weight c (Some n) s run ≡ 0) (runs c.cells k)
+  pub cut_runs : All (λ run. IsTrue (is_cut c (Some n) run) → run_weight c (Some n) s run ≡ 0) (runs c.cells k)
   pub uncut_runs : worth_sum c k (Some n) s ≤ℤ (pos (step_scale c ^ k * one ^ k) *ℤ c.value n s)
 
 -- no vector value is below m

@@ -38,13 +38,14 @@ pub(crate) struct CheckInput<'a, C: Cells> {
 }
 
 impl<'a, C: Cells> CheckInput<'a, C> {
-    ghost use Rattle.polcert_check.specs.Steps.CheckInput.{controller, checked_controller};
+    ghost use Rattle.polcert_check.specs.Steps.CheckInput.{input_controller, checked_controller};
     ghost use Rattle.polcert_check.specs.Steps.Mirrored.{sided};
 
     /// Joins parts that fit, whose values are bounds from this side.
     pub(crate) fn new(side: Side, cells: &'a C, graph: &'a Graph, vectors: &'a Vectors) -> Self
         requires { Fits (C.table cells.now) graph.now vectors.now }
-        ensures controller { controller result ≡ controller_of (C.table cells.now) graph.now vectors.now }
+        ensures controller { input_controller result
+            ≡ controller_of (C.table cells.now) graph.now vectors.now }
         ensures checked_controller { checked_controller result ≡ sided side
             (controller_of (C.table cells.now) graph.now vectors.now) }
         ensures side { result.side ≡ side }

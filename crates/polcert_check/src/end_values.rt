@@ -7,7 +7,7 @@ ghost use Rattle.polcert_cells.specs.Sparse.{IsRow, scaled_cells};
 ghost use Rattle.polcert_check.specs.Steps.Node.{node_controller};
 ghost use Rattle.polcert_check.specs.Steps.Factored.{value_term, IsMissedAt, IsMinOption, HasSameRows};
 ghost use Rattle.polcert_check.specs.Steps.Values.{IsCompleteValue, IsEndValue, IsExpectedValue};
-ghost use Rattle.polcert_check.specs.Steps.CheckInput.{controller};
+ghost use Rattle.polcert_check.specs.Steps.CheckInput.{input_controller};
 ghost use Rattle.polcert_check.specs.Steps.Products.{number_term};
 ghost use Rattle.polcert_check.specs.Steps.FollowedCells.{followed, followed_is_proper, followed_is_within};
 
@@ -468,15 +468,15 @@ pub fn next_observation<C: Cells>(
 pub(crate) struct FollowedCells<'a, C: Cells> {
     pub input: &'a CheckInput<'a, C>,
     pub n: usize,
-    ghost node: { n < (controller input.now).nodes },
+    ghost node: { n < (input_controller input.now).nodes },
 }
 
 impl<C: Cells> Cells for FollowedCells<'_, C> {
-    ghost table = { λ x. followed (controller x.input.now) x.n };
+    ghost table = { λ x. followed (input_controller x.input.now) x.n };
 
-    ghost is_proper = { λ x. followed_is_proper (controller x.input.now) x.n x.input.now.proper.cells };
+    ghost is_proper = { λ x. followed_is_proper (input_controller x.input.now) x.n x.input.now.proper.cells };
 
-    ghost is_within_limits = { λ x. followed_is_within (controller x.input.now) x.n (C.is_within_limits x.input.now.cells.now) };
+    ghost is_within_limits = { λ x. followed_is_within (input_controller x.input.now) x.n (C.is_within_limits x.input.now.cells.now) };
 
     fn states(&self) -> usize {
         self.input.cells.states()

@@ -3,7 +3,7 @@ ghost use Rattle.std.specs.Prelude.{◌≡◌, ℕ, ◌*◌, ◌^◌, ◌<◌, �
 ghost use Rattle.std.specs.Prelude.{slice_index_or};
 ghost use Rattle.polcert_check.specs.Steps.Exceptions.{AreBefore, AreExcepted, row_weight, weighed_total};
 ghost use Rattle.polcert_check.specs.Steps.Ranges.{most_sum};
-ghost use Rattle.polcert_check.specs.Steps.Factored.{reward_at_end, expected_reward, AreKnown, AreAtEnds};
+ghost use Rattle.polcert_check.specs.Steps.Factored.{reward_at_end, factored_reward, AreKnown, AreAtEnds};
 ghost use Rattle.polcert_cells.specs.declared.elements.TheConstants.{MOST_STATES, MOST_OBSERVATIONS};
 ghost use Rattle.polcert_cells.specs.CommonRewards.{cell_at, AreEndRewards, AreOrdered, IsCommonReward};
 ghost use Rattle.std.specs.Option.{ForSome};
@@ -150,7 +150,7 @@ fn sum_excepted<F: Fn(usize) -> u64>(
 fn sum_over_ends<C: Cells>(cells: &C, a: usize, s: usize, buffer: &mut RewardBuffer) -> i128
     requires action { a < (C.table cells.now).actions }
     requires start { s < (C.table cells.now).states }
-    ensures { result ≡ expected_reward (C.table cells.now) a s }
+    ensures { result ≡ factored_reward (C.table cells.now) a s }
 {
     let mut sum: i128 = 0;
     let row = cells.t_row(a, s);
@@ -193,7 +193,7 @@ fn count_ends<C: Cells>(cells: &C, a: usize, s: usize) -> usize
 fn sum_row<C: Cells>(cells: &C, a: usize, s: usize, exceptions: &mut [RewardCell]) -> Option<i128>
     requires action { a < (C.table cells.now).actions }
     requires start { s < (C.table cells.now).states }
-    ensures { ForSome result (λ sum. sum ≡ expected_reward (C.table cells.now) a s) }
+    ensures { ForSome result (λ sum. sum ≡ factored_reward (C.table cells.now) a s) }
 {
     let ends = count_ends(cells, a, s);
     // (The rewards at one end state are asked for as fast.)
@@ -217,7 +217,7 @@ fn sum_row<C: Cells>(cells: &C, a: usize, s: usize, exceptions: &mut [RewardCell
 fn sum_ends<C: Cells>(cells: &C, a: usize, s: usize, exceptions: &mut [RewardCell]) -> Option<i128>
     requires action { a < (C.table cells.now).actions }
     requires start { s < (C.table cells.now).states }
-    ensures { ForSome result (λ sum. sum ≡ expected_reward (C.table cells.now) a s) }
+    ensures { ForSome result (λ sum. sum ≡ factored_reward (C.table cells.now) a s) }
 {
     let most = exceptions
         .len()
@@ -238,7 +238,7 @@ fn sum_listed<C: Cells>(
     requires action { a < (C.table cells.now).actions }
     requires start { s < (C.table cells.now).states }
     requires rewards { AreEndRewards (C.table cells.now) a s common listed.now }
-    ensures { result ≡ expected_reward (C.table cells.now) a s }
+    ensures { result ≡ factored_reward (C.table cells.now) a s }
 {
     let scale = cells.o_scale();
     let mut sum: i128 = 0;
@@ -292,7 +292,7 @@ fn listed_reward(common: CommonReward, listed: &[RewardCell], place: usize, e: u
 pub fn expected_reward<C: Cells>(cells: &C, a: usize, s: usize, buffer: &mut RewardBuffer) -> i128
     requires action { a < (C.table cells.now).actions }
     requires start { s < (C.table cells.now).states }
-    ensures { result ≡ expected_reward (C.table cells.now) a s }
+    ensures { result ≡ factored_reward (C.table cells.now) a s }
 {
     match sum_ends(cells, a, s, &mut buffer.exceptions) {
         Some(sum) => sum,
@@ -304,7 +304,7 @@ pub fn expected_reward<C: Cells>(cells: &C, a: usize, s: usize, buffer: &mut Rew
 fn sum_by_observation<C: Cells>(cells: &C, a: usize, s: usize, buffer: &mut RewardBuffer) -> i128
     requires action { a < (C.table cells.now).actions }
     requires start { s < (C.table cells.now).states }
-    ensures { result ≡ expected_reward (C.table cells.now) a s }
+    ensures { result ≡ factored_reward (C.table cells.now) a s }
 {
     match cells.r_constant(a, s) {
         Some(reward) => {
@@ -339,7 +339,7 @@ impl Earnings {
     pub(crate) fn begin<C: Cells>(&mut self, cells: &C, a: usize, at_ends: &mut [i128])
         requires action { a < (C.table cells.now).actions }
         requires room { MOST_STATES ≤ length at_ends.old }
-        ensures { AreKnown (expected_reward (C.table cells.now) a) (C.table cells.now).states
+        ensures { AreKnown (factored_reward (C.table cells.now) a) (C.table cells.now).states
             self.new.rewards }
     {
         clear_numbers(&mut self.rewards, cells.states());
@@ -353,9 +353,9 @@ impl Earnings {
         requires action { a < (C.table cells.now).actions }
         requires first { first < (C.table cells.now).states }
         requires room { MOST_STATES ≤ length at_ends.old }
-        requires known { AreKnown (expected_reward (C.table cells.now) a) (C.table cells.now).states
+        requires known { AreKnown (factored_reward (C.table cells.now) a) (C.table cells.now).states
             self.old.rewards }
-        ensures { AreKnown (expected_reward (C.table cells.now) a) (C.table cells.now).states
+        ensures { AreKnown (factored_reward (C.table cells.now) a) (C.table cells.now).states
             self.new.rewards }
     {
         clear_numbers(at_ends, cells.states());
@@ -377,10 +377,10 @@ impl Earnings {
     ) -> i128
         requires action { a < (C.table cells.now).actions }
         requires start { s < (C.table cells.now).states }
-        requires known { AreKnown (expected_reward (C.table cells.now) a) (C.table cells.now).states
+        requires known { AreKnown (factored_reward (C.table cells.now) a) (C.table cells.now).states
             self.old.rewards }
-        ensures reward { result ≡ expected_reward (C.table cells.now) a s }
-        ensures known { AreKnown (expected_reward (C.table cells.now) a) (C.table cells.now).states
+        ensures reward { result ≡ factored_reward (C.table cells.now) a s }
+        ensures known { AreKnown (factored_reward (C.table cells.now) a) (C.table cells.now).states
             self.new.rewards }
     {
         if self.rewards[s] == UNKNOWN {
@@ -514,7 +514,7 @@ pub(crate) fn sum_at_ends<C: Cells>(cells: &C, a: usize, s: usize, at_ends: &[i1
     requires start { s < (C.table cells.now).states }
     requires room { (C.table cells.now).states ≤ length at_ends.now }
     requires found { AreAtEnds (C.table cells.now) a s at_ends.now }
-    ensures { result ≡ expected_reward (C.table cells.now) a s }
+    ensures { result ≡ factored_reward (C.table cells.now) a s }
 {
     let mut sum: i128 = 0;
     let row = cells.t_row(a, s);

@@ -6,7 +6,7 @@ ghost use Rattle.polcert_check.specs.Horizon.{Fits, controller_of, one};
 ghost use Rattle.polcert_check.specs.Lower.{NoneLacks, IsLeast, IsLeastConstant, IsNotMended, IsNotLowered, RefusesSmallAmount, IsLowered, RefusesToLower};
 ghost use Rattle.polcert_check.specs.Steps.Leasts.{IsLowerAnswer};
 ghost use Rattle.polcert_check.specs.Steps.Mirrored.{CanMove, IsLeastMove};
-ghost use Rattle.polcert_check.specs.Steps.Findings.{IsFound, IsPair, IsRefused, IsWorstOf};
+ghost use Rattle.polcert_check.specs.Steps.Findings.{IsFound, IsPair, IsLowerRefusal, IsWorstOf};
 ghost use Rattle.polcert_check.specs.declared.findings.Mode.TheVariants.{Lowering};
 ghost use Rattle.polcert_check.specs.declared.survey.Verdict.TheVariants.{Yes};
 
@@ -56,7 +56,7 @@ fn candidate<C: Cells>(input: &CheckInput<'_, C>, worst: u128) -> u128
 /// Returns the reason why vectors with this verdict are not lowered, if no lowering changes it.
 fn refused(verdict: Verdict) -> Result<(), LowerFault>
     ensures passes { IfOk result (λ _. verdict ≡ Yes) }
-    ensures refused { IfErr result (IsRefused verdict) }
+    ensures refused { IfErr result (IsLowerRefusal verdict) }
 {
     match verdict {
         Verdict::Yes => Ok(()),

@@ -1,7 +1,7 @@
 //! A node of a certificate's graph.
 ghost use Rattle.std.specs.Prelude.{◌≡◌, ◌<◌};
 ghost use Rattle.polcert_policy.specs.Graphs.{IsBelow};
-ghost use Rattle.polcert_check.specs.Steps.CheckInput.{controller};
+ghost use Rattle.polcert_check.specs.Steps.CheckInput.{input_controller};
 
 use crate::check_input::CheckInput;
 use polcert_model::Cells;
@@ -11,7 +11,7 @@ use polcert_model::Cells;
 pub(crate) struct Node<'a, C: Cells> {
     pub input: CheckInput<'a, C>,
     pub n: usize,
-    ghost within: { n < (controller input).nodes },
+    ghost within: { n < (input_controller input).nodes },
 }
 
 impl<C: Cells> Node<'_, C> {

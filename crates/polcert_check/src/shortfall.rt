@@ -5,7 +5,7 @@ ghost use Rattle.polcert_check.specs.Steps.Mirrored.{signed_from};
 ghost use Rattle.polcert_policy.specs.Graphs.{nodes};
 ghost use Rattle.polcert_check.specs.Horizon.{Fits, controller_of, one};
 ghost use Rattle.polcert_check.specs.Shortfall.{most_short, short};
-ghost use Rattle.polcert_check.specs.Steps.Factored.{expected_reward, IsPairVerdict};
+ghost use Rattle.polcert_check.specs.Steps.Factored.{factored_reward, IsPairVerdict};
 ghost use Rattle.polcert_check.specs.Steps.FollowedCells.{followed};
 ghost use Rattle.polcert_check.specs.Steps.Node.{node_controller};
 ghost use Rattle.polcert_text.specs.Numbers.{largest};
@@ -26,7 +26,7 @@ use polcert_policy::{Graph, Vectors};
 /// Returns the reward that a node expects at state `s`, without the observations for which it has no successor.
 fn followed_reward<C: Cells>(node: &Node<'_, C>, s: usize) -> i128
     requires start { s < (node_controller node.now).cells.states }
-    ensures { result ≡ expected_reward (followed (node_controller node.now) node.now.n)
+    ensures { result ≡ factored_reward (followed (node_controller node.now) node.now.n)
         ((node_controller node.now).action node.now.n) s }
 {
     let cells = FollowedCells {
@@ -163,7 +163,7 @@ pub(crate) fn pair_verdict<C: Cells>(
     requires start { s < (node_controller node.now).cells.states }
     requires value { value ≡ (node_controller node.now).value node.now.n s }
     requires reward { reward
-        ≡ expected_reward (node_controller node.now).cells ((node_controller node.now).action node.now.n) s }
+        ≡ factored_reward (node_controller node.now).cells ((node_controller node.now).action node.now.n) s }
     requires expected { IsExpectedValue (node_controller node.now) node.now.n s expected }
     ensures { IsPairVerdict (checked_controller node.now.input) node.now.n s result }
 {

@@ -2,13 +2,13 @@
 ghost use Rattle.polcert_check.specs.Horizon.{Fits, controller_of, MeetsHorizon};
 ghost use Rattle.polcert_check.specs.Verdict.{IsVerdict, NamesSmallAmount};
 ghost use Rattle.std.specs.Prelude.{◌≡◌, ◌+◌, ◌<◌, ◌*◌, ◌≤◌, IfSome, None, ℕ, length};
-ghost use Rattle.polcert_check.specs.Steps.CheckInput.{controller, checked_controller};
+ghost use Rattle.polcert_check.specs.Steps.CheckInput.{input_controller, checked_controller};
 ghost use Rattle.polcert_check.specs.Steps.Findings.{IsFound, IsFoundBefore, IsPair, PassUntil};
 ghost use Rattle.polcert_check.specs.Steps.Node.{node_controller};
 ghost use Rattle.polcert_check.specs.Steps.Survey.{IsOfAction};
 ghost use Rattle.polcert_policy.specs.Vectors.{AreProperVectors};
 ghost use Rattle.polcert_check.specs.Steps.Ranges.{IsController, ValuesAreWithin};
-ghost use Rattle.polcert_check.specs.Steps.Factored.{expected_reward, AreKnown, HasSameRows, IsPairVerdict};
+ghost use Rattle.polcert_check.specs.Steps.Factored.{factored_reward, AreKnown, HasSameRows, IsPairVerdict};
 ghost use Rattle.polcert_check.specs.Steps.Values.{AreEndValues, IsExpectedValue};
 
 use crate::check_input::CheckInput;
@@ -317,7 +317,7 @@ pub(crate) fn first_failure<C: Cells, F: Fn(usize) -> PartialValue>(
 ) -> StateVerdict
     requires from { from < (node_controller node.now).cells.states }
     requires room { (node_controller node.now).cells.states ≤ length rewards.now }
-    requires rewards { AreKnown (expected_reward (node_controller node.now).cells
+    requires rewards { AreKnown (factored_reward (node_controller node.now).cells
         ((node_controller node.now).action node.now.n)) (node_controller node.now).cells.states rewards.now }
     requires callable { (s : ℕ) → s < (node_controller node.now).cells.states → F.pre value_of s }
     requires value { (s : ℕ) (part : _) → s < (node_controller node.now).cells.states

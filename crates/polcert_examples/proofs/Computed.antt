@@ -1,7 +1,7 @@
 -- What the numerals and names of the worked texts are, computed.
 use Rattle.std.proofs.Common.{ℕ, Bool, true, false, List, ℤ, pos, codes, arith}
 use Rattle.polcert_text.specs.Bytes.{is_digit, is_point, is_sign, is_exponent_mark}
-use Rattle.polcert_text.specs.Numbers.{number_of, exponent_size, power_of, size_of, millionth}
+use Rattle.polcert_text.specs.Numbers.{significand, exponent_size, power_of, size_of, millionth}
 use Rattle.polcert_cells.specs.Numbers.{IsMillionths}
 use Rattle.polcert_examples.proofs.Common.{IsName, topic_of, name, whole, numeral_at, minus_whole}
 use Rattle.polcert_cells.specs.Words.{is_reserved}
@@ -23,7 +23,7 @@ pub record Numerals : Type 0 where
   pub n_0_15 : Is false (codes "0.15") (pos 150_000)
 
 pub numerals : Numerals
-unfolding is_sign is_digit is_point is_exponent_mark number_of exponent_size power_of size_of millionth
+unfolding is_sign is_digit is_point is_exponent_mark significand exponent_size power_of size_of millionth
 numerals = grind arith
 
 pub record Names : Type 0 where

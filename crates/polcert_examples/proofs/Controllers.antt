@@ -1,7 +1,7 @@
 -- The definitions at small controllers, computed.
 use Rattle.std.proofs.Common.{◌≡◌, ◌*◌, ◌^◌, pos, neg_ℤ, true, Some, [], ◌∷◌, refl}
 use Rattle.polcert_examples.proofs.Common.{one}
-use Rattle.polcert_check.specs.Horizon.{runs, is_cut, weight, weights_sum, worth_sum}
+use Rattle.polcert_check.specs.Horizon.{runs, is_cut, run_weight, weights_sum, worth_sum}
 use Rattle.polcert_check.specs.Shortfall.{short}
 use Rattle.polcert_check.specs.Lower.{lowered_by}
 use Rattle.polcert_examples.specs.Worked.Controllers.{one_state, one_node, half_followed}
@@ -29,7 +29,7 @@ two_runs = refl
 pub second_is_cut : is_cut (half_followed (pos 0)) (Some 0) ((0, 1) ∷ []) ≡ true
 second_is_cut = refl
 
-pub half_is_lost : weight (half_followed (pos 0)) (Some 0) 0 ((0, 1) ∷ []) ≡ 10 ^ 12
+pub half_is_lost : run_weight (half_followed (pos 0)) (Some 0) 0 ((0, 1) ∷ []) ≡ 10 ^ 12
 half_is_lost = refl
 
 pub half_is_left : weights_sum (half_followed (pos 0)) 1 (Some 0) 0 ≡ pos (10 ^ 12)

@@ -5,7 +5,7 @@ use Rattle.polcert_check.specs.Above.{PassesAbove}
 use Rattle.polcert_check.specs.Shortfall.{Passes, short}
 use Rattle.polcert_check.proofs.Sums.Ring.{linear, ≤ℤ_from_eq}
 use Rattle.polcert_optimum.specs.Policy.{ObservationPolicy, as_policy, expected_total}
-use Rattle.polcert_belief.specs.Belief.{Belief, belief_after, updated, sum_over_belief, AreObservations}
+use Rattle.polcert_belief.specs.Belief.{Belief, belief_after, updated, sum_over_belief, AreModelObservations}
 use Rattle.polcert_belief.specs.Following.{PicksBest, policy_of, value_at_end, worth_after}
 use Rattle.polcert_examples.specs.Worked.Doors.{even_belief, one_door, other_door, seen_door, two_doors}
 
@@ -73,7 +73,7 @@ picks_node [] = omega arith
 picks_node (zero ∷ observations) = omega arith
 picks_node (suc z ∷ observations) = omega arith
 
-none_better : (observations : List ℕ) (m : ℕ) → AreObservations two_doors observations → m < 2
+none_better : (observations : List ℕ) (m : ℕ) → AreModelObservations two_doors observations → m < 2
     → worth_after one_door even_belief seen_door observations m ≤ℤ worth_after one_door even_belief seen_door observations
     (seen_door observations)
 none_better [] zero f ml = omega arith

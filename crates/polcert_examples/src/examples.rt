@@ -7,7 +7,7 @@ ghost use Rattle.polcert_format.specs.Text.{Denotes};
 ghost use Rattle.polcert_format.specs.declared.fault.ItemFault.TheVariants.{DiscountRange};
 ghost use Rattle.polcert_format.specs.Refusals.{IsItemRefusal};
 ghost use Rattle.polcert_format.specs.FullForm.{full_form};
-ghost use Rattle.polcert_check.specs.Horizon.{runs, is_cut, weight, weights_sum, worth_sum};
+ghost use Rattle.polcert_check.specs.Horizon.{runs, is_cut, run_weight, weights_sum, worth_sum};
 ghost use Rattle.polcert_check.specs.Shortfall as step;
 ghost use Rattle.polcert_check.specs.Lower.{lowered_by};
 ghost use Rattle.polcert_optimum.specs.Policy.{as_policy, expected_rewards};
@@ -107,7 +107,7 @@ pub fn minus_one_for_each_step()
 pub fn a_missing_successor()
     ensures runs { runs (half_followed (pos 0)).cells 1 ≡ ((0, 0) ∷ []) ∷ ((0, 1) ∷ []) ∷ [] }
     ensures cut { is_cut (half_followed (pos 0)) (Some 0) ((0, 1) ∷ []) ≡ true }
-    ensures lost { weight (half_followed (pos 0)) (Some 0) 0 ((0, 1) ∷ []) ≡ 10 ^ 12 }
+    ensures lost { run_weight (half_followed (pos 0)) (Some 0) 0 ((0, 1) ∷ []) ≡ 10 ^ 12 }
     ensures left { weights_sum (half_followed (pos 0)) 1 (Some 0) 0 ≡ pos (10 ^ 12) }
 {}
 

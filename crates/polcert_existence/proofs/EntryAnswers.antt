@@ -30,19 +30,21 @@ use Rattle.polcert_format.specs.declared.fault.ItemFault.TheVariants as faults
 use Rattle.polcert_format.specs.KnownPreamble.{preamble_in, indices_in}
 use Rattle.polcert_format.specs.Misfits.{Expected, Mark, Index, EndOfWord, EndOfNumbers, IsMisfit, of_place, unexpected_token, misfit_at}
 use Rattle.polcert_format.specs.Misfits.{tests_value, begins_number}
-use Rattle.polcert_format.specs.Reasons.{is_sign}
+use Rattle.polcert_format.specs.Reasons.{is_sign_kind}
 use Rattle.polcert_format.specs.Text.{ModelSoFar}
 use Rattle.polcert_format.specs.Wants.{least_written, numbers_want, place_wants}
 use Rattle.polcert_format.specs.Wants as wants
 use Rattle.polcert_format.proofs.FurtherNumbers.{begins_no_number}
 use Rattle.polcert_items.specs.Steps.Entries.{IsFirstPlace, NumberListGoes, StateGoes, EntryGoes, HasRoom, IsStateWithin, IsWithinIndices}
 use Rattle.polcert_items.specs.Steps.Entries.{entry_sign, IsPlaceReason, IsFull, IsListReason, no_number, no_further, IsEntryReason}
-use Rattle.polcert_items.specs.Steps.Entries.{no_place, no_probability, no_reward, word_text, body_of, IsWordAfter, no_numbers, AreBegun}
+use Rattle.polcert_items.specs.Steps.Entries.{no_place, no_probability, no_reward, word_text, body_of_word, IsWordAfter, no_numbers}
+use Rattle.polcert_items.specs.Steps.Entries.{AreBegun}
 use Rattle.polcert_items.specs.Steps.Entries.{CannotBegin, entry_with, AreSome}
-use Rattle.polcert_items.specs.Steps.Lines.{Takes, CannotTake, CannotEnd}
-use Rattle.polcert_items.specs.Steps.Numbers.{IsMisplaced, IsStep, IsSignAt, SignIs, IsInRange, ListKind, of_probabilities, of_rewards}
-use Rattle.polcert_items.specs.Steps.Numbers.{is_negative, AreNumbersAfter}
-use Rattle.polcert_items.specs.Steps.Wants.{ExpectsNext, list_wants, state_wants, entry_wants, number_wants}
+use Rattle.polcert_items.specs.Steps.Lines.{TakesLexeme, CannotTake, CannotEnd}
+use Rattle.polcert_items.specs.Steps.Numbers.{IsMisplaced, IsNumberStep, IsSignAt, SignIs, FitsRange, ListKind, of_probabilities}
+use Rattle.polcert_items.specs.Steps.Numbers.{of_rewards}
+use Rattle.polcert_items.specs.Steps.Numbers.{is_minus_sign, AreNumbersAfter}
+use Rattle.polcert_items.specs.Steps.Wants.{ExpectsNext, expected_by_numbers, state_wants, expected_by_entry, number_wants}
 use Rattle.polcert_items.specs.declared.entry_reader.EntryReader.{EntryReader}
 use Rattle.polcert_items.specs.declared.entry_reader.EntryState.{EntryState}
 use Rattle.polcert_items.specs.declared.entry_reader.EntryState.TheVariants as states
@@ -64,14 +66,14 @@ use Rattle.polcert_existence.proofs.TokenAnswers.{word_or_not}
 
 -- a list takes a token
 pub record ListTaken {T : Type 0} (kind : ListKind T) (old : Numbers T) (l : Lexeme) (new : Numbers T) : Type 0 where
-  pub step : TokenTaken (NumberListGoes kind) list_wants old l new
+  pub step : TokenTaken (NumberListGoes kind) expected_by_numbers old l new
   pub needed : new.needed ≡ old.needed
   pub room : HasRoom new
   pub sign : SignIs new.sign l
 
 abbrev pub ListFed : {T : Type 0} → ListKind T → Numbers T → Lexeme → Type 0
 ListFed {T} kind old l = ((new : Numbers T) × ListTaken kind old l new)
-    ⊎ TokenRefused (NumberListGoes kind) list_wants (IsListReason kind.range old.sign) old l
+    ⊎ TokenRefused (NumberListGoes kind) expected_by_numbers (IsListReason kind.range old.sign) old l
 
 pub full_or_not : {T : Type 0} (n : Numbers T) → IsFull n ⊎ (IsFull n → ⊥)
 full_or_not n = at n.sign refl
@@ -93,13 +95,13 @@ full_stuck {T} kind n l full = λ ls b g.
     at ls [] e a = cons≢nil (no_lexemes (l ∷ ls) [] refl a)
     at ls (x ∷ xs) e a = absurd (omega (arith, e))
 
-pub full_wants : {T : Type 0} (n : Numbers T) → IsFull n → list_wants n [] ≡ EndOfNumbers
+pub full_wants : {T : Type 0} (n : Numbers T) → IsFull n → expected_by_numbers n [] ≡ EndOfNumbers
 full_wants n full = grind arith
 
-open_wants : {T : Type 0} (n : Numbers T) → HasRoom n → (IsFull n → ⊥) → list_wants n [] ≡ number_wants n.sign
+open_wants : {T : Type 0} (n : Numbers T) → HasRoom n → (IsFull n → ⊥) → expected_by_numbers n [] ≡ number_wants n.sign
 open_wants n room open_list = at n.sign refl
   where
-    at : (s : Option Sign) → n.sign ≡ s → list_wants n [] ≡ number_wants n.sign
+    at : (s : Option Sign) → n.sign ≡ s → expected_by_numbers n [] ≡ number_wants n.sign
     at None e = grind arith
     at (Some s) e = grind arith
 
@@ -111,10 +113,10 @@ room_for_one n room open_list = at n.sign refl
     at (Some s) e = grind arith
 
 sign_leads : {T : Type 0} (n : Numbers T) (l : Lexeme) (s : Sign) → n.sign ≡ None → IsSignAt s l
-    → ExpectsNext (list_wants n) l (list_wants (record n { sign = Some s }))
+    → ExpectsNext (expected_by_numbers n) l (expected_by_numbers (record n { sign = Some s }))
 sign_leads n l s e at = grind arith
 
-module _ {T : Type 0} (kind : ListKind T) (value_of : (h : ℤ) → IsInRange kind.range h → (x : T) × (kind.worth x ≡ h))
+module _ {T : Type 0} (kind : ListKind T) (value_of : (h : ℤ) → FitsRange kind.range h → (x : T) × (kind.worth x ≡ h))
     (distinct : (y z : T) → kind.worth y ≡ kind.worth z → y ≡ z) where
   pub feed_list : (old : Numbers T) (l : Lexeme) → HasRoom old → ListFed kind old l
   feed_list old l room = ⊎_elim
@@ -136,7 +138,7 @@ module _ {T : Type 0} (kind : ListKind T) (value_of : (h : ℤ) → IsInRange ki
       (number_step kind.range old.sign l))
       (full_or_not old)
     where
-      step : (IsFull old → ⊥) → (s : NumberStep) → IsStep kind.range old.sign l s → (new : Numbers T) × ListTaken kind old l new
+      step : (IsFull old → ⊥) → (s : NumberStep) → IsNumberStep kind.range old.sign l s → (new : Numbers T) × ListTaken kind old l new
       step open_list (steps.Sign s) is = (
         record old { sign = Some s },
         record {
@@ -157,13 +159,13 @@ module _ {T : Type 0} (kind : ListKind T) (value_of : (h : ℤ) → IsInRange ki
             record {
               step = record {
                 takes = lists.takes_number kind old new l refl x.0 distinct
-                    (subst (IsMillionths (is_negative old.sign) l) (sym x.1) is.0)
-                    (subst (IsInRange kind.range) (sym x.1) is.1) refl refl;
+                    (subst (IsMillionths (is_minus_sign old.sign) l) (sym x.1) is.0)
+                    (subst (FitsRange kind.range) (sym x.1) is.1) refl refl;
                 leads = list_numeral_leads old l (old.read ++ x.0 ∷ []) x.0 is.0.kind refl;
               };
               needed = refl;
               room = omega (arith, length-append old.read (x.0 ∷ []), room_for_one old room open_list);
-              sign = ap is_sign is.0.kind;
+              sign = ap is_sign_kind is.0.kind;
             },
           )
 
@@ -325,14 +327,14 @@ reader table places state = record { table = table; places = places; state = sta
 
 -- an entry takes a token
 pub record EntryTaken (k : ModelSoFar) (old : EntryReader) (l : Lexeme) (new : EntryReader) : Type 0 where
-  pub step : TokenTaken (EntryGoes (preamble_in k)) (entry_wants (preamble_in k)) old l new
+  pub step : TokenTaken (EntryGoes (preamble_in k)) (expected_by_entry (preamble_in k)) old l new
   pub table : new.table ≡ old.table
   pub within : IsWithinIndices (indices_in k old.table) new
   pub sign : SignIs (entry_sign new.state) l
 
 abbrev pub EntryFed : ModelSoFar → EntryReader → Lexeme → Type 0
 EntryFed k old l = ((new : EntryReader) × EntryTaken k old l new)
-    ⊎ TokenRefused (EntryGoes (preamble_in k)) (entry_wants (preamble_in k)) (IsEntryReason old) old l
+    ⊎ TokenRefused (EntryGoes (preamble_in k)) (expected_by_entry (preamble_in k)) (IsEntryReason old) old l
 
 as_entry : (r : EntryReader) (l : Lexeme) (kind : ItemFault) (place : ℕ) → IsMisplaced l kind place → IsEntryReason r l kind place
 as_entry r l kind place h = no_place (as_place l kind place h)
@@ -342,7 +344,7 @@ places_named p table = patterns.same_length p table
 
 place_takes : (p : Preamble) (table : Table) (places : List Place) (l : Lexeme) (q : Place)
     → IsFirstPlace (drop (length places) (named p table)) l q
-    → Takes (EntryGoes p) (reader table places states.Place) l (reader table (places ++ q ∷ []) states.Body)
+    → TakesLexeme (EntryGoes p) (reader table places states.Place) l (reader table (places ++ q ∷ []) states.Body)
 place_takes p table places l q first = record {
   back = λ ls e g. (q, (first, g));
   on = λ ls e g. subst (λ r. StateGoes p table (places ++ r ∷ []) states.Body ls e)
@@ -350,7 +352,8 @@ place_takes p table places l q first = record {
 }
 
 place_leads : (p : Preamble) (table : Table) (places : List Place) (l : Lexeme) (q : Place)
-    → ExpectsNext (entry_wants p (reader table places states.Place)) l (entry_wants p (reader table (places ++ q ∷ []) states.Body))
+    → ExpectsNext (expected_by_entry p (reader table places states.Place)) l
+    (expected_by_entry p (reader table (places ++ q ∷ []) states.Body))
 place_leads p table places l q = record {
   same = λ ls. ap (λ n. wants.entry_wants p table false n ls) (sym (length-append places (q ∷ [])));
 }
@@ -362,13 +365,13 @@ test_of_place p n k = at (is_mdp p && n == 3)
     at true = refl
     at false = refl
 
-pub element_no_sign : (d : Elements) (l : Lexeme) (index : ℕ) → StandsFor d l index → is_sign l.kind ≡ false
-element_no_sign d l index (by_number whole below) = ap is_sign whole.kind
-element_no_sign d l index (by_name name same) = ap is_sign name.kind
+pub element_no_sign : (d : Elements) (l : Lexeme) (index : ℕ) → StandsFor d l index → is_sign_kind l.kind ≡ false
+element_no_sign d l index (by_number whole below) = ap is_sign_kind whole.kind
+element_no_sign d l index (by_name name same) = ap is_sign_kind name.kind
 
-place_no_sign : (ds : List Elements) (l : Lexeme) (q : Place) → IsFirstPlace ds l q → is_sign l.kind ≡ false
+place_no_sign : (ds : List Elements) (l : Lexeme) (q : Place) → IsFirstPlace ds l q → is_sign_kind l.kind ≡ false
 place_no_sign [] l q f = absurd f
-place_no_sign (d ∷ ds) l Every f = ap is_sign f
+place_no_sign (d ∷ ds) l Every f = ap is_sign_kind f
 place_no_sign (d ∷ ds) l (Only i) f = element_no_sign d l i f
 
 feed_place : (k : ModelSoFar) (table : Table) (places : List Place) (l : Lexeme) → length places < length (indices_in k table)
@@ -421,7 +424,7 @@ enough_wants p table n low = at (nat_lt n (least_written (is_mdp p) table)) refl
     at false e = ap (λ b. if b then Mark else numbers_want false (cells_in (drop n (dimensions p table))) []) e
 
 word_leads : (p : Preamble) (table : Table) (places : List Place) (l : Lexeme) (w : Word) → l.kind ≡ kinds.Name
-    → ExpectsNext (entry_wants p (reader table places states.Body)) l (entry_wants p (reader table places (states.Word w)))
+    → ExpectsNext (expected_by_entry p (reader table places states.Body)) l (expected_by_entry p (reader table places (states.Word w)))
 word_leads p table places l w e = grind arith
 
 word_after : (mdp : Bool) (table : Table) (n : ℕ) (l : Lexeme) (w : Word) → IsWordAfter mdp table n l w
@@ -479,7 +482,7 @@ module _ (k : ModelSoFar) (table : Table) (places : List Place) (l : Lexeme) (in
           };
           table = refl;
           within = below;
-          sign = ap is_sign e;
+          sign = ap is_sign_kind e;
         },
       ))
       (λ full. no_other (ap begins_number e) (patterns.colon_stuck p table places l e full))
@@ -498,7 +501,7 @@ module _ (k : ModelSoFar) (table : Table) (places : List Place) (l : Lexeme) (in
           };
           table = refl;
           within = tt;
-          sign = ap is_sign (word_name w.0 l w.1.0);
+          sign = ap is_sign_kind (word_name w.0 l w.1.0);
         },
       ))
       (λ no_word. no_other none (patterns.nothing_takes p table places l no_colon no_numbers no_word))
@@ -510,7 +513,7 @@ module _ (k : ModelSoFar) (table : Table) (places : List Place) (l : Lexeme) (in
 
     begun : {T : Type 0} (kind : ListKind T) (state : Numbers T → EntryState) (n : Numbers T) → ListTaken kind (no_numbers needed) l n
         → AreBegun table needed l (state n) → IsStateWithin (indices_in k table) table places (state n)
-        → entry_sign (state n) ≡ n.sign → ((ls : List Lexeme) → state_wants p table places (state n) ls ≡ list_wants n ls)
+        → entry_sign (state n) ≡ n.sign → ((ls : List Lexeme) → state_wants p table places (state n) ls ≡ expected_by_numbers n ls)
         → EntryFed k (reader table places states.Body) l
     begun {T} kind state n s are within same_sign same_wants = inl (
       reader table places (state n),
@@ -520,8 +523,9 @@ module _ (k : ModelSoFar) (table : Table) (places : List Place) (l : Lexeme) (in
               (patterns.numbers_begin k table places l (state n) needed (patterns.number_not_colon l.kind begins)
               (patterns.number_not_name l.kind begins) refl low inside are);
           leads = record {
-            same = λ ls. (numbers_lead p table (length places) l (list_wants n) (number_begins l.kind begins)
-                (no_numbers_lead {T = T} (no_numbers needed) needed l (list_wants n) refl s.step.leads)).same ls ∙ sym (same_wants ls);
+            same = λ ls. (numbers_lead p table (length places) l (expected_by_numbers n) (number_begins l.kind begins)
+                (no_numbers_lead {T = T} (no_numbers needed) needed l (expected_by_numbers n) refl s.step.leads)).same ls
+                ∙ sym (same_wants ls);
           };
         };
         table = refl;
@@ -530,7 +534,8 @@ module _ (k : ModelSoFar) (table : Table) (places : List Place) (l : Lexeme) (in
       },
     )
 
-    not_begun : {T : Type 0} (kind : ListKind T) → (stop : TokenRefused (NumberListGoes kind) list_wants (IsListReason kind.range None)
+    not_begun : {T : Type 0} (kind : ListKind T) → (stop : TokenRefused (NumberListGoes kind) expected_by_numbers
+        (IsListReason kind.range None)
         (no_numbers {T = T} needed) l) → CannotBegin table needed l
         → IsEntryReason (reader table places states.Body) l stop.kind stop.place
         → EntryFed k (reader table places states.Body) l
@@ -601,7 +606,7 @@ feed_state k table places states.Colon l within = ⊎_elim
         };
         table = refl;
         within = some_indices k table places within;
-        sign = ap is_sign colon;
+        sign = ap is_sign_kind colon;
       },
     ))
     (λ no. inr (record {
@@ -694,18 +699,18 @@ pub record EntryUnended (k : ModelSoFar) (r : EntryReader) : Type 0 where
   pub kind : ItemFault
   pub shape : (kind ≡ faults.BadShape) ⊎ (kind ≡ faults.WrongNumberCount)
   pub stuck : AreSome (indices_in k r.table) → CannotEnd (EntryGoes (preamble_in k)) r
-  pub kinds : AreSome (indices_in k r.table) → kind ≡ unexpected_token (entry_wants (preamble_in k) r []) None
+  pub kinds : AreSome (indices_in k r.table) → kind ≡ unexpected_token (expected_by_entry (preamble_in k) r []) None
 
 -- why a list isn't full
 pub record ListUnended {T : Type 0} (n : Numbers T) : Type 0 where
   pub kind : ItemFault
   pub shape : (kind ≡ faults.BadShape) ⊎ (kind ≡ faults.WrongNumberCount)
-  pub kind_is : kind ≡ unexpected_token (list_wants n []) None
+  pub kind_is : kind ≡ unexpected_token (expected_by_numbers n []) None
 
 pub list_unended : {T : Type 0} (n : Numbers T) → HasRoom n → (IsFull n → ⊥) → ListUnended n
 list_unended n room open_list = at n.sign refl
   where
-    kind_of : (s : Option Sign) → n.sign ≡ s → unexpected_token (number_wants s) None ≡ unexpected_token (list_wants n []) None
+    kind_of : (s : Option Sign) → n.sign ≡ s → unexpected_token (number_wants s) None ≡ unexpected_token (expected_by_numbers n []) None
     kind_of s e = ap (λ w. unexpected_token w None) (ap number_wants (sym e) ∙ sym (open_wants n room open_list))
 
     at : (s : Option Sign) → n.sign ≡ s → ListUnended n
@@ -775,7 +780,7 @@ end_state k table places (states.Rewards n) within = ⊎_elim
           λ some. u.kind_is;
     }))
     (full_or_not n)
-end_state k table places (states.Word w) within = inl (record { entry = entry_with table places (body_of w); goes = (refl, refl) })
+end_state k table places (states.Word w) within = inl (record { entry = entry_with table places (body_of_word w); goes = (refl, refl) })
 
 pub end_entry : (k : ModelSoFar) (r : EntryReader) → IsWithinIndices (indices_in k r.table) r → EntryEnds k r ⊎ EntryUnended k r
 end_entry k r within = end_state k r.table r.places r.state within

@@ -5,7 +5,7 @@ use Rattle.std.proofs.lemmas.Bool.{cases_Bool}
 use Rattle.polcert_text.specs.Cut.{Lexeme, Rest, IsCut, text_rest, text_limit}
 use Rattle.polcert_text.specs.TakenTokens.{Taken}
 use Rattle.polcert_text.specs.declared.tokens.TokenFault.{TokenFault}
-use Rattle.polcert_policy.specs.Fields.{is_joined, is_whole, whole_of, is_successor, successor_of}
+use Rattle.polcert_policy.specs.Fields.{is_joined, is_whole, whole_number_of, is_successor, successor_of}
 use Rattle.polcert_policy.specs.Graphs.{PolicyGraph, IsLooseGraph, most_nodes}
 use Rattle.polcert_policy.specs.GraphText.{IsRefusedGraphText}
 use Rattle.polcert_policy.specs.Steps.GraphRead.{AreNodesUpTo, IsApartFrom, IsTokenRefusal, IsEndRefusal, IsUnfinished, CheckedNumber}
@@ -88,7 +88,7 @@ module _ (a o : ℕ) (some_a : 1 ≤ a) (some_o : 1 ≤ o) (ts : List Lexeme) (t
                   step_number a o ts t node cs ss old apart whole value few;
             }))
             (λ other. stop (faults.NodeOutOfOrder t.place) (λ m. cc) (refl, few, whole, other))
-            (same_or_not (whole_of t) node))
+            (same_or_not (whole_number_of t) node))
             (λ wrong. stop (faults.BadShape t.place) (λ m. cc) (refl, few, wrong))
             (cases_Bool (is_whole t))
 
@@ -98,13 +98,13 @@ module _ (a o : ℕ) (some_a : 1 ≤ a) (some_o : 1 ≤ o) (ts : List Lexeme) (t
         (λ known. inl (record {
           node = node;
           column = 2;
-          chosen = cs ++ whole_of t ∷ [];
+          chosen = cs ++ whole_number_of t ∷ [];
           successors = ss;
           nodes =
               step_action a o ts t node cs ss some_o old apart whole known;
         }))
         (λ above. stop (faults.ActionOutOfRange t.place) (λ m. cc) (refl, whole, above))
-        (below_or_not (whole_of t) a))
+        (below_or_not (whole_number_of t) a))
         (λ wrong. stop (faults.BadShape t.place) (λ m. cc) (refl, wrong))
         (cases_Bool (is_whole t))
       where

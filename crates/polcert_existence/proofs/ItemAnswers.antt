@@ -9,11 +9,11 @@ use Rattle.polcert_format.specs.FirstNumber.{IsLate, no_state, states_known}
 use Rattle.polcert_format.specs.Misfits.{unexpected_token}
 use Rattle.polcert_format.specs.Text.{ModelSoFar}
 use Rattle.polcert_items.specs.Steps.Items.{IsItemFed, RefusesInItem, IsItemReason, of_token, IsTokenReason, ItemGoes, IsItemWithin, IsSeen}
-use Rattle.polcert_items.specs.Steps.Items.{IsEndReason, HasElements, topic_in, pending_in}
-use Rattle.polcert_items.specs.Steps.Lines.{Takes, CannotTake, CannotEnd, DiscountGoes, DiscountReason, discount_sign, ValuesGoes}
+use Rattle.polcert_items.specs.Steps.Items.{IsEndReason, HasElements, topic_of_reader, pending_in}
+use Rattle.polcert_items.specs.Steps.Lines.{TakesLexeme, CannotTake, CannotEnd, DiscountGoes, DiscountReason, discount_sign, ValuesGoes}
 use Rattle.polcert_items.specs.Steps.ModelSoFar.{with_item, AreContentsOf}
 use Rattle.polcert_items.specs.Steps.Start.{IsStartReason, IsStartWithin, IsStartEndKind, IsEndDue, IsState, HasReadStart, StartGives}
-use Rattle.polcert_items.specs.Steps.Wants.{item_wants, elements_want, start_wants}
+use Rattle.polcert_items.specs.Steps.Wants.{item_wants, expected_by_elements, expected_by_start}
 use Rattle.polcert_items.specs.declared.item.ItemContents.{ItemContents}
 use Rattle.polcert_items.specs.declared.item.ItemContents.TheVariants as says
 use Rattle.polcert_items.specs.declared.item.ItemReader.TheVariants as items
@@ -38,7 +38,7 @@ use Rattle.polcert_cells.specs.declared.entries.Table.{Table}
 use Rattle.polcert_items.specs.declared.start_reader.StateOrNumber.{StateOrNumber}
 use Rattle.polcert_format.specs.declared.fault.ItemFault.TheVariants as faults
 use Rattle.polcert_format.specs.KnownPreamble.{preamble_in, indices_in}
-use Rattle.polcert_format.specs.Reasons.{is_sign, ends_in_sign, IsOfElements}
+use Rattle.polcert_format.specs.Reasons.{is_sign_kind, ends_in_sign, IsOfElements}
 use Rattle.polcert_items.specs.Steps.Elements.{ElementsGo, IsElementsRead}
 use Rattle.polcert_items.specs.Steps.Entries.{EntryGoes, IsWithinIndices, IsEntryReason, entry_sign}
 use Rattle.polcert_items.specs.Steps.Numbers.{IsMisplaced}
@@ -53,33 +53,33 @@ use Rattle.polcert_items.specs.declared.signed_number.Refusal.{Refusal}
 
 -- the token is taken, or refused
 abbrev pub IsFedOrRefused : ModelSoFar → ItemReader → Lexeme → Type 0
-IsFedOrRefused k old l = ((new : ItemReader) × (topic_in new ≡ topic_in old) × IsItemFed k old l new)
+IsFedOrRefused k old l = ((new : ItemReader) × (topic_of_reader new ≡ topic_of_reader old) × IsItemFed k old l new)
     ⊎ ((x : Refusal) × RefusesInItem k old l x)
 
 -- the item says so much at its end
 pub record EndsItem (k : ModelSoFar) (i : ItemReader) : Type 0 where
   pub said : ItemContents
   pub goes : ItemGoes k i [] (with_item k said)
-  pub topic : AreContentsOf (topic_in i) said
+  pub topic : AreContentsOf (topic_of_reader i) said
 
 -- it cannot end, for this reason
 pub record CannotEndItem (k : ModelSoFar) (i : ItemReader) : Type 0 where
   pub kind : ItemFault
-  pub stuck : HasElements k (topic_in i) → CannotEnd (ItemGoes k) i
-  pub reason : IsEndReason (topic_in i) kind
-  pub kinds : HasElements k (topic_in i) → kind ≡ unexpected_token (item_wants k i []) None
+  pub stuck : HasElements k (topic_of_reader i) → CannotEnd (ItemGoes k) i
+  pub reason : IsEndReason (topic_of_reader i) kind
+  pub kinds : HasElements k (topic_of_reader i) → kind ≡ unexpected_token (item_wants k i []) None
   pub unheld : pending_in i ≡ None
-  pub undue : (body : List Lexeme) (late : Refusal) → IsSeen (states_known k) body i → topic_in i ≡ Start
+  pub undue : (body : List Lexeme) (late : Refusal) → IsSeen (states_known k) body i → topic_of_reader i ≡ Start
       → IsLate (states_known k) body true late.kind late.place → ⊥
 
 -- nor for a number before its end
 pub record CannotEndBefore (k : ModelSoFar) (i : ItemReader) : Type 0 where
   pub kind : ItemFault
   pub place : ℕ
-  pub stuck : HasElements k (topic_in i) → CannotEnd (ItemGoes k) i
-  pub reason : (body : List Lexeme) → IsSeen (states_known k) body i → (topic_in i ≡ Start) × IsStartReason body kind place
+  pub stuck : HasElements k (topic_of_reader i) → CannotEnd (ItemGoes k) i
+  pub reason : (body : List Lexeme) → IsSeen (states_known k) body i → (topic_of_reader i ≡ Start) × IsStartReason body kind place
       × IsLate (states_known k) body true kind place
-  pub due : (body : List Lexeme) (late : Refusal) → IsSeen (states_known k) body i → topic_in i ≡ Start
+  pub due : (body : List Lexeme) (late : Refusal) → IsSeen (states_known k) body i → topic_of_reader i ≡ Start
       → IsLate (states_known k) body true late.kind late.place → (kind ≡ late.kind) × (place ≡ late.place)
 
 pub data IsEndedOrRefused (k : ModelSoFar) (i : ItemReader) : Type 0 where
@@ -96,7 +96,7 @@ HasSomeStates k = (states : Elements) → k.states ≡ Some states → 1 ≤ cou
 module _ {S V : Type 0} (k : ModelSoFar) (item : S → ItemReader) (Goes : S → List Lexeme → V → Type 0) (say : V → ModelSoFar)
     (into : (s : S) (ls : List Lexeme) (next : ModelSoFar) → ((v : V) × (Goes s ls v × (next ≡ say v))) → ItemGoes k (item s) ls next)
     (out : (s : S) (ls : List Lexeme) (next : ModelSoFar) → ItemGoes k (item s) ls next → (v : V) × (Goes s ls v × (next ≡ say v))) where
-  item_takes : (old new : S) (l : Lexeme) → Takes Goes old l new → Takes (ItemGoes k) (item old) l (item new)
+  item_takes : (old new : S) (l : Lexeme) → TakesLexeme Goes old l new → TakesLexeme (ItemGoes k) (item old) l (item new)
   item_takes old new l t = record {
     back = λ ls next g. let h = out new ls next g in into old (l ∷ ls) next (h.0, (t.back ls h.0 h.1.0, h.1.1));
     on = λ ls next g. let h = out old (l ∷ ls) next g in into new ls next (h.0, (t.on ls h.0 h.1.0, h.1.1));
@@ -176,7 +176,7 @@ feed_values_item k r l = ⊎_elim
     ))
     (feed_values r l)
 
-seen_more : (body : List Lexeme) (l : Lexeme) → is_sign l.kind ≡ false → ends_in_sign (body ++ l ∷ []) ≡ false
+seen_more : (body : List Lexeme) (l : Lexeme) → is_sign_kind l.kind ≡ false → ends_in_sign (body ++ l ∷ []) ≡ false
 seen_more body l free = last_sign body l ∙ free
 
 feed_states_item : (k : ModelSoFar) (r : ElementsReader) (l : Lexeme) → IsElementsRead most_states r → IsFedOrRefused k (items.States r) l
@@ -323,9 +323,9 @@ feed_item k some (items.Entry r) l within = feed_entry_item k r l within
 -- ---- an item's end
 
 -- an item that is no start item
-plain_unended : (k : ModelSoFar) (i : ItemReader) (kind : ItemFault) → (topic_in i ≡ Start → ⊥)
-    → (HasElements k (topic_in i) → CannotEnd (ItemGoes k) i) → IsEndReason (topic_in i) kind
-    → (HasElements k (topic_in i) → kind ≡ unexpected_token (item_wants k i []) None) → pending_in i ≡ None → IsEndedOrRefused k i
+plain_unended : (k : ModelSoFar) (i : ItemReader) (kind : ItemFault) → (topic_of_reader i ≡ Start → ⊥)
+    → (HasElements k (topic_of_reader i) → CannotEnd (ItemGoes k) i) → IsEndReason (topic_of_reader i) kind
+    → (HasElements k (topic_of_reader i) → kind ≡ unexpected_token (item_wants k i []) None) → pending_in i ≡ None → IsEndedOrRefused k i
 plain_unended k i kind other stuck reason kinds unheld =
     not_ended (record {
       kind = kind;
@@ -359,7 +359,7 @@ end_values k (values.Done b) = ended (record { said = says.Costs b; goes = (b, (
 data ElementsEnded (most : ℕ) (r : ElementsReader) : Type 0 where
   whole : (e : Elements) → ElementsGo most r [] e → ElementsEnded most r
   open_line : (kind : ItemFault) → (kind ≡ faults.BadShape) ⊎ (kind ≡ faults.BadCount) → CannotEnd (ElementsGo most) r
-      → kind ≡ unexpected_token (elements_want most r []) None → ElementsEnded most r
+      → kind ≡ unexpected_token (expected_by_elements most r []) None → ElementsEnded most r
 
 no_elements : (most : ℕ) (xs : List Lexeme) (e : Elements) → xs ≡ [] → AreElements most xs e → ⊥
 no_elements most xs e same (counted is some few) = cons≢nil same
@@ -440,7 +440,7 @@ module _ (k : ModelSoFar) (states : Elements) (known : k.states ≡ Some states)
     kind = u.kind;
     stuck = λ h. reading.start_stuck_end k states (items.Start r) r (ends.AtEnd u.kind) known refl u.stuck;
     reason = start_kind u.kind u.reason;
-    kinds = λ h. subst (λ s. u.kind ≡ unexpected_token (start_wants (count_of s) r []) None) (sym these_states) u.kinds;
+    kinds = λ h. subst (λ s. u.kind ≡ unexpected_token (expected_by_start (count_of s) r []) None) (sym these_states) u.kinds;
     unheld = u.unheld;
     undue = λ body late s start l. reading.start_late_end k states (items.Start r) r body (ends.AtEnd u.kind) late known refl s l u.due;
   })

@@ -15,12 +15,12 @@ unfoldable use Rattle.polcert_cells.specs.Words.{is_reserved}
 use Rattle.polcert_format.specs.declared.fault.ItemFault.{ItemFault}
 use Rattle.polcert_format.specs.declared.fault.ItemFault.TheVariants as faults
 use Rattle.polcert_format.specs.Misfits.{Mark, EndOfWord, CountOrName, FurtherName, IsMisfit, of_place, unexpected_token, misfit_at}
-use Rattle.polcert_format.specs.Reasons.{is_sign}
+use Rattle.polcert_format.specs.Reasons.{is_sign_kind}
 use Rattle.polcert_items.specs.Steps.Elements.{ElementsGo, IsElementsRead, AreElementsSeen, ElementsReason, IsCountOf, AreNamesRead}
 use Rattle.polcert_items.specs.Steps.Elements.{NamesGo}
-use Rattle.polcert_items.specs.Steps.Lines.{Takes, CannotTake, DiscountGoes, DiscountReason, discount_sign, ValuesGoes}
-use Rattle.polcert_items.specs.Steps.Numbers.{IsMisplaced, IsStep, IsSignAt, SignIs}
-use Rattle.polcert_items.specs.Steps.Wants.{ExpectsNext, discount_wants, values_want, elements_want, number_wants}
+use Rattle.polcert_items.specs.Steps.Lines.{TakesLexeme, CannotTake, DiscountGoes, DiscountReason, discount_sign, ValuesGoes}
+use Rattle.polcert_items.specs.Steps.Numbers.{IsMisplaced, IsNumberStep, IsSignAt, SignIs}
+use Rattle.polcert_items.specs.Steps.Wants.{ExpectsNext, expected_by_discount, expected_by_values, expected_by_elements, number_wants}
 use Rattle.polcert_items.specs.declared.preamble_lines.DiscountReader.{DiscountReader}
 use Rattle.polcert_items.specs.declared.preamble_lines.DiscountReader.TheVariants as discount
 use Rattle.polcert_items.specs.declared.preamble_lines.ValuesReader.{ValuesReader}
@@ -42,24 +42,24 @@ use Rattle.polcert_existence.proofs.TokenAnswers.{word_or_not, name_or_not}
 -- ---- the discount
 
 sign_leads : (l : Lexeme) (s : Sign) → IsSignAt s l
-    → ExpectsNext (discount_wants (discount.Number None)) l (discount_wants (discount.Number (Some s)))
+    → ExpectsNext (expected_by_discount (discount.Number None)) l (expected_by_discount (discount.Number (Some s)))
 sign_leads l s at = grind arith
 
 value_leads : (sign : Option Sign) (l : Lexeme) (d : ℕ) → l.kind ≡ kinds.Numeral
-    → ExpectsNext (discount_wants (discount.Number sign)) l (discount_wants (discount.Done d))
+    → ExpectsNext (expected_by_discount (discount.Number sign)) l (expected_by_discount (discount.Done d))
 value_leads sign l d e = grind arith
 
 number_misfit : (sign : Option Sign) (l : Lexeme) (kind : ItemFault) → IsMisfit (number_wants sign) l kind
-    → IsMisfit (discount_wants (discount.Number sign) []) l kind
+    → IsMisfit (expected_by_discount (discount.Number sign) []) l kind
 number_misfit None l kind m = m
 number_misfit (Some s) l kind m = m
 
-no_sign_numeral : (l : Lexeme) → l.kind ≡ kinds.Numeral → is_sign l.kind ≡ false
-no_sign_numeral l e = ap is_sign e
+no_sign_numeral : (l : Lexeme) → l.kind ≡ kinds.Numeral → is_sign_kind l.kind ≡ false
+no_sign_numeral l e = ap is_sign_kind e
 
 pub feed_discount : (old : DiscountReader) (l : Lexeme)
-    → ((new : DiscountReader) × TokenTaken DiscountGoes discount_wants old l new × SignIs (discount_sign new) l)
-    ⊎ TokenRefused DiscountGoes discount_wants (DiscountReason old) old l
+    → ((new : DiscountReader) × TokenTaken DiscountGoes expected_by_discount old l new × SignIs (discount_sign new) l)
+    ⊎ TokenRefused DiscountGoes expected_by_discount (DiscountReason old) old l
 feed_discount discount.Colon l = ⊎_elim
     (λ colon. inl (
       discount.Number None,
@@ -68,7 +68,7 @@ feed_discount discount.Colon l = ⊎_elim
         leads =
             record { same = λ ls. refl };
       },
-      ap is_sign colon,
+      ap is_sign_kind colon,
     ))
     (λ no. inr (record { kind = no.kind; place = l.place; stuck = λ ls g goes. no.other goes.0; reason = no.reason; misfit = no.misfit }))
     (colon_or_not l)
@@ -83,14 +83,16 @@ feed_discount (discount.Number sign) l = ⊎_elim (λ s. at s.0 s.1)
     }))
     (number_step ranges.Discount sign l)
   where
-    at : (step : NumberStep) → IsStep ranges.Discount sign l step
-        → ((new : DiscountReader) × TokenTaken DiscountGoes discount_wants (discount.Number sign) l new × SignIs (discount_sign new) l)
-        ⊎ TokenRefused DiscountGoes discount_wants (DiscountReason (discount.Number sign)) (discount.Number sign) l
+    at : (step : NumberStep) → IsNumberStep ranges.Discount sign l step
+        → ((new : DiscountReader) × TokenTaken DiscountGoes expected_by_discount (discount.Number sign) l new
+        × SignIs (discount_sign new) l)
+        ⊎ TokenRefused DiscountGoes expected_by_discount (DiscountReason (discount.Number sign)) (discount.Number sign) l
     at (steps.Sign s) is = inl (
       discount.Number (Some s),
       record {
         takes = discount_takes_sign (discount.Number sign) sign s l refl is.0 is.1;
-        leads = subst (λ o. ExpectsNext (discount_wants (discount.Number o)) l (discount_wants (discount.Number (Some s)))) (sym is.0)
+        leads = subst (λ o. ExpectsNext (expected_by_discount (discount.Number o)) l (expected_by_discount (discount.Number (Some s))))
+            (sym is.0)
             (sign_leads l s is.1);
       },
       is.1,
@@ -116,11 +118,11 @@ feed_discount (discount.Done d) l = let m = after_numbers l in
 
 -- ---- the word of `values:`
 
-name_no_sign : (word : List ℕ) (l : Lexeme) → IsWord word l → is_sign l.kind ≡ false
-name_no_sign word l is = ap is_sign is.kind
+name_no_sign : (word : List ℕ) (l : Lexeme) → IsWord word l → is_sign_kind l.kind ≡ false
+name_no_sign word l is = ap is_sign_kind is.kind
 
 word_takes : (b : Bool) (l : Lexeme) → IsWord (elim b as (λ _. List ℕ) [ false ↦ codes "reward" | true ↦ codes "cost" ]) l
-    → Takes ValuesGoes values.Word l (values.Done b)
+    → TakesLexeme ValuesGoes values.Word l (values.Done b)
 word_takes b l is = grind arith
 
 neither : (l : Lexeme) → (IsWord (codes "reward") l → ⊥) → (IsWord (codes "cost") l → ⊥) → CannotTake ValuesGoes values.Word l
@@ -128,8 +130,8 @@ neither l no_reward no_cost ls false goes = no_reward goes.1
 neither l no_reward no_cost ls true goes = no_cost goes.1
 
 pub feed_values : (old : ValuesReader) (l : Lexeme)
-    → ((new : ValuesReader) × TokenTaken ValuesGoes values_want old l new × (is_sign l.kind ≡ false))
-    ⊎ TokenRefused ValuesGoes values_want IsMisplaced old l
+    → ((new : ValuesReader) × TokenTaken ValuesGoes expected_by_values old l new × (is_sign_kind l.kind ≡ false))
+    ⊎ TokenRefused ValuesGoes expected_by_values IsMisplaced old l
 feed_values values.Colon l = ⊎_elim
     (λ colon. inl (
       values.Word,
@@ -138,7 +140,7 @@ feed_values values.Colon l = ⊎_elim
         leads =
             record { same = λ ls. refl };
       },
-      ap is_sign colon,
+      ap is_sign_kind colon,
     ))
     (λ no. inr (record { kind = no.kind; place = l.place; stuck = λ ls g goes. no.other goes.0; reason = no.reason; misfit = no.misfit }))
     (colon_or_not l)
@@ -243,30 +245,30 @@ count_or_not most l e = ⊎_elim (whole_count most l e) (λ none. inr (λ m c. l
 bad_count : (l : Lexeme) → l.kind ≡ kinds.Numeral → faults.BadCount ≡ unexpected_token CountOrName (Some l)
 bad_count l e = grind arith
 
-no_numeral_name : (l : Lexeme) → IsName l → is_sign l.kind ≡ false
-no_numeral_name l is = ap is_sign is.kind
+no_numeral_name : (l : Lexeme) → IsName l → is_sign_kind l.kind ≡ false
+no_numeral_name l is = ap is_sign_kind is.kind
 
 -- a line of elements takes a token
 pub record ElementsTaken (most : ℕ) (old : ElementsReader) (l : Lexeme) (new : ElementsReader) : Type 0 where
-  pub step : TokenTaken (ElementsGo most) (elements_want most) old l new
+  pub step : TokenTaken (ElementsGo most) (expected_by_elements most) old l new
   pub within : IsElementsRead most new
   pub seen : (body : List Lexeme) → AreElementsSeen body old → AreElementsSeen (body ++ l ∷ []) new
-  pub sign : is_sign l.kind ≡ false
+  pub sign : is_sign_kind l.kind ≡ false
 
 abbrev pub ElementsFed : ℕ → ElementsReader → Lexeme → Type 0
 ElementsFed most old l = ((new : ElementsReader) × ElementsTaken most old l new)
-    ⊎ TokenRefused (ElementsGo most) (elements_want most) (ElementsReason old) old l
+    ⊎ TokenRefused (ElementsGo most) (expected_by_elements most) (ElementsReason old) old l
 
 seen_count : (l : Lexeme) (n : ℕ) (body : List Lexeme) → AreElementsSeen body elements.First
     → AreElementsSeen (body ++ l ∷ []) (elements.Counted n)
 seen_count l n body s = tt
 
 first_leads : (most : ℕ) (l : Lexeme) → l.kind ≡ kinds.Name
-    → ExpectsNext (elements_want most elements.First) l (elements_want most (elements.Named (l.bytes ∷ [])))
+    → ExpectsNext (expected_by_elements most elements.First) l (expected_by_elements most (elements.Named (l.bytes ∷ [])))
 first_leads most l e = grind arith
 
 count_leads : (most : ℕ) (l : Lexeme) (n : ℕ) → l.kind ≡ kinds.Numeral
-    → ExpectsNext (elements_want most elements.First) l (elements_want most (elements.Counted n))
+    → ExpectsNext (expected_by_elements most elements.First) l (expected_by_elements most (elements.Counted n))
 count_leads most l n e = grind arith
 
 first_names : (most : ℕ) → AreNamesRead most []
@@ -287,7 +289,7 @@ named_seen names l body s = record {
 }
 
 named_leads : (most : ℕ) (names : List (List ℕ)) (l : Lexeme)
-    → ExpectsNext (elements_want most (elements.Named names)) l (elements_want most (elements.Named (names ++ l.bytes ∷ [])))
+    → ExpectsNext (expected_by_elements most (elements.Named names)) l (expected_by_elements most (elements.Named (names ++ l.bytes ∷ [])))
 named_leads most names l = record {
   same = λ ls. ap (FurtherName most)
       (sym (append_assoc names (l.bytes ∷ []) (map (λ (m : Lexeme). m.bytes) ls)));
@@ -305,7 +307,7 @@ feed_elements most some elements.Colon l read = ⊎_elim
         };
         within = tt;
         seen = λ body s. (l, ap (λ ls. ls ++ l ∷ []) s);
-        sign = ap is_sign colon;
+        sign = ap is_sign_kind colon;
       },
     ))
     (λ no. inr (record {
@@ -325,7 +327,7 @@ feed_elements most some elements.First l read = ⊎_elim
         step = record { takes = count_takes most l c.0 c.1; leads = count_leads most l c.0 numeral };
         within = (c.1.1, c.1.2);
         seen = seen_count l c.0;
-        sign = ap is_sign numeral;
+        sign = ap is_sign_kind numeral;
       },
     ))
     (λ none. inr (record {

@@ -243,7 +243,7 @@ module _ (text : List ℕ) where
   whole_text : (seen : List Lexeme) (k : ModelSoFar) → Cut seen None → IsWholeRead seen k → HasModelAnswer text
   whole_text seen k cut read = ⊎_elim
       (λ proper. inl (
-        drafts.meaning (said k),
+        drafts.draft_meaning (said k),
         record {
           lexemes = seen;
           tokens = clean_tokens text seen cut;
@@ -252,13 +252,13 @@ module _ (text : List ℕ) where
             known = k;
             right = whole_right seen k read;
             same =
-                same_meaning (drafts.meaning (said k));
+                same_meaning (drafts.draft_meaning (said k));
             rows = proper;
           };
         },
       ))
       (λ f. inr (faults.RowSum f.0 f.1 f.2, tt, row_sum_refused seen k read text f.0 f.1 f.2 cut f.3))
-      (rows_or_first (drafts.meaning (said k)))
+      (rows_or_first (drafts.draft_meaning (said k)))
 
   refused_whole : (seen : List Lexeme) (fault : ModelFault) → Cut seen None → SaysOfText fault
       → IsRefusedWhole seen (end_place (text_rest text text_limit)) fault → HasModelAnswer text

@@ -6,7 +6,7 @@ use Rattle.std.proofs.Math.Nat.{mul-le-mul_right}
 use Rattle.polcert_text.specs.Cut.{Lexeme}
 use Rattle.polcert_text.specs.declared.number.Rounding.{Rounding}
 use Rattle.polcert_policy.specs.Graphs.{PolicyGraph, most_nodes}
-use Rattle.polcert_policy.specs.Steps.VectorsRead.{HasVectors}
+use Rattle.polcert_policy.specs.Steps.VectorsRead.{HasReadVectors}
 use Rattle.polcert_policy.specs.declared.vectors_reading.VectorsReading.{VectorsReading}
 use Rattle.polcert_policy.proofs.GraphLaws.{length_snoc}
 
@@ -25,7 +25,7 @@ as_vec xs few = record {
 }
 
 -- there is room for one more value
-pub room : (way : Rounding) (g : PolicyGraph) (seen : List Lexeme) (r : VectorsReading) (value : ℤ) → HasVectors way g seen r
+pub room : (way : Rounding) (g : PolicyGraph) (seen : List Lexeme) (r : VectorsReading) (value : ℤ) → HasReadVectors way g seen r
     → length (r.values.items ++ value ∷ []) < 2 ^ 63
 room way g seen r value h =
     let values : r.node * r.states ≤ most_nodes * r.states = mul-le-mul_right r.states r.few in

@@ -29,21 +29,23 @@ use Rattle.polcert_format.specs.Forms as shapes
 use Rattle.polcert_cells.specs.Start as starts
 use Rattle.polcert_format.specs.Misfits.{Expected, StartBody, NumberOrEnd, Number, EndOfWord, IsMisfit, of_place, of_value, IsOfValue}
 use Rattle.polcert_format.specs.Misfits.{unexpected_token, misfit_at, tests_value, begins_number, is_reset}
-use Rattle.polcert_format.specs.Reasons.{is_sign}
+use Rattle.polcert_format.specs.Reasons.{is_sign_kind}
 use Rattle.polcert_format.specs.Wants.{numbers_want, number_end, start_body_wants, may_be_state, by_kind, is_colon}
 use Rattle.polcert_format.specs.Wants as wants
 use Rattle.polcert_items.specs.Steps.Entries.{IsListReason, IsPlaceReason, HasRoom, IsFull, one_number}
 use Rattle.polcert_items.specs.Steps.Feeding.{IsStartFed, RefusesInStart}
-use Rattle.polcert_items.specs.Steps.Lines.{Takes, CannotTake, CannotEnd}
-use Rattle.polcert_items.specs.Steps.Numbers.{IsMisplaced, IsStep, IsSignAt, SignIs, IsInRange, IsNumberReason, IsAfterNumbers}
-use Rattle.polcert_items.specs.Steps.Numbers.{number_place, of_probabilities}
+use Rattle.polcert_items.specs.Steps.Lines.{TakesLexeme, CannotTake, CannotEnd}
+use Rattle.polcert_items.specs.Steps.Numbers.{IsMisplaced, IsNumberStep, IsSignAt, SignIs, FitsRange, IsNumberReason, IsAfterNumbers}
+use Rattle.polcert_items.specs.Steps.Numbers.{signed_place, of_probabilities}
 use Rattle.polcert_items.specs.Steps.Start.{StartGoes, StartGives, IsStartWithin, HasReadStart, IsReasonAt, IsDue, IsDueNumber, IsDueValue}
 use Rattle.polcert_items.specs.Steps.Start.{IsStop, due, at_once, CanStillBeRight, IsNumberHeld, IsNumberKept, IsKept, NumbersGo, Begins}
-use Rattle.polcert_items.specs.Steps.Start.{IsOutside, AreDigits, IsState, IsValue, marked, start_sign, first_of, AreGiven, AreShares}
-use Rattle.polcert_items.specs.Steps.Start.{AreLeft, listed, chosen_with, IsStartEndKind, IsEndDue, pending, state_number, first_of_more}
+use Rattle.polcert_items.specs.Steps.Start.{IsOutside, AreStartDigits, IsState, IsValue, marked, start_sign, first_of, AreStartNumbers}
+use Rattle.polcert_items.specs.Steps.Start.{AreShares}
+use Rattle.polcert_items.specs.Steps.Start.{AreLeft, listed, chosen_with, IsStartEndKind, IsEndDue, pending_refusal, state_number}
+use Rattle.polcert_items.specs.Steps.Start.{first_of_more}
 use Rattle.polcert_items.specs.Steps.Start.{alone, each, only_state, probabilities}
 use Rattle.polcert_format.proofs.FurtherNumbers.{begins_no_number}
-use Rattle.polcert_items.specs.Steps.Wants.{ExpectsNext, list_wants, start_wants, number_wants}
+use Rattle.polcert_items.specs.Steps.Wants.{ExpectsNext, expected_by_numbers, expected_by_start, number_wants}
 use Rattle.polcert_items.specs.declared.entry_reader.Numbers.{Numbers}
 use Rattle.polcert_items.specs.declared.item.FeedError.TheVariants as stops
 use Rattle.polcert_items.specs.declared.signed_number.NumberStep.{NumberStep}
@@ -101,7 +103,7 @@ number_reason sign l kind place h = grind arith
 -- the token is refused for itself
 for_itself : (states : Elements) (r : StartReader) (l : Lexeme) (kind : ItemFault) (place : ℕ) → CannotTake (StartGoes states) r l
     → IsReasonAt (start_sign r) l kind place
-    → IsMisfit (start_wants (count_of states) r []) l kind → RefusesInStart states r l (refusal_of kind place)
+    → IsMisfit (expected_by_start (count_of states) r []) l kind → RefusesInStart states r l (refusal_of kind place)
 for_itself states r l kind place stuck reason misfit =
     seen.token_refused {T = Unit {0}} (Err (stops.Refused (refusal_of kind place))) states r l stuck reason misfit
 
@@ -111,7 +113,7 @@ record FirstTaken (sign : Option Sign) (l : Lexeme) (new : StartReader) : Type 0
   begun : (states : Elements) → Begins (NumbersGo states [] sign) l (StartGoes states new)
   within : (states : Elements) → IsStartWithin states new
   kept : IsNumberKept sign l new
-  leads : (count : ℕ) → ExpectsNext (numbers_want (is_some sign) count) l (start_wants count new)
+  leads : (count : ℕ) → ExpectsNext (numbers_want (is_some sign) count) l (expected_by_start count new)
 
 record FirstRefused (sign : Option Sign) (l : Lexeme) : Type 0 where
   kind : ItemFault
@@ -122,15 +124,15 @@ record FirstRefused (sign : Option Sign) (l : Lexeme) : Type 0 where
   misfit : IsMisfit (number_wants sign) l kind
   number : l.kind ≡ kinds.Numeral → IsOfValue kind
 
-any_rewards : (hs : List ℤ) → All (IsInRange ranges.Reward) hs
+any_rewards : (hs : List ℤ) → All (FitsRange ranges.Reward) hs
 any_rewards hs = λ k d h. tt
 
 sign_leads : (l : Lexeme) (s : Sign) → IsSignAt s l → (count : ℕ)
-    → ExpectsNext (numbers_want false count) l (start_wants count (reader.Sign s))
+    → ExpectsNext (numbers_want false count) l (expected_by_start count (reader.Sign s))
 sign_leads l s at count = grind arith
 
 value_leads : (sign : Option Sign) (l : Lexeme) (first : FirstNumber) → l.kind ≡ kinds.Numeral → (count : ℕ)
-    → ExpectsNext (numbers_want (is_some sign) count) l (start_wants count (reader.Number first))
+    → ExpectsNext (numbers_want (is_some sign) count) l (expected_by_start count (reader.Number first))
 value_leads sign l first e count = grind arith
 
 first_number : (sign : Option Sign) (l : Lexeme) → ((new : StartReader) × FirstTaken sign l new) ⊎ FirstRefused sign l
@@ -146,7 +148,7 @@ first_number sign l = ⊎_elim (λ s. inl (step s.0 s.1))
     }))
     (number_step ranges.Reward sign l)
   where
-    step : (s : NumberStep) → IsStep ranges.Reward sign l s → (new : StartReader) × FirstTaken sign l new
+    step : (s : NumberStep) → IsNumberStep ranges.Reward sign l s → (new : StartReader) × FirstTaken sign l new
     step (steps.Sign s) is = (
       reader.Sign s,
       record {
@@ -154,17 +156,17 @@ first_number sign l = ⊎_elim (λ s. inl (step s.0 s.1))
             (numbers.sign_begins states [] l s is.1);
         within = λ states. tt;
         kept = is;
-        leads = λ count. subst (λ o. ExpectsNext (numbers_want (is_some o) count) l (start_wants count (reader.Sign s))) (sym is.0)
+        leads = λ count. subst (λ o. ExpectsNext (numbers_want (is_some o) count) l (expected_by_start count (reader.Sign s))) (sym is.0)
             (sign_leads l s is.1 count);
       },
     )
     step (steps.Value h) is = (
-      reader.Number (record { value = h; place = number_place sign l }),
+      reader.Number (record { value = h; place = signed_place sign l }),
       record {
         begun = λ states. numbers.value_begins states [] l sign h is.0;
         within = λ states. tt;
         kept = (refl, is.0);
-        leads = value_leads sign l (record { value = h; place = number_place sign l }) is.0.kind;
+        leads = value_leads sign l (record { value = h; place = signed_place sign l }) is.0.kind;
       },
     )
 
@@ -177,10 +179,10 @@ kept_as_first count l _ none kept = absurd kept
 -- ---- after the colon
 
 record BodyTaken (states : Elements) (l : Lexeme) (new : StartReader) : Type 0 where
-  takes : Takes (StartGoes states) reader.Body l new
+  takes : TakesLexeme (StartGoes states) reader.Body l new
   within : IsStartWithin states new
   kept : IsKept (count_of states) l new
-  leads : ExpectsNext (start_body_wants (count_of states)) l (start_wants (count_of states) new)
+  leads : ExpectsNext (start_body_wants (count_of states)) l (expected_by_start (count_of states) new)
 
 record BodyRefused (states : Elements) (l : Lexeme) : Type 0 where
   kind : ItemFault
@@ -203,10 +205,11 @@ by_other k further other no_name no_colon = grind arith
 
 number_leads : (count : ℕ) (l : Lexeme) (new : StartReader) → (l.kind ≡ kinds.Name → ⊥) → (l.kind ≡ kinds.Colon → ⊥)
     → may_be_state count l.kind l.bytes ≡ false
-    → ExpectsNext (numbers_want false count) l (start_wants count new) → ExpectsNext (start_body_wants count) l (start_wants count new)
+    → ExpectsNext (numbers_want false count) l (expected_by_start count new)
+    → ExpectsNext (start_body_wants count) l (expected_by_start count new)
 number_leads count l new no_name no_colon none leads = record { same = at }
   where
-    at : (ls : List Lexeme) → start_body_wants count (l ∷ ls) ≡ start_wants count new ls
+    at : (ls : List Lexeme) → start_body_wants count (l ∷ ls) ≡ expected_by_start count new ls
     at [] = ap (λ b. if b then NumberOrEnd else by_kind l.kind EndOfWord (numbers_want false count (l ∷ []))) none
         ∙ by_other l.kind EndOfWord (numbers_want false count (l ∷ [])) no_name no_colon ∙ leads.same []
     at (m ∷ ls) = by_other l.kind EndOfWord (numbers_want false count (l ∷ m ∷ ls)) no_name no_colon ∙ leads.same (m ∷ ls)
@@ -269,10 +272,10 @@ value_of l e = ⊎_elim (λ h. (Ok h.0, record { kind = e; readable = h.1; value
     (exact_or_refused false l.bytes)
 
 digits_leads : (count : ℕ) (l : Lexeme) (d : StateOrNumber) → l.kind ≡ kinds.Numeral → may_be_state count l.kind l.bytes ≡ true
-    → ExpectsNext (start_body_wants count) l (start_wants count (reader.StateOrNumber d))
+    → ExpectsNext (start_body_wants count) l (expected_by_start count (reader.StateOrNumber d))
 digits_leads count l d e may = record { same = at }
   where
-    at : (ls : List Lexeme) → start_body_wants count (l ∷ ls) ≡ start_wants count (reader.StateOrNumber d) ls
+    at : (ls : List Lexeme) → start_body_wants count (l ∷ ls) ≡ expected_by_start count (reader.StateOrNumber d) ls
     at [] = ap (λ b. if b then NumberOrEnd else by_kind l.kind EndOfWord (numbers_want false count (l ∷ []))) may
     at (m ∷ ls) = by_other l.kind EndOfWord (numbers_want false count (l ∷ m ∷ ls)) (λ f. cc) (λ f. cc)
         ∙ (value_leads None l (record { value = pos 0; place = 0 }) e count).same (m ∷ ls)
@@ -283,7 +286,8 @@ begin_digits states l more e digits may =
     let s = state_of (count_of states) l e digits in
     let v = value_of l e in
     let d : StateOrNumber = record { state = s.0; value = v.0; place = l.place } in
-    let are : AreDigits (count_of states) l d = record { more = more; place = refl; digits_are = (e, digits); state = s.1; value = v.1 }
+    let are : AreStartDigits (count_of states) l d = record
+    { more = more; place = refl; digits_are = (e, digits); state = s.1; value = v.1 }
     in
     inl (
       reader.StateOrNumber d,
@@ -339,7 +343,7 @@ begin_name states l e = ⊎_elim
     no_state : (l : Lexeme) → l.kind ≡ kinds.Name → may_be_state (count_of states) l.kind l.bytes ≡ true → ⊥
     no_state l e may = grind arith
 
-    no_sign : (l : Lexeme) → l.kind ≡ kinds.Name → is_sign l.kind ≡ true → ⊥
+    no_sign : (l : Lexeme) → l.kind ≡ kinds.Name → is_sign_kind l.kind ≡ true → ⊥
     no_sign l e sign = grind arith
 
 state_tests : (count : ℕ) (l : Lexeme) → l.kind ≡ kinds.Numeral → (count ≡ 1 → ⊥) → are_digits l.bytes ≡ true
@@ -381,11 +385,11 @@ begin_body states some l = at l.kind refl
 -- ---- after the first number
 
 record FurtherTaken (states : Elements) (f : FirstNumber) (l : Lexeme) (n : Numbers ℕ) : Type 0 where
-  takes : Takes (StartGoes states) (reader.Number f) l (reader.Probabilities n)
+  takes : TakesLexeme (StartGoes states) (reader.Number f) l (reader.Probabilities n)
   within : IsStartWithin states (reader.Probabilities n)
   sign : SignIs n.sign l
   inside : IsOutside f.value → ⊥
-  leads : ExpectsNext (numbers_want false (count_of states - 1)) l (list_wants n)
+  leads : ExpectsNext (numbers_want false (count_of states - 1)) l (expected_by_numbers n)
 
 record FurtherRefused (states : Elements) (f : FirstNumber) (l : Lexeme) : Type 0 where
   kind : ItemFault
@@ -410,7 +414,7 @@ no_further_stuck states f l e ls v g = let no = no_number_kind l e in begins_no_
 
 -- with one state there is one number
 one_alone : (states : Elements) (h : ℤ) (xs : List Lexeme) (further : List ℤ) (asked : Option StartWeights) → count_of states ≡ 1
-    → (l : Lexeme) (ls : List Lexeme) → xs ≡ l ∷ ls → AreNumbers xs further → AreGiven states (h ∷ further) asked → ⊥
+    → (l : Lexeme) (ls : List Lexeme) → xs ≡ l ∷ ls → AreNumbers xs further → AreStartNumbers states (h ∷ further) asked → ⊥
 one_alone states h xs further None only l ls e a (alone k same) = cons≢nil (sym e ∙ no_lexemes xs further (same_tail same) a)
 one_alone states h xs further None only l ls e a (each ps more same count small) = omega (arith, only, more)
 one_alone states h xs further (Some v) only l ls e a (only_state count (inl same) shares) =
@@ -426,7 +430,7 @@ not_due : (f : FirstNumber) (l : Lexeme) (P : Refusal → Type 0) → (IsOutside
     → IsDueNumber f.value f.place l r.kind r.place → P r
 not_due f l P inside r d = absurd (inside d.1.0)
 
-one_number_wants : (count : ℕ) (p : ℕ) (ls : List Lexeme) → list_wants (one_number count p) ls ≡ numbers_want false (count - 1) ls
+one_number_wants : (count : ℕ) (p : ℕ) (ls : List Lexeme) → expected_by_numbers (one_number count p) ls ≡ numbers_want false (count - 1) ls
 one_number_wants count p ls = refl
 
 probability_reason : (sign : Option Sign) (l : Lexeme) (kind : ItemFault) (place : ℕ) → IsListReason ranges.Probability sign l kind place
@@ -533,18 +537,18 @@ form_stuck states l no_colon no_include no_exclude ls (Some v) g = of_start (l �
     of_start xs v e (starts.include chosen word colon zip left) = no_include (subst (IsWord (codes "include")) (same_head e) word)
     of_start xs v e (starts.exclude chosen word colon zip left) = no_exclude (subst (IsWord (codes "exclude")) (same_head e) word)
 
-fed : (states : Elements) (r new : StartReader) (l : Lexeme) → IsStartWithin states new → Takes (StartGoes states) r l new
-    → ExpectsNext (start_wants (count_of states) r) l (start_wants (count_of states) new)
+fed : (states : Elements) (r new : StartReader) (l : Lexeme) → IsStartWithin states new → TakesLexeme (StartGoes states) r l new
+    → ExpectsNext (expected_by_start (count_of states) r) l (expected_by_start (count_of states) new)
     → ((body : List Lexeme) → HasReadStart (count_of states) body r → HasReadStart (count_of states) (body ++ l ∷ []) new)
     → IsStartFed states r l new
 fed states r new l within takes leads also = seen.fed_as states r r new l refl within takes leads also
 
 word_leads : (count : ℕ) (l : Lexeme) (choice : Choice) → l.kind ≡ kinds.Name
-    → ExpectsNext (start_wants count reader.Form) l (start_wants count (reader.Colon choice))
+    → ExpectsNext (expected_by_start count reader.Form) l (expected_by_start count (reader.Colon choice))
 word_leads count l choice e = record { same = λ ls. ap (λ k. if is_colon k then start_body_wants count ls else wants.list_wants ls) e }
 
 colon_leads : (count : ℕ) (l : Lexeme) → l.kind ≡ kinds.Colon
-    → ExpectsNext (start_wants count reader.Form) l (start_wants count reader.Body)
+    → ExpectsNext (expected_by_start count reader.Form) l (expected_by_start count reader.Body)
 colon_leads count l e = record { same = λ ls. ap (λ k. if is_colon k then start_body_wants count ls else wants.list_wants ls) e }
 
 feed_form : (states : Elements) (l : Lexeme) → StartFed states reader.Form l
@@ -595,7 +599,7 @@ feed_colon states choice l = ⊎_elim
             back = λ ls v g. (colon, forms.list_same states choice (marked c.marks) (λ s. false) ls v (unmarked (count_of states)) g);
             on = λ ls v g. forms.list_same states choice (λ s. false) (marked c.marks) ls v (λ s. sym (unmarked (count_of states) s))
                 g.1;
-          }) (record { same = λ ls. refl }) (λ body s. seen.list_seen (count_of states) body l c s.body_is (ap is_sign colon)),
+          }) (record { same = λ ls. refl }) (λ body s. seen.list_seen (count_of states) body l c s.body_is (ap is_sign_kind colon)),
     ))
     (λ no. inr (record {
       refusal = refusal_of no.kind l.place;
@@ -658,7 +662,7 @@ feed_digits states some d l more (Err fault) e = inr (record {
 })
 
 no_more : (states : Elements) (r : StartReader) (l : Lexeme) → CannotTake (StartGoes states) r l
-    → start_wants (count_of states) r [] ≡ EndOfWord → start_sign r ≡ None → (CanStillBeRight (count_of states) r l → ⊥)
+    → expected_by_start (count_of states) r [] ≡ EndOfWord → start_sign r ≡ None → (CanStillBeRight (count_of states) r l → ⊥)
     → ((x : Refusal) → IsDue r l x.kind x.place → ⊥) → StartFed states r l
 no_more states r l stuck wants no_sign held none =
     let m = misplaced EndOfWord l refl in
@@ -744,9 +748,9 @@ pub record StartUnended (states : Elements) (r : StartReader) : Type 0 where
   pub kind : ItemFault
   pub stuck : CannotEnd (StartGives states) r
   pub reason : IsStartEndKind kind
-  pub kinds : kind ≡ unexpected_token (start_wants (count_of states) r []) None
+  pub kinds : kind ≡ unexpected_token (expected_by_start (count_of states) r []) None
   pub due : IsEndDue r (ends.AtEnd kind)
-  pub unheld : pending r ≡ None
+  pub unheld : pending_refusal r ≡ None
 
 -- digits that are no state's number
 pub record DigitsUnended (states : Elements) (r : StartReader) : Type 0 where
@@ -891,8 +895,8 @@ end_shares states n room = ⊎_elim
         at (x ∷ xs) e same = absurd (omega (arith, e))
 
 bad_shape : (states : Elements) (r : StartReader) → CannotEnd (StartGives states) r
-    → faults.BadShape ≡ unexpected_token (start_wants (count_of states) r []) None → IsEndDue r (ends.AtEnd faults.BadShape)
-    → pending r ≡ None → StartEnded states r
+    → faults.BadShape ≡ unexpected_token (expected_by_start (count_of states) r []) None → IsEndDue r (ends.AtEnd faults.BadShape)
+    → pending_refusal r ≡ None → StartEnded states r
 bad_shape states r stuck kinds owed unheld = unended
     (record { kind = faults.BadShape; stuck = stuck; reason = tt; kinds = kinds; due = owed; unheld = unheld })
 

@@ -21,10 +21,10 @@ use Rattle.polcert_format.specs.declared.fault.ItemFault.{ItemFault}
 use Rattle.polcert_format.specs.declared.fault.ItemFault.TheVariants as faults
 use Rattle.polcert_format.specs.Misfits.{Expected, Mark, EndOfNumbers, IsMisfit, of_place, of_value, IsOfValue, unexpected_token, misfit_at}
 use Rattle.polcert_format.specs.Misfits.{is_reset, tests_value, begins_number}
-use Rattle.polcert_items.specs.Steps.Numbers.{IsStep, IsSignAt, plus, minus, RefusesNumber, IsNoNumber, IsNumberReason, IsMisplaced}
-use Rattle.polcert_items.specs.Steps.Numbers.{IsAfterNumbers, IsInRange, IsRangeFault, is_negative, number_place}
+use Rattle.polcert_items.specs.Steps.Numbers.{IsNumberStep, IsSignAt, plus, minus, RefusesNumber, IsNoNumber, IsNumberReason, IsMisplaced}
+use Rattle.polcert_items.specs.Steps.Numbers.{IsAfterNumbers, FitsRange, IsRangeFault, is_minus_sign, signed_place}
 use Rattle.polcert_items.specs.Steps.Wants.{ExpectsNext, number_wants}
-use Rattle.polcert_items.specs.Steps.Lines.{Takes, CannotTake}
+use Rattle.polcert_items.specs.Steps.Lines.{TakesLexeme, CannotTake}
 use Rattle.polcert_items.specs.declared.signed_number.NumberStep.{NumberStep}
 use Rattle.polcert_items.specs.declared.signed_number.NumberStep.TheVariants as steps
 use Rattle.polcert_items.specs.declared.signed_number.Range.{Range}
@@ -105,11 +105,11 @@ fraction_or_not (negsuc n) = inr (λ f. cc)
 -- the kind of a number out of its range
 record OutOfRange (range : Range) (h : ℤ) : Type 0 where
   pub kind : ItemFault
-  pub out : IsInRange range h → ⊥
+  pub out : FitsRange range h → ⊥
   pub fault : IsRangeFault range kind
   pub of_value : IsOfValue kind
 
-in_range_or_not : (range : Range) (h : ℤ) → IsInRange range h ⊎ OutOfRange range h
+in_range_or_not : (range : Range) (h : ℤ) → FitsRange range h ⊎ OutOfRange range h
 in_range_or_not ranges.Reward h = inl tt
 in_range_or_not ranges.Discount h = ⊎_elim inl (λ out. inr (record { kind = faults.DiscountRange; out = out; fault = refl; of_value = tt }))
     (fraction_or_not h)
@@ -129,26 +129,27 @@ tests None l e = ap (λ k. tests_value (number_wants None) k) e
 tests (Some s) l e = ap (λ k. tests_value (number_wants (Some s)) k) e
 
 no_value : (range : Range) (sign : Option Sign) (l : Lexeme) (fault : NumberFault) → l.kind ≡ kinds.Numeral
-    → IsRefusedExactly (is_negative sign) l.bytes fault
-    → RefusesNumber range sign l (faults.Number fault) (number_place sign l)
+    → IsRefusedExactly (is_minus_sign sign) l.bytes fault
+    → RefusesNumber range sign l (faults.Number fault) (signed_place sign l)
 no_value range sign l fault numeral refused = record {
   none = λ ls hs a all. let f = first_number sign l ls hs numeral a in
-      exact_not_refused (is_negative sign) l.bytes fault f.first f.value.readable f.value.value refused;
+      exact_not_refused (is_minus_sign sign) l.bytes fault f.first f.value.readable f.value.value refused;
   reason = (refl, (numeral, refused));
 }
 
-numeral_step : (range : Range) (sign : Option Sign) (l : Lexeme) → l.kind ≡ kinds.Numeral → ((step : NumberStep) × IsStep range sign l step)
+numeral_step : (range : Range) (sign : Option Sign) (l : Lexeme) → l.kind ≡ kinds.Numeral
+    → ((step : NumberStep) × IsNumberStep range sign l step)
     ⊎ NumberRefused range sign l
 numeral_step range sign l numeral = ⊎_elim
     (λ v.
-    let is : IsMillionths (is_negative sign) l v.0 = record { kind = numeral; readable = v.1; value = v.2 } in
+    let is : IsMillionths (is_minus_sign sign) l v.0 = record { kind = numeral; readable = v.1; value = v.2 } in
     ⊎_elim
     (λ inside. inl (steps.Value v.0, (is, inside)))
     (λ out. inr (record {
       kind = out.kind;
-      place = number_place sign l;
+      place = signed_place sign l;
       refuses =
-          refuses_range range sign l v.0 out.kind (number_place sign l) is out.out out.fault refl;
+          refuses_range range sign l v.0 out.kind (signed_place sign l) is out.out out.fault refl;
       misfit =
           of_value (tests sign l numeral) out.of_value;
       number = λ e. out.of_value;
@@ -156,13 +157,13 @@ numeral_step range sign l numeral = ⊎_elim
     (in_range_or_not range v.0))
     (λ f. inr (record {
       kind = faults.Number f.0;
-      place = number_place sign l;
+      place = signed_place sign l;
       refuses = no_value range sign l f.0 numeral f.1;
       misfit =
           of_value (tests sign l numeral) tt;
       number = λ e. tt;
     }))
-    (exact_or_refused (is_negative sign) l.bytes)
+    (exact_or_refused (is_minus_sign sign) l.bytes)
 
 shape_of_number : (sign : Option Sign) (l : Lexeme) → misfit_at (number_wants sign) l ≡ faults.BadShape
 shape_of_number None l = refl
@@ -195,7 +196,7 @@ no_number_begins : (range : Range) (l : Lexeme) → (l.kind ≡ kinds.Numeral �
 no_number_begins range l h1 h2 h3 = λ ls hs a all. grind arith
 
 sign_step : (range : Range) (sign : Option Sign) (l : Lexeme) (s : Sign) → IsSignAt s l → (l.kind ≡ kinds.Numeral → ⊥)
-    → ((step : NumberStep) × IsStep range sign l step) ⊎ NumberRefused range sign l
+    → ((step : NumberStep) × IsNumberStep range sign l step) ⊎ NumberRefused range sign l
 sign_step range None l s at other = inl (steps.Sign s, (refl, at))
 sign_step range (Some before) l s at other = inr (not_here range (Some before) l other (after_sign range before l other))
 
@@ -205,11 +206,11 @@ other_step range None l h1 h2 h3 = not_here range None l h1 (no_number_begins ra
 other_step range (Some s) l h1 h2 h3 = not_here range (Some s) l h1 (after_sign range s l h1)
 
 -- what a token gives in a number's place
-pub number_step : (range : Range) (sign : Option Sign) (l : Lexeme) → ((step : NumberStep) × IsStep range sign l step)
+pub number_step : (range : Range) (sign : Option Sign) (l : Lexeme) → ((step : NumberStep) × IsNumberStep range sign l step)
     ⊎ NumberRefused range sign l
 number_step range sign l = at l.kind refl
   where
-    at : (k : TokenKind) → l.kind ≡ k → ((step : NumberStep) × IsStep range sign l step) ⊎ NumberRefused range sign l
+    at : (k : TokenKind) → l.kind ≡ k → ((step : NumberStep) × IsNumberStep range sign l step) ⊎ NumberRefused range sign l
     at kinds.Numeral e = numeral_step range sign l e
     at kinds.Plus e = sign_step range sign l (record { negative = false; place = l.place }) (plus e refl refl) (λ f. cc)
     at kinds.Minus e = sign_step range sign l (record { negative = true; place = l.place }) (minus e refl refl) (λ f. cc)
@@ -220,7 +221,7 @@ number_step range sign l = at l.kind refl
 -- a token is taken
 pub record TokenTaken {S V : Type 0} (Goes : S → List Lexeme → V → Type 0) (wants : S → List Lexeme → Expected) (old : S) (l : Lexeme)
     (new : S) : Type 0 where
-  pub takes : Takes Goes old l new
+  pub takes : TakesLexeme Goes old l new
   pub leads : ExpectsNext (wants old) l (wants new)
 
 -- a token is refused

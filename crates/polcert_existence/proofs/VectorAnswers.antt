@@ -15,12 +15,12 @@ use Rattle.polcert_text.specs.Cut.{Lexeme, Rest, IsCut, text_rest, text_limit}
 use Rattle.polcert_text.specs.TakenTokens.{Taken}
 use Rattle.polcert_text.specs.declared.tokens.TokenFault.{TokenFault}
 use Rattle.polcert_cells.specs.Elements.{most_states, most_actions}
-use Rattle.polcert_policy.specs.Fields.{numeral_kind, is_whole, whole_of}
+use Rattle.polcert_policy.specs.Fields.{numeral_kind, is_whole, whole_number_of}
 use Rattle.polcert_policy.specs.Graphs.{PolicyGraph, IsProperGraph, nodes, action_of}
 use Rattle.polcert_policy.specs.Vectors.{sign_kind, ArePossible, IsRoundedVectors}
 use Rattle.polcert_policy.specs.VectorText.{IsRefusedRoundedVectorsText}
 use Rattle.polcert_policy.specs.ActionVectors.{action_graph}
-use Rattle.polcert_policy.specs.Steps.VectorsRead.{HasVectors, IsPartRefusal, CheckedAction, AreEndRefusal, kept_sign, place_after}
+use Rattle.polcert_policy.specs.Steps.VectorsRead.{HasReadVectors, IsPartRefusal, CheckedAction, AreEndRefusal, kept_sign, place_after}
 use Rattle.polcert_policy.specs.Steps.VectorsRead.{is_minus}
 use Rattle.polcert_policy.specs.declared.fault.VectorFault.{VectorFault}
 use Rattle.polcert_policy.specs.declared.fault.VectorFault.TheVariants as faults
@@ -64,10 +64,10 @@ some_value way negative bs readable = (
 
 -- ---- one more token
 
-module _ (way : Rounding) (g : PolicyGraph) (seen : List Lexeme) (r : VectorsReading) (t : Lexeme) (h : HasVectors way g seen r) where
+module _ (way : Rounding) (g : PolicyGraph) (seen : List Lexeme) (r : VectorsReading) (t : Lexeme) (h : HasReadVectors way g seen r) where
   -- the tokens are read on by this token, or stop being possible at it
   abbrev IsTakenOrRefused : Type 0
-  IsTakenOrRefused = ((new : VectorsReading) × (new.states ≡ r.states) × HasVectors way g (seen ++ t ∷ []) new)
+  IsTakenOrRefused = ((new : VectorsReading) × (new.states ≡ r.states) × HasReadVectors way g (seen ++ t ∷ []) new)
       ⊎ ((fault : VectorFault) × (fault ≢ faults.Memory) × IsPartRefusal way g r.states (seen ++ t ∷ []) fault)
 
   take_action : r.column ≡ 0 → IsTakenOrRefused
@@ -100,7 +100,7 @@ module _ (way : Rounding) (g : PolicyGraph) (seen : List Lexeme) (r : VectorsRea
                 value,
           ))
           (λ other. stop (faults.ActionMismatch t.place) (λ m. cc) (refl, few, whole, other))
-          (same_or_not (whole_of t) (action_of g r.node)))
+          (same_or_not (whole_number_of t) (action_of g r.node)))
           (λ wrong. stop (faults.BadShape t.place) (λ m. cc) (refl, few, wrong))
           (cases_Bool (is_whole t))
 
@@ -203,7 +203,7 @@ module _ (way : Rounding) (g : PolicyGraph) (states : ℕ) (proper : IsProperGra
   record VectorsSoFar (seen : List Lexeme) : Type 0 where
     pub reading : VectorsReading
     pub states_are : reading.states ≡ states
-    pub read : HasVectors way g seen reading
+    pub read : HasReadVectors way g seen reading
 
   refused : (fault : VectorFault) → fault ≢ faults.Memory → IsRefusedRoundedVectorsText way g states fault text
       → HasVectorsAnswer way g states text

@@ -16,13 +16,13 @@ pub use Rattle.polcert_cells.specs.declared.entries.Table.TheVariants.{Observati
 pub use Rattle.polcert_cells.specs.declared.words.Topic.{Topic}
 pub use Rattle.polcert_cells.specs.declared.words.Topic.TheVariants.{Cells, Discount, Start}
 pub use Rattle.polcert_format.specs.FirstNumber.{IsLateIn}
-pub use Rattle.polcert_format.specs.FirstWrong.{AreTokensOf, IsDecided, TextTokens, tokens_of, word_place}
+pub use Rattle.polcert_format.specs.FirstWrong.{AreTokensOf, IsDecided, TextTokens, text_tokens, word_place}
 pub use Rattle.polcert_format.specs.Forms.{HasForm, IsPossible}
 pub use Rattle.polcert_format.specs.Items.{IsDivided, IsItem, Item, lexemes_of}
 pub use Rattle.polcert_format.specs.Misfits.{IsOfValue}
 pub use Rattle.polcert_format.specs.Order.{preamble_fault, word_fault}
 pub use Rattle.polcert_format.specs.Reading.{AreRightItems, IsWithinItem, IsWrong}
-pub use Rattle.polcert_format.specs.Reasons.{IsNoFraction, IsReason, IsRefusedNumber, is_sign}
+pub use Rattle.polcert_format.specs.Reasons.{IsNoFraction, IsReason, IsRefusedNumber, is_sign_kind}
 pub use Rattle.polcert_format.specs.Refusals.{EndsPossible, IsOfTokens, StandsRight, Stops, StopsInBody, after_body, at_end, at_lexeme}
 pub use Rattle.polcert_format.specs.Refusals.{at_number, at_once, before_body, in_body, in_item, of_first_number, of_tokens, place_or}
 pub use Rattle.polcert_format.specs.Text.{AreRight, Denotes, HasLines, IsComplete, IsModelText, IsRight, IsRightText, ModelSoFar, more}

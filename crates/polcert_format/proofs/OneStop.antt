@@ -2,7 +2,7 @@
 use Rattle.std.proofs.Common.{◌≡◌, ◌∙◌, ℕ, true, false, List, [], ◌∷◌, ◌++◌, refl, sym, ap, subst, arith, rules}
 use Rattle.std.proofs.Math.Path.{subst₂}
 use Rattle.std.proofs.lemmas.List.{append_assoc, append-nil}
-use Rattle.polcert_format.proofs.Common.{Lexeme, Numeral, Topic, ItemFault, HasForm, IsPossible, IsOfValue, is_sign, Stops, at_lexeme}
+use Rattle.polcert_format.proofs.Common.{Lexeme, Numeral, Topic, ItemFault, HasForm, IsPossible, IsOfValue, is_sign_kind, Stops, at_lexeme}
 use Rattle.polcert_format.proofs.Common.{at_number, at_end, place_or, ModelSoFar}
 use Rattle.polcert_cells.proofs.Basics.{true≢false, cons≢nil, same_head, same_tail}
 use Rattle.polcert_format.specs.Forms.{HasNoForm}
@@ -89,7 +89,7 @@ module _ (k : ModelSoFar) (t : Topic) (body : List Lexeme) (a end : ℕ) (climbs
   -- a numeral after a sign is refused at the sign
   sign_or_numeral : (f g : ItemFault) (xs ys : List Lexeme) (l sign m : Lexeme) → Breaks k t body xs l
       → Breaks k t body (ys ++ sign ∷ []) m
-      → is_sign sign.kind ≡ true → m.kind ≡ Numeral
+      → is_sign_kind sign.kind ≡ true → m.kind ≡ Numeral
       → IsMisfit (expected k t xs) l f → HasReason f l.place → IsOfValue g → IsMisfit (expected k t (ys ++ sign ∷ [])) m g → ⊥
   sign_or_numeral f g xs ys l sign m x y is numeral (of_value tested v) reason w unfit =
       let same = one_break k t body xs (ys ++ sign ∷ []) l m x y in

@@ -1,7 +1,7 @@
 -- At one place of a body one number stands, and its value is refused for one reason.
 use Rattle.std.proofs.Common.{◌≡◌, ◌∙◌, ℕ, Bool, true, List, [], ◌∷◌, ◌++◌, refl, sym, ap, subst, arith}
 use Rattle.polcert_format.proofs.Common.{Lexeme, Numeral, NumberFault, Topic, Discount, ItemFault, Number, ProbabilityRange, DiscountRange}
-use Rattle.polcert_format.proofs.Common.{IsRefusedNumber, IsNoFraction, is_sign}
+use Rattle.polcert_format.proofs.Common.{IsRefusedNumber, IsNoFraction, is_sign_kind}
 use Rattle.polcert_text.proofs.TextLaws.{one_exact_fault}
 use Rattle.polcert_format.specs.Reasons.{NumberStandsIn, IsOfProbabilities, ends_in_sign}
 use Rattle.polcert_format.proofs.Climbing.{Climbs, one_lexeme}
@@ -56,18 +56,18 @@ module _ (t : Topic) (body : List Lexeme) (a : ℕ) (climbs : Climbs a body) whe
 
   -- ---- the place of a number with a sign is that of its sign
 
-  last_is : (ls : List Lexeme) (sign : Lexeme) → ends_in_sign (ls ++ sign ∷ []) ≡ is_sign sign.kind
+  last_is : (ls : List Lexeme) (sign : Lexeme) → ends_in_sign (ls ++ sign ∷ []) ≡ is_sign_kind sign.kind
   last_is [] sign = refl
   last_is (x ∷ []) sign = refl
   last_is (x ∷ y ∷ ls) sign = last_is (y ∷ ls) sign
 
   not_after_sign : (taken rest : List Lexeme) (sign l : Lexeme) (Is : Bool → Lexeme → Type 0) → body ≡ (taken ++ sign ∷ []) ++ l ∷ rest
-      → is_sign sign.kind ≡ true → l.kind ≡ Numeral
+      → is_sign_kind sign.kind ≡ true → l.kind ≡ Numeral
       → OfNumerals Is → NumberStandsIn body l.place Is → ⊥
   not_after_sign taken rest sign l Is whole is numeral of x = grind (arith, one_lexeme, last_is)
 
   pub no_reason_after_sign : (taken rest : List Lexeme) (sign l : Lexeme) (kind : ItemFault) → body ≡ (taken ++ sign ∷ []) ++ l ∷ rest
-      → is_sign sign.kind ≡ true → l.kind ≡ Numeral
+      → is_sign_kind sign.kind ≡ true → l.kind ≡ Numeral
       → ValueReason t body l.place kind → ⊥
   no_reason_after_sign taken rest sign l kind whole is numeral (no_value r e x) =
       not_after_sign taken rest sign l (IsRefusedNumber r) whole is numeral (refused_numeral r) x

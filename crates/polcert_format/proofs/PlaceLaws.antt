@@ -6,7 +6,7 @@ use Rattle.polcert_format.proofs.Common.{Lexeme, Rest, TakesToken, IsCut, text_r
 use Rattle.polcert_format.proofs.Common.{IsDivided, TextTokens, AreTokensOf, word_place, place_or, TokenFault}
 use Rattle.polcert_text.specs.Cut.{EndsAt}
 use Rattle.polcert_text.specs.Reading.{fault_place}
-use Rattle.polcert_format.specs.FirstWrong.{item_begin, LiesIn}
+use Rattle.polcert_format.specs.FirstWrong.{item_begin, LiesInItem}
 use Rattle.polcert_format.proofs.Dividing.{all_append, empty_division}
 
 -- from here to there the places of the lexemes rise
@@ -72,14 +72,14 @@ place_after rest items stop = grind (arith, first_place)
 -- what stands from its word on, up to the next, lies in an item
 lies_between : (ts : TextTokens) (before : List Item) (item : Item) (after : List Item) (place : ℕ)
     → IsDivided ts.lexemes [] (before ++ item ∷ after)
-    → item.word.place ≤ place → place ≤ word_place after ts.end 0 → LiesIn ts (length before + 1) place
+    → item.word.place ≤ place → place ≤ word_place after ts.end 0 → LiesInItem ts (length before + 1) place
 lies_between ts before item after place d low high = search (rules, add-one, nth_place, next_place)
 
 -- a place where a part of the item's body was taken lies in the item
 pub lies_in_item : (ts : TextTokens) (before : List Item) (item : Item) (after : List Item) (taken rest : List Lexeme)
     → Rises 0 ts.lexemes ts.end
     → IsDivided ts.lexemes [] (before ++ item ∷ after) → item.body ≡ taken ++ rest
-    → LiesIn ts (length before + 1) (place_or rest (word_place after ts.end 0))
+    → LiesInItem ts (length before + 1) (place_or rest (word_place after ts.end 0))
 lies_in_item ts before item after taken rest rises d e =
     let following = flat_map lexemes_of after in
     let all = rises_split 0 ts.end (flat_map lexemes_of before) (item.word ∷ (taken ++ (rest ++ following)))
@@ -95,7 +95,7 @@ lies_in_item ts before item after taken rest rises d e =
 
 -- so does the place of its word
 pub lies_at_word : (ts : TextTokens) (before : List Item) (item : Item) (after : List Item) → Rises 0 ts.lexemes ts.end
-    → IsDivided ts.lexemes [] (before ++ item ∷ after) → LiesIn ts (length before + 1) item.word.place
+    → IsDivided ts.lexemes [] (before ++ item ∷ after) → LiesInItem ts (length before + 1) item.word.place
 lies_at_word ts before item after rises d =
     let following = flat_map lexemes_of after in
     let all = rises_split 0 ts.end (flat_map lexemes_of before) (item.word ∷ (item.body ++ following))
@@ -107,7 +107,7 @@ lies_at_word ts before item after rises d =
 
 -- what stands before the first item word lies in item 0
 pub lies_before_items : (ts : TextTokens) (l : Lexeme) (ls : List Lexeme) (items : List Item) → Rises 0 ts.lexemes ts.end
-    → IsDivided ts.lexemes (l ∷ ls) items → LiesIn ts 0 l.place
+    → IsDivided ts.lexemes (l ∷ ls) items → LiesInItem ts 0 l.place
 lies_before_items ts l ls items rises d = grind (arith, rises_le, rises_split, first_place)
 
 last_place : (items : List Item) (stop : ℕ) → word_place items stop (length items) ≡ stop
@@ -119,7 +119,7 @@ past_place [] stop = refl
 past_place (x ∷ xs) stop = past_place xs stop
 
 -- the end lies where the text ends
-pub lies_at_end : (ts : TextTokens) (items : List Item) → IsDivided ts.lexemes [] items → LiesIn ts (length items + 1) ts.end
+pub lies_at_end : (ts : TextTokens) (items : List Item) → IsDivided ts.lexemes [] items → LiesInItem ts (length items + 1) ts.end
 lies_at_end ts items d = search (rules, add-one, last_place, past_place)
 
 -- ---- the place of a fault
@@ -164,7 +164,7 @@ fault_rises text ts f tokens e =
 
 -- a fault lies in the last item
 pub lies_at_fault : (ts : TextTokens) (before : List Item) (item : Item) (place : ℕ) → Rises 0 ts.lexemes place → place ≤ ts.end
-    → IsDivided ts.lexemes [] (before ++ item ∷ []) → LiesIn ts (length before + 1) place
+    → IsDivided ts.lexemes [] (before ++ item ∷ []) → LiesInItem ts (length before + 1) place
 lies_at_fault ts before item place rises high d =
     let all = rises_split 0 place (flat_map lexemes_of before) (item.word ∷ (item.body ++ []))
     (subst (λ ls. Rises 0 ls place) (d.whole ∙ all_append before (item ∷ [])) rises) in
@@ -181,5 +181,5 @@ lies_at_fault ts before item place rises high d =
     }
 
 -- where no lexeme came, it lies in item 0
-pub lies_at_once : (ts : TextTokens) (place : ℕ) → place ≤ ts.end → ts.lexemes ≡ [] → LiesIn ts 0 place
+pub lies_at_once : (ts : TextTokens) (place : ℕ) → place ≤ ts.end → ts.lexemes ≡ [] → LiesInItem ts 0 place
 lies_at_once ts place high none = grind (arith, empty_division)

@@ -4,7 +4,7 @@ use Rattle.std.proofs.Common.{refl, sym, ap, subst}
 use Rattle.std.proofs.lemmas.List.{append_assoc, append-nil}
 use Rattle.polcert_format.proofs.Common.{Lexeme, TokenFault, Topic, topic, begins_item, Item, IsDivided, Preamble, ModelSoFar}
 use Rattle.polcert_format.proofs.Common.{nothing_known, IsComplete, IsRight, AreRight, none, more, IsRightText, AreRightItems, IsWithinItem}
-use Rattle.polcert_format.proofs.Common.{IsWrong, TextTokens, tokens_of}
+use Rattle.polcert_format.proofs.Common.{IsWrong, TextTokens, text_tokens}
 use Rattle.polcert_format.specs.Reading.{CannotGoOn}
 use Rattle.polcert_format.specs.FirstWrong.{IsFirstWrong, wrong_front, wrong_fault, wrong_item, wrong_last, wrong_end}
 use Rattle.polcert_cells.proofs.Basics.{one_some, some≢none, or_false_from, cons≢nil, same_head, same_tail}
@@ -49,7 +49,7 @@ whatever_topic k t word body e wrong u f = subst (λ x. IsWrong k x body) (one_s
 
 pub wrong_within : (seen body : List Lexeme) (k : ModelSoFar) (t : Topic) (w : IsWithinItem seen k t body) → CannotGoOn k t body
     → (further : List Lexeme) (ending : Option TokenFault) (stop : ℕ)
-    → IsFirstWrong (tokens_of (seen ++ further) ending stop) (length w.items.items + 1)
+    → IsFirstWrong (text_tokens (seen ++ further) ending stop) (length w.items.items + 1)
 wrong_within seen body k t w stuck further ending stop =
     let d = has_division further in
     wrong_item w.items.items (record { word = w.word; body = body ++ d.0 }) d.1 k (within_division seen body further d.0 k t d.1 w d.2)
@@ -59,7 +59,7 @@ wrong_within seen body k t w stuck further ending stop =
 pub wrong_at_word : (seen body : List Lexeme) (k : ModelSoFar) (t : Topic) (next : Lexeme) (w : IsWithinItem seen k t body)
     → IsWrong k t body → begins_item next ≡ true
     → (further : List Lexeme) (ending : Option TokenFault) (stop : ℕ)
-    → IsFirstWrong (tokens_of (seen ++ next ∷ further) ending stop) (length w.items.items + 1)
+    → IsFirstWrong (text_tokens (seen ++ next ∷ further) ending stop) (length w.items.items + 1)
 wrong_at_word seen body k t next w wrong b further ending stop =
     let d = has_division further in
     let item : Item = record { word = next; body = d.0 } in
@@ -69,28 +69,28 @@ wrong_at_word seen body k t next w wrong b further ending stop =
     (whatever_topic k t w.word (body ++ []) w.topic_is (subst (IsWrong k t) (sym (append-nil body)) wrong)) refl
 
 pub wrong_at_end : (seen body : List Lexeme) (k : ModelSoFar) (t : Topic) (w : IsWithinItem seen k t body) → IsWrong k t body
-    → (ending : Option TokenFault) (stop : ℕ) → IsFirstWrong (tokens_of seen ending stop) (length w.items.items + 1)
+    → (ending : Option TokenFault) (stop : ℕ) → IsFirstWrong (text_tokens seen ending stop) (length w.items.items + 1)
 wrong_at_end seen body k t w wrong ending stop =
     wrong_item w.items.items (record { word = w.word; body = body }) [] k (seen_division seen body k t w) w.items.right
     (whatever_topic k t w.word body w.topic_is wrong) refl
 
 pub wrong_at_fault : (seen body : List Lexeme) (k : ModelSoFar) (t : Topic) (w : IsWithinItem seen k t body) (fault : TokenFault) (stop : ℕ)
-    → IsFirstWrong (tokens_of seen (Some fault) stop) (length w.items.items + 1)
+    → IsFirstWrong (text_tokens seen (Some fault) stop) (length w.items.items + 1)
 wrong_at_fault seen body k t w fault stop = wrong_last w.items.items (record { word = w.word; body = body }) k fault
     (seen_division seen body k t w) w.items.right refl refl
 
 pub wrong_before_items : (l : Lexeme) → begins_item l ≡ false → (further : List Lexeme) (ending : Option TokenFault) (stop : ℕ)
-    → IsFirstWrong (tokens_of (l ∷ further) ending stop) 0
+    → IsFirstWrong (text_tokens (l ∷ further) ending stop) 0
 wrong_before_items l e further ending stop =
     let d = has_division further in
     wrong_front l d.0 d.1 (append_division (l ∷ []) further d.0 d.1 (or_false_from (begins_item l) false e refl) d.2) refl
 
-pub wrong_at_once : (fault : TokenFault) (stop : ℕ) → IsFirstWrong (tokens_of [] (Some fault) stop) 0
+pub wrong_at_once : (fault : TokenFault) (stop : ℕ) → IsFirstWrong (text_tokens [] (Some fault) stop) 0
 wrong_at_once fault stop = wrong_fault fault refl refl refl
 
 pub wrong_after_items : (seen : List Lexeme) (k : ModelSoFar) (r : AreRightItems seen k) → ((p : Preamble) → IsComplete k p → ⊥)
     → (stop : ℕ)
-    → IsFirstWrong (tokens_of seen None stop) (length r.items + 1)
+    → IsFirstWrong (text_tokens seen None stop) (length r.items + 1)
 wrong_after_items seen k r lacking stop = wrong_end r.items k r.divided r.right refl lacking refl
 
 nil≢cons : {A : Type 0} {x : A} {xs : List A} → [] ≡ x ∷ xs → ⊥

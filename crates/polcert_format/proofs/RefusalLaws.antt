@@ -2,7 +2,7 @@
 use Rattle.std.proofs.Common.{◌≡◌, ◌∙◌, ℕ, zero, suc, ◌<◌, None, List, refl, sym, subst, arith}
 use Rattle.polcert_format.proofs.Common.{text_rest, end_place, text_limit, Table, Transition, Observation, Reward, ModelFault, Preamble}
 use Rattle.polcert_format.proofs.Common.{Meaning, meaning_of, sum_below, states_of, observations_of, IsSame, IsFirstWrongRow, IsRightText}
-use Rattle.polcert_format.proofs.Common.{IsModelText, TextTokens, tokens_of, AreTokensOf}
+use Rattle.polcert_format.proofs.Common.{IsModelText, TextTokens, text_tokens, AreTokensOf}
 use Rattle.polcert_text.proofs.Scanning.CleanCut.{clean_cut}
 use Rattle.polcert_text.proofs.TextLaws.{one_cut}
 use Rattle.polcert_format.specs.declared.fault.ModelFault.TheVariants.{Item, RowSum, Memory}
@@ -60,11 +60,11 @@ not_accepted text ts Memory m tokens refusal says accepted = absurd says
 
 pub no_model : (text : List ℕ) (fault : ModelFault) → ((ts : TextTokens) → AreTokensOf text ts → IsRefusal ts fault) → IsNoModel text fault
 no_model text (Item kind number place) refused = λ m accepted.
-    let ts : TextTokens = tokens_of accepted.lexemes None (end_place (text_rest text text_limit)) in
+    let ts : TextTokens = text_tokens accepted.lexemes None (end_place (text_rest text text_limit)) in
     let tokens : AreTokensOf text ts = record { cut = clean_cut text accepted.lexemes accepted.tokens; end_is = refl } in
     not_accepted text ts (Item kind number place) m tokens (refused ts tokens) tt accepted
 no_model text (RowSum table action row) refused = λ m accepted.
-    let ts : TextTokens = tokens_of accepted.lexemes None (end_place (text_rest text text_limit)) in
+    let ts : TextTokens = text_tokens accepted.lexemes None (end_place (text_rest text text_limit)) in
     let tokens : AreTokensOf text ts = record { cut = clean_cut text accepted.lexemes accepted.tokens; end_is = refl } in
     not_accepted text ts (RowSum table action row) m tokens (refused ts tokens) tt accepted
 no_model text Memory refused = tt

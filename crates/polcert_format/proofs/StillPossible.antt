@@ -5,7 +5,7 @@ use Rattle.std.proofs.lemmas.List.{append_assoc}
 use Rattle.polcert_format.proofs.Common.{All-cons, All-nil, Lexeme, Numeral, Colon, Table, Topic, IsMillionths, AreNumbers, forms}
 use Rattle.polcert_format.proofs.Common.{ModelSoFar, HasForm, IsPossible}
 use Rattle.polcert_text.specs.Bytes.{is_digit, is_point, is_exponent_mark}
-use Rattle.polcert_text.specs.Numbers.{number_of, exponent_size, power_of, size_of, millionth}
+use Rattle.polcert_text.specs.Numbers.{significand, exponent_size, power_of, size_of, millionth}
 use Rattle.polcert_text.specs.declared.tokens.TokenKind.TheVariants.{Star}
 use Rattle.polcert_cells.specs.declared.entries.Body.TheVariants.{Probabilities}
 use Rattle.polcert_cells.specs.Numbers.{none, unsigned, one}
@@ -22,7 +22,7 @@ abbrev pub a_colon : Lexeme
 a_colon = record { kind = Colon; place = 0; bytes = codes ":" }
 
 pub zero_is : (negative : Bool) → IsMillionths negative a_zero (pos 0)
-unfolding is_digit is_point is_exponent_mark number_of exponent_size power_of size_of millionth
+unfolding is_digit is_point is_exponent_mark significand exponent_size power_of size_of millionth
 zero_is negative = grind arith
 
 abbrev pub zeros : ℕ → List Lexeme

@@ -18,8 +18,8 @@ pub record TextTokens : Type 0 where
   pub ending : Option TokenFault
   pub end : ℕ
 
-abbrev pub tokens_of : List Lexeme → Option TokenFault → ℕ → TextTokens
-tokens_of lexemes ending end = record { lexemes = lexemes; ending = ending; end = end }
+abbrev pub text_tokens : List Lexeme → Option TokenFault → ℕ → TextTokens
+text_tokens lexemes ending end = record { lexemes = lexemes; ending = ending; end = end }
 
 pub record AreTokensOf (text : List ℕ) (ts : TextTokens) : Type 0 where
   pub cut : IsCut (text_rest text text_limit) ts.lexemes ts.ending
@@ -52,7 +52,7 @@ item_begin items end zero = 0
 item_begin items end (suc n) = word_place items end n
 
 -- The place lies in the item: from its word to the word of the next, or the end of the text.
-pub record LiesIn (ts : TextTokens) (number place : ℕ) : Type 0 where
+pub record LiesInItem (ts : TextTokens) (number place : ℕ) : Type 0 where
   pub front : List Lexeme
   pub items : List Item
   pub divided : IsDivided ts.lexemes front items

@@ -9,7 +9,7 @@ use Rattle.polcert_format.specs.declared.fault.ItemFault.{ItemFault}
 use Rattle.polcert_format.specs.declared.fault.ItemFault.TheVariants.{BadShape, BadCount, DuplicateName, UnknownName, IndexOutOfRange, WrongNumberCount, Reset, StartSum, StartEmpty, ProbabilityRange, DiscountRange}
 use Rattle.polcert_format.specs.declared.fault.ItemFault.TheVariants as faults
 use Rattle.polcert_cells.specs.Words.{is_reserved}
-use Rattle.polcert_format.specs.Reasons.{is_sign}
+use Rattle.polcert_format.specs.Reasons.{is_sign_kind}
 
 -- what a place of a body is for
 pub data Expected : Type 0 where
@@ -54,7 +54,7 @@ no_count _ = BadShape
 
 abbrev pub begins_number : TokenKind → Bool
 begins_number Numeral = true
-begins_number kind = is_sign kind
+begins_number kind = is_sign_kind kind
 
 -- the lexeme found there isn't what is wanted
 abbrev pub misfit_at : Expected → Lexeme → ItemFault

@@ -31,14 +31,14 @@ pub record StandsIn (body : List Lexeme) (place : ℕ) (Is : Lexeme → Type 0) 
   pub place_is : place ≡ lexeme.place
   pub holds : Is lexeme
 
-abbrev pub is_sign : TokenKind → Bool
-is_sign Plus = true
-is_sign Minus = true
-is_sign _ = false
+abbrev pub is_sign_kind : TokenKind → Bool
+is_sign_kind Plus = true
+is_sign_kind Minus = true
+is_sign_kind _ = false
 
 abbrev pub ends_in_sign : List Lexeme → Bool
 ends_in_sign [] = false
-ends_in_sign (l ∷ []) = is_sign l.kind
+ends_in_sign (l ∷ []) = is_sign_kind l.kind
 ends_in_sign (l ∷ m ∷ ls) = ends_in_sign (m ∷ ls)
 
 -- A number of the body stands at the place, with its sign if it has one, and this is so of it: of its sign (`true` is

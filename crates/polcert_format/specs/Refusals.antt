@@ -17,14 +17,14 @@ use Rattle.polcert_format.specs.Text.{ModelSoFar, nothing_known, AreRight, IsRig
 use Rattle.polcert_format.specs.Forms.{HasNoForm, IsPossible, PassesCellLimit}
 use Rattle.polcert_format.specs.Reading.{IsWrong}
 use Rattle.polcert_format.specs.FirstNumber.{IsLateIn}
-use Rattle.polcert_format.specs.FirstWrong.{TextTokens, IsFirstWrong, LiesIn, IsDecided, word_place}
-use Rattle.polcert_format.specs.Reasons.{IsReason, PassesLimit, is_sign}
+use Rattle.polcert_format.specs.FirstWrong.{TextTokens, IsFirstWrong, LiesInItem, IsDecided, word_place}
+use Rattle.polcert_format.specs.Reasons.{IsReason, PassesLimit, is_sign_kind}
 use Rattle.polcert_format.specs.Misfits.{unexpected_token, IsOfValue, IsMisfit}
 use Rattle.polcert_format.specs.Wants.{expected}
 
 pub record IsItemRefusal (ts : TextTokens) (kind : ItemFault) (number place : ℕ) : Type 0 where
   pub first_wrong : IsFirstWrong ts number
-  pub lies : LiesIn ts number place
+  pub lies : LiesInItem ts number place
   pub reason : IsReason ts number place kind
   -- what is decided before the body comes before anything in it
   pub decided : (fault : ItemFault) (at : ℕ) → IsDecided ts number fault at → (kind ≡ fault) × (place ≡ at)
@@ -57,7 +57,7 @@ place_or (l ∷ ls) following = l.place
 -- what this place is for and of what stands there.
 pub data Stops (k : ModelSoFar) (t : Topic) (kind : ItemFault) (taken : List Lexeme) : List Lexeme → Type 0 where
   at_lexeme : {l : Lexeme} {following : List Lexeme} → HasNoForm k t (taken ++ l ∷ []) → IsMisfit (expected k t taken) l kind → Stops k t kind taken (l ∷ following)
-  at_number : {sign l : Lexeme} {following : List Lexeme} → is_sign sign.kind ≡ true → l.kind ≡ Numeral → IsPossible k t (taken ++ sign ∷ [])
+  at_number : {sign l : Lexeme} {following : List Lexeme} → is_sign_kind sign.kind ≡ true → l.kind ≡ Numeral → IsPossible k t (taken ++ sign ∷ [])
       → HasNoForm k t (taken ++ sign ∷ l ∷ []) → IsOfValue kind → IsMisfit (expected k t (taken ++ sign ∷ [])) l kind → Stops k t kind taken (sign ∷ l ∷ following)
   at_end : IsWrong k t taken → (PassesCellLimit k t taken → ⊥) → kind ≡ unexpected_token (expected k t taken) None → Stops k t kind taken []
 

@@ -12,7 +12,7 @@ use Rattle.polcert_cells.specs.declared.words.Topic.TheVariants.{Discount, Value
 use Rattle.polcert_cells.specs.Elements.{count_of, most_states, most_actions, most_observations}
 use Rattle.polcert_cells.specs.Entry.{cells_in}
 use Rattle.polcert_format.specs.Text.{ModelSoFar}
-use Rattle.polcert_format.specs.Reasons.{is_sign}
+use Rattle.polcert_format.specs.Reasons.{is_sign_kind}
 use Rattle.polcert_cells.specs.Preamble.{Preamble, is_mdp, dimensions}
 use Rattle.polcert_format.specs.KnownPreamble.{preamble_in}
 use Rattle.polcert_format.specs.Misfits.{Expected, Mark, Index, Listed, CountOrName, FurtherName, StartBody, NumberOrEnd, Number, Digits, EndOfNumbers, EndOfWord}
@@ -26,7 +26,7 @@ number_end false (suc left) = Number
 -- Numbers: whether a sign stands before the lexemes, and how many numbers are still to come.
 abbrev pub numbers_want : Bool → ℕ → List Lexeme → Expected
 numbers_want signed left [] = number_end signed left
-numbers_want signed left (l ∷ ls) = numbers_want (is_sign l.kind) (if is_sign l.kind then left else left - 1) ls
+numbers_want signed left (l ∷ ls) = numbers_want (is_sign_kind l.kind) (if is_sign_kind l.kind then left else left - 1) ls
 
 -- a colon and one number
 abbrev pub discount_wants : List Lexeme → Expected
@@ -39,14 +39,14 @@ values_want [] = Mark
 values_want (colon ∷ []) = Mark
 values_want (colon ∷ word ∷ ls) = EndOfWord
 
-abbrev pub is_numeral : TokenKind → Bool
-is_numeral kinds.Numeral = true
-is_numeral _ = false
+abbrev pub is_number_kind : TokenKind → Bool
+is_number_kind kinds.Numeral = true
+is_number_kind _ = false
 
 -- a count, or names, of at most so many
 abbrev pub names_want : ℕ → List Lexeme → Expected
 names_want most [] = CountOrName
-names_want most (l ∷ ls) = if is_numeral l.kind then EndOfWord else FurtherName most (map (λ m. m.bytes) (l ∷ ls))
+names_want most (l ∷ ls) = if is_number_kind l.kind then EndOfWord else FurtherName most (map (λ m. m.bytes) (l ∷ ls))
 
 abbrev pub elements_want : ℕ → List Lexeme → Expected
 elements_want most [] = Mark

@@ -22,7 +22,7 @@ ghost use Rattle.polcert_cells.specs.declared.words.Topic.{Topic};
 ghost use Rattle.polcert_cells.specs.Words.{topic, begins_item};
 ghost use Rattle.polcert_format.specs.Reading.{AreRightItems, IsWithinItem, CannotGoOn, IsWrong};
 ghost use Rattle.polcert_format.specs.FirstNumber.{IsLateIn};
-ghost use Rattle.polcert_format.specs.FirstWrong.{TextTokens, tokens_of, IsFirstWrong, IsDecided, AreTokensOf, HasTokens, word_place, LiesIn};
+ghost use Rattle.polcert_format.specs.FirstWrong.{TextTokens, text_tokens, IsFirstWrong, IsDecided, AreTokensOf, HasTokens, word_place, LiesInItem};
 ghost use Rattle.polcert_format.specs.declared.fault.ItemFault.{ItemFault};
 ghost use Rattle.polcert_format.specs.Order.{preamble_fault, word_fault};
 ghost use Rattle.polcert_format.specs.declared.fault.ModelFault.{ModelFault};
@@ -128,29 +128,29 @@ pub fn right_item_ends()
 pub fn first_wrong_stays()
     ensures within { (seen body : List Lexeme) (k : ModelSoFar) (t : Topic) (w : IsWithinItem seen k t body) →
         CannotGoOn k t body → (more : List Lexeme) (ending : Option TokenFault) (stop : ℕ) →
-        IsFirstWrong (tokens_of (seen ++ more) ending stop) (length w.items.items + 1) }
+        IsFirstWrong (text_tokens (seen ++ more) ending stop) (length w.items.items + 1) }
     ensures at_word { (seen body : List Lexeme) (k : ModelSoFar) (t : Topic) (next : Lexeme)
         (w : IsWithinItem seen k t body) →
         IsWrong k t body → begins_item next ≡ true →
         (more : List Lexeme) (ending : Option TokenFault) (stop : ℕ) →
-        IsFirstWrong (tokens_of (seen ++ next ∷ more) ending stop) (length w.items.items + 1) }
+        IsFirstWrong (text_tokens (seen ++ next ∷ more) ending stop) (length w.items.items + 1) }
     ensures at_end { (seen body : List Lexeme) (k : ModelSoFar) (t : Topic) (w : IsWithinItem seen k t body) →
         IsWrong k t body → (ending : Option TokenFault) (stop : ℕ) →
-        IsFirstWrong (tokens_of seen ending stop) (length w.items.items + 1) }
+        IsFirstWrong (text_tokens seen ending stop) (length w.items.items + 1) }
     ensures at_fault { (seen body : List Lexeme) (k : ModelSoFar) (t : Topic) (w : IsWithinItem seen k t body)
         (fault : TokenFault) (stop : ℕ) →
-        IsFirstWrong (tokens_of seen (Some fault) stop) (length w.items.items + 1) }
+        IsFirstWrong (text_tokens seen (Some fault) stop) (length w.items.items + 1) }
 {}
 
 /// What stands before the first item word is item 0, and the end is one more than the last item.
 pub fn first_wrong_outside_items()
     ensures before { (l : Lexeme) → begins_item l ≡ false →
         (more : List Lexeme) (ending : Option TokenFault) (stop : ℕ)
-        → IsFirstWrong (tokens_of (l ∷ more) ending stop) 0 }
-    ensures at_once { (fault : TokenFault) (stop : ℕ) → IsFirstWrong (tokens_of [] (Some fault) stop) 0 }
+        → IsFirstWrong (text_tokens (l ∷ more) ending stop) 0 }
+    ensures at_once { (fault : TokenFault) (stop : ℕ) → IsFirstWrong (text_tokens [] (Some fault) stop) 0 }
     ensures following { (seen : List Lexeme) (k : ModelSoFar) (r : AreRightItems seen k) →
         ((p : Preamble) → IsComplete k p → ⊥) → (stop : ℕ) →
-        IsFirstWrong (tokens_of seen None stop) (length r.items + 1) }
+        IsFirstWrong (text_tokens seen None stop) (length r.items + 1) }
 {}
 
 /// A text with a first wrong item isn't right.
@@ -233,15 +233,15 @@ pub fn one_model_refusal()
 pub fn places_lie_in_items()
     ensures in_body { (text : List ℕ) (ts : TextTokens) (before : List Item) (item : Item) (after : List Item)
         (taken rest : List Lexeme) → AreTokensOf text ts → IsDivided ts.lexemes [] (before ++ item ∷ after) →
-        item.body ≡ taken ++ rest → LiesIn ts (length before + 1)
+        item.body ≡ taken ++ rest → LiesInItem ts (length before + 1)
         (place_or rest (word_place after ts.end 0)) }
     ensures at_word { (text : List ℕ) (ts : TextTokens) (before : List Item) (item : Item)
         (after : List Item) →
         AreTokensOf text ts → IsDivided ts.lexemes [] (before ++ item ∷ after) →
-        LiesIn ts (length before + 1) item.word.place }
+        LiesInItem ts (length before + 1) item.word.place }
     ensures before_items { (text : List ℕ) (ts : TextTokens) (l : Lexeme) (ls : List Lexeme)
         (items : List Item) →
-        AreTokensOf text ts → IsDivided ts.lexemes (l ∷ ls) items → LiesIn ts 0 l.place }
+        AreTokensOf text ts → IsDivided ts.lexemes (l ∷ ls) items → LiesInItem ts 0 l.place }
     ensures at_end { (ts : TextTokens) (items : List Item) →
-        IsDivided ts.lexemes [] items → LiesIn ts (length items + 1) ts.end }
+        IsDivided ts.lexemes [] items → LiesInItem ts (length items + 1) ts.end }
 {}

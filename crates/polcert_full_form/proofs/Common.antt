@@ -23,8 +23,9 @@ pub use Rattle.polcert_cells.specs.declared.entries.Table.{Table}
 pub use Rattle.polcert_cells.specs.declared.entries.Table.TheVariants.{Observation, Reward, Transition}
 pub use Rattle.polcert_cells.specs.declared.words.Topic.{Topic}
 pub use Rattle.polcert_cells.specs.declared.words.Topic.TheVariants.{Start}
-pub use Rattle.polcert_format.specs.FullForm.{all_below, cell_text, chosen, element_words, for_each, full_form, is_choice, is_decimal}
-pub use Rattle.polcert_format.specs.FullForm.{is_uniform, is_whole, is_zero, millionths_text, observations_line, observations_text}
+pub use Rattle.polcert_format.specs.FullForm.{all_below, cell_text, chosen_states, element_words, for_each, full_form, is_choice}
+pub use Rattle.polcert_format.specs.FullForm.{is_decimal}
+pub use Rattle.polcert_format.specs.FullForm.{is_uniform, is_uniform_start, is_zero, millionths_text, observations_line, observations_text}
 pub use Rattle.polcert_format.specs.FullForm.{preamble_text, reward_words, rewards_from, rewards_row, rewards_text, row_text, row_words}
 pub use Rattle.polcert_format.specs.FullForm.{start_text, table_word, transitions_text, values, written}
 pub use Rattle.polcert_format.specs.Items.{Item, lexemes_of}

@@ -6,7 +6,7 @@ ghost use Rattle.polcert_cells.specs.Meaning.{states_of, actions_of};
 ghost use Rattle.polcert_cells.specs.Numbers.{one};
 ghost use Rattle.polcert_cells.specs.Rows.{IsWeighted};
 ghost use Rattle.polcert_format.specs.FullForm.{for_each, is_uniform, is_decimal};
-ghost use Rattle.polcert_full_form.specs.Steps.Printing.{cell_line, row_at, rows_at, rows_text};
+ghost use Rattle.polcert_full_form.specs.Steps.Printing.{cell_line, printed_row, rows_at, rows_text};
 ghost use Rattle.polcert_full_form.specs.Steps.PrintedRows.{row_weights, row_body, column_text, zeros_from};
 
 use crate::print_words::{write_head, write_number_at, write_pattern, write_zeros};
@@ -59,7 +59,7 @@ fn write_row<W: Sink>(
     requires action { action < actions_of (meaning model.now) }
     requires state { state < states_of (meaning model.now) }
     ensures { WritesText W.writes W.failures out.old
-        (row_at model.now.kept table action state) result out.new }
+        (printed_row model.now.kept table action state) result out.new }
 {
     let row = WeightRow {
         model,

@@ -2,8 +2,8 @@
 use Rattle.std.proofs.Common.{◌≡◌, ◌∙◌, ℕ, ◌+◌, ◌-◌, ◌<◌, ◌≤◌, Bool, true, false, Some, None, List, [], ◌∷◌, ◌++◌, length, drop, refl, sym}
 use Rattle.std.proofs.Common.{ap, subst, append-nil, append_assoc, length-append, Result, IfOk, arith, if◌then◌else◌}
 use Rattle.std.proofs.lemmas.List.{length-drop}
-use Rattle.polcert_items.proofs.Common.{BeginWith, BeginWithNumber, Lexeme, begins_number, is_sign, ModelSoFar, numbers_want, IsFed}
-use Rattle.polcert_items.proofs.Common.{IsListFed, AreTaken, none, more, TakesAhead, FedAhead, ListKind, IsInRange, IsSignAt, is_negative}
+use Rattle.polcert_items.proofs.Common.{BeginWith, BeginWithNumber, Lexeme, begins_number, is_sign_kind, ModelSoFar, numbers_want, IsFed}
+use Rattle.polcert_items.proofs.Common.{IsListFed, AreTaken, none, more, StepsAhead, FedAhead, ListKind, FitsRange, IsSignAt, is_minus_sign}
 use Rattle.polcert_items.proofs.Common.{EntryReader, Numbers, Sign}
 use Rattle.polcert_text.specs.Beginning.{IsNumeralOf, kind_of_sign, unsigned, signed}
 use Rattle.polcert_text.specs.declared.front_tokens.FrontNumber.{FrontNumber}
@@ -19,12 +19,12 @@ module _ {R : Type 0} (Step : R → Lexeme → R → Type 0) where
       grind (arith, append_assoc, more, taken_both a b between us ws first before)
 
   -- no bytes
-  pub takes_none : (r : R) (bytes : List ℕ) → TakesAhead Step r bytes 0 r
+  pub takes_none : (r : R) (bytes : List ℕ) → StepsAhead Step r bytes 0 r
   takes_none r bytes = record { within = omega arith; fed = λ place. ([], (begin_none place bytes, none r)) }
 
   -- some bytes, and others after them
-  pub takes_then : (a b c : R) (bytes : List ℕ) (m n : ℕ) → TakesAhead Step a bytes m b → TakesAhead Step b (drop m bytes) n c
-      → TakesAhead Step a bytes (m + n) c
+  pub takes_then : (a b c : R) (bytes : List ℕ) (m n : ℕ) → StepsAhead Step a bytes m b → StepsAhead Step b (drop m bytes) n c
+      → StepsAhead Step a bytes (m + n) c
   takes_then a b c bytes m n first second = record {
     within = omega (arith, first.within, second.within, length-drop m bytes);
     fed = λ place.
@@ -45,12 +45,13 @@ if_ok_map r P Q h1 h2 = grind arith
 
 -- ---- a number of a list
 
-sign_is : (is_negative : Bool) (s : Lexeme) → s.kind ≡ kind_of_sign is_negative
-    → IsSignAt (record { negative = is_negative; place = s.place }) s
-sign_is is_negative s h1 = grind arith
+sign_is : (is_minus_sign : Bool) (s : Lexeme) → s.kind ≡ kind_of_sign is_minus_sign
+    → IsSignAt (record { negative = is_minus_sign; place = s.place }) s
+sign_is is_minus_sign s h1 = grind arith
 
-is_a_sign : (is_negative : Bool) → (is_sign (kind_of_sign is_negative) ≡ true) × (begins_number (kind_of_sign is_negative) ≡ true)
-is_a_sign is_negative = grind arith
+is_a_sign : (is_minus_sign : Bool) → (is_sign_kind (kind_of_sign is_minus_sign) ≡ true)
+    × (begins_number (kind_of_sign is_minus_sign) ≡ true)
+is_a_sign is_minus_sign = grind arith
 
 -- a number at the front of some bytes ends within them
 pub number_within : (place : ℕ) (bytes : List ℕ) (found : FrontNumber) → BeginWithNumber place bytes found → found.len ≤ length bytes
@@ -69,13 +70,13 @@ abbrev with_number : {T : Type 0} → Numbers T → T → Numbers T
 with_number n x = record { read = n.read ++ x ∷ []; needed = n.needed; sign = None }
 
 module _ {T : Type 0} (kind : ListKind T) (old : Numbers T) where
-  sign_fed : (is_negative : Bool) (s : Lexeme) → s.kind ≡ kind_of_sign is_negative → old.sign ≡ None → length old.read < old.needed
-      → IsListFed kind old s (with_sign old (record { negative = is_negative; place = s.place }))
-  sign_fed is_negative s is no_sign room =
-      let sign : Sign = record { negative = is_negative; place = s.place } in
-      let at = sign_is is_negative s is in
-      let a = is_a_sign is_negative in
-      let mark : is_sign s.kind ≡ true = ap is_sign is ∙ a.0 in
+  sign_fed : (is_minus_sign : Bool) (s : Lexeme) → s.kind ≡ kind_of_sign is_minus_sign → old.sign ≡ None → length old.read < old.needed
+      → IsListFed kind old s (with_sign old (record { negative = is_minus_sign; place = s.place }))
+  sign_fed is_minus_sign s is no_sign room =
+      let sign : Sign = record { negative = is_minus_sign; place = s.place } in
+      let at = sign_is is_minus_sign s is in
+      let a = is_a_sign is_minus_sign in
+      let mark : is_sign_kind s.kind ≡ true = ap is_sign_kind is ∙ a.0 in
       let left = old.needed - length old.read in
       record {
         begins = ap begins_number is ∙ a.1;
@@ -86,40 +87,40 @@ module _ {T : Type 0} (kind : ListKind T) (old : Numbers T) where
       }
 
   numeral_fed : (x : T) (l : Lexeme) → ((y z : T) → kind.worth y ≡ kind.worth z → y ≡ z)
-      → IsNumeralOf (is_negative old.sign) l (kind.worth x) → IsInRange kind.range (kind.worth x) → length old.read < old.needed
+      → IsNumeralOf (is_minus_sign old.sign) l (kind.worth x) → FitsRange kind.range (kind.worth x) → length old.read < old.needed
       → IsListFed kind old l (with_number old x)
   numeral_fed x l distinct v fits room = grind (arith, length-append, takes_number)
 
 -- the number at the front of some bytes
 module _ {T : Type 0} (kind : ListKind T) (old : Numbers T) (x : T) (bytes : List ℕ) (found : FrontNumber)
     (distinct : (y z : T) → kind.worth y ≡ kind.worth z → y ≡ z) (worth : kind.worth x ≡ found.value)
-    (fits : IsInRange kind.range found.value) (no_sign : old.sign ≡ None) (room : length old.read < old.needed) where
-  numeral_of : (is_negative : Bool) (l : Lexeme) → IsNumeralOf is_negative l found.value → IsNumeralOf is_negative l (kind.worth x)
-  numeral_of is_negative l v = subst (IsNumeralOf is_negative l) (sym worth) v
+    (fits : FitsRange kind.range found.value) (no_sign : old.sign ≡ None) (room : length old.read < old.needed) where
+  numeral_of : (is_minus_sign : Bool) (l : Lexeme) → IsNumeralOf is_minus_sign l found.value → IsNumeralOf is_minus_sign l (kind.worth x)
+  numeral_of is_minus_sign l v = subst (IsNumeralOf is_minus_sign l) (sym worth) v
 
   taken_at : (place : ℕ) → BeginWithNumber place bytes found → (ls : List Lexeme)
       × (BeginWith place bytes found.len ls × AreTaken (IsListFed kind) old ls (with_number old x))
   taken_at place (unsigned n v front) =
-      let is = subst (λ s. IsNumeralOf (is_negative s) n (kind.worth x)) (sym no_sign) (numeral_of false n v) in (
+      let is = subst (λ s. IsNumeralOf (is_minus_sign s) n (kind.worth x)) (sym no_sign) (numeral_of false n v) in (
         n ∷ [],
         (
           front,
           more old old (with_number old x) [] n (none old)
-              (numeral_fed kind old x n distinct is (subst (IsInRange kind.range) (sym worth) fits) room),
+              (numeral_fed kind old x n distinct is (subst (FitsRange kind.range) (sym worth) fits) room),
         ),
       )
-  taken_at place (signed is_negative s n sign v front) =
-      let mid = with_sign old (record { negative = is_negative; place = s.place }) in
-      let fed = numeral_fed kind mid x n distinct (numeral_of is_negative n v) (subst (IsInRange kind.range) (sym worth) fits) room in (
+  taken_at place (signed is_minus_sign s n sign v front) =
+      let mid = with_sign old (record { negative = is_minus_sign; place = s.place }) in
+      let fed = numeral_fed kind mid x n distinct (numeral_of is_minus_sign n v) (subst (FitsRange kind.range) (sym worth) fits) room in (
         s ∷ n ∷ [],
         (
           front,
           more old mid (with_number old x) (s ∷ []) n
-              (more old old mid [] s (none old) (sign_fed kind old is_negative s sign no_sign room)) fed,
+              (more old old mid [] s (none old) (sign_fed kind old is_minus_sign s sign no_sign room)) fed,
         ),
       )
 
   pub number_ahead : ((place : ℕ) → BeginWithNumber place bytes found) → (new : Numbers T) → new ≡ with_number old x
-      → TakesAhead (IsListFed kind) old bytes found.len new
-  number_ahead front new is = subst (TakesAhead (IsListFed kind) old bytes found.len) (sym is)
+      → StepsAhead (IsListFed kind) old bytes found.len new
+  number_ahead front new is = subst (StepsAhead (IsListFed kind) old bytes found.len) (sym is)
       (record { within = number_within 0 bytes found (front 0); fed = λ place. taken_at place (front place) })

@@ -3,9 +3,9 @@ use Rattle.std.proofs.Common.{◌≡◌, ◌≢◌, ◌∙◌, ◌⊎◌, ⊎_el
 use Rattle.std.proofs.Common.{ap, subst, arith}
 use Rattle.polcert_items.proofs.Common.{Lexeme, TokenKind, cells_in, Preamble, is_mdp, begins_item, Elements, Place, Table, Transition}
 use Rattle.polcert_items.proofs.Common.{Observation, Reward, preamble_in, indices_in, begins_number, ModelSoFar, least_written}
-use Rattle.polcert_items.proofs.Common.{numbers_want, IsFed, IsListFed, AreTaken, none, more, TakesAhead, FedAhead, NumberListGoes}
-use Rattle.polcert_items.proofs.Common.{IsStateWithin, AreBegun, HasRoom, no_numbers, entry_sign, Takes, ListKind, of_probabilities}
-use Rattle.polcert_items.proofs.Common.{of_rewards, SignIs, ExpectsNext, list_wants, state_wants, EntryReader, EntryState, Numbers}
+use Rattle.polcert_items.proofs.Common.{numbers_want, IsFed, IsListFed, AreTaken, none, more, StepsAhead, FedAhead, NumberListGoes}
+use Rattle.polcert_items.proofs.Common.{IsStateWithin, AreBegun, HasRoom, no_numbers, entry_sign, TakesLexeme, ListKind, of_probabilities}
+use Rattle.polcert_items.proofs.Common.{of_rewards, SignIs, ExpectsNext, expected_by_numbers, state_wants, EntryReader, EntryState, Numbers}
 use Rattle.polcert_items.specs.declared.entry_reader.EntryState.TheVariants as states
 use Rattle.polcert_items.proofs.PatternLaws.{IsStateOf, probability_state, reward_state, list_in, in_state, numbers_begin, number_not_colon}
 use Rattle.polcert_items.proofs.PatternLaws.{number_not_name, BeginsNumber}
@@ -21,12 +21,12 @@ number_inside l e = grind arith
 -- a list of such numbers stands in an entry of this table
 pub record StandsIn {T : Type 0} (kind : ListKind T) (state : Numbers T → EntryState) (table : Table) : Type 0 where
   is_state : IsStateOf kind state
-  begun : (needed : ℕ) (l : Lexeme) (n : Numbers T) → Takes (NumberListGoes kind) (no_numbers needed) l n
+  begun : (needed : ℕ) (l : Lexeme) (n : Numbers T) → TakesLexeme (NumberListGoes kind) (no_numbers needed) l n
       → AreBegun table needed l (state n)
   within : (ds : List Elements) (places : List Place) (n : Numbers T) → HasRoom n → IsStateWithin ds table places (state n)
   sign : (n : Numbers T) → entry_sign (state n) ≡ n.sign
   wants : (p : Preamble) (places : List Place) (n : Numbers T) (ls : List Lexeme)
-      → state_wants p table places (state n) ls ≡ list_wants n ls
+      → state_wants p table places (state n) ls ≡ expected_by_numbers n ls
 
 pub probabilities_stand : (table : Table) → (table ≢ Reward) → StandsIn of_probabilities states.Probabilities table
 probabilities_stand table other = grind (arith, probability_state)
@@ -64,7 +64,7 @@ module _ {T : Type 0} (kind : ListKind T) (state : Numbers T → EntryState) (k 
       more (with_list old) (with_list between) (with_list new) us l (lists_fed old between us before) (list_fed between l new f)
 
   -- the entry continues as its list does
-  pub list_goes : (old new : Numbers T) (bytes : List ℕ) (count : ℕ) → r.state ≡ state old → TakesAhead (IsListFed kind) old bytes count new
+  pub list_goes : (old new : Numbers T) (bytes : List ℕ) (count : ℕ) → r.state ≡ state old → StepsAhead (IsListFed kind) old bytes count new
       → FedAhead k r bytes count (with_list new)
   list_goes old new bytes count is ahead =
       subst (λ o. FedAhead k o bytes count (with_list new)) (λ i. record { table = r.table; places = r.places; state = sym is i })
@@ -78,7 +78,7 @@ module _ {T : Type 0} (kind : ListKind T) (state : Numbers T → EntryState) (k 
     begun_fed l new f =
         let p = preamble_in k in
         let number = begins l.kind f.begins in
-        let list = no_numbers_lead {T = T} (no_numbers needed) needed l (list_wants new) refl f.leads in
+        let list = no_numbers_lead {T = T} (no_numbers needed) needed l (expected_by_numbers new) refl f.leads in
         let leads : ExpectsNext (numbers_want false needed) l (state_wants p r.table r.places (state new)) =
         record { same = λ ls. list.same ls ∙ sym (stands.wants p r.places new ls) } in
         record {
@@ -107,7 +107,7 @@ module _ {T : Type 0} (kind : ListKind T) (state : Numbers T → EntryState) (k 
             subst (λ xs. AreTaken (IsFed k) r (xs ++ l ∷ []) (with_list new)) (sym same.1)
             (more r r (with_list new) [] l (none r) (begun_fed l new f))
 
-    pub list_begins : (new : Numbers T) (bytes : List ℕ) (count : ℕ) → TakesAhead (IsListFed kind) (no_numbers needed) bytes count new
+    pub list_begins : (new : Numbers T) (bytes : List ℕ) (count : ℕ) → StepsAhead (IsListFed kind) (no_numbers needed) bytes count new
         → 0 < length new.read → FedAhead k r bytes count (with_list new)
     list_begins new bytes count ahead some = record {
       within = ahead.within;

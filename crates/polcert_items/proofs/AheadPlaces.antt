@@ -2,13 +2,15 @@
 use Rattle.std.proofs.Common.{◌≡◌, ◌∙◌, inl, inr, ⊎_elim, ℕ, zero, suc, ◌+◌, ◌<◌, true, false, List, [], ◌∷◌, ◌++◌, length, drop, get_or}
 use Rattle.std.proofs.Common.{refl, sym, ap, subst, length-append, arith, Bool, ◌||◌}
 use Rattle.std.proofs.lemmas.List.{length-drop}
-use Rattle.polcert_items.proofs.Common.{moved, Lexeme, TokenKind, Colon, count_of, StandsFor, IsPlace, Preamble, begins_item, is_reserved}
-use Rattle.polcert_items.proofs.Common.{IsName, Elements, Count, Place, Only, Table, preamble_in, indices_in, named_in, is_sign, ModelSoFar}
+use Rattle.polcert_items.proofs.Common.{at_offset, Lexeme, TokenKind, Colon, count_of, StandsFor, IsPlace, Preamble, begins_item}
+use Rattle.polcert_items.proofs.Common.{is_reserved}
+use Rattle.polcert_items.proofs.Common.{IsName, Elements, Count, Place, Only, Table, preamble_in, indices_in, named_in, is_sign_kind}
+use Rattle.polcert_items.proofs.Common.{ModelSoFar}
 use Rattle.polcert_items.proofs.Common.{IsFed, none, more, FedAhead, BeginWithPlace, IsFirstPlace, IsWithinIndices, ExpectsNext}
 use Rattle.polcert_items.proofs.Common.{EntryReader}
 use Rattle.polcert_text.specs.Beginning.{BeginWithOne, BeginWithDigits}
 use Rattle.polcert_items.specs.Steps.Ahead.{AwaitsColon, PlacesFed, with_state}
-use Rattle.polcert_items.specs.Steps.Wants.{entry_wants}
+use Rattle.polcert_items.specs.Steps.Wants.{expected_by_entry}
 use Rattle.polcert_text.specs.declared.front_tokens.FrontDigits.{FrontDigits}
 use Rattle.polcert_text.proofs.Taken.BeginLaws.{begin_then}
 use Rattle.polcert_items.specs.declared.ahead.FrontPlace.{FrontPlace}
@@ -33,7 +35,7 @@ colon_fed k r l awaits within room kind = record {
   within = room;
   takes = ⊎_elim (λ is. in_state p r states.Colon states.Place l is (record { back = λ ls e g. (kind, g); on = λ ls e g. g.1 }))
       (λ is. in_state p r states.Body states.Place l is (colon_takes p r.table r.places l kind)) awaits;
-  sign = ap is_sign kind;
+  sign = ap is_sign_kind kind;
   leads = ⊎_elim at_colon (λ is. record { same = λ ls. (body_leads p r l _ is (colon_leads p r.table (length r.places) l kind)).same ls })
       awaits;
 }
@@ -41,8 +43,8 @@ colon_fed k r l awaits within room kind = record {
     p : Preamble
     p = preamble_in k
 
-    at_colon : r.state ≡ states.Colon → ExpectsNext (entry_wants (preamble_in k) r) l
-        (entry_wants (preamble_in k) (record r { state = states.Place }))
+    at_colon : r.state ≡ states.Colon → ExpectsNext (expected_by_entry (preamble_in k) r) l
+        (expected_by_entry (preamble_in k) (record r { state = states.Place }))
     at_colon is = grind arith
 
 -- ---- a place
@@ -60,7 +62,7 @@ same_count k table = grind arith
 -- a place begins no item, and is no sign
 record IsInside (l : Lexeme) : Type 0 where
   item : begins_item l ≡ false
-  sign : is_sign l.kind ≡ false
+  sign : is_sign_kind l.kind ≡ false
 
 name_inside : (l : Lexeme) → IsName l → IsInside l
 unfolding is_reserved
@@ -71,7 +73,8 @@ place_inside : (ds : List Elements) (l : Lexeme) (p : Place) → IsFirstPlace ds
 place_inside ds l p h1 = grind (arith, name_inside)
 
 -- wherever its token stands
-pub place_moved : (ds : List Elements) (l : Lexeme) (p : Place) (position : ℕ) → IsFirstPlace ds l p → IsFirstPlace ds (moved position l) p
+pub place_moved : (ds : List Elements) (l : Lexeme) (p : Place) (position : ℕ) → IsFirstPlace ds l p
+    → IsFirstPlace ds (at_offset position l) p
 place_moved ds l p position h1 = grind arith
 
 place_fed : (k : ModelSoFar) (r : EntryReader) (l : Lexeme) (p : Place) → r.state ≡ states.Place

@@ -22,28 +22,30 @@ pub use Rattle.polcert_format.specs.FirstNumber.{BeginsWithDigits, BeginsWithNum
 pub use Rattle.polcert_format.specs.Forms.{IsStartBodyForm, IsStartForm}
 pub use Rattle.polcert_format.specs.KnownPreamble.{indices_in, named_in, preamble_in}
 pub use Rattle.polcert_format.specs.Misfits.{Expected, IsMisfit, begins_number}
-pub use Rattle.polcert_format.specs.Reasons.{IsNoFraction, IsRefusedNumber, ends_in_sign, is_sign}
+pub use Rattle.polcert_format.specs.Reasons.{IsNoFraction, IsRefusedNumber, ends_in_sign, is_sign_kind}
 pub use Rattle.polcert_format.specs.Text.{ModelSoFar}
 pub use Rattle.polcert_format.specs.Wants.{least_written, numbers_want}
 pub use Rattle.polcert_format.specs.declared.fault.ItemFault.{ItemFault}
 pub use Rattle.polcert_format.specs.declared.fault.ItemFault.TheVariants.{DuplicateName, IndexOutOfRange, Number, ProbabilityRange}
-pub use Rattle.polcert_items.specs.Steps.Ahead.{AreTaken, BeginWithPlace, FedAhead, IsFed, IsListFed, TakesAhead, more, none}
+pub use Rattle.polcert_items.specs.Steps.Ahead.{AreTaken, BeginWithPlace, FedAhead, IsFed, IsListFed, StepsAhead, more, none}
 pub use Rattle.polcert_items.specs.Steps.CellBudget.{IsCoveringOf, most_covered, nonzero_cells}
 pub use Rattle.polcert_items.specs.Steps.Elements.{AreElementsSeen, AreNamesRead, ElementsReason, NamesGo}
 pub use Rattle.polcert_items.specs.Steps.Entries.{AreBegun, CannotBegin, EntryGoes, HasRoom, IfRefused, IsFirstPlace, IsFull, IsListReason}
 pub use Rattle.polcert_items.specs.Steps.Entries.{IsStateWithin, IsWithinIndices, IsWordAfter, NumberListGoes, ProbabilitiesGo, entry_sign}
 pub use Rattle.polcert_items.specs.Steps.Entries.{entry_with, no_numbers}
 pub use Rattle.polcert_items.specs.Steps.Feeding.{IsStartFed, RefusesInStart}
-pub use Rattle.polcert_items.specs.Steps.Items.{IsItemWithin, IsSeen, ItemForms, ItemGoes, pending_in, topic_in}
-pub use Rattle.polcert_items.specs.Steps.Lines.{CannotEnd, CannotTake, Takes}
-pub use Rattle.polcert_items.specs.Steps.Numbers.{AreNumbersAfter, IsInRange, IsNoNumber, IsSignAt, ListKind, SignIs, is_negative}
-pub use Rattle.polcert_items.specs.Steps.Numbers.{number_place, of_probabilities, of_rewards}
-pub use Rattle.polcert_items.specs.Steps.Start.{AreDigits, AreGiven, AreUnmarked, Begins, CanStillBeRight, DigitsGo, HasReadStart}
-pub use Rattle.polcert_items.specs.Steps.Start.{IsAfterColon, IsDue, IsDueNumber, IsDueValue, IsEndDue, IsFraction, IsLateEnd, IsListBegun}
+pub use Rattle.polcert_items.specs.Steps.Items.{IsItemWithin, IsSeen, ItemForms, ItemGoes, pending_in, topic_of_reader}
+pub use Rattle.polcert_items.specs.Steps.Lines.{CannotEnd, CannotTake, TakesLexeme}
+pub use Rattle.polcert_items.specs.Steps.Numbers.{AreNumbersAfter, FitsRange, IsNoNumber, IsSignAt, ListKind, SignIs, is_minus_sign}
+pub use Rattle.polcert_items.specs.Steps.Numbers.{signed_place, of_probabilities, of_rewards}
+pub use Rattle.polcert_items.specs.Steps.Start.{AreStartDigits, AreStartNumbers, AreUnmarked, Begins, CanStillBeRight, DigitsGo}
+pub use Rattle.polcert_items.specs.Steps.Start.{HasReadStart}
+pub use Rattle.polcert_items.specs.Steps.Start.{IsAfterColon, IsDue, IsDueNumber, IsDueValue, IsEndDue, IsFraction, IsLateEnd}
+pub use Rattle.polcert_items.specs.Steps.Start.{BeginsWithListWord}
 pub use Rattle.polcert_items.specs.Steps.Start.{IsOutside, IsStartReason, IsStartWithin, IsStop, IsValue, IsWordBody, NumbersGo, StartGives}
 pub use Rattle.polcert_items.specs.Steps.Start.{StartGoes, StopsStart, at_once, due, first_above_0, first_of, first_of_more, is_level_at}
-pub use Rattle.polcert_items.specs.Steps.Start.{marked, pending, pending_of, picks, start_sign, state_number}
-pub use Rattle.polcert_items.specs.Steps.Wants.{ExpectsNext, IfStart, list_wants, start_wants, state_wants}
+pub use Rattle.polcert_items.specs.Steps.Start.{marked, pending_refusal, pending_of, picks, start_sign, state_number}
+pub use Rattle.polcert_items.specs.Steps.Wants.{ExpectsNext, IfStart, expected_by_numbers, expected_by_start, state_wants}
 pub use Rattle.polcert_items.specs.declared.entry_reader.EntryReader.{EntryReader}
 pub use Rattle.polcert_items.specs.declared.entry_reader.EntryState.{EntryState}
 pub use Rattle.polcert_items.specs.declared.entry_reader.Numbers.{Numbers}
@@ -60,7 +62,7 @@ pub use Rattle.polcert_items.specs.declared.start_reader.Chosen.{Chosen}
 pub use Rattle.polcert_items.specs.declared.start_reader.FirstNumber.{FirstNumber}
 pub use Rattle.polcert_items.specs.declared.start_reader.StartReader.{StartReader}
 pub use Rattle.polcert_items.specs.declared.start_reader.StateOrNumber.{StateOrNumber}
-pub use Rattle.polcert_text.specs.Beginning.{BeginWith, BeginWithNumber, moved}
+pub use Rattle.polcert_text.specs.Beginning.{BeginWith, BeginWithNumber, at_offset}
 unfoldable pub use Rattle.polcert_text.specs.Bytes.{is_digit}
 pub use Rattle.polcert_text.specs.Cut.{Lexeme}
 pub use Rattle.polcert_text.specs.Lexemes.{are_digits}

@@ -8,7 +8,7 @@ use Rattle.polcert_items.proofs.Common.{is_mdp, dimensions, nonzero_cells, most_
 use Rattle.std.proofs.lemmas.List.Sums.{sum_by_push}
 use Rattle.polcert_cells.specs.Entry.{forms}
 use Rattle.polcert_cells.specs.Preamble.{observed, columns, rewarded}
-use Rattle.polcert_items.specs.Steps.CellBudget.{chosen, covered_by, open_cells, counted, IsNext}
+use Rattle.polcert_items.specs.Steps.CellBudget.{place_count, covered_by, open_row_cells, budget_after, CanComeNext}
 use Rattle.std.proofs.Math.Nat.{mul_comm, mul_assoc, add-mul, one-mul, mul-one, mul-pos, mul-le-mul}
 use Rattle.polcert_cells.specs.declared.entries.Body.TheVariants.{Probabilities, Rewards, Uniform, Identity}
 use Rattle.polcert_cells.specs.Cells.{is_table, fit_places, row_major, weight_in, weight_of}
@@ -94,7 +94,7 @@ on_the_diagonal d n l =
 abbrev every_chosen : List Elements → List Place → ℕ
 every_chosen ds [] = 1
 every_chosen [] (p ∷ ps) = 1
-every_chosen (d ∷ ds) (p ∷ ps) = chosen (Some p) (count_of d) * every_chosen ds ps
+every_chosen (d ∷ ds) (p ∷ ps) = place_count (Some p) (count_of d) * every_chosen ds ps
 
 swap : (c r n : ℕ) → c * r * n ≡ n * c * r
 swap c r n = mul_comm (c * r) n ∙ sym (mul_assoc n c r)
@@ -233,13 +233,13 @@ not_covered p table e other = ap (λ b. count_cells (dimensions p table)
     (λ indices. (b && fit_places e.places indices) && nat_lt 0 (weight_of p indices e))) other ∙ no_cells (dimensions p table)
 
 -- ---- what entries give of a large table, counted entry by entry
-chosen_few : (place : Option Place) (count most : ℕ) → 1 ≤ most → count ≤ most → chosen place count ≤ most
+chosen_few : (place : Option Place) (count most : ℕ) → 1 ≤ most → count ≤ most → place_count place count ≤ most
 chosen_few place count most h1 h2 = grind arith
 
 -- the cells that an entry covers fit a word
 pub covered_few : (actions states columns : ℕ) (places : List Place) (body : Body) → actions ≤ most_actions → states ≤ most_states
     → columns ≤ most_observations
-    → nonzero_cells body states (open_cells states columns (length places)) ≤ states * columns
+    → nonzero_cells body states (open_row_cells states columns (length places)) ≤ states * columns
     → covered_by actions states columns places body ≤ most_covered
 covered_few actions states columns places body la ls lc few =
     let pairs : states * columns ≤ most_states * most_observations = mul-le-mul ls lc in
@@ -262,8 +262,9 @@ rewards_fit actions states rewarded la ls lr =
 
 -- ---- what an entry covers, within its table
 
-pub observations_few : (p : Preamble) (es : List Entry) (c : CellBudget) (s : Sizes) (e : Entry) → IsNext p es c s e → e.table ≡ Observation
-    → nonzero_cells e.body s.states (open_cells s.states s.observed (length e.places)) ≤ s.states * s.observed
+pub observations_few : (p : Preamble) (es : List Entry) (c : CellBudget) (s : Sizes) (e : Entry) → CanComeNext p es c s e
+    → e.table ≡ Observation
+    → nonzero_cells e.body s.states (open_row_cells s.states s.observed (length e.places)) ≤ s.states * s.observed
 observations_few p es c s e next is = grind (arith, common_steps)
 
 -- ---- one entry more
@@ -291,7 +292,7 @@ no_push es e h1 = grind (arith, common_steps)
 
 -- by the tests: whether the table is large, and whether there are too many
 outcome : (P : Option ℕ → Type 0) (cells most count more : ℕ) → count ≤ most → (most_cells < cells → most < count + more → P None)
-    → ((n : ℕ) → (most_cells < cells → n ≡ count + more) → n ≤ most → P (Some n)) → P (counted cells most count more)
+    → ((n : ℕ) → (most_cells < cells → n ≡ count + more) → n ≤ most → P (Some n)) → P (budget_after cells most count more)
 outcome P cells most count more few over room = grind arith
 
 -- one of the three counts with the entry
@@ -302,9 +303,10 @@ IsWith p es e put (Some n) = IsCoveringOf p (es ++ e ∷ []) (put n)
 large_rows : (a s c : ℕ) (cells : ℕ) → cells ≡ a * (s * (c * 1)) → a * s * c ≡ cells
 large_rows a s c cells e = mul_assoc a s c ∙ ap (λ n. a * (s * n)) (sym (mul-one c)) ∙ sym e
 
-pub transitions_with : (p : Preamble) (es : List Entry) (c : CellBudget) (s : Sizes) (e : Entry) → IsNext p es c s e → e.table ≡ Transition
+pub transitions_with : (p : Preamble) (es : List Entry) (c : CellBudget) (s : Sizes) (e : Entry) → CanComeNext p es c s e
+    → e.table ≡ Transition
     → IsWith p es e (λ n. record c { transitions = n })
-    (counted (s.actions * s.states * s.states) most_cells c.transitions (covered_by s.actions s.states s.states e.places e.body))
+    (budget_after (s.actions * s.states * s.states) most_cells c.transitions (covered_by s.actions s.states s.states e.places e.body))
 transitions_with p es c s e next is =
     outcome (IsWith p es e (λ n. record c { transitions = n })) _ most_cells c.transitions _ next.1.few_transitions
     (λ large over few. grind (arith, all, large_rows))
@@ -314,10 +316,10 @@ transitions_with p es c s e next is =
         + covered_by s.actions s.states s.states e.places e.body
     all l = grind (arith, covered_push p Transition es e, covered_transitions p e, large_rows)
 
-pub observations_with : (p : Preamble) (es : List Entry) (c : CellBudget) (s : Sizes) (e : Entry) → IsNext p es c s e
+pub observations_with : (p : Preamble) (es : List Entry) (c : CellBudget) (s : Sizes) (e : Entry) → CanComeNext p es c s e
     → e.table ≡ Observation
     → IsWith p es e (λ n. record c { observations = n })
-    (counted (s.actions * s.states * s.observed) most_cells c.observations (covered_by s.actions s.states s.observed e.places e.body))
+    (budget_after (s.actions * s.states * s.observed) most_cells c.observations (covered_by s.actions s.states s.observed e.places e.body))
 observations_with p es c s e next is =
     outcome (IsWith p es e (λ n. record c { observations = n })) _ most_cells c.observations _ next.1.few_observations
     (λ large over few. grind (arith, all, large_rows))
@@ -327,8 +329,9 @@ observations_with p es c s e next is =
         → covered p Observation (es ++ e ∷ []) ≡ c.observations + covered_by s.actions s.states s.observed e.places e.body
     all l = grind (arith, covered_push p Observation es e, covered_observations p e, large_rows)
 
-pub rewards_with : (p : Preamble) (es : List Entry) (c : CellBudget) (s : Sizes) (e : Entry) → IsNext p es c s e → e.table ≡ Reward
-    → IsWith p es e (λ n. record c { rewards = n }) (counted (s.actions * s.states * s.states * s.rewarded) most_reward_entries c.rewards 1)
+pub rewards_with : (p : Preamble) (es : List Entry) (c : CellBudget) (s : Sizes) (e : Entry) → CanComeNext p es c s e → e.table ≡ Reward
+    → IsWith p es e (λ n. record c { rewards = n }) (budget_after (s.actions * s.states * s.states * s.rewarded) most_reward_entries
+    c.rewards 1)
 rewards_with p es c s e next is = grind (arith, paid_push, unlike)
 
 pub reward_more : (p : Preamble) (es : List Entry) (c : CellBudget) (e : Entry) → c.rewards < most_reward_entries → IsCoveringOf p es c

@@ -2,7 +2,7 @@
 use Rattle.std.proofs.Common.{◌≡◌, ◌≢◌, ℕ, ◌≤◌, true, false, List, [], ◌∷◌, ◌++◌, length, get_or, map, AllPairs, bytes_eq, codes, Result}
 use Rattle.std.proofs.Common.{OnOk, refl, sym, ap, subst, arith, lit≤, append_assoc, length-append}
 use Rattle.polcert_items.proofs.Common.{common_steps, list_any, All-cons, All-nil, All-tail, is_digit, Lexeme, Numeral, ItemFault}
-use Rattle.polcert_items.proofs.Common.{DuplicateName, ElementsReader, IsName, IsWhole, Elements, Count, Takes, CannotTake, NamesGo}
+use Rattle.polcert_items.proofs.Common.{DuplicateName, ElementsReader, IsName, IsWhole, Elements, Count, TakesLexeme, CannotTake, NamesGo}
 use Rattle.polcert_items.proofs.Common.{AreNamesRead, ElementsReason, AreElementsSeen}
 use Rattle.polcert_cells.specs.declared.elements.Elements.TheVariants.{Names}
 use Rattle.polcert_items.specs.Steps.Elements.{names_with, ElementsGo, IsElementsRead, IsCountOf}
@@ -19,7 +19,7 @@ use Rattle.polcert_format.proofs.StillPossible.{a_colon}
 -- ---- a count
 
 -- after a count nothing comes
-pub count_takes : (most : ℕ) (l : Lexeme) (n : ℕ) → IsCountOf most l n → Takes (ElementsGo most) readers.First l (readers.Counted n)
+pub count_takes : (most : ℕ) (l : Lexeme) (n : ℕ) → IsCountOf most l n → TakesLexeme (ElementsGo most) readers.First l (readers.Counted n)
 count_takes most l n c = grind (arith, counted)
 
 -- a numeral that is no count from 1 to the most
@@ -33,7 +33,7 @@ module _ (most : ℕ) (names : List (List ℕ)) (l : Lexeme) where
   one_more : (ls : List Lexeme) → names_with (names ++ l.bytes ∷ []) ls ≡ names_with names (l ∷ ls)
   one_more ls = append_assoc names (l.bytes ∷ []) (map (λ l. l.bytes) ls)
 
-  pub name_takes : IsName l → Takes (NamesGo most) names l (names ++ l.bytes ∷ [])
+  pub name_takes : IsName l → TakesLexeme (NamesGo most) names l (names ++ l.bytes ∷ [])
   name_takes name = record {
     back = λ ls e g. let all = All-cons IsName l ls name g.all in grind (arith, one_more ls);
     on = λ ls e g. let all = All-tail IsName l ls g.all in grind (arith, one_more ls);
@@ -74,8 +74,8 @@ some_names most l ls e g =
     (named g.all (omega arith) (subst (λ n. n ≤ most) (length-map (l ∷ ls) (λ l. l.bytes)) g.few) g.apart)
 
 pub first_takes : (most : ℕ) (l : Lexeme) (names : List (List ℕ)) → IsName l → names ≡ l.bytes ∷ []
-    → Takes (ElementsGo most) readers.First l (readers.Named names)
-first_takes most l names name is = subst (λ ns. Takes (ElementsGo most) readers.First l (readers.Named ns)) (sym is) (record {
+    → TakesLexeme (ElementsGo most) readers.First l (readers.Named names)
+first_takes most l names name is = subst (λ ns. TakesLexeme (ElementsGo most) readers.First l (readers.Named ns)) (sym is) (record {
   back = λ ls e g. some_names most l ls e ((name_takes most [] l name).back ls e g);
   on = λ ls e a. (name_takes most [] l name).on ls e (names_only most l (λ k. let f = name.kind in cc) (l ∷ ls) ls e refl a);
 })
@@ -91,7 +91,7 @@ first_reason l kind place h1 = grind arith
 -- ---- a further name
 
 pub named_takes : (most : ℕ) (old : ElementsReader) (names new : List (List ℕ)) (l : Lexeme) → old ≡ readers.Named names → IsName l
-    → new ≡ names ++ l.bytes ∷ [] → Takes (ElementsGo most) old l (readers.Named new)
+    → new ≡ names ++ l.bytes ∷ [] → TakesLexeme (ElementsGo most) old l (readers.Named new)
 named_takes most old names new l was name is =
     let takes = name_takes most names l name in
     grind arith

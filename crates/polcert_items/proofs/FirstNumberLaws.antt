@@ -4,8 +4,9 @@ use Rattle.std.proofs.Common.{ap, subst, arith, rules}
 use Rattle.std.proofs.lemmas.List.{append-nil}
 use Rattle.polcert_items.proofs.Common.{Lexeme, Colon, NumberFault, IsMillionths, ItemFault, Number, IndexOutOfRange, ProbabilityRange}
 use Rattle.polcert_items.proofs.Common.{BeginsWithNumber, BeginsWithDigits, IsLate, Expected, begins_number, IsRefusedNumber, IsNoFraction}
-use Rattle.polcert_items.proofs.Common.{Refusal, Sign, FirstNumber, StateOrNumber, StartReader, EndError, start_sign, pending, pending_of}
-use Rattle.polcert_items.proofs.Common.{IsValue, IsOutside, IsFraction, IsAfterColon, IsListBegun, IsWordBody, HasReadStart, IsDue}
+use Rattle.polcert_items.proofs.Common.{Refusal, Sign, FirstNumber, StateOrNumber, StartReader, EndError, start_sign, pending_refusal}
+use Rattle.polcert_items.proofs.Common.{pending_of}
+use Rattle.polcert_items.proofs.Common.{IsValue, IsOutside, IsFraction, IsAfterColon, BeginsWithListWord, IsWordBody, HasReadStart, IsDue}
 use Rattle.polcert_items.proofs.Common.{IsDueNumber, IsDueValue, CanStillBeRight, IsStop, due, at_once, IsEndDue, IsLateEnd, StopsStart}
 use Rattle.polcert_format.specs.FirstNumber.{IsNoState, no_value, no_state, out_of_range}
 use Rattle.polcert_items.specs.Steps.Start.{IsNumberBody, IsDigitsKept, IsFurtherBody, first_number, token}
@@ -60,17 +61,17 @@ due_is_late count body more l ends _ kind place s d = absurd d
 -- ---- why a token is refused
 
 -- a refusal that is held back is due as soon as anything follows
-held_due : (r : StartReader) (l : Lexeme) (x : Refusal) → pending r ≡ Some x → IsDue r l x.kind x.place
+held_due : (r : StartReader) (l : Lexeme) (x : Refusal) → pending_refusal r ≡ Some x → IsDue r l x.kind x.place
 held_due r l x h1 = grind arith
 
 pub stops_start : (count : ℕ) (body : List Lexeme) (r : StartReader) (w : Expected) (l : Lexeme) (x : Refusal)
     → HasReadStart count body r
     → ((y : Refusal) → IsDue r l y.kind y.place → x ≡ y)
-    → IsStop (IsDue r l) (start_sign r) w l x.kind x.place → StopsStart (pending r) count body w l x.kind x.place
+    → IsStop (IsDue r l) (start_sign r) w l x.kind x.place → StopsStart (pending_refusal r) count body w l x.kind x.place
 stops_start count body r w l x s same (due d) = first_number (λ more ends. due_is_late count body more l ends r x.kind x.place s d)
-stops_start count body r w l x s same (at_once m why) = of (pending r) refl
+stops_start count body r w l x s same (at_once m why) = of (pending_refusal r) refl
   where
-    of : (held : Option Refusal) → pending r ≡ held → StopsStart (pending r) count body w l x.kind x.place
+    of : (held : Option Refusal) → pending_refusal r ≡ held → StopsStart (pending_refusal r) count body w l x.kind x.place
     of None e = token (start_sign r) e s.sign m why
     of (Some y) e =
         let d : IsDue r l y.kind y.place = held_due r l y e in
@@ -116,7 +117,7 @@ late_begun : (count : ℕ) (body : List Lexeme) (ends : Bool) (kind : ItemFault)
     → Begun body
 late_begun count body ends kind place h1 = grind arith
 
-list_not_begun : (body tail : List Lexeme) → IsListBegun body → Begun (body ++ tail) → ⊥
+list_not_begun : (body tail : List Lexeme) → BeginsWithListWord body → Begun (body ++ tail) → ⊥
 list_not_begun body tail b g = grind arith
 
 word_not_begun : (body tail : List Lexeme) → IsWordBody body → Begun (body ++ tail) → ⊥
@@ -274,10 +275,11 @@ late_at_end count body r e late s is ends = grind (arith, late_whole count body 
 -- what is due where the tokens end in a fault is the number without a value
 pub late_at_fault : (count : ℕ) (body : List Lexeme) (r : StartReader) (kind : ItemFault) (place : ℕ) → HasReadStart count body r
     → IsLate count body false kind place
-    → pending r ≡ Some (record { kind = kind; place = place })
+    → pending_refusal r ≡ Some (record { kind = kind; place = place })
 late_at_fault count body r kind place s is = grind (arith, late_whole count body false r kind place s is)
 
-pub pending_is_late : (count : ℕ) (body : List Lexeme) (r : StartReader) (x : Refusal) → HasReadStart count body r → pending r ≡ Some x
+pub pending_is_late : (count : ℕ) (body : List Lexeme) (r : StartReader) (x : Refusal) → HasReadStart count body r
+    → pending_refusal r ≡ Some x
     → IsLate count body false x.kind x.place
 pending_is_late count body (reader.StateOrNumber d) x s e = of d.value refl e
   where

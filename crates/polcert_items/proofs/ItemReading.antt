@@ -2,11 +2,12 @@
 use Rattle.std.proofs.Common.{◌≡◌, ℕ, ◌⊎◌, Bool, true, false, Some, List, [], ◌∷◌, ◌++◌, Result, Err, OnOk, IfErr, unwrap_or, refl, sym, ap}
 use Rattle.std.proofs.Common.{subst, arith}
 use Rattle.polcert_items.proofs.Common.{Lexeme, ElementsReader, ItemFault, ItemReader, EndError, StartReader, Start, Elements, Count}
-use Rattle.polcert_items.proofs.Common.{count_of, IsMisfit, ExpectsNext, start_wants, IfStart, FeedError, Refusal, IsLate, states_known}
-use Rattle.polcert_items.proofs.Common.{ModelSoFar, Takes, CannotTake, CannotEnd, preamble_in, IfRefused, is_sign, ends_in_sign}
-use Rattle.polcert_items.proofs.Common.{ElementsReason, AreElementsSeen, StartGoes, StartGives, start_sign, pending, HasReadStart}
+use Rattle.polcert_items.proofs.Common.{count_of, IsMisfit, ExpectsNext, expected_by_start, IfStart, FeedError, Refusal, IsLate}
+use Rattle.polcert_items.proofs.Common.{states_known}
+use Rattle.polcert_items.proofs.Common.{ModelSoFar, TakesLexeme, CannotTake, CannotEnd, preamble_in, IfRefused, is_sign_kind, ends_in_sign}
+use Rattle.polcert_items.proofs.Common.{ElementsReason, AreElementsSeen, StartGoes, StartGives, start_sign, pending_refusal, HasReadStart}
 use Rattle.polcert_items.proofs.Common.{IsStartReason, IsStop, IsDue, CanStillBeRight, IsEndDue, IsLateEnd, StopsStart, ItemGoes, ItemForms}
-use Rattle.polcert_items.proofs.Common.{IsItemWithin, IsSeen, topic_in, pending_in, IsStartFed, RefusesInStart}
+use Rattle.polcert_items.proofs.Common.{IsItemWithin, IsSeen, topic_of_reader, pending_in, IsStartFed, RefusesInStart}
 use Rattle.polcert_items.specs.Steps.Wants.{item_wants, IfNotStart}
 use Rattle.polcert_format.specs.Reasons.{IsOfElements}
 use Rattle.polcert_items.specs.Steps.Start.{IfNotMemory}
@@ -22,7 +23,7 @@ pub use Rattle.polcert_items.proofs.StartSeen.{sign_ends}
 -- ---- what is seen of the body
 
 pub elements_seen : {T E : Type 0} (result : Result T E) (body : List Lexeme) (l : Lexeme) (new : ElementsReader)
-    → OnOk result (is_sign l.kind ≡ false)
+    → OnOk result (is_sign_kind l.kind ≡ false)
     → OnOk result (AreElementsSeen (body ++ l ∷ []) new)
     → OnOk result ((ends_in_sign (body ++ l ∷ []) ≡ false) × AreElementsSeen (body ++ l ∷ []) new)
 elements_seen result body l new h1 h2 = grind (arith, last_sign)
@@ -30,7 +31,7 @@ elements_seen result body l new h1 h2 = grind (arith, last_sign)
 -- ---- why a token is refused
 
 elements_reason : (item : ItemReader) (r : ElementsReader) (body : List Lexeme) (l : Lexeme) (kind : ItemFault) (place : ℕ)
-    → (topic_in item ≡ Start → ⊥) → IsOfElements (topic_in item)
+    → (topic_of_reader item ≡ Start → ⊥) → IsOfElements (topic_of_reader item)
     → AreElementsSeen body r → ElementsReason r l kind place → IsItemReason item body l kind place
 elements_reason item r body l kind place h1 h2 h3 h4 = grind (arith, repeated_name)
 
@@ -67,7 +68,7 @@ start_fed k states item old new l known is fed =
 
 pub start_formless : (k : ModelSoFar) (states : Elements) (item : ItemReader) (old : StartReader) (l : Lexeme) → k.states ≡ Some states
     → item ≡ items.Start old → CannotTake (StartGoes states) old l
-    → IfStart (topic_in item) (CannotTake (ItemForms k) item l)
+    → IfStart (topic_of_reader item) (CannotTake (ItemForms k) item l)
 start_formless k states item old l known is stuck = grind arith
 
 pub start_stuck : (k : ModelSoFar) (states : Elements) (item : ItemReader) (old : StartReader) (l : Lexeme) → k.states ≡ Some states
@@ -84,16 +85,18 @@ start_seen k states item old body known is s = grind arith
 start_stops : (k : ModelSoFar) (states : Elements) (item : ItemReader) (old : StartReader) (body : List Lexeme) (l : Lexeme) (r : Refusal)
     → k.states ≡ Some states → item ≡ items.Start old
     → IsSeen (states_known k) body item → ((x : Refusal) → IsDue old l x.kind x.place → r ≡ x)
-    → IsStop (IsDue old l) (start_sign old) (start_wants (count_of states) old []) l r.kind r.place
-    → IfStart (topic_in item) (StopsStart (pending_in item) (states_known k) body (item_wants k item []) l r.kind r.place)
+    → IsStop (IsDue old l) (start_sign old) (expected_by_start (count_of states) old []) l r.kind r.place
+    → IfStart (topic_of_reader item) (StopsStart (pending_in item) (states_known k) body (item_wants k item []) l r.kind r.place)
 start_stops k states item old body l r known is s late named =
-    let go : StopsStart (pending old) (count_of states) body (start_wants (count_of states) old []) l r.kind r.place =
-    laws.stops_start (count_of states) body old (start_wants (count_of states) old []) l r (start_seen k states item old body known is s)
+    let go : StopsStart (pending_refusal old) (count_of states) body (expected_by_start (count_of states) old []) l r.kind r.place =
+    laws.stops_start (count_of states) body old (expected_by_start (count_of states) old []) l r
+    (start_seen k states item old body known is s)
     late named in
-    let here : StopsStart (pending old) (states_known k) body (item_wants k (items.Start old) []) l r.kind r.place =
-    subst (λ e. StopsStart (pending old) (count_of e) body (start_wants (count_of e) old []) l r.kind r.place)
+    let here : StopsStart (pending_refusal old) (states_known k) body (item_wants k (items.Start old) []) l r.kind r.place =
+    subst (λ e. StopsStart (pending_refusal old) (count_of e) body (expected_by_start (count_of e) old []) l r.kind r.place)
     (sym (known_states k states known)) go in
-    subst (λ i. IfStart (topic_in i) (StopsStart (pending_in i) (states_known k) body (item_wants k i []) l r.kind r.place)) (sym is) here
+    subst (λ i. IfStart (topic_of_reader i) (StopsStart (pending_in i) (states_known k) body (item_wants k i []) l r.kind r.place)) (sym is)
+    here
 
 -- what is due of its first number is what is answered
 pub start_late : (k : ModelSoFar) (states : Elements) (item : ItemReader) (old : StartReader) (body more : List Lexeme) (l : Lexeme)
@@ -125,7 +128,7 @@ start_refused k states item old l (Err (stops.Refused x)) known is due held r = 
   stuck = start_stuck k states item old l known is r.stuck;
   formless = start_formless k states item old l known is r.stuck;
   reason = λ body s. start_reason item old body l x.kind x.place is (r.reason body (start_seen k states item old body known is s));
-  kind = subst (λ i. IfNotStart (topic_in i) (IsMisfit (item_wants k i []) l x.kind)) (sym is) tt;
+  kind = subst (λ i. IfNotStart (topic_of_reader i) (IsMisfit (item_wants k i []) l x.kind)) (sym is) tt;
   start = λ body s. start_stops k states item old body l x known is s (λ y d. same_refusal x y (due y d)) r.stops;
   late = λ body more ends late s start late_is. start_late k states item old body more l ends late (Err (stops.Refused x)) known is s
       late_is due held;
@@ -150,7 +153,7 @@ start_stuck_end k states item r e known is none = grind arith
 -- ---- all that is said where a token is taken, and where it is refused
 
 pub all_fed : {T E : Type 0} (r : Result T E) (k : ModelSoFar) (old new : ItemReader) (l : Lexeme) → OnOk r (IsItemWithin k new)
-    → OnOk r (Takes (ItemGoes k) old l new) → OnOk r (IfStart (topic_in old) (Takes (ItemForms k) old l new))
+    → OnOk r (TakesLexeme (ItemGoes k) old l new) → OnOk r (IfStart (topic_of_reader old) (TakesLexeme (ItemForms k) old l new))
     → ((body : List Lexeme) → IsSeen (states_known k) body old → OnOk r (IsSeen (states_known k) (body ++ l ∷ []) new))
     → OnOk r (ExpectsNext (item_wants k old) l (item_wants k new)) → OnOk r (IsItemFed k old l new)
 all_fed r k old new l h1 h2 h3 h4 h5 = grind arith
@@ -160,12 +163,12 @@ abbrev On : {T : Type 0} → Result T FeedError → (Refusal → Type 0) → Typ
 On r P = IfErr r (λ stop. IfRefused stop P)
 
 pub all_refused : {T : Type 0} (r : Result T FeedError) (k : ModelSoFar) (old : ItemReader) (l : Lexeme)
-    → On r (λ x. CannotTake (ItemGoes k) old l) → On r (λ x. IfStart (topic_in old) (CannotTake (ItemForms k) old l))
+    → On r (λ x. CannotTake (ItemGoes k) old l) → On r (λ x. IfStart (topic_of_reader old) (CannotTake (ItemForms k) old l))
     → ((body : List Lexeme) → IsSeen (states_known k) body old → On r (λ x. IsItemReason old body l x.kind x.place))
-    → On r (λ x. IfNotStart (topic_in old) (IsMisfit (item_wants k old []) l x.kind))
+    → On r (λ x. IfNotStart (topic_of_reader old) (IsMisfit (item_wants k old []) l x.kind))
     → ((body : List Lexeme) → IsSeen (states_known k) body old
-    → On r (λ x. IfStart (topic_in old) (StopsStart (pending_in old) (states_known k) body (item_wants k old []) l x.kind x.place)))
-    → ((body more : List Lexeme) (ends : Bool) (late : Refusal) → IsSeen (states_known k) body old → topic_in old ≡ Start
+    → On r (λ x. IfStart (topic_of_reader old) (StopsStart (pending_in old) (states_known k) body (item_wants k old []) l x.kind x.place)))
+    → ((body more : List Lexeme) (ends : Bool) (late : Refusal) → IsSeen (states_known k) body old → topic_of_reader old ≡ Start
     → IsLate (states_known k) (body ++ l ∷ more) ends late.kind late.place → On r (λ x. (x.kind ≡ late.kind) × (x.place ≡ late.place)))
     → On r (RefusesInItem k old l)
 all_refused (Err (stops.Refused x)) k old l stuck formless reason kind start late =

@@ -2,8 +2,9 @@
 use Rattle.std.proofs.Common.{◌≡◌, ◌∙◌, ℕ, ◌≤◌, inl, inr, true, false, Option, Some, None, List, [], ◌∷◌, ◌++◌, length, map, ℤ, pos, refl}
 use Rattle.std.proofs.Common.{sym, ap, subst, All, arith, append_assoc, Result, IfErr}
 use Rattle.polcert_items.proofs.Common.{All-cons, All-tail, All-nil, Lexeme, Body, Numbers, Sign, Probability, TokenKind, Plus, Minus}
-use Rattle.polcert_items.proofs.Common.{IsMillionths, AreNumbers, one, is_sign, AreNumbersAfter, IsInRange, ListKind, is_negative, IsSignAt}
-use Rattle.polcert_items.proofs.Common.{IsNoNumber, Takes, CannotTake, NumberListGoes, IfRefused, FeedError}
+use Rattle.polcert_items.proofs.Common.{IsMillionths, AreNumbers, one, is_sign_kind, AreNumbersAfter, FitsRange, ListKind, is_minus_sign}
+use Rattle.polcert_items.proofs.Common.{IsSignAt}
+use Rattle.polcert_items.proofs.Common.{IsNoNumber, TakesLexeme, CannotTake, NumberListGoes, IfRefused, FeedError}
 use Rattle.std.proofs.lemmas.List.Elements.{All-map}
 use Rattle.polcert_items.specs.declared.signed_number.Range.TheVariants.{Reward}
 use Rattle.polcert_cells.specs.Numbers as numbers
@@ -15,20 +16,21 @@ use Rattle.polcert_items.proofs.SignedNumbers.{sign_back, sign_on, value_back, v
 module _ {T : Type 0} (kind : ListKind T) where
   pub no_number : (n : Numbers T) (l : Lexeme) → IsNoNumber kind.range n.sign l → CannotTake (NumberListGoes kind) n l
   no_number n l no_value = λ ls body g. no_value ls (map kind.worth g.further) g.numbers
-      (All-map (IsInRange kind.range) kind.worth g.further g.in_range)
+      (All-map (FitsRange kind.range) kind.worth g.further g.in_range)
 
   module _ (old new : Numbers T) (l : Lexeme) (same_needed : new.needed ≡ old.needed) where
     module _ (s : Sign) (at : IsSignAt s l) (was : old.sign ≡ None) (is : new.sign ≡ Some s) (same_read : new.read ≡ old.read) where
-      pub takes_sign : Takes (NumberListGoes kind) old l new
+      pub takes_sign : TakesLexeme (NumberListGoes kind) old l new
       takes_sign = grind (arith, sign_back, sign_on)
 
-    module _ (x : T) (distinct : (y z : T) → kind.worth y ≡ kind.worth z → y ≡ z) (v : IsMillionths (is_negative old.sign) l (kind.worth x))
-        (fits : IsInRange kind.range (kind.worth x)) (is : new.sign ≡ None) (read : new.read ≡ old.read ++ x ∷ []) where
+    module _ (x : T) (distinct : (y z : T) → kind.worth y ≡ kind.worth z → y ≡ z)
+        (v : IsMillionths (is_minus_sign old.sign) l (kind.worth x))
+        (fits : FitsRange kind.range (kind.worth x)) (is : new.sign ≡ None) (read : new.read ≡ old.read ++ x ∷ []) where
       joined : (further : List T) → new.read ++ further ≡ old.read ++ x ∷ further
       joined further = ap (λ r. r ++ further) read ∙ append_assoc old.read (x ∷ []) further
 
       continues : (ls : List Lexeme) (further : List T) (body : Body) → AreNumbersAfter old.sign (l ∷ ls) (map kind.worth further)
-          → All (λ y. IsInRange kind.range (kind.worth y)) further
+          → All (λ y. FitsRange kind.range (kind.worth y)) further
           → length (old.read ++ further) ≡ old.needed → body ≡ kind.body (old.read ++ further) → NumberListGoes kind new ls body
       continues ls [] body a all enough is_body = absurd (cons≢nil (sym (value_on old.sign l ls (kind.worth x) [] v a).joined))
       continues ls (y ∷ ys) body a all enough is_body =
@@ -39,12 +41,12 @@ module _ {T : Type 0} (kind : ListKind T) where
             further = ys;
             numbers = subst (λ s. AreNumbersAfter s ls (map kind.worth ys)) (sym is)
                 (subst (AreNumbers ls) (sym (same_tail b.joined)) b.numbers);
-            in_range = All-tail (λ z. IsInRange kind.range (kind.worth z)) y ys all;
+            in_range = All-tail (λ z. FitsRange kind.range (kind.worth z)) y ys all;
             enough = ap length whole ∙ enough ∙ sym same_needed;
             body_is = is_body ∙ ap kind.body (sym whole);
           }
 
-      pub takes_number : Takes (NumberListGoes kind) old l new
+      pub takes_number : TakesLexeme (NumberListGoes kind) old l new
       takes_number = grind (arith, value_back, joined, continues)
 
 -- what holds of each error holds of this one
@@ -58,21 +60,21 @@ if_refused stop h1 = grind arith
 pub one_probability : (x y : ℕ) → pos x ≡ pos y → x ≡ y
 one_probability x y e = cc
 
-pub fractions_in_range : (ps : List ℕ) → All (λ p. p ≤ one) ps → All (λ p. IsInRange Probability (pos p)) ps
+pub fractions_in_range : (ps : List ℕ) → All (λ p. p ≤ one) ps → All (λ p. FitsRange Probability (pos p)) ps
 fractions_in_range ps small = grind arith
 
-pub small_fractions : (ps : List ℕ) → All (λ p. IsInRange Probability (pos p)) ps → All (λ p. p ≤ one) ps
+pub small_fractions : (ps : List ℕ) → All (λ p. FitsRange Probability (pos p)) ps → All (λ p. p ≤ one) ps
 small_fractions ps fit = λ k d h. let f = fit k d h in subst (λ q. q ≤ one) (one_probability _ _ (sym f.1.0)) f.1.1
 
 -- ---- what continues to a number
 
-any_reward : (h : ℤ) → All (IsInRange Reward) (h ∷ [])
-any_reward h = All-cons (IsInRange Reward) h [] tt (All-nil (IsInRange Reward))
+any_reward : (h : ℤ) → All (FitsRange Reward) (h ∷ [])
+any_reward h = All-cons (FitsRange Reward) h [] tt (All-nil (FitsRange Reward))
 
-sign_continues : (l : Lexeme) → is_sign l.kind ≡ true → IsNoNumber Reward None l → ⊥
+sign_continues : (l : Lexeme) → is_sign_kind l.kind ≡ true → IsNoNumber Reward None l → ⊥
 sign_continues l e none = of l.kind refl e
   where
-    of : (kind : TokenKind) → l.kind ≡ kind → is_sign kind ≡ true → ⊥
+    of : (kind : TokenKind) → l.kind ≡ kind → is_sign_kind kind ≡ true → ⊥
     of Plus is e = none (a_zero ∷ []) (pos 0 ∷ []) (numbers.plus is (zero_is false) numbers.none) (any_reward (pos 0))
     of Minus is e = none (a_zero ∷ []) (pos 0 ∷ []) (numbers.minus is (zero_is true) numbers.none) (any_reward (pos 0))
     of _ is e = true≢false e refl

@@ -6,13 +6,14 @@ use Rattle.std.specs.Prelude.{◌==◌}
 use Rattle.polcert_items.proofs.Common.{list_any, nat_tests, All-tail, All-nil, Lexeme, TokenKind, Name, Numeral, Colon, Plus, Minus, Star}
 use Rattle.polcert_items.proofs.Common.{Table, Transition, Observation, Reward, Place, Every, Only, Body, Entry, EntryState, Numbers}
 use Rattle.polcert_items.proofs.Common.{EntryReader, ItemFault, Refusal, Probability, FeedError, IsWord, AreNumbers, Elements, count_of}
-use Rattle.polcert_items.proofs.Common.{StandsFor, cells_in, IsPlace, ModelSoFar, least_written, Takes, CannotTake, CannotEnd, IsInRange}
+use Rattle.polcert_items.proofs.Common.{StandsFor, cells_in, IsPlace, ModelSoFar, least_written, TakesLexeme, CannotTake, CannotEnd}
+use Rattle.polcert_items.proofs.Common.{FitsRange}
 use Rattle.polcert_items.proofs.Common.{ListKind, of_probabilities, of_rewards, Preamble, is_mdp, dimensions, preamble_in, indices_in}
 use Rattle.polcert_items.proofs.Common.{IsFirstPlace, entry_with, NumberListGoes, ProbabilitiesGo, EntryGoes, IfRefused, IsWordAfter}
 use Rattle.polcert_items.proofs.Common.{no_numbers, AreBegun, CannotBegin, IsFull, IsListReason, entry_sign}
 use Rattle.polcert_cells.specs.Entry.{ArePlaces, IsBody}
 use Rattle.polcert_cells.specs.Preamble.{named}
-use Rattle.polcert_items.specs.Steps.Entries.{IsEntryAfter, PlaceRest, RewardsGo, BodyIs, StateGoes, body_of, word_text, MayStand}
+use Rattle.polcert_items.specs.Steps.Entries.{IsEntryAfter, PlaceRest, RewardsGo, BodyIs, StateGoes, body_of_word, word_text, MayStand}
 use Rattle.polcert_items.specs.Steps.Entries.{IsEntryReason, AreSome}
 use Rattle.std.proofs.lemmas.List.{drop-drop, drop_all, map-id}
 use Rattle.std.proofs.Math.Nat.{mul-pos}
@@ -74,7 +75,7 @@ module _ (preamble : Preamble) (table : Table) (before : List Place) where
               body = b.body;
             }
 
-    pub colon_takes : Takes (StateGoes preamble table before) states.Body l states.Place
+    pub colon_takes : TakesLexeme (StateGoes preamble table before) states.Body l states.Place
     colon_takes = record { back = λ ls e r. colon_back ls e r; on = λ ls e b. colon_on ls e b }
 
   -- after a lexeme that is no colon: the body itself
@@ -146,7 +147,7 @@ reward_state = record { out = λ p table places n ls e g. g; into = λ p table p
 -- numbers of the kind are a body
 abbrev AreBody : {T : Type 0} → ListKind T → Type 0
 AreBody {T} kind = (cells : ℕ) (ls : List Lexeme) (xs : List T) → AreNumbers ls (map kind.worth xs) → length xs ≡ cells
-    → All (λ x. IsInRange kind.range (kind.worth x)) xs → IsBody cells ls (kind.body xs)
+    → All (λ x. FitsRange kind.range (kind.worth x)) xs → IsBody cells ls (kind.body xs)
 
 probability_body : AreBody of_probabilities
 probability_body cells ls ps a count all = entries.probabilities a count (small_fractions ps all)
@@ -159,32 +160,33 @@ module _ (preamble : Preamble) (table : Table) (before : List Place) (l : Lexeme
     {T : Type 0} (kind : ListKind T) (state : Numbers T → EntryState) (is_state : IsStateOf kind state) (body : AreBody kind)
     (may : (xs : List T) → MayStand (is_mdp preamble) table (kind.body xs) (length before))
     (of_body : (ls : List Lexeme) (b : Body) → IsBody needed (l ∷ ls) b → MayStand (is_mdp preamble) table b (length before)
-    → NumberListGoes kind (no_numbers needed) (l ∷ ls) b) (n : Numbers T) (t : Takes (NumberListGoes kind) (no_numbers needed) l n) where
-  list_begins : Takes (StateGoes preamble table before) states.Body l (state n)
-  list_begins = record {
-    back = λ ls e r.
-        let r' = is_state.out preamble table before n ls e r in
-        let g = t.back ls r'.0 r'.1.0 in
-        let body_is : e.body ≡ kind.body g.further = ap (λ (x : Entry). x.body) r'.1.1 ∙ g.body_is in
-        there preamble table before (l ∷ ls) e (record {
-          places_are = ap (λ (x : Entry). x.places) r'.1.1;
-          table_is = ap (λ (x : Entry). x.table) r'.1.1;
-          form = subst (λ b. MayStand (is_mdp preamble) table b (length before)) (sym body_is) (may g.further);
-          body = subst (IsBody (cells_in (drop (length before) (dimensions preamble table))) (l ∷ ls)) (sym body_is)
-              (body _ (l ∷ ls) g.further g.numbers (g.enough ∙ cells) g.in_range);
-        });
-    on = λ ls e b.
-        let h = here preamble table before l ls e no_colon b in
-        let go = of_body ls e.body (subst (λ c. IsBody c (l ∷ ls) e.body) (sym cells) h.body) h.form in
-        is_state.into preamble table before n ls e (
-          e.body,
-          (
-            t.on ls e.body go,
-            entry_eta preamble table before e h.places_are h.table_is
-                e.body refl,
-          ),
-        );
-  }
+    → NumberListGoes kind (no_numbers needed) (l ∷ ls) b) (n : Numbers T) (t : TakesLexeme (NumberListGoes kind) (no_numbers needed) l n)
+  where
+    list_begins : TakesLexeme (StateGoes preamble table before) states.Body l (state n)
+    list_begins = record {
+      back = λ ls e r.
+          let r' = is_state.out preamble table before n ls e r in
+          let g = t.back ls r'.0 r'.1.0 in
+          let body_is : e.body ≡ kind.body g.further = ap (λ (x : Entry). x.body) r'.1.1 ∙ g.body_is in
+          there preamble table before (l ∷ ls) e (record {
+            places_are = ap (λ (x : Entry). x.places) r'.1.1;
+            table_is = ap (λ (x : Entry). x.table) r'.1.1;
+            form = subst (λ b. MayStand (is_mdp preamble) table b (length before)) (sym body_is) (may g.further);
+            body = subst (IsBody (cells_in (drop (length before) (dimensions preamble table))) (l ∷ ls)) (sym body_is)
+                (body _ (l ∷ ls) g.further g.numbers (g.enough ∙ cells) g.in_range);
+          });
+      on = λ ls e b.
+          let h = here preamble table before l ls e no_colon b in
+          let go = of_body ls e.body (subst (λ c. IsBody c (l ∷ ls) e.body) (sym cells) h.body) h.form in
+          is_state.into preamble table before n ls e (
+            e.body,
+            (
+              t.on ls e.body go,
+              entry_eta preamble table before e h.places_are h.table_is
+                  e.body refl,
+            ),
+          );
+    }
 
 pub one_to_three : (n : ℕ) → 1 ≤ n → n ≤ 3 → list_any (λ k. k == n) (1 ∷ 2 ∷ 3 ∷ []) ≡ true
 one_to_three n low high = grind (arith, nat_tests)
@@ -199,7 +201,7 @@ pub numbers_begin : (k : ModelSoFar) (table : Table) (before : List Place) (l : 
     → (l.kind ≡ Colon → ⊥) → (l.kind ≡ Name → ⊥)
     → needed ≡ cells_in (drop (length before) (indices_in k table)) → least_written (is_mdp (preamble_in k)) table ≤ length before
     → length before ≤ length (indices_in k table)
-    → AreBegun table needed l new → Takes (StateGoes (preamble_in k) table before) states.Body l new
+    → AreBegun table needed l new → TakesLexeme (StateGoes (preamble_in k) table before) states.Body l new
 numbers_begin k Transition before l (states.Probabilities n) needed no_colon no_name cells low high t =
     list_begins (preamble_in k) Transition before l no_colon needed cells of_probabilities states.Probabilities probability_state
     probability_body (λ ps. one_to_three (length before) low high)
@@ -238,7 +240,7 @@ numbers_stuck k Reward before l needed no_colon no_name cells stuck = λ ls e b.
 record WordHere (l : Lexeme) (ls : List Lexeme) (b : Body) : Type 0 where
   word : Word
   is_word : IsWord (word_text word) l
-  body_is : b ≡ body_of word
+  body_is : b ≡ body_of_word word
   none_left : ls ≡ []
 
 no_numbers_at : (l : Lexeme) (ls : List Lexeme) (hs : List ℤ) → l.kind ≡ Name → AreNumbers (l ∷ ls) hs → ⊥
@@ -249,11 +251,11 @@ word_here : (cells : ℕ) (l : Lexeme) (ls : List Lexeme) (b : Body) → ((hs : 
     → WordHere l ls b
 word_here cells l ls b h1 h2 = grind arith
 
-word_body : (cells : ℕ) (l : Lexeme) (w : Word) → IsWord (word_text w) l → IsBody cells (l ∷ []) (body_of w)
+word_body : (cells : ℕ) (l : Lexeme) (w : Word) → IsWord (word_text w) l → IsBody cells (l ∷ []) (body_of_word w)
 word_body cells l w h1 = grind (arith, entries.uniform, entries.identity)
 
 pub word_takes : (preamble : Preamble) (table : Table) (before : List Place) (l : Lexeme) (w : Word)
-    → IsWordAfter (is_mdp preamble) table (length before) l w → Takes (StateGoes preamble table before) states.Body l (states.Word w)
+    → IsWordAfter (is_mdp preamble) table (length before) l w → TakesLexeme (StateGoes preamble table before) states.Body l (states.Word w)
 word_takes preamble table before l w is = grind (arith, here, there, no_numbers_at, word_body)
 
 -- a lexeme that is no colon, no word that may stand here and begins no numbers
@@ -290,7 +292,7 @@ few_stuck preamble table before l begins few = search rules
 
 -- a reader whose state is known
 pub in_state : (preamble : Preamble) (r : EntryReader) (old new : EntryState) (l : Lexeme) → r.state ≡ old
-    → Takes (StateGoes preamble r.table r.places) old l new → Takes (EntryGoes preamble) r l (record r { state = new })
+    → TakesLexeme (StateGoes preamble r.table r.places) old l new → TakesLexeme (EntryGoes preamble) r l (record r { state = new })
 in_state preamble r old new l is t = grind arith
 
 pub stuck_in_state : (preamble : Preamble) (r : EntryReader) (old : EntryState) (l : Lexeme) → r.state ≡ old
@@ -362,7 +364,8 @@ ends_in preamble r old e is goes = subst (λ s. StateGoes preamble r.table r.pla
 -- the numbers of an entry continue
 module _ {T : Type 0} (kind : ListKind T) (state : Numbers T → EntryState) (is_state : IsStateOf kind state) (p : Preamble)
     (r : EntryReader) (old : Numbers T) (l : Lexeme) (is : r.state ≡ state old) where
-  pub list_in : (new : Numbers T) → Takes (NumberListGoes kind) old l new → Takes (EntryGoes p) r l (record r { state = state new })
+  pub list_in : (new : Numbers T) → TakesLexeme (NumberListGoes kind) old l new
+      → TakesLexeme (EntryGoes p) r l (record r { state = state new })
   list_in new t = grind arith
 
   pub list_stuck : CannotTake (NumberListGoes kind) old l → CannotTake (EntryGoes p) r l

@@ -1,8 +1,8 @@
 -- The lines of the preamble, token by token.
 use Rattle.std.proofs.Common.{◌≡◌, ℕ, ◌≤◌, Option, Some, None, List, [], ◌∷◌, ℤ, pos, refl, sym, subst, All, arith}
 use lib.IntN.{nat_abs}
-use Rattle.polcert_items.proofs.Common.{All-cons, Lexeme, Sign, IsMillionths, AreNumbers, one, AreNumbersAfter, IsInRange, is_negative}
-use Rattle.polcert_items.proofs.Common.{IsSignAt, IsNoNumber, Takes, CannotTake}
+use Rattle.polcert_items.proofs.Common.{All-cons, Lexeme, Sign, IsMillionths, AreNumbers, one, AreNumbersAfter, FitsRange, is_minus_sign}
+use Rattle.polcert_items.proofs.Common.{IsSignAt, IsNoNumber, TakesLexeme, CannotTake}
 use Rattle.polcert_cells.specs.Numbers.{none}
 use Rattle.polcert_items.specs.Steps.Lines.{DiscountRest, DiscountGoes}
 use Rattle.polcert_items.specs.declared.signed_number.Range.TheVariants.{Discount}
@@ -13,17 +13,17 @@ use Rattle.polcert_items.proofs.SignedNumbers.{sign_back, sign_on, value_back, v
 all_none : (P : ℤ → Type 0) → All P []
 all_none P = λ k d h. absurd (omega arith)
 
-in_range : (g : ℕ) → g ≤ one → All (IsInRange Discount) (pos g ∷ [])
-in_range g h = All-cons (IsInRange Discount) (pos g) [] (g, (refl, h)) (all_none (IsInRange Discount))
+in_range : (g : ℕ) → g ≤ one → All (FitsRange Discount) (pos g ∷ [])
+in_range g h = All-cons (FitsRange Discount) (pos g) [] (g, (refl, h)) (all_none (FitsRange Discount))
 
 pub no_discount : (sign : Option Sign) (l : Lexeme) → IsNoNumber Discount sign l → CannotTake DiscountGoes (discount.Number sign) l
 no_discount sign l no_value = λ ls g goes. no_value ls (pos g ∷ []) goes.0 (in_range g goes.1)
 
-takes_sign : (s : Sign) (l : Lexeme) → IsSignAt s l → Takes DiscountGoes (discount.Number None) l (discount.Number (Some s))
+takes_sign : (s : Sign) (l : Lexeme) → IsSignAt s l → TakesLexeme DiscountGoes (discount.Number None) l (discount.Number (Some s))
 takes_sign s l at = grind (arith, sign_back, sign_on)
 
 pub discount_takes_sign : (reader : DiscountReader) (sign : Option Sign) (s : Sign) (l : Lexeme) → reader ≡ discount.Number sign
-    → sign ≡ None → IsSignAt s l → Takes DiscountGoes reader l (discount.Number (Some s))
+    → sign ≡ None → IsSignAt s l → TakesLexeme DiscountGoes reader l (discount.Number (Some s))
 discount_takes_sign reader sign s l is none_before at = grind (arith, takes_sign)
 
 pos_same : (a b : ℕ) → pos a ≡ pos b → a ≡ b
@@ -38,8 +38,8 @@ tail_same h k hs ks e = cc
 no_lexemes : (ls : List Lexeme) (hs : List ℤ) → hs ≡ [] → AreNumbers ls hs → ls ≡ []
 no_lexemes ls hs h1 h2 = grind arith
 
-takes_value : (sign : Option Sign) (l : Lexeme) (p : ℕ) → IsMillionths (is_negative sign) l (pos p) → p ≤ one
-    → Takes DiscountGoes (discount.Number sign) l (discount.Done p)
+takes_value : (sign : Option Sign) (l : Lexeme) (p : ℕ) → IsMillionths (is_minus_sign sign) l (pos p) → p ≤ one
+    → TakesLexeme DiscountGoes (discount.Number sign) l (discount.Done p)
 takes_value sign l p v small = record {
   back = λ ls g goes.
       let at : AreNumbersAfter sign (l ∷ ls) (pos p ∷ []) =
@@ -54,5 +54,5 @@ takes_value sign l p v small = record {
 }
 
 pub discount_takes_value : (reader : DiscountReader) (sign : Option Sign) (l : Lexeme) (h : ℤ) → reader ≡ discount.Number sign
-    → IsMillionths (is_negative sign) l h → IsInRange Discount h → Takes DiscountGoes reader l (discount.Done (nat_abs h))
+    → IsMillionths (is_minus_sign sign) l h → FitsRange Discount h → TakesLexeme DiscountGoes reader l (discount.Done (nat_abs h))
 discount_takes_value reader sign l h is v range = grind (arith, takes_value)

@@ -1,7 +1,7 @@
 -- A number of an item, token by token.
 use Rattle.std.proofs.Common.{◌≡◌, ◌∙◌, ℕ, Bool, true, false, Option, Some, List, ◌∷◌, ℤ, sym, ap, subst, All, arith}
 use Rattle.polcert_items.proofs.Common.{All-head, Lexeme, Numeral, Plus, Minus, ItemFault, Sign, IsMillionths, AreNumbers, AreNumbersAfter}
-use Rattle.polcert_items.proofs.Common.{IsInRange, is_negative, number_place, IsSignAt}
+use Rattle.polcert_items.proofs.Common.{FitsRange, is_minus_sign, signed_place, IsSignAt}
 use Rattle.polcert_cells.specs.Numbers.{unsigned, plus, minus}
 use Rattle.polcert_items.specs.Steps.Numbers.{IsNumberReason, RefusesNumber, IsRangeFault}
 use Rattle.polcert_items.specs.declared.signed_number.Range.{Range}
@@ -24,26 +24,26 @@ numeral_not_minus l a b = cc
 
 -- numbers that continue with a numeral begin with its value
 pub first_number : (sign : Option Sign) (l : Lexeme) (ls : List Lexeme) (hs : List ℤ) → l.kind ≡ Numeral → AreNumbersAfter sign (l ∷ ls) hs
-    → FirstIs (is_negative sign) l ls hs
+    → FirstIs (is_minus_sign sign) l ls hs
 first_number sign l ls hs h1 h2 = grind arith
 
-all_first : (range : Range) (h : ℤ) (hs ks : List ℤ) → ks ≡ h ∷ hs → All (IsInRange range) ks → IsInRange range h
-all_first range h hs ks e all = All-head (IsInRange range) h hs (subst (λ xs. All (IsInRange range) xs) e all)
+all_first : (range : Range) (h : ℤ) (hs ks : List ℤ) → ks ≡ h ∷ hs → All (FitsRange range) ks → FitsRange range h
+all_first range h hs ks e all = All-head (FitsRange range) h hs (subst (λ xs. All (FitsRange range) xs) e all)
 
 range_reason : (range : Range) (sign : Option Sign) (l : Lexeme) (h : ℤ) (kind : ItemFault) (place : ℕ)
-    → IsMillionths (is_negative sign) l h
-    → (IsInRange range h → ⊥) → IsRangeFault range kind → place ≡ number_place sign l → IsNumberReason range sign l kind place
+    → IsMillionths (is_minus_sign sign) l h
+    → (FitsRange range h → ⊥) → IsRangeFault range kind → place ≡ signed_place sign l → IsNumberReason range sign l kind place
 range_reason range sign l h kind place h1 h2 h3 h4 = grind arith
 
 -- a number out of its range
 pub refuses_range : (range : Range) (sign : Option Sign) (l : Lexeme) (h : ℤ) (kind : ItemFault) (place : ℕ)
-    → IsMillionths (is_negative sign) l h
-    → (IsInRange range h → ⊥) → IsRangeFault range kind → place ≡ number_place sign l → RefusesNumber range sign l kind place
+    → IsMillionths (is_minus_sign sign) l h
+    → (FitsRange range h → ⊥) → IsRangeFault range kind → place ≡ signed_place sign l → RefusesNumber range sign l kind place
 refuses_range range sign l h kind place v out is at = record {
   none = λ ls hs a all.
       let f = first_number sign l ls hs v.kind a in
-      let same : f.first ≡ h = one_millionths (is_negative sign) l f.first h f.value v in
-      out (subst (IsInRange range) same (all_first range f.first f.rest hs f.joined all));
+      let same : f.first ≡ h = one_millionths (is_minus_sign sign) l f.first h f.value v in
+      out (subst (FitsRange range) same (all_first range f.first f.rest hs f.joined all));
   reason = range_reason range sign l h kind place v out is at;
 }
 
@@ -68,7 +68,7 @@ sign_on s l ls hs (steps.minus kind n p) (plus other v more) = absurd (plus_not_
 sign_on s l ls hs (steps.minus kind n p) (minus {l = m} {h} other v more) = (one_number true m h n v, more)
 
 -- a numeral, and then further numbers
-pub value_back : (sign : Option Sign) (l : Lexeme) (ls : List Lexeme) (h : ℤ) (hs : List ℤ) → IsMillionths (is_negative sign) l h
+pub value_back : (sign : Option Sign) (l : Lexeme) (ls : List Lexeme) (h : ℤ) (hs : List ℤ) → IsMillionths (is_minus_sign sign) l h
     → AreNumbers ls hs → AreNumbersAfter sign (l ∷ ls) (h ∷ hs)
 value_back sign l ls h hs h1 h2 = grind (arith, unsigned)
 
@@ -78,13 +78,13 @@ pub record After (h : ℤ) (ls : List Lexeme) (hs : List ℤ) : Type 0 where
   pub joined : hs ≡ h ∷ rest
   pub numbers : AreNumbers ls rest
 
-pub value_on : (sign : Option Sign) (l : Lexeme) (ls : List Lexeme) (h : ℤ) (hs : List ℤ) → IsMillionths (is_negative sign) l h
+pub value_on : (sign : Option Sign) (l : Lexeme) (ls : List Lexeme) (h : ℤ) (hs : List ℤ) → IsMillionths (is_minus_sign sign) l h
     → AreNumbersAfter sign (l ∷ ls) hs → After h ls hs
 value_on sign l ls h hs v a =
     let f = first_number sign l ls hs v.kind a in
     record {
       rest = f.rest;
-      joined = f.joined ∙ ap (λ x. x ∷ f.rest) (one_millionths (is_negative sign) l f.first h f.value v);
+      joined = f.joined ∙ ap (λ x. x ∷ f.rest) (one_millionths (is_minus_sign sign) l f.first h f.value v);
       numbers =
           f.numbers;
     }

@@ -6,8 +6,9 @@ use Rattle.std.specs.List.{AllZip}
 use Rattle.polcert_items.proofs.Common.{Lexeme, are_digits, Name, Numeral, Colon, Plus, Minus, Choice, Include, Exclude, Chosen}
 use Rattle.polcert_items.proofs.Common.{StateOrNumber, StartReader, IsWord, IsWhole, IsMillionths, AreNumbers, one, Elements, count_of}
 use Rattle.polcert_items.proofs.Common.{StandsFor, StartWeights, all_states, single, IsStartBody, IsStart, plain, IsStartBodyForm}
-use Rattle.polcert_items.proofs.Common.{IsStartForm, Takes, CannotTake, marked, AreGiven, NumbersGo, DigitsGo, state_number, first_of_more}
-use Rattle.polcert_items.proofs.Common.{StartGoes, Begins, AreDigits, IsValue, NumberFault}
+use Rattle.polcert_items.proofs.Common.{IsStartForm, TakesLexeme, CannotTake, marked, AreStartNumbers, NumbersGo, DigitsGo, state_number}
+use Rattle.polcert_items.proofs.Common.{first_of_more}
+use Rattle.polcert_items.proofs.Common.{StartGoes, Begins, AreStartDigits, IsValue, NumberFault}
 use Rattle.polcert_cells.specs.Elements.{by_name}
 use Rattle.polcert_cells.specs.Start.{included, include, exclude}
 use Rattle.polcert_items.specs.Steps.Lines.{AfterColon}
@@ -24,7 +25,7 @@ use Rattle.polcert_text.proofs.TextLaws.{exact_not_refused}
 
 -- ---- the first token
 
-pub colon_begins : (states : Elements) (l : Lexeme) → l.kind ≡ Colon → Takes (StartGoes states) reader.Form l reader.Body
+pub colon_begins : (states : Elements) (l : Lexeme) → l.kind ≡ Colon → TakesLexeme (StartGoes states) reader.Form l reader.Body
 colon_begins states l colon = record {
   back = λ ls asked g. grind (arith, shapes.plain, plain);
   on =
@@ -58,7 +59,7 @@ module _ (states : Elements) (l : Lexeme) where
       → AfterColon (ListGoes states choice (λ s. false)) ls (Some v)
   list_on choice h1 ls v h2 = grind arith
 
-  pub list_begins : (choice : Choice) → IsWordOf choice l → Takes (StartGoes states) reader.Form l (reader.Colon choice)
+  pub list_begins : (choice : Choice) → IsWordOf choice l → TakesLexeme (StartGoes states) reader.Form l (reader.Colon choice)
   list_begins choice word = grind (arith, form_listed choice word, list_on choice word, list_formed choice word, list_back choice word)
 
 -- ---- lists of states
@@ -86,7 +87,7 @@ module _ (states : Elements) (choice : Choice) (old : ℕ → Bool) (l : Lexeme)
 
 pub list_takes : (states : Elements) (old : Chosen) (l : Lexeme) (s : ℕ) (marks : List Bool) → StandsFor states l s → s < length old.marks
     → marks ≡ slice_set old.marks s true
-    → Takes (StartGoes states) (reader.List old) l (reader.List (record { choice = old.choice; marks = marks }))
+    → TakesLexeme (StartGoes states) (reader.List old) l (reader.List (record { choice = old.choice; marks = marks }))
 list_takes states old l s marks is low set =
     let same : (k : ℕ) → marked marks k ≡ (marked old.marks k || (s == k)) = λ k. ap (λ m. marked m k) set
     ∙ marked_more old.marks s low k in
@@ -122,7 +123,7 @@ module _ (states : Elements) (l : Lexeme) (name : l.kind ≡ Name) where
   name_alone : (ls : List Lexeme) → IsStartBodyForm states (l ∷ ls) → ls ≡ []
   name_alone ls h1 = grind arith
 
-  pub uniform_begins : IsWord (codes "uniform") l → Takes (StartGoes states) reader.Body l reader.Every
+  pub uniform_begins : IsWord (codes "uniform") l → TakesLexeme (StartGoes states) reader.Body l reader.Every
   uniform_begins word = record {
     back = λ ls asked g. back ls asked g;
     on =
@@ -146,7 +147,7 @@ module _ (states : Elements) (l : Lexeme) (name : l.kind ≡ Name) where
   named_form s h1 = grind (arith, shapes.name)
 
   pub name_begins : (s : ℕ) → StandsFor states l s → (IsWord (codes "uniform") l → ⊥)
-      → Takes (StartGoes states) reader.Body l (reader.Only s)
+      → TakesLexeme (StartGoes states) reader.Body l (reader.Only s)
   name_begins s is other = grind (arith, named_form s is, named_back s is, name_alone, named_on s is other)
 
   pub name_stuck : ((s : ℕ) → StandsFor states l s → ⊥) → (IsWord (codes "uniform") l → ⊥) → CannotTake (StartGoes states) reader.Body l
@@ -190,7 +191,7 @@ module _ (states : Elements) (l : Lexeme) (no_name : l.kind ≡ Name → ⊥) wh
       formed hs a (steps.alone h e) = shapes.one_number (subst (AreNumbers ls) e a)
       formed hs a (steps.each ps m e c small) = shapes.probabilities ps m (subst (AreNumbers ls) e a) c small
 
-      of : (asked : Option StartWeights) (hs : List ℤ) → AreNumbers ls hs → AreGiven states hs asked → BodyGoes states ls asked
+      of : (asked : Option StartWeights) (hs : List ℤ) → AreNumbers ls hs → AreStartNumbers states hs asked → BodyGoes states ls asked
       of None hs a given = formed hs a given
       of (Some v) hs a given = at v hs a given
 
@@ -221,7 +222,7 @@ module _ (states : Elements) (l : Lexeme) (no_name : l.kind ≡ Name → ⊥) wh
       of ls asked h1 = grind (arith, of_form, of_body)
 
   pub body_begins : ((s : ℕ) → 1 < count_of states → IsWhole l s → s < count_of states → ⊥) → (r : StartReader)
-      → Begins (NumbersGo states [] None) l (StartGoes states r) → Takes (StartGoes states) reader.Body l r
+      → Begins (NumbersGo states [] None) l (StartGoes states r) → TakesLexeme (StartGoes states) reader.Body l r
   body_begins none r b = record {
     back = λ ls v g. numbers_back (l ∷ ls) v (b.back ls v g);
     on = λ ls v g. b.on ls v (numbers_on none ls v g);
@@ -233,7 +234,7 @@ module _ (states : Elements) (l : Lexeme) (no_name : l.kind ≡ Name → ⊥) wh
 
 -- ---- digits alone
 
-module _ (states : Elements) (l : Lexeme) (digits : StateOrNumber) (are : AreDigits (count_of states) l digits) where
+module _ (states : Elements) (l : Lexeme) (digits : StateOrNumber) (are : AreStartDigits (count_of states) l digits) where
   digits_no_name : l.kind ≡ Name → ⊥
   digits_no_name name = let numeral = are.digits_are.0 in cc
 
@@ -289,7 +290,7 @@ module _ (states : Elements) (l : Lexeme) (digits : StateOrNumber) (are : AreDig
   on ls None g = form_on ls g
   on ls (Some v) g = body_on ls v g
 
-  pub digits_begin : Takes (StartGoes states) reader.Body l (reader.StateOrNumber digits)
+  pub digits_begin : TakesLexeme (StartGoes states) reader.Body l (reader.StateOrNumber digits)
   digits_begin = record { back = λ ls v g. back ls v g; on = λ ls v g. on ls v g }
 
 -- digits are a state's number where there is more than one state

@@ -4,8 +4,9 @@ use Rattle.std.proofs.Common.{sum, ℤ, pos, sym, ap, subst, All, arith, append_
 use lib.IntN.{nat_abs}
 use Rattle.polcert_items.proofs.Common.{sum_by-cons, All-cons, All-head, All-tail, All-nil, Lexeme, NumberFault, Numbers, ItemFault, Number}
 use Rattle.polcert_items.proofs.Common.{Refusal, Sign, FirstNumber, StateOrNumber, StartReader, IsMillionths, AreNumbers, one}
-use Rattle.polcert_items.proofs.Common.{of_probabilities, is_negative, IsSignAt, Elements, count_of, StartWeights, all_states, shares_of}
-use Rattle.polcert_items.proofs.Common.{Takes, CannotTake, ProbabilitiesGo, IsFull, AreGiven, NumbersGo, DigitsGo, first_of_more, StartGoes}
+use Rattle.polcert_items.proofs.Common.{of_probabilities, is_minus_sign, IsSignAt, Elements, count_of, StartWeights, all_states, shares_of}
+use Rattle.polcert_items.proofs.Common.{TakesLexeme, CannotTake, ProbabilitiesGo, IsFull, AreStartNumbers, NumbersGo, DigitsGo}
+use Rattle.polcert_items.proofs.Common.{first_of_more, StartGoes}
 use Rattle.polcert_items.proofs.Common.{StartGives, Begins, IsOutside, IsDueNumber, IsDueValue, IsStop, first_of, Expected}
 use Rattle.polcert_items.specs.Steps.Entries.{one_number}
 use Rattle.polcert_items.specs.Steps.Start.{probabilities, each, AreWhole, SharesGo, refused}
@@ -25,7 +26,7 @@ module _ (states : Elements) (before : List ℤ) (l : Lexeme) where
   pub sign_begins : (s : Sign) → IsSignAt s l → Begins (NumbersGo states before None) l (NumbersGo states before (Some s))
   sign_begins s at = grind (arith, sign_back)
 
-  pub value_begins : (sign : Option Sign) (h : ℤ) → IsMillionths (is_negative sign) l h
+  pub value_begins : (sign : Option Sign) (h : ℤ) → IsMillionths (is_minus_sign sign) l h
       → Begins (NumbersGo states before sign) l (NumbersGo states (before ++ h ∷ []) None)
   value_begins sign h is = record {
     back = λ ls asked g. record {
@@ -78,7 +79,7 @@ fractions states h further asked (p ∷ ps) e count small whole =
 
 -- with another lexeme after the first number there are more numbers, a probability for each of some states
 more_fractions : (states : Elements) (h : ℤ) (further : List ℤ) (l : Lexeme) (ls : List Lexeme) (asked : Option StartWeights)
-    → AreNumbers (l ∷ ls) further → AreGiven states (h ∷ further) asked
+    → AreNumbers (l ∷ ls) further → AreStartNumbers states (h ∷ further) asked
     → Fractions states h further asked
 more_fractions states h further l ls asked h1 h2 = grind (arith, small_ones, fractions)
 
@@ -134,12 +135,12 @@ module _ (states : Elements) (p : ℕ) (n : Numbers ℕ) (small : p ≤ one) (is
       }
     where
       given : (asked : Option StartWeights) (ps : List ℕ) {hs : List ℤ} → hs ≡ map pos ps → length ps ≡ count_of states
-          → All (λ q. q ≤ one) ps → AreWhole ps asked → AreGiven states hs asked
+          → All (λ q. q ≤ one) ps → AreWhole ps asked → AreStartNumbers states hs asked
       given None ps e c small w = each ps more e c small
       given (Some v) ps e c small w = probabilities ps more e c w.0 w.1
 
-pub shares_take : (states : Elements) (old new : Numbers ℕ) (l : Lexeme) → Takes ProbabilitiesGo old l new
-    → Takes (StartGoes states) (reader.Probabilities old) l (reader.Probabilities new)
+pub shares_take : (states : Elements) (old new : Numbers ℕ) (l : Lexeme) → TakesLexeme ProbabilitiesGo old l new
+    → TakesLexeme (StartGoes states) (reader.Probabilities old) l (reader.Probabilities new)
 shares_take states old new l t = grind arith
 
 pub shares_stuck : (states : Elements) (n : Numbers ℕ) (l : Lexeme) → CannotTake ProbabilitiesGo n l
@@ -157,7 +158,7 @@ is_number states f p e ls asked g = subst (λ h. NumbersGo states (h ∷ []) Non
 -- a second number follows the first one, or its sign
 pub number_takes : (states : Elements) (f : FirstNumber) (p : ℕ) (old new : Numbers ℕ) (l : Lexeme) → f.value ≡ pos p → p ≤ one
     → 1 < count_of states → IsOneRead states p old
-    → Takes ProbabilitiesGo old l new → Takes (StartGoes states) (reader.Number f) l (reader.Probabilities new)
+    → TakesLexeme ProbabilitiesGo old l new → TakesLexeme (StartGoes states) (reader.Number f) l (reader.Probabilities new)
 number_takes states f p old new l e small more is t =
     let s = shares_take states old new l t in
     record {
@@ -188,8 +189,8 @@ module _ (states : Elements) (digits : StateOrNumber) (l : Lexeme) where
   on_digits h h1 ls asked h2 = grind arith
 
   pub digits_take : (f : FirstNumber) (n : Numbers ℕ) → digits.value ≡ Ok f.value
-      → Takes (StartGoes states) (reader.Number f) l (reader.Probabilities n)
-      → Takes (StartGoes states) (reader.StateOrNumber digits) l (reader.Probabilities n)
+      → TakesLexeme (StartGoes states) (reader.Number f) l (reader.Probabilities n)
+      → TakesLexeme (StartGoes states) (reader.StateOrNumber digits) l (reader.Probabilities n)
   digits_take f n is t = record {
     back = λ ls v g. first_of_more f.value is (t.back ls v g);
     on = λ ls v g. t.on ls v (on_digits f.value is ls v g);
@@ -220,5 +221,5 @@ pub digits_stop : (digits : StateOrNumber) (f : FirstNumber) (w : Expected) (l :
 digits_stop digits f w l kind place h1 h2 h3 = grind arith
 
 pub sign_takes : (states : Elements) (sign : Sign) (l : Lexeme) (new : StartReader)
-    → Begins (NumbersGo states [] (Some sign)) l (StartGoes states new) → Takes (StartGoes states) (reader.Sign sign) l new
+    → Begins (NumbersGo states [] (Some sign)) l (StartGoes states new) → TakesLexeme (StartGoes states) (reader.Sign sign) l new
 sign_takes states sign l new b = record { back = λ ls v g. b.back ls v g; on = λ ls v g. b.on ls v g }

@@ -1,8 +1,8 @@
 -- A start item as its reader continues with it.
 use Rattle.std.proofs.Common.{◌≡◌, ℕ, List, [], Result, Ok, Err, OnOk, refl, rules}
-use Rattle.polcert_items.proofs.Common.{Lexeme, Elements, StartWeights, IsStart, Numbers, ProbabilitiesGo, HasRoom, IsStartFed, Takes}
-use Rattle.polcert_items.proofs.Common.{SignIs, StartGives, IsStartWithin, HasReadStart, ExpectsNext, list_wants}
-use Rattle.polcert_items.specs.Steps.Start.{new_start, AreWithin}
+use Rattle.polcert_items.proofs.Common.{Lexeme, Elements, StartWeights, IsStart, Numbers, ProbabilitiesGo, HasRoom, IsStartFed, TakesLexeme}
+use Rattle.polcert_items.proofs.Common.{SignIs, StartGives, IsStartWithin, HasReadStart, ExpectsNext, expected_by_numbers}
+use Rattle.polcert_items.specs.Steps.Start.{new_start, HasProbabilityRoom}
 use Rattle.polcert_items.specs.declared.start_reader.StartReader.TheVariants as reader
 use Rattle.polcert_items.proofs.StartNumbers.{shares_take}
 use Rattle.polcert_items.proofs.StartSeen.{further_seen}
@@ -22,9 +22,10 @@ pub new_start_seen : (count : ℕ) → HasReadStart count [] new_start
 new_start_seen count = record { sign = refl; body_is = refl }
 
 -- more probabilities
-pub shares_fed : {E : Type 0} (result : Result Unit E) (states : Elements) (old new : Numbers ℕ) (l : Lexeme) → AreWithin states old
+pub shares_fed : {E : Type 0} (result : Result Unit E) (states : Elements) (old new : Numbers ℕ) (l : Lexeme)
+    → HasProbabilityRoom states old
     → new.needed ≡ old.needed → OnOk result (HasRoom new)
-    → OnOk result (Takes ProbabilitiesGo old l new) → OnOk result (ExpectsNext (list_wants old) l (list_wants new))
+    → OnOk result (TakesLexeme ProbabilitiesGo old l new) → OnOk result (ExpectsNext (expected_by_numbers old) l (expected_by_numbers new))
     → OnOk result (SignIs new.sign l)
     → OnOk result (IsStartFed states (reader.Probabilities old) l (reader.Probabilities new))
 shares_fed (Ok v) states old new l within needed room takes leads sign = search (rules, shares_take, further_seen)

@@ -1,10 +1,13 @@
 -- What the body of a start item so far has to do with its reader's state, and where its refusals stand.
 use Rattle.polcert_items.proofs.Common.{IfErr-weaker, Lexeme, Numeral, Name, NumberFault, ItemFault, Number, IndexOutOfRange}
 use Rattle.polcert_items.proofs.Common.{ProbabilityRange, Sign, Refusal, FirstNumber, StateOrNumber, StartReader, FeedError, IsMillionths}
-use Rattle.polcert_items.proofs.Common.{Elements, Takes, CannotTake, IsStartFed, RefusesInStart, ExpectsNext, start_wants, count_of, Start}
-use Rattle.polcert_items.proofs.Common.{IsRefusedNumber, IsNoFraction, is_sign, ends_in_sign, is_negative, number_place, IsSignAt, SignIs}
+use Rattle.polcert_items.proofs.Common.{Elements, TakesLexeme, CannotTake, IsStartFed, RefusesInStart, ExpectsNext, expected_by_start}
+use Rattle.polcert_items.proofs.Common.{count_of, Start}
+use Rattle.polcert_items.proofs.Common.{IsRefusedNumber, IsNoFraction, is_sign_kind, ends_in_sign, is_minus_sign, signed_place, IsSignAt}
+use Rattle.polcert_items.proofs.Common.{SignIs}
 use Rattle.polcert_items.proofs.Common.{Expected, IsMisfit, BeginsWithNumber, BeginsWithDigits, Chosen, Numbers, IfRefused, IsListReason}
-use Rattle.polcert_items.proofs.Common.{start_sign, pending_of, pending, IsValue, AreDigits, IsAfterColon, IsListBegun, IsWordBody}
+use Rattle.polcert_items.proofs.Common.{start_sign, pending_of, pending_refusal, IsValue, AreStartDigits, IsAfterColon, BeginsWithListWord}
+use Rattle.polcert_items.proofs.Common.{IsWordBody}
 use Rattle.polcert_items.proofs.Common.{IsFraction, HasReadStart, IsOutside, IsDueNumber, IsDueValue, IsStop, due, at_once, IsStartReason}
 use Rattle.polcert_items.proofs.Common.{StartGoes, IsStartWithin, first_of}
 use Rattle.polcert_format.specs.Reasons.{StandsIn, NumberStandsIn, unsigned, plus, minus, IsDigits}
@@ -28,7 +31,7 @@ some_once e = cc
 
 -- ---- one lexeme more
 
-pub last_sign : (body : List Lexeme) (l : Lexeme) → ends_in_sign (body ++ l ∷ []) ≡ is_sign l.kind
+pub last_sign : (body : List Lexeme) (l : Lexeme) → ends_in_sign (body ++ l ∷ []) ≡ is_sign_kind l.kind
 last_sign (x ∷ y ∷ ys) l = last_sign (y ∷ ys) l
 last_sign c l = refl
 
@@ -50,8 +53,8 @@ signed_stands sign body before s l place Is e (steps.minus kind negative at) p s
     minus before s l [] (signed_whole body before s l e) kind (p ∙ at) (subst (λ b. Is b l) negative so)
 
 number_stands : (sign : Option Sign) (body : List Lexeme) (l : Lexeme) (place : ℕ) (Is : Bool → Lexeme → Type 0) → SignEnds sign body
-    → place ≡ number_place sign l
-    → Is (is_negative sign) l → NumberStandsIn (body ++ l ∷ []) place Is
+    → place ≡ signed_place sign l
+    → Is (is_minus_sign sign) l → NumberStandsIn (body ++ l ∷ []) place Is
 number_stands None body l place Is ends p so = unsigned body l [] refl ends p so
 number_stands (Some sign) body l place Is ends p so = signed_stands sign body ends.0 ends.1.0 l place Is ends.1.1.0 ends.1.1.1 p so
 
@@ -101,7 +104,7 @@ begins_more body place Is ls further (begins.minus c s l whole kind is p so) =
 -- it stands in the body
 begins_stands : (body : List Lexeme) (place : ℕ) (Is : Bool → Lexeme → Type 0) (ls : List Lexeme) → BeginsWithNumber body place Is ls
     → NumberStandsIn body place Is
-begins_stands body place Is ls (begins.unsigned c l whole kind p so) = unsigned (c ∷ []) l ls whole (ap is_sign kind) p so
+begins_stands body place Is ls (begins.unsigned c l whole kind p so) = unsigned (c ∷ []) l ls whole (ap is_sign_kind kind) p so
 begins_stands body place Is ls (begins.plus c s l whole kind is p so) = plus (c ∷ []) s l ls whole is p so
 begins_stands body place Is ls (begins.minus c s l whole kind is p so) = minus (c ∷ []) s l ls whole is p so
 
@@ -118,12 +121,12 @@ digits_more count body place Is Other ls further f d = grind arith
 
 -- ---- what was seen
 
-numeral_no_sign : (l : Lexeme) → l.kind ≡ Numeral → is_sign l.kind ≡ false
-numeral_no_sign l e = ap is_sign e
+numeral_no_sign : (l : Lexeme) → l.kind ≡ Numeral → is_sign_kind l.kind ≡ false
+numeral_no_sign l e = ap is_sign_kind e
 
 -- after the colon, and a sign if there is one, a number begins the body
 number_begins : (sign : Option Sign) (body : List Lexeme) (l : Lexeme) (place : ℕ) (Is : Bool → Lexeme → Type 0) → IsAfterColon sign body
-    → place ≡ number_place sign l → Is (is_negative sign) l
+    → place ≡ signed_place sign l → Is (is_minus_sign sign) l
     → BeginsWithNumber (body ++ l ∷ []) place Is []
 number_begins None body l place Is b p so = begins.unsigned b.0 l (ap (λ (c : List Lexeme). c ++ l ∷ []) b.1) b.2 p so
 number_begins (Some sign) body l place Is b p so = at b.4
@@ -155,7 +158,7 @@ sign_seen : (count : ℕ) (body : List Lexeme) (l : Lexeme) (s : Sign) → IsAft
     → HasReadStart count (body ++ l ∷ []) (reader.Sign s)
 sign_seen count body l s b at = grind arith
 
-digits_seen : (count : ℕ) (body : List Lexeme) (l : Lexeme) (d : StateOrNumber) → IsAfterColon None body → AreDigits count l d
+digits_seen : (count : ℕ) (body : List Lexeme) (l : Lexeme) (d : StateOrNumber) → IsAfterColon None body → AreStartDigits count l d
     → HasReadStart count (body ++ l ∷ []) (reader.StateOrNumber d)
 digits_seen count body l d b k = grind arith
 
@@ -182,7 +185,7 @@ pub form_seen : (count : ℕ) (body : List Lexeme) (l : Lexeme) (r : StartReader
 form_seen count body l r h1 h2 = grind arith
 
 -- a list of states
-pub list_seen : (count : ℕ) (body : List Lexeme) (l : Lexeme) (c : Chosen) → IsListBegun body → is_sign l.kind ≡ false
+pub list_seen : (count : ℕ) (body : List Lexeme) (l : Lexeme) (c : Chosen) → BeginsWithListWord body → is_sign_kind l.kind ≡ false
     → HasReadStart count (body ++ l ∷ []) (reader.List c)
 list_seen count body l c b free = record {
   sign = sign_ends None body l free;
@@ -281,7 +284,8 @@ digits_reason count body d w l kind place s (due late) = of_value d.value refl l
         (stands_as (IsRefusedNumber f) (λ m. subst (λ v. IsValue v false m) is))
 
 -- digits without a value
-pub pending_reason : (count : ℕ) (body : List Lexeme) (r : StartReader) (f : Refusal) → HasReadStart count body r → pending r ≡ Some f
+pub pending_reason : (count : ℕ) (body : List Lexeme) (r : StartReader) (f : Refusal) → HasReadStart count body r
+    → pending_refusal r ≡ Some f
     → IsStartReason body f.kind f.place
 pending_reason count body (reader.StateOrNumber d) f s e = of_value d.value refl e
   where
@@ -302,8 +306,8 @@ list_reason sign l kind place h1 = grind arith
 -- ---- from a known state
 
 pub fed_as : (states : Elements) (old r new : StartReader) (l : Lexeme) → old ≡ r → IsStartWithin states new
-    → Takes (StartGoes states) r l new
-    → ExpectsNext (start_wants (count_of states) r) l (start_wants (count_of states) new)
+    → TakesLexeme (StartGoes states) r l new
+    → ExpectsNext (expected_by_start (count_of states) r) l (expected_by_start (count_of states) new)
     → ((body : List Lexeme) → HasReadStart (count_of states) body r → HasReadStart (count_of states) (body ++ l ∷ []) new)
     → IsStartFed states old l new
 fed_as states old r new l is within takes leads seen = grind arith
@@ -319,7 +323,8 @@ refused_as result states old r l is refused = subst (λ s. On result (RefusesInS
 -- the token is refused for itself
 pub token_refused : {T : Type 0} (result : Result T FeedError) (states : Elements) (r : StartReader) (l : Lexeme)
     → On result (λ x. CannotTake (StartGoes states) r l)
-    → On result (λ x. IsReasonAt (start_sign r) l x.kind x.place) → On result (λ x. IsMisfit (start_wants (count_of states) r []) l x.kind)
+    → On result (λ x. IsReasonAt (start_sign r) l x.kind x.place)
+    → On result (λ x. IsMisfit (expected_by_start (count_of states) r []) l x.kind)
     → On result (RefusesInStart states r l)
 token_refused (Err (stops.Refused x)) states r l stuck reason kind =
     record {

@@ -8,7 +8,7 @@ use Rattle.polcert_text.specs.Bytes.{is_letter, is_name_byte}
 use Rattle.polcert_text.specs.Cut.{Rest, IsTokenAt, TakesToken}
 use Rattle.polcert_text.specs.TakenTokens.{Taken, nothing, token}
 use Rattle.polcert_text.specs.Lexemes.{is_name, is_numeral, kind_of}
-use Rattle.polcert_items.specs.Steps.Elements.{IsText}
+use Rattle.polcert_items.specs.Steps.Elements.{IsAsciiName}
 use Rattle.polcert_cells.proofs.Basics.{and_true, cons≢nil, same_head, same_tail}
 
 name_byte_below : (b : ℕ) → is_name_byte b ≡ true → b < 128
@@ -38,22 +38,22 @@ unfolding kind_of
 name_of_kind bs e = kind_is_name (is_name bs) (is_numeral bs) (bytes_eq bs (codes ":")) (bytes_eq bs (codes "*")) (bytes_eq bs (codes "+"))
     (bytes_eq bs (codes "-")) e
 
-pub name_is_text : (place : ℕ) (bytes : List ℕ) (l : Lexeme) → IsTokenAt place bytes l → IsText l
+pub name_is_text : (place : ℕ) (bytes : List ℕ) (l : Lexeme) → IsTokenAt place bytes l → IsAsciiName l
 name_is_text place bytes l at = λ name. name_below l.bytes
     (name_of_kind l.bytes (ap kind_of at.bytes_are ∙ at.lexeme.lexeme ∙ ap Some name))
 
-pub token_is_text : (old : Rest) (l : Lexeme) (new : Rest) → TakesToken old l new → IsText l
+pub token_is_text : (old : Rest) (l : Lexeme) (new : Rest) → TakesToken old l new → IsAsciiName l
 token_is_text old l new takes = name_is_text _ _ l takes.token_at
 
 one_last : (ls : List Lexeme) (t l : Lexeme) → ls ++ t ∷ [] ≡ l ∷ [] → t ≡ l
 one_last [] t l e = same_head e
 one_last (m ∷ ls) t l e = absurd (omega (arith, ap length (same_tail e), length-append ls (t ∷ [])))
 
-only_is_text : (old new : Rest) (ls : List Lexeme) (l : Lexeme) → Taken old ls new → ls ≡ l ∷ [] → IsText l
+only_is_text : (old new : Rest) (ls : List Lexeme) (l : Lexeme) → Taken old ls new → ls ≡ l ∷ [] → IsAsciiName l
 only_is_text old new ls l (nothing _) e = absurd (cons≢nil (sym e))
 only_is_text old new ls l (token _ between _ before t taken takes) e =
-    subst IsText (one_last before t l e) (token_is_text between t new takes)
+    subst IsAsciiName (one_last before t l e) (token_is_text between t new takes)
 
 -- the one token at the front of some bytes
-pub front_is_text : (place : ℕ) (bytes : List ℕ) (count : ℕ) (l : Lexeme) → BeginWith place bytes count (l ∷ []) → IsText l
+pub front_is_text : (place : ℕ) (bytes : List ℕ) (count : ℕ) (l : Lexeme) → BeginWith place bytes count (l ∷ []) → IsAsciiName l
 front_is_text place bytes count l front = only_is_text _ _ (l ∷ []) l (front.taken [] None) refl

@@ -3,11 +3,11 @@ use Rattle.std.proofs.Common.{◌≡◌, ℕ, ◌≤◌, true, false, None, List
 use Rattle.std.proofs.Common.{bytes_eq, Some, codes}
 use Rattle.polcert_items.proofs.Common.{Lexeme, TokenKind, DuplicateName, Table, Numbers, EntryReader, Preamble, is_mdp, dimensions}
 use Rattle.polcert_items.proofs.Common.{cells_in, least_written, numbers_want, no_numbers, Expected, begins_number, IsMisfit, ExpectsNext}
-use Rattle.polcert_items.proofs.Common.{list_wants, state_wants, Name, Numeral, ItemFault, is_reserved, IsName, ElementsReason}
+use Rattle.polcert_items.proofs.Common.{expected_by_numbers, state_wants, Name, Numeral, ItemFault, is_reserved, IsName, ElementsReason}
 use Rattle.polcert_format.specs.declared.fault.ItemFault.TheVariants.{WrongNumberCount, BadCount, UnknownName}
 use Rattle.polcert_format.specs.Wants.{by_kind, entry_wants}
 use Rattle.polcert_format.specs.Misfits.{unexpected_token, Index, FurtherName, CountOrName}
-use Rattle.polcert_items.specs.Steps.Wants.{entry_wants as reader_wants}
+use Rattle.polcert_items.specs.Steps.Wants.{expected_by_entry}
 use Rattle.polcert_items.proofs.PatternLaws.{BeginsNumber}
 use Rattle.polcert_items.specs.declared.preamble_lines.ElementsReader.TheVariants.{Named}
 use Rattle.polcert_text.specs.declared.tokens.TokenKind.TheVariants as kinds
@@ -16,7 +16,7 @@ use Rattle.polcert_items.specs.declared.entry_reader.EntryState.TheVariants as s
 -- ---- numbers
 
 pub list_numeral_leads : {T : Type 0} (n : Numbers T) (l : Lexeme) (read : List T) (v : T) → l.kind ≡ kinds.Numeral
-    → read ≡ n.read ++ v ∷ [] → ExpectsNext (list_wants n) l (list_wants (record n { read = read; sign = None }))
+    → read ≡ n.read ++ v ∷ [] → ExpectsNext (expected_by_numbers n) l (expected_by_numbers (record n { read = read; sign = None }))
 list_numeral_leads n l read v e more = grind (arith, length-append)
 
 -- ---- entries
@@ -38,16 +38,16 @@ numbers_lead preamble table written l new e leads = grind arith
 -- ---- from a known state
 
 pub no_numbers_lead : {T : Type 0} (n : Numbers T) (needed : ℕ) (l : Lexeme) (new : List Lexeme → Expected) → n ≡ no_numbers needed
-    → ExpectsNext (list_wants n) l new → ExpectsNext (numbers_want false needed) l new
+    → ExpectsNext (expected_by_numbers n) l new → ExpectsNext (numbers_want false needed) l new
 no_numbers_lead n needed l new e leads = grind arith
 
 pub body_leads : (preamble : Preamble) (r : EntryReader) (l : Lexeme) (new : List Lexeme → Expected) → r.state ≡ states.Body
-    → ExpectsNext (entry_wants preamble r.table false (length r.places)) l new → ExpectsNext (reader_wants preamble r) l new
+    → ExpectsNext (entry_wants preamble r.table false (length r.places)) l new → ExpectsNext (expected_by_entry preamble r) l new
 body_leads preamble r l new e leads = subst (λ s. ExpectsNext (state_wants preamble r.table r.places s) l new) (sym e) leads
 
 pub body_ends_in : (preamble : Preamble) (r : EntryReader) → r.state ≡ states.Body
     → least_written (is_mdp preamble) r.table ≤ length r.places → 1 ≤ cells_in (drop (length r.places) (dimensions preamble r.table))
-    → WrongNumberCount ≡ unexpected_token (reader_wants preamble r []) None
+    → WrongNumberCount ≡ unexpected_token (expected_by_entry preamble r []) None
 body_ends_in preamble r e low some = grind arith
 
 pub number_begins : (k : TokenKind) → BeginsNumber k → begins_number k ≡ true

@@ -4,7 +4,7 @@ ghost use Rattle.polcert_text.specs.Beginning.{BeginWithOne, BeginWithDigits};
 ghost use Rattle.polcert_cells.specs.Elements.{count_of, most_elements};
 ghost use Rattle.polcert_cells.specs.declared.elements.Elements.TheVariants.{Count};
 ghost use Rattle.polcert_format.specs.KnownPreamble.{indices_in, named_in, preamble_in};
-ghost use Rattle.polcert_items.specs.Steps.Ahead.{FedAhead, TakesAhead, IsListFed, IsListBegun, ItemFedAhead, BeginWithPlace, PlacesFed, AreCounts};
+ghost use Rattle.polcert_items.specs.Steps.Ahead.{FedAhead, StepsAhead, IsListFed, IsListBegun, ItemFedAhead, BeginWithPlace, PlacesFed, AreCounts};
 ghost use Rattle.polcert_items.specs.Steps.Ahead.{with_state};
 ghost use Rattle.polcert_items.specs.Steps.Ahead.{IsNextEntry, IsNextItem};
 ghost use Rattle.polcert_items.specs.Steps.Entries.{EntryGoes, IsWithinIndices};
@@ -461,7 +461,7 @@ impl<T: ListNumber> Numbers<T> {
     /// Continues with the numbers that the bytes begin with, up to the last that is needed, and answers how many bytes they are.
     #[inline(never)]
     fn feed_ahead(&mut self, bytes: &[u8]) -> Result<usize, AllocError>
-        ensures { IfOk result (λ count. TakesAhead (IsListFed T.kind) self.old bytes.now count self.new) }
+        ensures { IfOk result (λ count. StepsAhead (IsListFed T.kind) self.old bytes.now count self.new) }
     {
         let mut at: usize = 0;
         if self.sign.is_some() {

@@ -6,24 +6,24 @@ ghost use Rattle.std.specs.Option.{option_copied};
 ghost use Rattle.polcert_cells.specs.Preamble.{Preamble};
 ghost use Rattle.polcert_cells.specs.declared.elements.Elements.TheVariants.{Count};
 ghost use Rattle.polcert_cells.specs.Elements.{count_of, most_elements};
-ghost use Rattle.polcert_items.specs.Steps.Elements.{IsText};
+ghost use Rattle.polcert_items.specs.Steps.Elements.{IsAsciiName};
 ghost use Rattle.polcert_cells.specs.Entry.{IsPlace};
 ghost use Rattle.polcert_cells.specs.EntryRefs.{entry_of, body_of as ref_body};
 ghost use Rattle.polcert_format.specs.Wants.{least_written, numbers_want, place_wants};
-ghost use Rattle.polcert_items.specs.Steps.Lines.{Takes, CannotTake, CannotEnd};
+ghost use Rattle.polcert_items.specs.Steps.Lines.{TakesLexeme, CannotTake, CannotEnd};
 ghost use Rattle.polcert_format.specs.KnownPreamble.{preamble_in, indices_in, named_in};
 ghost use Rattle.polcert_items.specs.Steps.Entries.{IsFirstPlace, NumberListGoes, EntryGoes, IsWithinIndices};
 ghost use Rattle.polcert_items.specs.Steps.Entries.{IsEntryReason, IsPlaceReason, IfRefused, IsFull};
 ghost use Rattle.polcert_items.specs.Steps.Entries.{IsListReason, MayStand, IsWordAfter, AreBegun};
 ghost use Rattle.polcert_items.specs.Steps.Entries.{CannotBegin, range_of, HasRoom, HasRoomIn, no_numbers};
-ghost use Rattle.polcert_items.specs.Steps.Entries.{one_number, body_of, entry_sign, AreSome};
+ghost use Rattle.polcert_items.specs.Steps.Entries.{one_number, body_of_word, entry_sign, AreSome};
 ghost use Rattle.polcert_format.specs.Misfits.{unexpected_token, IsMisfit, Index, Mark};
-ghost use Rattle.polcert_items.specs.Steps.Numbers.{SignIs, IsInRange, ListKind, of_probabilities};
+ghost use Rattle.polcert_items.specs.Steps.Numbers.{SignIs, FitsRange, ListKind, of_probabilities};
 ghost use Rattle.polcert_items.specs.Steps.Numbers.{of_rewards};
 ghost use Rattle.polcert_items.specs.Steps.Items.{IsEndReason};
 ghost use Rattle.polcert_format.specs.Text.{ModelSoFar};
 ghost use Rattle.polcert_items.specs.Steps.Feeding.{IsTokenStep, IsEntryStep};
-ghost use Rattle.polcert_items.specs.Steps.Wants.{ExpectsNext, list_wants, state_wants, entry_wants};
+ghost use Rattle.polcert_items.specs.Steps.Wants.{ExpectsNext, expected_by_numbers, state_wants, expected_by_entry};
 ghost use Rattle.polcert_cells.specs.declared.words.Topic.{Topic};
 ghost use Rattle.polcert_cells.specs.declared.entries.Place.{Place};
 ghost use Rattle.polcert_items.specs.declared.entry_reader.Word.{Word};
@@ -86,7 +86,7 @@ impl<T: Copy> Numbers<T> {
         ensures full { MatchOption result (IsFull self.now) (λ _. IsFull self.now → ⊥) }
         ensures reason { IfSome result (λ fault. (t : Topic) → IsEndReason t fault) }
         ensures kind { HasRoom self.now
-            → IfSome result (λ fault. fault ≡ unexpected_token (list_wants self.now []) None) }
+            → IfSome result (λ fault. fault ≡ unexpected_token (expected_by_numbers self.now []) None) }
     {
         match self.sign {
             Some(_) => Some(ItemFault::BadShape),
@@ -103,7 +103,7 @@ impl<T: ListNumber> Numbers<T> {
         requires { HasRoom self.old }
         ensures needed { self.new.needed ≡ self.old.needed }
         ensures room { OnOk result (HasRoom self.new) }
-        ensures fed { IsTokenStep IfRefused (NumberListGoes T.kind) list_wants
+        ensures fed { IsTokenStep IfRefused (NumberListGoes T.kind) expected_by_numbers
             (IsListReason T.kind.range self.old.sign) self.old (lexeme_of token.entry) self.new result }
         ensures sign { OnOk result (SignIs self.new.sign (lexeme_of token.entry)) }
     {
@@ -181,7 +181,7 @@ impl EntryReader {
         token: Token<'_>,
     ) -> Result<(), FeedError>
         requires within { IsWithinIndices (indices_in known.now self.old.table) self.old }
-        requires text { IsText (lexeme_of token) }
+        requires text { IsAsciiName (lexeme_of token) }
         ensures table { self.new.table ≡ self.old.table }
         ensures within { OnOk result (IsWithinIndices (indices_in known.now self.old.table) self.new) }
         ensures fed { IsEntryStep known.now (IsEntryReason self.old)
@@ -207,7 +207,7 @@ impl EntryReader {
     fn feed_place(&mut self, known: &ModelSoFar, token: Token<'_>) -> Result<(), FeedError>
         requires state { self.old.state ≡ EntryState.Place }
         requires within { length self.old.places < length (indices_in known.now self.old.table) }
-        requires text { IsText (lexeme_of token) }
+        requires text { IsAsciiName (lexeme_of token) }
         ensures table { self.new.table ≡ self.old.table }
         ensures within { OnOk result (IsWithinIndices (indices_in known.now self.old.table) self.new) }
         ensures fed { IsEntryStep known.now IsPlaceReason
@@ -224,7 +224,7 @@ impl EntryReader {
     /// observation.
     pub(crate) fn next_place(&self, known: &ModelSoFar, token: Token<'_>) -> Result<Place, Refusal>
         requires within { length self.now.places < length (indices_in known.now self.now.table) }
-        requires text { IsText (lexeme_of token) }
+        requires text { IsAsciiName (lexeme_of token) }
         ensures place { IfOk result
             (IsFirstPlace (drop (length self.now.places) (named_in known.now self.now.table))
             (lexeme_of token.entry)) }
@@ -291,7 +291,7 @@ impl EntryReader {
         ensures kind { AreSome (indices_in known.now self.table) →
             IsWithinIndices (indices_in known.now self.table) self →
             IfErr result (λ kind.
-            kind ≡ unexpected_token (entry_wants (preamble_in known.now) self []) None) }
+            kind ≡ unexpected_token (expected_by_entry (preamble_in known.now) self []) None) }
     {
         let EntryReader {
             table,
@@ -345,7 +345,7 @@ impl EntryReader {
 
 /// Returns the body that the word stands for.
 fn body_of(word: Word) -> Body
-    ensures { result ≡ body_of word }
+    ensures { result ≡ body_of_word word }
 {
     match word {
         Word::Uniform => Body::Uniform,
@@ -355,7 +355,7 @@ fn body_of(word: Word) -> Body
 
 /// Returns the same, borrowed.
 fn word_ref(word: Word) -> BodyRef<'static>
-    ensures { ref_body result ≡ body_of word }
+    ensures { ref_body result ≡ body_of_word word }
 {
     match word {
         Word::Uniform => BodyRef::Uniform,
@@ -397,14 +397,14 @@ fn begin_list<T: ListNumber>(
     token: Token<'_>,
 ) -> Result<Numbers<T>, FeedError>
     ensures begun { IfOk result
-        (Takes (NumberListGoes T.kind) (no_numbers needed) (lexeme_of token.entry)) }
+        (TakesLexeme (NumberListGoes T.kind) (no_numbers needed) (lexeme_of token.entry)) }
     ensures refused { IfErr result (λ stop. IfRefused stop (λ r.
         CannotTake (NumberListGoes T.kind) (no_numbers needed) (lexeme_of token.entry))) }
     ensures reason { IfErr result (λ stop. IfRefused stop (λ r.
         IsListReason T.kind.range None (lexeme_of token.entry) r.kind r.place)) }
     ensures sign { IfOk result (λ n. SignIs n.sign (lexeme_of token.entry)) }
     ensures leads { IfOk result
-        (λ n. ExpectsNext (numbers_want false needed) (lexeme_of token.entry) (list_wants n)) }
+        (λ n. ExpectsNext (numbers_want false needed) (lexeme_of token.entry) (expected_by_numbers n)) }
     ensures kind { IfErr result (λ stop. IfRefused stop (λ r.
         IsMisfit (numbers_want false needed []) (lexeme_of token.entry) r.kind)) }
     ensures room { IfOk result (λ n. HasRoom n) }
@@ -418,7 +418,7 @@ fn begin_list<T: ListNumber>(
 #[inline(always)]
 fn place_of(token: Token<'_>, elements: Option<&Elements>) -> Result<Place, Refusal>
     requires few { count_of (unwrap_or (option_copied elements) (Count 0)) ≤ most_elements }
-    requires text { IsText (lexeme_of token) }
+    requires text { IsAsciiName (lexeme_of token) }
     ensures place { IfOk result
         (IsPlace (unwrap_or (option_copied elements.entry) (Count 0)) (lexeme_of token.entry)) }
     ensures refused { OnErr result ((p : Place)
@@ -518,7 +518,7 @@ pub trait ListNumber: Copy {
 
     /// Returns the number of this value.
     fn of_millionths(value: i64) -> Self
-        requires { IsInRange kind.range value }
+        requires { FitsRange kind.range value }
         ensures { kind.worth result ≡ value };
 
     // No two numbers are worth the same.

@@ -2,9 +2,9 @@
 ghost use Rattle.std.specs.Prelude.{◌≡◌, true, None, List, [], IfOk, IfErr};
 ghost use Rattle.polcert_text.specs.Cut.{Lexeme};
 ghost use Rattle.polcert_text.specs.Reading.{lexeme_of};
-ghost use Rattle.polcert_items.specs.Steps.Elements.{IsText};
+ghost use Rattle.polcert_items.specs.Steps.Elements.{IsAsciiName};
 ghost use Rattle.polcert_items.specs.Steps.Items.{ItemGoes, IsItemWithin, FeedsItem, IsItemEndReason};
-ghost use Rattle.polcert_items.specs.Steps.Items.{topic_in, IsSeen, new_item, HasElements, pending_in};
+ghost use Rattle.polcert_items.specs.Steps.Items.{topic_of_reader, IsSeen, new_item, HasElements, pending_in};
 ghost use Rattle.polcert_items.specs.Steps.ModelSoFar.{with_item, AreContentsOf, AreContentsWithin};
 ghost use Rattle.polcert_items.specs.Steps.Lines.{CannotEnd};
 ghost use Rattle.polcert_format.specs.Misfits.{unexpected_token};
@@ -73,7 +73,7 @@ impl ItemReader {
         token: Token<'_>,
     ) -> Result<(), FeedError>
         requires within { IsItemWithin known.now self.old }
-        requires text { IsText (lexeme_of token) }
+        requires text { IsAsciiName (lexeme_of token) }
         ensures { FeedsItem known.now self.old (lexeme_of token.entry) self.new result }
     {
         match self {
@@ -91,7 +91,7 @@ impl ItemReader {
         token: Token<'_>,
     ) -> Result<(), FeedError>
         requires within { IsItemWithin known.now self.old }
-        requires text { IsText (lexeme_of token) }
+        requires text { IsAsciiName (lexeme_of token) }
         ensures { FeedsItem known.now self.old (lexeme_of token.entry) self.new result }
     {
         match self {
@@ -121,16 +121,16 @@ impl ItemReader {
         requires { IsItemWithin known.now self }
         ensures said { IfOk result (λ said. ItemGoes known.now self [] (with_item known.now said)) }
         ensures within { IfOk result AreContentsWithin }
-        ensures topic { IfOk result (AreContentsOf (topic_in self)) }
-        ensures refused { HasElements known.now (topic_in self)
+        ensures topic { IfOk result (AreContentsOf (topic_of_reader self)) }
+        ensures refused { HasElements known.now (topic_of_reader self)
             → IfErr result (λ e. IfNotMemory e (CannotEnd (ItemGoes known.now) self)) }
         ensures reason { (body : List Lexeme) → IsSeen (states_known known.now) body self →
-            IfErr result (IsItemEndReason (states_known known.now) (topic_in self) body) }
+            IfErr result (IsItemEndReason (states_known known.now) (topic_of_reader self) body) }
         ensures late { (body : List Lexeme) (late : Refusal) → IsSeen (states_known known.now) body self →
-            topic_in self ≡ Topic.Start →
+            topic_of_reader self ≡ Topic.Start →
             IsLate (states_known known.now) body true late.kind late.place
             → IfErr result (λ e. IsLateEnd e late) }
-        ensures kind { HasElements known.now (topic_in self) → IfErr result (λ e.
+        ensures kind { HasElements known.now (topic_of_reader self) → IfErr result (λ e.
             IfAtEnd e (λ kind. kind ≡ unexpected_token (item_wants known.now self []) None)) }
         ensures unheld { IfErr result (λ e. IfAtEnd e (λ kind. pending_in self ≡ None)) }
     {

@@ -14,8 +14,8 @@ ghost use Rattle.polcert_cells.specs.Preamble.{is_mdp, dimensions, Preamble as P
 ghost use Rattle.polcert_format.specs.KnownPreamble.{preamble_in, indices_in, named_in};
 ghost use Rattle.polcert_format.specs.Wants.{least_written};
 ghost use Rattle.polcert_format.specs.Limits.{HasFewCells, most_cells, most_reward_entries};
-ghost use Rattle.polcert_items.specs.Steps.CellBudget.{AreSizesOf, IsNext, IsCoveredWith, IsCoveringOf, chosen, covered_by};
-ghost use Rattle.polcert_items.specs.Steps.CellBudget.{open_cells, nonzero_cells, counted, most_covered};
+ghost use Rattle.polcert_items.specs.Steps.CellBudget.{AreSizesOf, CanComeNext, IsCoveredWith, IsCoveringOf, place_count, covered_by};
+ghost use Rattle.polcert_items.specs.Steps.CellBudget.{open_row_cells, nonzero_cells, budget_after, most_covered};
 ghost use Rattle.polcert_items.specs.Steps.Ahead.{AreCounts};
 ghost use Rattle.polcert_items.specs.Steps.ModelSoFar.{with_item, AreContentsWithin, IsAllowedNext};
 ghost use Rattle.polcert_items.specs.Steps.ModelSoFar.{IsWholeRead, said};
@@ -164,7 +164,7 @@ impl ModelSoFar {
         requires limits { DenotesWithinLimits (said self) }
         ensures { IfOk result (λ found. MatchResult found
             (λ model. IsKeptOf (said self) model.kept)
-            (λ w. IsFirstWrongRow (drafts.meaning (said self)) w.table w.action w.row)) }
+            (λ w. IsFirstWrongRow (drafts.draft_meaning (said self)) w.table w.action w.row)) }
     {
         let ModelSoFar {
             discount,
@@ -414,8 +414,8 @@ impl CellBudget {
     /// Adds an entry. `None`: the cells of a large table pass their limit.
     #[inline(always)]
     pub(crate) fn with(mut self, sizes: Sizes, entry: EntryRef<'_>) -> Option<CellBudget>
-        requires { (p : P) × (es : List E) × IsNext p es self sizes (entry_of entry) }
-        ensures { (p : P) (es : List E) → IsNext p es self sizes (entry_of entry.entry)
+        requires { (p : P) × (es : List E) × CanComeNext p es self sizes (entry_of entry) }
+        ensures { (p : P) (es : List E) → CanComeNext p es self sizes (entry_of entry.entry)
             → IsCoveredWith p es (entry_of entry.entry) result }
     {
         match entry.table {
@@ -444,8 +444,8 @@ impl Sizes {
         requires columns { columns ≤ most_observations }
         requires count { count ≤ most_cells }
         requires nonzero_cells { nonzero_cells (body_of entry.body) self.states
-            (open_cells self.states columns (length (entry_of entry).places)) ≤ self.states * columns }
-        ensures { result ≡ counted (self.actions * self.states * columns) most_cells count
+            (open_row_cells self.states columns (length (entry_of entry).places)) ≤ self.states * columns }
+        ensures { result ≡ budget_after (self.actions * self.states * columns) most_cells count
             (covered_by self.actions self.states columns (entry_of entry.entry).places
             (body_of entry.entry.body)) }
     {
@@ -468,7 +468,7 @@ impl Sizes {
         requires states { self.states ≤ most_states }
         requires rewarded { self.rewarded ≤ most_observations }
         requires count { count ≤ most_reward_entries }
-        ensures { result ≡ counted (self.actions * self.states * self.states * self.rewarded)
+        ensures { result ≡ budget_after (self.actions * self.states * self.states * self.rewarded)
             most_reward_entries count 1 }
     {
         if self.actions * self.states * self.states * self.rewarded > MOST_CELLS {
@@ -486,7 +486,7 @@ impl Sizes {
 
 /// Returns how many of `count` elements the place of this number stands for.
 fn count_elements(places: &[Place], number: usize, count: usize) -> usize
-    ensures { result ≡ chosen (slice_get places.now number) count }
+    ensures { result ≡ place_count (slice_get places.now number) count }
 {
     match places.get(number) {
         Some(Place::Every) => count,
@@ -498,7 +498,7 @@ fn count_elements(places: &[Place], number: usize, count: usize) -> usize
 fn open_cells(states: usize, columns: usize, places: usize) -> usize
     requires states { states ≤ most_states }
     requires columns { columns ≤ most_observations }
-    ensures { result ≡ open_cells states columns places }
+    ensures { result ≡ open_row_cells states columns places }
 {
     match places {
         1 => states * columns,
@@ -526,7 +526,7 @@ fn covered_by(actions: usize, states: usize, columns: usize, entry: EntryRef<'_>
     requires states { states ≤ most_states }
     requires columns { columns ≤ most_observations }
     requires nonzero_cells { nonzero_cells (body_of entry.body) states
-        (open_cells states columns (length (entry_of entry).places)) ≤ states * columns }
+        (open_row_cells states columns (length (entry_of entry).places)) ≤ states * columns }
     ensures is { result ≡ covered_by actions states columns (entry_of entry.entry).places
         (body_of entry.entry.body) }
     ensures few { result ≤ most_covered }

@@ -3,17 +3,17 @@ ghost use Rattle.std.specs.Prelude.{◌≡◌, false, None, OnOk, OnErr, IfOk, I
 ghost use Rattle.std.specs.Prelude.{◌↔◌, ℕ, List, ◌++◌, Some, IsTrue};
 ghost use Rattle.polcert_text.specs.Reading.{lexeme_of};
 ghost use Rattle.polcert_items.specs.Steps.Numbers.{IsMisplaced, SignIs};
-ghost use Rattle.polcert_items.specs.Steps.Lines.{Takes, CannotTake, CannotEnd, DiscountGoes, DiscountReason};
+ghost use Rattle.polcert_items.specs.Steps.Lines.{TakesLexeme, CannotTake, CannotEnd, DiscountGoes, DiscountReason};
 ghost use Rattle.polcert_items.specs.Steps.Lines.{ValuesGoes, WordRest, discount_sign};
 ghost use Rattle.polcert_items.specs.Steps.Items.{IsEndReason};
-ghost use Rattle.polcert_format.specs.Reasons.{is_sign};
+ghost use Rattle.polcert_format.specs.Reasons.{is_sign_kind};
 ghost use Rattle.polcert_format.specs.Misfits.{unexpected_token, IsMisfit, Mark, CountOrName, FurtherName};
 ghost use Rattle.polcert_format.specs.Misfits.{Index};
 ghost use Rattle.polcert_items.specs.Steps.Feeding.{IsTokenStep, IfRefusal, EndsLine};
-ghost use Rattle.polcert_items.specs.Steps.Wants.{discount_wants, values_want, ExpectsNext, elements_want};
+ghost use Rattle.polcert_items.specs.Steps.Wants.{expected_by_discount, expected_by_values, ExpectsNext, expected_by_elements};
 ghost use Rattle.polcert_text.specs.Cut.{Lexeme};
 ghost use Rattle.polcert_cells.specs.Elements.{count_of, StandsFor, most_elements};
-ghost use Rattle.polcert_items.specs.Steps.Elements.{IsText, NamesGo, ElementsGo, AreNamesRead};
+ghost use Rattle.polcert_items.specs.Steps.Elements.{IsAsciiName, NamesGo, ElementsGo, AreNamesRead};
 ghost use Rattle.polcert_items.specs.Steps.Elements.{IsElementsRead, ElementsReason, AreElementsSeen};
 ghost use Rattle.polcert_items.specs.Steps.Elements.{IsCountOf};
 ghost use Rattle.polcert_items.specs.Steps.Entries.{IfRefused, IsPlaceReason};
@@ -40,7 +40,7 @@ pub enum DiscountReader {
 impl DiscountReader {
     /// Continues with a token of the line.
     pub fn feed(&mut self, token: Token<'_>) -> Result<(), Refusal>
-        ensures fed { IsTokenStep IfRefusal DiscountGoes discount_wants (DiscountReason self.old)
+        ensures fed { IsTokenStep IfRefusal DiscountGoes expected_by_discount (DiscountReason self.old)
             self.old (lexeme_of token.entry) self.new result }
         ensures sign { OnOk result (SignIs (discount_sign self.new) (lexeme_of token.entry)) }
     {
@@ -63,7 +63,7 @@ impl DiscountReader {
 
     /// Returns whether the line says costs, or the fault if it cannot end here.
     pub fn end(self) -> Result<u32, ItemFault>
-        ensures { EndsLine DiscountGoes discount_wants Topic.Discount self result }
+        ensures { EndsLine DiscountGoes expected_by_discount Topic.Discount self result }
     {
         match self {
             DiscountReader::Number(None) => Err(ItemFault::WrongNumberCount),
@@ -84,9 +84,9 @@ pub enum ValuesReader {
 impl ValuesReader {
     /// Continues with a token of the line.
     pub fn feed(&mut self, token: Token<'_>) -> Result<(), Refusal>
-        ensures fed { IsTokenStep IfRefusal ValuesGoes values_want IsMisplaced
+        ensures fed { IsTokenStep IfRefusal ValuesGoes expected_by_values IsMisplaced
             self.old (lexeme_of token.entry) self.new result }
-        ensures sign { OnOk result (is_sign (lexeme_of token.entry).kind ≡ false) }
+        ensures sign { OnOk result (is_sign_kind (lexeme_of token.entry).kind ≡ false) }
     {
         match *self {
             ValuesReader::Colon => {
@@ -104,7 +104,7 @@ impl ValuesReader {
 
     /// Returns whether the line says costs, or the fault if it cannot end here.
     pub fn end(self) -> Result<bool, ItemFault>
-        ensures { EndsLine ValuesGoes values_want Topic.Values self result }
+        ensures { EndsLine ValuesGoes expected_by_values Topic.Values self result }
     {
         match self {
             ValuesReader::Done(costs) => Ok(costs),
@@ -118,7 +118,7 @@ fn costs_of(token: Token<'_>) -> Result<bool, Refusal>
     ensures word { IfOk result (WordRest (lexeme_of token.entry ∷ [])) }
     ensures refused { OnErr result (CannotTake ValuesGoes ValuesReader.Word (lexeme_of token.entry)) }
     ensures reason { IfErr result (λ r. IsMisplaced (lexeme_of token.entry) r.kind r.place) }
-    ensures sign { OnOk result (is_sign (lexeme_of token.entry).kind ≡ false) }
+    ensures sign { OnOk result (is_sign_kind (lexeme_of token.entry).kind ≡ false) }
     ensures kind { IfErr result (λ r. IsMisfit Mark (lexeme_of token.entry) r.kind) }
 {
     if is_word(&token, b"reward") {
@@ -159,16 +159,16 @@ pub enum ElementsReader {
 impl ElementsReader {
     /// Continues with a token of the line.
     pub fn feed(&mut self, alloc: Global, most: usize, token: Token<'_>) -> Result<(), FeedError>
-        requires text { IsText (lexeme_of token) }
+        requires text { IsAsciiName (lexeme_of token) }
         requires within { IsElementsRead most self.old }
         requires some { 1 ≤ most }
         requires small { most < 2 ^ 32 }
         ensures within { OnOk result (IsElementsRead most self.new) }
-        ensures fed { IsTokenStep IfRefused (ElementsGo most) (elements_want most) (ElementsReason self.old)
-            self.old (lexeme_of token.entry) self.new result }
+        ensures fed { IsTokenStep IfRefused (ElementsGo most) (expected_by_elements most)
+            (ElementsReason self.old) self.old (lexeme_of token.entry) self.new result }
         ensures seen { (body : List Lexeme) → AreElementsSeen body self.old
             → OnOk result (AreElementsSeen (body ++ lexeme_of token.entry ∷ []) self.new) }
-        ensures sign { OnOk result (is_sign (lexeme_of token.entry).kind ≡ false) }
+        ensures sign { OnOk result (is_sign_kind (lexeme_of token.entry).kind ≡ false) }
     {
         match self {
             ElementsReader::Colon => {
@@ -193,7 +193,7 @@ impl ElementsReader {
         ensures reason { IfErr result (IsEndReason Topic.States) }
         ensures refused { (most : ℕ) → OnErr result (CannotEnd (ElementsGo most) self) }
         ensures kind { (most : ℕ) →
-            IfErr result (λ kind. kind ≡ unexpected_token (elements_want most self []) None) }
+            IfErr result (λ kind. kind ≡ unexpected_token (expected_by_elements most self []) None) }
     {
         match self {
             ElementsReader::Colon => Err(ItemFault::BadShape),
@@ -206,20 +206,20 @@ impl ElementsReader {
 
 /// Begins the elements with the first token after the colon.
 fn begin(alloc: Global, most: usize, token: Token<'_>) -> Result<ElementsReader, FeedError>
-    requires text { IsText (lexeme_of token) }
+    requires text { IsAsciiName (lexeme_of token) }
     requires some { 1 ≤ most }
     requires small { most < 2 ^ 32 }
     ensures within { IfOk result (IsElementsRead most) }
-    ensures takes { IfOk result (Takes (ElementsGo most) ElementsReader.First (lexeme_of token.entry)) }
+    ensures takes { IfOk result (TakesLexeme (ElementsGo most) ElementsReader.First (lexeme_of token.entry)) }
     ensures refused { IfErr result (λ stop. IfRefused stop (λ r.
         CannotTake (ElementsGo most) ElementsReader.First (lexeme_of token.entry))) }
     ensures reason { IfErr result (λ stop. IfRefused stop (λ r.
         ElementsReason ElementsReader.First (lexeme_of token.entry) r.kind r.place)) }
     ensures seen { (colon : Lexeme) → IfOk result (AreElementsSeen (colon ∷ lexeme_of token.entry ∷ [])) }
-    ensures sign { OnOk result (is_sign (lexeme_of token.entry).kind ≡ false) }
+    ensures sign { OnOk result (is_sign_kind (lexeme_of token.entry).kind ≡ false) }
     ensures leads { IfOk result
-        (λ r. ExpectsNext (elements_want most ElementsReader.First) (lexeme_of token.entry)
-        (elements_want most r)) }
+        (λ r. ExpectsNext (expected_by_elements most ElementsReader.First) (lexeme_of token.entry)
+        (expected_by_elements most r)) }
     ensures kind { IfErr result
         (λ stop. IfRefused stop (λ r. IsMisfit CountOrName (lexeme_of token.entry) r.kind)) }
 {
@@ -257,7 +257,7 @@ fn add_name(
     most: usize,
     token: Token<'_>,
 ) -> Result<(), FeedError>
-    requires text { IsText (lexeme_of token) }
+    requires text { IsAsciiName (lexeme_of token) }
     requires within { AreNamesRead most names.old }
     ensures name { OnOk result (IsName (lexeme_of token.entry)) }
     ensures added { OnOk result (names.new ≡ names.old ++ token.entry.bytes.now ∷ []) }
@@ -310,7 +310,7 @@ fn bad_count(token: Token<'_>) -> Refusal
 #[inline(always)]
 pub fn element_of(token: Token<'_>, elements: &Elements) -> Result<usize, Refusal>
     requires few { count_of elements.now ≤ most_elements }
-    requires text { IsText (lexeme_of token) }
+    requires text { IsAsciiName (lexeme_of token) }
     ensures element { IfOk result (StandsFor elements.now (lexeme_of token.entry)) }
     ensures refused { OnErr result ((index : ℕ) → StandsFor elements.now (lexeme_of token.entry) index → ⊥) }
     ensures reason { IfErr result (λ r. IsPlaceReason (lexeme_of token.entry) r.kind r.place) }
@@ -348,7 +348,7 @@ fn element_by_number(token: Token<'_>, elements: &Elements) -> Result<usize, Ref
 #[inline(always)]
 pub(crate) fn element_by_name(token: Token<'_>, elements: &Elements) -> Result<usize, Refusal>
     requires name { token.kind ≡ TokenKind.Name }
-    requires text { IsText (lexeme_of token) }
+    requires text { IsAsciiName (lexeme_of token) }
     ensures element { IfOk result (StandsFor elements.now (lexeme_of token.entry)) }
     ensures refused { OnErr result ((index : ℕ) → StandsFor elements.now (lexeme_of token.entry) index → ⊥) }
     ensures reason { IfErr result (λ r. IsPlaceReason (lexeme_of token.entry) r.kind r.place) }

@@ -1,8 +1,8 @@
 //! A number of an item: a numeral, perhaps after a sign.
 ghost use Rattle.std.specs.Prelude.{◌≡◌, IfOk, IfErr, MatchOption, Some, false};
 ghost use Rattle.polcert_text.specs.Reading.{lexeme_of};
-ghost use Rattle.polcert_items.specs.Steps.Numbers.{IsStep, RefusesNumber, IsMisplaced, IsAfterNumbers};
-ghost use Rattle.polcert_items.specs.Steps.Numbers.{IsInRange, IsSignKind, IsRangeFault, is_negative, number_place};
+ghost use Rattle.polcert_items.specs.Steps.Numbers.{IsNumberStep, RefusesNumber, IsMisplaced, IsAfterNumbers};
+ghost use Rattle.polcert_items.specs.Steps.Numbers.{FitsRange, IsSignKind, IsRangeFault, is_minus_sign, signed_place};
 ghost use Rattle.polcert_format.specs.Misfits.{unexpected_token, IsMisfit, begins_number, EndOfNumbers, EndOfWord};
 ghost use Rattle.polcert_items.specs.Steps.Wants.{number_wants};
 
@@ -49,7 +49,7 @@ pub fn number_step(
     token: Token<'_>,
     range: Range,
 ) -> Result<NumberStep, Refusal>
-    ensures step { IfOk result (IsStep range sign (lexeme_of token.entry)) }
+    ensures step { IfOk result (IsNumberStep range sign (lexeme_of token.entry)) }
     ensures refused { IfErr result (λ r. RefusesNumber range sign (lexeme_of token.entry) r.kind r.place) }
     ensures kind { IfErr result (λ r. IsMisfit (number_wants sign) (lexeme_of token.entry) r.kind) }
 {
@@ -69,7 +69,7 @@ fn sign_step(
     range: Range,
 ) -> Result<NumberStep, Refusal>
     requires { IsSignKind negative token.kind }
-    ensures step { IfOk result (IsStep range sign (lexeme_of token.entry)) }
+    ensures step { IfOk result (IsNumberStep range sign (lexeme_of token.entry)) }
     ensures refused { IfErr result (λ r. RefusesNumber range sign (lexeme_of token.entry) r.kind r.place) }
     ensures kind { IfErr result (λ r. IsMisfit (number_wants sign) (lexeme_of token.entry) r.kind) }
 {
@@ -86,7 +86,7 @@ fn sign_step(
 #[inline(always)]
 fn numeral_step(sign: Option<Sign>, token: Token<'_>, range: Range) -> Result<NumberStep, Refusal>
     requires { token.kind ≡ TokenKind.Numeral }
-    ensures step { IfOk result (IsStep range sign (lexeme_of token.entry)) }
+    ensures step { IfOk result (IsNumberStep range sign (lexeme_of token.entry)) }
     ensures refused { IfErr result (λ r. RefusesNumber range sign (lexeme_of token.entry) r.kind r.place) }
     ensures kind { IfErr result (λ r. IsMisfit (number_wants sign) (lexeme_of token.entry) r.kind) }
 {
@@ -106,7 +106,7 @@ fn numeral_step(sign: Option<Sign>, token: Token<'_>, range: Range) -> Result<Nu
 /// Tests whether the sign, if there is one, is a minus.
 #[inline(always)]
 fn is_negative(sign: Option<Sign>) -> bool
-    ensures { result ≡ is_negative sign }
+    ensures { result ≡ is_minus_sign sign }
 {
     match sign {
         Some(sign) => sign.negative,
@@ -117,7 +117,7 @@ fn is_negative(sign: Option<Sign>) -> bool
 /// Returns where a number begins: at its sign, if it has one.
 #[inline(always)]
 pub fn number_place(sign: Option<Sign>, token: Token<'_>) -> u64
-    ensures { result ≡ number_place sign (lexeme_of token.entry) }
+    ensures { result ≡ signed_place sign (lexeme_of token.entry) }
 {
     match sign {
         Some(sign) => sign.place,
@@ -128,8 +128,8 @@ pub fn number_place(sign: Option<Sign>, token: Token<'_>) -> u64
 /// Returns the fault if the number is out of this range.
 #[inline(always)]
 pub(crate) fn range_fault(range: Range, value: i64) -> Option<ItemFault>
-    ensures { MatchOption result (IsInRange range value)
-        (λ kind. (IsInRange range value → ⊥) × IsRangeFault range kind) }
+    ensures { MatchOption result (FitsRange range value)
+        (λ kind. (FitsRange range value → ⊥) × IsRangeFault range kind) }
 {
     match range {
         Range::Reward => None,

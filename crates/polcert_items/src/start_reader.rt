@@ -11,25 +11,25 @@ ghost use Rattle.polcert_cells.specs.Meaning.{IsCount};
 ghost use Rattle.polcert_format.specs.Misfits.{unexpected_token, IsMisfit, IsOfValue, Mark, StartBody};
 ghost use Rattle.polcert_format.specs.Misfits.{begins_number, Listed};
 ghost use Rattle.polcert_format.specs.Wants.{numbers_want, start_body_wants, number_end};
-ghost use Rattle.polcert_items.specs.Steps.Elements.{IsText};
+ghost use Rattle.polcert_items.specs.Steps.Elements.{IsAsciiName};
 ghost use Rattle.polcert_items.specs.Steps.Entries.{IfRefused, HasRoom};
 ghost use Rattle.polcert_items.specs.Steps.Feeding.{IsStartFed, RefusesInStart};
-ghost use Rattle.polcert_items.specs.Steps.Lines.{Takes, CannotTake, CannotEnd};
+ghost use Rattle.polcert_items.specs.Steps.Lines.{TakesLexeme, CannotTake, CannotEnd};
 ghost use Rattle.polcert_items.specs.Steps.Numbers.{IsMisplaced, SignIs};
 ghost use Rattle.polcert_items.specs.Steps.Start.{StartGoes, StartGives, IsStartWithin, HasReadStart};
 ghost use Rattle.polcert_items.specs.Steps.Start.{IsStartReason, IsStartEndReason, IfNotMemory, new_start};
-ghost use Rattle.polcert_items.specs.Steps.Start.{start_sign, pending, NumbersGo, Begins, IsFormed, IsKept};
+ghost use Rattle.polcert_items.specs.Steps.Start.{start_sign, pending_refusal, NumbersGo, Begins, IsFormed, IsKept};
 ghost use Rattle.polcert_items.specs.Steps.Start.{IsNumberKept, CanStillBeRight, IsNumberHeld, IsReasonAt};
-ghost use Rattle.polcert_items.specs.Steps.Start.{IsDue, IsEndDue, IsStop, AreDigits, IsOutside, IsDueNumber};
-ghost use Rattle.polcert_items.specs.Steps.Start.{IsAtEnd, first_of, refused, first_above_0, is_level_at};
+ghost use Rattle.polcert_items.specs.Steps.Start.{IsDue, IsEndDue, IsStop, AreStartDigits, IsOutside, IsDueNumber};
+ghost use Rattle.polcert_items.specs.Steps.Start.{IsToldAtEnd, first_of, refused, first_above_0, is_level_at};
 ghost use Rattle.polcert_items.specs.Steps.Start.{support_weight, marked, AreUnmarked, picks};
-ghost use Rattle.polcert_items.specs.Steps.Wants.{ExpectsNext, number_wants, start_wants, IfAtEnd};
-ghost use Rattle.polcert_items.specs.Steps.Wants.{list_wants};
+ghost use Rattle.polcert_items.specs.Steps.Wants.{ExpectsNext, number_wants, expected_by_start, IfAtEnd};
+ghost use Rattle.polcert_items.specs.Steps.Wants.{expected_by_numbers};
 ghost use Rattle.polcert_items.specs.declared.start_reader.StartReader.TheVariants as reader;
 ghost use Rattle.std.specs.List.{count_by};
 ghost use Rattle.polcert_cells.specs.Start.{shares_of, is_level, is_positive, equal_weights, all_states};
 ghost use Rattle.polcert_cells.specs.Start.{single};
-ghost use Rattle.polcert_format.specs.Reasons.{is_sign};
+ghost use Rattle.polcert_format.specs.Reasons.{is_sign_kind};
 
 use crate::entry_reader::Numbers;
 use crate::item::{EndError, FeedError};
@@ -84,7 +84,7 @@ impl StartReader {
         token: Token<'_>,
     ) -> Result<(), FeedError>
         requires count { IsCount most_states (count_of states.now) }
-        requires text { IsText (lexeme_of token) }
+        requires text { IsAsciiName (lexeme_of token) }
         requires within { IsStartWithin states.now self.old }
         ensures fed { OnOk result (IsStartFed states.now self.old (lexeme_of token.entry) self.new) }
         ensures refused { IfErr result (λ stop. IfRefused stop
@@ -132,7 +132,7 @@ impl StartReader {
 
     /// Returns the refusal of digits without a value: they are a number if anything follows them.
     pub fn pending(&self) -> Option<Refusal>
-        ensures { result ≡ pending self.now }
+        ensures { result ≡ pending_refusal self.now }
     {
         match self {
             StartReader::StateOrNumber(digits) => digits.first_number().err(),
@@ -149,7 +149,7 @@ impl StartReader {
         ensures reason { (body : List Lexeme) → HasReadStart (count_of states.now) body self →
             IfErr result (IsStartEndReason body) }
         ensures kind { IfErr result (λ e. IfAtEnd e (λ kind.
-            kind ≡ unexpected_token (start_wants (count_of states.now) self []) None)) }
+            kind ≡ unexpected_token (expected_by_start (count_of states.now) self []) None)) }
         ensures due { IfErr result (IsEndDue self) }
     {
         match self {
@@ -170,7 +170,7 @@ impl StartReader {
 /// Returns the form of the item, by its first token.
 fn form_of(token: Token<'_>) -> Result<StartReader, Refusal>
     ensures begun { (states : AnyElements) →
-        IfOk result (Takes (StartGoes states) StartReader.Form (lexeme_of token.entry)) }
+        IfOk result (TakesLexeme (StartGoes states) StartReader.Form (lexeme_of token.entry)) }
     ensures within { (states : AnyElements) → IfOk result (IsStartWithin states) }
     ensures refused { (states : AnyElements) →
         OnErr result (CannotTake (StartGoes states) StartReader.Form (lexeme_of token.entry)) }
@@ -178,7 +178,8 @@ fn form_of(token: Token<'_>) -> Result<StartReader, Refusal>
     ensures held { OnErr result ((lexeme_of token.entry).kind ≢ TokenKind.Colon) }
     ensures reason { IfErr result (λ r. IsMisplaced (lexeme_of token.entry) r.kind r.place) }
     ensures leads { (count : ℕ) → IfOk result (λ r.
-        ExpectsNext (start_wants count StartReader.Form) (lexeme_of token.entry) (start_wants count r)) }
+        ExpectsNext (expected_by_start count StartReader.Form) (lexeme_of token.entry)
+        (expected_by_start count r)) }
     ensures kind { IfErr result (λ r. IsMisfit Mark (lexeme_of token.entry) r.kind) }
 {
     if is_word(&token, b"include") {
@@ -195,8 +196,9 @@ fn form_of(token: Token<'_>) -> Result<StartReader, Refusal>
 /// may be a state's number, or the first number.
 fn begin_body(states: &Elements, token: Token<'_>) -> Result<StartReader, Refusal>
     requires count { IsCount most_states (count_of states.now) }
-    requires text { IsText (lexeme_of token) }
-    ensures begun { IfOk result (Takes (StartGoes states.now) StartReader.Body (lexeme_of token.entry)) }
+    requires text { IsAsciiName (lexeme_of token) }
+    ensures begun { IfOk result
+        (TakesLexeme (StartGoes states.now) StartReader.Body (lexeme_of token.entry)) }
     ensures within { IfOk result (IsStartWithin states.now) }
     ensures refused { OnErr result
         (CannotTake (StartGoes states.now) StartReader.Body (lexeme_of token.entry)) }
@@ -205,7 +207,7 @@ fn begin_body(states: &Elements, token: Token<'_>) -> Result<StartReader, Refusa
         (CanStillBeRight (count_of states.now) StartReader.Body (lexeme_of token.entry) → ⊥) }
     ensures reason { IfErr result (λ r. IsReasonAt None (lexeme_of token.entry) r.kind r.place) }
     ensures leads { IfOk result (λ r. ExpectsNext (start_body_wants (count_of states.now))
-        (lexeme_of token.entry) (start_wants (count_of states.now) r)) }
+        (lexeme_of token.entry) (expected_by_start (count_of states.now) r)) }
     ensures kind { IfErr result (λ r. IsMisfit StartBody (lexeme_of token.entry) r.kind) }
 {
     match token.kind {
@@ -228,7 +230,7 @@ fn digits_of(count: usize, token: Token<'_>) -> Option<StateOrNumber>
     requires count { IsCount most_states count }
     requires numeral { token.kind ≡ TokenKind.Numeral }
     ensures { MatchOption result ((count ≡ 1) ⊎ (are_digits (lexeme_of token.entry).bytes ≡ false))
-        (AreDigits count (lexeme_of token.entry)) }
+        (AreStartDigits count (lexeme_of token.entry)) }
 {
     if count == 1 {
         return None;
@@ -252,7 +254,7 @@ fn first_number(sign: Option<Sign>, token: Token<'_>) -> Result<StartReader, Ref
     ensures held { OnErr result (IsNumberHeld sign (lexeme_of token.entry) → ⊥) }
     ensures reason { IfErr result (λ r. IsReasonAt sign (lexeme_of token.entry) r.kind r.place) }
     ensures leads { (count : ℕ) → IfOk result (λ r.
-        ExpectsNext (numbers_want (is_some sign) count) (lexeme_of token.entry) (start_wants count r)) }
+        ExpectsNext (numbers_want (is_some sign) count) (lexeme_of token.entry) (expected_by_start count r)) }
     ensures kind { IfErr result (λ r. IsMisfit (number_wants sign) (lexeme_of token.entry) r.kind) }
     ensures number { IfErr result (λ r. (lexeme_of token.entry).kind ≡ TokenKind.Numeral → IsOfValue r.kind) }
 {
@@ -290,7 +292,7 @@ impl FirstNumber {
         token: Token<'_>,
     ) -> Result<Numbers<u32>, FeedError>
         requires { IsCount most_states (count_of states.now) }
-        ensures takes { IfOk result (λ n. Takes (StartGoes states.now)
+        ensures takes { IfOk result (λ n. TakesLexeme (StartGoes states.now)
             (reader.Number self) (lexeme_of token.entry) (reader.Probabilities n)) }
         ensures within { IfOk result (λ n. IsStartWithin states.now (reader.Probabilities n)) }
         ensures refused { IfErr result (λ stop. IfRefused stop (λ r.
@@ -298,7 +300,7 @@ impl FirstNumber {
         ensures kept { IfOk result (λ n. SignIs n.sign (lexeme_of token.entry)) }
         ensures inside { IfOk result (λ n. IsOutside self.value → ⊥) }
         ensures leads { IfOk result (λ n. ExpectsNext
-            (numbers_want false (count_of states.now - 1)) (lexeme_of token.entry) (list_wants n)) }
+            (numbers_want false (count_of states.now - 1)) (lexeme_of token.entry) (expected_by_numbers n)) }
         ensures stops { IfErr result (λ stop. IfRefused stop (λ r.
             IsStop (IsDueNumber self.value self.place (lexeme_of token.entry)) None
             (number_end false (count_of states.now - 1)) (lexeme_of token.entry) r.kind r.place)) }
@@ -339,7 +341,7 @@ impl FirstNumber {
         ensures reason { (body : List Lexeme) → IfErr result (IsStartEndReason body) }
         ensures kind { IfErr result (λ e. IfAtEnd e (λ kind.
             kind ≡ unexpected_token (number_end false (count_of states.now - 1)) None)) }
-        ensures at_end { IfErr result IsAtEnd }
+        ensures at_end { IfErr result IsToldAtEnd }
     {
         let count = states.count();
         if count != 1 {
@@ -403,8 +405,8 @@ pub(crate) fn end_probabilities(
         IfErr result (λ e. IfNotMemory e (CannotEnd (StartGives states) (reader.Probabilities numbers))) }
     ensures reason { (body : List Lexeme) → IfErr result (IsStartEndReason body) }
     ensures kind { HasRoom numbers → IfErr result (λ e.
-        IfAtEnd e (λ kind. kind ≡ unexpected_token (list_wants numbers []) None)) }
-    ensures at_end { IfErr result IsAtEnd }
+        IfAtEnd e (λ kind. kind ≡ unexpected_token (expected_by_numbers numbers []) None)) }
+    ensures at_end { IfErr result IsToldAtEnd }
 {
     if let Some(fault) = numbers.end_fault() {
         return Err(EndError::AtEnd(fault));
@@ -516,14 +518,14 @@ impl Chosen {
     /// Adds one more state of the list.
     pub(crate) fn feed(&mut self, states: &Elements, token: Token<'_>) -> Result<(), Refusal>
         requires count { IsCount most_states (count_of states.now) }
-        requires text { IsText (lexeme_of token) }
+        requires text { IsAsciiName (lexeme_of token) }
         requires size { length self.old.marks ≡ count_of states.now }
         ensures size { OnOk result (length self.new.marks ≡ count_of states.now) }
-        ensures takes { OnOk result (Takes (StartGoes states.now)
+        ensures takes { OnOk result (TakesLexeme (StartGoes states.now)
             (reader.List self.old) (lexeme_of token.entry) (reader.List self.new)) }
         ensures refused { OnErr result
             (CannotTake (StartGoes states.now) (reader.List self.old) (lexeme_of token.entry)) }
-        ensures kept { OnOk result (is_sign (lexeme_of token.entry).kind ≡ false) }
+        ensures kept { OnOk result (is_sign_kind (lexeme_of token.entry).kind ≡ false) }
         ensures reason { IfErr result (λ r. IsReasonAt None (lexeme_of token.entry) r.kind r.place) }
         ensures kind { IfErr result (λ r. r.kind ≡ unexpected_token Listed (Some (lexeme_of token.entry))) }
     {
@@ -541,7 +543,7 @@ impl Chosen {
             IfErr result (λ e. IfNotMemory e (CannotEnd (StartGives states) (reader.List self))) }
         ensures reason { (body : List Lexeme) → IfErr result (IsStartEndReason body) }
         ensures kind { IfErr result (λ e. IfAtEnd e (λ kind. kind ≡ unexpected_token Listed None)) }
-        ensures at_end { IfErr result IsAtEnd }
+        ensures at_end { IfErr result IsToldAtEnd }
     {
         let shares = self.shares(alloc)?;
         if shares.total == 0 {

@@ -9,7 +9,7 @@ pub use Rattle.polcert_cells.specs.declared.entries.Table.TheVariants.{Observati
 pub use Rattle.polcert_cells.specs.declared.words.Topic.{Topic}
 pub use Rattle.polcert_cells.specs.declared.words.Topic.TheVariants.{Actions, Cells, Observations, Start, States}
 pub use Rattle.polcert_format.specs.FirstNumber.{IsLate, IsLateIn, states_known}
-pub use Rattle.polcert_format.specs.FirstWrong.{AreTokensOf, IsDecided, LiesIn, TextTokens, wrong_last}
+pub use Rattle.polcert_format.specs.FirstWrong.{AreTokensOf, IsDecided, LiesInItem, TextTokens, wrong_last}
 pub use Rattle.polcert_format.specs.Forms.{HasForm, IsPossible, PassesCellLimit}
 pub use Rattle.polcert_format.specs.Items.{IsDivided, Item}
 pub use Rattle.polcert_format.specs.KnownPreamble.{indices_in, preamble_in}
@@ -23,8 +23,8 @@ pub use Rattle.polcert_format.specs.declared.fault.ItemFault.{ItemFault}
 pub use Rattle.polcert_format.specs.declared.fault.ItemFault.TheVariants.{BadShape, BeforeFirstItem, TooManyCells}
 pub use Rattle.polcert_format.specs.declared.fault.ModelFault.{ModelFault}
 pub use Rattle.polcert_items.specs.Steps.Items.{HasElements, IsEndReason, IsItemWithin, IsSeen, ItemForms, ItemGoes, new_item, pending_in}
-pub use Rattle.polcert_items.specs.Steps.Items.{topic_in}
-pub use Rattle.polcert_items.specs.Steps.Lines.{CannotEnd, Takes}
+pub use Rattle.polcert_items.specs.Steps.Items.{topic_of_reader}
+pub use Rattle.polcert_items.specs.Steps.Lines.{CannotEnd, TakesLexeme}
 pub use Rattle.polcert_items.specs.Steps.ModelSoFar.{AreContentsOf, IsAllowedNext, IsWholeRead, said, with_item}
 pub use Rattle.polcert_items.specs.Steps.Start.{IsStartReason}
 pub use Rattle.polcert_items.specs.Steps.Wants.{ExpectsNext, IfStart, item_wants}

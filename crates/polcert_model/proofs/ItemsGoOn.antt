@@ -33,7 +33,7 @@ use Rattle.polcert_format.specs.Forms as shapes
 use Rattle.polcert_items.specs.Steps.Numbers.{AreNumbersAfter}
 use Rattle.polcert_items.specs.Steps.Entries.{IsFirstPlace, entry_with, ProbabilitiesGo, RewardsGo, StateGoes, HasRoom, awaited}
 use Rattle.polcert_items.specs.Steps.Entries.{IsStateWithin}
-use Rattle.polcert_items.specs.Steps.Start.{ListGoes, alone, first_of_more, StartGoes, IsStartWithin, pending, pending_of}
+use Rattle.polcert_items.specs.Steps.Start.{ListGoes, alone, first_of_more, StartGoes, IsStartWithin, pending_refusal, pending_of}
 use Rattle.polcert_cells.specs.Preamble.{is_mdp}
 use Rattle.polcert_format.specs.Wants.{least_written}
 use Rattle.polcert_items.proofs.ListLaws.{fractions_in_range}
@@ -214,7 +214,7 @@ zero_number = numbers.unsigned (zero_is false) numbers.none
 no_states : (elements : Elements) (choice : Choice) (chosen : ℕ → Bool) → ListGoes elements choice chosen [] None
 no_states elements choice chosen = record { further = []; stand = tt; said = tt }
 
-start_continues : (elements : Elements) (r : StartReader) → IsStartWithin elements r → pending r ≡ None → StartContinues elements r
+start_continues : (elements : Elements) (r : StartReader) → IsStartWithin elements r → pending_refusal r ≡ None → StartContinues elements r
 start_continues elements starts.Form within free = record
     { more = a_colon ∷ a_zero ∷ []; goes = shapes.plain refl (shapes.one_number zero_number) }
 start_continues elements (starts.Colon choice) within free =

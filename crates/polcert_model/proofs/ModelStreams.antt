@@ -23,7 +23,7 @@ refused_text fault text h = grind (arith, no_model)
 
 -- where the items are right, the first row that is wrong is refused
 pub row_sum_refused : (seen : List Lexeme) (k : ModelSoFar) → IsWholeRead seen k → (text : List ℕ) (table : Table) (a s : ℕ)
-    → IsCut (text_rest text text_limit) seen None → IsFirstWrongRow (drafts.meaning (said k)) table a s
+    → IsCut (text_rest text text_limit) seen None → IsFirstWrongRow (drafts.draft_meaning (said k)) table a s
     → IsRefusedModelText (RowSum table a s) text
 row_sum_refused seen k read text table a s cut wrong = search (rules, row_refused, refused_text)
 

@@ -4,7 +4,7 @@ use Rattle.std.proofs.Common.{ap, subst, append_assoc, arith}
 use Rattle.std.proofs.lemmas.List.{append-nil}
 use Rattle.polcert_text.specs.Beginning.{BeginWith}
 use Rattle.polcert_model.proofs.Common.{Lexeme, Cells, Entry, Table, Transition, Observation, Reward, topic, indices_in, ModelSoFar}
-use Rattle.polcert_model.proofs.Common.{ItemGoes, Takes, ExpectsNext, item_wants, ItemReader, fault_after, preamble_fault, word_fault}
+use Rattle.polcert_model.proofs.Common.{ItemGoes, TakesLexeme, ExpectsNext, item_wants, ItemReader, fault_after, preamble_fault, word_fault}
 use Rattle.polcert_model.proofs.Common.{ItemFault, TakesAhead, IsTextRead, TextReadsOn, TextReader}
 use Rattle.polcert_text.specs.Cut.{Rest}
 use Rattle.polcert_text.specs.Fronts.{IsLongestLexeme}
@@ -34,7 +34,7 @@ module _ (known : ModelSoFar) (number : ℕ) where
   entry_fed : (seen : List Lexeme) (old new : EntryReader) (l : Lexeme) → IsTextRead seen (within_entry known number old)
       → IsFed known old l new → IsTextRead (seen ++ l ∷ []) (within_entry known number new)
   entry_fed seen old new l read fed =
-      let takes : Takes (ItemGoes known) (items.Entry old) l (items.Entry new) = record {
+      let takes : TakesLexeme (ItemGoes known) (items.Entry old) l (items.Entry new) = record {
         back = λ ls next g. (g.0, (fed.takes.back ls g.0 g.1.0, g.1.1));
         on = λ ls next g. (g.0, (fed.takes.on ls g.0 g.1.0, g.1.1));
       } in

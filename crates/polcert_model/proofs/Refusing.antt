@@ -5,9 +5,9 @@ use Rattle.std.proofs.Common.{subst, arith, rules}
 use Rattle.std.proofs.lemmas.List.{append_assoc, append-nil}
 use Rattle.polcert_model.proofs.Common.{Lexeme, TokenFault, ItemFault, BadShape, TooManyCells, ItemReader, Refusal, Sign, TextReader, Topic}
 use Rattle.polcert_model.proofs.Common.{Start, topic, begins_item, Item, IsDivided, ModelSoFar, nothing_known, IsRight, AreRight}
-use Rattle.polcert_model.proofs.Common.{word_fault, HasForm, IsPossible, PassesCellLimit, TextTokens, AreTokensOf, LiesIn, IsDecided}
+use Rattle.polcert_model.proofs.Common.{word_fault, HasForm, IsPossible, PassesCellLimit, TextTokens, AreTokensOf, LiesInItem, IsDecided}
 use Rattle.polcert_model.proofs.Common.{wrong_last, IsReason, CannotEnd, IsStartReason, IsLate, IsLateIn, states_known, ItemGoes, ItemForms}
-use Rattle.polcert_model.proofs.Common.{topic_in, pending_in, IsSeen, IsEndReason, unexpected_token, expected, item_wants, IfStart}
+use Rattle.polcert_model.proofs.Common.{topic_of_reader, pending_in, IsSeen, IsEndReason, unexpected_token, expected, item_wants, IfStart}
 use Rattle.polcert_model.proofs.Common.{IsItemRead, IsRefusedAfter, IsRefusedAt, Refuses}
 use Rattle.polcert_text.specs.declared.tokens.TokenKind.TheVariants.{Numeral}
 use Rattle.polcert_format.specs.declared.fault.ItemFault.TheVariants.{Number, BadCount, DuplicateName, UnknownName, IndexOutOfRange}
@@ -17,11 +17,11 @@ use Rattle.polcert_items.specs.declared.item.ItemReader.TheVariants as items
 use Rattle.polcert_format.specs.Forms.{HasNoForm}
 use Rattle.polcert_format.specs.Reading.{IsWithinItem, IsWrong, CannotGoOn}
 use Rattle.polcert_format.specs.FirstWrong.{IsFirstWrong, word_place, wrong_item}
-use Rattle.polcert_format.specs.Reasons.{PassesLimit, InItem, StandsIn, NumberStandsIn, IsRepeated, is_sign}
+use Rattle.polcert_format.specs.Reasons.{PassesLimit, InItem, StandsIn, NumberStandsIn, IsRepeated, is_sign_kind}
 use Rattle.polcert_format.specs.Reasons as reasons
 use Rattle.polcert_format.specs.Refusals.{place_or, Stops, StopsInBody, in_body, after_body, of_first_number}
 use Rattle.polcert_format.specs.Refusals as refusals
-use Rattle.polcert_items.specs.Steps.Numbers.{is_negative, number_place, IsSignAt, SignEnds}
+use Rattle.polcert_items.specs.Steps.Numbers.{is_minus_sign, signed_place, IsSignAt, SignEnds}
 use Rattle.polcert_items.specs.Steps.Numbers as steps
 use Rattle.polcert_items.specs.Steps.Lines.{CannotTake}
 use Rattle.polcert_items.specs.Steps.Start.{IsReasonAt, IsReasonIn, StopsStart, first_number, token}
@@ -86,7 +86,7 @@ module _ {ts : TextTokens} {n : ℕ} {k : ModelSoFar} {t : Topic} {body : List L
 
   -- a place in its body lies in it
   lies_here : (place : ℕ) (taken rest : List Lexeme) → Rises 0 ts.lexemes ts.end → body ≡ taken ++ rest
-      → place ≡ place_or rest (word_place h.after ts.end 0) → LiesIn ts n place
+      → place ≡ place_or rest (word_place h.after ts.end 0) → LiesInItem ts n place
   lies_here place taken rest rises e at = grind (arith, lies_in_item)
 
   -- this is so of its body
@@ -115,7 +115,7 @@ module _ {ts : TextTokens} {n : ℕ} {k : ModelSoFar} {t : Topic} {body : List L
   late_of kind place w = late_here ts n kind place h.before (item_here h) h.after k t h.divided h.taken h.topic_is h.number_is w
 
   -- a refusal in a start item, at some lexeme of its body
-  start_lies : (place : ℕ) → Rises 0 ts.lexemes ts.end → StandsIn body place (λ l. Unit {0}) → LiesIn ts n place
+  start_lies : (place : ℕ) → Rises 0 ts.lexemes ts.end → StandsIn body place (λ l. Unit {0}) → LiesInItem ts n place
   start_lies place rises s = lies_here place s.before (s.lexeme ∷ s.after) rises s.whole s.place_is
 
   end_reason : (place : ℕ) (kind : ItemFault) → IsEndReason t kind → IsReason ts n place kind
@@ -139,8 +139,8 @@ signed_stands sign body before more s l place Is e (steps.minus kind negative at
     reasons.minus before s l more (signed_whole body before more s l e) kind (p ∙ at) (subst (λ b. Is b l) negative so)
 
 number_stands : (sign : Option Sign) (body more : List Lexeme) (l : Lexeme) (place : ℕ) (Is : Bool → Lexeme → Type 0) → SignEnds sign body
-    → place ≡ number_place sign l
-    → Is (is_negative sign) l → NumberStandsIn ((body ++ l ∷ []) ++ more) place Is
+    → place ≡ signed_place sign l
+    → Is (is_minus_sign sign) l → NumberStandsIn ((body ++ l ∷ []) ++ more) place Is
 number_stands None body more l place Is ends p so = reasons.unsigned body l more (append_assoc body (l ∷ []) more) ends p so
 number_stands (Some sign) body more l place Is ends p so =
     signed_stands sign body ends.0 more ends.1.0 l place Is ends.1.1.0 ends.1.1.1 p so
@@ -149,11 +149,11 @@ number_stands (Some sign) body more l place Is ends p so =
 
 -- the place and the reason of a refusal at the lexeme after the body, or at the sign before it
 record Refused (ts : TextTokens) (n place : ℕ) (kind : ItemFault) : Type 0 where
-  lies : LiesIn ts n place
+  lies : LiesInItem ts n place
   reason : IsReason ts n place kind
   stops : StopsInBody ts kind n place
 
-sign_kind : (sign : Sign) (s : Lexeme) → IsSignAt sign s → is_sign s.kind ≡ true
+sign_kind : (sign : Sign) (s : Lexeme) → IsSignAt sign s → is_sign_kind s.kind ≡ true
 sign_kind sign s h1 = grind arith
 
 stands : (body more : List Lexeme) (l : Lexeme) (place : ℕ) (Is : Lexeme → Type 0) → place ≡ l.place → Is l
@@ -173,13 +173,13 @@ module _ {ts : TextTokens} {n : ℕ} (place : ℕ) {k : ModelSoFar} {t : Topic} 
     (h : Here ts n k t ((body ++ l ∷ []) ++ more)) (rises : Rises 0 ts.lexemes ts.end) (ends : SignEnds sign body)
     (taken : IsPossible k t body)
     (stuck : HasNoForm k t (body ++ l ∷ [])) where
-  number_lies : (s : Option Sign) → SignEnds s body → place ≡ number_place s l → LiesIn ts n place
+  number_lies : (s : Option Sign) → SignEnds s body → place ≡ signed_place s l → LiesInItem ts n place
   number_lies None ends p = lies_here h place body (l ∷ more) rises (append_assoc body (l ∷ []) more) p
   number_lies (Some s) ends p =
       lies_here h place ends.0 (ends.1.0 ∷ l ∷ more) rises (signed_whole body ends.0 more ends.1.0 l ends.1.1.0)
       (p ∙ sign_place s ends.1.0 ends.1.1.1)
 
-  number_stops : (kind : ItemFault) (s : Option Sign) → SignEnds s body → place ≡ number_place s l → l.kind ≡ Numeral → IsOfValue kind
+  number_stops : (kind : ItemFault) (s : Option Sign) → SignEnds s body → place ≡ signed_place s l → l.kind ≡ Numeral → IsOfValue kind
       → IsMisfit (expected k t body) l kind
       → StopsInBody ts kind n place
   number_stops kind None ends p numeral value unfit =
@@ -198,7 +198,7 @@ module _ {ts : TextTokens} {n : ℕ} (place : ℕ) {k : ModelSoFar} {t : Topic} 
       (refusals.at_number (sign_kind g s ends.1.1.1) numeral signed pair value following) (p ∙ sign_place g s ends.1.1.1)
       (λ none. absurd (cons≢nil none))
 
-  at_number : (kind : ItemFault) → IsOfValue kind → IsMisfit (expected k t body) l kind → l.kind ≡ Numeral → place ≡ number_place sign l
+  at_number : (kind : ItemFault) → IsOfValue kind → IsMisfit (expected k t body) l kind → l.kind ≡ Numeral → place ≡ signed_place sign l
       → IsReason ts n place kind → Refused ts n place kind
   at_number kind value unfit numeral p reason = search (rules, number_lies, number_stops)
 
@@ -238,7 +238,7 @@ stuck seen r w l none more after taken =
 
 -- and hasn't even the form of one with it
 without_form : (seen : List Lexeme) (r : TextReader) (w : IsItemRead seen r) (l : Lexeme) → CannotTake (ItemGoes r.known) w.item l
-    → IfStart (topic_in w.item) (CannotTake (ItemForms r.known) w.item l) → HasNoForm r.known w.t (w.body ++ l ∷ [])
+    → IfStart (topic_of_reader w.item) (CannotTake (ItemForms r.known) w.item l) → HasNoForm r.known w.t (w.body ++ l ∷ [])
 without_form seen r w l none formless more f =
     forms_stuck r.known w.item l none formless more tt (w.read.forms (l ∷ more)
     (subst (HasForm r.known w.t) (append_assoc w.body (l ∷ []) more) f))
@@ -297,7 +297,7 @@ fault_ends ending f e = ap (ends_cleanly []) e
 -- at a fault of the tokens, what is due of an item's first number is what waits for more
 pub due_at_fault : (ts : TextTokens) (n : ℕ) (k : ModelSoFar) (t : Topic) (body : List Lexeme) (item : ItemReader) (f : TokenFault)
     (kind : ItemFault) (place : ℕ) (h : Here ts n k t (body ++ [])) → h.after ≡ [] → ts.ending ≡ Some f
-    → topic_in item ≡ t → IsSeen (states_known k) body item → IsLateIn ts n kind place
+    → topic_of_reader item ≡ t → IsSeen (states_known k) body item → IsLateIn ts n kind place
     → pending_in item ≡ Some (record { kind = kind; place = place })
 due_at_fault ts n k t body item f kind place h last ending topics seen w =
     let found = late_of h kind place w in
@@ -307,7 +307,7 @@ due_at_fault ts n k t body item f kind place h last ending topics seen w =
     (subst (λ (b : List Lexeme). IsLate (states_known k) b (ends_cleanly h.after ts.ending) kind place) (append-nil body) found.1) in
     of item (topics ∙ found.0) seen late
   where
-    of : (i : ItemReader) → topic_in i ≡ Start → IsSeen (states_known k) body i → IsLate (states_known k) body false kind place
+    of : (i : ItemReader) → topic_of_reader i ≡ Start → IsSeen (states_known k) body i → IsLate (states_known k) body false kind place
         → pending_in i ≡ Some (record { kind = kind; place = place })
     of (items.Start r) e s late = late_at_fault (states_known k) body r kind place s late
     of _ e s late = absurd (cc)
@@ -334,12 +334,12 @@ pending_refused seen r f x w e text ts tokens same ending =
     same_refusal x fault at q = (ap (λ (y : Refusal). y.kind) (one_some refl q), ap (λ (y : Refusal). y.place) (one_some refl q))
 
     pending_why : (count : ℕ) (body : List Lexeme) (item : ItemReader) (x : Refusal) → IsSeen count body item → pending_in item ≡ Some x
-        → (topic_in item ≡ Start) × IsStartReason body x.kind x.place × IsLate count body false x.kind x.place
+        → (topic_of_reader item ≡ Start) × IsStartReason body x.kind x.place × IsLate count body false x.kind x.place
     pending_why count body (items.Start s) x seen e = (refl, pending_reason count body s x seen e, pending_is_late count body s x seen e)
     pending_why count body _ x seen e = absurd (none≢some e)
 
 -- the sign that waits for its numeral ends the body
-pub seen_sign : (count : ℕ) (body : List Lexeme) (item : ItemReader) → (topic_in item ≡ Start → ⊥) → IsSeen count body item
+pub seen_sign : (count : ℕ) (body : List Lexeme) (item : ItemReader) → (topic_of_reader item ≡ Start → ⊥) → IsSeen count body item
     → SignEnds (sign_in item) body
 seen_sign count body item h1 h2 = grind arith
 
@@ -365,10 +365,11 @@ start_token sign body l kind place h1 = grind arith
 pub feed_refused : (seen : List Lexeme) (r : TextReader) (l : Lexeme) (kind : ItemFault) (place : ℕ) (w : IsItemRead seen r)
     → begins_item l ≡ false
     → CannotTake (ItemGoes r.known) w.item l → IsItemReason w.item w.body l kind place
-    → IfNotStart (topic_in w.item) (IsMisfit (item_wants r.known w.item []) l kind)
-    → IfStart (topic_in w.item) (StopsStart (pending_in w.item) (states_known r.known) w.body (item_wants r.known w.item []) l kind place)
-    → IfStart (topic_in w.item) (CannotTake (ItemForms r.known) w.item l)
-    → ((more : List Lexeme) (ends : Bool) (late : Refusal) → topic_in w.item ≡ Start
+    → IfNotStart (topic_of_reader w.item) (IsMisfit (item_wants r.known w.item []) l kind)
+    → IfStart (topic_of_reader w.item) (StopsStart (pending_in w.item) (states_known r.known) w.body (item_wants r.known w.item []) l kind
+    place)
+    → IfStart (topic_of_reader w.item) (CannotTake (ItemForms r.known) w.item l)
+    → ((more : List Lexeme) (ends : Bool) (late : Refusal) → topic_of_reader w.item ≡ Start
     → IsLate (states_known r.known) (w.body ++ l ∷ more) ends late.kind late.place → (kind ≡ late.kind) × (place ≡ late.place))
     → IsRefusedAfter (seen ++ l ∷ []) (model_faults.Item kind r.number place)
 feed_refused seen r l kind place w inner none reason unfit stops formless due text ts further tokens e =
@@ -399,8 +400,8 @@ feed_refused seen r l kind place w inner none reason unfit stops formless due te
       placed = record { stands = in_body refused.stops; late = is_due more h };
     }
 
-    of_one : (more : List Lexeme) → Here ts r.number r.known w.t ((w.body ++ l ∷ []) ++ more) → (topic_in w.item ≡ Start → ⊥)
-        → IsTokenReason (topic_in w.item) (sign_in w.item) w.body l kind place
+    of_one : (more : List Lexeme) → Here ts r.number r.known w.t ((w.body ++ l ∷ []) ++ more) → (topic_of_reader w.item ≡ Start → ⊥)
+        → IsTokenReason (topic_of_reader w.item) (sign_in w.item) w.body l kind place
         → Refuses ts (model_faults.Item kind r.number place)
     of_one more h other m =
         refused_so more h
@@ -484,8 +485,8 @@ due_at_end ts n place k t body fault at x w =
 
 pub end_refused : (seen : List Lexeme) (r : TextReader) (kind : ItemFault) (place : ℕ) (w : IsItemRead seen r)
     → CannotEnd (ItemGoes r.known) w.item
-    → IsEndReason (topic_in w.item) kind → kind ≡ unexpected_token (item_wants r.known w.item []) None → pending_in w.item ≡ None
-    → ((late : Refusal) → topic_in w.item ≡ Start → IsLate (states_known r.known) w.body true late.kind late.place → ⊥)
+    → IsEndReason (topic_of_reader w.item) kind → kind ≡ unexpected_token (item_wants r.known w.item []) None → pending_in w.item ≡ None
+    → ((late : Refusal) → topic_of_reader w.item ≡ Start → IsLate (states_known r.known) w.body true late.kind late.place → ⊥)
     → IsRefusedAt seen place (model_faults.Item kind r.number place)
 end_refused seen r kind place w none reason kinds unheld undue text ts tokens ends =
     let x = ends_here ts r.number place seen w.body r.known w.t w.within w.number_is ends in
@@ -515,8 +516,9 @@ end_refused seen r kind place w none reason kinds unheld undue text ts tokens en
 -- a start item that cannot end, for the number before its end
 pub end_refused_before : (seen : List Lexeme) (r : TextReader) (kind : ItemFault) (at place : ℕ) (w : IsItemRead seen r)
     → CannotEnd (ItemGoes r.known) w.item
-    → topic_in w.item ≡ Start → IsStartReason w.body kind at → IsLate (states_known r.known) w.body true kind at
-    → ((late : Refusal) → topic_in w.item ≡ Start → IsLate (states_known r.known) w.body true late.kind late.place → (kind ≡ late.kind)
+    → topic_of_reader w.item ≡ Start → IsStartReason w.body kind at → IsLate (states_known r.known) w.body true kind at
+    → ((late : Refusal) → topic_of_reader w.item ≡ Start → IsLate (states_known r.known) w.body true late.kind late.place
+    → (kind ≡ late.kind)
     × (at ≡ late.place))
     → IsRefusedAt seen place (model_faults.Item kind r.number at)
 end_refused_before seen r kind at place w none start reason late due text ts tokens ends =

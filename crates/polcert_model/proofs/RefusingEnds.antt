@@ -5,7 +5,8 @@ use Rattle.std.proofs.Common.{ap, subst, arith}
 use Rattle.std.proofs.lemmas.List.{append-nil}
 use Rattle.polcert_model.proofs.Common.{Lexeme, TokenFault, ItemFault, BadShape, BeforeFirstItem, TooManyCells, Refusal, TextReader}
 use Rattle.polcert_model.proofs.Common.{pending_in, Topic, topic, begins_item, Item, IsDivided, ModelSoFar, preamble_fault, fault_after}
-use Rattle.polcert_model.proofs.Common.{word_fault, IsLateIn, TextTokens, AreTokensOf, LiesIn, IsDecided, wrong_last, IsReason, IsPossible}
+use Rattle.polcert_model.proofs.Common.{word_fault, IsLateIn, TextTokens, AreTokensOf, LiesInItem, IsDecided, wrong_last, IsReason}
+use Rattle.polcert_model.proofs.Common.{IsPossible}
 use Rattle.polcert_model.proofs.Common.{IsItemRead, IsTextRead, AreItemsRead, IsRefusedAfter, Refuses, pending_at, tokens_end}
 use Rattle.polcert_text.specs.Reading.{fault_place}
 use Rattle.polcert_format.specs.declared.fault.ItemFault.TheVariants.{DuplicateLine, LateLine, MissingLine}
@@ -45,7 +46,7 @@ before_refused seen r l w inner text ts further tokens e =
     record {
       refusal = record {
         first_wrong = wrong_front l d.0 d.1 divided w.number_is;
-        lies = subst (λ n. LiesIn ts n l.place) (sym w.number_is) (lies_before_items ts l d.0 d.1 (tokens_rise text ts tokens) divided);
+        lies = subst (λ n. LiesInItem ts n l.place) (sym w.number_is) (lies_before_items ts l d.0 d.1 (tokens_rise text ts tokens) divided);
         reason = decided;
         decided = λ fault at x. one_decided ts r.number BeforeFirstItem fault l.place at decided x;
       };
@@ -110,7 +111,7 @@ word_refused seen r word t kind w is wrong text ts further tokens e =
     record {
       refusal = record {
         first_wrong = first_here h (wrong_at_word r.known t kind more wrong);
-        lies = subst (λ n. LiesIn ts n word.place) (sym h.number_is)
+        lies = subst (λ n. LiesInItem ts n word.place) (sym h.number_is)
             (lies_at_word ts h.before (item_here h) h.after (tokens_rise text ts tokens) h.divided);
         reason = order_reason ts (r.number + 1) word.place kind (word_order r.known t kind wrong) decided;
         decided = λ fault at x. one_decided ts (r.number + 1) kind fault word.place at decided x;
@@ -129,7 +130,7 @@ text_end_refused seen r kind w wrong text ts tokens e clean =
     record {
       refusal = record {
         first_wrong = wrong_end items r.known divided w.items.right clean (λ p complete. not_complete r.known p kind wrong complete) number;
-        lies = subst (λ n. LiesIn ts n ts.end) (sym number) (lies_at_end ts items divided);
+        lies = subst (λ n. LiesInItem ts n ts.end) (sym number) (lies_at_end ts items divided);
         reason = order_reason ts (r.number + 1) ts.end kind (preamble_order r.known kind wrong) decided;
         decided = λ fault at x. one_decided ts (r.number + 1) kind fault ts.end at decided x;
       };
@@ -160,7 +161,7 @@ at_once seen r f w text ts tokens e ending =
     let empty : ts.lexemes ≡ [] = e ∙ w.nothing in
     record {
       first_wrong = wrong_fault f empty ending w.number_is;
-      lies = subst (λ n. LiesIn ts n (fault_place f)) (sym w.number_is)
+      lies = subst (λ n. LiesInItem ts n (fault_place f)) (sym w.number_is)
           (lies_at_once ts (fault_place f) (fault_rises text ts f tokens ending).1 empty);
       reason = fault_reason ts r.number f ending;
       decided = λ fault at x. absurd (none_decided ts r.number at fault f empty ending x);
@@ -175,7 +176,7 @@ in_item seen r f w text ts tokens e ending =
     let rises = fault_rises text ts f tokens ending in
     record {
       first_wrong = wrong_last h.before (item_here h) r.known f h.divided h.taken ending h.number_is;
-      lies = subst (λ n. LiesIn ts n (fault_place f)) (sym h.number_is)
+      lies = subst (λ n. LiesInItem ts n (fault_place f)) (sym h.number_is)
           (lies_at_fault ts h.before (item_here h) (fault_place f) rises.0 rises.1 h.divided);
       reason = fault_reason ts r.number f ending;
       decided = λ fault at x. absurd (free_here h w.read.may_stand fault at x);

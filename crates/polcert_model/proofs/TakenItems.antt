@@ -3,8 +3,10 @@ use Rattle.std.proofs.Common.{ℕ, ◌≡◌, ◌∙◌, ◌≤◌, ◌⊎◌, i
 use Rattle.std.proofs.Common.{ap, subst, arith, append_assoc}
 use Rattle.std.proofs.lemmas.List.Elements.{All-cons}
 use Rattle.polcert_model.proofs.Common.{Lexeme, Entry, Table, ItemReader, Topic, States, Actions, Observations, Start, Cells, Elements}
-use Rattle.polcert_model.proofs.Common.{Preamble, dimensions, named, Item, ModelSoFar, nothing_known, AreRight, IsRight, word_fault, Takes}
-use Rattle.polcert_model.proofs.Common.{preamble_in, HasForm, ItemGoes, ItemForms, IsItemWithin, topic_in, IsSeen, new_item, HasElements}
+use Rattle.polcert_model.proofs.Common.{Preamble, dimensions, named, Item, ModelSoFar, nothing_known, AreRight, IsRight, word_fault}
+use Rattle.polcert_model.proofs.Common.{TakesLexeme}
+use Rattle.polcert_model.proofs.Common.{preamble_in, HasForm, ItemGoes, ItemForms, IsItemWithin, topic_of_reader, IsSeen, new_item}
+use Rattle.polcert_model.proofs.Common.{HasElements}
 use Rattle.polcert_model.proofs.Common.{expected, ExpectsNext, item_wants, IfStart, states_known, IsShaped, IsBodyRead}
 use Rattle.polcert_items.specs.declared.item.ItemReader.TheVariants as items
 use Rattle.polcert_items.specs.declared.preamble_lines.DiscountReader.TheVariants as discount
@@ -160,7 +162,7 @@ goes_taken k t body next h1 h2 = grind
 
 -- ---- its form
 
-new_topic : (t : Topic) → topic_in (new_item t) ≡ t
+new_topic : (t : Topic) → topic_of_reader (new_item t) ≡ t
 new_topic t = grind arith
 
 -- what continues to the form of an item has it
@@ -232,11 +234,12 @@ item_begun k t free =
 
 -- one lexeme more
 pub item_continues : (k : ModelSoFar) (t : Topic) (body : List Lexeme) (old new : ItemReader) (l : Lexeme) → IsBodyRead k t body old
-    → topic_in new ≡ topic_in old → IsItemWithin k new
-    → Takes (ItemGoes k) old l new → IfStart (topic_in old) (Takes (ItemForms k) old l new) → IsSeen (states_known k) (body ++ l ∷ []) new
+    → topic_of_reader new ≡ topic_of_reader old → IsItemWithin k new
+    → TakesLexeme (ItemGoes k) old l new → IfStart (topic_of_reader old) (TakesLexeme (ItemForms k) old l new)
+    → IsSeen (states_known k) (body ++ l ∷ []) new
     → ExpectsNext (item_wants k old) l (item_wants k new) → IsBodyRead k t (body ++ l ∷ []) new
 item_continues k t body old new l r same within takes of_form seen leads =
-    let form : Takes (ItemForms k) old l new = forms_take k old new l same takes of_form in
+    let form : TakesLexeme (ItemForms k) old l new = forms_take k old new l same takes of_form in
     let formed : (ls : List Lexeme) → ItemForms k new ls tt → HasForm k t ((body ++ l ∷ []) ++ ls) =
     λ ls g. subst (HasForm k t) (sym (append_assoc body (l ∷ []) ls)) (r.formed (l ∷ ls) (form.back ls tt g)) in
     record {

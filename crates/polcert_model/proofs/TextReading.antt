@@ -5,7 +5,7 @@ use Rattle.std.proofs.lemmas.List.{append-nil}
 use Rattle.polcert_model.proofs.Common.{Lexeme, ItemFault, BeforeFirstItem, TooManyCells, ModelFault, ItemReader, ItemContents, TextReader}
 use Rattle.polcert_model.proofs.Common.{Topic, Start, topic, begins_item, IsDivided, ModelSoFar, nothing_known, IsRight, AreRight}
 use Rattle.polcert_model.proofs.Common.{preamble_in, HasFewCells, word_fault, preamble_fault, CannotEnd, IsStartReason, ItemGoes}
-use Rattle.polcert_model.proofs.Common.{IsItemWithin, IsEndReason, IsSeen, topic_in, pending_in, new_item, HasElements, with_item}
+use Rattle.polcert_model.proofs.Common.{IsItemWithin, IsEndReason, IsSeen, topic_of_reader, pending_in, new_item, HasElements, with_item}
 use Rattle.polcert_model.proofs.Common.{AreContentsOf, IsAllowedNext, unexpected_token, item_wants, Refusal, IsLate, states_known, Refuses}
 use Rattle.polcert_model.proofs.Common.{IsShaped, IsTextRead, IsItemRead, IsBodyRead, AreItemsRead, IsRefusedAfter, IsRefusedAt}
 use Rattle.polcert_model.proofs.Common.{IsRefusedWhole}
@@ -55,7 +55,7 @@ shaped_end : (seen : List Lexeme) (r : TextReader) (i : ItemReader) (next : Mode
 shaped_end seen r i next w e goes = grind (arith, append-nil, same_item)
 
 pub said_may_be_learned : (seen : List Lexeme) (r : TextReader) (i : ItemReader) (said : ItemContents) → IsTextRead seen r → r.item ≡ Some i
-    → ItemGoes r.known i [] (with_item r.known said) → AreContentsOf (topic_in i) said
+    → ItemGoes r.known i [] (with_item r.known said) → AreContentsOf (topic_of_reader i) said
     → IsAllowedNext r.known said
 said_may_be_learned seen r i said h1 h2 h3 h4 = grind (arith, some≢none, may_be_learned, same_item, shaped_end)
 
@@ -85,38 +85,39 @@ item_too_much seen r i said place (item w) e goes many =
     (shaped_end seen r i (with_item r.known said) w e goes) many)
 
 some_elements : (seen : List Lexeme) (r : TextReader) (i : ItemReader) (w : IsItemRead seen r) → r.item ≡ Some i
-    → HasElements r.known (topic_in i)
+    → HasElements r.known (topic_of_reader i)
 some_elements seen r i w e = grind (arith, has_elements, same_item)
 
 cannot_end : (seen : List Lexeme) (r : TextReader) (i : ItemReader) (w : IsItemRead seen r) → r.item ≡ Some i
-    → (HasElements r.known (topic_in i) → CannotEnd (ItemGoes r.known) i) → CannotEnd (ItemGoes r.known) w.item
+    → (HasElements r.known (topic_of_reader i) → CannotEnd (ItemGoes r.known) i) → CannotEnd (ItemGoes r.known) w.item
 cannot_end seen r i w e stuck = grind (arith, has_elements, same_item)
 
 -- the open item cannot end
 pub item_not_ended : (seen : List Lexeme) (r : TextReader) (i : ItemReader) (kind : ItemFault) (place : ℕ) → IsTextRead seen r
     → r.item ≡ Some i
-    → (HasElements r.known (topic_in i) → CannotEnd (ItemGoes r.known) i)
-    → ((body : List Lexeme) → IsSeen (states_known r.known) body i → IsEndReason (topic_in i) kind)
-    → (HasElements r.known (topic_in i) → kind ≡ unexpected_token (item_wants r.known i []) None) → pending_in i ≡ None
-    → ((body : List Lexeme) (late : Refusal) → IsSeen (states_known r.known) body i → topic_in i ≡ Start
+    → (HasElements r.known (topic_of_reader i) → CannotEnd (ItemGoes r.known) i)
+    → ((body : List Lexeme) → IsSeen (states_known r.known) body i → IsEndReason (topic_of_reader i) kind)
+    → (HasElements r.known (topic_of_reader i) → kind ≡ unexpected_token (item_wants r.known i []) None) → pending_in i ≡ None
+    → ((body : List Lexeme) (late : Refusal) → IsSeen (states_known r.known) body i → topic_of_reader i ≡ Start
     → IsLate (states_known r.known) body true late.kind late.place → ⊥) → IsRefusedAt seen place (model_faults.Item kind r.number place)
 item_not_ended seen r i kind place (nothing n) e stuck reason kinds unheld undue = absurd (some≢none e n.item_is)
 item_not_ended seen r i kind place (item w) e stuck reason kinds unheld undue =
     let same = same_item seen r i e w in
     end_refused seen r kind place w (cannot_end seen r i w e stuck)
-    (subst (λ j. IsEndReason (topic_in j) kind) (sym same)
+    (subst (λ j. IsEndReason (topic_of_reader j) kind) (sym same)
     (reason w.body (subst (IsSeen (states_known r.known) w.body) same w.read.seen)))
     (subst (λ j. kind ≡ unexpected_token (item_wants r.known j []) None) (sym same) (kinds (some_elements seen r i w e)))
     (ap pending_in same ∙ unheld)
-    (λ late start. undue w.body late (subst (IsSeen (states_known r.known) w.body) same w.read.seen) (sym (ap topic_in same) ∙ start))
+    (λ late start. undue w.body late (subst (IsSeen (states_known r.known) w.body) same w.read.seen)
+    (sym (ap topic_of_reader same) ∙ start))
 
 -- nor for the number before its end
 pub item_not_ended_before : (seen : List Lexeme) (r : TextReader) (i : ItemReader) (kind : ItemFault) (at place : ℕ) → IsTextRead seen r
     → r.item ≡ Some i
-    → (HasElements r.known (topic_in i) → CannotEnd (ItemGoes r.known) i)
-    → ((body : List Lexeme) → IsSeen (states_known r.known) body i → (topic_in i ≡ Start) × IsStartReason body kind at
+    → (HasElements r.known (topic_of_reader i) → CannotEnd (ItemGoes r.known) i)
+    → ((body : List Lexeme) → IsSeen (states_known r.known) body i → (topic_of_reader i ≡ Start) × IsStartReason body kind at
     × IsLate (states_known r.known) body true kind at)
-    → ((body : List Lexeme) (late : Refusal) → IsSeen (states_known r.known) body i → topic_in i ≡ Start
+    → ((body : List Lexeme) (late : Refusal) → IsSeen (states_known r.known) body i → topic_of_reader i ≡ Start
     → IsLate (states_known r.known) body true late.kind late.place → (kind ≡ late.kind) × (at ≡ late.place))
     → IsRefusedAt seen place (model_faults.Item kind r.number at)
 item_not_ended_before seen r i kind at place (nothing n) e stuck reason due = absurd (some≢none e n.item_is)
@@ -124,8 +125,8 @@ item_not_ended_before seen r i kind at place (item w) e stuck reason due =
     let same = same_item seen r i e w in
     let read = subst (IsSeen (states_known r.known) w.body) same w.read.seen in
     let why = reason w.body read in
-    end_refused_before seen r kind at place w (cannot_end seen r i w e stuck) (ap topic_in same ∙ why.0) why.1 why.2
-    (λ late start. due w.body late read (sym (ap topic_in same) ∙ start))
+    end_refused_before seen r kind at place w (cannot_end seen r i w e stuck) (ap topic_of_reader same ∙ why.0) why.1 why.2
+    (λ late start. due w.body late read (sym (ap topic_of_reader same) ∙ start))
 
 -- ---- one lexeme more
 
@@ -138,7 +139,8 @@ not_begun seen r l (item w) e inside = absurd (some≢none w.item_is e)
 -- the open item takes it
 pub item_takes : (seen : List Lexeme) (r : TextReader) (l : Lexeme) (old new : ItemReader) → IsTextRead seen r → r.item ≡ Some old
     → begins_item l ≡ false
-    → topic_in new ≡ topic_in old → IsItemFed r.known old l new → IsTextRead (seen ++ l ∷ []) (reader_of r.known (Some new) r.number)
+    → topic_of_reader new ≡ topic_of_reader old → IsItemFed r.known old l new
+    → IsTextRead (seen ++ l ∷ []) (reader_of r.known (Some new) r.number)
 item_takes seen r l old new (nothing n) e inside same fed = absurd (some≢none e n.item_is)
 item_takes seen r l old new (item w) e inside same fed =
     let read : IsBodyRead r.known w.t w.body old = subst (IsBodyRead r.known w.t w.body) (same_item seen r old e w) w.read in

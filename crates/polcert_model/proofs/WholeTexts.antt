@@ -18,7 +18,7 @@ use Rattle.polcert_full_form.proofs.Writable.WritableTexts.{text_writable}
 
 module _ (seen : List Lexeme) (k : ModelSoFar) (w : IsWholeRead seen k) where
   -- what has the meaning of its items and proper rows is what it denotes
-  whole_denotes : (m : Meaning) → IsSame m (drafts.meaning (said k)) → HasProperRows m → Denotes seen m
+  whole_denotes : (m : Meaning) → IsSame m (drafts.draft_meaning (said k)) → HasProperRows m → Denotes seen m
   whole_denotes m same rows = record {
     preamble = preamble_in k;
     known = k;
@@ -28,7 +28,7 @@ module _ (seen : List Lexeme) (k : ModelSoFar) (w : IsWholeRead seen k) where
   }
 
   module _ (text : List ℕ) (cut : IsCut (text_rest text text_limit) seen None) where
-    accepted : (m : Meaning) → IsSame m (drafts.meaning (said k)) → HasProperRows m → IsModelText text m
+    accepted : (m : Meaning) → IsSame m (drafts.draft_meaning (said k)) → HasProperRows m → IsModelText text m
     accepted m same rows = record { lexemes = seen; tokens = clean_tokens text seen cut; denotes = whole_denotes m same rows }
 
     -- it is within the limits, and can be written
@@ -43,7 +43,7 @@ module _ (seen : List Lexeme) (k : ModelSoFar) (w : IsWholeRead seen k) where
 -- where a row isn't, the first such row is refused
 pub row_refused : (seen : List Lexeme) (k : ModelSoFar) → IsWholeRead seen k → (text : List ℕ) (table : Table) (a s : ℕ)
     → IsCut (text_rest text text_limit) seen None
-    → IsFirstWrongRow (drafts.meaning (said k)) table a s → (ts : TextTokens) → AreTokensOf text ts
+    → IsFirstWrongRow (drafts.draft_meaning (said k)) table a s → (ts : TextTokens) → AreTokensOf text ts
     → IsRefusal ts (model_faults.RowSum table a s)
 row_refused seen k w text table a s cut wrong ts tokens =
     let these = these_tokens text seen None ts cut tokens in

@@ -6,7 +6,7 @@ ghost use Rattle.polcert_text.specs.Steps.TakenAhead.{TakesAhead, ArePassed};
 ghost use Rattle.polcert_text.specs.Cut.{Lexeme};
 ghost use Rattle.polcert_text.specs.Reading.{lexeme_of};
 ghost use Rattle.polcert_cells.specs.Words.{topic, begins_item};
-ghost use Rattle.polcert_items.specs.Steps.Elements.{IsText as IsTextToken};
+ghost use Rattle.polcert_items.specs.Steps.Elements.{IsAsciiName};
 ghost use Rattle.polcert_format.specs.Text.{IsModelText};
 ghost use Rattle.polcert_format.specs.FirstWrong.{TextTokens, AreTokensOf};
 ghost use Rattle.polcert_format.specs.Refusals.{IsRefusal, IsPlacedRight, IsNoModel};
@@ -61,7 +61,7 @@ impl TextReader {
     fn take(&mut self, alloc: Global, token: Token<'_>) -> Result<(), ModelFault>
         requires read { (seen : List Lexeme) × IsTextRead seen self.old }
         requires few { self.old.number < 2 ^ 63 }
-        requires text { IsTextToken (lexeme_of token) }
+        requires text { IsAsciiName (lexeme_of token) }
         ensures number { self.new.number ≤ self.old.number + 1 }
         ensures read { let l = lexeme_of token.entry in (seen : List Lexeme) → IsTextRead seen self.old
             → MatchResult result
@@ -81,7 +81,7 @@ impl TextReader {
     #[inline(always)]
     fn feed(&mut self, alloc: Global, token: Token<'_>) -> Result<(), ModelFault>
         requires read { (seen : List Lexeme) × IsTextRead seen self.old }
-        requires text { IsTextToken (lexeme_of token) }
+        requires text { IsAsciiName (lexeme_of token) }
         ensures number { self.new.number ≡ self.old.number }
         ensures read { let l = lexeme_of token.entry in (seen : List Lexeme) → IsTextRead seen self.old
             → begins_item l ≡ false → MatchResult result

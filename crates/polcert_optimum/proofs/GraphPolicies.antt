@@ -5,7 +5,7 @@ use Rattle.polcert_optimum.proofs.Common.{zero-*ℤ, Controller, one, total_belo
 use Rattle.polcert_optimum.proofs.Common.{as_policy, IsPolicyOf, after, history_weight, discounted_rewards, step_weight, total_weight}
 use Rattle.polcert_optimum.proofs.Common.{expected_total, expected_rewards, graph_policy, EarnsAsItsPolicy}
 use Rattle.std.proofs.Math.IntN.{+ℤ_idr, *ℤ-zero}
-use Rattle.polcert_check.specs.Horizon.{uncut, weight}
+use Rattle.polcert_check.specs.Horizon.{uncut, run_weight}
 use Rattle.polcert_check.specs.Horizon as horizon
 use Rattle.polcert_check.proofs.Sums.SumLaws.{sum_below_same, sum_over_same, sum_over_factor}
 use Rattle.polcert_check.proofs.Horizons.Runs.{sum_over_uncut, reward_part_cons}
@@ -21,11 +21,11 @@ controller_rewards_suc : (c : Controller) (k n s : ℕ)
     *ℤ ((pos (one ^ suc k) *ℤ c.cells.r (c.action n) s e z) *ℤ horizon.weights_sum c k (c.next n z) e +ℤ pos c.cells.discount
     *ℤ horizon.rewards_sum c k (c.next n z) e)) c.cells.observations) c.cells.states
 controller_rewards_suc c k n s =
-    sum_over_uncut c k n (λ run. pos (weight c (Some n) s run) *ℤ horizon.reward_part c (suc k) (Some n) s run)
+    sum_over_uncut c k n (λ run. pos (run_weight c (Some n) s run) *ℤ horizon.reward_part c (suc k) (Some n) s run)
     ∙ sum_below_same _ _ c.cells.states (λ e _. sum_below_same _ _ c.cells.observations (λ z _.
     sum_over_factor (pos (horizon.step_weight c n s e z)) (pos (one ^ suc k) *ℤ c.cells.r (c.action n) s e z) (pos c.cells.discount)
-    (λ run. pos (weight c (c.next n z) e run)) (λ run. horizon.reward_part c k (c.next n z) e run) _ (uncut c k (c.next n z))
-    (λ run. ap (λ (y : ℤ). pos (weight c (Some n) s ((e, z) ∷ run)) *ℤ y) (reward_part_cons c k n s e z run))))
+    (λ run. pos (run_weight c (c.next n z) e run)) (λ run. horizon.reward_part c k (c.next n z) e run) _ (uncut c k (c.next n z))
+    (λ run. ap (λ (y : ℤ). pos (run_weight c (Some n) s ((e, z) ∷ run)) *ℤ y) (reward_part_cons c k n s e z run))))
 
 no_end : (x r h : ℤ) → x *ℤ (r +ℤ h *ℤ pos 0) ≡ x *ℤ r
 no_end x r h = rw (*ℤ-zero h) (ap (λ (y : ℤ). x *ℤ y) (+ℤ_idr r))

@@ -3,7 +3,7 @@ ghost use Rattle.std.specs.Prelude.{◌≡◌, ◌<◌, ◌≤◌, ◌+◌, pos,
 ghost use Rattle.polcert_policy.specs.Vectors.{IsInRange, CanShift, value_of};
 ghost use Rattle.polcert_check.specs.Horizon.{one};
 ghost use Rattle.polcert_optimum.specs.InformedCheck.{FitActions};
-ghost use Rattle.polcert_optimum.specs.InformedRaise.{IsLeastRaise, IsRaiseConstant, IsNotRaised};
+ghost use Rattle.polcert_optimum.specs.InformedRaise.{IsLeastInformedRaise, IsRaiseConstant, HasNoInformedRaise};
 ghost use Rattle.polcert_optimum.specs.Steps.Sums.{IsGreatestExcess};
 
 use crate::excess::Buffers;
@@ -45,7 +45,7 @@ fn greatest_excess<C: Cells>(cells: &C, vectors: &Vectors) -> i128
 fn least_below_one<C: Cells>(cells: &C, vectors: &Vectors) -> u128
     requires fit { FitActions (C.table cells.now) vectors.now }
     requires discount { (C.table cells.now).discount < one }
-    ensures { IsLeastRaise (C.table cells.now) (value_of vectors.now) result }
+    ensures { IsLeastInformedRaise (C.table cells.now) (value_of vectors.now) result }
 {
     let _vectors = vectors.nodes();
     let scale = (cells.t_scale() * cells.o_scale()) as u128;
@@ -56,8 +56,8 @@ fn least_below_one<C: Cells>(cells: &C, vectors: &Vectors) -> u128
 /// Returns the least constant, whether or not it leaves the values in range.
 fn least_raise<C: Cells>(cells: &C, vectors: &Vectors) -> Result<u128, InformedRaiseFault>
     requires { FitActions (C.table cells.now) vectors.now }
-    ensures least { IfOk result (IsLeastRaise (C.table cells.now) (value_of vectors.now)) }
-    ensures refused { IfErr result (IsNotRaised (C.table cells.now) vectors.now) }
+    ensures least { IfOk result (IsLeastInformedRaise (C.table cells.now) (value_of vectors.now)) }
+    ensures refused { IfErr result (HasNoInformedRaise (C.table cells.now) vectors.now) }
 {
     if cells.discount() < 1_000_000 {
         return Ok(least_below_one(cells, vectors));
@@ -110,7 +110,7 @@ pub fn least_informed_raise<C: Cells>(
 ) -> Result<i64, InformedRaiseFault>
     requires { FitActions (C.table cells.now) vectors.now }
     ensures least { IfOk result (IsRaiseConstant (C.table cells.now) vectors.now) }
-    ensures refused { IfErr result (IsNotRaised (C.table cells.now) vectors.now) }
+    ensures refused { IfErr result (HasNoInformedRaise (C.table cells.now) vectors.now) }
 {
     let _vectors = vectors.nodes();
     let by = least_raise(cells, vectors)?;

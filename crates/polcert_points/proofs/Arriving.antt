@@ -6,7 +6,7 @@ use Rattle.polcert_cells.specs.Tables.{IsWithinLimits}
 use Rattle.polcert_cells.specs.Meaning.{sum_below}
 use Rattle.polcert_check.proofs.Sums.RowTotals.{t_rows}
 use Rattle.polcert_check.proofs.Sums.Bounds.{term_le}
-use Rattle.polcert_points.specs.Belief.{Belief, belief_after}
+use Rattle.polcert_points.specs.Belief.{Belief, updated_belief}
 use Rattle.polcert_points.specs.Steps.PointSums.{arrival}
 use Rattle.polcert_points.proofs.Rows.{sum_on, sum_more}
 
@@ -40,11 +40,11 @@ module _ (t : CellTable) (p : IsProper t) (limits : IsWithinLimits t) (a : ℕ) 
       le_trans (weighted_le b (λ s. t.t a s e) 10000000000 k (λ s sl. t_small s e (omega (arith, sl, kl)) el))
       (mul-le-mul_right 10000000000 (le_trans (part_below b k t.states kl) few))
 
-  pub after_parts : (b : Belief) (z e : ℕ) → belief_after t b a z e ≡ sum_below (λ s. b s * t.t a s e) t.states * t.o a e z
+  pub after_parts : (b : Belief) (z e : ℕ) → updated_belief t b a z e ≡ sum_below (λ s. b s * t.t a s e) t.states * t.o a e z
   after_parts b z e = factor_out b (λ s. t.t a s e) (t.o a e z) t.states
 
   -- an end state that is not reached has no weight after any observation
-  pub not_after : (b : Belief) (z e : ℕ) → arrival t b a e ≡ 0 → belief_after t b a z e ≡ 0
+  pub not_after : (b : Belief) (z e : ℕ) → arrival t b a e ≡ 0 → updated_belief t b a z e ≡ 0
   not_after b z e none = after_parts b z e ∙ nothing (arrival t b a e) (t.o a e z) none
     where
       nothing : (x y : ℕ) → x ≡ 0 → x * y ≡ 0

@@ -9,7 +9,7 @@ use Rattle.polcert_check.proofs.Sums.SumLaws.{sum_below_same, sum_below_le, sum_
 use Rattle.polcert_check.proofs.Sums.RowTotals.{sum_of_pos}
 use Rattle.polcert_check.proofs.Horizons.Kept.{sum_twice_scale}
 use Rattle.polcert_check.proofs.Lowerings.Lowering.{sum_twice_add}
-use Rattle.polcert_points.specs.Belief.{Belief, mass, sum_over_belief, belief_after}
+use Rattle.polcert_points.specs.Belief.{Belief, mass, sum_over_belief, updated_belief}
 use Rattle.polcert_points.specs.Points.{Points, point_worth, IsAtState, AreCharges, Cover, left_of, IsCover, covered_worth}
 use Rattle.polcert_optimum.proofs.Steps.{expected_total_suc}
 use Rattle.polcert_optimum.proofs.Bounded.{policy_after, weights_all}
@@ -76,27 +76,28 @@ sum_below_times f x n = sum_below_same _ (λ i. x *ℤ f i) n (λ i _. *ℤ_comm
 
 -- what is expected after an observation, over a belief, is a sum over the belief that follows
 pub after_is : (t : CellTable) (b : Belief) (a z : ℕ) (f : ℕ → ℤ)
-    → sum_over_belief t b (λ s. total_below (λ e. pos (step_weight t a s e z) *ℤ f e) t.states) ≡ sum_over_belief t (belief_after t b a z) f
+    → sum_over_belief t b (λ s. total_below (λ e. pos (step_weight t a s e z) *ℤ f e) t.states)
+    ≡ sum_over_belief t (updated_belief t b a z) f
 after_is t b a z f =
     let term = λ (s e : ℕ). pos (b s * step_weight t a s e z) *ℤ f e in
     sum_below_same _ (λ s. total_below (λ e. term s e) t.states) t.states (λ s _.
     sym (sum_below_scale (pos (b s)) (λ e. pos (step_weight t a s e z) *ℤ f e) t.states)
     ∙ sum_below_same _ (λ e. term s e) t.states (λ e _. sym (*ℤ_assoc (pos (b s)) (pos (step_weight t a s e z)) (f e))))
     ∙ swapped term t.states t.states
-    ∙ sum_below_same _ (λ e. pos (belief_after t b a z e) *ℤ f e) t.states (λ e _.
+    ∙ sum_below_same _ (λ e. pos (updated_belief t b a z e) *ℤ f e) t.states (λ e _.
     sum_below_times (λ s. pos (b s * step_weight t a s e z)) (f e) t.states
     ∙ ap (λ (y : ℤ). y *ℤ f e) (sum_of_pos (λ s. b s * step_weight t a s e z) t.states))
 
 -- and over all observations
 pub afters_are : (t : CellTable) (b : Belief) (a : ℕ) (f : ℕ → ℕ → ℤ)
     → sum_over_belief t b (λ s. total_below (λ z. total_below (λ e. pos (step_weight t a s e z) *ℤ f z e) t.states) t.observations)
-    ≡ total_below (λ z. sum_over_belief t (belief_after t b a z) (f z)) t.observations
+    ≡ total_below (λ z. sum_over_belief t (updated_belief t b a z) (f z)) t.observations
 afters_are t b a f =
     let part = λ (s z : ℕ). total_below (λ e. pos (step_weight t a s e z) *ℤ f z e) t.states in
     sum_below_same _ (λ s. total_below (λ z. pos (b s) *ℤ part s z) t.observations) t.states
     (λ s _. sym (sum_below_scale (pos (b s)) (part s) t.observations))
     ∙ swapped (λ s z. pos (b s) *ℤ part s z) t.observations t.states
-    ∙ sum_below_same _ (λ z. sum_over_belief t (belief_after t b a z) (f z)) t.observations (λ z _. after_is t b a z (f z))
+    ∙ sum_below_same _ (λ z. sum_over_belief t (updated_belief t b a z) (f z)) t.observations (λ z _. after_is t b a z (f z))
 
 -- ---- covers
 left_algebra : (b n p : ℕ) (x : ℤ) → n * p ≤ b → pos b *ℤ x ≡ pos n *ℤ (pos p *ℤ x) +ℤ pos (b - n * p) *ℤ x

@@ -8,10 +8,10 @@ use Rattle.polcert_cells.specs.Tables.{IsWithinLimits}
 use Rattle.polcert_check.proofs.Sums.Bounds.{term_le}
 use Rattle.polcert_check.proofs.Sums.Gaps.{add_step}
 use Rattle.polcert_check.proofs.Sums.SumLaws.{sum_below_same}
-use Rattle.polcert_points.specs.Belief.{Belief, mass, belief_after}
+use Rattle.polcert_points.specs.Belief.{Belief, mass, updated_belief}
 use Rattle.polcert_points.specs.Points.{Cover, IsCover, best_worth}
 use Rattle.polcert_points.specs.PointCheck.{IsCoverBy, IsKnown}
-use Rattle.polcert_points.specs.PointTable.{PointTable, AreProperPoints, FitPoints, charge_at}
+use Rattle.polcert_points.specs.PointTable.{PointTable, IsProperPointTable, FitPoints, charge_at}
 use Rattle.polcert_points.specs.Steps.PointSums.{AreSmallCharges}
 use Rattle.polcert_points.proofs.PointRaises.{masses_after}
 use Rattle.polcert_points.proofs.PointChecks.{is_cover, one_cover}
@@ -19,7 +19,7 @@ use Rattle.polcert_points.proofs.PointSizes.{best_small, later_small, in_figures
 use Rattle.polcert_points.proofs.NamedCovers.{covers_of, is_cover_by}
 use Rattle.polcert_points.proofs.Rows.{sum_on}
 
-module _ (t : CellTable) (p : PointTable) (fit : FitPoints t p) (proper : AreProperPoints p) where
+module _ (t : CellTable) (p : PointTable) (fit : FitPoints t p) (proper : IsProperPointTable p) where
   pub few_at : (i : ℕ) → i < p.points.count → mass t (p.points.belief i) ≤ 1000000
   few_at i il = subst (λ (n : ℕ). sum_below (p.points.belief i) n ≤ 1000000) fit.states (proper.few i il)
 
@@ -30,22 +30,22 @@ module _ (t : CellTable) (p : PointTable) (fit : FitPoints t p) (proper : ArePro
   known i a z j il al zl is = proper.named i a z j il (omega (arith, al, fit.actions)) (omega (arith, zl, fit.observations)) is
 
   pub covers_are : (i a z : ℕ) → i < p.points.count → a < t.actions → z < t.observations
-      → IsCoverBy t p.points (belief_after t (p.points.belief i) a z) (p.next i a z) (covers_of t p i a z)
-  covers_are i a z il al zl = is_cover_by t p.points (belief_after t (p.points.belief i) a z) (p.next i a z)
+      → IsCoverBy t p.points (updated_belief t (p.points.belief i) a z) (p.next i a z) (covers_of t p i a z)
+  covers_are i a z il al zl = is_cover_by t p.points (updated_belief t (p.points.belief i) a z) (p.next i a z)
       (λ j is. some_at j (known i a z j il al zl is))
 
   pub cover_is : (i a z : ℕ) → i < p.points.count → a < t.actions → z < t.observations
-      → IsCover t p.points (belief_after t (p.points.belief i) a z) (covers_of t p i a z)
-  cover_is i a z il al zl = is_cover t p.points (belief_after t (p.points.belief i) a z) (p.next i a z) (covers_of t p i a z)
+      → IsCover t p.points (updated_belief t (p.points.belief i) a z) (covers_of t p i a z)
+  cover_is i a z il al zl = is_cover t p.points (updated_belief t (p.points.belief i) a z) (p.next i a z) (covers_of t p i a z)
       (λ j is. known i a z j il al zl is) (covers_are i a z il al zl)
 
   -- a belief without weight is worth nothing
   pub nothing_after : (charges : List ℤ) → AreSmallCharges p charges → (i a z : ℕ) (cover : Cover) → i < p.points.count → a < t.actions
-      → z < t.observations → ((e : ℕ) → e < t.states → belief_after t (p.points.belief i) a z e ≡ 0)
-      → IsCoverBy t p.points (belief_after t (p.points.belief i) a z) (p.next i a z) cover
-      → pos 0 ≡ best_worth t (charge_at p charges) p.points (belief_after t (p.points.belief i) a z) cover
+      → z < t.observations → ((e : ℕ) → e < t.states → updated_belief t (p.points.belief i) a z e ≡ 0)
+      → IsCoverBy t p.points (updated_belief t (p.points.belief i) a z) (p.next i a z) cover
+      → pos 0 ≡ best_worth t (charge_at p charges) p.points (updated_belief t (p.points.belief i) a z) cover
   nothing_after charges small i a z cover il al zl none by =
-      let b : Belief = belief_after t (p.points.belief i) a z in
+      let b : Belief = updated_belief t (p.points.belief i) a z in
       let empty : mass t b ≡ 0 = sym (sum_on b 0 t.states (omega arith) (λ e _ el. none e el)) in
       nothing (best_worth t (charge_at p charges) p.points b cover) (mass t b) empty
       (best_small t (charge_at p charges) p.points 10000000000000
@@ -59,15 +59,15 @@ module _ (t : CellTable) (p : PointTable) (fit : FitPoints t p) (proper : ArePro
   module _ (m : IsProper t) (limits : IsWithinLimits t) where
     -- no belief after an observation weighs much
     pub few_after : (i a z : ℕ) → i < p.points.count → a < t.actions → z < t.observations
-        → mass t (belief_after t (p.points.belief i) a z) ≤ 5 * 10 ^ 24
+        → mass t (updated_belief t (p.points.belief i) a z) ≤ 5 * 10 ^ 24
     few_after i a z il al zl =
-        le_trans (term_le (λ y. mass t (belief_after t (p.points.belief i) a y)) z t.observations
+        le_trans (term_le (λ y. mass t (updated_belief t (p.points.belief i) a y)) z t.observations
         (mass t (p.points.belief i) * step_scale t) (masses_after t m (p.points.belief i) a al) zl)
         (mass_figures t limits (mass t (p.points.belief i)) (few_at i il))
 
     module _ (charges : List ℤ) (small : AreSmallCharges p charges) (i a : ℕ) (il : i < p.points.count) (al : a < t.actions) where
       abbrev pub later_at : ℕ → ℤ
-      later_at z = best_worth t (charge_at p charges) p.points (belief_after t (p.points.belief i) a z) (covers_of t p i a z)
+      later_at z = best_worth t (charge_at p charges) p.points (updated_belief t (p.points.belief i) a z) (covers_of t p i a z)
 
       pub later_le : (k : ℕ) → k ≤ t.observations → unsigned_abs (total_below later_at k) ≤ 50000000000000000000000000000000000000
       later_le k kl =
@@ -79,8 +79,8 @@ module _ (t : CellTable) (p : PointTable) (fit : FitPoints t p) (proper : ArePro
 
       -- one observation more
       pub later_step : (z : ℕ) (sum x : ℤ) → z < t.observations → FitsSigned w128 x → sum ≡ total_below later_at z
-          → ((cover : Cover) → IsCoverBy t p.points (belief_after t (p.points.belief i) a z) (p.next i a z) cover
-          → x ≡ best_worth t (charge_at p charges) p.points (belief_after t (p.points.belief i) a z) cover)
+          → ((cover : Cover) → IsCoverBy t p.points (updated_belief t (p.points.belief i) a z) (p.next i a z) cover
+          → x ≡ best_worth t (charge_at p charges) p.points (updated_belief t (p.points.belief i) a z) cover)
           → FitsSigned w128 (sum +ℤ to_z w128 (of_z w128 x)) ×
           (to_z w128 (of_z w128 (sum +ℤ to_z w128 (of_z w128 x))) ≡ total_below later_at (z + 1))
       later_step z sum x zl fx before worth =
@@ -92,10 +92,10 @@ module _ (t : CellTable) (p : PointTable) (fit : FitPoints t p) (proper : ArePro
 
       -- the covers that are named are these
       pub later_is : (covers : ℕ → Cover) → ((z : ℕ) → z < t.observations
-          → IsCoverBy t p.points (belief_after t (p.points.belief i) a z) (p.next i a z) (covers z))
+          → IsCoverBy t p.points (updated_belief t (p.points.belief i) a z) (p.next i a z) (covers z))
           → total_below later_at t.observations ≡ total_below
-          (λ z. best_worth t (charge_at p charges) p.points (belief_after t (p.points.belief i) a z) (covers z)) t.observations
+          (λ z. best_worth t (charge_at p charges) p.points (updated_belief t (p.points.belief i) a z) (covers z)) t.observations
       later_is covers are =
           sum_below_same _ _ t.observations (λ z zl. ap (best_worth t (charge_at p charges) p.points
-          (belief_after t (p.points.belief i) a z)) (one_cover t p.points (belief_after t (p.points.belief i) a z) (p.next i a z)
+          (updated_belief t (p.points.belief i) a z)) (one_cover t p.points (updated_belief t (p.points.belief i) a z) (p.next i a z)
           (covers_of t p i a z) (covers z) (covers_are i a z il al zl) (are z zl)))

@@ -5,7 +5,7 @@ use Rattle.polcert_points.proofs.Common.{cases_lt, CellTable, greatest_below}
 use Rattle.polcert_check.proofs.Sums.Bounds.{term_le}
 use Rattle.polcert_check.proofs.Sums.RowTotals.{sum_of_pos}
 use Rattle.polcert_check.proofs.Sums.SumLaws.{sum_below_same}
-use Rattle.polcert_points.specs.Belief.{Belief, mass, belief_after}
+use Rattle.polcert_points.specs.Belief.{Belief, mass, updated_belief}
 use Rattle.polcert_points.specs.Points.{Points, point_worth, Cover, Covers, left_of, covered_worth, best_worth}
 use Rattle.polcert_points.specs.PointCheck.{IsMostTimes, IsCoverBy}
 use Rattle.polcert_points.specs.PointTable.{PointTable}
@@ -56,7 +56,7 @@ is_cover_by t points b (Some j) some =
     )
 
 abbrev pub covers_of : CellTable → PointTable → Covers
-covers_of t p i a z = cover_of t p.points (belief_after t (p.points.belief i) a z) (p.next i a z)
+covers_of t p i a z = cover_of t p.points (updated_belief t (p.points.belief i) a z) (p.next i a z)
 
 -- ---- beliefs that are the same below the number of states
 same_most : (states : ℕ) (b c point : Belief) (n : ℕ) → ((s : ℕ) → s < states → b s ≡ c s) → IsMostTimes states b point n

@@ -11,12 +11,12 @@ use Rattle.polcert_check.specs.StartWorth.{IsStartWorth}
 use Rattle.polcert_check.specs.Verdict.{IsBefore}
 use Rattle.polcert_check.proofs.Sums.Ring.{linear, below_cancel, *ℤ-+ℤ}
 use Rattle.polcert_optimum.specs.Optimum.{EarnsAtMost, EncloseOptimum}
-use Rattle.polcert_points.specs.Belief.{belief_after}
-use Rattle.polcert_points.specs.Points.{Points, Cover, Covers, best_worth, IsBacked, PointsBoundEveryObservationPolicy}
+use Rattle.polcert_points.specs.Belief.{updated_belief}
+use Rattle.polcert_points.specs.Points.{Points, Cover, Covers, best_worth, IsPointBacked, PointsBoundEveryObservationPolicy}
 use Rattle.polcert_points.specs.PointRaise.{point_excess}
 use Rattle.polcert_points.specs.PointStart.{PointsBoundFromStart, PointsBoundMixturesFromStart}
 use Rattle.polcert_points.specs.PointCheck.{IsRoundedUp}
-use Rattle.polcert_points.specs.PointTable.{PointTable, AreProperPoints, FitPoints, AreLeastCharges}
+use Rattle.polcert_points.specs.PointTable.{PointTable, IsProperPointTable, FitPoints, AreLeastCharges}
 use Rattle.polcert_points.specs.PointVerdict.{IsVerdictWith, IsPointVerdict, MeetsPointPromise}
 use Rattle.polcert_points.specs.PointStartMost.{start_times, scaled_start, IsPointStartMost, HasPointCertificate}
 use Rattle.polcert_points.specs.declared.point_verdict.PointVerdict.{PointVerdict}
@@ -48,7 +48,7 @@ not_above x l h = omega (arith, linear)
 
 module _ (t : CellTable) (charges : ℕ → ℕ → ℤ) (points : Points) (covers : Covers) where
   pub fails_there : (i a : ℕ) (amount : ℤ) → IsVerdictWith t charges points covers (Exceeded i a amount)
-      → IsBacked t charges points covers i a → ⊥
+      → IsPointBacked t charges points covers i a → ⊥
   fails_there i a amount h backed =
       not_above amount ((rounded_sign (point_excess t charges points covers i a) amount h.3).1
       (no_excess t charges points covers i a backed)) h.4
@@ -58,7 +58,7 @@ module _ (t : CellTable) (charges : ℕ → ℕ → ℤ) (points : Points) (cove
   one_found Yes (Exceeded i a amount) h g = absurd (fails_there i a amount g (h i a g.0 g.1))
   one_found (Exceeded i a amount) Yes h g = absurd (fails_there i a amount h (g i a h.0 h.1))
   one_found (Exceeded i a amount) (Exceeded j b other) h g =
-      let (points_same, actions_same) = one_place (IsBacked t charges points covers) i a j b (fails_there i a amount h)
+      let (points_same, actions_same) = one_place (IsPointBacked t charges points covers) i a j b (fails_there i a amount h)
       (fails_there j b other g) (g.2 i a h.0 h.1) (h.2 j b g.0 g.1) in
       let moved : IsRoundedUp (point_excess t charges points covers j b) amount =
       subst (λ (n : ℕ). IsRoundedUp (point_excess t charges points covers j n) amount) actions_same
@@ -83,7 +83,7 @@ one_point_verdict t vectors p fit x y first second =
     one_found t first.charges p.points first.covers x y first.found
     (found_there t t (itself t) p.points second.charges first.charges
     (one_table_of_charges t vectors second.charges first.charges p fit second.charged first.charged) second.covers first.covers
-    (λ i a z il al zl. one_cover t p.points (belief_after t (p.points.belief i) a z) (p.next i a z) (second.covers i a z)
+    (λ i a z il al zl. one_cover t p.points (updated_belief t (p.points.belief i) a z) (p.next i a z) (second.covers i a z)
     (first.covers i a z) (second.covered i a z il al zl) (first.covered i a z il al zl))
     y second.found)
 
@@ -111,7 +111,8 @@ one_point_most m vectors p fit x y first second = omega
     (arith, ints, most_le m vectors p fit x y first second, most_le m vectors p fit y x second first)
 
 -- ---- what a verdict says
-pub point_promise : (t : CellTable) (vectors : ℕ → ℕ → ℤ) (p : PointTable) → IsProper t → 0 < t.states → FitPoints t p → AreProperPoints p
+pub point_promise : (t : CellTable) (vectors : ℕ → ℕ → ℤ) (p : PointTable) → IsProper t → 0 < t.states → FitPoints t p
+    → IsProperPointTable p
     → (verdict : PointVerdict) → IsPointVerdict t vectors p verdict → MeetsPointPromise t vectors p verdict
 point_promise t vectors p proper some fit points Yes v =
     λ informed.
@@ -121,13 +122,13 @@ point_promise t vectors p proper some fit points (Exceeded i a amount) v = tt
 
 -- a yes, with informed vectors
 pub every_policy_at_points : (t : CellTable) (vectors : ℕ → ℕ → ℤ) (p : PointTable) → IsProper t → 0 < t.states → FitPoints t p
-    → AreProperPoints p → AreInformed t vectors → IsPointVerdict t vectors p Yes → PointsBoundEveryObservationPolicy t vectors p.points
+    → IsProperPointTable p → AreInformed t vectors → IsPointVerdict t vectors p Yes → PointsBoundEveryObservationPolicy t vectors p.points
 every_policy_at_points t vectors p proper some fit points informed is_yes =
     point_promise t vectors p proper some fit points Yes is_yes informed
 
 -- and with the number from the start
 module _ (m : Meaning) (vectors : ℕ → ℕ → ℤ) (p : PointTable) (most : ℤ) (limits : HasLimitedNumbers m) (proper : IsProper (table_of m))
-    (fit : FitPoints (table_of m) p) (points : AreProperPoints p)
+    (fit : FitPoints (table_of m) p) (points : IsProperPointTable p)
     (is_most : IsPointStartMost m vectors p most) (informed : AreInformed (table_of m) vectors)
     (is_yes : IsPointVerdict (table_of m) vectors p Yes) where
   pub point_certificate : HasPointCertificate m vectors p most

@@ -6,7 +6,7 @@ use Rattle.polcert_check.proofs.Sums.Ring.{linear, mul_le, ≤ℤ_trans, ≤ℤ_
 use Rattle.polcert_check.proofs.Sums.SumLaws.{sum_below_same, sum_below_le, sum_below_add, sum_below_scale, sum_over_times}
 use Rattle.polcert_check.proofs.Sums.RowTotals.{sum_of_pos}
 use Rattle.polcert_check.proofs.Horizons.Kept.{scale_suc}
-use Rattle.polcert_points.specs.Belief.{Belief, mass, sum_over_belief, belief_after}
+use Rattle.polcert_points.specs.Belief.{Belief, mass, sum_over_belief, updated_belief}
 use Rattle.polcert_points.specs.Points.{Points, point_worth, AreCharges, Cover, covered_worth, best_worth, Covers, AreBacked, IsBelowValues}
 use Rattle.polcert_points.specs.Points.{PointsBoundEveryObservationPolicy, IsAtMostAt, BoundsEveryObservationPolicyAt}
 use Rattle.polcert_optimum.proofs.Bounded.{policy_after, weights_all, one_step_more, no_step, total_parts}
@@ -79,28 +79,28 @@ module _ (t : CellTable) (vectors charges : ℕ → ℕ → ℤ) (points : Point
       let x : ℕ = step_scale t ^ k * one ^ k in
       let al : a < t.actions = of [] tt in
       let split : sum_over_belief t b (end_low policy (suc k)) ≡ pos x *ℤ (pos one *ℤ sum_over_belief t b (expected_reward t a))
-      +ℤ pos t.discount *ℤ total_below (λ z. sum_over_belief t (belief_after t b a z) (λ e. end_low (continued policy z) k e))
+      +ℤ pos t.discount *ℤ total_below (λ z. sum_over_belief t (updated_belief t b a z) (λ e. end_low (continued policy z) k e))
       t.observations =
       sum_below_same _ _ t.states (λ s sl. ap (λ (y : ℤ). pos (b s) *ℤ y) (one_more t p low policy of k s sl))
       ∙ belief_parts t b (pos x) (pos one) (pos t.discount) (expected_reward t a)
       (λ s. total_below (λ z. total_below (λ e. pos (step_weight t a s e z) *ℤ end_low (continued policy z) k e) t.states) t.observations)
       ∙ ap (λ (y : ℤ). pos x *ℤ (pos one *ℤ sum_over_belief t b (expected_reward t a)) +ℤ pos t.discount *ℤ y)
       (afters_are t b a (λ z e. end_low (continued policy z) k e)) in
-      let each : (z : ℕ) → z < t.observations → sum_over_belief t (belief_after t b a z) (λ e. end_low (continued policy z) k e) ≤ℤ
-      (pos x *ℤ best_worth t charges points (belief_after t b a z) (covers i a z)) =
+      let each : (z : ℕ) → z < t.observations → sum_over_belief t (updated_belief t b a z) (λ e. end_low (continued policy z) k e) ≤ℤ
+      (pos x *ℤ best_worth t charges points (updated_belief t b a z) (covers i a z)) =
       λ z zl. ≤ℤ_trans _ _ _
       (cover_le t charges points (policy (z ∷ [])) x (λ e. end_low (continued policy z) k e)
       (charge_le t vectors charges points charged (policy (z ∷ [])) x (λ e. end_low (continued policy z) k e)
       (of ((0, z) ∷ []) (some, zl, tt)) (λ e el. states_le k (continued policy z) (goes_on policy of e z el zl) e el)
       (λ j jl. points_le k (continued policy z) (goes_on policy of 0 z some zl) some j jl))
       (λ j jl. points_le k (continued policy z) (goes_on policy of 0 z some zl) some j jl)
-      (covers i a z) (belief_after t b a z) (are.cover i a z il al zl))
-      (mul_le x _ _ (greatest_le (λ next. covered_worth t charges points next (belief_after t b a z) (covers i a z)) t.actions
+      (covers i a z) (updated_belief t b a z) (are.cover i a z il al zl))
+      (mul_le x _ _ (greatest_le (λ next. covered_worth t charges points next (updated_belief t b a z) (covers i a z)) t.actions
       (policy (z ∷ [])) (of ((0, z) ∷ []) (some, zl, tt)))) in
-      let later_le : total_below (λ z. sum_over_belief t (belief_after t b a z) (λ e. end_low (continued policy z) k e)) t.observations ≤ℤ
-      (pos x *ℤ total_below (λ z. best_worth t charges points (belief_after t b a z) (covers i a z)) t.observations) =
+      let later_le : total_below (λ z. sum_over_belief t (updated_belief t b a z) (λ e. end_low (continued policy z) k e)) t.observations ≤ℤ
+      (pos x *ℤ total_below (λ z. best_worth t charges points (updated_belief t b a z) (covers i a z)) t.observations) =
       ≤ℤ_trans _ _ _ (sum_below_le _ _ t.observations each)
-      (≤ℤ_from_eq _ _ (sum_below_scale (pos x) (λ z. best_worth t charges points (belief_after t b a z) (covers i a z)) t.observations))
+      (≤ℤ_from_eq _ _ (sum_below_scale (pos x) (λ z. best_worth t charges points (updated_belief t b a z) (covers i a z)) t.observations))
       in
       rw (scale_suc (step_scale t) k (point_worth t points i a))
       (≤ℤ_trans _ _ _ (≤ℤ_from_eq _ _ split)

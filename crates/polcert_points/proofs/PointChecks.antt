@@ -2,7 +2,7 @@
 use Rattle.std.proofs.Common.{◌≡◌, ℕ, ◌<◌, ◌≤◌, ℤ, pos, ◌≤ℤ◌, [], ◌∷◌, Option, Some, None, refl, sym, ap, ◌∙◌, arith, ⊎_elim}
 use Rattle.std.proofs.Math.Nat.{mul-le-mul_right, le_trans}
 use Rattle.polcert_points.proofs.Common.{cases_lt, one, CellTable}
-use Rattle.polcert_points.specs.Belief.{Belief, belief_after}
+use Rattle.polcert_points.specs.Belief.{Belief, updated_belief}
 use Rattle.polcert_points.specs.Points.{Points, Cover, IsCover, Covers}
 use Rattle.std.proofs.lemmas.Int.{by_lt_z}
 use Rattle.polcert_check.proofs.Sums.Ring.{linear, mul_le}
@@ -16,9 +16,9 @@ is_cover t points b (Some j) cover known is = rw is.2 (known j refl, is.1.fits, 
 pub are_covers : (t : CellTable) (points : Points) (next : Next) (covers : Covers) → IsKnown t points next
     → AreCoversBy t points next covers
     → (i a z : ℕ) → i < points.count → a < t.actions → z < t.observations
-    → IsCover t points (belief_after t (points.belief i) a z) (covers i a z)
+    → IsCover t points (updated_belief t (points.belief i) a z) (covers i a z)
 are_covers t points next covers known are i a z il al zl =
-    is_cover t points (belief_after t (points.belief i) a z) (next i a z) (covers i a z) (λ j is. known i a z j il al zl is)
+    is_cover t points (updated_belief t (points.belief i) a z) (next i a z) (covers i a z) (λ j is. known i a z j il al zl is)
     (are i a z il al zl)
 
 -- ---- one number of times alone

@@ -6,11 +6,11 @@ use Rattle.polcert_policy.specs.Vectors.{PolicyVectors, value_of, AreProperVecto
 use Rattle.polcert_check.proofs.Sums.Ring.{linear, *ℤ_assoc, *ℤ_left_comm}
 use Rattle.polcert_optimum.specs.InformedCheck.{FitActions}
 use Rattle.polcert_optimum.proofs.Checking.Pairs.{vectors_small}
-use Rattle.polcert_points.specs.Belief.{sum_over_belief, belief_after}
-use Rattle.polcert_points.specs.Points.{Points, point_worth, Covers, best_worth, belief_backup, IsBacked}
+use Rattle.polcert_points.specs.Belief.{sum_over_belief, updated_belief}
+use Rattle.polcert_points.specs.Points.{Points, point_worth, Covers, best_worth, belief_backup, IsPointBacked}
 use Rattle.polcert_points.specs.PointRaise.{point_excess}
 use Rattle.polcert_points.specs.PointCheck.{IsRoundedUp}
-use Rattle.polcert_points.specs.PointTable.{PointTable, AreProperPoints, FitPoints, IsOneState, AreLeastCharges, charge_at}
+use Rattle.polcert_points.specs.PointTable.{PointTable, IsProperPointTable, FitPoints, IsOneState, AreLeastCharges, charge_at}
 use Rattle.polcert_points.specs.Steps.PointSums.{AreSmallCharges}
 use Rattle.polcert_points.specs.PointVerdict.{AreBackedBefore, IsVerdictWith, MeetsPointPromise}
 use Rattle.polcert_points.specs.declared.point_verdict.PointVerdict.{PointVerdict}
@@ -27,7 +27,7 @@ scaled u q x = *ℤ_left_comm (pos u) (pos q) x ∙ sym (*ℤ_assoc (pos q) (pos
 
 module _ (t : CellTable) (charges : ℕ → ℕ → ℤ) (points : Points) (covers : Covers) (i a : ℕ) where
   pub excess_is : (reward later worth : ℤ) (d : ℕ) → reward ≡ sum_over_belief t (points.belief i) (expected_reward t a)
-      → later ≡ total_below (λ z. best_worth t charges points (belief_after t (points.belief i) a z) (covers i a z)) t.observations
+      → later ≡ total_below (λ z. best_worth t charges points (updated_belief t (points.belief i) a z) (covers i a z)) t.observations
       → d ≡ t.discount → worth ≡ pos (step_scale t) *ℤ point_worth t points i a
       → (pos one *ℤ reward +ℤ pos d *ℤ later) -ℤ pos one *ℤ worth ≡ point_excess t charges points covers i a
   excess_is reward later worth d re le de we =
@@ -38,34 +38,38 @@ module _ (t : CellTable) (charges : ℕ → ℕ → ℤ) (points : Points) (cove
   from_excess x y h = omega (arith, linear, h)
 
   -- no excess, rounded up, above 0
-  pub backed_if : (x : ℤ) → IsRoundedUp (point_excess t charges points covers i a) x → x ≤ℤ pos 0 → IsBacked t charges points covers i a
+  pub backed_if : (x : ℤ) → IsRoundedUp (point_excess t charges points covers i a) x → x ≤ℤ pos 0
+      → IsPointBacked t charges points covers i a
   backed_if x is low = from_excess _ _ ((rounded_sign (point_excess t charges points covers i a) x is).0 low)
 
   -- all points before this one, and its actions before this one
-  pub all_before : ((j b : ℕ) → j < i → b < t.actions → IsBacked t charges points covers j b)
-      → ((b : ℕ) → b < a → IsBacked t charges points covers i b) → AreBackedBefore t charges points covers i a
+  pub all_before : ((j b : ℕ) → j < i → b < t.actions → IsPointBacked t charges points covers j b)
+      → ((b : ℕ) → b < a → IsPointBacked t charges points covers i b) → AreBackedBefore t charges points covers i a
   all_before earlier here j b jl bl before =
-      ⊎_elim (λ (l : j < i). earlier j b l bl) (λ (h : (j ≡ i) × (b < a)). subst (λ (n : ℕ). IsBacked t charges points covers n b) (sym h.0)
+      ⊎_elim (λ (l : j < i). earlier j b l bl) (λ (h : (j ≡ i) × (b < a)). subst (λ (n : ℕ). IsPointBacked t charges points covers n b)
+      (sym h.0)
       (here b h.1)) before
 
   -- one action more
-  pub action_more : ((b : ℕ) → b < a → IsBacked t charges points covers i b) → IsBacked t charges points covers i a → (b : ℕ) → b < a + 1
-      → IsBacked t charges points covers i b
+  pub action_more : ((b : ℕ) → b < a → IsPointBacked t charges points covers i b) → IsPointBacked t charges points covers i a → (b : ℕ)
+      → b < a + 1
+      → IsPointBacked t charges points covers i b
   action_more before here b l = ⊎_elim (λ (k : b < a). before b k)
-      (λ (k : a ≤ b). let e : a ≡ b = omega (arith, l, k) in subst (λ (n : ℕ). IsBacked t charges points covers i n) e here) (cases_lt b a)
+      (λ (k : a ≤ b). let e : a ≡ b = omega (arith, l, k) in subst (λ (n : ℕ). IsPointBacked t charges points covers i n) e here)
+      (cases_lt b a)
 
 -- one point more
 pub point_more : (t : CellTable) (charges : ℕ → ℕ → ℤ) (points : Points) (covers : Covers) (i : ℕ)
-    → ((j b : ℕ) → j < i → b < t.actions → IsBacked t charges points covers j b)
-    → ((b : ℕ) → b < t.actions → IsBacked t charges points covers i b)
-    → (j b : ℕ) → j < i + 1 → b < t.actions → IsBacked t charges points covers j b
+    → ((j b : ℕ) → j < i → b < t.actions → IsPointBacked t charges points covers j b)
+    → ((b : ℕ) → b < t.actions → IsPointBacked t charges points covers i b)
+    → (j b : ℕ) → j < i + 1 → b < t.actions → IsPointBacked t charges points covers j b
 point_more t charges points covers i before here j b l bl =
     ⊎_elim (λ (k : j < i). before j b k bl) (λ (k : i ≤ j). let e : i ≡ j = omega (arith, l, k) in
-    subst (λ (n : ℕ). IsBacked t charges points covers n b) e (here b bl)) (cases_lt j i)
+    subst (λ (n : ℕ). IsPointBacked t charges points covers n b) e (here b bl)) (cases_lt j i)
 
 -- ---- charges are small
 pub small_charges : (t : CellTable) (p : PointTable) (v : PolicyVectors) (charges : List ℤ) → FitActions t v → AreProperVectors v
-    → FitPoints t p → AreProperPoints p → AreLeastCharges p (value_of v) (charge_at p charges) → AreSmallCharges p charges
+    → FitPoints t p → IsProperPointTable p → AreLeastCharges p (value_of v) (charge_at p charges) → AreSmallCharges p charges
 small_charges t p v charges fit proper fits points are a s al sl =
     ⊎_elim (λ (e : charge_at p charges a s ≡ value_of v a s). rw e
     (vectors_small t v fit proper a s (omega (arith, al, fits.actions)) (omega (arith, sl, fits.states))))
@@ -75,7 +79,7 @@ small_charges t p v charges fit proper fits points are a s al sl =
 
 -- ---- what a yes promises
 pub promise_of : (t : CellTable) (m : IsProper t) (limits : IsWithinLimits t) (vectors charges : ℕ → ℕ → ℤ) (p : PointTable) → FitPoints t p
-    → AreProperPoints p → AreLeastCharges p vectors charges
+    → IsProperPointTable p → AreLeastCharges p vectors charges
     → (verdict : PointVerdict) → IsVerdictWith t charges p.points (covers_of t p) verdict → MeetsPointPromise t vectors p verdict
 promise_of t m limits vectors charges p fit proper least Yes found =
     λ informed.

@@ -5,7 +5,7 @@ use Rattle.polcert_points.proofs.Common.{greatest_below, expected_reward}
 use Rattle.polcert_check.proofs.Sums.Ring.{linear, *ℤ-+ℤ, one-*ℤ}
 use Rattle.polcert_check.proofs.Sums.SumLaws.{sum_below_same, sum_below_add, sum_below_scale}
 use Rattle.polcert_check.proofs.Horizons.Kept.{step_weights_total}
-use Rattle.polcert_points.specs.Belief.{Belief, mass, sum_over_belief, belief_after}
+use Rattle.polcert_points.specs.Belief.{Belief, mass, sum_over_belief, updated_belief}
 use Rattle.polcert_points.specs.Points.{Points, Cover, IsCover, left_of, covered_worth, best_worth, Covers}
 use Rattle.polcert_points.specs.PointRaise.{point_excess, raised_table, raised_points, taken_by_raise}
 use Rattle.polcert_optimum.proofs.Informed.{swapped}
@@ -25,10 +25,10 @@ mass_taken t b point n fits =
 
 -- the masses after all observations
 pub masses_after : (t : CellTable) → IsProper t → (b : Belief) (a : ℕ) → a < t.actions
-    → total_below (λ z. pos (mass t (belief_after t b a z))) t.observations ≡ pos (mass t b * step_scale t)
+    → total_below (λ z. pos (mass t (updated_belief t b a z))) t.observations ≡ pos (mass t b * step_scale t)
 masses_after t p b a al =
-    sum_below_same _ (λ z. sum_over_belief t (belief_after t b a z) (λ e. pos 1)) t.observations
-    (λ z _. sym (ones t (belief_after t b a z)))
+    sum_below_same _ (λ z. sum_over_belief t (updated_belief t b a z) (λ e. pos 1)) t.observations
+    (λ z _. sym (ones t (updated_belief t b a z)))
     ∙ sym (afters_are t b a (λ z e. pos 1))
     ∙ sum_below_same _ (λ s. pos (b s) *ℤ pos (step_scale t)) t.states (λ s sl. ap (λ (x : ℤ). pos (b s) *ℤ x)
     (sym (swapped (λ e z. pos (step_weight t a s e z) *ℤ pos 1) t.observations t.states)
@@ -108,21 +108,21 @@ excess_algebra g u q n by reward best value later l is =
 
 pub excess_raised : (t : CellTable) → IsProper t → t.discount ≤ one → (charges : ℕ → ℕ → ℤ) (points : Points) (covers : Covers) (by i a : ℕ)
     → a < t.actions
-    → ((z : ℕ) → z < t.observations → IsCover t points (belief_after t (points.belief i) a z) (covers i a z))
+    → ((z : ℕ) → z < t.observations → IsCover t points (updated_belief t (points.belief i) a z) (covers i a z))
     → point_excess t (raised_table charges by) (raised_points points by) covers i a
     ≡ point_excess t charges points covers i a -ℤ pos (taken_by_raise t points i by)
 excess_raised t p less charges points covers by i a al are =
     let b : Belief = points.belief i in
-    let later : total_below (λ z. best_worth t (raised_table charges by) (raised_points points by) (belief_after t b a z) (covers i a z))
-    t.observations ≡ total_below (λ z. best_worth t charges points (belief_after t b a z) (covers i a z)) t.observations
+    let later : total_below (λ z. best_worth t (raised_table charges by) (raised_points points by) (updated_belief t b a z) (covers i a z))
+    t.observations ≡ total_below (λ z. best_worth t charges points (updated_belief t b a z) (covers i a z)) t.observations
     +ℤ pos (by * (mass t b * step_scale t)) =
-    sum_below_same _ (λ z. best_worth t charges points (belief_after t b a z) (covers i a z) +ℤ pos by
-    *ℤ pos (mass t (belief_after t b a z))) t.observations
-    (λ z zl. best_raised t charges points by (covers i a z) (belief_after t b a z) (omega (arith, al)) (are z zl))
-    ∙ sum_below_add (λ z. best_worth t charges points (belief_after t b a z) (covers i a z))
-    (λ z. pos by *ℤ pos (mass t (belief_after t b a z))) t.observations
-    ∙ ap (λ (x : ℤ). total_below (λ z. best_worth t charges points (belief_after t b a z) (covers i a z)) t.observations +ℤ x)
-    (sum_below_scale (pos by) (λ z. pos (mass t (belief_after t b a z))) t.observations
+    sum_below_same _ (λ z. best_worth t charges points (updated_belief t b a z) (covers i a z) +ℤ pos by
+    *ℤ pos (mass t (updated_belief t b a z))) t.observations
+    (λ z zl. best_raised t charges points by (covers i a z) (updated_belief t b a z) (omega (arith, al)) (are z zl))
+    ∙ sum_below_add (λ z. best_worth t charges points (updated_belief t b a z) (covers i a z))
+    (λ z. pos by *ℤ pos (mass t (updated_belief t b a z))) t.observations
+    ∙ ap (λ (x : ℤ). total_below (λ z. best_worth t charges points (updated_belief t b a z) (covers i a z)) t.observations +ℤ x)
+    (sum_below_scale (pos by) (λ z. pos (mass t (updated_belief t b a z))) t.observations
     ∙ ap (λ (x : ℤ). pos by *ℤ x) (masses_after t p b a al)) in
     excess_algebra t.discount one (step_scale t) (mass t b) by (pos one *ℤ sum_over_belief t b (expected_reward t a)) _ (points.value i a) _
     less later

@@ -31,7 +31,7 @@ module _ (t : CellTable) (m : IsProper t) (limits : IsWithinLimits t) where
       rw same (mul-le-mul_right 10000000000000 small)
 
   pub factored_small : (a s : ℕ) → a < t.actions → s < t.states
-      → unsigned_abs (factored.expected_reward t a s) ≤ 50000000000000000000000000000000
+      → unsigned_abs (factored.factored_reward t a s) ≤ 50000000000000000000000000000000
   factored_small a s al sl = le_trans (expected_reward_le t m limits a s al sl) (scale_times t.t_scale t.o_scale (scale_small t limits))
 
   pub reward_small : (a s : ℕ) → a < t.actions → s < t.states → unsigned_abs (expected_reward t a s) ≤ 50000000000000000000000000000000

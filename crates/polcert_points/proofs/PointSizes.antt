@@ -6,7 +6,7 @@ use Rattle.polcert_cells.specs.Tables.{IsWithinLimits}
 use Rattle.polcert_check.proofs.Sums.Ring.{linear}
 use Rattle.polcert_check.proofs.Sums.Bounds.{abs-+ℤ, abs-*ℤ_le, abs_part_le}
 use Rattle.polcert_optimum.proofs.Greatest.{greatest_reached}
-use Rattle.polcert_points.specs.Belief.{Belief, mass, belief_after}
+use Rattle.polcert_points.specs.Belief.{Belief, mass, updated_belief}
 use Rattle.polcert_points.specs.Points.{Points, point_worth, Cover, IsCover, left_of, covered_worth, best_worth}
 use Rattle.polcert_points.proofs.Charging.{charge_small}
 use Rattle.polcert_points.proofs.PointRaises.{mass_taken, masses_after}
@@ -42,12 +42,13 @@ module _ (t : CellTable) (charges : ℕ → ℕ → ℤ) (points : Points) (larg
 
   -- and so are its parts over the observations, however many are added
   pub later_small : IsProper t → (b : Belief) (a : ℕ) → a < t.actions → (covers : ℕ → Cover)
-      → ((z : ℕ) → z < t.observations → IsCover t points (belief_after t b a z) (covers z)) → (k : ℕ) → k ≤ t.observations
-      → unsigned_abs (total_below (λ z. best_worth t charges points (belief_after t b a z) (covers z)) k) ≤ mass t b * step_scale t * large
+      → ((z : ℕ) → z < t.observations → IsCover t points (updated_belief t b a z) (covers z)) → (k : ℕ) → k ≤ t.observations
+      → unsigned_abs (total_below (λ z. best_worth t charges points (updated_belief t b a z) (covers z)) k) ≤ mass t b * step_scale t
+      * large
   later_small p b a al covers are k kl =
-      abs_part_le (λ z. best_worth t charges points (belief_after t b a z) (covers z)) (λ z. mass t (belief_after t b a z)) large k
+      abs_part_le (λ z. best_worth t charges points (updated_belief t b a z) (covers z)) (λ z. mass t (updated_belief t b a z)) large k
       t.observations (mass t b * step_scale t) (masses_after t p b a al) kl
-      (λ z zl. best_small (covers z) (belief_after t b a z) (omega (arith, al)) (are z zl))
+      (λ z zl. best_small (covers z) (updated_belief t b a z) (omega (arith, al)) (are z zl))
 
 -- in figures: a mass of at most a million, and values within ten million
 scale_figures : (s z ts os : ℕ) → s * z ≤ 5000000 → ts ≡ 1000000 * s → os ≡ 1000000 * z → ts * os ≤ 5000000000000000000

@@ -14,7 +14,7 @@ use Rattle.polcert_check.proofs.Horizons.StartSums.{floor_is, floor_small}
 use Rattle.polcert_points.specs.Belief.{Belief, mass}
 use Rattle.polcert_points.specs.Points.{Points, point_worth, Cover, left_of, covered_worth, best_worth}
 use Rattle.polcert_points.specs.PointCheck.{IsCoverBy}
-use Rattle.polcert_points.specs.PointTable.{PointTable, AreProperPoints, FitPoints, IsOneState, IsLeastCharge, AreLeastCharges}
+use Rattle.polcert_points.specs.PointTable.{PointTable, IsProperPointTable, FitPoints, IsOneState, IsLeastCharge, AreLeastCharges}
 use Rattle.polcert_points.specs.Steps.PointSums.{IsLeastWorth}
 use Rattle.polcert_points.specs.PointVerdict.{IsPointVerdict}
 use Rattle.polcert_points.specs.PointStartMost.{IsStartMostBy, HasPointCertificate, scaled_start, start_times}
@@ -127,7 +127,7 @@ module _ (m : Meaning) (limits : HasLimitedNumbers m) where
   pub start_few : (b : Belief) → ((s : ℕ) → s < states_of m → b s ≡ scaled_start m s) → mass (table_of m) b ≤ 5000000000000000000000000
   start_few b same = rw (same_sum b (scaled_start m) (states_of m) same ∙ start_is) (omega (arith, limits.start_most))
 
-  module _ (p : PointTable) (fit : FitPoints (table_of m) p) (proper : AreProperPoints p) (charges : List ℤ)
+  module _ (p : PointTable) (fit : FitPoints (table_of m) p) (proper : IsProperPointTable p) (charges : List ℤ)
       (small : AreSmallCharges p charges) (x : ℤ) (least : IsLeastWorth (table_of m) (charge_at p charges) p.points (scaled_start m)
       p.points.count x) where
     pub least_small : unsigned_abs x ≤ start_times * start_total m * 10000000000000
@@ -200,7 +200,7 @@ best_same : (t : CellTable) (c d : ℕ → ℕ → ℤ) (points : Points) (cover
 best_same t c d points cover b same = greatest_same _ _ t.actions (λ a al. charged_same t c d points a (λ s sl. same a s al sl) cover b)
 
 pub certificate_of : (m : Meaning) (limits : HasLimitedNumbers m) (vectors charges : ℕ → ℕ → ℤ) (p : PointTable)
-    (fit : FitPoints (table_of m) p) (proper : AreProperPoints p) (most : ℤ) → AreLeastCharges p vectors charges
+    (fit : FitPoints (table_of m) p) (proper : IsProperPointTable p) (most : ℤ) → AreLeastCharges p vectors charges
     → IsStartMostBy m charges p.points most
     → AreInformed (table_of m) vectors → IsPointVerdict (table_of m) vectors p Yes → HasPointCertificate m vectors p most
 certificate_of m limits vectors charges p fit proper most charged is informed v =

@@ -8,7 +8,7 @@ use Rattle.polcert_policy.specs.Points as sets
 use Rattle.polcert_policy.specs.Vectors.{IsInRange}
 use Rattle.polcert_points_form.specs.RaisedSet.{raised_set, HasAllValues, CanRaisePoints}
 use Rattle.polcert_points_form.proofs.RaisedSets.{value_raised, can_raise_less}
-use Rattle.polcert_points.specs.PointTable.{AreProperPoints, FitPoints, table_of_set}
+use Rattle.polcert_points.specs.PointTable.{IsProperPointTable, FitPoints, table_of_set}
 use Rattle.polcert_points.specs.PointVerdict.{IsPointVerdict}
 use Rattle.polcert_points.specs.RaisedPoints.{PassRaised}
 use Rattle.polcert_points.specs.declared.point_verdict.PointVerdict.{PointVerdict}
@@ -26,7 +26,7 @@ raised_more : (h x y : ℤ) (d by : ℕ) → d ≤ by → x ≡ h +ℤ pos d →
 raised_more h x y d by l is_x is_y = omega (arith, ints, l, is_x, is_y)
 
 module _ (p : PointValues) (all : HasAllValues p) (proper : sets.AreProperPoints p) where
-  pub proper_raised : (by : ℕ) → CanRaisePoints p by → AreProperPoints (table_of_set (raised_set p by))
+  pub proper_raised : (by : ℕ) → CanRaisePoints p by → IsProperPointTable (table_of_set (raised_set p by))
   proper_raised by can = record {
     some = λ i l. (proper.mass i l).some;
     few = λ i l. (proper.mass i l).few;

@@ -4,12 +4,12 @@ use Rattle.std.proofs.Common.{◌∷◌, refl, sym, ap, subst, arith}
 use Rattle.polcert_points.proofs.Common.{int_max, ints, clamps, CellTable, IsProper, one, step_scale, greatest_below, expected_reward}
 use Rattle.polcert_check.proofs.Sums.Ring.{linear, mul_le, ≤ℤ_from_eq}
 use Rattle.polcert_check.proofs.Sums.SumLaws.{sum_below_le}
-use Rattle.polcert_points.specs.Belief.{Belief, mass, sum_over_belief, belief_after}
+use Rattle.polcert_points.specs.Belief.{Belief, mass, sum_over_belief, updated_belief}
 use Rattle.polcert_points.specs.Points.{Points, point_worth, Cover, IsCover, left_of, covered_worth, best_worth, Covers, belief_backup}
-use Rattle.polcert_points.specs.Points.{IsBacked}
+use Rattle.polcert_points.specs.Points.{IsPointBacked}
 use Rattle.polcert_points.specs.PointRaise.{point_excess, raised_table, raised_points, taken_by_raise}
 use Rattle.polcert_points.specs.PointCheck.{IsCoverBy, AreCoversBy}
-use Rattle.polcert_points.specs.PointTable.{PointTable, AreProperPoints, FitPoints, IsOneState, IsLeastCharge, AreLeastCharges}
+use Rattle.polcert_points.specs.PointTable.{PointTable, IsProperPointTable, FitPoints, IsOneState, IsLeastCharge, AreLeastCharges}
 use Rattle.polcert_points.specs.PointVerdict.{IsVerdictWith, IsPointVerdict}
 use Rattle.polcert_points.specs.declared.point_verdict.PointVerdict.{PointVerdict}
 use Rattle.polcert_points.specs.declared.point_verdict.PointVerdict.TheVariants.{Yes, Exceeded}
@@ -60,15 +60,15 @@ module _ (t : CellTable) (points : Points) (value : ℕ → ℕ → ℤ) (by : �
       (λ a. covered_worth t (raised_table c by) (raised_points points by) a b cover) t.actions (λ a al. covered_le a al cover b is)
 
   module _ (m : IsProper t) (less : t.discount ≤ one) (covers : Covers) (i a : ℕ) (il : i < points.count) (al : a < t.actions)
-      (are : (z : ℕ) → z < t.observations → IsCover t points (belief_after t (points.belief i) a z) (covers i a z)) where
+      (are : (z : ℕ) → z < t.observations → IsCover t points (updated_belief t (points.belief i) a z) (covers i a z)) where
     backup_le : belief_backup t d (with_values points value) (covers i a) a (points.belief i) ≤ℤ belief_backup t (raised_table c by)
         (raised_points points by) (covers i a) a (points.belief i)
     backup_le =
         sum_le _ _ _ _ (≤ℤ_from_eq (pos one *ℤ sum_over_belief t (points.belief i) (expected_reward t a)) _ refl)
         (mul_le t.discount _ _ (sum_below_le _ _ t.observations
-        (λ z zl. best_le (covers i a z) (belief_after t (points.belief i) a z) (are z zl))))
+        (λ z zl. best_le (covers i a z) (updated_belief t (points.belief i) a z) (are z zl))))
 
-    pub backed_raised : IsBacked t c points covers i a → IsBacked t d (with_values points value) covers i a
+    pub backed_raised : IsPointBacked t c points covers i a → IsPointBacked t d (with_values points value) covers i a
     backed_raised backed =
         let worth : point_worth t (with_values points value) i a ≡ point_worth t (raised_points points by) i a =
         ap (λ (x : ℤ). pos (mass t (points.belief i)) *ℤ x) (raised i a il al) in
@@ -114,7 +114,7 @@ same_by t points value b (Some j) cover by = by
 
 -- ---- a yes stays
 module _ (t : CellTable) (m : IsProper t) (less : t.discount ≤ one) (vectors : ℕ → ℕ → ℤ) (p : PointTable) (fit : FitPoints t p)
-    (proper : AreProperPoints p) (value : ℕ → ℕ → ℤ) (by : ℕ)
+    (proper : IsProperPointTable p) (value : ℕ → ℕ → ℤ) (by : ℕ)
     (raised : (i a : ℕ) → i < p.points.count → a < p.actions → value i a ≡ p.points.value i a +ℤ pos by) where
   raised_here : (i a : ℕ) → i < p.points.count → a < t.actions → value i a ≡ p.points.value i a +ℤ pos by
   raised_here i a il al = raised i a il (omega (arith, al, fit.actions))
@@ -124,12 +124,12 @@ module _ (t : CellTable) (m : IsProper t) (less : t.discount ≤ one) (vectors :
   not_exceeded i a amount passes exceeded =
       let (il, al, before, rounded, above) = exceeded.found in
       let covered : AreCoversBy t p.points p.next exceeded.covers =
-      λ j b z jl bl zl. same_by t p.points value (belief_after t (p.points.belief j) b z) (p.next j b z) (exceeded.covers j b z)
+      λ j b z jl bl zl. same_by t p.points value (updated_belief t (p.points.belief j) b z) (p.next j b z) (exceeded.covers j b z)
       (exceeded.covered j b z jl bl zl) in
       let are = are_covers t p.points p.next exceeded.covers (known t p fit proper) covered in
       let backed : IsVerdictWith t passes.charges p.points exceeded.covers Yes =
       found_there t t (itself t) p.points passes.charges passes.charges (λ _ _ _ _. refl) passes.covers exceeded.covers
-      (λ j b z jl bl zl. one_cover t p.points (belief_after t (p.points.belief j) b z) (p.next j b z) (passes.covers j b z)
+      (λ j b z jl bl zl. one_cover t p.points (updated_belief t (p.points.belief j) b z) (p.next j b z) (passes.covers j b z)
       (exceeded.covers j b z) (passes.covered j b z jl bl zl) (covered j b z jl bl zl)) Yes passes.found in
       let charged : (b s : ℕ) → b < t.actions → s < t.states → exceeded.charges b s ≤ℤ (passes.charges b s +ℤ pos by) =
       λ b s bl sl. charges_raised p value by vectors passes.charges exceeded.charges raised passes.charged exceeded.charged b s

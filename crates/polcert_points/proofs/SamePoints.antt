@@ -9,8 +9,8 @@ use Rattle.polcert_cells.specs.declared.elements.StartWeights.{StartWeights}
 use Rattle.polcert_check.proofs.Agreements.SameModels.{same_cells}
 use Rattle.polcert_check.proofs.Sums.Ring.{linear}
 use Rattle.polcert_check.proofs.Sums.SumLaws.{sum_below_same}
-use Rattle.polcert_points.specs.Belief.{Belief, sum_over_belief, belief_after}
-use Rattle.polcert_points.specs.Points.{Points, point_worth, Cover, Covers, left_of, covered_worth, best_worth, IsBacked}
+use Rattle.polcert_points.specs.Belief.{Belief, sum_over_belief, updated_belief}
+use Rattle.polcert_points.specs.Points.{Points, point_worth, Cover, Covers, left_of, covered_worth, best_worth, IsPointBacked}
 use Rattle.polcert_points.specs.PointRaise.{point_excess}
 use Rattle.polcert_points.specs.PointCheck.{IsMostTimes, IsCoverBy, Next, AreCoversBy, IsRoundedUp}
 use Rattle.polcert_points.specs.PointTable.{PointTable}
@@ -34,7 +34,8 @@ below_zero x y h = omega (arith, linear, h)
 from_below_zero : (x y : ℤ) → (x -ℤ y) ≤ℤ pos 0 → x ≤ℤ y
 from_below_zero x y h = omega (arith, linear, h)
 
-pub no_excess : (t : CellTable) (charges : ℕ → ℕ → ℤ) (points : Points) (covers : Covers) (i a : ℕ) → IsBacked t charges points covers i a
+pub no_excess : (t : CellTable) (charges : ℕ → ℕ → ℤ) (points : Points) (covers : Covers) (i a : ℕ)
+    → IsPointBacked t charges points covers i a
     → point_excess t charges points covers i a ≤ℤ pos 0
 no_excess t charges points covers i a h = below_zero _ _ h
 
@@ -53,7 +54,7 @@ module _ (t u : CellTable) (same : HasSameCells t u) where
       ∙ ap (λ (n : ℕ). total_below (λ s. pos (b s) *ℤ g s) n) same.states
 
   after_same : (b : Belief) (a z e : ℕ) → a < t.actions → z < t.observations → e < t.states
-      → belief_after t b a z e ≡ belief_after u b a z e
+      → updated_belief t b a z e ≡ updated_belief u b a z e
   after_same b a z e al zl el =
       same_sum _ (λ s. b s * step_weight u a s e z) t.states (λ s sl. ap (λ (w : ℕ). b s * w) (weight_same a s e z al sl el zl))
       ∙ ap (λ (n : ℕ). sum_below (λ s. b s * step_weight u a s e z) n) same.states
@@ -81,8 +82,8 @@ module _ (t u : CellTable) (same : HasSameCells t u) where
 
   pub covers_there : (points : Points) (next : Next) (covers : Covers) → AreCoversBy t points next covers → AreCoversBy u points next covers
   covers_there points next covers are i a z il al zl =
-      let before : Belief = belief_after t (points.belief i) a z in
-      let later : Belief = belief_after u (points.belief i) a z in
+      let before : Belief = updated_belief t (points.belief i) a z in
+      let later : Belief = updated_belief u (points.belief i) a z in
       cover_there points later (next i a z) (covers i a z)
       (same_cover t points before later (next i a z) (covers i a z)
       (λ e el. after_same (points.belief i) a z e (action_back a al) (observation_back z zl) el)
@@ -104,15 +105,15 @@ module _ (t u : CellTable) (same : HasSameCells t u) where
     -- ---- and with covers that are the same in range
     module _ (k l : Covers) (covers : (i a z : ℕ) → i < points.count → a < t.actions → z < t.observations → k i a z ≡ l i a z) where
       later_same : (i a : ℕ) → i < points.count → a < t.actions
-          → total_below (λ z. best_worth t c points (belief_after t (points.belief i) a z) (k i a z)) t.observations
-          ≡ total_below (λ z. best_worth u d points (belief_after u (points.belief i) a z) (l i a z)) u.observations
+          → total_below (λ z. best_worth t c points (updated_belief t (points.belief i) a z) (k i a z)) t.observations
+          ≡ total_below (λ z. best_worth u d points (updated_belief u (points.belief i) a z) (l i a z)) u.observations
       later_same i a il al =
           let b : Belief = points.belief i in
-          sum_below_same _ (λ z. best_worth u d points (belief_after u b a z) (l i a z)) t.observations (λ z zl.
-          ap (best_worth t c points (belief_after t b a z)) (covers i a z il al zl)
-          ∙ same_best t c points (l i a z) (belief_after t b a z) (belief_after u b a z) (λ e el. after_same b a z e al zl el)
-          ∙ best_there (l i a z) (belief_after u b a z))
-          ∙ ap (λ (n : ℕ). total_below (λ z. best_worth u d points (belief_after u b a z) (l i a z)) n) same.observations
+          sum_below_same _ (λ z. best_worth u d points (updated_belief u b a z) (l i a z)) t.observations (λ z zl.
+          ap (best_worth t c points (updated_belief t b a z)) (covers i a z il al zl)
+          ∙ same_best t c points (l i a z) (updated_belief t b a z) (updated_belief u b a z) (λ e el. after_same b a z e al zl el)
+          ∙ best_there (l i a z) (updated_belief u b a z))
+          ∙ ap (λ (n : ℕ). total_below (λ z. best_worth u d points (updated_belief u b a z) (l i a z)) n) same.observations
 
       pub excess_there : (i a : ℕ) → i < points.count → a < t.actions → point_excess t c points k i a ≡ point_excess u d points l i a
       excess_there i a il al =
@@ -122,7 +123,7 @@ module _ (t u : CellTable) (same : HasSameCells t u) where
           λ j. (pos one *ℤ rewards j +ℤ pos (same.discount j) *ℤ later_same i a il al j) -ℤ pos (same.t_scale j * same.o_scale j * one)
           *ℤ point_same points i a j
 
-      backed_there : (i a : ℕ) → i < points.count → a < t.actions → IsBacked t c points k i a → IsBacked u d points l i a
+      backed_there : (i a : ℕ) → i < points.count → a < t.actions → IsPointBacked t c points k i a → IsPointBacked u d points l i a
       backed_there i a il al h = from_below_zero _ _ (subst (λ (x : ℤ). x ≤ℤ pos 0) (excess_there i a il al) (no_excess t c points k i a h))
 
       pub found_there : (verdict : PointVerdict) → IsVerdictWith t c points k verdict → IsVerdictWith u d points l verdict

@@ -12,11 +12,11 @@ use Rattle.polcert_check.proofs.Walking.Earning.{expected_reward_le}
 use Rattle.polcert_optimum.specs.InformedCheck.{FitActions}
 use Rattle.polcert_optimum.proofs.Checking.Amounts.{reward_is}
 use Rattle.polcert_optimum.proofs.Checking.Pairs.{vectors_small}
-use Rattle.polcert_points.specs.Belief.{Belief, mass, sum_over_belief, belief_after}
+use Rattle.polcert_points.specs.Belief.{Belief, mass, sum_over_belief, updated_belief}
 use Rattle.polcert_points.specs.Points.{Cover, IsCover, point_worth, best_worth}
 use Rattle.polcert_points.specs.PointRaise.{point_excess}
 use Rattle.polcert_points.specs.PointCheck.{IsRoundedUp}
-use Rattle.polcert_points.specs.PointTable.{PointTable, AreProperPoints, FitPoints, IsOneState, AreLeastCharges}
+use Rattle.polcert_points.specs.PointTable.{PointTable, IsProperPointTable, FitPoints, IsOneState, AreLeastCharges}
 use Rattle.polcert_points.specs.PointVerdict.{IsPointVerdict}
 use Rattle.polcert_points.specs.declared.point_verdict.PointVerdict.TheVariants.{Exceeded}
 use Rattle.polcert_points.proofs.Charging.{charge_small}
@@ -53,7 +53,7 @@ as_scale m scale k small = omega (arith, small)
 
 -- ---- the parts
 module _ (t : CellTable) (m : IsProper t) (limits : IsWithinLimits t) (v : PolicyVectors) (fit_v : FitActions t v)
-    (proper_v : AreProperVectors v) (p : PointTable) (fit : FitPoints t p) (proper : AreProperPoints p) where
+    (proper_v : AreProperVectors v) (p : PointTable) (fit : FitPoints t p) (proper : IsProperPointTable p) where
   charges_small : (charges : ℕ → ℕ → ℤ) → AreLeastCharges p (value_of v) charges → (a s : ℕ) → a < t.actions → s < t.states
       → unsigned_abs (charges a s) ≤ largest
   charges_small charges are a s al sl =
@@ -95,13 +95,13 @@ module _ (t : CellTable) (m : IsProper t) (limits : IsWithinLimits t) (v : Polic
       let (il, al, before, rounded, above) = h.found in
       let b : Belief = p.points.belief i in
       let covers = are_covers t p.points p.next h.covers (known t p fit proper) h.covered in
-      let later : unsigned_abs (total_below (λ z. best_worth t h.charges p.points (belief_after t b a z) (h.covers i a z)) t.observations)
+      let later : unsigned_abs (total_below (λ z. best_worth t h.charges p.points (updated_belief t b a z) (h.covers i a z)) t.observations)
       ≤ mass t b * step_scale t * largest =
       later_small t h.charges p.points largest (charges_small h.charges h.charged) values_small m b a al (h.covers i a)
       (λ z zl. covers i a z il al zl) t.observations (omega arith) in
       as_scale (mass t b) (step_scale t) (unsigned_abs amount)
       (rounded_small (point_excess t h.charges p.points h.covers i a) amount (mass t b * step_scale t * largest) rounded above
       (parts_small (sum_over_belief t b (expected_reward t a))
-      (total_below (λ z. best_worth t h.charges p.points (belief_after t b a z) (h.covers i a z)) t.observations)
+      (total_below (λ z. best_worth t h.charges p.points (updated_belief t b a z) (h.covers i a z)) t.observations)
       (pos (step_scale t * one) *ℤ point_worth t p.points i a) t.discount (mass t b * step_scale t * largest)
       limits.discount (reward_part b a al) later (worth_part i a il al)))

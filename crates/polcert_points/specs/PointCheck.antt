@@ -2,7 +2,7 @@
 use Rattle.std.specs.Prelude.{◌≡◌, ℕ, suc, ◌*◌, ◌<◌, ◌≤◌, ℤ, pos, ◌+ℤ◌, ◌*ℤ◌, ◌≤ℤ◌, ◌<ℤ◌, [], ◌∷◌, Option, Some, None}
 use Rattle.polcert_cells.specs.Tables.{CellTable}
 use Rattle.polcert_check.specs.Horizon.{one}
-use Rattle.polcert_points.specs.Belief.{Belief, belief_after}
+use Rattle.polcert_points.specs.Belief.{Belief, updated_belief}
 use Rattle.polcert_points.specs.Points.{Points, Cover, Covers}
 
 -- so often, and no more, can the point be taken out of the belief
@@ -25,7 +25,7 @@ IsKnown t points next = (i a z j : ℕ) → i < points.count → a < t.actions �
 
 -- the covers that the file means
 abbrev pub AreCoversBy : CellTable → Points → Next → Covers → Type 0
-AreCoversBy t points next covers = (i a z : ℕ) → i < points.count → a < t.actions → z < t.observations → IsCoverBy t points (belief_after t (points.belief i) a z) (next i a z) (covers i a z)
+AreCoversBy t points next covers = (i a z : ℕ) → i < points.count → a < t.actions → z < t.observations → IsCoverBy t points (updated_belief t (points.belief i) a z) (next i a z) (covers i a z)
 
 -- x is y / one, rounded up
 abbrev pub IsRoundedUp : ℤ → ℤ → Type 0

@@ -3,7 +3,7 @@ use Rattle.std.specs.Prelude.{◌≡◌, ◌⊎◌, ℕ, ◌+◌, ◌*◌, ◌<�
 use Rattle.polcert_text.specs.Numbers.{largest}
 use Rattle.polcert_cells.specs.Meaning.{sum_below}
 use Rattle.polcert_cells.specs.Tables.{CellTable}
-use Rattle.polcert_policy.specs.Points.{PointValues, point_count, weight_of, value_at, named_at}
+use Rattle.polcert_policy.specs.Points.{PointValues, point_count, point_weight, value_at, named_at}
 use Rattle.polcert_points.specs.Belief.{Belief}
 use Rattle.polcert_points.specs.Points.{Points}
 use Rattle.polcert_points.specs.PointCheck.{Next}
@@ -18,7 +18,7 @@ pub record PointTable : Type 0 where
   pub next : Next
 
 -- Weights are in millionths, and so are values, which lie within their limit; each named point is one of the points.
-pub record AreProperPoints (p : PointTable) : Type 0 where
+pub record IsProperPointTable (p : PointTable) : Type 0 where
   pub some : (i : ℕ) → i < p.points.count → 1 ≤ sum_below (p.points.belief i) p.states
   pub few : (i : ℕ) → i < p.points.count → sum_below (p.points.belief i) p.states ≤ 1000000
   pub values : (i a : ℕ) → i < p.points.count → a < p.actions → unsigned_abs (p.points.value i a) ≤ largest
@@ -30,7 +30,7 @@ table_of_set p = record {
   states = p.states;
   actions = p.actions;
   observations = p.observations;
-  points = record { count = point_count p; belief = weight_of p; value = value_at p };
+  points = record { count = point_count p; belief = point_weight p; value = value_at p };
   next = named_at p;
 }
 

@@ -2,7 +2,7 @@
 ghost use Rattle.std.specs.Prelude.{◌≡◌, ◌+◌, ◌*◌, ◌^◌, ◌<◌, ◌≤◌, ℕ, Some, length, slice_index, take};
 ghost use Rattle.polcert_cells.specs.BorrowedRows.{IsRowOf, IsStep};
 ghost use Rattle.polcert_cells.specs.Sparse.{IsRow};
-ghost use Rattle.polcert_points.specs.Belief.{Belief, belief_after};
+ghost use Rattle.polcert_points.specs.Belief.{Belief, updated_belief};
 ghost use Rattle.polcert_points.specs.Steps.PointSums.{AreArrivals, arrival};
 
 use crate::belief_points::{BeliefPoints, next_state};
@@ -138,7 +138,7 @@ pub(crate) fn fill_after<C: Cells, P: BeliefPoints>(
         arrival (C.table input.now.cells.now) ((P.table input.now.points.now).points.belief i) a e ≡ 0 →
         slice_index belief.old e ≡ 0 }
     ensures belief { (e : ℕ) → e < (C.table input.now.cells.now).states →
-        slice_index belief.new e ≡ belief_after (C.table input.now.cells.now)
+        slice_index belief.new e ≡ updated_belief (C.table input.now.cells.now)
         ((P.table input.now.points.now).points.belief i) a observation e }
     ensures greatest { (e : ℕ) → e < (C.table input.now.cells.now).states →
         slice_index belief.new e ≤ result }

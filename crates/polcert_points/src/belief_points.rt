@@ -1,7 +1,7 @@
 //! What a check asks of belief points.
 ghost use Rattle.std.specs.Prelude.{◌≡◌, ◌<◌, Some};
 ghost use Rattle.polcert_cells.specs.BorrowedRows.{IsRowOf, IsStep};
-ghost use Rattle.polcert_points.specs.PointTable.{PointTable, AreProperPoints};
+ghost use Rattle.polcert_points.specs.PointTable.{PointTable, IsProperPointTable};
 
 use polcert_cells::{Row, Step};
 
@@ -48,7 +48,7 @@ pub trait BeliefPoints {
         ensures { result ≡ (table self.now).next i a z };
 
     // Weights and values lie within their limits, and each named point is one of the points.
-    ghost is_proper: { (x : Self) → AreProperPoints (table x) };
+    ghost is_proper: { (x : Self) → IsProperPointTable (table x) };
 }
 
 /// Returns the next state of positive weight at point `i`, from a place in its row on.

@@ -2,7 +2,7 @@
 ghost use Rattle.std.specs.Prelude.{◌≡◌, ◌<◌, ℕ, length, slice_index};
 ghost use Rattle.polcert_cells.specs.BorrowedRows.{IsRowOf};
 ghost use Rattle.polcert_check.specs.Horizon.{total_below};
-ghost use Rattle.polcert_points.specs.Belief.{belief_after};
+ghost use Rattle.polcert_points.specs.Belief.{updated_belief};
 ghost use Rattle.polcert_points.specs.Points.{Cover, best_worth};
 ghost use Rattle.polcert_points.specs.PointCheck.{IsCoverBy};
 ghost use Rattle.polcert_points.specs.PointTable.{charge_at};
@@ -37,12 +37,12 @@ fn worth_after<C: Cells, P: BeliefPoints>(
         slice_index belief.old e ≡ 0 }
     ensures value { (cover : Cover) →
         IsCoverBy (C.table input.now.cells.now) (P.table input.now.points.now).points
-        (belief_after (C.table input.now.cells.now) ((P.table input.now.points.now).points.belief i) a z)
+        (updated_belief (C.table input.now.cells.now) ((P.table input.now.points.now).points.belief i) a z)
         ((P.table input.now.points.now).next i a z) cover →
         result ≡ best_worth (C.table input.now.cells.now)
         (charge_at (P.table input.now.points.now) input.now.charges.now)
         (P.table input.now.points.now).points
-        (belief_after (C.table input.now.cells.now) ((P.table input.now.points.now).points.belief i) a z)
+        (updated_belief (C.table input.now.cells.now) ((P.table input.now.points.now).points.belief i) a z)
         cover }
     ensures others { (e : ℕ) → e < (C.table input.now.cells.now).states →
         arrival (C.table input.now.cells.now) ((P.table input.now.points.now).points.belief i) a e ≡ 0 →
@@ -76,12 +76,12 @@ pub(crate) fn later<C: Cells, P: BeliefPoints>(
         slice_index belief.old e ≡ 0 }
     ensures { (covers : ℕ → Cover) → ((z : ℕ) → z < (C.table input.now.cells.now).observations →
         IsCoverBy (C.table input.now.cells.now) (P.table input.now.points.now).points
-        (belief_after (C.table input.now.cells.now) ((P.table input.now.points.now).points.belief i) a z)
+        (updated_belief (C.table input.now.cells.now) ((P.table input.now.points.now).points.belief i) a z)
         ((P.table input.now.points.now).next i a z) (covers z)) →
         result ≡ total_below (λ z. best_worth (C.table input.now.cells.now)
         (charge_at (P.table input.now.points.now) input.now.charges.now)
         (P.table input.now.points.now).points
-        (belief_after (C.table input.now.cells.now) ((P.table input.now.points.now).points.belief i) a z)
+        (updated_belief (C.table input.now.cells.now) ((P.table input.now.points.now).points.belief i) a z)
         (covers z)) (C.table input.now.cells.now).observations }
 {
     let mut sum: i128 = 0;

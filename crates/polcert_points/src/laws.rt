@@ -14,7 +14,7 @@ ghost use Rattle.polcert_check.specs.Horizon.{one};
 ghost use Rattle.polcert_optimum.specs.Policy.{IsPolicyOf, ObservationPolicy, as_policy};
 ghost use Rattle.polcert_optimum.specs.Informed.{AreInformed};
 ghost use Rattle.polcert_optimum.specs.Optimum.{EarnsAtMost, EncloseOptimum};
-ghost use Rattle.polcert_points.specs.Belief.{Belief, belief_after};
+ghost use Rattle.polcert_points.specs.Belief.{Belief, updated_belief};
 ghost use Rattle.polcert_points.specs.Points.{AreBacked, AreCharges, BoundsEveryObservationPolicyAt, Cover, Covers, IsAtMostAt, IsCover, Points, PointsBoundEveryObservationPolicy};
 ghost use Rattle.polcert_points.specs.PointTable.{PointTable, AreLeastCharges, FitPoints, table_of_set};
 ghost use Rattle.polcert_points_form.specs.RaisedSet.{CanRaisePoints, HasAllValues, raised_set};
@@ -73,7 +73,7 @@ pub fn raising_points()
     ensures { (t : CellTable) → IsProper t → t.discount ≤ one → (charges : ℕ → ℕ → ℤ) (points : Points)
         (covers : Covers) (by i a : ℕ) → a < t.actions →
         ((z : ℕ) → z < t.observations →
-        IsCover t points (belief_after t (points.belief i) a z) (covers i a z)) →
+        IsCover t points (updated_belief t (points.belief i) a z) (covers i a z)) →
         point_excess t (raised_table charges by) (raised_points points by) covers i a ≡
         point_excess t charges points covers i a -ℤ pos (taken_by_raise t points i by) }
 {}
@@ -91,7 +91,7 @@ pub fn named_points_cover()
     ensures covers { (t : CellTable) (points : Points) (next : Next) (covers : Covers) →
         IsKnown t points next → AreCoversBy t points next covers → (i a z : ℕ) → i < points.count →
         a < t.actions → z < t.observations →
-        IsCover t points (belief_after t (points.belief i) a z) (covers i a z) }
+        IsCover t points (updated_belief t (points.belief i) a z) (covers i a z) }
     ensures one { (t : CellTable) (points : Points) (b : Belief) (next : Option ℕ) (x y : Cover) →
         IsCoverBy t points b next x → IsCoverBy t points b next y → x ≡ y }
 {}

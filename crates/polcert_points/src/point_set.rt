@@ -1,6 +1,6 @@
 //! Points that were read, as a check reads them.
 ghost use Rattle.std.specs.Prelude.{◌≡◌};
-ghost use Rattle.polcert_points.specs.PointTable.{AreProperPoints, table_of_set};
+ghost use Rattle.polcert_points.specs.PointTable.{IsProperPointTable, table_of_set};
 
 use crate::belief_points::BeliefPoints;
 use polcert_cells::Row;
@@ -10,7 +10,7 @@ use polcert_policy::PointSet;
 #[derive(Clone, Copy)]
 pub struct ReadPoints<'a> {
     set: &'a PointSet,
-    ghost proper: { AreProperPoints (table_of_set set.now) },
+    ghost proper: { IsProperPointTable (table_of_set set.now) },
 }
 
 impl<'a> ReadPoints<'a> {

@@ -1,6 +1,6 @@
 //! Points whose values are all raised by one constant, as a check reads them.
 ghost use Rattle.std.specs.Prelude.{◌≡◌, ◌≤◌};
-ghost use Rattle.polcert_points.specs.PointTable.{AreProperPoints, table_of_set};
+ghost use Rattle.polcert_points.specs.PointTable.{IsProperPointTable, table_of_set};
 ghost use Rattle.polcert_points_form.specs.RaisedSet.{CanRaisePoints, HasAllValues, raised_set};
 
 use crate::belief_points::BeliefPoints;
@@ -15,7 +15,7 @@ pub struct RaisedPoints<'a> {
     ghost all_values: { HasAllValues set.now },
     ghost small: { by ≤ 20_000_000_000_000 },
     ghost room: { CanRaisePoints set.now by },
-    ghost proper: { AreProperPoints (table_of_set (raised_set set.now by)) },
+    ghost proper: { IsProperPointTable (table_of_set (raised_set set.now by)) },
 }
 
 impl<'a> RaisedPoints<'a> {

@@ -5,7 +5,7 @@ use Rattle.polcert_points_answer.proofs.Common.{PolicyVectors, value_of}
 use Rattle.polcert_cells.specs.Meaning.{HasLimitedNumbers}
 use Rattle.polcert_policy.specs.Vectors.{AreProperVectors}
 use Rattle.polcert_optimum.proofs.Optimum.{table_within}
-use Rattle.polcert_points.specs.PointTable.{AreProperPoints}
+use Rattle.polcert_points.specs.PointTable.{IsProperPointTable}
 use Rattle.polcert_points.specs.PointStartMost.{IsPointStartMost}
 use Rattle.polcert_points.specs.declared.point_verdict.PointVerdict.TheVariants.{Exceeded}
 use Rattle.polcert_points.proofs.SmallExcesses.{amount_small}
@@ -13,7 +13,7 @@ use Rattle.polcert_points_answer.specs.Headline.{IsMostByPoints}
 use Rattle.polcert_points_answer.specs.Steps.Reading.{most_point_excess}
 
 pub exceeded_small : (m : Meaning) → HasLimitedNumbers m → IsProper (table_of m) → (v : PolicyVectors) → FitActions (table_of m) v
-    → AreProperVectors v → (p : PointTable) → FitPoints (table_of m) p → AreProperPoints p
+    → AreProperVectors v → (p : PointTable) → FitPoints (table_of m) p → IsProperPointTable p
     → (i a : ℕ) (amount : ℤ) → IsPointVerdict (table_of m) (value_of v) p (Exceeded i a amount)
     → unsigned_abs amount ≤ most_point_excess (table_of m) p i
 exceeded_small m limits proper v fit_v proper_v p fit proper_p i a amount h =

@@ -20,7 +20,7 @@ use Rattle.polcert_optimum.specs.Seen.{BoundPoliciesOf, BoundMixturesOf}
 use Rattle.polcert_optimum.specs.declared.verdict.InformedVerdict.TheVariants as informed
 use Rattle.polcert_optimum.proofs.SeenModels.{same_bound_most}
 use Rattle.polcert_points.specs.Belief.{mass}
-use Rattle.polcert_points.specs.PointTable.{AreProperPoints}
+use Rattle.polcert_points.specs.PointTable.{IsProperPointTable}
 use Rattle.polcert_points.specs.declared.point_verdict.PointVerdict.TheVariants as points
 use Rattle.polcert_points.proofs.OnePoints.{every_policy_at_points, policies_at_points, mixtures_at_points}
 use Rattle.polcert_points.proofs.SamePoints.{point_verdict_there, same_point_most}
@@ -157,7 +157,7 @@ module _ {model vectors points : List ℕ} (c : PointCertificate model vectors p
   pub fit_points : FitPoints (table_of c.meaning) (table_of_set c.set)
   fit_points = fit_points_of c.meaning c.set points c.are_points
 
-  pub proper_points : AreProperPoints (table_of_set c.set)
+  pub proper_points : IsProperPointTable (table_of_set c.set)
   proper_points =
       let limits = bound.limited bound_of in
       proper_set c.set (points_proper (states_of c.meaning) (actions_of c.meaning) (observations_of c.meaning) points c.set limits.states.0

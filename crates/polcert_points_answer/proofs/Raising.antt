@@ -33,7 +33,7 @@ use Rattle.polcert_answer.specs.declared.fault.RunFault.TheVariants.{ReadModel, 
 use Rattle.polcert_answer.specs.Run.{IsNamedRightly}
 use Rattle.polcert_answer.proofs.Denoted.{same_actions}
 use Rattle.polcert_answer.proofs.ReadInTurn.{not_named, unnamed}
-use Rattle.polcert_bound_answer.specs.Raise.{IsWhyNotRaised}
+use Rattle.polcert_bound_answer.specs.Raise.{IsWhyNotBoundRaised}
 use Rattle.polcert_bound_answer.proofs.Denoted.{fit_of}
 use Rattle.polcert_bound_answer.proofs.Passing.{each_fault}
 use Rattle.polcert_bound_answer.proofs.Raising as bound
@@ -90,8 +90,8 @@ module _ {model vectors points : List ℕ} (m : Meaning) (v : PolicyVectors) (p 
       → points_text (raised_set p by) ≡ points_text (raised_set c.set by)
   points_text_of_each by = of_each m v p pair are (λ n w q. points_text (raised_set p by) ≡ points_text (raised_set q by)) (λ n same. refl)
 
-  vectors_why : (fault : RaiseFault) → IsWhyNotRaised (table_of m) v fault → (c : PointCertificate model vectors points)
-      → IsWhyNotRaised (table_of c.meaning) c.values fault
+  vectors_why : (fault : RaiseFault) → IsWhyNotBoundRaised (table_of m) v fault → (c : PointCertificate model vectors points)
+      → IsWhyNotBoundRaised (table_of c.meaning) c.values fault
   vectors_why fault h c = bound.why_of_each m v pair.is_model pair.are_vectors fault h (bound_of c)
 
   none_of_each : (up : ℤ) → IsRaiseConstant (table_of m) v up → IsNoPointRaise (table_of m) (value_of (shifted_by v up)) p
@@ -108,7 +108,7 @@ module _ {model vectors points : List ℕ} (m : Meaning) (v : PolicyVectors) (p 
   why_of_each : (fault : RaiseFault) → IsWhyPointsNotRaised (table_of m) v p fault → (c : PointCertificate model vectors points)
       → IsWhyPointsNotRaised (table_of c.meaning) c.values c.set fault
   why_of_each raises.OutOfRange h c =
-      ⊎_elim (λ (why : IsWhyNotRaised (table_of m) v raises.OutOfRange). inl (vectors_why raises.OutOfRange why c))
+      ⊎_elim (λ (why : IsWhyNotBoundRaised (table_of m) v raises.OutOfRange). inl (vectors_why raises.OutOfRange why c))
       (λ (none : (up : ℤ) × IsRaiseConstant (table_of m) v up × IsNoPointRaise (table_of m) (value_of (shifted_by v up)) p). inr
       (none_of_each none.0 none.1 none.2 c)) h
   why_of_each raises.Memory h c = vectors_why raises.Memory h c
@@ -220,7 +220,7 @@ module _ (of_model of_vectors of_points : List ℕ → Type 0) (m : Meaning) (v 
 
 -- ---- why points are not raised
 module _ (t : CellTable) (v : PolicyVectors) (p : PointValues) where
-  pub why_vectors : (fault : RaiseFault) → IsWhyNotRaised t v fault → IsWhyPointsNotRaised t v p fault
+  pub why_vectors : (fault : RaiseFault) → IsWhyNotBoundRaised t v fault → IsWhyPointsNotRaised t v p fault
   why_vectors raises.OutOfRange why = inl why
   why_vectors raises.Memory why = why
   why_vectors (raises.NoConstant a s amount) why = why

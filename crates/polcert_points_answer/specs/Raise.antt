@@ -17,7 +17,7 @@ use Rattle.polcert_answer.specs.declared.fault.Fault.{Fault}
 use Rattle.polcert_answer.specs.declared.fault.RunFault.{RunFault}
 use Rattle.polcert_answer.specs.declared.fault.RunFault.TheVariants.{Raise}
 use Rattle.polcert_answer.specs.Answer.{IsButForMemory}
-use Rattle.polcert_bound_answer.specs.Raise.{IsWhyNotRaised}
+use Rattle.polcert_bound_answer.specs.Raise.{IsWhyNotBoundRaised}
 use Rattle.polcert_points_answer.specs.declared.verdict.PointBoundVerdict.{PointBoundVerdict}
 use Rattle.polcert_points_answer.specs.declared.verdict.PointBoundVerdict.TheVariants.{Yes}
 use Rattle.polcert_points_answer.specs.Headline.{PointCertificate, IsCertifiedByPoints}
@@ -40,8 +40,8 @@ IsPointRaiseOver t v p up by = IsRaiseConstant t v up × IsLeastPointRaise t (va
 -- Why points aren't raised: the vectors can't be; or with the raised vectors no constant that leaves every value in range makes the points
 -- pass; or memory ran out for raised vectors or charges.
 abbrev pub IsWhyPointsNotRaised : CellTable → PolicyVectors → PointValues → RaiseFault → Type 0
-IsWhyPointsNotRaised t v p raises.OutOfRange = IsWhyNotRaised t v raises.OutOfRange ⊎ ((up : ℤ) × IsRaiseConstant t v up × IsNoPointRaise t (value_of (shifted_by v up)) p)
-IsWhyPointsNotRaised t v p fault = IsWhyNotRaised t v fault
+IsWhyPointsNotRaised t v p raises.OutOfRange = IsWhyNotBoundRaised t v raises.OutOfRange ⊎ ((up : ℤ) × IsRaiseConstant t v up × IsNoPointRaise t (value_of (shifted_by v up)) p)
+IsWhyPointsNotRaised t v p fault = IsWhyNotBoundRaised t v fault
 
 module _ (of_model of_vectors of_points : List ℕ → Type 0) where
   -- The text is the full form of the points of the third source, raised by the least constant by which they pass with the vectors of the

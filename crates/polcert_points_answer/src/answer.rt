@@ -8,7 +8,7 @@ ghost use Rattle.polcert_optimum.specs.InformedCheck.{FitActions};
 ghost use Rattle.polcert_points.specs.PointTable.{FitPoints, table_of_set};
 ghost use Rattle.polcert_points_answer.specs.Answer.{IsPointBoundAnswer, IsPointBoundVerdict};
 ghost use Rattle.polcert_points_answer.specs.Headline.{IsCertifiedByPoints};
-ghost use Rattle.polcert_points_answer.specs.Steps.Reading.{NamesSmallAmount};
+ghost use Rattle.polcert_points_answer.specs.Steps.Reading.{NamesSmallPointAmount};
 
 use crate::inputs::{PointInputs, read_point_texts};
 use crate::verdict::PointBoundVerdict;
@@ -41,7 +41,7 @@ pub(crate) fn verdict_on<O: Progress>(
         (table_of (meaning read.now.bound.model)).actions * (table_of (meaning read.now.bound.model)).states }
     ensures verdict { IsPointBoundVerdict (table_of (meaning read.now.bound.model))
         (value_of read.now.bound.vectors) (table_of_set read.now.points) result }
-    ensures small { NamesSmallAmount (table_of (meaning read.now.bound.model))
+    ensures small { NamesSmallPointAmount (table_of (meaning read.now.bound.model))
         (table_of_set read.now.points) result }
 {
     let bound = &read.bound;
@@ -73,7 +73,7 @@ fn verdict_on_points<O: Progress>(
         (value_of read.now.bound.vectors) }
     ensures verdict { IsPointBoundVerdict (table_of (meaning read.now.bound.model))
         (value_of read.now.bound.vectors) (table_of_set read.now.points) result }
-    ensures small { NamesSmallAmount (table_of (meaning read.now.bound.model))
+    ensures small { NamesSmallPointAmount (table_of (meaning read.now.bound.model))
         (table_of_set read.now.points) result }
 {
     let bound = &read.bound;

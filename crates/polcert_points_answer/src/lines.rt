@@ -12,8 +12,8 @@ ghost use Rattle.polcert_optimum.specs.InformedCheck.{FitActions};
 ghost use Rattle.polcert_points.specs.PointTable.{FitPoints, table_of_set};
 ghost use Rattle.polcert_points_answer.specs.Answer.{IsPointBoundVerdict};
 ghost use Rattle.polcert_points_answer.specs.Headline.{IsPointBoundMost};
-ghost use Rattle.polcert_points_answer.specs.Lines.{IsPointBoundLine, line_text, point_exceeded_line};
-ghost use Rattle.polcert_points_answer.specs.Steps.Reading.{NamesSmallAmount, most_point_excess};
+ghost use Rattle.polcert_points_answer.specs.Lines.{IsPointBoundLine, point_line_text, point_exceeded_line};
+ghost use Rattle.polcert_points_answer.specs.Steps.Reading.{NamesSmallPointAmount, most_point_excess};
 
 use crate::inputs::PointInputs;
 use crate::verdict::PointBoundVerdict;
@@ -96,10 +96,10 @@ pub(crate) fn line_of_verdict(
         (table_of (meaning read.now.bound.model)).actions * (table_of (meaning read.now.bound.model)).states }
     requires verdict { IsPointBoundVerdict (table_of (meaning read.now.bound.model))
         (value_of read.now.bound.vectors) (table_of_set read.now.points) verdict }
-    requires small { NamesSmallAmount (table_of (meaning read.now.bound.model))
+    requires small { NamesSmallPointAmount (table_of (meaning read.now.bound.model))
         (table_of_set read.now.points) verdict }
     ensures { IsPointBoundLine (meaning read.now.bound.model) read.now.bound.vectors
-        (table_of_set read.now.points) verdict (line_text result) }
+        (table_of_set read.now.points) verdict (point_line_text result) }
 {
     match verdict {
         PointBoundVerdict::Yes => {
@@ -130,7 +130,7 @@ pub(crate) fn write_point_verdict<W: Sink>(
     line: PointBoundLine,
     sink: &mut W,
 ) -> Result<(), SinkFailed>
-    ensures { WritesText W.writes W.failures sink.old (line_text line) result sink.new }
+    ensures { WritesText W.writes W.failures sink.old (point_line_text line) result sink.new }
 {
     let mut buffered = BufferedSink::new(sink);
     write_line(line, &mut buffered)?;
@@ -138,7 +138,7 @@ pub(crate) fn write_point_verdict<W: Sink>(
 }
 
 fn write_line<W: Sink>(line: PointBoundLine, sink: &mut W) -> Result<(), SinkFailed>
-    ensures { WritesText W.writes W.failures sink.old (line_text line) result sink.new }
+    ensures { WritesText W.writes W.failures sink.old (point_line_text line) result sink.new }
 {
     match line {
         PointBoundLine::Bound(line) => write_verdict(line, sink),

@@ -12,7 +12,7 @@ ghost use Rattle.polcert_points_form.specs.RaisedSet.{CanRaisePoints, HasAllValu
 ghost use Rattle.polcert_points.specs.PointTable.{FitPoints, table_of_set};
 ghost use Rattle.polcert_points.specs.RaisedPoints.{IsLeastPointRaise};
 ghost use Rattle.polcert_answer.specs.Run.{WritesAnswer, IsNamedRightly, text_of};
-ghost use Rattle.polcert_bound_answer.specs.Raise.{IsWhyNotRaised, raise_fault};
+ghost use Rattle.polcert_bound_answer.specs.Raise.{IsWhyNotBoundRaised, raise_fault};
 ghost use Rattle.polcert_points_answer.specs.Run.{StopsPointsRightly};
 ghost use Rattle.polcert_points_answer.specs.Raise.{ArePointsNotRaisable, HasRaisedPoints, IsPointRaiseFault, IsWhyPointsNotRaised};
 ghost use Rattle.polcert_points_answer.specs.Steps.Raising.{ArePointsRaised, IsNoRoomForPoints, IsPointRaiseWriteFault};
@@ -115,7 +115,7 @@ fn raised_vectors(alloc: Global, read: &PointInputs) -> Result<Vectors, RaiseFau
         × IsRaiseConstant (table_of (meaning read.now.bound.model)) read.now.bound.vectors up
         × (raised ≡ shifted_by read.now.bound.vectors up)) }
     ensures refused { IfErr result
-        (IsWhyNotRaised (table_of (meaning read.now.bound.model)) read.now.bound.vectors) }
+        (IsWhyNotBoundRaised (table_of (meaning read.now.bound.model)) read.now.bound.vectors) }
 {
     let bound = &read.bound;
     let by = match least_informed_raise(&bound.model, &bound.vectors) {

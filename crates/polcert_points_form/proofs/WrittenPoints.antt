@@ -29,19 +29,20 @@ use Rattle.polcert_text.proofs.Printing.WrittenNumbers.{size_written, plain_size
 use Rattle.polcert_text.proofs.Scanning.CleanCut.{clean_tokens}
 use Rattle.polcert_cells.specs.Meaning.{sum_below}
 use Rattle.polcert_cells.specs.Numbers.{one, IsWhole}
-use Rattle.polcert_policy.specs.Points.{PointValues, point_count, weight_of, value_at, named_at}
+use Rattle.polcert_policy.specs.Points.{PointValues, point_count, point_weight, value_at, named_at}
 use Rattle.polcert_policy.specs.Points as sets
 use Rattle.polcert_policy.specs.PointTokens.{IsWeight}
 use Rattle.polcert_policy.specs.PointFields as flat
-use Rattle.polcert_policy.specs.PointFields.{Field, number_field, weight_field, value_field, name_field, AreFields, IsNotJoined}
+use Rattle.polcert_policy.specs.PointFields.{Field, number_field, weight_field, value_field, name_field, ArePointFields, IsNotJoined}
 use Rattle.polcert_policy.specs.PointFields.{weight_fields, name_fields, action_fields, point_fields, AreFieldTokens}
 use Rattle.polcert_policy.specs.PointText.{IsPointsText}
 use Rattle.polcert_policy.specs.Vectors.{IsInRange}
 use Rattle.polcert_policy.proofs.ActionGraphs.{one_more}
 use Rattle.polcert_policy.proofs.Fillers.{action_spelled}
 use Rattle.polcert_policy.proofs.FlatGraphs.{whole_is}
-use Rattle.polcert_points_form.specs.FullForm.{after_item, weight_text, weights_text, named_text, name_text, names_text, value_text}
-use Rattle.polcert_points_form.specs.FullForm.{action_text, actions_text, number_text, point_text, points_text_up_to, points_text}
+use Rattle.polcert_points_form.specs.FullForm.{after_item, weight_text, weights_text, named_text, point_name_text, names_text}
+use Rattle.polcert_points_form.specs.FullForm.{point_value_text}
+use Rattle.polcert_points_form.specs.FullForm.{action_text, actions_text, point_number_text, point_text, points_text_up_to, points_text}
 use Rattle.polcert_points_form.specs.RaisedSet.{raised_set, HasAllValues, CanRaisePoints}
 use Rattle.polcert_points_form.proofs.RaisedSets.{value_raised}
 
@@ -63,8 +64,8 @@ pub record Spells (text : List ℕ) (fs : List Field) : Type 0 where
   pub pieces : List Printed
   pub is : text_of pieces ≡ text
   pub printed : ArePrinted pieces
-  pub tokens : (place : ℕ) (ts : List Lexeme) (gs : List Field) → StartsFrom (place + length text) ts → AreFields ts gs
-      → AreFields (lexemes_at place pieces ++ ts) (fs ++ gs)
+  pub tokens : (place : ℕ) (ts : List Lexeme) (gs : List Field) → StartsFrom (place + length text) ts → ArePointFields ts gs
+      → ArePointFields (lexemes_at place pieces ++ ts) (fs ++ gs)
 
 nothing : Spells [] []
 nothing = record { pieces = []; is = refl; printed = tt; tokens = λ place ts gs start rest. rest }
@@ -78,7 +79,7 @@ join x y fs gs a b = record {
       let mid : ℕ = place + length x in
       let longer : place + length (x ++ y) ≡ mid + length y = omega (arith, length-append x y) in
       let far : StartsFrom (mid + length y) ts = subst (λ (n : ℕ). StartsFrom n ts) longer start in
-      let after : AreFields (lexemes_at mid b.pieces ++ ts) (gs ++ hs) = b.tokens mid ts hs far rest in
+      let after : ArePointFields (lexemes_at mid b.pieces ++ ts) (gs ++ hs) = b.tokens mid ts hs far rest in
       let begins : StartsFrom mid (lexemes_at mid b.pieces ++ ts) =
       starts_at mid b.pieces ts (subst (λ (bs : List ℕ). StartsFrom (mid + length bs) ts) (sym b.is) far) in
       let split : lexemes_at place (a.pieces ++ b.pieces) ≡ lexemes_at place a.pieces ++ lexemes_at mid b.pieces =
@@ -86,7 +87,7 @@ join x y fs gs a b = record {
       a.is in
       let whole : lexemes_at place a.pieces ++ (lexemes_at mid b.pieces ++ ts) ≡ lexemes_at place (a.pieces ++ b.pieces) ++ ts =
       sym (append_assoc (lexemes_at place a.pieces) (lexemes_at mid b.pieces) ts) ∙ ap (λ (ls : List Lexeme). ls ++ ts) (sym split) in
-      subst₂ (λ (ls : List Lexeme) (all : List Field). AreFields ls all) whole (sym (append_assoc fs gs hs))
+      subst₂ (λ (ls : List Lexeme) (all : List Field). ArePointFields ls all) whole (sym (append_assoc fs gs hs))
       (a.tokens place (lexemes_at mid b.pieces ++ ts) (gs ++ hs) begins after);
 }
 
@@ -136,8 +137,8 @@ abbrev lexeme : TokenKind → ℕ → List ℕ → Lexeme
 lexeme kind place bytes = record { kind = kind; place = place; bytes = bytes }
 
 word : (kind : TokenKind) (bytes following : List ℕ) (f : Field) → IsPiece kind bytes → Blank following
-    → ((place : ℕ) (ts : List Lexeme) (gs : List Field) → StartsFrom (place + length (bytes ++ following)) ts → AreFields ts gs
-    → AreFields (lexeme kind place bytes ∷ ts) (f ∷ gs))
+    → ((place : ℕ) (ts : List Lexeme) (gs : List Field) → StartsFrom (place + length (bytes ++ following)) ts → ArePointFields ts gs
+    → ArePointFields (lexeme kind place bytes ∷ ts) (f ∷ gs))
     → Spells (bytes ++ following) (f ∷ [])
 word kind bytes following f piece blank tokens = record {
   pieces = spelled (plain kind bytes) following;
@@ -153,7 +154,7 @@ whole_number place n l = let was = action_spelled n (omega (arith, l)) in
 number_piece : (n : ℕ) → n ≤ 10000 → IsPiece Numeral (decimal n)
 number_piece n l = numeral_piece (decimal n) (plain_decimal n (omega (arith, l)))
 
-spelled_number : (i : ℕ) → i ≤ 10000 → Spells (number_text i) (number_field i ∷ [])
+spelled_number : (i : ℕ) → i ≤ 10000 → Spells (point_number_text i) (number_field i ∷ [])
 spelled_number i l = word Numeral (decimal i) (codes " ") (number_field i) (number_piece i l) space
     (λ place ts gs start rest. flat.number (whole_number place i l) rest)
 
@@ -170,7 +171,7 @@ spelled_weight w following l blank =
     word Numeral (unsigned_text w) following (weight_field w) (numeral_piece (unsigned_text w) (plain_size w (omega (arith, l)))) blank
     (λ place ts gs start rest. flat.weight refl (is_weight w l) rest)
 
-spelled_value : (h : ℤ) → IsInRange h → Spells (value_text h) (value_field h ∷ [])
+spelled_value : (h : ℤ) → IsInRange h → Spells (point_value_text h) (value_field h ∷ [])
 spelled_value (pos n) r =
     let few : n ≤ largest = omega (arith, ints, r.1) in
     word Numeral (unsigned_text n) (codes " ") (value_field (pos n)) (numeral_piece (unsigned_text n) (plain_size n few)) space
@@ -209,41 +210,43 @@ spelled_name (Some j) following few blank =
     (λ place ts gs start rest. flat.named (whole_number place j (few j refl)) rest)
 
 -- ---- points
-module _ (q : PointValues) (few : point_count q ≤ 10000) (weights : (i s : ℕ) → i < point_count q → s < q.states → weight_of q i s ≤ one)
+module _ (q : PointValues) (few : point_count q ≤ 10000) (weights : (i s : ℕ) → i < point_count q → s < q.states → point_weight q i s ≤ one)
     (values : (i a : ℕ) → i < point_count q → a < q.actions → IsInRange (value_at q i a))
     (named : (i a z j : ℕ) → i < point_count q → a < q.actions → z < q.observations → named_at q i a z ≡ Some j → j < point_count q)
   where
-    spelled_weights : (i : ℕ) → i < point_count q → Spells (weights_text (weight_of q i) q.states q.states)
+    spelled_weights : (i : ℕ) → i < point_count q → Spells (weights_text (point_weight q i) q.states q.states)
         (weight_fields q i (range_with_len 0 q.states))
     spelled_weights i il =
-        subst (λ (fs : List Field). Spells (weights_text (weight_of q i) q.states q.states) fs)
-        (singles (λ s. weight_field (weight_of q i s)) (range_with_len 0 q.states))
-        (many (weight_text (weight_of q i) q.states) (weights_text (weight_of q i) q.states) (λ s. weight_field (weight_of q i s) ∷ [])
+        subst (λ (fs : List Field). Spells (weights_text (point_weight q i) q.states q.states) fs)
+        (singles (λ s. weight_field (point_weight q i s)) (range_with_len 0 q.states))
+        (many (weight_text (point_weight q i) q.states) (weights_text (point_weight q i) q.states)
+        (λ s. weight_field (point_weight q i s) ∷ [])
         refl
         (λ n. refl) q.states
-        (λ s sl. spelled_weight (weight_of q i s) (after_item q.states s) (weights i s il sl) (after_blank q.states s)))
+        (λ s sl. spelled_weight (point_weight q i s) (after_item q.states s) (weights i s il sl) (after_blank q.states s)))
 
     spelled_names : (i a : ℕ) → i < point_count q → a < q.actions
         → Spells (names_text (named_at q i a) q.observations q.observations) (name_fields q i a (range_with_len 0 q.observations))
     spelled_names i a il al =
         subst (λ (fs : List Field). Spells (names_text (named_at q i a) q.observations q.observations) fs)
         (singles (λ z. name_field (named_at q i a z)) (range_with_len 0 q.observations))
-        (many (name_text (named_at q i a) q.observations) (names_text (named_at q i a) q.observations)
+        (many (point_name_text (named_at q i a) q.observations) (names_text (named_at q i a) q.observations)
         (λ z. name_field (named_at q i a z) ∷ []) refl (λ n. refl) q.observations
         (λ z zl. spelled_name (named_at q i a z) (after_item q.observations z) (λ j is. omega (arith, few, named i a z j il al zl is))
         (after_blank q.observations z)))
 
     spelled_action : (i a : ℕ) → i < point_count q → a < q.actions → Spells (action_text q i a) (action_fields q i a)
-    spelled_action i a il al = join (value_text (value_at q i a)) (names_text (named_at q i a) q.observations q.observations)
+    spelled_action i a il al = join (point_value_text (value_at q i a)) (names_text (named_at q i a) q.observations q.observations)
         (value_field (value_at q i a) ∷ []) (name_fields q i a (range_with_len 0 q.observations))
         (spelled_value (value_at q i a) (values i a il al)) (spelled_names i a il al)
 
     spelled_point : (i : ℕ) → i < point_count q → Spells (point_text q i) (point_fields q i)
     spelled_point i il =
-        join (number_text i) (weights_text (weight_of q i) q.states q.states ++ actions_text q i q.actions) (number_field i ∷ [])
+        join (point_number_text i) (weights_text (point_weight q i) q.states q.states ++ actions_text q i q.actions) (number_field i ∷ [])
         (weight_fields q i (range_with_len 0 q.states) ++ flat_map (action_fields q i) (range_with_len 0 q.actions))
         (spelled_number i (omega (arith, few, il)))
-        (join (weights_text (weight_of q i) q.states q.states) (actions_text q i q.actions) (weight_fields q i (range_with_len 0 q.states))
+        (join (weights_text (point_weight q i) q.states q.states) (actions_text q i q.actions)
+        (weight_fields q i (range_with_len 0 q.states))
         (flat_map (action_fields q i) (range_with_len 0 q.actions)) (spelled_weights i il)
         (many (action_text q i) (actions_text q i) (action_fields q i) refl (λ n. refl) q.actions (λ a al. spelled_action i a il al)))
 
@@ -255,9 +258,9 @@ module _ (q : PointValues) (few : point_count q ≤ 10000) (weights : (i s : ℕ
     abbrev pub tokens : List Lexeme
     tokens = lexemes_at 0 spelled_points.pieces
 
-    are_fields : AreFields tokens (flat_map (point_fields q) (range_with_len 0 (point_count q)))
+    are_fields : ArePointFields tokens (flat_map (point_fields q) (range_with_len 0 (point_count q)))
     are_fields =
-        subst₂ (λ (ls : List Lexeme) (fs : List Field). AreFields ls fs) (append-nil tokens)
+        subst₂ (λ (ls : List Lexeme) (fs : List Field). ArePointFields ls fs) (append-nil tokens)
         (append-nil (flat_map (point_fields q) (range_with_len 0 (point_count q))))
         (spelled_points.tokens 0 [] [] tt flat.none)
 
@@ -270,7 +273,7 @@ module _ (q : PointValues) (few : point_count q ≤ 10000) (weights : (i s : ℕ
         subst (λ r. IsCut r tokens None) (sym whole) (subst (λ (bs : List ℕ). IsCut (rest_at 0 bs) tokens None) spelled_points.is cut)
 
     pub full_form : (states actions observations : ℕ) →
-        (AreFields tokens (flat_map (point_fields q) (range_with_len 0 (point_count q)))
+        (ArePointFields tokens (flat_map (point_fields q) (range_with_len 0 (point_count q)))
         → AreFieldTokens states actions observations tokens q)
         → length (points_text q) ≤ text_limit
         → IsPointsText states actions observations (points_text q) q
@@ -297,7 +300,7 @@ raised_reads_back states actions observations text p by proper is can short =
     let was = is.2 in
     let all : HasAllValues p = all_values_read states actions observations text p is in
     full_form (raised_set p by) proper.few_points (λ i s il sl. omega
-    (arith, weight_le (weight_of p i) s p.states sl, (proper.mass i il).few))
+    (arith, weight_le (point_weight p i) s p.states sl, (proper.mass i il).few))
     (λ i a il al. subst IsInRange (sym (value_raised p all by i a il al)) (can i a il al)) proper.named states actions observations
     (λ fields. record {
       states_are = was.states_are;

@@ -4,7 +4,7 @@
 -- number of the point that is named, or `-`; one blank between. Weights and values are decimal numbers without trailing zeros.
 use Rattle.std.specs.Prelude.{ℕ, zero, suc, ◌==◌, if◌then◌else◌, ℤ, Option, Some, None, List, [], ◌++◌, decimal, codes}
 use Rattle.polcert_text.specs.Millionths.{unsigned_text, scaled_text}
-use Rattle.polcert_policy.specs.Points.{PointValues, point_count, weight_of, value_at, named_at}
+use Rattle.polcert_policy.specs.Points.{PointValues, point_count, point_weight, value_at, named_at}
 
 -- what stands after item k of so many on a line: a blank, or after the last the line's end
 abbrev pub after_item : ℕ → ℕ → List ℕ
@@ -22,30 +22,30 @@ abbrev pub named_text : Option ℕ → List ℕ
 named_text None = codes "-"
 named_text (Some j) = decimal j
 
-abbrev pub name_text : (ℕ → Option ℕ) → ℕ → ℕ → List ℕ
-name_text names observations z = named_text (names z) ++ after_item observations z
+abbrev pub point_name_text : (ℕ → Option ℕ) → ℕ → ℕ → List ℕ
+point_name_text names observations z = named_text (names z) ++ after_item observations z
 
 -- the points that are named for the first observations, so many
 abbrev pub names_text : (ℕ → Option ℕ) → ℕ → ℕ → List ℕ
 names_text names observations zero = []
-names_text names observations (suc z) = names_text names observations z ++ name_text names observations z
+names_text names observations (suc z) = names_text names observations z ++ point_name_text names observations z
 
-abbrev pub value_text : ℤ → List ℕ
-value_text h = scaled_text h ++ codes " "
+abbrev pub point_value_text : ℤ → List ℕ
+point_value_text h = scaled_text h ++ codes " "
 
 abbrev pub action_text : PointValues → ℕ → ℕ → List ℕ
-action_text p i a = value_text (value_at p i a) ++ names_text (named_at p i a) p.observations p.observations
+action_text p i a = point_value_text (value_at p i a) ++ names_text (named_at p i a) p.observations p.observations
 
 -- the first actions of point i, so many
 abbrev pub actions_text : PointValues → ℕ → ℕ → List ℕ
 actions_text p i zero = []
 actions_text p i (suc a) = actions_text p i a ++ action_text p i a
 
-abbrev pub number_text : ℕ → List ℕ
-number_text i = decimal i ++ codes " "
+abbrev pub point_number_text : ℕ → List ℕ
+point_number_text i = decimal i ++ codes " "
 
 abbrev pub point_text : PointValues → ℕ → List ℕ
-point_text p i = number_text i ++ (weights_text (weight_of p i) p.states p.states ++ actions_text p i p.actions)
+point_text p i = point_number_text i ++ (weights_text (point_weight p i) p.states p.states ++ actions_text p i p.actions)
 
 -- the first points, so many
 abbrev pub points_text_up_to : PointValues → ℕ → List ℕ

@@ -2,12 +2,12 @@
 ghost use Rattle.std.specs.Prelude.{◌≡◌, ◌<◌, ◌≤◌, ℕ, List, length};
 ghost use Rattle.polcert_text.specs.Cut.{text_limit};
 ghost use Rattle.polcert_text.specs.Sink.{WritesText};
-ghost use Rattle.polcert_policy.specs.Points.{point_count, weight_of, value_at, named_at};
+ghost use Rattle.polcert_policy.specs.Points.{point_count, point_weight, value_at, named_at};
 ghost use Rattle.polcert_policy.specs.PointText.{IsPointsText};
 ghost use Rattle.polcert_policy.specs.Vectors.{IsInRange};
 ghost use Rattle.polcert_points_form.specs.RaisedSet.{CanRaisePoints, HasAllValues, raised_set};
-ghost use Rattle.polcert_points_form.specs.FullForm.{action_text, actions_text, after_item, name_text, named_text, names_text};
-ghost use Rattle.polcert_points_form.specs.FullForm.{number_text, point_text, points_text, value_text, weight_text, weights_text};
+ghost use Rattle.polcert_points_form.specs.FullForm.{action_text, actions_text, after_item, point_name_text, named_text, names_text};
+ghost use Rattle.polcert_points_form.specs.FullForm.{point_number_text, point_text, points_text, point_value_text, weight_text, weights_text};
 
 use crate::row_walk::{first_step, next_step, weight_here};
 use itoa::Buffer;
@@ -62,7 +62,7 @@ fn write_point<W: Sink>(points: &PointSet, by: u64, i: usize, out: &mut W) -> Re
 
 /// Writes the number of a point, and a blank.
 fn write_number<W: Sink>(i: usize, out: &mut W) -> Result<(), SinkFailed>
-    ensures { WritesText W.writes W.failures out.old (number_text i) result out.new }
+    ensures { WritesText W.writes W.failures out.old (point_number_text i) result out.new }
 {
     let mut buffer = Buffer::new();
     write_all(out, buffer.format(i).as_bytes())?;
@@ -73,7 +73,7 @@ fn write_number<W: Sink>(i: usize, out: &mut W) -> Result<(), SinkFailed>
 fn write_weights<W: Sink>(points: &PointSet, i: usize, out: &mut W) -> Result<(), SinkFailed>
     requires { i < point_count points.now }
     ensures { WritesText W.writes W.failures out.old
-        (weights_text (weight_of points.now i) points.now.states points.now.states) result out.new }
+        (weights_text (point_weight points.now i) points.now.states points.now.states) result out.new }
 {
     let row = points.weights(i);
     let mut next = first_step(points, i, row);
@@ -94,9 +94,9 @@ fn write_weight<W: Sink>(
 ) -> Result<(), SinkFailed>
     requires point { i < point_count points.now }
     requires state { s < points.now.states }
-    requires weight { weight ≡ weight_of points.now i s }
+    requires weight { weight ≡ point_weight points.now i s }
     ensures { WritesText W.writes W.failures out.old
-        (weight_text (weight_of points.now i) points.now.states s) result out.new }
+        (weight_text (point_weight points.now i) points.now.states s) result out.new }
 {
     let _count = points.count();
     write_scaled(weight as i64, out)?;
@@ -158,7 +158,7 @@ fn write_action<W: Sink>(
 
 /// Writes a value and a blank.
 fn write_value<W: Sink>(value: i64, out: &mut W) -> Result<(), SinkFailed>
-    ensures { WritesText W.writes W.failures out.old (value_text value) result out.new }
+    ensures { WritesText W.writes W.failures out.old (point_value_text value) result out.new }
 {
     write_scaled(value, out)?;
     write_all(out, b" ")
@@ -195,7 +195,7 @@ fn write_name<W: Sink>(
     requires action { a < points.now.actions }
     requires observation { z < points.now.observations }
     ensures { WritesText W.writes W.failures out.old
-        (name_text (named_at points.now i a) points.now.observations z) result out.new }
+        (point_name_text (named_at points.now i a) points.now.observations z) result out.new }
 {
     write_named(points.next(i, a, z), out)?;
     write_all(out, separator(points.observations(), z))

@@ -2,7 +2,7 @@
 ghost use Rattle.std.specs.Prelude.{◌≡◌, ◌+◌, ◌<◌, ℕ};
 ghost use Rattle.polcert_cells.specs.BorrowedRows.{IsRowOf};
 ghost use Rattle.polcert_cells.specs.declared.cells.Row.{Row};
-ghost use Rattle.polcert_policy.specs.Points.{point_count, weight_of};
+ghost use Rattle.polcert_policy.specs.Points.{point_count, point_weight};
 ghost use Rattle.polcert_points_form.specs.Steps.RowWalk.{IsStepFrom};
 
 use polcert_cells::{Row, Step};
@@ -11,8 +11,8 @@ use polcert_policy::PointSet;
 /// Returns the first step of the row of point `i`.
 pub(crate) fn first_step(_points: &PointSet, i: usize, row: Row<'_>) -> Option<Step>
     requires point { i < point_count _points.now }
-    requires row { IsRowOf (weight_of _points.now i) _points.now.states row }
-    ensures { IsStepFrom (weight_of _points.now i) _points.now.states row.entry 0 result }
+    requires row { IsRowOf (point_weight _points.now i) _points.now.states row }
+    ensures { IsStepFrom (point_weight _points.now i) _points.now.states row.entry 0 result }
 {
     row.step(0)
 }
@@ -43,9 +43,9 @@ pub(crate) fn next_step(
     column: usize,
 ) -> Option<Step>
     requires point { i < point_count _points.now }
-    requires row { IsRowOf (weight_of _points.now i) _points.now.states row }
-    requires next { IsStepFrom (weight_of _points.now i) _points.now.states row column next }
-    ensures { IsStepFrom (weight_of _points.now i) _points.now.states row.entry (column + 1) result }
+    requires row { IsRowOf (point_weight _points.now i) _points.now.states row }
+    requires next { IsStepFrom (point_weight _points.now i) _points.now.states row column next }
+    ensures { IsStepFrom (point_weight _points.now i) _points.now.states row.entry (column + 1) result }
 {
     match next {
         None => None,

@@ -1,15 +1,16 @@
 -- The names of std and of specs that several proofs of this crate cite, passed on from one place. Declares nothing.
 pub use Rattle.polcert_cells.specs.Elements.{most_actions, most_states}
 pub use Rattle.polcert_policy.specs.Fields.{is_joined, is_successor, is_successor_of, is_whole, minus_kind, number_at, numeral_kind}
-pub use Rattle.polcert_policy.specs.Fields.{successor_of, whole_of}
-pub use Rattle.polcert_policy.specs.FullForm.{action_text, after_value, values_text, vectors_text_up_to}
-pub use Rattle.polcert_policy.specs.GraphText.{IsColumn, IsGraphRefusal, IsGraphText, IsMisfit, IsWrong, joined_minus}
-pub use Rattle.polcert_policy.specs.Graphs.{HasNodesOnly, IsFirstBeyond, IsGraph, IsLooseGraph, IsPossible, IsProperGraph, PolicyGraph}
+pub use Rattle.polcert_policy.specs.Fields.{successor_of, whole_number_of}
+pub use Rattle.polcert_policy.specs.FullForm.{action_line, after_value, values_text, vectors_text_up_to}
+pub use Rattle.polcert_policy.specs.GraphText.{IsColumn, IsGraphRefusal, IsGraphText, IsGraphMisfit, IsWrongGraphToken, joined_minus}
+pub use Rattle.polcert_policy.specs.Graphs.{HasNodesOnly, IsFirstBeyond, IsGraph, IsLooseGraph, IsPossibleGraph, IsProperGraph, PolicyGraph}
 pub use Rattle.polcert_policy.specs.Graphs.{action_of, most_nodes, next_of, nodes, width}
 pub use Rattle.polcert_policy.specs.Steps.GraphRead.{Advanced, AllBelow, AreNodesUpTo, HasCounts, HasNodes, IsApartFrom, IsLastMinus}
 pub use Rattle.polcert_policy.specs.Steps.GraphRead.{IsRead, IsTokenRefusal, IsUnfinished}
 pub use Rattle.polcert_policy.specs.Steps.Kept.{cap, kept_of}
-pub use Rattle.polcert_policy.specs.Steps.VectorsRead.{AdvancedValue, AreUnfinished, AreVectorsUpTo, HasVectors, IsPartRefusal, is_minus}
+pub use Rattle.polcert_policy.specs.Steps.VectorsRead.{AdvancedValue, AreUnfinished, AreVectorsUpTo, HasReadVectors, IsPartRefusal}
+pub use Rattle.polcert_policy.specs.Steps.VectorsRead.{is_minus}
 pub use Rattle.polcert_policy.specs.Steps.VectorsRead.{kept_sign, open_of}
 pub use Rattle.polcert_policy.specs.VectorText.{IsPartColumn, IsPartMisfit, IsRefusedRoundedVectorsText, IsRoundedVectorsRefusal}
 pub use Rattle.polcert_policy.specs.VectorText.{IsRoundedVectorsText, is_part_shaped, last_sign}

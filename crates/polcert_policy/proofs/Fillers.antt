@@ -5,7 +5,7 @@ use Rattle.polcert_policy.proofs.Common.{is_digit, size_of, IsRounded, Measures,
 use Rattle.polcert_policy.proofs.Common.{IsValuePart, Rounding}
 use Rattle.polcert_text.specs.Bytes.{is_point, is_exponent_mark}
 use Rattle.polcert_text.specs.Lexemes.{is_numeral}
-use Rattle.polcert_text.specs.Numbers.{number_of, exponent_size, power_of}
+use Rattle.polcert_text.specs.Numbers.{significand, exponent_size, power_of}
 use Rattle.polcert_text.proofs.Numbers.FrontNumbers.{some_digits}
 use Rattle.polcert_text.proofs.Numbers.SignedLaws.{rounded_whole}
 use Rattle.polcert_text.proofs.Numbers.SizeLaws.{millionth_pos}
@@ -14,8 +14,8 @@ use Rattle.polcert_text.proofs.Printing.PrintLaws.{decimal_digits}
 abbrev pub zero_bytes : List ℕ
 zero_bytes = 48 ∷ []
 
-number_zero : number_of zero_bytes ≡ 0
-unfolding is_point is_exponent_mark number_of
+number_zero : significand zero_bytes ≡ 0
+unfolding is_point is_exponent_mark significand
 number_zero = refl
 
 exponent_zero : exponent_size zero_bytes ≡ 0

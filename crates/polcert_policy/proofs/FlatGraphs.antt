@@ -3,7 +3,8 @@ use Rattle.std.proofs.Common.{◌≡◌, ◌∙◌, ℕ, suc, zero, ◌+◌, ◌
 use Rattle.std.proofs.Common.{map, codes, slice_get, get_or, refl, sym, ap, subst, arith}
 use Rattle.polcert_policy.proofs.Common.{range_with_len, length-map-range_with_len, get_or-map-range_with_len, get_or_from_slice_get}
 use Rattle.polcert_policy.proofs.Common.{slice_get-get_or, Lexeme, IsCut, text_rest, text_limit, are_digits, TokenKind, Name, Numeral}
-use Rattle.polcert_policy.proofs.Common.{Minus, numeral_kind, minus_kind, is_whole, whole_of, is_successor, is_successor_of, successor_of}
+use Rattle.polcert_policy.proofs.Common.{Minus, numeral_kind, minus_kind, is_whole, whole_number_of, is_successor, is_successor_of}
+use Rattle.polcert_policy.proofs.Common.{successor_of}
 use Rattle.polcert_policy.proofs.Common.{number_at, is_joined, PolicyGraph, nodes, action_of, next_of, width, IsLooseGraph, HasNodesOnly}
 use Rattle.polcert_policy.proofs.Common.{IsGraph, IsGraphText}
 use Rattle.std.proofs.lemmas.Bool.Decides.{nat_tests}
@@ -20,7 +21,7 @@ use Rattle.polcert_policy.proofs.FlatRows.{row_long, row_at, rows_zip}
 whole_parts : (k : TokenKind) (b : Bool) → (numeral_kind k && b) ≡ true → (k ≡ Numeral) × (b ≡ true)
 whole_parts k b h1 = grind arith
 
-pub whole_is : (t : Lexeme) (n : ℕ) → is_whole t ≡ true → whole_of t ≡ n → IsWhole t n
+pub whole_is : (t : Lexeme) (n : ℕ) → is_whole t ≡ true → whole_number_of t ≡ n → IsWhole t n
 whole_is t n whole value = let parts = whole_parts t.kind (are_digits t.bytes) whole in
     record { kind = parts.0; digits = parts.1; value = value }
 
@@ -33,7 +34,7 @@ x_bytes bs h1 = grind arith
 successor_field : (t : Lexeme) → is_successor t ≡ true → IsField t (successor_of t)
 successor_field t right = at t.kind refl right
   where
-    at : (k : TokenKind) → t.kind ≡ k → is_successor_of k t.bytes ≡ true → IsField t (number_at k (whole_of t))
+    at : (k : TokenKind) → t.kind ≡ k → is_successor_of k t.bytes ≡ true → IsField t (number_at k (whole_number_of t))
     at Numeral e digits = graphs.number (record { kind = e; digits = digits; value = refl })
     at Name e is = graphs.x (record { kind = e; bytes = x_bytes t.bytes is })
     at Minus e is = graphs.dash e
@@ -142,7 +143,7 @@ module _ (a o : ℕ) (ts : List Lexeme) (g : PolicyGraph) where
       at n (suc zero) t f l k here is =
           let was = loose.records.action n t (subst (λ p. slice_get ts p ≡ Some t) (omega arith) here) in
           subst (IsField t) (same_some (Some (action_of g n)) f is)
-          (graphs.number (whole_is t (action_of g n) was.whole (sym (get_or_from_slice_get g.chosen n (whole_of t) 0 was.value))))
+          (graphs.number (whole_is t (action_of g n) was.whole (sym (get_or_from_slice_get g.chosen n (whole_number_of t) 0 was.value))))
       at n (suc (suc z)) t f l k here is =
           let below : z < o = omega (arith, k) in
           let was = loose.records.next n z t below (subst (λ p. slice_get ts p ≡ Some t) (omega arith) here) in

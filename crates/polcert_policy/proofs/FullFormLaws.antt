@@ -3,7 +3,7 @@ use Rattle.polcert_policy.proofs.Common.{common_steps, list_all, ints, take_more
 use Rattle.polcert_policy.proofs.Common.{scaled_text, largest, Measures, Rounding, PolicyGraph, nodes, action_of, IsProperGraph}
 use Rattle.polcert_policy.proofs.Common.{PolicyVectors, Part, sign_kind, tokens_of, value_of, IsActionPart, IsValuePart, IsRoundedVectors}
 use Rattle.polcert_policy.proofs.Common.{IsInRange, AreProperVectors, IsRoundedVectorsText, AreVectorsUpTo, after_value, values_text}
-use Rattle.polcert_policy.proofs.Common.{action_text, vectors_text_up_to}
+use Rattle.polcert_policy.proofs.Common.{action_line, vectors_text_up_to}
 use Rattle.std.proofs.Common.{◌≡◌, ◌∙◌, ℕ, ℤ, suc, zero, ◌+◌, ◌-◌, ◌*◌, ◌^◌, ◌<◌, ◌≤◌, Bool, true, false, cond, pos, negsuc, None, List, []}
 use Rattle.std.proofs.Common.{◌∷◌, ◌++◌, length, take, decimal, codes, refl, sym, ap, subst, arith, append_assoc, append-nil, length-append}
 use Rattle.std.proofs.Common.{take_all}
@@ -134,7 +134,7 @@ text-values v n (suc s) =
 text-all : (g : PolicyGraph) (v : PolicyVectors) (n : ℕ) → texts_of (all_printed g v n) ≡ vectors_text_up_to g v n
 text-all g v zero = refl
 text-all g v (suc n) =
-    texts-append (all_printed g v n) (vector_printed g v n) ∙ (λ i. text-all g v n i ++ (action_text g n ++ text-values v n v.states i))
+    texts-append (all_printed g v n) (vector_printed g v n) ∙ (λ i. text-all g v n i ++ (action_line g n ++ text-values v n v.states i))
 
 parts-append : (place : ℕ) (us ws : List Printed) → parts_from place (us ++ ws)
     ≡ parts_from place us ++ parts_from (place + length (texts_of us)) ws

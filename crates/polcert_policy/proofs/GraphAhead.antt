@@ -1,7 +1,7 @@
 -- A successor that stands whole at the front of some bytes.
 use Rattle.std.proofs.Common.{◌≡◌, ◌∙◌, ℕ, ◌+◌, ◌≤◌, ◌==◌, min, true, ◌&&◌, Option, Some, None, List, [], ◌∷◌, ◌++◌, length, refl, sym, ap}
 use Rattle.std.proofs.Common.{subst}
-use Rattle.polcert_policy.proofs.Common.{Lexeme, are_digits, ReadsOn, Numeral, numeral_kind, minus_kind, whole_of, is_successor_of}
+use Rattle.polcert_policy.proofs.Common.{Lexeme, are_digits, ReadsOn, Numeral, numeral_kind, minus_kind, whole_number_of, is_successor_of}
 use Rattle.polcert_policy.proofs.Common.{number_at, cap, kept_of, IsRead, IsLastMinus, IsApartFrom, Advanced, GraphReading}
 use Rattle.std.specs.Str.Parse.{digits_value}
 use Rattle.polcert_policy.proofs.ReadLaws.{read_successor, last_minus}
@@ -18,7 +18,7 @@ pub successor_reads : (old mid new : GraphReading) (t : Lexeme) (value : ℕ) (s
     → ReadsOn (λ (_ : Unit {0}). IsRead) old new (t ∷ [])
 successor_reads old mid new t value successor l none none_after ea eo en ec ecs es next numeral digits spelled kept = λ x seen h.
     let right = ap (λ k. is_successor_of k t.bytes) numeral ∙ digits in
-    let same = kept ∙ sym (ap (λ k. kept_of (number_at k (whole_of t))) numeral ∙ ap (λ n. Some (min cap n)) spelled) in
+    let same = kept ∙ sym (ap (λ k. kept_of (number_at k (whole_number_of t))) numeral ∙ ap (λ n. Some (min cap n)) spelled) in
     record {
       nodes = read_successor old mid new seen t successor l ea eo en ec ecs es next h.nodes
           (apart_none seen t (subst (IsLastMinus seen) none h.last)) right same;

@@ -2,8 +2,8 @@
 use Rattle.std.proofs.Common.{◌≡◌, ◌∙◌, ℕ, suc, zero, ◌+◌, ◌-◌, ◌*◌, ◌<◌, ◌≤◌, ◌==◌, Bool, true, false, ◌&&◌, ⊎_elim, Option, Some, List}
 use Rattle.std.proofs.Common.{[], ◌∷◌, ◌++◌, length, slice_get, refl, sym, ap, subst, arith, length-append, append_assoc, append-nil, lit<}
 use Rattle.std.proofs.Math.Path.{subst₂}
-use Rattle.polcert_policy.proofs.Common.{is_digit, Lexeme, TokenKind, Name, Numeral, numeral_kind, minus_kind, is_whole, whole_of}
-use Rattle.polcert_policy.proofs.Common.{is_successor, successor_of, is_joined, PolicyGraph, nodes, IsLooseGraph, IsPossible, width}
+use Rattle.polcert_policy.proofs.Common.{is_digit, Lexeme, TokenKind, Name, Numeral, numeral_kind, minus_kind, is_whole, whole_number_of}
+use Rattle.polcert_policy.proofs.Common.{is_successor, successor_of, is_joined, PolicyGraph, nodes, IsLooseGraph, IsPossibleGraph, width}
 use Rattle.polcert_policy.proofs.Common.{most_nodes, AreNodesUpTo, IsApartFrom}
 use Rattle.polcert_policy.specs.Graphs.{IsAction, IsSuccessor, AreNodes}
 use Rattle.polcert_policy.proofs.Places.{some_columns, row_above, same_row, same_column, get_snoc, get_more, get_here, get_within}
@@ -11,7 +11,7 @@ use Rattle.polcert_policy.proofs.Places.{within_get, same_some, same_list, row_o
 
 -- what a token is at its place
 pub record Fits (actions observations node column : ℕ) (t : Lexeme) (chosen : List ℕ) (successors : List (Option ℕ)) : Type 0 where
-  pub number : column ≡ 0 → (is_whole t ≡ true) × (whole_of t ≡ node)
+  pub number : column ≡ 0 → (is_whole t ≡ true) × (whole_number_of t ≡ node)
   pub action : column ≡ 1 → IsAction actions chosen node t
   pub next : (z : ℕ) → column ≡ 2 + z → IsSuccessor successors (node * observations + z) t
 
@@ -34,7 +34,7 @@ more_nodes a o ts t cs ds ss us node column old count within keep_c keep_s apart
       let e : n * width o + 0 ≡ node * width o + column = omega (arith, r.0, count) in
       let row = same_row (width o) n node 0 column (omega arith) within e in
       let col = same_column (width o) n node 0 column (omega arith) within e in
-      let P : Lexeme → Type 0 = λ x. (is_whole x ≡ true) × (whole_of x ≡ n) in
+      let P : Lexeme → Type 0 = λ x. (is_whole x ≡ true) × (whole_number_of x ≡ n) in
       let was = fits.number (sym col) in
       subst P r.1 (was.0, was.1 ∙ sym row))
       (get_snoc ts t u (n * width o) at);
@@ -76,7 +76,7 @@ at_end : {X : Type 0} (xs : List X) (y : X) (k : ℕ) → k ≡ length xs → sl
 at_end xs y k e = ap (λ n. slice_get (xs ++ y ∷ []) n) e ∙ get_here xs [] y
 
 pub step_number : (a o : ℕ) (ts : List Lexeme) (t : Lexeme) (node : ℕ) (cs : List ℕ) (ss : List (Option ℕ))
-    → AreNodesUpTo a o ts node 0 cs ss → IsApartFrom ts t → is_whole t ≡ true → whole_of t ≡ node → node < most_nodes
+    → AreNodesUpTo a o ts node 0 cs ss → IsApartFrom ts t → is_whole t ≡ true → whole_number_of t ≡ node → node < most_nodes
     → AreNodesUpTo a o (ts ++ t ∷ []) node 1 cs ss
 step_number a o ts t node cs ss old apart whole value few =
     record {
@@ -92,24 +92,25 @@ step_number a o ts t node cs ss old apart whole value few =
     }
 
 pub step_action : (a o : ℕ) (ts : List Lexeme) (t : Lexeme) (node : ℕ) (cs : List ℕ) (ss : List (Option ℕ))
-    → 1 ≤ o → AreNodesUpTo a o ts node 1 cs ss → IsApartFrom ts t → is_whole t ≡ true → whole_of t < a
-    → AreNodesUpTo a o (ts ++ t ∷ []) node 2 (cs ++ whole_of t ∷ []) ss
+    → 1 ≤ o → AreNodesUpTo a o ts node 1 cs ss → IsApartFrom ts t → is_whole t ≡ true → whole_number_of t < a
+    → AreNodesUpTo a o (ts ++ t ∷ []) node 2 (cs ++ whole_number_of t ∷ []) ss
 step_action a o ts t node cs ss some old apart whole known =
     let place : node ≡ length cs = sym (old.chosen_before (omega arith)) in
     record {
-      records = more_nodes a o ts t cs (cs ++ whole_of t ∷ []) ss ss node 1 old.records old.count old.within (pushed_places cs (whole_of t))
+      records = more_nodes a o ts t cs (cs ++ whole_number_of t ∷ []) ss ss node 1 old.records old.count old.within
+          (pushed_places cs (whole_number_of t))
           (same_places ss) apart
           (record {
             number = λ e. absurd (omega (arith, e));
             action =
-                λ e. record { whole = whole; known = known; value = at_end cs (whole_of t) node place };
+                λ e. record { whole = whole; known = known; value = at_end cs (whole_number_of t) node place };
             next =
                 λ z e. absurd (omega (arith, e));
           });
       count = omega (arith, length_snoc ts t, old.count);
       within = omega arith;
       chosen_before = λ l. absurd (omega (arith, l));
-      chosen_after = λ l. omega (arith, length_snoc cs (whole_of t), place);
+      chosen_after = λ l. omega (arith, length_snoc cs (whole_number_of t), place);
       filled = omega (arith, old.filled);
       few = old.few;
       few_begun = λ l. old.few_begun (omega arith);
@@ -155,10 +156,10 @@ pub loose_of : (a o : ℕ) (ts : List Lexeme) (node : ℕ) (cs : List ℕ) (ss :
 loose_of a o ts node cs ss some old = grind arith
 
 -- a front of possible tokens is possible
-pub possible_before : (a o : ℕ) (ts us : List Lexeme) → IsPossible a o (ts ++ us) → IsPossible a o ts
+pub possible_before : (a o : ℕ) (ts us : List Lexeme) → IsPossibleGraph a o (ts ++ us) → IsPossibleGraph a o ts
 possible_before a o ts us h = grind (arith, append_assoc)
 
-pub possible_loose : (a o : ℕ) (ts : List Lexeme) (g : PolicyGraph) → IsLooseGraph a o ts g → IsPossible a o ts
+pub possible_loose : (a o : ℕ) (ts : List Lexeme) (g : PolicyGraph) → IsLooseGraph a o ts g → IsPossibleGraph a o ts
 possible_loose a o ts g h = ([], (g, subst (λ xs. IsLooseGraph a o xs g) (sym (append-nil ts)) h))
 
 -- the name `X`, and the numeral `0`
@@ -180,7 +181,7 @@ zero_whole = refl
 
 -- after whole fronts of a node, successors that name no node complete it
 possible_successors : (a o : ℕ) (left : ℕ) (ts : List Lexeme) (node z : ℕ) (cs : List ℕ) (ss : List (Option ℕ))
-    → suc z + left ≡ o → AreNodesUpTo a o ts node (2 + z) cs ss → IsPossible a o ts
+    → suc z + left ≡ o → AreNodesUpTo a o ts node (2 + z) cs ss → IsPossibleGraph a o ts
 possible_successors a o zero ts node z cs ss e old =
     let new = step_successor a o ts letter_x node z (suc node) 0 cs ss old (x_apart ts) refl
     (record { inside = λ l. absurd (omega (arith, l, e)); last = λ e. (refl, refl) }) in
@@ -195,7 +196,7 @@ no_minus_whole : (k : TokenKind) (b c : Bool) → (numeral_kind k && b) ≡ true
 no_minus_whole k b c h1 = grind arith
 
 possible_action : (a o : ℕ) (ts : List Lexeme) (node : ℕ) (cs : List ℕ) (ss : List (Option ℕ))
-    → 1 ≤ a → 1 ≤ o → AreNodesUpTo a o ts node 1 cs ss → IsPossible a o ts
+    → 1 ≤ a → 1 ≤ o → AreNodesUpTo a o ts node 1 cs ss → IsPossibleGraph a o ts
 possible_action a o ts node cs ss some_a some_o old =
     let apart : IsApartFrom ts digit_0 = λ k s at e.
     let here : slice_get ts (node * width o) ≡ Some s = subst (λ n. slice_get ts n ≡ Some s) (omega (arith, e, old.count)) at in
@@ -204,14 +205,14 @@ possible_action a o ts node cs ss some_a some_o old =
     possible_before a o ts (digit_0 ∷ []) (possible_successors a o (o - 1) _ node 0 _ ss (omega (arith, some_o)) new)
 
 possible_start : (a o : ℕ) (ts : List Lexeme) (cs : List ℕ) (ss : List (Option ℕ))
-    → 1 ≤ a → 1 ≤ o → AreNodesUpTo a o ts 0 0 cs ss → IsPossible a o ts
+    → 1 ≤ a → 1 ≤ o → AreNodesUpTo a o ts 0 0 cs ss → IsPossibleGraph a o ts
 possible_start a o ts cs ss some_a some_o old =
     let new = step_number a o ts digit_0 0 cs ss old (λ k s at e. absurd (omega (arith, e, old.count))) zero_whole refl (lit< tt) in
     possible_before a o ts (digit_0 ∷ []) (possible_action a o _ 0 cs ss some_a some_o new)
 
 -- what is read is possible
 pub possible : (a o : ℕ) (ts : List Lexeme) (node column : ℕ) (cs : List ℕ) (ss : List (Option ℕ))
-    → 1 ≤ a → 1 ≤ o → AreNodesUpTo a o ts node column cs ss → IsPossible a o ts
+    → 1 ≤ a → 1 ≤ o → AreNodesUpTo a o ts node column cs ss → IsPossibleGraph a o ts
 possible a o ts zero zero cs ss some_a some_o old = possible_start a o ts cs ss some_a some_o old
 possible a o ts (suc node) zero cs ss some_a some_o old =
     possible_loose a o ts _ (loose_of a o ts (suc node) cs ss (omega arith) old)
@@ -259,7 +260,7 @@ same_action : (a o : ℕ) (ts : List Lexeme) (g h : PolicyGraph) → IsLooseGrap
     → (k : ℕ) (x y : ℕ) → slice_get g.chosen k ≡ Some x → slice_get h.chosen k ≡ Some y → x ≡ y
 same_action a o ts g h p q k x y ex ey =
     let token = get_within ts (k * width o + 1) (omega (arith, row_above (width o) k (nodes g) (within_get g.chosen k x ex), p.tokens)) in
-    same_values x y (whole_of token.0) (sym ex ∙ (p.records.action k token.0 token.1).value)
+    same_values x y (whole_number_of token.0) (sym ex ∙ (p.records.action k token.0 token.1).value)
     (sym ey ∙ (q.records.action k token.0 token.1).value)
 
 same_next : (a o : ℕ) (ts : List Lexeme) (g h : PolicyGraph) → IsLooseGraph a o ts g → IsLooseGraph a o ts h

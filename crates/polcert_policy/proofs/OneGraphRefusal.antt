@@ -2,7 +2,8 @@
 use Rattle.std.proofs.Common.{◌≡◌, ◌∙◌, ℕ, ◌+◌, ◌*◌, ◌<◌, inl, inr, true, false, Option, Some, None, List, length, refl, sym, ap, subst}
 use Rattle.std.proofs.Common.{arith}
 use Rattle.polcert_policy.proofs.Common.{Lexeme, text_rest, text_limit, TokenFault, PolicyGraph, nodes, IsLooseGraph, IsFirstBeyond}
-use Rattle.polcert_policy.proofs.Common.{IsPossible, width, most_nodes, IsColumn, joined_minus, IsMisfit, IsWrong, IsGraphRefusal}
+use Rattle.polcert_policy.proofs.Common.{IsPossibleGraph, width, most_nodes, IsColumn, joined_minus, IsGraphMisfit, IsWrongGraphToken}
+use Rattle.polcert_policy.proofs.Common.{IsGraphRefusal}
 use Rattle.polcert_policy.proofs.Common.{GraphFault}
 use Rattle.polcert_policy.specs.GraphText.{is_shaped}
 use Rattle.polcert_policy.specs.declared.fault.GraphFault.TheVariants as faults
@@ -27,14 +28,15 @@ not_after o ts n c x few y = let e = (columns o ts n c most_nodes 0 x y).0 in om
 other_column : (o : ℕ) (ts : List Lexeme) (n m : ℕ) → IsColumn o ts n 0 → IsColumn o ts m 1 → ⊥
 other_column o ts n m x y = let e = (columns o ts n 0 m 1 x y).1 in omega (arith, e)
 
-one_misfit : (a o : ℕ) (ts : List Lexeme) (t : Lexeme) (f g : GraphFault) → IsMisfit a o ts t f → IsMisfit a o ts t g → f ≡ g
+one_misfit : (a o : ℕ) (ts : List Lexeme) (t : Lexeme) (f g : GraphFault) → IsGraphMisfit a o ts t f → IsGraphMisfit a o ts t g → f ≡ g
 one_misfit a o ts t (faults.BadShape p) (faults.BadShape q) x y = ap faults.BadShape (x.0 ∙ sym y.0)
 one_misfit a o ts t (faults.NodeOutOfOrder p) (faults.NodeOutOfOrder q) x y = ap faults.NodeOutOfOrder (x.0 ∙ sym y.0)
 one_misfit a o ts t (faults.ActionOutOfRange p) (faults.ActionOutOfRange q) x y = ap faults.ActionOutOfRange (x.0 ∙ sym y.0)
 one_misfit a o ts t (faults.TooManyNodes p) (faults.TooManyNodes q) x y = ap faults.TooManyNodes (x.0 ∙ sym y.0)
 one_misfit a o ts t _ _ x y = absurd (search (wrong_shape, not_after, other_column, x, y))
 
-one_wrong : (m : Option Lexeme) (a o : ℕ) (ts : List Lexeme) (t : Lexeme) (f g : GraphFault) → IsWrong m a o ts t f → IsWrong m a o ts t g
+one_wrong : (m : Option Lexeme) (a o : ℕ) (ts : List Lexeme) (t : Lexeme) (f g : GraphFault) → IsWrongGraphToken m a o ts t f
+    → IsWrongGraphToken m a o ts t g
     → f ≡ g
 one_wrong m a o ts t f g h1 h2 = grind (arith, one_misfit)
 
@@ -68,7 +70,8 @@ one_end a o text ts _ _ _ x y = absurd (search (part_or_whole, none_or_some, who
 
 module _ (a o : ℕ) (text : List ℕ) where
   abbrev HasReason : GraphFault → Type 0
-  HasReason f = stops.HasReason (λ ts. IsPossible a o ts) (possible_before a o) (λ ts t. IsWrong (joined_minus ts t) a o ts t)
+  HasReason f = stops.HasReason (λ ts. IsPossibleGraph a o ts) (possible_before a o)
+      (λ ts t. IsWrongGraphToken (joined_minus ts t) a o ts t)
       (EndsFor a o text) (text_rest text text_limit) f
 
   reason : (f : GraphFault) → (f ≡ faults.Memory → ⊥) → IsGraphRefusal a o text f → HasReason f
@@ -84,6 +87,7 @@ module _ (a o : ℕ) (text : List ℕ) where
   pub one_refusal : (f g : GraphFault) → (f ≡ faults.Memory → ⊥) → (g ≡ faults.Memory → ⊥) → IsGraphRefusal a o text f
       → IsGraphRefusal a o text g → f ≡ g
   one_refusal f g f_says g_says x y =
-      stops.one_reason (λ ts. IsPossible a o ts) (possible_before a o) (λ ts t. IsWrong (joined_minus ts t) a o ts t) (EndsFor a o text)
+      stops.one_reason (λ ts. IsPossibleGraph a o ts) (possible_before a o) (λ ts t. IsWrongGraphToken (joined_minus ts t) a o ts t)
+      (EndsFor a o text)
       (text_rest text text_limit)
       (λ ts t. one_wrong (joined_minus ts t) a o ts t) (one_end a o text) f g (reason f f_says x) (reason g g_says y)

@@ -5,17 +5,17 @@ use Rattle.std.proofs.Common.{append_assoc}
 use Rattle.std.specs.Prelude.{◌==◌, codes}
 use Rattle.std.proofs.lemmas.Bool.{eqb-true}
 use Rattle.polcert_policy.proofs.Common.{Lexeme, Numeral, Plus, Minus, Name, TokenKind, range_with_len, get_or_from_slice_get, numeral_kind}
-use Rattle.polcert_policy.proofs.Common.{minus_kind, sign_kind, is_whole, whole_of, is_successor, successor_of}
+use Rattle.polcert_policy.proofs.Common.{minus_kind, sign_kind, is_whole, whole_number_of, is_successor, successor_of}
 use Rattle.polcert_cells.specs.declared.elements.Cell.{Cell}
 use Rattle.polcert_cells.specs.Sparse.{weight_at}
 use Rattle.polcert_text.specs.Numbers.{IsCeil}
-use Rattle.polcert_policy.specs.Points.{PointValues, weight_of, value_at, named_at, most_points}
+use Rattle.polcert_policy.specs.Points.{PointValues, point_weight, value_at, named_at, most_points}
 use Rattle.polcert_policy.specs.PointTokens.{PointsSoFar, nothing_read, with_weight, after_weight, field_after_name, kept_name, minus_of}
 use Rattle.polcert_policy.specs.PointTokens.{sign_of, is_joined_to, is_negated, IsWeight, TakesNumber, TakesWeight, TakesSign, TakesValue}
-use Rattle.polcert_policy.specs.PointTokens.{TakesName, TakesField, Takes, TakesAll}
+use Rattle.polcert_policy.specs.PointTokens.{TakesName, TakesField, TakesPointToken, TakesAll}
 use Rattle.polcert_policy.specs.PointFields as flat
 use Rattle.polcert_policy.specs.PointText.{ArePointTokens, NamesPointsOnly}
-use Rattle.polcert_policy.specs.PointFields.{Field, AreFields, AreFieldTokens, IsNotJoined, weight_fields, name_fields, action_fields}
+use Rattle.polcert_policy.specs.PointFields.{Field, ArePointFields, AreFieldTokens, IsNotJoined, weight_fields, name_fields, action_fields}
 use Rattle.polcert_policy.specs.PointFields.{point_fields}
 use Rattle.polcert_policy.specs.declared.vectors.OpenSign.{OpenSign}
 use Rattle.polcert_policy.specs.declared.points_reading.PointField.{PointField}
@@ -69,7 +69,7 @@ module _ (S A Z : ℕ) where
   field_grows (fields.Name a z) old new t x = subst (Grows old) (sym x.new_is)
       (record { rows = λ k v e. e; values = λ k v e. e; names = λ k v e. get_more old.names (kept_name (successor_of t) ∷ []) v k e })
 
-  taken_grows : (old new : PointsSoFar) (t : Lexeme) → Takes S A Z old t new → Grows old new
+  taken_grows : (old new : PointsSoFar) (t : Lexeme) → TakesPointToken S A Z old t new → Grows old new
   taken_grows old new t x = let g = field_grows old.field (record old { minus = None }) new t x.field in
       record { rows = g.rows; values = g.values; names = g.names }
 
@@ -79,7 +79,7 @@ module _ (S A Z : ℕ) where
 
   -- ---- the field that comes next
 
-  field_at : (f : PointField) (old new : PointsSoFar) (t : Lexeme) → old.field ≡ f → Takes S A Z old t new
+  field_at : (f : PointField) (old new : PointsSoFar) (t : Lexeme) → old.field ≡ f → TakesPointToken S A Z old t new
       → TakesField S A Z f (record old { minus = None }) t new
   field_at f old new t e x = subst (λ g. TakesField S A Z g (record old { minus = None }) t new) e x.field
 
@@ -180,14 +180,14 @@ module _ (S A Z : ℕ) (some_s : 1 ≤ S) (some_a : 1 ≤ A) (some_z : 1 ≤ Z) 
   IsClosed _ sign = sign ≡ None
 
   abbrev FieldsAt : PointField → PointsSoFar → List Lexeme → Type 0
-  FieldsAt fields.Number old ts = (k : ℕ) → length old.rows + k ≡ length last.rows → AreFields ts (rest_points (length old.rows) k)
+  FieldsAt fields.Number old ts = (k : ℕ) → length old.rows + k ≡ length last.rows → ArePointFields ts (rest_points (length old.rows) k)
   FieldsAt (fields.Weight s) old ts = (j r : ℕ) → s + j ≡ S → length old.rows + 1 + r ≡ length last.rows
-      → AreFields ts (rest_weights (length old.rows) s j r)
+      → ArePointFields ts (rest_weights (length old.rows) s j r)
   FieldsAt (fields.Value a) old ts = (i k r : ℕ) → length old.rows ≡ i + 1 → a + k ≡ A → i + 1 + r ≡ length last.rows
-      → (old.sign ≡ None → AreFields ts (rest_actions i a k r))
-      × ((u : Lexeme) → sign_kind u.kind ≡ true → old.sign ≡ Some (sign_of u) → AreFields (u ∷ ts) (rest_actions i a k r))
+      → (old.sign ≡ None → ArePointFields ts (rest_actions i a k r))
+      × ((u : Lexeme) → sign_kind u.kind ≡ true → old.sign ≡ Some (sign_of u) → ArePointFields (u ∷ ts) (rest_actions i a k r))
   FieldsAt (fields.Name a z) old ts = (i j k r : ℕ) → length old.rows ≡ i + 1 → z + j ≡ Z → a + 1 + k ≡ A → i + 1 + r ≡ length last.rows
-      → AreFields ts (rest_names i a z j k r)
+      → ArePointFields ts (rest_names i a z j k r)
 
   -- ---- a token more
 
@@ -197,43 +197,44 @@ module _ (S A Z : ℕ) (some_s : 1 ≤ S) (some_a : 1 ≤ A) (some_z : 1 ≤ Z) 
   number_fields old between t ts y few next (suc k) l =
       let same : length between.rows ≡ length old.rows = ap (λ st. length st.rows) y.new_is in
       let rest = next S k (omega arith) (omega (arith, l, same)) in
-      let moved = subst (λ n. AreFields ts (rest_weights n 0 S k)) same rest in
+      let moved = subst (λ n. ArePointFields ts (rest_weights n 0 S k)) same rest in
       let n = length old.rows in
       flat.number (whole_is t n y.whole y.number)
-      (subst (AreFields ts) (sym (append_assoc (weight_fields points n (range_with_len 0 S))
+      (subst (ArePointFields ts) (sym (append_assoc (weight_fields points n (range_with_len 0 S))
       (flat_map (action_fields points n) (range_with_len 0 A)) (rest_points (n + 1) k))) moved)
 
   weight_of_read : (n s w sum : ℕ) (row : List Cell) → HasWeights s row sum → FoundRow n (suc s) (with_weight s w row)
-      → weight_of points n s ≡ w
+      → point_weight points n s ≡ w
   weight_of_read n s w sum row h found = ap (λ r. weight_at r s) (get_or_from_slice_get last.rows n found.final [] found.found)
       ∙ found.same s (omega arith) ∙ weight_put s w sum row h
 
   -- the weights after that of state s
   weights_left : (s w : ℕ) (old between : PointsSoFar) (ts : List Lexeme) → between ≡ after_weight S s w old → between.sign ≡ None
       → FieldsAt between.field between ts
-      → (j r : ℕ) → suc s + j ≡ S → length old.rows + 1 + r ≡ length last.rows → AreFields ts (rest_weights (length old.rows) (s + 1) j r)
+      → (j r : ℕ) → suc s + j ≡ S → length old.rows + 1 + r ≡ length last.rows
+      → ArePointFields ts (rest_weights (length old.rows) (s + 1) j r)
   weights_left s w old between ts e closed next j r lj lr = at (suc s == S) refl e
     where
       more : between.field ≡ fields.Weight (suc s) → length between.rows ≡ length old.rows
-          → AreFields ts (rest_weights (length old.rows) (s + 1) j r)
+          → ArePointFields ts (rest_weights (length old.rows) (s + 1) j r)
       more f same =
           let at_next : FieldsAt (fields.Weight (suc s)) between ts = subst (λ g. FieldsAt g between ts) f next in
           let one : suc s ≡ s + 1 = omega arith in
-          subst (λ n. AreFields ts (rest_weights n (s + 1) j r)) same
-          (subst (λ c. AreFields ts (rest_weights (length between.rows) c j r)) one (at_next j r lj (omega (arith, lr, same))))
+          subst (λ n. ArePointFields ts (rest_weights n (s + 1) j r)) same
+          (subst (λ c. ArePointFields ts (rest_weights (length between.rows) c j r)) one (at_next j r lj (omega (arith, lr, same))))
 
       ended : suc s ≡ S → between.field ≡ fields.Value 0 → length between.rows ≡ length old.rows + 1
-          → AreFields ts (rest_weights (length old.rows) (s + 1) j r)
+          → ArePointFields ts (rest_weights (length old.rows) (s + 1) j r)
       ended is f same =
           let at_next : FieldsAt (fields.Value 0) between ts = subst (λ g. FieldsAt g between ts) f next in
           let none : 0 ≡ j = omega arith in
-          subst (λ k. AreFields ts (rest_weights (length old.rows) (s + 1) k r)) none
+          subst (λ k. ArePointFields ts (rest_weights (length old.rows) (s + 1) k r)) none
           ((at_next (length old.rows) A r same (omega arith) lr).0 closed)
 
       at : (b : Bool) → (suc s == S) ≡ b → between ≡ (if b then record old
           { field = fields.Value 0; mass = old.mass + w; row = []; rows = old.rows ++ with_weight s w old.row ∷ [] } else record old
           { field = fields.Weight (suc s); mass = old.mass + w; row = with_weight s w old.row })
-          → AreFields ts (rest_weights (length old.rows) (s + 1) j r)
+          → ArePointFields ts (rest_weights (length old.rows) (s + 1) j r)
       at true b is = ended (eqb-true (suc s) S b) (ap (λ st. st.field) is)
           (ap (λ st. length st.rows) is ∙ length-append old.rows (with_weight s w old.row ∷ []))
       at false b is = more (ap (λ st. st.field) is) (ap (λ st. length st.rows) is)
@@ -244,7 +245,7 @@ module _ (S A Z : ℕ) (some_s : 1 ≤ S) (some_a : 1 ≤ A) (some_z : 1 ≤ Z) 
       → FieldsAt (fields.Weight s) old (t ∷ ts)
   weight_fields_read s old between t ts at y closed found next zero r lj lr = absurd (omega (arith, at.state, lj))
   weight_fields_read s old between t ts at y closed found next (suc j) r lj lr =
-      let value : weight_of points (length old.rows) s ≡ y.weight =
+      let value : point_weight points (length old.rows) s ≡ y.weight =
       weight_of_read (length old.rows) s y.weight old.mass old.row at.weights found in
       flat.weight (is_numeral t.kind y.numeral) (subst (IsWeight t.bytes) (sym value) y.is_weight)
       (weights_left s y.weight (record old { minus = None }) between ts y.new_is closed next j r (omega (arith, lj)) lr)
@@ -265,8 +266,8 @@ module _ (S A Z : ℕ) (some_s : 1 ≤ S) (some_a : 1 ≤ A) (some_z : 1 ≤ Z) 
       (ap (slice_get last.values) (sym l) ∙ stays (length values) h (get_here values [] h))
 
   module _ (a : ℕ) (old between : PointsSoFar) (t : Lexeme) (ts : List Lexeme) (y : TakesValue a (record old { minus = None }) t between)
-      (h : ℤ) (is : h ≡ y.value) (fs : List Field) (tail : AreFields ts fs) where
-    plain_field : old.sign ≡ None → AreFields (t ∷ ts) (flat.value_field h ∷ fs)
+      (h : ℤ) (is : h ≡ y.value) (fs : List Field) (tail : ArePointFields ts fs) where
+    plain_field : old.sign ≡ None → ArePointFields (t ∷ ts) (flat.value_field h ∷ fs)
     plain_field e =
         flat.unsigned (record {
           kind = is_numeral t.kind y.numeral;
@@ -275,13 +276,14 @@ module _ (S A Z : ℕ) (some_s : 1 ≤ S) (some_a : 1 ≤ A) (some_z : 1 ≤ Z) 
               subst (IsCeil false t.bytes) (sym is) (subst (λ s. IsCeil (is_negated s) t.bytes y.value) e y.rounded);
         }) tail
 
-    signed_field : (u : Lexeme) → sign_kind u.kind ≡ true → old.sign ≡ Some (sign_of u) → AreFields (u ∷ t ∷ ts) (flat.value_field h ∷ fs)
+    signed_field : (u : Lexeme) → sign_kind u.kind ≡ true → old.sign ≡ Some (sign_of u)
+        → ArePointFields (u ∷ t ∷ ts) (flat.value_field h ∷ fs)
     signed_field u kind e = by (is_sign u.kind kind)
       where
         rounded : IsCeil (minus_kind u.kind) t.bytes h
         rounded = subst (IsCeil (minus_kind u.kind) t.bytes) (sym is) (subst (λ s. IsCeil (is_negated s) t.bytes y.value) e y.rounded)
 
-        by : (u.kind ≡ Plus) ⊎ (u.kind ≡ Minus) → AreFields (u ∷ t ∷ ts) (flat.value_field h ∷ fs)
+        by : (u.kind ≡ Plus) ⊎ (u.kind ≡ Minus) → ArePointFields (u ∷ t ∷ ts) (flat.value_field h ∷ fs)
         by (inl k) = flat.plus k (record {
           kind = is_numeral t.kind y.numeral;
           readable = y.readable;
@@ -303,8 +305,9 @@ module _ (S A Z : ℕ) (some_s : 1 ≤ S) (some_a : 1 ≤ A) (some_z : 1 ≤ Z) 
       let rows : length between.rows ≡ i + 1 = ap (λ st. length st.rows) y.new_is ∙ li in
       let tail = next i Z k r rows (omega arith) (omega (arith, lk)) lr in
       let names = name_fields points i a (range_with_len 0 Z) in
-      let joined : AreFields ts ((names ++ flat_map (action_fields points i) (range_with_len (a + 1) k)) ++ rest_points (i + 1) r) =
-      subst (AreFields ts) (sym (append_assoc names (flat_map (action_fields points i) (range_with_len (a + 1) k)) (rest_points (i + 1) r)))
+      let joined : ArePointFields ts ((names ++ flat_map (action_fields points i) (range_with_len (a + 1) k)) ++ rest_points (i + 1) r) =
+      subst (ArePointFields ts) (sym (append_assoc names (flat_map (action_fields points i) (range_with_len (a + 1) k))
+      (rest_points (i + 1) r)))
       tail in
       let point : at.point ≡ i = omega (arith, at.point_is, li) in
       let here : length old.values ≡ i * A + a = at.lists.values_are ∙ ap (λ n. n * A + a) point in
@@ -333,21 +336,21 @@ module _ (S A Z : ℕ) (some_s : 1 ≤ S) (some_a : 1 ≤ A) (some_z : 1 ≤ Z) 
 
   -- a token that names a point or none
   named_field : (t : Lexeme) (ts : List Lexeme) (fs : List Field) (v : Option ℕ) → is_successor t ≡ true → v ≡ successor_of t
-      → (t.kind ≡ Minus → IsNotJoined t ts) → AreFields ts fs → AreFields (t ∷ ts) (flat.name_field v ∷ fs)
-  named_field t ts fs v names e apart tail = subst (λ w. AreFields (t ∷ ts) (flat.name_field w ∷ fs)) (sym e) (by t.kind refl)
+      → (t.kind ≡ Minus → IsNotJoined t ts) → ArePointFields ts fs → ArePointFields (t ∷ ts) (flat.name_field v ∷ fs)
+  named_field t ts fs v names e apart tail = subst (λ w. ArePointFields (t ∷ ts) (flat.name_field w ∷ fs)) (sym e) (by t.kind refl)
     where
-      by : (k : TokenKind) → t.kind ≡ k → AreFields (t ∷ ts) (flat.name_field (successor_of t) ∷ fs)
+      by : (k : TokenKind) → t.kind ≡ k → ArePointFields (t ∷ ts) (flat.name_field (successor_of t) ∷ fs)
       by Numeral k =
           let whole : is_whole t ≡ true = grind arith in
-          let same : Some (whole_of t) ≡ successor_of t = grind arith in
-          subst (λ w. AreFields (t ∷ ts) (flat.name_field w ∷ fs)) same (flat.named (whole_is t (whole_of t) whole refl) tail)
+          let same : Some (whole_number_of t) ≡ successor_of t = grind arith in
+          subst (λ w. ArePointFields (t ∷ ts) (flat.name_field w ∷ fs)) same (flat.named (whole_is t (whole_number_of t) whole refl) tail)
       by Name k =
           let same : None ≡ successor_of t = grind arith in
           let bytes : t.bytes ≡ codes "X" = grind arith in
-          subst (λ w. AreFields (t ∷ ts) (flat.name_field w ∷ fs)) same (flat.x (record { kind = k; bytes = bytes }) tail)
+          subst (λ w. ArePointFields (t ∷ ts) (flat.name_field w ∷ fs)) same (flat.x (record { kind = k; bytes = bytes }) tail)
       by Minus k =
           let same : None ≡ successor_of t = grind arith in
-          subst (λ w. AreFields (t ∷ ts) (flat.name_field w ∷ fs)) same (flat.dash k (apart k) tail)
+          subst (λ w. ArePointFields (t ∷ ts) (flat.name_field w ∷ fs)) same (flat.dash k (apart k) tail)
       by k e = grind arith
 
   not_joined : (t : Lexeme) (ts : List Lexeme) (between : PointsSoFar) → between.minus ≡ minus_of t → TakesAll S A Z between ts last
@@ -366,7 +369,7 @@ module _ (S A Z : ℕ) (some_s : 1 ≤ S) (some_a : 1 ≤ A) (some_z : 1 ≤ Z) 
   names_left : (a z i : ℕ) (old between : PointsSoFar) (ts : List Lexeme) → between.field ≡ field_after_name A Z a z
       → between.rows ≡ old.rows → between.sign ≡ None → FieldsAt between.field between ts
       → (j k r : ℕ) → length old.rows ≡ i + 1 → suc z + j ≡ Z → a + 1 + k ≡ A → i + 1 + r ≡ length last.rows
-      → AreFields ts (rest_names i a (z + 1) j k r)
+      → ArePointFields ts (rest_names i a (z + 1) j k r)
   names_left a z i old between ts e same closed next j k r li lj lk lr = at (suc z == Z) (suc a == A) refl refl e
     where
       rows : length between.rows ≡ i + 1
@@ -374,27 +377,28 @@ module _ (S A Z : ℕ) (some_s : 1 ≤ S) (some_a : 1 ≤ A) (some_z : 1 ≤ Z) 
 
       at : (b c : Bool) → (suc z == Z) ≡ b → (suc a == A) ≡ c
           → between.field ≡ (if b then (if c then fields.Number else fields.Value (suc a)) else fields.Name a (suc z))
-          → AreFields ts (rest_names i a (z + 1) j k r)
+          → ArePointFields ts (rest_names i a (z + 1) j k r)
       at true true iz ia f =
           let last_z = eqb-true (suc z) Z iz in
           let last_a = eqb-true (suc a) A ia in
           let at_next : FieldsAt fields.Number between ts = subst (λ g. FieldsAt g between ts) f next in
           let no_name : 0 ≡ j = omega (arith, lj, last_z) in
           let no_action : 0 ≡ k = omega (arith, lk, last_a) in
-          let tail = subst (λ n. AreFields ts (rest_points n r)) rows (at_next r (omega (arith, rows, lr))) in
-          subst (λ x. AreFields ts (rest_names i a (z + 1) x k r)) no_name
-          (subst (λ y. AreFields ts (rest_actions i (a + 1) y r)) no_action tail)
+          let tail = subst (λ n. ArePointFields ts (rest_points n r)) rows (at_next r (omega (arith, rows, lr))) in
+          subst (λ x. ArePointFields ts (rest_names i a (z + 1) x k r)) no_name
+          (subst (λ y. ArePointFields ts (rest_actions i (a + 1) y r)) no_action tail)
       at true false iz ia f =
           let last_z = eqb-true (suc z) Z iz in
           let at_next : FieldsAt (fields.Value (suc a)) between ts = subst (λ g. FieldsAt g between ts) f next in
           let no_name : 0 ≡ j = omega (arith, lj, last_z) in
           let one : suc a ≡ a + 1 = omega arith in
           let tail = (at_next i k r rows (omega (arith, lk)) lr).0 closed in
-          subst (λ x. AreFields ts (rest_names i a (z + 1) x k r)) no_name (subst (λ b. AreFields ts (rest_actions i b k r)) one tail)
+          subst (λ x. ArePointFields ts (rest_names i a (z + 1) x k r)) no_name
+          (subst (λ b. ArePointFields ts (rest_actions i b k r)) one tail)
       at false c iz ia f =
           let at_next : FieldsAt (fields.Name a (suc z)) between ts = subst (λ g. FieldsAt g between ts) f next in
           let one : suc z ≡ z + 1 = omega arith in
-          subst (λ x. AreFields ts (rest_names i a x j k r)) one (at_next i j k r rows lj lk lr)
+          subst (λ x. ArePointFields ts (rest_names i a x j k r)) one (at_next i j k r rows lj lk lr)
 
   module _ (few : length last.rows ≤ most_points) (bound : (k m : ℕ) → slice_get last.names k ≡ Some (Some m) → m < length last.rows) where
     name_fields_read : (a z : ℕ) (old between : PointsSoFar) (t : Lexeme) (ts : List Lexeme) → IsSoundField S A Z (fields.Name a z) old
@@ -438,7 +442,7 @@ module _ (S A Z : ℕ) (some_s : 1 ≤ S) (some_a : 1 ≤ A) (some_z : 1 ≤ Z) 
         → (f : PointField) → old.field ≡ f → FieldsAt f old ts
     fields_read [] old h c x fields.Number e = λ k l.
         let none : 0 ≡ k = omega (arith, l, ap (λ st. length st.rows) x) in
-        subst (λ n. AreFields [] (rest_points (length old.rows) n)) none flat.none
+        subst (λ n. ArePointFields [] (rest_points (length old.rows) n)) none flat.none
     fields_read [] old h c x (fields.Weight s) e = absurd (weight_no_number s (sym e ∙ ap (λ st. st.field) x ∙ whole))
     fields_read [] old h c x (fields.Value a) e = absurd (value_no_number a (sym e ∙ ap (λ st. st.field) x ∙ whole))
     fields_read [] old h c x (fields.Name a z) e = absurd (name_no_number a z (sym e ∙ ap (λ st. st.field) x ∙ whole))

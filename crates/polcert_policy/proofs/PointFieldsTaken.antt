@@ -13,12 +13,12 @@ use Rattle.polcert_cells.specs.Words.{IsWord}
 use Rattle.polcert_cells.specs.Sparse.{weight_at, IsRow}
 use Rattle.polcert_cells.proofs.SparseLaws.{Climbs, climbs_from, weight_head, weight_tail, weight_below, row_same}
 use Rattle.polcert_text.specs.Numbers.{IsCeil}
-use Rattle.polcert_policy.specs.Points.{PointValues, IsMass, IsPointRow, weight_of, value_at, named_at, most_points}
+use Rattle.polcert_policy.specs.Points.{PointValues, IsMass, IsPointRow, point_weight, value_at, named_at, most_points}
 use Rattle.polcert_policy.specs.PointTokens.{PointsSoFar, nothing_read, with_weight, after_weight, field_after_name, kept_name, minus_of}
 use Rattle.polcert_policy.specs.PointTokens.{sign_of, is_joined_to, is_negated, IsApart, IsWeight, TakesField, TakesAll}
 use Rattle.polcert_policy.specs.PointFields as flat
 use Rattle.polcert_policy.specs.PointText.{ArePointTokens}
-use Rattle.polcert_policy.specs.PointFields.{Field, AreFields, AreFieldTokens, IsNotJoined, weight_fields, name_fields, action_fields}
+use Rattle.polcert_policy.specs.PointFields.{Field, ArePointFields, AreFieldTokens, IsNotJoined, weight_fields, name_fields, action_fields}
 use Rattle.polcert_policy.specs.PointFields.{point_fields}
 use Rattle.polcert_policy.specs.declared.graph.MinusSign.{MinusSign}
 use Rattle.polcert_policy.specs.declared.points_reading.PointField.{PointField}
@@ -99,22 +99,22 @@ whole_begins xs ys b l = sym (b.1 ∙ same_count xs b.0 (sym (ap length b.1) ∙
 
 -- ---- the first field
 
-inv_number : (t : Lexeme) (ts : List Lexeme) (n : ℕ) (fs : List Field) → AreFields (t ∷ ts) (flat.number_field n ∷ fs) → IsWhole t n
-    × AreFields ts fs
+inv_number : (t : Lexeme) (ts : List Lexeme) (n : ℕ) (fs : List Field) → ArePointFields (t ∷ ts) (flat.number_field n ∷ fs) → IsWhole t n
+    × ArePointFields ts fs
 inv_number t ts n fs (flat.number is rest) = (is, rest)
 
-inv_weight : (t : Lexeme) (ts : List Lexeme) (w : ℕ) (fs : List Field) → AreFields (t ∷ ts) (flat.weight_field w ∷ fs)
+inv_weight : (t : Lexeme) (ts : List Lexeme) (w : ℕ) (fs : List Field) → ArePointFields (t ∷ ts) (flat.weight_field w ∷ fs)
     → (t.kind ≡ Numeral)
-    × IsWeight t.bytes w × AreFields ts fs
+    × IsWeight t.bytes w × ArePointFields ts fs
 inv_weight t ts w fs (flat.weight kind is rest) = (kind, is, rest)
 
 -- the numeral of a value after its sign
 abbrev IsSigned : Bool → ℤ → List Lexeme → List Field → Type 0
 IsSigned negative h [] fs = ⊥
-IsSigned negative h (t ∷ ts) fs = IsNumeral IsCeil negative t h × AreFields ts fs
+IsSigned negative h (t ∷ ts) fs = IsNumeral IsCeil negative t h × ArePointFields ts fs
 
-inv_value : (t : Lexeme) (ts : List Lexeme) (h : ℤ) (fs : List Field) → AreFields (t ∷ ts) (flat.value_field h ∷ fs)
-    → (IsNumeral IsCeil false t h × AreFields ts fs) ⊎ ((sign_kind t.kind ≡ true) × IsSigned (minus_kind t.kind) h ts fs)
+inv_value : (t : Lexeme) (ts : List Lexeme) (h : ℤ) (fs : List Field) → ArePointFields (t ∷ ts) (flat.value_field h ∷ fs)
+    → (IsNumeral IsCeil false t h × ArePointFields ts fs) ⊎ ((sign_kind t.kind ≡ true) × IsSigned (minus_kind t.kind) h ts fs)
 inv_value t ts h fs (flat.unsigned is rest) = inl (is, rest)
 inv_value t (u ∷ us) h fs (flat.plus e is rest) = inr
     (ap sign_kind e, (subst (λ b. IsNumeral IsCeil b u h) (sym (ap minus_kind e)) is, rest))
@@ -126,9 +126,9 @@ abbrev IsNameOf : Lexeme → List Lexeme → Option ℕ → Type 0
 IsNameOf t ts (Some n) = IsWhole t n
 IsNameOf t ts None = IsWord (codes "X") t ⊎ ((t.kind ≡ Minus) × IsNotJoined t ts)
 
-inv_name : (t : Lexeme) (ts : List Lexeme) (v : Option ℕ) (fs : List Field) → AreFields (t ∷ ts) (flat.name_field v ∷ fs)
+inv_name : (t : Lexeme) (ts : List Lexeme) (v : Option ℕ) (fs : List Field) → ArePointFields (t ∷ ts) (flat.name_field v ∷ fs)
     → IsNameOf t ts v
-    × AreFields ts fs
+    × ArePointFields ts fs
 inv_name t ts (Some n) fs (flat.named is rest) = (is, rest)
 inv_name t ts None fs (flat.x is rest) = (inl is, rest)
 inv_name t ts None fs (flat.dash kind apart rest) = (inr (kind, apart), rest)
@@ -218,7 +218,7 @@ module _ (S A Z : ℕ) (some_s : 1 ≤ S) (some_a : 1 ≤ A) (some_z : 1 ≤ Z) 
     pub count : length old.rows + left ≡ length rows
     pub front : Front (length old.rows * A) (length old.rows * A * Z) old
     pub row : old.row ≡ []
-    pub tokens : AreFields ts (rest_points (length old.rows) left)
+    pub tokens : ArePointFields ts (rest_points (length old.rows) left)
 
   pub record AtWeight (s : ℕ) (old : PointsSoFar) (ts : List Lexeme) : Type 0 where
     pub closed : old.sign ≡ None
@@ -228,9 +228,9 @@ module _ (S A Z : ℕ) (some_s : 1 ≤ S) (some_a : 1 ≤ A) (some_z : 1 ≤ Z) 
     pub states_count : s + states_left ≡ S
     pub count : length old.rows + 1 + left ≡ length rows
     pub front : Front (length old.rows * A) (length old.rows * A * Z) old
-    pub row : IsRow s (weight_of p (length old.rows)) old.row
-    pub mass : old.mass ≡ sum_below (weight_of p (length old.rows)) s
-    pub tokens : AreFields ts (rest_weights (length old.rows) s states_left left)
+    pub row : IsRow s (point_weight p (length old.rows)) old.row
+    pub mass : old.mass ≡ sum_below (point_weight p (length old.rows)) s
+    pub tokens : ArePointFields ts (rest_weights (length old.rows) s states_left left)
 
   pub record AtValue (a : ℕ) (old : PointsSoFar) (ts : List Lexeme) : Type 0 where
     pub point : ℕ
@@ -242,7 +242,7 @@ module _ (S A Z : ℕ) (some_s : 1 ≤ S) (some_a : 1 ≤ A) (some_z : 1 ≤ Z) 
     pub count : point + 1 + left ≡ length rows
     pub front : Front (point * A + a) ((point * A + a) * Z) old
     pub row : old.row ≡ []
-    pub tokens : ((old.sign ≡ None) × AreFields ts (rest_actions point a actions_left left))
+    pub tokens : ((old.sign ≡ None) × ArePointFields ts (rest_actions point a actions_left left))
         ⊎ ((k : ℕ) × (actions_left ≡ suc k) × IsSigned (is_negated old.sign) (value_at p point a) ts (rest_names point a 0 Z k left))
 
   pub record AtName (a z : ℕ) (old : PointsSoFar) (ts : List Lexeme) : Type 0 where
@@ -259,7 +259,7 @@ module _ (S A Z : ℕ) (some_s : 1 ≤ S) (some_a : 1 ≤ A) (some_z : 1 ≤ Z) 
     pub count : point + 1 + left ≡ length rows
     pub front : Front (point * A + suc a) ((point * A + a) * Z + z) old
     pub row : old.row ≡ []
-    pub tokens : AreFields ts (rest_names point a z names_left actions_left left)
+    pub tokens : ArePointFields ts (rest_names point a z names_left actions_left left)
 
   abbrev At : PointField → PointsSoFar → List Lexeme → Type 0
   At fields.Number old ts = AtNumber old ts
@@ -289,7 +289,7 @@ module _ (S A Z : ℕ) (some_s : 1 ≤ S) (some_a : 1 ≤ A) (some_z : 1 ≤ Z) 
 
   number_next : (k : ℕ) (old : PointsSoFar) (t : Lexeme) (ts : List Lexeme) → old.field ≡ fields.Number → old.sign ≡ None
       → length old.rows + k ≡ length rows → Front (length old.rows * A) (length old.rows * A * Z) old → old.row ≡ []
-      → AreFields (t ∷ ts) (rest_points (length old.rows) k) → Next old t ts
+      → ArePointFields (t ∷ ts) (rest_points (length old.rows) k) → Next old t ts
   number_next zero old t ts e closed l front row h = elim h [ ]
   number_next (suc k) old t ts e closed l front row h =
       let n = length old.rows in
@@ -315,7 +315,7 @@ module _ (S A Z : ℕ) (some_s : 1 ≤ S) (some_a : 1 ≤ A) (some_z : 1 ≤ Z) 
                 front.values_are;
             names_are = front.names_are;
           };
-          row = subst (IsRow 0 (weight_of p n)) (sym row) (record {
+          row = subst (IsRow 0 (point_weight p n)) (sym row) (record {
             sparse = record {
               rising = grind (arith, common_steps);
               within = grind (arith, common_steps);
@@ -325,7 +325,7 @@ module _ (S A Z : ℕ) (some_s : 1 ≤ S) (some_a : 1 ≤ A) (some_z : 1 ≤ Z) 
             each = λ c l. absurd (omega (arith, l));
           });
           mass = refl;
-          tokens = subst (AreFields ts) (append_assoc (weight_fields p n (range_with_len 0 S))
+          tokens = subst (ArePointFields ts) (append_assoc (weight_fields p n (range_with_len 0 S))
               (flat_map (action_fields p n) (range_with_len 0 A)) (rest_points (n + 1) k)) parts.1;
         };
       }
@@ -335,45 +335,47 @@ module _ (S A Z : ℕ) (some_s : 1 ≤ S) (some_a : 1 ≤ A) (some_z : 1 ≤ Z) 
   row_is : (n : ℕ) → n < length rows → IsPointRow S (get_or rows n [])
   row_is n l = rows_are n (get_or rows n []) (slice_get-get_or rows n [] l)
 
-  row_next : (n s : ℕ) (row : List Cell) → IsRow s (weight_of p n) row
-      → IsRow (suc s) (weight_of p n) (with_weight s (weight_of p n s) row)
+  row_next : (n s : ℕ) (row : List Cell) → IsRow s (point_weight p n) row
+      → IsRow (suc s) (point_weight p n) (with_weight s (point_weight p n s) row)
   row_next n s row r =
-      row_same (suc s) (with_value (weight_of p n) s (weight_of p n s)) (weight_of p n) (with_weight s (weight_of p n s) row) same
-      (row_with (weight_of p n) s (weight_of p n s) row r)
+      row_same (suc s) (with_value (point_weight p n) s (point_weight p n s)) (point_weight p n) (with_weight s (point_weight p n s) row)
+      same
+      (row_with (point_weight p n) s (point_weight p n s) row r)
     where
-      same : (c : ℕ) → c < suc s → with_value (weight_of p n) s (weight_of p n s) c ≡ weight_of p n c
-      same c l = ⊎_elim (λ (k : c < s). value_before (weight_of p n) s (weight_of p n s) c k)
-          (λ (e : c ≡ s). ap (with_value (weight_of p n) s (weight_of p n s)) e ∙ value_there (weight_of p n) s (weight_of p n s)
-          ∙ ap (weight_of p n) (sym e)) (below_or_same c s (omega (arith, l)))
+      same : (c : ℕ) → c < suc s → with_value (point_weight p n) s (point_weight p n s) c ≡ point_weight p n c
+      same c l = ⊎_elim (λ (k : c < s). value_before (point_weight p n) s (point_weight p n s) c k)
+          (λ (e : c ≡ s). ap (with_value (point_weight p n) s (point_weight p n s)) e
+          ∙ value_there (point_weight p n) s (point_weight p n s)
+          ∙ ap (point_weight p n) (sym e)) (below_or_same c s (omega (arith, l)))
 
   weight_next : (j : ℕ) (s : ℕ) (old : PointsSoFar) (t : Lexeme) (ts : List Lexeme) → old.field ≡ fields.Weight s
-      → (at : AtWeight s old (t ∷ ts)) → at.states_left ≡ j → AreFields (t ∷ ts) (rest_weights (length old.rows) s j at.left)
+      → (at : AtWeight s old (t ∷ ts)) → at.states_left ≡ j → ArePointFields (t ∷ ts) (rest_weights (length old.rows) s j at.left)
       → Next old t ts
   weight_next zero s old t ts e at is h = absurd (omega (arith, at.state, at.states_count, is))
   weight_next (suc j) s old t ts e at is h = by (suc s == S) refl
     where
-      parts : (t.kind ≡ Numeral) × IsWeight t.bytes (weight_of p (length old.rows) s)
-          × AreFields ts (rest_weights (length old.rows) (s + 1) j at.left)
-      parts = inv_weight t ts (weight_of p (length old.rows) s) (rest_weights (length old.rows) (s + 1) j at.left) h
+      parts : (t.kind ≡ Numeral) × IsWeight t.bytes (point_weight p (length old.rows) s)
+          × ArePointFields ts (rest_weights (length old.rows) (s + 1) j at.left)
+      parts = inv_weight t ts (point_weight p (length old.rows) s) (rest_weights (length old.rows) (s + 1) j at.left) h
 
-      row : IsRow (suc s) (weight_of p (length old.rows)) (with_weight s (weight_of p (length old.rows) s) old.row)
+      row : IsRow (suc s) (point_weight p (length old.rows)) (with_weight s (point_weight p (length old.rows) s) old.row)
       row = row_next (length old.rows) s old.row at.row
 
-      mass : old.mass + weight_of p (length old.rows) s ≡ sum_below (weight_of p (length old.rows)) (suc s)
-      mass = ap (λ m. m + weight_of p (length old.rows) s) at.mass
+      mass : old.mass + point_weight p (length old.rows) s ≡ sum_below (point_weight p (length old.rows)) (suc s)
+      mass = ap (λ m. m + point_weight p (length old.rows) s) at.mass
 
       inside : length old.rows < length rows
       inside = omega (arith, at.count)
 
-      is_mass : suc s ≡ S → IsMass (old.mass + weight_of p (length old.rows) s)
-      is_mass last = subst IsMass (sym (mass ∙ ap (sum_below (weight_of p (length old.rows))) last))
+      is_mass : suc s ≡ S → IsMass (old.mass + point_weight p (length old.rows) s)
+      is_mass last = subst IsMass (sym (mass ∙ ap (sum_below (point_weight p (length old.rows))) last))
           (row_is (length old.rows) inside).mass
 
-      takes : (new : PointsSoFar) → new ≡ after_weight S s (weight_of p (length old.rows) s) (record old { minus = None })
+      takes : (new : PointsSoFar) → new ≡ after_weight S s (point_weight p (length old.rows) s) (record old { minus = None })
           → TakesField S A Z old.field (record old { minus = None }) t new
       takes new same = field_taken (fields.Weight s) old new t e
           (record {
-            weight = weight_of p (length old.rows) s;
+            weight = point_weight p (length old.rows) s;
             numeral = ap numeral_kind parts.0;
             is_weight = parts.1;
             is_mass =
@@ -384,18 +386,18 @@ module _ (S A Z : ℕ) (some_s : 1 ≤ S) (some_a : 1 ≤ A) (some_z : 1 ≤ Z) 
       by : (b : Bool) → (suc s == S) ≡ b → Next old t ts
       by true is_last =
           let last = eqb-true (suc s) S is_last in
-          let final : with_weight s (weight_of p (length old.rows) s) old.row ≡ get_or rows (length old.rows) [] =
-          one_row S (weight_of p (length old.rows)) _ _ (subst
-          (λ m. IsRow m (weight_of p (length old.rows)) (with_weight s (weight_of p (length old.rows) s) old.row)) last row)
+          let final : with_weight s (point_weight p (length old.rows) s) old.row ≡ get_or rows (length old.rows) [] =
+          one_row S (point_weight p (length old.rows)) _ _ (subst
+          (λ m. IsRow m (point_weight p (length old.rows)) (with_weight s (point_weight p (length old.rows) s) old.row)) last row)
           (record { sparse = (row_is (length old.rows) inside).sparse; each = λ c l. refl }) in
           let new : PointsSoFar = record old {
             minus = None;
             field = fields.Value 0;
             mass =
-                old.mass + weight_of p (length old.rows) s;
+                old.mass + point_weight p (length old.rows) s;
             row = [];
             rows =
-                old.rows ++ with_weight s (weight_of p (length old.rows) s) old.row ∷ [];
+                old.rows ++ with_weight s (point_weight p (length old.rows) s) old.row ∷ [];
           } in
           let none : j ≡ 0 = omega (arith, at.states_count, is, last) in
           record {
@@ -404,23 +406,23 @@ module _ (S A Z : ℕ) (some_s : 1 ≤ S) (some_a : 1 ≤ A) (some_z : 1 ≤ Z) 
               minus = None;
               field = fields.Value 0;
               mass =
-                  old.mass + weight_of p (length old.rows) s;
+                  old.mass + point_weight p (length old.rows) s;
               row = [];
               rows =
-                  old.rows ++ with_weight s (weight_of p (length old.rows) s) old.row ∷ [];
+                  old.rows ++ with_weight s (point_weight p (length old.rows) s) old.row ∷ [];
             } else record old {
               minus = None;
               field = fields.Weight (suc s);
-              mass = old.mass + weight_of p (length old.rows) s;
+              mass = old.mass + point_weight p (length old.rows) s;
               row =
-                  with_weight s (weight_of p (length old.rows) s) old.row;
+                  with_weight s (point_weight p (length old.rows) s) old.row;
             }) (sym is_last));
             apart = no_minus ts;
             at = record {
               point = length old.rows;
               actions_left = A;
               left = at.left;
-              point_is = length-append old.rows (with_weight s (weight_of p (length old.rows) s) old.row ∷ []);
+              point_is = length-append old.rows (with_weight s (point_weight p (length old.rows) s) old.row ∷ []);
               action = some_a;
               actions_count = omega arith;
               count = at.count;
@@ -433,7 +435,7 @@ module _ (S A Z : ℕ) (some_s : 1 ≤ S) (some_a : 1 ≤ A) (some_z : 1 ≤ Z) 
                 names_are = at.front.names_are ∙ ap (λ m. m * Z) (plus_zero (length old.rows * A));
               };
               row = refl;
-              tokens = inl (at.closed, subst (λ k. AreFields ts (rest_weights (length old.rows) (s + 1) k at.left)) none parts.2);
+              tokens = inl (at.closed, subst (λ k. ArePointFields ts (rest_weights (length old.rows) (s + 1) k at.left)) none parts.2);
             };
           }
       by false is_last =
@@ -442,8 +444,8 @@ module _ (S A Z : ℕ) (some_s : 1 ≤ S) (some_a : 1 ≤ A) (some_z : 1 ≤ Z) 
             minus = None;
             field = fields.Weight (suc s);
             mass =
-                old.mass + weight_of p (length old.rows) s;
-            row = with_weight s (weight_of p (length old.rows) s) old.row;
+                old.mass + point_weight p (length old.rows) s;
+            row = with_weight s (point_weight p (length old.rows) s) old.row;
           } in
           let one : s + 1 ≡ suc s = omega arith in
           record {
@@ -452,16 +454,16 @@ module _ (S A Z : ℕ) (some_s : 1 ≤ S) (some_a : 1 ≤ A) (some_z : 1 ≤ Z) 
               minus = None;
               field = fields.Value 0;
               mass =
-                  old.mass + weight_of p (length old.rows) s;
+                  old.mass + point_weight p (length old.rows) s;
               row = [];
               rows =
-                  old.rows ++ with_weight s (weight_of p (length old.rows) s) old.row ∷ [];
+                  old.rows ++ with_weight s (point_weight p (length old.rows) s) old.row ∷ [];
             } else record old {
               minus = None;
               field = fields.Weight (suc s);
-              mass = old.mass + weight_of p (length old.rows) s;
+              mass = old.mass + point_weight p (length old.rows) s;
               row =
-                  with_weight s (weight_of p (length old.rows) s) old.row;
+                  with_weight s (point_weight p (length old.rows) s) old.row;
             }) (sym is_last));
             apart = no_minus ts;
             at = record {
@@ -481,7 +483,7 @@ module _ (S A Z : ℕ) (some_s : 1 ≤ S) (some_a : 1 ≤ A) (some_z : 1 ≤ Z) 
               };
               row = row;
               mass = mass;
-              tokens = subst (λ c. AreFields ts (rest_weights (length old.rows) c j at.left)) one parts.2;
+              tokens = subst (λ c. ArePointFields ts (rest_weights (length old.rows) c j at.left)) one parts.2;
             };
           }
 
@@ -500,7 +502,7 @@ module _ (S A Z : ℕ) (some_s : 1 ≤ S) (some_a : 1 ≤ A) (some_z : 1 ≤ Z) 
 
   value_next : (a : ℕ) (old : PointsSoFar) (t : Lexeme) (ts : List Lexeme) → old.field ≡ fields.Value a → (at : AtValue a old (t ∷ ts))
       → (k : ℕ) → at.actions_left ≡ suc k
-      → IsNumeral IsCeil (is_negated old.sign) t (value_at p at.point a) → AreFields ts (rest_names at.point a 0 Z k at.left)
+      → IsNumeral IsCeil (is_negated old.sign) t (value_at p at.point a) → ArePointFields ts (rest_names at.point a 0 Z k at.left)
       → Next old t ts
   value_next a old t ts e at k is numeral rest =
       let h = value_at p at.point a in
@@ -550,7 +552,7 @@ module _ (S A Z : ℕ) (some_s : 1 ≤ S) (some_a : 1 ≤ A) (some_z : 1 ≤ Z) 
 
   -- a sign, or a numeral without one
   unsigned_next : (j : ℕ) (a : ℕ) (old : PointsSoFar) (t : Lexeme) (ts : List Lexeme) → old.field ≡ fields.Value a
-      → (at : AtValue a old (t ∷ ts)) → at.actions_left ≡ j → old.sign ≡ None → AreFields (t ∷ ts) (rest_actions at.point a j at.left)
+      → (at : AtValue a old (t ∷ ts)) → at.actions_left ≡ j → old.sign ≡ None → ArePointFields (t ∷ ts) (rest_actions at.point a j at.left)
       → Next old t ts
   unsigned_next zero a old t ts e at is closed h = absurd (omega (arith, at.action, at.actions_count, is))
   unsigned_next (suc k) a old t ts e at is closed h =
@@ -562,9 +564,10 @@ module _ (S A Z : ℕ) (some_s : 1 ≤ S) (some_a : 1 ≤ A) (some_z : 1 ≤ Z) 
       more : List Field
       more = flat_map (action_fields p at.point) (range_with_len (a + 1) k)
 
-      regroup : (ts : List Lexeme) → AreFields ts ((name_fields p at.point a (range_with_len 0 Z) ++ flat_map (action_fields p at.point)
-          (range_with_len (a + 1) k)) ++ rest_points (at.point + 1) at.left) → AreFields ts (rest_names at.point a 0 Z k at.left)
-      regroup ts x = subst (AreFields ts) (append_assoc (name_fields p at.point a (range_with_len 0 Z))
+      regroup : (ts : List Lexeme) → ArePointFields ts ((name_fields p at.point a (range_with_len 0 Z) ++ flat_map
+          (action_fields p at.point)
+          (range_with_len (a + 1) k)) ++ rest_points (at.point + 1) at.left) → ArePointFields ts (rest_names at.point a 0 Z k at.left)
+      regroup ts x = subst (ArePointFields ts) (append_assoc (name_fields p at.point a (range_with_len 0 Z))
           (flat_map (action_fields p at.point) (range_with_len (a + 1) k)) (rest_points (at.point + 1) at.left)) x
 
       signed : (us : List Lexeme) (b : Bool) → IsSigned b (value_at p at.point a) us
@@ -576,7 +579,7 @@ module _ (S A Z : ℕ) (some_s : 1 ≤ S) (some_a : 1 ≤ A) (some_z : 1 ≤ Z) 
       signed (u ∷ us) b x = (x.0, regroup us x.1)
 
       by : (IsNumeral IsCeil false t (value_at p at.point a)
-          × AreFields ts ((name_fields p at.point a (range_with_len 0 Z) ++ flat_map (action_fields p at.point)
+          × ArePointFields ts ((name_fields p at.point a (range_with_len 0 Z) ++ flat_map (action_fields p at.point)
           (range_with_len (a + 1) k)) ++
           rest_points (at.point + 1) at.left))
           ⊎ ((sign_kind t.kind ≡ true) × IsSigned (minus_kind t.kind) (value_at p at.point a) ts
@@ -625,12 +628,12 @@ module _ (S A Z : ℕ) (some_s : 1 ≤ S) (some_a : 1 ≤ A) (some_z : 1 ≤ Z) 
       at (Some m) h = ap Some (small m (h m refl))
 
   name_next : (j : ℕ) (a z : ℕ) (old : PointsSoFar) (t : Lexeme) (ts : List Lexeme) → old.field ≡ fields.Name a z
-      → (at : AtName a z old (t ∷ ts)) → at.names_left ≡ j → AreFields (t ∷ ts) (rest_names at.point a z j at.actions_left at.left)
+      → (at : AtName a z old (t ∷ ts)) → at.names_left ≡ j → ArePointFields (t ∷ ts) (rest_names at.point a z j at.actions_left at.left)
       → Next old t ts
   name_next zero a z old t ts e at is h = absurd (omega (arith, at.observation, at.names_count, is))
   name_next (suc j) a z old t ts e at is h = by (suc z == Z) (suc a == A) refl refl
     where
-      parts : IsNameOf t ts (named_at p at.point a z) × AreFields ts (rest_names at.point a (z + 1) j at.actions_left at.left)
+      parts : IsNameOf t ts (named_at p at.point a z) × ArePointFields ts (rest_names at.point a (z + 1) j at.actions_left at.left)
       parts = inv_name t ts (named_at p at.point a z) (rest_names at.point a (z + 1) j at.actions_left at.left) h
 
       inside : (at.point * A + a) * Z + z < length names
@@ -697,9 +700,9 @@ module _ (S A Z : ℕ) (some_s : 1 ≤ S) (some_a : 1 ≤ A) (some_z : 1 ≤ Z) 
             front = front _ _ fields.Number (omega (arith, at.front.values_are, whole))
                 (names_count ∙ row_end (at.point * A + a) z Z last_z ∙ ap (λ n. n * Z) whole);
             row = at.row;
-            tokens = subst (λ n. AreFields ts (rest_points n at.left)) (sym at.point_is)
-                (subst (λ k. AreFields ts (rest_actions at.point (a + 1) k at.left)) no_action
-                (subst (λ x. AreFields ts (rest_names at.point a (z + 1) x at.actions_left at.left)) no_name parts.1));
+            tokens = subst (λ n. ArePointFields ts (rest_points n at.left)) (sym at.point_is)
+                (subst (λ k. ArePointFields ts (rest_actions at.point (a + 1) k at.left)) no_action
+                (subst (λ x. ArePointFields ts (rest_names at.point a (z + 1) x at.actions_left at.left)) no_name parts.1));
           })
         where
           next_point : suc at.point ≡ at.point + 1
@@ -725,8 +728,8 @@ module _ (S A Z : ℕ) (some_s : 1 ≤ S) (some_a : 1 ≤ A) (some_z : 1 ≤ Z) 
             row = at.row;
             tokens = inl (
               at.closed,
-              subst (λ b. AreFields ts (rest_actions at.point b at.actions_left at.left)) one
-                  (subst (λ x. AreFields ts (rest_names at.point a (z + 1) x at.actions_left at.left)) no_name parts.1),
+              subst (λ b. ArePointFields ts (rest_actions at.point b at.actions_left at.left)) one
+                  (subst (λ x. ArePointFields ts (rest_names at.point a (z + 1) x at.actions_left at.left)) no_name parts.1),
             );
           })
       by false c iz ia =
@@ -747,7 +750,7 @@ module _ (S A Z : ℕ) (some_s : 1 ≤ S) (some_a : 1 ≤ A) (some_z : 1 ≤ Z) 
             count = at.count;
             front = front _ _ (fields.Name a (suc z)) at.front.values_are names_count;
             row = at.row;
-            tokens = subst (λ x. AreFields ts (rest_names at.point a x j at.actions_left at.left)) one parts.1;
+            tokens = subst (λ x. ArePointFields ts (rest_names at.point a x j at.actions_left at.left)) one parts.1;
           })
 
   -- ---- all tokens
@@ -757,18 +760,18 @@ module _ (S A Z : ℕ) (some_s : 1 ≤ S) (some_a : 1 ≤ A) (some_z : 1 ≤ Z) 
   next_of (fields.Weight s) old t ts e at = weight_next at.states_left s old t ts e at refl at.tokens
   next_of (fields.Value a) old t ts e at = by at.tokens
     where
-      by : ((old.sign ≡ None) × AreFields (t ∷ ts) (rest_actions at.point a at.actions_left at.left))
+      by : ((old.sign ≡ None) × ArePointFields (t ∷ ts) (rest_actions at.point a at.actions_left at.left))
           ⊎ ((k : ℕ) × (at.actions_left ≡ suc k) × IsSigned (is_negated old.sign) (value_at p at.point a) (t ∷ ts)
           (rest_names at.point a 0 Z k at.left)) → Next old t ts
       by (inl x) = unsigned_next at.actions_left a old t ts e at refl x.0 x.1
       by (inr x) = value_next a old t ts e at x.0 x.1 x.2.0 x.2.1
   next_of (fields.Name a z) old t ts e at = name_next at.names_left a z old t ts e at refl at.tokens
 
-  no_fields : (f : Field) (fs : List Field) → AreFields [] (f ∷ fs) → ⊥
+  no_fields : (f : Field) (fs : List Field) → ArePointFields [] (f ∷ fs) → ⊥
   no_fields f fs h = elim h [ ]
 
   number_end : (k : ℕ) (old : PointsSoFar) → old.field ≡ fields.Number → length old.rows + k ≡ length rows
-      → Front (length old.rows * A) (length old.rows * A * Z) old → AreFields [] (rest_points (length old.rows) k) → Done old []
+      → Front (length old.rows * A) (length old.rows * A * Z) old → ArePointFields [] (rest_points (length old.rows) k) → Done old []
   number_end zero old e l front h =
       let whole : length old.rows ≡ length rows = omega (arith, l) in
       let of_actions : length old.rows * A ≡ length rows * A = ap (λ n. n * A) whole in
@@ -782,15 +785,15 @@ module _ (S A Z : ℕ) (some_s : 1 ≤ S) (some_a : 1 ≤ A) (some_z : 1 ≤ Z) 
       }
   number_end (suc k) old e l front h = absurd (no_fields _ _ h)
 
-  weight_end : (j s : ℕ) (old : PointsSoFar) (r : ℕ) → s < S → s + j ≡ S → AreFields [] (rest_weights (length old.rows) s j r) → ⊥
+  weight_end : (j s : ℕ) (old : PointsSoFar) (r : ℕ) → s < S → s + j ≡ S → ArePointFields [] (rest_weights (length old.rows) s j r) → ⊥
   weight_end zero s old r l m h = omega (arith, l, m)
   weight_end (suc j) s old r l m h = no_fields _ _ h
 
-  value_end : (k a i r : ℕ) → a < A → a + k ≡ A → AreFields [] (rest_actions i a k r) → ⊥
+  value_end : (k a i r : ℕ) → a < A → a + k ≡ A → ArePointFields [] (rest_actions i a k r) → ⊥
   value_end zero a i r l m h = omega (arith, l, m)
   value_end (suc k) a i r l m h = no_fields _ _ h
 
-  name_end : (j a z i k r : ℕ) → z < Z → z + j ≡ Z → AreFields [] (rest_names i a z j k r) → ⊥
+  name_end : (j a z i k r : ℕ) → z < Z → z + j ≡ Z → ArePointFields [] (rest_names i a z j k r) → ⊥
   name_end zero a z i k r l m h = omega (arith, l, m)
   name_end (suc j) a z i k r l m h = no_fields _ _ h
 
@@ -799,7 +802,7 @@ module _ (S A Z : ℕ) (some_s : 1 ≤ S) (some_a : 1 ≤ A) (some_z : 1 ≤ Z) 
   ended (fields.Weight s) old e at = absurd (weight_end at.states_left s old at.left at.state at.states_count at.tokens)
   ended (fields.Value a) old e at = absurd (by at.tokens)
     where
-      by : ((old.sign ≡ None) × AreFields [] (rest_actions at.point a at.actions_left at.left))
+      by : ((old.sign ≡ None) × ArePointFields [] (rest_actions at.point a at.actions_left at.left))
           ⊎ ((k : ℕ) × (at.actions_left ≡ suc k) × IsSigned (is_negated old.sign) (value_at p at.point a) []
           (rest_names at.point a 0 Z k at.left)) → ⊥
       by (inl x) = value_end at.actions_left a at.point at.left at.action at.actions_count x.1
@@ -822,7 +825,7 @@ module _ (S A Z : ℕ) (some_s : 1 ≤ S) (some_a : 1 ≤ A) (some_z : 1 ≤ Z) 
       }
 
   -- the fields of all points are read as the points
-  pub all_taken : (ts : List Lexeme) → AreFields ts (rest_points 0 (length rows)) → ArePointTokens S A Z ts p
+  pub all_taken : (ts : List Lexeme) → ArePointFields ts (rest_points 0 (length rows)) → ArePointTokens S A Z ts p
   all_taken ts h =
       let done = taken ts nothing_read (no_minus ts) (record {
         closed = refl;
@@ -871,6 +874,6 @@ from_fields S A Z ts p some_s some_a some_z are =
           p.values;
       names = p.names;
     } in
-    let fields_are = subst (λ q. AreFields ts (flat_map (point_fields q) (range_with_len 0 (length q.rows)))) same are.fields in
+    let fields_are = subst (λ q. ArePointFields ts (flat_map (point_fields q) (range_with_len 0 (length q.rows)))) same are.fields in
     subst (ArePointTokens S A Z ts) (sym same) (all_taken S A Z some_s some_a some_z p.rows p.values p.names are.few are.rows_are
     are.all_values are.all_names are.bound ts fields_are)

@@ -5,7 +5,8 @@ use Rattle.polcert_text.proofs.TextLaws.{readable_not_refused, one_floor, one_ce
 use Rattle.polcert_text.specs.declared.number.NumberFault.{NumberFault}
 use Rattle.polcert_policy.specs.Points.{IsMass}
 use Rattle.polcert_policy.specs.PointTokens.{PointsSoFar, IsWeight, IsRefusedWeight, TakesNumber, TakesWeight, TakesSign, TakesValue}
-use Rattle.polcert_policy.specs.PointTokens.{TakesField, Takes, TakesAll, IsWrongNumber, IsWrongWeight, IsWrongValue, IsWrongField}
+use Rattle.polcert_policy.specs.PointTokens.{TakesField, TakesPointToken, TakesAll, IsWrongNumber, IsWrongWeight, IsWrongValue}
+use Rattle.polcert_policy.specs.PointTokens.{IsWrongField}
 use Rattle.polcert_policy.specs.PointTokens.{IsWrongPoint, after_weight, is_value_shaped}
 use Rattle.polcert_policy.specs.declared.points_reading.PointField.{PointField}
 use Rattle.polcert_policy.specs.declared.points_reading.PointField.TheVariants as fields
@@ -45,16 +46,16 @@ module _ (S A Z : ℕ) where
   same_field (fields.Name v z) old a b t x y = x.new_is ∙ sym y.new_is
 
   -- a token is taken in one way
-  pub one_taken : (old a b : PointsSoFar) (t : Lexeme) → Takes S A Z old t a → Takes S A Z old t b → a ≡ b
+  pub one_taken : (old a b : PointsSoFar) (t : Lexeme) → TakesPointToken S A Z old t a → TakesPointToken S A Z old t b → a ≡ b
   one_taken old a b t x y = same_field old.field (record old { minus = None }) a b t x.field y.field
 
   pub all_taken : (old a b : PointsSoFar) (ts : List Lexeme) → TakesAll S A Z old ts a → TakesAll S A Z old ts b → a ≡ b
   all_taken old a b [] x y = sym x ∙ y
   all_taken old a b (t ∷ ts) x y = all_taken x.0 a b ts x.2 (subst (λ m. TakesAll S A Z m ts b) (one_taken old y.0 x.0 t y.1 x.1) y.2)
 
-  pub one_more : (old mid new : PointsSoFar) (ts : List Lexeme) (t : Lexeme) → TakesAll S A Z old ts mid → Takes S A Z mid t new
+  pub one_more : (old mid new : PointsSoFar) (ts : List Lexeme) (t : Lexeme) → TakesAll S A Z old ts mid → TakesPointToken S A Z mid t new
       → TakesAll S A Z old (ts ++ t ∷ []) new
-  one_more old mid new [] t x y = (new, subst (λ m. Takes S A Z m t new) (sym x) y, refl)
+  one_more old mid new [] t x y = (new, subst (λ m. TakesPointToken S A Z m t new) (sym x) y, refl)
   one_more old mid new (u ∷ us) t x y = (x.0, x.1, one_more x.0 mid new us t x.2 y)
 
   -- what begins the tokens is taken, and then the rest
@@ -95,6 +96,7 @@ module _ (S A Z : ℕ) where
   field_right (fields.Value a) old new t fault (inr x) y = value_right a old new t fault x y
   field_right (fields.Name a z) old new t fault x y = grind arith
 
-  pub taken_right : (old new : PointsSoFar) (t : Lexeme) (fault : PointFault) → Takes S A Z old t new → IsWrongPoint S old t fault → ⊥
+  pub taken_right : (old new : PointsSoFar) (t : Lexeme) (fault : PointFault) → TakesPointToken S A Z old t new → IsWrongPoint S old t fault
+      → ⊥
   taken_right old new t fault x (inl y) = true_false y.joined (x.apart y.sign y.sign_is)
   taken_right old new t fault x (inr y) = field_right old.field (record old { minus = None }) new t fault x.field y.wrong

@@ -6,7 +6,7 @@ use Rattle.polcert_policy.proofs.Common.{ints, slice_get-get_or, get_or_from_sli
 use Rattle.polcert_cells.specs.declared.elements.Cell.{Cell}
 use Rattle.polcert_cells.specs.Sparse.{weight_at, IsRow}
 use Rattle.polcert_policy.specs.Graphs.{IsBelow}
-use Rattle.polcert_policy.specs.Points.{PointValues, AreProperLists, AreProperPoints, IsPointRow, point_count, weight_of, named_at}
+use Rattle.polcert_policy.specs.Points.{PointValues, AreProperLists, AreProperPoints, IsPointRow, point_count, point_weight, named_at}
 use Rattle.polcert_policy.proofs.Places.{place_inside}
 use Rattle.polcert_policy.proofs.VectorEndLaws.{kept_in_range}
 use mir.Syntax.{w64}
@@ -59,8 +59,8 @@ module _ (S A Z : ℕ) (rows : List (List Cell)) (values : List ℤ) (names : Li
 
 module _ (S A Z : ℕ) (rows : List (List Cell)) (values : List ℤ) (names : List (Option ℕ)) (h : AreProperLists S A Z rows values names)
     (p : PointValues) (e : listed S A Z rows values names h ≡ p) where
-  pub seen_row : (i : ℕ) (cells : List Cell) → slice_get rows i ≡ Some cells → IsRow p.states (weight_of p i) cells
-  seen_row i cells found = subst (λ q. IsRow q.states (weight_of q i) cells) e
+  pub seen_row : (i : ℕ) (cells : List Cell) → slice_get rows i ≡ Some cells → IsRow p.states (point_weight p i) cells
+  seen_row i cells found = subst (λ q. IsRow q.states (point_weight q i) cells) e
       (record {
         sparse = (h.rows_are i cells found).sparse;
         each =

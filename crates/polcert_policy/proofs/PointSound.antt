@@ -11,7 +11,7 @@ use Rattle.polcert_cells.specs.Sparse.{weight_at, IsRow}
 use Rattle.polcert_cells.proofs.SparseLaws.{row_push, row_skip, row_same}
 use Rattle.polcert_policy.specs.Points.{IsMass, IsPointRow, most_points, AreProperLists}
 use Rattle.polcert_policy.specs.PointTokens.{PointsSoFar, nothing_read, with_weight, kept_name, minus_of, TakesNumber, TakesWeight}
-use Rattle.polcert_policy.specs.PointTokens.{TakesSign, TakesValue, TakesName, TakesField, Takes, TakesAll}
+use Rattle.polcert_policy.specs.PointTokens.{TakesSign, TakesValue, TakesName, TakesField, TakesPointToken, TakesAll}
 use Rattle.polcert_policy.specs.declared.points_reading.PointField.{PointField}
 use Rattle.polcert_policy.specs.declared.points_reading.PointField.TheVariants as fields
 use Rattle.polcert_policy.proofs.Places.{get_snoc}
@@ -306,7 +306,7 @@ module _ (S A Z : ℕ) (some_s : 1 ≤ S) (some_a : 1 ≤ A) (some_z : 1 ≤ Z) 
   field_sound (fields.Value a) old new t e h (inr x) = value_sound a old new t e h x
   field_sound (fields.Name a z) old new t e h x = name_sound a z old new t e h x
 
-  pub taken_sound : (old new : PointsSoFar) (t : Lexeme) → IsSound S A Z old → Takes S A Z old t new → IsSound S A Z new
+  pub taken_sound : (old new : PointsSoFar) (t : Lexeme) → IsSound S A Z old → TakesPointToken S A Z old t new → IsSound S A Z new
   taken_sound old new t h x = field_sound old.field (record old { minus = None }) new t refl
       (record { few = h.few; rows_are = h.rows_are; in_range = h.in_range; at = h.at }) x.field
 

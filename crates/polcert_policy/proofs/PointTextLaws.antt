@@ -3,7 +3,7 @@ use Rattle.std.proofs.Common.{◌≡◌, ◌∙◌, ℕ, ◌≤◌, inl, inr, No
 use Rattle.polcert_policy.proofs.Common.{Lexeme, Rest, IsCut, text_rest, text_limit, Taken}
 use Rattle.polcert_text.proofs.Scanning.CleanCut.{clean_cut, clean_tokens}
 use Rattle.polcert_policy.specs.Points.{PointValues}
-use Rattle.polcert_policy.specs.PointTokens.{PointsSoFar, nothing_read, Takes, TakesAll, IsWrongField, IsWrongPoint}
+use Rattle.polcert_policy.specs.PointTokens.{PointsSoFar, nothing_read, TakesPointToken, TakesAll, IsWrongField, IsWrongPoint}
 use Rattle.polcert_policy.specs.PointText.{AreLoosePoints, ArePointTokens, IsPointsText, NamesPointsOnly, BeginPoints, HasWrongPoint}
 use Rattle.polcert_policy.specs.PointText.{EndsInsidePoint, HasFirstUnknown, IsPointsRefusal, IsNoPointsText, IsRefusedPointsText}
 use Rattle.polcert_policy.specs.Steps.PointsRead.{IsMemoryOr, IsPointsEnd}
@@ -68,7 +68,7 @@ module _ (S A Z : ℕ) where
             impossible = λ begin.
                 let front = front_taken S A Z nothing_read begin.0 seen (t ∷ []) begin.1 in
                 let same = all_taken S A Z nothing_read front.0 st seen front.1 read in
-                taken_right S A Z st front.2.0 t fault (subst (λ m. Takes S A Z m t front.2.0) same front.2.1) wrong;
+                taken_right S A Z st front.2.0 t fault (subst (λ m. TakesPointToken S A Z m t front.2.0) same front.2.1) wrong;
             wrong = (st, read, wrong);
           },
         ),
@@ -132,9 +132,9 @@ module _ (S A Z : ℕ) where
 -- ---- the same for a reading of this shape
 
 module _ (S A Z B C D : ℕ) (s : S ≡ B) (a : A ≡ C) (z : Z ≡ D) where
-  pub takes_at : (old new : PointsSoFar) (t : Lexeme) → Takes S A Z old t new → Takes B C D old t new
-  takes_at old new t h = subst (λ x. Takes x C D old t new) s
-      (subst (λ y. Takes S y D old t new) a (subst (λ w. Takes S A w old t new) z h))
+  pub takes_at : (old new : PointsSoFar) (t : Lexeme) → TakesPointToken S A Z old t new → TakesPointToken B C D old t new
+  takes_at old new t h = subst (λ x. TakesPointToken x C D old t new) s
+      (subst (λ y. TakesPointToken S y D old t new) a (subst (λ w. TakesPointToken S A w old t new) z h))
 
   pub takes_all_back : (old new : PointsSoFar) (ts : List Lexeme) → TakesAll B C D old ts new → TakesAll S A Z old ts new
   takes_all_back old new ts h = subst (λ x. TakesAll x A Z old ts new) (sym s)

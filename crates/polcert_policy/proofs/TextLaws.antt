@@ -2,7 +2,7 @@
 use Rattle.std.proofs.Common.{◌≡◌, ℕ, None, List, length, ◌<◌, ◌+◌, ◌*◌, ◌⊎◌, inl, inr, subst, arith}
 use Rattle.std.proofs.Math.Path.{subst₂}
 use Rattle.polcert_policy.proofs.Common.{Lexeme, Rest, IsCut, text_rest, text_limit, Taken, PolicyGraph, IsLooseGraph, IsFirstBeyond}
-use Rattle.polcert_policy.proofs.Common.{HasNodesOnly, IsPossible, IsGraphRefusal, IsTokenRefusal, IsUnfinished, GraphFault}
+use Rattle.polcert_policy.proofs.Common.{HasNodesOnly, IsPossibleGraph, IsGraphRefusal, IsTokenRefusal, IsUnfinished, GraphFault}
 use Rattle.polcert_policy.specs.GraphText.{EndsEarly, HasWrongToken, HasFirstBeyond, IsNoGraphText, NamesSuccessor, IsRefusedGraphText}
 use Rattle.polcert_policy.specs.Steps.GraphRead.{IsEndRefusal}
 use Rattle.polcert_policy.specs.declared.fault.GraphFault.TheVariants as faults
@@ -71,8 +71,8 @@ no_graph a o text (faults.SuccessorOutOfRange n z) h = λ g given.
     not_beyond g n z (names_beyond a o text is.0 g is.1 is.2.loose (faults.SuccessorOutOfRange n z) h) is.2.bound
 no_graph a o text fault h = λ g given. let is = indexed a o text g given in names_beyond a o text is.0 g is.1 is.2.loose fault h
 
-pub possible_at : (a b o p : ℕ) (ts : List Lexeme) → a ≡ b → o ≡ p → IsPossible a o ts → IsPossible b p ts
-possible_at a b o p ts ea eo h = subst₂ (λ x y. IsPossible x y ts) ea eo h
+pub possible_at : (a b o p : ℕ) (ts : List Lexeme) → a ≡ b → o ≡ p → IsPossibleGraph a o ts → IsPossibleGraph b p ts
+possible_at a b o p ts ea eo h = subst₂ (λ x y. IsPossibleGraph x y ts) ea eo h
 
 -- only one successor is the first that isn't a node
 pub one_first : (g : PolicyGraph) (n z m y : ℕ) → IsFirstBeyond g n z → IsFirstBeyond g m y → (n ≡ m) × (z ≡ y)

@@ -3,7 +3,7 @@ use Rattle.std.proofs.Common.{◌≡◌, ◌∙◌, ℕ, ℤ, ◌+◌, ◌*◌, 
 use Rattle.std.proofs.Common.{◌∷◌, ◌++◌, length, slice_get, get_or, refl, sym, ap, subst, arith, append-nil, length-append}
 use Rattle.polcert_policy.proofs.Common.{ints, slice_get-get_or, Lexeme, size_of, largest, IsReadable, IsRounded, PolicyGraph, nodes}
 use Rattle.polcert_policy.proofs.Common.{PolicyVectors, Part, sign_kind, with_sign, tokens_of, AreVectors, IsRoundedVectors, IsInRange}
-use Rattle.polcert_policy.proofs.Common.{AreProper, IsPartColumn, AreVectorsUpTo, open_of, HasVectors, AreUnfinished, VectorsReading}
+use Rattle.polcert_policy.proofs.Common.{AreProper, IsPartColumn, AreVectorsUpTo, open_of, HasReadVectors, AreUnfinished, VectorsReading}
 use Rattle.polcert_policy.proofs.Common.{Rounding, Down, Up}
 use Rattle.std.proofs.lemmas.Int.{to_z-of_z, fits_signed_from_abs}
 use Rattle.std.specs.Prelude.{FitsSigned}
@@ -92,7 +92,7 @@ module _ {way : Rounding} where
       at u h1 = grind (arith, head_of, tail_of, cons_not_nil, not_sign, n)
 
   pub unfinished_vector : (g : PolicyGraph) (seen : List Lexeme) (r : VectorsReading) → 1 ≤ r.states → 0 < r.column
-      → HasVectors way g seen r → AreUnfinished way g r.states seen r.node r.column
+      → HasReadVectors way g seen r → AreUnfinished way g r.states seen r.node r.column
   unfinished_vector g seen r some begun h = record {
     column_is = column_read g seen r h;
     possible = possible_seen g seen r some h;
@@ -108,17 +108,17 @@ module _ {way : Rounding} where
           omega (arith, zero_is, begun)
       at (Some s) signed v all = open_ended g r.states h.parts r.node r.column r.values.items s v (signed s refl).0 h.vectors all
 
-  pub at_column : (g : PolicyGraph) (seen : List Lexeme) (r : VectorsReading) → r.column ≤ 0 → (h : HasVectors way g seen r)
+  pub at_column : (g : PolicyGraph) (seen : List Lexeme) (r : VectorsReading) → r.column ≤ 0 → (h : HasReadVectors way g seen r)
       → AreVectorsUpTo way g r.states h.parts r.node 0 r.values.items
   at_column g seen r e h = grind arith
 
   -- at a vector's action the tokens are the parts'
-  spelled_whole : (g : PolicyGraph) (seen : List Lexeme) (r : VectorsReading) → r.column ≤ 0 → (h : HasVectors way g seen r)
+  spelled_whole : (g : PolicyGraph) (seen : List Lexeme) (r : VectorsReading) → r.column ≤ 0 → (h : HasReadVectors way g seen r)
       → seen ≡ tokens_of h.parts ++ []
   spelled_whole g seen r e h = h.spelled ∙ ap (λ s. tokens_of h.parts ++ open_of s) (closed_lexeme g seen r h (omega (arith, e)))
 
   pub too_few : (g : PolicyGraph) (seen : List Lexeme) (r : VectorsReading) → 1 ≤ r.states → r.column ≤ 0 → r.node < nodes g
-      → HasVectors way g seen r → AreUnfinished way g r.states seen r.node 0
+      → HasReadVectors way g seen r → AreUnfinished way g r.states seen r.node 0
   too_few g seen r some e fewer h = record {
     column_is = (let zero_is : r.column ≡ 0 = omega (arith, e) in
         subst (λ c. IsPartColumn r.states seen r.node c) zero_is (column_read g seen r h));
@@ -135,7 +135,8 @@ module _ {way : Rounding} where
   values_in_range g o ps node vs records count filled k h e = grind (arith, part_of_value, rounded_in_range)
 
   -- whole vectors, one for each node
-  pub vectors_read : (g : PolicyGraph) (seen : List Lexeme) (r : VectorsReading) → r.column ≤ 0 → nodes g ≤ r.node → HasVectors way g seen r
+  pub vectors_read : (g : PolicyGraph) (seen : List Lexeme) (r : VectorsReading) → r.column ≤ 0 → nodes g ≤ r.node
+      → HasReadVectors way g seen r
       → IsRoundedVectors way g r.states seen (vectors_of r.node r.states r.values.items)
   vectors_read g seen r e enough h =
       let at = at_column g seen r e h in

@@ -4,9 +4,10 @@ use Rattle.std.proofs.Common.{List, [], ◌∷◌, ◌++◌, length, slice_get, 
 use Rattle.std.proofs.Common.{length-append}
 use Rattle.std.proofs.Math.Path.{transport⁻¹, subst₂, subst⁻¹}
 use Rattle.polcert_policy.proofs.Common.{Lexeme, IsReadable, IsRounded, TokenKind, Numeral, Plus, Minus, numeral_kind, minus_kind, is_whole}
-use Rattle.polcert_policy.proofs.Common.{whole_of, PolicyGraph, nodes, action_of, IsProperGraph, PolicyVectors, Part, sign_kind, with_sign}
+use Rattle.polcert_policy.proofs.Common.{whole_number_of, PolicyGraph, nodes, action_of, IsProperGraph, PolicyVectors, Part, sign_kind}
+use Rattle.polcert_policy.proofs.Common.{with_sign}
 use Rattle.polcert_policy.proofs.Common.{tokens_of, IsPart, IsValuePart, AreVectors, IsRoundedVectors, ArePossible, IsPartColumn, last_sign}
-use Rattle.polcert_policy.proofs.Common.{is_part_shaped, IsPartMisfit, AreVectorsUpTo, open_of, kept_sign, is_minus, HasVectors}
+use Rattle.polcert_policy.proofs.Common.{is_part_shaped, IsPartMisfit, AreVectorsUpTo, open_of, kept_sign, is_minus, HasReadVectors}
 use Rattle.polcert_policy.proofs.Common.{IsPartRefusal, AdvancedValue, VectorFault, VectorsReading, Rounding}
 use Rattle.polcert_text.specs.Numbers.{IsRefused}
 use Rattle.polcert_text.specs.declared.number.NumberFault.{NumberFault}
@@ -168,13 +169,13 @@ module _ {way : Rounding} where
   number_begins g o ps node column ws t more no_numeral no_sign n = grind arith
 
   -- what holds without an open sign, and with each that is kept rightly, holds
-  pub by_sign : (g : PolicyGraph) (seen : List Lexeme) (r : VectorsReading) (h : HasVectors way g seen r) (P : Option Lexeme → Type 0)
+  pub by_sign : (g : PolicyGraph) (seen : List Lexeme) (r : VectorsReading) (h : HasReadVectors way g seen r) (P : Option Lexeme → Type 0)
       → P None
       → ((s : Lexeme) → h.sign ≡ Some s → sign_kind s.kind ≡ true → 0 < r.column → P (Some s)) → P h.sign
   by_sign g seen r h P none some = grind arith
 
   -- what is read is possible
-  pub possible_seen : (g : PolicyGraph) (seen : List Lexeme) (r : VectorsReading) → 1 ≤ r.states → HasVectors way g seen r
+  pub possible_seen : (g : PolicyGraph) (seen : List Lexeme) (r : VectorsReading) → 1 ≤ r.states → HasReadVectors way g seen r
       → ArePossible way g r.states seen
   possible_seen g seen r some h = subst⁻¹ (λ ts. ArePossible way g r.states ts) h.spelled
       (by_sign g seen r h (λ sign. ArePossible way g r.states (tokens_of h.parts ++ open_of sign))
@@ -201,15 +202,15 @@ module _ {way : Rounding} where
           (zero.token ∷ more.0, (more.1.0, subst (λ ts. IsRoundedVectors way g r.states ts more.1.0) tokens more.1.1))
 
   -- at a vector's action no sign is open
-  pub closed_lexeme : (g : PolicyGraph) (seen : List Lexeme) (r : VectorsReading) (h : HasVectors way g seen r) → r.column ≡ 0
+  pub closed_lexeme : (g : PolicyGraph) (seen : List Lexeme) (r : VectorsReading) (h : HasReadVectors way g seen r) → r.column ≡ 0
       → h.sign ≡ None
   closed_lexeme g seen r h e = by_sign g seen r h (λ sign. sign ≡ None) refl (λ s is kind begun. absurd (omega (arith, begun, e)))
 
-  closed_sign : (g : PolicyGraph) (seen : List Lexeme) (r : VectorsReading) → HasVectors way g seen r → r.column ≡ 0 → r.sign ≡ None
+  closed_sign : (g : PolicyGraph) (seen : List Lexeme) (r : VectorsReading) → HasReadVectors way g seen r → r.column ≡ 0 → r.sign ≡ None
   closed_sign g seen r h e = h.kept ∙ ap (option_map kept_sign) (closed_lexeme g seen r h e)
 
   -- the place that is read next
-  pub column_read : (g : PolicyGraph) (seen : List Lexeme) (r : VectorsReading) → HasVectors way g seen r
+  pub column_read : (g : PolicyGraph) (seen : List Lexeme) (r : VectorsReading) → HasReadVectors way g seen r
       → IsPartColumn r.states seen r.node r.column
   column_read g seen r h = record {
     count = ap numbers h.spelled ∙ numbers_of h.parts h.sign (vector_parts g r.states h.parts r.values.items h.vectors.records)
@@ -217,7 +218,7 @@ module _ {way : Rounding} where
     within = h.vectors.within;
   }
 
-  module _ (g : PolicyGraph) (seen : List Lexeme) (r : VectorsReading) (t : Lexeme) (some : 1 ≤ r.states) (h : HasVectors way g seen r)
+  module _ (g : PolicyGraph) (seen : List Lexeme) (r : VectorsReading) (t : Lexeme) (some : 1 ≤ r.states) (h : HasReadVectors way g seen r)
     where
       last_seen : last_sign seen ≡ h.sign
       last_seen = ap last_sign h.spelled ∙ last_open h.parts h.sign (vector_parts g r.states h.parts r.values.items h.vectors.records)
@@ -261,7 +262,7 @@ module _ {way : Rounding} where
 
       -- the token that comes next in place of an action
       action_next : (ws : List ℤ) (more : List Lexeme) → r.column ≡ 0 → NextPart way g r.states h.parts r.node r.column ws t more
-          → (is_whole t ≡ true) × (whole_of t ≡ action_of g r.node)
+          → (is_whole t ≡ true) × (whole_number_of t ≡ action_of g r.node)
       action_next ws more e n = grind arith
 
       pub refuse_vector_action : (fault : VectorFault) → r.column ≡ 0 → CheckedAction g r.node t (Err fault)
@@ -358,8 +359,8 @@ module _ {way : Rounding} where
   pub read_vector_action : (g : PolicyGraph) (old new : VectorsReading) (seen : List Lexeme) (t : Lexeme)
       → 1 ≤ old.states → old.column ≡ 0 → new.states ≡ old.states → new.node ≡ old.node → new.column ≡ 1 → new.values ≡ old.values
       → new.sign ≡ old.sign
-      → HasVectors way g seen old → old.node < nodes g → is_whole t ≡ true → whole_of t ≡ action_of g old.node
-      → HasVectors way g (seen ++ t ∷ []) new
+      → HasReadVectors way g seen old → old.node < nodes g → is_whole t ≡ true → whole_number_of t ≡ action_of g old.node
+      → HasReadVectors way g (seen ++ t ∷ []) new
   read_vector_action g old new seen t some e states node column values sign h few whole value =
       let at = subst (λ c. AreVectorsUpTo way g old.states h.parts old.node c old.values.items) e h.vectors in
       let stepped = step_vector_action g old.states h.parts (plain_part None t) old.node old.values.items some at few
@@ -380,8 +381,8 @@ module _ {way : Rounding} where
       → 0 < old.column → old.sign ≡ None → new.states ≡ old.states → new.node ≡ old.node → new.column ≡ old.column
       → new.values ≡ old.values
       → new.sign ≡ Some u
-      → sign_kind t.kind ≡ true → u.place ≡ t.place → u.is_negative ≡ minus_kind t.kind → HasVectors way g seen old
-      → HasVectors way g (seen ++ t ∷ []) new
+      → sign_kind t.kind ≡ true → u.place ≡ t.place → u.is_negative ≡ minus_kind t.kind → HasReadVectors way g seen old
+      → HasReadVectors way g (seen ++ t ∷ []) new
   read_sign g old new seen t u begun none states node column values sign kind place minus h =
       record {
         proper = h.proper;
@@ -399,7 +400,7 @@ module _ {way : Rounding} where
       → 0 < old.column → numeral_kind t.kind ≡ true → IsReadable t.bytes → IsRounded way (is_minus old.sign) t.bytes value
       → mid.states ≡ old.states → mid.node ≡ old.node → mid.column ≡ old.column → mid.sign ≡ None
       → mid.values.items ≡ old.values.items ++ value ∷ []
-      → AdvancedValue mid new → HasVectors way g seen old → HasVectors way g (seen ++ t ∷ []) new
+      → AdvancedValue mid new → HasReadVectors way g seen old → HasReadVectors way g (seen ++ t ∷ []) new
   read_value g old mid new seen t value begun numeral readable rounded states node column sign values next h =
       let p = plain_part h.sign t in
       let part : IsValuePart way p value = record {
@@ -430,7 +431,7 @@ module _ {way : Rounding} where
   -- nothing is read yet
   pub none_read : (g : PolicyGraph) (r : VectorsReading) → IsProperGraph g → r.node ≡ 0 → r.column ≡ 0 → r.values.items ≡ []
       → r.sign ≡ None
-      → HasVectors way g [] r
+      → HasReadVectors way g [] r
   none_read g r proper node column values sign = record {
     proper = proper;
     parts = [];

@@ -19,8 +19,8 @@ abbrev pub is_whole : Lexeme → Bool
 is_whole t = numeral_kind t.kind && are_digits t.bytes
 
 -- the number that its digits spell
-abbrev pub whole_of : Lexeme → ℕ
-whole_of t = digits_value 10 t.bytes
+abbrev pub whole_number_of : Lexeme → ℕ
+whole_number_of t = digits_value 10 t.bytes
 
 -- the name `X`
 abbrev pub is_x : List ℕ → Bool
@@ -43,7 +43,7 @@ number_at _ n = None
 
 -- the node that it names; `X` and `-` name none
 abbrev pub successor_of : Lexeme → Option ℕ
-successor_of t = number_at t.kind (whole_of t)
+successor_of t = number_at t.kind (whole_number_of t)
 
 -- a `-`, and directly after it a numeral
 abbrev pub is_joined : Lexeme → Lexeme → Bool

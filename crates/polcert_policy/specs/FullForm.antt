@@ -20,12 +20,12 @@ values_text v n zero = []
 values_text v n (suc s) = values_text v n s ++ value_text v n s
 
 -- the action of node n, and a line end
-abbrev pub action_text : PolicyGraph → ℕ → List ℕ
-action_text g n = decimal (action_of g n) ++ codes "\n"
+abbrev pub action_line : PolicyGraph → ℕ → List ℕ
+action_line g n = decimal (action_of g n) ++ codes "\n"
 
 -- the vector of node n
 abbrev pub vector_text : PolicyGraph → PolicyVectors → ℕ → List ℕ
-vector_text g v n = action_text g n ++ values_text v n v.states
+vector_text g v n = action_line g n ++ values_text v n v.states
 
 -- the vectors of the first nodes, so many
 abbrev pub vectors_text_up_to : PolicyGraph → PolicyVectors → ℕ → List ℕ

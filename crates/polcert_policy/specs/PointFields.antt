@@ -12,7 +12,7 @@ use Rattle.polcert_text.specs.declared.tokens.TokenKind.TheVariants.{Numeral, Pl
 use Rattle.polcert_cells.specs.Numbers.{IsWhole, IsNumeral}
 use Rattle.polcert_cells.specs.Words.{IsWord}
 use Rattle.polcert_cells.specs.declared.elements.Cell.{Cell}
-use Rattle.polcert_policy.specs.Points.{PointValues, point_count, weight_of, value_at, named_at, most_points, IsPointRow}
+use Rattle.polcert_policy.specs.Points.{PointValues, point_count, point_weight, value_at, named_at, most_points, IsPointRow}
 use Rattle.polcert_policy.specs.PointTokens.{IsWeight}
 
 pub data Field : Type 0 where
@@ -27,20 +27,20 @@ IsNotJoined t [] = Unit {0}
 IsNotJoined t (u ∷ us) = u.kind ≡ Numeral → u.place ≢ t.place + length t.bytes
 
 -- the tokens are these fields, one after another: a value may have a sign, and `X` and `-` name no point
-pub data AreFields : List Lexeme → List Field → Type 0 where
-  none : AreFields [] []
-  number : {t : Lexeme} {ts : List Lexeme} {n : ℕ} {fs : List Field} → IsWhole t n → AreFields ts fs → AreFields (t ∷ ts) (number_field n ∷ fs)
-  weight : {t : Lexeme} {ts : List Lexeme} {w : ℕ} {fs : List Field} → t.kind ≡ Numeral → IsWeight t.bytes w → AreFields ts fs → AreFields (t ∷ ts) (weight_field w ∷ fs)
-  unsigned : {t : Lexeme} {ts : List Lexeme} {h : ℤ} {fs : List Field} → IsNumeral IsCeil false t h → AreFields ts fs → AreFields (t ∷ ts) (value_field h ∷ fs)
-  plus : {s t : Lexeme} {ts : List Lexeme} {h : ℤ} {fs : List Field} → s.kind ≡ Plus → IsNumeral IsCeil false t h → AreFields ts fs → AreFields (s ∷ t ∷ ts) (value_field h ∷ fs)
-  minus : {s t : Lexeme} {ts : List Lexeme} {h : ℤ} {fs : List Field} → s.kind ≡ Minus → IsNumeral IsCeil true t h → AreFields ts fs → AreFields (s ∷ t ∷ ts) (value_field h ∷ fs)
-  named : {t : Lexeme} {ts : List Lexeme} {n : ℕ} {fs : List Field} → IsWhole t n → AreFields ts fs → AreFields (t ∷ ts) (name_field (Some n) ∷ fs)
-  x : {t : Lexeme} {ts : List Lexeme} {fs : List Field} → IsWord (codes "X") t → AreFields ts fs → AreFields (t ∷ ts) (name_field None ∷ fs)
-  dash : {t : Lexeme} {ts : List Lexeme} {fs : List Field} → t.kind ≡ Minus → IsNotJoined t ts → AreFields ts fs → AreFields (t ∷ ts) (name_field None ∷ fs)
+pub data ArePointFields : List Lexeme → List Field → Type 0 where
+  none : ArePointFields [] []
+  number : {t : Lexeme} {ts : List Lexeme} {n : ℕ} {fs : List Field} → IsWhole t n → ArePointFields ts fs → ArePointFields (t ∷ ts) (number_field n ∷ fs)
+  weight : {t : Lexeme} {ts : List Lexeme} {w : ℕ} {fs : List Field} → t.kind ≡ Numeral → IsWeight t.bytes w → ArePointFields ts fs → ArePointFields (t ∷ ts) (weight_field w ∷ fs)
+  unsigned : {t : Lexeme} {ts : List Lexeme} {h : ℤ} {fs : List Field} → IsNumeral IsCeil false t h → ArePointFields ts fs → ArePointFields (t ∷ ts) (value_field h ∷ fs)
+  plus : {s t : Lexeme} {ts : List Lexeme} {h : ℤ} {fs : List Field} → s.kind ≡ Plus → IsNumeral IsCeil false t h → ArePointFields ts fs → ArePointFields (s ∷ t ∷ ts) (value_field h ∷ fs)
+  minus : {s t : Lexeme} {ts : List Lexeme} {h : ℤ} {fs : List Field} → s.kind ≡ Minus → IsNumeral IsCeil true t h → ArePointFields ts fs → ArePointFields (s ∷ t ∷ ts) (value_field h ∷ fs)
+  named : {t : Lexeme} {ts : List Lexeme} {n : ℕ} {fs : List Field} → IsWhole t n → ArePointFields ts fs → ArePointFields (t ∷ ts) (name_field (Some n) ∷ fs)
+  x : {t : Lexeme} {ts : List Lexeme} {fs : List Field} → IsWord (codes "X") t → ArePointFields ts fs → ArePointFields (t ∷ ts) (name_field None ∷ fs)
+  dash : {t : Lexeme} {ts : List Lexeme} {fs : List Field} → t.kind ≡ Minus → IsNotJoined t ts → ArePointFields ts fs → ArePointFields (t ∷ ts) (name_field None ∷ fs)
 
 -- at point i, the weight of each state
 abbrev pub weight_fields : PointValues → ℕ → List ℕ → List Field
-weight_fields p i states = map (λ s. weight_field (weight_of p i s)) states
+weight_fields p i states = map (λ s. weight_field (point_weight p i s)) states
 
 -- for action a at point i, the point that is named for each observation
 abbrev pub name_fields : PointValues → ℕ → ℕ → List ℕ → List Field
@@ -61,5 +61,5 @@ pub record AreFieldTokens (states actions observations : ℕ) (ts : List Lexeme)
   pub rows_are : (i : ℕ) (row : List Cell) → slice_get p.rows i ≡ Some row → IsPointRow states row
   pub all_values : length p.values ≡ point_count p * actions
   pub all_names : length p.names ≡ point_count p * actions * observations
-  pub fields : AreFields ts (flat_map (point_fields p) (range_with_len 0 (point_count p)))
+  pub fields : ArePointFields ts (flat_map (point_fields p) (range_with_len 0 (point_count p)))
   pub bound : (k m : ℕ) → slice_get p.names k ≡ Some (Some m) → m < point_count p

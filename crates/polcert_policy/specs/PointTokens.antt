@@ -7,7 +7,7 @@ use Rattle.polcert_text.specs.declared.number.NumberFault.{NumberFault}
 use Rattle.polcert_text.specs.declared.number.NumberFault.TheVariants as numbers
 use Rattle.polcert_cells.specs.Numbers.{one}
 use Rattle.polcert_cells.specs.declared.elements.Cell.{Cell}
-use Rattle.polcert_policy.specs.Fields.{numeral_kind, minus_kind, is_whole, whole_of, is_successor, successor_of}
+use Rattle.polcert_policy.specs.Fields.{numeral_kind, minus_kind, is_whole, whole_number_of, is_successor, successor_of}
 use Rattle.polcert_policy.specs.Vectors.{sign_kind}
 use Rattle.polcert_policy.specs.Points.{most_points, IsMass}
 use Rattle.polcert_policy.specs.declared.vectors.OpenSign.{OpenSign}
@@ -98,7 +98,7 @@ sign_of t = record { place = t.place; is_negative = minus_kind t.kind }
 pub record TakesNumber (old : PointsSoFar) (t : Lexeme) (new : PointsSoFar) : Type 0 where
   pub few : length old.rows < most_points
   pub whole : is_whole t ≡ true
-  pub number : whole_of t ≡ length old.rows
+  pub number : whole_number_of t ≡ length old.rows
   pub new_is : new ≡ record old { field = fields.Weight 0; mass = 0 }
 
 -- the token is the weight of state s; the sum is judged at the last
@@ -142,20 +142,20 @@ abbrev pub IsApart : Option MinusSign → Lexeme → Type 0
 IsApart minus t = (m : MinusSign) → minus ≡ Some m → is_joined_to m t ≡ false
 
 -- the token can stand there, and this has been read after it
-pub record Takes (states actions observations : ℕ) (old : PointsSoFar) (t : Lexeme) (new : PointsSoFar) : Type 0 where
+pub record TakesPointToken (states actions observations : ℕ) (old : PointsSoFar) (t : Lexeme) (new : PointsSoFar) : Type 0 where
   pub apart : IsApart old.minus t
   pub field : TakesField states actions observations old.field (record old { minus = None }) t new
 
 -- the tokens can stand there, one after another
 abbrev pub TakesAll : ℕ → ℕ → ℕ → PointsSoFar → List Lexeme → PointsSoFar → Type 0
 TakesAll states actions observations old [] new = old ≡ new
-TakesAll states actions observations old (t ∷ ts) new = (between : PointsSoFar) × Takes states actions observations old t between × TakesAll states actions observations between ts new
+TakesAll states actions observations old (t ∷ ts) new = (between : PointsSoFar) × TakesPointToken states actions observations old t between × TakesAll states actions observations between ts new
 
 -- ---- why a token can't stand there, and its place
 
 abbrev pub IsWrongNumber : PointsSoFar → Lexeme → PointFault → Type 0
 IsWrongNumber old t (faults.BadShape place) = (place ≡ t.place) × (length old.rows < most_points) × (is_whole t ≡ false)
-IsWrongNumber old t (faults.PointOutOfOrder place) = (place ≡ t.place) × (length old.rows < most_points) × (is_whole t ≡ true) × (whole_of t ≢ length old.rows)
+IsWrongNumber old t (faults.PointOutOfOrder place) = (place ≡ t.place) × (length old.rows < most_points) × (is_whole t ≡ true) × (whole_number_of t ≢ length old.rows)
 IsWrongNumber old t (faults.TooManyPoints place) = (place ≡ t.place) × (most_points ≤ length old.rows)
 IsWrongNumber old t _ = ⊥
 
@@ -187,9 +187,9 @@ pub record IsJoined (minus : Option MinusSign) (t : Lexeme) (fault : PointFault)
   pub joined : is_joined_to sign t ≡ true
   pub fault_is : fault ≡ faults.BadShape sign.place
 
-pub record IsMisplaced (states : ℕ) (old : PointsSoFar) (t : Lexeme) (fault : PointFault) : Type 0 where
+pub record IsMisplacedField (states : ℕ) (old : PointsSoFar) (t : Lexeme) (fault : PointFault) : Type 0 where
   pub apart : IsApart old.minus t
   pub wrong : IsWrongField states old.field (record old { minus = None }) t fault
 
 abbrev pub IsWrongPoint : ℕ → PointsSoFar → Lexeme → PointFault → Type 0
-IsWrongPoint states old t fault = IsJoined old.minus t fault ⊎ IsMisplaced states old t fault
+IsWrongPoint states old t fault = IsJoined old.minus t fault ⊎ IsMisplacedField states old t fault

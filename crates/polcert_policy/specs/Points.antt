@@ -24,8 +24,8 @@ abbrev pub point_count : PointValues → ℕ
 point_count p = length p.rows
 
 -- the weight of state s at point i
-abbrev pub weight_of : PointValues → ℕ → ℕ → ℕ
-weight_of p i = weight_at (slice_index_or p.rows i [])
+abbrev pub point_weight : PointValues → ℕ → ℕ → ℕ
+point_weight p i = weight_at (slice_index_or p.rows i [])
 
 -- the value of action a at point i
 abbrev pub value_at : PointValues → ℕ → ℕ → ℤ
@@ -52,7 +52,7 @@ pub record AreProperPoints (p : PointValues) : Type 0 where
   pub some_observations : 1 ≤ p.observations
   pub few_observations : p.observations ≤ most_observations
   pub few_points : point_count p ≤ most_points
-  pub mass : (i : ℕ) → i < point_count p → IsMass (sum_below (weight_of p i) p.states)
+  pub mass : (i : ℕ) → i < point_count p → IsMass (sum_below (point_weight p i) p.states)
   pub values : (i a : ℕ) → i < point_count p → a < p.actions → unsigned_abs (value_at p i a) ≤ largest
   pub named : (i a z j : ℕ) → i < point_count p → a < p.actions → z < p.observations → named_at p i a z ≡ Some j → j < point_count p
 

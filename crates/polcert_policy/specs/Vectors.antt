@@ -14,7 +14,7 @@ use Rattle.polcert_text.specs.declared.number.Rounding.TheVariants.{Down}
 use Rattle.polcert_text.specs.declared.tokens.TokenKind.{TokenKind}
 use Rattle.polcert_text.specs.declared.tokens.TokenKind.TheVariants.{Plus, Minus}
 use Rattle.polcert_cells.specs.Numbers.{IsWhole, IsNumeral}
-use Rattle.polcert_policy.specs.Fields.{numeral_kind, minus_kind, is_whole, whole_of}
+use Rattle.polcert_policy.specs.Fields.{numeral_kind, minus_kind, is_whole, whole_number_of}
 use Rattle.polcert_cells.specs.Elements.{most_states}
 use Rattle.polcert_policy.specs.Graphs.{PolicyGraph, nodes, action_of, most_nodes}
 
@@ -79,7 +79,7 @@ pub record IsPart (p : Part) : Type 0 where
 pub record IsActionPart (action : ℕ) (p : Part) : Type 0 where
   pub unsigned : p.sign ≡ None
   pub whole : is_whole p.token ≡ true
-  pub value : whole_of p.token ≡ action
+  pub value : whole_number_of p.token ≡ action
 
 -- a number whose value, rounded to millionths, is this
 pub record IsValuePart (rounding : Rounding) (p : Part) (value : ℤ) : Type 0 where

@@ -10,7 +10,7 @@ ghost use Rattle.polcert_policy.specs.Points.{IsMass};
 ghost use Rattle.polcert_policy.specs.PointTokens.{nothing_read, TakesNumber, TakesWeight, TakesValue, TakesName};
 ghost use Rattle.polcert_policy.specs.PointTokens.{TakesSign, TakesField, TakesAll, IsWeight, IsRefusedWeight};
 ghost use Rattle.polcert_policy.specs.PointTokens.{IsWrongNumber, IsWrongWeight, IsWrongValue, IsWrongName};
-ghost use Rattle.polcert_policy.specs.PointTokens.{IsWrongField, IsWrongPoint, IsApart, IsJoined, Takes};
+ghost use Rattle.polcert_policy.specs.PointTokens.{IsWrongField, IsWrongPoint, IsApart, IsJoined, TakesPointToken};
 ghost use Rattle.polcert_policy.specs.PointTokens.{after_weight, field_after_name, is_negated, value_place};
 ghost use Rattle.polcert_policy.specs.PointTokens.{sign_of};
 ghost use Rattle.polcert_policy.specs.PointText.{ArePointTokens, IsPointsText, IsNoPointsText, IsPointsRefusal};
@@ -346,7 +346,7 @@ impl PointsReading {
     fn take(&mut self, token: Token<'_>) -> Result<(), PointFault>
         requires { token.stop ≡ token.place + length token.bytes.now }
         ensures takes { MatchResult result
-            (λ _. Takes self.old.states self.old.actions self.old.observations (so_far self.old)
+            (λ _. TakesPointToken self.old.states self.old.actions self.old.observations (so_far self.old)
             (lexeme_of token.entry) (so_far self.new))
             (IsMemoryOr (IsWrongPoint self.old.states (so_far self.old) (lexeme_of token.entry))) }
         ensures shape { HasShape self.old.states self.old.actions self.old.observations self.new }

@@ -3,7 +3,7 @@ ghost use Rattle.std.specs.Prelude.{◌≡◌, ◌<◌};
 ghost use Rattle.polcert_cells.specs.BorrowedRows.{IsRowOf};
 ghost use Rattle.polcert_policy.specs.Vectors.{IsInRange};
 ghost use Rattle.polcert_policy.specs.Points.{PointValues, AreProperPoints, AreProperLists, point_count};
-ghost use Rattle.polcert_policy.specs.Points.{weight_of, value_at, named_at};
+ghost use Rattle.polcert_policy.specs.Points.{point_weight, value_at, named_at};
 ghost use Rattle.polcert_policy.specs.Graphs.{IsBelow};
 
 use crate::graph::Successor;
@@ -113,7 +113,7 @@ impl PointSet {
     /// Returns the weight of each state at point `i`, in millionths. They sum to at least 1 and at most 1,000,000.
     pub fn weights(&self, i: usize) -> Row<'_>
         requires { i < point_count self.now }
-        ensures { IsRowOf (weight_of self.now i) self.now.states result }
+        ensures { IsRowOf (point_weight self.now i) self.now.states result }
     {
         Row::Sparse(self.rows.row(i))
     }

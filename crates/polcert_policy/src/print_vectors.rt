@@ -3,7 +3,7 @@ ghost use Rattle.std.specs.Prelude.{◌≡◌, ◌<◌};
 ghost use Rattle.polcert_text.specs.Sink.{WritesText};
 ghost use Rattle.polcert_policy.specs.Graphs.{nodes};
 ghost use Rattle.polcert_policy.specs.VectorText.{IsVectorsText, IsRoundedVectorsText};
-ghost use Rattle.polcert_policy.specs.FullForm.{after_value, value_text, values_text, action_text, vector_text, vectors_text};
+ghost use Rattle.polcert_policy.specs.FullForm.{after_value, value_text, values_text, action_line, vector_text, vectors_text};
 
 use crate::graph::Graph;
 use crate::vectors::Vectors;
@@ -61,7 +61,7 @@ fn write_vector<W: Sink>(
 /// Writes the action of a node, and its line end.
 fn write_action<W: Sink>(graph: &Graph, node: usize, out: &mut W) -> Result<(), SinkFailed>
     requires { node < nodes graph.now }
-    ensures { WritesText W.writes W.failures out.old (action_text graph.now node) result out.new }
+    ensures { WritesText W.writes W.failures out.old (action_line graph.now node) result out.new }
 {
     let mut buffer = Buffer::new();
     write_all(out, buffer.format(graph.action(node)).as_bytes())?;

@@ -1,6 +1,6 @@
 //! The weights above 0 of points, in one list.
 ghost use Rattle.std.specs.Prelude.{◌≡◌, ◌<◌, ◌≤◌, ◌++◌, ◌∷◌, [], OnOk, Some, length, slice_get};
-ghost use Rattle.polcert_policy.specs.Steps.WeightRows.{FilledRows, IsPartOf, part_in};
+ghost use Rattle.polcert_policy.specs.Steps.WeightRows.{FilledRows, IsPartOf, cells_in_part};
 ghost use Rattle.polcert_cells.specs.declared.elements.Cell.{Cell as C};
 
 use polcert_cells::Cell;
@@ -25,11 +25,11 @@ pub struct WeightRows {
 
 impl Model for WeightRows {
     ghost use Rattle.std.specs.Prelude.{◌≤◌, All, drop, length, map};
-    ghost use Rattle.polcert_policy.specs.Steps.WeightRows.{FilledRows, IsPartOf, part_in};
+    ghost use Rattle.polcert_policy.specs.Steps.WeightRows.{FilledRows, IsPartOf, cells_in_part};
 
     ghost Value = { FilledRows };
 
-    ghost view = { λ r. record { rows = map (part_in r.cells.items) r.parts.items; row = drop r.start r.cells.items } };
+    ghost view = { λ r. record { rows = map (cells_in_part r.cells.items) r.parts.items; row = drop r.start r.cells.items } };
 
     ghost invariant = { λ r. All (IsPartOf r.cells.items) r.parts.items × (r.start ≤ length r.cells.items) };
 }

@@ -13,7 +13,7 @@ use Rattle.polcert_check.proofs.Sums.Ring.{linear}
 use Rattle.polcert_check.proofs.Sums.SumLaws.{sum_below_same}
 use Rattle.polcert_robust.specs.Intervals.{IntervalTable, around, low_of, high_of}
 use Rattle.polcert_robust.specs.RobustVerdict.{IsLeastThatMayLack, IsRobustBefore, IsRobustShort, IsRobustVerdict}
-use Rattle.polcert_robust.specs.Worst.{IsRobust, IsWorstRow, MayLack, PairIsRobust, mean, step_worth}
+use Rattle.polcert_robust.specs.Worst.{IsRobust, IsWorstRow, MayLack, PairIsRobust, mean, least_step_worth}
 use Rattle.polcert_robust.specs.Steps.Holding.{IsWorstMean}
 use Rattle.polcert_robust.specs.Steps.Pairs.{IsEndMean, IsRobustPair, IsWorstBacking, sided_table}
 use Rattle.polcert_robust.specs.declared.side.Side.{Side}
@@ -66,8 +66,8 @@ module _ (side : Side) (c : Controller) (t_by o_by r_by n s : ℕ) (proper : IsP
 
   abbrev pub EndRow : ℕ → ℤ → Type 0
   EndRow e v = (row : ℕ → ℕ) × IsWorstRow (λ z. low_of o_by (c.cells.o (c.action n) e z)) (λ z. high_of o_by (c.cells.o (c.action n) e z))
-      c.cells.o_scale c.cells.observations (step_worth table c n s e) row
-      × (0 < c.cells.t (c.action n) s e → v ≡ mean row (step_worth table c n s e) c.cells.observations)
+      c.cells.o_scale c.cells.observations (least_step_worth table c n s e) row
+      × (0 < c.cells.t (c.action n) s e → v ≡ mean row (least_step_worth table c n s e) c.cells.observations)
 
   -- a worst row at each end state, also at those that are not reached
   end_row : (v : ℕ → ℤ) → ((e : ℕ) → e < c.cells.states → 0 < c.cells.t (c.action n) s e → IsEndMean table c n s e (v e)) → (e : ℕ)
@@ -75,7 +75,7 @@ module _ (side : Side) (c : Controller) (t_by o_by r_by n s : ℕ) (proper : IsP
   end_row v each e el =
       ⊎_elim
       (λ (none : c.cells.t (c.action n) s e ≡ 0). let (row, worst) =
-      around_row (c.cells.o (c.action n) e) o_by c.cells.o_scale c.cells.observations (step_worth table c n s e)
+      around_row (c.cells.o (c.action n) e) o_by c.cells.o_scale c.cells.observations (least_step_worth table c n s e)
       (proper.o_rows (c.action n) e al el) in
       (row, worst, λ some. absurd (omega (arith, none, some))))
       (λ (some : 0 < c.cells.t (c.action n) s e). let (row, worst, is) = each e el some in (row, worst, λ _. is))
@@ -88,8 +88,8 @@ module _ (side : Side) (c : Controller) (t_by o_by r_by n s : ℕ) (proper : IsP
   row_or_is : (v : ℕ → ℤ) (rows : (e : ℕ) → e < c.cells.states → EndRow e (v e)) (e : ℕ) → e < c.cells.states
       → (k : (e < c.cells.states) ⊎ (c.cells.states ≤ e))
       → IsWorstRow (λ z. low_of o_by (c.cells.o (c.action n) e z)) (λ z. high_of o_by (c.cells.o (c.action n) e z)) c.cells.o_scale
-      c.cells.observations (step_worth table c n s e) (row_or v rows e k)
-      × (0 < c.cells.t (c.action n) s e → v e ≡ mean (row_or v rows e k) (step_worth table c n s e) c.cells.observations)
+      c.cells.observations (least_step_worth table c n s e) (row_or v rows e k)
+      × (0 < c.cells.t (c.action n) s e → v e ≡ mean (row_or v rows e k) (least_step_worth table c n s e) c.cells.observations)
   unfolding row_or
   row_or_is v rows e el (inl k) = ((rows e k).1, (rows e k).2)
   row_or_is v rows e el (inr beyond) = absurd (omega arith)
@@ -113,7 +113,7 @@ module _ (side : Side) (c : Controller) (t_by o_by r_by n s : ℕ) (proper : IsP
       seen e = row_or w.x rows e (cases_lt e c.cells.states)
 
       y : ℕ → ℤ
-      y e = mean (seen e) (step_worth table c n s e) c.cells.observations
+      y e = mean (seen e) (least_step_worth table c n s e) c.cells.observations
 
       same : (e : ℕ) → e < c.cells.states → 0 < c.cells.t (c.action n) s e → y e ≡ w.x e
       same e el some = sym ((row_or_is w.x rows e el (cases_lt e c.cells.states)).1 some)

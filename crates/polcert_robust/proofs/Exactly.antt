@@ -9,7 +9,7 @@ use Rattle.polcert_check.specs.Horizon.{Controller, one}
 use Rattle.polcert_check.specs.Shortfall.{Passes}
 use Rattle.polcert_check.proofs.Sums.Ring.{linear, one-*ℤ}
 use Rattle.polcert_robust.specs.Intervals.{IntervalTable, IsBetween, LiesWithin, around, low_of, high_of}
-use Rattle.polcert_robust.specs.Worst.{IsWorstRow, IsWorstStep, MayLack, IsRobust, mean, step_worth, worst_backing, within_model}
+use Rattle.polcert_robust.specs.Worst.{IsWorstRow, IsWorstStep, MayLack, IsRobust, mean, least_step_worth, worst_backing, within_model}
 use Rattle.polcert_robust.proofs.Refuting.{pick, refutes}
 use Rattle.polcert_robust.proofs.Found.{sum_le, found}
 use Rattle.polcert_robust.proofs.Step.{some_product, left_some, right_some}
@@ -91,8 +91,9 @@ only_then x c t_by o_by r_by proper known passes n s nl sl =
 
     -- the worst row of an end state that is in range
     seen_found : (e : ℕ) → e < x.states → (row : ℕ → ℕ)
-        × IsWorstRow (λ z. low_of o_by (x.o a e z)) (λ z. high_of o_by (x.o a e z)) x.o_scale x.observations (step_worth i c n s e) row
-    seen_found e el = around_row (x.o a e) o_by x.o_scale x.observations (step_worth i c n s e) (proper.o_rows a e al el)
+        × IsWorstRow (λ z. low_of o_by (x.o a e z)) (λ z. high_of o_by (x.o a e z)) x.o_scale x.observations (least_step_worth i c n s e)
+        row
+    seen_found e el = around_row (x.o a e) o_by x.o_scale x.observations (least_step_worth i c n s e) (proper.o_rows a e al el)
 
     seen_or : (e : ℕ) → (e < x.states) ⊎ (x.states ≤ e) → ℕ → ℕ
     seen_or e (inl el) = (seen_found e el).0
@@ -102,14 +103,14 @@ only_then x c t_by o_by r_by proper known passes n s nl sl =
     seen e = seen_or e (cases_lt e x.states)
 
     seen_or_worst : (e : ℕ) → e < x.states → (k : (e < x.states) ⊎ (x.states ≤ e))
-        → IsWorstRow (λ z. low_of o_by (x.o a e z)) (λ z. high_of o_by (x.o a e z)) x.o_scale x.observations (step_worth i c n s e)
+        → IsWorstRow (λ z. low_of o_by (x.o a e z)) (λ z. high_of o_by (x.o a e z)) x.o_scale x.observations (least_step_worth i c n s e)
         (seen_or e k)
     seen_or_worst e el (inl k) = (seen_found e k).1
     seen_or_worst e el (inr beyond) = absurd (omega arith)
 
     ends_found : (row : ℕ → ℕ) × IsWorstRow (λ e. low_of t_by (x.t a s e)) (λ e. high_of t_by (x.t a s e)) x.t_scale x.states
-        (λ e. mean (seen e) (step_worth i c n s e) x.observations) row
-    ends_found = around_row (x.t a s) t_by x.t_scale x.states (λ e. mean (seen e) (step_worth i c n s e) x.observations)
+        (λ e. mean (seen e) (least_step_worth i c n s e) x.observations) row
+    ends_found = around_row (x.t a s) t_by x.t_scale x.states (λ e. mean (seen e) (least_step_worth i c n s e) x.observations)
         (proper.t_rows a s al sl)
 
     worst : IsWorstStep (around x t_by o_by r_by) c n s seen ends_found.0

@@ -12,7 +12,7 @@ use Rattle.polcert_check.proofs.Sums.Gaps.{gap}
 use Rattle.polcert_check.proofs.Sums.Ring.{linear, ≤ℤ_from_eq}
 use Rattle.polcert_check.proofs.Sums.SumLaws.{sum_below_same}
 use Rattle.polcert_robust.specs.Steps.Holding.{HoldsRow, IsWorstMean}
-use Rattle.polcert_robust.specs.Steps.Rows.{AreLevels, IsLevelMean, end_until, ends_until, level_mean, value_at, weight_at}
+use Rattle.polcert_robust.specs.Steps.Rows.{AreLevels, IsLevelMean, end_until, ends_until, level_mean, listed_value, listed_weight}
 use Rattle.polcert_robust.proofs.Levels.{end_above, end_at_most, level_mean_is, level_row, level_row_is_worst}
 use Rattle.polcert_robust.proofs.Means.{total_pos}
 use Rattle.polcert_robust.proofs.Refuting.{at_same, at_other}
@@ -28,16 +28,16 @@ holds_none P f bound weights values = record {
   small = λ k l. absurd (omega (arith, l));
 }
 
-weight_here : (ws : List ℕ) (k w : ℕ) → k < length ws → weight_at (set ws k w) k ≡ w
+weight_here : (ws : List ℕ) (k w : ℕ) → k < length ws → listed_weight (set ws k w) k ≡ w
 weight_here ws k w room = get_or-set_at ws k k w 0 refl room
 
-weight_other : (ws : List ℕ) (k j w : ℕ) → (j ≡ k → ⊥) → weight_at (set ws k w) j ≡ weight_at ws j
+weight_other : (ws : List ℕ) (k j w : ℕ) → (j ≡ k → ⊥) → listed_weight (set ws k w) j ≡ listed_weight ws j
 weight_other ws k j w other = get_or-set_other ws k j w 0 other
 
-value_here : (vs : List ℤ) (k : ℕ) (v : ℤ) → k < length vs → value_at (set vs k v) k ≡ v
+value_here : (vs : List ℤ) (k : ℕ) (v : ℤ) → k < length vs → listed_value (set vs k v) k ≡ v
 value_here vs k v room = get_or-set_at vs k k v (pos 0) refl room
 
-value_other : (vs : List ℤ) (k j : ℕ) (v : ℤ) → (j ≡ k → ⊥) → value_at (set vs k v) j ≡ value_at vs j
+value_other : (vs : List ℤ) (k j : ℕ) (v : ℤ) → (j ≡ k → ⊥) → listed_value (set vs k v) j ≡ listed_value vs j
 value_other vs k j v other = get_or-set_other vs k j v (pos 0) other
 
 two_same : (g : ℕ → ℤ → ℤ) (a b : ℕ) (x y : ℤ) → a ≡ b → x ≡ y → g a x ≡ g b y
@@ -98,8 +98,8 @@ module _ (P : ℕ → ℤ → Type 0) (f : ℕ → ℕ) (from bound : ℕ) (weig
       below_count : (j : ℕ) → j < count + 1 → (j ≡ count → ⊥) → j < count
       below_count j jl ne = ⊎_elim (λ (h : j < count). h) (λ (h : count ≤ j). absurd (ne (omega (arith, h, jl)))) (cases_lt j count)
 
-      at_place : (j : ℕ) → (j ≡ z → ⊥) → (k : ℕ) × (k < count) × (value_at values k ≡ held.x j) → (k : ℕ) × (k < count + 1)
-          × (value_at (set values count v) k ≡ updated z v held.x j)
+      at_place : (j : ℕ) → (j ≡ z → ⊥) → (k : ℕ) × (k < count) × (listed_value values k ≡ held.x j) → (k : ℕ) × (k < count + 1)
+          × (listed_value (set values count v) k ≡ updated z v held.x j)
       at_place j ne (k, kl, e) = (
         k,
         omega (arith, kl),
@@ -108,12 +108,12 @@ module _ (P : ℕ → ℤ → Type 0) (f : ℕ → ℕ) (from bound : ℕ) (weig
       )
 
       two_sums : (g : ℕ → ℤ → ℤ) → ((u : ℤ) → g 0 u ≡ pos 0)
-          → total_below (λ k. g (weight_at (set weights count w) k) (value_at (set values count v) k)) (suc count)
+          → total_below (λ k. g (listed_weight (set weights count w) k) (listed_value (set values count v) k)) (suc count)
           ≡ total_below (λ j. g (f j) (updated z v held.x j)) (suc z)
       two_sums g nothing =
-          ap (λ (s : ℤ). s +ℤ g (weight_at (set weights count w) count) (value_at (set values count v) count))
-          (sum_below_same (λ k. g (weight_at (set weights count w) k) (value_at (set values count v) k))
-          (λ k. g (weight_at weights k) (value_at values k)) count
+          ap (λ (s : ℤ). s +ℤ g (listed_weight (set weights count w) count) (listed_value (set values count v) count))
+          (sum_below_same (λ k. g (listed_weight (set weights count w) k) (listed_value (set values count v) k))
+          (λ k. g (listed_weight weights k) (listed_value values k)) count
           (λ k kl. two_same g _ _ _ _ (weight_other weights count k w (λ (same : k ≡ count). omega (arith, same, kl)))
           (value_other values count k v (λ (same : k ≡ count). omega (arith, same, kl))))
           ∙ before.sums g nothing
@@ -150,7 +150,7 @@ module _ (P : ℕ → ℤ → Type 0) (f : ℕ → ℕ) (n bound : ℕ) (weights
   none_or_some j = ⊎_elim (λ (h : 0 < f j). inr h) (λ (h : f j ≤ 0). inl (omega (arith, h))) (cases_lt 0 (f j))
 
   sums_leveled : (high : ℤ) (g : ℕ → ℤ → ℤ) → ((v : ℤ) → g 0 v ≡ pos 0)
-      → total_below (λ k. g (weight_at weights k) (value_at values k)) count ≡ total_below (λ j. g (f j) (leveled high j)) n
+      → total_below (λ k. g (listed_weight weights k) (listed_value values k)) count ≡ total_below (λ j. g (f j) (leveled high j)) n
   sums_leveled high g nothing =
       held.sums g nothing
       ∙ sum_below_same (λ j. g (f j) (held.x j)) (λ j. g (f j) (leveled high j)) n (λ j jl. ⊎_elim
@@ -159,14 +159,14 @@ module _ (P : ℕ → ℤ → Type 0) (f : ℕ → ℕ) (n bound : ℕ) (weights
       (λ (some : 0 < f j). two_same g (f j) (f j) (held.x j) (leveled high j) refl (sym (leveled_some high j some)))
       (none_or_some j))
 
-  ends_same : (by : ℕ) (high level : ℤ) → sum_below (ends_until by level (weight_at weights) (value_at values)) count
+  ends_same : (by : ℕ) (high level : ℤ) → sum_below (ends_until by level (listed_weight weights) (listed_value values)) count
       ≡ sum_below (ends_until by level f (leveled high)) n
   ends_same by high level =
-      same_pos _ _ (sym (total_pos (ends_until by level (weight_at weights) (value_at values)) count)
+      same_pos _ _ (sym (total_pos (ends_until by level (listed_weight weights) (listed_value values)) count)
       ∙ sums_leveled high (λ w v. pos (end_until by level w v)) (λ v. ap pos (end_of_none by level v))
       ∙ total_pos (ends_until by level f (leveled high)) n)
 
-  levels_same : (by scale : ℕ) (low high : ℤ) → AreLevels by scale count (weight_at weights) (value_at values) low high
+  levels_same : (by scale : ℕ) (low high : ℤ) → AreLevels by scale count (listed_weight weights) (listed_value values) low high
       → AreLevels by scale n f (leveled high) low high
   levels_same by scale low high are = record {
     order = are.order;
@@ -178,10 +178,10 @@ module _ (P : ℕ → ℤ → Type 0) (f : ℕ → ℕ) (n bound : ℕ) (weights
         (none_or_some j);
   }
     where
-      found : {v : ℤ} → (k : ℕ) × (k < count) × (value_at values k ≡ v) → (v ≤ℤ low) ⊎ (high ≤ℤ v)
+      found : {v : ℤ} → (k : ℕ) × (k < count) × (listed_value values k ≡ v) → (v ≤ℤ low) ⊎ (high ≤ℤ v)
       found (k, kl, e) = subst (λ (u : ℤ). (u ≤ℤ low) ⊎ (high ≤ℤ u)) e (are.between k kl)
 
-  mean_same : (by scale : ℕ) (low high : ℤ) → level_mean by scale count (weight_at weights) (value_at values) low high
+  mean_same : (by scale : ℕ) (low high : ℤ) → level_mean by scale count (listed_weight weights) (listed_value values) low high
       ≡ level_mean by scale n f (leveled high) low high
   mean_same by scale low high =
       cc (
@@ -190,7 +190,7 @@ module _ (P : ℕ → ℤ → Type 0) (f : ℕ → ℕ) (n bound : ℕ) (weights
         ends_same by high low,
       )
 
-  pub worst_mean_of : (by scale : ℕ) (value : ℤ) → IsLevelMean by scale count (weight_at weights) (value_at values) value
+  pub worst_mean_of : (by scale : ℕ) (value : ℤ) → IsLevelMean by scale count (listed_weight weights) (listed_value values) value
       → IsWorstMean P f by scale n value
   worst_mean_of by scale value at =
       let are : AreLevels by scale n f (leveled at.high) at.low at.high = levels_same by scale at.low at.high at.levels in
@@ -203,6 +203,6 @@ module _ (P : ℕ → ℤ → Type 0) (f : ℕ → ℕ) (n bound : ℕ) (weights
       }
 
   -- the weights sum to the scale
-  pub held_sum : (scale : ℕ) → sum_below f n ≡ scale → sum_below (weight_at weights) count ≡ scale
+  pub held_sum : (scale : ℕ) → sum_below f n ≡ scale → sum_below (listed_weight weights) count ≡ scale
   held_sum scale sums =
-      same_pos _ _ (sym (total_pos (weight_at weights) count) ∙ held.sums (λ w v. pos w) (λ v. refl) ∙ total_pos f n) ∙ sums
+      same_pos _ _ (sym (total_pos (listed_weight weights) count) ∙ held.sums (λ w v. pos w) (λ v. refl) ∙ total_pos f n) ∙ sums

@@ -9,7 +9,7 @@ use Rattle.polcert_check.specs.Verdict.{IsBefore}
 use Rattle.polcert_check.proofs.Sums.Ring.{linear}
 use Rattle.polcert_robust.specs.Intervals.{IntervalTable}
 use Rattle.polcert_policy.specs.Vectors.{PolicyVectors}
-use Rattle.polcert_check.specs.Steps.Findings.{IsRefused}
+use Rattle.polcert_check.specs.Steps.Findings.{IsLowerRefusal}
 use Rattle.polcert_check.specs.declared.fault.LowerFault.{LowerFault}
 use Rattle.polcert_check.specs.declared.survey.Verdict.{Verdict}
 use Rattle.polcert_check.specs.declared.survey.Verdict.TheVariants.{Yes, Short, NoSuccessor}
@@ -19,7 +19,7 @@ use Rattle.polcert_robust.proofs.Backings.{all_before}
 use Rattle.polcert_robust.proofs.Surveying.{measured_if}
 use Rattle.polcert_robust.specs.RobustVerdict.{IsLeastThatMayLack, IsRobustShort}
 use Rattle.polcert_robust.specs.Worst.{IsRobust, PairIsRobust, worst_backing}
-use Rattle.polcert_robust.specs.Steps.Surveys.{IsFirstBefore, IsMeasured, IsSurveyedBefore}
+use Rattle.polcert_robust.specs.Steps.Surveys.{IsFirstBefore, IsPairMeasured, IsSurveyedBefore}
 use Rattle.polcert_robust.proofs.Lowered.{lowered_step}
 use Rattle.polcert_robust.proofs.OneWorst.{one_worst}
 use Rattle.polcert_robust.proofs.Rows.{times_less}
@@ -79,7 +79,7 @@ module _ (i : IntervalTable) (c : Controller) (few : i.discount ≤ one) where
             (worst_backing i (lowered_by c by) n s seen short.ends) amount few short.is is;
       }
 
-  pub robust_lowered : (n s worst by : ℕ) → IsMeasured i c n s worst → worst ≤ factor * by → PairIsRobust i (lowered_by c by) n s
+  pub robust_lowered : (n s worst by : ℕ) → IsPairMeasured i c n s worst → worst ≤ factor * by → PairIsRobust i (lowered_by c by) n s
   robust_lowered n s worst by m l =
       let low : IsRobustShort i (lowered_by c by) n s (m.amount -ℤ pos (factor * by)) = lowered_short n s by m.amount m.lacks m.short in
       record {
@@ -105,7 +105,8 @@ module _ (i : IntervalTable) (c : Controller) (few : i.discount ≤ one) where
             pair.seen pair.ends pair.worst,
       ))
 
-  pub least_robust : 0 < i.t_scale → 0 < i.o_scale → (worst by : ℕ) → ((n s : ℕ) → n < c.nodes → s < i.states → IsMeasured i c n s worst)
+  pub least_robust : 0 < i.t_scale → 0 < i.o_scale → (worst by : ℕ)
+      → ((n s : ℕ) → n < c.nodes → s < i.states → IsPairMeasured i c n s worst)
       → (worst ≡ 0) ⊎ ((n : ℕ) × (s : ℕ) × (n < c.nodes) × (s < i.states) × IsRobustShort i c n s (pos worst))
       → worst ≤ factor * by → ((d : ℕ) → d < by → factor * d < worst) → IsLeastRobust i c by
   least_robust t_some o_some worst by measured is_reached enough less = (
@@ -129,7 +130,7 @@ no_factor t o d by l = let e : one - d ≡ 0 = omega (arith, l) in rw e (none (t
     none k b = omega arith
 
 module _ (i : IntervalTable) (c : Controller) (few : i.discount ≤ one) where
-  pub least_zero : IsRobust i c → ((n s : ℕ) → n < c.nodes → s < i.states → IsMeasured i c n s 0) → IsLeastRobust i c 0
+  pub least_zero : IsRobust i c → ((n s : ℕ) → n < c.nodes → s < i.states → IsPairMeasured i c n s 0) → IsLeastRobust i c 0
   least_zero robust measured = (
     (λ n s nl sl. robust_lowered i c few n s 0 0 (measured n s nl sl) (omega arith)),
     (λ d dl h. absurd
@@ -147,10 +148,10 @@ module _ (i : IntervalTable) (c : Controller) (few : i.discount ≤ one) where
   none_lacks f is n s nl sl = (is.measured n s nl sl (inl nl)).lacks
 
   pub refused_robustly : 0 < i.t_scale → 0 < i.o_scale → one ≤ i.discount → (f : RobustFindings) → IsSurveyedBefore i c c.nodes 0 f
-      → (fault : LowerFault) → IsRefused f.first fault → (vectors : PolicyVectors) → IsNotLoweredRobustly i c vectors fault
+      → (fault : LowerFault) → IsLowerRefusal f.first fault → (vectors : PolicyVectors) → IsNotLoweredRobustly i c vectors fault
   refused_robustly t_some o_some all f is fault refused vectors = go f.first is.first refused
     where
-      go : (v : Verdict) → IsFirstBefore i c c.nodes 0 v → IsRefused v fault → IsNotLoweredRobustly i c vectors fault
+      go : (v : Verdict) → IsFirstBefore i c c.nodes 0 v → IsLowerRefusal v fault → IsNotLoweredRobustly i c vectors fault
       go Yes first e = absurd e
       go (Short n s amount) (nl, sl, short, some, before) e =
           rw e (

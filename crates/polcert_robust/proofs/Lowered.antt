@@ -9,7 +9,7 @@ use Rattle.polcert_check.specs.Shortfall.{at_node}
 use Rattle.polcert_check.proofs.Sums.Ring.{linear}
 use Rattle.polcert_check.proofs.Sums.SumLaws.{sum_below_same}
 use Rattle.polcert_robust.specs.Intervals.{IntervalTable}
-use Rattle.polcert_robust.specs.Worst.{IsWorstRow, IsWorstStep, MayLack, mean, step_worth, worst_backing}
+use Rattle.polcert_robust.specs.Worst.{IsWorstRow, IsWorstStep, MayLack, mean, least_step_worth, worst_backing}
 use Rattle.polcert_robust.proofs.Rows.{centered, times_less}
 use Rattle.polcert_robust.proofs.Step.{some_product}
 use Rattle.polcert_robust.proofs.Found.{sum_le, found}
@@ -83,10 +83,10 @@ lowered_step i c n s by lacks_none seen ends worst = (
     d = pos i.discount *ℤ pos by
 
     w : ℕ → ℕ → ℤ
-    w e z = step_worth i c n s e z
+    w e z = least_step_worth i c n s e z
 
     u : ℕ → ℕ → ℤ
-    u e z = step_worth i (lowered_by c by) n s e z
+    u e z = least_step_worth i (lowered_by c by) n s e z
 
     Of : ℕ → (ℕ → ℕ) → Type 0
     Of e row = IsWorstRow (i.o_low a e) (i.o_high a e) i.o_scale i.observations (u e) row
@@ -133,10 +133,10 @@ lowered_step i c n s by lacks_none seen ends worst = (
     seen_is e el (inr beyond) = absurd (omega arith)
 
     x : ℕ → ℤ
-    x e = mean (seen e) (step_worth i c n s e) i.observations
+    x e = mean (seen e) (least_step_worth i c n s e) i.observations
 
     y : ℕ → ℤ
-    y e = mean (lowered_seen e) (step_worth i (lowered_by c by) n s e) i.observations
+    y e = mean (lowered_seen e) (least_step_worth i (lowered_by c by) n s e) i.observations
 
     end_lowered : AreLowered (i.t_high a s) i.states x (pos i.o_scale *ℤ d) y
     end_lowered e el = (seen_is e el (cases_lt e i.states)).1

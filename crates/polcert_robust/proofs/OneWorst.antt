@@ -4,7 +4,7 @@ use Rattle.polcert_check.specs.Horizon.{Controller}
 use Rattle.polcert_check.proofs.Sums.Ring.{linear}
 use Rattle.polcert_check.proofs.Sums.SumLaws.{sum_below_same}
 use Rattle.polcert_robust.specs.Intervals.{IntervalTable}
-use Rattle.polcert_robust.specs.Worst.{IsWorstRow, IsWorstStep, mean, step_worth, worst_backing}
+use Rattle.polcert_robust.specs.Worst.{IsWorstRow, IsWorstStep, mean, least_step_worth, worst_backing}
 use Rattle.polcert_robust.proofs.Lowered.{lowered_row}
 use Rattle.polcert_robust.proofs.Refuting.{worst_within}
 use Rattle.polcert_robust.proofs.Rows.{le_cancel, worst_row_is_least}
@@ -44,11 +44,11 @@ one_worst i c n s t_some o_some seen ends worst seen_too ends_too worst_too =
     (λ e el. ap (λ (v : ℤ). pos (ends_too e) *ℤ v) (same e el))
   where
     x : ℕ → ℤ
-    x e = mean (seen e) (step_worth i c n s e) i.observations
+    x e = mean (seen e) (least_step_worth i c n s e) i.observations
 
     y : ℕ → ℤ
-    y e = mean (seen_too e) (step_worth i c n s e) i.observations
+    y e = mean (seen_too e) (least_step_worth i c n s e) i.observations
 
     same : (e : ℕ) → e < i.states → x e ≡ y e
-    same e el = one_mean (i.o_low (c.action n) e) (i.o_high (c.action n) e) i.o_scale i.observations (step_worth i c n s e) (seen e)
+    same e el = one_mean (i.o_low (c.action n) e) (i.o_high (c.action n) e) i.o_scale i.observations (least_step_worth i c n s e) (seen e)
         (seen_too e) o_some (worst.seen_worst e el) (worst_too.seen_worst e el)

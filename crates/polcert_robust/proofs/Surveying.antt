@@ -14,7 +14,7 @@ use Rattle.polcert_robust.specs.RobustLower.{IsFirstRobustShort, IsNotLoweredRob
 use Rattle.polcert_robust.specs.RobustVerdict.{IsLeastThatMayLack, IsRobustShort}
 use Rattle.polcert_robust.specs.Worst.{PairIsRobust, worst_backing}
 use Rattle.polcert_robust.specs.Steps.Pairs.{IsRobustPair}
-use Rattle.polcert_robust.specs.Steps.Surveys.{IsEarlier, IsFirstBefore, IsLackFault, IsMeasured, IsSurveyedBefore}
+use Rattle.polcert_robust.specs.Steps.Surveys.{IsFirstNo, IsFirstBefore, IsLackFault, IsPairMeasured, IsSurveyedBefore}
 use Rattle.polcert_robust.specs.declared.findings.RobustFindings.{RobustFindings}
 use Rattle.polcert_robust.proofs.Backings.{next_node, none_before, one_more}
 
@@ -37,7 +37,7 @@ module _ (i : IntervalTable) (c : Controller) where
       none : (m t : ℕ) → IsBefore m t 0 0 → ⊥
       none m t b = grind arith
 
-  pub measured_if : (n s worst : ℕ) → PairIsRobust i c n s → IsMeasured i c n s worst
+  pub measured_if : (n s worst : ℕ) → PairIsRobust i c n s → IsPairMeasured i c n s worst
   measured_if n s worst pair = record {
     lacks = pair.lacks_none;
     amount = pos (i.t_scale * i.o_scale * one) *ℤ c.value n s -ℤ worst_backing i c n s pair.seen pair.ends;
@@ -45,7 +45,7 @@ module _ (i : IntervalTable) (c : Controller) where
     most = omega (arith, linear, pair.not_short);
   }
 
-  wider : (n s less more : ℕ) → less ≤ more → IsMeasured i c n s less → IsMeasured i c n s more
+  wider : (n s less more : ℕ) → less ≤ more → IsPairMeasured i c n s less → IsPairMeasured i c n s more
   wider n s less more l m = record { lacks = m.lacks; amount = m.amount; short = m.short; most = omega (arith, linear, m.most, l) }
 
   first_yes : (n s : ℕ) (v : Verdict) → IsFirstBefore i c n s v → PairIsRobust i c n s → IsFirstBefore i c n (s + 1) v
@@ -54,19 +54,19 @@ module _ (i : IntervalTable) (c : Controller) where
   first_yes n s (NoSuccessor m t z) is pair = is
 
   first_short : (n s : ℕ) (v : Verdict) (amount : ℤ) (r : Verdict) → IsFirstBefore i c n s v → (n < c.nodes) → (s < i.states)
-      → IsRobustShort i c n s amount → pos 0 <ℤ amount → IsEarlier v (Short n s amount) r → IsFirstBefore i c n (s + 1) r
+      → IsRobustShort i c n s amount → pos 0 <ℤ amount → IsFirstNo v (Short n s amount) r → IsFirstBefore i c n (s + 1) r
   first_short n s Yes amount r is nl sl short some e = rw e (nl, sl, short, some, is)
   first_short n s (Short m t other) amount r is nl sl short some e = rw e is
   first_short n s (NoSuccessor m t z) amount r is nl sl short some e = absurd is
 
   module _ (n s : ℕ) (f : RobustFindings) (nl : n < c.nodes) (sl : s < i.states) (is : IsSurveyedBefore i c n s f) where
-    more_measured : (worst : ℕ) → f.worst ≤ worst → IsMeasured i c n s worst → (m t : ℕ) → m < c.nodes → t < i.states
-        → IsBefore m t n (s + 1) → IsMeasured i c m t worst
+    more_measured : (worst : ℕ) → f.worst ≤ worst → IsPairMeasured i c n s worst → (m t : ℕ) → m < c.nodes → t < i.states
+        → IsBefore m t n (s + 1) → IsPairMeasured i c m t worst
     more_measured worst l here m t ml tl b =
         ⊎_elim
         (λ (h : IsBefore m t n s). wider m t f.worst worst l (is.measured m t ml tl h))
-        (λ (h : (m ≡ n) × (t ≡ s)). subst (λ (k : ℕ). IsMeasured i c k t worst) (sym h.0)
-        (subst (λ (k : ℕ). IsMeasured i c n k worst) (sym h.1) here))
+        (λ (h : (m ≡ n) × (t ≡ s)). subst (λ (k : ℕ). IsPairMeasured i c k t worst) (sym h.0)
+        (subst (λ (k : ℕ). IsPairMeasured i c n k worst) (sym h.1) here))
         (before_split m t n s b)
 
     pub yes_noted : PairIsRobust i c n s → IsSurveyedBefore i c n (s + 1) f
@@ -77,7 +77,7 @@ module _ (i : IntervalTable) (c : Controller) where
     }
 
     pub short_noted : (m t : ℕ) (amount : ℤ) (r : Verdict) (size worst : ℕ) → IsRobustPair i c n s (Short m t amount)
-        → IsEarlier f.first (Short m t amount) r → size ≡ unsigned_abs amount → f.worst ≤ worst → size ≤ worst → (worst ≡ f.worst)
+        → IsFirstNo f.first (Short m t amount) r → size ≡ unsigned_abs amount → f.worst ≤ worst → size ≤ worst → (worst ≡ f.worst)
         ⊎ (worst ≡ size)
         → IsSurveyedBefore i c n (s + 1) (record { first = r; worst = worst })
     short_noted m t amount r size worst (me, te, lacks, short, some) earlier is_size left right is_one = record {

@@ -23,18 +23,18 @@ mean row x count = total_below (λ i. pos (row i) *ℤ x i) count
 
 -- What a step to e with z is worth at least, where n's action was taken at s: the least reward and the discounted value after it;
 -- nothing where no node follows.
-abbrev pub step_worth : IntervalTable → Controller → ℕ → ℕ → ℕ → ℕ → ℤ
-step_worth i c n s e z = at_node (λ m. pos one *ℤ i.r_low (c.action n) s e z +ℤ pos i.discount *ℤ c.value m e) (c.next n z)
+abbrev pub least_step_worth : IntervalTable → Controller → ℕ → ℕ → ℕ → ℕ → ℤ
+least_step_worth i c n s e z = at_node (λ m. pos one *ℤ i.r_low (c.action n) s e z +ℤ pos i.discount *ℤ c.value m e) (c.next n z)
 
 -- Worst rows of o, one for each end state, and the worst row of t for the means that they leave.
 pub record IsWorstStep (i : IntervalTable) (c : Controller) (n s : ℕ) (seen : ℕ → ℕ → ℕ) (ends : ℕ → ℕ) : Type 0 where
   pub seen_worst : (e : ℕ) → e < i.states
-      → IsWorstRow (i.o_low (c.action n) e) (i.o_high (c.action n) e) i.o_scale i.observations (step_worth i c n s e) (seen e)
-  pub ends_worst : IsWorstRow (i.t_low (c.action n) s) (i.t_high (c.action n) s) i.t_scale i.states (λ e. mean (seen e) (step_worth i c n s e) i.observations) ends
+      → IsWorstRow (i.o_low (c.action n) e) (i.o_high (c.action n) e) i.o_scale i.observations (least_step_worth i c n s e) (seen e)
+  pub ends_worst : IsWorstRow (i.t_low (c.action n) s) (i.t_high (c.action n) s) i.t_scale i.states (λ e. mean (seen e) (least_step_worth i c n s e) i.observations) ends
 
 -- what backs the value of n at s under these rows
 abbrev pub worst_backing : IntervalTable → Controller → ℕ → ℕ → (ℕ → ℕ → ℕ) → (ℕ → ℕ) → ℤ
-worst_backing i c n s seen ends = mean ends (λ e. mean (seen e) (step_worth i c n s e) i.observations) i.states
+worst_backing i c n s seen ends = mean ends (λ e. mean (seen e) (least_step_worth i c n s e) i.observations) i.states
 
 -- observation z may be received at n and s, and n has no successor for it
 abbrev pub MayLack : IntervalTable → Controller → ℕ → ℕ → ℕ → Type 0

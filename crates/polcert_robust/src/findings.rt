@@ -3,7 +3,7 @@ ghost use Rattle.std.specs.Prelude.{◌≡◌, ◌+◌, ◌<◌, ◌≤◌, ◌�
 ghost use Rattle.polcert_check.specs.Horizon.{Controller};
 ghost use Rattle.polcert_robust.specs.Intervals.{IntervalTable};
 ghost use Rattle.polcert_robust.specs.Steps.Pairs.{IsRobustPair};
-ghost use Rattle.polcert_robust.specs.Steps.Surveys.{HasSuccessors, IsEarlier, IsLackFault, IsSurveyedBefore};
+ghost use Rattle.polcert_robust.specs.Steps.Surveys.{HasSuccessors, IsFirstNo, IsLackFault, IsSurveyedBefore};
 
 use polcert_check::{LowerFault, Verdict};
 
@@ -37,7 +37,7 @@ pub(crate) fn lack_of(verdict: Verdict) -> Option<LowerFault>
 
 /// Returns the verdict so far if it is a no, else the one that is found.
 fn earlier(so_far: Verdict, found: Verdict) -> Verdict
-    ensures { IsEarlier so_far found result }
+    ensures { IsFirstNo so_far found result }
 {
     match so_far {
         Verdict::Yes => found,

@@ -3,7 +3,7 @@ ghost use Rattle.std.specs.Prelude.{◌≡◌, ◌*ℤ◌, ◌-◌, ◌+◌, ◌
 ghost use Rattle.polcert_cells.specs.Meaning.{sum_below};
 ghost use Rattle.polcert_robust.specs.Intervals.{low_of, high_of};
 ghost use Rattle.polcert_robust.specs.Worst.{mean};
-ghost use Rattle.polcert_robust.specs.Steps.Rows.{AreLevels, IsLevelMean, end_until, ends_until, value_at, weight_at};
+ghost use Rattle.polcert_robust.specs.Steps.Rows.{AreLevels, IsLevelMean, end_until, ends_until, listed_value, listed_weight};
 
 /// Weights above 0 of a row, what a step to each is worth, and how far the row may lie from these weights.
 #[derive(Drop)]
@@ -19,9 +19,9 @@ pub(crate) struct WorthRow<'a> {
     ghost room_for_values: { count ≤ length values.now },
     ghost few: { count ≤ 10_000 },
     ghost near: { by ≤ 10_000_000_000 },
-    ghost sums: { sum_below (weight_at weights.now) count ≡ scale },
+    ghost sums: { sum_below (listed_weight weights.now) count ≡ scale },
     ghost small_scale: { scale ≤ 10_000_000_000 },
-    ghost small: { (i : ℕ) → i < count → unsigned_abs (value_at values.now i) ≤ bound },
+    ghost small: { (i : ℕ) → i < count → unsigned_abs (listed_value values.now i) ≤ bound },
     ghost small_bound: { bound < 2 ^ 126 },
     ghost fits: { scale * bound < 2 ^ 127 },
 }
@@ -66,8 +66,8 @@ fn end_until(weight: u64, value: i128, by: u64, level: i128) -> u64
 
 /// Returns the sum of the row whose weights are at their high ends up to this level, and at their low ends above it.
 fn sum_until(row: &WorthRow<'_>, level: i128) -> u64
-    ensures { result ≡ sum_below (ends_until row.now.by level (weight_at row.now.weights.now)
-        (value_at row.now.values.now)) row.now.count }
+    ensures { result ≡ sum_below (ends_until row.now.by level (listed_weight row.now.weights.now)
+        (listed_value row.now.values.now)) row.now.count }
 {
     let mut sum: u64 = 0;
     for i in 0..row.count {
@@ -100,7 +100,7 @@ fn chosen(found: Option<i128>, value: i128, is_wanted: bool) -> Option<i128>
 fn value_between(row: &WorthRow<'_>, low: i128, high: i128) -> Option<i128>
     ensures some { IfSome result (λ value. (low <ℤ value) × (value <ℤ high)) }
     ensures none { IfNone result ((i : ℕ) → i < row.now.count →
-        (value_at row.now.values.now i ≤ℤ low) ⊎ (high ≤ℤ value_at row.now.values.now i)) }
+        (listed_value row.now.values.now i ≤ℤ low) ⊎ (high ≤ℤ listed_value row.now.values.now i)) }
 {
     let mut found: Option<i128> = None;
     let mut seen: usize = 0;
@@ -127,8 +127,8 @@ fn outer_levels(row: &WorthRow<'_>) -> Levels
 
 /// Returns two levels between whose sums the scale lies.
 fn levels_of(row: &WorthRow<'_>) -> Levels
-    ensures levels { AreLevels row.now.by row.now.scale row.now.count (weight_at row.now.weights.now)
-        (value_at row.now.values.now) result.low result.high }
+    ensures levels { AreLevels row.now.by row.now.scale row.now.count (listed_weight row.now.weights.now)
+        (listed_value row.now.values.now) result.low result.high }
     ensures small { unsigned_abs result.high ≤ row.now.bound }
 {
     let outer = outer_levels(row);
@@ -156,10 +156,10 @@ pub(crate) fn weigh(weight: u64, number: i128) -> i128
 /// Returns a value of the row times the weight that `sum_until` adds for it.
 fn term_until(row: &WorthRow<'_>, i: usize, level: i128) -> i128
     requires place { i < row.now.count }
-    requires room { sum_below (ends_until row.now.by level (weight_at row.now.weights.now)
-        (value_at row.now.values.now)) row.now.count ≤ row.now.scale }
-    ensures { result ≡ pos (ends_until row.now.by level (weight_at row.now.weights.now)
-        (value_at row.now.values.now) i) *ℤ value_at row.now.values.now i }
+    requires room { sum_below (ends_until row.now.by level (listed_weight row.now.weights.now)
+        (listed_value row.now.values.now)) row.now.count ≤ row.now.scale }
+    ensures { result ≡ pos (ends_until row.now.by level (listed_weight row.now.weights.now)
+        (listed_value row.now.values.now) i) *ℤ listed_value row.now.values.now i }
 {
     let end = end_until(row.weights[i], row.values[i], row.by, level);
     weigh(end, row.values[i])
@@ -167,12 +167,12 @@ fn term_until(row: &WorthRow<'_>, i: usize, level: i128) -> i128
 
 /// Returns the mean of the values under the row that `sum_until` sums, times that sum.
 fn mean_until(row: &WorthRow<'_>, level: i128) -> i128
-    requires room { sum_below (ends_until row.now.by level (weight_at row.now.weights.now)
-        (value_at row.now.values.now)) row.now.count ≤ row.now.scale }
-    ensures is { result ≡ mean (ends_until row.now.by level (weight_at row.now.weights.now)
-        (value_at row.now.values.now)) (value_at row.now.values.now) row.now.count }
+    requires room { sum_below (ends_until row.now.by level (listed_weight row.now.weights.now)
+        (listed_value row.now.values.now)) row.now.count ≤ row.now.scale }
+    ensures is { result ≡ mean (ends_until row.now.by level (listed_weight row.now.weights.now)
+        (listed_value row.now.values.now)) (listed_value row.now.values.now) row.now.count }
     ensures small { unsigned_abs result ≤ sum_below (ends_until row.now.by level
-        (weight_at row.now.weights.now) (value_at row.now.values.now)) row.now.count * row.now.bound }
+        (listed_weight row.now.weights.now) (listed_value row.now.values.now)) row.now.count * row.now.bound }
 {
     let mut sum: i128 = 0;
     for i in 0..row.count {
@@ -183,8 +183,8 @@ fn mean_until(row: &WorthRow<'_>, level: i128) -> i128
 
 /// Returns the least mean of the values over the rows near this one, times the scale.
 pub(crate) fn least_mean(row: &WorthRow<'_>) -> i128
-    ensures is { IsLevelMean row.now.by row.now.scale row.now.count (weight_at row.now.weights.now)
-        (value_at row.now.values.now) result }
+    ensures is { IsLevelMean row.now.by row.now.scale row.now.count (listed_weight row.now.weights.now)
+        (listed_value row.now.values.now) result }
     ensures small { unsigned_abs result ≤ row.now.scale * row.now.bound }
 {
     let levels = levels_of(row);

@@ -4,7 +4,7 @@ ghost use Rattle.polcert_text.specs.Numbers.{largest};
 ghost use Rattle.polcert_check.specs.Horizon.{one};
 ghost use Rattle.polcert_check.specs.Steps.Factored.{IsLeastOf, IsMinOption, IsMissedAt, Misses};
 ghost use Rattle.polcert_check.specs.Steps.Values.{IsMissedBefore};
-ghost use Rattle.polcert_robust.specs.Worst.{step_worth};
+ghost use Rattle.polcert_robust.specs.Worst.{least_step_worth};
 ghost use Rattle.polcert_robust.specs.Steps.Holding.{HoldsRow};
 ghost use Rattle.polcert_robust.specs.Steps.Pairs.{IsEndMean, IsRobustPair, IsWorstBacking, cells_of, most_scales, most_worth, near_controller, near_table};
 
@@ -81,8 +81,8 @@ fn worth_of(reward: i64, by: u64, discount: u32, value: i64) -> i128
 fn worth_at<C: Cells>(pair: &Pair<'_, C>, e: usize, z: usize) -> LeastMean
     requires end { e < (cells_of pair.now.input.now).states }
     requires observation { z < (cells_of pair.now.input.now).observations }
-    ensures is { result.mean ≡ step_worth (near_table pair.now.input.now) (near_controller pair.now.input.now)
-        pair.now.n pair.now.s e z }
+    ensures is { result.mean ≡ least_step_worth (near_table pair.now.input.now)
+        (near_controller pair.now.input.now) pair.now.n pair.now.s e z }
     ensures small { unsigned_abs result.mean ≤ most_worth }
     ensures missing { IsMissedAt (near_controller pair.now.input.now) pair.now.n z result.missing }
 {
@@ -112,7 +112,7 @@ fn gather_observations<C: Cells>(
     requires end { e < (cells_of pair.now.input.now).states }
     requires weights { (cells_of pair.now.input.now).observations ≤ length weights.old }
     requires values { (cells_of pair.now.input.now).observations ≤ length values.old }
-    ensures held { HoldsRow (λ z v. v ≡ step_worth (near_table pair.now.input.now)
+    ensures held { HoldsRow (λ z v. v ≡ least_step_worth (near_table pair.now.input.now)
         (near_controller pair.now.input.now) pair.now.n pair.now.s e z)
         ((cells_of pair.now.input.now).o ((near_controller pair.now.input.now).action pair.now.n) e)
         (cells_of pair.now.input.now).observations most_worth weights.new values.new result.count }

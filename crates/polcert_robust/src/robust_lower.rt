@@ -3,7 +3,7 @@ ghost use Rattle.std.specs.Prelude.{◌≡◌, ◌+◌, ◌*◌, ◌<◌, ◌≤
 ghost use Rattle.polcert_policy.specs.Vectors.{IsInRange, PolicyVectors};
 ghost use Rattle.polcert_check.specs.Horizon.{Fits, controller_of, one};
 ghost use Rattle.polcert_check.specs.Lower.{CanLower};
-ghost use Rattle.polcert_check.specs.Steps.Findings.{IsRefused};
+ghost use Rattle.polcert_check.specs.Steps.Findings.{IsLowerRefusal};
 ghost use Rattle.polcert_check.specs.declared.survey.Verdict.TheVariants.{Yes};
 ghost use Rattle.polcert_robust.specs.Intervals.{around};
 ghost use Rattle.polcert_robust.specs.RobustLower.{IsLeastRobust, IsLeastRobustConstant, IsNotLoweredRobustly, NoneMayLack};
@@ -72,7 +72,7 @@ fn candidate<C: Cells>(input: &RobustInput<'_, C>, findings: RobustFindings) -> 
 /// Returns the reason why vectors with this verdict are not lowered if the discount is 1.
 fn refused(verdict: Verdict) -> Result<(), LowerFault>
     ensures passes { IfOk result (λ _. verdict ≡ Yes) }
-    ensures refused { IfErr result (IsRefused verdict) }
+    ensures refused { IfErr result (IsLowerRefusal verdict) }
 {
     match verdict {
         Verdict::Yes => Ok(()),

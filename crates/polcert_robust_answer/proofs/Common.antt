@@ -1,6 +1,6 @@
 -- The names of specs that several proofs of this crate cite, passed on from one place. Declares nothing.
 pub use Rattle.polcert_answer.specs.Answer.{HasGraph}
-pub use Rattle.polcert_answer.specs.Lines.{counted, lack_line, long_line, short_line}
+pub use Rattle.polcert_answer.specs.Lines.{count_text, lack_line, long_line, short_line}
 pub use Rattle.polcert_answer.specs.Steps.Reading.{AreDenoted, IsGraphReadFault, IsNoReadFault, IsVectorsReadFault}
 pub use Rattle.polcert_answer.specs.declared.fault.Fault.TheVariants.{Graph, Model, Vectors}
 pub use Rattle.polcert_answer.specs.declared.fault.RunFault.TheVariants.{Text}

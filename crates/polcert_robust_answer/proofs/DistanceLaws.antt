@@ -12,7 +12,7 @@ use Rattle.std.proofs.Math.Nat.{mul_assoc, mul-le-mul_right}
 unfoldable use Rattle.polcert_text.specs.Bytes.{is_digit, is_exponent_mark, is_point, is_sign}
 use Rattle.polcert_text.specs.Lexemes.{are_digits, is_mantissa, is_numeral, without_sign}
 use Rattle.polcert_text.specs.Numbers.{IsExact, IsReadable, IsRefusedExactly, exponent_of, fraction_of, is_lowering, largest}
-unfoldable use Rattle.polcert_text.specs.Numbers.{exponent_size, millionth, number_of, power_of, size_of}
+unfoldable use Rattle.polcert_text.specs.Numbers.{exponent_size, millionth, significand, power_of, size_of}
 use Rattle.polcert_text.proofs.Scanning.BeforeFirst.{before_first-stop, before_first-pass, after_first-stop, after_first-pass}
 use Rattle.polcert_text.proofs.Numbers.SizeLaws.{after-none, length-fraction}
 use Rattle.polcert_text.specs.declared.number.NumberFault.{NumberFault}
@@ -156,8 +156,8 @@ module _ (text : List ℕ) (no_mark : list_any is_exponent_mark text ≡ false) 
   unfolding exponent_size is_sign
   exponent_is = ap (λ x. digits_value 10 (without_sign x)) exponent
 
-  numbers : number_of (shifted text) ≡ number_of text
-  unfolding number_of
+  numbers : significand (shifted text) ≡ significand text
+  unfolding significand
   numbers =
       ap (λ m. digits_value 10 (before_first is_point m ++ after_first is_point m)) (mantissa ∙ sym plain)
 
@@ -184,8 +184,8 @@ module _ (text : List ℕ) (no_mark : list_any is_exponent_mark text ≡ false) 
   sizes : length text ≤ 398 → size_of (shifted text) ≡ size_of text * 1_000_000
   unfolding size_of
   sizes short =
-      (λ i. numbers i * 10 ^ powers short i) ∙ ap (λ p. number_of text * p) (pow-add 10 (power_of text) 6)
-      ∙ sym (mul_assoc (number_of text) (10 ^ power_of text) (10 ^ 6))
+      (λ i. numbers i * 10 ^ powers short i) ∙ ap (λ p. significand text * p) (pow-add 10 (power_of text) 6)
+      ∙ sym (mul_assoc (significand text) (10 ^ power_of text) (10 ^ 6))
 
   is_shifted_numeral : is_mantissa text ≡ true → is_numeral (shifted text) ≡ true
   unfolding is_digit is_sign

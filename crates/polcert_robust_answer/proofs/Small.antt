@@ -8,7 +8,7 @@ use Rattle.polcert_check.specs.Shortfall.{at_node}
 use Rattle.polcert_check.proofs.Certificates.{closed_is, value_is_within}
 use Rattle.polcert_check.proofs.Sums.Bounds.{abs-*ℤ_le, abs_neg}
 use Rattle.polcert_robust.specs.RobustVerdict.{IsRobustShort}
-use Rattle.polcert_robust.specs.Worst.{IsWorstRow, IsWorstStep, mean, negated_values, step_worth, worst_backing}
+use Rattle.polcert_robust.specs.Worst.{IsWorstRow, IsWorstStep, mean, negated_values, least_step_worth, worst_backing}
 use Rattle.polcert_robust.specs.Steps.Pairs.{most_worth}
 use Rattle.polcert_robust.proofs.Means.{part_small}
 use Rattle.polcert_robust.proofs.Worths.{worth_small}
@@ -32,7 +32,7 @@ module _ (i : IntervalTable) (c : Controller) (discounted : i.discount ≤ 10000
     (known : (n : ℕ) → n < c.nodes → c.action n < i.actions)
     (next : (n z m : ℕ) → n < c.nodes → z < i.observations → c.next n z ≡ Some m → m < c.nodes)
     (n s : ℕ) (nl : n < c.nodes) (sl : s < i.states) where
-  step_small : (e z : ℕ) → e < i.states → z < i.observations → unsigned_abs (step_worth i c n s e z) ≤ most_worth
+  step_small : (e z : ℕ) → e < i.states → z < i.observations → unsigned_abs (least_step_worth i c n s e z) ≤ most_worth
   unfolding one
   step_small e z el zl =
       at_small most_worth (λ m. pos one *ℤ i.r_low (c.action n) s e z +ℤ pos i.discount *ℤ c.value m e) (c.next n z)
@@ -41,17 +41,17 @@ module _ (i : IntervalTable) (c : Controller) (discounted : i.discount ≤ 10000
       (rewards (c.action n) s e z (known n nl) sl el zl) discounted (values m e (next n z m nl zl is) el) refl refl)
 
   seen_small : (e : ℕ) → e < i.states → (row : ℕ → ℕ)
-      → IsWorstRow (i.o_low (c.action n) e) (i.o_high (c.action n) e) i.o_scale i.observations (step_worth i c n s e) row
-      → unsigned_abs (mean row (step_worth i c n s e) i.observations) ≤ i.o_scale * most_worth
+      → IsWorstRow (i.o_low (c.action n) e) (i.o_high (c.action n) e) i.o_scale i.observations (least_step_worth i c n s e) row
+      → unsigned_abs (mean row (least_step_worth i c n s e) i.observations) ≤ i.o_scale * most_worth
   seen_small e el row worst =
-      subst (λ k. unsigned_abs (mean row (step_worth i c n s e) i.observations) ≤ k * most_worth) worst.sums
-      (part_small row (step_worth i c n s e) most_worth i.observations i.observations (λ z zl. step_small e z el zl) (omega arith))
+      subst (λ k. unsigned_abs (mean row (least_step_worth i c n s e) i.observations) ≤ k * most_worth) worst.sums
+      (part_small row (least_step_worth i c n s e) most_worth i.observations i.observations (λ z zl. step_small e z el zl) (omega arith))
 
   ends_small : (seen : ℕ → ℕ → ℕ) (ends : ℕ → ℕ) → IsWorstStep i c n s seen ends
       → unsigned_abs (worst_backing i c n s seen ends) ≤ i.t_scale * (i.o_scale * most_worth)
   ends_small seen ends worst =
       subst (λ k. unsigned_abs (worst_backing i c n s seen ends) ≤ k * (i.o_scale * most_worth)) worst.ends_worst.sums
-      (part_small ends (λ e. mean (seen e) (step_worth i c n s e) i.observations) (i.o_scale * most_worth) i.states i.states
+      (part_small ends (λ e. mean (seen e) (least_step_worth i c n s e) i.observations) (i.o_scale * most_worth) i.states i.states
       (λ e el. seen_small e el (seen e) (worst.seen_worst e el)) (omega arith))
 
   pub short_small : (amount : ℤ) → IsRobustShort i c n s amount → unsigned_abs amount ≤ 4 * (i.t_scale * i.o_scale * one) * largest

@@ -60,7 +60,7 @@ abbrev pub key_of : Entry → ℕ
 key_of entry = key_in most_places (table_key entry.table) entry.places
 
 -- The key is that of some places, after those of the key `low`, that fit the first of these indices.
-pub record Fits (levels low : ℕ) (indices : List ℕ) (key : ℕ) : Type 0 where
+pub record FitsKey (levels low : ℕ) (indices : List ℕ) (key : ℕ) : Type 0 where
   pub places : List Place
   pub fits : fit_places places indices ≡ true
   pub is : key ≡ key_in levels low places

@@ -32,9 +32,9 @@ abbrev pub given_by : RewardRules → List ℕ → Option ℕ → ℤ
 given_by rewards indices None = pos 0
 given_by rewards indices (Some number) = given rewards indices (slice_get rewards.bodies number)
 
-abbrev pub reward_in : RewardRules → List ℕ → ℤ
-reward_in rewards indices = given_by rewards indices (newest_in most_places (table_key Reward) rewards.rules indices)
+abbrev pub reward_by_rules : RewardRules → List ℕ → ℤ
+reward_by_rules rewards indices = given_by rewards indices (newest_in most_places (table_key Reward) rewards.rules indices)
 
 -- the reward where an action is taken in a start state, ends in an end state, and an observation is made
 abbrev pub reward_at : RewardRules → ℕ → ℕ → ℕ → ℕ → ℤ
-reward_at rewards action start end observation = reward_in rewards (action ∷ start ∷ end ∷ observation ∷ [])
+reward_at rewards action start end observation = reward_by_rules rewards (action ∷ start ∷ end ∷ observation ∷ [])

@@ -31,17 +31,17 @@ pub record AreRowsOf (p : Preamble) (entries : List Entry) (table : Table) (t : 
   pub each : (a s : ℕ) → a < t.actions → s < t.states → IsRow t.columns (λ c. weight p entries table (a ∷ s ∷ c ∷ [])) (row_at t a s)
 
 -- The row that the entries give an action and a state sums to its scale.
-abbrev pub IsProperRow : Preamble → List Entry → Table → ℕ → ℕ → Type 0
-IsProperRow p entries table a s = sum_below (λ c. weight p entries table (a ∷ s ∷ c ∷ [])) (columns p table) ≡ one * columns p table
+abbrev pub GivesProperRow : Preamble → List Entry → Table → ℕ → ℕ → Type 0
+GivesProperRow p entries table a s = sum_below (λ c. weight p entries table (a ∷ s ∷ c ∷ [])) (columns p table) ≡ one * columns p table
 
 abbrev pub AreProperRows : Preamble → List Entry → Table → Type 0
-AreProperRows p entries table = (a s : ℕ) → a < count_of p.actions → s < count_of p.states → IsProperRow p entries table a s
+AreProperRows p entries table = (a s : ℕ) → a < count_of p.actions → s < count_of p.states → GivesProperRow p entries table a s
 
 -- The first row that does not, by action and then by state.
-pub record IsFirstWrong (p : Preamble) (entries : List Entry) (table : Table) (w : WrongRow) : Type 0 where
+pub record IsFirstWrongEntryRow (p : Preamble) (entries : List Entry) (table : Table) (w : WrongRow) : Type 0 where
   pub table_is : w.table ≡ table
   pub action : w.action < count_of p.actions
   pub state : w.row < count_of p.states
-  pub wrong : IsProperRow p entries table w.action w.row → ⊥
-  pub earlier_actions : (b r : ℕ) → b < w.action → r < count_of p.states → IsProperRow p entries table b r
-  pub same_action : (r : ℕ) → r < w.row → IsProperRow p entries table w.action r
+  pub wrong : GivesProperRow p entries table w.action w.row → ⊥
+  pub earlier_actions : (b r : ℕ) → b < w.action → r < count_of p.states → GivesProperRow p entries table b r
+  pub same_action : (r : ℕ) → r < w.row → GivesProperRow p entries table w.action r

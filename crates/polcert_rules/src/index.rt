@@ -6,15 +6,15 @@ ghost use Rattle.polcert_rules.specs.Steps.Rows.{HaveColumns, IsSingleEntry, no_
 ghost use Rattle.polcert_cells.specs.declared.entries.Entry.{Entry as E};
 ghost use Rattle.polcert_cells.specs.Cells.{IsLastCovering, weight, weight_of, value_or};
 ghost use Rattle.polcert_cells.specs.Preamble.{Preamble};
-ghost use Rattle.polcert_rules.specs.Keys.{key_base, AreIndices, Fits, table_key, most_places, digit};
+ghost use Rattle.polcert_rules.specs.Keys.{key_base, AreIndices, FitsKey, table_key, most_places, digit};
 ghost use Rattle.polcert_rules.specs.Keys.{table_digit, key_of, AreDigits};
 ghost use Rattle.polcert_rules.specs.Steps.Newest.{AreKeyed, IsIndexOf, IsNewest, IsRising, IsLastNumber};
-ghost use Rattle.polcert_rules.specs.Steps.Newest.{entry_at, rules_from, newest_of_each, IsCut};
+ghost use Rattle.polcert_rules.specs.Steps.Newest.{entry_at, rules_from, newest_of_each, IsKeyPartition};
 ghost use Rattle.polcert_rules.specs.Steps.Repeats.{NamesNoAction};
 ghost use Rattle.polcert_cells.specs.EntryRefs.{entry_of};
 ghost use Rattle.polcert_rules.specs.Steps.NextPlaces.{IsNextPlace};
 ghost use Rattle.polcert_rules.specs.Matching.{max_option};
-ghost use Rattle.polcert_rules.specs.Steps.RewardSearch.{Begins, IsAnswer};
+ghost use Rattle.polcert_rules.specs.Steps.RewardSearch.{KeyBegins, IsSearchAnswer};
 
 use polcert_cells::{Entries, EntryRef, Place, Table};
 use std::alloc::{AllocError, Global};
@@ -90,7 +90,7 @@ impl Index {
     /// Returns the number of the newest rule that fits these indices of this table.
     pub(crate) fn newest_rule(&self, table: Table, indices: &[usize]) -> Option<usize>
         requires { AreIndices most_places indices.now }
-        ensures { IsNewest self.now (Fits most_places (table_key table) indices.now) result }
+        ensures { IsNewest self.now (FitsKey most_places (table_key table) indices.now) result }
     {
         let levels = 4;
         let low = table_digit(table) * span(levels);
@@ -367,7 +367,7 @@ fn rules_near(rules: &[Rule], high: u64) -> &[Rule]
 /// Tests whether the rules before this place are those before the key.
 fn is_cut(rules: &[Rule], key: u64, place: usize) -> bool
     requires { IsRising rules.now }
-    ensures { IsTrue result → IsCut rules.now key place }
+    ensures { IsTrue result → IsKeyPartition rules.now key place }
 {
     if place > rules.len() {
         return false;
@@ -420,7 +420,7 @@ pub(crate) fn newest(rules: &[Rule], low: u64, levels: usize, indices: &[usize])
     requires few { levels ≤ most_places }
     requires room { low + key_base ^ levels < 2 ^ 64 }
     requires indices { AreIndices levels indices.now }
-    ensures { IsNewest rules.now (Fits levels low indices.now) result }
+    ensures { IsNewest rules.now (FitsKey levels low indices.now) result }
 {
     if rules.is_empty() {
         return None;
@@ -526,7 +526,7 @@ pub(crate) fn some_begins(
     requires few { levels ≤ most_places }
     requires room { low + key_base ^ levels + least < 2 ^ 64 }
     requires indices { AreIndices levels indices.now }
-    ensures { IsAnswer rules.now (Begins levels low indices.now least) result }
+    ensures { IsSearchAnswer rules.now (KeyBegins levels low indices.now least) result }
 {
     if rules.is_empty() {
         return false;

@@ -14,9 +14,9 @@ ghost use Rattle.polcert_rules.specs.Steps.NamedCells.{AreNewestAt, AreNamedCell
 ghost use Rattle.polcert_rules.specs.Steps.CellRules.{AreCellRules, AreCellsOf, AreProperCells};
 ghost use Rattle.std.specs.Prelude.{◌*◌, ◌/◌, ◌%◌};
 ghost use Rattle.polcert_rules.specs.Steps.Meeting.{meets_row};
-ghost use Rattle.polcert_rules.specs.Keys.{key_base, AreIndices, Fits, most_places, table_key};
+ghost use Rattle.polcert_rules.specs.Keys.{key_base, AreIndices, FitsKey, most_places, table_key};
 ghost use Rattle.polcert_rules.specs.Steps.Newest.{AreKeyed, IsIndexOf, IsNewest, IsLastNumber};
-ghost use Rattle.polcert_rules.specs.Steps.Rewards.{IsShapeOf, IsSmall, AreRewardsOf};
+ghost use Rattle.polcert_rules.specs.Steps.Rewards.{IsRewardShapeOf, IsSmall, AreRewardsOf};
 ghost use Rattle.polcert_rules.specs.Steps.RewardSearch.{AreFilled, AreWithin, IsLastBody, IsSingle};
 
 use crate::Index;
@@ -75,7 +75,7 @@ impl Rewards {
         requires index { IsIndexOf RewardTable entries index }
         ensures shape { IfOk result (λ rewards. rewards.shape ≡ shape) }
         ensures rewards { IfOk result
-            (λ rewards. (p : Preamble) → IsShapeOf p shape → p.costs ≡ costs → AreKeyed entries →
+            (λ rewards. (p : Preamble) → IsRewardShapeOf p shape → p.costs ≡ costs → AreKeyed entries →
             All (IsSoundEntry p) entries → AreRewardsOf p entries rewards) }
     {
         let rules = index.into_rules();
@@ -505,7 +505,7 @@ impl Rewards {
     fn body_of(&self, number: Option<usize>) -> Option<RewardBody>
         ensures { (indices : List ℕ) (p : Preamble) (entries : List E) → AreIndices most_places indices →
             AreRewardsOf p entries self.now →
-            IsNewest self.now.rules (Fits most_places (table_key RewardTable) indices) number →
+            IsNewest self.now.rules (FitsKey most_places (table_key RewardTable) indices) number →
             IsLastBody p.costs entries self.now.numbers indices result }
     {
         match number {

@@ -7,21 +7,21 @@ ghost use Rattle.polcert_rules.specs.declared.index.Rule.{Rule as R};
 ghost use Rattle.polcert_cells.specs.declared.entries.Entry.{Entry as E};
 ghost use Rattle.polcert_rules.specs.Keys.{key_base};
 ghost use Rattle.polcert_rules.specs.Steps.Newest.{IsIndexOf, IsRising, IsNewest};
-ghost use Rattle.polcert_rules.specs.Steps.Rows.{HaveColumns, IsSingle, IsColumn, IsCell, columns_of};
+ghost use Rattle.polcert_rules.specs.Steps.Rows.{HaveColumns, IsSingleCellKey, IsColumnRule, IsCell, columns_of};
 ghost use Rattle.polcert_rules.specs.Steps.Rows.{at_column, AreExact, HasSharedColumns, IsTableKey};
 ghost use Rattle.polcert_rules.specs.Steps.Zeros.{others_in};
 ghost use Rattle.polcert_rules.specs.Steps.Repeats.{IsWholeNumber};
-ghost use Rattle.polcert_rules.specs.Steps.Zeros.{AreOrdered, IsSplit, IsRowOf, covering_entry, newest_zero};
+ghost use Rattle.polcert_rules.specs.Steps.Zeros.{HasOrderedZeros, IsSplit, IsEntryRowOf, covering_entry, newest_zero};
 ghost use Rattle.polcert_rules.specs.Steps.Zeros.{overrides, shown, shown_under};
 ghost use Rattle.polcert_cells.specs.Elements.{most_elements};
 ghost use Rattle.polcert_rules.specs.Steps.Merging.{given_at, is_newer, newer_cells, merged, before};
-ghost use Rattle.polcert_rules.specs.Steps.Merging.{following, is_positive};
-ghost use Rattle.polcert_rules.specs.Steps.Sources.{IsNumber, IsColumnOf};
+ghost use Rattle.polcert_rules.specs.Steps.Merging.{following, has_weight};
+ghost use Rattle.polcert_rules.specs.Steps.Sources.{IsNumberEntry, IsColumnOf};
 ghost use Rattle.polcert_cells.specs.declared.elements.Cell.{Cell as C};
 ghost use Rattle.polcert_rules.specs.Steps.Lists.{stored_cells, IsFullLine};
 ghost use Rattle.polcert_cells.specs.Numbers.{one};
 ghost use Rattle.polcert_cells.specs.EntryRefs.{entry_of};
-ghost use Rattle.polcert_rules.specs.Steps.Given.{IsWithin, FitsShape, given};
+ghost use Rattle.polcert_rules.specs.Steps.Given.{IsShapeWithin, FitsShape, entry_weight};
 ghost use Rattle.polcert_cells.specs.Sparse.{IsRow};
 
 use crate::index::{
@@ -76,7 +76,7 @@ impl<'a> Row<'a> {
         requires split { (entries : List E) × (rules : List R) × IsSplit entries rules split.now }
         ensures { IfOk result (λ row. (entries : List E) (rules : List R) →
             HaveColumns entries → IsIndexOf table entries rules → IsSplit entries rules split.now →
-            IsWholeNumber rules table action state whole → IsRowOf entries table action state row) }
+            IsWholeNumber rules table action state whole → IsEntryRowOf entries table action state row) }
     {
         let low = table_digit(table) * span(MOST_PLACES);
         let cells = cells(last, split, low, action, state)?;
@@ -91,7 +91,7 @@ impl<'a> Row<'a> {
     /// Returns the number of what covers a column below its cell: the entry of the whole row, or a newer
     /// zero.
     pub(crate) fn covering_entry(&self, column: usize) -> Option<usize>
-        requires ordered { IfSome self.now.zeros AreOrdered }
+        requires ordered { IfSome self.now.zeros HasOrderedZeros }
         requires column { column + 2 < key_base }
         ensures { result ≡ covering_entry self.now column }
     {
@@ -118,7 +118,8 @@ pub(crate) fn cells(
     requires state { state + 2 < key_base }
     ensures rising { IfOk result (λ cells. IsRising cells.rules.items) }
     ensures newest { IfOk result (λ cells. (c : ℕ) → c + 2 < key_base →
-        IsNewest (others_in split.now.others) (IsSingle low action state c) (at_column cells.rules.items c)) }
+        IsNewest (others_in split.now.others) (IsSingleCellKey low action state c)
+        (at_column cells.rules.items c)) }
     ensures each { IfOk result (λ cells.
         All (IsCell (others_in split.now.others) low action state) cells.rules.items) }
 {
@@ -166,7 +167,7 @@ fn add_columns(cells: &mut Vec<Rule>, rules: &[Rule], start: u64) -> Result<(), 
     requires rising { IsRising rules.now }
     requires room { start + (key_base - 2) * key_base < 2 ^ 64 }
     ensures { OnOk result ((x : R) →
-        Contains cells.new.items x ↔ (Contains cells.old.items x ⊎ IsColumn rules.now start x)) }
+        Contains cells.new.items x ↔ (Contains cells.old.items x ⊎ IsColumnRule rules.now start x)) }
 {
     add_part(
         cells,
@@ -186,7 +187,7 @@ fn add_columns_at(
     requires rising { IsRising rules.now }
     requires room { start + (key_base - 2) * key_base < 2 ^ 64 }
     ensures { OnOk result ((x : R) →
-        Contains cells.new.items x ↔ (Contains cells.old.items x ⊎ IsColumn rules.now start x)) }
+        Contains cells.new.items x ↔ (Contains cells.old.items x ⊎ IsColumnRule rules.now start x)) }
 {
     let rest = rules_from_at(rules, start, place);
     let part = rules_before(rest, start + COLUMN_KEYS);
@@ -221,7 +222,7 @@ pub(crate) fn newer_cells(
 ) -> Result<Vec<Cell>, AllocError>
     requires few { columns ≤ most_elements }
     requires cells { All (IsColumnOf columns entries.now) row.now.cells.rules.items }
-    requires ordered { IfSome row.now.zeros AreOrdered }
+    requires ordered { IfSome row.now.zeros HasOrderedZeros }
     ensures { IfOk result (λ newer. (s : ℕ) →
         newer.items ≡ newer_cells columns entries.now (covering_entry row.now) s row.now.cells.rules.items) }
 {
@@ -249,7 +250,7 @@ pub(crate) fn is_newer(covering_entry: Option<usize>, number: usize) -> bool
 /// Returns the weight that the entry of this number gives, if it gives one number.
 fn single_weight(entries: &Entries, number: usize, columns: usize) -> u64
     requires few { columns ≤ most_elements }
-    requires number { IsNumber entries.now number }
+    requires number { IsNumberEntry entries.now number }
     ensures { (s c : ℕ) → result ≡ given_at columns entries.now (Some number) s c }
 {
     match entries.at(number).body {
@@ -287,7 +288,7 @@ fn put_over(alloc: Global, base: &[Cell], newer: Vec<Cell>) -> Result<Vec<Cell>,
 
 /// Tests whether all cells have a weight above 0.
 fn are_positive(cells: &[Cell]) -> bool
-    ensures { result ≡ list_all is_positive cells.now }
+    ensures { result ≡ list_all has_weight cells.now }
 {
     cells.iter().all(|cell| cell.weight > 0)
 }
@@ -330,7 +331,7 @@ fn row_cells(
     newer: Vec<Cell>,
 ) -> Result<Vec<Cell>, AllocError>
     requires columns { All (λ (x : C). x.column + 2 < key_base) base.now }
-    requires ordered { IfSome row.now.zeros AreOrdered }
+    requires ordered { IfSome row.now.zeros HasOrderedZeros }
     ensures { IfOk result (λ cells.
         cells.items ≡ merged (shown_under row.now.whole row.now.zeros base.now) newer.items) }
 {
@@ -351,7 +352,7 @@ pub(crate) fn cells_over(
     newer: Vec<Cell>,
 ) -> Result<Vec<Cell>, AllocError>
     requires columns { All (λ (x : C). x.column + 2 < key_base) (stored_cells base) }
-    requires ordered { IfSome row.now.zeros AreOrdered }
+    requires ordered { IfSome row.now.zeros HasOrderedZeros }
     ensures { IfOk result (λ cells. cells.items
         ≡ merged (shown_under row.now.whole row.now.zeros (stored_cells base.entry)) newer.items) }
 {
@@ -372,7 +373,7 @@ fn visible_cells(
     base: &[Cell],
 ) -> Result<Vec<Cell>, AllocError>
     requires columns { All (λ (x : C). x.column + 2 < key_base) base.now }
-    requires ordered { AreOrdered zeros }
+    requires ordered { HasOrderedZeros zeros }
     ensures { IfOk result (λ cells.
         cells.items ≡ shown (λ c. overrides whole (newest_zero zeros.entry c)) base.now) }
 {
@@ -402,11 +403,11 @@ pub(crate) fn body_row(
     state: usize,
     shape: Shape,
 ) -> Result<Vec<Cell>, AllocError>
-    requires within { IsWithin shape }
+    requires within { IsShapeWithin shape }
     requires state { state < shape.states }
     requires fits { FitsShape shape (entry_of entry) }
     ensures { IfOk result
-        (λ cells. IsRow shape.columns (given shape.columns (entry_of entry.entry) state) cells.items) }
+        (λ cells. IsRow shape.columns (entry_weight shape.columns (entry_of entry.entry) state) cells.items) }
 {
     let columns = shape.columns;
     match entry.body {
@@ -426,11 +427,11 @@ pub(crate) fn body_row(
 
 /// Returns the number of each column of the row of this state, in millionths, if an entry of T or O gives so many numbers.
 pub(crate) fn body_line<'a>(entry: EntryRef<'a>, state: usize, shape: Shape) -> Option<&'a [u32]>
-    requires within { IsWithin shape }
+    requires within { IsShapeWithin shape }
     requires state { state < shape.states }
     requires fits { FitsShape shape (entry_of entry) }
     ensures { IfSome result (λ line. IsFullLine shape.columns
-        (given shape.columns (entry_of entry.entry) state) line.now) }
+        (entry_weight shape.columns (entry_of entry.entry) state) line.now) }
 {
     match entry.body {
         BodyRef::Probabilities(numbers) => match entry.places.len() {

@@ -4,10 +4,10 @@ ghost use Rattle.std.specs.Prelude.{IsTrue, ℕ, Some, None, slice_index_or};
 ghost use Rattle.polcert_cells.specs.declared.entries.Table.TheVariants.{Reward};
 ghost use Rattle.polcert_rules.specs.declared.index.Rule.{Rule as R};
 ghost use Rattle.polcert_rules.specs.Steps.Newest.{IsRising, IsNewest};
-ghost use Rattle.polcert_rules.specs.Keys.{key_base, AreIndices, Fits, most_places, table_key};
+ghost use Rattle.polcert_rules.specs.Keys.{key_base, AreIndices, FitsKey, most_places, table_key};
 ghost use Rattle.polcert_rules.specs.Steps.Named.{AreNamed};
 ghost use Rattle.polcert_rules.specs.Steps.Noting.{AreNoted, IsNoted, IsLastPlace};
-ghost use Rattle.polcert_rules.specs.Steps.RewardSearch.{Begins, IsAnswer, NamesStart, NamesStartAfter};
+ghost use Rattle.polcert_rules.specs.Steps.RewardSearch.{KeyBegins, IsSearchAnswer, NamesStart, NamesStartAfter};
 ghost use Rattle.polcert_rules.specs.Steps.Rewards.{IsSmall};
 ghost use Rattle.polcert_rules.specs.Matching.{max_option};
 ghost use Rattle.polcert_rules.specs.Steps.CellRules.{AreCellRules, AreJoined, AreProperCells, NamesEnd};
@@ -90,7 +90,7 @@ impl RowRules {
         requires rising { IsRising self.now.rules.items }
         requires indices { AreIndices most_places (action ∷ start ∷ rest.now) }
         ensures { IsNewest self.now.rules.items
-            (Fits most_places (table_key Reward) (action ∷ start ∷ rest.now)) result }
+            (FitsKey most_places (table_key Reward) (action ∷ start ∷ rest.now)) result }
     {
         let step = span(3);
         let only = REWARD_KEYS + (action as u64 + 2) * step;
@@ -108,7 +108,7 @@ impl RowRules {
         requires rising { IsRising self.now.rules.items }
         requires room { low + key_base ^ 3 < 2 ^ 64 }
         requires indices { AreIndices 3 (start ∷ rest.now) }
-        ensures { IsNewest self.now.rules.items (Fits 3 low (start ∷ rest.now)) result }
+        ensures { IsNewest self.now.rules.items (FitsKey 3 low (start ∷ rest.now)) result }
     {
         if self.lacks_keys(digit, low, low + span(3)) {
             return None;
@@ -234,8 +234,8 @@ impl RowRules {
         requires rising { IsRising self.now.rules.items }
         requires room { table_key Reward + key_base ^ most_places + least < 2 ^ 64 }
         requires indices { AreIndices most_places (action ∷ start ∷ rest.now) }
-        ensures { IsAnswer self.now.rules.items
-            (Begins most_places (table_key Reward) (action ∷ start ∷ rest.now) least) result }
+        ensures { IsSearchAnswer self.now.rules.items
+            (KeyBegins most_places (table_key Reward) (action ∷ start ∷ rest.now) least) result }
     {
         let step = span(3);
         let only = REWARD_KEYS + (action as u64 + 2) * step;
@@ -255,7 +255,7 @@ impl RowRules {
         requires rising { IsRising self.now.rules.items }
         requires room { low + key_base ^ 3 + least < 2 ^ 64 }
         requires indices { AreIndices 3 (start ∷ rest.now) }
-        ensures { IsAnswer self.now.rules.items (Begins 3 low (start ∷ rest.now) least) result }
+        ensures { IsSearchAnswer self.now.rules.items (KeyBegins 3 low (start ∷ rest.now) least) result }
     {
         let step = span(PLACES_LEFT);
         let every = low + step;
@@ -271,7 +271,7 @@ impl RowRules {
         requires rising { IsRising self.now.rules.items }
         requires indices { AreIndices most_places (action ∷ start ∷ []) }
         ensures newest { IfSome result (AreCellRules self.now.rules.items
-            (λ e z. Fits most_places (table_key Reward) (action ∷ start ∷ e ∷ z ∷ []))) }
+            (λ e z. FitsKey most_places (table_key Reward) (action ∷ start ∷ e ∷ z ∷ []))) }
         ensures proper { IfSome result AreProperCells }
     {
         let step = span(3);
@@ -295,7 +295,7 @@ impl RowRules {
         requires room { low + key_base ^ 3 < 2 ^ 64 }
         requires index { start + 2 < key_base }
         ensures newest { IfSome result (AreCellRules self.now.rules.items
-            (λ e z. Fits 3 low (start ∷ e ∷ z ∷ []))) }
+            (λ e z. FitsKey 3 low (start ∷ e ∷ z ∷ []))) }
         ensures proper { IfSome result AreProperCells }
     {
         let step = span(PLACES_LEFT);
@@ -397,7 +397,7 @@ fn cell_rules_of(rules: &[Rule], low: u64) -> Option<CellRules<'_>>
     requires rising { IsRising rules.now }
     requires from { (r : R) → Contains rules.now r → low ≤ r.key }
     requires room { low + key_base ^ 2 < 2 ^ 64 }
-    ensures newest { IfSome result (AreCellRules rules.now (λ e z. Fits 2 low (e ∷ z ∷ []))) }
+    ensures newest { IfSome result (AreCellRules rules.now (λ e z. FitsKey 2 low (e ∷ z ∷ []))) }
     ensures proper { IfSome result AreProperCells }
 {
     let every = low + KEY_BASE;

@@ -8,13 +8,13 @@ ghost use Rattle.polcert_cells.specs.Meaning.{sum_below};
 ghost use Rattle.polcert_cells.specs.declared.entries.Table.{Table as T};
 ghost use Rattle.polcert_cells.specs.declared.entries.Entry.{Entry as E};
 ghost use Rattle.polcert_rules.specs.declared.rows.Shape.{Shape as S};
-ghost use Rattle.polcert_rules.specs.Steps.Given.{IsWithin};
+ghost use Rattle.polcert_rules.specs.Steps.Given.{IsShapeWithin};
 ghost use Rattle.polcert_cells.specs.Sparse.{weight_at, scaled_cells, IsRow, IsSparse};
 ghost use Rattle.polcert_rules.specs.Steps.Lists.{IsFullLine, part_in};
-ghost use Rattle.polcert_rules.specs.Steps.Merging.{given_at, weight_in};
-ghost use Rattle.polcert_rules.specs.Steps.Sources.{source_of, source_in, IsWhole, IsFrom, AreKept};
+ghost use Rattle.polcert_rules.specs.Steps.Merging.{given_at, weight_by_entries};
+ghost use Rattle.polcert_rules.specs.Steps.Sources.{source_of, source_in, IsWholeRowEntry, IsFrom, AreKept};
 ghost use Rattle.polcert_rules.specs.Steps.Sources.{AreNumbersOf, IsKeptRow, IsShared, IsAfter, IsRowAfter};
-ghost use Rattle.polcert_rules.specs.Steps.Sources.{Stays, AreNear, total};
+ghost use Rattle.polcert_rules.specs.Steps.Sources.{Stays, AreNear, sum_of_weights};
 
 use crate::index::half_width;
 use crate::row::{Row, body_line, body_row, cells_over, newer_cells};
@@ -110,7 +110,7 @@ impl RowStore {
         row: &Row<'_>,
         state: usize,
     ) -> Result<usize, AllocError>
-        requires within { IsWithin bodies.shape }
+        requires within { IsShapeWithin bodies.shape }
         requires state { state < bodies.shape.states }
         requires near { AreNear self.old.rows near }
         requires kept { AreKept bodies.shape.columns bodies.entries.now self.old }
@@ -122,7 +122,7 @@ impl RowStore {
         ensures row { IfOk result (λ n. (table : T) (a : ℕ) →
             AreNumbersOf bodies.entry.shape bodies.entry.entries.now table a state row.now →
             IsKeptRow bodies.entry.shape.columns
-            (weight_in bodies.entry.shape.columns bodies.entry.entries.now table a state)
+            (weight_by_entries bodies.entry.shape.columns bodies.entry.entries.now table a state)
             self.new.rows n) }
     {
         let base = self.shared_row(alloc, bodies, row.whole, state)?;
@@ -142,10 +142,10 @@ impl RowStore {
         whole: Option<usize>,
         state: usize,
     ) -> Result<usize, AllocError>
-        requires within { IsWithin bodies.shape }
+        requires within { IsShapeWithin bodies.shape }
         requires state { state < bodies.shape.states }
         requires kept { AreKept bodies.shape.columns bodies.entries.now self.old }
-        requires whole { IsWhole bodies.shape bodies.entries.now whole }
+        requires whole { IsWholeRowEntry bodies.shape bodies.entries.now whole }
         ensures stays { OnOk result (Stays self.old.rows self.new.rows) }
         ensures kept { OnOk result
             (AreKept bodies.entry.shape.columns bodies.entry.entries.now self.new) }
@@ -171,9 +171,9 @@ impl RowStore {
         whole: Option<usize>,
         state: usize,
     ) -> Result<usize, AllocError>
-        requires within { IsWithin bodies.shape }
+        requires within { IsShapeWithin bodies.shape }
         requires state { state < bodies.shape.states }
-        requires whole { IsWhole bodies.shape bodies.entries.now whole }
+        requires whole { IsWholeRowEntry bodies.shape bodies.entries.now whole }
         ensures number { IfOk result (λ n. n ≡ length self.old.rows) }
         ensures kept { OnOk result (IsRowAfter bodies.entry.shape.columns
             (given_at bodies.entry.shape.columns bodies.entry.entries.now whole state) self.old self.new) }
@@ -192,7 +192,7 @@ impl RowStore {
         near: Near<'_>,
         cells: &[Cell],
     ) -> Result<usize, AllocError>
-        requires within { IsWithin bodies.shape }
+        requires within { IsShapeWithin bodies.shape }
         requires near { AreNear self.old.rows near }
         requires kept { AreKept bodies.shape.columns bodies.entries.now self.old }
         requires sparse { IsSparse bodies.shape.columns cells.now }
@@ -248,9 +248,9 @@ fn whole_row(
     state: usize,
     shape: Shape,
 ) -> Result<Vec<Cell>, AllocError>
-    requires within { IsWithin shape }
+    requires within { IsShapeWithin shape }
     requires state { state < shape.states }
-    requires whole { IsWhole shape entries.now whole }
+    requires whole { IsWholeRowEntry shape entries.now whole }
     ensures { IfOk result
         (λ cells. IsRow shape.columns (given_at shape.columns entries.now whole state) cells.items) }
 {
@@ -267,9 +267,9 @@ fn full_line<'a>(
     state: usize,
     shape: Shape,
 ) -> Option<&'a [u32]>
-    requires within { IsWithin shape }
+    requires within { IsShapeWithin shape }
     requires state { state < shape.states }
-    requires whole { IsWhole shape entries.now whole }
+    requires whole { IsWholeRowEntry shape entries.now whole }
     ensures { IfSome result (λ line. IsFullLine shape.columns
         (given_at shape.columns entries.now whole state) line.now) }
 {
@@ -306,7 +306,7 @@ fn numbers_sum(numbers: &[u32]) -> u64
 
 /// Returns the origin of the row of a state, by the number of the entry that covers the whole row.
 fn source_of(entries: &Entries, whole: Option<usize>, state: usize) -> RowOrigin
-    requires { (shape : S) × IsWhole shape entries.now whole }
+    requires { (shape : S) × IsWholeRowEntry shape entries.now whole }
     ensures { result ≡ source_of entries.now whole state }
 {
     match whole {
@@ -394,8 +394,8 @@ fn is_same(one: RowOrigin, other: RowOrigin) -> bool
 
 /// Returns the sum of the weights of a row.
 fn row_sum(cells: &[Cell]) -> u64
-    requires { total cells.now < 2 ^ 64 }
-    ensures { result ≡ total cells.now }
+    requires { sum_of_weights cells.now < 2 ^ 64 }
+    ensures { result ≡ sum_of_weights cells.now }
 {
     let mut sum = 0;
     for cell in cells {
@@ -518,13 +518,13 @@ pub(crate) struct Lists<T: Drop> {
 
 impl<T: Drop> Model for Lists<T> {
     ghost use Rattle.std.specs.Prelude.{List, All, map, length};
-    ghost use Rattle.polcert_rules.specs.Steps.Lists.{part_in, LiesIn};
+    ghost use Rattle.polcert_rules.specs.Steps.Lists.{part_in, PartLiesIn};
 
     ghost Value = { List (List T) };
 
     ghost view = { λ l. map (part_in l.items.items) l.parts.items };
 
-    ghost invariant = { λ l. All (LiesIn (length l.items.items)) l.parts.items };
+    ghost invariant = { λ l. All (PartLiesIn (length l.items.items)) l.parts.items };
 }
 
 impl<T: Drop> Lists<T> {

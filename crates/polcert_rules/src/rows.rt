@@ -11,8 +11,8 @@ ghost use Rattle.polcert_cells.specs.BorrowedRows.{IsRowOf};
 ghost use Rattle.polcert_cells.specs.Sparse.{weight_at, IsSparse, scaled_cells};
 ghost use Rattle.polcert_rules.specs.Steps.Lists.{stored_cells, row_in, IsHeld};
 ghost use Rattle.polcert_rules.specs.Steps.Merging.{from as cells_from};
-ghost use Rattle.polcert_rules.specs.RowTables.{AreRowsOf, AreProperRows, IsFirstWrong, row_at};
-ghost use Rattle.polcert_rules.specs.Steps.Sources.{AreKept, AreGiven, AreLine, IsFirstWrongIn, Stays};
+ghost use Rattle.polcert_rules.specs.RowTables.{AreRowsOf, AreProperRows, IsFirstWrongEntryRow, row_at};
+ghost use Rattle.polcert_rules.specs.Steps.Sources.{AreKept, AreIndexedEntries, AreLine, IsFirstWrongIn, Stays};
 ghost use Rattle.polcert_cells.specs.Elements.{most_elements};
 
 use crate::Index;
@@ -81,7 +81,7 @@ impl Rows {
         requires sound { (p : Preamble) × IsShapeOf p table shape × AreSound p entries.now }
         ensures { IfOk result (λ found. (p : Preamble) → IsShapeOf p table shape →
             MatchResult found (λ rows. AreRowsOf p entries.now table rows × AreProperRows p entries.now table)
-            (IsFirstWrong p entries.now table)) }
+            (IsFirstWrongEntryRow p entries.now table)) }
     {
         let index = Index::of(alloc, entries, table)?;
         let rules = index.as_slice();
@@ -183,7 +183,7 @@ fn action_rows(
     before: &[usize],
     action: usize,
 ) -> Result<Result<Vec<usize>, WrongRow>, AllocError>
-    requires given { AreGiven given }
+    requires given { AreIndexedEntries given }
     requires action { action < given.bodies.shape.actions }
     requires before { All (λ n. n < length keeper.old.rows) before.now }
     requires kept { AreKept given.bodies.shape.columns given.bodies.entries.now keeper.old }
@@ -219,7 +219,7 @@ fn action_rows(
 
 /// Returns the number of the newest entry that covers the whole row, if one does.
 fn newest_whole(given: TableEntries<'_>, action: usize, state: usize) -> Option<usize>
-    requires given { AreGiven given }
+    requires given { AreIndexedEntries given }
     requires action { action < given.bodies.shape.actions }
     requires state { state < given.bodies.shape.states }
     ensures { IsWholeNumber given.entry.index.now given.entry.table action state result }

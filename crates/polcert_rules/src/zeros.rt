@@ -3,9 +3,9 @@ ghost use Rattle.std.specs.Prelude.{◌≡◌, ◌+◌, ◌*◌, ◌-◌, ◌<�
 ghost use Rattle.std.specs.Prelude.{IfOk, length, slice_index};
 ghost use Rattle.polcert_rules.specs.Keys.{key_base};
 ghost use Rattle.polcert_rules.specs.Steps.Newest.{IsRising, IsNewest};
-ghost use Rattle.polcert_rules.specs.Steps.Rows.{AreExact, IsExactKey, IsSingle};
-ghost use Rattle.polcert_rules.specs.Steps.Zeros.{IsOrdered, AreOrdered, AreColumnsFrom, zero_in};
-ghost use Rattle.polcert_rules.specs.Steps.Zeros.{newest_zero, zero_of, gives_zero, is_zero, zeros_of};
+ghost use Rattle.polcert_rules.specs.Steps.Rows.{AreExact, IsExactKey, IsSingleCellKey};
+ghost use Rattle.polcert_rules.specs.Steps.Zeros.{IsOrdered, HasOrderedZeros, AreColumnsFrom, zero_in};
+ghost use Rattle.polcert_rules.specs.Steps.Zeros.{newest_zero, zero_of, gives_zero, is_zero_entry, zeros_of};
 ghost use Rattle.polcert_rules.specs.Steps.Zeros.{others_of, others_in};
 ghost use Rattle.polcert_rules.specs.declared.index.Rule.{Rule as R};
 ghost use Rattle.polcert_cells.specs.EntryRefs.{entry_of};
@@ -65,7 +65,7 @@ impl<'a> ZeroColumns<'a> {
 impl RowZeros<'_> {
     /// Returns the number of the newest zero of this column, if there is one.
     pub(crate) fn newest(&self, column: usize) -> Option<usize>
-        requires ordered { AreOrdered self.now }
+        requires ordered { HasOrderedZeros self.now }
         requires column { column + 2 < key_base }
         ensures { result ≡ newest_zero self.now column }
     {
@@ -96,9 +96,9 @@ pub(crate) fn row_zeros(
     requires room { low + key_base ^ 4 < 2 ^ 64 }
     requires action { action + 2 < key_base }
     requires state { state + 2 < key_base }
-    ensures ordered { IfSome result AreOrdered }
+    ensures ordered { IfSome result HasOrderedZeros }
     ensures newest { (c : ℕ) → c + 2 < key_base →
-        IsNewest rules.now (IsSingle low action state c) (zero_of result c) }
+        IsNewest rules.now (IsSingleCellKey low action state c) (zero_of result c) }
 {
     if rules.is_empty() {
         return None;
@@ -230,7 +230,7 @@ fn others_of(alloc: Global, rules: &[Rule], entries: &Entries) -> Result<Vec<Rul
 /// Tests whether the rule's entry gives single cells the weight 0.
 fn is_zero(entries: &Entries, rule: Rule) -> bool
     requires { rule.number < length entries.now }
-    ensures { result ≡ is_zero entries.now rule.number }
+    ensures { result ≡ is_zero_entry entries.now rule.number }
 {
     gives_zero(entries.at(rule.number))
 }

@@ -15,6 +15,6 @@ pub use Rattle.polcert_tables.specs.Contents.{Contents, meaning}
 pub use Rattle.polcert_tables.specs.Filled.{AddsCells, Filled, filled_table}
 pub use Rattle.polcert_tables.specs.Kept.{Kept}
 pub use Rattle.polcert_tables.specs.Steps.KeptOf.{IsKeptOf}
-pub use Rattle.polcert_tables.specs.Steps.ModelView.{IsKeptModel, kept_of}
+pub use Rattle.polcert_tables.specs.Steps.ModelView.{IsKeptModel, kept_parts}
 pub use Rattle.std.proofs.lemmas.List.{get_or_read_under, length_push}
 pub use Rattle.std.specs.Option.{ForSome}

@@ -7,7 +7,7 @@ use Rattle.polcert_tables.proofs.Common.{Transition, Draft}
 use Rattle.polcert_cells.specs.Preamble.{rewarded, columns}
 use Rattle.polcert_cells.specs.CommonRewards.{cell_at}
 use Rattle.polcert_cells.specs.Meaning.{observation_weight, reward_index, IsSame}
-use Rattle.polcert_tables.specs.Kept.{observed_at, meaning}
+use Rattle.polcert_tables.specs.Kept.{observed_at, kept_meaning}
 use Rattle.polcert_tables.specs.Steps.KeptOf.{AreObservationsOf}
 use Rattle.std.proofs.Math.Nat.{div-one, mod-one, mul-one}
 use Rattle.std.proofs.lemmas.Bool.Decides.{nat_tests}
@@ -44,7 +44,7 @@ observed_cell p entries rows h1 a e z h2 h3 h4 = grind (arith, same_cell)
 pub index_within : (p : Preamble) (z : ℕ) → z < count_of (observed p) → reward_index p z < count_of (rewarded p)
 index_within p z = grind arith
 
-pub kept_same : (d : drafts.Draft) (k : Kept) → AreFew k.preamble → IsKeptOf d k → IsSame (meaning k) (drafts.meaning d)
+pub kept_same : (d : drafts.Draft) (k : Kept) → AreFew k.preamble → IsKeptOf d k → IsSame (kept_meaning k) (drafts.draft_meaning d)
 kept_same d k few h = record {
   preamble = h.preamble;
   start = grind arith;
@@ -54,7 +54,7 @@ kept_same d k few h = record {
 }
 
 -- in an MDP a reward has nothing to do with what is observed, and that is the end state
-pub mdp_reward : (k : Kept) (a s e z : ℕ) → is_mdp k.preamble ≡ true → (meaning k).r a s e z ≡ (meaning k).r a s e 0
+pub mdp_reward : (k : Kept) (a s e z : ℕ) → is_mdp k.preamble ≡ true → (kept_meaning k).r a s e z ≡ (kept_meaning k).r a s e 0
 mdp_reward k a s e z mdp = ap (λ b. reward_at k.rewards a s e (cond b 0 z)) mdp ∙ sym (ap (λ b. reward_at k.rewards a s e (cond b 0 0)) mdp)
 
 -- where observations are named, a reward's last index is the observation
@@ -99,7 +99,7 @@ module _ (k : Kept) (d : IsKeptModel k) where
   pub model_reward : (a s e z : ℕ) (h : ℤ) → a < count_of k.preamble.actions → s < count_of k.preamble.states
       → e < count_of k.preamble.states → z < count_of (observed k.preamble)
       → ((p : Preamble) (entries : List Entry) → AreRewardsOf p entries k.rewards
-      → h ≡ reward p entries (a ∷ s ∷ e ∷ reward_index k.preamble z ∷ [])) → h ≡ (meaning k).r a s e z
+      → h ≡ reward p entries (a ∷ s ∷ e ∷ reward_index k.preamble z ∷ [])) → h ≡ (kept_meaning k).r a s e z
   model_reward a s e z h i j l m is = grind (
     arith,
     (kept_same d.items k (few_in k d) d.said).r a s e z,
@@ -111,7 +111,7 @@ module _ (k : Kept) (d : IsKeptModel k) where
       → e < count_of k.preamble.states
       → ((p : Preamble) (entries : List Entry) → AreRewardsOf p entries k.rewards
       → ForSome found (λ h. (z : ℕ) → z < k.rewards.shape.observations → reward p entries (a ∷ s ∷ e ∷ z ∷ []) ≡ h))
-      → ForSome found (λ h. (z : ℕ) → z < count_of (observed k.preamble) → (meaning k).r a s e z ≡ h)
+      → ForSome found (λ h. (z : ℕ) → z < count_of (observed k.preamble) → (kept_meaning k).r a s e z ≡ h)
   model_for_all_observations a s e found i j l alike = λ h is z m. grind (arith, kept_same d.items k (few_in k d), model_index z)
 
   -- where observations are named, a reward runs over them
@@ -123,14 +123,14 @@ module _ (k : Kept) (d : IsKeptModel k) where
       → is_mdp k.preamble ≡ false
       → ((p : Preamble) (entries : List Entry) → AreRewardsOf p entries k.rewards
       → ForSome found (λ common. IsCommonReward (λ z. reward p entries (a ∷ s ∷ e ∷ z ∷ [])) k.rewards.shape.observations common cells))
-      → ForSome found (λ common. IsCommonReward ((meaning k).r a s e) (count_of (observed k.preamble)) common cells)
+      → ForSome found (λ common. IsCommonReward ((kept_meaning k).r a s e) (count_of (observed k.preamble)) common cells)
   model_common_reward a s e found cells i j l pomdp given = λ common is.
       let c = given d.items.preamble d.items.entries d.said.rewards common is in
       let same = rewards_seen pomdp in
       let within : (n : ℕ) → n < common.exceptions → (cell_at cells n).observation < count_of (observed k.preamble) =
       λ n m. subst (λ size. (cell_at cells n).observation < size) same (c.within n m) in
       let there : (z : ℕ) → z < count_of (observed k.preamble)
-      → (meaning k).r a s e z ≡ reward d.items.preamble d.items.entries (a ∷ s ∷ e ∷ z ∷ []) = λ z m.
+      → (kept_meaning k).r a s e z ≡ reward d.items.preamble d.items.entries (a ∷ s ∷ e ∷ z ∷ []) = λ z m.
       (kept_same d.items k (few_in k d) d.said).r a s e z i j l m
       ∙ ap (λ (p : Preamble). reward d.items.preamble d.items.entries (a ∷ s ∷ e ∷ reward_index p z ∷ [])) (sym d.said.preamble)
       ∙ ap (λ y. reward d.items.preamble d.items.entries (a ∷ s ∷ e ∷ y ∷ [])) (observed_index k.preamble z pomdp) in
@@ -150,7 +150,7 @@ module _ (k : Kept) (d : IsKeptModel k) where
       → ForSome found (λ common. IsCommonReward (λ n. reward p entries
       (a ∷ s ∷ n / k.rewards.shape.observations ∷ n % k.rewards.shape.observations ∷ []))
       (k.rewards.shape.states * k.rewards.shape.observations) common cells))
-      → ForSome found (λ common. IsCommonReward (λ n. (meaning k).r a s (n / count_of (observed k.preamble))
+      → ForSome found (λ common. IsCommonReward (λ n. (kept_meaning k).r a s (n / count_of (observed k.preamble))
       (n % count_of (observed k.preamble)))
       (count_of k.preamble.states * count_of (observed k.preamble)) common cells)
   model_row_reward a s found cells i j pomdp given = λ common is.
@@ -162,7 +162,7 @@ module _ (k : Kept) (d : IsKeptModel k) where
       (a ∷ s ∷ n / k.rewards.shape.observations ∷ n % k.rewards.shape.observations ∷ []))
       (e * k.rewards.shape.observations) common cells) states given_here) in
       let there : (n : ℕ) → n < count_of k.preamble.states * count_of (observed k.preamble)
-      → (meaning k).r a s (n / count_of (observed k.preamble)) (n % count_of (observed k.preamble))
+      → (kept_meaning k).r a s (n / count_of (observed k.preamble)) (n % count_of (observed k.preamble))
       ≡ reward d.items.preamble d.items.entries (a ∷ s ∷ n / count_of (observed k.preamble) ∷ n % count_of (observed k.preamble) ∷ []) =
       λ n m.
       let some = some_factor n (count_of k.preamble.states) (count_of (observed k.preamble)) m in
@@ -187,7 +187,7 @@ module _ (k : Kept) (d : IsKeptModel k) where
       → ForSome found (λ common. IsCommonReward (λ n. reward p entries
       (a ∷ s ∷ n / k.rewards.shape.observations ∷ n % k.rewards.shape.observations ∷ []))
       (k.rewards.shape.states * k.rewards.shape.observations) common cells))
-      → ForSome found (λ common. IsCommonReward (λ e. (meaning k).r a s e z) (count_of k.preamble.states) common cells)
+      → ForSome found (λ common. IsCommonReward (λ e. (kept_meaning k).r a s e z) (count_of k.preamble.states) common cells)
   model_end_reward a s z found cells i j l mdp given = λ common is.
       let states : k.rewards.shape.states ≡ count_of k.preamble.states = sym d.r_counts.states in
       let one : k.rewards.shape.observations ≡ 1 = sym d.r_counts.observations ∙ one_rewarded k.preamble mdp in
@@ -197,7 +197,7 @@ module _ (k : Kept) (d : IsKeptModel k) where
       (a ∷ s ∷ e / k.rewards.shape.observations ∷ e % k.rewards.shape.observations ∷ []))
       (n * k.rewards.shape.observations) common cells) states (given d.items.preamble d.items.entries d.said.rewards common is)) in
       let there : (e : ℕ) → e < count_of k.preamble.states
-      → (meaning k).r a s e z ≡ reward d.items.preamble d.items.entries (a ∷ s ∷ e / 1 ∷ e % 1 ∷ []) = λ e m.
+      → (kept_meaning k).r a s e z ≡ reward d.items.preamble d.items.entries (a ∷ s ∷ e / 1 ∷ e % 1 ∷ []) = λ e m.
       (kept_same d.items k (few_in k d) d.said).r a s e z i j m l
       ∙ ap (λ (p : Preamble). reward d.items.preamble d.items.entries (a ∷ s ∷ e ∷ reward_index p z ∷ [])) (sym d.said.preamble)
       ∙ ap (λ b. reward d.items.preamble d.items.entries (a ∷ s ∷ e ∷ cond b 0 z ∷ [])) mdp
@@ -214,14 +214,16 @@ module _ (k : Kept) (d : IsKeptModel k) where
       → ((p : Preamble) (entries : List Entry) → AreRewardsOf p entries k.rewards
       → ForSome found (λ h. (e z : ℕ) → e < k.rewards.shape.states → z < k.rewards.shape.observations
       → reward p entries (a ∷ s ∷ e ∷ z ∷ []) ≡ h))
-      → ForSome found (λ h. (e z : ℕ) → e < count_of k.preamble.states → z < count_of (observed k.preamble) → (meaning k).r a s e z ≡ h)
+      → ForSome found (λ h. (e z : ℕ) → e < count_of k.preamble.states → z < count_of (observed k.preamble)
+      → (kept_meaning k).r a s e z ≡ h)
   model_for_all_ends a s found i j common = λ h is e z l m. grind (arith, kept_same d.items k (few_in k d), model_index z)
 
   pub model_same : (a s other : ℕ) → a < count_of k.preamble.actions → s < count_of k.preamble.states → other < count_of k.preamble.states
       → ((p : Preamble) (entries : List Entry) → AreRewardsOf p entries k.rewards → (e z : ℕ) → e < k.rewards.shape.states
       → z < k.rewards.shape.observations
       → reward p entries (a ∷ s ∷ e ∷ z ∷ []) ≡ reward p entries (a ∷ other ∷ e ∷ z ∷ []))
-      → (e z : ℕ) → e < count_of k.preamble.states → z < count_of (observed k.preamble) → (meaning k).r a s e z ≡ (meaning k).r a other e z
+      → (e z : ℕ) → e < count_of k.preamble.states → z < count_of (observed k.preamble)
+      → (kept_meaning k).r a s e z ≡ (kept_meaning k).r a other e z
   model_same a s other i j o same e z l m = grind (
     arith,
     kept_same d.items k (few_in k d) d.said,
@@ -233,7 +235,7 @@ module _ (k : Kept) (d : IsKeptModel k) where
   pub model_unpaid : (a s : ℕ) → a < count_of k.preamble.actions → s < count_of k.preamble.states
       → ((p : Preamble) (entries : List Entry) → AreRewardsOf p entries k.rewards → (e z : ℕ)
       → reward p entries (a ∷ s ∷ e ∷ z ∷ []) ≡ pos 0)
-      → (e z : ℕ) → e < count_of k.preamble.states → z < count_of (observed k.preamble) → (meaning k).r a s e z ≡ pos 0
+      → (e z : ℕ) → e < count_of k.preamble.states → z < count_of (observed k.preamble) → (kept_meaning k).r a s e z ≡ pos 0
   model_unpaid a s i j none e z l m = grind (
     arith,
     (kept_same d.items k (few_in k d) d.said).r a s e z,

@@ -8,10 +8,10 @@ use Rattle.polcert_tables.specs.Kept.{Kept}
 -- what is kept of the text, where each row sums to its scale, all lies within limits and can be written
 pub record Contents : Type 0 where
   pub kept : Kept
-  pub rows : HasProperRows (parts.meaning kept)
-  pub limits : HasLimitedNumbers (parts.meaning kept)
-  pub writable : IsWritable (parts.meaning kept)
+  pub rows : HasProperRows (parts.kept_meaning kept)
+  pub limits : HasLimitedNumbers (parts.kept_meaning kept)
+  pub writable : IsWritable (parts.kept_meaning kept)
 
 -- what they denote
 abbrev pub meaning : Contents → Meaning
-meaning c = parts.meaning c.kept
+meaning c = parts.kept_meaning c.kept

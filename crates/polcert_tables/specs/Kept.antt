@@ -24,8 +24,8 @@ observed_at p (Some rows) a e z = weight_at (row_at rows a e) z
 observed_at p None a e z = if e == z then one * count_of p.states else 0
 
 -- what they denote; with no start item all states are equally likely
-abbrev pub meaning : Kept → Meaning
-meaning k = record {
+abbrev pub kept_meaning : Kept → Meaning
+kept_meaning k = record {
   preamble = k.preamble;
   start = unwrap_or k.start (all_states k.preamble.states);
   t = (λ a s e. weight_at (row_at k.transitions a s) e);

@@ -18,11 +18,11 @@ ghost use Rattle.polcert_format.specs.Order.{count_or};
 ghost use Rattle.polcert_format.specs.Printable.{IsPrintable};
 ghost use Rattle.polcert_format.specs.Writable.{IsWritable};
 ghost use Rattle.polcert_rules.specs.Steps.Shapes.{IsShapeOf, AreSound};
-ghost use Rattle.polcert_rules.specs.RowTables.{IsFirstWrong};
+ghost use Rattle.polcert_rules.specs.RowTables.{IsFirstWrongEntryRow};
 ghost use Rattle.polcert_tables.specs.Contents.{meaning};
-ghost use Rattle.polcert_tables.specs.Kept.{meaning as kept_meaning};
+ghost use Rattle.polcert_tables.specs.Kept.{kept_meaning};
 ghost use Rattle.polcert_tables.specs.Steps.KeptOf.{IsKeptOf, AreObservationsOf, DenotesWithinLimits};
-ghost use Rattle.polcert_tables.specs.Steps.ModelView.{draft_with, kept_of};
+ghost use Rattle.polcert_tables.specs.Steps.ModelView.{draft_with, kept_parts};
 ghost use Rattle.polcert_tables.specs.Steps.RowSums.{row_of, AreProperObservations};
 
 use polcert_cells::{
@@ -81,9 +81,9 @@ pub struct Model {
     transitions: Rows,
     observed: Option<Rows>,
     rewards: Rewards,
-    ghost rows: { HasProperRows (kept_meaning (kept_of preamble start transitions observed rewards)) },
-    ghost limits: { HasLimitedNumbers (kept_meaning (kept_of preamble start transitions observed rewards)) },
-    ghost writable: { IsWritable (kept_meaning (kept_of preamble start transitions observed rewards)) },
+    ghost rows: { HasProperRows (kept_meaning (kept_parts preamble start transitions observed rewards)) },
+    ghost limits: { HasLimitedNumbers (kept_meaning (kept_parts preamble start transitions observed rewards)) },
+    ghost writable: { IsWritable (kept_meaning (kept_parts preamble start transitions observed rewards)) },
 }
 
 // (Written by hand so that callers prove one drop.)
@@ -101,18 +101,18 @@ impl Drop for Model {
 
 impl marker::Model for Model {
     ghost use Rattle.polcert_tables.specs.Contents.{Contents};
-    ghost use Rattle.polcert_tables.specs.Steps.ModelView.{kept_of, IsKeptModel};
+    ghost use Rattle.polcert_tables.specs.Steps.ModelView.{kept_parts, IsKeptModel};
 
     ghost Value = { Contents };
 
     ghost view = { λ m. record {
-      kept = kept_of m.preamble m.start m.transitions m.observed m.rewards;
+      kept = kept_parts m.preamble m.start m.transitions m.observed m.rewards;
       rows = m.rows;
       limits = m.limits;
       writable = m.writable;
     } };
 
-    ghost invariant = { λ m. IsKeptModel (kept_of m.preamble m.start m.transitions m.observed m.rewards) };
+    ghost invariant = { λ m. IsKeptModel (kept_parts m.preamble m.start m.transitions m.observed m.rewards) };
 }
 
 impl Model {
@@ -476,7 +476,7 @@ pub fn build_model(
     requires limits { DenotesWithinLimits (draft_with preamble start entries) }
     ensures { IfOk result (λ found. MatchResult found
         (λ model. IsKeptOf (draft_with preamble start entries) model.kept)
-        (λ w. IsFirstWrongRow (drafts.meaning (draft_with preamble start entries))
+        (λ w. IsFirstWrongRow (drafts.draft_meaning (draft_with preamble start entries))
         w.table w.action w.row)) }
 {
     let shape = Shape {
@@ -544,7 +544,7 @@ fn observed_rows(
     ensures { IfOk result
         (λ found. (p : P) → p.observations ≡ observations.now → IsShapeOf p Transition shape →
         MatchResult found (λ rows. AreObservationsOf p entries.now rows × AreProperObservations p entries.now)
-        (λ w. (is_mdp p ≡ false) × IsFirstWrong p entries.now Observation w)) }
+        (λ w. (is_mdp p ≡ false) × IsFirstWrongEntryRow p entries.now Observation w)) }
 {
     let Some(elements) = observations else {
         return Ok(Ok(None));

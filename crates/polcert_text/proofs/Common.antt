@@ -13,7 +13,7 @@ pub use Rattle.polcert_text.specs.Millionths.{fraction_text, unsigned_text}
 unfoldable pub use Rattle.polcert_text.specs.Millionths.{decimals}
 pub use Rattle.polcert_text.specs.Numbers.{IsCeil, IsExact, IsFloor, IsReadable, IsRounded, exponent_of, fraction_of, is_lowering, largest}
 pub use Rattle.polcert_text.specs.Numbers.{signed, whole_of}
-unfoldable pub use Rattle.polcert_text.specs.Numbers.{exponent_size, millionth, number_of, power_of, size_of}
+unfoldable pub use Rattle.polcert_text.specs.Numbers.{exponent_size, millionth, significand, power_of, size_of}
 pub use Rattle.polcert_text.specs.ReadTexts.{ReadsText}
 pub use Rattle.polcert_text.specs.Reading.{lexeme_of}
 pub use Rattle.polcert_text.specs.Sink.{Takes, TakesFront, WritesText}
@@ -21,12 +21,12 @@ pub use Rattle.polcert_text.specs.Source.{EachTextThatFits, Gives, IsText, more,
 pub use Rattle.polcert_text.specs.Steps.Classes.{blank_class, digit_class, glue_class, hash_class, letter_class, mark_kind, point_class}
 unfoldable pub use Rattle.polcert_text.specs.Steps.Classes.{class_of}
 pub use Rattle.polcert_text.specs.Steps.FrontSizes.{AreDigitsFrom, EndsAsSize}
-pub use Rattle.polcert_text.specs.Steps.Scaling.{IsScaled, Measures, cap, ceiling, is_away, is_nonzero, rounded, separates}
+pub use Rattle.polcert_text.specs.Steps.Scaling.{IsScaled, Measures, size_cap, ceiling, is_away, is_nonzero, rounded, separates}
 pub use Rattle.polcert_text.specs.Steps.Scan.{gap_after, gap_through, is_numeral_kind, kind_at, state_after, state_through}
 pub use Rattle.polcert_text.specs.Steps.ScanOf.{EndsAsDigits, EndsWithin, IsFrontOf, IsNameOrMark, IsNumberFrom, IsScanOf, front_len}
 pub use Rattle.polcert_text.specs.Steps.ScanOf.{is_over, is_stuck, pending}
 pub use Rattle.polcert_text.specs.Steps.StreamTaken.{TakenFrom}
-pub use Rattle.polcert_text.specs.Steps.Streaming.{Fills, IsComplete, IsSeen, ReadsOn, ScansLexeme, SkipsGap, StopsRightly}
+pub use Rattle.polcert_text.specs.Steps.Streaming.{Fills, IsReadToLimit, IsFrontSeen, ReadsOn, ScansLexeme, SkipsGap, EndsAsAnswered}
 pub use Rattle.polcert_text.specs.Stream.{Ahead, CanFollow, Fails, GivesEnd, GivesToken, ReadsFrom, Stream, rest_with, skip, visible}
 pub use Rattle.polcert_text.specs.TakenTokens.{Taken, token}
 pub use Rattle.polcert_text.specs.declared.bytes.ByteClass.{ByteClass}

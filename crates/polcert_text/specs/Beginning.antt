@@ -27,8 +27,8 @@ abbrev pub passed : ℕ → Stream → Stream
 passed n s = record { ahead = skip n s.ahead; borrowed = []; stop = s.stop }
 
 -- the lexeme, where the bytes that its place is counted from stand at this offset
-abbrev pub moved : ℕ → Lexeme → Lexeme
-moved place l = record l { place = place + l.place }
+abbrev pub at_offset : ℕ → Lexeme → Lexeme
+at_offset place l = record l { place = place + l.place }
 
 -- the first bytes are one token of this kind
 pub record BeginWithOne (place : ℕ) (bytes : List ℕ) (count : ℕ) (kind : TokenKind) : Type 0 where

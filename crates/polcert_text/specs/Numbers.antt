@@ -24,8 +24,8 @@ abbrev pub exponent_of : List ℕ → List ℕ
 exponent_of bs = after_first is_exponent_mark bs
 
 -- the digits of a numeral without the point, as one whole number
-unfoldable pub number_of : List ℕ → ℕ
-number_of bs = digits_value 10 (whole_of bs ++ fraction_of bs)
+unfoldable pub significand : List ℕ → ℕ
+significand bs = digits_value 10 (whole_of bs ++ fraction_of bs)
 
 abbrev pub is_lowering : List ℕ → Bool
 is_lowering [] = false
@@ -43,7 +43,7 @@ power_of bs =
 
 -- the value without a sign, times 10 ^ 1000
 unfoldable pub size_of : List ℕ → ℕ
-size_of bs = number_of bs * 10 ^ power_of bs
+size_of bs = significand bs * 10 ^ power_of bs
 
 -- a millionth, times 10 ^ 1000
 unfoldable pub millionth : ℕ
@@ -61,8 +61,8 @@ abbrev pub IsExact : Bool → List ℕ → ℤ → Type 0
 IsExact negative bs h = h *ℤ pos millionth ≡ signed negative (size_of bs)
 
 -- the text is a numeral of just h millionths, or a `-` (45) and such a numeral
-abbrev pub Denotes : List ℕ → ℤ → Type 0
-Denotes text h = (negative : Bool) × ((numeral : List ℕ)
+abbrev pub DenotesNumber : List ℕ → ℤ → Type 0
+DenotesNumber text h = (negative : Bool) × ((numeral : List ℕ)
     × (text ≡ (if negative then 45 ∷ numeral else numeral))
     × (is_numeral numeral ≡ true)
     × IsExact negative numeral h)

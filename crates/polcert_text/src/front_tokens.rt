@@ -5,12 +5,12 @@ ghost use Rattle.std.specs.List.{list_any};
 ghost use Rattle.polcert_text.specs.Steps.Classes.{class_of};
 ghost use Rattle.polcert_text.specs.declared.bytes.ByteClass.{ByteClass};
 ghost use Rattle.polcert_text.specs.Steps.Scan.{gap_through, EndsNumeral};
-ghost use Rattle.polcert_text.specs.Beginning.{BeginWith, BeginWithOne, BeginWithNumber, BeginWithDigits, moved};
+ghost use Rattle.polcert_text.specs.Beginning.{BeginWith, BeginWithOne, BeginWithNumber, BeginWithDigits, at_offset};
 ghost use Rattle.polcert_text.specs.Reading.{lexeme_of};
 ghost use Rattle.polcert_text.specs.Steps.ScanOf.{EndsAsDigits, IsNumberFrom};
 ghost use Rattle.std.specs.Str.Parse.{digits_value};
 ghost use Rattle.polcert_text.specs.FrontValues.{BeginWithValue};
-ghost use Rattle.polcert_text.specs.Steps.FrontSizes.{AreDigitsFrom, AreDecimals, AreDigits, packed, IsTail, EndsAsSize};
+ghost use Rattle.polcert_text.specs.Steps.FrontSizes.{AreDigitsFrom, AreDecimals, AreSixDigits, packed, IsTail, EndsAsSize};
 ghost use Rattle.polcert_text.specs.Steps.Scaling.{ceiling, is_nonzero};
 ghost use Rattle.polcert_text.specs.Numbers.{largest};
 
@@ -128,7 +128,7 @@ fn colon_at(bytes: &[u8], start: usize) -> Option<usize>
 #[inline(always)]
 pub fn front_token(bytes: &[u8]) -> Option<Token<'_>>
     ensures { IfSome result (λ token. (place : ℕ) →
-        BeginWith place bytes.now token.stop (moved place (lexeme_of token) ∷ [])) }
+        BeginWith place bytes.now token.stop (at_offset place (lexeme_of token) ∷ [])) }
 {
     let start = gap(Spelling::Any, bytes);
     let rest = &bytes[start..];
@@ -151,7 +151,7 @@ pub fn front_token(bytes: &[u8]) -> Option<Token<'_>>
 #[inline(always)]
 pub fn front_name(bytes: &[u8]) -> Option<Token<'_>>
     ensures front { IfSome result (λ token. (place : ℕ) →
-        BeginWith place bytes.now token.stop (moved place (lexeme_of token) ∷ [])) }
+        BeginWith place bytes.now token.stop (at_offset place (lexeme_of token) ∷ [])) }
     ensures name { IfSome result (λ token. token.kind ≡ TokenKind.Name) }
 {
     let start = near_gap(bytes);
@@ -705,7 +705,7 @@ fn six_bytes(bytes: &[u8], from: usize) -> u64
 #[inline(always)]
 fn six_digits_value(digits: u64) -> u64
     requires { digits < 2 ^ 48 }
-    ensures { (a b c d e f : ℕ) → AreDigits a b c d e f → digits ≡ packed a b c d e f
+    ensures { (a b c d e f : ℕ) → AreSixDigits a b c d e f → digits ≡ packed a b c d e f
         → result ≡ ((((a * 10 + b) * 10 + c) * 10 + d) * 10 + e) * 10 + f }
 {
     // (The first, third and fifth byte of the sum are two digits each.)

@@ -11,7 +11,7 @@ ghost use Rattle.polcert_text.specs.Lexemes.{without_sign, is_numeral, are_digit
 ghost use Rattle.polcert_text.specs.Numbers.{whole_of, fraction_of, exponent_of, is_lowering, largest};
 ghost use Rattle.polcert_text.specs.Numbers.{signed, IsExact, IsFloor, IsCeil, IsRounded, IsReadable};
 ghost use Rattle.polcert_text.specs.Numbers.{IsRefused, IsRefusedExactly};
-ghost use Rattle.polcert_text.specs.Steps.Scaling.{separates, cap, is_nonzero, IsScaled, Measures, ceiling};
+ghost use Rattle.polcert_text.specs.Steps.Scaling.{separates, size_cap, is_nonzero, IsScaled, Measures, ceiling};
 ghost use Rattle.polcert_text.specs.Steps.Scaling.{rounded, is_away};
 ghost use Rattle.polcert_text.specs.Millionths.{decimals, fraction_text, unsigned_text, scaled_text};
 
@@ -86,7 +86,7 @@ pub(crate) struct Size {
 impl Size {
     /// Returns the size rounded up.
     fn ceiling(self) -> u64
-        requires { self.floor ≤ cap }
+        requires { self.floor ≤ size_cap }
         ensures { result ≡ ceiling self.floor self.is_inexact }
     {
         if self.is_inexact {
@@ -98,7 +98,7 @@ impl Size {
 
     /// Returns the size rounded up, or down.
     fn rounded(self, up: bool) -> u64
-        requires { self.floor ≤ cap }
+        requires { self.floor ≤ size_cap }
         ensures { result ≡ rounded up self.floor self.is_inexact }
     {
         if up { self.ceiling() } else { self.floor }
@@ -243,10 +243,10 @@ impl Scaling {
     /// Returns the scaling after one more digit.
     fn after(self, digit: u8) -> Scaling
         requires digit { is_digit digit ≡ true }
-        requires small { self.floor ≤ cap }
+        requires small { self.floor ≤ size_cap }
         ensures scaled { (kept : ℕ) (front : List ℕ) → IsScaled kept front self
             → IsScaled kept (front ++ digit ∷ []) result }
-        ensures small { result.floor ≤ cap }
+        ensures small { result.floor ≤ size_cap }
     {
         if self.left == 0 {
             Scaling {
@@ -265,10 +265,10 @@ impl Scaling {
     /// Returns the scaling after all these digits.
     fn after_digits(self, digits: &[u8]) -> Scaling
         requires digits { list_all is_digit digits.now ≡ true }
-        requires small { self.floor ≤ cap }
+        requires small { self.floor ≤ size_cap }
         ensures scaled { (kept : ℕ) (front : List ℕ) → IsScaled kept front self
             → IsScaled kept (front ++ digits.now) result }
-        ensures small { result.floor ≤ cap }
+        ensures small { result.floor ≤ size_cap }
     {
         let mut scaling = self;
         for digit in digits {
@@ -281,8 +281,8 @@ impl Scaling {
 /// Returns the number with so many zeros at its end, or one above the largest.
 #[inline(always)]
 pub(crate) fn with_zeros(number: u64, zeros: usize) -> u64
-    requires { number ≤ cap }
-    ensures { (n : ℕ) → number ≡ min cap n → result ≡ min cap (n * 10 ^ zeros) }
+    requires { number ≤ size_cap }
+    ensures { (n : ℕ) → number ≡ min size_cap n → result ≡ min size_cap (n * 10 ^ zeros) }
 {
     let mut number = number;
     for _ in 0..zeros {
@@ -336,9 +336,9 @@ fn leading_size(whole: &[u8], fraction: &[u8], kept: usize) -> Size
     requires whole { list_all is_digit whole.now ≡ true }
     requires fraction { list_all is_digit fraction.now ≡ true }
     ensures floor { let digits = whole.now ++ fraction.now in
-        result.floor ≡ min cap (digits_value 10 (take kept digits) * 10 ^ (kept - length digits)) }
+        result.floor ≡ min size_cap (digits_value 10 (take kept digits) * 10 ^ (kept - length digits)) }
     ensures is_inexact { result.is_inexact ≡ list_any is_nonzero (drop kept (whole.now ++ fraction.now)) }
-    ensures small { result.floor ≤ cap }
+    ensures small { result.floor ≤ size_cap }
 {
     let none = Scaling {
         floor: 0,
@@ -674,7 +674,7 @@ impl ScaledText {
     }
 }
 
-ghost use Rattle.polcert_text.specs.Numbers.{Denotes};
+ghost use Rattle.polcert_text.specs.Numbers.{DenotesNumber};
 ghost use Rattle.polcert_text.specs.Sink.{WritesText};
 
 /// Writes a number of millionths: a `-` if it is negative, the whole part, and after a point the decimals without
@@ -683,7 +683,7 @@ pub fn write_scaled<W: Sink>(scaled: i64, out: &mut W) -> Result<(), SinkFailed>
     ensures written { WritesText W.writes W.failures out.old (scaled_text scaled) result out.new }
 
     // Read as a sign and a numeral, the text denotes just this number.
-    ensures exact { Denotes (scaled_text scaled) scaled }
+    ensures exact { DenotesNumber (scaled_text scaled) scaled }
 {
     let text = ScaledText::of(scaled);
     write_all(out, text.as_bytes())

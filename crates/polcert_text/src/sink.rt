@@ -1,6 +1,6 @@
 //! Sinks, the buffer in front of one, and how a text is written whole.
 ghost use Rattle.std.specs.Prelude.{◌<◌, ◌≤◌, ℕ, List, Option, length, IfOk, ◌≡◌, ◌-◌, ◌++◌, [], take, min};
-ghost use Rattle.polcert_text.specs.Device.{CountsFailures, moved};
+ghost use Rattle.polcert_text.specs.Device.{CountsFailures, moved_bytes};
 ghost use Rattle.polcert_text.specs.Sink.{WritesText};
 ghost use Rattle.polcert_text.specs.Steps.Buffer.{WritesBuffered};
 
@@ -24,7 +24,7 @@ pub trait Sink {
     fn write(&mut self, piece: &[u8]) -> Result<usize, SinkFailed>
         ensures bound { IfOk result (λ n. n ≤ length piece.now) }
         ensures progress { IfOk result (λ n. 0 < length piece.now → 0 < n) }
-        ensures call { writes self.old (moved result piece.now) self.new }
+        ensures call { writes self.old (moved_bytes result piece.now) self.new }
         ensures count { CountsFailures (failures self.old) (failures self.new) result };
 }
 

@@ -1,7 +1,7 @@
 //! Sources and how one is read whole; slices, and the readers and writers of the system.
 ghost use Rattle.std.specs.Prelude.{◌≡◌, ◌≢◌, ◌+◌, ◌-◌, ◌^◌, ◌<◌, ◌≤◌, ℕ, List, Option, length, IfOk};
 ghost use Rattle.std.specs.Prelude.{IsErrOf, take};
-ghost use Rattle.polcert_text.specs.Device.{HasFailed, CountsFailures, moved};
+ghost use Rattle.polcert_text.specs.Device.{HasFailed, CountsFailures, moved_bytes};
 ghost use Rattle.polcert_text.specs.Source.{Gives, GivesThenFails, IsText};
 ghost use Rattle.polcert_text.specs.Memory.{ReadsSlice, WritesSlice};
 ghost use Rattle.polcert_text.specs.Known.{ReadsKnown, WritesKnown};
@@ -46,7 +46,7 @@ pub trait Source {
     /// Reads bytes into the front of the piece, and returns how many.
     fn read(&mut self, piece: &mut [u8]) -> Result<usize, SourceFailed>
         ensures bound { IfOk result (λ n. n ≤ length piece.new) }
-        ensures call { reads self.old (length piece.old) (moved result piece.new) self.new }
+        ensures call { reads self.old (length piece.old) (moved_bytes result piece.new) self.new }
         ensures count { CountsFailures (failures self.old) (failures self.new) result };
 }
 

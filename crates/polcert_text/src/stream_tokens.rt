@@ -7,7 +7,7 @@ ghost use Rattle.polcert_text.specs.Steps.Scan.{gap_after, gap_through};
 ghost use Rattle.polcert_text.specs.Steps.ScanOf.{is_over, front_len};
 ghost use Rattle.polcert_text.specs.Stream.{Ahead, visible, skip};
 ghost use Rattle.polcert_text.specs.Steps.Streaming.{end_of, Fills, FailsAt, SkipsGapOrFails};
-ghost use Rattle.polcert_text.specs.Steps.Streaming.{ScansLexemeOrFails, IsComplete};
+ghost use Rattle.polcert_text.specs.Steps.Streaming.{ScansLexemeOrFails, IsReadToLimit};
 
 use crate::tokens::{Gap, LexemePrefix, LexemeScan, delimited_lexeme, gap_prefix, token_of};
 use crate::{BUFFER_SIZE, Source, SourceFailed, Token, TokenFault, TokenKind};
@@ -58,7 +58,7 @@ pub struct StreamTokens {
 impl Model for StreamTokens {
     ghost use Rattle.std.specs.Prelude.{◌≡◌, ◌+◌, ◌≤◌, length, take};
     ghost use Rattle.polcert_text.specs.Stream.{Stream};
-    ghost use Rattle.polcert_text.specs.Steps.Streaming.{StopsRightly};
+    ghost use Rattle.polcert_text.specs.Steps.Streaming.{EndsAsAnswered};
     ghost use Rattle.polcert_text.specs.Stream.{visible, skip};
 
     ghost Value = { Stream };
@@ -66,7 +66,7 @@ impl Model for StreamTokens {
     ghost view = { λ t. record { ahead = skip t.taken t.bytes; borrowed = take t.taken t.bytes.kept; stop = t.stop } };
 
     ghost invariant = { λ t. (t.taken ≤ length (visible t.bytes))
-        × StopsRightly (skip t.taken t.bytes) t.stop };
+        × EndsAsAnswered (skip t.taken t.bytes) t.stop };
 }
 
 impl StreamTokens {
@@ -358,7 +358,7 @@ impl StreamBytes {
             × (self.now.place + length self.now.kept < self.now.limit)
             × (is_over scan.state ≡ false) × (front_len scan.longest ≤ 400) }
         ensures has { result ≡ false
-            → IsComplete self.now ⊎ ((is_over scan.state ≡ true) ⊎ (400 < front_len scan.longest)) }
+            → IsReadToLimit self.now ⊎ ((is_over scan.state ≡ true) ⊎ (400 < front_len scan.longest)) }
     {
         if self.is_whole {
             return false;

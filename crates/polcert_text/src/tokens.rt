@@ -142,7 +142,7 @@ ghost use Rattle.polcert_text.specs.Bytes.{is_glue};
 ghost use Rattle.polcert_text.specs.Cut.{is_glued, IsFaultAt};
 ghost use Rattle.polcert_text.specs.Reading.{IsReadAt};
 ghost use Rattle.polcert_text.specs.Steps.ScanOf.{front_len};
-ghost use Rattle.polcert_text.specs.Steps.Streaming.{IsSeen};
+ghost use Rattle.polcert_text.specs.Steps.Streaming.{IsFrontSeen};
 
 /// Returns the token at the front of the bytes, which stand at `place`.
 #[inline(always)]
@@ -163,7 +163,7 @@ pub fn token_of(
 ) -> Result<Token<'_>, TokenFault>
     requires place { place + length bytes.now < 2 ^ 64 }
     requires within { front_len front ≤ length bytes.now }
-    ensures { (tail : List ℕ) → IsSeen bytes.now tail front
+    ensures { (tail : List ℕ) → IsFrontSeen bytes.now tail front
         → MatchResult result (IsReadAt place (bytes.now ++ tail)) (IsFaultAt place (bytes.now ++ tail)) }
 {
     let Some(front) = front else {

@@ -13,5 +13,5 @@ pub record Draft : Type 0 where
   pub entries : List Entry
 
 -- what they denote
-abbrev pub meaning : Draft → Meaning
-meaning d = meaning_of d.preamble d.start d.entries
+abbrev pub draft_meaning : Draft → Meaning
+draft_meaning d = meaning_of d.preamble d.start d.entries

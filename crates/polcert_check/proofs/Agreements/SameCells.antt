@@ -1,5 +1,5 @@
 -- A controller over other cells that agree in range: each step, each run and each sum is the same.
-use Rattle.polcert_check.proofs.Common.{range_with_len, CellTable, Controller, one, sum_over, step_weight, pairs, runs, is_cut, weight}
+use Rattle.polcert_check.proofs.Common.{range_with_len, CellTable, Controller, one, sum_over, step_weight, pairs, runs, is_cut, run_weight}
 use Rattle.polcert_check.proofs.Common.{rewards, reward_part, total, uncut, weights_sum, worth_sum, rewards_sum, Promise, RewardPromise}
 use Rattle.polcert_check.proofs.Common.{IsRunInRange, short, Lacks, PairPasses, Passes, IsClosed, HasSameCells}
 use Rattle.std.proofs.Common.{◌≡◌, ℕ, zero, suc, ◌-◌, ◌*◌, ◌^◌, ◌<◌, ℤ, pos, ◌*ℤ◌, IsTrue, not, cond, List, [], ◌∷◌, map, flat_map, get_or}
@@ -29,7 +29,8 @@ module _ (c : Controller) (p : IsClosed c) (y : CellTable) (same : HasSameCells 
 
   -- what a run weighs and earns
   abbrev RunIsSame : Option ℕ → ℕ → List (ℕ × ℕ) → Type 0
-  RunIsSame at s run = (weight (with_cells c y) at s run ≡ weight c at s run) × (rewards (with_cells c y) at s run ≡ rewards c at s run)
+  RunIsSame at s run = (run_weight (with_cells c y) at s run ≡ run_weight c at s run)
+      × (rewards (with_cells c y) at s run ≡ rewards c at s run)
 
   run_after : (n z e : ℕ) (run : List (ℕ × ℕ)) → n < c.nodes → z < c.cells.observations → ((m : ℕ) → m < c.nodes → RunIsSame (Some m) e run)
       → (at : Option ℕ) → c.next n z ≡ at → RunIsSame at e run
@@ -46,7 +47,7 @@ module _ (c : Controller) (p : IsClosed c) (y : CellTable) (same : HasSameCells 
       (cc, cc)
 
   pub weight_same : (run : List (ℕ × ℕ)) (n s : ℕ) → n < c.nodes → s < c.cells.states → IsRunInRange c.cells run
-      → weight (with_cells c y) (Some n) s run ≡ weight c (Some n) s run
+      → run_weight (with_cells c y) (Some n) s run ≡ run_weight c (Some n) s run
   weight_same run n s nl sl f = (run_same run n s nl sl f).0
 
   reward_part_same : (k : ℕ) (run : List (ℕ × ℕ)) (n s : ℕ) → n < c.nodes → s < c.cells.states → IsRunInRange c.cells run
@@ -82,8 +83,8 @@ module _ (c : Controller) (p : IsClosed c) (y : CellTable) (same : HasSameCells 
 
   -- ---- the promise
   pub cut_runs_same : (k n s : ℕ) → n < c.nodes → s < c.cells.states
-      → All (λ run. IsTrue (is_cut c (Some n) run) → weight c (Some n) s run ≡ 0) (runs c.cells k)
-      → All (λ run. IsTrue (is_cut (with_cells c y) (Some n) run) → weight (with_cells c y) (Some n) s run ≡ 0)
+      → All (λ run. IsTrue (is_cut c (Some n) run) → run_weight c (Some n) s run ≡ 0) (runs c.cells k)
+      → All (λ run. IsTrue (is_cut (with_cells c y) (Some n) run) → run_weight (with_cells c y) (Some n) s run ≡ 0)
       (runs (with_cells c y).cells k)
   cut_runs_same k n s nl sl before =
       rw (runs_same c y k) (λ j d l cut. weight_same (get_or (runs c.cells k) j d) n s nl sl (All-runs c.cells k j d l).1

@@ -2,7 +2,7 @@
 use Rattle.std.proofs.Common.{◌≡◌, ℕ, zero, suc, ◌*◌, ◌^◌, ◌<◌, ℤ, pos, ◌+ℤ◌, ◌-ℤ◌, ◌*ℤ◌, ◌≤ℤ◌, ◌∷◌, Option, Some, None, sym, refl, ap, ◌∙◌}
 use Rattle.std.proofs.Common.{arith, rules}
 use Rattle.polcert_check.proofs.Common.{*ℤ_comm, +ℤ_idl, +ℤ_idr, *ℤ-zero, pow-zero, CellTable, IsProper, total_below, Controller, one}
-use Rattle.polcert_check.proofs.Common.{step_weight, step_scale, weight, total, uncut, weights_sum, worth_sum, at_node, Lacks, Passes}
+use Rattle.polcert_check.proofs.Common.{step_weight, step_scale, run_weight, total, uncut, weights_sum, worth_sum, at_node, Lacks, Passes}
 use Rattle.polcert_check.proofs.Common.{IsController}
 use Rattle.std.proofs.Math.Nat.{pow-suc}
 use Rattle.polcert_check.proofs.Sums.Ring.{linear, products, mul_le, ≤ℤ_trans, ≤ℤ_from_eq, one-*ℤ}
@@ -21,11 +21,11 @@ pub worth_sum_suc : (c : Controller) (k n s : ℕ) → worth_sum c (suc k) (Some
     *ℤ ((pos (one ^ suc k) *ℤ c.cells.r (c.action n) s e z) *ℤ weights_sum c k (c.next n z) e +ℤ pos c.cells.discount
     *ℤ worth_sum c k (c.next n z) e)) c.cells.observations) c.cells.states
 worth_sum_suc c k n s =
-    sum_over_uncut c k n (λ run. pos (weight c (Some n) s run) *ℤ total c (suc k) (Some n) s run)
+    sum_over_uncut c k n (λ run. pos (run_weight c (Some n) s run) *ℤ total c (suc k) (Some n) s run)
     ∙ sum_below_same _ _ c.cells.states (λ e _. sum_below_same _ _ c.cells.observations (λ z _.
     sum_over_factor (pos (step_weight c n s e z)) (pos (one ^ suc k) *ℤ c.cells.r (c.action n) s e z) (pos c.cells.discount)
-    (λ run. pos (weight c (c.next n z) e run)) (λ run. total c k (c.next n z) e run) _ (uncut c k (c.next n z))
-    (λ run. ap (λ (y : ℤ). pos (weight c (Some n) s ((e, z) ∷ run)) *ℤ y) (total_cons c k n s e z run))))
+    (λ run. pos (run_weight c (c.next n z) e run)) (λ run. total c k (c.next n z) e run) _ (uncut c k (c.next n z))
+    (λ run. ap (λ (y : ℤ). pos (run_weight c (Some n) s ((e, z) ∷ run)) *ℤ y) (total_cons c k n s e z run))))
 
 -- ---- the weights of one step sum to the scale
 pub step_weights_total : (t : CellTable) → IsProper t → (a s : ℕ) → a < t.actions → s < t.states

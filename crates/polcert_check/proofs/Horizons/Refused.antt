@@ -1,6 +1,7 @@
 -- Where a pair is short or lacks an observation, the promise of one step is false.
 use Rattle.std.proofs.Common.{◌≡◌, ℕ, ◌*◌, ◌^◌, ◌<◌, ℤ, pos, ◌+ℤ◌, ◌*ℤ◌, ◌<ℤ◌, true, List, [], ◌∷◌, Option, Some, None, refl, arith}
-use Rattle.polcert_check.proofs.Common.{All-contains, *ℤ_comm, pow-zero, Controller, one, step_weight, runs, is_cut, weight, weights_sum}
+use Rattle.polcert_check.proofs.Common.{All-contains, *ℤ_comm, pow-zero, Controller, one, step_weight, runs, is_cut, run_weight}
+use Rattle.polcert_check.proofs.Common.{weights_sum}
 use Rattle.polcert_check.proofs.Common.{worth_sum, Promise, HasCutRun, backing, short, Lacks}
 use Rattle.std.proofs.Math.Nat.{pow-suc}
 use Rattle.polcert_check.proofs.Sums.Ring.{linear, one-*ℤ}
@@ -40,7 +41,7 @@ refused_short c n s h promise = grind (arith, linear, pow_one, worth_sum_one)
 pub cut_run : (c : Controller) (n s z : ℕ) → z < c.cells.observations → Lacks c n s z → HasCutRun c n s z
 cut_run c n s z zl lack =
     let run : List (ℕ × ℕ) = (lack.1.0, z) ∷ [] in
-    let is : weight c (Some n) s run ≡ step_weight c n s lack.1.0 z * 1 = rw lack.0 refl in
+    let is : run_weight c (Some n) s run ≡ step_weight c n s lack.1.0 z * 1 = rw lack.0 refl in
     let some : 0 < step_weight c n s lack.1.0 z = lack.1.2 in
     (lack.1.0, Contains-runs c.cells 1 run refl (lack.1.1, zl, tt), rw lack.0 refl, omega arith)
 
@@ -49,7 +50,7 @@ refused_lacking c n s z zl lack promise =
     let (e, among, cut, some) = cut_run c n s z zl lack in
     omega (
       arith,
-      All-contains (λ u. is_cut c (Some n) u ≡ true → weight c (Some n) s u ≡ 0) (runs c.cells 1) ((e, z) ∷ []) promise.cut_runs
+      All-contains (λ u. is_cut c (Some n) u ≡ true → run_weight c (Some n) s u ≡ 0) (runs c.cells 1) ((e, z) ∷ []) promise.cut_runs
           among cut,
       some,
     )

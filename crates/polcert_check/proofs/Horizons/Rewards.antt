@@ -2,7 +2,8 @@
 use Rattle.std.proofs.Common.{◌≡◌, ℕ, ◌*◌, ◌^◌, ◌<◌, ℤ, pos, ◌+ℤ◌, ◌*ℤ◌, ◌≤ℤ◌, true, not, List, [], ◌∷◌, Option, Some, sym, refl, arith}
 use Rattle.std.proofs.Common.{All, length}
 use Rattle.std.proofs.lemmas.List.Elements.{All-filter, filter_passes}
-use Rattle.polcert_check.proofs.Common.{sum_over, Controller, one, step_scale, AtMost, runs, is_cut, weight, end_value, reward_part, uncut}
+use Rattle.polcert_check.proofs.Common.{sum_over, Controller, one, step_scale, AtMost, runs, is_cut, run_weight, end_value, reward_part}
+use Rattle.polcert_check.proofs.Common.{uncut}
 use Rattle.polcert_check.proofs.Common.{worth_sum, rewards_sum, RewardPromise, IsRunInRange, Passes, IsController}
 use Rattle.polcert_check.proofs.Sums.Ring.{linear, mul_le, *ℤ_assoc}
 use Rattle.polcert_check.proofs.Sums.SumLaws.{sum_over_times, sum_over_parts, sum_over_le_all}
@@ -23,12 +24,12 @@ end_value_le c p m most (q ∷ run) n s nl sl f u =
     (c.next n q.1) refl u
 
 values_sum : Controller → ℕ → Option ℕ → ℕ → ℤ
-values_sum c k at s = sum_over (λ run. pos (weight c at s run) *ℤ end_value c at s run) (uncut c k at)
+values_sum c k at s = sum_over (λ run. pos (run_weight c at s run) *ℤ end_value c at s run) (uncut c k at)
 
 worth_parts : (c : Controller) (k : ℕ) (at : Option ℕ) (s : ℕ)
     → worth_sum c k at s ≡ rewards_sum c k at s +ℤ pos (c.cells.discount ^ k) *ℤ values_sum c k at s
 unfolding values_sum
-worth_parts c k at s = sum_over_parts (pos (c.cells.discount ^ k)) (λ run. pos (weight c at s run)) (λ run. reward_part c k at s run)
+worth_parts c k at s = sum_over_parts (pos (c.cells.discount ^ k)) (λ run. pos (run_weight c at s run)) (λ run. reward_part c k at s run)
     (λ run. end_value c at s run) (uncut c k at)
 
 values_le : (c : Controller) → IsController c → Passes c → (m : ℤ) → AtMost c m → (k n s : ℕ) → n < c.nodes → s < c.cells.states
@@ -42,10 +43,10 @@ values_le c p passes m most k n s nl sl =
     rw (
       sym (weights_all c p (LacksNone-from_Passes c passes) k n s nl sl),
       sym
-          (sum_over_times m (λ run. pos (weight c (Some n) s run)) (uncut c k (Some n))),
+          (sum_over_times m (λ run. pos (run_weight c (Some n) s run)) (uncut c k (Some n))),
     )
     (sum_over_le_all (λ run. P run × (uncut_run run ≡ true)) _ _ (uncut c k (Some n))
-    (λ run f. mul_le (weight c (Some n) s run) _ _ (end_value_le c p m most run n s nl sl f.0.1 f.1))
+    (λ run f. mul_le (run_weight c (Some n) s run) _ _ (end_value_le c p m most run n s nl sl f.0.1 f.1))
     (λ i d l. (among i d l, kept i d l)))
 
 rewarded_all : (c : Controller) → IsController c → Passes c → (m : ℤ) → AtMost c m → (k n s : ℕ) → n < c.nodes → s < c.cells.states

@@ -1,7 +1,7 @@
 -- The backing of a pair, from what its action earns and what its node expects.
 use Rattle.std.proofs.Common.{◌≡◌, ℕ, ◌<◌, ℤ, pos, ◌+ℤ◌, ◌*ℤ◌, Option, Some, None, refl, ap, ◌∙◌, arith}
 use Rattle.polcert_check.proofs.Common.{*ℤ-zero, Controller, one, total_below, step_weight, at_node, backing, IsLeastLacking}
-use Rattle.polcert_check.proofs.Common.{expected_reward, value_term, value_at_end, expected_value, followed}
+use Rattle.polcert_check.proofs.Common.{factored_reward, value_term, factored_value_at_end, factored_value, followed}
 use Rattle.polcert_check.proofs.Sums.Ring.{products, *ℤ_assoc}
 use Rattle.polcert_check.proofs.Sums.SumLaws.{sum_below_same, sum_below_scale, sum_below_add}
 use Rattle.polcert_check.proofs.Horizons.Kept.{backing_term}
@@ -41,7 +41,7 @@ module _ (c : Controller) (n s : ℕ) (rewards : ℕ → ℕ → ℤ)
   row_split : (e : ℕ) → e < c.cells.states
       → total_below (λ z. backing_term c n s e z (c.next n z)) c.cells.observations ≡ pos one
       *ℤ (pos (c.cells.t (c.action n) s e) *ℤ total_below (λ z. pos (c.cells.o (c.action n) e z) *ℤ rewards e z) c.cells.observations)
-      +ℤ pos c.cells.discount *ℤ (pos (c.cells.t (c.action n) s e) *ℤ value_at_end c n e)
+      +ℤ pos c.cells.discount *ℤ (pos (c.cells.t (c.action n) s e) *ℤ factored_value_at_end c n e)
   row_split e el =
       let t : ℤ = pos (c.cells.t (c.action n) s e) in
       let earns = λ (z : ℕ). pos (c.cells.o (c.action n) e z) *ℤ rewards e z in
@@ -54,14 +54,14 @@ module _ (c : Controller) (n s : ℕ) (rewards : ℕ → ℕ → ℤ)
       ∙ ap (λ (k : ℤ). pos one *ℤ (t *ℤ total_below earns c.cells.observations) +ℤ pos c.cells.discount *ℤ k)
       (sum_below_scale t expected c.cells.observations)
 
-  counted_split : backing c n s ≡ pos one *ℤ earned c n s rewards +ℤ pos c.cells.discount *ℤ expected_value c n s
+  counted_split : backing c n s ≡ pos one *ℤ earned c n s rewards +ℤ pos c.cells.discount *ℤ factored_value c n s
   counted_split =
       sum_below_same _ (λ e. pos one *ℤ (pos (c.cells.t (c.action n) s e)
       *ℤ total_below (λ z. pos (c.cells.o (c.action n) e z) *ℤ rewards e z) c.cells.observations) +ℤ pos c.cells.discount
-      *ℤ (pos (c.cells.t (c.action n) s e) *ℤ value_at_end c n e)) c.cells.states (λ e el. row_split e el)
+      *ℤ (pos (c.cells.t (c.action n) s e) *ℤ factored_value_at_end c n e)) c.cells.states (λ e el. row_split e el)
       ∙ sum_split (pos one) (pos c.cells.discount) (λ e. pos (c.cells.t (c.action n) s e)
       *ℤ total_below (λ z. pos (c.cells.o (c.action n) e z) *ℤ rewards e z) c.cells.observations)
-      (λ e. pos (c.cells.t (c.action n) s e) *ℤ value_at_end c n e) c.cells.states
+      (λ e. pos (c.cells.t (c.action n) s e) *ℤ factored_value_at_end c n e) c.cells.states
 
 -- ---- of a pair that lacks nothing every reward counts
 all_counted : (c : Controller) (n s : ℕ) → IsLeastLacking c n s None → (e z : ℕ) → e < c.cells.states → z < c.cells.observations
@@ -69,7 +69,7 @@ all_counted : (c : Controller) (n s : ℕ) → IsLeastLacking c n s None → (e 
 all_counted c n s h1 e z h2 h3 at h4 = grind arith
 
 pub backing_split : (c : Controller) (n s : ℕ) → IsLeastLacking c n s None
-    → backing c n s ≡ pos one *ℤ expected_reward c.cells (c.action n) s +ℤ pos c.cells.discount *ℤ expected_value c n s
+    → backing c n s ≡ pos one *ℤ factored_reward c.cells (c.action n) s +ℤ pos c.cells.discount *ℤ factored_value c n s
 backing_split c n s lacks = counted_split c n s (λ e z. c.cells.r (c.action n) s e z) (all_counted c n s lacks)
 
 -- ---- of any pair those count that are followed
@@ -77,7 +77,7 @@ followed_counted : (c : Controller) (n s e z : ℕ) (at : Option ℕ) → c.next
     → IsCounted c n s e z (at_node (λ m. c.cells.r (c.action n) s e z) (c.next n z)) at
 followed_counted c n s e z at h1 = grind arith
 
-pub followed_split : (c : Controller) (n s : ℕ) → backing c n s ≡ pos one *ℤ expected_reward (followed c n) (c.action n) s
-    +ℤ pos c.cells.discount *ℤ expected_value c n s
+pub followed_split : (c : Controller) (n s : ℕ) → backing c n s ≡ pos one *ℤ factored_reward (followed c n) (c.action n) s
+    +ℤ pos c.cells.discount *ℤ factored_value c n s
 followed_split c n s = counted_split c n s (λ e z. at_node (λ m. c.cells.r (c.action n) s e z) (c.next n z))
     (λ e z el zl at is. followed_counted c n s e z at is)

@@ -1,7 +1,7 @@
 -- No shortfall is larger in size than three times the largest value on its scale.
 use Rattle.std.proofs.Common.{◌≡◌, ℕ, ◌*◌, ◌<◌, ◌≤◌, ℤ, pos, ◌+ℤ◌, ◌-ℤ◌, ◌*ℤ◌, unsigned_abs, arith, rules}
 use Rattle.polcert_check.proofs.Common.{ints, largest, IsWithinLimits, Controller, one, step_scale, backing, short, most_short}
-use Rattle.polcert_check.proofs.Common.{IsController, ValuesAreWithin, most_sum, expected_reward, expected_value, followed}
+use Rattle.polcert_check.proofs.Common.{IsController, ValuesAreWithin, most_sum, factored_reward, factored_value, followed}
 use Rattle.polcert_check.proofs.Common.{followed_is_proper, followed_is_within}
 use Rattle.polcert_check.proofs.Sums.Bounds.{abs-*ℤ_le}
 use Rattle.polcert_check.proofs.Sums.Scales.{scales_le, discount_le}
@@ -32,13 +32,13 @@ part_le t o u x ul xl =
 backing_le : (c : Controller) → IsController c → IsWithinLimits c.cells → ValuesAreWithin c → (n s : ℕ) → n < c.nodes → s < c.cells.states
     → unsigned_abs (backing c n s) ≤ 2 * (step_scale c * one * largest)
 backing_le c p limits values n s nl sl =
-    let earned : unsigned_abs (expected_reward (followed c n) (c.action n) s) ≤ c.cells.t_scale * (c.cells.o_scale * largest) =
+    let earned : unsigned_abs (factored_reward (followed c n) (c.action n) s) ≤ c.cells.t_scale * (c.cells.o_scale * largest) =
     expected_reward_le (followed c n) (followed_is_proper c n p.cells) (followed_is_within c n limits) (c.action n) s
     (p.closed.actions_in_range n nl) sl in
-    rw (followed_split c n s) (sum_le (pos one *ℤ expected_reward (followed c n) (c.action n) s)
-    (pos c.cells.discount *ℤ expected_value c n s) (step_scale c * one * largest)
-    (part_le c.cells.t_scale c.cells.o_scale one (expected_reward (followed c n) (c.action n) s) (omega arith) earned)
-    (part_le c.cells.t_scale c.cells.o_scale c.cells.discount (expected_value c n s) (discount_le c.cells limits)
+    rw (followed_split c n s) (sum_le (pos one *ℤ factored_reward (followed c n) (c.action n) s)
+    (pos c.cells.discount *ℤ factored_value c n s) (step_scale c * one * largest)
+    (part_le c.cells.t_scale c.cells.o_scale one (factored_reward (followed c n) (c.action n) s) (omega arith) earned)
+    (part_le c.cells.t_scale c.cells.o_scale c.cells.discount (factored_value c n s) (discount_le c.cells limits)
     (expected_value_le c p limits values n s nl sl)))
 
 pub short_le : (c : Controller) → IsController c → IsWithinLimits c.cells → ValuesAreWithin c → (n s : ℕ) → n < c.nodes → s < c.cells.states

@@ -2,7 +2,7 @@
 use Rattle.std.proofs.Common.{◌≡◌, ◌∙◌, ℕ, zero, suc, ◌*◌, ℤ, pos, neg_ℤ, ◌+ℤ◌, ◌*ℤ◌, Option, Some, None, List, [], ◌∷◌, map, flat_map}
 use Rattle.std.proofs.Common.{get_or, refl, sym, ap, arith, rules}
 use Rattle.std.proofs.Math.IntN.{neg_ℤ-+ℤ}
-use Rattle.polcert_check.proofs.Common.{Controller, one, total_below, sum_over, step_weight, pairs, runs, is_cut, weight, rewards}
+use Rattle.polcert_check.proofs.Common.{Controller, one, total_below, sum_over, step_weight, pairs, runs, is_cut, run_weight, rewards}
 use Rattle.polcert_check.proofs.Common.{end_value, reward_part, total, uncut, weights_sum, worth_sum, rewards_sum, at_node, backing, short}
 use Rattle.polcert_check.proofs.Common.{mirrored}
 use Rattle.polcert_check.proofs.Sums.Ring.{neg_product}
@@ -57,7 +57,8 @@ mirrored_cut c None run = refl
 mirrored_cut c (Some n) [] = refl
 mirrored_cut c (Some n) (p ∷ run) = mirrored_cut c (c.next n p.1) run
 
-pub mirrored_weight : (c : Controller) (at : Option ℕ) (s : ℕ) (run : List (ℕ × ℕ)) → weight (mirrored c) at s run ≡ weight c at s run
+pub mirrored_weight : (c : Controller) (at : Option ℕ) (s : ℕ) (run : List (ℕ × ℕ))
+    → run_weight (mirrored c) at s run ≡ run_weight c at s run
 mirrored_weight c None s run = refl
 mirrored_weight c (Some n) s [] = refl
 mirrored_weight c (Some n) s (p ∷ run) = ap (λ w. step_weight c n s p.0 p.1 * w) (mirrored_weight c (c.next n p.1) p.0 run)
@@ -91,14 +92,14 @@ pub mirrored_weights : (c : Controller) (k : ℕ) (at : Option ℕ) (s : ℕ) �
 mirrored_weights c k at s = grind arith
 
 mirrored_mean : (c : Controller) (k : ℕ) (at : Option ℕ) (s : ℕ) (f g : List (ℕ × ℕ) → ℤ) → ((run : List (ℕ × ℕ)) → f run ≡ neg_ℤ (g run))
-    → sum_over (λ run. pos (weight (mirrored c) at s run) *ℤ f run) (uncut (mirrored c) k at)
-    ≡ neg_ℤ (sum_over (λ run. pos (weight c at s run) *ℤ g run) (uncut c k at))
+    → sum_over (λ run. pos (run_weight (mirrored c) at s run) *ℤ f run) (uncut (mirrored c) k at)
+    ≡ neg_ℤ (sum_over (λ run. pos (run_weight c at s run) *ℤ g run) (uncut c k at))
 mirrored_mean c k at s f g h =
-    ap (λ rs. sum_over (λ run. pos (weight (mirrored c) at s run) *ℤ f run) rs) (mirrored_uncut c k at)
-    ∙ sum_over_same _ (λ run. neg_ℤ (pos (weight c at s run) *ℤ g run)) (uncut c k at)
-    (λ run. ap (λ w. pos w *ℤ f run) (mirrored_weight c at s run) ∙ ap (λ (x : ℤ). pos (weight c at s run) *ℤ x) (h run)
-    ∙ neg_product (pos (weight c at s run)) (g run))
-    ∙ sum_over_neg (λ run. pos (weight c at s run) *ℤ g run) (uncut c k at)
+    ap (λ rs. sum_over (λ run. pos (run_weight (mirrored c) at s run) *ℤ f run) rs) (mirrored_uncut c k at)
+    ∙ sum_over_same _ (λ run. neg_ℤ (pos (run_weight c at s run) *ℤ g run)) (uncut c k at)
+    (λ run. ap (λ w. pos w *ℤ f run) (mirrored_weight c at s run) ∙ ap (λ (x : ℤ). pos (run_weight c at s run) *ℤ x) (h run)
+    ∙ neg_product (pos (run_weight c at s run)) (g run))
+    ∙ sum_over_neg (λ run. pos (run_weight c at s run) *ℤ g run) (uncut c k at)
 
 pub mirrored_worth : (c : Controller) (k : ℕ) (at : Option ℕ) (s : ℕ) → worth_sum (mirrored c) k at s ≡ neg_ℤ (worth_sum c k at s)
 mirrored_worth c k at s = mirrored_mean c k at s (total (mirrored c) k at s) (total c k at s) (mirrored_total c k at s)

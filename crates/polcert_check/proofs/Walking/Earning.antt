@@ -1,6 +1,6 @@
 -- What an action earns at a state: how large it is, and what it is where rewards are the same.
 use Rattle.std.proofs.Common.{◌≡◌, ℕ, ◌*◌, ◌<◌, ◌≤◌, ℤ, pos, ◌*ℤ◌, unsigned_abs, sym, ap, subst, ◌∙◌, arith}
-use Rattle.polcert_check.proofs.Common.{*ℤ_comm, largest, CellTable, IsProper, IsWithinLimits, most_sum, reward_at_end, expected_reward}
+use Rattle.polcert_check.proofs.Common.{*ℤ_comm, largest, CellTable, IsProper, IsWithinLimits, most_sum, reward_at_end, factored_reward}
 use Rattle.std.proofs.Math.Nat.{mul-le-mul}
 use Rattle.polcert_check.proofs.Sums.SumLaws.{sum_below_same, sum_below_scale}
 use Rattle.polcert_check.proofs.Sums.RowTotals.{t_rows, o_rows}
@@ -15,7 +15,7 @@ module _ (m : CellTable) (p : IsProper m) (limits : IsWithinLimits m) where
       m.observations (omega arith)
 
   pub expected_reward_le : (a s : ℕ) → a < m.actions → s < m.states
-      → unsigned_abs (expected_reward m a s) ≤ m.t_scale * (m.o_scale * largest)
+      → unsigned_abs (factored_reward m a s) ≤ m.t_scale * (m.o_scale * largest)
   expected_reward_le a s al sl = part_le (ends_weighed m p limits a s al sl) (reward_at_end m a s) (λ e el. reward_at_end_le a s e al sl el)
       m.states (omega arith)
 
@@ -30,7 +30,7 @@ module _ (m : CellTable) (p : IsProper m) (limits : IsWithinLimits m) where
 
   -- every end state and observation earns the same
   pub common : (a s : ℕ) (h : ℤ) → a < m.actions → s < m.states → ((e z : ℕ) → e < m.states → z < m.observations → m.r a s e z ≡ h)
-      → pos m.t_scale *ℤ (pos m.o_scale *ℤ h) ≡ expected_reward m a s
+      → pos m.t_scale *ℤ (pos m.o_scale *ℤ h) ≡ factored_reward m a s
   common a s h al sl same =
       let x = pos m.o_scale *ℤ h in
       *ℤ_comm (pos m.t_scale) x

@@ -1,6 +1,6 @@
 -- What a node expects after an end state, and ahead of a start state: the steps of the sums, and that they fit.
 use Rattle.polcert_check.proofs.Common.{common_steps, w128, largest, IsWithinLimits, Controller, total_below, IsController, ValuesAreWithin}
-use Rattle.polcert_check.proofs.Common.{most_sum, value_term, value_at_end, expected_value}
+use Rattle.polcert_check.proofs.Common.{most_sum, value_term, factored_value_at_end, factored_value}
 use Rattle.std.proofs.Common.{◌≡◌, ℕ, suc, ◌+◌, ◌*◌, ◌<◌, ◌≤◌, ℤ, pos, ◌+ℤ◌, unsigned_abs, FitsSigned, to_z, of_z, Option, refl, arith}
 use Rattle.std.proofs.Common.{lit<}
 use Rattle.polcert_check.proofs.Sums.RowTotals.{o_rows}
@@ -39,16 +39,16 @@ value_step c p limits values n e from z sum x nl el fl zl none before fx xe =
 
 pub value_done : (c : Controller) (n e from : ℕ) (sum : ℤ) → from ≤ c.cells.observations
     → ((k : ℕ) → from ≤ k → k < c.cells.observations → c.cells.o (c.action n) e k ≡ 0)
-    → sum ≡ total_below (λ z. value_term c n e z (c.next n z)) from → sum ≡ value_at_end c n e
+    → sum ≡ total_below (λ z. value_term c n e z (c.next n z)) from → sum ≡ factored_value_at_end c n e
 value_done c n e from sum fl none before = grind (arith, gap)
 
 -- what is after an end state is small
 pub value_at_end_le : (c : Controller) → IsController c → ValuesAreWithin c → (n e : ℕ) → n < c.nodes → e < c.cells.states
-    → unsigned_abs (value_at_end c n e) ≤ c.cells.o_scale * largest
+    → unsigned_abs (factored_value_at_end c n e) ≤ c.cells.o_scale * largest
 value_at_end_le c p values n e nl el = value_part_le c p values n e c.cells.observations nl el (omega arith)
 
 pub expected_value_le : (c : Controller) → IsController c → IsWithinLimits c.cells → ValuesAreWithin c → (n s : ℕ) → n < c.nodes
-    → s < c.cells.states → unsigned_abs (expected_value c n s) ≤ c.cells.t_scale * (c.cells.o_scale * largest)
+    → s < c.cells.states → unsigned_abs (factored_value c n s) ≤ c.cells.t_scale * (c.cells.o_scale * largest)
 expected_value_le c p limits values n s nl sl =
-    part_le (ends_weighed c.cells p.cells limits (c.action n) s (p.closed.actions_in_range n nl) sl) (value_at_end c n)
+    part_le (ends_weighed c.cells p.cells limits (c.action n) s (p.closed.actions_in_range n nl) sl) (factored_value_at_end c n)
     (λ e el. value_at_end_le c p values n e nl el) c.cells.states (omega arith)

@@ -3,7 +3,7 @@ use Rattle.std.proofs.Common.{◌≡◌, ℕ, ◌≤◌, ⊎_elim, ℤ, pos, ◌
 use Rattle.polcert_check.proofs.Common.{IsWithinLimits, Controller, one, short, most_short, IsVerdict, NoneLacks, IsNotMended}
 use Rattle.polcert_check.proofs.Common.{RefusesSmallAmount, IsController, ValuesAreWithin, IsPairVerdict, IsPair, IsVerdictFor, IsFirstOf}
 use Rattle.polcert_check.proofs.Common.{IsWorstOf, IsFound, LowerFault, Mode, Check, Lowering, Findings, Verdict, Yes, Short, NoSuccessor}
-use Rattle.polcert_check.specs.Steps.Findings.{IsLackVerdict, IsRefused}
+use Rattle.polcert_check.specs.Steps.Findings.{IsLackVerdict, IsLowerRefusal}
 use Rattle.polcert_check.proofs.Lowerings.Least.{no_constant}
 use Rattle.polcert_check.proofs.Lowerings.Shorts.{short_le}
 
@@ -24,17 +24,17 @@ module _ (c : Controller) where
   none_lacks f mode is passed n s nl sl = subst (IsFirstOf (IsLackVerdict c) (IsPair c)) passed (first_lack f mode is) n s (nl, sl)
 
   module _ (Can : ℕ → Type 0) (fault : LowerFault) where
-    lack_refused : (x : Verdict) → IsFirstOf (IsLackVerdict c) (IsPair c) x → IsRefused x fault → IsNotMended c Can fault
+    lack_refused : (x : Verdict) → IsFirstOf (IsLackVerdict c) (IsPair c) x → IsLowerRefusal x fault → IsNotMended c Can fault
     lack_refused Yes is refused = absurd refused
     lack_refused (Short n s amount) is refused = absurd is.1
     lack_refused (NoSuccessor n s z) is refused = subst (IsNotMended c Can) (sym refused)
         (is.0.0, is.0.1, is.1.2, λ m t ml tl before. is.2 m t (ml, tl) before)
 
-    pub refused_lack : (f : Findings) → f.mode ≡ Lowering → IsFound c (IsPair c) f → IsRefused f.first fault → IsNotMended c Can fault
+    pub refused_lack : (f : Findings) → f.mode ≡ Lowering → IsFound c (IsPair c) f → IsLowerRefusal f.first fault → IsNotMended c Can fault
     refused_lack f mode is refused = lack_refused f.first (first_lack f mode is) refused
 
     pub refused_short : IsController c → c.cells.discount ≡ one → NoneLacks c → (x : Verdict) → IsFirstOf (IsPairVerdict c) (IsPair c) x
-        → IsRefused x fault → IsNotMended c Can fault
+        → IsLowerRefusal x fault → IsNotMended c Can fault
     refused_short p is_one none Yes is refused = absurd refused
     refused_short p is_one none (Short n s amount) is refused =
         let positive : pos 0 <ℤ short c n s = subst (λ (x : ℤ). pos 0 <ℤ x) is.1.3 is.1.4 in

@@ -2,7 +2,7 @@
 use Rattle.std.proofs.Common.{◌≡◌, ℕ, zero, suc, ◌+◌, ◌*◌, ◌^◌, ◌<◌, ◌≤◌, ⊎_elim, ℤ, pos, ◌+ℤ◌, ◌*ℤ◌, unsigned_abs, FitsSigned, to_z, of_z}
 use Rattle.std.proofs.Common.{Option, Some, None, List, length, slice_index, refl, sym, ap, subst, ◌∙◌, arith, add-one}
 use Rattle.polcert_check.proofs.Common.{w128, cases_lt, unsigned_abs-mul, *ℤ-zero, zero-*ℤ, IsRow, Controller, total_below, at_node}
-use Rattle.polcert_check.proofs.Common.{value_term, value_at_end, IsLeastOf, Misses, successors_below}
+use Rattle.polcert_check.proofs.Common.{value_term, factored_value_at_end, IsLeastOf, Misses, successors_below}
 use Rattle.polcert_cells.specs.Sparse.{scaled_cells}
 use Rattle.std.proofs.lemmas.List.{get_or_past}
 use Rattle.std.proofs.Math.Nat.{mul_comm, mul-le-mul}
@@ -61,7 +61,7 @@ module _ (f : ℕ → ℕ) (count scale : ℕ) (ns : List ℕ) (row : IsRow coun
 module _ (c : Controller) (n e scale : ℕ) (ns : List ℕ)
     (row : IsRow c.cells.observations (c.cells.o (c.action n) e) (scaled_cells scale 0 ns)) where
   pub scaled_value : (upto : ℕ) → upto ≤ c.cells.observations → (upto < c.cells.observations → length ns ≤ upto)
-      → pos scale *ℤ successors_below c n e ns upto ≡ value_at_end c n e
+      → pos scale *ℤ successors_below c n e ns upto ≡ factored_value_at_end c n e
   scaled_value upto within all =
       sym (sum_below_scale (pos scale) (λ z. at_node (λ m. pos (slice_index ns z) *ℤ c.value m e) (c.next n z)) upto)
       ∙ sum_below_same (λ z. pos scale *ℤ at_node (λ m. pos (slice_index ns z) *ℤ c.value m e) (c.next n z))

@@ -1,7 +1,7 @@
 -- A row of T and the rows of O at its end states as one row of weights, end state after end state.
 use Rattle.std.proofs.Common.{◌≡◌, ◌∙◌, ℕ, ◌+◌, ◌*◌, ◌/◌, ◌%◌, ◌^◌, ◌<◌, ◌≤◌, ℤ, pos, ◌*ℤ◌, unsigned_abs, List, refl, ap, arith}
 use Rattle.polcert_check.proofs.Common.{*ℤ_comm, largest, CellTable, IsProper, IsWithinLimits, CommonReward, RewardCell, row_reward, one}
-use Rattle.polcert_check.proofs.Common.{total_below, expected_reward, reward_at_end, most_scales, AreExcepted, IsWeighed, row_weight}
+use Rattle.polcert_check.proofs.Common.{total_below, factored_reward, reward_at_end, most_scales, AreExcepted, IsWeighed, row_weight}
 use Rattle.polcert_check.proofs.Common.{weighed_total}
 use Rattle.polcert_cells.specs.CommonRewards.{IsCommonReward}
 use Rattle.std.proofs.Math.Nat.{mul-le-mul, div-lt_iff_lt-mul, mod-lt}
@@ -23,7 +23,7 @@ module _ (m : CellTable) (a s : ℕ) where
       ∙ ap (m.r a s e) (mod-mul-add e m.observations z l)
 
   -- the sum of all is the nested one
-  pub row_total : weighed_total (row_weight m a s) (row_reward m a s) (m.states * m.observations) ≡ expected_reward m a s
+  pub row_total : weighed_total (row_weight m a s) (row_reward m a s) (m.states * m.observations) ≡ factored_reward m a s
   row_total =
       sum_below_rows (λ k. pos (row_weight m a s k) *ℤ row_reward m a s k) m.states m.observations
       ∙ sum_below_same _ (λ e. pos (m.t a s e) *ℤ reward_at_end m a s e) m.states (λ e el.

@@ -16,8 +16,8 @@ abbrev pub reward_at_end : CellTable → ℕ → ℕ → ℕ → ℤ
 reward_at_end m a s e = total_below (λ z. pos (m.o a e z) *ℤ m.r a s e z) m.observations
 
 -- the reward that action a expects at state s, on the scale of one step
-abbrev pub expected_reward : CellTable → ℕ → ℕ → ℤ
-expected_reward m a s = total_below (λ e. pos (m.t a s e) *ℤ reward_at_end m a s e) m.states
+abbrev pub factored_reward : CellTable → ℕ → ℕ → ℤ
+factored_reward m a s = total_below (λ e. pos (m.t a s e) *ℤ reward_at_end m a s e) m.states
 
 -- the first numbers of the list are those of f, except those that are not computed yet
 pub record AreKnown (f : ℕ → ℤ) (count : ℕ) (numbers : List ℤ) : Type 0 where
@@ -42,12 +42,12 @@ abbrev pub value_term : Controller → ℕ → ℕ → ℕ → Option ℕ → �
 value_term c n e z at = at_node (λ m. pos (c.cells.o (c.action n) e z) *ℤ c.value m e) at
 
 -- the value of node n at end state e, on the scale of O
-abbrev pub value_at_end : Controller → ℕ → ℕ → ℤ
-value_at_end c n e = total_below (λ z. value_term c n e z (c.next n z)) c.cells.observations
+abbrev pub factored_value_at_end : Controller → ℕ → ℕ → ℤ
+factored_value_at_end c n e = total_below (λ z. value_term c n e z (c.next n z)) c.cells.observations
 
 -- the value that node n expects at state s, on the scale of one step
-abbrev pub expected_value : Controller → ℕ → ℕ → ℤ
-expected_value c n s = total_below (λ e. pos (c.cells.t (c.action n) s e) *ℤ value_at_end c n e) c.cells.states
+abbrev pub factored_value : Controller → ℕ → ℕ → ℤ
+factored_value c n s = total_below (λ e. pos (c.cells.t (c.action n) s e) *ℤ factored_value_at_end c n e) c.cells.states
 
 -- ---- observations that have no successor
 

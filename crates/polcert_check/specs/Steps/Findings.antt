@@ -84,7 +84,7 @@ PassUntil c n s t = (f : Findings) → IsFoundBefore c (c.action n) n s f → Is
 
 -- ---- why vectors with this verdict are not lowered
 
-abbrev pub IsRefused : Verdict → LowerFault → Type 0
-IsRefused Yes fault = ⊥
-IsRefused (Short n s amount) fault = fault ≡ faults.NoConstant n s amount
-IsRefused (NoSuccessor n s z) fault = fault ≡ faults.NoSuccessor n s z
+abbrev pub IsLowerRefusal : Verdict → LowerFault → Type 0
+IsLowerRefusal Yes fault = ⊥
+IsLowerRefusal (Short n s amount) fault = fault ≡ faults.NoConstant n s amount
+IsLowerRefusal (NoSuccessor n s z) fault = fault ≡ faults.NoSuccessor n s z

@@ -2,13 +2,13 @@
 -- believe them.
 use Rattle.std.specs.Prelude.{◌≡◌, ℕ, ℤ, ◌<◌, pos, true, false, None, slice_index_or}
 use Rattle.polcert_check.specs.Horizon.{Controller}
-use Rattle.polcert_check.specs.Steps.Factored.{expected_value, value_at_end, IsLeastOf, Misses}
+use Rattle.polcert_check.specs.Steps.Factored.{factored_value, factored_value_at_end, IsLeastOf, Misses}
 use Rattle.polcert_check.specs.declared.end_values.PartialValue.{PartialValue}
 use Rattle.polcert_check.specs.declared.ends.EndValues.{EndValues}
 
 -- the value of node n at end state e, and the least observation there for which it has no successor
 pub record IsEndValue (c : Controller) (n e : ℕ) (part : PartialValue) : Type 0 where
-  pub value : part.value ≡ value_at_end c n e
+  pub value : part.value ≡ factored_value_at_end c n e
   pub missing : IsLeastOf (Misses c n e c.cells.observations) part.missing
 
 -- the value of node n at end state e, where n has a successor for each observation
@@ -27,5 +27,5 @@ IsMissedBefore c n s count z = (e : ℕ) × (e < count) × (0 < c.cells.t (c.act
 
 -- what node n expects at state s, and the least observation there for which it has no successor
 pub record IsExpectedValue (c : Controller) (n s : ℕ) (sum : PartialValue) : Type 0 where
-  pub value : sum.value ≡ expected_value c n s
+  pub value : sum.value ≡ factored_value c n s
   pub missing : IsLeastOf (IsMissedBefore c n s c.cells.states) sum.missing

@@ -2,7 +2,7 @@
 use Rattle.std.specs.Prelude.{ℕ, List, [], ◌∷◌, None, codes}
 use Rattle.polcert_text.specs.Cut.{Lexeme}
 use Rattle.polcert_text.specs.declared.tokens.TokenKind.TheVariants as kinds
-use Rattle.polcert_format.specs.FirstWrong.{TextTokens, tokens_of}
+use Rattle.polcert_format.specs.FirstWrong.{TextTokens, text_tokens}
 
 abbrev pub name_at : ℕ → List ℕ → Lexeme
 name_at place bytes = record { kind = kinds.Name; place = place; bytes = bytes }
@@ -15,4 +15,4 @@ colon_at place = record { kind = kinds.Colon; place = place; bytes = codes ":" }
 
 -- `discount: 2`
 abbrev pub above_one : TextTokens
-above_one = tokens_of (name_at 0 (codes "discount") ∷ colon_at 8 ∷ numeral_at 10 (codes "2") ∷ []) None 11
+above_one = text_tokens (name_at 0 (codes "discount") ∷ colon_at 8 ∷ numeral_at 10 (codes "2") ∷ []) None 11

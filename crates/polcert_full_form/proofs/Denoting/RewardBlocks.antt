@@ -6,7 +6,7 @@ use Rattle.polcert_full_form.proofs.Common.{most_elements, meaning, ForSome, for
 use Rattle.polcert_full_form.proofs.Common.{number_text, reward_row_text, block_text, IsFilled, row_width, row_rewards, rewarded_text}
 use Rattle.std.proofs.lemmas.List.{length-take-le, get_or-take}
 use Rattle.polcert_cells.proofs.Basics.{is_true_or_false, true≢false}
-use Rattle.polcert_full_form.specs.Steps.Printing.{zeros_text, reward_columns, reward_in, reward_head, reward_text, IsPaidFrom}
+use Rattle.polcert_full_form.specs.Steps.Printing.{zeros_text, reward_columns, printed_reward, reward_head, reward_text, IsPaidFrom}
 use Rattle.polcert_full_form.proofs.Printing.PrintedParts as texts
 use Rattle.polcert_full_form.proofs.Denoting.RowEntries.{test_below}
 use Rattle.polcert_full_form.proofs.Denoting.SameForms.{same_for_each, same_test}
@@ -87,14 +87,15 @@ module _ (r : ℕ → ℤ) (n first size : ℕ) (block : List ℤ) (filled : IsF
       ∙ run_more start first size (reward_text costs r) l
 
 -- ---- the whole row
-pub row_unpaid : (m : Meaning) (a s : ℕ) (end : Option ℕ) → all_below (reward_columns m end) (λ c. is_zero (reward_in m a s end c)) ≡ true
+pub row_unpaid : (m : Meaning) (a s : ℕ) (end : Option ℕ)
+    → all_below (reward_columns m end) (λ c. is_zero (printed_reward m a s end c)) ≡ true
     → [] ≡ reward_row_text m a s end
 row_unpaid m a s (Some e) all = texts.unpaid_is m.preamble.costs (reward_words a s e) (observations_of m) (m.r a s e) all
 row_unpaid m a s None all = texts.unpaid_is m.preamble.costs (row_words Reward a s) (states_of m) (λ e. m.r a s e 0) all
 
 paid_is : (m : Meaning) (a s : ℕ) (end : Option ℕ) → 0 < reward_columns m end
-    → all_below (reward_columns m end) (λ c. is_zero (reward_in m a s end c)) ≡ false
-    → reward_head a s end ++ for_each (reward_columns m end) (reward_text m.preamble.costs (reward_in m a s end)) ++ codes "\n"
+    → all_below (reward_columns m end) (λ c. is_zero (printed_reward m a s end c)) ≡ false
+    → reward_head a s end ++ for_each (reward_columns m end) (reward_text m.preamble.costs (printed_reward m a s end)) ++ codes "\n"
     ≡ reward_row_text m a s end
 paid_is m a s (Some e) some paid = texts.paid_is m.preamble.costs (a ∷ s ∷ e ∷ []) (reward_words a s e) (observations_of m) (m.r a s e)
     (texts.cell_head a s e) some paid
@@ -121,7 +122,7 @@ few_columns m h1 end = grind arith
 
 small_at : (m : Meaning) → HasLimitedNumbers m → (a s : ℕ) (end : Option ℕ) → a < actions_of m → s < states_of m
     → ForSome end (λ e. e < states_of m)
-    → (c : ℕ) → c < reward_columns m end → unsigned_abs (reward_in m a s end c) ≤ largest
+    → (c : ℕ) → c < reward_columns m end → unsigned_abs (printed_reward m a s end c) ≤ largest
 small_at m h1 a s end h2 h3 h4 c h5 = grind arith
 
 pub small_rewards : (row : RewardRow) (c : ℕ) → c < row_width row → unsigned_abs (row_rewards row c) ≤ largest

@@ -4,8 +4,10 @@ use Rattle.std.proofs.Common.{List, [], ◌∷◌, ◌++◌, length, get_or, map
 use Rattle.std.proofs.Common.{append_assoc, append-nil, zero-add}
 use Rattle.polcert_full_form.proofs.Common.{list_all, range_with_len, nat_tests, sum_by-cons, line, scaled_text, Table, Observation, Reward}
 use Rattle.polcert_full_form.proofs.Common.{Elements, one, StartWeights, is_mdp, Meaning, states_of, actions_of, observations_of, for_each}
-use Rattle.polcert_full_form.proofs.Common.{values, all_below, millionths_text, element_words, observations_line, preamble_text, chosen}
-use Rattle.polcert_full_form.proofs.Common.{is_whole, is_choice, start_text, table_word, row_words, is_uniform, is_decimal, cell_text}
+use Rattle.polcert_full_form.proofs.Common.{values, all_below, millionths_text, element_words, observations_line, preamble_text}
+use Rattle.polcert_full_form.proofs.Common.{chosen_states}
+use Rattle.polcert_full_form.proofs.Common.{is_uniform_start, is_choice, start_text, table_word, row_words, is_uniform, is_decimal}
+use Rattle.polcert_full_form.proofs.Common.{cell_text}
 use Rattle.polcert_full_form.proofs.Common.{row_text, observations_text, written, is_zero, reward_words, rewards_row, rewards_from}
 use Rattle.polcert_full_form.proofs.Common.{after_blank, values_line, name_text, share_of}
 use Rattle.std.proofs.lemmas.List.FromFn.{length-range_with_len, get_or-range_with_len}
@@ -206,16 +208,16 @@ module _ (start : StartWeights) (n : ℕ) (count : length start.weights ≡ n) (
   all_shares : (test : ℕ → Bool) → list_all test start.weights ≡ all_below n (λ s. test (share_of start s))
   all_shares test = list_below test start.weights 0 ∙ ap (λ k. all_below k (λ s. test (share_of start s))) count
 
-  whole_if : all_below n (λ s. share_of start s == 1) ≡ true → is_whole start ≡ true
+  whole_if : all_below n (λ s. share_of start s == 1) ≡ true → is_uniform_start start ≡ true
   whole_if e = grind (arith, sum_ones, all_shares)
 
   pub start_whole : all_below n (λ s. share_of start s == 1) ≡ true → codes "start: uniform\n" ≡ start_text start
   start_whole e = sym (ap (λ b. cond b (line (codes "start:" ∷ codes "uniform" ∷ []))
-      (cond (is_choice start) (line (codes "start" ∷ codes "include:" ∷ map decimal (chosen start)))
+      (cond (is_choice start) (line (codes "start" ∷ codes "include:" ∷ map decimal (chosen_states start)))
       (line (codes "start:" ∷ map millionths_text start.weights)))) (whole_if e))
 
   other : (c : Bool) → all_below n (λ s. share_of start s == 1) ≡ false → is_choice start ≡ c
-      → cond c (line (codes "start" ∷ codes "include:" ∷ map decimal (chosen start)))
+      → cond c (line (codes "start" ∷ codes "include:" ∷ map decimal (chosen_states start)))
       (line (codes "start:" ∷ map millionths_text start.weights)) ≡ start_text start
   other c e f = grind (arith, all_shares)
 
@@ -225,7 +227,7 @@ module _ (start : StartWeights) (n : ℕ) (count : length start.weights ≡ n) (
   start_choice e f =
       let bits : list_all (λ w. w == 0 || w == 1) start.weights ≡ true = all_shares (λ w. w == 0 || w == 1) ∙ f in
       let yes : is_choice start ≡ true = (λ i. bits i && (ap (λ k. start.total == k) total ∙ test_itself start.total) i) in
-      let parts : for_each n (chosen_text start) ≡ flat_map after_blank (map decimal (chosen start)) =
+      let parts : for_each n (chosen_text start) ≡ flat_map after_blank (map decimal (chosen_states start)) =
       same_for_each n (chosen_text start) (λ i. chosen_text start (get_or (range_with_len 0 n) i 0))
       (λ i l. ap (chosen_text start) (sym (get_or-range_with_len 0 n i 0 l ∙ zero-add i)))
       ∙ ap (λ k. for_each k (λ i. chosen_text start (get_or (range_with_len 0 n) i 0))) (sym (length-range_with_len 0 n))
@@ -233,7 +235,7 @@ module _ (start : StartWeights) (n : ℕ) (count : length start.weights ≡ n) (
       ∙ chosen_parts (λ s. share_of start s == 1) (range_with_len 0 n)
       ∙ ap (λ k. flat_map after_blank (map decimal (filter (λ s. share_of start s == 1) (range_with_len 0 k)))) (sym count) in
       ap (λ bs. codes "start include:" ++ bs ++ codes "\n") parts
-      ∙ sym (lines.line_is (codes "start include:") (map decimal (chosen start))) ∙ two_words (map decimal (chosen start))
+      ∙ sym (lines.line_is (codes "start include:") (map decimal (chosen_states start))) ∙ two_words (map decimal (chosen_states start))
       ∙ other true e yes
     where
       two_words : (ws : List (List ℕ)) → line (codes "start include:" ∷ ws) ≡ line (codes "start" ∷ codes "include:" ∷ ws)

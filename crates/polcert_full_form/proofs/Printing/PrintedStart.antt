@@ -4,7 +4,7 @@ use Rattle.std.proofs.Common.{length, get_or, map, filter, sum, codes, decimal, 
 use Rattle.polcert_full_form.proofs.Common.{list_any, list_all, range_with_len, sum-map, sum_by-cons, scaled_text, Lexeme, Name, Numeral}
 use Rattle.polcert_full_form.proofs.Common.{Elements, StartWeights, Start, topic_of, begins_item, one, count_of, by_number, most_states}
 use Rattle.polcert_full_form.proofs.Common.{Preamble, equal_weights, all_states, is_level, shares_of, included, IsStart, IsStartBody, line}
-use Rattle.polcert_full_form.proofs.Common.{IsMillionthsStart, millionths_text, chosen, is_whole, is_choice, start_text}
+use Rattle.polcert_full_form.proofs.Common.{IsMillionthsStart, millionths_text, chosen_states, is_uniform_start, is_choice, start_text}
 use Rattle.std.specs.List.{AllZip}
 use Rattle.std.proofs.lemmas.List.FromFn.{fill_by_all}
 use Rattle.polcert_cells.specs.Elements.{StandsFor}
@@ -67,17 +67,17 @@ shares_are start n picks count weights total =
 
 -- the included states make the start
 chosen_start : (start : StartWeights) (n : ℕ) → is_choice start ≡ true → length start.weights ≡ n
-    → start ≡ equal_weights n (included (chosen start))
+    → start ≡ equal_weights n (included (chosen_states start))
 chosen_start start n e count =
     let both = and_true (list_all (λ w. w == 0 || w == 1) start.weights) (start.total == sum start.weights) e in
-    shares_are start n (included (chosen start)) count
+    shares_are start n (included (chosen_states start)) count
     (λ s l. let inside : s < length start.weights = omega (arith, l, count) in
     sym (zero_or_one (get_or start.weights s 0) (all_at (λ w. w == 0 || w == 1) start.weights s both.0 inside))
     ∙ ap (λ b. cond b 1 0) (sym (listed_is (λ s. get_or start.weights s 0 == 1) 0 (length start.weights) s (omega arith)
     (omega (arith, inside)))))
     (test_same start.total (sum start.weights) both.1)
 
-whole_start : (start : StartWeights) (states : Elements) → is_whole start ≡ true → length start.weights ≡ count_of states
+whole_start : (start : StartWeights) (states : Elements) → is_uniform_start start ≡ true → length start.weights ≡ count_of states
     → start ≡ all_states states
 whole_start start states e count = grind (arith, sum_ones, all_at, shares_are)
 
@@ -124,7 +124,8 @@ module _ (p : Preamble) (start : StartWeights) (room : HasRoom p) (few : count_o
       (record { lines = record { discount = refl; costs = refl; states = refl; actions = refl; observations = refl }; pairs = room.pairs })
       s)
 
-  uniform_prints : is_whole start ≡ true → Prints (line (codes "start:" ∷ codes "uniform" ∷ [])) (lines_known p) (known_of p start [])
+  uniform_prints : is_uniform_start start ≡ true → Prints (line (codes "start:" ∷ codes "uniform" ∷ [])) (lines_known p)
+      (known_of p start [])
   uniform_prints e = prints_start (spelled_line (key (codes "start")) (plain Name (codes "uniform") ∷ [])) _
       (text_line (key (codes "start")) (plain Name (codes "uniform") ∷ []))
       (line_printed (key (codes "start")) (plain Name (codes "uniform") ∷ []) words.start.piece (words.uniform.piece, tt))
@@ -133,10 +134,10 @@ module _ (p : Preamble) (start : StartWeights) (room : HasRoom p) (few : count_o
       (starts.uniform (record { kind = refl; bytes = refl })))))
 
   include_prints : is_choice start ≡ true → 0 < start.total
-      → Prints (line (codes "start" ∷ codes "include:" ∷ map decimal (chosen start))) (lines_known p) (known_of p start [])
-  include_prints e some = at (chosen start) same (chosen_below _ (count_of p.states) 0 (length start.weights) (omega (arith, count)))
+      → Prints (line (codes "start" ∷ codes "include:" ∷ map decimal (chosen_states start))) (lines_known p) (known_of p start [])
+  include_prints e some = at (chosen_states start) same (chosen_below _ (count_of p.states) 0 (length start.weights) (omega (arith, count)))
     where
-      same : start ≡ equal_weights (count_of p.states) (included (chosen start))
+      same : start ≡ equal_weights (count_of p.states) (included (chosen_states start))
       same = chosen_start start (count_of p.states) e count
 
       at : (ss : List ℕ) → start ≡ equal_weights (count_of p.states) (included ss) → AllBelow (count_of p.states) ss

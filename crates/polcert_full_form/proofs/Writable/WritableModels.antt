@@ -9,7 +9,7 @@ use Rattle.polcert_full_form.proofs.Common.{written, is_choice, transitions_text
 use Rattle.polcert_full_form.proofs.Common.{IsMillionthsStart, IsEndObserved, IsWritable, Elements}
 use Rattle.polcert_format.specs.Writable.{HasProperNames, IsWritableWeight}
 use Rattle.polcert_tables.specs.Contents.{Contents}
-use Rattle.polcert_tables.specs.Kept.{Kept, meaning}
+use Rattle.polcert_tables.specs.Kept.{Kept, kept_meaning}
 use Rattle.polcert_cells.proofs.Basics.{true≢false}
 use Rattle.polcert_full_form.proofs.Writable.Printable.{HasRoom, has_room}
 use Rattle.polcert_full_form.proofs.Printing.PrintedItems.{Prints, prints_then, text_from_items}
@@ -105,14 +105,15 @@ weight_back : (n w : ℕ) → IsWritableWeight n w → Fits n w
 weight_back n w f = ⊎_elim (λ e. inl e) (λ other. let none = f other in let all = mod-add-div' w n in inr (w / n, omega (arith, none, all)))
     (same_or_other w one)
 
-pub kept_writes : (d : Kept) → HasProperRows (meaning d) → HasLimitedNumbers (meaning d) → IsWritable (meaning d) → CanBeWritten (meaning d)
+pub kept_writes : (d : Kept) → HasProperRows (kept_meaning d) → HasLimitedNumbers (kept_meaning d) → IsWritable (kept_meaning d)
+    → CanBeWritten (kept_meaning d)
 kept_writes d rows limits w = grind (arith, weight_back)
 
-pub kept_reads_back : (c : Contents) → IsPrintable c.kept.preamble → IsModelText (full_form (meaning c.kept)) (meaning c.kept)
-kept_reads_back c = written_reads_back (meaning c.kept) (kept_writes c.kept c.rows c.limits c.writable)
+pub kept_reads_back : (c : Contents) → IsPrintable c.kept.preamble → IsModelText (full_form (kept_meaning c.kept)) (kept_meaning c.kept)
+kept_reads_back c = written_reads_back (kept_meaning c.kept) (kept_writes c.kept c.rows c.limits c.writable)
 
-pub kept_short : (c : Contents) → IsPrintable c.kept.preamble → length (full_form (meaning c.kept)) < text_limit
-kept_short c = printed_short (meaning c.kept) (kept_writes c.kept c.rows c.limits c.writable)
+pub kept_short : (c : Contents) → IsPrintable c.kept.preamble → length (full_form (kept_meaning c.kept)) < text_limit
+kept_short c = printed_short (kept_meaning c.kept) (kept_writes c.kept c.rows c.limits c.writable)
 
 named : (most : ℕ) (e : Elements) → AreWritable most e → HasProperNames e
 named most e h1 = grind arith

@@ -8,7 +8,7 @@ use Rattle.polcert_full_form.specs.declared.weight_row.WeightRow.{WeightRow}
 use Rattle.polcert_full_form.specs.declared.weight_row.ColumnForm.{ColumnForm}
 use Rattle.polcert_full_form.specs.declared.weight_row.ColumnForm.TheVariants.{Decimals, Cells}
 use Rattle.polcert_full_form.specs.declared.reward_row.RewardRow.{RewardRow}
-use Rattle.polcert_full_form.specs.Steps.Printing.{number_text, decimal_text, cell_line, body_text, reward_columns, reward_in, reward_text, reward_row_text}
+use Rattle.polcert_full_form.specs.Steps.Printing.{number_text, decimal_text, cell_line, body_text, reward_columns, printed_reward, reward_text, reward_row_text}
 
 -- ---- a row of T or O
 -- its weights, by column
@@ -39,7 +39,7 @@ row_width r = reward_columns (meaning r.model.now) r.end
 
 -- its rewards, by column
 abbrev pub row_rewards : RewardRow → ℕ → ℤ
-row_rewards r = reward_in (meaning r.model.now) r.action r.start r.end
+row_rewards r = printed_reward (meaning r.model.now) r.action r.start r.end
 
 -- the reward in this column, as the text gives it
 abbrev pub rewarded_text : RewardRow → ℕ → List ℕ

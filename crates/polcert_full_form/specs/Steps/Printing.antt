@@ -12,7 +12,7 @@ use Rattle.polcert_cells.specs.Preamble.{columns}
 use Rattle.polcert_cells.specs.Numbers.{one}
 use Rattle.polcert_cells.specs.Rows.{IsWeighted}
 use Rattle.polcert_cells.specs.Meaning.{Meaning, states_of, actions_of, observations_of}
-use Rattle.polcert_tables.specs.Kept.{Kept, meaning}
+use Rattle.polcert_tables.specs.Kept.{Kept, kept_meaning}
 use Rattle.polcert_tables.specs.Steps.RowSums.{row_of}
 use Rattle.polcert_text.specs.Lines.{line}
 use Rattle.polcert_format.specs.FullForm.{for_each, values, all_below, is_uniform, is_decimal, millionths_text, table_word, cell_text, row_words, row_text, written, is_zero, reward_words, rewards_row, rewards_from}
@@ -99,14 +99,14 @@ body_text table a s n w =
     else (if is_decimal n w then line (values n (λ c. millionths_text (w c / n)))
     else line (codes "uniform" ∷ []) ++ for_each n (cell_text table a s n w))
 
-abbrev pub row_at : Kept → Table → ℕ → ℕ → List ℕ
-row_at d table a s = row_text table a s (columns d.preamble table) (row_of d table a s)
+abbrev pub printed_row : Kept → Table → ℕ → ℕ → List ℕ
+printed_row d table a s = row_text table a s (columns d.preamble table) (row_of d table a s)
 
 abbrev pub rows_at : Kept → Table → ℕ → List ℕ
-rows_at d table a = for_each (states_of (meaning d)) (row_at d table a)
+rows_at d table a = for_each (states_of (kept_meaning d)) (printed_row d table a)
 
 abbrev pub rows_text : Kept → Table → List ℕ
-rows_text d table = for_each (actions_of (meaning d)) (rows_at d table)
+rows_text d table = for_each (actions_of (kept_meaning d)) (rows_at d table)
 
 -- ---- the rewards
 -- A row of rewards: those of an end state by observation, or, in an MDP, those of all end states.
@@ -114,9 +114,9 @@ abbrev pub reward_columns : Meaning → Option ℕ → ℕ
 reward_columns m (Some e) = observations_of m
 reward_columns m None = states_of m
 
-abbrev pub reward_in : Meaning → ℕ → ℕ → Option ℕ → ℕ → ℤ
-reward_in m a s (Some e) c = m.r a s e c
-reward_in m a s None c = m.r a s c 0
+abbrev pub printed_reward : Meaning → ℕ → ℕ → Option ℕ → ℕ → ℤ
+printed_reward m a s (Some e) c = m.r a s e c
+printed_reward m a s None c = m.r a s c 0
 
 -- the line of its indices
 abbrev pub reward_head : ℕ → ℕ → Option ℕ → List ℕ

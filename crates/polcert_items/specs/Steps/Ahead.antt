@@ -17,10 +17,10 @@ use Rattle.polcert_format.specs.Order.{word_fault}
 use Rattle.polcert_format.specs.Text.{ModelSoFar}
 use Rattle.polcert_items.specs.Steps.Entries.{EntryGoes, NumberListGoes, HasRoom, IsFirstPlace, IsWithinIndices, entry_sign, no_numbers}
 use Rattle.polcert_items.specs.Steps.Items.{new_entry}
-use Rattle.polcert_items.specs.Steps.Lines.{Takes}
+use Rattle.polcert_items.specs.Steps.Lines.{TakesLexeme}
 use Rattle.polcert_items.specs.Steps.ModelSoFar.{with_item}
 use Rattle.polcert_items.specs.Steps.Numbers.{ListKind, SignIs}
-use Rattle.polcert_items.specs.Steps.Wants.{ExpectsNext, list_wants, entry_wants}
+use Rattle.polcert_items.specs.Steps.Wants.{ExpectsNext, expected_by_numbers, expected_by_entry}
 use Rattle.polcert_items.specs.declared.ahead.FrontPlace.{FrontPlace}
 use Rattle.polcert_items.specs.declared.ahead.ListAhead.{ListAhead}
 use Rattle.polcert_items.specs.declared.entry_reader.EntryReader.{EntryReader}
@@ -36,17 +36,17 @@ pub record IsFed (k : ModelSoFar) (old : EntryReader) (l : Lexeme) (new : EntryR
   pub inside : begins_item l ≡ false
   pub table : new.table ≡ old.table
   pub within : IsWithinIndices (indices_in k old.table) new
-  pub takes : Takes (EntryGoes (preamble_in k)) old l new
+  pub takes : TakesLexeme (EntryGoes (preamble_in k)) old l new
   pub sign : SignIs (entry_sign new.state) l
-  pub leads : ExpectsNext (entry_wants (preamble_in k) old) l (entry_wants (preamble_in k) new)
+  pub leads : ExpectsNext (expected_by_entry (preamble_in k) old) l (expected_by_entry (preamble_in k) new)
 
 -- a list of such numbers took one more lexeme, a sign or a numeral
 pub record IsListFed {T : Type 0} (kind : ListKind T) (old : Numbers T) (l : Lexeme) (new : Numbers T) : Type 0 where
   pub begins : begins_number l.kind ≡ true
   pub room : HasRoom new
-  pub takes : Takes (NumberListGoes kind) old l new
+  pub takes : TakesLexeme (NumberListGoes kind) old l new
   pub sign : SignIs new.sign l
-  pub leads : ExpectsNext (list_wants old) l (list_wants new)
+  pub leads : ExpectsNext (expected_by_numbers old) l (expected_by_numbers new)
 
 -- these lexemes were taken by such steps, one after another
 pub data AreTaken {R : Type 0} (NumberStep : R → Lexeme → R → Type 0) : R → List Lexeme → R → Type 0 where
@@ -54,17 +54,17 @@ pub data AreTaken {R : Type 0} (NumberStep : R → Lexeme → R → Type 0) : R 
   more : (old between new : R) (ls : List Lexeme) (l : Lexeme) → AreTaken NumberStep old ls between → NumberStep between l new → AreTaken NumberStep old (ls ++ l ∷ []) new
 
 -- the lexemes that were taken are the first of these bytes, wherever these stand
-pub record TakesAhead {R : Type 0} (NumberStep : R → Lexeme → R → Type 0) (old : R) (bytes : List ℕ) (count : ℕ) (new : R) : Type 0 where
+pub record StepsAhead {R : Type 0} (NumberStep : R → Lexeme → R → Type 0) (old : R) (bytes : List ℕ) (count : ℕ) (new : R) : Type 0 where
   pub within : count ≤ length bytes
   pub fed : (place : ℕ) → (ls : List Lexeme) × (BeginWith place bytes count ls × AreTaken NumberStep old ls new)
 
 -- a list of so many numbers was begun with the first of these bytes, and has its first number
 pub record IsListBegun {T : Type 0} (kind : ListKind T) (needed : ℕ) (bytes : List ℕ) (list : ListAhead T) : Type 0 where
-  pub ahead : TakesAhead (IsListFed kind) (no_numbers needed) bytes list.len list.numbers
+  pub ahead : StepsAhead (IsListFed kind) (no_numbers needed) bytes list.len list.numbers
   pub some : 0 < length list.numbers.read
 
 abbrev pub FedAhead : ModelSoFar → EntryReader → List ℕ → ℕ → EntryReader → Type 0
-FedAhead k old bytes count new = TakesAhead (IsFed k) old bytes count new
+FedAhead k old bytes count new = StepsAhead (IsFed k) old bytes count new
 
 -- an item that is an entry went on so, or nothing was taken
 pub data ItemFedAhead (k : ModelSoFar) (old : ItemReader) (bytes : List ℕ) (count : ℕ) (new : ItemReader) : Type 0 where

@@ -17,13 +17,13 @@ use Rattle.polcert_items.specs.declared.model_so_far.CellBudget.{CellBudget}
 use Rattle.polcert_items.specs.declared.model_so_far.Sizes.{Sizes}
 
 -- of so many elements, those that the place stands for
-abbrev pub chosen : Option Place → ℕ → ℕ
-chosen (Some Every) count = count
-chosen _ count = 1
+abbrev pub place_count : Option Place → ℕ → ℕ
+place_count (Some Every) count = count
+place_count _ count = 1
 
 -- the cells that so many places leave open in a table of rows for each action and state
-abbrev pub open_cells : ℕ → ℕ → ℕ → ℕ
-open_cells states columns places = if places == 1 then states * columns else (if places == 2 then columns else 1)
+abbrev pub open_row_cells : ℕ → ℕ → ℕ → ℕ
+open_row_cells states columns places = if places == 1 then states * columns else (if places == 2 then columns else 1)
 
 -- of so many cells that an entry's places leave open, those that its body gives a weight above 0
 abbrev pub nonzero_cells : Body → ℕ → ℕ → ℕ
@@ -35,16 +35,16 @@ nonzero_cells Identity states cells = states
 -- the cells that an entry covers with a weight above 0, in a table of so many columns
 abbrev pub covered_by : ℕ → ℕ → ℕ → List Place → Body → ℕ
 covered_by actions states columns places body =
-    chosen (slice_get places 0) actions * chosen (slice_get places 1) states * chosen (slice_get places 2) columns
-    * nonzero_cells body states (open_cells states columns (length places))
+    place_count (slice_get places 0) actions * place_count (slice_get places 1) states * place_count (slice_get places 2) columns
+    * nonzero_cells body states (open_row_cells states columns (length places))
 
 -- at most so many
 abbrev pub most_covered : ℕ
 most_covered = most_actions * most_states * most_observations * (most_states * most_observations)
 
 -- so many and more, in a table of so many cells: of a large one they may be too many, and of any other they are not counted
-abbrev pub counted : ℕ → ℕ → ℕ → ℕ → Option ℕ
-counted cells most count more = if nat_lt most_cells cells then (if nat_lt most (count + more) then None else Some (count + more)) else Some count
+abbrev pub budget_after : ℕ → ℕ → ℕ → ℕ → Option ℕ
+budget_after cells most count more = if nat_lt most_cells cells then (if nat_lt most (count + more) then None else Some (count + more)) else Some count
 
 -- what entries give of each table that is large, and none too much; of no entries nothing was counted
 pub record IsCoveringOf (p : Preamble) (es : List Entry) (c : CellBudget) : Type 0 where
@@ -68,8 +68,8 @@ pub record AreSizesOf (p : Preamble) (s : Sizes) : Type 0 where
   pub few_rewarded : s.rewarded ≤ most_observations
 
 -- some entries were counted, and this one may come next
-abbrev pub IsNext : Preamble → List Entry → CellBudget → Sizes → Entry → Type 0
-IsNext p es c s e = AreSizesOf p s × IsCoveringOf p es c × IsSoundEntry p e
+abbrev pub CanComeNext : Preamble → List Entry → CellBudget → Sizes → Entry → Type 0
+CanComeNext p es c s e = AreSizesOf p s × IsCoveringOf p es c × IsSoundEntry p e
 
 -- what entries give with this one more, where that is not too much
 abbrev pub IsCoveredWith : Preamble → List Entry → Entry → Option CellBudget → Type 0

@@ -18,8 +18,8 @@ use Rattle.polcert_items.specs.Steps.Numbers.{IsMisplaced}
 use Rattle.polcert_items.specs.Steps.Lines.{AfterColon}
 
 -- a name is ASCII text
-abbrev pub IsText : Lexeme → Type 0
-IsText l = l.kind ≡ Name → IsAscii l.bytes
+abbrev pub IsAsciiName : Lexeme → Type 0
+IsAsciiName l = l.kind ≡ Name → IsAscii l.bytes
 
 -- a count of at most so many
 abbrev pub IsCountOf : ℕ → Lexeme → ℕ → Type 0

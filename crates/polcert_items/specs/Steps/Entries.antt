@@ -29,8 +29,8 @@ use Rattle.polcert_cells.specs.Elements.{count_of}
 use Rattle.polcert_cells.specs.Preamble.{Preamble, is_mdp, dimensions, named}
 use Rattle.polcert_cells.specs.Entry.{forms, cells_in, IsPlace, ArePlaces, IsBody}
 use Rattle.polcert_format.specs.Reasons.{IsDigits}
-use Rattle.polcert_items.specs.Steps.Numbers.{AreNumbersAfter, IsInRange, ListKind, of_probabilities, of_rewards, IsNumberReason, IsMisplaced, IsAfterNumbers}
-use Rattle.polcert_items.specs.Steps.Lines.{AfterColon, Takes, CannotTake}
+use Rattle.polcert_items.specs.Steps.Numbers.{AreNumbersAfter, FitsRange, ListKind, of_probabilities, of_rewards, IsNumberReason, IsMisplaced, IsAfterNumbers}
+use Rattle.polcert_items.specs.Steps.Lines.{AfterColon, TakesLexeme, CannotTake}
 
 -- after these places the lexemes continue as this entry
 pub record IsEntryAfter (p : Preamble) (table : Table) (before : List Place) (ls : List Lexeme) (entry : Entry) : Type 0 where
@@ -62,7 +62,7 @@ entry_with table places body = record { table = table; places = places; body = b
 pub record NumberListGoes {T : Type 0} (kind : ListKind T) (n : Numbers T) (ls : List Lexeme) (body : Body) : Type 0 where
   pub further : List T
   pub numbers : AreNumbersAfter n.sign ls (map kind.worth further)
-  pub in_range : All (λ x. IsInRange kind.range (kind.worth x)) further
+  pub in_range : All (λ x. FitsRange kind.range (kind.worth x)) further
   pub enough : length (n.read ++ further) ≡ n.needed
   pub body_is : body ≡ kind.body (n.read ++ further)
 
@@ -72,9 +72,9 @@ ProbabilitiesGo = NumberListGoes of_probabilities
 abbrev pub RewardsGo : Numbers ℤ → List Lexeme → Body → Type 0
 RewardsGo = NumberListGoes of_rewards
 
-abbrev pub body_of : Word → Body
-body_of words.Uniform = bodies.Uniform
-body_of words.Identity = bodies.Identity
+abbrev pub body_of_word : Word → Body
+body_of_word words.Uniform = bodies.Uniform
+body_of_word words.Identity = bodies.Identity
 
 abbrev pub BodyIs : Table → List Place → (List Lexeme → Body → Type 0) → List Lexeme → Entry → Type 0
 BodyIs table places Goes ls entry = (body : Body) × (Goes ls body × (entry ≡ entry_with table places body))
@@ -85,7 +85,7 @@ StateGoes p table places states.Place ls entry = PlaceRest p table places ls ent
 StateGoes p table places states.Body ls entry = IsEntryAfter p table places ls entry
 StateGoes p table places (states.Probabilities n) ls entry = BodyIs table places (ProbabilitiesGo n) ls entry
 StateGoes p table places (states.Rewards n) ls entry = BodyIs table places (RewardsGo n) ls entry
-StateGoes p table places (states.Word w) ls entry = (ls ≡ []) × (entry ≡ entry_with table places (body_of w))
+StateGoes p table places (states.Word w) ls entry = (ls ≡ []) × (entry ≡ entry_with table places (body_of_word w))
 
 abbrev pub EntryGoes : Preamble → EntryReader → List Lexeme → Entry → Type 0
 EntryGoes p r ls entry = StateGoes p r.table r.places r.state ls entry
@@ -154,7 +154,7 @@ MayStand mdp table body written = list_any (λ n. n == written) (forms mdp table
 
 -- the lexeme is this word, and it may stand after so many places
 abbrev pub IsWordAfter : Bool → Table → ℕ → Lexeme → Word → Type 0
-IsWordAfter mdp table written l w = IsWord (word_text w) l × MayStand mdp table (body_of w) written
+IsWordAfter mdp table written l w = IsWord (word_text w) l × MayStand mdp table (body_of_word w) written
 
 -- before the first number
 abbrev pub no_numbers : {T : Type 0} → ℕ → Numbers T
@@ -166,9 +166,9 @@ one_number needed first = record { read = first ∷ []; needed = needed; sign = 
 
 -- the body's numbers were begun with this lexeme
 abbrev pub AreBegun : Table → ℕ → Lexeme → EntryState → Type 0
-AreBegun Reward needed l (states.Rewards n) = Takes RewardsGo (no_numbers needed) l n
-AreBegun Transition needed l (states.Probabilities n) = Takes ProbabilitiesGo (no_numbers needed) l n
-AreBegun Observation needed l (states.Probabilities n) = Takes ProbabilitiesGo (no_numbers needed) l n
+AreBegun Reward needed l (states.Rewards n) = TakesLexeme RewardsGo (no_numbers needed) l n
+AreBegun Transition needed l (states.Probabilities n) = TakesLexeme ProbabilitiesGo (no_numbers needed) l n
+AreBegun Observation needed l (states.Probabilities n) = TakesLexeme ProbabilitiesGo (no_numbers needed) l n
 AreBegun _ needed l _ = ⊥
 
 -- no numbers of the table begin with this lexeme

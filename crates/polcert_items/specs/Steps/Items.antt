@@ -26,13 +26,13 @@ use Rattle.polcert_cells.specs.declared.elements.StartWeights.{StartWeights}
 use Rattle.polcert_cells.specs.Elements.{most_states, most_actions, most_observations}
 use Rattle.polcert_format.specs.Text.{ModelSoFar}
 use Rattle.polcert_format.specs.Reasons.{ends_in_sign, IsNoFraction, IsOfElements, IsOfProbabilities, IsRepeated}
-use Rattle.polcert_items.specs.Steps.Numbers.{SignEnds, is_negative, number_place}
-use Rattle.polcert_items.specs.Steps.Lines.{Takes, CannotTake, DiscountGoes, discount_sign, ValuesGoes}
+use Rattle.polcert_items.specs.Steps.Numbers.{SignEnds, is_minus_sign, signed_place}
+use Rattle.polcert_items.specs.Steps.Lines.{TakesLexeme, CannotTake, DiscountGoes, discount_sign, ValuesGoes}
 use Rattle.polcert_items.specs.Steps.Elements.{ElementsGo, IsElementsRead, AreElementsSeen}
 use Rattle.polcert_format.specs.FirstNumber.{IsLate, states_known}
 use Rattle.polcert_format.specs.KnownPreamble.{preamble_in, indices_in}
 use Rattle.polcert_items.specs.Steps.Entries.{EntryGoes, IfRefused, IsWithinIndices, entry_sign, AreSome}
-use Rattle.polcert_items.specs.Steps.Start.{StartGoes, StartGives, new_start, pending, IsStartWithin, HasReadStart, IsReasonAt, IsStartReason, StopsStart}
+use Rattle.polcert_items.specs.Steps.Start.{StartGoes, StartGives, new_start, pending_refusal, IsStartWithin, HasReadStart, IsReasonAt, IsStartReason, StopsStart}
 use Rattle.polcert_items.specs.Steps.ModelSoFar.{with_item}
 use Rattle.polcert_items.specs.Steps.Wants.{ExpectsNext, item_wants, IfNotStart, IfStart}
 use Rattle.polcert_format.specs.Misfits.{IsMisfit}
@@ -52,14 +52,14 @@ abbrev pub ItemForms : ModelSoFar → ItemReader → List Lexeme → Unit {0} �
 ItemForms k (items.Start r) ls none = StartGoes (preamble_in k).states r ls None
 ItemForms k item ls none = (next : ModelSoFar) × ItemGoes k item ls next
 
-abbrev pub topic_in : ItemReader → Topic
-topic_in (items.Discount r) = Discount
-topic_in (items.Values r) = Values
-topic_in (items.States r) = States
-topic_in (items.Actions r) = Actions
-topic_in (items.Observations r) = Observations
-topic_in (items.Start r) = Start
-topic_in (items.Entry r) = Cells r.table
+abbrev pub topic_of_reader : ItemReader → Topic
+topic_of_reader (items.Discount r) = Discount
+topic_of_reader (items.Values r) = Values
+topic_of_reader (items.States r) = States
+topic_of_reader (items.Actions r) = Actions
+topic_of_reader (items.Observations r) = Observations
+topic_of_reader (items.Start r) = Start
+topic_of_reader (items.Entry r) = Cells r.table
 
 -- the sign before the next token (a start item keeps its own account of signs)
 abbrev pub sign_in : ItemReader → Option Sign
@@ -69,7 +69,7 @@ sign_in _ = None
 
 -- a number that has no value, where anything follows it
 abbrev pub pending_in : ItemReader → Option Refusal
-pending_in (items.Start r) = pending r
+pending_in (items.Start r) = pending_refusal r
 pending_in _ = None
 
 -- what was read is within its limits
@@ -104,7 +104,7 @@ IsSeen count body item = SignEnds (sign_in item) body
 
 -- why a token is refused in an item of this topic, after this sign and body; some reasons are of some topics alone
 abbrev pub IsTokenReason : Topic → Option Sign → List Lexeme → Lexeme → ItemFault → ℕ → Type 0
-IsTokenReason t sign body l DiscountRange place = (t ≡ Discount) × (place ≡ number_place sign l) × IsNoFraction (is_negative sign) l
+IsTokenReason t sign body l DiscountRange place = (t ≡ Discount) × (place ≡ signed_place sign l) × IsNoFraction (is_minus_sign sign) l
 IsTokenReason t sign body l ProbabilityRange place = IsOfProbabilities t × IsReasonAt sign l ProbabilityRange place
 IsTokenReason t sign body l DuplicateName place = (place ≡ l.place) × IsOfElements t × ((following : List Lexeme) → IsRepeated (body ++ l ∷ following) place)
 IsTokenReason t sign body l BadCount place = (place ≡ l.place) × IsOfElements t
@@ -112,8 +112,8 @@ IsTokenReason t sign body l kind place = IsReasonAt sign l kind place
 
 -- why a token is refused: for itself, or in a start item perhaps for a number before it
 pub data IsItemReason (item : ItemReader) (body : List Lexeme) (l : Lexeme) (kind : ItemFault) (place : ℕ) : Type 0 where
-  of_token : (topic_in item ≡ Start → ⊥) → IsTokenReason (topic_in item) (sign_in item) body l kind place → IsItemReason item body l kind place
-  of_start : topic_in item ≡ Start → IsStartReason (body ++ l ∷ []) kind place → IsItemReason item body l kind place
+  of_token : (topic_of_reader item ≡ Start → ⊥) → IsTokenReason (topic_of_reader item) (sign_in item) body l kind place → IsItemReason item body l kind place
+  of_start : topic_of_reader item ≡ Start → IsStartReason (body ++ l ∷ []) kind place → IsItemReason item body l kind place
 
 -- why an item of this topic cannot end, besides a wrong shape
 abbrev pub IsEndReason : Topic → ItemFault → Type 0
@@ -138,24 +138,24 @@ HasElements k _ = Unit {0}
 -- an item's reader took one more lexeme
 pub record IsItemFed (k : ModelSoFar) (old : ItemReader) (l : Lexeme) (new : ItemReader) : Type 0 where
   pub within : IsItemWithin k new
-  pub takes : Takes (ItemGoes k) old l new
-  pub formed : IfStart (topic_in old) (Takes (ItemForms k) old l new)
+  pub takes : TakesLexeme (ItemGoes k) old l new
+  pub formed : IfStart (topic_of_reader old) (TakesLexeme (ItemForms k) old l new)
   pub seen : (body : List Lexeme) → IsSeen (states_known k) body old → IsSeen (states_known k) (body ++ l ∷ []) new
   pub leads : ExpectsNext (item_wants k old) l (item_wants k new)
 
 -- an item's reader cannot take the lexeme, and refuses it so
 pub record RefusesInItem (k : ModelSoFar) (old : ItemReader) (l : Lexeme) (r : Refusal) : Type 0 where
   pub stuck : CannotTake (ItemGoes k) old l
-  pub formless : IfStart (topic_in old) (CannotTake (ItemForms k) old l)
+  pub formless : IfStart (topic_of_reader old) (CannotTake (ItemForms k) old l)
   pub reason : (body : List Lexeme) → IsSeen (states_known k) body old → IsItemReason old body l r.kind r.place
-  pub kind : IfNotStart (topic_in old) (IsMisfit (item_wants k old []) l r.kind)
+  pub kind : IfNotStart (topic_of_reader old) (IsMisfit (item_wants k old []) l r.kind)
   pub start : (body : List Lexeme) → IsSeen (states_known k) body old
-      → IfStart (topic_in old) (StopsStart (pending_in old) (states_known k) body (item_wants k old []) l r.kind r.place)
-  pub late : (body more : List Lexeme) (ends : Bool) (late : Refusal) → IsSeen (states_known k) body old → topic_in old ≡ Start
+      → IfStart (topic_of_reader old) (StopsStart (pending_in old) (states_known k) body (item_wants k old []) l r.kind r.place)
+  pub late : (body more : List Lexeme) (ends : Bool) (late : Refusal) → IsSeen (states_known k) body old → topic_of_reader old ≡ Start
       → IsLate (states_known k) (body ++ l ∷ more) ends late.kind late.place → (r.kind ≡ late.kind) × (r.place ≡ late.place)
 
 -- One more lexeme: an item's reader keeps its topic, and takes it or refuses it.
 pub record FeedsItem (k : ModelSoFar) (old : ItemReader) (l : Lexeme) (new : ItemReader) (result : Result Unit FeedError) : Type 0 where
-  pub topic : topic_in new ≡ topic_in old
+  pub topic : topic_of_reader new ≡ topic_of_reader old
   pub fed : OnOk result (IsItemFed k old l new)
   pub refused : IfErr result (λ stop. IfRefused stop (RefusesInItem k old l))

@@ -16,7 +16,7 @@ use Rattle.polcert_items.specs.Steps.Numbers.{AreNumbersAfter, IsNumberReason, I
 
 -- A reader's state continues as lexemes that end its item, with what the item says: `Goes state lexemes said`.
 -- One more lexeme was taken: what continues after it is what went on from before it.
-pub record Takes {S V : Type 0} (Goes : S → List Lexeme → V → Type 0) (old : S) (l : Lexeme) (new : S) : Type 0 where
+pub record TakesLexeme {S V : Type 0} (Goes : S → List Lexeme → V → Type 0) (old : S) (l : Lexeme) (new : S) : Type 0 where
   pub back : (ls : List Lexeme) (v : V) → Goes new ls v → Goes old (l ∷ ls) v
   pub on : (ls : List Lexeme) (v : V) → Goes old (l ∷ ls) v → Goes new ls v
 

@@ -16,7 +16,7 @@ use Rattle.polcert_cells.specs.Words.{IsWord}
 use Rattle.polcert_cells.specs.declared.entries.Body.{Body}
 use Rattle.polcert_cells.specs.declared.entries.Body.TheVariants as bodies
 use Rattle.polcert_cells.specs.Numbers.{IsMillionths, AreNumbers, one}
-use Rattle.polcert_format.specs.Reasons.{IsRefusedNumber, IsNoFraction, is_sign, ends_in_sign}
+use Rattle.polcert_format.specs.Reasons.{IsRefusedNumber, IsNoFraction, is_sign_kind, ends_in_sign}
 
 -- after a sign, if there is one, the lexemes continue as these numbers
 abbrev pub AreNumbersAfter : Option Sign → List Lexeme → List ℤ → Type 0
@@ -25,9 +25,9 @@ AreNumbersAfter (Some sign) (l ∷ ls) (h ∷ hs) = IsMillionths sign.negative l
 AreNumbersAfter (Some sign) _ _ = ⊥
 
 -- a number from 0 to one, or any
-abbrev pub IsInRange : Range → ℤ → Type 0
-IsInRange ranges.Reward h = Unit {0}
-IsInRange _ h = (p : ℕ) × ((h ≡ pos p) × (p ≤ one))
+abbrev pub FitsRange : Range → ℤ → Type 0
+FitsRange ranges.Reward h = Unit {0}
+FitsRange _ h = (p : ℕ) × ((h ≡ pos p) × (p ≤ one))
 
 -- what a list's numbers are: what each is worth, where they lie, and the body that they are
 pub record ListKind (T : Type 0) : Type 0 where
@@ -41,14 +41,14 @@ of_probabilities = record { worth = pos; range = ranges.Probability; body = bodi
 abbrev pub of_rewards : ListKind ℤ
 of_rewards = record { worth = λ h. h; range = ranges.Reward; body = bodies.Rewards }
 
-abbrev pub is_negative : Option Sign → Bool
-is_negative None = false
-is_negative (Some sign) = sign.negative
+abbrev pub is_minus_sign : Option Sign → Bool
+is_minus_sign None = false
+is_minus_sign (Some sign) = sign.negative
 
 -- where a number stands: at its sign, if it has one
-abbrev pub number_place : Option Sign → Lexeme → ℕ
-number_place None l = l.place
-number_place (Some sign) l = sign.place
+abbrev pub signed_place : Option Sign → Lexeme → ℕ
+signed_place None l = l.place
+signed_place (Some sign) l = sign.place
 
 -- the sign is this lexeme
 pub data IsSignAt (sign : Sign) (l : Lexeme) : Type 0 where
@@ -56,13 +56,13 @@ pub data IsSignAt (sign : Sign) (l : Lexeme) : Type 0 where
   minus : l.kind ≡ Minus → sign.negative ≡ true → sign.place ≡ l.place → IsSignAt sign l
 
 -- the token is a sign and none stands before it, or the numeral of a number in the range
-abbrev pub IsStep : Range → Option Sign → Lexeme → NumberStep → Type 0
-IsStep range sign l (steps.Sign s) = (sign ≡ None) × IsSignAt s l
-IsStep range sign l (steps.Value h) = IsMillionths (is_negative sign) l h × IsInRange range h
+abbrev pub IsNumberStep : Range → Option Sign → Lexeme → NumberStep → Type 0
+IsNumberStep range sign l (steps.Sign s) = (sign ≡ None) × IsSignAt s l
+IsNumberStep range sign l (steps.Value h) = IsMillionths (is_minus_sign sign) l h × FitsRange range h
 
 -- no numbers in the range continue with this lexeme
 abbrev pub IsNoNumber : Range → Option Sign → Lexeme → Type 0
-IsNoNumber range sign l = (ls : List Lexeme) (hs : List ℤ) → AreNumbersAfter sign (l ∷ ls) hs → All (IsInRange range) hs → ⊥
+IsNoNumber range sign l = (ls : List Lexeme) (hs : List ℤ) → AreNumbersAfter sign (l ∷ ls) hs → All (FitsRange range) hs → ⊥
 
 -- why a token that has no place here is refused
 abbrev pub IsMisplaced : Lexeme → ItemFault → ℕ → Type 0
@@ -77,9 +77,9 @@ IsAfterNumbers l kind place = IsMisplaced l kind place
 
 -- why a token is refused in a number's place, and where
 abbrev pub IsNumberReason : Range → Option Sign → Lexeme → ItemFault → ℕ → Type 0
-IsNumberReason range sign l (Number reason) place = (place ≡ number_place sign l) × IsRefusedNumber reason (is_negative sign) l
-IsNumberReason range sign l DiscountRange place = (range ≡ ranges.Discount) × (place ≡ number_place sign l) × IsNoFraction (is_negative sign) l
-IsNumberReason range sign l ProbabilityRange place = (range ≡ ranges.Probability) × (place ≡ number_place sign l) × IsNoFraction (is_negative sign) l
+IsNumberReason range sign l (Number reason) place = (place ≡ signed_place sign l) × IsRefusedNumber reason (is_minus_sign sign) l
+IsNumberReason range sign l DiscountRange place = (range ≡ ranges.Discount) × (place ≡ signed_place sign l) × IsNoFraction (is_minus_sign sign) l
+IsNumberReason range sign l ProbabilityRange place = (range ≡ ranges.Probability) × (place ≡ signed_place sign l) × IsNoFraction (is_minus_sign sign) l
 IsNumberReason range sign l kind place = IsMisplaced l kind place
 
 -- no number continues with this lexeme, and it is refused for this reason at this place
@@ -100,7 +100,7 @@ IsRangeFault ranges.Reward kind = ⊥
 
 -- the sign that waits for its numeral is this lexeme, and otherwise it is no sign
 abbrev pub SignIs : Option Sign → Lexeme → Type 0
-SignIs None l = is_sign l.kind ≡ false
+SignIs None l = is_sign_kind l.kind ≡ false
 SignIs (Some sign) l = IsSignAt sign l
 
 -- the sign that waits for its numeral ends the body, and otherwise no sign does

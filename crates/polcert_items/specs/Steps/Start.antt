@@ -28,9 +28,9 @@ use Rattle.polcert_cells.specs.declared.elements.Elements.{Elements}
 use Rattle.polcert_cells.specs.Elements.{count_of, StandsFor}
 use Rattle.polcert_cells.specs.declared.elements.StartWeights.{StartWeights}
 use Rattle.polcert_cells.specs.Start.{equal_weights, all_states, single, shares_of, included, IsStartBody, IsStart}
-use Rattle.polcert_format.specs.Reasons.{StandsIn, NumberStandsIn, IsRefusedNumber, IsNoFraction, IsDigits, is_sign}
+use Rattle.polcert_format.specs.Reasons.{StandsIn, NumberStandsIn, IsRefusedNumber, IsNoFraction, IsDigits, is_sign_kind}
 use Rattle.polcert_format.specs.Misfits.{Expected, IsMisfit, begins_number}
-use Rattle.polcert_items.specs.Steps.Numbers.{AreNumbersAfter, is_negative, number_place, IsSignAt, SignEnds}
+use Rattle.polcert_items.specs.Steps.Numbers.{AreNumbersAfter, is_minus_sign, signed_place, IsSignAt, SignEnds}
 use Rattle.polcert_items.specs.Steps.Lines.{AfterColon}
 use Rattle.polcert_items.specs.Steps.Entries.{ProbabilitiesGo, HasRoom}
 
@@ -85,15 +85,15 @@ pub data AreFormed (states : Elements) (hs : List ℤ) : Type 0 where
   alone : (h : ℤ) → hs ≡ h ∷ [] → AreFormed states hs
   each : (ps : List ℕ) → 1 < count_of states → hs ≡ map pos ps → length ps ≡ count_of states → All (λ p. p ≤ one) ps → AreFormed states hs
 
-abbrev pub AreGiven : Elements → List ℤ → Option StartWeights → Type 0
-AreGiven states hs None = AreFormed states hs
-AreGiven states hs (Some v) = AreShares states hs v
+abbrev pub AreStartNumbers : Elements → List ℤ → Option StartWeights → Type 0
+AreStartNumbers states hs None = AreFormed states hs
+AreStartNumbers states hs (Some v) = AreShares states hs v
 
 -- after these numbers, and a sign if there is one, the lexemes are the further numbers
 pub record NumbersGo (states : Elements) (before : List ℤ) (sign : Option Sign) (ls : List Lexeme) (asked : Option StartWeights) : Type 0 where
   pub further : List ℤ
   pub numbers : AreNumbersAfter sign ls further
-  pub given : AreGiven states (before ++ further) asked
+  pub given : AreStartNumbers states (before ++ further) asked
 
 -- Digits after `start:`: the number of a state where nothing follows, or else the first of more numbers.
 pub data DigitsGo (states : Elements) (digits : StateOrNumber) (ls : List Lexeme) (asked : Option StartWeights) : Type 0 where
@@ -140,7 +140,7 @@ abbrev pub new_start : StartReader
 new_start = reader.Form
 
 -- a list of probabilities has room, and there is more than one state
-pub record AreWithin (states : Elements) (n : Numbers ℕ) : Type 0 where
+pub record HasProbabilityRoom (states : Elements) (n : Numbers ℕ) : Type 0 where
   pub more : 1 < count_of states
   pub needed : n.needed ≡ count_of states
   pub room : HasRoom n
@@ -150,7 +150,7 @@ abbrev pub IsStartWithin : Elements → StartReader → Type 0
 IsStartWithin states (reader.List chosen) = length chosen.marks ≡ count_of states
 IsStartWithin states (reader.Only s) = s < count_of states
 IsStartWithin states (reader.StateOrNumber digits) = (1 < count_of states) × ((s : ℕ) → digits.state ≡ Some s → s < count_of states)
-IsStartWithin states (reader.Probabilities n) = AreWithin states n
+IsStartWithin states (reader.Probabilities n) = HasProbabilityRoom states n
 IsStartWithin states _ = Unit {0}
 
 -- the sign before the next token
@@ -170,9 +170,9 @@ pending_of (Ok h) place = None
 pending_of (Err fault) place = Some (record { kind = Number fault; place = place })
 
 -- digits without a value: they are refused as soon as anything follows them, a fault of the tokens too
-abbrev pub pending : StartReader → Option Refusal
-pending (reader.StateOrNumber digits) = pending_of digits.value digits.place
-pending _ = None
+abbrev pub pending_refusal : StartReader → Option Refusal
+pending_refusal (reader.StateOrNumber digits) = pending_of digits.value digits.place
+pending_refusal _ = None
 
 -- the value of a numeral, or why it has none
 abbrev pub IsValue : Result ℤ NumberFault → Bool → Lexeme → Type 0
@@ -185,7 +185,7 @@ IsState count (Some s) l = IsWhole l s × (s < count)
 IsState count None l = (s : ℕ) → IsWhole l s → s < count → ⊥
 
 -- what was kept of a numeral of digits alone
-pub record AreDigits (count : ℕ) (l : Lexeme) (digits : StateOrNumber) : Type 0 where
+pub record AreStartDigits (count : ℕ) (l : Lexeme) (digits : StateOrNumber) : Type 0 where
   pub more : 1 < count
   pub place : digits.place ≡ l.place
   pub digits_are : IsDigits l
@@ -201,14 +201,14 @@ IsFormed l _ = ⊥
 -- what is kept of a lexeme of the first number, after this sign
 abbrev pub IsNumberKept : Option Sign → Lexeme → StartReader → Type 0
 IsNumberKept sign l (reader.Sign s) = (sign ≡ None) × IsSignAt s l
-IsNumberKept sign l (reader.Number first) = (first.place ≡ number_place sign l) × IsMillionths (is_negative sign) l first.value
+IsNumberKept sign l (reader.Number first) = (first.place ≡ signed_place sign l) × IsMillionths (is_minus_sign sign) l first.value
 IsNumberKept sign l _ = ⊥
 
 -- what is kept of the lexeme after the colon, with so many states
 abbrev pub IsKept : ℕ → Lexeme → StartReader → Type 0
 IsKept count l reader.Every = l.kind ≡ Name
 IsKept count l (reader.Only s) = l.kind ≡ Name
-IsKept count l (reader.StateOrNumber digits) = AreDigits count l digits
+IsKept count l (reader.StateOrNumber digits) = AreStartDigits count l digits
 IsKept count l r = (may_be_state count l.kind l.bytes ≡ false) × IsNumberKept None l r
 
 -- a number below 0 or above one
@@ -221,8 +221,8 @@ IsAfterColon None body = (colon : Lexeme) × (body ≡ colon ∷ []) × (colon.k
 IsAfterColon (Some sign) body = (colon : Lexeme) × (s : Lexeme) × (body ≡ colon ∷ s ∷ []) × (colon.kind ≡ Colon) × IsSignAt sign s
 
 -- the body begins with the word of a list
-abbrev pub IsListBegun : List Lexeme → Type 0
-IsListBegun body = (word : Lexeme) × (ls : List Lexeme) × (body ≡ word ∷ ls) × (word.kind ≡ Name)
+abbrev pub BeginsWithListWord : List Lexeme → Type 0
+BeginsWithListWord body = (word : Lexeme) × (ls : List Lexeme) × (body ≡ word ∷ ls) × (word.kind ≡ Name)
 
 -- the body is a colon and a word
 abbrev pub IsWordBody : List Lexeme → Type 0
@@ -250,27 +250,27 @@ pub record IsFurtherBody (body : List Lexeme) : Type 0 where
   pub number : BeginsWithNumber body place IsFraction (next ∷ following)
 
 -- the body so far, as the state knows it, with so many states
-abbrev pub IsBody : ℕ → List Lexeme → StartReader → Type 0
-IsBody count body reader.Form = body ≡ []
-IsBody count body (reader.Colon choice) = IsListBegun body
-IsBody count body (reader.List chosen) = IsListBegun body
-IsBody count body reader.Body = IsAfterColon None body
-IsBody count body reader.Every = IsWordBody body
-IsBody count body (reader.Only s) = IsWordBody body
-IsBody count body (reader.Sign sign) = IsAfterColon (Some sign) body
-IsBody count body (reader.Number first) = IsNumberBody count body first
-IsBody count body (reader.StateOrNumber digits) = BeginsWithDigits count body digits.place (IsDigitsKept count digits) []
-IsBody count body (reader.Probabilities n) = IsFurtherBody body
+abbrev pub HasStartBody : ℕ → List Lexeme → StartReader → Type 0
+HasStartBody count body reader.Form = body ≡ []
+HasStartBody count body (reader.Colon choice) = BeginsWithListWord body
+HasStartBody count body (reader.List chosen) = BeginsWithListWord body
+HasStartBody count body reader.Body = IsAfterColon None body
+HasStartBody count body reader.Every = IsWordBody body
+HasStartBody count body (reader.Only s) = IsWordBody body
+HasStartBody count body (reader.Sign sign) = IsAfterColon (Some sign) body
+HasStartBody count body (reader.Number first) = IsNumberBody count body first
+HasStartBody count body (reader.StateOrNumber digits) = BeginsWithDigits count body digits.place (IsDigitsKept count digits) []
+HasStartBody count body (reader.Probabilities n) = IsFurtherBody body
 
 -- what the body so far has to do with the state
 pub record HasReadStart (count : ℕ) (body : List Lexeme) (r : StartReader) : Type 0 where
   pub sign : SignEnds (start_sign r) body
-  pub body_is : IsBody count body r
+  pub body_is : HasStartBody count body r
 
 -- why a token is refused, and where: at the token, or at the sign before it
 abbrev pub IsReasonAt : Option Sign → Lexeme → ItemFault → ℕ → Type 0
-IsReasonAt sign l (Number reason) place = (place ≡ number_place sign l) × IsRefusedNumber reason (is_negative sign) l
-IsReasonAt sign l ProbabilityRange place = (place ≡ number_place sign l) × IsNoFraction (is_negative sign) l
+IsReasonAt sign l (Number reason) place = (place ≡ signed_place sign l) × IsRefusedNumber reason (is_minus_sign sign) l
+IsReasonAt sign l ProbabilityRange place = (place ≡ signed_place sign l) × IsNoFraction (is_minus_sign sign) l
 IsReasonAt sign l Reset place = (place ≡ l.place) × IsWord (codes "reset") l
 IsReasonAt sign l UnknownName place = (place ≡ l.place) × IsName l
 IsReasonAt sign l IndexOutOfRange place = (place ≡ l.place) × IsDigits l
@@ -307,7 +307,7 @@ pub data IsStop (Due : ItemFault → ℕ → Type 0) (sign : Option Sign) (w : E
 
 -- what continues to a number, after this sign: another sign doesn't
 abbrev pub IsNumberHeld : Option Sign → Lexeme → Type 0
-IsNumberHeld None l = (is_sign l.kind ≡ true) ⊎ ((h : ℤ) × IsMillionths false l h)
+IsNumberHeld None l = (is_sign_kind l.kind ≡ true) ⊎ ((h : ℤ) × IsMillionths false l h)
 IsNumberHeld (Some sign) l = (h : ℤ) × IsMillionths sign.negative l h
 
 -- what continues to the first number, or to its end, and is tested later
@@ -346,16 +346,16 @@ IsStartEndReason body (ends.At r) = (r.kind ≡ IndexOutOfRange) × IsStartReaso
 IsStartEndReason body ends.Memory = Unit {0}
 
 -- the reason is told at the item's end
-abbrev pub IsAtEnd : EndError → Type 0
-IsAtEnd (ends.At r) = ⊥
-IsAtEnd _ = Unit {0}
+abbrev pub IsToldAtEnd : EndError → Type 0
+IsToldAtEnd (ends.At r) = ⊥
+IsToldAtEnd _ = Unit {0}
 
 -- Digits that are no state's number are why a start item cannot end after them, and nothing else is told before its end.
 abbrev pub IsEndDue : StartReader → EndError → Type 0
 IsEndDue (reader.StateOrNumber digits) (ends.At r) = (digits.state ≡ None) × (r.kind ≡ IndexOutOfRange) × (r.place ≡ digits.place)
 IsEndDue (reader.StateOrNumber digits) (ends.AtEnd kind) = ⊥
 IsEndDue (reader.StateOrNumber digits) ends.Memory = Unit {0}
-IsEndDue _ e = IsAtEnd e
+IsEndDue _ e = IsToldAtEnd e
 
 -- the item cannot end for this refusal, or memory ran out
 abbrev pub IsLateEnd : EndError → Refusal → Type 0

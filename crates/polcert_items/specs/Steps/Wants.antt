@@ -42,66 +42,66 @@ abbrev pub number_wants : Option Sign → Expected
 number_wants None = Number
 number_wants (Some sign) = Digits
 
-abbrev pub discount_wants : DiscountReader → List Lexeme → Expected
-discount_wants discount.Colon ls = wants.discount_wants ls
-discount_wants (discount.Number sign) ls = numbers_want (is_some sign) 1 ls
-discount_wants (discount.Done d) ls = numbers_want false 0 ls
+abbrev pub expected_by_discount : DiscountReader → List Lexeme → Expected
+expected_by_discount discount.Colon ls = wants.discount_wants ls
+expected_by_discount (discount.Number sign) ls = numbers_want (is_some sign) 1 ls
+expected_by_discount (discount.Done d) ls = numbers_want false 0 ls
 
 abbrev pub word_wants : List Lexeme → Expected
 word_wants [] = Mark
 word_wants (l ∷ ls) = EndOfWord
 
-abbrev pub values_want : ValuesReader → List Lexeme → Expected
-values_want values.Colon ls = wants.values_want ls
-values_want values.Word ls = word_wants ls
-values_want (values.Done b) ls = EndOfWord
+abbrev pub expected_by_values : ValuesReader → List Lexeme → Expected
+expected_by_values values.Colon ls = wants.values_want ls
+expected_by_values values.Word ls = word_wants ls
+expected_by_values (values.Done b) ls = EndOfWord
 
-abbrev pub elements_want : ℕ → ElementsReader → List Lexeme → Expected
-elements_want most elements.Colon ls = wants.elements_want most ls
-elements_want most elements.First ls = wants.names_want most ls
-elements_want most (elements.Counted n) ls = EndOfWord
-elements_want most (elements.Named names) ls = FurtherName most (names_with names ls)
+abbrev pub expected_by_elements : ℕ → ElementsReader → List Lexeme → Expected
+expected_by_elements most elements.Colon ls = wants.elements_want most ls
+expected_by_elements most elements.First ls = wants.names_want most ls
+expected_by_elements most (elements.Counted n) ls = EndOfWord
+expected_by_elements most (elements.Named names) ls = FurtherName most (names_with names ls)
 
 -- so many numbers are still to come
-abbrev pub list_wants : {T : Type 0} → Numbers T → List Lexeme → Expected
-list_wants n ls = numbers_want (is_some n.sign) (n.needed - length n.read) ls
+abbrev pub expected_by_numbers : {T : Type 0} → Numbers T → List Lexeme → Expected
+expected_by_numbers n ls = numbers_want (is_some n.sign) (n.needed - length n.read) ls
 
 abbrev pub state_wants : Preamble → Table → List Place → EntryState → List Lexeme → Expected
 state_wants p table places states.Colon ls = wants.cells_want p table ls
 state_wants p table places states.Place ls = wants.entry_wants p table true (length places) ls
 state_wants p table places states.Body ls = wants.entry_wants p table false (length places) ls
-state_wants p table places (states.Probabilities n) ls = list_wants n ls
-state_wants p table places (states.Rewards n) ls = list_wants n ls
+state_wants p table places (states.Probabilities n) ls = expected_by_numbers n ls
+state_wants p table places (states.Rewards n) ls = expected_by_numbers n ls
 state_wants p table places (states.Word w) ls = EndOfWord
 
-abbrev pub entry_wants : Preamble → EntryReader → List Lexeme → Expected
-entry_wants p r ls = state_wants p r.table r.places r.state ls
+abbrev pub expected_by_entry : Preamble → EntryReader → List Lexeme → Expected
+expected_by_entry p r ls = state_wants p r.table r.places r.state ls
 
 -- after digits that may be a state's number
 abbrev pub digits_want : ℕ → List Lexeme → Expected
 digits_want count [] = NumberOrEnd
 digits_want count (l ∷ ls) = numbers_want false (count - 1) (l ∷ ls)
 
-abbrev pub start_wants : ℕ → StartReader → List Lexeme → Expected
-start_wants count starts.Form ls = wants.start_wants count ls
-start_wants count (starts.Colon choice) ls = wants.list_wants ls
-start_wants count (starts.List chosen) ls = Listed
-start_wants count starts.Body ls = wants.start_body_wants count ls
-start_wants count starts.Every ls = EndOfWord
-start_wants count (starts.Only s) ls = EndOfWord
-start_wants count (starts.Sign sign) ls = numbers_want true count ls
-start_wants count (starts.Number first) ls = numbers_want false (count - 1) ls
-start_wants count (starts.StateOrNumber digits) ls = digits_want count ls
-start_wants count (starts.Probabilities n) ls = list_wants n ls
+abbrev pub expected_by_start : ℕ → StartReader → List Lexeme → Expected
+expected_by_start count starts.Form ls = wants.start_wants count ls
+expected_by_start count (starts.Colon choice) ls = wants.list_wants ls
+expected_by_start count (starts.List chosen) ls = Listed
+expected_by_start count starts.Body ls = wants.start_body_wants count ls
+expected_by_start count starts.Every ls = EndOfWord
+expected_by_start count (starts.Only s) ls = EndOfWord
+expected_by_start count (starts.Sign sign) ls = numbers_want true count ls
+expected_by_start count (starts.Number first) ls = numbers_want false (count - 1) ls
+expected_by_start count (starts.StateOrNumber digits) ls = digits_want count ls
+expected_by_start count (starts.Probabilities n) ls = expected_by_numbers n ls
 
 abbrev pub item_wants : ModelSoFar → ItemReader → List Lexeme → Expected
-item_wants k (items.Discount r) ls = discount_wants r ls
-item_wants k (items.Values r) ls = values_want r ls
-item_wants k (items.States r) ls = elements_want most_states r ls
-item_wants k (items.Actions r) ls = elements_want most_actions r ls
-item_wants k (items.Observations r) ls = elements_want most_observations r ls
-item_wants k (items.Start r) ls = start_wants (count_of (preamble_in k).states) r ls
-item_wants k (items.Entry r) ls = entry_wants (preamble_in k) r ls
+item_wants k (items.Discount r) ls = expected_by_discount r ls
+item_wants k (items.Values r) ls = expected_by_values r ls
+item_wants k (items.States r) ls = expected_by_elements most_states r ls
+item_wants k (items.Actions r) ls = expected_by_elements most_actions r ls
+item_wants k (items.Observations r) ls = expected_by_elements most_observations r ls
+item_wants k (items.Start r) ls = expected_by_start (count_of (preamble_in k).states) r ls
+item_wants k (items.Entry r) ls = expected_by_entry (preamble_in k) r ls
 
 -- this holds of items that are no start item
 abbrev pub IfNotStart : Topic → Type 0 → Type 0

@@ -29,7 +29,7 @@ use Rattle.polcert_format.specs.FirstWrong.{TextTokens, AreTokensOf}
 use Rattle.polcert_format.specs.Refusals.{IsRefusal, IsPlacedRight}
 use Rattle.polcert_format.specs.Wants.{expected}
 use Rattle.polcert_items.specs.Steps.Wants.{item_wants}
-use Rattle.polcert_items.specs.Steps.Items.{ItemGoes, ItemForms, IsItemWithin, IsSeen, topic_in, pending_in}
+use Rattle.polcert_items.specs.Steps.Items.{ItemGoes, ItemForms, IsItemWithin, IsSeen, topic_of_reader, pending_in}
 use Rattle.polcert_items.specs.Steps.ModelSoFar.{IsWholeRead}
 
 -- an entry of this body, right but perhaps for the limits of cells, and what is known after it
@@ -49,7 +49,7 @@ IsShaped k t body next = IsRight k t body next
 -- the item's body so far, and what its reader makes of what is still to come of it
 pub record IsBodyRead (k : ModelSoFar) (t : Topic) (body : List Lexeme) (item : ItemReader) : Type 0 where
   pub may_stand : word_fault k t ≡ None
-  pub topic_is : topic_in item ≡ t
+  pub topic_is : topic_of_reader item ≡ t
   pub within : IsItemWithin k item
   pub seen : IsSeen (states_known k) body item
   pub back : (ls : List Lexeme) (next : ModelSoFar) → ItemGoes k item ls next → IsShaped k t (body ++ ls) next

@@ -13,7 +13,7 @@ use Rattle.polcert_check.proofs.Sums.Figures.{most_amount}
 use Rattle.polcert_optimum.proofs.Checking.Best.{taking, best_value_le}
 
 -- the expected reward, summed over the end states first
-pub reward_is : (t : CellTable) (a s : ℕ) → factored.expected_reward t a s ≡ expected_reward t a s
+pub reward_is : (t : CellTable) (a s : ℕ) → factored.factored_reward t a s ≡ expected_reward t a s
 reward_is t a s =
     sum_below_same _ _ t.states (λ e _.
     sym (sum_below_scale (pos (t.t a s e)) (λ z. pos (t.o a e z) *ℤ t.r a s e z) t.observations)
@@ -25,7 +25,7 @@ signed_from x y = omega (arith, linear)
 -- a shortfall, turned, is the excess
 pub excess_is : (t : CellTable) (vectors : ℕ → ℕ → ℤ) (a s : ℕ) (short v reward best : ℤ)
     → short ≡ pos (t.t_scale * t.o_scale * one) *ℤ v -ℤ (pos one *ℤ reward +ℤ pos t.discount *ℤ best)
-    → v ≡ vectors a s → reward ≡ factored.expected_reward t a s → best ≡ best_value t vectors a s → neg_ℤ short ≡ excess t vectors a s
+    → v ≡ vectors a s → reward ≡ factored.factored_reward t a s → best ≡ best_value t vectors a s → neg_ℤ short ≡ excess t vectors a s
 excess_is t vectors a s short v reward best is ve re be = grind (arith, reward_is, signed_from)
 
 sum_le : (x y z : ℤ) (b : ℕ) → unsigned_abs x ≤ b → unsigned_abs y ≤ b → unsigned_abs z ≤ b → unsigned_abs ((x +ℤ y) -ℤ z) ≤ 3 * b

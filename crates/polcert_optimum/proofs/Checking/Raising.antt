@@ -6,7 +6,7 @@ use Rattle.polcert_optimum.proofs.Common.{greatest_below, expected_value, excess
 use Rattle.polcert_check.proofs.Sums.Ring.{linear, *ℤ-+ℤ}
 use Rattle.polcert_check.proofs.Sums.SumLaws.{sum_below_same, sum_below_scale, sum_below_add}
 use Rattle.polcert_check.proofs.Sums.RowTotals.{sum_of_pos}
-use Rattle.polcert_optimum.specs.InformedRaise.{raised_by, IsLeastRaise}
+use Rattle.polcert_optimum.specs.InformedRaise.{vectors_raised_by, IsLeastInformedRaise}
 use Rattle.polcert_optimum.proofs.Checking.Best.{observation_weight, weights_all}
 
 -- ---- the same number added to every vector
@@ -30,18 +30,18 @@ greatest_raised f (suc (suc n)) c some =
     ∙ max_raised (greatest_below f (suc n)) (f (suc n)) c
 
 module _ (t : CellTable) (p : IsProper t) (vectors : ℕ → ℕ → ℤ) (by a s : ℕ) (al : a < t.actions) (sl : s < t.states) where
-  value_raised : (z b : ℕ) → expected_value t a s z (raised_by vectors by b) ≡ expected_value t a s z (vectors b)
+  value_raised : (z b : ℕ) → expected_value t a s z (vectors_raised_by vectors by b) ≡ expected_value t a s z (vectors b)
       +ℤ pos (by * observation_weight t a s z)
   value_raised z b = sum_raised (λ e. step_weight t a s e z) (vectors b) by t.states (observation_weight t a s z)
       (sum_of_pos (λ e. step_weight t a s e z) t.states)
 
-  best_after : (z : ℕ) → greatest_below (λ b. expected_value t a s z (raised_by vectors by b)) t.actions
+  best_after : (z : ℕ) → greatest_below (λ b. expected_value t a s z (vectors_raised_by vectors by b)) t.actions
       ≡ greatest_below (λ b. expected_value t a s z (vectors b)) t.actions +ℤ pos (by * observation_weight t a s z)
   best_after z =
       (λ i. greatest_below (λ b. value_raised z b i) t.actions)
       ∙ greatest_raised (λ b. expected_value t a s z (vectors b)) t.actions (pos (by * observation_weight t a s z)) (omega (arith, al))
 
-  best_raised : best_value t (raised_by vectors by) a s ≡ best_value t vectors a s +ℤ pos (by * step_scale t)
+  best_raised : best_value t (vectors_raised_by vectors by) a s ≡ best_value t vectors a s +ℤ pos (by * step_scale t)
   best_raised =
       sum_below_same _ (λ z. greatest_below (λ b. expected_value t a s z (vectors b)) t.actions +ℤ pos by
       *ℤ pos (observation_weight t a s z)) t.observations (λ z _. best_after z)
@@ -57,10 +57,10 @@ module _ (t : CellTable) (p : IsProper t) (vectors : ℕ → ℕ → ℤ) (by a 
   raised_nat q u g b h = let e : u ≡ (u - g) + g = omega arith in ap (λ (x : ℕ). q * x * b) e ∙ split_nat q (u - g) g b
 
   -- raising by `by` lowers each excess by the scale times (one - discount) times `by`
-  pub excess_raised : t.discount ≤ one → excess t vectors a s ≡ excess t (raised_by vectors by) a s
+  pub excess_raised : t.discount ≤ one → excess t vectors a s ≡ excess t (vectors_raised_by vectors by) a s
       +ℤ pos (step_scale t * ((one - t.discount) * by))
   excess_raised gl =
-      let later : pos t.discount *ℤ best_value t (raised_by vectors by) a s ≡ pos t.discount *ℤ best_value t vectors a s
+      let later : pos t.discount *ℤ best_value t (vectors_raised_by vectors by) a s ≡ pos t.discount *ℤ best_value t vectors a s
       +ℤ pos (t.discount * (by * step_scale t)) =
       ap (λ (x : ℤ). pos t.discount *ℤ x) best_raised ∙ *ℤ-+ℤ (pos t.discount) (best_value t vectors a s) (pos (by * step_scale t)) in
       omega (
@@ -74,21 +74,21 @@ module _ (t : CellTable) (p : IsProper t) (vectors : ℕ → ℕ → ℤ) (by a 
 -- ---- which constants serve
 module _ (t : CellTable) (p : IsProper t) (gl : t.discount ≤ one) (vectors : ℕ → ℕ → ℤ) where
   pub informed_raised : (by : ℕ) → ((a s : ℕ) → a < t.actions → s < t.states
-      → excess t vectors a s ≤ℤ pos (step_scale t * ((one - t.discount) * by))) → AreInformed t (raised_by vectors by)
+      → excess t vectors a s ≤ℤ pos (step_scale t * ((one - t.discount) * by))) → AreInformed t (vectors_raised_by vectors by)
   informed_raised by most a s al sl =
       omega (arith, linear, most a s al sl, excess_raised t p vectors by a s al sl gl)
 
-  pub from_informed_raised : (by : ℕ) → AreInformed t (raised_by vectors by) → (a s : ℕ) → a < t.actions → s < t.states
+  pub from_informed_raised : (by : ℕ) → AreInformed t (vectors_raised_by vectors by) → (a s : ℕ) → a < t.actions → s < t.states
       → excess t vectors a s ≤ℤ pos (step_scale t * ((one - t.discount) * by))
   from_informed_raised by informed a s al sl =
       omega (arith, linear, informed a s al sl, excess_raised t p vectors by a s al sl gl)
 
   -- the least constant, if the discount is below 1: the greatest excess over the factor, rounded up
   module _ (x : ℤ) (greatest : ℕ) (w : IsGreatestExcess t vectors t.actions 0 x) (xe : x ≡ pos greatest) where
-    enough_passes : (by : ℕ) → greatest ≤ step_scale t * (one - t.discount) * by → AreInformed t (raised_by vectors by)
+    enough_passes : (by : ℕ) → greatest ≤ step_scale t * (one - t.discount) * by → AreInformed t (vectors_raised_by vectors by)
     enough_passes by h = grind (arith, linear, informed_raised)
 
-    less_fails : (d : ℕ) → step_scale t * (one - t.discount) * d < greatest → AreInformed t (raised_by vectors d) → ⊥
+    less_fails : (d : ℕ) → step_scale t * (one - t.discount) * d < greatest → AreInformed t (vectors_raised_by vectors d) → ⊥
     less_fails d h informed =
         ⊎_elim (λ (e : x ≡ pos 0). let none : pos greatest ≡ pos 0 = sym xe ∙ e in omega (arith, linear, h))
         (λ (r : (b : ℕ) × (u : ℕ) × (b < t.actions) × (u < t.states) × (x ≡ excess t vectors b u)).
@@ -103,12 +103,12 @@ module _ (t : CellTable) (p : IsProper t) (gl : t.discount ≤ one) (vectors : �
         above q u d g h l = let same : q * u * d ≡ q * (u * d) = omega arith in omega (arith, linear)
 
     pub least_is : (by : ℕ) → greatest ≤ step_scale t * (one - t.discount) * by
-        → ((d : ℕ) → d < by → step_scale t * (one - t.discount) * d < greatest) → IsLeastRaise t vectors by
+        → ((d : ℕ) → d < by → step_scale t * (one - t.discount) * d < greatest) → IsLeastInformedRaise t vectors by
     least_is by enough least = (enough_passes by enough, λ d dl. less_fails d (least d dl))
 
   -- at a discount of 1 nothing helps
   pub no_constant : t.discount ≡ one → (a s : ℕ) → a < t.actions → s < t.states → pos 0 <ℤ excess t vectors a s → (by : ℕ)
-      → AreInformed t (raised_by vectors by) → ⊥
+      → AreInformed t (vectors_raised_by vectors by) → ⊥
   no_constant is_one a s al sl h by informed =
       let none : one - t.discount ≡ 0 = omega (arith, is_one) in
       positive_not (excess t vectors a s) (step_scale t * ((one - t.discount) * by)) (rw none (omega arith))
@@ -117,13 +117,14 @@ module _ (t : CellTable) (p : IsProper t) (gl : t.discount ≤ one) (vectors : �
       positive_not : (x : ℤ) (y : ℕ) → y ≡ 0 → x ≤ℤ pos y → pos 0 <ℤ x → ⊥
       positive_not x y e l h = omega (arith, linear)
 
-  pub least_zero : AreInformed t vectors → IsLeastRaise t vectors 0
+  pub least_zero : AreInformed t vectors → IsLeastInformedRaise t vectors 0
   least_zero informed = grind (arith, informed_raised)
 
 -- in the numbers of the code
 pub candidate_least : (t : CellTable) → IsProper t → (vectors : ℕ → ℕ → ℤ) (ts os d greatest by : ℕ) (x : ℤ) → t.discount ≤ one
     → IsGreatestExcess t vectors t.actions 0 x → x ≡ pos greatest → ts ≡ t.t_scale → os ≡ t.o_scale → d ≡ t.discount
-    → greatest ≤ ts * os * (1000000 - d) * by → ((e : ℕ) → e < by → ts * os * (1000000 - d) * e < greatest) → IsLeastRaise t vectors by
+    → greatest ≤ ts * os * (1000000 - d) * by → ((e : ℕ) → e < by → ts * os * (1000000 - d) * e < greatest)
+    → IsLeastInformedRaise t vectors by
 unfolding one
 candidate_least t p vectors ts os d greatest by x gl w xe te oe de enough least =
     let same : ts * os * (1000000 - d) ≡ step_scale t * (1000000 - t.discount) = rw (te, oe, de) refl in

@@ -36,10 +36,10 @@ pub record IsPointAnswerLine (m : Meaning) (v : PolicyVectors) (p : PointTable) 
 abbrev pub most_point_excess : CellTable → PointTable → ℕ → ℕ
 most_point_excess t p i = 3 * (step_scale t * mass t (p.points.belief i)) * largest
 
-abbrev pub NamesSmallAmount : CellTable → PointTable → PointBoundVerdict → Type 0
-NamesSmallAmount t p Yes = ⊤
-NamesSmallAmount t p (VectorExceeded a s amount) = unsigned_abs amount ≤ most_excess t
-NamesSmallAmount t p (PointExceeded i a amount) = unsigned_abs amount ≤ most_point_excess t p i
+abbrev pub NamesSmallPointAmount : CellTable → PointTable → PointBoundVerdict → Type 0
+NamesSmallPointAmount t p Yes = ⊤
+NamesSmallPointAmount t p (VectorExceeded a s amount) = unsigned_abs amount ≤ most_excess t
+NamesSmallPointAmount t p (PointExceeded i a amount) = unsigned_abs amount ≤ most_point_excess t p i
 
 -- a fault of the text of points or of its source
 abbrev pub IsPointsReadFault : RunFault → Type 0

@@ -1,8 +1,8 @@
 -- Helper definitions of private functions: how far a graph has been read. Nobody has to believe them.
 use Rattle.std.specs.Prelude.{◌≡◌, ℕ, suc, ◌+◌, ◌-◌, ◌*◌, ◌<◌, ◌≤◌, ◌≢◌, true, false, Option, Some, None, Result, Ok, Err, List, [], ◌∷◌, ◌++◌, length, map, slice_get, MatchResult}
 use Rattle.polcert_text.specs.Cut.{Lexeme}
-use Rattle.polcert_policy.specs.Fields.{minus_kind, is_joined, is_whole, whole_of}
-use Rattle.polcert_policy.specs.Graphs.{PolicyGraph, AreNodes, IsLooseGraph, IsFirstBeyond, IsPossible, width, most_nodes}
+use Rattle.polcert_policy.specs.Fields.{minus_kind, is_joined, is_whole, whole_number_of}
+use Rattle.polcert_policy.specs.Graphs.{PolicyGraph, AreNodes, IsLooseGraph, IsFirstBeyond, IsPossibleGraph, width, most_nodes}
 use Rattle.polcert_policy.specs.GraphText.{IsColumn, GraphFirstBadToken}
 use Rattle.polcert_policy.specs.Steps.Kept.{kept_of}
 use Rattle.polcert_policy.specs.declared.fault.GraphFault.{GraphFault}
@@ -50,7 +50,7 @@ IsTokenRefusal actions observations ts faults.Memory = Unit {0}
 IsTokenRefusal actions observations ts _ = ⊥
 
 pub record IsUnfinished (actions observations : ℕ) (ts : List Lexeme) (node column : ℕ) : Type 0 where
-  pub possible : IsPossible actions observations ts
+  pub possible : IsPossibleGraph actions observations ts
   pub unfinished : (g : PolicyGraph) → IsLooseGraph actions observations ts g → ⊥
   pub column_is : IsColumn observations ts node column
 
@@ -72,17 +72,17 @@ HasCounts actions observations reading = (reading.actions ≡ actions) × (readi
 
 -- what the token in place of a node's number is
 abbrev pub CheckedNumber : ℕ → Lexeme → Result (Unit {0}) GraphFault → Type 0
-CheckedNumber node t (Ok _) = (node < most_nodes) × (is_whole t ≡ true) × (whole_of t ≡ node)
+CheckedNumber node t (Ok _) = (node < most_nodes) × (is_whole t ≡ true) × (whole_number_of t ≡ node)
 CheckedNumber node t (Err (faults.TooManyNodes place)) = (place ≡ t.place) × (node ≡ most_nodes)
 CheckedNumber node t (Err (faults.BadShape place)) = (place ≡ t.place) × (node < most_nodes) × (is_whole t ≡ false)
-CheckedNumber node t (Err (faults.NodeOutOfOrder place)) = (place ≡ t.place) × (node < most_nodes) × (is_whole t ≡ true) × (whole_of t ≢ node)
+CheckedNumber node t (Err (faults.NodeOutOfOrder place)) = (place ≡ t.place) × (node < most_nodes) × (is_whole t ≡ true) × (whole_number_of t ≢ node)
 CheckedNumber node t (Err _) = ⊥
 
 -- what the token in place of a node's action is
 abbrev pub ReadAction : ℕ → Lexeme → Result ℕ GraphFault → Type 0
-ReadAction actions t (Ok action) = (is_whole t ≡ true) × (whole_of t ≡ action) × (action < actions)
+ReadAction actions t (Ok action) = (is_whole t ≡ true) × (whole_number_of t ≡ action) × (action < actions)
 ReadAction actions t (Err (faults.BadShape place)) = (place ≡ t.place) × (is_whole t ≡ false)
-ReadAction actions t (Err (faults.ActionOutOfRange place)) = (place ≡ t.place) × (is_whole t ≡ true) × (actions ≤ whole_of t)
+ReadAction actions t (Err (faults.ActionOutOfRange place)) = (place ≡ t.place) × (is_whole t ≡ true) × (actions ≤ whole_number_of t)
 ReadAction actions t (Err _) = ⊥
 
 -- the place continues to the next token's

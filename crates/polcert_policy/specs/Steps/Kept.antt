@@ -17,20 +17,20 @@ abbrev pub none_number : ℕ
 none_number = 4_294_967_295
 
 -- what a kept number stands for
-abbrev pub shown : ℕ → Option ℕ
-shown n = if n == none_number then None else Some n
+abbrev pub decoded_number : ℕ → Option ℕ
+decoded_number n = if n == none_number then None else Some n
 
-abbrev pub number_of : Option ℕ → ℕ
-number_of None = none_number
-number_of (Some n) = n
+abbrev pub encoded_number : Option ℕ → ℕ
+encoded_number None = none_number
+encoded_number (Some n) = n
 
 abbrev pub IsKeepable : Option ℕ → Type 0
 IsKeepable None = Unit {0}
 IsKeepable (Some n) = n < none_number
 
-pub number_of-shown : (n : ℕ) → number_of (shown n) ≡ n
+pub number_of-shown : (n : ℕ) → encoded_number (decoded_number n) ≡ n
 number_of-shown n = at (n == none_number) refl
   where
-    at : (b : Bool) → (n == none_number) ≡ b → number_of (if b then None else Some n) ≡ n
+    at : (b : Bool) → (n == none_number) ≡ b → encoded_number (if b then None else Some n) ≡ n
     at true e = sym (eqb-true n none_number e)
     at false e = refl

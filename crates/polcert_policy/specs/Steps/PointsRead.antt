@@ -1,7 +1,7 @@
 -- Helper definitions of private functions: how far belief points have been read. Nobody has to believe them.
 use Rattle.std.specs.Prelude.{◌≡◌, ◌≢◌, ℕ, ◌<◌, true, false, Result, Ok, Err, List, length}
 use Rattle.polcert_text.specs.Cut.{Lexeme}
-use Rattle.polcert_policy.specs.Fields.{numeral_kind, is_whole, whole_of}
+use Rattle.polcert_policy.specs.Fields.{numeral_kind, is_whole, whole_number_of}
 use Rattle.polcert_policy.specs.Points.{PointValues, most_points}
 use Rattle.polcert_policy.specs.PointTokens.{PointsSoFar, nothing_read, IsWeight, IsRefusedWeight, TakesAll}
 use Rattle.polcert_policy.specs.PointText.{AreLoosePoints, IsFirstUnknown}
@@ -25,7 +25,7 @@ IsMemoryOr IsWrong fault = IsWrong fault
 pub record IsRightNumber (old : PointsSoFar) (t : Lexeme) : Type 0 where
   pub few : length old.rows < most_points
   pub whole : is_whole t ≡ true
-  pub number : whole_of t ≡ length old.rows
+  pub number : whole_number_of t ≡ length old.rows
 
 -- what the token in place of a weight is
 abbrev pub ReadWeight : Lexeme → Result ℕ PointFault → Type 0

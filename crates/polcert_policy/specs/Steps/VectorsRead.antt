@@ -2,7 +2,7 @@
 use Rattle.std.specs.Prelude.{◌≡◌, ℕ, ℤ, ◌+◌, ◌-◌, ◌*◌, ◌<◌, ◌≤◌, ◌≢◌, Bool, true, false, Option, Some, None, Result, Ok, Err, List, [], ◌∷◌, ◌++◌, length, option_map, MatchResult}
 use Rattle.polcert_text.specs.Cut.{Lexeme}
 use Rattle.polcert_text.specs.declared.number.Rounding.{Rounding}
-use Rattle.polcert_policy.specs.Fields.{minus_kind, is_whole, whole_of}
+use Rattle.polcert_policy.specs.Fields.{minus_kind, is_whole, whole_number_of}
 use Rattle.polcert_policy.specs.Graphs.{PolicyGraph, nodes, action_of, most_nodes, IsProperGraph}
 use Rattle.polcert_policy.specs.Vectors.{PolicyVectors, Part, tokens_of, sign_kind, AreVectors, IsRoundedVectors, ArePossible}
 use Rattle.polcert_policy.specs.VectorText.{IsPartColumn, StopVectorsFor}
@@ -39,7 +39,7 @@ is_minus None = false
 is_minus (Some sign) = sign.is_negative
 
 -- these tokens were read
-pub record HasVectors (rounding : Rounding) (graph : PolicyGraph) (seen : List Lexeme) (reading : VectorsReading) : Type 0 where
+pub record HasReadVectors (rounding : Rounding) (graph : PolicyGraph) (seen : List Lexeme) (reading : VectorsReading) : Type 0 where
   pub proper : IsProperGraph graph
   pub parts : List Part
   pub sign : Option Lexeme
@@ -59,14 +59,14 @@ IsPartRefusal rounding graph states ts _ = ⊥
 
 -- the token is read, or is wrong at its place
 abbrev pub TakesPart : Rounding → PolicyGraph → Lexeme → VectorsReading → Result (Unit {0}) VectorFault → VectorsReading → Type 0
-TakesPart rounding graph t old result new = (seen : List Lexeme) → HasVectors rounding graph seen old → MatchResult result (λ _. HasVectors rounding graph (seen ++ t ∷ []) new) (IsPartRefusal rounding graph old.states (seen ++ t ∷ []))
+TakesPart rounding graph t old result new = (seen : List Lexeme) → HasReadVectors rounding graph seen old → MatchResult result (λ _. HasReadVectors rounding graph (seen ++ t ∷ []) new) (IsPartRefusal rounding graph old.states (seen ++ t ∷ []))
 
 -- what the token in place of a vector's action is
 abbrev pub CheckedAction : PolicyGraph → ℕ → Lexeme → Result (Unit {0}) VectorFault → Type 0
-CheckedAction graph node t (Ok _) = (node < most_nodes) × (node < nodes graph) × (is_whole t ≡ true) × (whole_of t ≡ action_of graph node)
+CheckedAction graph node t (Ok _) = (node < most_nodes) × (node < nodes graph) × (is_whole t ≡ true) × (whole_number_of t ≡ action_of graph node)
 CheckedAction graph node t (Err (faults.WrongVectorCount place)) = (place ≡ t.place) × (nodes graph ≤ node)
 CheckedAction graph node t (Err (faults.BadShape place)) = (place ≡ t.place) × (node < nodes graph) × (is_whole t ≡ false)
-CheckedAction graph node t (Err (faults.ActionMismatch place)) = (place ≡ t.place) × (node < nodes graph) × (is_whole t ≡ true) × (whole_of t ≢ action_of graph node)
+CheckedAction graph node t (Err (faults.ActionMismatch place)) = (place ≡ t.place) × (node < nodes graph) × (is_whole t ≡ true) × (whole_number_of t ≢ action_of graph node)
 CheckedAction graph node t (Err _) = ⊥
 
 -- the place continues to the next value's, or to the next vector

@@ -13,5 +13,5 @@ pub record IsPartOf (cells : List Cell) (part : RowPart) : Type 0 where
   pub ordered : part.start ≤ part.end
   pub within : part.end ≤ length cells
 
-abbrev pub part_in : List Cell → RowPart → List Cell
-part_in cells part = take (part.end - part.start) (drop part.start cells)
+abbrev pub cells_in_part : List Cell → RowPart → List Cell
+cells_in_part cells part = take (part.end - part.start) (drop part.start cells)

@@ -7,7 +7,7 @@ use Rattle.polcert_check.specs.declared.survey.Verdict.{Verdict}
 use Rattle.polcert_check.specs.declared.survey.Verdict.TheVariants.{Yes, Short, NoSuccessor}
 use Rattle.polcert_robust.specs.Intervals.{IntervalTable, around}
 use Rattle.polcert_robust.specs.RobustVerdict.{IsLeastThatMayLack, IsRobustShort}
-use Rattle.polcert_robust.specs.Worst.{IsWorstRow, IsWorstStep, PairIsRobust, mean, step_worth, worst_backing}
+use Rattle.polcert_robust.specs.Worst.{IsWorstRow, IsWorstStep, PairIsRobust, mean, least_step_worth, worst_backing}
 use Rattle.polcert_robust.specs.declared.robust_input.RobustInput.{RobustInput}
 use Rattle.polcert_robust.specs.declared.side.Side.{Side}
 use Rattle.polcert_robust.specs.Steps.Sides.{least_end, turned}
@@ -39,7 +39,7 @@ near_controller {C} {g} input = sided_values input.side (controller_of (g.table 
 
 -- the least mean of what a step to e is worth
 abbrev pub IsEndMean : IntervalTable → Controller → ℕ → ℕ → ℕ → ℤ → Type 0
-IsEndMean i c n s e value = (row : ℕ → ℕ) × IsWorstRow (i.o_low (c.action n) e) (i.o_high (c.action n) e) i.o_scale i.observations (step_worth i c n s e) row × (value ≡ mean row (step_worth i c n s e) i.observations)
+IsEndMean i c n s e value = (row : ℕ → ℕ) × IsWorstRow (i.o_low (c.action n) e) (i.o_high (c.action n) e) i.o_scale i.observations (least_step_worth i c n s e) row × (value ≡ mean row (least_step_worth i c n s e) i.observations)
 
 -- what backs the value of n at s in the worst case
 pub record IsWorstBacking (i : IntervalTable) (c : Controller) (n s : ℕ) (value : ℤ) : Type 0 where

@@ -4,11 +4,11 @@ use Rattle.polcert_cells.specs.Meaning.{sum_below}
 use Rattle.polcert_robust.specs.Intervals.{low_of, high_of}
 use Rattle.polcert_robust.specs.Worst.{mean}
 
-abbrev pub weight_at : List ℕ → ℕ → ℕ
-weight_at row i = slice_index row i
+abbrev pub listed_weight : List ℕ → ℕ → ℕ
+listed_weight row i = slice_index row i
 
-abbrev pub value_at : List ℤ → ℕ → ℤ
-value_at values i = slice_index_or values i (pos 0)
+abbrev pub listed_value : List ℤ → ℕ → ℤ
+listed_value values i = slice_index_or values i (pos 0)
 
 -- the high end of a weight's interval if its value is at most the level, else the low end
 abbrev pub end_until : ℕ → ℤ → ℕ → ℤ → ℕ

@@ -12,7 +12,7 @@ use Rattle.polcert_robust.specs.RobustVerdict.{IsLeastThatMayLack, IsRobustBefor
 use Rattle.polcert_robust.specs.declared.findings.RobustFindings.{RobustFindings}
 
 -- the pair may lack no observation, and its robust shortfall is at most this
-pub record IsMeasured (i : IntervalTable) (c : Controller) (n s worst : ℕ) : Type 0 where
+pub record IsPairMeasured (i : IntervalTable) (c : Controller) (n s worst : ℕ) : Type 0 where
   pub lacks : IsLeastThatMayLack i c n s None
   pub amount : ℤ
   pub short : IsRobustShort i c n s amount
@@ -26,7 +26,7 @@ IsFirstBefore i c n s (NoSuccessor m t z) = ⊥
 
 -- what is found at the pairs before n and s
 pub record IsSurveyedBefore (i : IntervalTable) (c : Controller) (n s : ℕ) (f : RobustFindings) : Type 0 where
-  pub measured : (m t : ℕ) → m < c.nodes → t < i.states → IsBefore m t n s → IsMeasured i c m t f.worst
+  pub measured : (m t : ℕ) → m < c.nodes → t < i.states → IsBefore m t n s → IsPairMeasured i c m t f.worst
   pub is_reached : (f.worst ≡ 0) ⊎ ((m : ℕ) × (t : ℕ) × (m < c.nodes) × (t < i.states) × IsRobustShort i c m t (pos f.worst))
   pub first : IsFirstBefore i c n s f.first
 
@@ -43,7 +43,7 @@ IsLackFault (Short n s amount) fault = ⊥
 IsLackFault (NoSuccessor n s z) fault = fault ≡ faults.NoSuccessor n s z
 
 -- the verdict so far if it is a no, else the one that is found
-abbrev pub IsEarlier : Verdict → Verdict → Verdict → Type 0
-IsEarlier Yes found r = r ≡ found
-IsEarlier (Short n s amount) found r = r ≡ Short n s amount
-IsEarlier (NoSuccessor n s z) found r = r ≡ NoSuccessor n s z
+abbrev pub IsFirstNo : Verdict → Verdict → Verdict → Type 0
+IsFirstNo Yes found r = r ≡ found
+IsFirstNo (Short n s amount) found r = r ≡ Short n s amount
+IsFirstNo (NoSuccessor n s z) found r = r ≡ NoSuccessor n s z

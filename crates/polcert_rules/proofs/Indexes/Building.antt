@@ -3,7 +3,7 @@ use Rattle.std.proofs.Common.{◌≡◌, ◌∙◌, ℕ, zero, suc, ◌+◌, ◌
 use Rattle.std.proofs.Common.{[], ◌∷◌, length, get_or, Contains, All, refl, sym, ap, subst, arith}
 use Rattle.std.specs.List.{slice_get}
 use Rattle.polcert_rules.proofs.Common.{IsNonDecreasingBy, Table, nat_tests, AllPairs-cons, All-nil, All-cons, Contains-permutation}
-use Rattle.polcert_rules.proofs.Common.{IsPermutation-sym, Entry, Rule, key_of, AreDigits, most_places, AreKeyed, IsRising, IsEntry}
+use Rattle.polcert_rules.proofs.Common.{IsPermutation-sym, Entry, Rule, key_of, AreDigits, most_places, AreKeyed, IsRising, IsEntryRule}
 use Rattle.polcert_rules.proofs.Common.{IsIndexOf, rules_from, newest_from, newest_of_each}
 use Rattle.std.specs.List.Sorted.{IsPermutation}
 use Rattle.polcert_rules.specs.Keys.{table_digit}
@@ -203,7 +203,7 @@ pub is_index : (table : Table) (entries : List Entry) (sorted : List Rule) → A
     → IsIndexOf table entries (newest_of_each sorted)
 is_index table entries sorted keyed p = record { sound = sound; complete = complete }
   where
-    sound : (r : Rule) → Contains (newest_of_each sorted) r → IsEntry table entries r
+    sound : (r : Rule) → Contains (newest_of_each sorted) r → IsEntryRule table entries r
     sound r c =
         let old : Contains sorted r = contains_from sorted r (each_old sorted r (among_from (newest_of_each sorted) r c)) in
         let found = rules_sound (table_digit table) 0 entries r

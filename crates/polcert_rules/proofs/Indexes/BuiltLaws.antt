@@ -5,12 +5,12 @@ use Rattle.polcert_rules.proofs.Common.{cases_lt, get_or_append_left, get_or_def
 use Rattle.polcert_rules.proofs.Common.{weight, IsSparse, IsRow, key_base, Rule, IsRising, IsIndexOf, IsSplit, zeros_of, others_of}
 use Rattle.polcert_rules.proofs.Common.{others_in, IsWeighted, IsShapeOf, AreSound, IsKeptRow, Stays, AreLine, AreLines}
 use Rattle.std.proofs.lemmas.List.{length-append}
-use Rattle.polcert_rules.specs.Steps.Sources.{AreGiven, weights_at, HasScale, HasRows, IsFirstWrongIn}
+use Rattle.polcert_rules.specs.Steps.Sources.{AreIndexedEntries, weights_at, HasScale, HasRows, IsFirstWrongIn}
 use Rattle.std.proofs.Math.Seq.{get_or-append_seam}
 use Rattle.polcert_cells.proofs.SparseLaws.{row_same}
 use Rattle.polcert_rules.specs.declared.rows.TableEntries.{TableEntries}
 use Rattle.polcert_rules.specs.declared.rows.WrongRow.{WrongRow}
-use Rattle.polcert_rules.specs.RowTables.{IsProperRow, AreProperRows, IsFirstWrong}
+use Rattle.polcert_rules.specs.RowTables.{GivesProperRow, AreProperRows, IsFirstWrongEntryRow}
 use Rattle.polcert_rules.specs.Steps.Repeats.{IsAsBefore}
 use Rattle.polcert_rules.proofs.RowLaws.SumLaws.{sum_same}
 use Rattle.polcert_rules.specs.Steps.Rows.{AreExact}
@@ -98,7 +98,7 @@ module _ (given : TableEntries) where
   all_within count rows numbers h k d l = grind (arith, get_or_default)
 
   -- ---- an action that no entry tells from the one before
-  module _ (sound : AreGiven given) where
+  module _ (sound : AreIndexedEntries given) where
     pub line_before : (a : ℕ) (rows : List (List Cell)) (numbers : List ℕ) → IsAsBefore given.index.now given.table a → a + 2 < key_base
         → AreLine given (a - 1) given.bodies.shape.states rows numbers → AreLine given a given.bodies.shape.states rows numbers
     line_before a rows numbers same la h = record {
@@ -128,15 +128,15 @@ module _ (given : TableEntries) where
       same_weights a s c = weight_is sound.preamble given.table given.bodies.shape given.bodies.entries.now sound.weighted sound.shape
           sound.sound.each p a s c is
 
-      pub to_proper : (a s : ℕ) → HasScale given a s → IsProperRow p given.bodies.entries.now given.table a s
+      pub to_proper : (a s : ℕ) → HasScale given a s → GivesProperRow p given.bodies.entries.now given.table a s
       to_proper a s h = grind (arith, sum_same, same_weights)
 
-      of_proper : (a s : ℕ) → IsProperRow p given.bodies.entries.now given.table a s → HasScale given a s
+      of_proper : (a s : ℕ) → GivesProperRow p given.bodies.entries.now given.table a s → HasScale given a s
       of_proper a s h = grind (arith, sum_same, same_weights)
 
       pub wrong_row : (a : ℕ) (rows : List (List Cell)) (numbers : List (List ℕ)) (x : WrongRow) → AreLines given a rows numbers
           → a < given.bodies.shape.actions → IsFirstWrongIn given a x
-          → IsFirstWrong p given.bodies.entries.now given.table x
+          → IsFirstWrongEntryRow p given.bodies.entries.now given.table x
       wrong_row a rows numbers x h l w =
           let actions = is.actions in
           let states = is.states in
@@ -146,10 +146,10 @@ module _ (given : TableEntries) where
             table_is = w.table_is;
             action = omega (arith, l, here, actions);
             state = omega (arith, room, states);
-            wrong = λ proper. w.wrong (of_proper a x.row (subst (λ b. IsProperRow p given.bodies.entries.now given.table b x.row) here
+            wrong = λ proper. w.wrong (of_proper a x.row (subst (λ b. GivesProperRow p given.bodies.entries.now given.table b x.row) here
                 proper));
             earlier_actions = λ b r less m. to_proper b r ((h.each b (omega (arith, less, here))).proper r (omega (arith, m, states)));
-            same_action = λ r less. subst (λ b. IsProperRow p given.bodies.entries.now given.table b r) (sym here)
+            same_action = λ r less. subst (λ b. GivesProperRow p given.bodies.entries.now given.table b r) (sym here)
                 (to_proper a r (w.before r less));
           }
 
@@ -177,7 +177,7 @@ pub given_is : (given : TableEntries) (rules : List Rule) → IsWeighted given.t
     → IsIndexOf given.table given.bodies.entries.now given.index.now → rules ≡ given.index.now → IsRising rules
     → given.split.now.zeros.items ≡ zeros_of given.bodies.entries.now rules
     → others_in given.split.now.others ≡ others_of given.bodies.entries.now rules → (given.split.now.is_exact ≡ true → AreExact rules)
-    → AreGiven given
+    → AreIndexedEntries given
 given_is given rs weighted sound index same rising zeros others exact = record {
   weighted = weighted;
   preamble = sound.0;

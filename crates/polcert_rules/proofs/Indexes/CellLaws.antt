@@ -2,7 +2,7 @@
 use Rattle.std.proofs.Common.{◌≡◌, ◌∙◌, ⊎_elim, ℕ, suc, ◌+◌, ◌*◌, ◌^◌, ◌<◌, ◌≤◌, ◌↔◌, ◌⊎◌, inl, inr, Option, None, List, [], ◌∷◌, Contains}
 use Rattle.std.proofs.Common.{sym, ap, subst, arith}
 use Rattle.polcert_rules.proofs.Common.{Rule, IsNewest, max_option, key_base, AreIndices, CellRules, NamesEnd, AreCellRules, AreJoined}
-use Rattle.polcert_rules.specs.Keys.{Fits}
+use Rattle.polcert_rules.specs.Keys.{FitsKey}
 use Rattle.polcert_rules.proofs.Keyed.Fitting.{fits_low, fits_high, fits_end, fits_here, fits_next, fits_every, fits_only}
 use Rattle.polcert_rules.proofs.Indexes.Newer.{IsSpan, newest_as, newest_of_part, newest_of_two, newest_of_three, newest_only, newest_end}
 use Rattle.polcert_rules.proofs.Indexes.NotedLaws.{later_none, later_of_later}
@@ -25,7 +25,7 @@ pub named_cells : (rules starred both named : List Rule) (low e z : ℕ) (h o b 
     → IsFrom rules starred (low + key_base) → IsFrom starred both (low + key_base + 1) → IsFrom both named (low + key_base + 2)
     → ((r : Rule) → Contains named r → low + key_base + key_base ≤ r.key)
     → IsNewest rules (λ k. k ≡ low) h → IsNewest starred (λ k. k ≡ low + key_base) o → IsNewest both (λ k. k ≡ low + key_base + 1) b
-    → IsNewest named (NamesEnd low e z) x → IsNewest rules (Fits 2 low (e ∷ z ∷ [])) (max_option (max_option h (max_option o b)) x)
+    → IsNewest named (NamesEnd low e z) x → IsNewest rules (FitsKey 2 low (e ∷ z ∷ [])) (max_option (max_option h (max_option o b)) x)
 named_cells rules starred both named low e z h o b x zl from_starred from_both from_named far here at_open at_both n =
     let every = low + key_base in
     let all_both : (r : Rule) → Contains rules r → every + 1 ≤ r.key → Contains both r =
@@ -39,13 +39,13 @@ named_cells rules starred both named low e z h o b x zl from_starred from_both f
     let stars : IsNewest rules (λ k. k ≡ every + 1) b =
     newest_of_part rules both (λ k. k ≡ every + 1) b (λ r c. ((from_starred r).0 ((from_both r).0 c).0).0)
     (λ r c f. all_both r c (omega (arith, f))) at_both in
-    let seen : IsNewest rules (Fits 0 (every + (z + 2) * key_base ^ 0) []) None = λ r c f.
+    let seen : IsNewest rules (FitsKey 0 (every + (z + 2) * key_base ^ 0) []) None = λ r c f.
     let is = fits_end 0 (every + (z + 2) * key_base ^ 0) r.key f in
     let l = far r (all_named r c (omega (arith, is))) in
     absurd (omega (arith, is, l, zl)) in
-    let of_every : IsNewest rules (Fits 1 every (z ∷ [])) (max_option o (max_option b None)) =
+    let of_every : IsNewest rules (FitsKey 1 every (z ∷ [])) (max_option o (max_option b None)) =
     newest_of_three rules 0 every z [] o b None star (newest_end rules 0 (every + 1) b stars) seen in
-    subst (IsNewest rules (Fits 2 low (e ∷ z ∷ []))) (later_three h o b x)
+    subst (IsNewest rules (FitsKey 2 low (e ∷ z ∷ []))) (later_three h o b x)
     (newest_of_three rules 1 low e (z ∷ []) h (max_option o (max_option b None)) x here of_every only)
 
 -- ---- from parts
@@ -59,10 +59,10 @@ cells_of_part rules part P cells sub all are = λ e z el zl x n. newest_of_part 
 
 -- a span of keys
 pub cells_of_span : (rules part : List Rule) (low : ℕ) (cells : CellRules) → IsSpan rules part low (key_base ^ 2)
-    → AreCellRules part (λ e z. Fits 2 low (e ∷ z ∷ [])) cells
-    → AreCellRules rules (λ e z. Fits 2 low (e ∷ z ∷ [])) cells
+    → AreCellRules part (λ e z. FitsKey 2 low (e ∷ z ∷ [])) cells
+    → AreCellRules rules (λ e z. FitsKey 2 low (e ∷ z ∷ [])) cells
 cells_of_span rules part low cells span are =
-    cells_of_part rules part (λ e z. Fits 2 low (e ∷ z ∷ [])) cells (λ r c. ((span r).0 c).0)
+    cells_of_part rules part (λ e z. FitsKey 2 low (e ∷ z ∷ [])) cells (λ r c. ((span r).0 c).0)
     (λ e z r el zl c f. (span r).1 (c, fits_low 2 low (e ∷ z ∷ []) r.key f, fits_high 2 low (e ∷ z ∷ []) r.key (el, (zl, tt)) f)) are
 
 later_joined : (v w x : Option ℕ) → max_option (max_option v x) (max_option w None) ≡ max_option (max_option v w) x
@@ -102,12 +102,12 @@ whole_cells rules P key number cells with_whole p here whole low named = λ e z 
 
 -- one place more: no place, `*`, or the index
 pub placed_cells : (rules : List Rule) (m low i : ℕ) (rest : ℕ → ℕ → List ℕ) (cells : CellRules)
-    → AreCellRules rules (λ e z k. (k ≡ low) ⊎ (Fits m (low + key_base ^ m) (rest e z) k
-    ⊎ Fits m (low + (i + 2) * key_base ^ m) (rest e z) k)) cells
-    → AreCellRules rules (λ e z. Fits (suc m) low (i ∷ rest e z)) cells
+    → AreCellRules rules (λ e z k. (k ≡ low) ⊎ (FitsKey m (low + key_base ^ m) (rest e z) k
+    ⊎ FitsKey m (low + (i + 2) * key_base ^ m) (rest e z) k)) cells
+    → AreCellRules rules (λ e z. FitsKey (suc m) low (i ∷ rest e z)) cells
 placed_cells rules m low i rest cells are = λ e z el zl x n.
-    newest_as rules (λ k. (k ≡ low) ⊎ (Fits m (low + key_base ^ m) (rest e z) k ⊎ Fits m (low + (i + 2) * key_base ^ m) (rest e z) k))
-    (Fits (suc m) low (i ∷ rest e z)) _
+    newest_as rules (λ k. (k ≡ low) ⊎ (FitsKey m (low + key_base ^ m) (rest e z) k ⊎ FitsKey m (low + (i + 2) * key_base ^ m) (rest e z) k))
+    (FitsKey (suc m) low (i ∷ rest e z)) _
     (λ k f. ⊎_elim (fits_here (suc m) low k (i ∷ rest e z))
     (λ g. ⊎_elim (fits_every m low i (rest e z) k) (fits_only m low i (rest e z) k) g) f)
     (λ k f. fits_next m low i (rest e z) k f) (are e z el zl x n)
@@ -116,8 +116,8 @@ placed_cells rules m low i rest cells are = λ e z el zl x n.
 pub cells_of_only : (rules : List Rule) (m low i step : ℕ) (rest : ℕ → ℕ → List ℕ) (cells : CellRules) → step ≡ key_base ^ m
     → ((e z : ℕ) → e + 2 < key_base → z + 2 < key_base → AreIndices m (rest e z))
     → ((r : Rule) → Contains rules r → low ≤ r.key → r.key < low + step + step → ⊥)
-    → AreCellRules rules (λ e z. Fits m (low + (i + 2) * step) (rest e z)) cells
-    → AreCellRules rules (λ e z. Fits (suc m) low (i ∷ rest e z)) cells
+    → AreCellRules rules (λ e z. FitsKey m (low + (i + 2) * step) (rest e z)) cells
+    → AreCellRules rules (λ e z. FitsKey (suc m) low (i ∷ rest e z)) cells
 cells_of_only rules m low i step rest cells is small none are =
     λ e z el zl x n. newest_only rules m low i step (rest e z) _ is (small e z el zl) none (are e z el zl x n)
 
@@ -126,12 +126,12 @@ cells_of_only rules m low i step rest cells is small none are =
 abbrev pub IsLast : ℕ → ℕ → ℕ → Type 0
 IsLast base z key = (key ≡ base) ⊎ ((key ≡ base + 1) ⊎ (key ≡ base + (z + 2)))
 
-pub last_place : (base z key : ℕ) → Fits 1 base (z ∷ []) key → IsLast base z key
+pub last_place : (base z key : ℕ) → FitsKey 1 base (z ∷ []) key → IsLast base z key
 last_place base z key f = ⊎_elim (λ is. inl is) (λ g. inr
     (⊎_elim (λ h. inl (fits_end 0 (base + key_base ^ 0) key h))
     (λ h. inr (let is = fits_end 0 (base + (z + 2) * key_base ^ 0) key h in omega (arith, is))) g)) (fits_next 0 base z [] key f)
 
-pub place_last : (base z key : ℕ) → IsLast base z key → Fits 1 base (z ∷ []) key
+pub place_last : (base z key : ℕ) → IsLast base z key → FitsKey 1 base (z ∷ []) key
 place_last base z key (inl is) = fits_here 1 base key (z ∷ []) is
 place_last base z key (inr (inl is)) = fits_every 0 base z [] key (fits_here 0 (base + key_base ^ 0) key [] is)
 place_last base z key (inr (inr is)) = fits_only 0 base z [] key (fits_here 0 (base + (z + 2) * key_base ^ 0) key [] (omega (arith, is)))

@@ -4,10 +4,11 @@ use Rattle.std.proofs.Common.{◌∷◌, ◌++◌, length, map, get_or, slice_in
 use Rattle.std.specs.Option.{option_map}
 use Rattle.polcert_rules.proofs.Common.{map-append, get_or_past, cases_lt, All-push, slice_get_within, slice_get-get_or, slice_get-map}
 use Rattle.polcert_rules.proofs.Common.{get_or_from_slice_get, same_Some, Place, Body, Entry, one, Fills, Cell, Shape, RowOrigin, SharedRow}
-use Rattle.polcert_rules.proofs.Common.{IsWithin, FitsShape, given, sum_below, scaled_cells, IsSparse, IsRow, given_at, IsFrom, IsWhole}
+use Rattle.polcert_rules.proofs.Common.{IsShapeWithin, FitsShape, entry_weight, sum_below, scaled_cells, IsSparse, IsRow, given_at, IsFrom}
+use Rattle.polcert_rules.proofs.Common.{IsWholeRowEntry}
 use Rattle.polcert_rules.proofs.Common.{AreKept, IsKeptRow, IsShared, IsAfter, Stays}
 use Rattle.std.proofs.lemmas.List.Elements.{All-weaker}
-use Rattle.polcert_rules.specs.Steps.Given.{given_by}
+use Rattle.polcert_rules.specs.Steps.Given.{body_weight}
 use Rattle.polcert_rules.specs.Steps.Sources.{source_of, IsSharedRow, is_proper}
 use Rattle.std.specs.List.{slice_get}
 use Rattle.std.proofs.Math.Nat.{mul-le-mul_left, mul_comm}
@@ -145,14 +146,15 @@ number_small ps k all = ⊎_elim (all k 0) (λ ge. let past : get_or ps k 0 ≡ 
     (cases_lt k (length ps))
 
 given_by_small : (columns cells : ℕ) (places : List Place) (body : Body) (s c : ℕ) → 1 ≤ columns → Fills cells body
-    → given_by columns places body s c ≤ one * columns
+    → body_weight columns places body s c ≤ one * columns
 given_by_small columns cells places body s c h1 h2 = grind (arith, mul-le-mul_left, mul_comm, number_small)
 
-pub given_small : (shape : Shape) (e : Entry) (s c : ℕ) → IsWithin shape → FitsShape shape e
-    → given shape.columns e s c ≤ one * shape.columns
+pub given_small : (shape : Shape) (e : Entry) (s c : ℕ) → IsShapeWithin shape → FitsShape shape e
+    → entry_weight shape.columns e s c ≤ one * shape.columns
 given_small shape e s c w f = given_by_small shape.columns _ e.places e.body s c w.columns.0 f.body
 
-pub whole_small : (shape : Shape) (entries : List Entry) (whole : Option ℕ) (s c : ℕ) → IsWithin shape → IsWhole shape entries whole
+pub whole_small : (shape : Shape) (entries : List Entry) (whole : Option ℕ) (s c : ℕ) → IsShapeWithin shape
+    → IsWholeRowEntry shape entries whole
     → given_at shape.columns entries whole s c ≤ one * shape.columns
 whole_small shape entries whole s c h1 h2 = grind (arith, given_small)
 

@@ -3,7 +3,7 @@ use Rattle.std.proofs.Common.{◌≡◌, ◌∙◌, ℕ, zero, suc, ◌+◌, ◌
 use Rattle.std.proofs.Common.{Contains, refl, ap, subst, arith}
 use Rattle.std.specs.Prelude.{◌||◌, ◌==◌}
 use Rattle.polcert_rules.proofs.Common.{Place, Rule, key_base, key_in, IsNewest, max_option, newest_in}
-use Rattle.polcert_rules.specs.Keys.{Fits}
+use Rattle.polcert_rules.specs.Keys.{FitsKey}
 use Rattle.polcert_rules.specs.Matching.{fits_key, newest_by}
 use Rattle.polcert_rules.proofs.Keyed.Fitting.{same_number, equal_numbers, fits_end, fits_here, fits_next, fits_every, fits_only}
 use Rattle.polcert_rules.proofs.Indexes.Greatest.{greatest_as, greatest_of, newest_of, greatest_of_two, greatest_itself}
@@ -24,14 +24,14 @@ equal_by : (a b : ℕ) → a ≡ b → (a == b) ≡ true
 equal_by a b e = ap (λ x. x == b) e ∙ equal_numbers b
 
 -- where there is no room, no place counts
-no_room : (low key : ℕ) (indices : List ℕ) → Fits zero low indices key → key ≡ low
+no_room : (low key : ℕ) (indices : List ℕ) → FitsKey zero low indices key → key ≡ low
 no_room low key indices f = at f.places f.is
   where
     at : (ps : List Place) → key ≡ key_in zero low ps → key ≡ low
     at [] is = is
     at (p ∷ ps) is = is
 
-pub fits_is : (levels low : ℕ) (indices : List ℕ) (key : ℕ) → fits_key levels low indices key ≡ true → Fits levels low indices key
+pub fits_is : (levels low : ℕ) (indices : List ℕ) (key : ℕ) → fits_key levels low indices key ≡ true → FitsKey levels low indices key
 fits_is levels low [] key e = fits_here levels low key [] (same_number key low e)
 fits_is zero low (i ∷ indices) key e = fits_here zero low key (i ∷ indices) (same_number key low e)
 fits_is (suc m) low (i ∷ indices) key e = ⊎_elim
@@ -42,7 +42,7 @@ fits_is (suc m) low (i ∷ indices) key e = ⊎_elim
     (one_of _ _ next))
     (one_of (key == low) _ e)
 
-pub is_fits : (levels low : ℕ) (indices : List ℕ) (key : ℕ) → Fits levels low indices key → fits_key levels low indices key ≡ true
+pub is_fits : (levels low : ℕ) (indices : List ℕ) (key : ℕ) → FitsKey levels low indices key → fits_key levels low indices key ≡ true
 is_fits levels low [] key f = equal_by key low (fits_end levels low key f)
 is_fits zero low (i ∷ indices) key f = equal_by key low (no_room low key (i ∷ indices) f)
 is_fits (suc m) low (i ∷ indices) key f = ⊎_elim
@@ -92,6 +92,7 @@ one_newest rs0 P m n h1 h2 = grind arith
 
 -- ---- the newest rule, computed
 pub newest_is : (levels low : ℕ) (rules : List Rule) (indices : List ℕ)
-    → IsNewest rules (Fits levels low indices) (newest_in levels low rules indices)
-newest_is levels low rules indices = newest_by_is rules (fits_key levels low indices) (Fits levels low indices) (fits_is levels low indices)
+    → IsNewest rules (FitsKey levels low indices) (newest_in levels low rules indices)
+newest_is levels low rules indices = newest_by_is rules (fits_key levels low indices) (FitsKey levels low indices)
+    (fits_is levels low indices)
     (is_fits levels low indices)

@@ -3,7 +3,7 @@ use Rattle.std.proofs.Common.{◌≡◌, ◌∙◌, ℕ, suc, ◌+◌, ◌-◌, 
 use Rattle.std.proofs.Common.{length, refl, sym, ap, subst, arith, rules}
 use Rattle.std.specs.List.{slice_get}
 use Rattle.polcert_rules.proofs.Common.{slice_get_within, get_or_from_slice_get, Rule, IsRising, IsNewest, max_option, key_base, AreIndices}
-use Rattle.polcert_rules.specs.Keys.{Fits}
+use Rattle.polcert_rules.specs.Keys.{FitsKey}
 use Rattle.polcert_rules.proofs.Keyed.Fitting.{fits_low, fits_high, fits_next, fits_here, fits_end, fits_every, fits_only, digit_below}
 use Rattle.polcert_rules.proofs.Keyed.Fitting.{power_next, power_some}
 
@@ -27,34 +27,35 @@ IsSpan rules part low size = (r : Rule) → Contains part r ↔ (Contains rules 
 -- what a span has is what all rules have
 pub newest_of_span : (rules part : List Rule) (m low : ℕ) (indices : List ℕ) (x : Option ℕ) → AreIndices m indices
     → IsSpan rules part low (key_base ^ m)
-    → IsNewest part (Fits m low indices) x → IsNewest rules (Fits m low indices) x
+    → IsNewest part (FitsKey m low indices) x → IsNewest rules (FitsKey m low indices) x
 newest_of_span rules part m low indices x a span n =
-    newest_of_part rules part (Fits m low indices) x (λ r c. ((span r).0 c).0)
+    newest_of_part rules part (FitsKey m low indices) x (λ r c. ((span r).0 c).0)
     (λ r c f. (span r).1 (c, fits_low m low indices r.key f, fits_high m low indices r.key a f)) n
 
 -- one place more: no place, `*`, or the index
 -- none fits if no key is in the span
 pub newest_of_none : (rules : List Rule) (m low : ℕ) (indices : List ℕ) → AreIndices m indices
-    → ((r : Rule) → Contains rules r → low ≤ r.key → r.key < low + key_base ^ m → ⊥) → IsNewest rules (Fits m low indices) None
+    → ((r : Rule) → Contains rules r → low ≤ r.key → r.key < low + key_base ^ m → ⊥) → IsNewest rules (FitsKey m low indices) None
 newest_of_none rs m low indices a none = λ r c f. none r c (fits_low m low indices r.key f) (fits_high m low indices r.key a f)
 
 pub newest_of_three : (rules : List Rule) (m low i : ℕ) (indices : List ℕ) (here every only : Option ℕ) → IsNewest rules (λ k. k ≡ low) here
-    → IsNewest rules (Fits m (low + key_base ^ m) indices) every → IsNewest rules (Fits m (low + (i + 2) * key_base ^ m) indices) only
-    → IsNewest rules (Fits (suc m) low (i ∷ indices)) (max_option here (max_option every only))
+    → IsNewest rules (FitsKey m (low + key_base ^ m) indices) every → IsNewest rules (FitsKey m (low + (i + 2) * key_base ^ m) indices) only
+    → IsNewest rules (FitsKey (suc m) low (i ∷ indices)) (max_option here (max_option every only))
 newest_of_three rules m low i indices here every only h e o =
     let two = newest_of_two rules _ _ every only e o in
     let three = newest_of_two rules _ _ here (max_option every only) h two in
-    newest_as rules (λ k. (k ≡ low) ⊎ (Fits m (low + key_base ^ m) indices k ⊎ Fits m (low + (i + 2) * key_base ^ m) indices k))
-    (Fits (suc m) low (i ∷ indices)) _
+    newest_as rules (λ k. (k ≡ low) ⊎ (FitsKey m (low + key_base ^ m) indices k ⊎ FitsKey m (low + (i + 2) * key_base ^ m) indices k))
+    (FitsKey (suc m) low (i ∷ indices)) _
     (λ k f. ⊎_elim (fits_here (suc m) low k (i ∷ indices)) (λ g. ⊎_elim (fits_every m low i indices k) (fits_only m low i indices k) g) f)
     (λ k f. fits_next m low i indices k f) three
 
 -- from the parts that have the rules with these places
 pub newest_next : (rules evens onlys : List Rule) (m low i : ℕ) (indices : List ℕ) (here every only : Option ℕ) → AreIndices m indices
     → IsNewest rules (λ k. k ≡ low) here
-    → IsSpan rules evens (low + key_base ^ m) (key_base ^ m) → IsNewest evens (Fits m (low + key_base ^ m) indices) every
-    → IsSpan rules onlys (low + (i + 2) * key_base ^ m) (key_base ^ m) → IsNewest onlys (Fits m (low + (i + 2) * key_base ^ m) indices) only
-    → IsNewest rules (Fits (suc m) low (i ∷ indices)) (max_option here (max_option every only))
+    → IsSpan rules evens (low + key_base ^ m) (key_base ^ m) → IsNewest evens (FitsKey m (low + key_base ^ m) indices) every
+    → IsSpan rules onlys (low + (i + 2) * key_base ^ m) (key_base ^ m)
+    → IsNewest onlys (FitsKey m (low + (i + 2) * key_base ^ m) indices) only
+    → IsNewest rules (FitsKey (suc m) low (i ∷ indices)) (max_option here (max_option every only))
 newest_next rs0 evens onlys m low i indices here every only a h spanned e spanned_only o = grind (arith, newest_of_span, newest_of_three)
 
 -- the rule of the key itself, from the part that begins with it
@@ -65,8 +66,8 @@ newest_here rules part low size here some span n =
     (λ r c e. (span r).1 (c, omega (arith, e), omega (arith, e, some))) n
 
 pub newest_end : (rules : List Rule) (m low : ℕ) (here : Option ℕ) → IsNewest rules (λ k. k ≡ low) here
-    → IsNewest rules (Fits m low []) here
-newest_end rules m low here n = newest_as rules (λ k. k ≡ low) (Fits m low []) here (λ k e. fits_here m low k [] e)
+    → IsNewest rules (FitsKey m low []) here
+newest_end rules m low here n = newest_as rules (λ k. k ≡ low) (FitsKey m low []) here (λ k e. fits_here m low k [] e)
     (λ k f. fits_end m low k f) n
 
 -- a level is left where an index is
@@ -109,31 +110,31 @@ is_deeper m low i indices step a is = grind (arith, digit_below, power_next, pow
 pub newest_deeper : (rules evens onlys : List Rule) (m low i : ℕ) (indices : List ℕ) (step : ℕ) (here every only : Option ℕ)
     → IsDeeper m low i indices step
     → IsNewest rules (λ k. k ≡ low) here
-    → IsSpan rules evens (low + step) step → IsNewest evens (Fits (m - 1) (low + step) indices) every
-    → IsSpan rules onlys (low + (i + 2) * step) step → IsNewest onlys (Fits (m - 1) (low + (i + 2) * step) indices) only
-    → IsNewest rules (Fits m low (i ∷ indices)) (max_option here (max_option every only))
+    → IsSpan rules evens (low + step) step → IsNewest evens (FitsKey (m - 1) (low + step) indices) every
+    → IsSpan rules onlys (low + (i + 2) * step) step → IsNewest onlys (FitsKey (m - 1) (low + (i + 2) * step) indices) only
+    → IsNewest rules (FitsKey m low (i ∷ indices)) (max_option here (max_option every only))
 newest_deeper rules evens onlys m low i indices step here every only d h spanned e spanned_only o =
-    subst (λ k. IsNewest rules (Fits k low (i ∷ indices)) (max_option here (max_option every only))) d.level
+    subst (λ k. IsNewest rules (FitsKey k low (i ∷ indices)) (max_option here (max_option every only))) d.level
     (newest_next rules evens onlys (m - 1) low i indices here every only d.indices_are h
     (subst (λ s. IsSpan rules evens (low + s) s) d.step_is spanned)
-    (subst (λ s. IsNewest evens (Fits (m - 1) (low + s) indices) every) d.step_is e)
+    (subst (λ s. IsNewest evens (FitsKey (m - 1) (low + s) indices) every) d.step_is e)
     (subst (λ s. IsSpan rules onlys (low + (i + 2) * s) s) d.step_is spanned_only)
-    (subst (λ s. IsNewest onlys (Fits (m - 1) (low + (i + 2) * s) indices) only) d.step_is o))
+    (subst (λ s. IsNewest onlys (FitsKey (m - 1) (low + (i + 2) * s) indices) only) d.step_is o))
 
 -- no key ends before this place or is for every index
 pub newest_only : (rules : List Rule) (m low i step : ℕ) (indices : List ℕ) (x : Option ℕ) → step ≡ key_base ^ m → AreIndices m indices
     → ((r : Rule) → Contains rules r → low ≤ r.key → r.key < low + step + step → ⊥)
-    → IsNewest rules (Fits m (low + (i + 2) * step) indices) x → IsNewest rules (Fits (suc m) low (i ∷ indices)) x
+    → IsNewest rules (FitsKey m (low + (i + 2) * step) indices) x → IsNewest rules (FitsKey (suc m) low (i ∷ indices)) x
 newest_only rules m low i step indices x is small none only =
     newest_of_three rules m low i indices None None x (λ r c e. none r c (omega (arith, e)) (omega (arith, e, is, power_some m)))
     (newest_of_none rules m (low + key_base ^ m) indices small (λ r c l h. none r c (omega (arith, l)) (omega (arith, h, is))))
-    (subst (λ (t : ℕ). IsNewest rules (Fits m (low + (i + 2) * t) indices) x) is only)
+    (subst (λ (t : ℕ). IsNewest rules (FitsKey m (low + (i + 2) * t) indices) x) is only)
 
 -- the same, from a part
 pub newest_of_only : (rules onlys : List Rule) (m low i : ℕ) (indices : List ℕ) (step : ℕ) (only : Option ℕ) → IsDeeper m low i indices step
     → ((r : Rule) → Contains rules r → low ≤ r.key → r.key < low + step + step → ⊥)
-    → IsSpan rules onlys (low + (i + 2) * step) step → IsNewest onlys (Fits (m - 1) (low + (i + 2) * step) indices) only
-    → IsNewest rules (Fits m low (i ∷ indices)) only
+    → IsSpan rules onlys (low + (i + 2) * step) step → IsNewest onlys (FitsKey (m - 1) (low + (i + 2) * step) indices) only
+    → IsNewest rules (FitsKey m low (i ∷ indices)) only
 newest_of_only rs onlys m low i indices step only d none spanned o =
     newest_deeper rs [] onlys m low i indices step None None only d
     (λ r c e. none r c (omega (arith, e)) (omega (arith, e, d.some)))

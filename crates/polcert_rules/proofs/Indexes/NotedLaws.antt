@@ -3,7 +3,7 @@ use Rattle.std.proofs.Common.{◌≡◌, ◌∙◌, ℕ, zero, suc, ◌+◌, ◌
 use Rattle.std.proofs.Common.{[], ◌∷◌, ◌++◌, Contains, length, refl, sym, ap, subst, arith}
 use Rattle.polcert_rules.proofs.Common.{Contains-append_left, Contains-append_right, Contains-append_cases, Rule, key_base, AreIndices}
 use Rattle.polcert_rules.proofs.Common.{IsNewest, max_option, IsNoted, IsLastPlace}
-use Rattle.polcert_rules.specs.Keys.{Fits}
+use Rattle.polcert_rules.specs.Keys.{FitsKey}
 use Rattle.polcert_rules.proofs.Keyed.Fitting.{fits_next, fits_here, fits_end, fits_every, fits_only}
 use Rattle.polcert_rules.proofs.Indexes.Greatest.{greatest_as, greatest_of, newest_of, greatest_of_two, greatest_itself}
 use Rattle.polcert_rules.proofs.Indexes.Newer.{newest_as, newest_of_part, newest_of_two, newest_of_three, newest_deeper, is_deeper, IsSpan}
@@ -83,10 +83,10 @@ noted_last rules following named low first count i start here before between aft
 
 pub noted_end : (rules : List Rule) (low z : ℕ) (here before between after : Option ℕ) → IsNewest rules (λ k. k ≡ low) here
     → between ≡ max_option before here
-    → IsNoted rules (IsLastPlace low z) between after → IsNoted rules (Fits 1 low (z ∷ [])) before after
+    → IsNoted rules (IsLastPlace low z) between after → IsNoted rules (FitsKey 1 low (z ∷ [])) before after
 noted_end rules low z here before between after h e n = record {
   found = max_option here n.found;
-  newest = newest_as rules (λ k. (k ≡ low) ⊎ IsLastPlace low z k) (Fits 1 low (z ∷ [])) (max_option here n.found)
+  newest = newest_as rules (λ k. (k ≡ low) ⊎ IsLastPlace low z k) (FitsKey 1 low (z ∷ [])) (max_option here n.found)
       (λ k f. ⊎_elim (fits_here 1 low k (z ∷ [])) (λ g. ⊎_elim (λ i. fits_every 0 low z [] k (fits_here 0 (low + key_base ^ 0) k [] i))
       (λ i. fits_only 0 low z [] k (fits_here 0 (low + (z + 2) * key_base ^ 0) k [] (omega arith))) g) f)
       (λ k f. ⊎_elim (λ i. inl i) (λ g. inr (⊎_elim (λ i. inl (fits_end 0 (low + key_base ^ 0) k i))
@@ -98,9 +98,9 @@ noted_end rules low z here before between after h e n = record {
 pub noted_deeper : (rules evens onlys : List Rule) (m low i : ℕ) (rest : List ℕ) (z step : ℕ) (here before first second after : Option ℕ)
     → AreIndices m (i ∷ rest) → m ≡ length (i ∷ rest) + 1 → z + 2 < key_base → step ≡ key_base ^ (m - 1)
     → IsNewest rules (λ k. k ≡ low) here → first ≡ max_option before here
-    → IsSpan rules evens (low + step) step → IsNoted evens (Fits (m - 1) (low + step) (rest ++ z ∷ [])) first second
-    → IsSpan rules onlys (low + (i + 2) * step) step → IsNoted onlys (Fits (m - 1) (low + (i + 2) * step) (rest ++ z ∷ [])) second after
-    → IsNoted rules (Fits m low (i ∷ (rest ++ z ∷ []))) before after
+    → IsSpan rules evens (low + step) step → IsNoted evens (FitsKey (m - 1) (low + step) (rest ++ z ∷ [])) first second
+    → IsSpan rules onlys (low + (i + 2) * step) step → IsNoted onlys (FitsKey (m - 1) (low + (i + 2) * step) (rest ++ z ∷ [])) second after
+    → IsNoted rules (FitsKey m low (i ∷ (rest ++ z ∷ []))) before after
 noted_deeper rules evens onlys m low i rest z step here before first second after a size l is h e spanned n spanned_only o =
     let d = is_deeper m low i (rest ++ z ∷ []) step (one_more_index m (i ∷ rest) z a size l) is in
     record {
@@ -113,9 +113,10 @@ noted_deeper rules evens onlys m low i rest z step here before first second afte
 
 -- the same of all rules
 pub noted_of_three : (rules : List Rule) (m low i : ℕ) (indices : List ℕ) (here before first second after : Option ℕ)
-    → IsNewest rules (λ k. k ≡ low) here → first ≡ max_option before here → IsNoted rules (Fits m (low + key_base ^ m) indices) first second
-    → IsNoted rules (Fits m (low + (i + 2) * key_base ^ m) indices) second after
-    → IsNoted rules (Fits (suc m) low (i ∷ indices)) before after
+    → IsNewest rules (λ k. k ≡ low) here → first ≡ max_option before here
+    → IsNoted rules (FitsKey m (low + key_base ^ m) indices) first second
+    → IsNoted rules (FitsKey m (low + (i + 2) * key_base ^ m) indices) second after
+    → IsNoted rules (FitsKey (suc m) low (i ∷ indices)) before after
 noted_of_three rs0 m low i indices here before first second after h e n o = grind (arith, newest_of_three, later_of_later)
 
 -- where nothing was noted before, the newest is noted

@@ -8,7 +8,7 @@ use Rattle.std.specs.List.{slice_get}
 use Rattle.polcert_cells.proofs.Basics.{slice_get-drop}
 use Rattle.std.proofs.lemmas.List.{take-append-drop}
 use Rattle.polcert_cells.specs.Cells.{none}
-use Rattle.polcert_rules.specs.Keys.{table_digit, Fits}
+use Rattle.polcert_rules.specs.Keys.{table_digit, FitsKey}
 use Rattle.polcert_rules.proofs.Keyed.Fitting.{fit_digits, and_true}
 use Rattle.polcert_rules.proofs.Keyed.Keying.{same_digit, same_places}
 use Rattle.polcert_rules.proofs.Indexes.Newer.{IsSpan, newest_of_span}
@@ -24,7 +24,7 @@ table_of_digit t u h1 = grind arith
 
 -- the one fact: what covers fits, and what fits covers
 pub covered_fits : (table : Table) (indices : List ℕ) (e : Entry) → covers table indices e ≡ true
-    → Fits most_places (table_key table) indices (key_of e)
+    → FitsKey most_places (table_key table) indices (key_of e)
 covered_fits table indices e c = grind arith
 
 pub same_keys : (t u : Table) (ps qs : List Place) → AreDigits most_places ps → AreDigits most_places qs
@@ -40,7 +40,7 @@ same_keys t u ps qs a b e =
     (tables, same_places most_places (table_key t) ps qs a b (e ∙ ap (λ v. key_in most_places (table_key v) qs) (sym tables)))
 
 pub fits_covered : (table : Table) (indices : List ℕ) (e : Entry) → AreDigits most_places e.places → AreIndices most_places indices
-    → Fits most_places (table_key table) indices (key_of e) → covers table indices e ≡ true
+    → FitsKey most_places (table_key table) indices (key_of e) → covers table indices e ≡ true
 fits_covered table indices e digits a f =
     let same = same_keys e.table table e.places f.places digits (fit_digits most_places f.places indices a f.fits) f.is in
     let first : is_table e.table table ≡ true = ap (λ t. is_table t table) same.0 ∙ equal_table table in
@@ -89,28 +89,28 @@ covers_own table indices e c = same_table e.table table (and_true (is_table e.ta
 
 pub last_number : (entries : List Entry) (rules : List Rule) (table : Table) (indices : List ℕ) (result : Option ℕ)
     → IsIndexOf table entries rules
-    → AreIndices most_places indices → IsNewest rules (Fits most_places (table_key table) indices) result
+    → AreIndices most_places indices → IsNewest rules (FitsKey most_places (table_key table) indices) result
     → IsLastNumber entries table indices result
 last_number entries rules table indices None index a n = λ k e is c.
     let r = index.complete k e is (covers_own table indices e c) in
-    n r.0 r.1 (subst (Fits most_places (table_key table) indices) (sym r.2) (covered_fits table indices e c))
+    n r.0 r.1 (subst (FitsKey most_places (table_key table) indices) (sym r.2) (covered_fits table indices e c))
 last_number entries rules table indices (Some m) index a n =
     let entry = index.sound n.0.rule n.0.among in
     let is : slice_get entries m ≡ Some entry.0 = subst (λ k. slice_get entries k ≡ Some entry.0) n.0.is entry.1 in
     let covered : covers table indices entry.0 ≡ true =
-    fits_covered table indices entry.0 entry.4 a (subst (Fits most_places (table_key table) indices) (sym entry.2) n.0.passes) in (
+    fits_covered table indices entry.0 entry.4 a (subst (FitsKey most_places (table_key table) indices) (sym entry.2) n.0.passes) in (
       (entry.0, is, covered),
       λ k x found c.
           let r = index.complete k x found (covers_own table indices x c) in
-          let l = n.1 r.0 r.1 (subst (Fits most_places (table_key table) indices) (sym r.2) (covered_fits table indices x c)) in
+          let l = n.1 r.0 r.1 (subst (FitsKey most_places (table_key table) indices) (sym r.2) (covered_fits table indices x c)) in
           let low = r.3 in omega arith,
     )
 
 -- from the part of the rules that has the table's
 pub newest_in : (rules part : List Rule) (table : Table) (indices : List ℕ) (low size : ℕ) (result : Option ℕ) → low ≡ table_key table
     → size ≡ key_base ^ most_places
-    → AreIndices most_places indices → IsSpan rules part low size → IsNewest part (Fits most_places low indices) result
-    → IsNewest rules (Fits most_places (table_key table) indices) result
+    → AreIndices most_places indices → IsSpan rules part low size → IsNewest part (FitsKey most_places low indices) result
+    → IsNewest rules (FitsKey most_places (table_key table) indices) result
 newest_in rules part table indices low size result at full a span n =
     let whole = newest_of_span rules part most_places low indices result a (subst (IsSpan rules part low) full span) n in
-    subst (λ l. IsNewest rules (Fits most_places l indices) result) at whole
+    subst (λ l. IsNewest rules (FitsKey most_places l indices) result) at whole

@@ -3,7 +3,7 @@ use Rattle.std.proofs.Common.{◌≡◌, ◌∙◌, ℕ, zero, suc, ◌+◌, ◌
 use Rattle.std.specs.Prelude.{◌==◌}
 use Rattle.std.proofs.Math.Nat.{pow-succ'}
 use Rattle.polcert_rules.proofs.Common.{nat_tests, Place, Every, Only, fit_places, key_base, digit, key_in, AreDigits, AreIndices}
-use Rattle.polcert_rules.specs.Keys.{Fits}
+use Rattle.polcert_rules.specs.Keys.{FitsKey}
 
 pub and_true : (a b : Bool) → (a && b) ≡ true → (a ≡ true) × (b ≡ true)
 and_true a b h1 = grind arith
@@ -51,28 +51,28 @@ fit_digits (suc m) (Only n ∷ ps) (i ∷ indices) a e =
     let small = a.0 in
     (omega arith, fit_digits m ps indices a.1 both.1)
 
-pub fits_low : (m low : ℕ) (indices : List ℕ) (key : ℕ) → Fits m low indices key → low ≤ key
+pub fits_low : (m low : ℕ) (indices : List ℕ) (key : ℕ) → FitsKey m low indices key → low ≤ key
 fits_low m low indices key f = let l = key_low m low f.places in let e = f.is in omega arith
 
-pub fits_high : (m low : ℕ) (indices : List ℕ) (key : ℕ) → AreIndices m indices → Fits m low indices key → key < low + key_base ^ m
+pub fits_high : (m low : ℕ) (indices : List ℕ) (key : ℕ) → AreIndices m indices → FitsKey m low indices key → key < low + key_base ^ m
 fits_high m low indices key a f = grind (arith, key_high, fit_digits)
 
 -- with no index left there is no place more
-pub fits_end : (m low key : ℕ) → Fits m low [] key → key ≡ low
+pub fits_end : (m low key : ℕ) → FitsKey m low [] key → key ≡ low
 fits_end m low key f = at f.places f.fits f.is
   where
     at : (ps : List Place) → fit_places ps [] ≡ true → key ≡ key_in m low ps → key ≡ low
     at [] e is = is
     at (p ∷ ps) e is = cc
 
-pub fits_here : (m low key : ℕ) (indices : List ℕ) → key ≡ low → Fits m low indices key
+pub fits_here : (m low key : ℕ) (indices : List ℕ) → key ≡ low → FitsKey m low indices key
 fits_here m low key indices e = record { places = []; fits = refl; is = e }
 
 -- what the first place may be
 abbrev pub Next : ℕ → ℕ → ℕ → List ℕ → ℕ → Type 0
-Next m low i indices key = (key ≡ low) ⊎ (Fits m (low + key_base ^ m) indices key ⊎ Fits m (low + (i + 2) * key_base ^ m) indices key)
+Next m low i indices key = (key ≡ low) ⊎ (FitsKey m (low + key_base ^ m) indices key ⊎ FitsKey m (low + (i + 2) * key_base ^ m) indices key)
 
-pub fits_next : (m low i : ℕ) (indices : List ℕ) (key : ℕ) → Fits (suc m) low (i ∷ indices) key → Next m low i indices key
+pub fits_next : (m low i : ℕ) (indices : List ℕ) (key : ℕ) → FitsKey (suc m) low (i ∷ indices) key → Next m low i indices key
 fits_next m low i indices key f = at f.places f.fits f.is
   where
     at : (ps : List Place) → fit_places ps (i ∷ indices) ≡ true → key ≡ key_in (suc m) low ps → Next m low i indices key
@@ -80,12 +80,13 @@ fits_next m low i indices key f = at f.places f.fits f.is
     at (Every ∷ ps) e is = grind arith
     at (Only n ∷ ps) e is = grind (arith, and_true, same_number)
 
-pub fits_every : (m low i : ℕ) (indices : List ℕ) (key : ℕ) → Fits m (low + key_base ^ m) indices key → Fits (suc m) low (i ∷ indices) key
+pub fits_every : (m low i : ℕ) (indices : List ℕ) (key : ℕ) → FitsKey m (low + key_base ^ m) indices key
+    → FitsKey (suc m) low (i ∷ indices) key
 fits_every m low i indices key f =
     let one : low + key_base ^ m ≡ low + 1 * key_base ^ m = omega arith in
     record { places = Every ∷ f.places; fits = f.fits; is = f.is ∙ ap (λ l. key_in m l f.places) one }
 
-pub fits_only : (m low i : ℕ) (indices : List ℕ) (key : ℕ) → Fits m (low + (i + 2) * key_base ^ m) indices key
-    → Fits (suc m) low (i ∷ indices) key
+pub fits_only : (m low i : ℕ) (indices : List ℕ) (key : ℕ) → FitsKey m (low + (i + 2) * key_base ^ m) indices key
+    → FitsKey (suc m) low (i ∷ indices) key
 fits_only m low i indices key f =
     record { places = Only i ∷ f.places; fits = ap (λ b. b && fit_places f.places indices) (equal_numbers i) ∙ f.fits; is = f.is }

@@ -5,7 +5,7 @@ use Rattle.std.specs.List.{slice_get}
 use Rattle.polcert_rules.proofs.Common.{IsPartitionedBy, IsNonDecreasingBy, cases_lt, Contains-append_left, Contains-append_right}
 use Rattle.polcert_rules.proofs.Common.{Contains-append_cases, IsPartitionedBy-ltb, get_or_from_slice_get, Rule, IsRising}
 use Rattle.std.specs.List.Sorted.{IsPartitionPoint}
-use Rattle.polcert_rules.specs.Steps.Newest.{IsCut}
+use Rattle.polcert_rules.specs.Steps.Newest.{IsKeyPartition}
 use Rattle.std.proofs.lemmas.List.{take-append-drop}
 use Rattle.polcert_rules.proofs.Indexes.Newer.{after_first}
 
@@ -27,7 +27,7 @@ abbrev pub Cut : List Rule → ℕ → ℕ → Type 0
 Cut xs limit n = IsPartitionPoint (λ r. ltb r.key limit ≡ true) (λ r. ltb r.key limit ≡ false) xs n
 
 -- what the test finds is a cut
-pub found_cut : (xs : List Rule) (n limit : ℕ) → n ≤ length xs → Cut xs limit n → IsCut xs limit n
+pub found_cut : (xs : List Rule) (n limit : ℕ) → n ≤ length xs → Cut xs limit n → IsKeyPartition xs limit n
 found_cut xs n limit few cut = grind (arith, length-drop, length-take, get_or-drop, get_or-take)
 
 -- the code's form of the elements from an index on
@@ -48,7 +48,7 @@ front_or_rest : (rules : List Rule) (place : ℕ) (r : Rule) → Contains rules 
 front_or_rest rules place r c = Contains-append_cases (take place rules) (drop place rules) r
     (subst (λ (xs : List Rule). Contains xs r) (sym (take-append-drop place rules)) c)
 
-pub cut_front : (rules : List Rule) (key place : ℕ) → IsCut rules key place → (r : Rule) → Contains (take place rules) r
+pub cut_front : (rules : List Rule) (key place : ℕ) → IsKeyPartition rules key place → (r : Rule) → Contains (take place rules) r
     ↔ (Contains rules r × (r.key < key))
 cut_front rules key place cut r = (
   (λ c. (of_front rules place r c, cut.front r c)),
@@ -56,7 +56,7 @@ cut_front rules key place cut r = (
       (λ c. let high = cut.rest r c in let low = h.1 in absurd (omega arith)) (front_or_rest rules place r h.0)),
 )
 
-pub cut_rest : (rules : List Rule) (key place : ℕ) → IsCut rules key place → (r : Rule) → Contains (drop place rules) r
+pub cut_rest : (rules : List Rule) (key place : ℕ) → IsKeyPartition rules key place → (r : Rule) → Contains (drop place rules) r
     ↔ (Contains rules r × (key ≤ r.key))
 cut_rest rules key place cut r = (
   (λ c. (of_rest rules place r c, cut.rest r c)),

@@ -3,7 +3,7 @@ use Rattle.std.proofs.Common.{◌≡◌, ◌∙◌, ℕ, true, ◌&&◌, Option,
 use Rattle.std.specs.List.{slice_get}
 use Rattle.polcert_rules.proofs.Common.{Reward, Place, Every, Only, Entry, Preamble, IsSoundEntry, fit_places, is_table, covers, Rule}
 use Rattle.polcert_rules.proofs.Common.{RewardBody, key_in, table_key, AreDigits, most_places, IsLastNumber, AreRewardsOf, RewardRules}
-use Rattle.polcert_rules.proofs.Common.{Begins, IsLastBody}
+use Rattle.polcert_rules.proofs.Common.{KeyBegins, IsLastBody}
 use Rattle.polcert_rules.proofs.Keyed.Fitting.{and_true}
 use Rattle.polcert_rules.proofs.Keyed.Covering.{keyed_at, same_table}
 use Rattle.polcert_rules.proofs.RewardLaws.RewardKeys.{begins_after}
@@ -39,12 +39,12 @@ covering p entries rewards indices k x a is c =
 
 -- ---- no entry names an observation
 abbrev pub NoneBegins : RewardRules → List ℕ → ℕ → Type 0
-NoneBegins rewards indices least = (r : Rule) → Contains rewards.rules r → Begins most_places (table_key Reward) indices least r.key → ⊥
+NoneBegins rewards indices least = (r : Rule) → Contains rewards.rules r → KeyBegins most_places (table_key Reward) indices least r.key → ⊥
 
 named_begins : (low a s e z : ℕ) (p q r : Place) (n : ℕ) (rest : List Place) (key : ℕ)
     → fit_places (p ∷ q ∷ r ∷ Only n ∷ rest) (a ∷ s ∷ e ∷ z ∷ []) ≡ true
     → AreDigits most_places (p ∷ q ∷ r ∷ Only n ∷ rest) → key ≡ key_in most_places low (p ∷ q ∷ r ∷ Only n ∷ rest)
-    → Begins most_places low (a ∷ s ∷ e ∷ []) 2 key
+    → KeyBegins most_places low (a ∷ s ∷ e ∷ []) 2 key
 named_begins low a s e z p q r n (x ∷ xs) key fits digits is = absurd digits.1.1.1.1
 named_begins low a s e z p q r n [] key fits digits is =
     let small = digits.1.1.1.0 in

@@ -3,8 +3,8 @@ use Rattle.std.proofs.Common.{◌≡◌, ℕ, ◌<◌, ◌≤◌, Option, Some, 
 use Rattle.polcert_rules.proofs.Common.{Entry, Reward, count_of, most_states, most_actions, most_observations, Preamble, rewarded}
 use Rattle.polcert_rules.proofs.Common.{dimensions, reward, RewardBody, AreIndices, table_key, most_places, IsNewest, AreRewardsOf}
 use Rattle.polcert_rules.proofs.Common.{RewardRules, AreWithin, IsLastBody, newest_in}
-use Rattle.polcert_rules.specs.Keys.{Fits}
-use Rattle.polcert_rules.specs.RewardAt.{given, given_by, reward_in, reward_at}
+use Rattle.polcert_rules.specs.Keys.{FitsKey}
+use Rattle.polcert_rules.specs.RewardAt.{given, given_by, reward_by_rules, reward_at}
 use Rattle.polcert_rules.proofs.Indexes.Matching.{newest_is}
 use Rattle.polcert_rules.proofs.RewardLaws.RewardCells.{last_of_rules, last_body}
 use Rattle.polcert_rules.proofs.RewardLaws.RewardValues.{all_open, body_reward, no_reward}
@@ -17,12 +17,12 @@ module _ (p : Preamble) (entries : List Entry) (rewards : RewardRules) (indices 
   of_body None last = no_reward p entries indices last
   of_body (Some b) last = body_reward p entries rewards indices b are (all_open p indices within) last
 
-  of_number : (number : Option ℕ) → IsNewest rewards.rules (Fits most_places (table_key Reward) indices) number
+  of_number : (number : Option ℕ) → IsNewest rewards.rules (FitsKey most_places (table_key Reward) indices) number
       → given_by rewards indices number ≡ reward p entries indices
   of_number None n = no_reward p entries indices (last_of_rules p entries rewards indices None are small n)
   of_number (Some number) n = of_body (slice_get rewards.bodies number) (last_body p entries rewards indices number are small n)
 
-  pub cell_is : reward_in rewards indices ≡ reward p entries indices
+  pub cell_is : reward_by_rules rewards indices ≡ reward p entries indices
   cell_is = of_number (newest_in most_places (table_key Reward) rewards.rules indices)
       (newest_is most_places (table_key Reward) rewards.rules indices)
 

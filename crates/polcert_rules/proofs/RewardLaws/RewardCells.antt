@@ -2,26 +2,26 @@
 use Rattle.std.proofs.Common.{◌≡◌, ◌∙◌, ℕ, Option, Some, None, List, refl, sym, ap, subst}
 use Rattle.std.specs.List.{slice_get}
 use Rattle.std.specs.Option.{IsSomeAnd}
-use Rattle.polcert_rules.proofs.Common.{same_Some, Reward, Entry, Preamble, RewardBody, AreIndices, table_key, most_places, IsEntry}
+use Rattle.polcert_rules.proofs.Common.{same_Some, Reward, Entry, Preamble, RewardBody, AreIndices, table_key, most_places, IsEntryRule}
 use Rattle.polcert_rules.proofs.Common.{IsNewest, IsLastNumber, AreRewardsOf, IsBodyOf, RewardRules, IsLastBody}
-use Rattle.polcert_rules.specs.Keys.{Fits}
+use Rattle.polcert_rules.specs.Keys.{FitsKey}
 use Rattle.polcert_rules.proofs.Keyed.Covering.{last_number}
 
 -- the newest of the rules is the last of all entries
 pub last_of_rules : (p : Preamble) (entries : List Entry) (rewards : RewardRules) (indices : List ℕ) (result : Option ℕ)
     → AreRewardsOf p entries rewards
-    → AreIndices most_places indices → IsNewest rewards.rules (Fits most_places (table_key Reward) indices) result
+    → AreIndices most_places indices → IsNewest rewards.rules (FitsKey most_places (table_key Reward) indices) result
     → IsLastNumber entries Reward indices result
 last_of_rules p entries rewards indices result a is n = last_number entries rewards.rules Reward indices result a.index is n
 
 -- its entry has a body, and that is found
 pub last_body : (p : Preamble) (entries : List Entry) (rewards : RewardRules) (indices : List ℕ) (number : ℕ)
     → AreRewardsOf p entries rewards → AreIndices most_places indices
-    → IsNewest rewards.rules (Fits most_places (table_key Reward) indices) (Some number)
+    → IsNewest rewards.rules (FitsKey most_places (table_key Reward) indices) (Some number)
     → IsLastBody p.costs entries rewards.numbers indices (slice_get rewards.bodies number)
 last_body p entries rewards indices number a is n = at (slice_get rewards.bodies number) refl
   where
-    entry : IsEntry Reward entries n.0.rule
+    entry : IsEntryRule Reward entries n.0.rule
     entry = a.index.sound n.0.rule n.0.among
 
     found : IsSomeAnd (slice_get rewards.bodies number) (IsBodyOf p.costs entry.0 rewards.numbers)

@@ -4,7 +4,7 @@ use Rattle.std.proofs.Common.{pos}
 use Rattle.std.specs.List.{slice_get}
 use Rattle.polcert_rules.proofs.Common.{Reward, Place, Every, Only, Entry, Preamble, fit_places, is_table, covers, reward, RewardBody}
 use Rattle.polcert_rules.proofs.Common.{key_base, key_in, table_key, AreDigits, most_places, IsLastNumber, AreRewardsOf, RewardRules}
-use Rattle.polcert_rules.proofs.Common.{Begins, IsLastBody}
+use Rattle.polcert_rules.proofs.Common.{KeyBegins, IsLastBody}
 use Rattle.polcert_rules.specs.Steps.RewardSearch.{IsSingle}
 use Rattle.polcert_rules.proofs.RewardLaws.RewardKeys.{begins_after}
 use Rattle.polcert_rules.proofs.RewardLaws.RewardAlike.{NoneBegins, covering}
@@ -14,7 +14,7 @@ use Rattle.polcert_rules.proofs.RewardLaws.RewardValues.{is_open, body_reward, n
 end_begins : (low a s e z : ℕ) (p q : Place) (n : ℕ) (rest : List Place) (key : ℕ)
     → fit_places (p ∷ q ∷ Only n ∷ rest) (a ∷ s ∷ e ∷ z ∷ []) ≡ true
     → AreDigits most_places (p ∷ q ∷ Only n ∷ rest) → key ≡ key_in most_places low (p ∷ q ∷ Only n ∷ rest)
-    → Begins most_places low (a ∷ s ∷ []) (key_base + 2) key
+    → KeyBegins most_places low (a ∷ s ∷ []) (key_base + 2) key
 end_begins low a s e z p q n [] key fits digits is =
     let small = digits.1.1.0 in
     begins_after most_places low (p ∷ q ∷ []) (Only n ∷ []) (a ∷ s ∷ []) (e ∷ z ∷ []) _ key refl fits (omega arith) (omega arith)
@@ -28,7 +28,7 @@ end_begins low a s e z p q n (r ∷ x ∷ xs) key fits digits is = absurd digits
 seen_begins : (low a s e z : ℕ) (p q : Place) (n : ℕ) (rest : List Place) (key : ℕ)
     → fit_places (p ∷ q ∷ Every ∷ Only n ∷ rest) (a ∷ s ∷ e ∷ z ∷ []) ≡ true
     → AreDigits most_places (p ∷ q ∷ Every ∷ Only n ∷ rest) → key ≡ key_in most_places low (p ∷ q ∷ Every ∷ Only n ∷ rest)
-    → Begins most_places low (a ∷ s ∷ []) (key_base + 2) key
+    → KeyBegins most_places low (a ∷ s ∷ []) (key_base + 2) key
 seen_begins low a s e z p q n [] key fits digits is =
     let small = digits.1.1.1.0 in
     begins_after most_places low (p ∷ q ∷ []) (Every ∷ Only n ∷ []) (a ∷ s ∷ []) (e ∷ z ∷ []) _ key refl fits (omega arith) (omega arith)

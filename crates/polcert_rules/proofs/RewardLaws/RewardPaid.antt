@@ -5,7 +5,7 @@ use Rattle.std.specs.List.{slice_get}
 use Rattle.std.proofs.Math.Nat.{mul-le-mul_right}
 use Rattle.polcert_rules.proofs.Common.{cases_lt, Reward, Place, Entry, Preamble, fits_place, fit_places, is_table, covers, reward, Rule}
 use Rattle.polcert_rules.proofs.Common.{key_base, digit, key_in, table_key, AreDigits, most_places, AreRewardsOf, RewardRules, IsLastNumber}
-use Rattle.polcert_rules.proofs.Common.{Begins}
+use Rattle.polcert_rules.proofs.Common.{KeyBegins}
 use Rattle.polcert_rules.specs.Steps.Meeting.{fits_at, meets_row}
 use Rattle.polcert_cells.proofs.Basics.{true≢false}
 use Rattle.polcert_rules.proofs.Keyed.Fitting.{and_true, key_low, key_high, power_some, fit_digits}
@@ -28,7 +28,7 @@ two_places x a s e z t fits not_all = at x.places fits (λ f. not_all (ap (λ u.
 -- an entry that covers a cell begins with places that fit its action and start state
 covering_begins : (low a s e z key : ℕ) (ps : List Place) → 2 ≤ length ps → fit_places ps (a ∷ s ∷ e ∷ z ∷ []) ≡ true
     → AreDigits most_places ps → key ≡ key_in most_places low ps
-    → Begins most_places low (a ∷ s ∷ []) 0 key
+    → KeyBegins most_places low (a ∷ s ∷ []) 0 key
 covering_begins low a s e z key [] two fits digits is = absurd (omega arith)
 covering_begins low a s e z key (p ∷ []) two fits digits is = absurd (omega arith)
 covering_begins low a s e z key (p ∷ q ∷ rest) two fits digits is =
@@ -101,7 +101,7 @@ paid_by_all entries a s n last = grind (arith, and_true, meets_all)
 
 pub paid : (p : Preamble) (entries : List Entry) (rewards : RewardRules) (a s : ℕ) (r : Rule) → AreRewardsOf p entries rewards
     → a + 2 < key_base → s + 2 < key_base
-    → Contains rewards.rules r → Begins most_places (table_key Reward) (a ∷ s ∷ []) 0 r.key → IsPaidBy entries a s
+    → Contains rewards.rules r → KeyBegins most_places (table_key Reward) (a ∷ s ∷ []) 0 r.key → IsPaidBy entries a s
 paid p entries rewards a s r are small_a small_s among b =
     let e = are.index.sound r among in
     let x = e.0 in

@@ -2,7 +2,7 @@
 use Rattle.std.proofs.Common.{◌≡◌, ◌∙◌, Bool, List, All, Contains, ℤ, sym, ap, arith}
 use Rattle.polcert_rules.proofs.Common.{Reward, Entry, Preamble, IsSoundEntry, Rule, RewardShape, RewardBody, key_in, table_key}
 use Rattle.polcert_rules.proofs.Common.{most_places, AreKeyed, IsIndexOf, AreBodiesOf, AreRewardsOf, reward_rules}
-use Rattle.polcert_rules.specs.Steps.Rewards.{IsShapeOf, IsOfRewards}
+use Rattle.polcert_rules.specs.Steps.Rewards.{IsRewardShapeOf, IsOfRewards}
 use Rattle.polcert_rules.proofs.Keyed.Fitting.{key_low, key_high}
 
 -- ---- the rules of R
@@ -17,7 +17,7 @@ of_rewards entries rules is r among =
 
 pub are_rewards : (p : Preamble) (entries : List Entry) (shape : RewardShape) (costs : Bool) (rules : List Rule) (bodies : List RewardBody)
     (numbers : List ℤ)
-    → IsShapeOf p shape → p.costs ≡ costs → AreKeyed entries → All (IsSoundEntry p) entries → IsIndexOf Reward entries rules
+    → IsRewardShapeOf p shape → p.costs ≡ costs → AreKeyed entries → All (IsSoundEntry p) entries → IsIndexOf Reward entries rules
     → AreBodiesOf costs entries numbers bodies
     → AreRewardsOf p entries (reward_rules shape rules bodies numbers)
 are_rewards p entries shape costs rs0 bodies numbers shape_is costs_are keyed sound is each = grind arith

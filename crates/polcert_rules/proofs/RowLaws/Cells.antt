@@ -4,8 +4,8 @@ use Rattle.std.proofs.Common.{Option, Some, None, List, [], ◌∷◌, ◌++◌,
 use Rattle.std.specs.List.Sorted.{IsPermutation}
 use Rattle.polcert_rules.proofs.Common.{cases_lt, nat_tests, get_or_default, Contains-permutation, IsPermutation-sym, Contains-append_left}
 use Rattle.polcert_rules.proofs.Common.{Contains-append_right, Contains-append_cases, Contains-get_or, Place, Every, Only, fits_place, Rule}
-use Rattle.polcert_rules.proofs.Common.{key_base, digit, IsRising, IsNewest, newest_of_each, IsSingle, IsCell, columns_of, at_column}
-use Rattle.polcert_rules.specs.Steps.Rows.{HasSharedColumns, IsColumn, start_of}
+use Rattle.polcert_rules.proofs.Common.{key_base, digit, IsRising, IsNewest, newest_of_each, IsSingleCellKey, IsCell, columns_of, at_column}
+use Rattle.polcert_rules.specs.Steps.Rows.{HasSharedColumns, IsColumnRule, start_of}
 use Rattle.polcert_rules.proofs.Keyed.Fitting.{equal_numbers}
 use Rattle.polcert_rules.proofs.Indexes.Building.{Among, Stands, among_from, contains_from, each_old, each_kept, rule_of}
 
@@ -45,10 +45,10 @@ abbrev pub IsBetween : List Rule → List Rule → ℕ → ℕ → Type 0
 IsBetween rules part low high = (r : Rule) → Contains part r ↔ (Contains rules r × (low ≤ r.key) × (r.key < high))
 
 pub columns_are : (rules part : List Rule) (start : ℕ) → IsBetween rules part start (start + (key_base - 2) * key_base) → (x : Rule)
-    → Contains (columns_of start part) x ↔ IsColumn rules start x
+    → Contains (columns_of start part) x ↔ IsColumnRule rules start x
 columns_are rules part start between x = (forth, back)
   where
-    forth : Contains (columns_of start part) x → IsColumn rules start x
+    forth : Contains (columns_of start part) x → IsColumnRule rules start x
     forth c =
         let old = columns_old start part x (λ r a. ((between r).0 (contains_from part r a)).1) (among_from (columns_of start part) x c) in
         let r = (between old.0).0 (contains_from part old.0 old.1) in
@@ -56,7 +56,7 @@ columns_are rules part start between x = (forth, back)
         let high = r.2 in
         record { rule = old.0; among = r.0; key_is = old.2; column = omega arith; number_is = old.3 }
 
-    back : IsColumn rules start x → Contains (columns_of start part) x
+    back : IsColumnRule rules start x → Contains (columns_of start part) x
     back c =
         let key = c.key_is in
         let small = c.column in
@@ -67,7 +67,7 @@ columns_are rules part start between x = (forth, back)
 -- with those that stand in front
 pub with_columns : (rules part old new : List Rule) (start : ℕ) → IsBetween rules part start (start + (key_base - 2) * key_base)
     → new ≡ old ++ columns_of start part
-    → (x : Rule) → Contains new x ↔ (Contains old x ⊎ IsColumn rules start x)
+    → (x : Rule) → Contains new x ↔ (Contains old x ⊎ IsColumnRule rules start x)
 with_columns rules part old new start between is x = (
   (λ c. ⊎_elim inl (λ b. inr ((columns_are rules part start between x).0 b))
       (Contains-append_cases old (columns_of start part) x (subst (λ (xs : List Rule). Contains xs x) is c))),
@@ -79,11 +79,11 @@ with_columns rules part old new start between is x = (
 -- ---- the four kinds of single cells
 cell_from : (rules : List Rule) (low action state start : ℕ) (p q : Place) (x : Rule) → start ≡ start_of low (digit p) (digit q)
     → fits_place p action ≡ true → fits_place q state ≡ true
-    → IsColumn rules start x → IsCell rules low action state x
+    → IsColumnRule rules start x → IsCell rules low action state x
 cell_from rs0 low action state start p q x is a s c = grind arith
 
 cell_to : (rules : List Rule) (low action state start : ℕ) (x : Rule) → (c : IsCell rules low action state x)
-    → start ≡ start_of low (digit c.single.first) (digit c.single.second) → IsColumn rules start x
+    → start ≡ start_of low (digit c.single.first) (digit c.single.second) → IsColumnRule rules start x
 cell_to rs0 low action state start x c is = grind arith
 
 -- a place that fits an index has one of two digits
@@ -91,7 +91,7 @@ pub two_digits : (p : Place) (i : ℕ) → fits_place p i ≡ true → (digit p 
 two_digits p i h1 = grind arith
 
 abbrev pub IsStep : List Rule → List Rule → List Rule → ℕ → Type 0
-IsStep rules old new start = (x : Rule) → Contains new x ↔ (Contains old x ⊎ IsColumn rules start x)
+IsStep rules old new start = (x : Rule) → Contains new x ↔ (Contains old x ⊎ IsColumnRule rules start x)
 
 pub gathered_are : (rules v0 v3 v4 : List Rule) (low action state s4 : ℕ) → v0 ≡ [] → s4 ≡ start_of low (action + 2) (state + 2)
     → HasSharedColumns rules low action state v0 v3 → IsStep rules v3 v4 s4 → (x : Rule) → Contains v4 x ↔ IsCell rules low action state x
@@ -112,7 +112,7 @@ gathered_are rules v0 v3 v4 low action state s4 empty i4 shared step4 x = (forth
         (cell_from rules low action state s4 (Only action) (Only state) x i4 (fit action) (fit state)) ((step4 x).0 c4)
 
     to : (c : IsCell rules low action state x) (start a b : ℕ) → start ≡ start_of low a b → digit c.single.first ≡ a
-        → digit c.single.second ≡ b → IsColumn rules start x
+        → digit c.single.second ≡ b → IsColumnRule rules start x
     to c start a b i e f = cell_to rules low action state start x c
         (i ∙ ap (λ d. start_of low d b) (sym e) ∙ ap (start_of low (digit c.single.first)) (sym f))
 
@@ -165,18 +165,18 @@ column_missed (x ∷ xs) c r e a k = at (eqb x.key c) refl (λ f b. column_misse
 pub newest_at : (rules gathered sorted : List Rule) (low action state : ℕ)
     → ((x : Rule) → Contains gathered x ↔ IsCell rules low action state x) → IsPermutation gathered sorted
     → IsRising (newest_of_each sorted) → (c : ℕ) → c + 2 < key_base
-    → IsNewest rules (IsSingle low action state c) (at_column (newest_of_each sorted) c)
+    → IsNewest rules (IsSingleCellKey low action state c) (at_column (newest_of_each sorted) c)
 newest_at rules gathered sorted low action state are p up c small = at (at_column (newest_of_each sorted) c) refl
   where
     -- a rule of the column has a cell that stands for it
-    stands : (r : Rule) → Contains rules r → IsSingle low action state c r.key → Stands (newest_of_each sorted) (rule_of c r.number)
+    stands : (r : Rule) → Contains rules r → IsSingleCellKey low action state c r.key → Stands (newest_of_each sorted) (rule_of c r.number)
     stands r among single =
         let cell : IsCell rules low action state (rule_of c r.number) =
         record { rule = r; among = among; single = single; column = small; number_is = refl } in
         let inside : Contains sorted (rule_of c r.number) = Contains-permutation gathered sorted _ p ((are (rule_of c r.number)).1 cell) in
         each_kept sorted (rule_of c r.number) (among_from sorted _ inside)
 
-    at : (o : Option ℕ) → at_column (newest_of_each sorted) c ≡ o → IsNewest rules (IsSingle low action state c) o
+    at : (o : Option ℕ) → at_column (newest_of_each sorted) c ≡ o → IsNewest rules (IsSingleCellKey low action state c) o
     at None e = λ r among single. let s = stands r among single in column_missed (newest_of_each sorted) c s.rule e s.among s.key
     at (Some n) e =
         let found : Among (rule_of c n) (newest_of_each sorted) = column_found (newest_of_each sorted) c n e in

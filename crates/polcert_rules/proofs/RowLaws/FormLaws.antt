@@ -1,7 +1,7 @@
 -- What entries of T and O give, by their forms.
 use Rattle.std.proofs.Common.{◌≡◌, ℕ, ◌≤◌, ◌==◌, true, false, List, [], ◌∷◌, length, All, refl, arith}
 use Rattle.polcert_rules.proofs.Common.{list_any, All-head, Table, Place, Body, Probabilities, Entry, forms, weight_of, one, Preamble}
-use Rattle.polcert_rules.proofs.Common.{IsWeighted, Fills, IsSoundEntry, Shape, FitsShape, given, IsShapeOf}
+use Rattle.polcert_rules.proofs.Common.{IsWeighted, Fills, IsSoundEntry, Shape, FitsShape, entry_weight, IsShapeOf}
 use Rattle.polcert_cells.specs.declared.entries.Body.TheVariants.{Rewards, Uniform, Identity}
 
 -- how many places may stand before such a body
@@ -17,7 +17,8 @@ lens t body n h1 h2 = grind arith
 -- ---- what an entry gives
 pub given_is : (p : Preamble) (table : Table) (shape : Shape) (e : Entry) (a s c : ℕ) → IsWeighted table → IsShapeOf p table shape
     → e.table ≡ table
-    → list_any (λ n. n == length e.places) (forms false e.table e.body) ≡ true → weight_of p (a ∷ s ∷ c ∷ []) e ≡ given shape.columns e s c
+    → list_any (λ n. n == length e.places) (forms false e.table e.body) ≡ true
+    → weight_of p (a ∷ s ∷ c ∷ []) e ≡ entry_weight shape.columns e s c
 given_is p table shape e a s c w is t form = grind arith
 
 -- ---- sound entries fit the shape

@@ -2,10 +2,11 @@
 use Rattle.std.proofs.Common.{◌≡◌, ℕ, ◌+◌, ◌<◌, ◌⊎◌, inl, inr, ⊎_elim, true, Option, Some, List, [], ◌∷◌, All, Contains, sym, subst, arith}
 use Rattle.std.specs.Prelude.{IfSome}
 use Rattle.polcert_rules.proofs.Common.{Table, Entry, Rule, SplitRules, RowZeros, Row, key_base, table_key, most_places, IsRising, IsNewest}
-use Rattle.polcert_rules.proofs.Common.{IsIndexOf, IsLastNumber, max_option, IsSingle, IsCell, HasNoSuchColumn, HaveColumns, at_column}
-use Rattle.polcert_rules.proofs.Common.{no_column, IsSplit, others_in, IsRowOf, is_zero, zero_of, number_under}
-use Rattle.polcert_rules.specs.Keys.{Fits}
-use Rattle.polcert_rules.specs.Steps.Zeros.{AreOrdered}
+use Rattle.polcert_rules.proofs.Common.{IsIndexOf, IsLastNumber, max_option, IsSingleCellKey, IsCell, HasNoSuchColumn, HaveColumns}
+use Rattle.polcert_rules.proofs.Common.{at_column}
+use Rattle.polcert_rules.proofs.Common.{no_column, IsSplit, others_in, IsEntryRowOf, is_zero_entry, zero_of, number_under}
+use Rattle.polcert_rules.specs.Keys.{FitsKey}
+use Rattle.polcert_rules.specs.Steps.Zeros.{HasOrderedZeros}
 use Rattle.polcert_rules.proofs.Keyed.Covering.{covered_fits, fits_covered, last_number, keyed_at}
 use Rattle.polcert_rules.proofs.RowLaws.RowNumbers.{fits_split, single_fits, covers_any}
 use Rattle.polcert_rules.proofs.RowLaws.SingleEntries.{single_entries}
@@ -18,15 +19,15 @@ under_is whole zeros c = grind arith
 module _ (entries : List Entry) (rules : List Rule) (table : Table) (a s : ℕ) (columns : HaveColumns entries)
     (index : IsIndexOf table entries rules)
     (la : a + 2 < key_base) (ls : s + 2 < key_base) where
-  pub widened : (c : ℕ) (r : Rule) → Contains rules r → Fits most_places (table_key table) (a ∷ s ∷ no_column ∷ []) r.key
-      → Fits most_places (table_key table) (a ∷ s ∷ c ∷ []) r.key
+  pub widened : (c : ℕ) (r : Rule) → Contains rules r → FitsKey most_places (table_key table) (a ∷ s ∷ no_column ∷ []) r.key
+      → FitsKey most_places (table_key table) (a ∷ s ∷ c ∷ []) r.key
   widened c r among f =
       let entry = index.sound r among in
       let named : HasNoSuchColumn entry.0.places = keyed_at (λ (e : Entry). HasNoSuchColumn e.places) entries r.number entry.0 columns
       entry.1 in
-      let back = subst (Fits most_places (table_key table) (a ∷ s ∷ no_column ∷ [])) (sym entry.2) f in
+      let back = subst (FitsKey most_places (table_key table) (a ∷ s ∷ no_column ∷ [])) (sym entry.2) f in
       let covered = fits_covered table (a ∷ s ∷ no_column ∷ []) entry.0 entry.4 (omega arith, (omega arith, (omega arith, tt))) back in
-      subst (Fits most_places (table_key table) (a ∷ s ∷ c ∷ [])) entry.2
+      subst (FitsKey most_places (table_key table) (a ∷ s ∷ c ∷ [])) entry.2
       (covered_fits table (a ∷ s ∷ c ∷ []) entry.0 (covers_any table entry.0 a s c named covered))
 
 module _ (entries : List Entry) (rules : List Rule) (table : Table) (a s : ℕ) (split : SplitRules) (columns : HaveColumns entries)
@@ -35,18 +36,18 @@ module _ (entries : List Entry) (rules : List Rule) (table : Table) (a s : ℕ) 
   -- the three kinds of rules that fit a cell
   abbrev Three : ℕ → Rule → Type 0
   Three c r =
-      ((Contains rules r × Fits most_places (table_key table) (a ∷ s ∷ no_column ∷ []) r.key)
-      ⊎ (Contains split.zeros.items r × IsSingle (table_key table) a s c r.key))
-      ⊎ (Contains (others_in split.others) r × IsSingle (table_key table) a s c r.key)
+      ((Contains rules r × FitsKey most_places (table_key table) (a ∷ s ∷ no_column ∷ []) r.key)
+      ⊎ (Contains split.zeros.items r × IsSingleCellKey (table_key table) a s c r.key))
+      ⊎ (Contains (others_in split.others) r × IsSingleCellKey (table_key table) a s c r.key)
 
-  three_fit : (c : ℕ) (r : Rule) → Three c r → Contains rules r × Fits most_places (table_key table) (a ∷ s ∷ c ∷ []) r.key
+  three_fit : (c : ℕ) (r : Rule) → Three c r → Contains rules r × FitsKey most_places (table_key table) (a ∷ s ∷ c ∷ []) r.key
   three_fit c r e = ⊎_elim
       (λ two. ⊎_elim
       (λ w. (w.0, widened entries rules table a s columns index la ls c r w.0 w.1))
       (λ z. ((parted.each r).0 (inl z.0), single_fits (table_key table) a s c r.key z.1)) two)
       (λ o. ((parted.each r).0 (inr o.0), single_fits (table_key table) a s c r.key o.1)) e
 
-  fit_three : (c : ℕ) → c < no_column → (r : Rule) → Contains rules r × Fits most_places (table_key table) (a ∷ s ∷ c ∷ []) r.key
+  fit_three : (c : ℕ) → c < no_column → (r : Rule) → Contains rules r × FitsKey most_places (table_key table) (a ∷ s ∷ c ∷ []) r.key
       → Three c r
   fit_three c small r f = ⊎_elim
       (λ w. inl (inl (f.0, w)))
@@ -54,17 +55,17 @@ module _ (entries : List Entry) (rules : List Rule) (table : Table) (a s : ℕ) 
       (fits_split (table_key table) a s c no_column r.key f.1)
 
   row_number : (c : ℕ) (whole zero cell : Option ℕ) → c < no_column
-      → IsNewest rules (Fits most_places (table_key table) (a ∷ s ∷ no_column ∷ [])) whole
-      → IsNewest split.zeros.items (IsSingle (table_key table) a s c) zero
-      → IsNewest (others_in split.others) (IsSingle (table_key table) a s c) cell
+      → IsNewest rules (FitsKey most_places (table_key table) (a ∷ s ∷ no_column ∷ [])) whole
+      → IsNewest split.zeros.items (IsSingleCellKey (table_key table) a s c) zero
+      → IsNewest (others_in split.others) (IsSingleCellKey (table_key table) a s c) cell
       → IsLastNumber entries table (a ∷ s ∷ c ∷ []) (max_option (max_option whole zero) cell)
   row_number c whole zero cell small w z o =
-      let two = greatest_of_two (λ r. Contains rules r × Fits most_places (table_key table) (a ∷ s ∷ no_column ∷ []) r.key)
-      (λ r. Contains split.zeros.items r × IsSingle (table_key table) a s c r.key)
+      let two = greatest_of_two (λ r. Contains rules r × FitsKey most_places (table_key table) (a ∷ s ∷ no_column ∷ []) r.key)
+      (λ r. Contains split.zeros.items r × IsSingleCellKey (table_key table) a s c r.key)
       whole zero (greatest_of rules _ whole w) (greatest_of split.zeros.items _ zero z) in
-      let three = greatest_of_two _ (λ r. Contains (others_in split.others) r × IsSingle (table_key table) a s c r.key)
+      let three = greatest_of_two _ (λ r. Contains (others_in split.others) r × IsSingleCellKey (table_key table) a s c r.key)
       (max_option whole zero) cell two (greatest_of (others_in split.others) _ cell o) in
-      let all = newest_of rules (Fits most_places (table_key table) (a ∷ s ∷ c ∷ [])) _
+      let all = newest_of rules (FitsKey most_places (table_key table) (a ∷ s ∷ c ∷ [])) _
       (greatest_as (Three c) _ _ (three_fit c) (fit_three c small) three) in
       last_number entries rules table (a ∷ s ∷ c ∷ []) _ index (omega arith, (omega arith, (omega arith, tt))) all
 
@@ -78,17 +79,17 @@ module _ (entries : List Entry) (rules : List Rule) (table : Table) (a s : ℕ) 
         c.number_is;
   }
 
-  zero_is : (c n : ℕ) (o : Option ℕ) → o ≡ Some n → IsNewest split.zeros.items (IsSingle (table_key table) a s c) o
-      → is_zero entries n ≡ true
+  zero_is : (c n : ℕ) (o : Option ℕ) → o ≡ Some n → IsNewest split.zeros.items (IsSingleCellKey (table_key table) a s c) o
+      → is_zero_entry entries n ≡ true
   zero_is c n o h1 h2 = grind arith
 
-  pub row_is : (row : Row) → IsNewest rules (Fits most_places (table_key table) (a ∷ s ∷ no_column ∷ [])) row.whole
+  pub row_is : (row : Row) → IsNewest rules (FitsKey most_places (table_key table) (a ∷ s ∷ no_column ∷ [])) row.whole
       → IsRising row.cells.rules.items
-      → ((c : ℕ) → c + 2 < key_base → IsNewest (others_in split.others) (IsSingle (table_key table) a s c)
+      → ((c : ℕ) → c + 2 < key_base → IsNewest (others_in split.others) (IsSingleCellKey (table_key table) a s c)
       (at_column row.cells.rules.items c))
-      → All (IsCell (others_in split.others) (table_key table) a s) row.cells.rules.items → IfSome row.zeros AreOrdered
-      → ((c : ℕ) → c + 2 < key_base → IsNewest split.zeros.items (IsSingle (table_key table) a s c) (zero_of row.zeros c))
-      → IsRowOf entries table a s row
+      → All (IsCell (others_in split.others) (table_key table) a s) row.cells.rules.items → IfSome row.zeros HasOrderedZeros
+      → ((c : ℕ) → c + 2 < key_base → IsNewest split.zeros.items (IsSingleCellKey (table_key table) a s c) (zero_of row.zeros c))
+      → IsEntryRowOf entries table a s row
   row_is row w up newest each ordered zeros = record {
     rising = up;
     ordered = ordered;

@@ -1,12 +1,13 @@
 -- What covers the whole row, where newer zeros hide it.
 use Rattle.std.proofs.Common.{◌≡◌, ◌∙◌, ℕ, ◌+◌, ◌<◌, Bool, true, cond, Option, Some, None, List, [], ◌∷◌, sym, ap, arith, rules}
-use Rattle.polcert_rules.proofs.Common.{nat_tests, Entry, Cell, weight_at, IsRow, RowZeros, max_option, given_at, is_zero, zero_of}
+use Rattle.polcert_rules.proofs.Common.{nat_tests, Entry, Cell, weight_at, IsRow, RowZeros, max_option, given_at, is_zero_entry, zero_of}
 use Rattle.polcert_rules.proofs.Common.{number_under, overrides, shown, shown_under}
 use Rattle.polcert_cells.proofs.SparseLaws.{Climbs, climbs_lower, climbs_from, sparse_from}
 use Rattle.polcert_rules.proofs.RowLaws.NewerCells.{picked_number}
 
 -- ---- a zero gives 0
-pub zero_given : (columns : ℕ) (entries : List Entry) (n s c : ℕ) → is_zero entries n ≡ true → given_at columns entries (Some n) s c ≡ 0
+pub zero_given : (columns : ℕ) (entries : List Entry) (n s c : ℕ) → is_zero_entry entries n ≡ true
+    → given_at columns entries (Some n) s c ≡ 0
 zero_given columns entries n s c h = grind arith
 
 -- ---- the cells that are left
@@ -29,12 +30,13 @@ shown_row n hidden f g xs same row = record {
 }
 
 -- ---- what is under the cells above 0
-under_given : (columns : ℕ) (entries : List Entry) (whole zero : Option ℕ) (s c : ℕ) → ((n : ℕ) → zero ≡ Some n → is_zero entries n ≡ true)
+under_given : (columns : ℕ) (entries : List Entry) (whole zero : Option ℕ) (s c : ℕ)
+    → ((n : ℕ) → zero ≡ Some n → is_zero_entry entries n ≡ true)
     → given_at columns entries (max_option whole zero) s c ≡ cond (overrides whole zero) 0 (given_at columns entries whole s c)
 under_given columns entries whole zero s c h1 = grind (arith, picked_number, zero_given)
 
 pub under_row : (columns : ℕ) (entries : List Entry) (whole : Option ℕ) (zeros : Option RowZeros) (s : ℕ) (base : List Cell)
-    → ((c n : ℕ) → c < columns → zero_of zeros c ≡ Some n → is_zero entries n ≡ true)
+    → ((c n : ℕ) → c < columns → zero_of zeros c ≡ Some n → is_zero_entry entries n ≡ true)
     → IsRow columns (given_at columns entries whole s) base
     → IsRow columns (λ c. given_at columns entries (number_under whole zeros c) s c) (shown_under whole zeros base)
 under_row columns entries whole None s base h row = row

@@ -2,7 +2,7 @@
 use Rattle.std.proofs.Common.{◌≡◌, ◌∙◌, ℕ, ◌+◌, ◌<◌, ◌≤◌, ◌==◌, Bool, true, cond, eqb, ltb, List, [], ◌∷◌, ◌++◌, length, refl, ap, arith}
 use Rattle.polcert_rules.proofs.Common.{nat_tests, Cell, weight_at, IsRow, before, following, merged, weight_over, Rises}
 use Rattle.std.specs.List.{list_all}
-use Rattle.polcert_rules.specs.Steps.Merging.{with_cell, is_positive}
+use Rattle.polcert_rules.specs.Steps.Merging.{with_cell, has_weight}
 use Rattle.polcert_cells.proofs.SparseLaws.{Climbs, climbs_lower, climbs_from, sparse_from, weight_head, weight_tail, weight_below}
 
 -- ---- the cells before a column and after it
@@ -115,10 +115,10 @@ merged_row n f base newer row r =
     }
 
 -- cells that all have a weight stay as they are over no row
-pub positive_stay : (newer : List Cell) → list_all is_positive newer ≡ true → newer ≡ merged [] newer
+pub positive_stay : (newer : List Cell) → list_all has_weight newer ≡ true → newer ≡ merged [] newer
 positive_stay [] positive = refl
 positive_stay (x ∷ xs) positive = grind (arith, nat_tests, positive_stay xs)
 
-pub over_none : (base newer : List Cell) → (length base == 0) ≡ true → list_all is_positive newer ≡ true → newer ≡ merged base newer
+pub over_none : (base newer : List Cell) → (length base == 0) ≡ true → list_all has_weight newer ≡ true → newer ≡ merged base newer
 over_none [] newer none positive = positive_stay newer positive
 over_none (x ∷ xs) newer none positive = absurd (grind (arith, nat_tests))

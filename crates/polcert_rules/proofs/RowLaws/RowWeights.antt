@@ -1,7 +1,7 @@
 -- The weights of a row, from the numbers of its entries.
 use Rattle.std.proofs.Common.{◌≡◌, ◌∙◌, ℕ, ◌*◌, ◌<◌, ◌≤◌, ◌==◌, true, Option, None, List, [], ◌∷◌, length, refl, sym, ap, subst, arith}
-use Rattle.polcert_rules.proofs.Common.{nat_tests, Table, Entry, value_or, one, Cell, weight_at, IsRow, RowZeros, Row, Shape, given}
-use Rattle.polcert_rules.proofs.Common.{given_at, weight_in, newer_cells, weight_over, merged, Rises, number_under, covering_entry}
+use Rattle.polcert_rules.proofs.Common.{nat_tests, Table, Entry, value_or, one, Cell, weight_at, IsRow, RowZeros, Row, Shape, entry_weight}
+use Rattle.polcert_rules.proofs.Common.{given_at, weight_by_entries, newer_cells, weight_over, merged, Rises, number_under, covering_entry}
 use Rattle.polcert_rules.proofs.Common.{shown_under, AreNumbersOf, IsKeptRow}
 use Rattle.polcert_cells.proofs.SparseLaws.{row_same}
 use Rattle.polcert_rules.proofs.RowLaws.MergeLaws.{merged_row}
@@ -20,11 +20,11 @@ module _ (shape : Shape) (entries : List Entry) (table : Table) (a s : ℕ) (row
     (h : AreNumbersOf shape entries table a s row)
     (newer_are : newer ≡ newer_cells shape.columns entries (covering_entry row) s row.cells.rules.items) where
   newer_weights : (c : ℕ) → c < shape.columns → weight_over newer (λ i. given_at shape.columns entries (covering_entry row i) s i) c
-      ≡ weight_in shape.columns entries table a s c
+      ≡ weight_by_entries shape.columns entries table a s c
   newer_weights c l =
       ap (λ xs. weight_over xs (λ i. given_at shape.columns entries (covering_entry row i) s i) c) newer_are
       ∙ newer_over shape.columns entries s (covering_entry row) c row.cells.rules.items h.rising
-      ∙ ap (value_or 0 (λ e. given shape.columns e s c)) (sym (h.last c l))
+      ∙ ap (value_or 0 (λ e. entry_weight shape.columns e s c)) (sym (h.last c l))
 
   newer_rises : Rises 0 shape.columns newer
   newer_rises = grind (arith, newer_rise, rules_rise)
@@ -33,7 +33,7 @@ module _ (shape : Shape) (entries : List Entry) (table : Table) (a s : ℕ) (row
   pub finished : (base borrowed_base borrowed_newer cells : List Cell)
       → IsRow shape.columns (given_at shape.columns entries row.whole s) base → borrowed_base ≡ base → borrowed_newer ≡ newer
       → cells ≡ merged (shown_under row.whole row.zeros borrowed_base) borrowed_newer
-      → IsRow shape.columns (weight_in shape.columns entries table a s) cells
+      → IsRow shape.columns (weight_by_entries shape.columns entries table a s) cells
   finished base borrowed_base borrowed_newer cells given_base same_base same_newer e =
       let n = shape.columns in
       let f = λ (i : ℕ). given_at shape.columns entries (covering_entry row i) s i in
@@ -41,16 +41,16 @@ module _ (shape : Shape) (entries : List Entry) (table : Table) (a s : ℕ) (row
       let over = merged_row n f (shown_under row.whole row.zeros base) newer lower newer_rises in
       let is = e ∙ ap (λ (xs : List Cell). merged (shown_under row.whole row.zeros xs) borrowed_newer) same_base
       ∙ ap (merged (shown_under row.whole row.zeros base)) same_newer in
-      subst (λ (xs : List Cell). IsRow n (weight_in n entries table a s) xs) (sym is) (row_same n _ _ _ newer_weights over)
+      subst (λ (xs : List Cell). IsRow n (weight_by_entries n entries table a s) xs) (sym is) (row_same n _ _ _ newer_weights over)
 
-  pub finished_small : (cells : List Cell) → IsRow shape.columns (weight_in shape.columns entries table a s) cells → (c : ℕ)
+  pub finished_small : (cells : List Cell) → IsRow shape.columns (weight_by_entries shape.columns entries table a s) cells → (c : ℕ)
       → c < shape.columns → weight_at cells c ≤ one * shape.columns
   finished_small cells r c l = subst (λ k. k ≤ one * shape.columns) (sym (r.each c l)) (h.small c l)
 
   -- without newer cells and zeros it is what covers the whole row
   pub shared_weights : (kept : List (List Cell)) (n : ℕ) → row.zeros ≡ None → (length newer == 0) ≡ true
       → IsKeptRow shape.columns (given_at shape.columns entries row.whole s) kept n
-      → IsKeptRow shape.columns (weight_in shape.columns entries table a s) kept n
+      → IsKeptRow shape.columns (weight_by_entries shape.columns entries table a s) kept n
   shared_weights kept n zeros none k = record {
     row = k.row;
     is = k.is;

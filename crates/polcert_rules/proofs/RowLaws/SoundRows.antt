@@ -4,15 +4,16 @@ use Rattle.std.proofs.Common.{sym, ap, subst, arith, rules}
 use Rattle.std.specs.List.{slice_get}
 use Rattle.polcert_rules.proofs.Common.{Table, Reward, Place, Only, Entry, Elements, count_of, most_states, most_actions, most_observations}
 use Rattle.polcert_rules.proofs.Common.{is_table, fit_places, last_covering, IsLastCovering, last, weight, weight_of, value_or, one}
-use Rattle.polcert_rules.proofs.Common.{Preamble, dimensions, IsWeighted, IsSoundEntry, Rule, Shape, SplitRules, Row, IsSplit, IsRowOf}
+use Rattle.polcert_rules.proofs.Common.{Preamble, dimensions, IsWeighted, IsSoundEntry, Rule, Shape, SplitRules, Row, IsSplit, IsEntryRowOf}
 use Rattle.polcert_rules.proofs.Common.{covering_entry, key_base, AreDigits, most_places, IsIndexOf, AreKeyed, IsLastNumber, entry_at}
-use Rattle.polcert_rules.proofs.Common.{HaveColumns, IsSingleEntry, no_column, number_in, IsWithin, FitsShape, given, IsShapeOf, AreSound}
-use Rattle.polcert_rules.proofs.Common.{weight_in, IsWhole, AreNumbersOf}
+use Rattle.polcert_rules.proofs.Common.{HaveColumns, IsSingleEntry, no_column, number_in, IsShapeWithin, FitsShape, entry_weight, IsShapeOf}
+use Rattle.polcert_rules.proofs.Common.{AreSound}
+use Rattle.polcert_rules.proofs.Common.{weight_by_entries, IsWholeRowEntry, AreNumbersOf}
 use Rattle.polcert_cells.specs.declared.entries.Table.TheVariants.{Transition, Observation}
 use Rattle.polcert_cells.specs.Preamble.{observed}
 use Rattle.polcert_cells.specs.Steps.Sound.{ArePlacesIn}
 use Rattle.polcert_rules.specs.Steps.Given.{HasColumn}
-use Rattle.polcert_rules.specs.Steps.Sources.{IsNumber}
+use Rattle.polcert_rules.specs.Steps.Sources.{IsNumberEntry}
 use Rattle.polcert_cells.proofs.CellLaws as cells
 use Rattle.polcert_cells.proofs.SoundLaws.{rewarded_few}
 use Rattle.polcert_rules.specs.Steps.Repeats.{IsWholeNumber}
@@ -89,18 +90,18 @@ module _ (p : Preamble) (table : Table) (shape : Shape) (entries : List Entry) (
 
   -- the weight of a cell, under any preamble of the shape
   pub weight_is : (q : Preamble) (a s c : ℕ) → IsShapeOf q table shape
-      → weight_in shape.columns entries table a s c ≡ weight q entries table (a ∷ s ∷ c ∷ [])
+      → weight_by_entries shape.columns entries table a s c ≡ weight q entries table (a ∷ s ∷ c ∷ [])
   weight_is q a s c like = at (last_covering entries table (a ∷ s ∷ c ∷ [])) refl
     where
       at : (o : Option Entry) → last_covering entries table (a ∷ s ∷ c ∷ []) ≡ o
-          → value_or 0 (λ e. given shape.columns e s c) o ≡ value_or 0 (weight_of q (a ∷ s ∷ c ∷ [])) o
+          → value_or 0 (λ e. entry_weight shape.columns e s c) o ≡ value_or 0 (weight_of q (a ∷ s ∷ c ∷ [])) o
       at None f = refl
       at (Some e) f =
           let i = covering entries table (a ∷ s ∷ c ∷ []) e f in
           sym (given_is q table shape e a s c w like i.of_table (fits i.number e i.is i.of_table).form)
 
   -- a single cell is a number, in a column
-  pub newer_is : (r : Rule) → IsSingleEntry entries table r → (r.key < shape.columns) × IsNumber entries r.number
+  pub newer_is : (r : Rule) → IsSingleEntry entries table r → (r.key < shape.columns) × IsNumberEntry entries r.number
   newer_is r e =
       let f = fits r.number e.entry e.is e.of_table in
       let one_number = single_number shape table e.entry e.first e.second (Only r.key) w e.of_table e.places f in
@@ -117,18 +118,18 @@ module _ (p : Preamble) (table : Table) (shape : Shape) (entries : List Entry) (
         },
       )
 
-  module _ (within : IsWithin shape) (a s : ℕ) (row : Row) (h : IsRowOf entries table a s row) where
-    whole_is : (o : Option ℕ) → IsLastNumber entries table (a ∷ s ∷ no_column ∷ []) o → IsWhole shape entries o
+  module _ (within : IsShapeWithin shape) (a s : ℕ) (row : Row) (h : IsEntryRowOf entries table a s row) where
+    whole_is : (o : Option ℕ) → IsLastNumber entries table (a ∷ s ∷ no_column ∷ []) o → IsWholeRowEntry shape entries o
     whole_is None l = tt
     whole_is (Some n) l =
         let both = and_true (is_table l.0.0.table table) (fit_places l.0.0.places (a ∷ s ∷ no_column ∷ [])) l.0.2 in
         (l.0.0, l.0.1, fits n l.0.0 l.0.1 (same_table l.0.0.table table both.0))
 
-    small_is : (c : ℕ) → weight_in shape.columns entries table a s c ≤ one * shape.columns
+    small_is : (c : ℕ) → weight_by_entries shape.columns entries table a s c ≤ one * shape.columns
     small_is c = at (last_covering entries table (a ∷ s ∷ c ∷ [])) refl
       where
         at : (o : Option Entry) → last_covering entries table (a ∷ s ∷ c ∷ []) ≡ o
-            → value_or 0 (λ e. given shape.columns e s c) o ≤ one * shape.columns
+            → value_or 0 (λ e. entry_weight shape.columns e s c) o ≤ one * shape.columns
         at None f = omega arith
         at (Some e) f =
             let i = covering entries table (a ∷ s ∷ c ∷ []) e f in
@@ -152,7 +153,7 @@ module _ (p : Preamble) (table : Table) (shape : Shape) (entries : List Entry) (
 
 -- the counts of a shape are within their limits
 pub sound_within : (p : Preamble) (table : Table) (shape : Shape) (entries : List Entry) → IsWeighted table → IsShapeOf p table shape
-    → AreSound p entries → IsWithin shape
+    → AreSound p entries → IsShapeWithin shape
 sound_within p table shape entries h1 h2 h3 = grind arith
 
 -- the numbers of a row, by what the index says of it
@@ -161,7 +162,7 @@ pub row_numbers : (p : Preamble) (table : Table) (shape : Shape) (entries : List
     → IsWeighted table → IsShapeOf p table shape → AreSound p entries → IsIndexOf table entries rules → IsSplit entries rules split
     → IsWholeNumber rules table a s whole
     → ((es : List Entry) (rs : List Rule) → HaveColumns es → IsIndexOf table es rs → IsSplit es rs split → IsWholeNumber rs table a s whole
-    → IsRowOf es table a s row)
+    → IsEntryRowOf es table a s row)
     → AreNumbersOf shape entries table a s row
 row_numbers p table shape entries rs0 split a s whole row w is sound index parted coverings0 of_row =
     search (rules, sound_columns, covering, numbers_are, sound_within)

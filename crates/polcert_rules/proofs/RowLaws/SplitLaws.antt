@@ -1,14 +1,15 @@
 -- The rules of a table in two lists.
 use Rattle.std.proofs.Common.{◌≡◌, ◌∙◌, ◌==◌, suc, ◌<◌, ◌⊎◌, inl, inr, ⊎_elim, Bool, true, false, cond, List, [], ◌∷◌, Contains, length}
 use Rattle.std.proofs.Common.{refl, sym, subst, arith}
-use Rattle.polcert_rules.proofs.Common.{nat_tests, AllPairs-cons, Entry, Rule, SplitRules, IsRising, IsSplit, others_in, is_zero, zeros_of}
+use Rattle.polcert_rules.proofs.Common.{nat_tests, AllPairs-cons, Entry, Rule, SplitRules, IsRising, IsSplit, others_in, is_zero_entry}
+use Rattle.polcert_rules.proofs.Common.{zeros_of}
 use Rattle.polcert_rules.proofs.Common.{others_of}
 use Rattle.polcert_rules.specs.Steps.Rows.{AreExact}
 use Rattle.polcert_rules.proofs.Indexes.Building.{Among, among_from, contains_from}
 use Rattle.polcert_rules.proofs.RowLaws.Cells.{all_of}
 
 module _ (entries : List Entry) where
-  zeros_old : (rs : List Rule) (q : Rule) → Among q (zeros_of entries rs) → Among q rs × (is_zero entries q.number ≡ true)
+  zeros_old : (rs : List Rule) (q : Rule) → Among q (zeros_of entries rs) → Among q rs × (is_zero_entry entries q.number ≡ true)
   zeros_old [] q a = absurd a
   zeros_old (r ∷ rs) q a = grind (arith, ⊎_elim, zeros_old rs q)
 
@@ -32,7 +33,7 @@ module _ (entries : List Entry) where
 
   pub zeros_rise : (rs : List Rule) → IsRising rs → IsRising (zeros_of entries rs)
   zeros_rise [] up = up
-  zeros_rise (r ∷ rs) up = at (is_zero entries r.number) (zeros_rise rs (rest_rises r rs up))
+  zeros_rise (r ∷ rs) up = at (is_zero_entry entries r.number) (zeros_rise rs (rest_rises r rs up))
     where
       at : (b : Bool) → IsRising (zeros_of entries rs) → IsRising (cond b (r ∷ zeros_of entries rs) (zeros_of entries rs))
       at true ih = AllPairs-cons (λ x y. x.key < y.key) r (zeros_of entries rs)
@@ -42,7 +43,7 @@ module _ (entries : List Entry) where
 
   pub others_rise : (rs : List Rule) → IsRising rs → IsRising (others_of entries rs)
   others_rise [] up = up
-  others_rise (r ∷ rs) up = at (is_zero entries r.number) (others_rise rs (rest_rises r rs up))
+  others_rise (r ∷ rs) up = at (is_zero_entry entries r.number) (others_rise rs (rest_rises r rs up))
     where
       at : (b : Bool) → IsRising (others_of entries rs) → IsRising (cond b (others_of entries rs) (r ∷ others_of entries rs))
       at true ih = ih
@@ -61,7 +62,7 @@ module _ (entries : List Entry) where
     exact = exact;
   }
     where
-      old_zero : (r : Rule) → Contains split.zeros.items r → Among r rules × (is_zero entries r.number ≡ true)
+      old_zero : (r : Rule) → Contains split.zeros.items r → Among r rules × (is_zero_entry entries r.number ≡ true)
       old_zero r c = zeros_old rules r (among_from (zeros_of entries rules) r (subst (λ (xs : List Rule). Contains xs r) z c))
 
       old_other : (r : Rule) → Contains (others_in split.others) r → Among r rules

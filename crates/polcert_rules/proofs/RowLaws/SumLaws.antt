@@ -1,7 +1,7 @@
 -- The sum of a sparse row.
 use Rattle.std.proofs.Common.{◌≡◌, ◌∙◌, ℕ, zero, suc, ◌+◌, ◌-◌, ◌*◌, ◌<◌, ◌≤◌, ⊎_elim, List, [], ◌∷◌, mul-suc, Bool, cond, ltb, length, sum}
 use Rattle.std.proofs.Common.{All, refl, sym, ap, subst, arith}
-use Rattle.polcert_rules.proofs.Common.{cases_lt, nat_tests, sum_below, Cell, weight_at, scaled_cells, IsSparse, total, one}
+use Rattle.polcert_rules.proofs.Common.{cases_lt, nat_tests, sum_below, Cell, weight_at, scaled_cells, IsSparse, sum_of_weights, one}
 use Rattle.std.proofs.lemmas.List.Sums.{sum_by-cons, sum_by-le}
 use Rattle.std.proofs.Math.Nat.{mul_comm}
 use Rattle.polcert_cells.proofs.SparseLaws.{Climbs, cell_of, climbs_from, weight_head, weight_tail, weight_below}
@@ -33,13 +33,13 @@ sum_none : (n : ℕ) → sum_below (weight_at []) n ≡ 0
 sum_none zero = refl
 sum_none (suc n) = let before = sum_none n in omega (arith, before)
 
-sum_climbs : (low n : ℕ) (xs : List Cell) → Climbs low n xs → sum_below (weight_at xs) n ≡ total xs
+sum_climbs : (low n : ℕ) (xs : List Cell) → Climbs low n xs → sum_below (weight_at xs) n ≡ sum_of_weights xs
 sum_climbs low n [] h = sum_none n
 sum_climbs low n (x ∷ xs) h =
     sum_with x xs n h.1 (weight_below (x.column + 1) n x.column xs h.3 (omega arith))
     ∙ ap (λ k. x.weight + k) (sum_climbs (x.column + 1) n xs h.3)
 
-pub sum_is : (n : ℕ) (xs : List Cell) → IsSparse n xs → total xs ≡ sum_below (weight_at xs) n
+pub sum_is : (n : ℕ) (xs : List Cell) → IsSparse n xs → sum_of_weights xs ≡ sum_below (weight_at xs) n
 sum_is n xs s = sym (sum_climbs 0 n xs (climbs_from n xs s))
 
 pub sum_small : (f : ℕ → ℕ) (b n : ℕ) → ((c : ℕ) → c < n → f c ≤ b) → sum_below f n ≤ b * n
@@ -58,7 +58,7 @@ sum_same f g (suc n) h =
     omega (arith, before, here)
 
 -- ---- rows of numbers
-pub total_scaled : (scale k : ℕ) (ns : List ℕ) → total (scaled_cells scale k ns) ≡ sum ns * scale
+pub total_scaled : (scale k : ℕ) (ns : List ℕ) → sum_of_weights (scaled_cells scale k ns) ≡ sum ns * scale
 total_scaled scale k [] = let none : 0 * scale ≡ 0 = omega arith in sym none
 total_scaled scale k (n ∷ ns) =
     let parts : (n + sum ns) * scale ≡ n * scale + sum ns * scale = grind arith in
@@ -67,8 +67,8 @@ total_scaled scale k (n ∷ ns) =
     xs : List Cell
     xs = scaled_cells scale (k + 1) ns
 
-    at : total xs ≡ sum ns * scale → (n + sum ns) * scale ≡ n * scale + sum ns * scale → (b : Bool) → ltb 0 (n * scale) ≡ b
-        → total (cond b (cell_of k (n * scale) ∷ xs) xs) ≡ (n + sum ns) * scale
+    at : sum_of_weights xs ≡ sum ns * scale → (n + sum ns) * scale ≡ n * scale + sum ns * scale → (b : Bool) → ltb 0 (n * scale) ≡ b
+        → sum_of_weights (cond b (cell_of k (n * scale) ∷ xs) xs) ≡ (n + sum ns) * scale
     at h1 h2 b h3 = grind (arith, nat_tests)
 
 pub sum_most : (ns : List ℕ) → All (λ n. n ≤ one) ns → sum ns ≤ one * length ns

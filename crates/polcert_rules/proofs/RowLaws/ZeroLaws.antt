@@ -1,7 +1,8 @@
 -- The zeros of a row, found by their keys.
 use Rattle.std.proofs.Common.{◌≡◌, ◌∙◌, ℕ, ◌+◌, ◌*◌, ◌<◌, ◌≤◌, ◌↔◌, ◌⊎◌, ⊎_elim, true, Option, None, List, Contains, refl, ap, subst, arith}
 use Rattle.std.specs.Prelude.{◌==◌}
-use Rattle.polcert_rules.proofs.Common.{Place, Every, Only, fits_place, Rule, RowZeros, key_base, digit, IsNewest, IsSingle, newest_zero}
+use Rattle.polcert_rules.proofs.Common.{Place, Every, Only, fits_place, Rule, RowZeros, key_base, digit, IsNewest, IsSingleCellKey}
+use Rattle.polcert_rules.proofs.Common.{newest_zero}
 use Rattle.polcert_rules.specs.Steps.Zeros.{AreColumnsFrom, at_key, zero_in}
 use Rattle.polcert_rules.specs.declared.zeros.ZeroColumns.{ZeroColumns}
 use Rattle.polcert_rules.proofs.Keyed.Fitting.{same_number, equal_numbers}
@@ -33,10 +34,11 @@ in_columns rules start c z f small =
 
 single_from : (low action state c start k : ℕ) (p q : Place) → start ≡ start_of low (digit p) (digit q) → fits_place p action ≡ true
     → fits_place q state ≡ true → k ≡ start + c * key_base
-    → IsSingle low action state c k
+    → IsSingleCellKey low action state c k
 single_from low action state c start k p q is a s e = record { first = p; second = q; fits_action = a; fits_state = s; is = omega arith }
 
-pub single_to : (low action state c start a b k : ℕ) (i : IsSingle low action state c k) → start ≡ start_of low a b → digit i.first ≡ a
+pub single_to : (low action state c start a b k : ℕ) (i : IsSingleCellKey low action state c k) → start ≡ start_of low a b
+    → digit i.first ≡ a
     → digit i.second ≡ b → k ≡ start + c * key_base
 single_to low action state c start a b k i is e f = let key = i.is in omega arith
 
@@ -45,23 +47,23 @@ pub row_newest : (rules : List Rule) (low action state s1 s2 s3 s4 : ℕ) (z : R
     → s3 ≡ start_of low (action + 2) 1 → s4 ≡ start_of low (action + 2) (state + 2)
     → AreColumnsFrom rules s1 z.of_all → AreColumnsFrom rules s2 z.of_state → AreColumnsFrom rules s3 z.of_action
     → AreColumnsFrom rules s4 z.of_row
-    → (c : ℕ) → c + 2 < key_base → IsNewest rules (IsSingle low action state c) (newest_zero z c)
+    → (c : ℕ) → c + 2 < key_base → IsNewest rules (IsSingleCellKey low action state c) (newest_zero z c)
 row_newest rules low action state s1 s2 s3 s4 z i1 i2 i3 i4 f1 f2 f3 f4 c small =
     let front = newest_of_two rules _ _ _ _ (in_columns rules s1 c z.of_all f1 small) (in_columns rules s2 c z.of_state f2 small) in
     let rest = newest_of_two rules _ _ _ _ (in_columns rules s3 c z.of_action f3 small) (in_columns rules s4 c z.of_row f4 small) in
     newest_as rules (λ k. ((k ≡ s1 + c * key_base) ⊎ (k ≡ s2 + c * key_base)) ⊎ ((k ≡ s3 + c * key_base) ⊎ (k ≡ s4 + c * key_base)))
-    (IsSingle low action state c) _ forth back
+    (IsSingleCellKey low action state c) _ forth back
     (newest_of_two rules _ _ _ _ front rest)
   where
     forth : (k : ℕ) → ((k ≡ s1 + c * key_base) ⊎ (k ≡ s2 + c * key_base)) ⊎ ((k ≡ s3 + c * key_base) ⊎ (k ≡ s4 + c * key_base))
-        → IsSingle low action state c k
+        → IsSingleCellKey low action state c k
     forth k e = ⊎_elim
         (λ front. ⊎_elim (single_from low action state c s1 k Every Every i1 refl refl)
         (single_from low action state c s2 k Every (Only state) i2 refl (equal_numbers state)) front)
         (λ rest. ⊎_elim (single_from low action state c s3 k (Only action) Every i3 (equal_numbers action) refl)
         (single_from low action state c s4 k (Only action) (Only state) i4 (equal_numbers action) (equal_numbers state)) rest) e
 
-    back : (k : ℕ) → IsSingle low action state c k → ((k ≡ s1 + c * key_base) ⊎ (k ≡ s2 + c * key_base))
+    back : (k : ℕ) → IsSingleCellKey low action state c k → ((k ≡ s1 + c * key_base) ⊎ (k ≡ s2 + c * key_base))
         ⊎ ((k ≡ s3 + c * key_base) ⊎ (k ≡ s4 + c * key_base))
     back k i = grind (arith, ⊎_elim, two_digits, single_to)
 

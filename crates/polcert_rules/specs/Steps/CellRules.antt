@@ -3,7 +3,7 @@
 use Rattle.std.specs.Prelude.{◌≡◌, ℕ, ◌+◌, ◌*◌, ◌^◌, ◌<◌, ◌⊎◌, List, [], ◌∷◌, Option, Some, slice_get}
 use Rattle.polcert_rules.specs.declared.index.Rule.{Rule}
 use Rattle.polcert_rules.specs.declared.row_rules.CellRules.{CellRules}
-use Rattle.polcert_rules.specs.Keys.{key_base, Fits}
+use Rattle.polcert_rules.specs.Keys.{key_base, FitsKey}
 use Rattle.polcert_rules.specs.Matching.{max_option}
 use Rattle.polcert_cells.specs.Cells.{reward}
 use Rattle.polcert_cells.specs.CommonRewards.{cell_at}
@@ -18,7 +18,7 @@ use Rattle.polcert_rules.specs.Steps.Rewards.{AreRewardsOf}
 
 -- after the key `low` the key names end state e, and then fits observation z
 abbrev pub NamesEnd : ℕ → ℕ → ℕ → ℕ → Type 0
-NamesEnd low e z = Fits 1 (low + (e + 2) * key_base ^ 1) (z ∷ [])
+NamesEnd low e z = FitsKey 1 (low + (e + 2) * key_base ^ 1) (z ∷ [])
 
 -- At each end state and observation the newest rule whose key passes is that of the rules that name the end state, or the newest of the
 -- others, whichever is newer.
@@ -44,7 +44,7 @@ pub record IsCellOf (rewards : RewardRules) (a s : ℕ) (list : CellRules) (rule
   pub within : observation < rewards.shape.observations
   pub names : NamesEnd list.low end observation rule.key
   pub alone : (e z : ℕ) → z < rewards.shape.observations → NamesEnd list.low e z rule.key → (e ≡ end) × (z ≡ observation)
-  pub earns : IsNewest rewards.rules (Fits most_places (table_key Reward) (a ∷ s ∷ end ∷ observation ∷ [])) (max_option list.whole (Some rule.number))
+  pub earns : IsNewest rewards.rules (FitsKey most_places (table_key Reward) (a ∷ s ∷ end ∷ observation ∷ [])) (max_option list.whole (Some rule.number))
       → (p : Preamble) (entries : List Entry) → AreRewardsOf p entries rewards → reward p entries (a ∷ s ∷ end ∷ observation ∷ []) ≡ cell.reward
 
 -- the first cells are those of the rules, and their numbers rise

@@ -15,7 +15,7 @@ use Rattle.polcert_cells.specs.Steps.Sound.{Fills}
 use Rattle.polcert_rules.specs.declared.rows.Shape.{Shape}
 
 -- each count within its limits
-pub record IsWithin (shape : Shape) : Type 0 where
+pub record IsShapeWithin (shape : Shape) : Type 0 where
   pub actions : IsCount most_actions shape.actions
   pub states : IsCount most_states shape.states
   pub columns : IsCount most_elements shape.columns
@@ -44,12 +44,12 @@ number_for columns (p ∷ []) s c = s * columns + c
 number_for columns (p ∷ q ∷ []) s c = c
 number_for columns _ s c = 0
 
-abbrev pub given_by : ℕ → List Place → Body → ℕ → ℕ → ℕ
-given_by columns places (Probabilities ps) s c = slice_index ps (number_for columns places s c) * columns
-given_by columns places Uniform s c = one
-given_by columns places Identity s c = if s == c then one * columns else 0
-given_by columns places (Rewards hs) s c = 0
+abbrev pub body_weight : ℕ → List Place → Body → ℕ → ℕ → ℕ
+body_weight columns places (Probabilities ps) s c = slice_index ps (number_for columns places s c) * columns
+body_weight columns places Uniform s c = one
+body_weight columns places Identity s c = if s == c then one * columns else 0
+body_weight columns places (Rewards hs) s c = 0
 
 -- what an entry gives this column of the row of this state, where rows have so many columns
-abbrev pub given : ℕ → Entry → ℕ → ℕ → ℕ
-given columns entry s c = given_by columns entry.places entry.body s c
+abbrev pub entry_weight : ℕ → Entry → ℕ → ℕ → ℕ
+entry_weight columns entry s c = body_weight columns entry.places entry.body s c

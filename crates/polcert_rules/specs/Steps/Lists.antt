@@ -15,25 +15,25 @@ abbrev pub part_in : {X : Type 0} → List X → Part → List X
 part_in xs p = slice_range xs p.start p.end
 
 -- the part lies in a list of this length
-pub record LiesIn (len : ℕ) (p : Part) : Type 0 where
+pub record PartLiesIn (len : ℕ) (p : Part) : Type 0 where
   pub order : p.start ≤ p.end
   pub room : p.end ≤ len
 
 -- ---- rows in two lists, by their forms
-abbrev pub cells_in : List Cell → List ℕ → RowForm → ℕ → ℕ → List Cell
-cells_in cells numbers forms.Sparse start count = slice_range cells start (start + count)
-cells_in cells numbers forms.Full start count = scaled_cells count 0 (slice_range numbers start (start + count))
+abbrev pub cells_by_form : List Cell → List ℕ → RowForm → ℕ → ℕ → List Cell
+cells_by_form cells numbers forms.Sparse start count = slice_range cells start (start + count)
+cells_by_form cells numbers forms.Full start count = scaled_cells count 0 (slice_range numbers start (start + count))
 
 abbrev pub row_in : List Cell → List ℕ → RowPart → List Cell
-row_in cells numbers p = cells_in cells numbers p.form p.start p.count
+row_in cells numbers p = cells_by_form cells numbers p.form p.start p.count
 
 -- the row lies in its list
-abbrev pub HasRoom : RowForm → ℕ → ℕ → ℕ → Type 0
-HasRoom forms.Sparse cells numbers end = end ≤ cells
-HasRoom forms.Full cells numbers end = end ≤ numbers
+abbrev pub RowLiesIn : RowForm → ℕ → ℕ → ℕ → Type 0
+RowLiesIn forms.Sparse cells numbers end = end ≤ cells
+RowLiesIn forms.Full cells numbers end = end ≤ numbers
 
 pub record IsHeld (cells : List Cell) (numbers : List ℕ) (p : RowPart) : Type 0 where
-  pub room : HasRoom p.form (length cells) (length numbers) (p.start + p.count)
+  pub room : RowLiesIn p.form (length cells) (length numbers) (p.start + p.count)
 
 -- the cells of a row, whatever its form
 abbrev pub stored_cells : StoredRow → List Cell

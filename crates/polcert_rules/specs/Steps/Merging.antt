@@ -6,15 +6,15 @@ use Rattle.polcert_cells.specs.Cells.{last_covering, value_or}
 use Rattle.polcert_cells.specs.declared.elements.Cell.{Cell}
 use Rattle.polcert_rules.specs.declared.index.Rule.{Rule}
 use Rattle.polcert_rules.specs.Steps.Newest.{entry_at}
-use Rattle.polcert_rules.specs.Steps.Given.{given}
+use Rattle.polcert_rules.specs.Steps.Given.{entry_weight}
 
 -- what the entries give a cell, by the last that covers it
-abbrev pub weight_in : ℕ → List Entry → Table → ℕ → ℕ → ℕ → ℕ
-weight_in columns entries table a s c = value_or 0 (λ e. given columns e s c) (last_covering entries table (a ∷ s ∷ c ∷ []))
+abbrev pub weight_by_entries : ℕ → List Entry → Table → ℕ → ℕ → ℕ → ℕ
+weight_by_entries columns entries table a s c = value_or 0 (λ e. entry_weight columns e s c) (last_covering entries table (a ∷ s ∷ c ∷ []))
 
 -- what the entry of this number gives a column, or 0 where there is none
 abbrev pub given_at : ℕ → List Entry → Option ℕ → ℕ → ℕ → ℕ
-given_at columns entries number s c = value_or 0 (λ e. given columns e s c) (entry_at entries number)
+given_at columns entries number s c = value_or 0 (λ e. entry_weight columns e s c) (entry_at entries number)
 
 -- a number is greater than that of what is under it
 abbrev pub is_newer : Option ℕ → ℕ → Bool
@@ -43,12 +43,12 @@ following column [] = []
 following column (x ∷ xs) = if nat_lt x.column column then following column xs else (if x.column == column then xs else (x ∷ xs))
 
 -- the cell has a weight
-abbrev pub is_positive : Cell → Bool
-is_positive cell = nat_lt 0 cell.weight
+abbrev pub has_weight : Cell → Bool
+has_weight cell = nat_lt 0 cell.weight
 
 -- with a cell in front, if it has a weight
 abbrev pub with_cell : Cell → List Cell → List Cell
-with_cell x xs = if is_positive x then (x ∷ xs) else xs
+with_cell x xs = if has_weight x then (x ∷ xs) else xs
 
 -- newer cells over a row: each hides the row's cell in its column
 abbrev pub merged : List Cell → List Cell → List Cell

@@ -10,7 +10,7 @@ use Rattle.polcert_cells.specs.Preamble.{Preamble}
 use Rattle.polcert_rules.specs.declared.index.Rule.{Rule}
 use Rattle.polcert_rules.specs.declared.named_rules.NamedRules.{NamedRules}
 use Rattle.polcert_rules.specs.declared.rewards.Outcome.{Outcome}
-use Rattle.polcert_rules.specs.Keys.{key_base, Fits, most_places, table_key}
+use Rattle.polcert_rules.specs.Keys.{key_base, FitsKey, most_places, table_key}
 use Rattle.polcert_rules.specs.RewardAt.{RewardRules}
 use Rattle.polcert_rules.specs.Steps.Newest.{IsNewest}
 use Rattle.polcert_rules.specs.Steps.Distinct.{rule_at}
@@ -23,7 +23,7 @@ cell_of at z = at.action ∷ at.start ∷ at.end ∷ z ∷ []
 
 -- for each observation, the newest rule that fits the outcome and the observation is noted
 abbrev pub AreNewestAt : List Rule → Outcome → NamedRules → Type 0
-AreNewestAt rules at list = (z : ℕ) → z + 2 < key_base → IsNewest rules (Fits most_places (table_key Reward) (cell_of at z)) (noted_at list z)
+AreNewestAt rules at list = (z : ℕ) → z + 2 < key_base → IsNewest rules (FitsKey most_places (table_key Reward) (cell_of at z)) (noted_at list z)
 
 -- the first cells have the observations that the rules name, and their rewards
 pub record AreNamedCells (rewards : RewardRules) (at : Outcome) (list : NamedRules) (count : ℕ) (cells : List RewardCell) : Type 0 where

@@ -11,18 +11,18 @@ abbrev pub IsRising : List Rule → Type 0
 IsRising rules = AllPairs (λ x y. x.key < y.key) rules
 
 -- so many rules in front have keys below this one, and the others have not
-pub record IsCut (rules : List Rule) (key place : ℕ) : Type 0 where
+pub record IsKeyPartition (rules : List Rule) (key place : ℕ) : Type 0 where
   pub within : place ≤ length rules
   pub front : (r : Rule) → Contains (take place rules) r → r.key < key
   pub rest : (r : Rule) → Contains (drop place rules) r → key ≤ r.key
 
 -- a rule is an entry of the table, by its number and its key
-abbrev pub IsEntry : Table → List Entry → Rule → Type 0
-IsEntry table entries r = (e : Entry) × (slice_get entries r.number ≡ Some e) × (key_of e ≡ r.key) × (e.table ≡ table) × AreDigits most_places e.places
+abbrev pub IsEntryRule : Table → List Entry → Rule → Type 0
+IsEntryRule table entries r = (e : Entry) × (slice_get entries r.number ≡ Some e) × (key_of e ≡ r.key) × (e.table ≡ table) × AreDigits most_places e.places
 
 -- Each rule is an entry of the table; and each entry of the table has a rule with its key, and a number as great.
 pub record IsIndexOf (table : Table) (entries : List Entry) (rules : List Rule) : Type 0 where
-  pub sound : (r : Rule) → Contains rules r → IsEntry table entries r
+  pub sound : (r : Rule) → Contains rules r → IsEntryRule table entries r
   pub complete : (n : ℕ) (e : Entry) → slice_get entries n ≡ Some e → e.table ≡ table → (r : Rule) × Contains rules r × (r.key ≡ key_of e) × (n ≤ r.number)
 
 -- places that have a key

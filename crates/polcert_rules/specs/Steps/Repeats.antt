@@ -2,13 +2,13 @@
 use Rattle.std.specs.Prelude.{ℕ, ◌+◌, ◌-◌, ◌*◌, ◌^◌, ◌<◌, ◌≤◌, List, [], ◌∷◌, Option, Contains}
 use Rattle.polcert_cells.specs.declared.entries.Table.{Table}
 use Rattle.polcert_rules.specs.declared.index.Rule.{Rule}
-use Rattle.polcert_rules.specs.Keys.{key_base, table_key, Fits, most_places}
+use Rattle.polcert_rules.specs.Keys.{key_base, table_key, FitsKey, most_places}
 use Rattle.polcert_rules.specs.Steps.Newest.{IsNewest}
 use Rattle.polcert_rules.specs.Steps.Rows.{no_column}
 
 -- the number of what covers the whole row
 abbrev pub IsWholeNumber : List Rule → Table → ℕ → ℕ → Option ℕ → Type 0
-IsWholeNumber rules table a s whole = IsNewest rules (Fits most_places (table_key table) (a ∷ s ∷ no_column ∷ [])) whole
+IsWholeNumber rules table a s whole = IsNewest rules (FitsKey most_places (table_key table) (a ∷ s ∷ no_column ∷ [])) whole
 
 -- no pattern of the table begins with this action
 abbrev pub NamesNoAction : List Rule → Table → ℕ → Type 0

@@ -15,7 +15,7 @@ use Rattle.polcert_rules.specs.Steps.Rewards.{AreRewardsOf, IsBodyOf}
 use Rattle.polcert_rules.specs.RewardAt.{RewardRules}
 
 -- The key begins with places, one for each of these indices, that fit them, and continues with at least so much.
-pub record Begins (levels low : ℕ) (indices : List ℕ) (least key : ℕ) : Type 0 where
+pub record KeyBegins (levels low : ℕ) (indices : List ℕ) (least key : ℕ) : Type 0 where
   pub places : List Place
   pub fits : fit_places places indices ≡ true
   pub all : length places ≡ length indices
@@ -23,9 +23,9 @@ pub record Begins (levels low : ℕ) (indices : List ℕ) (least key : ℕ) : Ty
   pub to : key < key_in levels low places + key_base ^ (levels - length indices)
 
 -- whether a rule's key passes
-abbrev pub IsAnswer : List Rule → (ℕ → Type 0) → Bool → Type 0
-IsAnswer rules P true = (r : Rule) × Contains rules r × P r.key
-IsAnswer rules P false = (r : Rule) → Contains rules r → P r.key → ⊥
+abbrev pub IsSearchAnswer : List Rule → (ℕ → Type 0) → Bool → Type 0
+IsSearchAnswer rules P true = (r : Rule) × Contains rules r × P r.key
+IsSearchAnswer rules P false = (r : Rule) → Contains rules r → P r.key → ⊥
 
 -- After the key `low` the key has no place for a start state, or names this one.
 abbrev pub NamesStartAfter : ℕ → ℕ → ℕ → Type 0

@@ -18,7 +18,7 @@ use Rattle.polcert_rules.specs.Steps.Newest.{IsRising, IsIndexOf, AreKeyed}
 use Rattle.polcert_rules.specs.RewardAt.{RewardRules}
 
 -- the shape has as many elements of each kind as the indices of a reward run over
-pub record IsShapeOf (p : Preamble) (shape : RewardShape) : Type 0 where
+pub record IsRewardShapeOf (p : Preamble) (shape : RewardShape) : Type 0 where
   pub actions : count_of p.actions ≡ shape.actions
   pub states : count_of p.states ≡ shape.states
   pub observations : count_of (rewarded p) ≡ shape.observations
@@ -59,7 +59,7 @@ AreBodiesOf costs entries numbers bodies = (n : ℕ) (e : Entry) → slice_get e
 
 -- The rules are an index of the entries of R, and each has the body of its entry.
 pub record AreRewardsOf (p : Preamble) (entries : List Entry) (rewards : RewardRules) : Type 0 where
-  pub shape : IsShapeOf p rewards.shape
+  pub shape : IsRewardShapeOf p rewards.shape
   pub sound : All (IsSoundEntry p) entries
   pub keyed : AreKeyed entries
   pub index : IsIndexOf Reward entries rewards.rules

@@ -22,7 +22,7 @@ abbrev pub HaveColumns : List Entry → Type 0
 HaveColumns entries = All (λ (e : Entry). HasNoSuchColumn e.places) entries
 
 -- the key of a single cell of the row at this action and state, in this column
-pub record IsSingle (low action state column key : ℕ) : Type 0 where
+pub record IsSingleCellKey (low action state column key : ℕ) : Type 0 where
   pub first : Place
   pub second : Place
   pub fits_action : fits_place first action ≡ true
@@ -55,7 +55,7 @@ columns_of start (r ∷ rs) =
     if (r.key - start) % key_base == 0 then (record { key = (r.key - start) / key_base; number = r.number } ∷ columns_of start rs) else columns_of start rs
 
 -- a cell is a rule, whose key is that of the cell's column
-pub record IsColumn (rules : List Rule) (start : ℕ) (cell : Rule) : Type 0 where
+pub record IsColumnRule (rules : List Rule) (start : ℕ) (cell : Rule) : Type 0 where
   pub rule : Rule
   pub among : Contains rules rule
   pub key_is : rule.key ≡ start + cell.key * key_base
@@ -73,13 +73,13 @@ start_of low first second = low + first * key_base ^ 3 + second * key_base ^ 2 +
 -- after the old cells the new ones have those of each action or of each state in the row at this action and state
 abbrev pub HasSharedColumns : List Rule → ℕ → ℕ → ℕ → List Rule → List Rule → Type 0
 HasSharedColumns rules low action state old new =
-    (x : Rule) → Contains new x ↔ (((Contains old x ⊎ IsColumn rules (start_of low 1 1) x) ⊎ IsColumn rules (start_of low 1 (state + 2)) x) ⊎ IsColumn rules (start_of low (action + 2) 1) x)
+    (x : Rule) → Contains new x ↔ (((Contains old x ⊎ IsColumnRule rules (start_of low 1 1) x) ⊎ IsColumnRule rules (start_of low 1 (state + 2)) x) ⊎ IsColumnRule rules (start_of low (action + 2) 1) x)
 
 -- the same of a row
 pub record IsCell (rules : List Rule) (low action state : ℕ) (cell : Rule) : Type 0 where
   pub rule : Rule
   pub among : Contains rules rule
-  pub single : IsSingle low action state cell.key rule.key
+  pub single : IsSingleCellKey low action state cell.key rule.key
   pub column : cell.key + 2 < key_base
   pub number_is : rule.number ≡ cell.number
 

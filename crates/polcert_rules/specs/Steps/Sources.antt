@@ -24,10 +24,10 @@ use Rattle.polcert_rules.specs.Steps.Newest.{IsRising, IsIndexOf, entry_at}
 use Rattle.polcert_rules.specs.Steps.Shapes.{IsShapeOf, AreSound}
 use Rattle.polcert_rules.specs.Steps.Rows.{number_in}
 use Rattle.polcert_rules.specs.declared.row.Row.{Row}
-use Rattle.polcert_rules.specs.Steps.Zeros.{AreOrdered, IsSplit, is_zero, zero_of, covering_entry}
+use Rattle.polcert_rules.specs.Steps.Zeros.{HasOrderedZeros, IsSplit, is_zero_entry, zero_of, covering_entry}
 use Rattle.polcert_rules.specs.Steps.Given.{FitsShape}
 use Rattle.polcert_cells.specs.Sparse.{weight_at, IsSparse, IsRow}
-use Rattle.polcert_rules.specs.Steps.Merging.{given_at, weight_in}
+use Rattle.polcert_rules.specs.Steps.Merging.{given_at, weight_by_entries}
 
 -- ---- what a row is made of
 -- the row of this state, where the entry of this number has these places and this body: all rows of `uniform` are
@@ -50,7 +50,7 @@ IsFrom columns entries source cells = (whole : Option ℕ) (s : ℕ) → source_
 
 -- ---- what the index says of a row
 -- the entry of this number gives one number, within its limit
-pub record IsNumber (entries : List Entry) (number : ℕ) : Type 0 where
+pub record IsNumberEntry (entries : List Entry) (number : ℕ) : Type 0 where
   pub entry : Entry
   pub is : slice_get entries number ≡ Some entry
   pub written : ℕ
@@ -60,32 +60,32 @@ pub record IsNumber (entries : List Entry) (number : ℕ) : Type 0 where
 
 -- a cell is a column, and a number
 abbrev pub IsColumnOf : ℕ → List Entry → Rule → Type 0
-IsColumnOf columns entries r = (r.key < columns) × IsNumber entries r.number
+IsColumnOf columns entries r = (r.key < columns) × IsNumberEntry entries r.number
 
 -- what covers the whole row is an entry that fits the shape
-abbrev pub IsWhole : Shape → List Entry → Option ℕ → Type 0
-IsWhole shape entries None = Unit {0}
-IsWhole shape entries (Some n) = (e : Entry) × (slice_get entries n ≡ Some e) × FitsShape shape e
+abbrev pub IsWholeRowEntry : Shape → List Entry → Option ℕ → Type 0
+IsWholeRowEntry shape entries None = Unit {0}
+IsWholeRowEntry shape entries (Some n) = (e : Entry) × (slice_get entries n ≡ Some e) × FitsShape shape e
 
 -- the numbers of a row: that of what covers the whole row, those of its single cells, and those of its zeros
 pub record AreNumbersOf (shape : Shape) (entries : List Entry) (table : Table) (a s : ℕ) (row : Row) : Type 0 where
   pub rising : IsRising row.cells.rules.items
-  pub ordered : IfSome row.zeros AreOrdered
+  pub ordered : IfSome row.zeros HasOrderedZeros
   pub cells : All (IsColumnOf shape.columns entries) row.cells.rules.items
-  pub zeros : (c n : ℕ) → c < shape.columns → zero_of row.zeros c ≡ Some n → is_zero entries n ≡ true
-  pub covering : IsWhole shape entries row.whole
+  pub zeros : (c n : ℕ) → c < shape.columns → zero_of row.zeros c ≡ Some n → is_zero_entry entries n ≡ true
+  pub covering : IsWholeRowEntry shape entries row.whole
   pub last : (c : ℕ) → c < shape.columns → last_covering entries table (a ∷ s ∷ c ∷ []) ≡ entry_at entries (number_in (covering_entry row c) row.cells.rules.items c)
-  pub small : (c : ℕ) → c < shape.columns → weight_in shape.columns entries table a s c ≤ one * shape.columns
+  pub small : (c : ℕ) → c < shape.columns → weight_by_entries shape.columns entries table a s c ≤ one * shape.columns
 
 -- ---- rows as they are kept
 -- the sum of the weights
-abbrev pub total : List Cell → ℕ
-total [] = 0
-total (x ∷ xs) = x.weight + total xs
+abbrev pub sum_of_weights : List Cell → ℕ
+sum_of_weights [] = 0
+sum_of_weights (x ∷ xs) = x.weight + sum_of_weights xs
 
 -- the cells of a row of so many columns sum to its scale
 abbrev pub is_proper : ℕ → List Cell → Bool
-is_proper columns cells = total cells == one * columns
+is_proper columns cells = sum_of_weights cells == one * columns
 
 -- the row of this number has these weights
 pub record IsKeptRow (columns : ℕ) (weights : ℕ → ℕ) (rows : List (List Cell)) (number : ℕ) : Type 0 where
@@ -136,7 +136,7 @@ HasRows states size numbers = (length numbers ≡ states) × All (λ n. n < size
 
 -- ---- the rows of a table
 -- sound entries, and what their index finds
-pub record AreGiven (given : TableEntries) : Type 0 where
+pub record AreIndexedEntries (given : TableEntries) : Type 0 where
   pub weighted : IsWeighted given.table
   pub preamble : Preamble
   pub shape : IsShapeOf preamble given.table given.bodies.shape
@@ -146,7 +146,7 @@ pub record AreGiven (given : TableEntries) : Type 0 where
 
 -- the weights of a row
 abbrev pub weights_at : TableEntries → ℕ → ℕ → ℕ → ℕ
-weights_at given a s c = weight_in given.bodies.shape.columns given.bodies.entries.now given.table a s c
+weights_at given a s c = weight_by_entries given.bodies.shape.columns given.bodies.entries.now given.table a s c
 
 -- they sum to the scale
 abbrev pub HasScale : TableEntries → ℕ → ℕ → Type 0

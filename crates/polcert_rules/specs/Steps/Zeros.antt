@@ -31,19 +31,19 @@ abbrev pub gives_zero : Entry → Bool
 gives_zero entry = gives_zero_in (length entry.places) entry.body
 
 -- the entry of this number gives single cells the weight 0
-abbrev pub is_zero : List Entry → ℕ → Bool
-is_zero entries number = value_or false gives_zero (slice_get entries number)
+abbrev pub is_zero_entry : List Entry → ℕ → Bool
+is_zero_entry entries number = value_or false gives_zero (slice_get entries number)
 
 -- the zeros among these rules, and the others
 abbrev pub zeros_of : List Entry → List Rule → List Rule
 zeros_of entries [] = []
 zeros_of entries (r ∷ rs) =
-    if is_zero entries r.number then (r ∷ zeros_of entries rs) else zeros_of entries rs
+    if is_zero_entry entries r.number then (r ∷ zeros_of entries rs) else zeros_of entries rs
 
 abbrev pub others_of : List Entry → List Rule → List Rule
 others_of entries [] = []
 others_of entries (r ∷ rs) =
-    if is_zero entries r.number then others_of entries rs else (r ∷ others_of entries rs)
+    if is_zero_entry entries r.number then others_of entries rs else (r ∷ others_of entries rs)
 
 -- the rules that are no zeros, lent or listed
 abbrev pub others_in : Others → List Rule
@@ -55,7 +55,7 @@ pub record IsSplit (entries : List Entry) (rules : List Rule) (split : SplitRule
   pub zeros_rise : IsRising split.zeros.items
   pub others_rise : IsRising (others_in split.others)
   pub each : (r : Rule) → (Contains split.zeros.items r ⊎ Contains (others_in split.others) r) ↔ Contains rules r
-  pub zero : (r : Rule) → Contains split.zeros.items r → is_zero entries r.number ≡ true
+  pub zero : (r : Rule) → Contains split.zeros.items r → is_zero_entry entries r.number ≡ true
   pub exact : split.is_exact ≡ true → AreExact rules
 
 -- ---- the zeros of a row
@@ -80,7 +80,7 @@ pub record IsOrdered (z : ZeroColumns) : Type 0 where
   pub rising : IsRising z.rules.now
   pub room : z.start + (key_base - 2) * key_base < 2 ^ 64
 
-pub record AreOrdered (z : RowZeros) : Type 0 where
+pub record HasOrderedZeros (z : RowZeros) : Type 0 where
   pub of_all : IsOrdered z.of_all
   pub of_state : IsOrdered z.of_state
   pub of_action : IsOrdered z.of_action
@@ -119,10 +119,10 @@ shown_under whole (Some z) base = shown (λ c. overrides whole (newest_zero z c)
 -- ---- a row, by the numbers of its entries
 -- The cells are single cells of the table; and in each column the last entry that covers the cell is that of the greatest number
 -- among what covers the whole row, the newest zero, and the cell.
-pub record IsRowOf (entries : List Entry) (table : Table) (a s : ℕ) (row : Row) : Type 0 where
+pub record IsEntryRowOf (entries : List Entry) (table : Table) (a s : ℕ) (row : Row) : Type 0 where
   pub rising : IsRising row.cells.rules.items
-  pub ordered : IfSome row.zeros AreOrdered
+  pub ordered : IfSome row.zeros HasOrderedZeros
   pub single : All (IsSingleEntry entries table) row.cells.rules.items
-  pub zeros : (c n : ℕ) → c < no_column → zero_of row.zeros c ≡ Some n → is_zero entries n ≡ true
+  pub zeros : (c n : ℕ) → c < no_column → zero_of row.zeros c ≡ Some n → is_zero_entry entries n ≡ true
   pub whole : IsLastNumber entries table (a ∷ s ∷ no_column ∷ []) row.whole
   pub last : (c : ℕ) → c < no_column → IsLastNumber entries table (a ∷ s ∷ c ∷ []) (number_in (covering_entry row c) row.cells.rules.items c)

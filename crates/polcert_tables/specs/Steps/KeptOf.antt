@@ -4,7 +4,7 @@ use Rattle.polcert_cells.specs.declared.entries.Table.TheVariants.{Transition, O
 use Rattle.polcert_cells.specs.declared.entries.Entry.{Entry}
 use Rattle.polcert_cells.specs.Preamble.{Preamble, is_mdp}
 use Rattle.polcert_cells.specs.Meaning.{Meaning, IsSame, HasProperRows, HasLimitedNumbers}
-use Rattle.polcert_cells.specs.Steps.Drafts.{Draft, meaning}
+use Rattle.polcert_cells.specs.Steps.Drafts.{Draft, draft_meaning}
 use Rattle.polcert_format.specs.Writable.{IsWritable}
 use Rattle.polcert_rules.specs.RowTables.{RowTable, AreRowsOf}
 use Rattle.polcert_rules.specs.Steps.Rewards.{AreRewardsOf}
@@ -25,4 +25,4 @@ pub record IsKeptOf (d : Draft) (k : Kept) : Type 0 where
 
 -- each model that these items denote is within its limits, and can be written
 abbrev pub DenotesWithinLimits : Draft → Type 0
-DenotesWithinLimits d = (m : Meaning) → IsSame m (meaning d) → HasProperRows m → HasLimitedNumbers m × IsWritable m
+DenotesWithinLimits d = (m : Meaning) → IsSame m (draft_meaning d) → HasProperRows m → HasLimitedNumbers m × IsWritable m

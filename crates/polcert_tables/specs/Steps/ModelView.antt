@@ -9,7 +9,7 @@ use Rattle.polcert_cells.specs.Elements.{count_of, most_states, most_actions, mo
 use Rattle.polcert_cells.specs.Preamble.{Preamble, observed, is_mdp}
 use Rattle.polcert_cells.specs.Meaning.{IsCount}
 use Rattle.polcert_rules.specs.RowTables.{RowTable}
-use Rattle.polcert_rules.specs.Steps.Rewards.{IsShapeOf}
+use Rattle.polcert_rules.specs.Steps.Rewards.{IsRewardShapeOf}
 use Rattle.polcert_rules.specs.RewardAt.{RewardRules}
 use Rattle.polcert_cells.specs.Steps.Drafts.{Draft}
 use Rattle.polcert_cells.specs.Steps.Sound.{draft_of}
@@ -31,8 +31,8 @@ preamble_of p = record {
 abbrev pub draft_with : Lines → Option StartWeights → List Entry → Draft
 draft_with p start entries = draft_of p.discount p.costs p.states p.actions p.observations start entries
 
-abbrev pub kept_of : Lines → Option StartWeights → RowTable → Option RowTable → RewardRules → Kept
-kept_of p start transitions observed rewards = record {
+abbrev pub kept_parts : Lines → Option StartWeights → RowTable → Option RowTable → RewardRules → Kept
+kept_parts p start transitions observed rewards = record {
   preamble = preamble_of p;
   start = start;
   transitions = transitions;
@@ -41,7 +41,7 @@ kept_of p start transitions observed rewards = record {
 }
 
 -- the rows are for so many actions, states and columns
-pub record HasCounts (t : RowTable) (actions states columns : ℕ) : Type 0 where
+pub record HasTableCounts (t : RowTable) (actions states columns : ℕ) : Type 0 where
   pub actions_are : t.actions ≡ actions
   pub states_are : t.states ≡ states
   pub columns_are : t.columns ≡ columns
@@ -53,9 +53,9 @@ pub record IsKeptModel (k : Kept) : Type 0 where
   pub observations : IsCount most_observations (count_of (observed k.preamble))
   pub discount : k.preamble.discount ≤ one
   pub start : ForSome k.start (λ found. length found.weights ≡ count_of k.preamble.states)
-  pub t_counts : HasCounts k.transitions (count_of k.preamble.actions) (count_of k.preamble.states) (count_of k.preamble.states)
-  pub o_counts : ForSome k.observations (λ rows. HasCounts rows (count_of k.preamble.actions) (count_of k.preamble.states) (count_of (observed k.preamble)))
+  pub t_counts : HasTableCounts k.transitions (count_of k.preamble.actions) (count_of k.preamble.states) (count_of k.preamble.states)
+  pub o_counts : ForSome k.observations (λ rows. HasTableCounts rows (count_of k.preamble.actions) (count_of k.preamble.states) (count_of (observed k.preamble)))
   pub mdp : is_none k.observations ≡ is_mdp k.preamble
-  pub r_counts : IsShapeOf k.preamble k.rewards.shape
+  pub r_counts : IsRewardShapeOf k.preamble k.rewards.shape
   pub items : Draft
   pub said : IsKeptOf items k

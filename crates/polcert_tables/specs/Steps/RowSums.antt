@@ -8,12 +8,12 @@ use Rattle.polcert_cells.specs.Elements.{count_of}
 use Rattle.polcert_cells.specs.Numbers.{one}
 use Rattle.polcert_cells.specs.Preamble.{Preamble, observed}
 use Rattle.polcert_cells.specs.Meaning.{observation_weight, sum_below}
-use Rattle.polcert_tables.specs.Kept.{Kept, meaning}
+use Rattle.polcert_tables.specs.Kept.{Kept, kept_meaning}
 
 -- the weights of a row, by column
 abbrev pub row_of : Kept → Table → ℕ → ℕ → ℕ → ℕ
-row_of k Observation action state column = (meaning k).o action state column
-row_of k _ action state column = (meaning k).t action state column
+row_of k Observation action state column = (kept_meaning k).o action state column
+row_of k _ action state column = (kept_meaning k).t action state column
 
 -- each row of O that the entries give sums to its scale
 abbrev pub AreProperObservations : Preamble → List Entry → Type 0

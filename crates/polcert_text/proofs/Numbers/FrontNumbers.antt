@@ -1,7 +1,7 @@
 -- Numerals that end within some bytes, and their values.
 use Rattle.std.proofs.Common.{◌≡◌, ◌∙◌, ◌⊎◌, ⊎_elim, ℕ, suc, ◌+◌, ◌-◌, ◌*◌, ◌^◌, ◌<◌, ◌≤◌, ◌&&◌, ◌||◌, min, true, false, List, [], ◌∷◌}
 use Rattle.std.proofs.Common.{length, take, drop, get_or, pos, refl, sym, ap, arith}
-use Rattle.polcert_text.proofs.Common.{list_all, list_any, is_digit, class_of, glue_class, is_glued, are_digits, largest, IsExact, cap}
+use Rattle.polcert_text.proofs.Common.{list_all, list_any, is_digit, class_of, glue_class, is_glued, are_digits, largest, IsExact, size_cap}
 use Rattle.polcert_text.proofs.Common.{Measures, state_through, ByteClass, Digit, Start, Whole, Numeral}
 use Rattle.std.proofs.lemmas.List.{get_or-take, get_or-drop, length-take-le, length-drop}
 use Rattle.polcert_text.specs.declared.bytes.ByteClass.TheVariants.{Blank, LineEnd}
@@ -62,9 +62,10 @@ pub below_scaled : (number k floor : ℕ) → floor ≡ number * 10 ^ k → floo
 below_scaled number k floor scaled small = grind (arith, ten_pos)
 
 -- a number below the limit, with zeros at its end
-pub unscaled : (number zeros floor : ℕ) → number ≤ largest → floor ≡ number * 10 ^ zeros → floor < largest → (m : ℕ) → number ≡ min cap m
-    → floor ≡ min cap (m * 10 ^ zeros)
+pub unscaled : (number zeros floor : ℕ) → number ≤ largest → floor ≡ number * 10 ^ zeros → floor < largest → (m : ℕ)
+    → number ≡ min size_cap m
+    → floor ≡ min size_cap (m * 10 ^ zeros)
 unscaled number zeros floor below is small m capped =
     let same : m ≡ number = omega arith in
-    let here : floor ≡ min cap (number * 10 ^ zeros) = omega arith in
-    here ∙ ap (λ k. min cap (k * 10 ^ zeros)) (sym same)
+    let here : floor ≡ min size_cap (number * 10 ^ zeros) = omega arith in
+    here ∙ ap (λ k. min size_cap (k * 10 ^ zeros)) (sym same)

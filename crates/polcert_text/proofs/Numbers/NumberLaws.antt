@@ -2,7 +2,7 @@
 use Rattle.std.proofs.Common.{◌≡◌, ◌∙◌, ℕ, ◌+◌, ◌-◌, ◌*◌, ◌^◌, ◌<◌, ◌≤◌, min, Bool, true, false, cond, ◌&&◌, Option, Some, None, List, []}
 use Rattle.std.proofs.Common.{◌∷◌, ◌++◌, length, take, drop, get_or, sym, ap, arith}
 use Rattle.polcert_text.proofs.Common.{nat_tests, digit_value, digits_value_push, take_more, drop_all, list_all, before_first, after_first}
-use Rattle.polcert_text.proofs.Common.{digits_value, is_letter, is_digit, is_point, is_numeral, kind_of, mark_kind, cap, IsScaled}
+use Rattle.polcert_text.proofs.Common.{digits_value, is_letter, is_digit, is_point, is_numeral, kind_of, mark_kind, size_cap, IsScaled}
 use Rattle.polcert_text.proofs.Common.{ByteClass, TokenKind, state_through, kind_at, is_numeral_kind, State, Start}
 use Rattle.std.proofs.lemmas.Int.Digits.{digits_value_more}
 use Rattle.std.proofs.lemmas.List.{take_all, length-append, append_assoc}
@@ -97,7 +97,7 @@ number_step most bs i n m pos h l before next = grind (arith, digits_value_more,
 
 -- the step of a scaling at one more digit
 pub scaled_more : (kept : ℕ) (front : List ℕ) (d : ℕ) (old new : Scaling) → is_digit d ≡ true → 0 < old.left → IsScaled kept front old
-    → new.floor ≡ min (old.floor * 10 + (d - 48)) cap → new.left ≡ old.left - 1 → new.is_inexact ≡ old.is_inexact
+    → new.floor ≡ min (old.floor * 10 + (d - 48)) size_cap → new.left ≡ old.left - 1 → new.is_inexact ≡ old.is_inexact
     → IsScaled kept (front ++ d ∷ []) new
 scaled_more kept front d old new digit some was floor_is left_is inexact_is =
     grind (arith, digits_value_push, take_all, drop_all, length-append, digit_is, capped_more)
@@ -105,7 +105,8 @@ scaled_more kept front d old new digit some was floor_is left_is inexact_is =
 pub pow_next : (n k : ℕ) → n * 10 ^ (k + 1) ≡ n * 10 ^ k * 10
 pow_next n k = omega (arith, ap (λ p. n * p) (pow_more 10 k))
 
-pub zeros_step : (number n k next : ℕ) → number ≡ min cap (n * 10 ^ k) → next ≡ min (number * 10) cap → next ≡ min cap (n * 10 ^ (k + 1))
+pub zeros_step : (number n k next : ℕ) → number ≡ min size_cap (n * 10 ^ k) → next ≡ min (number * 10) size_cap
+    → next ≡ min size_cap (n * 10 ^ (k + 1))
 zeros_step number n k next before is = grind (arith, pow_next)
 
 pub scaled_through : (kept : ℕ) (front ds : List ℕ) (i : ℕ) (new : Scaling) → i < length ds

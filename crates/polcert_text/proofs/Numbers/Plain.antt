@@ -3,7 +3,8 @@ use Rattle.std.proofs.Common.{◌≡◌, ◌∙◌, ◌⊎◌, ⊎_elim, ℕ, ze
 use Rattle.std.proofs.Common.{◌++◌, length, take, drop, take_all, get_or, refl, sym, ap, length-append, arith}
 use Rattle.polcert_text.proofs.Common.{take-append-add, drop_all, take_more, digits_value_push, list_all, list_any, before_first}
 use Rattle.polcert_text.proofs.Common.{after_first, digits_value, is_digit, is_exponent_mark, is_point, class_of, is_numeral, without_sign}
-use Rattle.polcert_text.proofs.Common.{whole_of, fraction_of, exponent_of, is_lowering, exponent_size, largest, IsReadable, cap, is_nonzero}
+use Rattle.polcert_text.proofs.Common.{whole_of, fraction_of, exponent_of, is_lowering, exponent_size, largest, IsReadable, size_cap}
+use Rattle.polcert_text.proofs.Common.{is_nonzero}
 use Rattle.polcert_text.proofs.Common.{ceiling, Measures, state_after, state_through, Digit, Point, State}
 use Rattle.std.proofs.Math.Seq.{drop-append-add}
 use Rattle.std.proofs.lemmas.List.{length-take-le, length-drop, append_assoc, get_or-drop, drop-drop}
@@ -154,7 +155,7 @@ module _ (bs : List ℕ) (p : ℕ) (plain : IsPlain bs p) where
   -- what is kept: the digits before the point, and six after it, or all
   pub plain_measures : (number floor kept : ℕ) (is_inexact : Bool) → length bs ≤ 400 → kept ≡ min (length bs) (p + 7)
       → number ≡ digits_value 10 (take p bs ++ take (kept - (p + 1)) (drop (p + 1) bs)) → number ≤ largest
-      → ((n : ℕ) → number ≡ min cap n → floor ≡ min cap (n * 10 ^ (p + 7 - kept))) → floor < largest
+      → ((n : ℕ) → number ≡ min size_cap n → floor ≡ min size_cap (n * 10 ^ (p + 7 - kept))) → floor < largest
       → is_inexact ≡ list_any is_nonzero (drop kept bs) → IsReadable bs × Measures bs floor is_inexact
       × (ceiling floor is_inexact ≤ largest)
   plain_measures number floor kept is_inexact short kept_is value below zeros small inexact =
@@ -178,7 +179,7 @@ module _ (bs : List ℕ) (p : ℕ) (plain : IsPlain bs p) where
       (inexact ∙ ap (list_any is_nonzero) (sym rest)) in
       let size_is : size ≡ number * 10 ^ (p + 7 - kept) = (λ i. digits_value 10 (front i) * 10 ^ left i)
       ∙ ap (λ n. n * 10 ^ (p + 7 - kept)) (sym value) in
-      let floor_is : floor ≡ min cap size = zeros number (omega arith) ∙ ap (min cap) (sym size_is) in
+      let floor_is : floor ≡ min size_cap size = zeros number (omega arith) ∙ ap (min size_cap) (sym size_is) in
       let top = below_ceiling floor is_inexact small in
       let exact = exact_floor bs size floor is_inexact measures floor_is top in (
         record {

@@ -6,7 +6,7 @@ use Rattle.std.proofs.lemmas.Nat.{and_mask, and_le_r}
 use Rattle.std.proofs.lemmas.Bool.{lt-ltb, le-ltb}
 use Rattle.std.proofs.lemmas.Nat.Bits.{bit_at_and, bit_at_or, bit_at-zero, bit_at_above, bit_at-trailing_zeros}
 use Rattle.polcert_text.proofs.Common.{digits_value, class_of, Digit}
-use Rattle.polcert_text.specs.Steps.FrontSizes.{AreDecimals, AreDigits, packed}
+use Rattle.polcert_text.specs.Steps.FrontSizes.{AreDecimals, AreSixDigits, packed}
 use Rattle.polcert_text.proofs.Numbers.Plain.{after_more, at_or_after}
 use Rattle.polcert_text.proofs.Scanning.Classes.{digit_between}
 
@@ -53,7 +53,7 @@ lowest n m w b z a c d sum more fits first second = record {
 
 -- as six digits do
 abbrev pub Spells : ℕ → ℕ → Type 0
-Spells digits number = (a b c d e f : ℕ) → AreDigits a b c d e f → digits ≡ packed a b c d e f
+Spells digits number = (a b c d e f : ℕ) → AreSixDigits a b c d e f → digits ≡ packed a b c d e f
     → number ≡ ((((a * 10 + b) * 10 + c) * 10 + d) * 10 + e) * 10 + f
 
 -- so many bytes, and what stands above them
@@ -169,7 +169,7 @@ module _ (bs : List ℕ) (from : ℕ) (room : from + 6 ≤ length bs) (bytes : (
       each q = ⊎_elim (λ below. let here = ap (λ b. cond b (byte n q) 0) (lt-ltb q k below) in omega (arith, here, (digit q below).1))
           (λ above. let none = ap (λ b. cond b (byte n q) 0) (le-ltb q k above) in omega (arith, none)) (at_or_after q k)
 
-      are_digits : AreDigits (some k 0) (some k 1) (some k 2) (some k 3) (some k 4) (some k 5)
+      are_digits : AreSixDigits (some k 0) (some k 1) (some k 2) (some k 3) (some k 4) (some k 5)
       are_digits = record { a_is = each 0; b_is = each 1; c_is = each 2; d_is = each 3; e_is = each 4; f_is = each 5 }
 
       in_six_bytes : bit_and n (1 * 2 ^ (8 * k) % 18446744073709551616 - 1) < 2 ^ 48

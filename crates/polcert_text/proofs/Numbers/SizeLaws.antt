@@ -4,8 +4,8 @@ use Rattle.std.proofs.Common.{take, drop, refl, ap, subst, arith, length-append}
 use Rattle.std.specs.Prelude.{if◌then◌else◌}
 use Rattle.polcert_text.proofs.Common.{list_all, list_any, before_first, after_first, position_or_len, digits_value, one-le-pow}
 use Rattle.polcert_text.proofs.Common.{list_all-append, is_digit, is_exponent_mark, is_point, without_sign, is_numeral, whole_of}
-use Rattle.polcert_text.proofs.Common.{fraction_of, exponent_of, is_lowering, number_of, exponent_size, power_of, size_of, millionth}
-use Rattle.polcert_text.proofs.Common.{largest, cap, is_nonzero, IsScaled, ceiling, Measures}
+use Rattle.polcert_text.proofs.Common.{fraction_of, exponent_of, is_lowering, significand, exponent_size, power_of, size_of, millionth}
+use Rattle.polcert_text.proofs.Common.{largest, size_cap, is_nonzero, IsScaled, ceiling, Measures}
 use Rattle.std.proofs.Math.Nat.{mul-le-mul_right}
 use Rattle.std.proofs.lemmas.List.{length-take, length-drop}
 use Rattle.polcert_text.proofs.Scanning.BeforeFirst.{after_first-pass}
@@ -55,7 +55,7 @@ power_fits bs short small = grind (arith, length-append, length-fraction, loweri
 pub numeral_measure : (bs : List ℕ) → is_numeral bs ≡ true → length bs ≤ 400 → exponent_size bs ≤ 400
     → Measures bs (digits_value 10 (take (kept_of bs) (digits_of bs)) * 10 ^ (kept_of bs - length (digits_of bs)))
     (list_any is_nonzero (drop (kept_of bs) (digits_of bs)))
-unfolding size_of number_of millionth
+unfolding size_of significand millionth
 numeral_measure bs numeral short small =
     let digits : list_all is_digit (digits_of bs) ≡ true = list_all-append is_digit (whole_of bs) (fraction_of bs)
     ∙ (λ i. whole_digits bs numeral i && fraction_digits bs numeral i) in
@@ -71,7 +71,7 @@ unfolding millionth
 millionth_pos = one-le-pow 994 10 (omega arith)
 
 module _ (bs : List ℕ) where
-  pub beyond : (size floor : ℕ) (is_inexact : Bool) → Measures bs size is_inexact → floor ≡ min cap size
+  pub beyond : (size floor : ℕ) (is_inexact : Bool) → Measures bs size is_inexact → floor ≡ min size_cap size
       → largest < ceiling floor is_inexact → largest * millionth < size_of bs
   beyond size floor true m is more = grind (arith, mul-le-mul_right)
   beyond size floor false m is more =
@@ -84,10 +84,10 @@ module _ (bs : List ℕ) where
   within floor is_inexact h1 h2 = grind (arith, mul-le-mul_right)
 
   -- a size below the bound isn't cut off
-  below_cap : (size floor : ℕ) (is_inexact : Bool) → floor ≡ min cap size → ceiling floor is_inexact ≤ largest → size ≡ floor
+  below_cap : (size floor : ℕ) (is_inexact : Bool) → floor ≡ min size_cap size → ceiling floor is_inexact ≤ largest → size ≡ floor
   below_cap size floor is_inexact h1 h2 = grind arith
 
-  pub exact_floor : (size floor : ℕ) (is_inexact : Bool) → Measures bs size is_inexact → floor ≡ min cap size
+  pub exact_floor : (size floor : ℕ) (is_inexact : Bool) → Measures bs size is_inexact → floor ≡ min size_cap size
       → ceiling floor is_inexact ≤ largest → Measures bs floor is_inexact
   exact_floor size floor is_inexact m is small = subst (λ n. Measures bs n is_inexact) (below_cap size floor is_inexact is small) m
 

@@ -3,10 +3,11 @@ use Rattle.std.proofs.Common.{◌≡◌, ◌∙◌, ℕ, suc, zero, ◌+◌, ◌
 use Rattle.std.proofs.Common.{◌∷◌, ◌++◌, length, refl, sym, ap, subst, arith, decimal, append-nil, ℤ, pos, negsuc}
 use Rattle.polcert_text.proofs.Common.{ints, digit_value, list_all, list_any, before_first, after_first, digits_value, digits_value_after}
 use Rattle.polcert_text.proofs.Common.{nat_tests, list_all-append, list_any-append, decimal_nonempty, is_digit, is_point, is_exponent_mark}
-use Rattle.polcert_text.proofs.Common.{without_sign, is_numeral, whole_of, fraction_of, exponent_of, is_lowering, number_of, exponent_size}
+use Rattle.polcert_text.proofs.Common.{without_sign, is_numeral, whole_of, fraction_of, exponent_of, is_lowering, significand}
+use Rattle.polcert_text.proofs.Common.{exponent_size}
 use Rattle.polcert_text.proofs.Common.{power_of, size_of, millionth, signed, IsExact, decimals, fraction_text, unsigned_text}
 use Rattle.std.proofs.lemmas.Fmt.{decimal_by_steps, decimal_is_IsNumeral}
-use Rattle.polcert_text.specs.Numbers.{Denotes}
+use Rattle.polcert_text.specs.Numbers.{DenotesNumber}
 use Rattle.polcert_text.specs.Millionths.{scaled_text}
 use mir.Val.{SFits}
 use mir.Syntax.{w64}
@@ -176,7 +177,7 @@ scaled_up q v len r n e few value whole =
 
 size_from_parts : (text whole fraction : List ℕ) (q r n : ℕ) → FallsInto text whole fraction → digits_value 10 whole ≡ q
     → Decimals 6 r fraction → q * 1_000_000 + r ≡ n → size_of text ≡ n * millionth
-unfolding size_of number_of power_of exponent_size millionth
+unfolding size_of significand power_of exponent_size millionth
 size_from_parts text whole fraction q r n falls value was all =
     let text_is : before_first is_exponent_mark text ≡ text = before-none is_exponent_mark text falls.no_exponent in
     let w : whole_of text ≡ whole = ap (before_first is_point) text_is ∙ falls.whole_is in
@@ -210,7 +211,7 @@ written_exact n h negative =
     )
 
 -- what is written of a number of millionths denotes it
-pub scaled_denotes : (h : ℤ) → SFits w64 h → Denotes (scaled_text h) h
+pub scaled_denotes : (h : ℤ) → SFits w64 h → DenotesNumber (scaled_text h) h
 scaled_denotes (pos n) fits =
     let small : n < 2 ^ 64 = omega (arith, ints, fits.sfits) in
     let written = written_exact n small false in

@@ -2,7 +2,8 @@
 use Rattle.std.proofs.Common.{◌≡◌, ◌∙◌, ◌<◌, ◌≤◌, ◌⊎◌, inr, ℕ, Bool, true, false, Option, Some, None, IfSome, List, [], ◌++◌, length, take}
 use Rattle.std.proofs.Common.{drop, refl, sym, ap, subst, append-nil, append_assoc, take_all, ⊎_elim, ◌∷◌, arith}
 use Rattle.polcert_text.proofs.Common.{take-append-le, kind_of, class_of, state_after, state_through, kind_at, is_numeral_kind, front_len}
-use Rattle.polcert_text.proofs.Common.{is_over, is_stuck, pending, EndsWithin, IsFrontOf, IsLongestLexeme, IsScanOf, IsSeen, LexemePrefix}
+use Rattle.polcert_text.proofs.Common.{is_over, is_stuck, pending, EndsWithin, IsFrontOf, IsLongestLexeme, IsScanOf, IsFrontSeen}
+use Rattle.polcert_text.proofs.Common.{LexemePrefix}
 use Rattle.polcert_text.proofs.Common.{LexemeScan, ByteClass, TokenKind, State, Start, Single, Stuck}
 use Rattle.std.proofs.lemmas.List.{take-append-drop, length-append, length-take}
 use Rattle.polcert_text.specs.Steps.ScanOf.{front_kind}
@@ -14,7 +15,7 @@ pub front_or_long : (bs : List ℕ) (front : Option LexemePrefix) → IsFrontOf 
 front_or_long bs front h1 = grind arith
 
 -- with nothing after the bytes
-pub seen_whole : (bs : List ℕ) (front : Option LexemePrefix) → IsFrontOf bs front → IsSeen bs [] front
+pub seen_whole : (bs : List ℕ) (front : Option LexemePrefix) → IsFrontOf bs front → IsFrontSeen bs [] front
 seen_whole bs front was = grind (arith, append-nil, front_or_long)
 
 -- a front is no longer than the bytes
@@ -41,7 +42,7 @@ front_short read front h1 h2 h3 = grind (arith, take_all, ⊎_elim, kind_of-thro
 
 -- the bytes that a scan went through tell the lexeme, where none continues
 seen_stuck : (bs tail : List ℕ) (scan : LexemeScan) → IsScanOf (take scan.len bs) scan → is_stuck scan.state ≡ true
-    → IsSeen bs tail scan.longest
+    → IsFrontSeen bs tail scan.longest
 seen_stuck bs tail scan was stuck =
     let read = take scan.len bs in
     let at_stuck : state_through Start read ≡ Stuck = was.state ∙ stuck_state scan.state stuck in
@@ -107,7 +108,7 @@ mark_kind read (Some f) kind was len mark =
 
 -- or a mark
 seen_mark : (bs tail : List ℕ) (scan : LexemeScan) (kind : TokenKind) → IsScanOf (take scan.len bs) scan → scan.state ≡ Single kind
-    → IsSeen bs tail scan.longest
+    → IsFrontSeen bs tail scan.longest
 seen_mark bs tail scan kind was mark =
     let read = take scan.len bs in
     let at_mark : state_through Start read ≡ Single kind = was.state ∙ mark in
@@ -121,17 +122,17 @@ seen_mark bs tail scan kind was mark =
     }
 
 pub seen_over : (bs tail : List ℕ) (scan : LexemeScan) → IsScanOf (take scan.len bs) scan → is_over scan.state ≡ true
-    → IsSeen bs tail scan.longest
+    → IsFrontSeen bs tail scan.longest
 seen_over bs tail scan was over = go scan.state refl
   where
-    go : (state : State) → scan.state ≡ state → IsSeen bs tail scan.longest
+    go : (state : State) → scan.state ≡ state → IsFrontSeen bs tail scan.longest
     go Stuck e = seen_stuck bs tail scan was (ap is_stuck e)
     go (Single kind) e = seen_mark bs tail scan kind was e
     go _ e = absurd (cc)
 
 -- or where a lexeme was found that is too long
 pub seen_long : (bs tail : List ℕ) (front : Option LexemePrefix) (n : ℕ) → IsFrontOf (take n bs) front → 400 < front_len front
-    → IsSeen bs tail front
+    → IsFrontSeen bs tail front
 seen_long bs tail None n was long = absurd (omega arith)
 seen_long bs tail (Some f) n was long =
     let joined : take n bs ++ (drop n bs ++ tail) ≡ bs ++ tail = sym (append_assoc (take n bs) (drop n bs) tail)
@@ -145,8 +146,8 @@ seen_long bs tail (Some f) n was long =
 
 -- or where nothing follows
 pub seen_all : (bs tail : List ℕ) (scan : LexemeScan) → IsScanOf (take scan.len bs) scan
-    → (is_stuck scan.state ≡ false → scan.len ≡ length bs) → tail ≡ [] → IsSeen bs tail scan.longest
-seen_all bs tail scan was all none = subst (λ xs. IsSeen bs xs scan.longest) (sym none)
+    → (is_stuck scan.state ≡ false → scan.len ≡ length bs) → tail ≡ [] → IsFrontSeen bs tail scan.longest
+seen_all bs tail scan was all none = subst (λ xs. IsFrontSeen bs xs scan.longest) (sym none)
     (seen_whole bs scan.longest (scanned bs scan was all))
 
 pub seen_within : (bs : List ℕ) (scan : LexemeScan) → IsScanOf (take scan.len bs) scan → front_len scan.longest ≤ length bs

@@ -1,12 +1,12 @@
 -- What a call made of a slice, from what it made of the slice as the text of a source.
 use Rattle.std.proofs.Common.{◌≡◌, ◌∙◌, ℕ, Bool, List, Ok, Err, refl, subst, arith}
 use Rattle.polcert_text.proofs.Common.{IsText, EachTextThatFits, ReadsText, Device, Refused}
-use Rattle.polcert_text.specs.Source.{Reads, Fits}
+use Rattle.polcert_text.specs.Source.{Reads, FitsRead}
 use Rattle.polcert_text.proofs.Known.{slice_reads, gave_slice, text_slice}
 
 module _ {S : Type 0} (rest : S → List ℕ) (old new : S) where
   -- whatever was read of a slice, the slice is a text that fits
-  slice_fits : (bytes : List ℕ) (is_whole : Bool) → Reads (slice_reads rest) old bytes is_whole new → Fits bytes is_whole (rest old)
+  slice_fits : (bytes : List ℕ) (is_whole : Bool) → Reads (slice_reads rest) old bytes is_whole new → FitsRead bytes is_whole (rest old)
   slice_fits bytes is_whole h1 = grind (arith, slice_reads, gave_slice, text_slice)
 
 module _ {S : Type 0} (rest : S → List ℕ) {old new : S} {slice : List ℕ} (holds : rest old ≡ slice) where

@@ -3,7 +3,7 @@ use Rattle.std.proofs.Common.{◌≡◌, ◌∙◌, ◌+◌, ◌-◌, ◌<◌, �
 use Rattle.std.proofs.Common.{length, take, drop, get_or, refl, sym, ap, subst, append-nil, append_assoc, length-append, arith}
 use Rattle.std.proofs.lemmas.List.{take_at, length-drop, get_or-drop}
 use Rattle.polcert_text.proofs.Common.{class_of, IsLongestGap, is_gap, is_empty, gap_after, gap_through, Ahead, rest_with, CanFollow}
-use Rattle.polcert_text.proofs.Common.{visible, skip, IsComplete, Fills, ReadsOn, SkipsGap, Gap, Between, Ended, ByteClass, nat_tests}
+use Rattle.polcert_text.proofs.Common.{visible, skip, IsReadToLimit, Fills, ReadsOn, SkipsGap, Gap, Between, Ended, ByteClass, nat_tests}
 use Rattle.std.specs.Bool.{◌==◌}
 use Rattle.polcert_text.proofs.Scanning.GapLaws.{gap_through-append, gap_until_open, longest_gap_at}
 use Rattle.polcert_text.proofs.Streams.StreamLaws.{rest_bytes, tail_of, visible_len, no_tail, reads_nothing, reads_skip, reads_fill}
@@ -34,7 +34,7 @@ first_visible n kept h1 = grind arith
 -- the gap up to a byte below the limit, or up to the end
 pub longest_gap : (a : Ahead) (skipped : List ℕ) (gap : Gap) → gap_through Between skipped ≡ gap → (gap ≡ Ended → ⊥)
     → (0 < length (visible a) → gap_after gap (class_of (get_or a.kept 0 0)) ≡ Ended)
-    → (length (visible a) ≡ 0 → IsComplete a)
+    → (length (visible a) ≡ 0 → IsReadToLimit a)
     → (rest : List ℕ) → CanFollow a rest → IsLongestGap (skipped ++ (rest_with a rest).bytes) (length skipped)
 longest_gap a skipped gap was continues stops complete rest can = go (visible a) refl
   where
@@ -57,7 +57,7 @@ ended_from gap c h1 h2 = grind arith
 -- after the gap comes no other
 pub no_gap : (a : Ahead) (gap : Gap) → (gap ≡ Ended → ⊥)
     → (0 < length (visible a) → gap_after gap (class_of (get_or a.kept 0 0)) ≡ Ended)
-    → (length (visible a) ≡ 0 → IsComplete a)
+    → (length (visible a) ≡ 0 → IsReadToLimit a)
     → (rest : List ℕ) → CanFollow a rest → IsLongestGap (rest_with a rest).bytes 0
 no_gap a gap continues stops complete = longest_gap a [] Between refl (λ e. absurd (cc)) (λ some.
     let between = ended_from gap (class_of (get_or a.kept 0 0)) (stops some) continues in
@@ -133,7 +133,7 @@ module _ {S : Type 0} (reads : S → ℕ → Option (List ℕ) → S → Type 0)
     end = λ e. (none e, has);
   }
     where
-      complete : (now.is_whole ≡ true) ⊎ (0 < length now.kept) → length (visible now) ≡ 0 → IsComplete now
+      complete : (now.is_whole ≡ true) ⊎ (0 < length now.kept) → length (visible now) ≡ 0 → IsReadToLimit now
       complete (inl whole) empty = inl whole
       complete (inr kept) empty = let below = was.on.below in inr (omega (arith, visible_len now))
 

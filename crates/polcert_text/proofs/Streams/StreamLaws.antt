@@ -2,7 +2,7 @@
 use Rattle.std.proofs.Common.{◌≡◌, ◌∙◌, ◌+◌, ◌-◌, ◌<◌, ◌≤◌, ℕ, zero, suc, min, Bool, true, false, Option, Some, List, [], ◌∷◌, ◌++◌, length}
 use Rattle.std.proofs.Common.{take, get_or, refl, sym, ap, append-nil, append_assoc, length-append, arith}
 use Rattle.polcert_text.proofs.Common.{take_more, class_of, is_empty, gap_after, gap_through, nothing, more, Ahead, rest_with, CanFollow}
-use Rattle.polcert_text.proofs.Common.{ReadsFrom, visible, skip, IsComplete, Fills, ReadsOn, Gap}
+use Rattle.polcert_text.proofs.Common.{ReadsFrom, visible, skip, IsReadToLimit, Fills, ReadsOn, Gap}
 use Rattle.std.proofs.lemmas.List.{take-append-drop, length-take, length-take-le}
 use Rattle.polcert_text.proofs.Scanning.GapLaws.{gap_through-append}
 
@@ -35,7 +35,7 @@ pub visible_len : (a : Ahead) → length (visible a) ≡ min (a.limit - a.place)
 visible_len a = length-take (a.limit - a.place) a.kept
 
 -- there is no such tail where no byte below the limit is still to come
-pub no_tail : (a : Ahead) (rest : List ℕ) → CanFollow a rest → IsComplete a → tail_of a rest ≡ []
+pub no_tail : (a : Ahead) (rest : List ℕ) → CanFollow a rest → IsReadToLimit a → tail_of a rest ≡ []
 no_tail a rest h1 h2 = grind arith
 
 module _ {S : Type 0} (reads : S → ℕ → Option (List ℕ) → S → Type 0) (failures : S → ℕ) where

@@ -1,8 +1,8 @@
 -- The lexeme that a stream scans, in pieces.
 use Rattle.std.proofs.Common.{◌≡◌, ◌<◌, ◌≤◌, ◌⊎◌, inl, inr, ℕ, true, false, Option, Some, List, [], ◌++◌, length, take, append-nil, Bool}
 use Rattle.std.proofs.Common.{arith}
-use Rattle.polcert_text.proofs.Common.{take-append-le, IsScanOf, is_over, is_stuck, front_len, EndsWithin, Ahead, visible, IsComplete}
-use Rattle.polcert_text.proofs.Common.{IsSeen, Fills, ReadsOn, ScansLexeme, LexemePrefix, LexemeScan}
+use Rattle.polcert_text.proofs.Common.{take-append-le, IsScanOf, is_over, is_stuck, front_len, EndsWithin, Ahead, visible, IsReadToLimit}
+use Rattle.polcert_text.proofs.Common.{IsFrontSeen, Fills, ReadsOn, ScansLexeme, LexemePrefix, LexemeScan}
 use Rattle.std.proofs.lemmas.List.{take-take, length-take}
 use Rattle.polcert_text.specs.Steps.Streaming.{with_read}
 use Rattle.polcert_text.proofs.Scanning.SeenLaws.{seen_over, seen_long, seen_all, seen_within}
@@ -57,7 +57,7 @@ module _ {S : Type 0} (reads : S → ℕ → Option (List ℕ) → S → Type 0)
 
   -- the lexeme is known
   pub lexeme_ends : (old : Ahead) (s : S) (scan : LexemeScan) (now : Ahead) (t : S) → InLexeme old s scan now t
-      → IsComplete now ⊎ ((is_over scan.state ≡ true) ⊎ (400 < front_len scan.longest))
+      → IsReadToLimit now ⊎ ((is_over scan.state ≡ true) ⊎ (400 < front_len scan.longest))
       → ScansLexeme reads failures old s scan.longest now t
   lexeme_ends old s scan now t was known = record {
     given = was.given;
@@ -66,8 +66,9 @@ module _ {S : Type 0} (reads : S → ℕ → Option (List ℕ) → S → Type 0)
     seen = λ tail none. at known tail none;
   }
     where
-      at : IsComplete now ⊎ ((is_over scan.state ≡ true) ⊎ (400 < front_len scan.longest)) → (tail : List ℕ) → (IsComplete now → tail ≡ [])
-          → IsSeen (visible now) tail scan.longest
+      at : IsReadToLimit now ⊎ ((is_over scan.state ≡ true) ⊎ (400 < front_len scan.longest)) → (tail : List ℕ)
+          → (IsReadToLimit now → tail ≡ [])
+          → IsFrontSeen (visible now) tail scan.longest
       at (inl complete) tail none = seen_all (visible now) tail scan was.scan_is was.all (none complete)
       at (inr (inl over)) tail none = seen_over (visible now) tail scan was.scan_is over
       at (inr (inr long)) tail none = seen_long (visible now) tail scan.longest scan.len was.scan_is.longest long

@@ -1,6 +1,6 @@
 -- A stream that has stopped.
 use Rattle.std.proofs.Common.{◌≡◌, ℕ, Option, Some, None, List, [], Result, Ok, Err, refl, arith}
-use Rattle.polcert_text.proofs.Common.{Lexeme, Ahead, Stream, GivesEnd, StopsRightly, TokenFault}
+use Rattle.polcert_text.proofs.Common.{Lexeme, Ahead, Stream, GivesEnd, EndsAsAnswered, TokenFault}
 use Rattle.polcert_text.specs.Stream.{IsAtEnd, Answers, AnswersNext, answer_of}
 use Rattle.polcert_text.specs.declared.stream_tokens.StreamFault.{StreamFault}
 use Rattle.polcert_text.specs.declared.stream_tokens.LastAnswer.{LastAnswer}
@@ -24,13 +24,13 @@ module _ {S : Type 0} (reads : S → ℕ → Option (List ℕ) → S → Type 0)
   }
 
   module _ {T : Type 0} (lexeme : T → Lexeme) (old : Stream) (s : S) where
-    answered_again : (stop : LastAnswer) → old.stop ≡ Some stop → StopsRightly old.ahead (Some stop)
+    answered_again : (stop : LastAnswer) → old.stop ≡ Some stop → EndsAsAnswered old.ahead (Some stop)
         → Answers reads failures lexeme old s (answer_of stop) old s
     answered_again stop h1 h2 = grind (arith, some≢none, ends_again)
 
     -- the same answer once more
     pub stopped_answers : (stop : LastAnswer) (result : Result (Option T) StreamFault) → result ≡ answer_of stop → old.stop ≡ Some stop
-        → StopsRightly old.ahead old.stop
+        → EndsAsAnswered old.ahead old.stop
         → AnswersNext reads failures lexeme old s result old s
     stopped_answers stop result same is at = grind (arith, one_stop, answered_again)
 

@@ -6,7 +6,7 @@ use Rattle.polcert_text.proofs.Common.{nat_tests, IsLongestLexeme, kind_of, Toke
 use Rattle.polcert_text.proofs.Common.{EachTextThatFits, nothing, Ahead, Stream, rest_with, CanFollow, GivesToken, GivesEnd, TakenFrom}
 use Rattle.polcert_text.proofs.Common.{Taken, TokenFault}
 use Rattle.polcert_text.specs.Cut.{end_place}
-use Rattle.polcert_text.specs.Source.{Fits}
+use Rattle.polcert_text.specs.Source.{FitsRead}
 use Rattle.polcert_text.specs.Stream.{fresh}
 use Rattle.polcert_text.specs.TakenTokens.{nothing as none, token as one_more}
 use Rattle.polcert_text.proofs.Scanning.LexemeLaws.{none_empty}
@@ -45,7 +45,7 @@ module _ {S : Type 0} (reads : S → ℕ → Option (List ℕ) → S → Type 0)
         (one_more _ _ _ tokens t before (g.next more can));
   }
 
-  fits_of : (is_whole : Bool) (ahead : Ahead) → ahead.is_whole ≡ is_whole → (given text : List ℕ) → Fits given is_whole text
+  fits_of : (is_whole : Bool) (ahead : Ahead) → ahead.is_whole ≡ is_whole → (given text : List ℕ) → FitsRead given is_whole text
       → (more : List ℕ) × (text ≡ given ++ more) × CanFollow ahead more
   fits_of is_whole ahead h1 given text h2 = grind (arith, append-nil)
 

@@ -3,7 +3,8 @@ use Rattle.std.proofs.Common.{◌≡◌, ◌∙◌, ◌+◌, ◌-◌, ◌<◌, �
 use Rattle.std.proofs.Common.{drop, refl, sym, ap, subst, append-nil, append_assoc, length-append, nat_lt, cond, arith}
 use Rattle.polcert_text.proofs.Common.{drop-take, drop-append-le, take-append-le, take-append-add, drop-append_seam, Lexeme, Rest}
 use Rattle.polcert_text.proofs.Common.{IsTokenAt, IsFaultAt, TakesToken, EndsAt, Ends, IsLongestGap, Ahead, rest_with, CanFollow, ReadsFrom}
-use Rattle.polcert_text.proofs.Common.{Fails, GivesToken, GivesEnd, visible, skip, IsSeen, ReadsOn, SkipsGap, ScansLexeme, LexemePrefix}
+use Rattle.polcert_text.proofs.Common.{Fails, GivesToken, GivesEnd, visible, skip, IsFrontSeen, ReadsOn, SkipsGap, ScansLexeme}
+use Rattle.polcert_text.proofs.Common.{LexemePrefix}
 use Rattle.polcert_text.proofs.Common.{TokenFault}
 use Rattle.std.proofs.lemmas.List.{length-drop, take-take}
 use Rattle.polcert_text.specs.Stream.{end_of_kept}
@@ -204,7 +205,7 @@ module _ {S : Type 0} (reads : S → ℕ → Option (List ℕ) → S → Type 0)
           }));
     }
 
-    pub seen_more : (more : List ℕ) → CanFollow new more → IsSeen (visible new) (tail_of new more) front
+    pub seen_more : (more : List ℕ) → CanFollow new more → IsFrontSeen (visible new) (tail_of new more) front
     seen_more more can = l.seen (tail_of new more) (no_tail new more can)
 
     -- the bytes of a token are some of those below the limit

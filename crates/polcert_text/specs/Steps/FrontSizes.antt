@@ -33,7 +33,7 @@ pub record AreDecimals (bytes : List ℕ) (from : ℕ) (decimals : FrontDecimals
 abbrev pub packed : ℕ → ℕ → ℕ → ℕ → ℕ → ℕ → ℕ
 packed a b c d e f = ((((f * 256 + e) * 256 + d) * 256 + c) * 256 + b) * 256 + a
 
-pub record AreDigits (a b c d e f : ℕ) : Type 0 where
+pub record AreSixDigits (a b c d e f : ℕ) : Type 0 where
   pub a_is : a ≤ 9
   pub b_is : b ≤ 9
   pub c_is : c ≤ 9

@@ -30,15 +30,15 @@ abbrev pub borrowed_lexeme : Stream → TokenKind → Lexeme
 borrowed_lexeme s kind = record { kind = kind; place = s.ahead.place - length s.borrowed; bytes = s.borrowed }
 
 -- once the tokens have stopped, what is ahead ends as is answered
-abbrev pub StopsRightly : Ahead → Option LastAnswer → Type 0
-StopsRightly a None = Unit {0}
-StopsRightly a (Some End) = IsAtEnd a None
-StopsRightly a (Some (Fault (faults.Token fault))) = IsAtEnd a (Some fault)
-StopsRightly a (Some (Fault faults.Device)) = Unit {0}
+abbrev pub EndsAsAnswered : Ahead → Option LastAnswer → Type 0
+EndsAsAnswered a None = Unit {0}
+EndsAsAnswered a (Some End) = IsAtEnd a None
+EndsAsAnswered a (Some (Fault (faults.Token fault))) = IsAtEnd a (Some fault)
+EndsAsAnswered a (Some (Fault faults.Device)) = Unit {0}
 
 -- no byte below the limit is still to come
-abbrev pub IsComplete : Ahead → Type 0
-IsComplete a = (a.is_whole ≡ true) ⊎ (a.limit ≤ a.place + length a.kept)
+abbrev pub IsReadToLimit : Ahead → Type 0
+IsReadToLimit a = (a.is_whole ≡ true) ⊎ (a.limit ≤ a.place + length a.kept)
 
 -- the longest lexeme at the front of the bytes, or one that is too long
 abbrev pub IsFrontOrLong : List ℕ → Option LexemePrefix → Type 0
@@ -48,7 +48,7 @@ IsFrontOrLong bytes (Some f) = IsLongestLexeme bytes f.kind f.len
 
 -- The lexeme at the front of these bytes, where the tail follows them. If it is a numeral and not too long, the byte after it
 -- is one of them, or there is no tail.
-pub record IsSeen (bytes tail : List ℕ) (front : Option LexemePrefix) : Type 0 where
+pub record IsFrontSeen (bytes tail : List ℕ) (front : Option LexemePrefix) : Type 0 where
   pub front_is : IsFrontOrLong (bytes ++ tail) front
   pub apart : is_numeral_kind (front_kind front) ≡ true → front_len front ≤ 400 → (tail ≡ []) ⊎ (front_len front < length bytes)
 
@@ -98,7 +98,7 @@ module _ {S : Type 0} (reads : S → ℕ → Option (List ℕ) → S → Type 0)
     pub given : List ℕ
     pub reads_on : ReadsOn old source [] given new source'
     pub within : front_len front ≤ length (visible new)
-    pub seen : (tail : List ℕ) → (IsComplete new → tail ≡ []) → IsSeen (visible new) tail front
+    pub seen : (tail : List ℕ) → (IsReadToLimit new → tail ≡ []) → IsFrontSeen (visible new) tail front
 
   abbrev pub ScansLexemeOrFails : {E : Type 0} → Ahead → S → Result (Option LexemePrefix) E → Ahead → S → Type 0
   ScansLexemeOrFails old source (Ok front) new source' = ScansLexeme old source front new source'

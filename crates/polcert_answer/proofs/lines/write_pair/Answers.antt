@@ -1,11 +1,12 @@
 use Rattle.std.proofs.Common.{rules, codes}
-use Rattle.polcert_answer.proofs.Common.{counted}
+use Rattle.polcert_answer.proofs.Common.{count_text}
 use Rattle.polcert_text.proofs.Printing.Written.{and_then, unwritten, stopped}
 use Rattle.polcert_answer.proofs.lines.write_pair.Goals as goal
 
 pub returns-in_err-write_all : goal.returns-in_err-write_all
 returns-in_err-write_all g c = stopped (search rules)
-    (unwritten (counted c.args.state c.args.words.now) (unwritten (counted c.args.node (codes ", state ")) c.in_err-write_all.ensures))
+    (unwritten (count_text c.args.state c.args.words.now)
+    (unwritten (count_text c.args.node (codes ", state ")) c.in_err-write_all.ensures))
 
 pub returns-in_err-write_count : goal.returns-in_err-write_count
 returns-in_err-write_count g c = stopped (search rules) (unwritten _ (and_then c.in_ok-write_all.ensures c.in_err-write_count.ensures))

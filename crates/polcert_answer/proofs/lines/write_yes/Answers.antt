@@ -1,14 +1,14 @@
 use Rattle.std.proofs.Common.{rules, codes}
 use Rattle.std.proofs.lemmas.Int.{to_z-of_z}
 use mir.Syntax.{w64}
-use Rattle.polcert_answer.proofs.Common.{scaled_text, counted}
+use Rattle.polcert_answer.proofs.Common.{scaled_text, count_text}
 use Rattle.polcert_text.proofs.Printing.Written.{and_then, unwritten, stopped}
 use Rattle.polcert_answer.proofs.lines.write_yes.Goals as goal
 
 pub returns-in_err-write_all : goal.returns-in_err-write_all
 returns-in_err-write_all g c = stopped (search rules)
     (unwritten (codes "\n") (unwritten (scaled_text c.args.worth)
-    (unwritten (counted c.args.node (codes ", at least ")) c.in_err-write_all.ensures)))
+    (unwritten (count_text c.args.node (codes ", at least ")) c.in_err-write_all.ensures)))
 
 pub returns-in_err-write_count : goal.returns-in_err-write_count
 returns-in_err-write_count g c = stopped (search rules)

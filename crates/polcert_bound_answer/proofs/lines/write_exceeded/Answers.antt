@@ -2,14 +2,14 @@ use Rattle.std.proofs.Common.{rules, codes}
 use Rattle.std.proofs.lemmas.Int.{to_z-of_z}
 use mir.Syntax.{w64}
 use Rattle.polcert_bound_answer.proofs.Common.{scaled_text}
-use Rattle.polcert_answer.specs.Lines.{counted}
+use Rattle.polcert_answer.specs.Lines.{count_text}
 use Rattle.polcert_text.proofs.Printing.Written.{and_then, unwritten, stopped}
 use Rattle.polcert_bound_answer.proofs.lines.write_exceeded.Goals as goal
 
 pub returns-in_err-write_all : goal.returns-in_err-write_all
 returns-in_err-write_all g c = stopped (search rules) (unwritten (codes "\n") (unwritten (scaled_text c.args.by)
-    (unwritten (counted c.args.state (codes ", exceeded by "))
-    (unwritten (counted c.args.action (codes ", state ")) c.in_err-write_all.ensures))))
+    (unwritten (count_text c.args.state (codes ", exceeded by "))
+    (unwritten (count_text c.args.action (codes ", state ")) c.in_err-write_all.ensures))))
 
 pub returns-in_err-write_count : goal.returns-in_err-write_count
 returns-in_err-write_count g c =

@@ -1,5 +1,5 @@
 use Rattle.std.proofs.Common.{sym, subst}
-use Rattle.polcert_check.proofs.Common.{value_of, AboveVerdict, controller, Controller, controller_of, MeetsHorizon, IsVerdict}
+use Rattle.polcert_check.proofs.Common.{value_of, AboveVerdict, input_controller, Controller, controller_of, MeetsHorizon, IsVerdict}
 use Rattle.polcert_check.proofs.Common.{NamesSmallAmount, IsAboveVerdict, MeetsHorizonAbove, NamesSmallAmountAbove, mirrored, IsController}
 use Rattle.polcert_check.proofs.Walking.Answering.{surveyed}
 use Rattle.polcert_check.proofs.Mirrors.FromAbove.{verdict_above, horizon_above, small_above}
@@ -14,7 +14,7 @@ returns g c =
     let input = c.new-input.result in
     let says : IsVerdict (mirrored k) c.survey.result.first × MeetsHorizon (mirrored k) c.survey.result.first
     × NamesSmallAmount (mirrored k) c.survey.result.first =
-    rw c.new-input.ensures.checked_controller at (surveyed input.side (controller input) input.proper
+    rw c.new-input.ensures.checked_controller at (surveyed input.side (input_controller input) input.proper
     (g.met.C.Cells.is_within_limits input.cells.now) input.values c.survey.result c.survey.ensures.mode c.survey.ensures.found) in
     let verdict = subst (λ (v : AboveVerdict). IsAboveVerdict k v) (sym c.above_of.ensures) (verdict_above k c.survey.result.first says.0)
     in

@@ -1,5 +1,5 @@
 use Rattle.std.proofs.Common.{rules, arith, ◌≡◌, ◌∙◌, ◌<◌, ◌≤◌, ◌*◌, ℕ, unsigned_abs, slice_index_or, pos, ◌+ℤ◌, to_z, of_z, subst}
-use Rattle.polcert_check.proofs.Common.{w128, largest, Cell, after_cells, node_controller, Controller, total_below, value_at_end}
+use Rattle.polcert_check.proofs.Common.{w128, largest, Cell, after_cells, node_controller, Controller, total_below, factored_value_at_end}
 use Rattle.std.proofs.lemmas.Int.{to_z-of_z}
 use Rattle.polcert_check.proofs.Walking.Weighed.{ends_weighed, left_step, more_cells, next_cell, nothing_left, weight_room, weight_small}
 use Rattle.polcert_check.proofs.Walking.Weighed.{weighed_step, weighed_on}
@@ -58,10 +58,10 @@ weigh-value-requires-clause-product g c =
     c.row-test.true in
     let cell : Cell = slice_index_or c.args.cells.now c.row.place (record { column = 0; weight = 0 }) in
     let next = (next_cell _ _ c.args.cells.now c.requires.row c.row.place more).0 in
-    let back : to_z w128 (of_z w128 c.value_of-part.result.value) ≡ value_at_end k c.args.node.now.n cell.column =
+    let back : to_z w128 (of_z w128 c.value_of-part.result.value) ≡ factored_value_at_end k c.args.node.now.n cell.column =
     to_z-of_z w128 c.value_of-part.result.value (search rules)
     ∙ (c.requires.value cell.column c.value_of-part.result next.1 (omega (arith, next.2, next.3)) c.value_of-part.ensures).value in
-    rw back (weight_room row cell.column cell.weight (value_at_end k c.args.node.now.n cell.column) next.1 next.2
+    rw back (weight_room row cell.column cell.weight (factored_value_at_end k c.args.node.now.n cell.column) next.1 next.2
     (value_at_end_le k c.args.node.now.input.proper c.args.node.now.input.values c.args.node.now.n cell.column c.args.node.now.within
     next.1))
 
@@ -74,10 +74,10 @@ overflow_add-value g c =
     let more = more_cells _ _ _ c.args.cells.now c.requires.row row.all c.row.place c.row.left c.row.invariant.within c.row.invariant.left
     c.row-test.true in
     let cell : Cell = slice_index_or c.args.cells.now c.row.place (record { column = 0; weight = 0 }) in
-    let small : (e : ℕ) → e < k.cells.states → unsigned_abs (value_at_end k c.args.node.now.n e) ≤ k.cells.o_scale * largest =
+    let small : (e : ℕ) → e < k.cells.states → unsigned_abs (factored_value_at_end k c.args.node.now.n e) ≤ k.cells.o_scale * largest =
     λ e el. value_at_end_le k c.args.node.now.input.proper c.args.node.now.input.values c.args.node.now.n e c.args.node.now.within el in
     let next = (next_cell _ _ c.args.cells.now c.requires.row c.row.place more).0 in
-    (weighed_step row (value_at_end k c.args.node.now.n) small (after_cells 0 c.args.cells.now c.row.place) cell.column cell.weight
+    (weighed_step row (factored_value_at_end k c.args.node.now.n) small (after_cells 0 c.args.cells.now c.row.place) cell.column cell.weight
     (to_z w128 c.row.value-bits) c.weigh-value.result c.value_of-part.result.value next.0 next.1 next.2 next.4 c.row.invariant.sum
     (search rules) (search rules) c.weigh-value.ensures
     (c.requires.value cell.column c.value_of-part.result next.1 (omega (arith, next.2, next.3)) c.value_of-part.ensures).value).0
@@ -128,12 +128,13 @@ row-preserved g c =
     let more = more_cells _ _ _ c.args.cells.now c.requires.row row.all c.row.place c.row.left c.row.invariant.within c.row.invariant.left
     c.row-test.true in
     let cell : Cell = slice_index_or c.args.cells.now c.row.place (record { column = 0; weight = 0 }) in
-    let small : (e : ℕ) → e < k.cells.states → unsigned_abs (value_at_end k c.args.node.now.n e) ≤ k.cells.o_scale * largest =
+    let small : (e : ℕ) → e < k.cells.states → unsigned_abs (factored_value_at_end k c.args.node.now.n e) ≤ k.cells.o_scale * largest =
     λ e el. value_at_end_le k c.args.node.now.input.proper c.args.node.now.input.values c.args.node.now.n e c.args.node.now.within el in
     let after = (next_cell _ _ c.args.cells.now c.requires.row c.row.place more).1 in
     let next = (next_cell _ _ c.args.cells.now c.requires.row c.row.place more).0 in
     rw after (record {
-      sum = (weighed_step row (value_at_end k c.args.node.now.n) small (after_cells 0 c.args.cells.now c.row.place) cell.column cell.weight
+      sum = (weighed_step row (factored_value_at_end k c.args.node.now.n) small (after_cells 0 c.args.cells.now c.row.place) cell.column
+          cell.weight
           (to_z w128 c.row.value-bits) c.weigh-value.result c.value_of-part.result.value next.0 next.1 next.2 next.4 c.row.invariant.sum
           (search rules) (search rules) c.weigh-value.ensures
           (c.requires.value cell.column c.value_of-part.result next.1 (omega (arith, next.2, next.3)) c.value_of-part.ensures).value).1;
@@ -157,7 +158,7 @@ returns g c =
     let none = nothing_left _ _ _ row.all end (subst (λ (left : ℕ). total_below
     (λ e. pos (k.cells.t (k.action c.args.node.now.n) c.args.s e)) end +ℤ pos left ≡ pos k.cells.t_scale) zero c.row.invariant.left) in
     record {
-      value = weighed_on (k.cells.t (k.action c.args.node.now.n) c.args.s) (value_at_end k c.args.node.now.n) end k.cells.states
+      value = weighed_on (k.cells.t (k.action c.args.node.now.n) c.args.s) (factored_value_at_end k c.args.node.now.n) end k.cells.states
           (to_z w128 c.row.value-bits) c.row.invariant.within none c.row.invariant.sum;
       missing = before_on k c.args.node.now.n c.args.s end k.cells.states c.row.invariant.within none c.row.missing c.row.invariant.missing;
     }

@@ -1,6 +1,6 @@
 use Rattle.std.proofs.Common.{arith, rules, ◌≡◌, ◌∙◌, ◌*◌, to_z, of_z}
 use Rattle.std.proofs.lemmas.Int.{to_z-of_z}
-use Rattle.polcert_check.proofs.Common.{row_reward, w128, CellTable, largest, expected_reward, row_weight}
+use Rattle.polcert_check.proofs.Common.{row_reward, w128, CellTable, largest, factored_reward, row_weight}
 use Rattle.polcert_check.proofs.Sums.Scales.{scales_le}
 use Rattle.polcert_check.proofs.Walking.RowOfBoth.{row_excepted, row_total}
 use Rattle.polcert_check.proofs.expected_reward.sum_row.Goals as goal
@@ -24,7 +24,7 @@ sum_excepted-requires-clause-rewards g c =
 pub returns : goal.returns
 returns g c = λ x e.
     let m : CellTable = g.C.Cells.table c.args.cells.now in
-    let is : to_z w128 (of_z w128 c.sum_excepted.result) ≡ expected_reward m c.args.a c.args.s =
+    let is : to_z w128 (of_z w128 c.sum_excepted.result) ≡ factored_reward m c.args.a c.args.s =
     to_z-of_z w128 c.sum_excepted.result (search rules)
     ∙ c.sum_excepted.ensures _ _ _ _ (row_excepted m (g.met.C.Cells.is_proper c.args.cells.now)
     (g.met.C.Cells.is_within_limits c.args.cells.now) c.args.a c.args.s c.requires.action c.requires.start _ _ _ _

@@ -1,5 +1,5 @@
 use Rattle.std.proofs.Common.{pos, FitsSigned, w64, refl}
-use Rattle.polcert_check.proofs.Common.{to_z_pos, err_from_is_err_and, CanMove, controller, checked_controller}
+use Rattle.polcert_check.proofs.Common.{to_z_pos, err_from_is_err_and, CanMove, input_controller, checked_controller}
 use Rattle.polcert_check.proofs.Mirrors.Sides.{sided_proper, sided_limits, sided_values}
 use Rattle.polcert_check.proofs.Lowerings.Least.{constant_fits}
 use Rattle.polcert_check.proofs.Walking.Outcomes.{refused_small}
@@ -9,9 +9,9 @@ pub returns-in_err-by-clause-small : goal.returns-in_err-by-clause-small
 returns-in_err-by-clause-small g c =
     let p = err_from_is_err_and c.from_residual.result c.from_residual.ensures.1 in
     rw (p.1, p.2) (refused_small (checked_controller c.args.input.now)
-    (sided_proper c.args.input.now.side (controller c.args.input.now) c.args.input.now.proper)
-    (sided_limits c.args.input.now.side (controller c.args.input.now) (g.met.C.Cells.is_within_limits c.args.input.now.cells.now))
-    (sided_values c.args.input.now.side (controller c.args.input.now) c.args.input.now.values)
+    (sided_proper c.args.input.now.side (input_controller c.args.input.now) c.args.input.now.proper)
+    (sided_limits c.args.input.now.side (input_controller c.args.input.now) (g.met.C.Cells.is_within_limits c.args.input.now.cells.now))
+    (sided_values c.args.input.now.side (input_controller c.args.input.now) c.args.input.now.values)
     (CanMove c.args.input.now.side c.args.input.now.vectors.now) _ c.in_err-by.ensures.refused)
 
 pub overflow_cast-result : goal.overflow_cast-result

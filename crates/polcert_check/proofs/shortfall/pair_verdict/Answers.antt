@@ -1,7 +1,7 @@
 use Rattle.std.proofs.Common.{rules, arith, ◌≡◌, ◌≤◌, ◌<◌, ◌^◌, ◌*◌, None, ℕ, ℤ, pos, ◌+ℤ◌, ◌-ℤ◌, ◌*ℤ◌, ◌<ℤ◌, ◌≤ℤ◌, FitsSigned, to_z, of_z}
 use Rattle.std.proofs.Common.{w64, refl, sym, ap, subst, ◌∙◌}
 use Rattle.polcert_check.proofs.Common.{w128, node_controller, Controller, Side, one, short, largest_amount, sided, signed_from}
-use Rattle.polcert_check.proofs.Common.{IsLeastLacking, expected_reward, expected_value}
+use Rattle.polcert_check.proofs.Common.{IsLeastLacking, factored_reward, factored_value}
 use Rattle.std.proofs.lemmas.Int.{to_z-of_z}
 use Rattle.polcert_check.proofs.Walking.Earning.{expected_reward_le}
 use Rattle.polcert_check.proofs.Walking.Expecting.{expected_value_le}
@@ -19,14 +19,14 @@ small_enough x most a b = omega (arith, a, b, amount_fits_128)
 
 above_is : (k : Controller) (n s q d : ℕ) (a v r e : ℤ) → IsLeastLacking k n s None → q ≡ k.cells.t_scale * k.cells.o_scale
     → d ≡ k.cells.discount → a ≡ pos (q * one) *ℤ v -ℤ (pos one *ℤ r +ℤ pos d *ℤ e)
-    → v ≡ k.value n s → r ≡ expected_reward k.cells (k.action n) s → e ≡ expected_value k n s → FitsSigned w128 a
+    → v ≡ k.value n s → r ≡ factored_reward k.cells (k.action n) s → e ≡ factored_value k n s → FitsSigned w128 a
     → to_z w128 (of_z w128 a) ≡ short k n s
 above_is k n s q d a v r e lacks qe de ae ve re ee fits =
     to_z-of_z w128 a fits ∙ amount_is k n s _ _ (backing_split k n s lacks) a v r e (rw (qe, de) at ae) ve re ee
 
 backed_is : (k : Controller) (n s q d : ℕ) (v r e : ℤ) (side : Side) → IsLeastLacking k n s None → q ≡ k.cells.t_scale * k.cells.o_scale
     → d ≡ k.cells.discount
-    → v ≡ k.value n s → r ≡ expected_reward k.cells (k.action n) s → e ≡ expected_value k n s
+    → v ≡ k.value n s → r ≡ factored_reward k.cells (k.action n) s → e ≡ factored_value k n s
     → signed_from side (pos (q * one) *ℤ v -ℤ (pos one *ℤ r +ℤ pos d *ℤ e)) ≤ℤ pos 0 → short (sided side k) n s ≤ℤ pos 0
 backed_is k n s q d v r e side lacks qe de ve re ee backed =
     let is : pos (q * one) *ℤ v -ℤ (pos one *ℤ r +ℤ pos d *ℤ e) ≡ short k n s =

@@ -1,5 +1,5 @@
 use Rattle.std.proofs.Common.{arith}
-use Rattle.polcert_check.proofs.Common.{controller, checked_controller}
+use Rattle.polcert_check.proofs.Common.{input_controller, checked_controller}
 use Rattle.polcert_check.proofs.Mirrors.Sides.{sided_proper}
 use Rattle.polcert_check.proofs.Walking.Walked.{nothing_found, all_walked}
 use Rattle.polcert_check.proofs.survey.survey.Goals as goal
@@ -9,5 +9,5 @@ loop-a-init g c = grind (arith, nothing_found)
 
 pub returns-clause-found : goal.returns-clause-found
 returns-clause-found g c =
-    all_walked (checked_controller c.args.input.now) (sided_proper c.args.input.now.side (controller c.args.input.now)
+    all_walked (checked_controller c.args.input.now) (sided_proper c.args.input.now.side (input_controller c.args.input.now)
     c.args.input.now.proper).closed c.loop-a.a c.loop-a.survey.findings c.loop-a.invariant.found (omega (arith, c.actions-a-end.ensures))

@@ -1,12 +1,12 @@
 use Rattle.std.proofs.Common.{arith, ◌≡◌, ◌+◌, ◌∙◌, ℕ, sym, subst}
-use Rattle.polcert_check.proofs.Common.{controller, checked_controller, Controller, IsFoundBefore, IsOfAction}
+use Rattle.polcert_check.proofs.Common.{input_controller, checked_controller, Controller, IsFoundBefore, IsOfAction}
 use Rattle.polcert_check.proofs.Walking.Walked.{node_passed, action_done}
 use Rattle.polcert_check.proofs.survey.survey_action.Goals.{then-action-a, else-action-a}
 use Rattle.polcert_check.proofs.survey.survey_action.Goals as goal
 
 pub loop-n-preserved : goal.loop-n-preserved
 loop-n-preserved g c =
-    let k : Controller = controller c.args.input.now in
+    let k : Controller = input_controller c.args.input.now in
     let j : Controller = checked_controller c.args.input.now in
     elim c.if-action-a.branch [
       | then-action-a w ↦

@@ -1,5 +1,5 @@
 use Rattle.std.proofs.Common.{◌≡◌, ◌-◌, [], false, rules, subst, arith, IfErr}
-use Rattle.polcert_items.proofs.Common.{lexeme_of, CannotTake, NumberListGoes, IfRefused, IsMisfit, numbers_want, list_wants}
+use Rattle.polcert_items.proofs.Common.{lexeme_of, CannotTake, NumberListGoes, IfRefused, IsMisfit, numbers_want, expected_by_numbers}
 use Rattle.polcert_items.proofs.WantLaws.{no_numbers_lead}
 use Rattle.polcert_items.proofs.entry_reader.begin_list.Goals as goal
 
@@ -17,5 +17,6 @@ returns-in_err-feed-clause-kind g c =
     let l = lexeme_of c.args.token in
     let all : c.args.needed - 0 ≡ c.args.needed = omega arith in
     subst (λ m. IfErr c.from_residual.result (λ stop. IfRefused stop (λ r. IsMisfit (numbers_want false m []) l r.kind))) all
-    (subst (λ n. IfErr c.from_residual.result (λ stop. IfRefused stop (λ r. IsMisfit (list_wants n []) l r.kind))) c.new-numbers.ensures
+    (subst (λ n. IfErr c.from_residual.result (λ stop. IfRefused stop (λ r. IsMisfit (expected_by_numbers n []) l r.kind)))
+    c.new-numbers.ensures
     (search rules))

@@ -1,7 +1,7 @@
 use Rattle.std.proofs.Common.{arith, Some, slice_index}
 use Rattle.polcert_points.proofs.Common.{CellTable, IsProper, reached}
 use Rattle.polcert_cells.specs.Tables.{IsWithinLimits}
-use Rattle.polcert_points.specs.PointTable.{PointTable, AreProperPoints}
+use Rattle.polcert_points.specs.PointTable.{PointTable, IsProperPointTable}
 use Rattle.polcert_points.proofs.Arriving.{arrival_next, arrival_small, arrivals_on}
 use Rattle.polcert_points.proofs.Laters.{few_at}
 use Rattle.polcert_points.proofs.belief.fill_arrivals.Goals as goal
@@ -12,7 +12,7 @@ add_row-requires-clause-small g c =
     let m : IsProper t = g.met.C.Cells.is_proper c.args.input.now.cells.now in
     let limits : IsWithinLimits t = g.met.C.Cells.is_within_limits c.args.input.now.cells.now in
     let p : PointTable = g.P.BeliefPoints.table c.args.input.now.points.now in
-    let proper : AreProperPoints p = g.met.P.BeliefPoints.is_proper c.args.input.now.points.now in
+    let proper : IsProperPointTable p = g.met.P.BeliefPoints.is_proper c.args.input.now.points.now in
     let next = c.in-Some.ensures.0 in
     λ e el.
     arrival_small t m limits c.args.a c.requires.action (p.points.belief c.args.i) e (reached (Some c.weights-point.result) c.loop-start.at)

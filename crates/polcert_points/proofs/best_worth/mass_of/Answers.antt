@@ -1,7 +1,7 @@
 use Rattle.std.proofs.Common.{arith, ◌∙◌, ◌+◌, Some}
 use Rattle.polcert_points.proofs.Common.{reached}
 use Rattle.polcert_points.specs.Belief.{Belief}
-use Rattle.polcert_points.specs.PointTable.{PointTable, AreProperPoints}
+use Rattle.polcert_points.specs.PointTable.{PointTable, IsProperPointTable}
 use Rattle.polcert_points.proofs.Arriving.{part_below}
 use Rattle.polcert_points.proofs.Rows.{sum_on, sum_more}
 use Rattle.polcert_points.proofs.best_worth.mass_of.Goals as goal
@@ -9,7 +9,7 @@ use Rattle.polcert_points.proofs.best_worth.mass_of.Goals as goal
 pub overflow_add-sum : goal.overflow_add-sum
 overflow_add-sum g c =
     let p : PointTable = g.P.BeliefPoints.table c.args.points.now in
-    let proper : AreProperPoints p = g.met.P.BeliefPoints.is_proper c.args.points.now in
+    let proper : IsProperPointTable p = g.met.P.BeliefPoints.is_proper c.args.points.now in
     let b : Belief = p.points.belief c.args.i in
     let next = c.in-Some.ensures.0 in
     let more = sum_more b (reached (Some c.weights-point.result) c.loop-state.at) c.in-Some.state.column c.in-Some.state.weight

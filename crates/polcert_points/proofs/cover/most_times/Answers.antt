@@ -1,7 +1,7 @@
 use Rattle.std.proofs.Common.{arith, ◌≤◌, Some, slice_index}
 use Rattle.polcert_points.proofs.Common.{reached}
 use Rattle.polcert_points.specs.Belief.{Belief}
-use Rattle.polcert_points.specs.PointTable.{PointTable, AreProperPoints}
+use Rattle.polcert_points.specs.PointTable.{PointTable, IsProperPointTable}
 use Rattle.polcert_points.proofs.BestWorths.{some_weight}
 use Rattle.polcert_points.proofs.Charging.{weight_few}
 use Rattle.polcert_points.proofs.Covering.{most_more, most_is, no_weight_here}
@@ -10,7 +10,7 @@ use Rattle.polcert_points.proofs.cover.most_times.Goals as goal
 pub fewer_times-times-requires-clause-weight : goal.fewer_times-times-requires-clause-weight
 fewer_times-times-requires-clause-weight g c =
     let p : PointTable = g.P.BeliefPoints.table c.args.points.now in
-    let proper : AreProperPoints p = g.met.P.BeliefPoints.is_proper c.args.points.now in
+    let proper : IsProperPointTable p = g.met.P.BeliefPoints.is_proper c.args.points.now in
     let next = c.in-Some.ensures.0 in
     let few : p.points.belief c.args.j c.in-Some.state.column ≤ 1000000 =
     weight_few (p.points.belief c.args.j) 1000000 p.states c.in-Some.state.column (proper.few c.args.j c.requires.point) next.1 in
@@ -32,7 +32,7 @@ loop-state-preserved g c =
 pub returns : goal.returns
 returns g c =
     let p : PointTable = g.P.BeliefPoints.table c.args.points.now in
-    let proper : AreProperPoints p = g.met.P.BeliefPoints.is_proper c.args.points.now in
+    let proper : IsProperPointTable p = g.met.P.BeliefPoints.is_proper c.args.points.now in
     let b : Belief = slice_index c.args.belief.now in
     most_is 5000000000000000000000000 b (p.points.belief c.args.j) p.states c.loop-state.times
     (λ s sl. weight_few b 5000000000000000000000000 p.states s c.requires.few sl)

@@ -2,8 +2,8 @@ use Rattle.std.proofs.Common.{rules, arith, ◌∙◌, slice_index, sym}
 use Rattle.std.proofs.lemmas.Int.{to_z-of_z}
 use Rattle.polcert_points.proofs.Common.{w128, CellTable, IsProper}
 use Rattle.polcert_cells.specs.Tables.{IsWithinLimits}
-use Rattle.polcert_points.specs.Belief.{Belief, belief_after}
-use Rattle.polcert_points.specs.PointTable.{PointTable, AreProperPoints, charge_at}
+use Rattle.polcert_points.specs.Belief.{Belief, updated_belief}
+use Rattle.polcert_points.specs.PointTable.{PointTable, IsProperPointTable, charge_at}
 use Rattle.polcert_points.specs.Steps.PointSums.{arrival}
 use Rattle.polcert_points.proofs.Arriving.{not_after}
 use Rattle.polcert_points.proofs.BestWorths.{same_sum}
@@ -15,7 +15,7 @@ pub returns-then-greatest-eq0-clause-value : goal.returns-then-greatest-eq0-clau
 returns-then-greatest-eq0-clause-value g c =
     let t : CellTable = g.C.Cells.table c.args.input.now.cells.now in
     let p : PointTable = g.P.BeliefPoints.table c.args.input.now.points.now in
-    let proper : AreProperPoints p = g.met.P.BeliefPoints.is_proper c.args.input.now.points.now in
+    let proper : IsProperPointTable p = g.met.P.BeliefPoints.is_proper c.args.input.now.points.now in
     λ cover by.
     nothing_after t p c.args.input.now.fit proper c.args.input.now.charges.now c.args.input.now.small c.args.i c.args.a c.args.z cover
     c.requires.point c.requires.action c.requires.observation
@@ -41,8 +41,8 @@ best_worth-requires-clause-few g c =
     let m : IsProper t = g.met.C.Cells.is_proper c.args.input.now.cells.now in
     let limits : IsWithinLimits t = g.met.C.Cells.is_within_limits c.args.input.now.cells.now in
     let p : PointTable = g.P.BeliefPoints.table c.args.input.now.points.now in
-    let proper : AreProperPoints p = g.met.P.BeliefPoints.is_proper c.args.input.now.points.now in
-    rw (same_sum (slice_index c.fill_after-greatest.new.belief) (belief_after t (p.points.belief c.args.i) c.args.a c.args.z) t.states
+    let proper : IsProperPointTable p = g.met.P.BeliefPoints.is_proper c.args.input.now.points.now in
+    rw (same_sum (slice_index c.fill_after-greatest.new.belief) (updated_belief t (p.points.belief c.args.i) c.args.a c.args.z) t.states
     c.fill_after-greatest.ensures.belief)
     (few_after t p c.args.input.now.fit proper m limits c.args.i c.args.a c.args.z c.requires.point c.requires.action
     c.requires.observation)
@@ -51,7 +51,7 @@ pub returns-clause-value : goal.returns-clause-value
 returns-clause-value g c =
     let t : CellTable = g.C.Cells.table c.args.input.now.cells.now in
     let p : PointTable = g.P.BeliefPoints.table c.args.input.now.points.now in
-    let after : Belief = belief_after t (p.points.belief c.args.i) c.args.a c.args.z in
+    let after : Belief = updated_belief t (p.points.belief c.args.i) c.args.a c.args.z in
     λ cover by.
     to_z-of_z w128 c.best_worth.result (search rules)
     ∙ (rw c.next.ensures at c.best_worth.ensures.value) cover

@@ -1,7 +1,7 @@
 use Rattle.std.proofs.Common.{rules, arith, ◌≤◌, Some, to_z}
 use Rattle.polcert_points.proofs.Common.{w128, CellTable, IsProper, reached, expected_reward}
 use Rattle.polcert_cells.specs.Tables.{IsWithinLimits}
-use Rattle.polcert_points.specs.PointTable.{PointTable, AreProperPoints}
+use Rattle.polcert_points.specs.PointTable.{PointTable, IsProperPointTable}
 use Rattle.polcert_points.proofs.Charging.{weight_few, charges_on}
 use Rattle.polcert_points.proofs.Laters.{few_at}
 use Rattle.polcert_points.proofs.PointRewards.{rewards_small, reward_step}
@@ -10,7 +10,7 @@ use Rattle.polcert_points.proofs.point_reward.point_reward.Goals as goal
 pub weighted_reward-sum-requires-clause-weight : goal.weighted_reward-sum-requires-clause-weight
 weighted_reward-sum-requires-clause-weight g c =
     let p : PointTable = g.P.BeliefPoints.table c.args.input.now.points.now in
-    let proper : AreProperPoints p = g.met.P.BeliefPoints.is_proper c.args.input.now.points.now in
+    let proper : IsProperPointTable p = g.met.P.BeliefPoints.is_proper c.args.input.now.points.now in
     let next = c.in-Some.ensures.0 in
     let few : p.points.belief c.args.i c.in-Some.state.column ≤ 1000000 =
     weight_few (p.points.belief c.args.i) 1000000 p.states c.in-Some.state.column (proper.few c.args.i c.requires.point) next.1 in
@@ -22,7 +22,7 @@ overflow_add-sum g c =
     let m : IsProper t = g.met.C.Cells.is_proper c.args.input.now.cells.now in
     let limits : IsWithinLimits t = g.met.C.Cells.is_within_limits c.args.input.now.cells.now in
     let p : PointTable = g.P.BeliefPoints.table c.args.input.now.points.now in
-    let proper : AreProperPoints p = g.met.P.BeliefPoints.is_proper c.args.input.now.points.now in
+    let proper : IsProperPointTable p = g.met.P.BeliefPoints.is_proper c.args.input.now.points.now in
     let few = few_at t p c.args.input.now.fit proper c.args.i c.requires.point in
     let next = c.in-Some.ensures.0 in
     (reward_step t m limits (p.points.belief c.args.i) c.args.a c.requires.action few
@@ -36,7 +36,7 @@ loop-state-preserved g c =
     let m : IsProper t = g.met.C.Cells.is_proper c.args.input.now.cells.now in
     let limits : IsWithinLimits t = g.met.C.Cells.is_within_limits c.args.input.now.cells.now in
     let p : PointTable = g.P.BeliefPoints.table c.args.input.now.points.now in
-    let proper : AreProperPoints p = g.met.P.BeliefPoints.is_proper c.args.input.now.points.now in
+    let proper : IsProperPointTable p = g.met.P.BeliefPoints.is_proper c.args.input.now.points.now in
     let few = few_at t p c.args.input.now.fit proper c.args.i c.requires.point in
     let next = c.in-Some.ensures.0 in
     rw c.in-Some.ensures.1 (record {
@@ -61,7 +61,7 @@ returns-clause-small g c =
     let m : IsProper t = g.met.C.Cells.is_proper c.args.input.now.cells.now in
     let limits : IsWithinLimits t = g.met.C.Cells.is_within_limits c.args.input.now.cells.now in
     let p : PointTable = g.P.BeliefPoints.table c.args.input.now.points.now in
-    let proper : AreProperPoints p = g.met.P.BeliefPoints.is_proper c.args.input.now.points.now in
+    let proper : IsProperPointTable p = g.met.P.BeliefPoints.is_proper c.args.input.now.points.now in
     let few = few_at t p c.args.input.now.fit proper c.args.i c.requires.point in
     rw c.loop-state.invariant.sum (rewards_small t m limits (p.points.belief c.args.i) c.args.a c.requires.action few
     (reached (Some c.weights-point.result) c.loop-state.at) (omega (arith, c.loop-state.invariant.within, c.args.input.now.fit.states)))

@@ -2,7 +2,7 @@ use Rattle.std.proofs.Common.{◌≡◌, ◌*◌, ◌∙◌, length}
 use Rattle.polcert_points.proofs.Common.{CellTable, IsProper}
 use Rattle.polcert_cells.specs.Tables.{IsWithinLimits}
 use Rattle.polcert_policy.specs.Vectors.{value_of}
-use Rattle.polcert_points.specs.PointTable.{PointTable, AreProperPoints, charge_at}
+use Rattle.polcert_points.specs.PointTable.{PointTable, IsProperPointTable, charge_at}
 use Rattle.polcert_points.proofs.Laters.{covers_are}
 use Rattle.polcert_points.proofs.NamedCovers.{covers_of}
 use Rattle.polcert_points.proofs.PointExcesses.{promise_of, small_charges}
@@ -12,7 +12,7 @@ pub invariant_of-input : goal.invariant_of-input
 invariant_of-input g c =
     let t : CellTable = g.C.Cells.table c.args.cells.now in
     let p : PointTable = g.P.BeliefPoints.table c.args.points.now in
-    let proper : AreProperPoints p = g.met.P.BeliefPoints.is_proper c.args.points.now in
+    let proper : IsProperPointTable p = g.met.P.BeliefPoints.is_proper c.args.points.now in
     let room : length c.fill_charges.new.charges ≡ t.actions * t.states = c.fill_charges.auto.charges ∙ c.requires.room in
     record {
       fit = c.requires.points;
@@ -27,7 +27,7 @@ returns g c =
     let m : IsProper t = g.met.C.Cells.is_proper c.args.cells.now in
     let limits : IsWithinLimits t = g.met.C.Cells.is_within_limits c.args.cells.now in
     let p : PointTable = g.P.BeliefPoints.table c.args.points.now in
-    let proper : AreProperPoints p = g.met.P.BeliefPoints.is_proper c.args.points.now in
+    let proper : IsProperPointTable p = g.met.P.BeliefPoints.is_proper c.args.points.now in
     let found = c.verdict_of.ensures (covers_of t p) (covers_are t p c.requires.points proper) in
     record {
       verdict = record {

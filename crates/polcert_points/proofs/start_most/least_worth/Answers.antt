@@ -3,7 +3,7 @@ use Rattle.std.proofs.lemmas.Int.{to_z-of_z}
 use Rattle.polcert_points.proofs.Common.{w128, Meaning, table_of}
 use Rattle.polcert_model.specs.Contents.{meaning}
 use Rattle.polcert_points.specs.PointStartMost.{scaled_start}
-use Rattle.polcert_points.specs.PointTable.{PointTable, AreProperPoints, charge_at}
+use Rattle.polcert_points.specs.PointTable.{PointTable, IsProperPointTable, charge_at}
 use Rattle.polcert_points.specs.Steps.PointSums.{IsLeastWorth}
 use Rattle.polcert_points.proofs.Laters.{some_at}
 use Rattle.polcert_points.proofs.PointStartMosts.{least_is, none_tried, one_tried}
@@ -23,7 +23,7 @@ pub loop-j-preserved : goal.loop-j-preserved
 loop-j-preserved g c =
     let m : Meaning = meaning c.args.input.now.cells.now in
     let p : PointTable = g.P.BeliefPoints.table c.args.input.now.points.now in
-    let proper : AreProperPoints p = g.met.P.BeliefPoints.is_proper c.args.input.now.points.now in
+    let proper : IsProperPointTable p = g.met.P.BeliefPoints.is_proper c.args.input.now.points.now in
     record {
       least = subst (λ (x : ℤ). IsLeastWorth (table_of m) (charge_at p c.args.input.now.charges.now) p.points (scaled_start m)
           (c.loop-j.j + 1) x)

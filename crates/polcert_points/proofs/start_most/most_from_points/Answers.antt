@@ -3,7 +3,7 @@ use Rattle.std.proofs.lemmas.Int.{to_z-of_z}
 use Rattle.polcert_points.proofs.Common.{CellTable, Meaning, table_of}
 use Rattle.polcert_model.specs.Contents.{meaning}
 use Rattle.polcert_policy.specs.Vectors.{value_of}
-use Rattle.polcert_points.specs.PointTable.{PointTable, AreProperPoints, charge_at}
+use Rattle.polcert_points.specs.PointTable.{PointTable, IsProperPointTable, charge_at}
 use Rattle.polcert_points.specs.PointStartMost.{start_times}
 use Rattle.polcert_points.proofs.PointExcesses.{small_charges}
 use Rattle.polcert_points.proofs.PointStarts.{from_start}
@@ -14,7 +14,7 @@ pub invariant_of-input : goal.invariant_of-input
 invariant_of-input g c =
     let t : CellTable = table_of (meaning c.args.model.now) in
     let p : PointTable = g.P.BeliefPoints.table c.args.points.now in
-    let proper : AreProperPoints p = g.met.P.BeliefPoints.is_proper c.args.points.now in
+    let proper : IsProperPointTable p = g.met.P.BeliefPoints.is_proper c.args.points.now in
     let room : length c.fill_charges.new.charges ≡ t.actions * t.states = c.fill_charges.auto.charges ∙ c.requires.room in
     record {
       fit = c.requires.points;
@@ -27,7 +27,7 @@ pub returns : goal.returns
 returns g c =
     let m : Meaning = meaning c.args.model.now in
     let p : PointTable = g.P.BeliefPoints.table c.args.points.now in
-    let proper : AreProperPoints p = g.met.P.BeliefPoints.is_proper c.args.points.now in
+    let proper : IsProperPointTable p = g.met.P.BeliefPoints.is_proper c.args.points.now in
     rw (to_z-of_z w64 c.most_with.result (search rules)) (record {
       most = record { charges = charge_at p c.fill_charges.new.charges; charged = c.fill_charges.ensures; is_most = c.most_with.ensures };
       certificate = certificate_of m c.args.model.now.limits (value_of c.args.vectors.now) (charge_at p c.fill_charges.new.charges) p

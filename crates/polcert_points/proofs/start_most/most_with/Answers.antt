@@ -4,7 +4,7 @@ use Rattle.polcert_points.proofs.Common.{w128, Meaning, start_weight, states_of}
 use Rattle.polcert_cells.specs.Sparse.{IsRow}
 use Rattle.polcert_cells.proofs.SparseLaws.{row_same}
 use Rattle.polcert_model.specs.Contents.{meaning}
-use Rattle.polcert_points.specs.PointTable.{PointTable, AreProperPoints}
+use Rattle.polcert_points.specs.PointTable.{PointTable, IsProperPointTable}
 use Rattle.polcert_points.proofs.PointStartMosts.{least_small, most_is}
 use Rattle.polcert_points.proofs.start_most.most_with.Goals as goal
 
@@ -20,7 +20,7 @@ pub quotient_up-requires-clause-small : goal.quotient_up-requires-clause-small
 quotient_up-requires-clause-small g c =
     let m : Meaning = meaning c.args.input.now.cells.now in
     let p : PointTable = g.P.BeliefPoints.table c.args.input.now.points.now in
-    let proper : AreProperPoints p = g.met.P.BeliefPoints.is_proper c.args.input.now.points.now in
+    let proper : IsProperPointTable p = g.met.P.BeliefPoints.is_proper c.args.input.now.points.now in
     rw (to_z-of_z w128 c.least_worth-least.result (search rules), c.start_total.ensures)
     (least_small m c.args.input.now.cells.now.limits p c.args.input.now.fit proper c.args.input.now.charges.now c.args.input.now.small
     c.least_worth-least.result c.least_worth-least.ensures)
@@ -29,7 +29,7 @@ pub returns : goal.returns
 returns g c =
     let m : Meaning = meaning c.args.input.now.cells.now in
     let p : PointTable = g.P.BeliefPoints.table c.args.input.now.points.now in
-    let proper : AreProperPoints p = g.met.P.BeliefPoints.is_proper c.args.input.now.points.now in
+    let proper : IsProperPointTable p = g.met.P.BeliefPoints.is_proper c.args.input.now.points.now in
     rw (to_z-of_z w64 c.quotient_up.result (search rules))
     (most_is m c.args.input.now.cells.now.limits p c.args.input.now.fit proper c.args.input.now.charges.now c.args.input.now.small
     c.least_worth-least.result c.least_worth-least.ensures (1000000000000 * c.start_total.result) c.quotient_up.result

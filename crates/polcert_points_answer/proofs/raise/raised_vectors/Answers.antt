@@ -1,7 +1,7 @@
 use Rattle.std.proofs.Common.{◌≡◌, rules, to_z, of_z, w64, to_z-of_z, FitsSigned, subst, sym}
 use Rattle.polcert_points_answer.proofs.Common.{meaning, table_of}
 use Rattle.polcert_check.specs.declared.fault.RaiseFault.{RaiseFault}
-use Rattle.polcert_bound_answer.specs.Raise.{IsWhyNotRaised}
+use Rattle.polcert_bound_answer.specs.Raise.{IsWhyNotBoundRaised}
 use Rattle.polcert_bound_answer.proofs.Raising.{can_shift, why_of}
 use Rattle.polcert_points_answer.proofs.raise.raised_vectors.Goals as goal
 
@@ -17,7 +17,8 @@ pub returns-in-Err-clause-refused : goal.returns-in-Err-clause-refused
 returns-in-Err-clause-refused c =
     let t = table_of (meaning c.args.read.now.bound.model) in
     let v = c.args.read.now.bound.vectors in
-    subst (λ (f : RaiseFault). IsWhyNotRaised t v f) (sym c.raise_fault_of.ensures) (why_of t v c.in-Err.fault c.in-Err.ensures.refused)
+    subst (λ (f : RaiseFault). IsWhyNotBoundRaised t v f) (sym c.raise_fault_of.ensures)
+    (why_of t v c.in-Err.fault c.in-Err.ensures.refused)
 
 pub returns-in-Ok-shifted-clause-raised : goal.returns-in-Ok-shifted-clause-raised
 returns-in-Ok-shifted-clause-raised c =

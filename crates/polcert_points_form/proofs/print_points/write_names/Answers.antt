@@ -3,7 +3,7 @@ use Rattle.polcert_text.specs.Sink.{nothing}
 use Rattle.polcert_text.proofs.Printing.Taking.{took_then}
 use Rattle.polcert_text.proofs.Printing.Written.{wrote_part}
 use Rattle.polcert_policy.specs.Points.{PointValues, named_at}
-use Rattle.polcert_points_form.specs.FullForm.{names_text, name_text}
+use Rattle.polcert_points_form.specs.FullForm.{names_text, point_name_text}
 use Rattle.polcert_points_form.proofs.print_points.write_names.Goals as goal
 
 pub loop-z-init : goal.loop-z-init
@@ -12,7 +12,7 @@ loop-z-init g c = record { took = nothing; same_count = refl }
 pub returns-in_err-write_name : goal.returns-in_err-write_name
 returns-in_err-write_name g c =
     let p : PointValues = c.args.points.now in
-    wrote_part (names_text (named_at p c.args.i c.args.a) p.observations) (name_text (named_at p c.args.i c.args.a) p.observations)
+    wrote_part (names_text (named_at p c.args.i c.args.a) p.observations) (point_name_text (named_at p c.args.i c.args.a) p.observations)
     (λ n. refl) c.loop-z.z p.observations (search rules) _ (search rules)
     c.loop-z.invariant.took c.loop-z.invariant.same_count c.in_err-write_name.ensures.err c.in_err-write_name.ensures.count
 

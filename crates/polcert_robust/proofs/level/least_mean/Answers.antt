@@ -4,7 +4,7 @@ use mir.Syntax.{w128}
 use Rattle.polcert_cells.specs.Meaning.{sum_below}
 use Rattle.polcert_check.proofs.Sums.Bounds.{abs-*ℤ_le}
 use Rattle.polcert_robust.specs.Worst.{mean}
-use Rattle.polcert_robust.specs.Steps.Rows.{ends_until, value_at, weight_at}
+use Rattle.polcert_robust.specs.Steps.Rows.{ends_until, listed_value, listed_weight}
 use Rattle.polcert_robust.proofs.Levels.{two_fit, two_small}
 use Rattle.polcert_robust.proofs.level.least_mean.Goals as goal
 
@@ -13,7 +13,8 @@ overflow_add-result c =
     let low : ℤ = c.levels_of-levels.result.low in
     let high : ℤ = c.levels_of-levels.result.high in
     let left : ℕ = c.args.row.now.scale - c.sum_until.result in
-    let row : ℤ → ℕ → ℕ = λ l. ends_until c.args.row.now.by l (weight_at c.args.row.now.weights.now) (value_at c.args.row.now.values.now) in
+    let row : ℤ → ℕ → ℕ = λ l. ends_until c.args.row.now.by l (listed_weight c.args.row.now.weights.now)
+    (listed_value c.args.row.now.values.now) in
     let same_low : to_z w128 (of_z w128 low) ≡ low = to_z-of_z w128 low (search rules) in
     let same_high : to_z w128 (of_z w128 high) ≡ high = to_z-of_z w128 high (search rules) in
     let sum_is : c.sum_until.result ≡ sum_below (row low) c.args.row.now.count =
@@ -35,7 +36,8 @@ returns-clause-is c =
     let low : ℤ = c.levels_of-levels.result.low in
     let high : ℤ = c.levels_of-levels.result.high in
     let left : ℕ = c.args.row.now.scale - c.sum_until.result in
-    let row : ℤ → ℕ → ℕ = λ l. ends_until c.args.row.now.by l (weight_at c.args.row.now.weights.now) (value_at c.args.row.now.values.now) in
+    let row : ℤ → ℕ → ℕ = λ l. ends_until c.args.row.now.by l (listed_weight c.args.row.now.weights.now)
+    (listed_value c.args.row.now.values.now) in
     let same_low : to_z w128 (of_z w128 low) ≡ low = to_z-of_z w128 low (search rules) in
     let same_high : to_z w128 (of_z w128 high) ≡ high = to_z-of_z w128 high (search rules) in
     let sum_is : c.sum_until.result ≡ sum_below (row low) c.args.row.now.count =
@@ -49,8 +51,8 @@ returns-clause-is c =
     (rw sum_is mean_small)
     (rw left_is (abs-*ℤ_le (pos left) high left c.args.row.now.bound (omega arith) c.levels_of-levels.ensures.small))
     (omega (arith, sum_is, c.levels_of-levels.ensures.levels.from)) in
-    let mean_is : c.mean_until.result ≡ mean (row low) (value_at c.args.row.now.values.now) c.args.row.now.count =
-    subst (λ (l : ℤ). c.mean_until.result ≡ mean (row l) (value_at c.args.row.now.values.now) c.args.row.now.count) same_low
+    let mean_is : c.mean_until.result ≡ mean (row low) (listed_value c.args.row.now.values.now) c.args.row.now.count =
+    subst (λ (l : ℤ). c.mean_until.result ≡ mean (row l) (listed_value c.args.row.now.values.now) c.args.row.now.count) same_low
     c.mean_until.ensures.is in
     rw (two_fit c.mean_until.result c.weigh.result (c.args.row.now.scale * c.args.row.now.bound) (search rules) (search rules) small
     c.args.row.now.fits).1
@@ -61,7 +63,8 @@ returns-clause-small c =
     let low : ℤ = c.levels_of-levels.result.low in
     let high : ℤ = c.levels_of-levels.result.high in
     let left : ℕ = c.args.row.now.scale - c.sum_until.result in
-    let row : ℤ → ℕ → ℕ = λ l. ends_until c.args.row.now.by l (weight_at c.args.row.now.weights.now) (value_at c.args.row.now.values.now) in
+    let row : ℤ → ℕ → ℕ = λ l. ends_until c.args.row.now.by l (listed_weight c.args.row.now.weights.now)
+    (listed_value c.args.row.now.values.now) in
     let same_low : to_z w128 (of_z w128 low) ≡ low = to_z-of_z w128 low (search rules) in
     let same_high : to_z w128 (of_z w128 high) ≡ high = to_z-of_z w128 high (search rules) in
     let sum_is : c.sum_until.result ≡ sum_below (row low) c.args.row.now.count =

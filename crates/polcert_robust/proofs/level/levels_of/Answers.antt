@@ -1,7 +1,7 @@
 use Rattle.std.proofs.Common.{ℕ, ℤ, ◌≤◌, ◌<ℤ◌, ◌≤ℤ◌, pos, neg_ℤ, ◌-ℤ◌, unsigned_abs, rules, arith}
 use Rattle.std.proofs.lemmas.Int.{ints, to_z-of_z}
 use mir.Syntax.{w128}
-use Rattle.polcert_robust.specs.Steps.Rows.{value_at, weight_at}
+use Rattle.polcert_robust.specs.Steps.Rows.{listed_value, listed_weight}
 use Rattle.polcert_robust.proofs.Levels.{sum_above_all, sum_below_all}
 use Rattle.polcert_robust.proofs.level.levels_of.Goals as goal
 
@@ -25,14 +25,14 @@ loop-value-init c =
       order = omega (arith, ints);
       from = omega (
         arith,
-        sum_below_all c.args.row.now.by n (neg_ℤ (pos b) -ℤ pos 1) (weight_at c.args.row.now.weights.now)
-            (value_at c.args.row.now.values.now) (λ i l. below_bound _ b (c.args.row.now.small i l)),
+        sum_below_all c.args.row.now.by n (neg_ℤ (pos b) -ℤ pos 1) (listed_weight c.args.row.now.weights.now)
+            (listed_value c.args.row.now.values.now) (λ i l. below_bound _ b (c.args.row.now.small i l)),
         c.args.row.now.sums,
       );
       to = omega (
         arith,
-        sum_above_all c.args.row.now.by n (pos b) (weight_at c.args.row.now.weights.now)
-            (value_at c.args.row.now.values.now) (λ i l. at_most_bound _ b (c.args.row.now.small i l)),
+        sum_above_all c.args.row.now.by n (pos b) (listed_weight c.args.row.now.weights.now)
+            (listed_value c.args.row.now.values.now) (λ i l. at_most_bound _ b (c.args.row.now.small i l)),
         c.args.row.now.sums,
       );
       least = omega (arith, ints);

@@ -2,7 +2,7 @@ use Rattle.std.proofs.Common.{◌≤◌, ℕ, ℤ, rules, arith, to_z, of_z}
 use Rattle.std.proofs.lemmas.Int.{to_z-of_z}
 use mir.Syntax.{w128}
 use Rattle.polcert_cells.specs.Meaning.{sum_below}
-use Rattle.polcert_robust.specs.Steps.Rows.{ends_until, value_at, weight_at}
+use Rattle.polcert_robust.specs.Steps.Rows.{ends_until, listed_value, listed_weight}
 use Rattle.polcert_robust.proofs.Levels.{less_times}
 use Rattle.polcert_robust.proofs.Means.{mean_more, part_small}
 use Rattle.polcert_robust.proofs.level.mean_until.Goals as goal
@@ -10,10 +10,12 @@ use Rattle.polcert_robust.proofs.level.mean_until.Goals as goal
 pub overflow_add-sum : goal.overflow_add-sum
 overflow_add-sum c =
     let level : ℤ = to_z w128 (of_z w128 c.args.level) in
-    let row : ℕ → ℕ = ends_until c.args.row.now.by level (weight_at c.args.row.now.weights.now) (value_at c.args.row.now.values.now) in
+    let row : ℕ → ℕ = ends_until c.args.row.now.by level (listed_weight c.args.row.now.weights.now) (listed_value c.args.row.now.values.now)
+    in
     let room : sum_below row c.args.row.now.count ≤ c.args.row.now.scale =
     rw (to_z-of_z w128 c.args.level (search rules)) c.requires.room in
-    (mean_more row (value_at c.args.row.now.values.now) c.args.row.now.bound c.args.row.now.count c.loop-i.i (to_z w128 c.loop-i.sum-bits)
+    (mean_more row (listed_value c.args.row.now.values.now) c.args.row.now.bound c.args.row.now.count c.loop-i.i
+    (to_z w128 c.loop-i.sum-bits)
     c.term_until-sum.result
     c.args.row.now.small c.loop-i-test.true (omega (
       arith,
@@ -25,10 +27,12 @@ overflow_add-sum c =
 pub loop-i-preserved : goal.loop-i-preserved
 loop-i-preserved c =
     let level : ℤ = to_z w128 (of_z w128 c.args.level) in
-    let row : ℕ → ℕ = ends_until c.args.row.now.by level (weight_at c.args.row.now.weights.now) (value_at c.args.row.now.values.now) in
+    let row : ℕ → ℕ = ends_until c.args.row.now.by level (listed_weight c.args.row.now.weights.now) (listed_value c.args.row.now.values.now)
+    in
     let room : sum_below row c.args.row.now.count ≤ c.args.row.now.scale =
     rw (to_z-of_z w128 c.args.level (search rules)) c.requires.room in
-    (mean_more row (value_at c.args.row.now.values.now) c.args.row.now.bound c.args.row.now.count c.loop-i.i (to_z w128 c.loop-i.sum-bits)
+    (mean_more row (listed_value c.args.row.now.values.now) c.args.row.now.bound c.args.row.now.count c.loop-i.i
+    (to_z w128 c.loop-i.sum-bits)
     c.term_until-sum.result
     c.args.row.now.small c.loop-i-test.true (omega (
       arith,
@@ -39,8 +43,9 @@ loop-i-preserved c =
 
 pub returns-clause-small : goal.returns-clause-small
 returns-clause-small c =
-    let row : ℕ → ℕ = ends_until c.args.row.now.by c.args.level (weight_at c.args.row.now.weights.now) (value_at c.args.row.now.values.now)
+    let row : ℕ → ℕ = ends_until c.args.row.now.by c.args.level (listed_weight c.args.row.now.weights.now)
+    (listed_value c.args.row.now.values.now)
     in
     rw (c.loop-i.invariant, to_z-of_z w128 c.args.level (search rules))
-    (part_small row (value_at c.args.row.now.values.now) c.args.row.now.bound c.args.row.now.count c.loop-i.i c.args.row.now.small
+    (part_small row (listed_value c.args.row.now.values.now) c.args.row.now.bound c.args.row.now.count c.loop-i.i c.args.row.now.small
     (search rules))

@@ -2,7 +2,7 @@ use Rattle.std.proofs.Common.{ℕ, pos, rules, arith, slice_index_or}
 use Rattle.std.proofs.lemmas.Int.{to_z-of_z}
 use mir.Syntax.{w128}
 use Rattle.polcert_cells.specs.Meaning.{sum_below}
-use Rattle.polcert_robust.specs.Steps.Rows.{ends_until, value_at, weight_at}
+use Rattle.polcert_robust.specs.Steps.Rows.{ends_until, listed_value, listed_weight}
 use Rattle.polcert_robust.proofs.Levels.{less_times}
 use Rattle.polcert_robust.proofs.Means.{one_weight, product_small}
 use Rattle.polcert_robust.proofs.level.term_until.Goals as goal
@@ -10,7 +10,7 @@ use Rattle.polcert_robust.proofs.level.term_until.Goals as goal
 pub end_until-end-requires-clause-weight : goal.end_until-end-requires-clause-weight
 end_until-end-requires-clause-weight c = omega (
   arith,
-  one_weight (weight_at c.args.row.now.weights.now) c.args.row.now.count c.args.i
+  one_weight (listed_weight c.args.row.now.weights.now) c.args.row.now.count c.args.i
       c.requires.place,
   c.args.row.now.sums,
   c.args.row.now.small_scale,
@@ -18,7 +18,8 @@ end_until-end-requires-clause-weight c = omega (
 
 pub weigh-requires-clause-product : goal.weigh-requires-clause-product
 weigh-requires-clause-product c =
-    let row : ℕ → ℕ = ends_until c.args.row.now.by c.args.level (weight_at c.args.row.now.weights.now) (value_at c.args.row.now.values.now)
+    let row : ℕ → ℕ = ends_until c.args.row.now.by c.args.level (listed_weight c.args.row.now.weights.now)
+    (listed_value c.args.row.now.values.now)
     in
     rw (
       c.end_until-end.ensures.is,
@@ -26,7 +27,7 @@ weigh-requires-clause-product c =
       to_z-of_z
           w128 c.args.level (search rules),
     )
-    (product_small row (value_at c.args.row.now.values.now) c.args.row.now.bound c.args.row.now.count c.args.i c.args.row.now.small
+    (product_small row (listed_value c.args.row.now.values.now) c.args.row.now.bound c.args.row.now.count c.args.i c.args.row.now.small
     c.requires.place
     (omega (
       arith,

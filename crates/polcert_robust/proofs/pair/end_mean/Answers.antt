@@ -4,7 +4,7 @@ use mir.Syntax.{w128}
 use Rattle.polcert_cells.specs.Tables.{CellTable, IsProper, IsWithinLimits}
 use Rattle.polcert_check.specs.Horizon.{Controller}
 use Rattle.polcert_robust.specs.Intervals.{IntervalTable}
-use Rattle.polcert_robust.specs.Worst.{step_worth}
+use Rattle.polcert_robust.specs.Worst.{least_step_worth}
 use Rattle.polcert_robust.specs.Steps.Pairs.{cells_of, most_worth, near_controller, near_table}
 use Rattle.polcert_robust.proofs.Holding.{held_sum, worst_mean_of}
 use Rattle.polcert_robust.proofs.Backings.{exact_mean}
@@ -23,7 +23,7 @@ invariant_of-row g c =
       room_for_values = omega (arith, held.few, c.requires.values, c.gather_observations-gathered.auto.values);
       few = omega (arith, held.few, limits.observations.1);
       near = c.args.pair.now.input.now.distance.o_small;
-      sums = rw c.o_scale.ensures (held_sum (λ z v. v ≡ step_worth (near_table c.args.pair.now.input.now) k c.args.pair.now.n
+      sums = rw c.o_scale.ensures (held_sum (λ z v. v ≡ least_step_worth (near_table c.args.pair.now.input.now) k c.args.pair.now.n
           c.args.pair.now.s c.args.e z) (t.o (k.action c.args.pair.now.n) c.args.e) t.observations most_worth
           c.gather_observations-gathered.new.weights c.gather_observations-gathered.new.values c.gather_observations-gathered.result.count
           held t.o_scale (m.o_rows (k.action c.args.pair.now.n) c.args.e (search rules) c.requires.end));
@@ -41,8 +41,9 @@ returns-clause-is g c =
     let is = rw c.o_scale.ensures at c.least_mean.ensures.is in
     rw (to_z-of_z w128 c.least_mean.result (search rules))
     (exact_mean (t.o (k.action c.args.pair.now.n) c.args.e) c.args.pair.now.input.now.distance.o_by t.o_scale t.observations
-    (step_worth i k c.args.pair.now.n c.args.pair.now.s c.args.e) c.least_mean.result
-    (worst_mean_of (λ z v. v ≡ step_worth i k c.args.pair.now.n c.args.pair.now.s c.args.e z) (t.o (k.action c.args.pair.now.n) c.args.e)
+    (least_step_worth i k c.args.pair.now.n c.args.pair.now.s c.args.e) c.least_mean.result
+    (worst_mean_of (λ z v. v ≡ least_step_worth i k c.args.pair.now.n c.args.pair.now.s c.args.e z)
+    (t.o (k.action c.args.pair.now.n) c.args.e)
     t.observations most_worth c.gather_observations-gathered.new.weights c.gather_observations-gathered.new.values
     c.gather_observations-gathered.result.count c.gather_observations-gathered.ensures.held
     c.args.pair.now.input.now.distance.o_by t.o_scale c.least_mean.result is))

@@ -4,7 +4,7 @@ use mir.Syntax.{w128}
 use Rattle.polcert_cells.specs.BorrowedRows.{reached}
 use Rattle.polcert_check.specs.Horizon.{Controller}
 use Rattle.polcert_check.proofs.Walking.Missing.{end_more}
-use Rattle.polcert_robust.specs.Worst.{step_worth}
+use Rattle.polcert_robust.specs.Worst.{least_step_worth}
 use Rattle.polcert_robust.specs.Steps.Pairs.{cells_of, most_worth, near_controller, near_table}
 use Rattle.polcert_robust.proofs.Holding.{holds_more, holds_none, holds_on}
 use Rattle.polcert_robust.proofs.pair.gather_observations.Goals as goal
@@ -13,7 +13,7 @@ pub loop-observation-init : goal.loop-observation-init
 loop-observation-init g c =
     let start : reached c.o_row-row.result 0 ≡ 0 = grind arith in
     rw start (record {
-      held = holds_none (λ z v. v ≡ step_worth (near_table c.args.pair.now.input.now)
+      held = holds_none (λ z v. v ≡ least_step_worth (near_table c.args.pair.now.input.now)
           (near_controller c.args.pair.now.input.now) c.args.pair.now.n c.args.pair.now.s c.args.e z)
           ((cells_of c.args.pair.now.input.now).o ((near_controller c.args.pair.now.input.now).action c.args.pair.now.n) c.args.e)
           most_worth
@@ -29,7 +29,8 @@ loop-observation-preserved g c =
     let next = rw same at c.in-Some.ensures.0 in
     let from : ℕ = reached c.o_row-row.result c.loop-observation.at in
     rw (c.in-Some.ensures.1, to_z-of_z w128 c.worth_at-part.result.mean (search rules)) (record {
-      held = holds_more (λ z v. v ≡ step_worth (near_table c.args.pair.now.input.now) k c.args.pair.now.n c.args.pair.now.s c.args.e z)
+      held = holds_more (λ z v. v ≡ least_step_worth (near_table c.args.pair.now.input.now) k c.args.pair.now.n c.args.pair.now.s c.args.e
+          z)
           ((cells_of c.args.pair.now.input.now).o (k.action c.args.pair.now.n) c.args.e) from most_worth c.loop-observation.weights
           c.loop-observation.values c.loop-observation.count c.loop-observation.invariant.held
           c.in-Some.observation.column c.in-Some.observation.weight c.worth_at-part.result.mean next.0 next.4 next.2
@@ -47,7 +48,7 @@ returns-clause-held g c =
     let k : Controller = near_controller c.args.pair.now.input.now in
     let same : c.action-a.result ≡ k.action c.args.pair.now.n = c.action-a.ensures.value in
     let none = rw same at c.in_default.ensures in
-    holds_on (λ z v. v ≡ step_worth (near_table c.args.pair.now.input.now) k c.args.pair.now.n c.args.pair.now.s c.args.e z)
+    holds_on (λ z v. v ≡ least_step_worth (near_table c.args.pair.now.input.now) k c.args.pair.now.n c.args.pair.now.s c.args.e z)
     ((cells_of c.args.pair.now.input.now).o (k.action c.args.pair.now.n) c.args.e) (reached c.o_row-row.result c.loop-observation.at)
     most_worth c.loop-observation.weights c.loop-observation.values c.loop-observation.count c.loop-observation.invariant.held
     (cells_of c.args.pair.now.input.now).observations c.loop-observation.invariant.within none

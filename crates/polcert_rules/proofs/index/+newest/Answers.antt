@@ -1,6 +1,6 @@
 use Rattle.std.proofs.Common.{◌∙◌, ◌∷◌, sym, ap, subst, arith, rules}
 use Rattle.polcert_rules.proofs.Common.{IsNewest, max_option, AreIndices}
-use Rattle.polcert_rules.specs.Keys.{Fits}
+use Rattle.polcert_rules.specs.Keys.{FitsKey}
 use Rattle.polcert_rules.proofs.Indexes.Newer.{newest_deeper, newest_end, no_more}
 use Rattle.polcert_rules.proofs.Indexes.NextPlaces.{first_index, goes_deeper, at_every, at_only}
 use Rattle.polcert_rules.proofs.index.+newest.Goals as goal
@@ -59,7 +59,7 @@ newest-of_only-requires t c =
 
 pub returns-in-None : goal.returns-in-None
 returns-in-None t c =
-    subst (λ is. IsNewest c.args.rules.now (Fits c.args.levels c.args.low is) c.first_at-here.result)
+    subst (λ is. IsNewest c.args.rules.now (FitsKey c.args.levels c.args.low is) c.first_at-here.result)
     (sym (no_more _ c.in-None.ensures.cases))
     (newest_end c.args.rules.now c.args.levels c.args.low _ c.first_at-here.ensures)
 
@@ -71,10 +71,12 @@ returns-in-Some t c =
     c.requires.few (subst (AreIndices c.args.levels) c.in-Some.ensures.cases.0 c.requires.indices) c.next_place-next.ensures in
     let joined = newest_deeper c.args.rules.now _ _ c.args.levels c.args.low c.in-Some.index.now rest _ c.first_at-here.result
     c.newest-of_every.result c.newest-of_only.result d.deeper
-    c.first_at-here.ensures d.span_every (at_every (λ k low. IsNewest next.of_every.now (Fits k low rest) c.newest-of_every.result) _ _ _ _
+    c.first_at-here.ensures d.span_every (at_every (λ k low. IsNewest next.of_every.now (FitsKey k low rest) c.newest-of_every.result) _ _ _
+    _
     next c.next_place-next.ensures c.newest-of_every.ensures)
-    d.span_only (at_only (λ k low. IsNewest next.of_only.now (Fits k low rest) c.newest-of_only.result) _ _ _ _ next
+    d.span_only (at_only (λ k low. IsNewest next.of_only.now (FitsKey k low rest) c.newest-of_only.result) _ _ _ _ next
     c.next_place-next.ensures c.newest-of_only.ensures) in
-    subst (λ is. IsNewest c.args.rules.now (Fits c.args.levels c.args.low is) c.max_option-in-Some.result) (sym c.in-Some.ensures.cases.0)
-    (subst (IsNewest c.args.rules.now (Fits c.args.levels c.args.low (c.in-Some.index.now ∷ rest)))
+    subst (λ is. IsNewest c.args.rules.now (FitsKey c.args.levels c.args.low is) c.max_option-in-Some.result)
+    (sym c.in-Some.ensures.cases.0)
+    (subst (IsNewest c.args.rules.now (FitsKey c.args.levels c.args.low (c.in-Some.index.now ∷ rest)))
     (sym (c.max_option-in-Some.ensures ∙ ap (max_option c.first_at-here.result) c.max_option.ensures)) joined)

@@ -1,5 +1,5 @@
 use Rattle.std.proofs.Common.{sym, subst, arith, rules, not}
-use Rattle.polcert_rules.proofs.Common.{AreIndices, Begins, IsAnswer}
+use Rattle.polcert_rules.proofs.Common.{AreIndices, KeyBegins, IsSearchAnswer}
 use Rattle.polcert_rules.proofs.Indexes.Newer.{no_more}
 use Rattle.polcert_rules.proofs.Indexes.NextPlaces.{first_index, goes_deeper, at_every, at_only}
 use Rattle.polcert_rules.proofs.RewardLaws.RewardKeys.{begins_first, begins_second, begins_none}
@@ -29,7 +29,7 @@ some_begins-requires-else-some_begins t c =
 
 pub returns-in-None : goal.returns-in-None
 returns-in-None t c =
-    subst (λ is. IsAnswer c.args.rules.now (Begins c.args.levels c.args.low is c.args.least) (not c.is_empty-in-None.result))
+    subst (λ is. IsSearchAnswer c.args.rules.now (KeyBegins c.args.levels c.args.low is c.args.least) (not c.is_empty-in-None.result))
     (sym (no_more _ c.in-None.ensures.cases))
     (begins_none c.args.rules.now c.rules_between.result.now c.args.levels c.args.low c.args.least c.span.result c.is_empty-in-None.result
     c.span.ensures c.rules_between.ensures.kept c.is_empty-in-None.ensures)
@@ -40,11 +40,11 @@ returns-then-some_begins t c =
     let rest = c.in-Some.rest.now in
     let d = goes_deeper c.args.rules.now c.args.levels c.args.low c.in-Some.index.now c.in-Some.rest.now c.next_place-next.result
     c.requires.few (subst (AreIndices c.args.levels) c.in-Some.ensures.cases.0 c.requires.indices) c.next_place-next.ensures in
-    subst (λ is. IsAnswer c.args.rules.now (Begins c.args.levels c.args.low is c.args.least) c.some_begins.result)
+    subst (λ is. IsSearchAnswer c.args.rules.now (KeyBegins c.args.levels c.args.low is c.args.least) c.some_begins.result)
     (sym c.in-Some.ensures.cases.0)
     (begins_first c.args.rules.now next.of_every.now c.args.levels c.args.low c.in-Some.index.now rest c.args.least _ c.some_begins.result
     d.deeper c.if-some_begins.true
-    d.span_every (at_every (λ k low. IsAnswer next.of_every.now (Begins k low rest c.args.least) c.some_begins.result) _ _ _ _ next
+    d.span_every (at_every (λ k low. IsSearchAnswer next.of_every.now (KeyBegins k low rest c.args.least) c.some_begins.result) _ _ _ _ next
     c.next_place-next.ensures c.some_begins.ensures))
 
 pub returns-else-some_begins : goal.returns-else-some_begins
@@ -53,11 +53,12 @@ returns-else-some_begins t c =
     let rest = c.in-Some.rest.now in
     let d = goes_deeper c.args.rules.now c.args.levels c.args.low c.in-Some.index.now c.in-Some.rest.now c.next_place-next.result
     c.requires.few (subst (AreIndices c.args.levels) c.in-Some.ensures.cases.0 c.requires.indices) c.next_place-next.ensures in
-    subst (λ is. IsAnswer c.args.rules.now (Begins c.args.levels c.args.low is c.args.least) c.some_begins-else-some_begins.result)
+    subst (λ is. IsSearchAnswer c.args.rules.now (KeyBegins c.args.levels c.args.low is c.args.least) c.some_begins-else-some_begins.result)
     (sym c.in-Some.ensures.cases.0)
     (begins_second c.args.rules.now next.of_every.now next.of_only.now c.args.levels c.args.low c.in-Some.index.now rest c.args.least _
     c.some_begins.result c.some_begins-else-some_begins.result d.deeper c.if-some_begins.false
-    d.span_every (at_every (λ k low. IsAnswer next.of_every.now (Begins k low rest c.args.least) c.some_begins.result) _ _ _ _ next
+    d.span_every (at_every (λ k low. IsSearchAnswer next.of_every.now (KeyBegins k low rest c.args.least) c.some_begins.result) _ _ _ _ next
     c.next_place-next.ensures c.some_begins.ensures)
-    d.span_only (at_only (λ k low. IsAnswer next.of_only.now (Begins k low rest c.args.least) c.some_begins-else-some_begins.result) _ _ _ _
+    d.span_only (at_only (λ k low. IsSearchAnswer next.of_only.now (KeyBegins k low rest c.args.least)
+    c.some_begins-else-some_begins.result) _ _ _ _
     next c.next_place-next.ensures c.some_begins-else-some_begins.ensures))

@@ -1,6 +1,6 @@
 use Rattle.std.proofs.Common.{◌+◌, ◌^◌, ◌≤◌, [], ◌∷◌, refl, subst, arith}
 use Rattle.polcert_rules.proofs.Common.{key_base, noted_at, IsNoted}
-use Rattle.polcert_rules.specs.Keys.{Fits}
+use Rattle.polcert_rules.specs.Keys.{FitsKey}
 use Rattle.polcert_rules.proofs.Indexes.NextPlaces.{goes_deeper}
 use Rattle.polcert_rules.proofs.Indexes.NotedLaws.{noted_deeper}
 use Rattle.polcert_rules.proofs.named_noting.note_ends.Goals as goal
@@ -38,6 +38,6 @@ returns c = λ t z l.
     noted_deeper rules next.of_every.now next.of_only.now 2 c.args.low c.args.end [] z (key_base ^ 1) c.first_at.result
     (noted_at c.args.list.now z) first second after
     (c.requires.end, tt) refl l refl c.first_at.ensures (c.note_all.ensures z)
-    d.span_every (subst (λ k. IsNoted next.of_every.now (Fits 1 k (z ∷ [])) first second) n.every_is
+    d.span_every (subst (λ k. IsNoted next.of_every.now (FitsKey 1 k (z ∷ [])) first second) n.every_is
     (c.note_observations.ensures c.if-not-note_observations.false z l))
-    d.span_only (subst (λ k. IsNoted next.of_only.now (Fits 1 k (z ∷ [])) second after) n.only_is (c.note_observations-2.ensures t z l))
+    d.span_only (subst (λ k. IsNoted next.of_only.now (FitsKey 1 k (z ∷ [])) second after) n.only_is (c.note_observations-2.ensures t z l))

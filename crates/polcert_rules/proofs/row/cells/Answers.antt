@@ -1,5 +1,6 @@
 use Rattle.std.proofs.Common.{ℕ, ◌+◌, ◌<◌, List, All, subst, sym, rules}
-use Rattle.polcert_rules.proofs.Common.{IsNonDecreasingBy-from_sort_by_key, Rule, IsRising, IsNewest, IsSingle, IsCell, at_column, key_base}
+use Rattle.polcert_rules.proofs.Common.{IsNonDecreasingBy-from_sort_by_key, Rule, IsRising, IsNewest, IsSingleCellKey, IsCell, at_column}
+use Rattle.polcert_rules.proofs.Common.{key_base}
 use Rattle.polcert_rules.proofs.Common.{others_in}
 use Rattle.polcert_rules.proofs.Indexes.Building.{each_rises}
 use Rattle.polcert_rules.proofs.RowLaws.Cells.{gathered_are, newest_at, each_cell}
@@ -24,7 +25,7 @@ returns-clause-newest c =
     let all = newest_at (others_in c.args.split.now.others) _ _ c.args.low c.args.action c.args.state gathered
     c.sort_unstable_by_key.ensures.permutation (each_rises _ ordered) in
     subst (λ (xs : List Rule). (n : ℕ) → n + 2 < key_base
-    → IsNewest (others_in c.args.split.now.others) (IsSingle c.args.low c.args.action c.args.state n) (at_column xs n)) (sym is) all
+    → IsNewest (others_in c.args.split.now.others) (IsSingleCellKey c.args.low c.args.action c.args.state n) (at_column xs n)) (sym is) all
 
 pub returns-clause-each : goal.returns-clause-each
 returns-clause-each c =

@@ -1,6 +1,6 @@
 use Rattle.std.proofs.Common.{◌≡◌, ◌+◌, ◌<◌, ◌^◌, ℕ, List, [], ◌∷◌, ◌++◌, None, length, get_or, refl, sym, ap, subst, arith, rules}
 use Rattle.polcert_rules.proofs.Common.{key_base, AreIndices, IsNoted}
-use Rattle.polcert_rules.specs.Keys.{Fits}
+use Rattle.polcert_rules.specs.Keys.{FitsKey}
 use Rattle.polcert_rules.proofs.Indexes.Newer.{no_more}
 use Rattle.polcert_rules.proofs.Indexes.NextPlaces.{first_index, goes_deeper, at_every, at_only}
 use Rattle.polcert_rules.proofs.Indexes.NotedLaws.{noted_end, noted_deeper}
@@ -80,9 +80,9 @@ returns-in-None t c = λ i l.
     let none : c.args.indices.now ≡ [] = no_more _ c.in-None.ensures.cases in
     let size : length c.args.indices.now ≡ 0 = c.in-None.ensures.cases in
     let one : 1 ≡ c.args.levels = omega (arith, size, c.requires.last) in
-    subst (λ (is : List ℕ). IsNoted c.args.rules.now (Fits c.args.levels c.args.low (is ++ z ∷ [])) (get_or c.args.noted.now i None)
+    subst (λ (is : List ℕ). IsNoted c.args.rules.now (FitsKey c.args.levels c.args.low (is ++ z ∷ [])) (get_or c.args.noted.now i None)
     (get_or c.note_last.new.noted i None)) (sym none)
-    (subst (λ k. IsNoted c.args.rules.now (Fits k c.args.low (z ∷ [])) (get_or c.args.noted.now i None)
+    (subst (λ k. IsNoted c.args.rules.now (FitsKey k c.args.low (z ∷ [])) (get_or c.args.noted.now i None)
     (get_or c.note_last.new.noted i None)) one
     (noted_end c.args.rules.now c.args.low z c.first_at.result _ _ _ c.first_at.ensures (c.note_all.ensures i l)
     (c.note_last.ensures i (omega (arith, l, c.note_all.auto.noted)))))
@@ -95,15 +95,15 @@ returns-in-Some t c = λ i l.
     let d = goes_deeper c.args.rules.now c.args.levels c.args.low c.in-Some.index.now c.in-Some.rest.now c.next_place-next.result
     c.requires.few (subst (AreIndices c.args.levels) c.in-Some.ensures.cases.0 c.requires.indices) c.next_place-next.ensures in
     let size : length c.args.indices.now ≡ length (c.in-Some.index.now ∷ rest) = ap length c.in-Some.ensures.cases.0 in
-    subst (λ (is : List ℕ). IsNoted c.args.rules.now (Fits c.args.levels c.args.low (is ++ z ∷ [])) (get_or c.args.noted.now i None)
+    subst (λ (is : List ℕ). IsNoted c.args.rules.now (FitsKey c.args.levels c.args.low (is ++ z ∷ [])) (get_or c.args.noted.now i None)
     (get_or c.note-in-Some.new.noted i None)) (sym c.in-Some.ensures.cases.0)
     (noted_deeper c.args.rules.now next.of_every.now next.of_only.now c.args.levels c.args.low c.in-Some.index.now rest z _
     c.first_at.result _ _ _ _
     (subst (AreIndices c.args.levels) c.in-Some.ensures.cases.0 c.requires.indices) (omega (arith, size, c.requires.last))
     (omega (arith, l, c.requires.small)) refl
     c.first_at.ensures (c.note_all.ensures i l)
-    d.span_every (at_every (λ k low. IsNoted next.of_every.now (Fits k low (rest ++ z ∷ [])) (get_or c.note_all.new.noted i None)
+    d.span_every (at_every (λ k low. IsNoted next.of_every.now (FitsKey k low (rest ++ z ∷ [])) (get_or c.note_all.new.noted i None)
     (get_or c.note.new.noted i None)) _ _ _ _ next c.next_place-next.ensures (c.note.ensures i (omega (arith, l, c.note_all.auto.noted))))
-    d.span_only (at_only (λ k low. IsNoted next.of_only.now (Fits k low (rest ++ z ∷ [])) (get_or c.note.new.noted i None)
+    d.span_only (at_only (λ k low. IsNoted next.of_only.now (FitsKey k low (rest ++ z ∷ [])) (get_or c.note.new.noted i None)
     (get_or c.note-in-Some.new.noted i None)) _ _ _ _ next c.next_place-next.ensures
     (c.note-in-Some.ensures i (omega (arith, l, c.note_all.auto.noted, c.note.auto.noted)))))

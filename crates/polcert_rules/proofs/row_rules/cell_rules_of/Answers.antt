@@ -1,6 +1,6 @@
 use Rattle.std.proofs.Common.{◌∙◌, sym, ap, subst, Option, ℕ, ◌∷◌, []}
 use Rattle.polcert_rules.proofs.Common.{max_option, IsNewest}
-use Rattle.polcert_rules.specs.Keys.{Fits}
+use Rattle.polcert_rules.specs.Keys.{FitsKey}
 use Rattle.polcert_rules.proofs.Indexes.CellLaws.{named_cells}
 use Rattle.polcert_rules.proofs.row_rules.cell_rules_of.Goals as goal
 
@@ -12,7 +12,7 @@ first_at-requires-2-clause-from c r among = ((c.rules_from-both.ensures.kept r).
 
 pub returns-clause-newest : goal.returns-clause-newest
 returns-clause-newest c = λ e z el zl x n.
-    subst (λ (w : Option ℕ). IsNewest c.args.rules.now (Fits 2 c.args.low (e ∷ z ∷ [])) (max_option w x))
+    subst (λ (w : Option ℕ). IsNewest c.args.rules.now (FitsKey 2 c.args.low (e ∷ z ∷ [])) (max_option w x))
     (sym (c.max_option.ensures ∙ ap (max_option c.first_at-3.result) c.max_option-here.ensures))
     (named_cells c.args.rules.now c.rules_from-open.result.now c.rules_from-both.result.now c.rules_from-named.result.now c.args.low e z
     c.first_at-3.result c.first_at.result c.first_at-2.result x zl

@@ -1,5 +1,5 @@
 use Rattle.std.proofs.Common.{◌∙◌, ◌*◌, ◌^◌, ◌++◌, min, take, ap, arith}
-use Rattle.polcert_text.proofs.Common.{digits_value, cap}
+use Rattle.polcert_text.proofs.Common.{digits_value, size_cap}
 use Rattle.polcert_text.proofs.Numbers.SizeLaws.{scaled_none}
 use Rattle.polcert_text.proofs.number.leading_size.Goals as goal
 
@@ -9,7 +9,7 @@ returns-clause-floor c =
     let digits = c.args.whole.now ++ c.args.fraction.now in
     let scaled = c.after_digits-scaling.ensures.scaled kept c.args.whole.now (c.after_digits.ensures.scaled kept _ (scaled_none kept)) in
     c.with_zeros.ensures (digits_value 10 (take kept digits)) scaled.floor
-    ∙ ap (λ n. min cap (digits_value 10 (take kept digits) * 10 ^ n)) scaled.left
+    ∙ ap (λ n. min size_cap (digits_value 10 (take kept digits) * 10 ^ n)) scaled.left
 
 pub returns-clause-is_inexact : goal.returns-clause-is_inexact
 returns-clause-is_inexact c =

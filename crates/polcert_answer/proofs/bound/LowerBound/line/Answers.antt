@@ -1,7 +1,7 @@
 use Rattle.std.proofs.Common.{◌≡◌, refl, rules, to_z, of_z, w64, to_z-of_z, FitsSigned}
 use Rattle.polcert_answer.proofs.Common.{subst⁻¹, table_of, meaning, controller_of, IsVerdictLine}
 use mir.Syntax.{w128}
-use Rattle.polcert_answer.specs.Lines.{yes_line, short_line}
+use Rattle.polcert_answer.specs.Lines.{at_least_line, short_line}
 use Rattle.polcert_answer.proofs.bound.LowerBound.line.Goals as goal
 
 pub returns-in-Yes : goal.returns-in-Yes
@@ -11,7 +11,8 @@ returns-in-Yes c =
     let best = c.start_worth-node.result in
     let fits : FitsSigned w64 best.1 = search rules in
     let back : to_z w64 (of_z w64 best.1) ≡ best.1 = to_z-of_z fits in
-    rw back (subst⁻¹ (λ u. IsVerdictLine m (controller_of (table_of m) c.args.given.now.graph v) v u (yes_line best.0 best.1)) c.in-Yes.is
+    rw back (subst⁻¹ (λ u. IsVerdictLine m (controller_of (table_of m) c.args.given.now.graph v) v u (at_least_line best.0 best.1))
+    c.in-Yes.is
     (best.0, best.1, c.start_worth-node.ensures.node, c.start_worth-node.ensures.worth, refl))
 
 pub returns-in-Short : goal.returns-in-Short

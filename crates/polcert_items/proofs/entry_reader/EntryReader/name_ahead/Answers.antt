@@ -1,11 +1,11 @@
 use Rattle.std.proofs.Common.{◌≡◌, drop, length, get_or, subst}
-use Rattle.polcert_items.proofs.Common.{moved, lexeme_of, Count, named_in}
+use Rattle.polcert_items.proofs.Common.{at_offset, lexeme_of, Count, named_in}
 use Rattle.polcert_items.proofs.AheadPlaces.{element_place, place_moved}
 use Rattle.polcert_items.proofs.TokenTexts.{front_is_text}
 use Rattle.polcert_items.proofs.entry_reader.EntryReader.name_ahead.Goals as goal
 
 pub element_by_name-requires-clause-text : goal.element_by_name-requires-clause-text
-element_by_name-requires-clause-text c = front_is_text 0 c.args.bytes.now c.in-Some.token.stop (moved 0 (lexeme_of c.in-Some.token))
+element_by_name-requires-clause-text c = front_is_text 0 c.args.bytes.now c.in-Some.token.stop (at_offset 0 (lexeme_of c.in-Some.token))
     (c.in-Some.ensures.front 0)
 
 pub returns-in-Ok : goal.returns-in-Ok

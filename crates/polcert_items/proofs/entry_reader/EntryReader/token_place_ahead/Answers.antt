@@ -1,11 +1,11 @@
 use Rattle.std.proofs.Common.{drop, length}
-use Rattle.polcert_items.proofs.Common.{moved, lexeme_of, named_in}
+use Rattle.polcert_items.proofs.Common.{at_offset, lexeme_of, named_in}
 use Rattle.polcert_items.proofs.AheadPlaces.{place_moved}
 use Rattle.polcert_items.proofs.TokenTexts.{front_is_text}
 use Rattle.polcert_items.proofs.entry_reader.EntryReader.token_place_ahead.Goals as goal
 
 pub next_place-requires-clause-text : goal.next_place-requires-clause-text
-next_place-requires-clause-text c = front_is_text 0 c.args.bytes.now c.in-Some.token.stop (moved 0 (lexeme_of c.in-Some.token))
+next_place-requires-clause-text c = front_is_text 0 c.args.bytes.now c.in-Some.token.stop (at_offset 0 (lexeme_of c.in-Some.token))
     (c.in-Some.ensures 0)
 
 pub returns-in-Ok : goal.returns-in-Ok

@@ -1,5 +1,5 @@
 use Rattle.std.proofs.Common.{refl, rules, subst, sym, FitsSigned, w64, to_z-of_z}
-use Rattle.polcert_items.proofs.Common.{lexeme_of, IsInRange, is_negative, IsMillionths}
+use Rattle.polcert_items.proofs.Common.{lexeme_of, FitsRange, is_minus_sign, IsMillionths}
 use Rattle.polcert_items.proofs.ListLaws.{no_number, takes_sign, takes_number, if_err, if_refused}
 use Rattle.polcert_items.proofs.WantLaws.{list_numeral_leads}
 use Rattle.polcert_items.proofs.entry_reader.Numbers.feed.Goals as goal
@@ -30,8 +30,8 @@ returns-in_ok-push-in-Value-clause-fed g c =
     let fits_in = rw c.range.ensures at step.1 in
     let worth = simp to_z-of_z at c.of_millionths.ensures in
     let takes = takes_number kind c.args.self.now _ (lexeme_of c.args.token) refl c.of_millionths.result g.met.T.ListNumber.distinct
-    (subst (IsMillionths (is_negative c.args.self.now.sign) (lexeme_of c.args.token)) (sym worth) step.0)
-    (subst (IsInRange kind.range) (sym worth) fits_in) refl c.in_ok-push-in-Value.ensures.ok in
+    (subst (IsMillionths (is_minus_sign c.args.self.now.sign) (lexeme_of c.args.token)) (sym worth) step.0)
+    (subst (FitsRange kind.range) (sym worth) fits_in) refl c.in_ok-push-in-Value.ensures.ok in
     let leads = list_numeral_leads c.args.self.now (lexeme_of c.args.token) _ c.of_millionths.result step.0.kind
     c.in_ok-push-in-Value.ensures.ok in
     search rules

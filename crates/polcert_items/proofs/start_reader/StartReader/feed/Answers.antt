@@ -1,5 +1,5 @@
 use Rattle.std.proofs.Common.{ap, rules, arith}
-use Rattle.polcert_items.proofs.Common.{IfErr-weaker, lexeme_of, count_of, is_sign}
+use Rattle.polcert_items.proofs.Common.{IfErr-weaker, lexeme_of, count_of, is_sign_kind}
 use Rattle.polcert_items.specs.declared.start_reader.StartReader.TheVariants as reader
 use Rattle.polcert_items.proofs.PatternLaws.{refused_map, each_refused_map}
 use Rattle.polcert_items.proofs.StartNumbers.{sign_takes, shares_stuck, digits_take, first_is}
@@ -41,7 +41,7 @@ returns-in_ok-self-in-Form-clause-fed c =
 pub returns-in_ok-new-in-Colon-clause-fed : goal.returns-in_ok-new-in-Colon-clause-fed
 returns-in_ok-new-in-Colon-clause-fed c =
     fed_as c.args.states.now _ _ _ _ c.in-Colon.is (search rules) (search rules) (search rules)
-    (λ body seen. list_seen _ body _ c.in_ok-new-in-Colon.field-0 seen.body_is (ap is_sign c.in_ok-colon-in-Colon.ensures.ok))
+    (λ body seen. list_seen _ body _ c.in_ok-new-in-Colon.field-0 seen.body_is (ap is_sign_kind c.in_ok-colon-in-Colon.ensures.ok))
 
 pub returns-in_ok-feed-in-List-clause-fed : goal.returns-in_ok-feed-in-List-clause-fed
 returns-in_ok-feed-in-List-clause-fed c =

@@ -1,5 +1,5 @@
 use Rattle.std.proofs.Common.{◌≡◌, ◌∙◌, ◌∷◌, [], Some, sym, ap, subst, arith}
-use Rattle.polcert_text.specs.Beginning.{moved}
+use Rattle.polcert_text.specs.Beginning.{at_offset}
 use Rattle.polcert_text.proofs.Taken.TakenAhead.{takes_none}
 use Rattle.polcert_model.proofs.Common.{lexeme_of, topic, Cells, TakesAhead, IsTextRead, TextReadsOn}
 use Rattle.polcert_model.proofs.ReadingAhead.{some_bytes}
@@ -10,7 +10,7 @@ returns-then-branch-clause-number c = omega (
   arith,
   c.in_ok-next_entry.ensures.number c.if-branch.true,
   some_bytes 0 c.args.bytes.now
-      c.in-Some.token.stop (moved 0 (lexeme_of c.in-Some.token)) (c.in-Some.ensures.front 0),
+      c.in-Some.token.stop (at_offset 0 (lexeme_of c.in-Some.token)) (c.in-Some.ensures.front 0),
 )
 
 pub returns-then-branch-clause-read : goal.returns-then-branch-clause-read
@@ -21,11 +21,11 @@ returns-then-branch-clause-read c =
     record {
       within = (c.in-Some.ensures.front 0).within;
       taken = λ place. (
-        moved place l ∷ [],
+        at_offset place l ∷ [],
         (
           c.in-Some.ensures.front place,
           λ x seen read. c.in_ok-next_entry.ensures.read c.if-branch.true
-              seen (moved place l) read about,
+              seen (at_offset place l) read about,
         ),
       );
     }

@@ -5,7 +5,7 @@ use Rattle.polcert_cells.specs.Meaning.{sum_below}
 use Rattle.polcert_cells.specs.Sparse.{IsRow}
 use Rattle.polcert_cells.specs.Tables.{IsWithinLimits}
 use Rattle.polcert_cells.proofs.SparseLaws.{row_same}
-use Rattle.polcert_points.specs.PointTable.{PointTable, AreProperPoints, charge_at}
+use Rattle.polcert_points.specs.PointTable.{PointTable, IsProperPointTable, charge_at}
 use Rattle.polcert_points.specs.Steps.PointSums.{arrival}
 use Rattle.polcert_points.proofs.Laters.{covers_are, later_le}
 use Rattle.polcert_points.proofs.NamedCovers.{covers_of}
@@ -29,7 +29,7 @@ pub value_at_scale-worth-requires-clause-mass : goal.value_at_scale-worth-requir
 value_at_scale-worth-requires-clause-mass g c =
     let t : CellTable = g.C.Cells.table c.args.self.now.cells.now in
     let p : PointTable = g.P.BeliefPoints.table c.args.self.now.points.now in
-    let proper : AreProperPoints p = g.met.P.BeliefPoints.is_proper c.args.self.now.points.now in
+    let proper : IsProperPointTable p = g.met.P.BeliefPoints.is_proper c.args.self.now.points.now in
     rw c.mass_of.ensures (proper.few c.args.i c.requires.point)
 
 pub excess-requires-clause-discount : goal.excess-requires-clause-discount
@@ -41,7 +41,7 @@ pub excess-requires-clause-later : goal.excess-requires-clause-later
 excess-requires-clause-later g c =
     let t : CellTable = g.C.Cells.table c.args.self.now.cells.now in
     let p : PointTable = g.P.BeliefPoints.table c.args.self.now.points.now in
-    let proper : AreProperPoints p = g.met.P.BeliefPoints.is_proper c.args.self.now.points.now in
+    let proper : IsProperPointTable p = g.met.P.BeliefPoints.is_proper c.args.self.now.points.now in
     let m : IsProper t = g.met.C.Cells.is_proper c.args.self.now.cells.now in
     let limits : IsWithinLimits t = g.met.C.Cells.is_within_limits c.args.self.now.cells.now in
     rw (

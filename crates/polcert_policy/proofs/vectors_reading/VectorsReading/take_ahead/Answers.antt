@@ -1,6 +1,6 @@
 use Rattle.std.proofs.Common.{◌∙◌, ℕ, ◌≤◌, ◌+◌, length, rules, arith, refl, subst}
 use Rattle.std.proofs.lemmas.Int.{to_z-of_z}
-use Rattle.polcert_policy.proofs.Common.{take_rest, with_minus, HasVectors}
+use Rattle.polcert_policy.proofs.Common.{take_rest, with_minus, HasReadVectors}
 use mir.Syntax.{w64}
 use Rattle.polcert_text.specs.FrontValues.{BeginWithValue}
 use Rattle.polcert_policy.proofs.VectorEndLaws.{rounded_in_range, in_range_fits}
@@ -10,13 +10,13 @@ use Rattle.polcert_policy.proofs.VectorsAhead.{value_reads}
 use Rattle.polcert_policy.proofs.vectors_reading.VectorsReading.take_ahead.Goals as goal
 
 pub returns-then-is_some-clause-takes : goal.returns-then-is_some-clause-takes
-returns-then-is_some-clause-takes c = takes_none (HasVectors c.args.rounding) c.args.self.now c.args.bytes.now
+returns-then-is_some-clause-takes c = takes_none (HasReadVectors c.args.rounding) c.args.self.now c.args.bytes.now
 
 pub loop-self-init : goal.loop-self-init
 loop-self-init c = record {
   sign = search rules;
   states = refl;
-  takes = takes_none (HasVectors c.args.rounding) c.args.self.now c.args.bytes.now;
+  takes = takes_none (HasReadVectors c.args.rounding) c.args.self.now c.args.bytes.now;
 }
 
 pub overflow_add-at : goal.overflow_add-at
@@ -39,7 +39,7 @@ loop-self-preserved c =
     record {
       sign = c.advance.ensures.sign_same ∙ was.sign;
       states = c.advance.ensures.states_same ∙ was.states;
-      takes = takes_more (HasVectors c.args.rounding) c.args.self.now r c.advance.new.self bs at front.len was.takes (λ place.
+      takes = takes_more (HasReadVectors c.args.rounding) c.args.self.now r c.advance.new.self bs at front.len was.takes (λ place.
           let value = begins place in
           let fits = in_range_fits front.value (rounded_in_range c.args.rounding _ _ front.value value.readable value.rounded) in
           let pushed = rw (to_z-of_z w64 front.value fits) at c.in_ok-push.ensures in (

@@ -2,7 +2,7 @@ use Rattle.std.proofs.Common.{◌≡◌, ◌∙◌, ◌+◌, ◌*◌, [], ◌∷
 use Rattle.std.proofs.lemmas.Int.{to_z-of_z}
 use Rattle.polcert_rules.proofs.Common.{slice_get-get_or, count_of, dimensions, Reward, AreIndices, table_key, most_places, IsNewest}
 use Rattle.polcert_rules.proofs.Common.{AreWithin, RewardCell}
-use Rattle.polcert_rules.specs.Keys.{Fits}
+use Rattle.polcert_rules.specs.Keys.{FitsKey}
 use Rattle.polcert_rules.proofs.RewardLaws.CellRewards.{cells_more}
 use Rattle.polcert_rules.proofs.rewards.Rewards.fill_cells.Goals as goal
 
@@ -36,6 +36,6 @@ loop-i-preserved c =
           let within : AreWithin (map count_of (dimensions p Reward)) (a ∷ s ∷ at.end ∷ at.observation ∷ []) = search rules in
           sym (to_z-of_z w64 c.single_or_given-reward.result fits ∙ c.single_or_given-reward.ensures p entries are within
           (c.body_of-covering.ensures (a ∷ s ∷ at.end ∷ at.observation ∷ []) p entries small are
-          (subst (IsNewest c.args.self.now.rules (Fits most_places (table_key Reward) (a ∷ s ∷ at.end ∷ at.observation ∷ [])))
+          (subst (IsNewest c.args.self.now.rules (FitsKey most_places (table_key Reward) (a ∷ s ∷ at.end ∷ at.observation ∷ [])))
           (sym c.max_option.ensures) newest)));
     })

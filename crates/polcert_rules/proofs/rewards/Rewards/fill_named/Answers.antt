@@ -3,7 +3,7 @@ use Rattle.std.proofs.Common.{below_more, get_or-set_other, get_or-set_same}
 use Rattle.std.proofs.lemmas.Int.{to_z-of_z}
 use Rattle.polcert_rules.proofs.Common.{count_of, dimensions, reward, Reward, AreIndices, table_key, most_places, max_option, rule_at}
 use Rattle.polcert_rules.proofs.Common.{IsNewest, AreWithin, cell_at, RewardCell}
-use Rattle.polcert_rules.specs.Keys.{Fits}
+use Rattle.polcert_rules.specs.Keys.{FitsKey}
 use Rattle.polcert_rules.specs.Steps.NamedCells.{cell_of}
 use Rattle.polcert_rules.proofs.Indexes.NamedLaws.{found_in}
 use Rattle.polcert_rules.proofs.rewards.Rewards.fill_named.Goals as goal
@@ -20,8 +20,8 @@ loop-i-preserved c =
     λ k l. get_or-set_other c.loop-i.cells i k new _ (λ e. absurd (omega (arith, e, l))) in
     let small : AreIndices most_places (cell_of c.args.at z) = search rules in
     let noted = found_in list.rules list.count i z c.loop-i-test.true refl list.distinct in
-    let newest : IsNewest c.args.self.now.rules (Fits most_places (table_key Reward) (cell_of c.args.at z)) c.max_option.result =
-    subst (IsNewest c.args.self.now.rules (Fits most_places (table_key Reward) (cell_of c.args.at z)))
+    let newest : IsNewest c.args.self.now.rules (FitsKey most_places (table_key Reward) (cell_of c.args.at z)) c.max_option.result =
+    subst (IsNewest c.args.self.now.rules (FitsKey most_places (table_key Reward) (cell_of c.args.at z)))
     (ap (max_option list.whole) noted ∙ sym c.max_option.ensures) (c.requires.newest z (search rules)) in
     record {
       named = below_more (λ k. (cell_at (set c.loop-i.cells i new) k).observation ≡ (rule_at list.rules k).observation) i

@@ -4,7 +4,7 @@ use Rattle.std.proofs.lemmas.Int.{to_z-of_z}
 use Rattle.std.proofs.lemmas.List.{get_or-take, length-take-le}
 use Rattle.polcert_rules.proofs.Common.{count_of, dimensions, reward, Reward, Rule, AreIndices, table_key, most_places, IsNewest}
 use Rattle.polcert_rules.proofs.Common.{RewardRules, AreWithin, IsLastBody, RewardBody}
-use Rattle.polcert_rules.specs.Keys.{Fits}
+use Rattle.polcert_rules.specs.Keys.{FitsKey}
 use Rattle.polcert_rules.proofs.Indexes.NotedLaws.{noted_first}
 use Rattle.polcert_rules.proofs.rewards.Rewards.fill_noted.Goals as goal
 use Rattle.polcert_rules.proofs.rewards.Rewards.fill_noted.Goals.{then-is_same, else-is_same}
@@ -15,7 +15,7 @@ loop-i-preserved c = λ p entries are.
     let z = c.args.first + i in
     let cell = λ (y : ℕ). c.args.at.action ∷ c.args.at.start ∷ c.args.at.end ∷ y ∷ [] in
     let IsLast : Option RewardBody → Type 0 = IsLastBody p.costs entries c.args.self.now.numbers (cell z) in
-    let IsHere : Option ℕ → Type 0 = IsNewest c.args.self.now.rules (Fits most_places (table_key Reward) (cell z)) in
+    let IsHere : Option ℕ → Type 0 = IsNewest c.args.self.now.rules (FitsKey most_places (table_key Reward) (cell z)) in
     let here : z < c.args.self.now.shape.observations = omega (arith, c.loop-i-test.true, c.requires.within) in
     let few : i < length c.args.noted.now = omega (arith, c.loop-i-test.true, c.requires.room_to_note) in
     let lt : i < length c.loop-i.rewards = omega (arith, c.loop-i-test.true, c.requires.room, c.loop-i.auto.rewards) in
@@ -26,10 +26,10 @@ loop-i-preserved c = λ p entries are.
     rw (length-take-le (c.args.count + 1) c.args.noted.now (omega (arith, c.requires.room_to_note))) before in
     let none : get_or (take (c.args.count + 1) c.args.noted.now) i None ≡ None =
     get_or-take (c.args.count + 1) c.args.noted.now i None before ∙ c.requires.nothing i few in
-    let first = noted_first _ (Fits most_places (table_key Reward) (cell z)) _ (get_or c.note.new.noted i None) none
+    let first = noted_first _ (FitsKey most_places (table_key Reward) (cell z)) _ (get_or c.note.new.noted i None) none
     (c.note.ensures i among) in
     let newest : IsHere (get_or c.note.new.noted i None) =
-    subst (λ (xs : List Rule). IsNewest xs (Fits most_places (table_key Reward) (cell z)) (get_or c.note.new.noted i None))
+    subst (λ (xs : List Rule). IsNewest xs (FitsKey most_places (table_key Reward) (cell z)) (get_or c.note.new.noted i None))
     (ap (λ (rewards : RewardRules). rewards.rules) c.self.view_is) first in
     let is : to_z w64 c.if-is_same.reward-bits ≡ reward p entries (cell z) = elim c.if-is_same.branch [
       | then-is_same w ↦

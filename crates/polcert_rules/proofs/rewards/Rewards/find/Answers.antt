@@ -2,7 +2,7 @@ use Rattle.std.proofs.Common.{◌∙◌, ℕ, [], ◌∷◌, map, FitsSigned, w6
 use Rattle.std.proofs.lemmas.Int.{to_z-of_z}
 use Rattle.polcert_rules.proofs.Common.{same_Some, count_of, dimensions, reward, Reward, AreIndices, table_key, most_places, max_option}
 use Rattle.polcert_rules.proofs.Common.{RewardRules, noted_at, IsNewest, AreWithin, IsCommonReward, CommonReward}
-use Rattle.polcert_rules.specs.Keys.{Fits}
+use Rattle.polcert_rules.specs.Keys.{FitsKey}
 use Rattle.polcert_rules.specs.Steps.NamedCells.{AreNewestAt}
 use Rattle.polcert_rules.proofs.Indexes.NotedLaws.{noted_first, later_none}
 use Rattle.polcert_rules.proofs.Indexes.NamedLaws.{unnamed_in}
@@ -31,12 +31,12 @@ returns c p entries are common is =
           let within : AreWithin (map count_of (dimensions p Reward)) (cell z) = search rules in
           let small : AreIndices most_places (cell z) = search rules in
           let none = unnamed_in list.rules list.count z (λ k m e. unnamed k m (named.named k m ∙ e)) in
-          let first = noted_first _ (Fits most_places (table_key Reward) (cell z)) _ _ (c.new-list.ensures z)
+          let first = noted_first _ (FitsKey most_places (table_key Reward) (cell z)) _ _ (c.new-list.ensures z)
           (c.note_named.ensures c.if-not-note_named.false z small.1.1.1.0) in
-          let here : IsNewest c.args.self.now.rules (Fits most_places (table_key Reward) (cell z)) (noted_at list z) =
-          subst (λ (rewards : RewardRules). IsNewest rewards.rules (Fits most_places (table_key Reward) (cell z)) (noted_at list z))
+          let here : IsNewest c.args.self.now.rules (FitsKey most_places (table_key Reward) (cell z)) (noted_at list z) =
+          subst (λ (rewards : RewardRules). IsNewest rewards.rules (FitsKey most_places (table_key Reward) (cell z)) (noted_at list z))
           c.self.view_is first in
-          let whole = subst (IsNewest c.args.self.now.rules (Fits most_places (table_key Reward) (cell z)))
+          let whole = subst (IsNewest c.args.self.now.rules (FitsKey most_places (table_key Reward) (cell z)))
           (ap (max_option list.whole) none ∙ later_none list.whole) here in
           c.single_number.ensures p entries are c.in-Some.reward c.in-Some.is (cell z) within
           (c.body_of-whole.ensures (cell z) p entries small are whole) ∙ sym (to_z-of_z w64 c.in-Some.reward fits);

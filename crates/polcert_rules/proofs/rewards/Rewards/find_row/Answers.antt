@@ -4,7 +4,7 @@ use Rattle.std.proofs.lemmas.Int.{to_z-of_z}
 use Rattle.polcert_rules.proofs.Common.{div-mul-add, mod-mul-add, mul-add-lt, same_Some, slice_get-get_or, count_of, dimensions, reward}
 use Rattle.polcert_rules.proofs.Common.{Reward, AreIndices, table_key, most_places, max_option, IsNewest, AreWithin, IsCommonReward}
 use Rattle.polcert_rules.proofs.Common.{AreOrdered, cell_at, CommonReward, RewardRules, NamesEnd}
-use Rattle.polcert_rules.specs.Keys.{Fits}
+use Rattle.polcert_rules.specs.Keys.{FitsKey}
 use Rattle.polcert_rules.proofs.Indexes.NotedLaws.{later_none}
 use Rattle.polcert_rules.proofs.RewardLaws.CellRewards.{some_factor, newest_named, none_named}
 use Rattle.polcert_rules.proofs.rewards.Rewards.find_row.Goals as goal
@@ -23,8 +23,8 @@ returns-clause-common c p entries are common is =
     λ k l. slice_get-get_or list.named.now k (record { key = 0; number = 0 }) l in
     let newest : (e z : ℕ) → e < rewards.shape.states → z < rewards.shape.observations → (x : Option ℕ)
     → IsNewest list.named.now (NamesEnd list.low e z) x
-    → IsNewest rewards.rules (Fits most_places (table_key Reward) (a ∷ s ∷ e ∷ z ∷ [])) (max_option list.whole x) = λ e z el zl x m.
-    subst (λ (r : RewardRules). IsNewest r.rules (Fits most_places (table_key Reward) (a ∷ s ∷ e ∷ z ∷ [])) (max_option list.whole x))
+    → IsNewest rewards.rules (FitsKey most_places (table_key Reward) (a ∷ s ∷ e ∷ z ∷ [])) (max_option list.whole x) = λ e z el zl x m.
+    subst (λ (r : RewardRules). IsNewest r.rules (FitsKey most_places (table_key Reward) (a ∷ s ∷ e ∷ z ∷ [])) (max_option list.whole x))
     c.self.view_is
     (c.in-Some.ensures.newest e z (search rules) (search rules) x m) in
     subst (λ (x : CommonReward). IsCommonReward (λ k. reward p entries
@@ -57,8 +57,8 @@ returns-clause-common c p entries are common is =
           (λ j m same. unnamed j m (same ∙ div-add-mod' k rewards.shape.observations)) in
           let small : AreIndices most_places (a ∷ s ∷ e ∷ z ∷ []) = search rules in
           let within : AreWithin (map count_of (dimensions p Reward)) (a ∷ s ∷ e ∷ z ∷ []) = search rules in
-          let whole : IsNewest rewards.rules (Fits most_places (table_key Reward) (a ∷ s ∷ e ∷ z ∷ [])) list.whole =
-          subst (IsNewest rewards.rules (Fits most_places (table_key Reward) (a ∷ s ∷ e ∷ z ∷ []))) (later_none list.whole)
+          let whole : IsNewest rewards.rules (FitsKey most_places (table_key Reward) (a ∷ s ∷ e ∷ z ∷ [])) list.whole =
+          subst (IsNewest rewards.rules (FitsKey most_places (table_key Reward) (a ∷ s ∷ e ∷ z ∷ []))) (later_none list.whole)
           (newest e z el zl None none) in
           c.single_number.ensures p entries are c.in-Some-single_number.reward c.in-Some-single_number.is (a ∷ s ∷ e ∷ z ∷ []) within
           (c.body_of.ensures (a ∷ s ∷ e ∷ z ∷ []) p entries small are whole)

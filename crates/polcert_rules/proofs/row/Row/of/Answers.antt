@@ -1,5 +1,5 @@
 use Rattle.std.proofs.Common.{◌∙◌, ◌*◌, ◌^◌, ℕ, ◌+◌, ◌<◌, ◌≡◌, ◌≤◌, List, All, inr, subst, ap, arith}
-use Rattle.polcert_rules.proofs.Common.{Rule, Table, IsNewest, IsSingle, IsCell, at_column, zero_of, key_base, table_key, others_in}
+use Rattle.polcert_rules.proofs.Common.{Rule, Table, IsNewest, IsSingleCellKey, IsCell, at_column, zero_of, key_base, table_key, others_in}
 use Rattle.polcert_rules.specs.Keys.{table_digit}
 use Rattle.polcert_rules.proofs.RowLaws.FoundRows.{row_is}
 use Rattle.polcert_rules.proofs.row.Row.of.Goals as goal
@@ -16,11 +16,13 @@ returns c entries rules columns index parted covering =
     let table = table_key c.args.table in
     let low = ap (λ x. c.table_digit.result * x) c.span.ensures ∙ ap (λ d. d * key_base ^ 4) c.table_digit.ensures in
     let newest = subst (λ l. (n : ℕ) → n + 2 < key_base
-    → IsNewest (others_in c.args.split.now.others) (IsSingle l a s n) (at_column found n)) low c.in_ok-cells.ensures.newest in
+    → IsNewest (others_in c.args.split.now.others) (IsSingleCellKey l a s n) (at_column found n)) low c.in_ok-cells.ensures.newest in
     let each = subst (λ l. All (IsCell (others_in c.args.split.now.others) l a s) found) low c.in_ok-cells.ensures.each in
-    let newest_zeros = subst (λ l. (n : ℕ) → n + 2 < key_base → IsNewest c.as_slice.result.now (IsSingle l a s n) (zero_of zeros n)) low
+    let newest_zeros = subst (λ l. (n : ℕ) → n + 2 < key_base → IsNewest c.as_slice.result.now (IsSingleCellKey l a s n) (zero_of zeros n))
+    low
     c.row_zeros-zeros.ensures.newest in
-    let of_zeros = subst (λ (rules : List Rule). (n : ℕ) → n + 2 < key_base → IsNewest rules (IsSingle table a s n) (zero_of zeros n))
+    let of_zeros = subst (λ (rules : List Rule). (n : ℕ) → n + 2 < key_base
+    → IsNewest rules (IsSingleCellKey table a s n) (zero_of zeros n))
     c.as_slice.ensures.value newest_zeros in
     row_is entries rules c.args.table a s c.args.split.now columns index parted c.requires.action c.requires.state _ covering
     c.in_ok-cells.ensures.rising newest each c.row_zeros-zeros.ensures.ordered of_zeros

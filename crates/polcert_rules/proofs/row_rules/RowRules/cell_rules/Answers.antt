@@ -1,6 +1,6 @@
 use Rattle.std.proofs.Common.{rules, List, Contains, ◌≤◌, ◌⊎◌, ◌≡◌, ◌+◌, ◌*◌, ◌^◌, ◌∷◌, [], ℕ, subst, arith}
 use Rattle.polcert_rules.proofs.Common.{Rule, Reward, key_base, table_key, AreCellRules, AreJoined}
-use Rattle.polcert_rules.specs.Keys.{Fits}
+use Rattle.polcert_rules.specs.Keys.{FitsKey}
 use Rattle.polcert_rules.proofs.Indexes.Newer.{newest_here}
 use Rattle.polcert_rules.proofs.Indexes.CellLaws.{joined_cells, whole_cells, placed_cells, cells_of_only}
 use Rattle.polcert_rules.proofs.row_rules.RowRules.cell_rules.Goals as goal
@@ -28,15 +28,17 @@ returns-clause-newest c =
     let step = c.span-step.result in
     let here = newest_here all c.rules_after.result.now low (key_base ^ 2) c.first_at-here.result (omega arith) c.rules_after.ensures.kept
     c.first_at-here.ensures in
-    let of_every : AreCellRules all (λ e z. Fits 3 (low + step) (s ∷ e ∷ z ∷ [])) c.in_ok-of_every.of_every = search rules in
-    let of_only : AreCellRules all (λ e z. Fits 3 (low + (a + 2) * step) (s ∷ e ∷ z ∷ [])) c.in_ok-of_only.of_only = search rules in
+    let of_every : AreCellRules all (λ e z. FitsKey 3 (low + step) (s ∷ e ∷ z ∷ [])) c.in_ok-of_every.of_every = search rules in
+    let of_only : AreCellRules all (λ e z. FitsKey 3 (low + (a + 2) * step) (s ∷ e ∷ z ∷ [])) c.in_ok-of_only.of_only = search rules in
     let joined : AreJoined c.in_ok-of_every.of_every c.in_ok-of_only.of_only c.in_ok-join.field-0 = search rules in
-    let both = joined_cells all (λ e z. Fits 3 (low + step) (s ∷ e ∷ z ∷ [])) (λ e z. Fits 3 (low + (a + 2) * step) (s ∷ e ∷ z ∷ [])) _ _ _
+    let both = joined_cells all (λ e z. FitsKey 3 (low + step) (s ∷ e ∷ z ∷ [])) (λ e z. FitsKey 3 (low + (a + 2) * step) (s ∷ e ∷ z ∷ []))
+    _ _ _
     of_every of_only joined in
-    let more = whole_cells all (λ e z k. Fits 3 (low + step) (s ∷ e ∷ z ∷ []) k ⊎ Fits 3 (low + (a + 2) * step) (s ∷ e ∷ z ∷ []) k) low
+    let more = whole_cells all (λ e z k. FitsKey 3 (low + step) (s ∷ e ∷ z ∷ []) k ⊎ FitsKey 3 (low + (a + 2) * step) (s ∷ e ∷ z ∷ []) k)
+    low
     c.first_at-here.result c.in_ok-join.field-0 c.with_whole.result both here
     c.with_whole.ensures.whole c.with_whole.ensures.low c.with_whole.ensures.named in
     placed_cells all 3 low a (λ e z. s ∷ e ∷ z ∷ []) c.with_whole.result
     (subst (λ (t : ℕ). AreCellRules all (λ e z k. (k ≡ low)
-    ⊎ (Fits 3 (low + t) (s ∷ e ∷ z ∷ []) k ⊎ Fits 3 (low + (a + 2) * t) (s ∷ e ∷ z ∷ []) k)) c.with_whole.result) c.span-step.ensures
+    ⊎ (FitsKey 3 (low + t) (s ∷ e ∷ z ∷ []) k ⊎ FitsKey 3 (low + (a + 2) * t) (s ∷ e ∷ z ∷ []) k)) c.with_whole.result) c.span-step.ensures
     more)

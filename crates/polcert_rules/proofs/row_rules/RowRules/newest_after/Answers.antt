@@ -1,6 +1,6 @@
 use Rattle.std.proofs.Common.{Contains, ◌<◌, ◌≤◌, ◌∙◌, ◌+◌, ◌*◌, ◌^◌, ◌∷◌, sym, ap, subst, arith}
 use Rattle.polcert_rules.proofs.Common.{Rule, IsNewest, max_option, key_base}
-use Rattle.polcert_rules.specs.Keys.{Fits}
+use Rattle.polcert_rules.specs.Keys.{FitsKey}
 use Rattle.polcert_rules.proofs.Indexes.Newer.{IsSpan, is_deeper, newest_deeper, newest_here, newest_of_none, newest_of_only}
 use Rattle.polcert_rules.proofs.row_rules.RowRules.newest_after.Goals as goal
 
@@ -40,7 +40,7 @@ returns c =
     c.rules_after-3.ensures.kept in
     let only = subst (λ s. IsSpan rules c.rules_after.result.now (c.args.low + (c.args.start + 2) * step) s) (sym c.span-step.ensures)
     c.rules_after.ensures.kept in
-    subst (IsNewest rules (Fits 3 c.args.low (c.args.start ∷ c.args.rest.now)))
+    subst (IsNewest rules (FitsKey 3 c.args.low (c.args.start ∷ c.args.rest.now)))
     (sym (c.max_option-2.ensures ∙ ap (max_option c.first_at-here.result) c.max_option.ensures))
     (newest_deeper rules c.rules_after-3.result.now c.rules_after.result.now 3 c.args.low c.args.start c.args.rest.now step
     c.first_at-here.result c.newest-of_every.result c.newest-of_only.result d

@@ -1,6 +1,6 @@
 use Rattle.std.proofs.Common.{◌+◌, ◌*◌, ◌^◌, ◌∷◌, [], subst, arith}
 use Rattle.polcert_rules.proofs.Common.{Reward, key_base, table_key, noted_at, IsNoted}
-use Rattle.polcert_rules.specs.Keys.{Fits}
+use Rattle.polcert_rules.specs.Keys.{FitsKey}
 use Rattle.polcert_rules.proofs.Indexes.Newer.{newest_here}
 use Rattle.polcert_rules.proofs.Indexes.NotedLaws.{noted_of_three}
 use Rattle.polcert_rules.proofs.row_rules.RowRules.note_named.Goals as goal
@@ -18,9 +18,9 @@ returns c = λ t z l.
     let third = noted_at c.note_named_after-2.new.list z in
     let here = newest_here rules c.rules_after.result.now low (key_base ^ 2) c.first_at.result (omega arith) c.rules_after.ensures.kept
     c.first_at.ensures in
-    let every = subst (λ s. IsNoted rules (Fits 3 (low + s) indices) first second) c.span-step.ensures
+    let every = subst (λ s. IsNoted rules (FitsKey 3 (low + s) indices) first second) c.span-step.ensures
     (c.note_named_after.ensures c.if-not-note_named_after.false z l) in
-    let only = subst (λ s. IsNoted rules (Fits 3 (low + (c.args.at.action + 2) * s) indices) second third) c.span-step.ensures
+    let only = subst (λ s. IsNoted rules (FitsKey 3 (low + (c.args.at.action + 2) * s) indices) second third) c.span-step.ensures
     (c.note_named_after-2.ensures t z l) in
     noted_of_three rules 3 low c.args.at.action indices c.first_at.result (noted_at c.args.list.now z) first second third here
     (c.note_all.ensures z) every only

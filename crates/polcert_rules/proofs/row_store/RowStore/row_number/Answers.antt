@@ -1,5 +1,5 @@
 use Rattle.std.proofs.Common.{◌≡◌, ◌∙◌, ◌≤◌, ◌*◌, ◌==◌, List, length, refl, sym, ap, subst, arith, rules}
-use Rattle.polcert_rules.proofs.Common.{one, Cell, weight_at, IsSparse, IsRow, stored_cells, weight_in}
+use Rattle.polcert_rules.proofs.Common.{one, Cell, weight_at, IsSparse, IsRow, stored_cells, weight_by_entries}
 use Rattle.polcert_rules.proofs.Indexes.KeptLaws.{at_number, cells_row, row_within, numbers_stay, weighed_row}
 use Rattle.polcert_rules.proofs.RowLaws.RowWeights.{finished, finished_small, shared_weights}
 use Rattle.polcert_rules.proofs.row_store.RowStore.row_number.Goals as goal
@@ -65,4 +65,4 @@ returns-clause-row c table a h =
     (c.in_ok-newer.ensures c.args.state)
     (stored_cells c.at.result) _ _ c.in_ok-cells.cells.items below refl refl c.in_ok-cells.ensures in
     weighed_row n entries c.as_slice.result.now _ _ _ c.in_ok-own_row.ensures.row
-    (subst (λ (xs : List Cell). IsRow n (weight_in n entries table a c.args.state) xs) (sym c.as_slice.ensures.value) row)
+    (subst (λ (xs : List Cell). IsRow n (weight_by_entries n entries table a c.args.state) xs) (sym c.as_slice.ensures.value) row)
