@@ -14,16 +14,16 @@ pub fn write_summary<W: Sink>(model: &Model, sink: &mut W) -> Result<(), SinkFai
     ensures { WritesText W.writes W.failures sink.old (summary_line (meaning model.now)) result sink.new }
 {
     let mut buffered = BufferedSink::new(sink);
-    write_line(model, &mut buffered)?;
+    write_summary_line(model, &mut buffered)?;
     buffered.flush()
 }
 
 /// Writes the summary of a model.
-fn write_line<W: Sink>(model: &Model, sink: &mut W) -> Result<(), SinkFailed>
+fn write_summary_line<W: Sink>(model: &Model, sink: &mut W) -> Result<(), SinkFailed>
     ensures { WritesText W.writes W.failures sink.old (summary_line (meaning model.now)) result sink.new }
 {
     write_counts(model, sink)?;
-    write_values(model, sink)
+    write_discount(model, sink)
 }
 
 /// Writes the kind of the model and its counts.
@@ -33,7 +33,7 @@ fn write_counts<W: Sink>(model: &Model, sink: &mut W) -> Result<(), SinkFailed>
     write_all(sink, kind_word(model.is_mdp()))?;
     write_count(model.states(), b" states, ", sink)?;
     write_count(model.actions(), b" actions, ", sink)?;
-    write_observations(model, sink)
+    write_observation_count(model, sink)
 }
 
 /// Returns the beginning of the line: whether the model is an MDP.
@@ -44,7 +44,7 @@ fn kind_word(is_mdp: bool) -> &'static [u8]
 }
 
 /// Writes the count of observations, which an MDP has none of its own of.
-fn write_observations<W: Sink>(model: &Model, sink: &mut W) -> Result<(), SinkFailed>
+fn write_observation_count<W: Sink>(model: &Model, sink: &mut W) -> Result<(), SinkFailed>
     ensures { WritesText W.writes W.failures sink.old
         (observation_count_text (meaning model.now)) result sink.new }
 {
@@ -65,7 +65,7 @@ pub fn write_count<W: Sink>(count: usize, words: &[u8], sink: &mut W) -> Result<
 }
 
 /// Writes the discount, and whether the text gives rewards or costs.
-fn write_values<W: Sink>(model: &Model, sink: &mut W) -> Result<(), SinkFailed>
+fn write_discount<W: Sink>(model: &Model, sink: &mut W) -> Result<(), SinkFailed>
     ensures { WritesText W.writes W.failures sink.old (discount_text (meaning model.now)) result sink.new }
 {
     write_all(sink, b"discount ")?;

@@ -8,5 +8,5 @@ use std::io::IsTerminal;
 use std::process::ExitCode;
 
 fn main(rt: HostRuntime) -> ExitCode {
-    ExitCode::from(program::run_program(&rt, rt.stderr().is_terminal()))
+    ExitCode::from(program::run_bound_program(&rt, rt.stderr().is_terminal()))
 }

@@ -15,7 +15,7 @@ use std::time::Clock;
 
 /// Does what the command line asks for, and returns the exit status. If standard error is a terminal, whatever takes long shows its
 /// progress there.
-pub fn run_program<R: Env + Files + Clock + AllocGlobal + Print + Eprint>(
+pub fn run_bound_program<R: Env + Files + Clock + AllocGlobal + Print + Eprint>(
     rt: &R,
     shows_progress: bool,
 ) -> u8 {
@@ -24,19 +24,19 @@ pub fn run_program<R: Env + Files + Clock + AllocGlobal + Print + Eprint>(
         Err(status) => return status,
     };
     match borrow_words(rt, &words) {
-        Ok(words) => run_words(rt, shows_progress, &words),
+        Ok(words) => run_bound_words(rt, shows_progress, &words),
         Err(status) => status,
     }
 }
 
 /// Does what the words ask for, of which the first is the program's name.
-fn run_words<'a, R: Files + Clock + AllocGlobal + Print + Eprint>(
+fn run_bound_words<'a, R: Files + Clock + AllocGlobal + Print + Eprint>(
     rt: &R,
     shows_progress: bool,
     words: &'a [&'a str],
 ) -> u8 {
     match choose_bound(rt.alloc(), words) {
-        Ok(Some(choice)) => run_choice(rt, shows_progress, choice),
+        Ok(Some(choice)) => run_bound_choice(rt, shows_progress, choice),
         Ok(None) => refuse_words(
             rt,
             "the command or a file's name is missing: see polcert_bound --help",
@@ -46,7 +46,7 @@ fn run_words<'a, R: Files + Clock + AllocGlobal + Print + Eprint>(
 }
 
 /// Does what was chosen, or prints why that is not possible.
-fn run_choice<R: Files + Clock + AllocGlobal + Print + Eprint>(
+fn run_bound_choice<R: Files + Clock + AllocGlobal + Print + Eprint>(
     rt: &R,
     shows_progress: bool,
     choice: BoundChoice<'_>,

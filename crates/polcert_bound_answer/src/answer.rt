@@ -6,7 +6,7 @@ ghost use Rattle.polcert_optimum.specs.InformedCheck.{MeetsInformedPromise};
 ghost use Rattle.polcert_bound_answer.specs.Answer.{IsBoundAnswer};
 ghost use Rattle.polcert_bound_answer.specs.Headline.{BoundCertificate, IsCertifiedBound};
 
-use crate::inputs::read_texts;
+use crate::inputs::read_bound_texts;
 use polcert_answer::Fault;
 use polcert_optimum::{InformedVerdict, check_informed};
 use std::alloc::Global;
@@ -33,6 +33,6 @@ pub fn check_bound_texts(
     ensures horizon { IfOk result (λ verdict. (c : BoundCertificate model.now vectors.now)
         → MeetsInformedPromise (table_of c.meaning) (value_of c.values) verdict) }
 {
-    let read = read_texts(alloc, model, vectors)?;
+    let read = read_bound_texts(alloc, model, vectors)?;
     Ok(check_informed(&read.model, &read.vectors))
 }

@@ -34,7 +34,7 @@ impl Drop for BoundInputs {
 }
 
 /// Returns the vectors, one for each action of the model, whose text the source gives, or the fault of a run.
-fn vectors_of_run<S: Source>(
+fn action_vectors_of_run<S: Source>(
     alloc: Global,
     model: &Model,
     source: &mut S,
@@ -57,7 +57,7 @@ fn vectors_of_run<S: Source>(
 }
 
 /// Returns what the texts of two sources denote. The model's source is read to its end first.
-pub fn read_inputs<M: Source, V: Source>(
+pub fn read_bound_inputs<M: Source, V: Source>(
     alloc: Global,
     model: &mut M,
     vectors: &mut V,
@@ -76,12 +76,12 @@ pub fn read_inputs<M: Source, V: Source>(
     ensures of_reading { IfErr result IsBoundReadFault }
 {
     let model = model_of_run(alloc, model)?;
-    let vectors = vectors_of_run(alloc, &model, vectors)?;
+    let vectors = action_vectors_of_run(alloc, &model, vectors)?;
     Ok(BoundInputs { model, vectors })
 }
 
 /// Returns what two texts denote.
-pub fn read_texts(alloc: Global, model: &[u8], vectors: &[u8]) -> Result<BoundInputs, Fault>
+pub fn read_bound_texts(alloc: Global, model: &[u8], vectors: &[u8]) -> Result<BoundInputs, Fault>
     ensures model_accepted { IfOk result (λ c. IsModelText model.now (meaning c.model)) }
     ensures vectors_accepted { IfOk result (λ c.
         IsActionVectorsText (actions_of (meaning c.model)) (states_of (meaning c.model))
@@ -90,7 +90,7 @@ pub fn read_texts(alloc: Global, model: &[u8], vectors: &[u8]) -> Result<BoundIn
 {
     let mut model = SliceSource::new(model);
     let mut vectors = SliceSource::new(vectors);
-    match read_inputs(alloc, &mut model, &mut vectors) {
+    match read_bound_inputs(alloc, &mut model, &mut vectors) {
         Ok(inputs) => Ok(inputs),
         Err(RunFault::Text(fault)) => Err(fault),
         Err(_) => unreachable!(),

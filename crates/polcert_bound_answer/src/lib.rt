@@ -11,8 +11,8 @@ mod runs;
 mod status;
 
 pub use answer::check_bound_texts;
-pub use inputs::{BoundInputs, read_inputs};
-pub use lines::{BoundLine, write_verdict};
+pub use inputs::{BoundInputs, read_bound_inputs};
+pub use lines::{BoundLine, write_bound_verdict};
 pub use raise::run_bound_raise;
 pub use runs::run_bound_check;
 pub use status::status_of_bound_verdict;

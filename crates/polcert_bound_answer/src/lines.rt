@@ -52,15 +52,15 @@ pub fn line_of_verdict(model: &Model, vectors: &Vectors, verdict: InformedVerdic
 }
 
 /// Writes the line of a verdict, through a buffer.
-pub fn write_verdict<W: Sink>(line: BoundLine, sink: &mut W) -> Result<(), SinkFailed>
+pub fn write_bound_verdict<W: Sink>(line: BoundLine, sink: &mut W) -> Result<(), SinkFailed>
     ensures { WritesText W.writes W.failures sink.old (bound_line_text line) result sink.new }
 {
     let mut buffered = BufferedSink::new(sink);
-    write_line(line, &mut buffered)?;
+    write_bound_line(line, &mut buffered)?;
     buffered.flush()
 }
 
-fn write_line<W: Sink>(line: BoundLine, sink: &mut W) -> Result<(), SinkFailed>
+fn write_bound_line<W: Sink>(line: BoundLine, sink: &mut W) -> Result<(), SinkFailed>
     ensures { WritesText W.writes W.failures sink.old (bound_line_text line) result sink.new }
 {
     match line {

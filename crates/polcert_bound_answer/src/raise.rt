@@ -15,7 +15,7 @@ ghost use Rattle.polcert_bound_answer.specs.Raise.{HasRaisedBound, IsBoundNotRai
 ghost use Rattle.polcert_bound_answer.specs.Steps.Reading.{IsBoundWriteFault};
 ghost use Rattle.polcert_bound_answer.specs.Steps.Raising.{AreBoundRaised};
 
-use crate::inputs::{BoundInputs, read_inputs};
+use crate::inputs::{BoundInputs, read_bound_inputs};
 use polcert_answer::{RunFault, write_full_vectors};
 use polcert_check::RaiseFault;
 use polcert_optimum::{InformedRaiseFault, least_informed_raise};
@@ -58,7 +58,7 @@ pub fn run_bound_raise<M: Source, V: Source, W: Sink>(
     // No fault of another kind is answered.
     ensures of_a_raise { IfErr result IsBoundRaiseFault }
 {
-    let given = read_inputs(alloc, model, vectors)?;
+    let given = read_bound_inputs(alloc, model, vectors)?;
     write_raised_vectors(alloc, &given, sink)
 }
 

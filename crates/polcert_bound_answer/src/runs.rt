@@ -8,8 +8,8 @@ ghost use Rattle.polcert_answer.specs.Run.{WritesAnswer, IsNamedRightly, text_of
 ghost use Rattle.polcert_bound_answer.specs.Run.{HasBoundVerdict, HasBoundPromise, HasBoundStartPromise, HasBoundHorizon, IsBoundCheckFault, StopsBoundRightly};
 ghost use Rattle.polcert_bound_answer.specs.Steps.Reading.{IsBoundAnswerLine};
 
-use crate::inputs::{BoundInputs, read_inputs};
-use crate::lines::{line_of_verdict, write_verdict};
+use crate::inputs::{BoundInputs, read_bound_inputs};
+use crate::lines::{line_of_verdict, write_bound_verdict};
 use polcert_answer::RunFault;
 use polcert_check::Progress;
 use polcert_optimum::{InformedVerdict, check_informed_watched};
@@ -61,12 +61,12 @@ pub fn run_bound_check<M: Source, V: Source, W: Sink, O: Progress>(
     // No fault of another kind is answered.
     ensures of_a_check { IfErr result IsBoundCheckFault }
 {
-    let read = read_inputs(alloc, model, vectors)?;
-    write_answer(&read, sink, progress)
+    let read = read_bound_inputs(alloc, model, vectors)?;
+    write_bound_answer(&read, sink, progress)
 }
 
 /// Checks what two texts denote, writes the line of the verdict, and returns the verdict.
-fn write_answer<W: Sink, O: Progress>(
+fn write_bound_answer<W: Sink, O: Progress>(
     read: &BoundInputs,
     sink: &mut W,
     progress: &mut O,
@@ -80,7 +80,7 @@ fn write_answer<W: Sink, O: Progress>(
 {
     let verdict = check_informed_watched(&read.model, &read.vectors, progress);
     let line = line_of_verdict(&read.model, &read.vectors, verdict);
-    match write_verdict(line, sink) {
+    match write_bound_verdict(line, sink) {
         Ok(()) => Ok(verdict),
         Err(_) => Err(RunFault::Write),
     }

@@ -25,22 +25,22 @@ pub enum Topic {
 fn topic_of(word: &[u8]) -> Option<Topic>
     ensures { result ≡ topic_of word.now }
 {
-    if is_same(word, b"discount") {
+    if is_same_word(word, b"discount") {
         return Some(Topic::Discount);
     }
-    if is_same(word, b"values") {
+    if is_same_word(word, b"values") {
         return Some(Topic::Values);
     }
-    if is_same(word, b"states") {
+    if is_same_word(word, b"states") {
         return Some(Topic::States);
     }
-    if is_same(word, b"actions") {
+    if is_same_word(word, b"actions") {
         return Some(Topic::Actions);
     }
-    if is_same(word, b"observations") {
+    if is_same_word(word, b"observations") {
         return Some(Topic::Observations);
     }
-    if is_same(word, b"start") {
+    if is_same_word(word, b"start") {
         return Some(Topic::Start);
     }
     if is_letter(word, b'T') {
@@ -57,7 +57,7 @@ fn topic_of(word: &[u8]) -> Option<Topic>
 
 /// Compares two words. Most differ in their lengths, which takes no call.
 #[inline(always)]
-fn is_same(word: &[u8], other: &[u8]) -> bool
+fn is_same_word(word: &[u8], other: &[u8]) -> bool
     ensures { result ≡ bytes_eq word.now other.now }
 {
     word.len() == other.len() && has_same_bytes(word, other)
@@ -123,13 +123,13 @@ fn is_some_reserved(word: &[u8]) -> bool
 fn is_inner_word(word: &[u8]) -> bool
     ensures { result ≡ list_any (bytes_eq word.now) inner_words }
 {
-    is_same(word, b"reward")
-        || is_same(word, b"cost")
-        || is_same(word, b"include")
-        || is_same(word, b"exclude")
-        || is_same(word, b"uniform")
-        || is_same(word, b"identity")
-        || is_same(word, b"reset")
+    is_same_word(word, b"reward")
+        || is_same_word(word, b"cost")
+        || is_same_word(word, b"include")
+        || is_same_word(word, b"exclude")
+        || is_same_word(word, b"uniform")
+        || is_same_word(word, b"identity")
+        || is_same_word(word, b"reset")
 }
 
 /// Tests whether the token is this word.
@@ -137,7 +137,7 @@ pub fn is_word(token: &Token<'_>, word: &[u8]) -> bool
     ensures { IsTrue result ↔ IsWord word.now (lexeme_of token.now) }
 {
     match token.kind {
-        TokenKind::Name => is_same(token.bytes, word),
+        TokenKind::Name => is_same_word(token.bytes, word),
         _ => false,
     }
 }

@@ -1,2 +1,2 @@
 //! What a mean over a model's start is made of, for crates that bound other policies.
-pub use crate::start::{ceil_quotient, start_term};
+pub use crate::start::{ceil_mean, start_term};

@@ -121,7 +121,7 @@ pub fn least_constant<C: Cells>(
     ensures small { IfErr result
         (RefusesSmallAmount (controller_of (C.table cells.now) graph.now vectors.now)) }
 {
-    least_watched(cells, graph, vectors, &mut NoProgress)
+    least_lowering_watched(cells, graph, vectors, &mut NoProgress)
 }
 
 /// Returns the least constant for this input, and notifies `progress` of each node once.
@@ -145,7 +145,7 @@ pub(crate) fn least_of<C: Cells, W: Progress>(
 }
 
 /// Returns the least constant for these parts, and notifies `progress` of each node once.
-fn least_watched<C: Cells, W: Progress>(
+fn least_lowering_watched<C: Cells, W: Progress>(
     cells: &C,
     graph: &Graph,
     vectors: &Vectors,
@@ -198,7 +198,7 @@ pub fn lowered_watched<C: Cells, W: Progress>(
     let nodes = graph.nodes();
     let vector_count = vectors.nodes();
     prove!(nodes == vector_count);
-    let by = least_watched(cells, graph, vectors, progress)?;
+    let by = least_lowering_watched(cells, graph, vectors, progress)?;
     let lowered = vectors.shifted(alloc, -by)?;
     Ok((by, lowered))
 }

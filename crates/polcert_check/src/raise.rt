@@ -58,11 +58,11 @@ pub fn least_raise<C: Cells>(cells: &C, graph: &Graph, vectors: &Vectors) -> Res
     ensures small { IfErr result
         (RefusesSmallRaise (controller_of (C.table cells.now) graph.now vectors.now)) }
 {
-    least_watched(cells, graph, vectors, &mut NoProgress)
+    least_raise_watched(cells, graph, vectors, &mut NoProgress)
 }
 
 /// Returns the least constant as `least_raise`, and notifies `progress` of each node once.
-fn least_watched<C: Cells, W: Progress>(
+fn least_raise_watched<C: Cells, W: Progress>(
     cells: &C,
     graph: &Graph,
     vectors: &Vectors,
@@ -116,7 +116,7 @@ pub fn raised_watched<C: Cells, W: Progress>(
     let nodes = graph.nodes();
     let vector_count = vectors.nodes();
     prove!(nodes == vector_count);
-    let by = least_watched(cells, graph, vectors, progress)?;
+    let by = least_raise_watched(cells, graph, vectors, progress)?;
     let raised = vectors.shifted(alloc, by)?;
     Ok((by, raised))
 }

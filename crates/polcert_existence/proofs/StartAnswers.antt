@@ -53,8 +53,8 @@ use Rattle.polcert_items.specs.declared.signed_number.NumberStep.TheVariants as 
 use Rattle.polcert_items.specs.declared.signed_number.Range.TheVariants as ranges
 use Rattle.polcert_items.specs.declared.signed_number.Refusal.{Refusal}
 use Rattle.polcert_items.specs.declared.signed_number.Sign.{Sign}
-use Rattle.polcert_items.specs.declared.start_reader.Choice.{Choice}
-use Rattle.polcert_items.specs.declared.start_reader.Choice.TheVariants.{Include, Exclude}
+use Rattle.polcert_items.specs.declared.start_reader.Selection.{Selection}
+use Rattle.polcert_items.specs.declared.start_reader.Selection.TheVariants.{Include, Exclude}
 use Rattle.polcert_items.specs.declared.start_reader.Chosen.{Chosen}
 use Rattle.polcert_items.specs.declared.start_reader.FirstNumber.{FirstNumber}
 use Rattle.polcert_items.specs.declared.start_reader.StateOrNumber.{StateOrNumber}
@@ -543,7 +543,7 @@ fed : (states : Elements) (r new : StartReader) (l : Lexeme) → IsStartWithin s
     → IsStartFed states r l new
 fed states r new l within takes leads also = seen.fed_as states r r new l refl within takes leads also
 
-word_leads : (count : ℕ) (l : Lexeme) (choice : Choice) → l.kind ≡ kinds.Name
+word_leads : (count : ℕ) (l : Lexeme) (choice : Selection) → l.kind ≡ kinds.Name
     → ExpectsNext (expected_by_start count reader.Form) l (expected_by_start count (reader.Colon choice))
 word_leads count l choice e = record { same = λ ls. ap (λ k. if is_colon k then start_body_wants count ls else wants.list_wants ls) e }
 
@@ -588,7 +588,7 @@ feed_form states l = ⊎_elim
 unmarked : (count : ℕ) (s : ℕ) → marked (replicate count false) s ≡ false
 unmarked count s = grind (arith, common_steps)
 
-feed_colon : (states : Elements) (choice : Choice) (l : Lexeme) → StartFed states (reader.Colon choice) l
+feed_colon : (states : Elements) (choice : Selection) (l : Lexeme) → StartFed states (reader.Colon choice) l
 feed_colon states choice l = ⊎_elim
     (λ colon.
     let c : Chosen = record { choice = choice; marks = replicate (count_of states) false } in

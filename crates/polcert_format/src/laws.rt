@@ -64,7 +64,7 @@ pub fn one_start()
 {}
 
 /// A cell has one value: that of the last entry that covers it.
-pub fn one_value()
+pub fn one_cell_value()
     ensures { (entries : List Entry) (table : Table) (indices : List ℕ)
         → GivesLastCovering entries table indices }
 {}

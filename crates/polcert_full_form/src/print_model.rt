@@ -169,7 +169,7 @@ fn write_number_word<W: Sink>(number: usize, out: &mut W) -> Result<(), SinkFail
 fn write_start<W: Sink>(model: &Model, out: &mut W) -> Result<(), SinkFailed>
     ensures { WritesText W.writes W.failures out.old (start_text (meaning model.now).start) result out.new }
 {
-    if is_whole(model) {
+    if has_uniform_start(model) {
         write_all(out, b"start: uniform\n")
     } else if is_choice(model) {
         write_start_line(model, StartForm::Chosen, out)
@@ -179,7 +179,7 @@ fn write_start<W: Sink>(model: &Model, out: &mut W) -> Result<(), SinkFailed>
 }
 
 /// Tests whether all states have a share of 1.
-fn is_whole(model: &Model) -> bool
+fn has_uniform_start(model: &Model) -> bool
     ensures { result ≡ all_below (states_of (meaning model.now))
         (λ s. share_of (meaning model.now).start s == 1) }
 {

@@ -56,8 +56,8 @@ pub use Rattle.polcert_items.specs.declared.preamble_lines.ElementsReader.{Eleme
 pub use Rattle.polcert_items.specs.declared.signed_number.Range.TheVariants.{Probability}
 pub use Rattle.polcert_items.specs.declared.signed_number.Refusal.{Refusal}
 pub use Rattle.polcert_items.specs.declared.signed_number.Sign.{Sign}
-pub use Rattle.polcert_items.specs.declared.start_reader.Choice.{Choice}
-pub use Rattle.polcert_items.specs.declared.start_reader.Choice.TheVariants.{Exclude, Include}
+pub use Rattle.polcert_items.specs.declared.start_reader.Selection.{Selection}
+pub use Rattle.polcert_items.specs.declared.start_reader.Selection.TheVariants.{Exclude, Include}
 pub use Rattle.polcert_items.specs.declared.start_reader.Chosen.{Chosen}
 pub use Rattle.polcert_items.specs.declared.start_reader.FirstNumber.{FirstNumber}
 pub use Rattle.polcert_items.specs.declared.start_reader.StartReader.{StartReader}

@@ -3,7 +3,7 @@ use Rattle.std.proofs.Common.{◌≡◌, ◌∙◌, ℕ, ◌<◌, ◌==◌, ◌|
 use Rattle.std.proofs.Common.{◌∷◌, length, map, slice_set, codes, ℤ, pos, refl, sym, ap, subst, arith, rules}
 use Rattle.std.proofs.Math.Bool.{or_assoc}
 use Rattle.std.specs.List.{AllZip}
-use Rattle.polcert_items.proofs.Common.{Lexeme, are_digits, Name, Numeral, Colon, Plus, Minus, Choice, Include, Exclude, Chosen}
+use Rattle.polcert_items.proofs.Common.{Lexeme, are_digits, Name, Numeral, Colon, Plus, Minus, Selection, Include, Exclude, Chosen}
 use Rattle.polcert_items.proofs.Common.{StateOrNumber, StartReader, IsWord, IsWhole, IsMillionths, AreNumbers, one, Elements, count_of}
 use Rattle.polcert_items.proofs.Common.{StandsFor, StartWeights, all_states, single, IsStartBody, IsStart, plain, IsStartBodyForm}
 use Rattle.polcert_items.proofs.Common.{IsStartForm, TakesLexeme, CannotTake, marked, AreStartNumbers, NumbersGo, DigitsGo, state_number}
@@ -33,21 +33,21 @@ colon_begins states l colon = record {
 }
 
 -- the word of a list of states
-abbrev IsWordOf : Choice → Lexeme → Type 0
+abbrev IsWordOf : Selection → Lexeme → Type 0
 IsWordOf Include l = IsWord (codes "include") l
 IsWordOf Exclude l = IsWord (codes "exclude") l
 
 -- after it the states are listed
 module _ (states : Elements) (l : Lexeme) where
-  list_formed : (choice : Choice) → IsWordOf choice l → (ls : List Lexeme) → AfterColon (ListGoes states choice (λ s. false)) ls None
+  list_formed : (choice : Selection) → IsWordOf choice l → (ls : List Lexeme) → AfterColon (ListGoes states choice (λ s. false)) ls None
       → IsStartForm states (l ∷ ls)
   list_formed choice h1 ls h2 = grind (arith, shapes.listed)
 
-  form_listed : (choice : Choice) → IsWordOf choice l → (ls : List Lexeme) → IsStartForm states (l ∷ ls)
+  form_listed : (choice : Selection) → IsWordOf choice l → (ls : List Lexeme) → IsStartForm states (l ∷ ls)
       → AfterColon (ListGoes states choice (λ s. false)) ls None
   form_listed choice h1 ls h2 = grind arith
 
-  list_back : (choice : Choice) → IsWordOf choice l → (ls : List Lexeme) (v : StartWeights)
+  list_back : (choice : Selection) → IsWordOf choice l → (ls : List Lexeme) (v : StartWeights)
       → AfterColon (ListGoes states choice (λ s. false)) ls (Some v) → IsStart states (l ∷ ls) v
   list_back choice word [] v g = absurd g
   list_back Include word (c ∷ ls) v g = subst (IsStart states (l ∷ c ∷ ls)) (sym g.1.said.0)
@@ -55,16 +55,16 @@ module _ (states : Elements) (l : Lexeme) where
   list_back Exclude word (c ∷ ls) v g = subst (IsStart states (l ∷ c ∷ ls)) (sym g.1.said.0)
       (exclude g.1.further word g.0 g.1.stand g.1.said.1)
 
-  list_on : (choice : Choice) → IsWordOf choice l → (ls : List Lexeme) (v : StartWeights) → IsStart states (l ∷ ls) v
+  list_on : (choice : Selection) → IsWordOf choice l → (ls : List Lexeme) (v : StartWeights) → IsStart states (l ∷ ls) v
       → AfterColon (ListGoes states choice (λ s. false)) ls (Some v)
   list_on choice h1 ls v h2 = grind arith
 
-  pub list_begins : (choice : Choice) → IsWordOf choice l → TakesLexeme (StartGoes states) reader.Form l (reader.Colon choice)
+  pub list_begins : (choice : Selection) → IsWordOf choice l → TakesLexeme (StartGoes states) reader.Form l (reader.Colon choice)
   list_begins choice word = grind (arith, form_listed choice word, list_on choice word, list_formed choice word, list_back choice word)
 
 -- ---- lists of states
 
-pub list_same : (states : Elements) (choice : Choice) (p q : ℕ → Bool) (ls : List Lexeme) (asked : Option StartWeights)
+pub list_same : (states : Elements) (choice : Selection) (p q : ℕ → Bool) (ls : List Lexeme) (asked : Option StartWeights)
     → ((s : ℕ) → p s ≡ q s) → ListGoes states choice p ls asked
     → ListGoes states choice q ls asked
 list_same states choice p q ls asked e g = grind arith
@@ -73,7 +73,7 @@ pub marked_more : (marks : List Bool) (s : ℕ) → s < length marks → (k : �
     → marked (slice_set marks s true) k ≡ (marked marks k || (s == k))
 marked_more marks s l k = search rules
 
-module _ (states : Elements) (choice : Choice) (old : ℕ → Bool) (l : Lexeme) (s : ℕ) (is : StandsFor states l s) where
+module _ (states : Elements) (choice : Selection) (old : ℕ → Bool) (l : Lexeme) (s : ℕ) (is : StandsFor states l s) where
   more : (further : List ℕ) → chosen_with (λ k. old k || (s == k)) further ≡ chosen_with old (s ∷ further)
   more further = λ i k. or_assoc (old k) (s == k) (included further k) i
 

@@ -3,7 +3,7 @@ use Rattle.std.proofs.Common.{◌≡◌, ℕ, suc, zero, ◌+◌, ◌<◌, ◌�
 use Rattle.std.proofs.Common.{get_or, slice_set, refl, sym, ap, arith, if◌then◌else◌, rules}
 use Rattle.std.specs.List.{range_with_len, count_by}
 use Rattle.std.proofs.lemmas.List.FromFn.{map-range_with_len_more}
-use Rattle.polcert_items.proofs.Common.{sum_by-cons, common_steps, Choice, Include, Elements, count_of, StartWeights, single, shares_of}
+use Rattle.polcert_items.proofs.Common.{sum_by-cons, common_steps, Selection, Include, Elements, count_of, StartWeights, single, shares_of}
 use Rattle.polcert_items.proofs.Common.{is_level, marked, AreUnmarked, picks, first_above_0, is_level_at}
 use Rattle.std.proofs.lemmas.List.Sums.{list_all-from_AllPass}
 use Rattle.std.proofs.lemmas.Grind.{get_or_default_zero}
@@ -95,7 +95,7 @@ level_is ps = same_tests (is_level_at (first_above_0 ps) ps) (is_level ps) (λ e
 
 -- ---- shares of all states, or of one
 
-pub one_shares : (states : Elements) (choice : Choice) (count s : ℕ) (old new : List Bool) → choice ≡ Include → count ≡ count_of states
+pub one_shares : (states : Elements) (choice : Selection) (count s : ℕ) (old new : List Bool) → choice ≡ Include → count ≡ count_of states
     → s < count → AreUnmarked count old → new ≡ slice_set old s true
     → equal_weights (length new) (picks choice (marked new)) ≡ single states s
 one_shares states choice count s old new is same low are set = search rules

@@ -240,7 +240,7 @@ impl EntryReader {
         if known.is_mdp() && written == 3 {
             return star_place(token);
         }
-        place_of(token, known.elements(self.table, written))
+        place_of_token(token, known.elements(self.table, written))
     }
 
     /// Continues after a place.
@@ -416,7 +416,7 @@ fn begin_list<T: ListNumber>(
 
 /// Returns the place that the token gives: `*`, or one of these elements.
 #[inline(always)]
-fn place_of(token: Token<'_>, elements: Option<&Elements>) -> Result<Place, Refusal>
+fn place_of_token(token: Token<'_>, elements: Option<&Elements>) -> Result<Place, Refusal>
     requires few { count_of (unwrap_or (option_copied elements) (Count 0)) ≤ most_elements }
     requires text { IsAsciiName (lexeme_of token) }
     ensures place { IfOk result

@@ -14,4 +14,4 @@ pub use item::{AddError, EndError, FeedError, ItemContents, ItemReader};
 pub use model_so_far::ModelSoFar;
 pub use preamble_lines::{DiscountReader, ElementsReader, ValuesReader};
 pub use signed_number::{Refusal, Sign};
-pub use start_reader::{Choice, Chosen, FirstNumber, StartReader, StateOrNumber};
+pub use start_reader::{Chosen, FirstNumber, Selection, StartReader, StateOrNumber};

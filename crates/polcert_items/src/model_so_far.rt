@@ -233,7 +233,7 @@ impl ModelSoFar {
         requires { least_written (is_mdp (preamble_in self.now)) table ≤ written }
         ensures { result ≡ cells_in (drop written (indices_in self.now table)) }
     {
-        if is_whole(table, written) {
+        if is_single_cell(table, written) {
             return 1;
         }
         let states = count_in(&self.states);
@@ -336,7 +336,7 @@ impl ModelSoFar {
 
 /// Returns whether so many places leave one cell open. (Most entries have as many, and then no count is looked at.)
 #[inline(always)]
-fn is_whole(table: Table, written: usize) -> bool
+fn is_single_cell(table: Table, written: usize) -> bool
     ensures { IsTrue result → (p : P) → cells_in (drop written (dimensions p table)) ≡ 1 }
 {
     match table {

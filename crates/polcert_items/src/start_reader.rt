@@ -49,7 +49,7 @@ pub enum StartReader {
     /// A colon, or the word `include` or `exclude`.
     Form,
     /// The colon after `include` or `exclude`.
-    Colon(Choice),
+    Colon(Selection),
     /// Further states of a list.
     List(Chosen),
     /// `uniform`, a state or numbers, after `start:`.
@@ -183,10 +183,10 @@ fn form_of(token: Token<'_>) -> Result<StartReader, Refusal>
     ensures kind { IfErr result (λ r. IsMisfit Mark (lexeme_of token.entry) r.kind) }
 {
     if is_word(&token, b"include") {
-        return Ok(StartReader::Colon(Choice::Include));
+        return Ok(StartReader::Colon(Selection::Include));
     }
     if is_word(&token, b"exclude") {
-        return Ok(StartReader::Colon(Choice::Exclude));
+        return Ok(StartReader::Colon(Selection::Exclude));
     }
     colon(token)?;
     Ok(StartReader::Body)
@@ -490,7 +490,7 @@ fn support_weight(probability: u32) -> u32
 
 /// Which states share where some are chosen: these, or the others.
 #[derive(Clone, Copy)]
-pub enum Choice {
+pub enum Selection {
     Include,
     Exclude,
 }
@@ -498,13 +498,13 @@ pub enum Choice {
 /// States that were chosen, one mark for each state.
 #[derive(Drop)]
 pub struct Chosen {
-    pub choice: Choice,
+    pub choice: Selection,
     pub marks: Sequence<bool>,
 }
 
 impl Chosen {
     /// Makes the list before its first state.
-    pub(crate) fn new(alloc: Global, count: usize, choice: Choice) -> Result<Chosen, AllocError>
+    pub(crate) fn new(alloc: Global, count: usize, choice: Selection) -> Result<Chosen, AllocError>
         ensures unmarked { IfOk result (λ c. AreUnmarked count c.marks) }
         ensures choice { IfOk result (λ c. c.choice ≡ choice) }
     {
@@ -545,7 +545,7 @@ impl Chosen {
         ensures kind { IfErr result (λ e. IfAtEnd e (λ kind. kind ≡ unexpected_token Listed None)) }
         ensures at_end { IfErr result IsToldAtEnd }
     {
-        let shares = self.shares(alloc)?;
+        let shares = self.start_weights(alloc)?;
         if shares.total == 0 {
             return Err(EndError::AtEnd(ItemFault::StartEmpty));
         }
@@ -553,7 +553,7 @@ impl Chosen {
     }
 
     /// Returns equal weights for the states that the choice picks.
-    fn shares(&self, alloc: Global) -> Result<StartWeights, AllocError>
+    fn start_weights(&self, alloc: Global) -> Result<StartWeights, AllocError>
         requires { length self.now.marks ≤ most_states }
         ensures { IfOk result (λ s.
             s ≡ equal_weights (length self.now.marks) (picks self.now.choice (marked self.now.marks))) }
@@ -574,7 +574,7 @@ impl Chosen {
         ensures { result ≡ (if picks self.now.choice (marked self.now.marks) state then 1 else 0) }
     {
         match (self.choice, self.marks.at(state)) {
-            (Choice::Include, true) | (Choice::Exclude, false) => 1,
+            (Selection::Include, true) | (Selection::Exclude, false) => 1,
             _ => 0,
         }
     }
@@ -585,7 +585,7 @@ pub(crate) fn every_state(alloc: Global, count: usize) -> Result<StartWeights, A
     requires { count ≤ most_states }
     ensures { (states : AnyElements) → count ≡ count_of states → IfOk result (λ s. s ≡ all_states states) }
 {
-    Chosen::new(alloc, count, Choice::Exclude)?.shares(alloc)
+    Chosen::new(alloc, count, Selection::Exclude)?.start_weights(alloc)
 }
 
 /// Returns the start in one state.
@@ -598,7 +598,7 @@ pub(crate) fn one_state(
     requires state { state < count }
     ensures { (states : AnyElements) → count ≡ count_of states → IfOk result (λ s. s ≡ single states state) }
 {
-    let mut chosen = Chosen::new(alloc, count, Choice::Include)?;
+    let mut chosen = Chosen::new(alloc, count, Selection::Include)?;
     chosen.marks.set(state, true);
-    chosen.shares(alloc)
+    chosen.start_weights(alloc)
 }

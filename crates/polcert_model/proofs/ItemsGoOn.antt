@@ -20,7 +20,7 @@ use Rattle.polcert_items.specs.declared.item.ItemContents.TheVariants as said
 use Rattle.polcert_items.specs.declared.preamble_lines.DiscountReader.TheVariants as discount
 use Rattle.polcert_items.specs.declared.preamble_lines.ValuesReader.TheVariants as values
 use Rattle.polcert_text.specs.declared.number.NumberFault.{NumberFault}
-use Rattle.polcert_items.specs.declared.start_reader.Choice.{Choice}
+use Rattle.polcert_items.specs.declared.start_reader.Selection.{Selection}
 use Rattle.polcert_items.specs.declared.start_reader.StartReader.{StartReader}
 use Rattle.polcert_items.specs.declared.start_reader.StartReader.TheVariants as starts
 use Rattle.polcert_cells.specs.declared.elements.Elements.TheVariants.{Count}
@@ -211,7 +211,7 @@ record StartContinues (elements : Elements) (r : StartReader) : Type 0 where
 zero_number : AreNumbers (a_zero ∷ []) (pos 0 ∷ [])
 zero_number = numbers.unsigned (zero_is false) numbers.none
 
-no_states : (elements : Elements) (choice : Choice) (chosen : ℕ → Bool) → ListGoes elements choice chosen [] None
+no_states : (elements : Elements) (choice : Selection) (chosen : ℕ → Bool) → ListGoes elements choice chosen [] None
 no_states elements choice chosen = record { further = []; stand = tt; said = tt }
 
 start_continues : (elements : Elements) (r : StartReader) → IsStartWithin elements r → pending_refusal r ≡ None → StartContinues elements r

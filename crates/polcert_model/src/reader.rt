@@ -271,9 +271,9 @@ fn read_ahead(
     ensures read { OnOk result (ArePassed (TextReadsOn reader.old reader.new) tokens.old tokens.new) }
     ensures refused { IfErr result (λ fault. fault ≡ ModelFault.Memory) }
 {
-    match reader.feed_ahead(alloc, tokens.ahead()) {
+    match reader.feed_ahead(alloc, tokens.lookahead()) {
         Ok(count) => {
-            tokens.pass(count);
+            tokens.skip(count);
             Ok(())
         }
         Err(AllocError) => Err(ModelFault::Memory),

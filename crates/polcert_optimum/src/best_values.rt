@@ -2,12 +2,12 @@
 ghost use Rattle.std.specs.Prelude.{◌≡◌, ◌-◌, ◌<◌, ℕ, IsTrue};
 
 use crate::observation_sums::ObservationSums;
-use crate::pair::Pair;
+use crate::pair::ActionState;
 use polcert_cells::Cells;
 use polcert_check::one_step::is_same_row;
 
 /// Returns whether the row of T is known to be that of the state before, if there is one.
-fn has_row_before<C: Cells>(pair: &Pair<'_, C>) -> bool
+fn has_row_before<C: Cells>(pair: &ActionState<'_, C>) -> bool
     ensures some { IsTrue result → 0 < pair.now.state }
     ensures same { IsTrue result → (e : ℕ) → e < (C.table pair.now.cells.now).states →
         (C.table pair.now.cells.now).t pair.now.action (pair.now.state - 1) e
@@ -41,7 +41,7 @@ impl BestValues {
     }
 
     /// Sets the greatest expected value after each observation, over the vectors of all actions.
-    fn fill<C: Cells>(&mut self, pair: &Pair<'_, C>)
+    fn fill<C: Cells>(&mut self, pair: &ActionState<'_, C>)
         ensures { AreGreatestValues (C.table pair.now.cells.now) (value_of pair.now.vectors.now)
             pair.now.action pair.now.state (C.table pair.now.cells.now).actions self.new.greatest.sums }
     {
@@ -55,7 +55,7 @@ impl BestValues {
 
     /// Returns the sum of the greatest expected values over the observations, where `before` is that of the state before this one, if
     /// there is one. They are the same if the rows of T are.
-    pub(crate) fn sum_after<C: Cells>(&mut self, pair: &Pair<'_, C>, before: i128) -> i128
+    pub(crate) fn sum_after<C: Cells>(&mut self, pair: &ActionState<'_, C>, before: i128) -> i128
         requires { 0 < pair.now.state → before ≡ best_value (C.table pair.now.cells.now)
             (value_of pair.now.vectors.now) pair.now.action (pair.now.state - 1) }
         ensures { result ≡ best_value (C.table pair.now.cells.now) (value_of pair.now.vectors.now)
@@ -68,7 +68,7 @@ impl BestValues {
     }
 
     /// Returns the sum of the greatest expected values over the observations.
-    fn sum<C: Cells>(&mut self, pair: &Pair<'_, C>) -> i128
+    fn sum<C: Cells>(&mut self, pair: &ActionState<'_, C>) -> i128
         ensures { result ≡ best_value (C.table pair.now.cells.now) (value_of pair.now.vectors.now)
             pair.now.action pair.now.state }
     {

@@ -2,7 +2,7 @@
 ghost use Rattle.std.specs.Prelude.{◌≡◌, ◌<◌, ◌^◌, neg_ℤ, unsigned_abs};
 
 use crate::best_values::BestValues;
-use crate::pair::Pair;
+use crate::pair::ActionState;
 use polcert_cells::Cells;
 use polcert_check::one_step::{RewardBuffer, expected_reward, shortfall};
 
@@ -36,7 +36,7 @@ impl Buffers {
     }
 
     /// Returns the sum of the greatest expected values after each observation, where `before` is that of the state before, if there is one.
-    pub(crate) fn best_after<C: Cells>(&mut self, pair: &Pair<'_, C>, before: i128) -> i128
+    pub(crate) fn best_after<C: Cells>(&mut self, pair: &ActionState<'_, C>, before: i128) -> i128
         requires { 0 < pair.now.state → before ≡ best_value (C.table pair.now.cells.now)
             (value_of pair.now.vectors.now) pair.now.action (pair.now.state - 1) }
         ensures { result ≡ best_value (C.table pair.now.cells.now) (value_of pair.now.vectors.now)
@@ -47,7 +47,7 @@ impl Buffers {
 
     /// Returns by how much the informed backup of a pair, whose best vectors have this sum, is above the action's vector: 0 or less if the
     /// informed inequality holds there.
-    pub(crate) fn excess<C: Cells>(&mut self, pair: &Pair<'_, C>, best: i128) -> i128
+    pub(crate) fn excess<C: Cells>(&mut self, pair: &ActionState<'_, C>, best: i128) -> i128
         requires { best ≡ best_value (C.table pair.now.cells.now) (value_of pair.now.vectors.now)
             pair.now.action pair.now.state }
         ensures value { result ≡ excess (C.table pair.now.cells.now) (value_of pair.now.vectors.now)

@@ -2,7 +2,7 @@
 ghost use Rattle.std.specs.Prelude.{◌≡◌, length};
 ghost use Rattle.polcert_cells.specs.declared.elements.TheConstants.{MOST_OBSERVATIONS};
 
-use crate::pair::Pair;
+use crate::pair::ActionState;
 use polcert_cells::{Cells, MOST_OBSERVATIONS};
 use polcert_check::one_step::{next_end, next_observation, weigh};
 
@@ -37,7 +37,7 @@ impl ObservationSums {
     }
 
     /// Adds what end state `end` adds to the expected value of the vector of action `next`. The weight is that of reaching `end`.
-    fn add_end<C: Cells>(&mut self, pair: &Pair<'_, C>, next: usize, end: usize, weight: u64)
+    fn add_end<C: Cells>(&mut self, pair: &ActionState<'_, C>, next: usize, end: usize, weight: u64)
         requires next { next < (C.table pair.now.cells.now).actions }
         requires end { end < (C.table pair.now.cells.now).states }
         requires weight { weight ≡ (C.table pair.now.cells.now).t pair.now.action pair.now.state end }
@@ -61,7 +61,7 @@ impl ObservationSums {
     }
 
     /// Sets each observation's sum to the expected value of the vector of action `next` over the end states where it is received.
-    pub(crate) fn fill<C: Cells>(&mut self, pair: &Pair<'_, C>, next: usize)
+    pub(crate) fn fill<C: Cells>(&mut self, pair: &ActionState<'_, C>, next: usize)
         requires { next < (C.table pair.now.cells.now).actions }
         ensures { AreValuesUntil (C.table pair.now.cells.now) (value_of pair.now.vectors.now next)
             pair.now.action pair.now.state (C.table pair.now.cells.now).states self.new.sums }

@@ -8,7 +8,7 @@ use polcert_policy::Vectors;
 
 /// A model's cells and one vector for each of its actions, with an action and a state of the model.
 #[derive(Drop)]
-pub(crate) struct Pair<'a, C: Cells> {
+pub(crate) struct ActionState<'a, C: Cells> {
     pub cells: &'a C,
     pub vectors: &'a Vectors,
     pub action: usize,

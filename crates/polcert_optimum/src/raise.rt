@@ -8,7 +8,7 @@ ghost use Rattle.polcert_optimum.specs.Steps.Sums.{IsGreatestExcess};
 
 use crate::excess::Buffers;
 use crate::fault::InformedRaiseFault;
-use crate::pair::Pair;
+use crate::pair::ActionState;
 use crate::verdict::{InformedVerdict, check_informed};
 use polcert_cells::Cells;
 use polcert_check::one_step::ceil_quotient;
@@ -27,7 +27,7 @@ fn greatest_excess<C: Cells>(cells: &C, vectors: &Vectors) -> i128
     for action in 0..cells.actions() {
         let mut best = 0;
         for state in 0..cells.states() {
-            let pair = Pair {
+            let pair = ActionState {
                 cells,
                 vectors,
                 action,
@@ -54,7 +54,10 @@ fn least_below_one<C: Cells>(cells: &C, vectors: &Vectors) -> u128
 }
 
 /// Returns the least constant, whether or not it leaves the values in range.
-fn least_raise<C: Cells>(cells: &C, vectors: &Vectors) -> Result<u128, InformedRaiseFault>
+fn least_raise_of_any_size<C: Cells>(
+    cells: &C,
+    vectors: &Vectors,
+) -> Result<u128, InformedRaiseFault>
     requires { FitActions (C.table cells.now) vectors.now }
     ensures least { IfOk result (IsLeastInformedRaise (C.table cells.now) (value_of vectors.now)) }
     ensures refused { IfErr result (HasNoInformedRaise (C.table cells.now) vectors.now) }
@@ -113,7 +116,7 @@ pub fn least_informed_raise<C: Cells>(
     ensures refused { IfErr result (HasNoInformedRaise (C.table cells.now) vectors.now) }
 {
     let _vectors = vectors.nodes();
-    let by = least_raise(cells, vectors)?;
+    let by = least_raise_of_any_size(cells, vectors)?;
     if can_raise(vectors, by) {
         Ok(by as i64)
     } else {

@@ -8,7 +8,7 @@ ghost use Rattle.polcert_optimum.specs.Informed.{greatest_below};
 ghost use Rattle.polcert_optimum.specs.Seen as seen;
 ghost use Rattle.polcert_optimum.specs.Seen.{IsBoundStartMost, IsSeenStartMost};
 
-use polcert_check::from_start::{ceil_quotient, start_term};
+use polcert_check::from_start::{ceil_mean, start_term};
 use polcert_check::most_from_start;
 use polcert_model::Model;
 use polcert_policy::Vectors;
@@ -49,7 +49,7 @@ pub fn seen_most_from_start(model: &Model, vectors: &Vectors) -> i64
     // That mean, rounded up.
     ensures { IsSeenStartMost (meaning model.now) vectors.now result }
 {
-    ceil_quotient(seen_sum(model, vectors), model.start_total())
+    ceil_mean(seen_sum(model, vectors), model.start_total())
 }
 
 /// Returns what the line of a yes names: what no policy of the model earns more than from its start, in millionths, rounded up.

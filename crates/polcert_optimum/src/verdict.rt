@@ -4,7 +4,7 @@ ghost use Rattle.polcert_policy.specs.Vectors.{value_of};
 ghost use Rattle.polcert_optimum.specs.InformedCheck.{FitActions, IsInformedVerdict, NamesSmallExcess, MeetsInformedPromise};
 
 use crate::excess::Buffers;
-use crate::pair::Pair;
+use crate::pair::ActionState;
 use polcert_cells::Cells;
 use polcert_check::{NoProgress, Progress};
 use polcert_policy::Vectors;
@@ -95,7 +95,7 @@ fn first_excess<C: Cells, W: Progress>(
     for action in 0..cells.actions() {
         let mut best = 0;
         for state in 0..cells.states() {
-            let pair = Pair {
+            let pair = ActionState {
                 cells,
                 vectors,
                 action,

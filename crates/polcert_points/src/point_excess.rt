@@ -5,7 +5,7 @@ use crate::best_worth::mass_of;
 use crate::checked_points::CheckedPoints;
 use crate::compare::excess;
 use crate::later::later;
-use crate::point_reward::{point_reward, value_at_scale};
+use crate::point_reward::{point_reward, point_value_at_scale};
 use polcert_cells::{Cell, Cells, Row};
 use polcert_check::one_step::RewardBuffer;
 
@@ -44,7 +44,11 @@ impl<C: Cells, P: BeliefPoints> CheckedPoints<'_, C, P> {
         let count = list_cells(arrivals, ends);
         clear_belief(belief);
         let after = later(self, i, a, Row::Sparse(&ends[..count]), belief);
-        let worth = value_at_scale(self.cells, mass_of(self.points, i), self.points.value(i, a));
+        let worth = point_value_at_scale(
+            self.cells,
+            mass_of(self.points, i),
+            self.points.value(i, a),
+        );
         excess(reward, after, self.cells.discount(), worth)
     }
 }

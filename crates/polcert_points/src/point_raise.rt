@@ -51,7 +51,7 @@ fn probe(least: u64, passing: u64) -> u64
 }
 
 /// Returns the least constant by which points pass that pass raised by `most`. `charges` is a buffer.
-fn least_passing<C: Cells>(
+fn least_passing_raise<C: Cells>(
     cells: &C,
     vectors: &Vectors,
     points: &PointSet,
@@ -106,7 +106,7 @@ pub fn least_point_raise<C: Cells>(
     let _count = points.count();
     let most = room_above(points);
     if pass_raised(cells, vectors, points, most, charges) {
-        Some(least_passing(cells, vectors, points, most, charges))
+        Some(least_passing_raise(cells, vectors, points, most, charges))
     } else {
         None
     }

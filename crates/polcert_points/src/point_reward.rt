@@ -50,7 +50,7 @@ pub(crate) fn point_reward<C: Cells, P: BeliefPoints>(
 }
 
 /// Returns the value of a point of this mass on the scale of one step.
-pub(crate) fn value_at_scale<C: Cells>(cells: &C, mass: u64, value: i64) -> i128
+pub(crate) fn point_value_at_scale<C: Cells>(cells: &C, mass: u64, value: i64) -> i128
     requires mass { mass ≤ 1000000 }
     requires value { unsigned_abs value ≤ largest }
     ensures value { result ≡ pos (step_scale (C.table cells.now)) *ℤ (pos mass *ℤ value) }

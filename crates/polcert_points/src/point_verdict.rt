@@ -50,7 +50,7 @@ fn is_above(amount: i128) -> bool
 
 /// Returns the verdict on points whose charges are known, with buffers for weights of end states. `progress` is notified of each point that
 /// passes.
-fn first_excess<C: Cells, P: BeliefPoints, W: Progress>(
+fn first_point_excess<C: Cells, P: BeliefPoints, W: Progress>(
     input: &CheckedPoints<'_, C, P>,
     arrivals: &mut [u64],
     ends: &mut [Cell],
@@ -101,7 +101,7 @@ fn verdict_of<C: Cells, P: BeliefPoints, W: Progress>(
     let mut ends = CellList::new();
     let mut belief = [0; MOST_STATES];
     progress.begin(input.points.count());
-    let verdict = first_excess(
+    let verdict = first_point_excess(
         input,
         &mut arrivals[..states],
         &mut ends.cells[..states],

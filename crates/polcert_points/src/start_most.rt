@@ -127,7 +127,7 @@ fn quotient_down(sum: i128, total: u64) -> i64
 }
 
 /// Returns a quotient, rounded up.
-fn quotient_up(sum: i128, total: u64) -> i64
+fn ceil_mean_of_worths(sum: i128, total: u64) -> i64
     requires some { 0 < total }
     requires few { total ≤ 10 ^ 18 }
     requires small { unsigned_abs sum ≤ total * largest }
@@ -155,7 +155,7 @@ fn most_with<P: BeliefPoints>(
     let count = list_cells(start, cells);
     clear_belief(belief);
     let least = least_worth(input, Row::Sparse(&cells[..count]), belief);
-    quotient_up(least, 1_000_000_000_000 * model.start_total())
+    ceil_mean_of_worths(least, 1_000_000_000_000 * model.start_total())
 }
 
 /// Returns what policies that see the observations alone earn at most from a model's start, in millionths, rounded up, if the vectors

@@ -11,7 +11,7 @@ ghost use Rattle.polcert_points_answer.specs.Run.{NamesPointSourcesRightly, Read
 ghost use Rattle.polcert_points_answer.specs.Steps.Reading.{ArePointsDenoted, IsPointReadFault, IsPointsReadFault};
 
 use polcert_answer::{Fault, RunFault};
-use polcert_bound_answer::{BoundInputs, read_inputs};
+use polcert_bound_answer::{BoundInputs, read_bound_inputs};
 use polcert_model::Model;
 use polcert_policy::{PointSet, read_points_from};
 use polcert_text::{SliceSource, Source, SourceFault};
@@ -82,7 +82,7 @@ pub fn read_point_inputs<M: Source, V: Source, P: Source>(
         ReadsPointsLast fault vectors.old vectors.new points.old points.new) }
     ensures of_reading { IfErr result IsPointReadFault }
 {
-    let bound = read_inputs(alloc, model, vectors)?;
+    let bound = read_bound_inputs(alloc, model, vectors)?;
     let points = points_of_run(alloc, &bound.model, points)?;
     Ok(PointInputs { bound, points })
 }

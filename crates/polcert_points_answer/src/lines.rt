@@ -18,7 +18,7 @@ ghost use Rattle.polcert_points_answer.specs.Steps.Reading.{NamesSmallPointAmoun
 use crate::inputs::PointInputs;
 use crate::verdict::PointBoundVerdict;
 use polcert_answer::write_count;
-use polcert_bound_answer::{BoundLine, write_verdict};
+use polcert_bound_answer::{BoundLine, write_bound_verdict};
 use polcert_check::millionths_short;
 use polcert_check::one_step::ceil_quotient;
 use polcert_optimum::bound_most_from_start;
@@ -85,7 +85,7 @@ fn millionths_above(read: &PointInputs, point: usize, amount: i128) -> i64
 }
 
 /// Returns what the line of a verdict says. `charges` is a buffer with room for each action and state.
-pub(crate) fn line_of_verdict(
+pub(crate) fn line_of_point_verdict(
     read: &PointInputs,
     verdict: PointBoundVerdict,
     charges: &mut [i64],
@@ -133,15 +133,15 @@ pub(crate) fn write_point_verdict<W: Sink>(
     ensures { WritesText W.writes W.failures sink.old (point_line_text line) result sink.new }
 {
     let mut buffered = BufferedSink::new(sink);
-    write_line(line, &mut buffered)?;
+    write_point_line(line, &mut buffered)?;
     buffered.flush()
 }
 
-fn write_line<W: Sink>(line: PointBoundLine, sink: &mut W) -> Result<(), SinkFailed>
+fn write_point_line<W: Sink>(line: PointBoundLine, sink: &mut W) -> Result<(), SinkFailed>
     ensures { WritesText W.writes W.failures sink.old (point_line_text line) result sink.new }
 {
     match line {
-        PointBoundLine::Bound(line) => write_verdict(line, sink),
+        PointBoundLine::Bound(line) => write_bound_verdict(line, sink),
         PointBoundLine::PointExceeded { point, action, by } => {
             write_point_exceeded(point, action, by, sink)
         }

@@ -11,7 +11,7 @@ ghost use Rattle.polcert_points_answer.specs.Steps.Reading.{IsPointAnswerLine, I
 
 use crate::answer::{room_for_charges, verdict_on};
 use crate::inputs::{PointInputs, read_point_inputs};
-use crate::lines::{line_of_verdict, write_point_verdict};
+use crate::lines::{line_of_point_verdict, write_point_verdict};
 use crate::verdict::PointBoundVerdict;
 use polcert_answer::{Fault, RunFault};
 use polcert_check::Progress;
@@ -67,11 +67,11 @@ pub fn run_point_check<M: Source, V: Source, P: Source, W: Sink, O: Progress>(
     ensures of_a_check { IfErr result IsPointCheckFault }
 {
     let read = read_point_inputs(alloc, model, vectors, points)?;
-    write_answer(alloc, &read, sink, progress)
+    write_point_answer(alloc, &read, sink, progress)
 }
 
 /// Checks what three texts denote, writes the line of the verdict, and returns the verdict.
-fn write_answer<W: Sink, O: Progress>(
+fn write_point_answer<W: Sink, O: Progress>(
     alloc: Global,
     read: &PointInputs,
     sink: &mut W,
@@ -92,7 +92,7 @@ fn write_answer<W: Sink, O: Progress>(
         Err(AllocError) => return Err(RunFault::Text(Fault::Points(PointFault::Memory))),
     };
     let verdict = verdict_on(read, &mut charges, progress);
-    let line = line_of_verdict(read, verdict, &mut charges);
+    let line = line_of_point_verdict(read, verdict, &mut charges);
     match write_point_verdict(line, sink) {
         Ok(()) => Ok(verdict),
         Err(_) => Err(RunFault::Write),

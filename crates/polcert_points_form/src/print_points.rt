@@ -55,13 +55,13 @@ fn write_point<W: Sink>(points: &PointSet, by: u64, i: usize, out: &mut W) -> Re
     ensures { WritesText W.writes W.failures out.old (point_text (raised_set points.now by) i) result
         out.new }
 {
-    write_number(i, out)?;
+    write_point_number(i, out)?;
     write_weights(points, i, out)?;
     write_actions(points, by, i, out)
 }
 
 /// Writes the number of a point, and a blank.
-fn write_number<W: Sink>(i: usize, out: &mut W) -> Result<(), SinkFailed>
+fn write_point_number<W: Sink>(i: usize, out: &mut W) -> Result<(), SinkFailed>
     ensures { WritesText W.writes W.failures out.old (point_number_text i) result out.new }
 {
     let mut buffer = Buffer::new();
@@ -100,7 +100,7 @@ fn write_weight<W: Sink>(
 {
     let _count = points.count();
     write_scaled(weight as i64, out)?;
-    write_all(out, separator(points.states(), s))
+    write_all(out, item_separator(points.states(), s))
 }
 
 /// Writes the actions of point `i`, each value raised.
@@ -152,12 +152,12 @@ fn write_action<W: Sink>(
     ensures { WritesText W.writes W.failures out.old (action_text (raised_set points.now by) i a) result
         out.new }
 {
-    write_value(raised_value(points, by, i, a), out)?;
-    write_names(points, i, a, out)
+    write_point_value(raised_value(points, by, i, a), out)?;
+    write_named_points(points, i, a, out)
 }
 
 /// Writes a value and a blank.
-fn write_value<W: Sink>(value: i64, out: &mut W) -> Result<(), SinkFailed>
+fn write_point_value<W: Sink>(value: i64, out: &mut W) -> Result<(), SinkFailed>
     ensures { WritesText W.writes W.failures out.old (point_value_text value) result out.new }
 {
     write_scaled(value, out)?;
@@ -165,7 +165,7 @@ fn write_value<W: Sink>(value: i64, out: &mut W) -> Result<(), SinkFailed>
 }
 
 /// Writes the points that are named for action `a` of point `i`.
-fn write_names<W: Sink>(
+fn write_named_points<W: Sink>(
     points: &PointSet,
     i: usize,
     a: usize,
@@ -178,13 +178,13 @@ fn write_names<W: Sink>(
         out.new }
 {
     for z in 0..points.observations() {
-        write_name(points, i, a, z, out)?;
+        write_named_point(points, i, a, z, out)?;
     }
     Ok(())
 }
 
 /// Writes the point that is named for action `a` and observation `z` of point `i`, and what separates it from the next.
-fn write_name<W: Sink>(
+fn write_named_point<W: Sink>(
     points: &PointSet,
     i: usize,
     a: usize,
@@ -198,7 +198,7 @@ fn write_name<W: Sink>(
         (point_name_text (named_at points.now i a) points.now.observations z) result out.new }
 {
     write_named(points.next(i, a, z), out)?;
-    write_all(out, separator(points.observations(), z))
+    write_all(out, item_separator(points.observations(), z))
 }
 
 /// Writes the number of a point, or `-` if none is named.
@@ -215,7 +215,7 @@ fn write_named<W: Sink>(named: Option<usize>, out: &mut W) -> Result<(), SinkFai
 }
 
 /// Returns the text after an item of a line: a blank, or after the last the line's end.
-fn separator(count: usize, item: usize) -> &'static [u8]
+fn item_separator(count: usize, item: usize) -> &'static [u8]
     requires { item < count }
     ensures { result.now ≡ after_item count item }
 {

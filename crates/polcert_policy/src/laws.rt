@@ -129,7 +129,7 @@ pub fn action_vectors_within_limits()
 {}
 
 /// The full form of vectors, read with their graph and number of states, is accepted and gives the vectors back.
-pub fn full_form_reads_back()
+pub fn vectors_read_back()
     ensures down { (graph : PolicyGraph) (v : PolicyVectors) → IsProperGraph graph → AreProperVectors v →
         v.nodes ≡ nodes graph → IsVectorsText graph v.states (vectors_text graph v) v }
     ensures either_way { (rounding : Rounding) (graph : PolicyGraph) (v : PolicyVectors) →

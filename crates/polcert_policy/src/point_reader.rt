@@ -35,7 +35,7 @@ use std::alloc::{AllocError, Global};
 const MOST_POINTS: usize = 10_000;
 
 /// Returns the numeral's value in millionths, rounded down, if it is at most 1.
-fn weight_of(numeral: &[u8]) -> Result<u64, NumberFault>
+fn weight_of_numeral(numeral: &[u8]) -> Result<u64, NumberFault>
     ensures { MatchResult result (IsWeight numeral.now) (IsRefusedWeight numeral.now) }
 {
     let floor = rounded_of(Rounding::Down, false, numeral)?;
@@ -54,7 +54,7 @@ fn read_weight(token: Token<'_>) -> Result<u64, PointFault>
     ensures { ReadWeight (lexeme_of token.entry) result }
 {
     match token.kind {
-        TokenKind::Numeral => match weight_of(token.bytes) {
+        TokenKind::Numeral => match weight_of_numeral(token.bytes) {
             Ok(weight) => Ok(weight),
             Err(fault) => Err(PointFault::Number {
                 fault,

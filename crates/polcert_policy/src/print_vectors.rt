@@ -54,12 +54,12 @@ fn write_vector<W: Sink>(
     requires vector { node < vectors.now.nodes }
     ensures { WritesText W.writes W.failures out.old (vector_text graph.now vectors.now node) result out.new }
 {
-    write_action(graph, node, out)?;
+    write_action_line(graph, node, out)?;
     write_values(vectors, node, out)
 }
 
 /// Writes the action of a node, and its line end.
-fn write_action<W: Sink>(graph: &Graph, node: usize, out: &mut W) -> Result<(), SinkFailed>
+fn write_action_line<W: Sink>(graph: &Graph, node: usize, out: &mut W) -> Result<(), SinkFailed>
     requires { node < nodes graph.now }
     ensures { WritesText W.writes W.failures out.old (action_line graph.now node) result out.new }
 {
@@ -92,11 +92,11 @@ fn write_value<W: Sink>(
     ensures { WritesText W.writes W.failures out.old (value_text vectors.now node state) result out.new }
 {
     write_scaled(vectors.at(node, state), out)?;
-    write_all(out, separator(vectors.states(), state))
+    write_all(out, value_separator(vectors.states(), state))
 }
 
 /// Returns the text after a value: a blank, or after a vector's last value its line end and an empty line.
-fn separator(states: usize, state: usize) -> &'static [u8]
+fn value_separator(states: usize, state: usize) -> &'static [u8]
     requires { state < states }
     ensures { result.now ≡ after_value states state }
 {

@@ -36,7 +36,7 @@ pub(crate) fn lack_of(verdict: Verdict) -> Option<LowerFault>
 }
 
 /// Returns the verdict so far if it is a no, else the one that is found.
-fn earlier(so_far: Verdict, found: Verdict) -> Verdict
+fn keep_first_no(so_far: Verdict, found: Verdict) -> Verdict
     ensures { IsFirstNo so_far found result }
 {
     match so_far {
@@ -64,7 +64,7 @@ pub(crate) fn noted(findings: RobustFindings, verdict: Verdict) -> RobustFinding
         Verdict::Yes => findings,
         Verdict::NoSuccessor { .. } => findings,
         Verdict::Short { amount, .. } => RobustFindings {
-            first: earlier(findings.first, verdict),
+            first: keep_first_no(findings.first, verdict),
             worst: greater(findings.worst, amount.unsigned_abs()),
         },
     }

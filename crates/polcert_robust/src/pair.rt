@@ -269,7 +269,7 @@ fn is_above(amount: i128) -> bool
 }
 
 /// Returns the verdict on a pair whose value is backed so in the worst case.
-fn verdict_of<C: Cells>(pair: &Pair<'_, C>, backing: LeastMean) -> Verdict
+fn verdict_of_backing<C: Cells>(pair: &Pair<'_, C>, backing: LeastMean) -> Verdict
     requires is { IsWorstBacking (near_table pair.now.input.now) (near_controller pair.now.input.now)
         pair.now.n pair.now.s backing.mean }
     requires small { unsigned_abs backing.mean ≤ (cells_of pair.now.input.now).t_scale
@@ -301,7 +301,7 @@ fn verdict_of<C: Cells>(pair: &Pair<'_, C>, backing: LeastMean) -> Verdict
 }
 
 /// Returns whether the pair passes in every model near the text's, or why not.
-pub(crate) fn pair_verdict<C: Cells>(
+pub(crate) fn robust_pair_verdict<C: Cells>(
     pair: &Pair<'_, C>,
     end_weights: &mut [u64],
     end_values: &mut [i128],
@@ -316,5 +316,5 @@ pub(crate) fn pair_verdict<C: Cells>(
         pair.now.n pair.now.s result }
 {
     let backing = worst_backing(pair, end_weights, end_values, weights, values);
-    verdict_of(pair, backing)
+    verdict_of_backing(pair, backing)
 }

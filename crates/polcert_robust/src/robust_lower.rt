@@ -41,7 +41,7 @@ fn is_low_enough(value: i64, by: u128) -> bool
 }
 
 /// Tests whether every value less `by` is in range.
-fn stays_in_range(vectors: &Vectors, by: u128) -> bool
+fn stays_in_range_lowered(vectors: &Vectors, by: u128) -> bool
     ensures { IsTrue result ↔ CanLower vectors.now by }
 {
     for n in 0..vectors.nodes() {
@@ -55,7 +55,7 @@ fn stays_in_range(vectors: &Vectors, by: u128) -> bool
 }
 
 /// Returns the least constant if the discount is below 1, whether or not it leaves the values in range.
-fn candidate<C: Cells>(input: &RobustInput<'_, C>, findings: RobustFindings) -> u128
+fn least_robust_below_one<C: Cells>(input: &RobustInput<'_, C>, findings: RobustFindings) -> u128
     requires found { IsSurveyedBefore (near_table input.now) (near_controller input.now)
         (near_controller input.now).nodes 0 findings }
     requires discount { (cells_of input.now).discount < one }
@@ -98,7 +98,7 @@ fn refused(verdict: Verdict) -> Result<(), LowerFault>
 }
 
 /// Returns the least constant by which the vectors pass, whether or not it leaves the values in range.
-fn least_passing<C: Cells>(
+fn least_passing_robustly<C: Cells>(
     input: &RobustInput<'_, C>,
     findings: RobustFindings,
 ) -> Result<u128, LowerFault>
@@ -110,7 +110,7 @@ fn least_passing<C: Cells>(
         IsNotLoweredRobustly (near_table input.now) (near_controller input.now) vectors fault) }
 {
     if input.cells.discount() < 1_000_000 {
-        return Ok(candidate(input, findings));
+        return Ok(least_robust_below_one(input, findings));
     }
     refused(findings.first)?;
     Ok(0)
@@ -152,8 +152,8 @@ pub fn least_robust_constant<C: Cells, W: Progress>(
         side: Side::Below,
     };
     let findings = survey_robust(&input, &mut PairBuffers::new(), progress)?;
-    let by = least_passing(&input, findings)?;
-    if stays_in_range(vectors, by) {
+    let by = least_passing_robustly(&input, findings)?;
+    if stays_in_range_lowered(vectors, by) {
         Ok(by as i64)
     } else {
         Err(LowerFault::OutOfRange)

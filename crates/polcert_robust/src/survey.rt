@@ -7,7 +7,7 @@ ghost use Rattle.polcert_robust.specs.Steps.Surveys.{IsSurveyedBefore};
 
 use crate::buffers::PairBuffers;
 use crate::findings::{RobustFindings, lack_of, noted};
-use crate::pair::{Pair, pair_verdict};
+use crate::pair::{Pair, robust_pair_verdict};
 use crate::robust_input::RobustInput;
 use polcert_cells::Cells;
 use polcert_check::{LowerFault, Progress, Verdict};
@@ -36,7 +36,7 @@ pub(crate) fn survey_robust<C: Cells, W: Progress>(
                 n,
                 s,
             };
-            let verdict = pair_verdict(
+            let verdict = robust_pair_verdict(
                 &pair,
                 &mut buffers.end_weights,
                 &mut buffers.end_values,

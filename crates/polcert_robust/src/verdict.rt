@@ -10,7 +10,7 @@ use crate::buffers::PairBuffers;
 use crate::distance::Distance;
 use crate::robust_input::RobustInput;
 use crate::side::Side;
-use crate::walk::first_failure;
+use crate::walk::first_robust_failure;
 use polcert_cells::Cells;
 use polcert_check::{NoProgress, Progress, Verdict};
 use polcert_policy::{Graph, Vectors};
@@ -73,5 +73,5 @@ pub fn check_robust_watched<C: Cells, W: Progress>(
         distance,
         side: Side::Below,
     };
-    first_failure(&input, &mut PairBuffers::new(), progress)
+    first_robust_failure(&input, &mut PairBuffers::new(), progress)
 }

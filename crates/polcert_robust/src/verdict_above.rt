@@ -9,13 +9,13 @@ use crate::buffers::PairBuffers;
 use crate::distance::Distance;
 use crate::robust_input::RobustInput;
 use crate::side::Side;
-use crate::walk::first_failure;
+use crate::walk::first_robust_failure;
 use polcert_cells::Cells;
 use polcert_check::{AboveVerdict, NoProgress, Progress, Verdict};
 use polcert_policy::{Graph, Vectors};
 
 /// Returns the verdict from above that a verdict on the negated rewards and values gives.
-fn above_of(verdict: Verdict) -> AboveVerdict
+fn above_from_below(verdict: Verdict) -> AboveVerdict
     ensures { below_of result ≡ verdict }
 {
     match verdict {
@@ -100,5 +100,5 @@ pub fn check_robust_above_watched<C: Cells, W: Progress>(
         distance,
         side: Side::Above,
     };
-    above_of(first_failure(&input, &mut PairBuffers::new(), progress))
+    above_from_below(first_robust_failure(&input, &mut PairBuffers::new(), progress))
 }

@@ -5,7 +5,7 @@ ghost use Rattle.polcert_robust.specs.RobustVerdict.{IsRobustVerdict};
 ghost use Rattle.polcert_robust.specs.Steps.Pairs.{near_controller, near_table};
 
 use crate::buffers::PairBuffers;
-use crate::pair::{Pair, pair_verdict};
+use crate::pair::{Pair, robust_pair_verdict};
 use crate::robust_input::RobustInput;
 use polcert_cells::Cells;
 use polcert_check::{Progress, Verdict};
@@ -23,7 +23,7 @@ fn is_no(verdict: Verdict) -> bool
 
 /// Returns the verdict on the first pair that is not robust, by node and then by state, or yes. `progress` is notified of each node
 /// before it.
-pub(crate) fn first_failure<C: Cells, W: Progress>(
+pub(crate) fn first_robust_failure<C: Cells, W: Progress>(
     input: &RobustInput<'_, C>,
     buffers: &mut PairBuffers,
     progress: &mut W,
@@ -38,7 +38,7 @@ pub(crate) fn first_failure<C: Cells, W: Progress>(
                 n,
                 s,
             };
-            let verdict = pair_verdict(
+            let verdict = robust_pair_verdict(
                 &pair,
                 &mut buffers.end_weights,
                 &mut buffers.end_values,

@@ -50,13 +50,13 @@ pub use Rattle.polcert_rules.specs.declared.index.Rule.{Rule}
 pub use Rattle.polcert_rules.specs.declared.named_rules.NamedRule.{NamedRule}
 pub use Rattle.polcert_cells.specs.declared.entries.RewardBody.{RewardBody}
 pub use Rattle.polcert_rules.specs.declared.rewards.RewardShape.{RewardShape}
-pub use Rattle.polcert_rules.specs.declared.row.Row.{Row}
+pub use Rattle.polcert_rules.specs.declared.row.EntryRow.{EntryRow}
 pub use Rattle.polcert_rules.specs.declared.row_rules.CellRules.{CellRules}
 pub use Rattle.polcert_rules.specs.declared.row_store.Part.{Part}
 pub use Rattle.polcert_rules.specs.declared.row_store.RowOrigin.{RowOrigin}
 pub use Rattle.polcert_rules.specs.declared.row_store.SharedRow.{SharedRow}
 pub use Rattle.polcert_rules.specs.declared.rows.RowForm.TheVariants.{Full, Sparse}
-pub use Rattle.polcert_rules.specs.declared.rows.RowPart.{RowPart}
+pub use Rattle.polcert_rules.specs.declared.rows.RowLocation.{RowLocation}
 pub use Rattle.polcert_rules.specs.declared.rows.Shape.{Shape}
 pub use Rattle.polcert_rules.specs.declared.zeros.RowZeros.{RowZeros}
 pub use Rattle.polcert_rules.specs.declared.zeros.SplitRules.{SplitRules}

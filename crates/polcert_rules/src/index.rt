@@ -289,7 +289,7 @@ pub(crate) fn half_width(number: usize) -> u32 {
 
 /// Returns the place of the first rule from this place on that is not before the key, or the place after the
 /// last.
-pub(crate) fn place_of(rules: &[Rule], from: usize, key: u64) -> usize {
+pub(crate) fn place_of_key(rules: &[Rule], from: usize, key: u64) -> usize {
     let mut place = from;
     while place < rules.len() && rules[place].key < key {
         place += 1;

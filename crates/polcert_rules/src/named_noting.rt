@@ -46,7 +46,7 @@ fn note_observations(rules: &[Rule], low: u64, list: &mut NamedRules) -> bool
     let every = low + 1;
     list.note_all(first_at(rules_from(rules, every), every));
     let start = low + 2;
-    note_each(
+    note_named_rules(
         rules_between(rules, start, start + OBSERVATION_KEYS),
         start,
         list,
@@ -54,7 +54,7 @@ fn note_observations(rules: &[Rule], low: u64, list: &mut NamedRules) -> bool
 }
 
 /// Notes each of these rules at the number by which its key is greater than `start`. Returns whether there was room.
-fn note_each(rules: &[Rule], start: u64, list: &mut NamedRules) -> bool
+fn note_named_rules(rules: &[Rule], start: u64, list: &mut NamedRules) -> bool
     requires from { (r : R) → Contains rules.now r → start ≤ r.key }
     ensures { IsTrue result → (z : ℕ) → IsNoted rules.now (λ k. k ≡ start + z) (noted_at list.old z)
         (noted_at list.new z) }

@@ -25,7 +25,7 @@ impl RewardBodies {
         ensures { IfOk result (λ kept. AreBodiesOf costs entries kept.numbers.items kept.bodies) }
     {
         let (bodies, written) = entries.into_rewards();
-        let numbers = rewards_of(alloc, costs, written)?;
+        let numbers = signed_rewards(alloc, costs, written)?;
         Ok(RewardBodies { bodies, numbers })
     }
 
@@ -48,7 +48,7 @@ impl RewardBodies {
 }
 
 /// Returns what these numbers are worth that are written as rewards, or as costs.
-fn rewards_of(alloc: Global, costs: bool, written: Vec<i64>) -> Result<Vec<i64>, AllocError>
+fn signed_rewards(alloc: Global, costs: bool, written: Vec<i64>) -> Result<Vec<i64>, AllocError>
     ensures { IfOk result (λ numbers. numbers.items ≡ map (worth costs) written.items) }
 {
     if !costs {

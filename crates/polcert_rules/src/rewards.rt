@@ -127,7 +127,7 @@ impl Rewards {
         if count == 0 {
             return;
         }
-        let at = Outcome { action, start, end };
+        let at = StateTransition { action, start, end };
         if count <= FEW_OBSERVATIONS {
             let mut noted = [None; FEW_OBSERVATIONS + 1];
             self.fill_noted(at, first, count, rewards, &mut noted);
@@ -137,7 +137,7 @@ impl Rewards {
     }
 
     /// Fills in the rewards of so many observations, block by block.
-    fn fill_many(&self, at: Outcome, first: usize, count: usize, rewards: &mut [i64])
+    fn fill_many(&self, at: StateTransition, first: usize, count: usize, rewards: &mut [i64])
         requires action { at.action < self.now.shape.actions }
         requires start { at.start < self.now.shape.states }
         requires end { at.end < self.now.shape.states }
@@ -159,7 +159,7 @@ impl Rewards {
     /// there is a guess at most of them: after the last observation stands one that no entry names.
     fn fill_noted(
         &self,
-        at: Outcome,
+        at: StateTransition,
         first: usize,
         count: usize,
         rewards: &mut [i64],
@@ -174,7 +174,7 @@ impl Rewards {
         requires nothing { (i : ℕ) → i < length noted.old → slice_index_or noted.old i None ≡ None }
         ensures { AreFilled self.now at first count rewards.new }
     {
-        let Outcome { action, start, end } = at;
+        let StateTransition { action, start, end } = at;
         let noted = &mut noted[..count + 1];
         self.rules.note(at, first, noted);
         let shared = noted[count];
@@ -182,7 +182,7 @@ impl Rewards {
         let single = self.single_number(shared_body);
         for i in 0..count {
             let indices = [action, start, end, first + i];
-            let reward = if is_same(noted[i], shared) {
+            let reward = if is_same_rule(noted[i], shared) {
                 self.single_or_given(single, shared_body, &indices)
             } else {
                 self.reward_of_body(self.body_of(noted[i]), &indices)
@@ -207,7 +207,7 @@ impl Rewards {
             ForSome result (λ common. IsCommonReward (λ z. reward p entries (action ∷ start ∷ end ∷ z ∷ []))
             self.now.shape.observations common exceptions.new) }
     {
-        let at = Outcome { action, start, end };
+        let at = StateTransition { action, start, end };
         let mut list = NamedRules::new();
         if !self.rules.note_named(at, &mut list) {
             return None;
@@ -226,7 +226,7 @@ impl Rewards {
     }
 
     /// Fills in the rewards of the observations that rules name. Returns whether there is room, and each of them is one of the model's.
-    fn fill_named(&self, at: Outcome, list: &NamedRules, cells: &mut [RewardCell]) -> bool
+    fn fill_named(&self, at: StateTransition, list: &NamedRules, cells: &mut [RewardCell]) -> bool
         requires action { at.action < self.now.shape.actions }
         requires start { at.start < self.now.shape.states }
         requires end { at.end < self.now.shape.states }
@@ -528,7 +528,7 @@ fn is_single(places: usize, observations: usize) -> bool
 }
 
 /// Tests whether two rules have one number, or both are missing.
-fn is_same(one: Option<usize>, other: Option<usize>) -> bool
+fn is_same_rule(one: Option<usize>, other: Option<usize>) -> bool
     ensures { IsTrue result ↔ (one ≡ other) }
 {
     match (one, other) {
@@ -549,7 +549,7 @@ pub struct RewardShape {
 
 /// An action that is taken in a start state, and ends in an end state.
 #[derive(Clone, Copy)]
-pub(crate) struct Outcome {
+pub(crate) struct StateTransition {
     pub action: usize,
     pub start: usize,
     pub end: usize,

@@ -37,7 +37,7 @@ use std::alloc::{AllocError, Global};
 /// A row of T or O by the numbers of its entries: that of what covers the whole row, if anything does, those
 /// of single cells above 0, by column, and its zeros, if there are any.
 #[derive(Drop)]
-pub(crate) struct Row<'a> {
+pub(crate) struct EntryRow<'a> {
     pub whole: Option<usize>,
     pub cells: RowCells,
     pub zeros: Option<RowZeros<'a>>,
@@ -59,7 +59,7 @@ impl RowCells {
     }
 }
 
-impl<'a> Row<'a> {
+impl<'a> EntryRow<'a> {
     /// The row of a table at this action and state, if the entry of this number covers the whole row. The cells of the row before
     /// are given up.
     // (Six parameters: three numbers that say which row it is, and what it is made of.)
@@ -70,7 +70,7 @@ impl<'a> Row<'a> {
         table: Table,
         action: usize,
         state: usize,
-    ) -> Result<Row<'a>, AllocError>
+    ) -> Result<EntryRow<'a>, AllocError>
         requires action { action + 2 < key_base }
         requires state { state + 2 < key_base }
         requires split { (entries : List E) × (rules : List R) × IsSplit entries rules split.now }
@@ -81,7 +81,7 @@ impl<'a> Row<'a> {
         let low = table_digit(table) * span(MOST_PLACES);
         let cells = cells(last, split, low, action, state)?;
         let zeros = row_zeros(split.zeros.as_slice(), low, action, state);
-        Ok(Row {
+        Ok(EntryRow {
             whole,
             cells,
             zeros,
@@ -217,7 +217,7 @@ fn add_part(cells: &mut Vec<Rule>, part: &[Rule], start: u64) -> Result<(), Allo
 pub(crate) fn newer_cells(
     alloc: Global,
     entries: &Entries,
-    row: &Row<'_>,
+    row: &EntryRow<'_>,
     columns: usize,
 ) -> Result<Vec<Cell>, AllocError>
     requires few { columns ≤ most_elements }
@@ -326,7 +326,7 @@ fn count_nonzero(cells: &[Cell]) -> usize
 /// cells.
 fn row_cells(
     alloc: Global,
-    row: &Row<'_>,
+    row: &EntryRow<'_>,
     base: &[Cell],
     newer: Vec<Cell>,
 ) -> Result<Vec<Cell>, AllocError>
@@ -347,7 +347,7 @@ fn row_cells(
 /// Returns the same, if what covers the whole row is kept so.
 pub(crate) fn cells_over(
     alloc: Global,
-    row: &Row<'_>,
+    row: &EntryRow<'_>,
     base: StoredRow<'_>,
     newer: Vec<Cell>,
 ) -> Result<Vec<Cell>, AllocError>

@@ -16,11 +16,11 @@ ghost use Rattle.std.specs.Prelude.{IfSome};
 use crate::Rule;
 use crate::index::{
     KEY_BASE, RuleSpan, TABLE, first_at, has_gap, max_option, newest, next_place, none_below,
-    place_of, rules_between, rules_between_at, rules_from, some_begins, span, span_of,
+    place_of_key, rules_between, rules_between_at, rules_from, some_begins, span, span_of,
 };
 use crate::named_noting::note_ends;
 use crate::named_rules::NamedRules;
-use crate::rewards::{Outcome, RewardShape};
+use crate::rewards::{RewardShape, StateTransition};
 use std::alloc::{AllocError, Global};
 
 /// The key that those of R follow.
@@ -73,8 +73,8 @@ impl RowRules {
         for first in 0..firsts {
             for second in 0..seconds {
                 let key = REWARD_KEYS + first as u64 * span(3) + second as u64 * span(PLACES_LEFT);
-                let start = place_of(rules.as_slice(), place, key);
-                place = place_of(rules.as_slice(), start, key + span(PLACES_LEFT));
+                let start = place_of_key(rules.as_slice(), place, key);
+                place = place_of_key(rules.as_slice(), start, key + span(PLACES_LEFT));
                 spans.push(span_of(start, place))?;
             }
         }
@@ -137,7 +137,7 @@ impl RowRules {
 
     /// Notes, for each of the observations from `first` on for which there is room, the newest rule that fits
     /// it and the outcome, if it is newer than the note.
-    pub(crate) fn note(&self, at: Outcome, first: usize, noted: &mut [Option<usize>])
+    pub(crate) fn note(&self, at: StateTransition, first: usize, noted: &mut [Option<usize>])
         requires rising { IsRising self.now.rules.items }
         requires indices { AreIndices most_places (at.action ∷ at.start ∷ at.end ∷ []) }
         requires small { first + length noted.old + 2 ≤ key_base }
@@ -162,7 +162,7 @@ impl RowRules {
         &self,
         digit: usize,
         low: u64,
-        at: Outcome,
+        at: StateTransition,
         first: usize,
         noted: &mut [Option<usize>],
     )
@@ -184,7 +184,7 @@ impl RowRules {
     }
 
     /// Notes, for each observation, the newest rule that fits an outcome and the observation. Returns whether there was room.
-    pub(crate) fn note_named(&self, at: Outcome, list: &mut NamedRules) -> bool
+    pub(crate) fn note_named(&self, at: StateTransition, list: &mut NamedRules) -> bool
         requires rising { IsRising self.now.rules.items }
         requires indices { AreIndices most_places (at.action ∷ at.start ∷ at.end ∷ []) }
         ensures { IsTrue result → AreNamed self.now.rules.items most_places (table_key Reward)
@@ -203,7 +203,13 @@ impl RowRules {
     }
 
     /// Returns the same after a first place, which has this digit.
-    fn note_named_after(&self, digit: usize, low: u64, at: Outcome, list: &mut NamedRules) -> bool
+    fn note_named_after(
+        &self,
+        digit: usize,
+        low: u64,
+        at: StateTransition,
+        list: &mut NamedRules,
+    ) -> bool
         requires rising { IsRising self.now.rules.items }
         requires room { low + key_base ^ 3 < 2 ^ 64 }
         requires indices { AreIndices 3 (at.start ∷ at.end ∷ []) }

@@ -17,7 +17,7 @@ ghost use Rattle.polcert_rules.specs.Steps.Sources.{AreNumbersOf, IsKeptRow, IsS
 ghost use Rattle.polcert_rules.specs.Steps.Sources.{Stays, AreNear, sum_of_weights};
 
 use crate::index::half_width;
-use crate::row::{Row, body_line, body_row, cells_over, newer_cells};
+use crate::row::{EntryRow, body_line, body_row, cells_over, newer_cells};
 use crate::rows::{StoredRow, StoredRows};
 use crate::{Rule, Shape};
 use polcert_cells::{BodyRef, Cell, Entries, EntryRef, ONE, Place};
@@ -107,7 +107,7 @@ impl RowStore {
         alloc: Global,
         bodies: Bodies<'_>,
         near: Near<'_>,
-        row: &Row<'_>,
+        row: &EntryRow<'_>,
         state: usize,
     ) -> Result<usize, AllocError>
         requires within { IsShapeWithin bodies.shape }
@@ -364,7 +364,7 @@ fn number_at(shared: &[SharedRow], place: usize, source: RowOrigin) -> Option<us
     ensures { IfSome result (IsShared shared.now source) }
 {
     match shared.get(place) {
-        Some(row) => if is_same(row.source, source) {
+        Some(row) => if is_same_origin(row.source, source) {
             Some(row.number)
         } else {
             None
@@ -374,7 +374,7 @@ fn number_at(shared: &[SharedRow], place: usize, source: RowOrigin) -> Option<us
 }
 
 /// Tests whether two rows have the same origin.
-fn is_same(one: RowOrigin, other: RowOrigin) -> bool
+fn is_same_origin(one: RowOrigin, other: RowOrigin) -> bool
     ensures { IsTrue result ↔ (one ≡ other) }
 {
     match (one, other) {

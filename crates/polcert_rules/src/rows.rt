@@ -17,7 +17,7 @@ ghost use Rattle.polcert_cells.specs.Elements.{most_elements};
 
 use crate::Index;
 use crate::index::KEY_BASE;
-use crate::row::{Row, RowCells};
+use crate::row::{EntryRow, RowCells};
 use crate::row_store::{Bodies, Lists, Near, RowStore};
 use crate::zeros::SplitRules;
 use polcert_cells::{Cell, Entries, Row as BorrowedRow, Table};
@@ -198,7 +198,7 @@ fn action_rows(
     let mut cells = RowCells::new(alloc);
     for state in 0..given.bodies.shape.states {
         let whole = newest_whole(given, action, state);
-        let row = Row::of(cells, whole, given.split, given.table, action, state)?;
+        let row = EntryRow::of(cells, whole, given.split, given.table, action, state)?;
         let near = Near {
             here: numbers.as_slice(),
             before,
@@ -292,7 +292,7 @@ pub(crate) enum RowForm {
 
 /// Where a row begins in the list of its form, and how many items it has there.
 #[derive(Clone, Copy)]
-pub(crate) struct RowPart {
+pub(crate) struct RowLocation {
     pub start: usize,
     pub count: u32,
     pub form: RowForm,
@@ -308,7 +308,7 @@ pub(crate) enum StoredRow<'a> {
 /// Rows, kept in one list for each form. Contracts see the cells of each.
 #[derive(Drop)]
 pub(crate) struct StoredRows {
-    parts: Vec<RowPart>,
+    parts: Vec<RowLocation>,
     cells: Vec<Cell>,
     numbers: Vec<u32>,
 }
@@ -363,7 +363,7 @@ impl StoredRows {
     {
         let start = self.cells.len();
         self.cells.extend_from_slice(more)?;
-        self.parts.push(RowPart {
+        self.parts.push(RowLocation {
             start,
             count: more.len() as u32,
             form: RowForm::Sparse,
@@ -378,7 +378,7 @@ impl StoredRows {
     {
         let start = self.numbers.len();
         self.numbers.extend_from_slice(more)?;
-        self.parts.push(RowPart {
+        self.parts.push(RowLocation {
             start,
             count: more.len() as u32,
             form: RowForm::Full,
@@ -388,7 +388,7 @@ impl StoredRows {
 }
 
 /// Returns the row of this part.
-fn row_in<'a>(cells: &'a [Cell], numbers: &'a [u32], part: RowPart) -> StoredRow<'a>
+fn row_in<'a>(cells: &'a [Cell], numbers: &'a [u32], part: RowLocation) -> StoredRow<'a>
     requires { IsHeld cells.now numbers.now part }
     ensures { stored_cells result ≡ row_in cells.now numbers.now part }
 {
@@ -413,7 +413,7 @@ pub(crate) fn cells_of(
 {
     let mut cells = Vec::with_capacity(alloc, numbers.len())?;
     for column in 0..numbers.len() {
-        let weight = weight_of(numbers[column], columns);
+        let weight = column_weight(numbers[column], columns);
         if weight > 0 {
             cells.push(Cell { column, weight })?;
         }
@@ -426,13 +426,13 @@ pub(crate) fn full_weight(numbers: &[u32], columns: u32, column: usize) -> u64
     ensures { result ≡ slice_index numbers.now column * columns }
 {
     match numbers.get(column) {
-        Some(number) => weight_of(*number, columns),
+        Some(number) => column_weight(*number, columns),
         None => 0,
     }
 }
 
 /// Returns the weight of a column that has this number, in millionths, in a row of so many columns.
-fn weight_of(number: u32, columns: u32) -> u64
+fn column_weight(number: u32, columns: u32) -> u64
     ensures { result ≡ number * columns }
 {
     number as u64 * columns as u64

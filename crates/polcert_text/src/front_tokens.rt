@@ -178,14 +178,14 @@ pub fn front_number(bytes: &[u8]) -> Option<FrontNumber>
 {
     match number_in(Spelling::Short, bytes) {
         Some(number) => Some(number),
-        None => any_number(bytes),
+        None => front_number_of_any_spelling(bytes),
     }
 }
 
 /// Does the same for a number of any spelling. (The room for the result of a call is made where the function begins that calls: here,
 /// not in front of the plain way.)
 #[inline(always)]
-fn any_number(bytes: &[u8]) -> Option<FrontNumber>
+fn front_number_of_any_spelling(bytes: &[u8]) -> Option<FrontNumber>
     ensures { IfSome result (λ found. (place : ℕ) → BeginWithNumber place bytes.now found) }
 {
     far_number(bytes)
@@ -754,7 +754,7 @@ fn long_tail(spelling: Spelling, bytes: &[u8], from: usize) -> Option<Tail>
 {
     let until = bytes.len().min(from + LONGEST_TAIL);
     let zeros = zeros_end(bytes, from, until);
-    let end = digits_end(bytes, zeros, until);
+    let end = digits_end_until(bytes, zeros, until);
     if end == bytes.len() || !spelling.ends_numeral(bytes[end]) {
         return None;
     }
@@ -783,7 +783,7 @@ fn zeros_end(bytes: &[u8], from: usize, until: usize) -> usize
 
 /// Returns where the digits from `from` on end, or `until` if they continue there.
 #[inline(always)]
-fn digits_end(bytes: &[u8], from: usize, until: usize) -> usize
+fn digits_end_until(bytes: &[u8], from: usize, until: usize) -> usize
     requires range { from ≤ until }
     requires within { until ≤ length bytes.now }
     ensures within { (from ≤ result) × (result ≤ until) }

@@ -558,13 +558,13 @@ pub fn whole_number(most: usize, bytes: &[u8]) -> Option<usize>
 {
     match short_number(bytes) {
         Some(number) => Some(number.min(most)),
-        None => any_number(most, bytes),
+        None => whole_number_of_any_length(most, bytes),
     }
 }
 
 /// Returns the same as `whole_number`, for however many digits.
 #[inline(never)]
-fn any_number(most: usize, bytes: &[u8]) -> Option<usize>
+fn whole_number_of_any_length(most: usize, bytes: &[u8]) -> Option<usize>
     requires some { 0 < most }
     requires small { most < 2 ^ 60 }
     ensures { MatchOption result (are_digits bytes.now ≡ false)

@@ -124,7 +124,7 @@ impl StreamTokens {
 
     /// Returns the bytes below the limit that were read and are not given yet.
     #[inline(always)]
-    pub fn ahead(&self) -> &[u8]
+    pub fn lookahead(&self) -> &[u8]
         ensures { result.now ≡ visible self.now.ahead }
     {
         &self.bytes.visible()[self.taken..]
@@ -133,7 +133,7 @@ impl StreamTokens {
     /// Skips the first `count` of them. It does not look at them: after a count that ends inside a token, the next token begins
     /// there. So a caller passes only tokens that it has cut off `ahead` whole, as `front_colon` and `front_number` do.
     #[inline(always)]
-    pub fn pass(&mut self, count: usize)
+    pub fn skip(&mut self, count: usize)
         requires continues { self.old.stop ≡ None }
         requires few { count ≤ length (visible self.old.ahead) }
         ensures { self.new ≡ passed count self.old }

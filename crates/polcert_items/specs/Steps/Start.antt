@@ -14,8 +14,8 @@ use Rattle.polcert_text.specs.declared.tokens.TokenKind.TheVariants.{Name, Colon
 use Rattle.polcert_format.specs.FirstNumber.{BeginsWithNumber, BeginsWithDigits, IsLate}
 use Rattle.polcert_format.specs.Forms.{IsStartBodyForm, IsStartForm}
 use Rattle.polcert_format.specs.Wants.{may_be_state}
-use Rattle.polcert_items.specs.declared.start_reader.Choice.{Choice}
-use Rattle.polcert_items.specs.declared.start_reader.Choice.TheVariants.{Include, Exclude}
+use Rattle.polcert_items.specs.declared.start_reader.Selection.{Selection}
+use Rattle.polcert_items.specs.declared.start_reader.Selection.TheVariants.{Include, Exclude}
 use Rattle.polcert_items.specs.declared.start_reader.FirstNumber.{FirstNumber}
 use Rattle.polcert_items.specs.declared.start_reader.StateOrNumber.{StateOrNumber}
 use Rattle.polcert_items.specs.declared.start_reader.StartReader.{StartReader}
@@ -44,7 +44,7 @@ pub record AreUnmarked (count : ℕ) (marks : List Bool) : Type 0 where
   pub none : (s : ℕ) → marked marks s ≡ false
 
 -- of the states that were chosen these share, or the others
-abbrev pub picks : Choice → (ℕ → Bool) → ℕ → Bool
+abbrev pub picks : Selection → (ℕ → Bool) → ℕ → Bool
 picks Include chosen s = chosen s
 picks Exclude chosen s = not (chosen s)
 
@@ -53,7 +53,7 @@ abbrev pub chosen_with : (ℕ → Bool) → List ℕ → ℕ → Bool
 chosen_with chosen further s = chosen s || included further s
 
 -- the shares of a list of states that were chosen
-abbrev pub listed : Elements → Choice → (ℕ → Bool) → StartWeights
+abbrev pub listed : Elements → Selection → (ℕ → Bool) → StartWeights
 listed states choice chosen = equal_weights (count_of states) (picks choice chosen)
 
 -- What continues is asked for some shares, or for none: then only for the form of the item, and nothing that is decided at its
@@ -70,7 +70,7 @@ AreLeft found None = Unit {0}
 AreLeft found (Some v) = (v ≡ found) × (0 < found.total)
 
 -- the lexemes are further states of a list
-pub record ListGoes (states : Elements) (choice : Choice) (chosen : ℕ → Bool) (ls : List Lexeme) (asked : Option StartWeights) : Type 0 where
+pub record ListGoes (states : Elements) (choice : Selection) (chosen : ℕ → Bool) (ls : List Lexeme) (asked : Option StartWeights) : Type 0 where
   pub further : List ℕ
   pub stand : AllZip (StandsFor states) ls further
   pub said : AreLeft (listed states choice (chosen_with chosen further)) asked

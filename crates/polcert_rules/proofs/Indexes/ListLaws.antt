@@ -1,6 +1,7 @@
 -- Lists that stand one after another in one list.
 use Rattle.std.proofs.Common.{◌≡◌, ◌∙◌, ℕ, ◌+◌, ◌≤◌, List, [], ◌∷◌, ◌++◌, length, map, All, refl, ap, subst, arith}
-use Rattle.polcert_rules.proofs.Common.{map-append, All-head, All-tail, Part, part_in, row_in, scaled_cells, Cell, Sparse, Full, RowPart}
+use Rattle.polcert_rules.proofs.Common.{map-append, All-head, All-tail, Part, part_in, row_in, scaled_cells, Cell, Sparse, Full}
+use Rattle.polcert_rules.proofs.Common.{RowLocation}
 use Rattle.std.proofs.lemmas.List.{append-nil, drop-append-le, take-append-le, length-drop, take_all}
 use Rattle.polcert_rules.specs.Steps.Lists.{PartLiesIn, cells_by_form, RowLiesIn, IsHeld}
 use Rattle.std.specs.List.{slice_range}
@@ -42,7 +43,7 @@ module _ (cells more : List Cell) (numbers others : List ℕ) where
       → cells_by_form (cells ++ more) (numbers ++ others) f start count ≡ cells_by_form cells numbers f start count
   form_stays f start count h1 = grind (arith, range_stays)
 
-  rows_stay : (ps : List RowPart) → All (IsHeld cells numbers) ps
+  rows_stay : (ps : List RowLocation) → All (IsHeld cells numbers) ps
       → map (row_in (cells ++ more) (numbers ++ others)) ps ≡ map (row_in cells numbers) ps
   rows_stay [] a = refl
   rows_stay (p ∷ ps) a =
@@ -51,13 +52,13 @@ module _ (cells more : List Cell) (numbers others : List ℕ) where
       λ i. here i ∷ rest i
 
   -- one more row
-  one_more_row : (ps : List RowPart) (p : RowPart) → All (IsHeld cells numbers) ps
+  one_more_row : (ps : List RowLocation) (p : RowLocation) → All (IsHeld cells numbers) ps
       → map (row_in (cells ++ more) (numbers ++ others)) (ps ++ p ∷ [])
       ≡ map (row_in cells numbers) ps ++ row_in (cells ++ more) (numbers ++ others) p ∷ []
   one_more_row ps p a = grind (arith, map-append, rows_stay)
 
 -- one more row of either form
-pub push_sparse : (cells more : List Cell) (numbers : List ℕ) (ps : List RowPart) (p : RowPart) → All (IsHeld cells numbers) ps
+pub push_sparse : (cells more : List Cell) (numbers : List ℕ) (ps : List RowLocation) (p : RowLocation) → All (IsHeld cells numbers) ps
     → p.form ≡ Sparse → p.start ≡ length cells → p.count ≡ length more
     → map (row_in (cells ++ more) numbers) (ps ++ p ∷ []) ≡ map (row_in cells numbers) ps ++ more ∷ []
 push_sparse cells more numbers ps p a f s e =
@@ -69,7 +70,7 @@ push_sparse cells more numbers ps p a f s e =
     ∙ range_last cells more p.start p.count s e in
     all ∙ (λ i. map (row_in cells numbers) ps ++ last i ∷ [])
 
-pub push_full : (cells : List Cell) (numbers more : List ℕ) (ps : List RowPart) (p : RowPart) → All (IsHeld cells numbers) ps
+pub push_full : (cells : List Cell) (numbers more : List ℕ) (ps : List RowLocation) (p : RowLocation) → All (IsHeld cells numbers) ps
     → p.form ≡ Full → p.start ≡ length numbers → p.count ≡ length more
     → map (row_in cells (numbers ++ more)) (ps ++ p ∷ []) ≡ map (row_in cells numbers) ps ++ scaled_cells (length more) 0 more ∷ []
 push_full cells numbers more ps p a f s e =

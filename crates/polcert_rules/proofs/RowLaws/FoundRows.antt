@@ -1,7 +1,8 @@
 -- A row of the index: what covers the whole row, the zeros, and the other single cells.
 use Rattle.std.proofs.Common.{◌≡◌, ℕ, ◌+◌, ◌<◌, ◌⊎◌, inl, inr, ⊎_elim, true, Option, Some, List, [], ◌∷◌, All, Contains, sym, subst, arith}
 use Rattle.std.specs.Prelude.{IfSome}
-use Rattle.polcert_rules.proofs.Common.{Table, Entry, Rule, SplitRules, RowZeros, Row, key_base, table_key, most_places, IsRising, IsNewest}
+use Rattle.polcert_rules.proofs.Common.{Table, Entry, Rule, SplitRules, RowZeros, EntryRow, key_base, table_key, most_places, IsRising}
+use Rattle.polcert_rules.proofs.Common.{IsNewest}
 use Rattle.polcert_rules.proofs.Common.{IsIndexOf, IsLastNumber, max_option, IsSingleCellKey, IsCell, HasNoSuchColumn, HaveColumns}
 use Rattle.polcert_rules.proofs.Common.{at_column}
 use Rattle.polcert_rules.proofs.Common.{no_column, IsSplit, others_in, IsEntryRowOf, is_zero_entry, zero_of, number_under}
@@ -83,7 +84,7 @@ module _ (entries : List Entry) (rules : List Rule) (table : Table) (a s : ℕ) 
       → is_zero_entry entries n ≡ true
   zero_is c n o h1 h2 = grind arith
 
-  pub row_is : (row : Row) → IsNewest rules (FitsKey most_places (table_key table) (a ∷ s ∷ no_column ∷ [])) row.whole
+  pub row_is : (row : EntryRow) → IsNewest rules (FitsKey most_places (table_key table) (a ∷ s ∷ no_column ∷ [])) row.whole
       → IsRising row.cells.rules.items
       → ((c : ℕ) → c + 2 < key_base → IsNewest (others_in split.others) (IsSingleCellKey (table_key table) a s c)
       (at_column row.cells.rules.items c))

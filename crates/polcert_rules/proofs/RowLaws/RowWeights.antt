@@ -1,6 +1,7 @@
 -- The weights of a row, from the numbers of its entries.
 use Rattle.std.proofs.Common.{◌≡◌, ◌∙◌, ℕ, ◌*◌, ◌<◌, ◌≤◌, ◌==◌, true, Option, None, List, [], ◌∷◌, length, refl, sym, ap, subst, arith}
-use Rattle.polcert_rules.proofs.Common.{nat_tests, Table, Entry, value_or, one, Cell, weight_at, IsRow, RowZeros, Row, Shape, entry_weight}
+use Rattle.polcert_rules.proofs.Common.{nat_tests, Table, Entry, value_or, one, Cell, weight_at, IsRow, RowZeros, EntryRow, Shape}
+use Rattle.polcert_rules.proofs.Common.{entry_weight}
 use Rattle.polcert_rules.proofs.Common.{given_at, weight_by_entries, newer_cells, weight_over, merged, Rises, number_under, covering_entry}
 use Rattle.polcert_rules.proofs.Common.{shown_under, AreNumbersOf, IsKeptRow}
 use Rattle.polcert_cells.proofs.SparseLaws.{row_same}
@@ -16,7 +17,7 @@ no_zeros : (whole : Option ℕ) (zeros : Option RowZeros) (c : ℕ) → zeros �
 no_zeros whole zeros c e = ap (λ z. number_under whole z c) e
 
 -- the newer cells of a row
-module _ (shape : Shape) (entries : List Entry) (table : Table) (a s : ℕ) (row : Row) (newer : List Cell)
+module _ (shape : Shape) (entries : List Entry) (table : Table) (a s : ℕ) (row : EntryRow) (newer : List Cell)
     (h : AreNumbersOf shape entries table a s row)
     (newer_are : newer ≡ newer_cells shape.columns entries (covering_entry row) s row.cells.rules.items) where
   newer_weights : (c : ℕ) → c < shape.columns → weight_over newer (λ i. given_at shape.columns entries (covering_entry row i) s i) c

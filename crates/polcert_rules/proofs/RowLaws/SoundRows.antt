@@ -4,7 +4,8 @@ use Rattle.std.proofs.Common.{sym, ap, subst, arith, rules}
 use Rattle.std.specs.List.{slice_get}
 use Rattle.polcert_rules.proofs.Common.{Table, Reward, Place, Only, Entry, Elements, count_of, most_states, most_actions, most_observations}
 use Rattle.polcert_rules.proofs.Common.{is_table, fit_places, last_covering, IsLastCovering, last, weight, weight_of, value_or, one}
-use Rattle.polcert_rules.proofs.Common.{Preamble, dimensions, IsWeighted, IsSoundEntry, Rule, Shape, SplitRules, Row, IsSplit, IsEntryRowOf}
+use Rattle.polcert_rules.proofs.Common.{Preamble, dimensions, IsWeighted, IsSoundEntry, Rule, Shape, SplitRules, EntryRow, IsSplit}
+use Rattle.polcert_rules.proofs.Common.{IsEntryRowOf}
 use Rattle.polcert_rules.proofs.Common.{covering_entry, key_base, AreDigits, most_places, IsIndexOf, AreKeyed, IsLastNumber, entry_at}
 use Rattle.polcert_rules.proofs.Common.{HaveColumns, IsSingleEntry, no_column, number_in, IsShapeWithin, FitsShape, entry_weight, IsShapeOf}
 use Rattle.polcert_rules.proofs.Common.{AreSound}
@@ -118,7 +119,7 @@ module _ (p : Preamble) (table : Table) (shape : Shape) (entries : List Entry) (
         },
       )
 
-  module _ (within : IsShapeWithin shape) (a s : ℕ) (row : Row) (h : IsEntryRowOf entries table a s row) where
+  module _ (within : IsShapeWithin shape) (a s : ℕ) (row : EntryRow) (h : IsEntryRowOf entries table a s row) where
     whole_is : (o : Option ℕ) → IsLastNumber entries table (a ∷ s ∷ no_column ∷ []) o → IsWholeRowEntry shape entries o
     whole_is None l = tt
     whole_is (Some n) l =
@@ -158,7 +159,7 @@ sound_within p table shape entries h1 h2 h3 = grind arith
 
 -- the numbers of a row, by what the index says of it
 pub row_numbers : (p : Preamble) (table : Table) (shape : Shape) (entries : List Entry) (rules : List Rule) (split : SplitRules) (a s : ℕ)
-    (whole : Option ℕ) (row : Row)
+    (whole : Option ℕ) (row : EntryRow)
     → IsWeighted table → IsShapeOf p table shape → AreSound p entries → IsIndexOf table entries rules → IsSplit entries rules split
     → IsWholeNumber rules table a s whole
     → ((es : List Entry) (rs : List Rule) → HaveColumns es → IsIndexOf table es rs → IsSplit es rs split → IsWholeNumber rs table a s whole

@@ -7,7 +7,7 @@ use Rattle.polcert_cells.specs.declared.elements.Cell.{Cell}
 use Rattle.polcert_rules.specs.declared.row_store.Part.{Part}
 use Rattle.polcert_rules.specs.declared.rows.RowForm.{RowForm}
 use Rattle.polcert_rules.specs.declared.rows.RowForm.TheVariants as forms
-use Rattle.polcert_rules.specs.declared.rows.RowPart.{RowPart}
+use Rattle.polcert_rules.specs.declared.rows.RowLocation.{RowLocation}
 use Rattle.polcert_rules.specs.declared.rows.StoredRow.{StoredRow}
 use Rattle.polcert_rules.specs.declared.rows.StoredRow.TheVariants as stored
 
@@ -24,7 +24,7 @@ abbrev pub cells_by_form : List Cell → List ℕ → RowForm → ℕ → ℕ �
 cells_by_form cells numbers forms.Sparse start count = slice_range cells start (start + count)
 cells_by_form cells numbers forms.Full start count = scaled_cells count 0 (slice_range numbers start (start + count))
 
-abbrev pub row_in : List Cell → List ℕ → RowPart → List Cell
+abbrev pub row_in : List Cell → List ℕ → RowLocation → List Cell
 row_in cells numbers p = cells_by_form cells numbers p.form p.start p.count
 
 -- the row lies in its list
@@ -32,7 +32,7 @@ abbrev pub RowLiesIn : RowForm → ℕ → ℕ → ℕ → Type 0
 RowLiesIn forms.Sparse cells numbers end = end ≤ cells
 RowLiesIn forms.Full cells numbers end = end ≤ numbers
 
-pub record IsHeld (cells : List Cell) (numbers : List ℕ) (p : RowPart) : Type 0 where
+pub record IsHeld (cells : List Cell) (numbers : List ℕ) (p : RowLocation) : Type 0 where
   pub room : RowLiesIn p.form (length cells) (length numbers) (p.start + p.count)
 
 -- the cells of a row, whatever its form

@@ -7,7 +7,7 @@ use Rattle.polcert_cells.specs.declared.entries.Entry.{Entry}
 use Rattle.polcert_cells.specs.Cells.{fit_places, reward}
 use Rattle.polcert_cells.specs.Preamble.{Preamble}
 use Rattle.polcert_rules.specs.declared.index.Rule.{Rule}
-use Rattle.polcert_rules.specs.declared.rewards.Outcome.{Outcome}
+use Rattle.polcert_rules.specs.declared.rewards.StateTransition.{StateTransition}
 use Rattle.polcert_cells.specs.declared.entries.RewardBody.{RewardBody}
 use Rattle.polcert_rules.specs.Keys.{key_base, key_in, table_key}
 use Rattle.polcert_rules.specs.Steps.Newest.{IsLastNumber}
@@ -38,7 +38,7 @@ NamesStart a s key =
     ⊎ (NamesStartAfter (table_key Reward + key_base ^ 3) s key ⊎ NamesStartAfter (table_key Reward + (a + 2) * key_base ^ 3) s key)
 
 -- the rewards of so many observations from this one on are filled in
-abbrev pub AreFilled : RewardRules → Outcome → ℕ → ℕ → List ℤ → Type 0
+abbrev pub AreFilled : RewardRules → StateTransition → ℕ → ℕ → List ℤ → Type 0
 AreFilled rewards at first count filled = (p : Preamble) (entries : List Entry) → AreRewardsOf p entries rewards
     → (i : ℕ) → i < count → slice_index_or filled i (pos 0) ≡ reward p entries (at.action ∷ at.start ∷ at.end ∷ (first + i) ∷ [])
 

@@ -23,7 +23,7 @@ use Rattle.polcert_rules.specs.declared.rows.WrongRow.{WrongRow}
 use Rattle.polcert_rules.specs.Steps.Newest.{IsRising, IsIndexOf, entry_at}
 use Rattle.polcert_rules.specs.Steps.Shapes.{IsShapeOf, AreSound}
 use Rattle.polcert_rules.specs.Steps.Rows.{number_in}
-use Rattle.polcert_rules.specs.declared.row.Row.{Row}
+use Rattle.polcert_rules.specs.declared.row.EntryRow.{EntryRow}
 use Rattle.polcert_rules.specs.Steps.Zeros.{HasOrderedZeros, IsSplit, is_zero_entry, zero_of, covering_entry}
 use Rattle.polcert_rules.specs.Steps.Given.{FitsShape}
 use Rattle.polcert_cells.specs.Sparse.{weight_at, IsSparse, IsRow}
@@ -68,7 +68,7 @@ IsWholeRowEntry shape entries None = Unit {0}
 IsWholeRowEntry shape entries (Some n) = (e : Entry) × (slice_get entries n ≡ Some e) × FitsShape shape e
 
 -- the numbers of a row: that of what covers the whole row, those of its single cells, and those of its zeros
-pub record AreNumbersOf (shape : Shape) (entries : List Entry) (table : Table) (a s : ℕ) (row : Row) : Type 0 where
+pub record AreNumbersOf (shape : Shape) (entries : List Entry) (table : Table) (a s : ℕ) (row : EntryRow) : Type 0 where
   pub rising : IsRising row.cells.rules.items
   pub ordered : IfSome row.zeros HasOrderedZeros
   pub cells : All (IsColumnOf shape.columns entries) row.cells.rules.items

@@ -12,7 +12,7 @@ use Rattle.polcert_rules.specs.declared.zeros.Others.{Others}
 use Rattle.polcert_rules.specs.declared.zeros.Others.TheVariants.{Borrowed, Listed}
 use Rattle.polcert_rules.specs.declared.zeros.ZeroColumns.{ZeroColumns}
 use Rattle.polcert_rules.specs.declared.zeros.RowZeros.{RowZeros}
-use Rattle.polcert_rules.specs.declared.row.Row.{Row}
+use Rattle.polcert_rules.specs.declared.row.EntryRow.{EntryRow}
 use Rattle.polcert_rules.specs.Keys.{key_base}
 use Rattle.polcert_rules.specs.Steps.Newest.{IsRising, IsLastNumber}
 use Rattle.polcert_rules.specs.Matching.{max_option, newest_by}
@@ -98,7 +98,7 @@ abbrev pub number_under : Option ℕ → Option RowZeros → ℕ → Option ℕ
 number_under whole None c = whole
 number_under whole (Some z) c = max_option whole (newest_zero z c)
 
-abbrev pub covering_entry : Row → ℕ → Option ℕ
+abbrev pub covering_entry : EntryRow → ℕ → Option ℕ
 covering_entry row c = number_under row.whole row.zeros c
 
 -- a zero of this number hides what covers the whole row
@@ -119,7 +119,7 @@ shown_under whole (Some z) base = shown (λ c. overrides whole (newest_zero z c)
 -- ---- a row, by the numbers of its entries
 -- The cells are single cells of the table; and in each column the last entry that covers the cell is that of the greatest number
 -- among what covers the whole row, the newest zero, and the cell.
-pub record IsEntryRowOf (entries : List Entry) (table : Table) (a s : ℕ) (row : Row) : Type 0 where
+pub record IsEntryRowOf (entries : List Entry) (table : Table) (a s : ℕ) (row : EntryRow) : Type 0 where
   pub rising : IsRising row.cells.rules.items
   pub ordered : IfSome row.zeros HasOrderedZeros
   pub single : All (IsSingleEntry entries table) row.cells.rules.items

@@ -24,4 +24,4 @@ returns g c =
     let first = rw (c.kind_word.ensures, c.is_mdp.ensures) at c.in_ok-write_all.ensures in
     let second = rw c.states.ensures.elements at c.in_ok-write_count.ensures in
     and_then (and_then (and_then first second) (rw c.actions.ensures.elements at c.in_ok-write_count-2.ensures))
-    c.write_observations.ensures
+    c.write_observation_count.ensures

@@ -7,8 +7,8 @@ use Rattle.polcert_bound_answer.proofs.Answering.{has_verdict, has_promise, has_
 use Rattle.polcert_bound_answer.proofs.Passing.{is_read, read_in_check, stops_again, stops_after}
 use Rattle.polcert_bound_answer.proofs.runs.run_bound_check.Goals as goal
 
-pub write_answer-requires : goal.write_answer-requires
-write_answer-requires g c =
+pub write_bound_answer-requires : goal.write_bound_answer-requires
+write_bound_answer-requires g c =
     let d = c.in_ok-read.ensures.accepted in
     record { fit = fit_of (meaning c.in_ok-read.read.model) c.in_ok-read.read.vectors d.second d.are_vectors }
 
@@ -22,7 +22,7 @@ returns g c =
     let m = meaning c.in_ok-read.read.model in
     let v = c.in_ok-read.read.vectors in
     let d = c.in_ok-read.ensures.accepted in
-    let wrote = c.write_answer.ensures in
+    let wrote = c.write_bound_answer.ensures in
     record {
       answered = wrote_mapped _ _ (has_verdict _ _ m v d) _ wrote.answered;
       promise = λ yes. let (line, is, took) = text_of_answer _ _ Yes wrote.answered yes in has_promise _ _ m v d line is;

@@ -9,6 +9,6 @@ returns c =
     let best = c.best_start-sum in (
       best.result.0,
       best.ensures.node,
-      rw (to_z-of_z w64 c.ceil_quotient.result (search rules))
-          (rw (to_z-of_z w128 best.result.1 (search rules) ∙ best.ensures.sum, c.start_total.ensures) at c.ceil_quotient.ensures),
+      rw (to_z-of_z w64 c.ceil_mean.result (search rules))
+          (rw (to_z-of_z w128 best.result.1 (search rules) ∙ best.ensures.sum, c.start_total.ensures) at c.ceil_mean.ensures),
     )

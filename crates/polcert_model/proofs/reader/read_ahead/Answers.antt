@@ -4,10 +4,11 @@ use Rattle.polcert_model.proofs.reader.read_ahead.Goals as goal
 
 pub returns-in-Ok-clause-read : goal.returns-in-Ok-clause-read
 returns-in-Ok-clause-read c =
-    ahead_passed c.args.tokens.now c.pass.new.self c.ahead.result.now c.in-Ok.count c.ahead.ensures c.pass.ensures c.in-Ok.ensures.read
+    ahead_passed c.args.tokens.now c.skip.new.self c.lookahead.result.now c.in-Ok.count c.lookahead.ensures c.skip.ensures
+    c.in-Ok.ensures.read
 
 pub returns-in-Ok-clause-number : goal.returns-in-Ok-clause-number
 returns-in-Ok-clause-number c =
-    let place = ap (λ s. s.ahead.place) c.pass.ensures in
+    let place = ap (λ s. s.lookahead.place) c.skip.ensures in
     let few = c.in-Ok.ensures.number in
     omega (arith, place, few)

@@ -17,22 +17,24 @@ sum_is main part small few =
 
 pub returns-clause-value : goal.returns-clause-value
 returns-clause-value c =
-    rw (sum_is c.discounted_whole-main.result c.part-more.result c.discounted_whole-main.ensures.small c.part-more.ensures.small)
-    ((discounted_value c.args.discount c.rest_of-rest.result c.part-more.result c.args.number c.whole_part-whole.result
+    rw (sum_is c.discounted_whole-main.result c.discounted_rest-more.result c.discounted_whole-main.ensures.small
+    c.discounted_rest-more.ensures.small)
+    ((discounted_value c.args.discount c.rest_of-rest.result c.discounted_rest-more.result c.args.number c.whole_part-whole.result
     c.discounted_whole-main.result (rw (
       to_z-of_z w128 c.args.number c.ranges.number,
       to_z-of_z w128 c.whole_part-whole.result
           (search rules),
     ) at c.rest_of-rest.ensures.value) (rw (to_z-of_z w128 c.whole_part-whole.result (search rules)) at
-    c.discounted_whole-main.ensures.value) c.part-more.ensures.enough c.part-more.ensures.least).0)
+    c.discounted_whole-main.ensures.value) c.discounted_rest-more.ensures.enough c.discounted_rest-more.ensures.least).0)
 
 pub returns-clause-least : goal.returns-clause-least
 returns-clause-least c =
-    rw (sum_is c.discounted_whole-main.result c.part-more.result c.discounted_whole-main.ensures.small c.part-more.ensures.small)
-    ((discounted_value c.args.discount c.rest_of-rest.result c.part-more.result c.args.number c.whole_part-whole.result
+    rw (sum_is c.discounted_whole-main.result c.discounted_rest-more.result c.discounted_whole-main.ensures.small
+    c.discounted_rest-more.ensures.small)
+    ((discounted_value c.args.discount c.rest_of-rest.result c.discounted_rest-more.result c.args.number c.whole_part-whole.result
     c.discounted_whole-main.result (rw (
       to_z-of_z w128 c.args.number c.ranges.number,
       to_z-of_z w128 c.whole_part-whole.result
           (search rules),
     ) at c.rest_of-rest.ensures.value) (rw (to_z-of_z w128 c.whole_part-whole.result (search rules)) at
-    c.discounted_whole-main.ensures.value) c.part-more.ensures.enough c.part-more.ensures.least).1)
+    c.discounted_whole-main.ensures.value) c.discounted_rest-more.ensures.enough c.discounted_rest-more.ensures.least).1)

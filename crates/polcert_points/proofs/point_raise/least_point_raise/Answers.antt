@@ -3,8 +3,8 @@ use Rattle.polcert_policy.specs.Points.{value_at}
 use Rattle.polcert_points.proofs.RaisedSets.{room_small}
 use Rattle.polcert_points.proofs.point_raise.least_point_raise.Goals as goal
 
-pub least_passing-requires-clause-passes : goal.least_passing-requires-clause-passes
-least_passing-requires-clause-passes g c = c.if-pass_raised.ensures.passes refl
+pub least_passing_raise-requires-clause-passes : goal.least_passing_raise-requires-clause-passes
+least_passing_raise-requires-clause-passes g c = c.if-pass_raised.ensures.passes refl
 
 pub returns-else-pass_raised-clause-none : goal.returns-else-pass_raised-clause-none
 returns-else-pass_raised-clause-none g c =

@@ -16,8 +16,8 @@ least_worth-least-requires-clause-start g c =
     (subst (λ (n : ℕ). IsRow n (slice_index c.fill_start.new.start) (take c.list_cells-count.result c.list_cells-count.new.cells)) size
     c.list_cells-count.ensures.row)
 
-pub quotient_up-requires-clause-small : goal.quotient_up-requires-clause-small
-quotient_up-requires-clause-small g c =
+pub ceil_mean_of_worths-requires-clause-small : goal.ceil_mean_of_worths-requires-clause-small
+ceil_mean_of_worths-requires-clause-small g c =
     let m : Meaning = meaning c.args.input.now.cells.now in
     let p : PointTable = g.P.BeliefPoints.table c.args.input.now.points.now in
     let proper : IsProperPointTable p = g.met.P.BeliefPoints.is_proper c.args.input.now.points.now in
@@ -30,8 +30,8 @@ returns g c =
     let m : Meaning = meaning c.args.input.now.cells.now in
     let p : PointTable = g.P.BeliefPoints.table c.args.input.now.points.now in
     let proper : IsProperPointTable p = g.met.P.BeliefPoints.is_proper c.args.input.now.points.now in
-    rw (to_z-of_z w64 c.quotient_up.result (search rules))
+    rw (to_z-of_z w64 c.ceil_mean_of_worths.result (search rules))
     (most_is m c.args.input.now.cells.now.limits p c.args.input.now.fit proper c.args.input.now.charges.now c.args.input.now.small
-    c.least_worth-least.result c.least_worth-least.ensures (1000000000000 * c.start_total.result) c.quotient_up.result
+    c.least_worth-least.result c.least_worth-least.ensures (1000000000000 * c.start_total.result) c.ceil_mean_of_worths.result
     (ap (λ (n : ℕ). 1000000000000 * n) c.start_total.ensures)
-    (rw (to_z-of_z w128 c.least_worth-least.result (search rules)) at c.quotient_up.ensures))
+    (rw (to_z-of_z w128 c.least_worth-least.result (search rules)) at c.ceil_mean_of_worths.ensures))

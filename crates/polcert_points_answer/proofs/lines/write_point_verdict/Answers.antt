@@ -4,11 +4,11 @@ use Rattle.polcert_answer.proofs.Buffered.{stopped_through, flushed_through}
 use Rattle.polcert_points_answer.specs.Lines.{point_line_text}
 use Rattle.polcert_points_answer.proofs.lines.write_point_verdict.Goals as goal
 
-pub returns-in_err-write_line : goal.returns-in_err-write_line
-returns-in_err-write_line g c =
+pub returns-in_err-write_point_line : goal.returns-in_err-write_point_line
+returns-in_err-write_point_line g c =
     let stopped = stopped_through g.W.Sink.writes g.W.Sink.failures (λ s. s.sink.now) (λ s. s.held) (λ s. s.sink.ghost_name)
     (point_line_text c.args.line) c.new-buffered.ensures.held c.new-buffered.ensures.same_sink
-    c.from_residual.result (search rules) c.in_err-write_line.ensures.err in
+    c.from_residual.result (search rules) c.in_err-write_point_line.ensures.err in
     let name = stopped.0 in
     left_after stopped.1 (search rules)
 
@@ -16,6 +16,6 @@ pub returns : goal.returns
 returns g c =
     let flushed = flushed_through g.W.Sink.writes g.W.Sink.failures (λ s. s.sink.now) (λ s. s.held) (λ s. s.sink.ghost_name)
     (point_line_text c.args.line) c.new-buffered.ensures.held c.new-buffered.ensures.same_sink
-    c.flush.result c.in_ok-write_line.ensures.ok c.flush.ensures.written in
+    c.flush.result c.in_ok-write_point_line.ensures.ok c.flush.ensures.written in
     let name = flushed.0 in
     left_after flushed.1 (search rules)

@@ -9,8 +9,8 @@ use Rattle.polcert_points_answer.proofs.Denoted.{fit_points_of}
 use Rattle.polcert_points_answer.proofs.Passing.{nothing_written, read_in_check, stops_again, stops_after, write_in_check}
 use Rattle.polcert_points_answer.proofs.runs.run_point_check.Goals as goal
 
-pub write_answer-requires : goal.write_answer-requires
-write_answer-requires g c =
+pub write_point_answer-requires : goal.write_point_answer-requires
+write_point_answer-requires g c =
     let d = c.in_ok-read.ensures.accepted in
     let m = meaning c.in_ok-read.read.bound.model in
     record {
@@ -29,7 +29,7 @@ returns g c =
     let v = c.in_ok-read.read.bound.vectors in
     let p = c.in_ok-read.read.points in
     let d = c.in_ok-read.ensures.accepted in
-    let wrote = c.write_answer.ensures in
+    let wrote = c.write_point_answer.ensures in
     record {
       answered = wrote_mapped _ _ (has_verdict _ _ _ m v p d) _ wrote.answered;
       promise = λ yes. let (line, is, took) = text_of_answer _ _ Yes wrote.answered yes in has_promise _ _ _ m v p d line is;

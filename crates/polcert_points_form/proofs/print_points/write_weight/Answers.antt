@@ -46,5 +46,5 @@ returns g c =
     let fits : FitsSigned w64 (pos c.args.weight) = record { sfits = omega (arith, ints, small) } in
     let is : to_z w64 c.args.weight ≡ pos (point_weight p c.args.i c.args.s) = to_z_pos w64 c.args.weight fits.sfits
     ∙ ap pos c.requires.weight in
-    let following : c.separator.result.now ≡ after_item p.states c.args.s = search rules in
+    let following : c.item_separator.result.now ≡ after_item p.states c.args.s = search rules in
     and_then (rw is at c.in_ok-write_scaled.ensures.written) (rw following at c.write_all.ensures)

@@ -18,12 +18,12 @@ pub loop-token-preserved : goal.loop-token-preserved
 loop-token-preserved g c =
     let was = c.loop-token.invariant.seen in
     let counts = c.in_default.ensures.counts in
-    let after = c.in_default-read_ahead.ensures.counts in
+    let after = c.in_default-read_successors_ahead.ensures.counts in
     let new = c.next_token.follows.lender-at-none in
     let gives = rw (c.in-Ok-Some.is ∙ ap Ok c.in-Ok-Some.field-0-is) at c.next_token.follows.holds-at-none.answers in
     let taken = token_taken _ _ _ _ was.0 c.loop-token.tokens c.loop-token.source (lexeme_of c.in-Ok-Some.token) new c.next_token.new.source
     was.1 gives.0 gives.2 in
-    let ahead = c.in_default-read_ahead.ensures.read in
+    let ahead = c.in_default-read_successors_ahead.ensures.read in
     record {
       seen = (
         (was.0 ++ lexeme_of c.in-Ok-Some.token ∷ []) ++ ahead.ts,
@@ -38,10 +38,10 @@ pub loop-token-smaller : goal.loop-token-smaller
 loop-token-smaller g c =
     let gives = rw (c.in-Ok-Some.is ∙ ap Ok c.in-Ok-Some.field-0-is) at c.next_token.follows.holds-at-none.answers in
     less_left _ _ _ c.loop-token.invariant.seen.0 _ _ _ c.next_token.follows.lender-at-none _ c.loop-token.invariant.seen.1 gives.0 gives.2
-    c.in_default-read_ahead.ensures.read
+    c.in_default-read_successors_ahead.ensures.read
 
-pub returns-in-Err-read_ahead : goal.returns-in-Err-read_ahead
-returns-in-Err-read_ahead g c =
+pub returns-in-Err-read_successors_ahead : goal.returns-in-Err-read_successors_ahead
+returns-in-Err-read_successors_ahead g c =
     let gives = rw (c.in-Ok-Some.is ∙ ap Ok c.in-Ok-Some.field-0-is) at c.next_token.follows.holds-at-none.answers in
     record {
       read = refused_at_token c.loop-token.invariant.seen.0 c.loop-token.invariant.seen.1 _ faults.Memory _

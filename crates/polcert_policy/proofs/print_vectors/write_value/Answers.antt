@@ -14,7 +14,7 @@ pub returns : goal.returns
 returns g c =
     let value : to_z w64 (of_z w64 c.at.result) ≡ value_of c.args.vectors.now c.args.node c.args.state =
     to_z-of_z w64 c.at.result (in_range_fits c.at.result c.at.ensures.in_range) ∙ c.at.ensures.value in
-    let following : c.separator.result.now ≡ after_value c.args.vectors.now.states c.args.state = search rules in
+    let following : c.value_separator.result.now ≡ after_value c.args.vectors.now.states c.args.state = search rules in
     wrote_next (scaled_text (value_of c.args.vectors.now c.args.node c.args.state)) (after_value c.args.vectors.now.states c.args.state) _
     (rw value at c.in_ok-write_scaled.ensures.written.ok) c.in_ok-write_scaled.ensures.written.same_count
     (rw following at c.write_all.ensures)

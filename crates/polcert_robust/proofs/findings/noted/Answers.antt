@@ -12,7 +12,8 @@ returns-in-NoSuccessor c = λ i k n s nl sl pair has is. absurd (rw c.in-NoSucce
 
 pub returns-in-Short : goal.returns-in-Short
 returns-in-Short c = λ i k n s nl sl pair has is.
-    short_noted i k n s c.args.findings nl sl is c.in-Short.node c.in-Short.state c.in-Short.amount c.earlier.result c.unsigned_abs.result
-    c.greater.result (rw c.in-Short.is at pair) c.earlier.ensures
+    short_noted i k n s c.args.findings nl sl is c.in-Short.node c.in-Short.state c.in-Short.amount c.keep_first_no.result
+    c.unsigned_abs.result
+    c.greater.result (rw c.in-Short.is at pair) c.keep_first_no.ensures
     (c.unsigned_abs.ensures.value ∙ ap unsigned_abs (to_z-of_z w128 c.in-Short.amount (search rules))) c.greater.ensures.left
     c.greater.ensures.right c.greater.ensures.is_one

@@ -27,13 +27,13 @@ invariant_of-input g c = record {
 
 pub overflow_cast-result : goal.overflow_cast-result
 overflow_cast-result g c = constant_fits c.args.vectors.now c.nodes-vector_count.ensures.proper c.in_ok-by.by
-    (c.if-stays_in_range.ensures.0 refl)
+    (c.if-stays_in_range_lowered.ensures.0 refl)
 
-pub returns-then-stays_in_range-clause-least : goal.returns-then-stays_in_range-clause-least
-returns-then-stays_in_range-clause-least g c =
+pub returns-then-stays_in_range_lowered-clause-least : goal.returns-then-stays_in_range_lowered-clause-least
+returns-then-stays_in_range_lowered-clause-least g c =
     let fits : FitsSigned w64 (pos c.in_ok-by.by) = constant_fits c.args.vectors.now c.nodes-vector_count.ensures.proper c.in_ok-by.by
-    (c.if-stays_in_range.ensures.0 refl) in
-    (c.in_ok-by.by, to_z_pos w64 c.in_ok-by.by fits.sfits, c.in_ok-by.ensures.least, c.if-stays_in_range.ensures.0 refl)
+    (c.if-stays_in_range_lowered.ensures.0 refl) in
+    (c.in_ok-by.by, to_z_pos w64 c.in_ok-by.by fits.sfits, c.in_ok-by.ensures.least, c.if-stays_in_range_lowered.ensures.0 refl)
 
 pub returns-in_err-findings-clause-refused : goal.returns-in_err-findings-clause-refused
 returns-in_err-findings-clause-refused g c =

@@ -15,10 +15,10 @@ returns-in-Some-clause-refused g c = λ vectors.
     lack_noted (near_table c.args.input.now) (near_controller c.args.input.now) c.loop-n.n c.loop-s.s c.loop-s.findings
     (omega (arith, c.loop-n-test.true, c.nodes-n-end.ensures.count)) (omega (arith, c.loop-s-test.true, c.states-s-end.ensures))
     c.loop-s.invariant
-    c.pair_verdict-verdict.result c.in-Some.fault vectors c.pair_verdict-verdict.ensures c.in-Some.ensures.some
+    c.robust_pair_verdict-verdict.result c.in-Some.fault vectors c.robust_pair_verdict-verdict.ensures c.in-Some.ensures.some
 
 pub loop-s-preserved : goal.loop-s-preserved
 loop-s-preserved g c =
     c.noted-findings.ensures (near_table c.args.input.now) (near_controller c.args.input.now) c.loop-n.n c.loop-s.s
     (omega (arith, c.loop-n-test.true, c.nodes-n-end.ensures.count)) (omega (arith, c.loop-s-test.true, c.states-s-end.ensures))
-    c.pair_verdict-verdict.ensures c.in_default.ensures.none c.loop-s.invariant
+    c.robust_pair_verdict-verdict.ensures c.in_default.ensures.none c.loop-s.invariant

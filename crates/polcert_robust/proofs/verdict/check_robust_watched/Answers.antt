@@ -16,11 +16,11 @@ returns g c =
     let t : CellTable = g.C.Cells.table c.args.cells.now in
     let some = scales t (g.met.C.Cells.is_within_limits c.args.cells.now) in
     record {
-      verdict = c.first_failure.ensures;
+      verdict = c.first_robust_failure.ensures;
       exact = exact t c.args.graph.now c.args.vectors.now c.args.distance.t_by c.args.distance.o_by c.args.distance.r_by some.0 some.1
-          (g.met.C.Cells.is_proper c.args.cells.now) c.nodes-nodes.ensures.proper c.requires.fits c.first_failure.result
-          c.first_failure.ensures;
+          (g.met.C.Cells.is_proper c.args.cells.now) c.nodes-nodes.ensures.proper c.requires.fits c.first_robust_failure.result
+          c.first_robust_failure.ensures;
       horizon = horizon t c.args.graph.now c.args.vectors.now c.args.distance.t_by c.args.distance.o_by c.args.distance.r_by some.0 some.1
-          (g.met.C.Cells.is_proper c.args.cells.now) c.nodes-nodes.ensures.proper c.requires.fits c.first_failure.result
-          c.first_failure.ensures;
+          (g.met.C.Cells.is_proper c.args.cells.now) c.nodes-nodes.ensures.proper c.requires.fits c.first_robust_failure.result
+          c.first_robust_failure.ensures;
     }

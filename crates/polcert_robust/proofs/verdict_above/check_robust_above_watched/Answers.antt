@@ -22,13 +22,14 @@ returns g c =
     let t : CellTable = g.C.Cells.table c.args.cells.now in
     let some = scales t (g.met.C.Cells.is_within_limits c.args.cells.now) in
     let is : IsRobustAboveVerdict (around t c.args.distance.t_by c.args.distance.o_by c.args.distance.r_by)
-    (controller_of t c.args.graph.now c.args.vectors.now) c.above_of.result =
+    (controller_of t c.args.graph.now c.args.vectors.now) c.above_from_below.result =
     subst (IsRobustVerdict (negated (around t c.args.distance.t_by c.args.distance.o_by c.args.distance.r_by))
-    (negated_values (controller_of t c.args.graph.now c.args.vectors.now))) (sym c.above_of.ensures) c.first_failure.ensures in
+    (negated_values (controller_of t c.args.graph.now c.args.vectors.now))) (sym c.above_from_below.ensures) c.first_robust_failure.ensures
+    in
     record {
       verdict = is;
       exact = exact_above t c.args.graph.now c.args.vectors.now c.args.distance.t_by c.args.distance.o_by c.args.distance.r_by some.0 some.1
-          (g.met.C.Cells.is_proper c.args.cells.now) c.nodes-nodes.ensures.proper c.requires.fits c.above_of.result is;
+          (g.met.C.Cells.is_proper c.args.cells.now) c.nodes-nodes.ensures.proper c.requires.fits c.above_from_below.result is;
       horizon = horizon_above t c.args.graph.now c.args.vectors.now c.args.distance.t_by c.args.distance.o_by c.args.distance.r_by some.0
-          some.1 (g.met.C.Cells.is_proper c.args.cells.now) c.nodes-nodes.ensures.proper c.requires.fits c.above_of.result is;
+          some.1 (g.met.C.Cells.is_proper c.args.cells.now) c.nodes-nodes.ensures.proper c.requires.fits c.above_from_below.result is;
     }

@@ -6,8 +6,8 @@ use Rattle.polcert_rules.proofs.named_noting.note_observations.Goals as goal
 pub first_at-requires-2-clause-from : goal.first_at-requires-2-clause-from
 first_at-requires-2-clause-from c r among = ((c.rules_from.ensures.kept r).0 among).1
 
-pub note_each-requires : goal.note_each-requires
-note_each-requires c = record { from = λ r among. ((c.rules_between.ensures.kept r).0 among).1 }
+pub note_named_rules-requires : goal.note_named_rules-requires
+note_named_rules-requires c = record { from = λ r among. ((c.rules_between.ensures.kept r).0 among).1 }
 
 pub returns : goal.returns
 returns c = λ t z l.
@@ -16,11 +16,11 @@ returns c = λ t z l.
     let before = noted_at c.args.list.now z in
     let first = noted_at c.note_all.new.self z in
     let second = noted_at c.note_all-2.new.self z in
-    let after = noted_at c.note_each.new.list z in
+    let after = noted_at c.note_named_rules.new.list z in
     let same : 0 + z ≡ z = omega arith in
     let last = noted_last rules c.rules_from.result.now c.rules_between.result.now low 0 (key_base - 2) z (low + 2) c.first_at-2.result
     first second after
     (omega (arith, l)) (omega arith) c.rules_from.ensures.kept c.first_at-2.ensures (c.note_all-2.ensures z) c.rules_between.ensures.kept
-    (c.note_each.ensures t z) in
+    (c.note_named_rules.ensures t z) in
     noted_end rules low z c.first_at.result before first after c.first_at.ensures (c.note_all.ensures z)
     (subst (λ y. IsNoted rules (IsLastPlace low y) first after) same last)

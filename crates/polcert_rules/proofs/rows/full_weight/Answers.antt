@@ -5,7 +5,7 @@ use Rattle.polcert_rules.proofs.rows.full_weight.Goals as goal
 pub returns-in-Some : goal.returns-in-Some
 returns-in-Some c =
     let here : c.in-Some.number.now ≡ slice_index c.args.numbers.now c.args.column = c.in-Some.ensures.lookup.3.1 0 in
-    c.weight_of.ensures ∙ ap (λ k. k * c.args.columns) here
+    c.column_weight.ensures ∙ ap (λ k. k * c.args.columns) here
 
 pub returns-in-None : goal.returns-in-None
 returns-in-None c =

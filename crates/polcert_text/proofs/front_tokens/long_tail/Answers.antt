@@ -8,9 +8,9 @@ returns c =
     let bs = c.args.bytes.now in
     let from = c.args.from in
     let zeros = c.zeros_end-zeros.result in
-    let end = c.digits_end-end.result in
+    let end = c.digits_end_until-end.result in
     let was = c.zeros_end-zeros.ensures in
-    let read = c.digits_end-end.ensures in
+    let read = c.digits_end_until-end.ensures in
     record {
       low = omega (arith, was.within.0, read.within.0);
       high = omega (arith, read.within.1);

@@ -25,8 +25,8 @@ later-after-requires-clause-ends g c =
     (subst (λ (n : ℕ). IsRow n (slice_index c.fill_arrivals.new.arrivals) (take c.list_cells-count.result c.list_cells-count.new.cells))
     size c.list_cells-count.ensures.row)
 
-pub value_at_scale-worth-requires-clause-mass : goal.value_at_scale-worth-requires-clause-mass
-value_at_scale-worth-requires-clause-mass g c =
+pub point_value_at_scale-worth-requires-clause-mass : goal.point_value_at_scale-worth-requires-clause-mass
+point_value_at_scale-worth-requires-clause-mass g c =
     let t : CellTable = g.C.Cells.table c.args.self.now.cells.now in
     let p : PointTable = g.P.BeliefPoints.table c.args.self.now.points.now in
     let proper : IsProperPointTable p = g.met.P.BeliefPoints.is_proper c.args.self.now.points.now in
@@ -63,11 +63,11 @@ returns g c =
     (subst (λ (y : ℤ). IsRoundedUp y c.excess.result)
     (excess_is t (charge_at p c.args.self.now.charges.now) p.points covers c.args.i c.args.a
     (to_z w128 (of_z w128 c.point_reward-reward.result)) (to_z w128 (of_z w128 c.later-after.result))
-    (to_z w128 (of_z w128 c.value_at_scale-worth.result)) c.discount.result
+    (to_z w128 (of_z w128 c.point_value_at_scale-worth.result)) c.discount.result
     (to_z-of_z w128 c.point_reward-reward.result (search rules) ∙ c.point_reward-reward.ensures.value)
     (to_z-of_z w128 c.later-after.result (search rules)
     ∙ c.later-after.ensures (covers c.args.i c.args.a) (λ z zl. are c.args.i c.args.a z c.requires.point c.requires.action zl))
     c.discount.ensures
-    (to_z-of_z w128 c.value_at_scale-worth.result (search rules)
-    ∙ rw (to_z-of_z w64 c.value.result (search rules), c.value.ensures, weighs) at c.value_at_scale-worth.ensures.value))
+    (to_z-of_z w128 c.point_value_at_scale-worth.result (search rules)
+    ∙ rw (to_z-of_z w64 c.value.result (search rules), c.value.ensures, weighs) at c.point_value_at_scale-worth.ensures.value))
     c.excess.ensures)

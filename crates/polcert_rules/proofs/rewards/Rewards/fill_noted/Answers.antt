@@ -7,7 +7,7 @@ use Rattle.polcert_rules.proofs.Common.{RewardRules, AreWithin, IsLastBody, Rewa
 use Rattle.polcert_rules.specs.Keys.{FitsKey}
 use Rattle.polcert_rules.proofs.Indexes.NotedLaws.{noted_first}
 use Rattle.polcert_rules.proofs.rewards.Rewards.fill_noted.Goals as goal
-use Rattle.polcert_rules.proofs.rewards.Rewards.fill_noted.Goals.{then-is_same, else-is_same}
+use Rattle.polcert_rules.proofs.rewards.Rewards.fill_noted.Goals.{then-is_same_rule, else-is_same_rule}
 
 pub loop-i-preserved : goal.loop-i-preserved
 loop-i-preserved c = λ p entries are.
@@ -31,18 +31,19 @@ loop-i-preserved c = λ p entries are.
     let newest : IsHere (get_or c.note.new.noted i None) =
     subst (λ (xs : List Rule). IsNewest xs (FitsKey most_places (table_key Reward) (cell z)) (get_or c.note.new.noted i None))
     (ap (λ (rewards : RewardRules). rewards.rules) c.self.view_is) first in
-    let is : to_z w64 c.if-is_same.reward-bits ≡ reward p entries (cell z) = elim c.if-is_same.branch [
-      | then-is_same w ↦
+    let is : to_z w64 c.if-is_same_rule.reward-bits ≡ reward p entries (cell z) = elim c.if-is_same_rule.branch [
+      | then-is_same_rule w ↦
           let fits : FitsSigned w64 w.single_or_given-reward.result = search rules in
           w.reward-is ∙ to_z-of_z w64 w.single_or_given-reward.result fits
           ∙ w.single_or_given-reward.ensures p entries are within
-          (c.body_of-shared_body.ensures (cell z) p entries small are (subst IsHere (c.is_same.ensures.0 w.if-is_same.true) newest))
-      | else-is_same w ↦
+          (c.body_of-shared_body.ensures (cell z) p entries small are
+          (subst IsHere (c.is_same_rule.ensures.0 w.if-is_same_rule.true) newest))
+      | else-is_same_rule w ↦
           let fits : FitsSigned w64 w.reward_of_body-reward.result = search rules in
           w.reward-is ∙ to_z-of_z w64 w.reward_of_body-reward.result fits
           ∙ w.reward_of_body-reward.ensures p entries are within (w.body_of.ensures (cell z) p entries small are newest)
     ] in
-    below_more (λ y. get_or (set c.loop-i.rewards i (to_z w64 c.if-is_same.reward-bits)) y (pos 0)
+    below_more (λ y. get_or (set c.loop-i.rewards i (to_z w64 c.if-is_same_rule.reward-bits)) y (pos 0)
     ≡ reward p entries (cell (c.args.first + y))) i
     (λ y l. let ne : y ≢ i = omega arith in rw get_or-set_other (c.loop-i.invariant p entries are y l))
     (rw get_or-set_same is)

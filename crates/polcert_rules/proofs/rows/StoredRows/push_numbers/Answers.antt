@@ -1,5 +1,5 @@
 use Rattle.std.proofs.Common.{◌≡◌, ◌∙◌, ◌++◌, ◌∷◌, [], length, map, refl, ap, rules}
-use Rattle.polcert_rules.proofs.Common.{scaled_cells, Full, RowPart, row_in}
+use Rattle.polcert_rules.proofs.Common.{scaled_cells, Full, RowLocation, row_in}
 use Rattle.polcert_rules.proofs.Indexes.ListLaws.{push_full}
 use Rattle.polcert_rules.proofs.rows.StoredRows.push_numbers.Goals as goal
 
@@ -8,7 +8,7 @@ returns c =
     let xs = c.self.inside.cells.items in
     let ns = c.self.inside.numbers.items in
     let more = c.args.more.now in
-    let p : RowPart = record { start = c.len-start.result; count = length more; form = Full } in
+    let p : RowLocation = record { start = c.len-start.result; count = length more; form = Full } in
     let start : c.len-start.result ≡ length ns = search rules in
     ap (λ zs. map (row_in xs zs) c.push.new.self.items) c.in_ok-extend_from_slice.ensures.items
     ∙ ap (map (row_in xs (ns ++ more))) c.in_ok-push.ensures.items

@@ -1,5 +1,0 @@
-use Rattle.std.proofs.Common.{rules}
-use Rattle.polcert_bound_answer.proofs.lines.write_line.Goals as goal
-
-pub returns-in-Exceeded : goal.returns-in-Exceeded
-returns-in-Exceeded g c = search rules

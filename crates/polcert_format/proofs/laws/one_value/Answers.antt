@@ -1,5 +1,0 @@
-use Rattle.polcert_cells.proofs.CellLaws as laws
-use Rattle.polcert_format.proofs.laws.one_value.Goals as goal
-
-pub returns : goal.returns
-returns c = λ entries table indices. (laws.last_is entries table indices, laws.last_is_one entries table indices)

@@ -1,6 +1,0 @@
-use Rattle.std.proofs.Common.{◌≡◌, true, ◌==◌}
-use Rattle.polcert_full_form.proofs.Common.{meaning, share_of, all_below}
-use Rattle.polcert_full_form.proofs.print_model.is_whole.Given as goal
-
-abbrev pub invariant-loop-state : goal.invariant-loop-state
-invariant-loop-state l = true ≡ all_below l.state (λ s. share_of (meaning l.model).start s == 1)

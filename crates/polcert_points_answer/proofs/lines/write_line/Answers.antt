@@ -1,5 +1,0 @@
-use Rattle.std.proofs.Common.{rules}
-use Rattle.polcert_points_answer.proofs.lines.write_line.Goals as goal
-
-pub returns-in-PointExceeded : goal.returns-in-PointExceeded
-returns-in-PointExceeded g c = search rules

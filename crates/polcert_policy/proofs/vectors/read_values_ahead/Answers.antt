@@ -1,0 +1,6 @@
+use Rattle.std.proofs.Common.{arith}
+use Rattle.polcert_text.proofs.Taken.TakenAhead.{ahead_passed}
+use Rattle.polcert_policy.proofs.vectors.read_values_ahead.Goals as goal
+
+pub returns-in-Ok-clause-read : goal.returns-in-Ok-clause-read
+returns-in-Ok-clause-read c = grind (arith, ahead_passed)

@@ -1,0 +1,36 @@
+use Rattle.std.proofs.Common.{◌∙◌, ◌*◌, ◌^◌, ℕ, ◌+◌, ◌<◌, ◌≡◌, ◌≤◌, List, All, inr, subst, ap, arith}
+use Rattle.polcert_rules.proofs.Common.{Rule, Table, IsNewest, IsSingleCellKey, IsCell, at_column, zero_of, key_base, table_key, others_in}
+use Rattle.polcert_rules.specs.Keys.{table_digit}
+use Rattle.polcert_rules.proofs.RowLaws.FoundRows.{row_is}
+use Rattle.polcert_rules.proofs.row.EntryRow.of.Goals as goal
+
+few : (table : Table) (d : ℕ) → d ≡ table_digit table → d ≤ 2
+few table d is = grind arith
+
+pub returns : goal.returns
+returns c entries rules columns index parted covering =
+    let a = c.args.action in
+    let s = c.args.state in
+    let found = c.in_ok-cells.cells.rules.items in
+    let zeros = c.row_zeros-zeros.result in
+    let table = table_key c.args.table in
+    let low = ap (λ x. c.table_digit.result * x) c.span.ensures ∙ ap (λ d. d * key_base ^ 4) c.table_digit.ensures in
+    let newest = subst (λ l. (n : ℕ) → n + 2 < key_base
+    → IsNewest (others_in c.args.split.now.others) (IsSingleCellKey l a s n) (at_column found n)) low c.in_ok-cells.ensures.newest in
+    let each = subst (λ l. All (IsCell (others_in c.args.split.now.others) l a s) found) low c.in_ok-cells.ensures.each in
+    let newest_zeros = subst (λ l. (n : ℕ) → n + 2 < key_base → IsNewest c.as_slice.result.now (IsSingleCellKey l a s n) (zero_of zeros n))
+    low
+    c.row_zeros-zeros.ensures.newest in
+    let of_zeros = subst (λ (rules : List Rule). (n : ℕ) → n + 2 < key_base
+    → IsNewest rules (IsSingleCellKey table a s n) (zero_of zeros n))
+    c.as_slice.ensures.value newest_zeros in
+    row_is entries rules c.args.table a s c.args.split.now columns index parted c.requires.action c.requires.state _ covering
+    c.in_ok-cells.ensures.rising newest each c.row_zeros-zeros.ensures.ordered of_zeros
+
+pub cells-requires-clause-exact : goal.cells-requires-clause-exact
+cells-requires-clause-exact c t r among = let split = c.requires.split.2 in split.exact t r ((split.each r).0 (inr among))
+
+pub cells-requires-clause-low : goal.cells-requires-clause-low
+cells-requires-clause-low c =
+    let low = ap (λ x. c.table_digit.result * x) c.span.ensures in
+    (c.table_digit.result, few c.args.table c.table_digit.result c.table_digit.ensures, low)
