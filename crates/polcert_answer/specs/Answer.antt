@@ -54,7 +54,7 @@ pub record AreRoundedVectorsRefused (rounding : Rounding) (model graph : List �
   pub no_vectors : (m : Meaning) (p : PolicyGraph) → HasGraph model graph m p → IsNoRoundedVectorsText rounding p (states_of m) text fault
   pub refusal : (m : Meaning) (p : PolicyGraph) → HasGraph model graph m p → IsRoundedVectorsRefusal rounding p (states_of m) text fault
 
--- what a refusal says of the three texts, of which none has points; out of memory says nothing of the text that was being read
+-- what a refusal says of the three texts, of which none has points; out of memory says nothing about the text that was being read
 abbrev pub IsModelFault : List ℕ → ModelFault → Type 0
 IsModelFault model models.Memory = Unit {0}
 IsModelFault model fault = IsModelRefused fault model

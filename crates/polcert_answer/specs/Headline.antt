@@ -41,7 +41,7 @@ pub record IsCertified (model graph vectors : List ℕ) : Type 0 where
   pub certificate : Certificate model graph vectors
   pub promise : (c : Certificate model graph vectors) (k n s : ℕ) → n < nodes c.policy → s < states_of c.meaning → Promise (controller c) k n s
 
--- The same of the rewards alone, without the vectors at the end: the weights of the runs are all there; and where no vector
+-- The headline for the rewards alone, without the vectors at the end: the weights of the runs are all there; and where no vector
 -- value is above m, the expected discounted reward of k steps is at least the vector's value less discount ^ k times m.
 abbrev pub AreRewardsCertified : List ℕ → List ℕ → List ℕ → Type 0
 AreRewardsCertified model graph vectors = (c : Certificate model graph vectors) (k n s : ℕ) → n < nodes c.policy → s < states_of c.meaning → RewardPromise (controller c) k n s

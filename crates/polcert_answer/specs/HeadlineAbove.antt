@@ -19,7 +19,7 @@ pub record IsCertifiedAbove (model graph vectors : List ℕ) : Type 0 where
   pub certificate : CertificateAbove model graph vectors
   pub promise : (c : CertificateAbove model graph vectors) (k n s : ℕ) → n < nodes c.policy → s < states_of c.meaning → PromiseAbove (controller c) k n s
 
--- The same of the rewards alone, without the vectors at the end: the weights of the runs are all there; and where no vector value
+-- The sentence above for the rewards alone, without the vectors at the end: the weights of the runs are all there; and where no vector value
 -- is below m, the expected discounted reward of k steps is at most the vector's value less discount ^ k times m.
 abbrev pub AreRewardsCertifiedAbove : List ℕ → List ℕ → List ℕ → Type 0
 AreRewardsCertifiedAbove model graph vectors = (c : CertificateAbove model graph vectors) (k n s : ℕ) → n < nodes c.policy → s < states_of c.meaning → RewardPromiseAbove (controller c) k n s

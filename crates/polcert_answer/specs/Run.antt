@@ -99,7 +99,7 @@ IsModelRunFault ReadModel = Unit {0}
 IsModelRunFault Write = Unit {0}
 IsModelRunFault _ = ⊥
 
--- what a run that prints may answer: the same, and that the model is too large
+-- what a run that prints may answer: what a run over one model's source may, and that the model is too large
 abbrev pub IsPrintRunFault : RunFault → Type 0
 IsPrintRunFault (Text (Model fault)) = Unit {0}
 IsPrintRunFault ReadModel = Unit {0}
@@ -183,7 +183,7 @@ IsCheckRunFault (Raise fault) = ⊥
 IsCheckRunFault TooLargeToPrint = ⊥
 IsCheckRunFault _ = Unit {0}
 
--- what a lowering may answer: the same, and that the vectors can't be lowered
+-- what a lowering may answer: what a check may, and that the vectors can't be lowered
 abbrev pub IsLowerRunFault : RunFault → Type 0
 IsLowerRunFault (Text (Points fault)) = ⊥
 IsLowerRunFault ReadPoints = ⊥

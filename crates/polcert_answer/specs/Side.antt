@@ -33,7 +33,7 @@ abbrev pub IsWhy : Controller → PolicyVectors → LowerFault → Type 0
 IsWhy c v lowering.Memory = HasLeastConstant c v
 IsWhy c v fault = IsNotLowered c v fault
 
--- why the vectors aren't raised: the same
+-- why the vectors aren't raised: a reason of the definition, or out of memory where there is a constant
 abbrev pub IsWhyNotRaised : Controller → PolicyVectors → RaiseFault → Type 0
 IsWhyNotRaised c v raising.Memory = HasLeastRaise c v
 IsWhyNotRaised c v fault = IsNotRaised c v fault

@@ -1,4 +1,4 @@
-//! The lines that the program writes where all goes well.
+//! The lines that the program writes on success.
 ghost use Rattle.std.specs.Prelude.{◌≡◌};
 ghost use Rattle.polcert_text.specs.Sink.{WritesText};
 ghost use Rattle.polcert_model.specs.Contents.{meaning};

@@ -54,7 +54,7 @@ pub fn run_model<S: Source, W: Sink>(
     ensures summed_up { OnOk result (SumsUp S.reads W.writes source.old source.new sink.old sink.new) }
 
     // No text that fits what was read is a model's, and the fault is a right refusal of each of them. (Want
-    // of memory says nothing of the text.)
+    // of memory says nothing about the text.)
     ensures refused { (fault : _) → IsErrOf result (RunFault.Text (Fault.Model fault))
         → SaysOfText fault
         → EachTextThatFits S.reads source.old source.new (IsModelRefused fault) }
@@ -188,7 +188,7 @@ pub fn run_check<M: Source, G: Source, V: Source, W: Sink>(
     check_run::<Lower, M, G, V, W, NoProgress>(alloc, model, graph, vectors, sink, &mut NoProgress)
 }
 
-/// Does the same, and notifies `progress` of each node when all of its pairs have passed.
+/// Does the same as `run_check`, and notifies `progress` of each node when all of its pairs have passed.
 /// What it promises is every clause of `run_check`.
 // (Six parameters: each device has a type of its own, and callers hold them apart.)
 pub fn run_check_watched<M: Source, G: Source, V: Source, W: Sink, O: Progress>(
@@ -251,7 +251,7 @@ pub fn run_lower<M: Source, G: Source, V: Source, W: Sink>(
     move_run::<Lower, M, G, V, W, NoProgress>(alloc, model, graph, vectors, sink, &mut NoProgress)
 }
 
-/// Does the same, and notifies `progress` of each node once. Its contract has every clause of
+/// Does the same as `run_lower`, and notifies `progress` of each node once. Its contract has every clause of
 /// `run_lower`.
 // (Six parameters: each device has a type of its own, and callers hold them apart.)
 pub fn run_lower_watched<M: Source, G: Source, V: Source, W: Sink, O: Progress>(
@@ -326,7 +326,7 @@ pub fn run_check_above<M: Source, G: Source, V: Source, W: Sink>(
     check_run::<Upper, M, G, V, W, NoProgress>(alloc, model, graph, vectors, sink, &mut NoProgress)
 }
 
-/// Does the same, and notifies `progress` of each node when all of its pairs have passed.
+/// Does the same as `run_check_above`, and notifies `progress` of each node when all of its pairs have passed.
 /// What it promises is every clause of `run_check_above`.
 // (Six parameters: each device has a type of its own, and callers hold them apart.)
 pub fn run_check_above_watched<M: Source, G: Source, V: Source, W: Sink, O: Progress>(
@@ -390,7 +390,7 @@ pub fn run_raise<M: Source, G: Source, V: Source, W: Sink>(
     move_run::<Upper, M, G, V, W, NoProgress>(alloc, model, graph, vectors, sink, &mut NoProgress)
 }
 
-/// Does the same, and notifies `progress` of each node once. Its contract has every clause of
+/// Does the same as `run_raise`, and notifies `progress` of each node once. Its contract has every clause of
 /// `run_raise`.
 // (Six parameters: each device has a type of its own, and callers hold them apart.)
 pub fn run_raise_watched<M: Source, G: Source, V: Source, W: Sink, O: Progress>(

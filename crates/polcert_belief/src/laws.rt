@@ -46,7 +46,7 @@ pub fn beliefs_are_weights_of_histories()
         AreWeightsOfHistories t policy belief }
 {}
 
-/// The same within a tolerance, for planners that round.
+/// A planner that picks within a tolerance, as one that rounds, earns what is picked less a bound.
 pub fn picks_within_a_tolerance()
     ensures earned { (t : CellTable) (graph : PolicyGraph) (vectors : PolicyVectors) → IsProper t →
         IsProperGraph graph → Fits t graph vectors → Passes (controller_of t graph vectors) →
@@ -158,7 +158,7 @@ pub fn the_long_run()
         EarnsFromStartWithin 0 1 m (controller_of (table_of m) graph vectors) policy selector k worth) →
         EncloseOptimum m worth most → (e : EncloseOptimum m worth most) × (e.policy ≡ policy) }
 
-    // The same among the policies that see the start state.
+    // They enclose the optimum among the policies that see the start state, too.
     ensures seen { (m : Meaning) (graph : PolicyGraph) (vectors : PolicyVectors) →
         m.preamble.discount < one → (policy : ObservationPolicy) (selector : Selector) (worth most : ℤ) →
         ((k : ℕ) →

@@ -29,7 +29,7 @@ pub record IsCertifiedByBelief (model graph vectors : List ℕ) : Type 0 where
   pub line : (line : List ℕ) (promise : HasStartPromise line model graph vectors) (c : Certificate model graph vectors) (selector : Selector) → PicksBest (controller c) (start_weight c.meaning) selector
       → (k : ℕ) → EarnsFromStart c.meaning (controller c) (policy_of (controller c) selector) selector k promise.worth
 
--- The same within a tolerance of `by` / `d` millionths for each pick, and of policies that look one step ahead.
+-- What is certified by belief, within a tolerance of `by` / `d` millionths for each pick, and of policies that look one step ahead.
 pub record IsCertifiedByBeliefWithin (by d : ℕ) (model graph vectors : List ℕ) : Type 0 where
   pub steps : (c : Certificate model graph vectors) (selector : Selector) → PicksWithin by d (controller c) (start_weight c.meaning) selector
       → (n : ℕ) (worth : ℤ) → IsBestStart c.meaning c.values n → IsStartWorth c.meaning c.values n worth

@@ -20,7 +20,7 @@ use Rattle.polcert_bound_answer.specs.Headline.{BoundCertificate, IsCertifiedBou
 use Rattle.polcert_bound_answer.specs.Answer.{IsBoundAnswer}
 use Rattle.polcert_bound_answer.specs.Run.{AreBoundTexts, IsBoundCheckFault}
 
--- what a raise may answer: the same, and that the vectors can't be raised
+-- what a raise may answer: what a check may, and that the vectors can't be raised
 abbrev pub IsBoundRaiseFault : RunFault → Type 0
 IsBoundRaiseFault (Raise fault) = Unit {0}
 IsBoundRaiseFault fault = IsBoundCheckFault fault

@@ -59,7 +59,7 @@ module _ {Z : Type 0} where
       → IsDistinct string_eq keys → empty ≡ [] → made ≡ insert_all string_eq empty keys → map string_bytes made ≡ old
   moved keys empty made old seen differ none all = search (rules, string_bytes, set_all_distinct)
 
-  -- ---- the name that stands at a place stands at none before it
+  -- ---- the name that is at a place is at none before it
 
   other_name : (x : String Z) (xs : List (String Z)) (n : ℕ) (key : String Z) → AllByRecursion (λ y. string_eq x y ≡ false) xs
       → slice_get xs n ≡ Some key → string_eq x key ≡ false

@@ -12,7 +12,7 @@ pub record AreWeights (f : ℕ → ℕ) (count : ℕ) (weights : List ℕ) : Typ
   pub size : length weights ≡ count
   pub each : (c : ℕ) → c < count → slice_index weights c ≡ f c
 
--- the row has these weights, of so many columns
+-- the row has these weights, of this many columns
 abbrev pub IsRowOf : (ℕ → ℕ) → ℕ → Row → Type 0
 IsRowOf f count (Sparse cells) = IsRow count f cells.now
 IsRowOf f count (Filled weights) = AreWeights f count weights.now

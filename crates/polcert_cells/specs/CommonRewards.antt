@@ -8,7 +8,7 @@ use Rattle.polcert_cells.specs.declared.common_reward.CommonReward.{CommonReward
 abbrev pub cell_at : List RewardCell → ℕ → RewardCell
 cell_at cells k = slice_index_or cells k (record { observation = 0; reward = pos 0 })
 
--- Of so many observations, the first cells say the rewards, each of another one; the others have the reward in common.
+-- Of this many observations, the first cells say the rewards, each of another one; the others have the reward in common.
 pub record IsCommonReward (r : ℕ → ℤ) (count : ℕ) (common : CommonReward) (cells : List RewardCell) : Type 0 where
   pub room : common.exceptions ≤ length cells
   pub distinct : (j k : ℕ) → j < k → k < common.exceptions → (cell_at cells j).observation ≡ (cell_at cells k).observation → ⊥

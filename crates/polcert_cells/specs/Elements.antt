@@ -1,4 +1,4 @@
--- States, actions and observations: so many, or names in order.
+-- States, actions and observations: this many, or names in order.
 -- Source: the POMDP file format page at pomdp.org, "states:", "actions:" and "observations:": "either a number or a
 -- list of names"; an element of a list may also be given by its number, from 0 on. Our own: how many elements of a kind there
 -- may be, all names of a list different, and leading zeros of a number.
@@ -47,7 +47,7 @@ most_elements = most_states
 abbrev pub most_pairs : ℕ
 most_pairs = 5_000_000
 
--- The lexemes after `states:`, `actions:` or `observations:` are a count, or different names: at most so many.
+-- The lexemes after `states:`, `actions:` or `observations:` are a count, or different names: at most this many.
 pub data AreElements (most : ℕ) : List Lexeme → Elements → Type 0 where
   counted : {l : Lexeme} {n : ℕ} → IsWhole l n → 1 ≤ n → n ≤ most → AreElements most (l ∷ []) (Count n)
   named : {ls : List Lexeme} → All IsName ls → 1 ≤ length ls → length ls ≤ most

@@ -51,7 +51,7 @@ pub data ArePlaces : List Elements → List Lexeme → List Place → Type 0 whe
   more : {d : Elements} {ds : List Elements} {colon l : Lexeme} {ls : List Lexeme} {p : Place} {ps : List Place}
       → colon.kind ≡ Colon → IsPlace d l p → ArePlaces ds ls ps → ArePlaces (d ∷ ds) (colon ∷ l ∷ ls) (p ∷ ps)
 
--- the lexemes are this body, for so many cells
+-- the lexemes are this body, for this many cells
 pub data IsBody (cells : ℕ) : List Lexeme → Body → Type 0 where
   probabilities : {ls : List Lexeme} {ps : List ℕ} → AreNumbers ls (map pos ps) → length ps ≡ cells → All (λ p. p ≤ one) ps → IsBody cells ls (Probabilities ps)
   rewards : {ls : List Lexeme} {hs : List ℤ} → AreNumbers ls hs → length hs ≡ cells → IsBody cells ls (Rewards hs)

@@ -67,7 +67,7 @@ meaning_of p start entries = record {
   r = (λ a s e z. reward p entries (a ∷ s ∷ e ∷ (if is_mdp p then 0 else z) ∷ []));
 }
 
--- the same, as far as indices are in range
+-- two meanings are equal, as far as indices are in range
 pub record IsSame (m n : Meaning) : Type 0 where
   pub preamble : m.preamble ≡ n.preamble
   pub start : m.start ≡ n.start

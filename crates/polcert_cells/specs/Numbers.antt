@@ -20,7 +20,7 @@ pub record IsNumeral (IsValue : Bool → List ℕ → ℤ → Type 0) (negative 
   pub readable : IsReadable l.bytes
   pub value : IsValue negative l.bytes h
 
--- it is just so many millionths
+-- it is just this many millionths
 abbrev pub IsMillionths : Bool → Lexeme → ℤ → Type 0
 IsMillionths negative l h = IsNumeral IsExact negative l h
 

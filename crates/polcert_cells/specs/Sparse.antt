@@ -11,13 +11,13 @@ weight_at (x ∷ xs) column = if x.column == column then x.weight else weight_at
 abbrev pub AreRising : List Cell → Type 0
 AreRising cells = AllPairs (λ x y. x.column < y.column) cells
 
--- Each column once, in order, and below so many; and each weight is above 0.
+-- Each column once, in order, and below this many; and each weight is above 0.
 pub record IsSparse (columns : ℕ) (cells : List Cell) : Type 0 where
   pub rising : AreRising cells
   pub within : All (λ x. x.column < columns) cells
   pub some : All (λ x. 0 < x.weight) cells
 
--- The cells are the row with these weights, of so many columns.
+-- The cells are the row with these weights, of this many columns.
 pub record IsRow (columns : ℕ) (weights : ℕ → ℕ) (cells : List Cell) : Type 0 where
   pub sparse : IsSparse columns cells
   pub each : (c : ℕ) → c < columns → weight_at cells c ≡ weights c

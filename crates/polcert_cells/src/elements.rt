@@ -34,7 +34,7 @@ pub enum Kind {
     Observation,
 }
 
-/// The elements of one kind: so many, or names in order. An element's number counts from 0.
+/// The elements of one kind: this many, or names in order. An element's number counts from 0.
 ///
 /// Source: the POMDP file format page at pomdp.org, "states:", "actions:" and "observations:".
 #[derive(Drop)]
@@ -171,7 +171,7 @@ impl Names {
         }
     }
 
-    /// Does the same without a guess.
+    /// Does the same as `number_of` without a guess.
     #[inline(never)]
     fn searched_number(&self, name: &[u8]) -> Option<usize>
         requires { IsAscii name.now }
@@ -355,7 +355,7 @@ impl NameGuesses {
     }
 }
 
-/// Returns the slot of a name among so many, which are a power of two.
+/// Returns the slot of a name among this many, which are a power of two.
 #[inline(always)]
 fn slot_of(name: &[u8], count: usize) -> usize {
     let mut digest: usize = 0;

@@ -316,7 +316,7 @@ pub enum BodyRef<'a> {
     Identity,
 }
 
-/// The places of a borrowed entry: so many of these.
+/// The places of a borrowed entry: this many of these.
 #[derive(Clone, Copy)]
 pub struct EntryPlaces {
     items: [Place; MOST_PLACES],
@@ -553,7 +553,7 @@ impl Model for EntryBodies {
 }
 
 impl EntryBodies {
-    /// Returns the body of the entry of this number, counted from 0, if there are so many.
+    /// Returns the body of the entry of this number, counted from 0, if there are that many.
     #[inline(always)]
     pub fn find(&self, number: usize) -> Option<RewardBody>
         ensures { result ≡ slice_get self.now number }

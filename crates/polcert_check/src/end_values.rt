@@ -322,7 +322,7 @@ pub(crate) fn expected_value<C: Cells, F: Fn(usize) -> PartialValue>(
     value_by_form(node, s, node.input.cells.t_row(node.action(), s), value_of)
 }
 
-/// Returns the same, by the row of T there; if none is borrowed, each weight is asked for.
+/// Returns the same as `expected_value`, by the row of T there; if none is borrowed, each weight is asked for.
 #[inline(always)]
 pub(crate) fn value_by_form<C: Cells, F: Fn(usize) -> PartialValue>(
     node: &Node<'_, C>,

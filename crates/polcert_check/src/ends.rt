@@ -189,7 +189,8 @@ impl EndValues {
         }
     }
 
-    /// Returns the same, by a row of T whose weights are these numbers times the scale: the sum is scaled, not each weight.
+    /// Returns the same as `narrow_value`, by a row of T whose weights are these numbers times the scale: the sum is scaled, not each
+    /// weight.
     #[inline(always)]
     fn value_of_numbers<C: Cells>(
         &self,

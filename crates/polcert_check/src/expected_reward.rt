@@ -67,7 +67,7 @@ pub(crate) fn sum_over_observations<C: Cells, F: Fn(usize) -> i64>(
     sum
 }
 
-/// Returns the same, with the rewards read all together or asked for one by one, whichever is faster.
+/// Returns the same as `sum_over_observations`, with the rewards read all together or asked for one by one, whichever is faster.
 fn sum_rewards<C: Cells>(cells: &C, a: usize, s: usize, e: usize, buffer: &mut RewardBuffer) -> i128
     requires action { a < (C.table cells.now).actions }
     requires start { s < (C.table cells.now).states }
@@ -100,7 +100,7 @@ pub(crate) fn reward_at_end<C: Cells>(
     }
 }
 
-/// Returns the same, if few observations have another reward than the one that most have in common.
+/// Returns the same as `reward_at_end`, if few observations have another reward than the one that most have in common.
 fn sum_few<C: Cells>(
     cells: &C,
     a: usize,
@@ -213,7 +213,7 @@ fn sum_row<C: Cells>(cells: &C, a: usize, s: usize, exceptions: &mut [RewardCell
     Some(sum_excepted(scale, common, few, |k| row_weight(cells, a, s, k)))
 }
 
-/// Returns the same, if few end states have another reward, whatever is observed, than the one that most have in common.
+/// Returns the same as `sum_row`, if few end states have another reward, whatever is observed, than the one that most have in common.
 fn sum_ends<C: Cells>(cells: &C, a: usize, s: usize, exceptions: &mut [RewardCell]) -> Option<i128>
     requires action { a < (C.table cells.now).actions }
     requires start { s < (C.table cells.now).states }
@@ -300,7 +300,7 @@ pub fn expected_reward<C: Cells>(cells: &C, a: usize, s: usize, buffer: &mut Rew
     }
 }
 
-/// Returns the same, where a reward may depend on what is observed.
+/// Returns the same as `expected_reward`, where a reward may depend on what is observed.
 fn sum_by_observation<C: Cells>(cells: &C, a: usize, s: usize, buffer: &mut RewardBuffer) -> i128
     requires action { a < (C.table cells.now).actions }
     requires start { s < (C.table cells.now).states }
@@ -397,7 +397,7 @@ const MOST_EXCEPTIONS: usize = 64;
 /// So many of the reward that all end states of a start state have in common.
 const MOST_IN_ROW: usize = 1_024;
 
-/// So many for each of its end states: adding them up takes about as long as asking for the rewards at one.
+/// This many for each of its end states: adding them up takes about as long as asking for the rewards at one.
 const EXCEPTIONS_PER_END: usize = 8;
 
 /// No reward is larger, in millionths.

@@ -355,7 +355,7 @@ pub(crate) fn first_failure<C: Cells, F: Fn(usize) -> PartialValue>(
 
 /// Is notified of how far a walk over the nodes of a graph is. No answer depends on it.
 pub trait Progress {
-    /// Notifies that a walk over so many nodes begins.
+    /// Notifies that a walk over this many nodes begins.
     fn begin(&mut self, nodes: usize);
 
     /// Notifies that the first `done` of `states` start states of a node are done. It is called for the first

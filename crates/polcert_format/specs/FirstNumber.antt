@@ -22,14 +22,14 @@ use Rattle.polcert_format.specs.Reasons.{IsRefusedNumber, IsNoFraction}
 use Rattle.polcert_format.specs.Text.{ModelSoFar, nothing_known, AreRight}
 use Rattle.polcert_format.specs.Wants.{may_be_state}
 
--- The body is a colon, a number and then these lexemes. The number stands at this place, with its sign if it has one, and
+-- The body is a colon, a number and then these lexemes. The number is at this place, with its sign if it has one, and
 -- this is so of it: of its sign (`true` is minus) and its numeral.
 pub data BeginsWithNumber (body : List Lexeme) (place : ℕ) (Is : Bool → Lexeme → Type 0) (following : List Lexeme) : Type 0 where
   unsigned : (colon l : Lexeme) → body ≡ colon ∷ l ∷ following → colon.kind ≡ Colon → place ≡ l.place → Is false l → BeginsWithNumber body place Is following
   plus : (colon sign l : Lexeme) → body ≡ colon ∷ sign ∷ l ∷ following → colon.kind ≡ Colon → sign.kind ≡ Plus → place ≡ sign.place → Is false l → BeginsWithNumber body place Is following
   minus : (colon sign l : Lexeme) → body ≡ colon ∷ sign ∷ l ∷ following → colon.kind ≡ Colon → sign.kind ≡ Minus → place ≡ sign.place → Is true l → BeginsWithNumber body place Is following
 
--- The body is a colon, digits alone that may be the number of one of so many states, and then these lexemes. The digits
+-- The body is a colon, digits alone that may be the number of one of this many states, and then these lexemes. The digits
 -- stand at this place, and this is so of them.
 pub record BeginsWithDigits (count : ℕ) (body : List Lexeme) (place : ℕ) (Is : Lexeme → Type 0) (following : List Lexeme) : Type 0 where
   pub colon : Lexeme
@@ -40,11 +40,11 @@ pub record BeginsWithDigits (count : ℕ) (body : List Lexeme) (place : ℕ) (Is
   pub place_is : place ≡ digits.place
   pub holds : Is digits
 
--- the number of none of so many states
+-- the number of none of this many states
 abbrev pub IsNoState : ℕ → Lexeme → Type 0
 IsNoState count l = (s : ℕ) → IsWhole l s → s < count → ⊥
 
--- The refusal of the first number that is due after it, among so many states; after the body the item ends, or else the
+-- The refusal of the first number that is due after it, among this many states; after the body the item ends, or else the
 -- tokens do, in a fault.
 pub data IsLate (count : ℕ) (body : List Lexeme) (ends : Bool) (kind : ItemFault) (place : ℕ) : Type 0 where
   -- digits without a value, and something follows them

@@ -21,7 +21,7 @@ pub data Expected : Type 0 where
   Listed : Expected
   -- a count, or the first name
   CountOrName : Expected
-  -- a further name, after these, where there may be so many
+  -- a further name, after these, where there may be this many
   FurtherName : ℕ → List (List ℕ) → Expected
   -- `uniform`, a state's name or the first number, after `start:`
   StartBody : Expected

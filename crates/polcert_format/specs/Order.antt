@@ -43,7 +43,7 @@ ends_preamble _ = false
 abbrev pub has_all_lines : ModelSoFar → Bool
 has_all_lines k = is_some k.discount && is_some k.costs && is_some k.states && is_some k.actions
 
--- how many elements a line says, or so many where it didn't come
+-- how many elements a line says, or this many where it didn't come
 abbrev pub count_or : ℕ → Option Elements → ℕ
 count_or count None = count
 count_or count (Some elements) = count_of elements

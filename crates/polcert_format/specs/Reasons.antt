@@ -22,7 +22,7 @@ use Rattle.polcert_format.specs.Text.{ModelSoFar, nothing_known, AreRight}
 use Rattle.polcert_format.specs.Forms.{PassesCellLimit}
 use Rattle.polcert_format.specs.FirstWrong.{TextTokens, IsDecided, word_place}
 
--- a lexeme of the body stands at the place, and this is so of it
+-- a lexeme of the body is at the place, and this is so of it
 pub record StandsIn (body : List Lexeme) (place : ℕ) (Is : Lexeme → Type 0) : Type 0 where
   pub before : List Lexeme
   pub lexeme : Lexeme
@@ -41,7 +41,7 @@ ends_in_sign [] = false
 ends_in_sign (l ∷ []) = is_sign_kind l.kind
 ends_in_sign (l ∷ m ∷ ls) = ends_in_sign (m ∷ ls)
 
--- A number of the body stands at the place, with its sign if it has one, and this is so of it: of its sign (`true` is
+-- A number of the body is at the place, with its sign if it has one, and this is so of it: of its sign (`true` is
 -- minus) and its numeral.
 pub data NumberStandsIn (body : List Lexeme) (place : ℕ) (Is : Bool → Lexeme → Type 0) : Type 0 where
   unsigned : (before : List Lexeme) (l : Lexeme) (after : List Lexeme) → body ≡ before ++ l ∷ after → ends_in_sign before ≡ false

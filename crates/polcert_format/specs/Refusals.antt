@@ -30,14 +30,14 @@ pub record IsItemRefusal (ts : TextTokens) (kind : ItemFault) (number place : �
   pub decided : (fault : ItemFault) (at : ℕ) → IsDecided ts number fault at → (kind ≡ fault) × (place ≡ at)
 
 -- A row is refused only where all items are right, and is then the first that doesn't sum to its scale. Out of memory
--- says nothing of the text.
+-- says nothing about the text.
 abbrev pub IsRefusal : TextTokens → ModelFault → Type 0
 IsRefusal ts (model_faults.Item kind item place) = IsItemRefusal ts kind item place
 IsRefusal ts (RowSum table action row) =
     (ts.ending ≡ None) × ((p : Preamble) × (k : ModelSoFar) × IsRightText ts.lexemes p k × IsFirstWrongRow (meaning_of p k.start k.entries) table action row)
 IsRefusal ts Memory = Unit {0}
 
--- out of memory says nothing of the text, and every other refusal that it is wrong
+-- out of memory says nothing about the text, and every other refusal that it is wrong
 abbrev pub SaysOfText : ModelFault → Type 0
 SaysOfText Memory = ⊥
 SaysOfText _ = Unit {0}

@@ -43,7 +43,7 @@ abbrev pub is_number_kind : TokenKind → Bool
 is_number_kind kinds.Numeral = true
 is_number_kind _ = false
 
--- a count, or names, of at most so many
+-- a count, or names, of at most this many
 abbrev pub names_want : ℕ → List Lexeme → Expected
 names_want most [] = CountOrName
 names_want most (l ∷ ls) = if is_number_kind l.kind then EndOfWord else FurtherName most (map (λ m. m.bytes) (l ∷ ls))
@@ -63,7 +63,7 @@ abbrev pub least_written : Bool → Table → ℕ
 least_written mdp Reward = if mdp then 1 else 2
 least_written mdp _ = 1
 
--- a place after so many others: in an MDP the fourth is `*`
+-- a place after this many others: in an MDP the fourth is `*`
 abbrev pub place_wants : Preamble → ℕ → Expected
 place_wants p written = if is_mdp p && written == 3 then Mark else Index
 

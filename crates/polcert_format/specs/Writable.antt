@@ -24,7 +24,7 @@ pub record IsWritableName (name : List ℕ) : Type 0 where
 abbrev pub HasProperNames : Elements → Type 0
 HasProperNames elements = (names : List (List ℕ)) → elements ≡ Names names → All IsWritableName names × AllPairs (λ x y. x ≢ y) names
 
--- a start of millionths, for so many states
+-- a start of millionths, for this many states
 pub record IsMillionthsStart (n : ℕ) (start : StartWeights) : Type 0 where
   pub several : 1 < n
   pub total_is : start.total ≡ one

@@ -28,7 +28,7 @@ pub enum ItemFault {
     /// M7: a line of the preamble is missing where the start item, an entry or the end stands.
     #[error("a line of the preamble is missing")]
     MissingLine,
-    /// M8: no count from 1 to the most elements of its kind (10,000 states, 1,000 actions, 10,000 observations), and not so many
+    /// M8: no count from 1 to the most elements of its kind (10,000 states, 1,000 actions, 10,000 observations), and not that many
     /// names.
     #[error("neither a count of elements within the limit nor as many names")]
     BadCount,

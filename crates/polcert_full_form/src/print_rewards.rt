@@ -16,7 +16,7 @@ use polcert_cells::Table;
 use polcert_tables::Model;
 use polcert_text::{Sink, SinkFailed, write_all};
 
-/// So many rewards of a row are read together.
+/// This many rewards of a row are read together.
 const BLOCK: usize = 1024;
 
 /// Writes the rows of rewards that are not all 0, by action, start state and end state; in an MDP by action

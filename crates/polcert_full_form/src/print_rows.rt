@@ -235,7 +235,7 @@ fn write_column<W: Sink>(
     }
 }
 
-/// Returns the probability of a weight in a row of so many columns, in millionths.
+/// Returns the probability of a weight in a row of this many columns, in millionths.
 fn millionths_of(weight: u64, columns: usize) -> i64
     requires some { 0 < columns }
     requires small { weight ≤ one * columns }

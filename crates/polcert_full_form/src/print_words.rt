@@ -84,7 +84,7 @@ pub(crate) fn write_number_at<W: Sink>(
     write_scaled(scaled, out)
 }
 
-/// Writes so many zeros, from this place of a line on.
+/// Writes this many zeros, from this place of a line on.
 pub(crate) fn write_zeros<W: Sink>(
     first: usize,
     count: usize,

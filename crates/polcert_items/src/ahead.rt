@@ -170,7 +170,7 @@ impl EntryReader {
         }
     }
 
-    /// Does the same, up to the first place that is no index in digits.
+    /// Does the same as `feed_places_ahead`, up to the first place that is no index in digits.
     #[inline(always)]
     fn feed_indices_ahead(&mut self, known: &ModelSoFar, bytes: &[u8]) -> Option<usize>
         ensures fed { IfSome result (λ count. PlacesFed known.now self.old bytes.now count self.new) }
@@ -385,7 +385,7 @@ impl EntryReader {
         }
     }
 
-    /// Does the same for any count of numbers. (Apart, since a list that may be moved costs room in the caller.)
+    /// Does the same as `begin_ahead` for any count of numbers. (Apart, since a list that may be moved costs room in the caller.)
     #[inline(never)]
     fn begin_list(
         &mut self,

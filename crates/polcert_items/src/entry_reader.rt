@@ -41,7 +41,7 @@ use polcert_format::ItemFault;
 use polcert_text::{Token, TokenKind};
 use std::alloc::{AllocError, Global};
 
-/// A list of so many numbers, as far as it has been read.
+/// A list of this many numbers, as far as it has been read.
 #[derive(Drop)]
 pub struct Numbers<T: Copy> {
     pub read: Sequence<T>,
@@ -50,7 +50,7 @@ pub struct Numbers<T: Copy> {
 }
 
 impl<T: Copy> Numbers<T> {
-    /// Begins a list of so many numbers with none.
+    /// Begins a list of this many numbers with none.
     pub fn new(alloc: Global, needed: usize) -> Numbers<T>
         ensures { result ≡ no_numbers needed }
     {
@@ -353,7 +353,7 @@ fn body_of(word: Word) -> Body
     }
 }
 
-/// Returns the same, borrowed.
+/// Returns the same as `body_of`, borrowed.
 fn word_ref(word: Word) -> BodyRef<'static>
     ensures { ref_body result ≡ body_of_word word }
 {
@@ -460,7 +460,7 @@ pub(crate) fn indices_of(table: Table) -> usize
     }
 }
 
-/// Tests whether numbers are allowed after so many places.
+/// Tests whether numbers are allowed after this many places.
 #[inline(always)]
 pub(crate) fn takes_numbers(is_mdp: bool, table: Table, written: usize) -> bool
     ensures { IsTrue result ↔ (least_written is_mdp table ≤ written) }
@@ -471,7 +471,7 @@ pub(crate) fn takes_numbers(is_mdp: bool, table: Table, written: usize) -> bool
     }
 }
 
-/// Returns the word that the token gives in place of numbers after so many places, if it is allowed there.
+/// Returns the word that the token gives in place of numbers after this many places, if it is allowed there.
 fn word_of(table: Table, written: usize, token: Token<'_>) -> Option<Word>
     ensures name { IfSome result (λ _. (lexeme_of token.entry).kind ≡ TokenKind.Name) }
     ensures word { (mdp : Bool) → IfSome result (IsWordAfter mdp table written (lexeme_of token.entry)) }
@@ -487,7 +487,7 @@ fn word_of(table: Table, written: usize, token: Token<'_>) -> Option<Word>
     None
 }
 
-/// Tests whether `uniform` may follow so many places of the table.
+/// Tests whether `uniform` may follow this many places of the table.
 fn takes_uniform(table: Table, written: usize) -> bool
     ensures { (mdp : Bool) → (IsTrue result ↔ MayStand mdp table Body.Uniform written) }
 {
@@ -497,7 +497,7 @@ fn takes_uniform(table: Table, written: usize) -> bool
     }
 }
 
-/// Tests whether `identity` may follow so many places of the table.
+/// Tests whether `identity` may follow this many places of the table.
 fn takes_identity(table: Table, written: usize) -> bool
     ensures { (mdp : Bool) → (IsTrue result ↔ MayStand mdp table Body.Identity written) }
 {

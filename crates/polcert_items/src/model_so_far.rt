@@ -104,7 +104,7 @@ impl ModelSoFar {
             ItemContents::States(states) => self.states = Some(states),
             ItemContents::Actions(actions) => self.actions = Some(actions),
             ItemContents::Observations(observations) => self.observations = Some(observations),
-            ItemContents::Start(shares) => self.start = Some(shares),
+            ItemContents::Start(start) => self.start = Some(start),
             ItemContents::Entry(entry) => self.add_entry(entry.as_ref())?,
         }
         Ok(())
@@ -228,7 +228,7 @@ impl ModelSoFar {
         self.states.as_ref().unwrap()
     }
 
-    /// Returns how many cells so many places leave open.
+    /// Returns how many cells this many places leave open.
     pub fn cells_after(&self, table: Table, written: usize) -> usize
         requires { least_written (is_mdp (preamble_in self.now)) table ≤ written }
         ensures { result ≡ cells_in (drop written (indices_in self.now table)) }
@@ -334,7 +334,7 @@ impl ModelSoFar {
     }
 }
 
-/// Returns whether so many places leave one cell open. (Most entries have as many, and then no count is looked at.)
+/// Returns whether this many places leave one cell open. (Most entries have as many, and then no count is looked at.)
 #[inline(always)]
 fn is_single_cell(table: Table, written: usize) -> bool
     ensures { IsTrue result → (p : P) → cells_in (drop written (dimensions p table)) ≡ 1 }
@@ -436,7 +436,7 @@ impl CellBudget {
 }
 
 impl Sizes {
-    /// Adds the cells that an entry covers in a table of so many columns. `None`: they pass their limit.
+    /// Adds the cells that an entry covers in a table of this many columns. `None`: they pass their limit.
     #[inline(always)]
     fn add_cells(self, count: usize, columns: usize, entry: EntryRef<'_>) -> Option<usize>
         requires actions { self.actions ≤ most_actions }
@@ -494,7 +494,7 @@ fn count_elements(places: &[Place], number: usize, count: usize) -> usize
     }
 }
 
-/// Returns how many cells so many places leave open.
+/// Returns how many cells this many places leave open.
 fn open_cells(states: usize, columns: usize, places: usize) -> usize
     requires states { states ≤ most_states }
     requires columns { columns ≤ most_observations }
@@ -519,7 +519,7 @@ fn nonzero_cells(body: BodyRef<'_>, states: usize, cells: usize) -> usize
     }
 }
 
-/// Returns how many cells an entry covers with positive weight, in a table of so many columns. (Apart, since few tables are large.)
+/// Returns how many cells an entry covers with positive weight, in a table of this many columns. (Apart, since few tables are large.)
 #[inline(never)]
 fn covered_by(actions: usize, states: usize, columns: usize, entry: EntryRef<'_>) -> usize
     requires actions { actions ≤ most_actions }

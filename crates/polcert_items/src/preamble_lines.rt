@@ -250,7 +250,7 @@ fn count(most: usize, token: Token<'_>) -> Result<usize, Refusal>
     }
 }
 
-/// Puts the name that the token is after the others, of which there may be so many at most.
+/// Puts the name that the token is after the others, of which there may be this many at most.
 fn add_name(
     names: &mut Names,
     alloc: Global,

@@ -274,7 +274,7 @@ pub struct FirstNumber {
     pub place: u64,
 }
 
-/// Digits alone, and the offset where they stand: the state of this number, if there are so many, and the
+/// Digits alone, and the offset where they stand: the state of this number, if there are that many, and the
 /// value.
 #[derive(Clone, Copy)]
 pub struct StateOrNumber {
@@ -545,11 +545,11 @@ impl Chosen {
         ensures kind { IfErr result (λ e. IfAtEnd e (λ kind. kind ≡ unexpected_token Listed None)) }
         ensures at_end { IfErr result IsToldAtEnd }
     {
-        let shares = self.start_weights(alloc)?;
-        if shares.total == 0 {
+        let start = self.start_weights(alloc)?;
+        if start.total == 0 {
             return Err(EndError::AtEnd(ItemFault::StartEmpty));
         }
-        Ok(shares)
+        Ok(start)
     }
 
     /// Returns equal weights for the states that the choice picks.

@@ -30,8 +30,8 @@ impl fmt::Display for RefusalLine {
     }
 }
 
-/// Why a run over a model and vectors, one for each of its actions, stopped: the same, with the action in place of the node:
-/// `raise: U1 at action 0, state 5`.
+/// Why a run over a model and vectors, one for each of its actions, stopped: the line of a run over three texts, with the action in
+/// place of the node: `raise: U1 at action 0, state 5`.
 #[derive(Clone, Copy, Debug)]
 pub struct BoundRefusalLine(pub RunFault);
 

@@ -15,7 +15,7 @@ use std::env;
 use std::process::ExitCode;
 use std::rt::Env;
 
-/// Allocates so many times, and gives it all back.
+/// Allocates this many times, and gives it all back.
 fn allocate(alloc: Global, times: usize) -> Result<(), AllocError> {
     for _ in 0..times {
         Box::new(alloc, 0u8)?;

@@ -26,7 +26,7 @@ impl ObservationSums {
         }
     }
 
-    /// Sets the first sums, so many, to 0.
+    /// Sets the first sums, this many, to 0.
     fn clear(&mut self, observations: usize)
         requires { observations ≤ MOST_OBSERVATIONS }
         ensures { (z : ℕ) → z < observations → sum_of self.new.sums z ≡ pos 0 }
@@ -76,7 +76,7 @@ impl ObservationSums {
         }
     }
 
-    /// Sets each of the first sums, so many, to the greater of itself and the other's.
+    /// Sets each of the first sums, this many, to the greater of itself and the other's.
     pub(crate) fn take_greater(&mut self, observations: usize, other: &ObservationSums)
         requires { observations ≤ MOST_OBSERVATIONS }
         ensures { (z : ℕ) → z < observations →
@@ -87,7 +87,7 @@ impl ObservationSums {
         }
     }
 
-    /// Returns the sum of the first sums, so many.
+    /// Returns the sum of the first sums, this many.
     pub(crate) fn total(&self, observations: usize) -> i128
         requires within { observations ≤ MOST_OBSERVATIONS }
         requires small { AreSmallSums observations self.now.sums }

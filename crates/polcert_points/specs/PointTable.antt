@@ -47,7 +47,7 @@ pub record IsOneState (states : ℕ) (b : Belief) (s : ℕ) : Type 0 where
   pub some : 0 < b s
   pub alone : (e : ℕ) → e < states → (e ≡ s → ⊥) → b e ≡ 0
 
--- The charge of an action at a state: the least of the vector's value and of the values of those of the first points, so many, that
+-- The charge of an action at a state: the least of the vector's value and of the values of those of the first points, this many, that
 -- are the state alone.
 pub record IsLeastCharge (p : PointTable) (vectors : ℕ → ℕ → ℤ) (a s count : ℕ) (charge : ℤ) : Type 0 where
   pub vector : charge ≤ℤ vectors a s

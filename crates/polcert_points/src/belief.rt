@@ -28,7 +28,7 @@ pub(crate) fn clear_belief(belief: &mut [u128])
     }
 }
 
-/// Adds to each end state its weight in the row of T at action `a` and state `s`, so many times.
+/// Adds to each end state its weight in the row of T at action `a` and state `s`, this many times.
 fn add_row<C: Cells>(cells: &C, a: usize, s: usize, times: u64, arrivals: &mut [u64])
     requires action { a < (C.table cells.now).actions }
     requires state { s < (C.table cells.now).states }

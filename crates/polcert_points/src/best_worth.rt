@@ -78,7 +78,7 @@ fn worth_with<C: Cells, P: BeliefPoints>(
     )
 }
 
-/// Returns the same with the best next action.
+/// Returns the same as `worth_with` with the best next action.
 fn best_left<C: Cells, P: BeliefPoints>(
     input: &CheckedPoints<'_, C, P>,
     taken: Taken,

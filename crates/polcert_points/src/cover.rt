@@ -9,7 +9,7 @@ ghost use Rattle.polcert_points.specs.Steps.PointSums.{IsStepWithin, IsWithinRow
 use crate::belief_points::{BeliefPoints, next_state};
 use polcert_cells::{Row, Step};
 
-/// Returns so many times, or fewer if a weight does not fit so often into what a state has.
+/// Returns this many times, or fewer if a weight does not fit so often into what a state has.
 fn fewer_times(times: u128, weight: u64, has: u128) -> u128
     requires times { times ≤ 5 * 10 ^ 24 }
     requires weight { weight ≤ 1000000 }
@@ -45,7 +45,7 @@ pub fn most_times<P: BeliefPoints>(points: &P, j: usize, belief: &[u128]) -> u12
     times
 }
 
-/// Takes point `j` so many times out of a belief.
+/// Takes point `j` this many times out of a belief.
 pub fn take_out<P: BeliefPoints>(points: &P, j: usize, times: u128, belief: &mut [u128])
     requires point { j < (P.table points.now).points.count }
     requires states { length belief.old ≡ (P.table points.now).states }

@@ -1,4 +1,4 @@
--- Lists that are rows of one width, one after another, and what stands at a place of them.
+-- Lists that are rows of one width, one after another, and what is at a place of them.
 use Rattle.polcert_policy.proofs.Common.{common_steps, range_with_len, AllZip}
 use Rattle.std.proofs.Common.{◌≡◌, ◌∙◌, ℕ, suc, zero, ◌+◌, ◌*◌, ◌<◌, ◌≤◌, Some, List, [], ◌∷◌, ◌++◌, length, flat_map, slice_get, refl, sym}
 use Rattle.std.proofs.Common.{ap, subst, arith, length-append}

@@ -21,7 +21,7 @@ action_graph actions = record {
   successors = replicate actions None;
 }
 
--- the text is one vector for each of so many actions, each with a value for each of so many states
+-- the text is one vector for each of this many actions, each with a value for each of this many states
 abbrev pub IsActionVectorsText : ℕ → ℕ → List ℕ → PolicyVectors → Type 0
 IsActionVectorsText actions states text v = IsRoundedVectorsText Up (action_graph actions) states text v
 

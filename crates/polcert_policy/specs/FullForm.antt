@@ -14,7 +14,7 @@ after_value states s = if suc s == states then codes "\n\n" else codes " "
 abbrev pub value_text : PolicyVectors → ℕ → ℕ → List ℕ
 value_text v n s = scaled_text (value_of v n s) ++ after_value v.states s
 
--- the values of node n at the first states, so many
+-- the values of node n at the first states, this many
 abbrev pub values_text : PolicyVectors → ℕ → ℕ → List ℕ
 values_text v n zero = []
 values_text v n (suc s) = values_text v n s ++ value_text v n s
@@ -27,7 +27,7 @@ action_line g n = decimal (action_of g n) ++ codes "\n"
 abbrev pub vector_text : PolicyGraph → PolicyVectors → ℕ → List ℕ
 vector_text g v n = action_line g n ++ values_text v n v.states
 
--- the vectors of the first nodes, so many
+-- the vectors of the first nodes, this many
 abbrev pub vectors_text_up_to : PolicyGraph → PolicyVectors → ℕ → List ℕ
 vectors_text_up_to g v zero = []
 vectors_text_up_to g v (suc n) = vectors_text_up_to g v n ++ vector_text g v n

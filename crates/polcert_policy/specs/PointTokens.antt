@@ -38,7 +38,7 @@ nothing_read = record { field = fields.Number; sign = None; minus = None; mass =
 
 -- ---- numbers
 
--- the numeral is at most 1, and so many millionths, rounded down
+-- the numeral is at most 1, and this many millionths, rounded down
 pub record IsWeight (bytes : List ℕ) (weight : ℕ) : Type 0 where
   pub readable : IsReadable bytes
   pub at_most_one : size_of bytes ≤ one * millionth

@@ -102,7 +102,7 @@ pub fn vectors_within_limits()
         1 ≤ nodes graph → nodes graph ≤ most_nodes → 1 ≤ states → states ≤ most_states →
         IsVectorsText graph states text v → AreProperVectors v }
 
-    // The same where each value is rounded up.
+    // So are those whose values are rounded up.
     ensures either_way { (rounding : Rounding) (graph : PolicyGraph) (states : ℕ) (text : List ℕ)
         (v : PolicyVectors) →
         1 ≤ nodes graph → nodes graph ≤ most_nodes → 1 ≤ states → states ≤ most_states →

@@ -382,7 +382,7 @@ impl PointsReading {
     }
 }
 
-/// Reads belief points for a model with so many states, actions and observations: one point after another, each with its number, a weight
+/// Reads belief points for a model with this many states, actions and observations: one point after another, each with its number, a weight
 /// for each state, and for each action its value and for each observation the number of the point that covers the belief after it, `-` or
 /// `X` where none does. Weights are rounded down to whole millionths and values up. A text of no points is accepted.
 ///

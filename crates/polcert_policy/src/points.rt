@@ -12,7 +12,7 @@ use crate::weight_rows::WeightRows;
 use polcert_cells::Row;
 use std::marker::Model;
 
-/// Belief points, read for so many states, actions and observations: each with a weight for each state, and for each action a value and
+/// Belief points, read for this many states, actions and observations: each with a weight for each state, and for each action a value and
 /// for each observation the point that covers the belief after it, or none. Weights and values are in millionths. What is kept is
 /// proportional to the weights above 0, the values and the names.
 pub struct PointSet {

@@ -96,7 +96,7 @@ fn chosen(found: Option<i128>, value: i128, is_wanted: bool) -> Option<i128>
 
 /// Returns a value between two levels, if there is one.
 ///
-/// Of so many such values it is one of the second half, so that few rounds remain even if the values are in order.
+/// Of this many such values it is one of the second half, so that few rounds remain even if the values are in order.
 fn value_between(row: &WorthRow<'_>, low: i128, high: i128) -> Option<i128>
     ensures some { IfSome result (λ value. (low <ℤ value) × (value <ℤ high)) }
     ensures none { IfNone result ((i : ℕ) → i < row.now.count →

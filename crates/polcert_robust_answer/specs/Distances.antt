@@ -17,6 +17,6 @@ pub record IsRewardDistance (text : List ℕ) (by : ℕ) : Type 0 where
   pub exact : size_of text ≡ by * millionth
   pub small : by ≤ 1_000_000_000_000
 
--- The distance in whole parts of the scale of a row with so many columns, rounded up. (A scale is 1,000,000 for each column.)
+-- The distance in whole parts of the scale of a row with this many columns, rounded up. (A scale is 1,000,000 for each column.)
 abbrev pub parts_of : ℕ → ℕ → ℕ
 parts_of by columns = (by * columns + 999_999) / 1_000_000

@@ -44,7 +44,8 @@ pub fn run_near_check<M: Source, G: Source, V: Source, W: Sink, O: Progress>(
     near_run::<NearLower, M, G, V, W, O>(alloc, within, model, graph, vectors, sink, progress)
 }
 
-/// Does the same from above: each value of the vectors is rounded up, and a yes says that they are an upper bound in every such model.
+/// Does the same as `run_near_check` from above: each value of the vectors is rounded up, and a yes says that they are an upper bound in
+/// every such model.
 ///
 /// # Errors
 ///

@@ -64,7 +64,7 @@ pub fn reward_distance_of(text: &[u8]) -> Option<u64>
     }
 }
 
-/// Returns a distance in whole parts of the scale of a row with so many columns, rounded up.
+/// Returns a distance in whole parts of the scale of a row with this many columns, rounded up.
 fn parts_of(by: u64, columns: usize) -> u64
     requires by { by ≤ 1_000_000_000_000 }
     requires columns { columns ≤ 10_000 }

@@ -1,5 +1,5 @@
 -- Keys: a number for each pattern, in the order of its places, so that the patterns that begin alike stand together.
--- Our own: the format says nothing of keys. Of these a reader of what a model keeps needs the base, and the key of a table.
+-- Our own: the format says nothing about keys. Of these a reader of what a model keeps needs the base, and the key of a table.
 use Rattle.std.specs.Prelude.{◌≡◌, ℕ, zero, suc, ◌+◌, ◌*◌, ◌^◌, ◌<◌, ◌≤◌, true, List, [], ◌∷◌}
 use Rattle.polcert_cells.specs.declared.entries.Table.{Table}
 use Rattle.polcert_cells.specs.declared.entries.Table.TheVariants.{Transition, Observation, Reward}
@@ -29,19 +29,19 @@ abbrev pub digit : Place → ℕ
 digit Every = 1
 digit (Only n) = n + 2
 
--- the key of these places after those of the key `low`, where there is room for so many digits to the base
+-- the key of these places after those of the key `low`, where there is room for this many digits to the base
 abbrev pub key_in : ℕ → ℕ → List Place → ℕ
 key_in levels low [] = low
 key_in zero low (p ∷ ps) = low
 key_in (suc levels) low (p ∷ ps) = key_in levels (low + digit p * key_base ^ levels) ps
 
--- at most so many places, each a digit to the base
+-- at most this many places, each a digit to the base
 abbrev pub AreDigits : ℕ → List Place → Type 0
 AreDigits levels [] = Unit {0}
 AreDigits zero (p ∷ ps) = ⊥
 AreDigits (suc levels) (p ∷ ps) = (digit p < key_base) × AreDigits levels ps
 
--- at most so many indices, whose places are digits
+-- at most this many indices, whose places are digits
 abbrev pub AreIndices : ℕ → List ℕ → Type 0
 AreIndices levels [] = Unit {0}
 AreIndices zero (i ∷ indices) = ⊥

@@ -15,7 +15,7 @@ pub record RewardRules : Type 0 where
   pub bodies : List RewardBody
   pub numbers : List ℤ
 
--- the number of a cell in a body, by the indices that are left for it, in a table with so many rows and columns
+-- the number of a cell in a body, by the indices that are left for it, in a table with this many rows and columns
 abbrev pub cell_in : ℕ → ℕ → List ℕ → ℕ
 cell_in rows columns (matrix ∷ row ∷ column ∷ []) = (matrix * rows + row) * columns + column
 cell_in rows columns (row ∷ column ∷ []) = row * columns + column

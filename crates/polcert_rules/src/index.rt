@@ -413,7 +413,7 @@ pub(crate) fn none_below(rules: &[Rule], key: u64) -> bool
 }
 
 /// Returns the number of the newest rule that fits the first of these indices, of the rules whose places
-/// follow those of the key `low`, at most so many.
+/// follow those of the key `low`, at most this many.
 pub(crate) fn newest(rules: &[Rule], low: u64, levels: usize, indices: &[usize]) -> Option<usize>
     requires rising { IsRising rules.now }
     requires from { (r : R) → Contains rules.now r → low ≤ r.key }
@@ -449,7 +449,7 @@ pub(crate) struct NextPlace<'a> {
 }
 
 /// Returns the rules that continue with a place for an index, of the rules whose places follow those of the
-/// key `low`, at most so many.
+/// key `low`, at most this many.
 #[inline(always)]
 pub(crate) fn next_place(rules: &[Rule], low: u64, levels: usize, index: usize) -> NextPlace<'_>
     requires rising { IsRising rules.now }
@@ -487,7 +487,7 @@ pub(crate) fn first_at(rules: &[Rule], key: u64) -> Option<usize>
     }
 }
 
-/// Returns how many keys have so many places.
+/// Returns how many keys have this many places.
 pub(crate) fn span(levels: usize) -> u64
     requires { levels ≤ most_places }
     ensures { result ≡ key_base ^ levels }

@@ -77,7 +77,7 @@ fn reward_of(costs: bool, h: i64) -> i64
     if costs { h.wrapping_neg() } else { h }
 }
 
-/// Returns the number of a cell in a body, by the indices that are left for it, in a table with so many rows
+/// Returns the number of a cell in a body, by the indices that are left for it, in a table with this many rows
 /// and columns.
 pub(crate) fn cell_in(rows: usize, columns: usize, left: &[usize]) -> usize
     requires rows { rows ≤ most_states }
@@ -93,7 +93,7 @@ pub(crate) fn cell_in(rows: usize, columns: usize, left: &[usize]) -> usize
     }
 }
 
-/// Returns the indices after so many places.
+/// Returns the indices after this many places.
 pub(crate) fn indices_after(places: usize, indices: &[usize]) -> &[usize]
     ensures { result.now ≡ drop places indices.now }
 {

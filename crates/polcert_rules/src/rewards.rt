@@ -34,10 +34,10 @@ const FIRST_INDEX_DIGIT: u64 = 2;
 /// What a key continues with, at least, if one of its last two places is an index.
 const AN_END_OR_OBSERVATION: u64 = KEY_BASE + FIRST_INDEX_DIGIT;
 
-/// So many observations are few: what rules are noted in is then cleared sooner.
+/// This many observations are few: what rules are noted in is then cleared sooner.
 const FEW_OBSERVATIONS: usize = 63;
 
-/// The rewards of so many observations are filled in together.
+/// The rewards of this many observations are filled in together.
 const BLOCK: usize = 1000;
 
 /// The rewards that a list of entries gives: of each pattern of R the last entry, and its numbers, each as it
@@ -136,7 +136,7 @@ impl Rewards {
         }
     }
 
-    /// Fills in the rewards of so many observations, block by block.
+    /// Fills in the rewards of this many observations, block by block.
     fn fill_many(&self, at: StateTransition, first: usize, count: usize, rewards: &mut [i64])
         requires action { at.action < self.now.shape.actions }
         requires start { at.start < self.now.shape.states }
@@ -515,7 +515,7 @@ impl Rewards {
     }
 }
 
-/// Tests whether a body of so many places has one number after an action and a start state, if there are so
+/// Tests whether a body of this many places has one number after an action and a start state, if there are so
 /// many observations.
 fn is_single(places: usize, observations: usize) -> bool
     ensures { IsTrue result → IsSingle observations places }

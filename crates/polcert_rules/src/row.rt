@@ -276,7 +276,7 @@ fn merge_cells(alloc: Global, base: &[Cell], newer: &[Cell]) -> Result<Vec<Cell>
     Ok(cells)
 }
 
-/// Returns the same, and makes no other list if there is no row below cells that all have a weight.
+/// Returns the same as `merge_cells`, and makes no other list if there is no row below cells that all have a weight.
 fn put_over(alloc: Global, base: &[Cell], newer: Vec<Cell>) -> Result<Vec<Cell>, AllocError>
     ensures { IfOk result (λ cells. cells.items ≡ merged base.now newer.items) }
 {
@@ -344,7 +344,7 @@ fn row_cells(
     }
 }
 
-/// Returns the same, if what covers the whole row is kept so.
+/// Returns the same as `row_cells`, if what covers the whole row is kept so.
 pub(crate) fn cells_over(
     alloc: Global,
     row: &EntryRow<'_>,
@@ -425,7 +425,7 @@ pub(crate) fn body_row(
     }
 }
 
-/// Returns the number of each column of the row of this state, in millionths, if an entry of T or O gives so many numbers.
+/// Returns the number of each column of the row of this state, in millionths, if an entry of T or O gives that many numbers.
 pub(crate) fn body_line<'a>(entry: EntryRef<'a>, state: usize, shape: Shape) -> Option<&'a [u32]>
     requires within { IsShapeWithin shape }
     requires state { state < shape.states }

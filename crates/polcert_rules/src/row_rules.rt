@@ -33,7 +33,7 @@ const EVERY: usize = 1;
 
 const INDICES: usize = 2;
 
-/// So many rules are few: they are searched at once.
+/// This many rules are few: they are searched at once.
 const FEW_RULES: usize = 64;
 
 /// How many places there are after the first two.
@@ -103,7 +103,7 @@ impl RowRules {
         max_option(here, max_option(of_every, of_only))
     }
 
-    /// Returns the same after a first place, which has this digit.
+    /// Returns the same as `newest` after a first place, which has this digit.
     fn newest_after(&self, digit: usize, low: u64, start: usize, rest: &[usize]) -> Option<usize>
         requires rising { IsRising self.now.rules.items }
         requires room { low + key_base ^ 3 < 2 ^ 64 }
@@ -157,7 +157,7 @@ impl RowRules {
         self.note_after(at.action + INDICES, only, at, first, noted);
     }
 
-    /// Returns the same after a first place, which has this digit.
+    /// Does the same as `note` after a first place, which has this digit.
     fn note_after(
         &self,
         digit: usize,
@@ -202,7 +202,7 @@ impl RowRules {
         self.note_named_after(at.action + INDICES, only, at, list)
     }
 
-    /// Returns the same after a first place, which has this digit.
+    /// Does the same as `note_named` after a first place, which has this digit.
     fn note_named_after(
         &self,
         digit: usize,
@@ -249,7 +249,7 @@ impl RowRules {
             || self.some_begins_after(action + INDICES, only, start, rest, least)
     }
 
-    /// Returns the same after a first place, which has this digit.
+    /// Returns the same as `some_begins` after a first place, which has this digit.
     fn some_begins_after(
         &self,
         digit: usize,
@@ -295,7 +295,7 @@ impl RowRules {
         Some(of_every.join(of_only)?.with_whole(here))
     }
 
-    /// Returns the same after a first place, which has this digit.
+    /// Returns the same as `cell_rules` after a first place, which has this digit.
     fn cell_rules_after(&self, digit: usize, low: u64, start: usize) -> Option<CellRules<'_>>
         requires rising { IsRising self.now.rules.items }
         requires room { low + key_base ^ 3 < 2 ^ 64 }
@@ -340,7 +340,7 @@ impl RowRules {
         .is_some()
     }
 
-    /// Returns the same after a first place, which has this digit.
+    /// Returns the same as `names_start` after a first place, which has this digit.
     fn names_start_after(&self, digit: usize, low: u64, start: usize) -> bool
         requires rising { IsRising self.now.rules.items }
         requires room { low + key_base ^ 3 < 2 ^ 64 }
@@ -456,8 +456,8 @@ pub(crate) struct CellPlace {
     pub observation: usize,
 }
 
-/// Returns the cell that a key names after the key `low` of two places, of so many observations: all of an end state, if there is one. `None`:
-/// not one cell.
+/// Returns the cell that a key names after the key `low` of two places, of this many observations: all of an end state, if there is one.
+/// `None`: not one cell.
 pub(crate) fn cell_named(key: u64, low: u64, observations: usize) -> Option<CellPlace>
     requires room { low + key_base ^ 2 < 2 ^ 64 }
     requires few { observations + 2 < key_base }

@@ -70,14 +70,14 @@ pub(crate) struct RowStore {
 }
 
 impl RowStore {
-    /// Makes the store before its first row, for the table of these rules with so many states.
+    /// Makes the store before its first row, for the table of these rules with this many states.
     pub(crate) fn of(
         alloc: Global,
         entries: &Entries,
         rules: &[Rule],
         states: usize,
     ) -> Result<RowStore, AllocError>
-        ensures { IfOk result (λ keeper. (columns : ℕ) → AreKept columns entries.now keeper) }
+        ensures { IfOk result (λ store. (columns : ℕ) → AreKept columns entries.now store) }
     {
         let slots = RowCache::of(alloc, entries, rules, states)?;
         Ok(RowStore {
@@ -260,7 +260,7 @@ fn whole_row(
     }
 }
 
-/// Returns the number of each column in millionths, if the entry that covers the whole row gives so many, and more than half are above 0.
+/// Returns the number of each column in millionths, if the entry that covers the whole row gives that many, and more than half are above 0.
 fn full_line<'a>(
     entries: &'a Entries,
     whole: Option<usize>,

@@ -87,7 +87,7 @@ impl Rows {
         let rules = index.as_slice();
         let split = SplitRules::of(alloc, rules, entries)?;
         let mut numbers = Lists::new(alloc);
-        let mut keeper = RowStore::of(alloc, entries, rules, shape.states)?;
+        let mut store = RowStore::of(alloc, entries, rules, shape.states)?;
         let given = TableEntries {
             bodies: Bodies { entries, shape },
             table,
@@ -99,7 +99,7 @@ impl Rows {
                 numbers.repeat_last()?;
                 continue;
             }
-            match action_rows(alloc, &mut keeper, given, last(&numbers), action)? {
+            match action_rows(alloc, &mut store, given, last(&numbers), action)? {
                 Ok(line) => numbers.push(line.as_slice())?,
                 Err(wrong) => return Ok(Err(wrong)),
             }
@@ -107,7 +107,7 @@ impl Rows {
         Ok(Ok(Rows {
             shape,
             numbers,
-            rows: keeper.rows,
+            rows: store.rows,
         }))
     }
 
@@ -178,20 +178,20 @@ fn last(numbers: &Lists<usize>) -> &[usize]
 /// those of the action before.
 fn action_rows(
     alloc: Global,
-    keeper: &mut RowStore,
+    store: &mut RowStore,
     given: TableEntries<'_>,
     before: &[usize],
     action: usize,
 ) -> Result<Result<Vec<usize>, WrongRow>, AllocError>
     requires given { AreIndexedEntries given }
     requires action { action < given.bodies.shape.actions }
-    requires before { All (λ n. n < length keeper.old.rows) before.now }
-    requires kept { AreKept given.bodies.shape.columns given.bodies.entries.now keeper.old }
-    ensures stays { OnOk result (Stays keeper.old.rows keeper.new.rows) }
+    requires before { All (λ n. n < length store.old.rows) before.now }
+    requires kept { AreKept given.bodies.shape.columns given.bodies.entries.now store.old }
+    ensures stays { OnOk result (Stays store.old.rows store.new.rows) }
     ensures kept { OnOk result
-        (AreKept given.entry.bodies.shape.columns given.entry.bodies.entries.now keeper.new) }
+        (AreKept given.entry.bodies.shape.columns given.entry.bodies.entries.now store.new) }
     ensures rows { IfOk result (λ found. MatchResult found
-        (λ line. AreLine given.entry action given.entry.bodies.shape.states keeper.new.rows line.items)
+        (λ line. AreLine given.entry action given.entry.bodies.shape.states store.new.rows line.items)
         (IsFirstWrongIn given.entry action)) }
 {
     let mut numbers = Vec::with_capacity(alloc, given.bodies.shape.states)?;
@@ -203,9 +203,9 @@ fn action_rows(
             here: numbers.as_slice(),
             before,
         };
-        let number = keeper.row_number(alloc, given.bodies, near, &row, state)?;
+        let number = store.row_number(alloc, given.bodies, near, &row, state)?;
         cells = row.cells;
-        if !keeper.is_proper(number) {
+        if !store.is_proper(number) {
             return Ok(Err(WrongRow {
                 table: given.table,
                 action,
@@ -243,7 +243,7 @@ fn is_as_before(index: &Index, table: Table, action: usize) -> bool
     false
 }
 
-/// Returns the cells of a row from a column on. In a row without zeros a column stands at its own number.
+/// Returns the cells of a row from a column on. In a row without zeros a column is at its own number.
 fn cells_from(cells: &[Cell], column: usize) -> &[Cell]
     requires { (columns : ℕ) × IsSparse columns cells.now }
     ensures { result.now ≡ cells_from column cells.now }
@@ -431,7 +431,7 @@ pub(crate) fn full_weight(numbers: &[u32], columns: u32, column: usize) -> u64
     }
 }
 
-/// Returns the weight of a column that has this number, in millionths, in a row of so many columns.
+/// Returns the weight of a column that has this number, in millionths, in a row of this many columns.
 fn column_weight(number: u32, columns: u32) -> u64
     ensures { result ≡ number * columns }
 {

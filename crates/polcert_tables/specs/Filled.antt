@@ -61,7 +61,7 @@ pub record AreRewards (m : CellTable) (rs : List ℤ) : Type 0 where
   pub count : length rs ≡ m.actions * m.states * m.states * m.observations
   pub cells : (a s e z : ℕ) → a < m.actions → s < m.states → e < m.states → z < m.observations → get_or rs (((a * m.states + s) * m.states + e) * m.observations + z) (pos 0) ≡ m.r a s e z
 
--- after what was there stand so many cells more, which are those of f
+-- after what was there stand this many cells more, which are those of f
 pub record AddsCells (f : ℕ → ℤ) (count : ℕ) (old new : List ℤ) : Type 0 where
   pub size : length new ≡ length old + count
   pub kept : (k : ℕ) → k < length old → get_or new k (pos 0) ≡ get_or old k (pos 0)

@@ -1,4 +1,4 @@
-//! A model with filled tables: each cell stands at its place, and entries are gone.
+//! A model with filled tables: each cell is at its place, and entries are gone.
 ghost use Rattle.std.specs.Prelude.{◌≡◌, ◌*◌, ◌<◌, length, IfOk, OnOk};
 ghost use Rattle.polcert_cells.specs.Meaning.{states_of, actions_of, observations_of};
 ghost use Rattle.polcert_cells.specs.Tables.{IsProper, IsWithinLimits, table_of};

@@ -233,7 +233,7 @@ impl Model {
         ensures { result ≡ start_weight (meaning self.now) s }
     {
         match &self.start {
-            Some(shares) => u64::from(shares.weights.at(s)),
+            Some(start) => u64::from(start.weights.at(s)),
             None => EQUAL_WEIGHT,
         }
     }
@@ -243,7 +243,7 @@ impl Model {
         ensures { result ≡ start_total (meaning self.now) }
     {
         match &self.start {
-            Some(shares) => u64::from(shares.total),
+            Some(start) => u64::from(start.total),
             None => EQUAL_WEIGHT * self.states() as u64,
         }
     }

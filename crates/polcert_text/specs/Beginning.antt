@@ -22,7 +22,7 @@ pub record BeginWith (place : ℕ) (bytes : List ℕ) (count : ℕ) (tokens : Li
   pub taken : (tail : List ℕ) (ending : Option TokenFault)
       → Taken (rest_at place (bytes ++ tail) ending) tokens (rest_at (place + count) (drop count bytes ++ tail) ending)
 
--- so many bytes were given of what is ahead, and no token since
+-- this many bytes were given of what is ahead, and no token since
 abbrev pub passed : ℕ → Stream → Stream
 passed n s = record { ahead = skip n s.ahead; borrowed = []; stop = s.stop }
 
@@ -46,7 +46,7 @@ pub record IsNumeralOf (is_negative : Bool) (numeral : Lexeme) (h : ℤ) : Type 
 abbrev pub kind_of_sign : Bool → TokenKind
 kind_of_sign is_negative = if is_negative then Minus else Plus
 
--- the first bytes are a number of just so many millionths: a numeral, or a sign and a numeral
+-- the first bytes are a number of just this many millionths: a numeral, or a sign and a numeral
 pub data BeginWithNumber (place : ℕ) (bytes : List ℕ) (found : FrontNumber) : Type 0 where
   unsigned : (numeral : Lexeme) → IsNumeralOf false numeral found.value → BeginWith place bytes found.len (numeral ∷ []) → BeginWithNumber place bytes found
   signed : (is_negative : Bool) (sign numeral : Lexeme) → sign.kind ≡ kind_of_sign is_negative → IsNumeralOf is_negative numeral found.value

@@ -32,7 +32,7 @@ abbrev pub is_glued : TokenKind → List ℕ → Bool
 is_glued Numeral (b ∷ bs) = is_glue b
 is_glued _ _ = false
 
--- the token stands at the front of the bytes
+-- the token is at the front of the bytes
 pub record IsTokenAt (place : ℕ) (bytes : List ℕ) (token : Lexeme) : Type 0 where
   pub lexeme : IsLongestLexeme bytes token.kind (length token.bytes)
   pub place_is : token.place ≡ place

@@ -19,7 +19,7 @@ pub record TakesFront {S : Type 0} (writes : S → Option (List ℕ) → S → T
   pub failed : writes before None to
 
 -- A call that writes a text: at `Ok` the sink took all of it, and no failure was counted; at an `Err` it took a
--- beginning, and its count of failures rose or stands at its last value.
+-- beginning, and its count of failures rose or is at its last value.
 pub record WritesText {S T E : Type 0} (writes : S → Option (List ℕ) → S → Type 0) (failures : S → ℕ) (old : S) (text : List ℕ)
     (result : Result T E) (new : S) : Type 0 where
   pub ok : OnOk result (Takes writes old text new)

@@ -6,7 +6,7 @@ use Rattle.polcert_text.specs.Gaps.{is_gap}
 use Rattle.polcert_text.specs.Fronts.{IsLongestGap}
 use Rattle.polcert_text.specs.Cut.{Lexeme, IsTokenAt, text_limit}
 
--- the bytes, of which the first stands at this place, are these tokens
+-- the bytes, of which the first is at this place, are these tokens
 abbrev pub AreTokensFrom : ℕ → List ℕ → List Lexeme → Type 0
 AreTokensFrom place bytes [] = is_gap bytes ≡ true
 AreTokensFrom place bytes (token ∷ tokens) = (gap : ℕ) × IsLongestGap bytes gap × IsTokenAt (place + gap) (drop gap bytes) token

@@ -94,7 +94,7 @@ pub fn front_colon(bytes: &[u8]) -> Option<usize>
     }
 }
 
-/// Does the same after one space at most.
+/// Does the same as `front_colon` after one space at most.
 #[inline(always)]
 pub fn near_colon(bytes: &[u8]) -> Option<usize>
     ensures { IfSome result (λ len. (place : ℕ) → BeginWithOne place bytes.now len TokenKind.Colon) }
@@ -102,7 +102,7 @@ pub fn near_colon(bytes: &[u8]) -> Option<usize>
     colon_at(bytes, one_space(bytes))
 }
 
-/// Does the same after any number of blanks. Most colons follow one space or none.
+/// Does the same as `front_colon` after any number of blanks. Most colons follow one space or none.
 #[inline(never)]
 fn far_colon(bytes: &[u8]) -> Option<usize>
     ensures { IfSome result (λ len. (place : ℕ) → BeginWithOne place bytes.now len TokenKind.Colon) }
@@ -182,8 +182,8 @@ pub fn front_number(bytes: &[u8]) -> Option<FrontNumber>
     }
 }
 
-/// Does the same for a number of any spelling. (The room for the result of a call is made where the function begins that calls: here,
-/// not in front of the plain way.)
+/// Does the same as `front_number` for a number of any spelling. (The room for the result of a call is made where the function begins that
+/// calls: here, not in front of the plain way.)
 #[inline(always)]
 fn front_number_of_any_spelling(bytes: &[u8]) -> Option<FrontNumber>
     ensures { IfSome result (λ found. (place : ℕ) → BeginWithNumber place bytes.now found) }
@@ -198,7 +198,7 @@ fn far_number(bytes: &[u8]) -> Option<FrontNumber>
     number_in(Spelling::Any, bytes)
 }
 
-/// Does the same for a number of such a spelling.
+/// Does the same as `front_number` for a number of such a spelling.
 #[inline(always)]
 fn number_in(spelling: Spelling, bytes: &[u8]) -> Option<FrontNumber>
     ensures { IfSome result (λ found. (place : ℕ) → BeginWithNumber place bytes.now found) }
@@ -260,7 +260,7 @@ pub fn front_digits(bytes: &[u8]) -> Option<FrontDigits>
     }
 }
 
-/// Does the same after any spaces and line feeds, or for digits of any spelling.
+/// Does the same as `front_digits` after any spaces and line feeds, or for digits of any spelling.
 #[inline(always)]
 fn spaced_digits(bytes: &[u8]) -> Option<FrontDigits>
     ensures { IfSome result (λ number. (place : ℕ) → BeginWithDigits place bytes.now number) }
@@ -271,7 +271,7 @@ fn spaced_digits(bytes: &[u8]) -> Option<FrontDigits>
     }
 }
 
-/// Does the same after any blanks, and before any byte.
+/// Does the same as `front_digits` after any blanks, and before any byte.
 #[inline(always)]
 fn any_digits(bytes: &[u8]) -> Option<FrontDigits>
     ensures { IfSome result (λ number. (place : ℕ) → BeginWithDigits place bytes.now number) }
@@ -389,7 +389,7 @@ fn gap(spelling: Spelling, bytes: &[u8]) -> usize
     at
 }
 
-/// Does the same. Most gaps are one blank or none.
+/// Does the same as `gap`. Most gaps are one blank or none.
 #[inline(always)]
 fn near_gap(bytes: &[u8]) -> usize
     ensures within { result ≤ length bytes.now }
@@ -402,7 +402,7 @@ fn near_gap(bytes: &[u8]) -> usize
     far_gap(bytes)
 }
 
-/// Does the same with comments. 0 if one doesn't end within the bytes.
+/// Does the same as `gap` with comments. 0 if one doesn't end within the bytes.
 #[inline(never)]
 fn far_gap(bytes: &[u8]) -> usize
     ensures within { result ≤ length bytes.now }
@@ -446,7 +446,7 @@ fn whole_digits(bytes: &[u8]) -> (u64, usize)
     (number, at)
 }
 
-/// Returns the whole number at the front, if a byte after it ends it. `None` says nothing.
+/// Returns the whole number at the front, if a byte after it ends it. `None`: unknown, take the slow path.
 #[inline(always)]
 fn ended_digits(spelling: Spelling, bytes: &[u8]) -> Option<FrontDigits>
     ensures { IfSome result (EndsAsDigits bytes.now) }
@@ -495,7 +495,7 @@ pub fn front_value(rounding: Rounding, bytes: &[u8]) -> Option<FrontValue>
     }
 }
 
-/// Does the same after any spaces and line feeds, or for a value of any spelling.
+/// Does the same as `front_value` after any spaces and line feeds, or for a value of any spelling.
 #[inline(always)]
 fn spaced_value(rounding: Rounding, bytes: &[u8]) -> Option<FrontValue>
     ensures { IfSome result (λ value. (place : ℕ) → BeginWithValue rounding place bytes.now value) }
@@ -511,7 +511,7 @@ fn spaced_value(rounding: Rounding, bytes: &[u8]) -> Option<FrontValue>
     }
 }
 
-/// Does the same for a value of any spelling.
+/// Does the same as `front_value` for a value of any spelling.
 #[inline(always)]
 fn any_value(rounding: Rounding, bytes: &[u8]) -> Option<FrontValue>
     ensures { IfSome result (λ value. (place : ℕ) → BeginWithValue rounding place bytes.now value) }
@@ -575,7 +575,7 @@ fn numeral_in(spelling: Spelling, bytes: &[u8]) -> Option<FrontSize>
     }
 }
 
-/// Does the same in any spelling.
+/// Does the same as `numeral_in` in any spelling.
 #[inline(never)]
 fn any_numeral(bytes: &[u8]) -> Option<FrontSize>
     ensures { IfSome result (EndsAsSize bytes.now) }
@@ -601,7 +601,7 @@ fn any_numeral(bytes: &[u8]) -> Option<FrontSize>
     }
 }
 
-/// Does the same for a few digits, perhaps with a point and digits.
+/// Does the same as `numeral_in` for a few digits, perhaps with a point and digits.
 #[inline(always)]
 fn plain_numeral(spelling: Spelling, bytes: &[u8]) -> Option<FrontSize>
     ensures { IfSome result (EndsAsSize bytes.now) }

@@ -229,7 +229,7 @@ fn split_at_first(bytes: &[u8], separator: Separator) -> (&[u8], &[u8])
     (bytes, &[])
 }
 
-/// A number that is cut off after so many digits, read digit by digit.
+/// A number that is cut off after this many digits, read digit by digit.
 #[derive(Clone, Copy)]
 struct Scaling {
     floor: u64,
@@ -278,7 +278,7 @@ impl Scaling {
     }
 }
 
-/// Returns the number with so many zeros at its end, or one above the largest.
+/// Returns the number with this many zeros at its end, or one above the largest.
 #[inline(always)]
 pub(crate) fn with_zeros(number: u64, zeros: usize) -> u64
     requires { number ≤ size_cap }
@@ -380,7 +380,7 @@ fn has_nonzero(digits: &[u8]) -> bool
     digits.iter().any(|digit| *digit != b'0')
 }
 
-/// Returns the size of so many units, if they are less than the largest number. `None`: unknown, take the
+/// Returns the size of this many units, if they are less than the largest number. `None`: unknown, take the
 /// slow path.
 #[inline(always)]
 fn whole_size(number: u64) -> Option<Size>
@@ -595,7 +595,7 @@ impl Model for ScaledText {
 }
 
 impl ScaledText {
-    /// Returns the shortest text of so many millionths.
+    /// Returns the shortest text of this many millionths.
     fn of(scaled: i64) -> ScaledText
         ensures { result ≡ scaled_text scaled }
     {
@@ -636,7 +636,7 @@ impl ScaledText {
         }
     }
 
-    /// Appends the text of so many millionths.
+    /// Appends the text of this many millionths.
     fn push_unsigned(&mut self, size: u64)
         requires { length self.old ≤ 1 }
         ensures { self.new ≡ self.old ++ unsigned_text size }
@@ -646,7 +646,7 @@ impl ScaledText {
         self.push_fraction(size % 1_000_000);
     }
 
-    /// Appends a point and so many millionths below one, or nothing if there are none.
+    /// Appends a point and this many millionths below one, or nothing if there are none.
     fn push_fraction(&mut self, rest: u64)
         requires room { length self.old ≤ 17 }
         requires rest { rest < 1_000_000 }
@@ -658,7 +658,7 @@ impl ScaledText {
         }
     }
 
-    /// Appends the digits of so many millionths below one, without zeros at the end.
+    /// Appends the digits of this many millionths below one, without zeros at the end.
     fn push_decimals(&mut self, rest: u64)
         requires room { length self.old ≤ 18 }
         requires rest { rest < 1_000_000 }

@@ -131,7 +131,7 @@ impl StreamTokens {
     }
 
     /// Skips the first `count` of them. It does not look at them: after a count that ends inside a token, the next token begins
-    /// there. So a caller passes only tokens that it has cut off `ahead` whole, as `front_colon` and `front_number` do.
+    /// there. So a caller skips only tokens that it has cut off `lookahead` whole, as `front_colon` and `front_number` do.
     #[inline(always)]
     pub fn skip(&mut self, count: usize)
         requires continues { self.old.stop ≡ None }

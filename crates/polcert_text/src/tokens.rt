@@ -646,7 +646,7 @@ pub fn ended_name_or_mark(bytes: &[u8]) -> Option<LexemePrefix>
     }
 }
 
-/// Returns the numeral at the front, if a byte after it ends it. `None` says nothing.
+/// Returns the numeral at the front, if a byte after it ends it. `None`: unknown, take the slow path.
 #[inline(always)]
 fn ended_numeral(bytes: &[u8]) -> Option<LexemePrefix>
     requires some { 0 < length bytes.now }

@@ -134,7 +134,7 @@ fn answered_rows() -> [(Texts<'static>, Verdict, u8, &'static [u8]); 13] {
 fn is_answered(alloc: Global, texts: Texts<'_>, verdict: Verdict, status: u8, line: &[u8]) -> bool {
     answer(alloc, texts) == Ok(verdict)
         && status_of_verdict(verdict) == status
-        && gives(alloc, Run::Check, texts, Ok(Answer::Said(verdict)), line)
+        && gives(alloc, Run::Check, texts, Ok(Answer::Verdict(verdict)), line)
 }
 
 /// The first row whose texts are answered otherwise.

@@ -40,7 +40,7 @@ enum Run {
 /// What a run answers.
 #[derive(Clone, Copy, Debug, PartialEq)]
 enum Answer {
-    Said(InformedVerdict),
+    Verdict(InformedVerdict),
     By(i64),
 }
 
@@ -79,7 +79,7 @@ fn run_over_devices(alloc: Global, run: Run, texts: Texts<'_>, devices: Devices)
             &mut sink,
             &mut NoProgress,
         ) {
-            Ok(verdict) => Ok(Answer::Said(verdict)),
+            Ok(verdict) => Ok(Answer::Verdict(verdict)),
             Err(fault) => Err(fault),
         },
         Run::Raise => match run_bound_raise(alloc, &mut model, &mut vectors, &mut sink) {
@@ -120,7 +120,7 @@ fn is_answered(
 ) -> bool {
     check_bound_texts(alloc, texts.0, texts.1) == Ok(verdict)
         && status_of_bound_verdict(verdict) == status
-        && gives(alloc, Run::Check, texts, Ok(Answer::Said(verdict)), line)
+        && gives(alloc, Run::Check, texts, Ok(Answer::Verdict(verdict)), line)
 }
 
 /// The first row that is not answered yes.

@@ -33,7 +33,7 @@ pub const RUNS: [Run; 6] = [
 #[derive(Clone, Copy, Debug, PartialEq)]
 pub enum Answer {
     Done,
-    Said(Verdict),
+    Verdict(Verdict),
     SaidAbove(AboveVerdict),
     By(i64),
 }
@@ -75,7 +75,7 @@ fn done(answer: Result<(), RunFault>) -> Result<Answer, RunFault> {
 /// The answer of a check.
 fn said(answer: Result<Verdict, RunFault>) -> Result<Answer, RunFault> {
     match answer {
-        Ok(verdict) => Ok(Answer::Said(verdict)),
+        Ok(verdict) => Ok(Answer::Verdict(verdict)),
         Err(fault) => Err(fault),
     }
 }
@@ -184,7 +184,7 @@ impl Outcome {
         self.failures == 1 && self.has_given(Err(fault), b"")
     }
 
-    /// Whether the run stopped with this fault after so many writes, one of its devices failed once, and this was written.
+    /// Whether the run stopped with this fault after this many writes, one of its devices failed once, and this was written.
     pub fn has_stopped(&self, fault: RunFault, writes: u64, written: &[u8]) -> bool {
         self.failures == 1 && self.writes == writes && self.has_given(Err(fault), written)
     }

@@ -10,7 +10,7 @@ use std::test::Fail;
 /// A line that is blank.
 const BLANK: &str = "\r                                            \r";
 
-/// What is said of a check of nine nodes over five states which ends after so many nodes, the first of which takes long.
+/// What is said of a check of nine nodes over five states which ends after this many nodes, the first of which takes long.
 fn said(alloc: Global, is_terminal: bool, states: usize, nodes: usize) -> String {
     let terminal = FakeTerminal::new(alloc);
     let mut progress = CheckProgress::new(&terminal, is_terminal);
@@ -54,7 +54,7 @@ fn says_nothing_of_a_short_check_or_to_no_terminal(rt: HostRuntime) -> Result<()
     Ok(())
 }
 
-/// Returns what is written during so many reads of a graph of 70 bytes, 10 at a time.
+/// Returns what is written during this many reads of a graph of 70 bytes, 10 at a time.
 fn written(alloc: Global, is_terminal: bool, reads: usize) -> String {
     let terminal = FakeTerminal::new(alloc);
     let text = [b' '; 70];

@@ -24,7 +24,7 @@ const RUNS: [(Run, Texts<'static>, Answer, &'static [u8]); 2] = [
     (
         Run::Check,
         (TIGER, b"0 0 0 0", b"0 -20 -20"),
-        Answer::Said(Verdict::Yes),
+        Answer::Verdict(Verdict::Yes),
         b"yes: start node 0, at least -20\n",
     ),
 ];

@@ -37,13 +37,13 @@ const WRITTEN: [Trial; 9] = [
     (
         Run::Check,
         (TIGER, b"0 0 0 0", b"0 -20 -20"),
-        Answer::Said(Verdict::Yes),
+        Answer::Verdict(Verdict::Yes),
         b"yes: start node 0, at least -20\n",
     ),
     (
         Run::Check,
         HIGH,
-        Answer::Said(Verdict::Short {
+        Answer::Verdict(Verdict::Short {
             node: 0,
             state: 0,
             amount: AMOUNT,
@@ -53,7 +53,7 @@ const WRITTEN: [Trial; 9] = [
     (
         Run::Check,
         (EITHER, b"0 0 0 -", b"0 0"),
-        Answer::Said(Verdict::NoSuccessor {
+        Answer::Verdict(Verdict::NoSuccessor {
             node: 0,
             state: 0,
             observation: 1,
@@ -442,7 +442,7 @@ const READS_OF_MODELS: [u64; 10] = [
     75, // `.. reset`: the name ends with the text, 74 bytes and the end
 ];
 
-/// Models that are refused at a mark, and how often they are read: so many bytes as there are up to the mark and with it.
+/// Models that are refused at a mark, and how often they are read: as many bytes as there are up to the mark and with it.
 const AT_MARKS: [(&[u8], ItemFault, u64, u64); 4] = [
     (b"discount:: 1", ItemFault::BadShape, 1, 9),
     (b"discount: * 1", ItemFault::BadShape, 1, 10),
@@ -613,7 +613,7 @@ fn cut_anywhere(rt: HostRuntime) {
 /// Whether the answer to slices is that of the run over them.
 fn is_that_of_the_run(alloc: Global, texts: Texts<'_>) -> bool {
     let answer = match check_texts(alloc, texts.0, texts.1, texts.2) {
-        Ok(verdict) => Ok(Answer::Said(verdict)),
+        Ok(verdict) => Ok(Answer::Verdict(verdict)),
         Err(fault) => Err(RunFault::Text(fault)),
     };
     over_slices(alloc, Run::Check, texts).answer == answer

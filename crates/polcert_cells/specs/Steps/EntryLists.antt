@@ -14,7 +14,7 @@ use Rattle.polcert_cells.specs.declared.entries.Place.TheVariants.{Every, Only}
 use Rattle.polcert_cells.specs.declared.entries.RewardBody.{RewardBody}
 use Rattle.polcert_cells.specs.EntryRefs.{rewards_of, all_rewards}
 
--- so many items from a start on
+-- this many items from a start on
 abbrev pub part : {X : Type 0} → ℕ → ℕ → List X → List X
 part start len xs = slice_range xs start (start + len)
 
@@ -45,7 +45,7 @@ HasNumbers p fillings.Rewards start len = LiesIn (length p.rewards.items) start 
 HasNumbers p fillings.Uniform start len = Unit {0}
 HasNumbers p fillings.Identity start len = Unit {0}
 
--- so many places are there, and its numbers
+-- this many places are there, and its numbers
 pub record IsWithin (p : EntryStore) (h : EntryHeader) : Type 0 where
   pub few : h.count ≤ length h.places
   pub has_numbers : HasNumbers p h.filling h.start h.len

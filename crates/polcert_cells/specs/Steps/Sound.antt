@@ -29,7 +29,7 @@ ArePlacesIn ds [] = Unit {0}
 ArePlacesIn [] (p ∷ ps) = ⊥
 ArePlacesIn (d ∷ ds) (p ∷ ps) = IsPlaceIn d p × ArePlacesIn ds ps
 
--- a body with a number for each of so many cells, none too large
+-- a body with a number for each of this many cells, none too large
 abbrev pub Fills : ℕ → Body → Type 0
 Fills cells (Probabilities ps) = (length ps ≡ cells) × All (λ p. p ≤ one) ps
 Fills cells (Rewards hs) = (length hs ≡ cells) × All (λ h. unsigned_abs h ≤ largest) hs

@@ -100,7 +100,7 @@ fn is_written(
     }
 }
 
-/// A graph text of so many nodes, each of which leads to node 0.
+/// A graph text of this many nodes, each of which leads to node 0.
 fn nodes_text(alloc: Global, count: usize) -> Result<String, AllocError> {
     let mut text = String::new(alloc);
     for node in 0..count {
@@ -193,7 +193,7 @@ fn graph_readers(rt: HostRuntime) {
     );
 }
 
-/// The length of the text of so many nodes, and how it is refused.
+/// The length of the text of this many nodes, and how it is refused.
 fn fault_of_nodes(alloc: Global, count: usize) -> Option<(usize, Option<GraphFault>)> {
     let text = nodes_text(alloc, count).ok()?;
     Some((text.len(), single_fault(alloc, text.as_bytes())))

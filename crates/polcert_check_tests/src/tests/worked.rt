@@ -385,7 +385,7 @@ const FILLED: &[u8] =
 const LARGEST: &[u8] =
     b"discount: 1 values: reward states: 2500 actions: 1 observations: 2000 T: 0 uniform O: 0 uniform R: * : * : * : * -10000000";
 
-/// Adds the part to the text so many times.
+/// Adds the part to the text this many times.
 fn push_times(text: &mut Vec<u8>, part: &[u8], count: usize) -> Result<(), AllocError> {
     for _ in 0..count {
         text.extend_from_slice(part)?;
@@ -393,7 +393,7 @@ fn push_times(text: &mut Vec<u8>, part: &[u8], count: usize) -> Result<(), Alloc
     Ok(())
 }
 
-/// A graph of two nodes, of which the second follows both at each of so many observations.
+/// A graph of two nodes, of which the second follows both at each of this many observations.
 fn last_follows(alloc: Global, observations: usize) -> Result<Vec<u8>, AllocError> {
     let mut graph = Vec::new(alloc);
     graph.extend_from_slice(b"0 0")?;
@@ -403,7 +403,7 @@ fn last_follows(alloc: Global, observations: usize) -> Result<Vec<u8>, AllocErro
     Ok(graph)
 }
 
-/// The vectors of two nodes over so many states: 10,000,000 everywhere, and -10,000,000.
+/// The vectors of two nodes over this many states: 10,000,000 everywhere, and -10,000,000.
 fn high_and_low(alloc: Global, states: usize) -> Result<Vec<u8>, AllocError> {
     let mut vectors = Vec::new(alloc);
     vectors.extend_from_slice(b"0")?;

@@ -29,7 +29,7 @@ abbrev pub zero_text : ColumnForm → WeightRow → ℕ → List ℕ
 zero_text Decimals r = λ c. number_text c (pos 0)
 zero_text Cells r = λ c. cell_line r.table r.action r.state c (pos 0)
 
--- so many of these, from this column on
+-- this many of these, from this column on
 abbrev pub zeros_from : ColumnForm → WeightRow → ℕ → ℕ → List ℕ
 zeros_from form r first count = for_each count (λ i. zero_text form r (first + i))
 

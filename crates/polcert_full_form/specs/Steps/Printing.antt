@@ -69,7 +69,7 @@ blank_before i = if i == 0 then [] else codes " "
 abbrev pub number_text : ℕ → ℤ → List ℕ
 number_text i h = blank_before i ++ scaled_text h
 
--- so many zeros from this place of a line on
+-- this many zeros from this place of a line on
 abbrev pub zeros_text : ℕ → ℕ → List ℕ
 zeros_text first count = for_each count (λ i. number_text (first + i) (pos 0))
 

@@ -58,7 +58,7 @@ pub record StepsAhead {R : Type 0} (NumberStep : R → Lexeme → R → Type 0) 
   pub within : count ≤ length bytes
   pub fed : (place : ℕ) → (ls : List Lexeme) × (BeginWith place bytes count ls × AreTaken NumberStep old ls new)
 
--- a list of so many numbers was begun with the first of these bytes, and has its first number
+-- a list of this many numbers was begun with the first of these bytes, and has its first number
 pub record IsListBegun {T : Type 0} (kind : ListKind T) (needed : ℕ) (bytes : List ℕ) (list : ListAhead T) : Type 0 where
   pub ahead : StepsAhead (IsListFed kind) (no_numbers needed) bytes list.len list.numbers
   pub some : 0 < length list.numbers.read

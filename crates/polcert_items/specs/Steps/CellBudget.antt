@@ -16,12 +16,12 @@ use Rattle.polcert_format.specs.Limits.{IsLarge, HasFewCells, covered, most_cell
 use Rattle.polcert_items.specs.declared.model_so_far.CellBudget.{CellBudget}
 use Rattle.polcert_items.specs.declared.model_so_far.Sizes.{Sizes}
 
--- of so many elements, those that the place stands for
+-- of this many elements, those that the place stands for
 abbrev pub place_count : Option Place → ℕ → ℕ
 place_count (Some Every) count = count
 place_count _ count = 1
 
--- the cells that so many places leave open in a table of rows for each action and state
+-- the cells that this many places leave open in a table of rows for each action and state
 abbrev pub open_row_cells : ℕ → ℕ → ℕ → ℕ
 open_row_cells states columns places = if places == 1 then states * columns else (if places == 2 then columns else 1)
 
@@ -32,17 +32,17 @@ nonzero_cells (Rewards hs) states cells = 0
 nonzero_cells Uniform states cells = cells
 nonzero_cells Identity states cells = states
 
--- the cells that an entry covers with a weight above 0, in a table of so many columns
+-- the cells that an entry covers with a weight above 0, in a table of this many columns
 abbrev pub covered_by : ℕ → ℕ → ℕ → List Place → Body → ℕ
 covered_by actions states columns places body =
     place_count (slice_get places 0) actions * place_count (slice_get places 1) states * place_count (slice_get places 2) columns
     * nonzero_cells body states (open_row_cells states columns (length places))
 
--- at most so many
+-- at most this many
 abbrev pub most_covered : ℕ
 most_covered = most_actions * most_states * most_observations * (most_states * most_observations)
 
--- so many and more, in a table of so many cells: of a large one they may be too many, and of any other they are not counted
+-- this many and more, in a table of this many cells: of a large one they may be too many, and of any other they are not counted
 abbrev pub budget_after : ℕ → ℕ → ℕ → ℕ → Option ℕ
 budget_after cells most count more = if nat_lt most_cells cells then (if nat_lt most (count + more) then None else Some (count + more)) else Some count
 

@@ -21,7 +21,7 @@ use Rattle.polcert_items.specs.Steps.Lines.{AfterColon}
 abbrev pub IsAsciiName : Lexeme → Type 0
 IsAsciiName l = l.kind ≡ Name → IsAscii l.bytes
 
--- a count of at most so many
+-- a count of at most this many
 abbrev pub IsCountOf : ℕ → Lexeme → ℕ → Type 0
 IsCountOf most l n = IsWhole l n × (1 ≤ n) × (n ≤ most)
 
@@ -29,7 +29,7 @@ IsCountOf most l n = IsWhole l n × (1 ≤ n) × (n ≤ most)
 abbrev pub names_with : List (List ℕ) → List Lexeme → List (List ℕ)
 names_with names ls = names ++ map (λ l. l.bytes) ls
 
--- further names, which all differ from one another and from these, with these at most so many
+-- further names, which all differ from one another and from these, with these at most this many
 pub record NamesGo (most : ℕ) (names : List (List ℕ)) (ls : List Lexeme) (elements : Elements) : Type 0 where
   pub all : All IsName ls
   pub few : length (names_with names ls) ≤ most
@@ -42,7 +42,7 @@ ElementsGo most readers.First ls elements = AreElements most ls elements
 ElementsGo most (readers.Counted n) ls elements = (ls ≡ []) × (elements ≡ Count n)
 ElementsGo most (readers.Named names) ls elements = NamesGo most names ls elements
 
--- names that were read: at most so many, and all different
+-- names that were read: at most this many, and all different
 pub record AreNamesRead (most : ℕ) (names : List (List ℕ)) : Type 0 where
   pub few : length names ≤ most
   pub apart : AllPairs (λ x y. x ≢ y) names

@@ -148,11 +148,11 @@ abbrev pub word_text : Word → List ℕ
 word_text words.Uniform = codes "uniform"
 word_text words.Identity = codes "identity"
 
--- so many places may be written before this body
+-- this many places may be written before this body
 abbrev pub MayStand : Bool → Table → Body → ℕ → Type 0
 MayStand mdp table body written = list_any (λ n. n == written) (forms mdp table body) ≡ true
 
--- the lexeme is this word, and it may stand after so many places
+-- the lexeme is this word, and it may stand after this many places
 abbrev pub IsWordAfter : Bool → Table → ℕ → Lexeme → Word → Type 0
 IsWordAfter mdp table written l w = IsWord (word_text w) l × MayStand mdp table (body_of_word w) written
 

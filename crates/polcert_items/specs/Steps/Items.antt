@@ -94,7 +94,7 @@ new_item Observations = items.Observations elements.Colon
 new_item Start = items.Start new_start
 new_item (Cells table) = items.Entry (new_entry table)
 
--- what the body so far has to do with the state of its reader, with so many states
+-- what the body so far has to do with the state of its reader, with this many states
 abbrev pub IsSeen : ℕ → List Lexeme → ItemReader → Type 0
 IsSeen count body (items.States r) = (ends_in_sign body ≡ false) × AreElementsSeen body r
 IsSeen count body (items.Actions r) = (ends_in_sign body ≡ false) × AreElementsSeen body r
@@ -124,7 +124,7 @@ IsEndReason t StartSum = t ≡ Start
 IsEndReason t StartEmpty = t ≡ Start
 IsEndReason t _ = ⊥
 
--- why an item of this topic and body cannot end, and where, with so many states
+-- why an item of this topic and body cannot end, and where, with this many states
 abbrev pub IsItemEndReason : ℕ → Topic → List Lexeme → EndError → Type 0
 IsItemEndReason count t body (ends.AtEnd kind) = IsEndReason t kind
 IsItemEndReason count t body (ends.At r) = (t ≡ Start) × IsStartReason body r.kind r.place × IsLate count body true r.kind r.place

@@ -38,7 +38,7 @@ use Rattle.polcert_items.specs.Steps.Entries.{ProbabilitiesGo, HasRoom}
 abbrev pub marked : List Bool → ℕ → Bool
 marked marks s = get_or marks s false
 
--- so many states, and none is marked
+-- this many states, and none is marked
 pub record AreUnmarked (count : ℕ) (marks : List Bool) : Type 0 where
   pub size : length marks ≡ count
   pub none : (s : ℕ) → marked marks s ≡ false
@@ -179,7 +179,7 @@ abbrev pub IsValue : Result ℤ NumberFault → Bool → Lexeme → Type 0
 IsValue (Ok h) negative l = IsMillionths negative l h
 IsValue (Err fault) negative l = IsRefusedNumber fault negative l
 
--- the state of this number, if there are so many
+-- the state of this number, if there are that many
 abbrev pub IsState : ℕ → Option ℕ → Lexeme → Type 0
 IsState count (Some s) l = IsWhole l s × (s < count)
 IsState count None l = (s : ℕ) → IsWhole l s → s < count → ⊥
@@ -204,7 +204,7 @@ IsNumberKept sign l (reader.Sign s) = (sign ≡ None) × IsSignAt s l
 IsNumberKept sign l (reader.Number first) = (first.place ≡ signed_place sign l) × IsMillionths (is_minus_sign sign) l first.value
 IsNumberKept sign l _ = ⊥
 
--- what is kept of the lexeme after the colon, with so many states
+-- what is kept of the lexeme after the colon, with this many states
 abbrev pub IsKept : ℕ → Lexeme → StartReader → Type 0
 IsKept count l reader.Every = l.kind ≡ Name
 IsKept count l (reader.Only s) = l.kind ≡ Name
@@ -249,7 +249,7 @@ pub record IsFurtherBody (body : List Lexeme) : Type 0 where
   pub following : List Lexeme
   pub number : BeginsWithNumber body place IsFraction (next ∷ following)
 
--- the body so far, as the state knows it, with so many states
+-- the body so far, as the state knows it, with this many states
 abbrev pub HasStartBody : ℕ → List Lexeme → StartReader → Type 0
 HasStartBody count body reader.Form = body ≡ []
 HasStartBody count body (reader.Colon choice) = BeginsWithListWord body
@@ -317,7 +317,7 @@ CanStillBeRight count reader.Body l = (may_be_state count l.kind l.bytes ≡ tru
 CanStillBeRight count (reader.Sign sign) l = IsNumberHeld (Some sign) l
 CanStillBeRight count _ l = ⊥
 
--- what each reason of a refusal stands at, in the body that is refused
+-- what each reason of a refusal is at, in the body that is refused
 abbrev pub IsReasonIn : List Lexeme → ItemFault → ℕ → Type 0
 IsReasonIn body (Number fault) place = NumberStandsIn body place (IsRefusedNumber fault)
 IsReasonIn body ProbabilityRange place = NumberStandsIn body place IsNoFraction

@@ -62,7 +62,7 @@ expected_by_elements most elements.First ls = wants.names_want most ls
 expected_by_elements most (elements.Counted n) ls = EndOfWord
 expected_by_elements most (elements.Named names) ls = FurtherName most (names_with names ls)
 
--- so many numbers are still to come
+-- this many numbers are still to come
 abbrev pub expected_by_numbers : {T : Type 0} → Numbers T → List Lexeme → Expected
 expected_by_numbers n ls = numbers_want (is_some n.sign) (n.needed - length n.read) ls
 

@@ -11,7 +11,7 @@ use Rattle.polcert_optimum.specs.Informed.{greatest_below, expected_value, exces
 abbrev pub sum_of : List ℤ → ℕ → ℤ
 sum_of sums z = slice_index_or sums z (pos 0)
 
--- what the first end states, so many, add to the expected value of a vector where z is observed
+-- what the first end states, this many, add to the expected value of a vector where z is observed
 abbrev pub value_until : CellTable → (ℕ → ℤ) → ℕ → ℕ → ℕ → ℕ → ℤ
 value_until t vector a s count z = total_below (λ e. pos (step_weight t a s e z) *ℤ vector e) count
 
@@ -19,7 +19,7 @@ value_until t vector a s count z = total_below (λ e. pos (step_weight t a s e z
 pub record AreValuesUntil (t : CellTable) (vector : ℕ → ℤ) (a s count : ℕ) (sums : List ℤ) : Type 0 where
   pub each : (z : ℕ) → z < t.observations → sum_of sums z ≡ value_until t vector a s count z
 
--- each observation's sum is the greatest expected value of the vectors of the first actions, so many
+-- each observation's sum is the greatest expected value of the vectors of the first actions, this many
 pub record AreGreatestValues (t : CellTable) (vectors : ℕ → ℕ → ℤ) (a s count : ℕ) (sums : List ℤ) : Type 0 where
   pub each : (z : ℕ) → z < t.observations → sum_of sums z ≡ greatest_below (λ b. expected_value t a s z (vectors b)) count
 

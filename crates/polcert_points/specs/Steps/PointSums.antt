@@ -16,7 +16,7 @@ use Rattle.polcert_points.specs.declared.best_worth.Taken.{Taken}
 abbrev pub AreSmallCharges : PointTable → List ℤ → Type 0
 AreSmallCharges p charges = (a s : ℕ) → a < p.actions → s < p.states → unsigned_abs (charge_at p charges a s) ≤ largest
 
--- the charge of each action at each state is the least with the first points, so many
+-- the charge of each action at each state is the least with the first points, this many
 abbrev pub AreLeastUntil : PointTable → (ℕ → ℕ → ℤ) → ℕ → List ℤ → Type 0
 AreLeastUntil p vectors count charges = (a s : ℕ) → a < p.actions → s < p.states → IsLeastCharge p vectors a s count (charge_at p charges a s)
 
@@ -58,7 +58,7 @@ abbrev pub IsCorner : ℕ → Belief → Option ℕ → Type 0
 IsCorner states b None = (s : ℕ) → s < states → IsOneState states b s → ⊥
 IsCorner states b (Some s) = (s < states) × IsOneState states b s
 
--- x is the least that a belief is worth with the best next action, covered by none or by one of the first points, so many
+-- x is the least that a belief is worth with the best next action, covered by none or by one of the first points, this many
 pub record IsLeastWorth (t : CellTable) (charges : ℕ → ℕ → ℤ) (points : Points) (b : Belief) (count : ℕ) (x : ℤ) : Type 0 where
   pub uncovered : (cover : Cover) → IsCoverBy t points b None cover → x ≤ℤ best_worth t charges points b cover
   pub covered : (j : ℕ) (cover : Cover) → j < count → IsCoverBy t points b (Some j) cover → x ≤ℤ best_worth t charges points b cover

@@ -10,7 +10,7 @@ use Rattle.polcert_policy.specs.declared.fault.GraphFault.TheVariants as faults
 use Rattle.polcert_policy.specs.declared.graph_reading.GraphReading.{GraphReading}
 use Rattle.polcert_policy.specs.declared.graph.MinusSign.{MinusSign}
 
--- whole nodes, and so many tokens of the next
+-- whole nodes, and this many tokens of the next
 pub record AreNodesUpTo (actions observations : ℕ) (ts : List Lexeme) (node column : ℕ) (chosen : List ℕ) (successors : List (Option ℕ)) : Type 0 where
   pub records : AreNodes actions observations ts chosen successors
   pub count : length ts ≡ node * width observations + column

@@ -11,7 +11,7 @@ use Rattle.polcert_policy.specs.declared.fault.VectorFault.TheVariants as faults
 use Rattle.polcert_policy.specs.declared.vectors.OpenSign.{OpenSign}
 use Rattle.polcert_policy.specs.declared.vectors_reading.VectorsReading.{VectorsReading}
 
--- whole vectors, and so many parts of the next
+-- whole vectors, and this many parts of the next
 pub record AreVectorsUpTo (rounding : Rounding) (graph : PolicyGraph) (states : ℕ) (parts : List Part) (node column : ℕ) (values : List ℤ) : Type 0 where
   pub records : AreVectors rounding graph states parts values
   pub count : length parts ≡ node * (1 + states) + column
@@ -29,7 +29,7 @@ open_of (Some s) = s ∷ []
 abbrev pub kept_sign : Lexeme → OpenSign
 kept_sign s = record { place = s.place; is_negative = minus_kind s.kind }
 
--- where a number begins whose numeral stands at the place
+-- where a number begins whose numeral is at the place
 abbrev pub place_after : Option OpenSign → ℕ → ℕ
 place_after None place = place
 place_after (Some sign) place = sign.place

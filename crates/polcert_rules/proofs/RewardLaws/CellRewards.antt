@@ -52,7 +52,7 @@ module _ (rewards : RewardRules) (a s : ℕ) (list : CellRules) (next : ℕ) (ce
   abbrev number_of : ℕ → ℕ → ℕ
   number_of e z = e * rewards.shape.observations + z
 
-  -- a rule that names a cell stands at the place of that cell
+  -- a rule that names a cell is at the place of that cell
   placed : (e z : ℕ) (r : Rule) → z < rewards.shape.observations → Contains list.named.now r → NamesEnd list.low e z r.key
       → (k : ℕ) × (k < length list.named.now) × (slice_get list.named.now k ≡ Some r) × ((cell_at cells k).observation ≡ number_of e z)
   placed e z r zl c f =

@@ -50,6 +50,6 @@ body_weight columns places Uniform s c = one
 body_weight columns places Identity s c = if s == c then one * columns else 0
 body_weight columns places (Rewards hs) s c = 0
 
--- what an entry gives this column of the row of this state, where rows have so many columns
+-- what an entry gives this column of the row of this state, where rows have this many columns
 abbrev pub entry_weight : ℕ → Entry → ℕ → ℕ → ℕ
 entry_weight columns entry s c = body_weight columns entry.places entry.body s c

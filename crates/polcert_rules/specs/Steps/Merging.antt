@@ -60,7 +60,7 @@ abbrev pub weight_over : List Cell → (ℕ → ℕ) → ℕ → ℕ
 weight_over [] f column = f column
 weight_over (x ∷ xs) f column = if x.column == column then x.weight else weight_over xs f column
 
--- the columns rise from this one on, below so many
+-- the columns rise from this one on, below this many
 abbrev pub Rises : ℕ → ℕ → List Cell → Type 0
 Rises low columns [] = Unit {0}
 Rises low columns (x ∷ xs) = (low ≤ x.column) × (x.column < columns) × Rises (x.column + 1) columns xs

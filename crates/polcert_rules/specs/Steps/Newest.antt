@@ -10,7 +10,7 @@ use Rattle.polcert_rules.specs.Keys.{key_of, table_digit, AreDigits, most_places
 abbrev pub IsRising : List Rule → Type 0
 IsRising rules = AllPairs (λ x y. x.key < y.key) rules
 
--- so many rules in front have keys below this one, and the others have not
+-- this many rules in front have keys below this one, and the others have not
 pub record IsKeyPartition (rules : List Rule) (key place : ℕ) : Type 0 where
   pub within : place ≤ length rules
   pub front : (r : Rule) → Contains (take place rules) r → r.key < key

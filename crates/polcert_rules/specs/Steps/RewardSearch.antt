@@ -37,7 +37,7 @@ NamesStart a s key =
     (key ≡ table_key Reward)
     ⊎ (NamesStartAfter (table_key Reward + key_base ^ 3) s key ⊎ NamesStartAfter (table_key Reward + (a + 2) * key_base ^ 3) s key)
 
--- the rewards of so many observations from this one on are filled in
+-- the rewards of this many observations from this one on are filled in
 abbrev pub AreFilled : RewardRules → StateTransition → ℕ → ℕ → List ℤ → Type 0
 AreFilled rewards at first count filled = (p : Preamble) (entries : List Entry) → AreRewardsOf p entries rewards
     → (i : ℕ) → i < count → slice_index_or filled i (pos 0) ≡ reward p entries (at.action ∷ at.start ∷ at.end ∷ (first + i) ∷ [])
@@ -48,7 +48,7 @@ AreWithin [] [] = Unit {0}
 AreWithin (count ∷ counts) (i ∷ indices) = (i < count) × AreWithin counts indices
 AreWithin _ _ = ⊥
 
--- a body of so many places has one number after an action and a start state: all places, or all but that of the only observation
+-- a body of this many places has one number after an action and a start state: all places, or all but that of the only observation
 abbrev pub IsSingle : ℕ → ℕ → Type 0
 IsSingle observations places = (4 ≤ places) ⊎ ((places ≡ 3) × (observations ≡ 1))
 

@@ -83,7 +83,7 @@ abbrev pub sum_of_weights : List Cell → ℕ
 sum_of_weights [] = 0
 sum_of_weights (x ∷ xs) = x.weight + sum_of_weights xs
 
--- the cells of a row of so many columns sum to its scale
+-- the cells of a row of this many columns sum to its scale
 abbrev pub is_proper : ℕ → List Cell → Bool
 is_proper columns cells = sum_of_weights cells == one * columns
 

@@ -20,7 +20,7 @@ use Rattle.polcert_rules.specs.Steps.Merging.{is_newer}
 use Rattle.polcert_rules.specs.Steps.Rows.{AreExact, IsSingleEntry, no_column, number_in}
 
 -- ---- which rules are zeros
--- the body of an entry of so many places gives single cells the weight 0
+-- the body of an entry of this many places gives single cells the weight 0
 abbrev pub gives_zero_in : ℕ → Body → Bool
 gives_zero_in places (Probabilities ps) = places == 3 && slice_index ps 0 == 0
 gives_zero_in places Uniform = false

@@ -56,7 +56,7 @@ fn cut(
     (wrong, ends, [reads, source.reads])
 }
 
-/// The tokens of the source are these, and then comes this end, in so many reads. Two further calls answer the same, with no
+/// The tokens of the source are these, and then comes this end, in this many reads. Two further calls answer the same, with no
 /// read.
 fn assert_tokens(
     rt: &impl Abort,
@@ -190,7 +190,7 @@ fn a_mark_is_given_with_its_byte(rt: HostRuntime) {
     }
 }
 
-/// 4,095 blanks and a name of so many bytes, and a line end after it.
+/// 4,095 blanks and a name of this many bytes, and a line end after it.
 fn long_name(count: usize) -> [u8; 4500] {
     let mut text = [b' '; 4500];
     for at in 4095..4095 + count.min(401) {

@@ -40,7 +40,7 @@ kept_parts p start transitions observed rewards = record {
   rewards = rewards;
 }
 
--- the rows are for so many actions, states and columns
+-- the rows are for this many actions, states and columns
 pub record HasTableCounts (t : RowTable) (actions states columns : ℕ) : Type 0 where
   pub actions_are : t.actions ≡ actions
   pub states_are : t.states ≡ states

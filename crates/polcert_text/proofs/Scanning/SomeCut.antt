@@ -51,7 +51,7 @@ some_kind o h1 = grind arith
 no_kind : (o : Option TokenKind) → is_some o ≡ false → o ≡ None
 no_kind o h1 = grind arith
 
--- what stands at the front of some bytes
+-- what is at the front of some bytes
 data LexemePrefix (place : ℕ) (bs : List ℕ) : Type 0 where
   token : (t : Lexeme) → IsTokenAt place bs t → LexemePrefix place bs
   fault : (f : TokenFault) → IsFaultAt place bs f → LexemePrefix place bs

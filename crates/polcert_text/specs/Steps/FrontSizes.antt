@@ -20,7 +20,7 @@ use Rattle.polcert_text.specs.declared.tokens.TokenKind.TheVariants.{Numeral}
 abbrev pub AreDigitsFrom : List ℕ → ℕ → ℕ → Type 0
 AreDigitsFrom bytes from until = (k : ℕ) → from ≤ k → k < until → class_of (get_or bytes k 0) ≡ Digit
 
--- the digits from here on, at most six, are so many millionths
+-- the digits from here on, at most six, are this many millionths
 pub record AreDecimals (bytes : List ℕ) (from : ℕ) (decimals : FrontDecimals) : Type 0 where
   pub low : from ≤ decimals.end
   pub high : decimals.end ≤ from + 6

@@ -68,7 +68,7 @@ pub record IsNameOrMark (bytes : List ℕ) (front : LexemePrefix) : Type 0 where
   pub begins : gap_after Between (class_of (slice_index bytes 0)) ≡ Ended
   pub apart : (rest : List ℕ) → is_glued front.kind rest ≡ false
 
--- a numeral of just so many millionths ends within the bytes
+-- a numeral of just this many millionths ends within the bytes
 pub record EndsAsNumber (bytes : List ℕ) (number : FrontDigits) : Type 0 where
   pub begins : gap_after Between (class_of (slice_index bytes 0)) ≡ Ended
   pub ends : EndsWithin bytes (record { kind = Numeral; len = number.len })

@@ -67,7 +67,7 @@ fn counts(rt: HostRuntime) {
     }
 }
 
-/// A line of so many names and a last one, and the offset of that.
+/// A line of this many names and a last one, and the offset of that.
 fn names(alloc: Global, line: &str, count: u32, last: u32) -> Result<(String, u64), Fail> {
     let mut text = String::from_str(alloc, line)?;
     for number in 0..count {

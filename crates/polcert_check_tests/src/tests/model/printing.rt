@@ -234,7 +234,7 @@ impl OneByte {
         }
     }
 
-    /// Whether it took just these bytes, and failed so many times.
+    /// Whether it took just these bytes, and failed this many times.
     fn holds(&self, bytes: &[u8], failures: u64) -> bool {
         &self.taken[..self.len.min(2048)] == bytes && self.failures == failures
     }

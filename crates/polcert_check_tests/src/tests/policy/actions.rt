@@ -143,7 +143,7 @@ fn failed_action_vectors(rt: HostRuntime) {
     }
 }
 
-/// The counts of the graph of so many actions, and the action of its node 999.
+/// The counts of the graph of this many actions, and the action of its node 999.
 fn graph_of(alloc: Global) -> Option<([usize; 3], Option<usize>)> {
     let graph = Graph::of_actions(alloc, 1000).ok()?;
     let counts = [graph.nodes(), graph.actions(), graph.observations()];

@@ -13,7 +13,7 @@ of-requires-clause-split c = (c.args.given.bodies.entries.now, c.args.given.inde
 
 pub row_number-requires-clause-near : goal.row_number-requires-clause-near
 row_number-requires-clause-near c = (
-  subst (λ (xs : List ℕ). All (λ n. n < length c.loop-state.keeper.rows) xs) (sym c.as_slice.ensures.value) c.loop-state.invariant.0.within,
+  subst (λ (xs : List ℕ). All (λ n. n < length c.loop-state.store.rows) xs) (sym c.as_slice.ensures.value) c.loop-state.invariant.0.within,
   numbers_stay c.args.before.now _ _ c.loop-state.invariant.2 c.requires.before,
 )
 
@@ -71,4 +71,4 @@ returns-clause-rows c =
     let end = c.loop-state-test.false in
     let most = c.loop-state.auto.state-end in
     let all : c.loop-state.state ≡ c.args.given.bodies.shape.states = omega arith in
-    subst (λ n. AreLine c.args.given c.args.action n c.loop-state.keeper.rows c.loop-state.numbers.items) all c.loop-state.invariant.0
+    subst (λ n. AreLine c.args.given c.args.action n c.loop-state.store.rows c.loop-state.numbers.items) all c.loop-state.invariant.0

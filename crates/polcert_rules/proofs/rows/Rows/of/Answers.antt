@@ -19,7 +19,7 @@ loop-action-init c = (
   given_is _ c.as_slice-rules.result.now c.requires.weighted c.requires.sound c.in_ok-index.ensures c.as_slice-rules.ensures.is
       c.as_slice-rules.ensures.rising c.in_ok-split.ensures.zeros c.in_ok-split.ensures.others c.in_ok-split.ensures.exact,
   lines_none _ _ _ c.new-numbers.ensures,
-  c.in_ok-keeper.ensures c.args.shape.columns,
+  c.in_ok-store.ensures c.args.shape.columns,
 )
 
 pub action_rows-requires-clause-before : goal.action_rows-requires-clause-before
