@@ -9,6 +9,6 @@ returns-in-Ok-clause-read c =
 
 pub returns-in-Ok-clause-number : goal.returns-in-Ok-clause-number
 returns-in-Ok-clause-number c =
-    let place = ap (λ s. s.lookahead.place) c.skip.ensures in
+    let place = ap (λ s. s.ahead.place) c.skip.ensures in
     let few = c.in-Ok.ensures.number in
     omega (arith, place, few)
