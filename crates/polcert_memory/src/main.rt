@@ -6,6 +6,7 @@
 mod answers;
 mod bounds;
 mod ended;
+mod nearby;
 mod reading;
 mod texts;
 
@@ -59,6 +60,8 @@ fn call(alloc: Global, name: &str) -> Option<Ended> {
         "checking_a_lack_from_above" => Some(answers::checking_a_lack_from_above(alloc)),
         "lowering" => Some(answers::lowering(alloc)),
         "raising" => Some(answers::raising(alloc)),
+        "lowering_nearby" => Some(nearby::lowering(alloc)),
+        "raising_nearby" => Some(nearby::raising(alloc)),
         _ => None,
     }
 }

@@ -21,18 +21,19 @@ use Rattle.polcert_robust.proofs.Exactly.{around_row, high_ge, high_some}
 use Rattle.polcert_robust.proofs.Lowered.{lowered_row, no_weight}
 use Rattle.polcert_robust.proofs.OneWorst.{one_worst}
 use Rattle.polcert_robust.proofs.Step.{left_some, right_some, some_product}
+use Rattle.polcert_robust.specs.declared.distance.Spread.{Spread}
 
 -- ---- values where the weight is 0 do not matter
 none_or_some : (w : ℕ) → (w ≡ 0) ⊎ (0 < w)
 none_or_some w = ⊎_elim (λ (h : 0 < w). inr h) (λ (h : w ≤ 0). inl (omega (arith, h))) (cases_lt 0 w)
 
-high_none : (by w : ℕ) → w ≡ 0 → high_of by w ≡ 0
+high_none : (by : Spread) (w : ℕ) → w ≡ 0 → high_of by w ≡ 0
 high_none by w e = rw e refl
 
 as_it_is : (x y : ℤ) → y ≡ x → y ≡ x -ℤ pos 0
 as_it_is x y e = omega (arith, linear, e)
 
-module _ (f : ℕ → ℕ) (by scale n : ℕ) (x y : ℕ → ℤ) (row : ℕ → ℕ)
+module _ (f : ℕ → ℕ) (by : Spread) (scale n : ℕ) (x y : ℕ → ℤ) (row : ℕ → ℕ)
     (worst : IsWorstRow (λ j. low_of by (f j)) (λ j. high_of by (f j)) scale n x row) (same : (j : ℕ) → j < n → 0 < f j → y j ≡ x j) where
   pub worst_for : IsWorstRow (λ j. low_of by (f j)) (λ j. high_of by (f j)) scale n y row
   worst_for =
@@ -49,7 +50,7 @@ module _ (f : ℕ → ℕ) (by scale n : ℕ) (x y : ℕ → ℤ) (row : ℕ →
       (none_or_some (f j)))
 
 -- the mean of known values
-pub exact_mean : (f : ℕ → ℕ) (by scale n : ℕ) (y : ℕ → ℤ) (value : ℤ) → IsWorstMean (λ j v. v ≡ y j) f by scale n value
+pub exact_mean : (f : ℕ → ℕ) (by : Spread) (scale n : ℕ) (y : ℕ → ℤ) (value : ℤ) → IsWorstMean (λ j v. v ≡ y j) f by scale n value
     → (row : ℕ → ℕ) × IsWorstRow (λ j. low_of by (f j)) (λ j. high_of by (f j)) scale n y row × (value ≡ mean row y n)
 exact_mean f by scale n y value w = (
   w.row,
@@ -59,7 +60,7 @@ exact_mean f by scale n y value w = (
 )
 
 -- ---- a pair
-module _ (side : Side) (c : Controller) (t_by o_by r_by n s : ℕ) (proper : IsProper c.cells) (al : c.action n < c.cells.actions)
+module _ (side : Side) (c : Controller) (t_by o_by : Spread) (r_by n s : ℕ) (proper : IsProper c.cells) (al : c.action n < c.cells.actions)
     (sl : s < c.cells.states) where
   abbrev pub table : IntervalTable
   table = sided_table side (around c.cells t_by o_by r_by)
@@ -119,7 +120,7 @@ module _ (side : Side) (c : Controller) (t_by o_by r_by n s : ℕ) (proper : IsP
       same e el some = sym ((row_or_is w.x rows e el (cases_lt e c.cells.states)).1 some)
 
   -- ---- what the pair may lack
-  some_high : (by w : ℕ) → 0 < w → 0 < high_of by w
+  some_high : (by : Spread) (w : ℕ) → 0 < w → 0 < high_of by w
   some_high by w some = omega (arith, some, high_ge by w)
 
   may_lack_if : (z : ℕ) → IsMissedBefore c n s c.cells.states z → (z < c.cells.observations) × MayLack table c n s z

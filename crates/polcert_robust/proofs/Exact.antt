@@ -18,8 +18,9 @@ use Rattle.polcert_robust.proofs.Exactly.{high_some, lies_around, only_then}
 use Rattle.polcert_robust.proofs.Horizons.{near}
 use Rattle.polcert_robust.proofs.Refuting.{refutes}
 use Rattle.polcert_robust.proofs.Step.{left_some, passes_within, right_some, some_product}
+use Rattle.polcert_robust.specs.declared.distance.Spread.{Spread}
 
-module _ (x : CellTable) (graph : PolicyGraph) (vectors : PolicyVectors) (t_by o_by r_by : ℕ) (t_some : 0 < x.t_scale)
+module _ (x : CellTable) (graph : PolicyGraph) (vectors : PolicyVectors) (t_by o_by : Spread) (r_by : ℕ) (t_some : 0 < x.t_scale)
     (o_some : 0 < x.o_scale)
     (proper : IsProper x) (is_graph : IsProperGraph graph) (fits : Fits x graph vectors) where
   abbrev pub intervals : IntervalTable

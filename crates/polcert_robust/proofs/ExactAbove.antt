@@ -20,6 +20,7 @@ use Rattle.polcert_robust.proofs.Exact.{known, lacks_itself, short_fails}
 use Rattle.polcert_robust.proofs.Exactly.{lies_around, only_then}
 use Rattle.polcert_robust.proofs.Horizons.{is_for_around, near_above, negated_lies, negated_model, passes_above_within, robust_mirrored}
 use Rattle.polcert_robust.proofs.Refuting.{refutes}
+use Rattle.polcert_robust.specs.declared.distance.Spread.{Spread}
 
 -- ---- negated twice
 neg_neg : (x : ℤ) → x ≡ neg_ℤ (neg_ℤ x)
@@ -55,14 +56,31 @@ low_same r by = omega (arith, linear)
 high_same : (r : ℤ) (by : ℕ) → neg_ℤ r +ℤ pos by ≡ neg_ℤ (r -ℤ pos by)
 high_same r by = omega (arith, linear)
 
-same_intervals : (x : CellTable) (t_by o_by r_by : ℕ) → around (negated_model x) t_by o_by r_by ≡ negated (around x t_by o_by r_by)
+same_intervals : (x : CellTable) (t_by o_by : Spread) (r_by : ℕ)
+    → around (negated_model x) t_by o_by r_by ≡ negated (around x t_by o_by r_by)
 same_intervals x t_by o_by r_by = λ j. record (negated (around x t_by o_by r_by))
     { r_low = λ a s e z. low_same (x.r a s e z) r_by j; r_high = λ a s e z. high_same (x.r a s e z) r_by j }
 
 yes_above : (v : AboveVerdict) → below_of v ≡ Yes → v ≡ above.Yes
 yes_above v e = grind arith
 
-module _ (x : CellTable) (graph : PolicyGraph) (vectors : PolicyVectors) (t_by o_by r_by : ℕ) (t_some : 0 < x.t_scale)
+-- each model near the negated one is the negative of one near the model
+module _ (x : CellTable) (t_by o_by : Spread) (r_by : ℕ) (k : Controller) where
+  passes_negated : PassesAboveInEveryModel (around x t_by o_by r_by) k → (m : CellTable)
+      → LiesWithin (around (negated_model x) t_by o_by r_by) 1 m → Passes (within_model (negated_values k) 1 m)
+  passes_negated passes m lies =
+      subst Passes (same_back k m)
+      (passes_below (within_model k 1 (negated_model m)) (passes 1 (negated_model m)
+      (lies_back (around x t_by o_by r_by) m (subst (λ (i : IntervalTable). LiesWithin i 1 m) (same_intervals x t_by o_by r_by) lies))))
+
+  pub robust_above_if : IsProper x → ((n : ℕ) → n < k.nodes → k.action n < x.actions) → PassesAboveInEveryModel (around x t_by o_by r_by) k
+      → IsRobust (negated (around x t_by o_by r_by)) (negated_values k)
+  robust_above_if proper known_all passes =
+      subst (λ (i : IntervalTable). IsRobust i (negated_values k)) (same_intervals x t_by o_by r_by)
+      (only_then (negated_model x) (negated_values k) t_by o_by r_by (record { t_rows = proper.t_rows; o_rows = proper.o_rows }) known_all
+      (passes_negated passes))
+
+module _ (x : CellTable) (graph : PolicyGraph) (vectors : PolicyVectors) (t_by o_by : Spread) (r_by : ℕ) (t_some : 0 < x.t_scale)
     (o_some : 0 < x.o_scale)
     (proper : IsProper x) (is_graph : IsProperGraph graph) (fits : Fits x graph vectors) where
   abbrev pub intervals : IntervalTable
@@ -79,19 +97,8 @@ module _ (x : CellTable) (graph : PolicyGraph) (vectors : PolicyVectors) (t_by o
       passes_above_within intervals c t_some o_some (is_for_around x graph vectors t_by o_by r_by is_graph fits)
       (robust_mirrored (negated intervals) c robust)
 
-  -- each model near the negated one is the negative of one near the model
-  passes_negated : PassesAboveInEveryModel intervals c → (m : CellTable) → LiesWithin (around (negated_model x) t_by o_by r_by) 1 m
-      → Passes (within_model (negated_values c) 1 m)
-  passes_negated passes m lies =
-      subst Passes (same_back c m)
-      (passes_below (within_model c 1 (negated_model m)) (passes 1 (negated_model m)
-      (lies_back intervals m (subst (λ (i : IntervalTable). LiesWithin i 1 m) (same_intervals x t_by o_by r_by) lies))))
-
   robust_if_passes : PassesAboveInEveryModel intervals c → IsRobust (negated intervals) (negated_values c)
-  robust_if_passes passes =
-      subst (λ (i : IntervalTable). IsRobust i (negated_values c)) (same_intervals x t_by o_by r_by)
-      (only_then (negated_model x) (negated_values c) t_by o_by r_by (record { t_rows = proper.t_rows; o_rows = proper.o_rows }) known_here
-      (passes_negated passes))
+  robust_if_passes = robust_above_if x t_by o_by r_by c proper known_here
 
   pub exact_above : (v : AboveVerdict) → IsRobustAboveVerdict intervals c v → (v ≡ above.Yes) ↔ PassesAboveInEveryModel intervals c
   exact_above v is = (

@@ -1,4 +1,5 @@
 -- If every model near a model passes, every pair passes in the worst case.
+use Rattle.std.specs.Prelude.{◌-◌, ◌==◌, if◌then◌else◌}
 use Rattle.std.proofs.lemmas.Bool.{cases_lt}
 use Rattle.std.proofs.Common.{◌≡◌, ℕ, zero, suc, ◌+◌, ◌*◌, ◌<◌, ◌≤◌, ◌⊎◌, inl, inr, ℤ, pos, ◌-ℤ◌, ◌+ℤ◌, ◌*ℤ◌, ◌≤ℤ◌, refl, sym, subst, arith}
 use Rattle.std.proofs.lemmas.Int.{by_lt_z}
@@ -8,36 +9,43 @@ use Rattle.polcert_cells.specs.Tables.{CellTable, IsProper}
 use Rattle.polcert_check.specs.Horizon.{Controller, one}
 use Rattle.polcert_check.specs.Shortfall.{Passes}
 use Rattle.polcert_check.proofs.Sums.Ring.{linear, one-*ℤ}
-use Rattle.polcert_robust.specs.Intervals.{IntervalTable, IsBetween, LiesWithin, around, low_of, high_of}
+use Rattle.polcert_robust.specs.Intervals.{IntervalTable, IsBetween, LiesWithin, around, low_of, high_of, spread_of}
 use Rattle.polcert_robust.specs.Worst.{IsWorstRow, IsWorstStep, MayLack, IsRobust, mean, least_step_worth, worst_backing, within_model}
 use Rattle.polcert_robust.proofs.Refuting.{pick, refutes}
 use Rattle.polcert_robust.proofs.Found.{sum_le, found}
 use Rattle.polcert_robust.proofs.Step.{some_product, left_some, right_some}
+use Rattle.polcert_robust.specs.declared.distance.Spread.{Spread}
 
 -- ---- a weight lies in its own interval
-pub low_le : (by w : ℕ) → low_of by w ≤ w
-low_le by w = omega arith
+less_at_most : (w by : ℕ) → w - by ≤ w
+less_at_most w by = omega arith
 
-pub high_ge : (by w : ℕ) → w ≤ high_of by w
-high_ge by w = pick (λ (k : ℕ). w ≤ k) w 0 0 (w + by) (λ e. omega arith) (omega arith)
+more_at_least : (w by : ℕ) → w ≤ (if w == 0 then 0 else w + by)
+more_at_least w by = pick (λ (k : ℕ). w ≤ k) w 0 0 (w + by) (λ e. omega arith) (omega arith)
 
-pub high_some : (by w : ℕ) → 0 < high_of by w → 0 < w
+pub low_le : (by : Spread) (w : ℕ) → low_of by w ≤ w
+low_le by w = less_at_most w (spread_of by w)
+
+pub high_ge : (by : Spread) (w : ℕ) → w ≤ high_of by w
+high_ge by w = more_at_least w (spread_of by w)
+
+pub high_some : (by : Spread) (w : ℕ) → 0 < high_of by w → 0 < w
 high_some by zero h = absurd (omega arith)
 high_some by (suc w) h = omega arith
 
-pub ends_ordered : (by w : ℕ) → low_of by w ≤ high_of by w
+pub ends_ordered : (by : Spread) (w : ℕ) → low_of by w ≤ high_of by w
 ends_ordered by w = omega (arith, low_le by w, high_ge by w)
 
 times_le : (a b k : ℕ) → a ≤ b → a * k ≤ b * k
 times_le a b k l = omega (arith, mul-le-mul_left k l)
 
-between : (by w scale : ℕ) → IsBetween (low_of by w) (high_of by w) scale w scale
+between : (by : Spread) (w scale : ℕ) → IsBetween (low_of by w) (high_of by w) scale w scale
 between by w scale = record { from = times_le (low_of by w) w scale (low_le by w); to = times_le w (high_of by w) scale (high_ge by w) }
 
 near_itself : (r : ℤ) (d : ℕ) → ((pos 1 *ℤ (r -ℤ pos d)) ≤ℤ r) × (r ≤ℤ (pos 1 *ℤ (r +ℤ pos d)))
 near_itself r d = (omega (arith, linear, one-*ℤ (r -ℤ pos d)), omega (arith, linear, one-*ℤ (r +ℤ pos d)))
 
-pub lies_around : (x : CellTable) (t_by o_by r_by : ℕ) → IsProper x → LiesWithin (around x t_by o_by r_by) 1 x
+pub lies_around : (x : CellTable) (t_by o_by : Spread) (r_by : ℕ) → IsProper x → LiesWithin (around x t_by o_by r_by) 1 x
 lies_around x t_by o_by r_by proper = record {
   states = refl;
   actions = refl;
@@ -50,7 +58,7 @@ lies_around x t_by o_by r_by proper = record {
 }
 
 -- ---- a worst row around a row
-pub around_row : (w : ℕ → ℕ) (by scale count : ℕ) (x : ℕ → ℤ) → sum_below w count ≡ scale
+pub around_row : (w : ℕ → ℕ) (by : Spread) (scale count : ℕ) (x : ℕ → ℤ) → sum_below w count ≡ scale
     → (row : ℕ → ℕ) × IsWorstRow (λ j. low_of by (w j)) (λ j. high_of by (w j)) scale count x row
 around_row w by scale count x sums =
     found (λ j. low_of by (w j)) (λ j. high_of by (w j)) scale count x (λ j l. ends_ordered by (w j))
@@ -58,7 +66,8 @@ around_row w by scale count x sums =
     (subst (λ (k : ℕ). k ≤ sum_below (λ j. high_of by (w j)) count) sums (sum_le w (λ j. high_of by (w j)) count (λ j l. high_ge by (w j))))
 
 -- ---- every pair
-pub only_then : (x : CellTable) (c : Controller) (t_by o_by r_by : ℕ) → IsProper x → ((n : ℕ) → n < c.nodes → c.action n < x.actions)
+pub only_then : (x : CellTable) (c : Controller) (t_by o_by : Spread) (r_by : ℕ) → IsProper x
+    → ((n : ℕ) → n < c.nodes → c.action n < x.actions)
     → ((m : CellTable) → LiesWithin (around x t_by o_by r_by) 1 m → Passes (within_model c 1 m)) → IsRobust (around x t_by o_by r_by) c
 only_then x c t_by o_by r_by proper known passes n s nl sl =
     record { lacks_none = lacks_none; seen = seen; ends = ends_found.0; worst = worst; not_short = not_short }

@@ -11,11 +11,13 @@ use Rattle.polcert_check.specs.Horizon.{total_below}
 use Rattle.polcert_check.proofs.Sums.Gaps.{gap}
 use Rattle.polcert_check.proofs.Sums.Ring.{linear, ≤ℤ_from_eq}
 use Rattle.polcert_check.proofs.Sums.SumLaws.{sum_below_same}
+use Rattle.polcert_robust.specs.Intervals.{spread_of}
 use Rattle.polcert_robust.specs.Steps.Holding.{HoldsRow, IsWorstMean}
 use Rattle.polcert_robust.specs.Steps.Rows.{AreLevels, IsLevelMean, end_until, ends_until, level_mean, listed_value, listed_weight}
 use Rattle.polcert_robust.proofs.Levels.{end_above, end_at_most, level_mean_is, level_row, level_row_is_worst}
 use Rattle.polcert_robust.proofs.Means.{total_pos}
 use Rattle.polcert_robust.proofs.Refuting.{at_same, at_other}
+use Rattle.polcert_robust.specs.declared.distance.Spread.{Spread}
 
 -- ---- gathering
 pub holds_none : (P : ℕ → ℤ → Type 0) (f : ℕ → ℕ) (bound : ℕ) (weights : List ℕ) (values : List ℤ) → HoldsRow P f 0 bound weights values 0
@@ -125,10 +127,10 @@ module _ (P : ℕ → ℤ → Type 0) (f : ℕ → ℕ) (from bound : ℕ) (weig
           (value_here values count v more_room ∙ sym (at_same z z v (held.x z) refl)))
 
 -- ---- the worst row
-end_of_none : (by : ℕ) (level v : ℤ) → end_until by level 0 v ≡ 0
+end_of_none : (by : Spread) (level v : ℤ) → end_until by level 0 v ≡ 0
 end_of_none by level v =
     by_lt_z level v
-    (λ l. end_above by level 0 v l ∙ none by)
+    (λ l. end_above by level 0 v l ∙ none (spread_of by 0))
     (λ l. end_at_most by level 0 v l)
   where
     none : (k : ℕ) → 0 - k ≡ 0
@@ -159,14 +161,14 @@ module _ (P : ℕ → ℤ → Type 0) (f : ℕ → ℕ) (n bound : ℕ) (weights
       (λ (some : 0 < f j). two_same g (f j) (f j) (held.x j) (leveled high j) refl (sym (leveled_some high j some)))
       (none_or_some j))
 
-  ends_same : (by : ℕ) (high level : ℤ) → sum_below (ends_until by level (listed_weight weights) (listed_value values)) count
+  ends_same : (by : Spread) (high level : ℤ) → sum_below (ends_until by level (listed_weight weights) (listed_value values)) count
       ≡ sum_below (ends_until by level f (leveled high)) n
   ends_same by high level =
       same_pos _ _ (sym (total_pos (ends_until by level (listed_weight weights) (listed_value values)) count)
       ∙ sums_leveled high (λ w v. pos (end_until by level w v)) (λ v. ap pos (end_of_none by level v))
       ∙ total_pos (ends_until by level f (leveled high)) n)
 
-  levels_same : (by scale : ℕ) (low high : ℤ) → AreLevels by scale count (listed_weight weights) (listed_value values) low high
+  levels_same : (by : Spread) (scale : ℕ) (low high : ℤ) → AreLevels by scale count (listed_weight weights) (listed_value values) low high
       → AreLevels by scale n f (leveled high) low high
   levels_same by scale low high are = record {
     order = are.order;
@@ -181,7 +183,7 @@ module _ (P : ℕ → ℤ → Type 0) (f : ℕ → ℕ) (n bound : ℕ) (weights
       found : {v : ℤ} → (k : ℕ) × (k < count) × (listed_value values k ≡ v) → (v ≤ℤ low) ⊎ (high ≤ℤ v)
       found (k, kl, e) = subst (λ (u : ℤ). (u ≤ℤ low) ⊎ (high ≤ℤ u)) e (are.between k kl)
 
-  mean_same : (by scale : ℕ) (low high : ℤ) → level_mean by scale count (listed_weight weights) (listed_value values) low high
+  mean_same : (by : Spread) (scale : ℕ) (low high : ℤ) → level_mean by scale count (listed_weight weights) (listed_value values) low high
       ≡ level_mean by scale n f (leveled high) low high
   mean_same by scale low high =
       cc (
@@ -190,7 +192,7 @@ module _ (P : ℕ → ℤ → Type 0) (f : ℕ → ℕ) (n bound : ℕ) (weights
         ends_same by high low,
       )
 
-  pub worst_mean_of : (by scale : ℕ) (value : ℤ) → IsLevelMean by scale count (listed_weight weights) (listed_value values) value
+  pub worst_mean_of : (by : Spread) (scale : ℕ) (value : ℤ) → IsLevelMean by scale count (listed_weight weights) (listed_value values) value
       → IsWorstMean P f by scale n value
   worst_mean_of by scale value at =
       let are : AreLevels by scale n f (leveled at.high) at.low at.high = levels_same by scale at.low at.high at.levels in

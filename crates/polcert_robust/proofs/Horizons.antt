@@ -16,6 +16,7 @@ use Rattle.polcert_check.proofs.Sums.Ring.{linear, neg_product}
 use Rattle.polcert_robust.specs.Intervals.{IntervalTable, LiesWithin, around, negated}
 use Rattle.polcert_robust.specs.Worst.{IsRobust, PairIsRobust, negated_values, within_model}
 use Rattle.polcert_robust.proofs.Step.{passes_within}
+use Rattle.polcert_robust.specs.declared.distance.Spread.{Spread}
 
 -- the controller is for these intervals
 pub record IsFor (i : IntervalTable) (c : Controller) : Type 0 where
@@ -26,7 +27,7 @@ pub record IsFor (i : IntervalTable) (c : Controller) : Type 0 where
 known_in : (i : IntervalTable) (c : Controller) → IsFor i c → (n : ℕ) → n < c.nodes → c.action n < i.actions
 known_in i c is n nl = subst (λ (k : ℕ). c.action n < k) is.actions (is.closed.actions_in_range n nl)
 
-controller_within : (i : IntervalTable) (c : Controller) → IsFor i c → (parts : ℕ) (m : CellTable) → LiesWithin i parts m
+pub controller_within : (i : IntervalTable) (c : Controller) → IsFor i c → (parts : ℕ) (m : CellTable) → LiesWithin i parts m
     → IsController (within_model c parts m)
 controller_within i c is parts m lies = record {
   cells = lies.rows;
@@ -83,13 +84,13 @@ horizons_above_within i c t_some o_some is robust parts m lies =
     (passes_above_within i c t_some o_some is robust parts m lies)
 
 -- ---- around a model
-pub is_for_around : (x : CellTable) (graph : PolicyGraph) (vectors : PolicyVectors) (t_by o_by r_by : ℕ) → IsProperGraph graph
+pub is_for_around : (x : CellTable) (graph : PolicyGraph) (vectors : PolicyVectors) (t_by o_by : Spread) (r_by : ℕ) → IsProperGraph graph
     → Fits x graph vectors
     → IsFor (around x t_by o_by r_by) (controller_of x graph vectors)
 is_for_around x graph vectors t_by o_by r_by proper fits =
     record { actions = λ j. x.actions; observations = λ j. x.observations; closed = closed_is x graph vectors fits proper }
 
-pub near : (x : CellTable) (graph : PolicyGraph) (vectors : PolicyVectors) (t_by o_by r_by : ℕ) → 0 < x.t_scale → 0 < x.o_scale
+pub near : (x : CellTable) (graph : PolicyGraph) (vectors : PolicyVectors) (t_by o_by : Spread) (r_by : ℕ) → 0 < x.t_scale → 0 < x.o_scale
     → IsProperGraph graph → Fits x graph vectors
     → IsRobust (around x t_by o_by r_by) (controller_of x graph vectors)
     → (parts : ℕ) (m : CellTable) → LiesWithin (around x t_by o_by r_by) parts m
@@ -111,7 +112,8 @@ robust_mirrored i c robust n s nl sl =
       not_short = p.not_short;
     }
 
-pub near_above : (x : CellTable) (graph : PolicyGraph) (vectors : PolicyVectors) (t_by o_by r_by : ℕ) → 0 < x.t_scale → 0 < x.o_scale
+pub near_above : (x : CellTable) (graph : PolicyGraph) (vectors : PolicyVectors) (t_by o_by : Spread) (r_by : ℕ) → 0 < x.t_scale
+    → 0 < x.o_scale
     → IsProperGraph graph → Fits x graph vectors
     → IsRobust (negated (around x t_by o_by r_by)) (negated_values (controller_of x graph vectors))
     → (parts : ℕ) (m : CellTable) → LiesWithin (around x t_by o_by r_by) parts m

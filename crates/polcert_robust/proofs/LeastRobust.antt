@@ -8,13 +8,12 @@ use Rattle.polcert_check.specs.Lower.{lowered_by}
 use Rattle.polcert_check.specs.Verdict.{IsBefore}
 use Rattle.polcert_check.proofs.Sums.Ring.{linear}
 use Rattle.polcert_robust.specs.Intervals.{IntervalTable}
-use Rattle.polcert_policy.specs.Vectors.{PolicyVectors}
 use Rattle.polcert_check.specs.Steps.Findings.{IsLowerRefusal}
 use Rattle.polcert_check.specs.declared.fault.LowerFault.{LowerFault}
 use Rattle.polcert_check.specs.declared.survey.Verdict.{Verdict}
 use Rattle.polcert_check.specs.declared.survey.Verdict.TheVariants.{Yes, Short, NoSuccessor}
 use Rattle.polcert_robust.specs.declared.findings.RobustFindings.{RobustFindings}
-use Rattle.polcert_robust.specs.RobustLower.{IsLeastRobust, IsNotLoweredRobustly, NoneMayLack}
+use Rattle.polcert_robust.specs.RobustLower.{IsLeastRobust, IsNotMendedRobustly, NoneMayLack}
 use Rattle.polcert_robust.proofs.Backings.{all_before}
 use Rattle.polcert_robust.proofs.Surveying.{measured_if}
 use Rattle.polcert_robust.specs.RobustVerdict.{IsLeastThatMayLack, IsRobustShort}
@@ -148,10 +147,10 @@ module _ (i : IntervalTable) (c : Controller) (few : i.discount ≤ one) where
   none_lacks f is n s nl sl = (is.measured n s nl sl (inl nl)).lacks
 
   pub refused_robustly : 0 < i.t_scale → 0 < i.o_scale → one ≤ i.discount → (f : RobustFindings) → IsSurveyedBefore i c c.nodes 0 f
-      → (fault : LowerFault) → IsLowerRefusal f.first fault → (vectors : PolicyVectors) → IsNotLoweredRobustly i c vectors fault
-  refused_robustly t_some o_some all f is fault refused vectors = go f.first is.first refused
+      → (fault : LowerFault) → IsLowerRefusal f.first fault → (Can : ℕ → Type 0) → IsNotMendedRobustly i c Can fault
+  refused_robustly t_some o_some all f is fault refused Can = go f.first is.first refused
     where
-      go : (v : Verdict) → IsFirstBefore i c c.nodes 0 v → IsLowerRefusal v fault → IsNotLoweredRobustly i c vectors fault
+      go : (v : Verdict) → IsFirstBefore i c c.nodes 0 v → IsLowerRefusal v fault → IsNotMendedRobustly i c Can fault
       go Yes first e = absurd e
       go (Short n s amount) (nl, sl, short, some, before) e =
           rw e (

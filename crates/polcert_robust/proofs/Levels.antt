@@ -15,45 +15,46 @@ use Rattle.polcert_robust.specs.Steps.Rows.{AreLevels, end_until, ends_until, le
 use Rattle.polcert_robust.proofs.Exactly.{low_le, high_ge, ends_ordered}
 use Rattle.polcert_robust.proofs.Found.{found, sum_le}
 use Rattle.polcert_robust.proofs.Rows.{centered, pos_sum}
+use Rattle.polcert_robust.specs.declared.distance.Spread.{Spread}
 
 -- ---- one end
-pub end_at_most : (by : ℕ) (level : ℤ) (w : ℕ) (v : ℤ) → v ≤ℤ level → end_until by level w v ≡ high_of by w
+pub end_at_most : (by : Spread) (level : ℤ) (w : ℕ) (v : ℤ) → v ≤ℤ level → end_until by level w v ≡ high_of by w
 end_at_most by level w v h = let e : int_le v level ≡ true = grind (arith, ints) in rw e refl
 
-pub end_above : (by : ℕ) (level : ℤ) (w : ℕ) (v : ℤ) → level <ℤ v → end_until by level w v ≡ low_of by w
+pub end_above : (by : Spread) (level : ℤ) (w : ℕ) (v : ℤ) → level <ℤ v → end_until by level w v ≡ low_of by w
 end_above by level w v h = let e : int_le v level ≡ false = grind (arith, ints) in rw e refl
 
-end_from : (by : ℕ) (level : ℤ) (w : ℕ) (v : ℤ) → low_of by w ≤ end_until by level w v
+end_from : (by : Spread) (level : ℤ) (w : ℕ) (v : ℤ) → low_of by w ≤ end_until by level w v
 end_from by level w v =
     by_lt_z level v
     (λ l. omega (arith, end_above by level w v l))
     (λ l. omega (arith, end_at_most by level w v l, ends_ordered by w))
 
-end_to : (by : ℕ) (level : ℤ) (w : ℕ) (v : ℤ) → end_until by level w v ≤ high_of by w
+end_to : (by : Spread) (level : ℤ) (w : ℕ) (v : ℤ) → end_until by level w v ≤ high_of by w
 end_to by level w v =
     by_lt_z level v
     (λ l. omega (arith, end_above by level w v l, ends_ordered by w))
     (λ l. omega (arith, end_at_most by level w v l))
 
-end_rises : (by : ℕ) (low high : ℤ) (w : ℕ) (v : ℤ) → low <ℤ high → end_until by low w v ≤ end_until by high w v
+end_rises : (by : Spread) (low high : ℤ) (w : ℕ) (v : ℤ) → low <ℤ high → end_until by low w v ≤ end_until by high w v
 end_rises by low high w v order =
     by_lt_z low v
     (λ l. omega (arith, end_above by low w v l, end_from by high w v))
     (λ l. omega (arith, end_at_most by low w v l, end_at_most by high w v (omega (arith, linear))))
 
 -- ---- below all values, and at least at all
-pub sum_below_all : (by count : ℕ) (level : ℤ) (f : ℕ → ℕ) (x : ℕ → ℤ) → ((i : ℕ) → i < count → level <ℤ x i)
+pub sum_below_all : (by : Spread) (count : ℕ) (level : ℤ) (f : ℕ → ℕ) (x : ℕ → ℤ) → ((i : ℕ) → i < count → level <ℤ x i)
     → sum_below (ends_until by level f x) count ≤ sum_below f count
 sum_below_all by count level f x h =
     sum_le (ends_until by level f x) f count (λ i l. omega (arith, end_above by level (f i) (x i) (h i l), low_le by (f i)))
 
-pub sum_above_all : (by count : ℕ) (level : ℤ) (f : ℕ → ℕ) (x : ℕ → ℤ) → ((i : ℕ) → i < count → x i ≤ℤ level)
+pub sum_above_all : (by : Spread) (count : ℕ) (level : ℤ) (f : ℕ → ℕ) (x : ℕ → ℤ) → ((i : ℕ) → i < count → x i ≤ℤ level)
     → sum_below f count ≤ sum_below (ends_until by level f x) count
 sum_above_all by count level f x h =
     sum_le f (ends_until by level f x) count (λ i l. omega (arith, end_at_most by level (f i) (x i) (h i l), high_ge by (f i)))
 
 -- ---- the worst row
-module _ (by scale count : ℕ) (f : ℕ → ℕ) (x : ℕ → ℤ) (low high : ℤ) (are : AreLevels by scale count f x low high) where
+module _ (by : Spread) (scale count : ℕ) (f : ℕ → ℕ) (x : ℕ → ℤ) (low high : ℤ) (are : AreLevels by scale count f x low high) where
   abbrev pub lower : ℕ → ℕ
   lower = ends_until by low f x
 

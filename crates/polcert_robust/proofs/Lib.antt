@@ -16,3 +16,5 @@ pub mod Exact
 pub mod ExactAbove
 pub mod Surveying
 pub mod LeastRobust
+pub mod RobustMoves
+pub mod StartMeans

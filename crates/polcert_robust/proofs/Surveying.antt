@@ -2,7 +2,6 @@
 use Rattle.std.proofs.Common.{◌≡◌, ℕ, ◌+◌, ◌*◌, ◌<◌, ◌≤◌, ◌⊎◌, inl, inr, ⊎_elim, ℤ, pos, ◌-ℤ◌, ◌*ℤ◌, ◌≤ℤ◌, ◌<ℤ◌, None, Some, unsigned_abs}
 use Rattle.std.proofs.Common.{refl, sym, subst, arith}
 use Rattle.std.proofs.lemmas.Int.{ints}
-use Rattle.polcert_policy.specs.Vectors.{PolicyVectors}
 use Rattle.polcert_check.specs.Horizon.{Controller, one}
 use Rattle.polcert_check.specs.Verdict.{IsBefore}
 use Rattle.polcert_check.specs.declared.fault.LowerFault.{LowerFault}
@@ -10,7 +9,7 @@ use Rattle.polcert_check.specs.declared.survey.Verdict.{Verdict}
 use Rattle.polcert_check.specs.declared.survey.Verdict.TheVariants.{Yes, Short, NoSuccessor}
 use Rattle.polcert_check.proofs.Sums.Ring.{linear}
 use Rattle.polcert_robust.specs.Intervals.{IntervalTable}
-use Rattle.polcert_robust.specs.RobustLower.{IsFirstRobustShort, IsNotLoweredRobustly}
+use Rattle.polcert_robust.specs.RobustLower.{IsFirstRobustShort, IsNotMendedRobustly}
 use Rattle.polcert_robust.specs.RobustVerdict.{IsLeastThatMayLack, IsRobustShort}
 use Rattle.polcert_robust.specs.Worst.{PairIsRobust, worst_backing}
 use Rattle.polcert_robust.specs.Steps.Pairs.{IsRobustPair}
@@ -99,11 +98,11 @@ module _ (i : IntervalTable) (c : Controller) where
         same : worst ≡ size → pos worst ≡ amount
         same e = rw (e, is_size) (positive_is amount some)
 
-    pub lack_noted : (v : Verdict) (fault : LowerFault) (vectors : PolicyVectors) → IsRobustPair i c n s v → IsLackFault v fault
-        → IsNotLoweredRobustly i c vectors fault
-    lack_noted Yes fault vectors pair e = absurd e
-    lack_noted (Short m t amount) fault vectors pair e = absurd e
-    lack_noted (NoSuccessor m t z) fault vectors (me, te, lacks) e =
+    pub lack_noted : (v : Verdict) (fault : LowerFault) (Can : ℕ → Type 0) → IsRobustPair i c n s v → IsLackFault v fault
+        → IsNotMendedRobustly i c Can fault
+    lack_noted Yes fault Can pair e = absurd e
+    lack_noted (Short m t amount) fault Can pair e = absurd e
+    lack_noted (NoSuccessor m t z) fault Can (me, te, lacks) e =
         rw (e, me, te) (nl, sl, lacks, λ x y xl yl b. (is.measured x y xl yl b).lacks)
 
   pub node_surveyed : (n s : ℕ) (f : RobustFindings) → i.states ≤ s → IsSurveyedBefore i c n s f → IsSurveyedBefore i c (n + 1) 0 f

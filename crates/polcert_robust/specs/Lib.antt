@@ -4,4 +4,5 @@ pub mod Start
 pub mod RobustVerdict
 pub mod RobustAbove
 pub mod RobustLower
+pub mod RobustRaise
 pub mod Steps

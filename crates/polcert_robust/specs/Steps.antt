@@ -3,3 +3,5 @@ pub mod Holding
 pub mod Sides
 pub mod Pairs
 pub mod Surveys
+pub mod Moves
+pub mod Starts

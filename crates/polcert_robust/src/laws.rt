@@ -1,5 +1,5 @@
 //! Laws of the definitions, each the contract of a function with nothing to do.
-ghost use Rattle.std.specs.Prelude.{◌≡◌, ◌<◌, ◌*◌, ◌<ℤ◌, ◌≤ℤ◌, ◌*ℤ◌, ◌-ℤ◌, pos, ℕ, ℤ};
+ghost use Rattle.std.specs.Prelude.{◌≡◌, ◌<◌, ◌*◌, ◌<ℤ◌, ◌≤ℤ◌, ◌*ℤ◌, ◌-ℤ◌, pos, neg_ℤ, ℕ, ℤ};
 ghost use Rattle.polcert_cells.specs.Tables.{CellTable, IsProper};
 ghost use Rattle.polcert_policy.specs.Graphs.{PolicyGraph, IsProperGraph};
 ghost use Rattle.polcert_policy.specs.Vectors.{PolicyVectors};
@@ -7,9 +7,10 @@ ghost use Rattle.polcert_check.specs.Above.{MeetsEveryHorizonAbove};
 ghost use Rattle.polcert_check.specs.Horizon.{Controller, Fits, MeetsEveryHorizon, controller_of, one};
 ghost use Rattle.polcert_check.specs.Lower.{lowered_by};
 ghost use Rattle.polcert_check.specs.Shortfall.{PairPasses, Passes};
+ghost use Rattle.polcert_robust.specs.declared.distance.Spread.{Spread};
 ghost use Rattle.polcert_robust.specs.Intervals.{IntervalTable, LiesWithin, around, negated};
 ghost use Rattle.polcert_robust.specs.Worst.{IsRobust, IsWorstRow, IsWorstStep, MayLack, mean, negated_values, within_model, worst_backing};
-ghost use Rattle.polcert_robust.specs.Start.{IsWorthFrom, StartsWithin};
+ghost use Rattle.polcert_robust.specs.Start.{IsAtMostFrom, IsWorthFrom, StartsWithin};
 
 /// If every pair passes in the worst case, every pair passes in every model that lies within the intervals.
 pub fn every_model_near()
@@ -33,13 +34,13 @@ pub fn a_no_is_right()
 /// node and state, with the vectors at the end and without; and from above likewise.
 pub fn promise_for_every_model_near()
     ensures below { (x : CellTable) (graph : PolicyGraph) (vectors : PolicyVectors)
-        (t_by o_by r_by : ℕ) → 0 < x.t_scale → 0 < x.o_scale →
+        (t_by o_by : Spread) (r_by : ℕ) → 0 < x.t_scale → 0 < x.o_scale →
         IsProperGraph graph → Fits x graph vectors →
         IsRobust (around x t_by o_by r_by) (controller_of x graph vectors) →
         (parts : ℕ) (m : CellTable) → LiesWithin (around x t_by o_by r_by) parts m →
         MeetsEveryHorizon (within_model (controller_of x graph vectors) parts m) }
     ensures above { (x : CellTable) (graph : PolicyGraph) (vectors : PolicyVectors)
-        (t_by o_by r_by : ℕ) → 0 < x.t_scale → 0 < x.o_scale →
+        (t_by o_by : Spread) (r_by : ℕ) → 0 < x.t_scale → 0 < x.o_scale →
         IsProperGraph graph → Fits x graph vectors →
         IsRobust (negated (around x t_by o_by r_by)) (negated_values (controller_of x graph vectors)) →
         (parts : ℕ) (m : CellTable) → LiesWithin (around x t_by o_by r_by) parts m →
@@ -49,23 +50,31 @@ pub fn promise_for_every_model_near()
 /// The test of the worst case is necessary too: if every pair passes in every model near the text's, every pair passes in the worst case. And
 /// the text's own model is one of those near it.
 pub fn worst_case_is_reached()
-    ensures itself { (x : CellTable) (t_by o_by r_by : ℕ) → IsProper x →
+    ensures itself { (x : CellTable) (t_by o_by : Spread) (r_by : ℕ) → IsProper x →
         LiesWithin (around x t_by o_by r_by) 1 x }
-    ensures only_then { (x : CellTable) (c : Controller) (t_by o_by r_by : ℕ) → IsProper x → ((n : ℕ) →
-        n < c.nodes → c.action n < x.actions) →
+    ensures only_then { (x : CellTable) (c : Controller) (t_by o_by : Spread) (r_by : ℕ) → IsProper x →
+        ((n : ℕ) → n < c.nodes → c.action n < x.actions) →
         ((m : CellTable) → LiesWithin (around x t_by o_by r_by) 1 m → Passes (within_model c 1 m)) →
         IsRobust (around x t_by o_by r_by) c }
 {}
 
 /// What a node is worth in the mean under the worst start near the text's, it is worth from every start near it, in every model in which
-/// the promise holds, for every number of steps.
+/// the promise holds, for every number of steps; and from above likewise.
 pub fn worth_from_every_start_near()
-    ensures { (c : Controller) (parts : ℕ) (m : CellTable) → MeetsEveryHorizon (within_model c parts m) →
+    ensures below { (c : Controller) (parts : ℕ) (m : CellTable) →
+        MeetsEveryHorizon (within_model c parts m) →
         (low high : ℕ → ℕ) (scale : ℕ) → 0 < scale → (n : ℕ) → n < c.nodes → (worst : ℕ → ℕ) →
         IsWorstRow low high scale m.states (c.value n) worst →
         (worth : ℤ) → (pos scale *ℤ worth) ≤ℤ mean worst (c.value n) m.states →
         (shares : ℕ → ℕ) (total : ℕ) → StartsWithin low high scale m.states shares total →
         (k : ℕ) → IsWorthFrom (within_model c parts m) shares total k n (pos parts *ℤ worth) }
+    ensures above { (c : Controller) (parts : ℕ) (m : CellTable) →
+        MeetsEveryHorizonAbove (within_model c parts m) →
+        (low high : ℕ → ℕ) (scale : ℕ) → 0 < scale → (n : ℕ) → n < c.nodes → (worst : ℕ → ℕ) →
+        IsWorstRow low high scale m.states (λ s. neg_ℤ (c.value n s)) worst →
+        (most : ℤ) → mean worst (c.value n) m.states ≤ℤ (pos scale *ℤ most) →
+        (shares : ℕ → ℕ) (total : ℕ) → StartsWithin low high scale m.states shares total →
+        (k : ℕ) → IsAtMostFrom (within_model c parts m) shares total k n (pos parts *ℤ most) }
 {}
 
 /// Where no pair may lack an observation, lowering every vector by one constant lowers what backs a value in the worst case by the scales

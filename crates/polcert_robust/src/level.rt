@@ -1,9 +1,11 @@
 //! The least mean of values over the rows within intervals around a row.
 ghost use Rattle.std.specs.Prelude.{◌≡◌, ◌*ℤ◌, ◌-◌, ◌+◌, ◌*◌, ◌^◌, ◌<◌, ◌≤◌, ◌⊎◌, ℕ, ℤ, pos, neg_ℤ, ◌≤ℤ◌, ◌<ℤ◌, length, unsigned_abs, ◌-ℤ◌, IfSome, IfNone, IsTrue, IsFalse, Some, None};
 ghost use Rattle.polcert_cells.specs.Meaning.{sum_below};
-ghost use Rattle.polcert_robust.specs.Intervals.{low_of, high_of};
+ghost use Rattle.polcert_robust.specs.Intervals.{low_of, high_of, spread_of};
 ghost use Rattle.polcert_robust.specs.Worst.{mean};
 ghost use Rattle.polcert_robust.specs.Steps.Rows.{AreLevels, IsLevelMean, end_until, ends_until, listed_value, listed_weight};
+
+use crate::distance::Spread;
 
 /// Weights above 0 of a row, what a step to each is worth, and how far the row may lie from these weights.
 #[derive(Drop)]
@@ -11,14 +13,15 @@ pub(crate) struct WorthRow<'a> {
     pub weights: &'a [u64],
     pub values: &'a [i128],
     pub count: usize,
-    pub by: u64,
+    pub by: Spread,
     pub scale: u64,
     /// No value is larger in size.
     pub bound: u128,
     ghost room_for_weights: { count ≤ length weights.now },
     ghost room_for_values: { count ≤ length values.now },
     ghost few: { count ≤ 10_000 },
-    ghost near: { by ≤ 10_000_000_000 },
+    ghost near: { by.parts ≤ 10_000_000_000 },
+    ghost near_percent: { by.percent ≤ 100_000_000 },
     ghost sums: { sum_below (listed_weight weights.now) count ≡ scale },
     ghost small_scale: { scale ≤ 10_000_000_000 },
     ghost small: { (i : ℕ) → i < count → unsigned_abs (listed_value values.now i) ≤ bound },
@@ -33,29 +36,49 @@ pub(crate) struct Levels {
     pub high: i128,
 }
 
+/// Returns how far a weight may lie from its own.
+fn spread_of(weight: u64, by: Spread) -> u64
+    requires weight { weight ≤ 10_000_000_000 }
+    requires parts { by.parts ≤ 10_000_000_000 }
+    requires percent { by.percent ≤ 100_000_000 }
+    ensures is { result ≡ spread_of by weight }
+    ensures small { result ≤ 20_000_000_000 }
+{
+    by.parts + (weight * by.percent + 99_999_999) / 100_000_000
+}
+
 /// Returns the low end of the interval around a weight.
-fn low_end(weight: u64, by: u64) -> u64
+fn low_end(weight: u64, by: Spread) -> u64
+    requires weight { weight ≤ 10_000_000_000 }
+    requires parts { by.parts ≤ 10_000_000_000 }
+    requires percent { by.percent ≤ 100_000_000 }
     ensures { result ≡ low_of by weight }
 {
-    weight.saturating_sub(by)
+    weight.saturating_sub(spread_of(weight, by))
 }
 
 /// Returns the high end of the interval around a weight.
-fn high_end(weight: u64, by: u64) -> u64
+fn high_end(weight: u64, by: Spread) -> u64
     requires weight { weight ≤ 10_000_000_000 }
-    requires by { by ≤ 10_000_000_000 }
+    requires parts { by.parts ≤ 10_000_000_000 }
+    requires percent { by.percent ≤ 100_000_000 }
     ensures is { result ≡ high_of by weight }
-    ensures small { result ≤ 20_000_000_000 }
+    ensures small { result ≤ 30_000_000_000 }
 {
-    if weight == 0 { 0 } else { weight + by }
+    if weight == 0 {
+        0
+    } else {
+        weight + spread_of(weight, by)
+    }
 }
 
 /// Returns the high end if the value is at most the level, else the low end.
-fn end_until(weight: u64, value: i128, by: u64, level: i128) -> u64
+fn end_until(weight: u64, value: i128, by: Spread, level: i128) -> u64
     requires weight { weight ≤ 10_000_000_000 }
-    requires by { by ≤ 10_000_000_000 }
+    requires parts { by.parts ≤ 10_000_000_000 }
+    requires percent { by.percent ≤ 100_000_000 }
     ensures is { result ≡ end_until by level weight value }
-    ensures small { result ≤ 20_000_000_000 }
+    ensures small { result ≤ 30_000_000_000 }
 {
     if value <= level {
         high_end(weight, by)

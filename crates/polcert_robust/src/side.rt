@@ -1,5 +1,5 @@
 //! The two sides from which vectors bound what a graph earns.
-ghost use Rattle.std.specs.Prelude.{◌≡◌, ◌≤◌, unsigned_abs};
+ghost use Rattle.std.specs.Prelude.{◌≡◌, ◌^◌, ◌<◌, ◌≤◌, unsigned_abs};
 ghost use Rattle.polcert_text.specs.Numbers.{largest};
 ghost use Rattle.polcert_robust.specs.Steps.Sides.{turned};
 
@@ -20,6 +20,18 @@ impl Side {
         match self {
             Side::Below => number,
             Side::Above => -number,
+        }
+    }
+
+    /// Returns a mean of turned numbers turned back.
+    pub(crate) fn turned_mean(self, mean: i128) -> i128
+        requires { unsigned_abs mean < 2 ^ 126 }
+        ensures is { turned self result ≡ mean }
+        ensures small { unsigned_abs result ≡ unsigned_abs mean }
+    {
+        match self {
+            Side::Below => mean,
+            Side::Above => -mean,
         }
     }
 }

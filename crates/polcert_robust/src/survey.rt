@@ -1,7 +1,7 @@
 //! The walk over all pairs that measures them.
 ghost use Rattle.std.specs.Prelude.{IfErr, IfOk};
-ghost use Rattle.polcert_policy.specs.Vectors.{PolicyVectors};
-ghost use Rattle.polcert_robust.specs.RobustLower.{IsNotLoweredRobustly};
+ghost use Rattle.polcert_robust.specs.RobustLower.{IsNotMendedRobustly};
+ghost use Rattle.polcert_robust.specs.Steps.Moves.{CanMoveBy};
 ghost use Rattle.polcert_robust.specs.Steps.Pairs.{near_controller, near_table};
 ghost use Rattle.polcert_robust.specs.Steps.Surveys.{IsSurveyedBefore};
 
@@ -21,8 +21,8 @@ pub(crate) fn survey_robust<C: Cells, W: Progress>(
     ensures found { IfOk result
         (IsSurveyedBefore (near_table input.now) (near_controller input.now)
         (near_controller input.now).nodes 0) }
-    ensures refused { IfErr result (λ fault. (vectors : PolicyVectors) →
-        IsNotLoweredRobustly (near_table input.now) (near_controller input.now) vectors fault) }
+    ensures refused { IfErr result (IsNotMendedRobustly (near_table input.now) (near_controller input.now)
+        (CanMoveBy input.now.side input.now.vectors.now)) }
 {
     progress.begin(input.graph.nodes());
     let mut findings = RobustFindings {

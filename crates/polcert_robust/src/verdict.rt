@@ -46,6 +46,8 @@ pub fn check_robust<C: Cells>(
 }
 
 /// Checks as `check_robust`, and notifies `progress` of each node when all of its pairs have passed.
+// (Not inlined, so that its buffers are off the stack after the call.)
+#[inline(never)]
 pub fn check_robust_watched<C: Cells, W: Progress>(
     cells: &C,
     graph: &Graph,

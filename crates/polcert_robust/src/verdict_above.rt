@@ -72,6 +72,8 @@ pub fn check_robust_above<C: Cells>(
 }
 
 /// Checks as `check_robust_above`, and notifies `progress` of each node when all of its pairs have passed.
+// (Not inlined, so that its buffers are off the stack after the call.)
+#[inline(never)]
 pub fn check_robust_above_watched<C: Cells, W: Progress>(
     cells: &C,
     graph: &Graph,

@@ -18,7 +18,7 @@ use Rattle.polcert_text.proofs.Numbers.SizeLaws.{after-none, length-fraction}
 use Rattle.polcert_text.specs.declared.number.NumberFault.{NumberFault}
 use Rattle.polcert_text.specs.declared.number.NumberFault.TheVariants.{NotANumeral, TooLong, TooLarge, TooFine}
 use Rattle.polcert_cells.proofs.NumberLaws.{one_exact}
-use Rattle.polcert_robust_answer.specs.Distances.{IsDistance, IsRewardDistance}
+use Rattle.polcert_robust_answer.specs.Distances.{IsDistance, IsPercent, IsRewardDistance}
 
 -- with `e6` after it
 abbrev shifted : List ℕ → List ℕ
@@ -276,3 +276,24 @@ no_distance text value None exact never = λ by is. never by (one_exact false te
 
 pub none_refused : (text : List ℕ) (fault : NumberFault) → IsRefusedExactly false text fault → (by : ℕ) → IsRewardDistance text by → ⊥
 none_refused text fault refused by is = not_refused text fault by refused is
+
+-- ---- a percentage
+pub percent_from : (text : List ℕ) (r s : Option ℕ) → IfSome r (IsRewardDistance text)
+    → IfSome s (λ p. (r ≡ Some p) × (p ≤ 100_000_000)) → IfSome s (IsPercent text)
+percent_from text r (Some p) is (same, small) =
+    let it : IsRewardDistance text p = rw same at is in
+    record { readable = it.readable; exact = it.exact; small = small }
+percent_from text r None is none = tt
+
+as_distance : (text : List ℕ) (p : ℕ) → IsPercent text p → IsRewardDistance text p
+as_distance text p is = record { readable = is.readable; exact = is.exact; small = omega (arith, is.small) }
+
+same_size : (text : List ℕ) (p q : ℕ) → IsPercent text p → IsRewardDistance text q → q ≡ p
+same_size text p q is it =
+    let same : pos q ≡ pos p = one_exact false text (pos q) (pos p) (size_exact text q it.exact) (size_exact text p is.exact) in cc
+
+pub no_percent : (text : List ℕ) (r s : Option ℕ) → IfSome r (IsRewardDistance text) → IfNone r ((by : ℕ) → IsRewardDistance text by → ⊥)
+    → IfNone s ((p : ℕ) → r ≡ Some p → p ≤ 100_000_000 → ⊥) → IfNone s ((p : ℕ) → IsPercent text p → ⊥)
+no_percent text r (Some p) some none large = tt
+no_percent text None None some none large = λ p is. none p (as_distance text p is)
+no_percent text (Some q) None some none large = λ p is. large p (ap Some (same_size text p q is some)) is.small

@@ -1,6 +1,9 @@
 mod Common
 mod DistanceLaws
 mod NearSame
+mod StartSame
 mod Small
 mod NearLaws
 mod NearTexts
+mod Moving
+mod MoveLaws

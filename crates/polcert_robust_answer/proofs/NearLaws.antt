@@ -11,6 +11,7 @@ use Rattle.polcert_robust_answer.specs.Near.{near_above, near_below}
 use Rattle.polcert_robust_answer.specs.Steps.Nearby.{NearLaws}
 use Rattle.polcert_robust_answer.proofs.Common.{CellTable, PolicyGraph, PolicyVectors, Within, controller_of, models_near, table_of}
 use Rattle.polcert_robust_answer.proofs.NearSame.{lies_same, sym_same}
+use Rattle.polcert_robust_answer.proofs.StartSame.{started_above, started_below}
 
 module _ (w : Within) (x y : CellTable) (same : HasSameCells x y) (g : PolicyGraph) (v : PolicyVectors) where
   meets_same : (u : Verdict) → MeetsHorizonInEveryModel (models_near w x) (controller_of x g v) u
@@ -29,10 +30,12 @@ pub laws_below : NearLaws near_below
 laws_below = record {
   same = λ w m n same g v u meets. meets_same w (table_of m) (table_of n) (same_cells m n same) g v u meets;
   promised = λ w model graph vectors meets. meets;
+  started = λ w model graph vectors meets m g v has are line is. started_below w model graph vectors m g v has line meets are is;
 }
 
 pub laws_above : NearLaws near_above
 laws_above = record {
   same = λ w m n same g v u meets. meets_above_same w (table_of m) (table_of n) (same_cells m n same) g v u meets;
   promised = λ w model graph vectors meets. meets;
+  started = λ w model graph vectors meets m g v has are line is. started_above w model graph vectors m g v has line meets are is;
 }

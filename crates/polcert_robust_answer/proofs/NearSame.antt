@@ -2,10 +2,11 @@
 use Rattle.std.proofs.Common.{◌≡◌, ◌∙◌, ℕ, ◌<◌, ℤ, pos, ◌+ℤ◌, ◌-ℤ◌, ◌*ℤ◌, ◌≤ℤ◌, sym, subst}
 use Rattle.polcert_cells.specs.SameCells.{HasSameCells}
 use Rattle.polcert_robust.specs.Intervals.{IsBetween, high_of, low_of}
-use Rattle.polcert_robust_answer.specs.Distances.{parts_of}
+use Rattle.polcert_robust.specs.declared.distance.Spread.{Spread}
+use Rattle.polcert_robust_answer.specs.Near.{spread_within}
 use Rattle.polcert_robust_answer.proofs.Common.{CellTable, LiesWithin, around, Within, models_near}
 
-between_same : (by v w scale scale' p q : ℕ) → v ≡ w → scale ≡ scale' → IsBetween (low_of by v) (high_of by v) scale p q
+between_same : (by : Spread) (v w scale scale' p q : ℕ) → v ≡ w → scale ≡ scale' → IsBetween (low_of by v) (high_of by v) scale p q
     → IsBetween (low_of by w) (high_of by w) scale' p q
 between_same by v w scale scale' p q e f h = subst (λ k. IsBetween (low_of by k) (high_of by k) scale' p q) e
     (subst (λ k. IsBetween (low_of by v) (high_of by v) k p q) f h)
@@ -36,7 +37,8 @@ module _ (x y : CellTable) (same : HasSameCells x y) where
   }
 
   module _ (parts : ℕ) (m : CellTable) where
-    lies_around_same : (t_by o_by r_by : ℕ) → LiesWithin (around x t_by o_by r_by) parts m → LiesWithin (around y t_by o_by r_by) parts m
+    lies_around_same : (t_by o_by : Spread) (r_by : ℕ) → LiesWithin (around x t_by o_by r_by) parts m
+        → LiesWithin (around y t_by o_by r_by) parts m
     lies_around_same t_by o_by r_by lies = record {
       states = lies.states ∙ same.states;
       actions = lies.actions ∙ same.actions;
@@ -66,6 +68,6 @@ module _ (x y : CellTable) (same : HasSameCells x y) where
 
     pub lies_same : (w : Within) → LiesWithin (models_near w x) parts m → LiesWithin (models_near w y) parts m
     lies_same w lies =
-        subst (λ k. LiesWithin (around y (parts_of w.by k) (parts_of w.by y.observations) w.rewards_by) parts m) same.states
-        (subst (λ k. LiesWithin (around y (parts_of w.by x.states) (parts_of w.by k) w.rewards_by) parts m) same.observations
-        (lies_around_same (parts_of w.by x.states) (parts_of w.by x.observations) w.rewards_by lies))
+        subst (λ k. LiesWithin (around y (spread_within w k) (spread_within w y.observations) w.rewards_by) parts m) same.states
+        (subst (λ k. LiesWithin (around y (spread_within w x.states) (spread_within w k) w.rewards_by) parts m) same.observations
+        (lies_around_same (spread_within w x.states) (spread_within w x.observations) w.rewards_by lies))

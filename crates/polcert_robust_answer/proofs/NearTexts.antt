@@ -40,3 +40,7 @@ module _ {V : Type 0} {side : NearSide V} (laws : NearLaws side) (w : Within) {o
 
   pub has_promise : (line : List ℕ) → IsNearAnswer side w m g v side.yes line → Hold (side.Promised w)
   has_promise line is = holds_of m g v d (side.Promised w) (laws.promised w d.first d.second d.third (meets_each side.yes line is))
+
+  pub has_start_promise : (line : List ℕ) → IsNearAnswer side w m g v side.yes line → Hold (side.StartPromised w line)
+  has_start_promise line is = holds_of m g v d (side.StartPromised w line)
+      (laws.started w d.first d.second d.third (meets_each side.yes line is) m g v d.has_graph d.are_vectors line is.line_is)

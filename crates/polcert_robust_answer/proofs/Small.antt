@@ -7,6 +7,7 @@ use Rattle.polcert_text.specs.Numbers.{largest}
 use Rattle.polcert_check.specs.Shortfall.{at_node}
 use Rattle.polcert_check.proofs.Certificates.{closed_is, value_is_within}
 use Rattle.polcert_check.proofs.Sums.Bounds.{abs-*ℤ_le, abs_neg}
+use Rattle.polcert_robust.specs.declared.distance.Spread.{Spread}
 use Rattle.polcert_robust.specs.RobustVerdict.{IsRobustShort}
 use Rattle.polcert_robust.specs.Worst.{IsWorstRow, IsWorstStep, mean, negated_values, least_step_worth, worst_backing}
 use Rattle.polcert_robust.specs.Steps.Pairs.{most_worth}
@@ -74,7 +75,7 @@ discount_small t limits = limits.discount
 -- ---- from either side
 module _ (t : CellTable) (limits : IsWithinLimits t) (g : PolicyGraph) (v : PolicyVectors) (proper : IsProperGraph g)
     (proper_v : AreProperVectors v) (fits : Fits t g v)
-    (t_by o_by r_by : ℕ) (small : r_by ≤ 1000000000000) (n s : ℕ) (nl : n < nodes g) (sl : s < t.states) where
+    (t_by o_by : Spread) (r_by : ℕ) (small : r_by ≤ 1000000000000) (n s : ℕ) (nl : n < nodes g) (sl : s < t.states) where
   values_small : (m u : ℕ) → m < nodes g → u < t.states → unsigned_abs ((controller_of t g v).value m u) ≤ largest
   values_small m u ml ul = value_is_within v proper_v m u (subst (λ k. m < k) (sym fits.nodes_same) ml)
       (subst (λ k. u < k) (sym fits.states) ul)

@@ -1,5 +1,6 @@
 pub mod Distances
 pub mod Lines
+pub mod Moves
 pub mod Near
 pub mod Run
 pub mod Steps

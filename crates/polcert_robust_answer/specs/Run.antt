@@ -1,5 +1,6 @@
 -- What the runs that check promise, from either side. The three sources and the sink stand each with its state before and after the call.
 use Rattle.std.specs.Prelude.{◌≡◌, ℕ, List, Option, Result, Ok, IfOk, IfErr}
+use Rattle.polcert_text.specs.Sink.{Takes}
 use Rattle.polcert_answer.specs.declared.fault.RunFault.{RunFault}
 use Rattle.polcert_answer.specs.Run.{HoldsOfTexts, IsCheckRunFault, StopsRightly, WritesAnswer, text_of}
 use Rattle.polcert_robust_answer.specs.Near.{HasNearHorizon, HasNearVerdict, NearSide}
@@ -19,6 +20,8 @@ module _ {V : Type 0} (side : NearSide V) (w : Within) {M G P W : Type 0}
     pub answered : WritesAnswer sink_writes (λ verdict line. OfTexts (HasNearVerdict side w verdict line)) result sink sink'
     -- a yes promises every number of steps in every model within the distances
     pub promise : result ≡ Ok side.yes → OfTexts (side.Promised w)
+    -- and the sink took a line of which what it says of the start is promised
+    pub start_promise : result ≡ Ok side.yes → (line : List ℕ) × OfTexts (side.StartPromised w line) × Takes sink_writes sink line sink'
     -- a no refutes the promise of one step in one of them
     pub horizon : IfOk result (λ verdict. OfTexts (HasNearHorizon side w verdict))
     -- the first text that is none of its kind is refused, for a right reason; a device is named exactly if it failed; each source is read to

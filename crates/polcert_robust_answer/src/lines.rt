@@ -1,7 +1,8 @@
 //! The line of a verdict.
+ghost use Rattle.std.specs.Prelude.{◌≡◌, [], codes, if◌then◌else◌};
 ghost use Rattle.polcert_text.specs.Sink.{WritesText};
 ghost use Rattle.polcert_answer.specs.Lines.{amount_line, lack_line, pair_text};
-ghost use Rattle.polcert_robust_answer.specs.Lines.{line_text, rewards_words, yes_line};
+ghost use Rattle.polcert_robust_answer.specs.Lines.{line_text, models_words, most_line, nearness_words, rewards_words, worth_line};
 
 use crate::within::Within;
 use polcert_answer::write_count;
@@ -10,8 +11,15 @@ use polcert_text::{BufferedSink, Sink, SinkFailed, write_all, write_scaled};
 /// What the line of a verdict says.
 #[derive(Clone, Copy, Debug, PartialEq, Eq)]
 pub(crate) enum NearLine {
-    /// A yes for every model within.
-    Every,
+    /// A yes for every model within: the node that is worth most from its worst start, and its worth there, in millionths.
+    AtLeast {
+        node: usize,
+        worth: i64,
+    },
+    /// A yes from above: what no node is worth more than from any start within, in millionths.
+    AtMost {
+        most: i64,
+    },
     /// A no: the pair of a node and a state, and by how many millionths it is short in the worst case.
     Short {
         node: usize,
@@ -50,7 +58,8 @@ fn write_line<W: Sink>(within: &Within<'_>, line: NearLine, sink: &mut W) -> Res
     ensures { WritesText W.writes W.failures sink.old (line_text within.now line) result sink.new }
 {
     match line {
-        NearLine::Every => write_yes(within, sink),
+        NearLine::AtLeast { node, worth } => write_worth(within, node, worth, sink),
+        NearLine::AtMost { most } => write_most(within, most, sink),
         NearLine::Short { node, state, by } => write_amount(node, state, b", short by ", by, sink),
         NearLine::Long { node, state, by } => write_amount(node, state, b", long by ", by, sink),
         NearLine::NoSuccessor {
@@ -61,14 +70,54 @@ fn write_line<W: Sink>(within: &Within<'_>, line: NearLine, sink: &mut W) -> Res
     }
 }
 
-/// Writes a yes.
-fn write_yes<W: Sink>(within: &Within<'_>, sink: &mut W) -> Result<(), SinkFailed>
-    ensures { WritesText W.writes W.failures sink.old (yes_line within.now) result sink.new }
+/// Writes a yes: the node that is worth most from its worst start, and its worth there, in millionths.
+fn write_worth<W: Sink>(
+    within: &Within<'_>,
+    node: usize,
+    worth: i64,
+    sink: &mut W,
+) -> Result<(), SinkFailed>
+    ensures { WritesText W.writes W.failures sink.old (worth_line within.now node worth) result sink.new }
+{
+    write_models(within, sink)?;
+    write_all(sink, b", start node ")?;
+    write_count(node, b", at least ", sink)?;
+    write_scaled(worth, sink)?;
+    write_all(sink, b"\n")
+}
+
+/// Writes a yes from above: what no node is worth more than from any start within, in millionths.
+fn write_most<W: Sink>(within: &Within<'_>, most: i64, sink: &mut W) -> Result<(), SinkFailed>
+    ensures { WritesText W.writes W.failures sink.old (most_line within.now most) result sink.new }
+{
+    write_models(within, sink)?;
+    write_all(sink, b", every start node, at most ")?;
+    write_scaled(most, sink)?;
+    write_all(sink, b"\n")
+}
+
+/// Writes the beginning of a yes: the distances, as they were typed.
+fn write_models<W: Sink>(within: &Within<'_>, sink: &mut W) -> Result<(), SinkFailed>
+    ensures { WritesText W.writes W.failures sink.old (models_words within.now) result sink.new }
 {
     write_all(sink, b"yes: every model within ")?;
+    write_nearness(within, sink)?;
+    write_rewards(within, sink)
+}
+
+/// Writes the distance of probabilities.
+fn write_nearness<W: Sink>(within: &Within<'_>, sink: &mut W) -> Result<(), SinkFailed>
+    ensures { WritesText W.writes W.failures sink.old (nearness_words within.now) result sink.new }
+{
     write_all(sink, within.text)?;
-    write_rewards(within, sink)?;
-    write_all(sink, b"\n")
+    write_all(sink, unit_of(within.is_percent))
+}
+
+/// Returns what stands after a distance.
+fn unit_of(is_percent: bool) -> &'static [u8]
+    ensures { result.now ≡ (if is_percent then codes " %" else []) }
+{
+    if is_percent { b" %" } else { b"" }
 }
 
 /// Writes the distance of rewards, if they are not known.

@@ -1,5 +1,6 @@
 //! Bounds of either side in every model near the text's, as a run takes them.
 ghost use Rattle.std.specs.Prelude.{◌≡◌, ◌*◌, ◌<ℤ◌, pos};
+ghost use Rattle.polcert_model.specs.Contents.{meaning};
 ghost use Rattle.polcert_check.specs.Horizon.{one, step_scale};
 ghost use Rattle.polcert_check.specs.StartWorth.{IsCeilQuotient};
 ghost use Rattle.polcert_robust_answer.specs.Lines.{line_text};
@@ -9,9 +10,12 @@ ghost use Rattle.polcert_robust_answer.specs.Steps.Nearby.{FitNear, IsNearAmount
 use crate::inputs::NearInputs;
 use crate::lines::NearLine;
 use crate::millionths::millionths_of;
-use crate::within::{Within, distance_in};
+use crate::spread::{distance_in, start_distance_in};
+use crate::within::Within;
 use polcert_check::{AboveVerdict, Progress, Verdict};
-use polcert_robust::{check_robust_above_watched, check_robust_watched};
+use polcert_robust::{
+    check_robust_above_watched, check_robust_watched, start_most_near, start_worth_near,
+};
 use polcert_text::Rounding;
 
 /// Checks vectors that are to bound from one side what a graph earns in every model near the text's.
@@ -40,7 +44,8 @@ pub trait NearBound {
     fn line(given: &NearInputs, within: &Within<'_>, verdict: Self::Verdict) -> NearLine
         requires fits { FitNear given.now }
         requires verdict { side.Is (near_given within.now given.now) (controller_near given.now) verdict }
-        ensures { side.IsLine within.now (controller_near given.now) verdict (line_text within.now result) };
+        ensures { side.IsLine within.now (meaning given.now.model) (controller_near given.now)
+            given.now.vectors verdict (line_text within.now result) };
 
     /// Does nothing. Its contract has the laws of the side.
     fn laws()
@@ -88,7 +93,16 @@ impl NearBound for NearLower {
 
     fn line(given: &NearInputs, within: &Within<'_>, verdict: Verdict) -> NearLine {
         match verdict {
-            Verdict::Yes => NearLine::Every,
+            Verdict::Yes => {
+                let by = start_distance_in(&given.model, within);
+                let (node, worth) = start_worth_near(
+                    &given.model,
+                    &given.graph,
+                    &given.vectors,
+                    by,
+                );
+                NearLine::AtLeast { node, worth }
+            }
             Verdict::Short {
                 node,
                 state,
@@ -138,7 +152,11 @@ impl NearBound for NearUpper {
 
     fn line(given: &NearInputs, within: &Within<'_>, verdict: AboveVerdict) -> NearLine {
         match verdict {
-            AboveVerdict::Yes => NearLine::Every,
+            AboveVerdict::Yes => {
+                let by = start_distance_in(&given.model, within);
+                let most = start_most_near(&given.model, &given.graph, &given.vectors, by);
+                NearLine::AtMost { most }
+            }
             AboveVerdict::Long {
                 node,
                 state,

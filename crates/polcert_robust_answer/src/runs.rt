@@ -1,8 +1,10 @@
 //! The runs that check, from three sources to a sink.
-ghost use Rattle.std.specs.Prelude.{◌≡◌, IfErr, IsErrOf};
+ghost use Rattle.std.specs.Prelude.{◌≡◌, ℕ, List, Ok, IfErr, IsErrOf};
+ghost use Rattle.polcert_text.specs.Sink.{Takes};
+ghost use Rattle.polcert_check.specs.declared.survey.Verdict.TheVariants.{Yes};
 ghost use Rattle.polcert_model.specs.Contents.{meaning};
-ghost use Rattle.polcert_answer.specs.Run.{IsNamedRightly, WritesAnswer};
-ghost use Rattle.polcert_robust_answer.specs.Near.{near_above, near_below};
+ghost use Rattle.polcert_answer.specs.Run.{HoldsOfTexts, IsNamedRightly, WritesAnswer, text_of};
+ghost use Rattle.polcert_robust_answer.specs.Near.{HasStartNear, IsCertifiedNear, near_above, near_below};
 ghost use Rattle.polcert_robust_answer.specs.Run.{IsNearCheckRun};
 ghost use Rattle.polcert_robust_answer.specs.Steps.Nearby.{FitNear, IsNearAnswer};
 
@@ -12,7 +14,7 @@ use crate::near::{NearBound, NearLower, NearUpper};
 use crate::within::Within;
 use polcert_answer::RunFault;
 use polcert_check::{AboveVerdict, Progress, Verdict};
-use polcert_text::{Sink, Source};
+use polcert_text::{Rounding, Sink, Source};
 use std::alloc::Global;
 
 /// Reads a model, a policy graph and the graph's vectors from three sources, checks whether the vectors are a lower bound on what the graph
@@ -35,7 +37,19 @@ pub fn run_near_check<M: Source, G: Source, V: Source, W: Sink, O: Progress>(
     sink: &mut W,
     progress: &mut O,
 ) -> Result<Verdict, RunFault>
-    ensures { IsNearCheckRun near_below within.now
+    // A yes promises every number of steps in every model within the distances.
+    ensures promise { result ≡ Ok Yes → HoldsOfTexts Rounding.Down
+        (text_of M.reads model.old model.new) (text_of G.reads graph.old graph.new)
+        (text_of V.reads vectors.old vectors.new) (IsCertifiedNear within.now) }
+
+    // And what the written line says of the worst start within is promised in each of them.
+    ensures start_promise { result ≡ Ok Yes → (line : List ℕ) × HoldsOfTexts Rounding.Down
+        (text_of M.reads model.old model.new) (text_of G.reads graph.old graph.new)
+        (text_of V.reads vectors.old vectors.new) (HasStartNear within.now line)
+        × Takes W.writes sink.old line sink.new }
+
+    // All that a check of every model near promises.
+    ensures run { IsNearCheckRun near_below within.now
         M.reads M.failures model.old model.new
         G.reads G.failures graph.old graph.new
         V.reads V.failures vectors.old vectors.new

@@ -1,11 +1,7 @@
 //! How far models may lie from the text's, as it was typed.
-ghost use Rattle.std.specs.Prelude.{◌≡◌, ◌≤◌, ℕ, IfNone, IfOk, IfSome, pos};
-ghost use Rattle.polcert_cells.specs.Meaning.{observations_of, states_of};
-ghost use Rattle.polcert_model.specs.Contents.{meaning};
-ghost use Rattle.polcert_robust_answer.specs.Distances.{IsDistance, IsRewardDistance, parts_of};
+ghost use Rattle.std.specs.Prelude.{◌≡◌, ◌≤◌, ℕ, IfNone, IfOk, IfSome, IsFalse, IsTrue, Some, pos};
+ghost use Rattle.polcert_robust_answer.specs.Distances.{IsDistance, IsPercent, IsRewardDistance};
 
-use polcert_model::Model;
-use polcert_robust::Distance;
 use polcert_text::scaled_of;
 use std::alloc::{AllocError, Global};
 
@@ -16,12 +12,19 @@ pub const MOST_DISTANCE: u64 = 1_000_000_000_000;
 #[derive(Clone, Copy, Debug)]
 pub struct Within<'a> {
     pub text: &'a [u8],
-    /// The distance of probabilities, in millionths of millionths.
+    /// Whether the text is a percentage.
+    pub is_percent: bool,
+    /// The distance of probabilities, in millionths of millionths; 0 if it is in percent.
     pub by: u64,
+    /// The distance of each probability in percent of itself, in millionths of a percent; else 0.
+    pub percent: u64,
     pub rewards_text: &'a [u8],
     /// The distance of rewards, in millionths.
     pub rewards_by: u64,
-    ghost is_typed: { IsDistance text.now by },
+    ghost is_distance: { IsFalse is_percent → IsDistance text.now by × (percent ≡ 0) },
+    ghost is_percentage: { IsTrue is_percent → IsPercent text.now percent × (by ≡ 0) },
+    ghost small: { by ≤ 1_000_000_000_000 },
+    ghost small_percent: { percent ≤ 100_000_000 },
     ghost are_rewards_typed: { IsRewardDistance rewards_text.now rewards_by },
 }
 
@@ -64,25 +67,21 @@ pub fn reward_distance_of(text: &[u8]) -> Option<u64>
     }
 }
 
-/// Returns a distance in whole parts of the scale of a row with this many columns, rounded up.
-fn parts_of(by: u64, columns: usize) -> u64
-    requires by { by ≤ 1_000_000_000_000 }
-    requires columns { columns ≤ 10_000 }
-    ensures is { result ≡ parts_of by columns }
-    ensures small { result ≤ 10_000_000_000 }
+/// Returns the percentage that a text is, in millionths of a percent, or `None` if it is no number of at most 100 with at most six decimals.
+pub fn percent_of(text: &[u8]) -> Option<u64>
+    ensures found { IfSome result (IsPercent text.now) }
+    ensures none { IfNone result ((percent : ℕ) → IsPercent text.now percent → ⊥) }
 {
-    (by * columns as u64 + 999_999) / 1_000_000
+    small_percent(reward_distance_of(text))
 }
 
-/// Returns the distance in parts of the model's scales, rounded up.
-pub(crate) fn distance_in(model: &Model, within: &Within<'_>) -> Distance
-    ensures t_by { result.t_by ≡ parts_of within.now.by (states_of (meaning model.now)) }
-    ensures o_by { result.o_by ≡ parts_of within.now.by (observations_of (meaning model.now)) }
-    ensures r_by { result.r_by ≡ within.now.rewards_by }
+/// Returns a percentage if it is at most 100.
+fn small_percent(percent: Option<u64>) -> Option<u64>
+    ensures some { IfSome result (λ p. (percent ≡ Some p) × (p ≤ 100_000_000)) }
+    ensures none { IfNone result ((p : ℕ) → percent ≡ Some p → p ≤ 100_000_000 → ⊥) }
 {
-    Distance {
-        t_by: parts_of(within.by, model.states()),
-        o_by: parts_of(within.by, model.observations()),
-        r_by: within.rewards_by,
+    match percent {
+        Some(p) => if p <= 100_000_000 { percent } else { None },
+        None => None,
     }
 }

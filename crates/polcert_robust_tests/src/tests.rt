@@ -1,9 +1,12 @@
 //! The check of vectors in every model near one. The values are computed by hand.
 
-use polcert_check::{AboveVerdict, LowerFault, NoProgress, Verdict, fits};
+use polcert_check::{AboveVerdict, LowerFault, NoProgress, RaiseFault, Verdict, fits};
 use polcert_model::{Model, read_model};
 use polcert_policy::{Graph, Vectors, read_graph, read_vectors};
-use polcert_robust::{Distance, check_robust, check_robust_above, least_robust_constant};
+use polcert_robust::{
+    Distance, Spread, check_robust, check_robust_above, least_robust_constant, least_robust_raise,
+    lowered_robustly, raised_robustly,
+};
 use std::alloc::Global;
 
 /// Two states, each as likely as the other after every step, and the end state is observed. To end in state 0 earns 2.
@@ -23,36 +26,79 @@ R: toss : * : 0 : * 2
 
 /// The text's own model alone.
 const NONE: Distance = Distance {
-    t_by: 0,
-    o_by: 0,
+    t_by: Spread {
+        parts: 0,
+        percent: 0,
+    },
+    o_by: Spread {
+        parts: 0,
+        percent: 0,
+    },
     r_by: 0,
 };
 
 /// Probabilities of end states within a tenth.
 const TENTH: Distance = Distance {
-    t_by: 200_000,
-    o_by: 0,
+    t_by: Spread {
+        parts: 200_000,
+        percent: 0,
+    },
+    o_by: Spread {
+        parts: 0,
+        percent: 0,
+    },
+    r_by: 0,
+};
+
+/// Probabilities of end states within 20 percent of themselves.
+const FIFTH: Distance = Distance {
+    t_by: Spread {
+        parts: 0,
+        percent: 20_000_000,
+    },
+    o_by: Spread {
+        parts: 0,
+        percent: 0,
+    },
     r_by: 0,
 };
 
 /// Probabilities of end states within three quarters.
 const FAR_ENDS: Distance = Distance {
-    t_by: 1_500_000,
-    o_by: 0,
+    t_by: Spread {
+        parts: 1_500_000,
+        percent: 0,
+    },
+    o_by: Spread {
+        parts: 0,
+        percent: 0,
+    },
     r_by: 0,
 };
 
 /// Probabilities of observations within one.
 const FAR_OBSERVATIONS: Distance = Distance {
-    t_by: 0,
-    o_by: 2_000_000,
+    t_by: Spread {
+        parts: 0,
+        percent: 0,
+    },
+    o_by: Spread {
+        parts: 2_000_000,
+        percent: 0,
+    },
     r_by: 0,
 };
 
 /// Rewards within a tenth.
 const REWARDS: Distance = Distance {
-    t_by: 0,
-    o_by: 0,
+    t_by: Spread {
+        parts: 0,
+        percent: 0,
+    },
+    o_by: Spread {
+        parts: 0,
+        percent: 0,
+    },
     r_by: 100_000,
 };
 
@@ -137,6 +183,20 @@ fn within_a_tenth(rt: HostRuntime) {
         let found = above_verdict_of(rt.alloc(), b"0 0 0 0", vectors, TENTH);
         assert_eq!(rt; found, Some(want));
     }
+}
+
+/// A fifth of a half is a tenth, so that the rows above hold.
+#[test]
+fn within_twenty_percent(rt: HostRuntime) {
+    for (vectors, want) in [
+        (b"0 1.6 1.6".as_slice(), Verdict::Yes),
+        (b"0 1.600001 1.600001", short(MILLIONTH / 2)),
+    ] {
+        let found = verdict_of(rt.alloc(), b"0 0 0 0", vectors, FIFTH);
+        assert_eq!(rt; found, Some(want));
+    }
+    let found = above_verdict_of(rt.alloc(), b"0 0 0 0", b"0 2.4 2.4", FIFTH);
+    assert_eq!(rt; found, Some(AboveVerdict::Yes));
 }
 
 /// In the text's own model the value is 2. If a probability may lie more than itself away, state 0 need not be reached. A certain observation
@@ -227,4 +287,89 @@ fn lowered(rt: HostRuntime) {
             observation: 1
         }))
     );
+}
+
+/// The least raise, if the parts fit.
+fn raise(
+    model: &Model,
+    graph: &Graph,
+    vectors: &Vectors,
+    distance: Distance,
+) -> Option<Result<i64, RaiseFault>> {
+    if fits(model, graph, vectors) {
+        Some(least_robust_raise(model, graph, vectors, distance, &mut NoProgress))
+    } else {
+        None
+    }
+}
+
+/// The same of texts for the coin.
+fn raise_of(
+    alloc: Global,
+    graph: &[u8],
+    vectors: &[u8],
+    distance: Distance,
+) -> Option<Result<i64, RaiseFault>> {
+    let model = read_model(alloc, COIN).ok()?;
+    let graph = read_graph(alloc, graph, 1, 2).ok()?;
+    let vectors = read_vectors(alloc, vectors, &graph, 2).ok()?;
+    raise(&model, &graph, &vectors, distance)
+}
+
+/// Raised by c, the value 2 + c is to be at least 0.6 * 2 + 0.5 * (2 + c): c is at least 0.4. A reward is a tenth more.
+#[test]
+fn raised(rt: HostRuntime) {
+    for (vectors, distance, want) in [
+        (b"0 2 2".as_slice(), TENTH, 400_000),
+        (b"0 2.4 2.4", TENTH, 0),
+        (b"0 2 2", NONE, 0),
+        (b"0 1.999999 1.999999", NONE, 1),
+        (b"0 2 2", REWARDS, 200_000),
+    ] {
+        let found = raise_of(rt.alloc(), b"0 0 0 0", vectors, distance);
+        assert_eq!(rt; found, Some(Ok(want)));
+    }
+    let found = raise_of(rt.alloc(), b"0 0 0 -", b"0 0 0", TENTH);
+    assert_eq!(rt;
+        found,
+        Some(Err(RaiseFault::NoSuccessor {
+            node: 0,
+            state: 0,
+            observation: 1
+        }))
+    );
+}
+
+/// The constant and the value of the first state, if the parts fit and the vectors are moved from this side.
+fn moved(
+    alloc: Global,
+    model: &Model,
+    graph: &Graph,
+    vectors: &Vectors,
+    is_above: bool,
+) -> Option<(i64, i64)> {
+    if !fits(model, graph, vectors) {
+        return None;
+    }
+    let (by, moved) = if is_above {
+        raised_robustly(alloc, model, graph, vectors, TENTH, &mut NoProgress).ok()?
+    } else {
+        lowered_robustly(alloc, model, graph, vectors, TENTH, &mut NoProgress).ok()?
+    };
+    Some((by, *moved.values().first()?))
+}
+
+/// The same of vectors for the coin.
+fn moved_of(alloc: Global, vectors: &[u8], is_above: bool) -> Option<(i64, i64)> {
+    let model = read_model(alloc, COIN).ok()?;
+    let graph = read_graph(alloc, b"0 0 0 0", 1, 2).ok()?;
+    let vectors = read_vectors(alloc, vectors, &graph, 2).ok()?;
+    moved(alloc, &model, &graph, &vectors, is_above)
+}
+
+#[test]
+fn moved_vectors(rt: HostRuntime) {
+    for (is_above, want) in [(false, (400_000, 1_600_000)), (true, (400_000, 2_400_000))] {
+        assert_eq!(rt; moved_of(rt.alloc(), b"0 2 2", is_above), Some(want));
+    }
 }

@@ -2,6 +2,7 @@
 use Rattle.std.specs.Prelude.{◌≡◌, ℕ, ◌<◌, ◌≤◌, ℤ, pos, List, unsigned_abs}
 use Rattle.polcert_check.specs.Horizon.{total_below}
 use Rattle.polcert_robust.specs.Intervals.{low_of, high_of}
+use Rattle.polcert_robust.specs.declared.distance.Spread.{Spread}
 use Rattle.polcert_robust.specs.Worst.{IsWorstRow, mean}
 use Rattle.polcert_robust.specs.Steps.Rows.{listed_value, listed_weight}
 
@@ -16,7 +17,7 @@ pub record HoldsRow (P : ℕ → ℤ → Type 0) (f : ℕ → ℕ) (n bound : �
   pub small : (k : ℕ) → k < count → unsigned_abs (listed_value values k) ≤ bound
 
 -- the value is the mean under a worst row near f, for values for which P holds where f is above 0
-pub record IsWorstMean (P : ℕ → ℤ → Type 0) (f : ℕ → ℕ) (by scale n : ℕ) (value : ℤ) : Type 0 where
+pub record IsWorstMean (P : ℕ → ℤ → Type 0) (f : ℕ → ℕ) (by : Spread) (scale n : ℕ) (value : ℤ) : Type 0 where
   pub x : ℕ → ℤ
   pub each : (j : ℕ) → j < n → 0 < f j → P j (x j)
   pub row : ℕ → ℕ

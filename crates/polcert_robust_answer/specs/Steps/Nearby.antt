@@ -5,7 +5,9 @@ use Rattle.polcert_cells.specs.Tables.{table_of}
 use Rattle.polcert_model.specs.Contents.{meaning}
 use Rattle.polcert_policy.specs.Graphs.{PolicyGraph, nodes}
 use Rattle.polcert_policy.specs.Vectors.{PolicyVectors}
+use Rattle.polcert_policy.specs.VectorText.{IsRoundedVectorsText}
 use Rattle.polcert_check.specs.Horizon.{Controller, Fits, controller_of}
+use Rattle.polcert_answer.specs.Answer.{HasGraph}
 use Rattle.polcert_robust.specs.Intervals.{IntervalTable, negated}
 use Rattle.polcert_robust.specs.RobustVerdict.{IsRobustShort}
 use Rattle.polcert_robust.specs.Worst.{negated_values}
@@ -35,7 +37,7 @@ IsNearAmount w given amount = (n : ℕ) × (s : ℕ) × (n < nodes given.graph) 
 pub record IsNearAnswer {V : Type 0} (side : NearSide V) (w : Within) (m : Meaning) (g : PolicyGraph) (v : PolicyVectors) (verdict : V) (line : List ℕ) : Type 0 where
   pub verdict_is : side.Is (models_near w (table_of m)) (controller_of (table_of m) g v) verdict
   pub horizon_is : side.Meets (models_near w (table_of m)) (controller_of (table_of m) g v) verdict
-  pub line_is : side.IsLine w (controller_of (table_of m) g v) verdict line
+  pub line_is : side.IsLine w m (controller_of (table_of m) g v) v verdict line
 
 -- what a side has to obey so that one run serves it
 pub record NearLaws {V : Type 0} (side : NearSide V) : Type 0 where
@@ -43,3 +45,6 @@ pub record NearLaws {V : Type 0} (side : NearSide V) : Type 0 where
   pub same : (w : Within) (m n : Meaning) → IsSame m n → (g : PolicyGraph) (v : PolicyVectors) (x : V)
       → side.Meets (models_near w (table_of m)) (controller_of (table_of m) g v) x → side.Meets (models_near w (table_of n)) (controller_of (table_of n) g v) x
   pub promised : (w : Within) (model graph vectors : List ℕ) → HasNearHorizon side w side.yes model graph vectors → side.Promised w model graph vectors
+  pub started : (w : Within) (model graph vectors : List ℕ) → HasNearHorizon side w side.yes model graph vectors
+      → (m : Meaning) (g : PolicyGraph) (v : PolicyVectors) → HasGraph model graph m g → IsRoundedVectorsText side.rounding g (states_of m) vectors v
+      → (line : List ℕ) → side.IsLine w m (controller_of (table_of m) g v) v side.yes line → side.StartPromised w line model graph vectors

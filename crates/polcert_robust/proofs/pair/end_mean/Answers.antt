@@ -22,7 +22,8 @@ invariant_of-row g c =
       room_for_weights = omega (arith, held.few, c.requires.weights, c.gather_observations-gathered.auto.weights);
       room_for_values = omega (arith, held.few, c.requires.values, c.gather_observations-gathered.auto.values);
       few = omega (arith, held.few, limits.observations.1);
-      near = c.args.pair.now.input.now.distance.o_small;
+      near = c.args.pair.now.input.now.distance.o_parts;
+      near_percent = c.args.pair.now.input.now.distance.o_percent;
       sums = rw c.o_scale.ensures (held_sum (λ z v. v ≡ least_step_worth (near_table c.args.pair.now.input.now) k c.args.pair.now.n
           c.args.pair.now.s c.args.e z) (t.o (k.action c.args.pair.now.n) c.args.e) t.observations most_worth
           c.gather_observations-gathered.new.weights c.gather_observations-gathered.new.values c.gather_observations-gathered.result.count

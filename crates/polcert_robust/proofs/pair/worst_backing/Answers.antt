@@ -20,7 +20,8 @@ invariant_of-row g c =
       room_for_weights = omega (arith, held.few, c.requires.end_weights, c.gather_ends-gathered.auto.end_weights);
       room_for_values = omega (arith, held.few, c.requires.end_values, c.gather_ends-gathered.auto.end_values);
       few = omega (arith, held.few, limits.states.1);
-      near = c.args.pair.now.input.now.distance.t_small;
+      near = c.args.pair.now.input.now.distance.t_parts;
+      near_percent = c.args.pair.now.input.now.distance.t_percent;
       sums = rw c.t_scale.ensures (held_sum _ (t.t (k.action c.args.pair.now.n) c.args.pair.now.s) t.states _
           c.gather_ends-gathered.new.end_weights c.gather_ends-gathered.new.end_values c.gather_ends-gathered.result.count held t.t_scale
           (m.t_rows (k.action c.args.pair.now.n) c.args.pair.now.s (search rules) c.args.pair.now.start));

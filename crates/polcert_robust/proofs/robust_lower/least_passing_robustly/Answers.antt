@@ -3,6 +3,7 @@ use Rattle.polcert_cells.specs.Tables.{CellTable, IsWithinLimits}
 use Rattle.polcert_check.specs.Horizon.{one}
 use Rattle.std.proofs.lemmas.Result.{err_from_is_err_and}
 use Rattle.polcert_check.proofs.Sums.Scales.{discount_le, scales}
+use Rattle.polcert_robust.specs.Steps.Moves.{CanMoveBy}
 use Rattle.polcert_robust.specs.Steps.Pairs.{cells_of, near_controller, near_table}
 use Rattle.polcert_robust.proofs.LeastRobust.{none_lacks, refused_robustly, zero_robustly}
 use Rattle.polcert_robust.proofs.robust_lower.least_passing_robustly.Goals as goal
@@ -26,7 +27,7 @@ returns-in_err-refused-clause-refused g c =
     let all : one ≤ t.discount = omega (arith, c.discount.ensures) in
     let p = err_from_is_err_and c.from_residual.result c.from_residual.ensures.1 in
     rw (p.1, p.2) (refused_robustly (near_table c.args.input.now) (near_controller c.args.input.now) (discount_le t limits) some.0 some.1
-    all c.args.findings c.requires.found _ c.in_err-refused.ensures.refused)
+    all c.args.findings c.requires.found _ c.in_err-refused.ensures.refused (CanMoveBy c.args.input.now.side c.args.input.now.vectors.now))
 
 pub returns-clause-least : goal.returns-clause-least
 returns-clause-least g c =

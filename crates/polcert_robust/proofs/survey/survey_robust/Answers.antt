@@ -1,4 +1,5 @@
 use Rattle.std.proofs.Common.{arith}
+use Rattle.polcert_robust.specs.Steps.Moves.{CanMoveBy}
 use Rattle.polcert_robust.specs.Steps.Pairs.{near_controller, near_table}
 use Rattle.polcert_robust.proofs.Surveying.{lack_noted, node_surveyed, nothing_surveyed}
 use Rattle.polcert_robust.proofs.survey.survey_robust.Goals as goal
@@ -11,11 +12,12 @@ loop-n-preserved g c = node_surveyed (near_table c.args.input.now) (near_control
     c.loop-s.findings (omega (arith, c.loop-s-test.false, c.states-s-end.ensures)) c.loop-s.invariant
 
 pub returns-in-Some-clause-refused : goal.returns-in-Some-clause-refused
-returns-in-Some-clause-refused g c = λ vectors.
+returns-in-Some-clause-refused g c =
     lack_noted (near_table c.args.input.now) (near_controller c.args.input.now) c.loop-n.n c.loop-s.s c.loop-s.findings
     (omega (arith, c.loop-n-test.true, c.nodes-n-end.ensures.count)) (omega (arith, c.loop-s-test.true, c.states-s-end.ensures))
     c.loop-s.invariant
-    c.robust_pair_verdict-verdict.result c.in-Some.fault vectors c.robust_pair_verdict-verdict.ensures c.in-Some.ensures.some
+    c.robust_pair_verdict-verdict.result c.in-Some.fault (CanMoveBy c.args.input.now.side c.args.input.now.vectors.now)
+    c.robust_pair_verdict-verdict.ensures c.in-Some.ensures.some
 
 pub loop-s-preserved : goal.loop-s-preserved
 loop-s-preserved g c =

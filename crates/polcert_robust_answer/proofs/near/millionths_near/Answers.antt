@@ -1,6 +1,6 @@
 use Rattle.std.proofs.Common.{◌≡◌, rules, to_z, of_z, to_z-of_z, FitsSigned}
 use Rattle.std.specs.Int.{w128}
-use Rattle.polcert_robust_answer.specs.Distances.{parts_of}
+use Rattle.polcert_robust_answer.specs.Near.{spread_within}
 use Rattle.polcert_robust_answer.proofs.Common.{CellTable, meaning, table_of}
 use Rattle.polcert_robust_answer.proofs.Small.{either_small}
 use Rattle.polcert_robust_answer.proofs.near.millionths_near.Goals as goal
@@ -14,4 +14,4 @@ millionths_of-requires-clause-small c = λ limits.
     let (n, s, nl, sl, short) = c.requires.is in
     rw back (either_small t limits c.args.given.now.graph c.args.given.now.vectors c.nodes-nodes.ensures.proper
     c.nodes-vector_count.ensures.proper c.requires.fits
-    (parts_of w.by t.states) (parts_of w.by t.observations) w.rewards_by w.are_rewards_typed.small n s nl sl c.args.amount short)
+    (spread_within w t.states) (spread_within w t.observations) w.rewards_by w.are_rewards_typed.small n s nl sl c.args.amount short)

@@ -5,7 +5,7 @@ use Rattle.polcert_answer.proofs.OfSources.{wrote_mapped, text_of_answer, answer
 use Rattle.polcert_answer.proofs.Passing.{is_err, not_ok, no_ok, of_fault, nothing_written, stops_again, stops_after, read_in_check}
 use Rattle.polcert_answer.proofs.Passing.{of_writing, is_write}
 use Rattle.polcert_robust_answer.proofs.Common.{meaning, IsNoReadFault}
-use Rattle.polcert_robust_answer.proofs.NearTexts.{has_verdict, has_promise, has_horizon}
+use Rattle.polcert_robust_answer.proofs.NearTexts.{has_verdict, has_promise, has_start_promise, has_horizon}
 use Rattle.polcert_robust_answer.proofs.runs.near_run.Goals as goal
 
 pub write_answer-requires : goal.write_answer-requires
@@ -28,6 +28,8 @@ returns g c =
     record {
       answered = wrote_mapped _ _ (has_verdict laws w m graph v d) _ wrote.answered;
       promise = λ yes. let (line, is, took) = text_of_answer _ _ _ wrote.answered yes in has_promise laws w m graph v d line is;
+      start_promise = λ yes. let (line, is, took) = text_of_answer _ _ _ wrote.answered yes in
+          (line, has_start_promise laws w m graph v d line is, took);
       horizon = answered_with _ _ (has_horizon laws w m graph v d) _ wrote.answered;
       stops = stops_after _ (of_writing _ wrote.of_write IsNoReadFault tt) _ c.in_ok-read.ensures.read wrote.write
           (λ fault same other. absurd (other (is_write _ wrote.of_write fault same)));
