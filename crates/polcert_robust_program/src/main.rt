@@ -1,4 +1,4 @@
-//! Checks that vectors bound what a policy graph earns in every model near the text's.
+//! Checks that vectors bound what a policy graph earns in every model near the text's, and moves them so that they do.
 #![tactic(auto)]
 
 mod program;

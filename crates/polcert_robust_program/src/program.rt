@@ -1,12 +1,9 @@
 //! The program, over the runtime that it is given.
-use polcert_answer::{RunFault, status_of_above_verdict, status_of_verdict};
-use polcert_check::{AboveVerdict, Verdict};
-use polcert_lines::end_run;
-use polcert_robust_answer::{
-    Within, distance_of, reward_distance_of, run_near_check, run_near_check_above,
-};
+use polcert_answer::{Outcome, RunFault, Task, status_of_outcome};
+use polcert_lines::{LoweredLine, RaisedLine, end_run};
+use polcert_robust_answer::{Within, distance_of, percent_of, reward_distance_of, run_near_task};
 use polcert_terminal::command_line::FileNames;
-use polcert_terminal::robust_command::{DistanceWords, RobustChoice, choose_robust};
+use polcert_terminal::robust_command::{DistanceWords, Nearness, RobustChoice, choose_robust};
 use polcert_terminal::{
     CheckProgress, InputText, borrow_words, open_text, print_clap_error, process_words,
     refuse_for_memory, refuse_words,
@@ -43,7 +40,7 @@ fn run_words<'a, R: Files + Clock + AllocGlobal + Print + Eprint>(
         Ok(Some(choice)) => run_choice(rt, shows_progress, choice),
         Ok(None) => refuse_words(
             rt,
-            "the command, --within or a file's name is missing: see polcert_robust --help",
+            "the command, just one of --within and --percent, or a file's name is missing: see polcert_robust --help",
         ),
         Err(error) => print_clap_error(rt, &error),
     }
@@ -57,57 +54,84 @@ fn run_choice<R: Files + Clock + AllocGlobal + Print + Eprint>(
 ) -> u8 {
     match choice {
         RobustChoice::Check { files, distances } => {
-            run_check(rt, shows_progress, false, files, distances)
+            run_near(rt, shows_progress, Task::Check, files, distances)
         }
         RobustChoice::CheckAbove { files, distances } => {
-            run_check(rt, shows_progress, true, files, distances)
+            run_near(rt, shows_progress, Task::CheckAbove, files, distances)
+        }
+        RobustChoice::Lower { files, distances } => {
+            run_near(rt, shows_progress, Task::Lower, files, distances)
+        }
+        RobustChoice::Raise { files, distances } => {
+            run_near(rt, shows_progress, Task::Raise, files, distances)
         }
     }
 }
 
-/// Checks from this side within these distances, or prints why they are none.
-fn run_check<R: Files + Clock + AllocGlobal + Print + Eprint>(
+/// Does the task within these distances, or prints why they are none.
+fn run_near<R: Files + Clock + AllocGlobal + Print + Eprint>(
     rt: &R,
     shows_progress: bool,
-    is_above: bool,
+    task: Task,
     files: FileNames<'_>,
     distances: DistanceWords<'_>,
 ) -> u8 {
-    let text = distances.within.as_bytes();
-    let by = match distance_of(rt.alloc(), text) {
-        Ok(Some(by)) => by,
-        Ok(None) => {
-            return refuse_words(
-                rt,
-                "--within takes a decimal from 0 to 1, with at most 12 decimals",
-            );
-        }
-        Err(AllocError) => return refuse_for_memory(rt),
-    };
-    let rewards_text = distances.rewards_within.unwrap_or("0").as_bytes();
-    let Some(rewards_by) = reward_distance_of(rewards_text) else {
-        return refuse_words(
-            rt,
-            "--rewards-within takes a number from 0 to 1000000, with at most 6 decimals",
-        );
-    };
-    let within = Within {
-        text,
-        by,
-        rewards_text,
-        rewards_by,
-    };
-    end_run(
-        rt,
-        check_files(rt, shows_progress, is_above, files, &within),
-    )
+    match within_of(rt, distances) {
+        Ok(within) => end_run(rt, run_on_files(rt, shows_progress, task, files, &within)),
+        Err(status) => status,
+    }
 }
 
-/// Checks the vectors of three files, and returns the exit status.
-fn check_files<R: Files + Clock + AllocGlobal + Print + Eprint>(
+/// Returns the distances that the words are, or prints why they are none, and returns the exit status.
+fn within_of<'a, R: AllocGlobal + Eprint>(
+    rt: &R,
+    distances: DistanceWords<'a>,
+) -> Result<Within<'a>, u8> {
+    let rewards_text = distances.rewards_within.unwrap_or("0").as_bytes();
+    let Some(rewards_by) = reward_distance_of(rewards_text) else {
+        return Err(refuse_words(
+            rt,
+            "--rewards-within takes a number from 0 to 1000000, with at most 6 decimals",
+        ));
+    };
+    match distances.near {
+        Nearness::Within(text) => match distance_of(rt.alloc(), text.as_bytes()) {
+            Ok(Some(by)) => Ok(Within {
+                text: text.as_bytes(),
+                is_percent: false,
+                by,
+                percent: 0,
+                rewards_text,
+                rewards_by,
+            }),
+            Ok(None) => Err(refuse_words(
+                rt,
+                "--within takes a decimal from 0 to 1, with at most 12 decimals",
+            )),
+            Err(AllocError) => Err(refuse_for_memory(rt)),
+        },
+        Nearness::Percent(text) => match percent_of(text.as_bytes()) {
+            Some(percent) => Ok(Within {
+                text: text.as_bytes(),
+                is_percent: true,
+                by: 0,
+                percent,
+                rewards_text,
+                rewards_by,
+            }),
+            None => Err(refuse_words(
+                rt,
+                "--percent takes a number from 0 to 100, with at most 6 decimals",
+            )),
+        },
+    }
+}
+
+/// Does the task with three files, prints by how much vectors were lowered or raised, and returns the exit status.
+fn run_on_files<R: Files + Clock + AllocGlobal + Print + Eprint>(
     rt: &R,
     shows_progress: bool,
-    is_above: bool,
+    task: Task,
     names: FileNames<'_>,
     within: &Within<'_>,
 ) -> Result<u8, RunFault> {
@@ -116,39 +140,33 @@ fn check_files<R: Files + Clock + AllocGlobal + Print + Eprint>(
     let mut vectors = open_text(rt, shows_progress, InputText::Vectors, names.vectors)?;
     let sink = &mut WriterSink::new(io::writer(rt));
     let progress = &mut CheckProgress::new(rt, shows_progress);
-    let done = if is_above {
-        status_above(run_near_check_above(
-            rt.alloc(),
-            within,
-            &mut model,
-            &mut graph,
-            &mut vectors,
-            sink,
-            progress,
-        ))
-    } else {
-        status_below(run_near_check(
-            rt.alloc(),
-            within,
-            &mut model,
-            &mut graph,
-            &mut vectors,
-            sink,
-            progress,
-        ))
-    };
+    let done = run_near_task(
+        rt.alloc(),
+        task,
+        within,
+        &mut model,
+        &mut graph,
+        &mut vectors,
+        sink,
+        progress,
+    );
     model.clear_progress();
     graph.clear_progress();
     vectors.clear_progress();
-    done
+    let outcome = done?;
+    print_constant(rt, outcome);
+    Ok(status_of_outcome(outcome))
 }
 
-/// Returns the exit status of a check that ran.
-fn status_below(ran: Result<Verdict, RunFault>) -> Result<u8, RunFault> {
-    Ok(status_of_verdict(ran?))
-}
-
-/// Returns the exit status of a check from above that ran.
-fn status_above(ran: Result<AboveVerdict, RunFault>) -> Result<u8, RunFault> {
-    Ok(status_of_above_verdict(ran?))
+/// Prints by how much vectors were lowered or raised.
+fn print_constant<R: Eprint>(rt: &R, outcome: Outcome) {
+    match outcome {
+        Outcome::Checked(_) | Outcome::CheckedAbove(_) => {}
+        Outcome::Lowered(by) => {
+            let _ = rt.eprintln(LoweredLine(by));
+        }
+        Outcome::Raised(by) => {
+            let _ = rt.eprintln(RaisedLine(by));
+        }
+    }
 }

@@ -1,22 +1,30 @@
 //! What the words of the command line of `polcert_robust` ask for.
 ghost use Rattle.std.specs.Prelude.{◌≡◌, List, false, IfOk, map, option_map};
-ghost use Rattle.clap.specs.Words.{FailsBy, app_of, fault_of, found_of, rows_of, rule_of, subcommand_of, subcommand_rows_of};
+ghost use Rattle.clap.specs.Words.{FailsBy, app_of, fault_of, found_of, rows_of, rule_of, subcommand_of, subcommand_rows_of, with_subcommand};
 ghost use Rattle.clap.specs.declared.builder.Command.TheViews.{out-Command};
 ghost use Rattle.polcert_terminal.specs.Command.{bounds_above, names_view};
-ghost use Rattle.polcert_terminal.specs.RobustCommand.{robust_app, robust_check_app, value_rule, robust_check_chosen, robust_chosen, robust_chosen_of, distances_in, distances_view, robust_view_of};
+ghost use Rattle.polcert_terminal.specs.RobustCommand.{robust_app, robust_check_app, files_and_distances, value_rule, robust_check_chosen, robust_chosen};
+ghost use Rattle.polcert_terminal.specs.RobustCommand.{robust_chosen_of, distances_in, distances_view, just_one, near_view, robust_view_of};
 
 mod help;
 
 use crate::command_line::{
-    FileNames, at_most, command_with_files, file_names_of, has_at_most, value_of,
+    FileNames, HelpTexts, at_most, command_with_files, file_names_of, has_at_most, value_of,
 };
 use clap::{Arg, ArgAction, ArgMatches, Command, Error};
 use std::alloc::{AllocError, Global};
 
+/// The word of the distance of probabilities: a decimal, or so many percent of themselves.
+#[derive(Clone, Copy, Debug, PartialEq, Eq)]
+pub enum Nearness<'a> {
+    Within(&'a str),
+    Percent(&'a str),
+}
+
 /// The words of the distances of probabilities, and of rewards if it was given.
 #[derive(Clone, Copy, Debug, PartialEq, Eq)]
 pub struct DistanceWords<'a> {
-    pub within: &'a str,
+    pub near: Nearness<'a>,
     pub rewards_within: Option<&'a str>,
 }
 
@@ -33,10 +41,20 @@ pub enum RobustChoice<'a> {
         files: FileNames<'a>,
         distances: DistanceWords<'a>,
     },
+    /// Lower the vectors so that they pass the check.
+    Lower {
+        files: FileNames<'a>,
+        distances: DistanceWords<'a>,
+    },
+    /// Raise the vectors so that they pass the check from above.
+    Raise {
+        files: FileNames<'a>,
+        distances: DistanceWords<'a>,
+    },
 }
 
-/// Returns what the words ask for, of which the first is the program's name, or `None` if the command, `--within` or a file's name is
-/// missing.
+/// Returns what the words ask for, of which the first is the program's name, or `None` if the command or a file's name is missing, or not just
+/// one of `--within` and `--percent` was given.
 ///
 /// # Errors
 ///
@@ -58,7 +76,7 @@ pub fn choose_robust<'a>(
     Ok(robust_choice_of(&matches))
 }
 
-/// Returns the program's command, with its subcommand.
+/// Returns the program's command, with its subcommands.
 fn robust_command<'a>(alloc: Global) -> Result<Command<'a>, AllocError>
     ensures { IfOk result (λ command. app_of command ≡ robust_app) }
 {
@@ -66,8 +84,32 @@ fn robust_command<'a>(alloc: Global) -> Result<Command<'a>, AllocError>
         .version("1.0.0")
         .about(help::ABOUT)
         .after_help(help::DETAILS);
+    let command = add_robust_check(alloc, command)?;
+    let command = add_command_with_distances(alloc, command, "lower", help::LOWER)?;
+    add_command_with_distances(alloc, command, "raise", help::RAISE)
+}
+
+/// Adds the subcommand that checks.
+fn add_robust_check<'a>(alloc: Global, command: Command<'a>) -> Result<Command<'a>, AllocError>
+    ensures { IfOk result (λ more.
+        app_of more ≡ with_subcommand (app_of command.entry) robust_check_app.top) }
+{
     let check = robust_check_command(alloc)?;
     command.subcommand(check)
+}
+
+/// Adds a subcommand that takes the names of the files of a model, a graph and vectors, and the distances.
+fn add_command_with_distances<'a>(
+    alloc: Global,
+    command: Command<'a>,
+    name: &'a str,
+    texts: HelpTexts<'a>,
+) -> Result<Command<'a>, AllocError>
+    ensures { IfOk result (λ more.
+        app_of more ≡ with_subcommand (app_of command.entry) (files_and_distances name.entry.now).top) }
+{
+    let added = command_with_distances(alloc, name, texts)?;
+    command.subcommand(added)
 }
 
 /// Returns the subcommand that checks.
@@ -75,10 +117,22 @@ fn robust_check_command<'a>(alloc: Global) -> Result<Command<'a>, AllocError>
     ensures app { IfOk result (λ command. app_of command ≡ robust_check_app) }
     ensures local { IfOk result (λ command. (out-Command command).has_globals ≡ false) }
 {
-    command_with_files(alloc, "check", help::CHECK)?
+    command_with_distances(alloc, "check", help::CHECK)?.arg(at_most(alloc, help::AT_MOST))
+}
+
+/// Returns a subcommand that takes the names of the files of a model, a graph and vectors, and the distances.
+fn command_with_distances<'a>(
+    alloc: Global,
+    name: &'a str,
+    texts: HelpTexts<'a>,
+) -> Result<Command<'a>, AllocError>
+    ensures app { IfOk result (λ command. app_of command ≡ files_and_distances name.entry.now) }
+    ensures local { IfOk result (λ command. (out-Command command).has_globals ≡ false) }
+{
+    command_with_files(alloc, name, texts)?
         .arg(value(alloc, "within", "X", help::WITHIN))?
-        .arg(value(alloc, "rewards-within", "Y", help::REWARDS_WITHIN))?
-        .arg(at_most(alloc, help::AT_MOST))
+        .arg(value(alloc, "percent", "P", help::PERCENT))?
+        .arg(value(alloc, "rewards-within", "Y", help::REWARDS_WITHIN))
 }
 
 /// Returns an option of this name that takes a value.
@@ -113,6 +167,14 @@ fn robust_choice_by_name<'a>(name: &str, inner: &ArgMatches<'a>) -> Option<Robus
             file_names_of(inner)?,
             distances_of(inner)?,
         )),
+        "lower" => Some(RobustChoice::Lower {
+            files: file_names_of(inner)?,
+            distances: distances_of(inner)?,
+        }),
+        "raise" => Some(RobustChoice::Raise {
+            files: file_names_of(inner)?,
+            distances: distances_of(inner)?,
+        }),
         _ => None,
     }
 }
@@ -133,12 +195,24 @@ fn robust_check_of<'a>(
     }
 }
 
+/// Returns the word of the distance of probabilities, if just one of both was given.
+fn nearness_of<'a>(within: Option<&'a str>, percent: Option<&'a str>) -> Option<Nearness<'a>>
+    ensures { option_map near_view result ≡ just_one (option_map (λ text. text.now) within.entry)
+        (option_map (λ text. text.now) percent.entry) }
+{
+    match (within, percent) {
+        (Some(text), None) => Some(Nearness::Within(text)),
+        (None, Some(text)) => Some(Nearness::Percent(text)),
+        (None, None) | (Some(_), Some(_)) => None,
+    }
+}
+
 /// Returns the words of the distances, if that of probabilities was given.
 fn distances_of<'a>(inner: &ArgMatches<'a>) -> Option<DistanceWords<'a>>
     ensures { option_map distances_view result ≡ distances_in (rows_of (found_of inner.now)) }
 {
     Some(DistanceWords {
-        within: value_of(inner, "within")?,
+        near: nearness_of(value_of(inner, "within"), value_of(inner, "percent"))?,
         rewards_within: value_of(inner, "rewards-within"),
     })
 }
