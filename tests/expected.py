@@ -5,7 +5,7 @@ polcert_bound: an action and a state).
 """
 from fractions import Fraction
 from math import ceil, floor
-from typing import Dict, Iterator, List, NamedTuple, Optional, Sequence, Tuple
+from typing import Callable, Dict, Iterator, List, NamedTuple, Optional, Sequence, Tuple
 
 from runner import Ran
 from informed import Exact, Millionths, raised
@@ -52,27 +52,38 @@ class Controller(NamedTuple):
         return {(n, s): side * (values[n][s] - worth) for (n, s), worth in self.backing(values).items()}
 
 
+# How far a weight may lie from its own.
+Spread = Callable[[Fraction], Fraction]
+
+
 class Near(NamedTuple):
-    """How far models may lie from one, as it was typed: each probability above 0, and each reward."""
+    """How far models may lie from one, as it was typed: each probability above 0, or so many percent of it, and each reward."""
 
     within: str
     rewards_within: str
+    is_percent: bool = False
 
-    def part(self, columns: int) -> Fraction:
-        """The distance of probabilities in a row, rounded up to a whole part of its scale."""
-        return Fraction(ceil(Fraction(self.within) * columns * MILLION), columns * MILLION)
+    def spread(self, scale: int) -> Spread:
+        """In a row of this scale, rounded up to a whole part of it."""
+        distance = Fraction(self.within)
+        return lambda weight: Fraction(ceil((distance / 100 * weight if self.is_percent else distance) * scale), scale)
 
-    def yes(self) -> str:
+    def start_spread(self, start: Dict[int, Fraction]) -> Spread:
+        """In a start, whose scale is the most copies of the total of whole shares that 10 ** 10 has."""
+        total = len(start) if len(set(start.values())) == 1 else MILLION
+        return self.spread(10 ** 10 // total * total)
+
+    def yes(self, worths: Sequence[Fraction], side: int) -> str:
         rewards = f', rewards within {self.rewards_within}' if Fraction(self.rewards_within) else ''
-        return f'yes: every model within {self.within}{rewards}'
+        return f'yes: every model within {self.within}{" %" if self.is_percent else ""}{rewards}, {start_words(worths, side)}'
 
 
-def least_mean(row: Sequence[Tuple[Fraction, Fraction]], by: Fraction) -> Fraction:
+def least_mean(row: Sequence[Tuple[Fraction, Fraction]], by: Spread) -> Fraction:
     """The least mean of values over all rows whose weights above 0 lie so near: least values first, each with as much weight as it can have.
     A row has the weight and the value of each cell above 0."""
-    lows = [max(Fraction(0), weight - by) for weight, _ in row]
+    lows = [max(Fraction(0), weight - by(weight)) for weight, _ in row]
     left, mean = 1 - sum(lows), sum((low * value for low, (_, value) in zip(lows, row)), Fraction(0))
-    for value, room in sorted((value, weight + by - low) for low, (weight, value) in zip(lows, row)):
+    for value, room in sorted((value, weight + by(weight) - low) for low, (weight, value) in zip(lows, row)):
         taken = min(left, room)
         mean, left = mean + taken * value, left - taken
     return mean
@@ -95,7 +106,7 @@ class NearController(NamedTuple):
         for n, action in enumerate(graph.actions):
             for s in range(exact.states):
                 means = [(p, self.of_end(n, s, e, seen[action, e], values, side)) for e, p in ends[action, s]]
-                gaps[n, s] = side * values[n][s] - least_mean(means, self.near.part(exact.states))
+                gaps[n, s] = side * values[n][s] - least_mean(means, self.near.spread(exact.states * MILLION))
         return gaps
 
     def of_end(self, n: int, s: int, e: int, seen: Sequence[Tuple[int, Fraction]], values: Sequence[Millionths], side: int) -> Fraction:
@@ -109,7 +120,7 @@ class NearController(NamedTuple):
                 reward = side * exact.r.get((graph.actions[n], s, e, z), 0) - Fraction(self.near.rewards_within)
                 worth = reward * MILLION + exact.discount * side * values[after][e]
             row.append((q, worth))
-        return least_mean(row, self.near.part(self.observations))
+        return least_mean(row, self.near.spread(self.observations * MILLION))
 
 
 def rounded_values(vectors: Sequence[Vector], side: int) -> List[Millionths]:
@@ -122,7 +133,8 @@ def first_failing(gaps: Gaps) -> Optional[Pair]:
 
 
 def least_constant(gaps: Gaps, discount: Fraction) -> Optional[int]:
-    """The least constant by which moved values pass: each gap becomes less by the constant times 1 - discount."""
+    """The least constant by which moved values pass: each gap becomes less by the constant times 1 - discount, in the worst model too, since
+    all rows sum to one."""
     most = max(gaps.values())
     if most <= 0:
         return 0
@@ -150,6 +162,14 @@ def move(gaps: Gaps, values: Sequence[Millionths], actions: Sequence[int], disco
     return Ran(0, text.encode(), f'{word.rstrip("e")}ed by {decimal(constant)}\n'.encode())
 
 
+def graph_move(controller: Controller, lacks: Sequence[Tuple[int, int, int]], gaps: Gaps, values: Sequence[Millionths], side: int) -> Ran:
+    """The answer of `lower` and `raise` for the vectors of a graph: no constant mends a missing successor."""
+    if lacks:
+        code = 'lower: L3' if side == BELOW else 'raise: U3'
+        return refusal(1, f'{code} at node %d, state %d, observation %d' % lacks[0])
+    return move(gaps, values, controller.graph.actions, controller.exact.discount, side, 'node')
+
+
 def verdict(gaps: Gaps, lacks: Sequence[Tuple[int, int, int]], yes: str, side: int) -> Ran:
     """The answer of `polcert check`: the first pair that fails, and of a pair that lacks successors the first lack."""
     failing = first_failing(gaps)
@@ -161,11 +181,15 @@ def verdict(gaps: Gaps, lacks: Sequence[Tuple[int, int, int]], yes: str, side: i
     return answer(1, f'no: node {failing[0]}, state {failing[1]}, {"short" if side == BELOW else "long"} by {amount}')
 
 
-def start_line(exact: Exact, values: Sequence[Millionths], side: int) -> str:
-    worth = [sum(weight * vector[state] for state, weight in exact.start.items()) for vector in values]
+def start_words(worths: Sequence[Fraction], side: int) -> str:
+    """What a yes says of the start, if the nodes are worth so much there."""
     if side == ABOVE:
-        return f'yes: every start node, at most {decimal(ceil(max(worth)))}'
-    return f'yes: start node {worth.index(max(worth))}, at least {decimal(floor(max(worth)))}'
+        return f'every start node, at most {decimal(ceil(max(worths)))}'
+    return f'start node {worths.index(max(worths))}, at least {decimal(floor(max(worths)))}'
+
+
+def start_line(exact: Exact, values: Sequence[Millionths], side: int) -> str:
+    return 'yes: ' + start_words([sum((weight * vector[state] for state, weight in exact.start.items()), Fraction(0)) for vector in values], side)
 
 
 def summary_of(model: Model) -> bytes:
@@ -180,20 +204,24 @@ def polcert_answers(exact: Exact, graph: Graph, vectors: Sequence[Vector]) -> Di
     """What polcert answers to each word."""
     controller = Controller(exact, graph)
     lacks, found = controller.lacks(), {}
-    for side, check, word, code in ((BELOW, 'check', 'lower', 'L3'), (ABOVE, 'check --at-most', 'raise', 'U3')):
+    for side, check, word in ((BELOW, 'check', 'lower'), (ABOVE, 'check --at-most', 'raise')):
         values = rounded_values(vectors, side)
         gaps = controller.gaps(values, side)
         found[f'polcert {check}'] = verdict(gaps, lacks, start_line(exact, values, side), side)
-        lack = refusal(1, f'{word}: {code} at node %d, state %d, observation %d' % lacks[0]) if lacks else None
-        found[f'polcert {word}'] = lack or move(gaps, values, graph.actions, exact.discount, side, 'node')
+        found[f'polcert {word}'] = graph_move(controller, lacks, gaps, values, side)
     return found
 
 
-def near_answer(exact: Exact, graph: Graph, vectors: Sequence[Vector], model: Model, near: Near, side: int) -> Ran:
-    """What polcert_robust answers to a check from this side."""
-    controller = Controller(exact, graph)
-    gaps = NearController(controller, model.observations.count, near).gaps(rounded_values(vectors, side), side)
-    return verdict(gaps, controller.lacks(), near.yes(), side)
+def near_answer(command: str, exact: Exact, graph: Graph, vectors: Sequence[Vector], model: Model, near: Near) -> Ran:
+    """What polcert_robust answers to a word."""
+    side = ABOVE if command.endswith(('raise', '--at-most')) else BELOW
+    controller, values = Controller(exact, graph), rounded_values(vectors, side)
+    lacks, gaps = controller.lacks(), NearController(controller, model.observations.count, near).gaps(values, side)
+    if not command.startswith('polcert_robust check'):
+        return graph_move(controller, lacks, gaps, values, side)
+    by = near.start_spread(exact.start)
+    worths = [side * least_mean([(weight, Fraction(side * vector[state])) for state, weight in exact.start.items()], by) for vector in values]
+    return verdict(gaps, lacks, near.yes(worths, side), side)
 
 
 def bound_answers(exact: Exact, vectors: Sequence[Vector]) -> Dict[str, Ran]:

@@ -10,7 +10,7 @@ from fractions import Fraction
 from typing import Callable, List, Optional, Sequence, Tuple
 
 from runner import Ran
-from expected import ABOVE, BELOW, Near, answer, bound_answers, near_answer, points_answer, polcert_answers, refusal, rounded_values, summary_of
+from expected import ABOVE, Near, answer, bound_answers, near_answer, points_answer, polcert_answers, refusal, rounded_values, summary_of
 from informed import exact_model
 from polcert.files import FileError, Graph, Model, Source, read_graph, read_model, read_vectors
 from polcert.points import WholeCells, read_points
@@ -21,6 +21,7 @@ UNKNOWN = 99
 COUNTS = {  # of files
     'polcert model': [1], 'polcert check': [3], 'polcert check --at-most': [3], 'polcert lower': [3], 'polcert raise': [3],
     'polcert_bound check': [2, 3], 'polcert_bound raise': [2], 'polcert_robust check': [3], 'polcert_robust check --at-most': [3],
+    'polcert_robust lower': [3], 'polcert_robust raise': [3],
 }
 
 
@@ -44,7 +45,7 @@ def answer_to_texts(command: str, texts: Sequence[bytes], near: Near) -> Optiona
     graph = read_graph(Source('graph', texts[1]), model)
     vectors = read_vectors(Source('vectors', texts[2]), model, graph)
     if command.startswith('polcert_robust '):
-        return near_answer(exact_model(model), graph, vectors, model, near, ABOVE if command.endswith('--at-most') else BELOW)
+        return near_answer(command, exact_model(model), graph, vectors, model, near)
     return polcert_answers(exact_model(model), graph, vectors)[command]
 
 
@@ -54,14 +55,15 @@ def is_distance(word: str, most: int, decimals: int) -> bool:
 
 def distances_and_files(words: Sequence[str]) -> Tuple[Optional[Near], List[str]]:
     """The distances among words, and the other words; None in place of distances that are refused."""
-    files, found = list(words), {'--within': '', '--rewards-within': '0'}
+    files, found = list(words), {'--within': '', '--percent': '', '--rewards-within': '0'}
     for option in found:
         if option in files[:-1]:
             at = files.index(option)
             found[option] = files[at + 1]
             del files[at:at + 2]
-    near = Near(*found.values())
-    return (near if is_distance(near.within, 1, 12) and is_distance(near.rewards_within, 1_000_000, 6) else None), files
+    within, percent, rewards = found.values()
+    is_right = is_distance(percent, 100, 6) and not within if percent else is_distance(within, 1, 12)
+    return (Near(percent or within, rewards, bool(percent)) if is_right and is_distance(rewards, 1_000_000, 6) else None), files
 
 
 def answer_to(program: str, words: Sequence[str], given: Callable[[], bytes]) -> Optional[Ran]:
