@@ -34,14 +34,15 @@ class Yes:
 
 @dataclass(frozen=True)
 class EveryModel:
-    """The vectors are a bound in every model within these distances. `node` and `amount` are the bound from the model's start, if the line
-    has it."""
+    """The vectors are a bound in every model within these distances (`is_percent`: so many percent of each probability): `amount` is the bound
+    from every start within. A lower bound is that of the start node `node`; an upper one is of every node."""
 
     line: str
     within: Fraction
     rewards_within: Fraction
+    amount: Fraction
     node: Optional[int] = None
-    amount: Optional[Fraction] = None
+    is_percent: bool = False
 
 
 @dataclass(frozen=True)
@@ -115,8 +116,8 @@ _SUMMARY = re.compile(
 )
 _YES = re.compile(rf"yes: (?:start node ([0-9]+), at least|every (?:start node|policy), at most) ({_AMOUNT})")
 _EVERY = re.compile(
-    rf"yes: every model within ({_AMOUNT})(?:, rewards within ({_AMOUNT}))?"
-    rf"(?:, start node ([0-9]+), at least ({_AMOUNT})|, every start node, at most ({_AMOUNT}))?"
+    rf"yes: every model within ({_AMOUNT})( %)?(?:, rewards within ({_AMOUNT}))?"
+    rf", (?:start node ([0-9]+), at least|every start node, at most) ({_AMOUNT})"
 )
 _NO = re.compile(
     rf"no: (?:node [0-9]+, state [0-9]+, (?P<off>short|long) by (?P<by>{_AMOUNT})|(?:action [0-9]+, state|point [0-9]+, action) [0-9]+, "
@@ -162,8 +163,8 @@ def every_model_of(line: str) -> Optional[EveryModel]:
     found = _EVERY.fullmatch(line)
     if not found:
         return None
-    node, amount = found[3], found[4] or found[5]
-    return EveryModel(line, Fraction(found[1]), Fraction(found[2] or 0), int(node) if node else None, Fraction(amount) if amount else None)
+    node = None if found[4] is None else int(found[4])
+    return EveryModel(line, Fraction(found[1]), Fraction(found[3] or 0), Fraction(found[5]), node, found[2] is not None)
 
 
 def moved_of(line: str, vectors: bytes) -> Optional[Moved]:

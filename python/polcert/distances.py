@@ -1,20 +1,40 @@
 """How far models may lie from one, as polcert_robust takes it."""
 import argparse
 from fractions import Fraction
+from math import ceil
 from typing import NamedTuple, Optional
 
 from polcert.tokens import MILLION, NumberFault, exact_value, is_numeral
 
 # The most decimals of a distance of probabilities, and the largest distance of rewards.
 DECIMALS, MOST_OF_REWARDS = 12, 1_000_000
+# The parts of a percent, and the parts of the whole that 100 percent are.
+OF_PERCENT, OF_WHOLE = MILLION, 100 * MILLION
 
 
 class Distances(NamedTuple):
-    """How far models may lie from one: each probability above 0, and each reward. With `is_above`, vectors are upper bounds."""
+    """How far models may lie from one: each probability above 0, each reward, and in percent of itself each probability. With `is_above`,
+    vectors are upper bounds."""
 
     probabilities: Fraction
     rewards: Fraction = Fraction(0)
     is_above: bool = False
+    percent: Fraction = Fraction(0)
+
+
+class Spread(NamedTuple):
+    """How far a weight of a row may lie from its own: parts of the scale, and of itself millionths of a percent, rounded up."""
+
+    parts: int
+    percent: int = 0
+
+    def of(self, weight: int) -> int:
+        return self.parts - (-weight * self.percent) // OF_WHOLE
+
+
+def spread_at(near: Distances, scale: int) -> Spread:
+    """The distance in parts of a scale, rounded up, as polcert_robust does."""
+    return Spread(ceil(near.probabilities * scale), int(near.percent * OF_PERCENT))
 
 
 def probability_distance(word: str) -> Fraction:
@@ -22,6 +42,14 @@ def probability_distance(word: str) -> Fraction:
     value = _value(word)
     if value is None or value > 1 or value * 10**DECIMALS % 1:
         raise argparse.ArgumentTypeError(f"{word} is no number from 0 to 1 with at most {DECIMALS} decimals")
+    return value
+
+
+def percent_distance(word: str) -> Fraction:
+    """The argument of --percent."""
+    value = _value(word)
+    if value is None or value > 100 or value * OF_PERCENT % 1:
+        raise argparse.ArgumentTypeError(f"{word} is no number from 0 to 100 with at most 6 decimals")
     return value
 
 

@@ -69,8 +69,9 @@ def check_near(
     files: Sequence[Text], within: str, rewards_within: str = "0", above: bool = False, *, program: str = "polcert_robust"
 ) -> Union[EveryModel, No, Refused]:
     """Checks that vectors are a lower bound in every model near, or if `above` an upper bound. The files are a model, a graph and vectors, and
-    the distances decimals. Raises ProgramError."""
-    words = ["check", "--within", within, "--rewards-within", rewards_within]
+    the distances decimals; `within` may end with %. Raises ProgramError."""
+    near = ["--percent", within.rstrip("% ")] if within.endswith("%") else ["--within", within]
+    words = ["check", *near, "--rewards-within", rewards_within]
     return _answer(program, [*words, "--at-most"] if above else words, files, _verdict_near)
 
 

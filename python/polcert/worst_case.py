@@ -15,7 +15,7 @@ from scipy import sparse
 
 from polcert.arrays import Arrays, Floats, Matrix, arrays_of, blocks_of_rewards
 from polcert.command import Refusal
-from polcert.distances import Distances
+from polcert.distances import Distances, Spread, spread_at
 from polcert.evaluation import BLOCK_NUMBERS, MOST_SOLVING, MOST_SWEEPS, ROUNDING, ArrayGraph, Integers, array_graph, evaluate, nearly_solved
 from polcert.files import Graph, Model
 from polcert.points import WholeCells
@@ -42,8 +42,8 @@ class WorstModel(NamedTuple):
 
     cells: WholeCells
     arrays: Arrays
-    t_by: int
-    o_by: int
+    t_by: Spread
+    o_by: Spread
     r_by: int
     sign: int
 
@@ -51,8 +51,8 @@ class WorstModel(NamedTuple):
 def worst_model(model: Model, near: Distances) -> WorstModel:
     """Distances are rounded up to parts, as polcert_robust does."""
     cells = WholeCells(model)
-    t_by, o_by, r_by = (ceil(near.probabilities * cells.t_scale), ceil(near.probabilities * cells.o_scale), ceil(near.rewards * MILLION))
-    return WorstModel(cells, arrays_of(model), t_by, o_by, r_by, -1 if near.is_above != model.is_cost else 1)
+    t_by, o_by = spread_at(near, cells.t_scale), spread_at(near, cells.o_scale)
+    return WorstModel(cells, arrays_of(model), t_by, o_by, ceil(near.rewards * MILLION), -1 if near.is_above != model.is_cost else 1)
 
 
 # One step, in floating point
@@ -82,7 +82,7 @@ class WorstAction:
     def __init__(self, worst: WorstModel, action: int) -> None:
         self.discount, self._worst, self._action = worst.arrays.discount, worst, action
         observing = worst.arrays.observing[action]
-        self.observing = RowsNear(observing, worst.o_by / worst.cells.o_scale)
+        self.observing = RowsNear(observing, worst.o_by, worst.cells.o_scale)
         self.states = observing.shape[0]
         self.observations, self.ends = self.observing.columns, self.observing.rows
         self.parts = list(self._parts(observing))
@@ -108,7 +108,7 @@ class WorstAction:
             yield self._part(states, moves[states], np.concatenate(earned), None)
 
     def _part(self, states: Integers, rows: Matrix, of_ends: Floats, of_seen: Optional[Floats]) -> Part:
-        moves = RowsNear(rows, self._worst.t_by / self._worst.cells.t_scale)
+        moves = RowsNear(rows, self._worst.t_by, self._worst.cells.t_scale)
         return Part(states, moves, of_ends - self._worst.r_by / MILLION, of_seen)
 
     def _rewards(self, block: RewardBlock, reached: Sequence[int], observing: Matrix) -> Tuple[Floats, Optional[Floats]]:

@@ -9,6 +9,7 @@ import numpy as np
 from numpy.typing import NDArray
 
 from polcert.arrays import Floats, Matrix
+from polcert.distances import OF_WHOLE, Spread
 from polcert.evaluation import Integers
 from polcert.points import Weights
 
@@ -27,9 +28,10 @@ class _Block(NamedTuple):
 
 
 class RowsNear:
-    """The rows near those of a matrix. No row is empty."""
+    """The rows near those of a matrix, whose weights are whole parts of a scale. No row is empty."""
 
-    def __init__(self, matrix: Matrix, distance: float) -> None:
+    def __init__(self, matrix: Matrix, by: Spread, scale: int) -> None:
+        self._by, self._scale = by, scale
         self.columns: Integers = matrix.indices
         self.begins: Integers = matrix.indptr[:-1]
         lengths = np.diff(matrix.indptr)
@@ -37,13 +39,15 @@ class RowsNear:
         self.longest = int(lengths.max())
         # (a row of one cell has nothing to choose)
         sizes = np.ceil(np.log2(lengths)).astype(np.int64)
-        self._blocks: List[_Block] = [self._block(matrix.data, np.flatnonzero(sizes == size), lengths, distance) for size in np.unique(sizes) if size]
+        self._blocks: List[_Block] = [self._block(matrix.data, np.flatnonzero(sizes == size), lengths) for size in np.unique(sizes) if size]
 
-    def _block(self, chances: Floats, rows: Integers, lengths: Integers, distance: float) -> _Block:
+    def _block(self, chances: Floats, rows: Integers, lengths: Integers) -> _Block:
         places = np.arange(lengths[rows].max())
         is_cell = places < lengths[rows, None]
         cells = self.begins[rows, None] + np.where(is_cell, places, 0)
         weights = np.where(is_cell, chances[cells], 0)
+        whole = np.rint(weights * self._scale).astype(np.int64)
+        distance = (self._by.parts - (-whole * self._by.percent) // OF_WHOLE) / self._scale
         low = np.maximum(weights - distance, 0)
         room = np.where(is_cell, np.minimum(weights + distance, 1) - low, 0)
         return _Block(cells, is_cell, low, room, 1 - low.sum(axis=1, keepdims=True))
@@ -64,12 +68,12 @@ class RowsNear:
         return np.asarray(np.add.reduceat(weights * values, self.begins, axis=1))
 
 
-def least_mean(weights: Weights, scale: int, by: int, values: Sequence[int]) -> int:
-    """The mean of the worst row, exactly, times the scale: the row sums to the scale, and each of its weights may have `by` more or less."""
-    lows = [max(0, weight - by) for _, weight in weights]
+def least_mean(weights: Weights, scale: int, by: Spread, values: Sequence[int]) -> int:
+    """The mean of the worst row, exactly, times the scale: the row sums to the scale, and each of its weights may have this more or less."""
+    lows = [max(0, weight - by.of(weight)) for _, weight in weights]
     rest, total = scale - sum(lows), 0
     for value, low, (_, weight) in sorted(zip(values, lows, weights)):
-        more = min(weight + by - low, rest)
+        more = min(weight + by.of(weight) - low, rest)
         rest -= more
         total += (low + more) * value
     return total

@@ -1,11 +1,10 @@
 """The certificate of a mended model for the model as it was written: that one is near, and vectors for the worst case hold in every near one."""
 from fractions import Fraction
-from typing import List, NamedTuple, Optional, Sequence
+from typing import List, NamedTuple, Optional
 
 from polcert.commands.mend import Mended
 from polcert.distances import Distances
-from polcert.files import Graph, Model, Row
-from polcert.tokens import MILLION
+from polcert.files import Graph, Model
 from polcert.watch import Watch
 
 
@@ -28,10 +27,3 @@ def vectors_for_written(made: Mended, model: Model, graph: Graph, is_quiet: bool
 
     probabilities, rewards = map(Fraction, made.mend.written.texts())
     return worst_case_vectors(model, graph, Distances(probabilities, rewards), Watch(is_quiet, can_end_early=False))
-
-
-def worth_from(start: Row, values: Sequence[float]) -> Fraction:
-    """What a vector with six decimals is worth from a start whose weights need not sum to one, rounded down to millionths."""
-    weights = {state: weight for state, weight in start.items() if weight > 0}
-    total = sum(weight * round(values[state] * MILLION) for state, weight in weights.items())
-    return Fraction(total // sum(weights.values()), MILLION)

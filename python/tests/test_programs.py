@@ -51,12 +51,14 @@ class Lines(unittest.TestCase):
                 {"reason": "no successor", "amount": None, "node": 1, "state": 2, "observation": 3},
         }.items():
             self.assertEqual(verdict_of(line), polcert.No(line, **wanted))  # type: ignore[arg-type]
-        line = "yes: every model within 0.0000015"
-        self.assertEqual(every_model_of(line), polcert.EveryModel(line, Fraction(15, 10**7), Fraction(0)))
+        line = "yes: every model within 0.0000015, start node 0, at least -2"
+        self.assertEqual(every_model_of(line), polcert.EveryModel(line, Fraction(15, 10**7), Fraction(0), Fraction(-2), 0))
         line = "yes: every model within 0.01, rewards within 0.5, start node 3, at least 0.25"
-        self.assertEqual(every_model_of(line), polcert.EveryModel(line, Fraction(1, 100), Fraction(1, 2), 3, Fraction(1, 4)))
+        self.assertEqual(every_model_of(line), polcert.EveryModel(line, Fraction(1, 100), Fraction(1, 2), Fraction(1, 4), 3))
         line = "yes: every model within 0, every start node, at most 7"
-        self.assertEqual(every_model_of(line), polcert.EveryModel(line, Fraction(0), Fraction(0), None, Fraction(7)))
+        self.assertEqual(every_model_of(line), polcert.EveryModel(line, Fraction(0), Fraction(0), Fraction(7)))
+        line = "yes: every model within 5 %, start node 3, at least 7"
+        self.assertEqual(every_model_of(line), polcert.EveryModel(line, Fraction(5), Fraction(0), Fraction(7), 3, True))
         for line in ("lowered by 0.25", "raised by 0.25"):
             self.assertEqual(moved_of(line, b"0 1\n"), polcert.Moved(line, Fraction(1, 4), b"0 1\n"))
 
@@ -98,7 +100,7 @@ class Lines(unittest.TestCase):
             "", "yes", "yes: start node 0, at most 1", "yes: every policy, at least 1", "no: node 0, state 0, short by 1 ", "no: node 0, state 0",
             "model: M99 in item 0 at byte 1", "model: M1 K1 in item 0 at byte 1\n", "graph: G5 at node 1", "lowered by", "out of memory",
             "pomdp: 1 states, 1 actions, discount 1, reward", "mdp: 1 states, 1 actions, 1 observations, discount 1, reward",
-            "yes: start node \u0663, at least 1", "yes: every model within", "yes: every model within 1, start node 0",
+            "yes: start node \u0663, at least 1", "yes: every model within", "yes: every model within 1", "yes: every model within 1, start node 0",
         ):
             self.assertEqual((summary_of(line), verdict_of(line), every_model_of(line), moved_of(line, b""), refused_of(line)), (None,) * 5, line)
 
@@ -164,7 +166,7 @@ class Calls(FolderTest):
         self.assertFalse(no)
         # (whatever is heard, listening costs 1, or as much more as rewards may lie apart)
         every = polcert.check_near([text, LISTEN, LISTEN_VECTORS], "0.5")
-        self.assertEqual(every, polcert.EveryModel(every.line, Fraction(1, 2), Fraction(0)))
+        self.assertEqual(every, polcert.EveryModel(every.line, Fraction(1, 2), Fraction(0), Fraction(-20), 0))
         near = polcert.check_near([text, LISTEN, LISTEN_VECTORS], "0", "0.25")
         self.assertEqual(near, polcert.No("no: node 0, state 0, short by 0.25", "short", Fraction(1, 4), 0, 0))
         self.assertTrue(polcert.check_near([text, LISTEN, b"0 -15 -15"], "0", "0.25", above=True))

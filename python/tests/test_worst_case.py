@@ -42,8 +42,9 @@ class Near(NamedTuple):
         """The rows near one that fill its cells in some order: all corners of the set, and so the worst for any values among them. The distance
         is rounded up as polcert_robust does."""
         scale = columns * MILLION
-        by = Fraction(ceil(self.distances.probabilities * scale), scale)
-        return [filled(row, by, order) for order in permutations(row)]
+        parts, percent = ceil(self.distances.probabilities * scale), self.distances.percent
+        near = {column: Fraction(parts + ceil(p * scale * percent / 100), scale) for column, p in row.items()}
+        return [filled(row, near, order) for order in permutations(row)]
 
     def worst(self, row: Row, columns: int, values: Dict[int, Fraction]) -> Row:
         return min(self.rows(row, columns), key=lambda other: mean(other, values))
@@ -85,12 +86,12 @@ def mean(row: Row, values: Dict[int, Fraction]) -> Fraction:
     return sum((p * values[column] for column, p in row.items()), Fraction(0))
 
 
-def filled(row: Row, by: Fraction, order: Sequence[int]) -> Row:
+def filled(row: Row, near: Row, order: Sequence[int]) -> Row:
     """The row whose cells have the least that they may have, and as much more as they can in this order."""
-    found = {column: max(Fraction(0), p - by) for column, p in row.items()}
+    found = {column: max(Fraction(0), p - near[column]) for column, p in row.items()}
     rest = 1 - sum(found.values())
     for column in order:
-        more = min(row[column] + by - found[column], rest)
+        more = min(row[column] + near[column] - found[column], rest)
         found[column] += more
         rest -= more
     return found
@@ -104,7 +105,9 @@ def random_near(seed: int) -> Near:
     within = chance.choice(["0", "0.0000015", "0.01", "0.3", f"0.{chance.randrange(10**12):012}", "1"])
     rewards = chance.choice([Fraction(0), Fraction(1, 2), Fraction(1, MILLION)])
     graph = Graph([chance.randrange(model.actions.count) for _ in range(3)], rows)
-    return Near(model, graph, Distances(Fraction(within), rewards, chance.random() < 0.4))
+    percent = chance.choice(["0", "0", "5", "0.3", "0.000001", "100"])
+    distance = Fraction(0 if percent != "0" else within)
+    return Near(model, graph, Distances(distance, rewards, chance.random() < 0.4, Fraction(percent)))
 
 
 @needs_numpy
@@ -137,7 +140,8 @@ class Vectors(OutputTest):
             (["--within", "0.0000000000001"], "with at most 12 decimals"), (["--within", "1e-3"], "1e-3 is no number"),
             (["--within", "-1"], "-1 is no number"), (["--within", "0.1", "--rewards-within", "0.0000001"], "with at most 6 decimals"),
             (["--within", "0.1", "--rewards-within", "2000000"], "from 0 to 1000000"), (["--at-most"], "need --within"),
-            (["--rewards-within", "1"], "need --within"),
+            (["--rewards-within", "1"], "need --within"), (["--percent", "100.1"], "100.1 is no number from 0 to 100 with at most 6 decimals"),
+            (["--within", "0.1", "--percent", "5"], "not allowed with"),
         ):
             said = self.run_with([*words, *more])
             self.assertEqual((said.status, said.out), (2, b""))
@@ -159,7 +163,8 @@ class Vectors(OutputTest):
 @needs_program
 class Programs(OutputTest):
     def robust(self, near: Near, *files: str) -> Said:
-        distances = ["--within", fixed(near.distances.probabilities), "--rewards-within", fixed(near.distances.rewards)]
+        probabilities, rewards, _, percent = near.distances
+        distances = [*(["--percent", fixed(percent)] if percent else ["--within", fixed(probabilities)]), "--rewards-within", fixed(rewards)]
         return run_program(ROBUST, "check", *distances, *(["--at-most"] if near.distances.is_above else []), *files)
 
     def files(self, near: Near, vectors: Sequence[Sequence[int]], model: bytes) -> List[str]:
@@ -225,7 +230,8 @@ class Programs(OutputTest):
             model, graph = (str(EXAMPLES / f"{name}.{ending}") for ending in ("POMDP", "pg"))
             out = str(self.folder / "out.alpha")
             self.assertEqual(run_script("polcert-evaluate", "--within", "0.0000005", model, graph, "-o", out).status, 0)
-            self.assertEqual(run_program(ROBUST, "check", "--within", "0.0000005", model, graph, out).out, b"yes: every model within 0.0000005\n")
+            said = run_program(ROBUST, "check", "--within", "0.0000005", model, graph, out).out
+            self.assertTrue(said.startswith(b"yes: every model within 0.0000005, start node "), (name, said))
 
 
 def fixed(value: Fraction) -> str:

@@ -28,10 +28,11 @@ _polcert_bound() {
 }
 
 _polcert_robust() {
-  local word=${COMP_WORDS[COMP_CWORD]} words='check'
+  local word=${COMP_WORDS[COMP_CWORD]} words='check lower raise'
   case $COMP_CWORD:${COMP_WORDS[1]} in
-    1:*) words='check help --help --version' ;;
-    *:check) words='--within --rewards-within --at-most --help' ;;
+    1:*) words='check lower raise help --help --version' ;;
+    *:check) words='--within --percent --rewards-within --at-most --help' ;;
+    *:lower | *:raise) words='--within --percent --rewards-within --help' ;;
   esac
   if [ "$COMP_CWORD" -gt 1 ] && [[ $word != -* ]] && [ "${COMP_WORDS[1]}" != help ]; then
     COMPREPLY=()
@@ -49,7 +50,7 @@ _polcert_command() {
     polcert-bound-vectors) words='-o --output --tolerance --rounds -h --help -V --version' ;;
     polcert-certify) words='-o --output --seconds --gap --within --json --programs -q --quiet -h --help -V --version' ;;
     polcert-convert) words='-o --output --json -h --help -V --version' ;;
-    polcert-evaluate) words='-o --output --within --rewards-within --at-most -h --help -V --version' ;;
+    polcert-evaluate) words='-o --output --within --percent --rewards-within --at-most -h --help -V --version' ;;
     polcert-graph) words='-o --output --nodes --beliefs --points --rounds --costs --own-vectors --within --tries --dot --json -q --quiet -h --help -V --version' ;;
     polcert-locate) words='--json -h --help -V --version' ;;
     polcert-mend) words='-o --output -q --quiet --within --json -h --help -V --version' ;;

@@ -5,8 +5,8 @@
 
 The vectors are computed in floating point and written with six decimals, so they may promise a little too much: lower them.
 
-With --within they are for the worst of all models near: each probability above 0 may lie so far from the model's, and each reward as far as
---rewards-within says. They are rounded down so that this check says yes:
+With --within or --percent they are for the worst of all models near: each probability above 0 may lie so far from the model's, or so many
+percent of itself, and each reward as far as --rewards-within says. They are rounded down so that this check says yes:
 
     polcert-evaluate --within 0.01 M.POMDP M.pg -o M.worst.alpha
     polcert_robust check --within 0.01 M.POMDP M.pg M.worst.alpha
@@ -15,7 +15,7 @@ import argparse
 from fractions import Fraction
 
 from polcert.command import Parser, read_source, refuse_overwriting, write
-from polcert.distances import Distances, probability_distance, reward_distance
+from polcert.distances import Distances, percent_distance, probability_distance, reward_distance
 from polcert.files import read_graph, read_model
 from polcert.needs import needs_numpy
 from polcert.values import refuse_undiscounted, vectors_text
@@ -26,12 +26,14 @@ def arguments() -> argparse.Namespace:
     parser.add_argument("model", metavar="MODEL", help="a model (.POMDP) with a discount below 1")
     parser.add_argument("graph", metavar="PG", help="a policy graph (.pg)")
     parser.add_argument("-o", "--output", metavar="FILE", help="write the vectors there, and not to standard output")
-    parser.add_argument("--within", metavar="X", type=probability_distance, help="for the worst model whose probabilities lie so near")
-    parser.add_argument("--rewards-within", metavar="Y", type=reward_distance, help="and whose rewards lie so near; default 0; needs --within")
-    parser.add_argument("--at-most", action="store_true", help="for the best model near, rounded up, to be checked from above; needs --within")
+    near = parser.add_mutually_exclusive_group()
+    near.add_argument("--within", metavar="X", type=probability_distance, help="for the worst model whose probabilities lie so near")
+    near.add_argument("--percent", metavar="P", type=percent_distance, help="or within so many percent of themselves")
+    parser.add_argument("--rewards-within", metavar="Y", type=reward_distance, help="and whose rewards lie so near; default 0")
+    parser.add_argument("--at-most", action="store_true", help="for the best model near, rounded up, to be checked from above")
     words = parser.parse_args()
-    if words.within is None and (words.rewards_within is not None or words.at_most):
-        parser.error("--rewards-within and --at-most need --within")
+    if words.within is None and words.percent is None and (words.rewards_within is not None or words.at_most):
+        parser.error("--rewards-within and --at-most need --within or --percent")
     return words
 
 
@@ -44,13 +46,14 @@ def main() -> int:
     with needs_numpy():
         from polcert.arrays import arrays_of
         from polcert.evaluation import array_graph, evaluate
-    if words.within is None:
+    if words.within is None and words.percent is None:
         values = evaluate(arrays_of(model), array_graph(graph)).tolist()
     else:
         from polcert.watch import Watch
         from polcert.worst_case import worst_case_vectors
 
-        near = Distances(words.within, words.rewards_within or Fraction(0), words.at_most)
+        within, percent, rewards = (value or Fraction(0) for value in (words.within, words.percent, words.rewards_within))
+        near = Distances(within, rewards, words.at_most, percent)
         values = worst_case_vectors(model, graph, near, Watch(is_quiet=False, can_end_early=False))
     write(vectors_text(graph.actions, values), words.output)
     return 0
