@@ -4,6 +4,7 @@ pub mod FrontNumbers
 pub mod FrontSizes
 pub mod MeasureLaws
 pub mod NumberLaws
+pub mod NumeralParts
 pub mod Plain
 pub mod PlainWhole
 pub mod SignedLaws

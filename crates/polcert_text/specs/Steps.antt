@@ -2,6 +2,7 @@
 pub mod Buffer
 pub mod Classes
 pub mod FrontSizes
+pub mod NumeralEnds
 pub mod Scaling
 pub mod Scan
 pub mod ScanOf

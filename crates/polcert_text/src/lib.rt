@@ -2,9 +2,11 @@
 #![tactic(auto)]
 
 mod bytes;
+mod front_numerals;
 mod front_tokens;
 pub mod laws;
 mod number;
+mod numeral_ends;
 mod sink;
 mod source;
 mod stream_tokens;

@@ -13,6 +13,7 @@ ghost use Rattle.polcert_text.specs.Numbers.{signed, IsExact, IsFloor, IsCeil, I
 ghost use Rattle.polcert_text.specs.Numbers.{IsRefused, IsRefusedExactly};
 ghost use Rattle.polcert_text.specs.Steps.Scaling.{separates, size_cap, is_nonzero, IsScaled, Measures, ceiling};
 ghost use Rattle.polcert_text.specs.Steps.Scaling.{rounded, is_away};
+ghost use Rattle.polcert_text.specs.Steps.NumeralEnds.{HasParts};
 ghost use Rattle.polcert_text.specs.Millionths.{decimals, fraction_text, unsigned_text, scaled_text};
 
 use crate::bytes::{class_of, quick_is_digit, quick_is_point};
@@ -320,7 +321,7 @@ fn parts_of(numeral: &[u8]) -> Parts<'_>
 
 /// Returns whether a minus stands first, and what stands after a sign.
 #[tactic(auto, unfolding(crate::specs::Bytes::is_sign))]
-fn split_sign(exponent: &[u8]) -> (bool, &[u8])
+pub fn split_sign(exponent: &[u8]) -> (bool, &[u8])
     ensures is_lowering { result.0 ≡ is_lowering exponent.now }
     ensures digits { result.1.now ≡ without_sign exponent.now }
 {
@@ -461,12 +462,33 @@ fn general_size(numeral: &[u8]) -> Result<Size, NumberFault>
         return Err(NumberFault::TooLong);
     }
     let parts = parts_of(numeral);
-    let exponent = number_up_to(BEYOND_EXPONENTS, parts.exponent);
+    size_of_parts(
+        parts.whole,
+        parts.fraction,
+        parts.is_lowering,
+        parts.exponent,
+    )
+}
+
+/// Returns the size of a numeral with these parts in millionths, rounded down: the digits before its point and those after it, and the
+/// digits of its exponent.
+pub fn size_of_parts(
+    whole: &[u8],
+    fraction: &[u8],
+    is_lowering: bool,
+    exponent: &[u8],
+) -> Result<Size, NumberFault>
+    requires { (bs : List ℕ) × HasParts bs whole.now fraction.now is_lowering exponent.now }
+    ensures value { (bs : List ℕ) → HasParts bs whole.now fraction.now is_lowering exponent.now
+        → MatchResult result (λ size. IsReadable bs × Measures bs size.floor size.is_inexact) (IsRefused bs) }
+    ensures small { IfOk result (λ size. ceiling size.floor size.is_inexact ≤ largest) }
+{
+    let exponent = number_up_to(BEYOND_EXPONENTS, exponent);
     if exponent > LARGEST_EXPONENT {
         return Err(NumberFault::TooLong);
     }
-    let kept = kept_digits(parts.whole.len(), parts.is_lowering, exponent);
-    let size = leading_size(parts.whole, parts.fraction, kept);
+    let kept = kept_digits(whole.len(), is_lowering, exponent);
+    let size = leading_size(whole, fraction, kept);
     if size.ceiling() > LARGEST {
         return Err(NumberFault::TooLarge);
     }

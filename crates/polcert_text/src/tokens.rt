@@ -7,9 +7,10 @@ ghost use Rattle.polcert_text.specs.Steps.Scan.{is_numeral_kind};
 ghost use Rattle.polcert_text.specs.Steps.Classes.{class_of};
 
 use crate::bytes::{
-    ByteClass, class_of, ends_numeral, quick_ends_gap, quick_is_blank, quick_is_colon,
-    quick_is_digit, quick_is_letter, quick_is_point,
+    ByteClass, class_of, quick_ends_gap, quick_is_blank, quick_is_colon, quick_is_digit,
+    quick_is_letter,
 };
+use crate::numeral_ends::ended_numeral;
 use memchr::memchr;
 use std::marker::Model;
 use thiserror::Error;
@@ -186,7 +187,7 @@ pub fn token_of(
 
 /// Tests whether a lexeme is a numeral that a letter, `_` or a point follows directly.
 #[inline(always)]
-pub fn is_glued(kind: TokenKind, rest: &[u8]) -> bool
+fn is_glued(kind: TokenKind, rest: &[u8]) -> bool
     ensures { result ≡ is_glued kind rest.now }
 {
     match (kind, rest) {
@@ -624,7 +625,13 @@ pub fn delimited_lexeme(bytes: &[u8]) -> Option<LexemePrefix>
         return None;
     }
     if quick_is_digit(bytes[0]) {
-        return ended_numeral(bytes);
+        return match ended_numeral(bytes) {
+            Some(ends) => Some(LexemePrefix {
+                kind: TokenKind::Numeral,
+                len: ends.end,
+            }),
+            None => None,
+        };
     }
     ended_name_or_mark(bytes)
 }
@@ -644,36 +651,6 @@ pub fn ended_name_or_mark(bytes: &[u8]) -> Option<LexemePrefix>
         State::Single(kind) => Some(LexemePrefix { kind, len: 1 }),
         _ => None,
     }
-}
-
-/// Returns the numeral at the front, if a byte after it ends it. `None`: unknown, take the slow path.
-#[inline(always)]
-fn ended_numeral(bytes: &[u8]) -> Option<LexemePrefix>
-    requires some { 0 < length bytes.now }
-    requires digit { class_of (slice_index bytes.now 0) ≡ ByteClass.Digit }
-    ensures { IfSome result (EndsWithin bytes.now) }
-{
-    let point = digits_end(bytes, 1);
-    if point == bytes.len() {
-        return None;
-    }
-    if ends_numeral(bytes[point]) {
-        return Some(LexemePrefix {
-            kind: TokenKind::Numeral,
-            len: point,
-        });
-    }
-    if !quick_is_point(bytes[point]) {
-        return None;
-    }
-    let end = digits_end(bytes, point + 1);
-    if end < bytes.len() && ends_numeral(bytes[end]) {
-        return Some(LexemePrefix {
-            kind: TokenKind::Numeral,
-            len: end,
-        });
-    }
-    None
 }
 
 /// Returns the name at the front, if a byte after it shows its end.
@@ -720,16 +697,4 @@ fn scanned_lexeme(bytes: &[u8]) -> Option<LexemePrefix>
     ensures { IsFrontOf bytes.now result }
 {
     LexemeScan::new().scan_over(bytes).longest()
-}
-
-/// Returns the lexeme at the front, of any kind, if a byte after it shows its end. `None`: unknown.
-#[inline(always)]
-pub fn ended_lexeme(bytes: &[u8]) -> Option<LexemePrefix>
-    ensures { IfSome result (EndsWithin bytes.now) }
-{
-    let scan = LexemeScan::new().scan_over(bytes);
-    if scan.is_stuck() {
-        return scan.longest();
-    }
-    None
 }

@@ -1,16 +1,15 @@
 -- Numerals that end within some bytes, measured: digits, a point, and however many decimals.
-use Rattle.std.proofs.Common.{◌≡◌, ◌∙◌, ◌⊎◌, inl, inr, ⊎_elim, ℕ, ◌+◌, ◌-◌, ◌*◌, ◌^◌, ◌<◌, ◌≤◌, ◌||◌, min, nat_lt, Bool, true, false, not}
+use Rattle.std.proofs.Common.{◌≡◌, ◌∙◌, ◌⊎◌, inl, inr, ⊎_elim, ℕ, ◌+◌, ◌-◌, ◌*◌, ◌^◌, ◌<◌, ◌≤◌, ◌||◌, min, Bool, false, not}
 use Rattle.std.proofs.Common.{List, ◌++◌, length, take, drop, get_or, sym, ap, subst, arith}
 use Rattle.polcert_text.proofs.Common.{drop-take, list_any, digits_value, class_of, largest, IsReadable, AreDigitsFrom, EndsAsSize}
 use Rattle.polcert_text.proofs.Common.{is_nonzero, ceiling, Measures, Point}
 use Rattle.std.proofs.lemmas.List.{get_or-take, get_or-drop, length-take-le, length-drop, take-take}
-use Rattle.std.proofs.lemmas.List.Folds.{list_any_at, list_any_more}
-use Rattle.std.proofs.lemmas.Bool.{lt-ltb, le-ltb}
+use Rattle.std.proofs.lemmas.List.Folds.{list_any_more}
 use Rattle.polcert_text.proofs.Numbers.FrontNumbers.{below_scaled, unscaled, measured_exactly}
-use Rattle.polcert_text.proofs.Numbers.Plain.{IsPlain, plain_measures, at_or_after}
+use Rattle.polcert_text.proofs.Numbers.Plain.{IsPlain, plain_measures}
 use Rattle.polcert_text.proofs.Numbers.PlainWhole.{whole_measures}
 use Rattle.polcert_text.specs.Steps.ScanOf.{EndsAsNumber}
-use Rattle.polcert_text.specs.declared.front_tokens.FrontSize.{FrontSize}
+use Rattle.polcert_text.specs.declared.front_numerals.FrontSize.{FrontSize}
 
 in_front : (bs : List ℕ) (n from until : ℕ) → until ≤ n → AreDigitsFrom bs from until → AreDigitsFrom (take n bs) from until
 in_front bs n from until few digits = λ k low below. ap class_of (get_or-take n bs k 0 (omega arith)) ∙ digits k low below
@@ -54,46 +53,23 @@ decimal_measures bs p kept n floor is_inexact some low few kept_is short high fi
     (ap (digits_value 10) (λ i. sym front i ++ sym following i)) below (unscaled number (p + 7 - kept) floor below scaled small) small
     (inexact ∙ ap (list_any is_nonzero) (sym left))
 
-zero_digit : (b : ℕ) → b ≡ 48 → is_nonzero b ≡ false
-zero_digit b e = ap is_nonzero e
+pub none_yet : (bs : List ℕ) (from : ℕ) → false ≡ list_any is_nonzero (take (from - from) (drop from bs))
+none_yet bs from =
+    let none : 0 ≡ from - from = omega arith in
+    ap (λ n. list_any is_nonzero (take n (drop from bs))) none
 
-or_both : (x y : Bool) → x ≡ false → y ≡ false → (x || y) ≡ false
-or_both x y a b = (λ i. a i || b i)
-
--- one more 0
-pub zeros_more : (bs : List ℕ) (from at : ℕ) → from ≤ at → at < length bs → get_or bs at 0 ≡ 48
-    → list_any is_nonzero (take (at - from) (drop from bs)) ≡ false
-    → list_any is_nonzero (take (at + 1 - from) (drop from bs)) ≡ false
-zeros_more bs from at low inside zero was =
+-- one more digit
+pub nonzero_more : (bs : List ℕ) (from at : ℕ) (was : Bool) → from ≤ at → at < length bs
+    → was ≡ list_any is_nonzero (take (at - from) (drop from bs))
+    → (was || is_nonzero (get_or bs at 0)) ≡ list_any is_nonzero (take (at + 1 - from) (drop from bs))
+nonzero_more bs from at was low inside is =
     let n : ℕ = at - from in
     let next : at + 1 - from ≡ n + 1 = omega arith in
     let place : from + n ≡ at = omega arith in
-    let here : get_or (drop from bs) n 0 ≡ 48 = get_or-drop from bs n 0 ∙ ap (λ k. get_or bs k 0) place ∙ zero in
-    ap (λ m. list_any is_nonzero (take m (drop from bs))) next
-    ∙ list_any_more is_nonzero (drop from bs) n 0 (omega (arith, length-drop from bs))
-    ∙ or_both _ _ was (zero_digit _ here)
-
--- a digit that isn't 0
-pub nonzero_there : (bs : List ℕ) (from at end : ℕ) → from ≤ at → at < end → end ≤ length bs → is_nonzero (get_or bs at 0) ≡ true
-    → list_any is_nonzero (take (end - from) (drop from bs)) ≡ true
-nonzero_there bs from at end low below high nonzero =
-    let n : ℕ = at - from in
-    let place : from + n ≡ at = omega arith in
-    let long : length (take (end - from) (drop from bs)) ≡ end - from =
-    length-take-le (end - from) (drop from bs) (omega (arith, length-drop from bs)) in
-    let here : get_or (take (end - from) (drop from bs)) n 0 ≡ get_or bs at 0 = get_or-take (end - from) (drop from bs) n 0 (omega arith)
-    ∙ get_or-drop from bs n 0 ∙ ap (λ k. get_or bs k 0) place in
-    list_any_at is_nonzero (take (end - from) (drop from bs)) n 0 (omega (arith, long)) (ap is_nonzero here ∙ nonzero)
-
--- after the zeros all are digits: one that isn't 0 is there if they go on
-pub tail_inexact : (bs : List ℕ) (from zeros end : ℕ) → from ≤ zeros → zeros ≤ end → end ≤ length bs
-    → list_any is_nonzero (take (zeros - from) (drop from bs)) ≡ false
-    → (zeros < end → is_nonzero (get_or bs zeros 0) ≡ true) → nat_lt zeros end ≡ list_any is_nonzero (take (end - from) (drop from bs))
-tail_inexact bs from zeros end low on high none stops = ⊎_elim
-    (λ below. lt-ltb zeros end below ∙ sym (nonzero_there bs from zeros end low below high (stops below)))
-    (λ same. let is : zeros ≡ end = omega (arith, on, same) in le-ltb zeros end same ∙ sym none
-    ∙ ap (λ n. list_any is_nonzero (take (n - from) (drop from bs))) is)
-    (at_or_after zeros end)
+    let here : get_or (drop from bs) n 0 ≡ get_or bs at 0 = get_or-drop from bs n 0 ∙ ap (λ k. get_or bs k 0) place in
+    (λ i. is i || is_nonzero (sym here i))
+    ∙ sym (list_any_more is_nonzero (drop from bs) n 0 (omega (arith, length-drop from bs)))
+    ∙ ap (λ m. list_any is_nonzero (take m (drop from bs))) (sym next)
 
 -- what is left where nothing was cut off
 pub exact_number : (bs : List ℕ) (numeral : FrontSize) → numeral.size.is_inexact ≡ false → EndsAsSize bs numeral

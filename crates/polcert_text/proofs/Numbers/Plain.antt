@@ -44,7 +44,7 @@ pub record IsPlain (bs : List ℕ) (p : ℕ) : Type 0 where
   pub point : class_of (get_or bs p 0) ≡ Point
   pub second : (k : ℕ) → p + 1 ≤ k → k < length bs → class_of (get_or bs k 0) ≡ Digit
 
-side : (k p : ℕ) → (k < p) ⊎ ((k ≡ p) ⊎ (p + 1 ≤ k))
+pub side : (k p : ℕ) → (k < p) ⊎ ((k ≡ p) ⊎ (p + 1 ≤ k))
 side k p = grind arith
 
 pub run : (bs : List ℕ) (from n : ℕ) (state : State) → from + n ≤ length bs → state_after state Digit ≡ state

@@ -17,6 +17,10 @@ length-before p bs = omega (arith, length-take (position_or_len p bs) bs)
 length-after : (p : ℕ → Bool) (bs : List ℕ) → length (after_first p bs) ≤ length bs
 length-after p bs = omega (arith, length-drop (position_or_len p bs + 1) bs)
 
+pub length-whole : (bs : List ℕ) → length (whole_of bs) ≤ length bs
+length-whole bs = let inner = length-before is_point (before_first is_exponent_mark bs) in let outer =
+    length-before is_exponent_mark bs in omega arith
+
 pub length-fraction : (bs : List ℕ) → length (fraction_of bs) ≤ length bs
 length-fraction bs = let inner = length-after is_point (before_first is_exponent_mark bs) in let outer =
     length-before is_exponent_mark bs in omega arith

@@ -1,8 +1,8 @@
 -- A lexeme that was seen at the front of some bytes, whatever follows them.
-use Rattle.std.proofs.Common.{◌≡◌, ◌∙◌, ◌<◌, ◌≤◌, ◌⊎◌, inr, ℕ, Bool, true, false, Option, Some, None, IfSome, List, [], ◌++◌, length, take}
+use Rattle.std.proofs.Common.{◌≡◌, ◌∙◌, ◌<◌, ◌≤◌, ◌⊎◌, inr, ℕ, Bool, true, false, Option, Some, None, List, [], ◌++◌, length, take}
 use Rattle.std.proofs.Common.{drop, refl, sym, ap, subst, append-nil, append_assoc, take_all, ⊎_elim, ◌∷◌, arith}
 use Rattle.polcert_text.proofs.Common.{take-append-le, kind_of, class_of, state_after, state_through, kind_at, is_numeral_kind, front_len}
-use Rattle.polcert_text.proofs.Common.{is_over, is_stuck, pending, EndsWithin, IsFrontOf, IsLongestLexeme, IsScanOf, IsFrontSeen}
+use Rattle.polcert_text.proofs.Common.{is_over, is_stuck, pending, IsFrontOf, IsScanOf, IsFrontSeen}
 use Rattle.polcert_text.proofs.Common.{LexemePrefix}
 use Rattle.polcert_text.proofs.Common.{LexemeScan, ByteClass, TokenKind, State, Start, Single, Stuck}
 use Rattle.std.proofs.lemmas.List.{take-append-drop, length-append, length-take}
@@ -54,28 +54,6 @@ seen_stuck bs tail scan was stuck =
       front_is = front_or_long (bs ++ tail) scan.longest (subst (λ xs. IsFrontOf xs scan.longest) joined
           (front_whatever_follows read (drop scan.len bs ++ tail) scan.longest was.longest at_stuck));
       apart = λ _ _. inr (omega (arith, length-take scan.len bs));
-    }
-
--- and it ends within them
-pub ended_stuck : (bs : List ℕ) (scan : LexemeScan) → IsScanOf (take scan.len bs) scan → is_stuck scan.state ≡ true
-    → IfSome scan.longest (EndsWithin bs)
-ended_stuck bs scan was stuck = go scan.longest was.longest
-  where
-    read : List ℕ
-    read = take scan.len bs
-
-    at_stuck : state_through Start read ≡ Stuck
-    at_stuck = was.state ∙ stuck_state scan.state stuck
-
-    go : (front : Option LexemePrefix) → IsFrontOf read front → IfSome front (EndsWithin bs)
-    go None is = tt
-    go (Some front) is = record {
-      within = omega (arith, front_short read (Some front) is at_stuck (some_read read at_stuck), length-take scan.len bs);
-      longest = λ tail.
-          let joined : read ++ (drop scan.len bs ++ tail) ≡ bs ++ tail = sym (append_assoc read (drop scan.len bs) tail)
-          ∙ ap (λ xs. xs ++ tail) (take-append-drop scan.len bs) in
-          subst (λ xs. IsLongestLexeme xs front.kind front.len) joined
-          (front_whatever_follows read (drop scan.len bs ++ tail) (Some front) is at_stuck);
     }
 
 -- bytes that follow a mark change nothing

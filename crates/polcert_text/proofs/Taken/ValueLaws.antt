@@ -5,7 +5,7 @@ use Rattle.std.proofs.lemmas.List.{length-drop, drop-drop}
 use Rattle.polcert_text.proofs.Common.{BeginWith, class_of, Lexeme, BeginWithValue, IsRounded, EndsAsSize, gap_after, gap_through}
 use Rattle.polcert_text.proofs.Common.{state_after, Between, Start, TokenKind, Numeral, Minus, Rounding}
 use Rattle.polcert_text.specs.declared.bytes.ByteClass.TheVariants as classes
-use Rattle.polcert_text.specs.declared.front_tokens.FrontSize.{FrontSize}
+use Rattle.polcert_text.specs.declared.front_numerals.FrontSize.{FrontSize}
 use Rattle.polcert_text.proofs.Scanning.Runs.{ended_mark}
 use Rattle.polcert_text.proofs.Taken.BeginLaws.{front_lexeme, begin_one, begin_then}
 

@@ -11,9 +11,9 @@ use Rattle.polcert_text.specs.Numbers.{largest, IsReadable}
 use Rattle.polcert_text.specs.Steps.Scaling.{is_nonzero, ceiling, Measures}
 use Rattle.polcert_text.specs.Steps.ScanOf.{EndsWithin}
 use Rattle.polcert_text.specs.declared.bytes.ByteClass.TheVariants.{Digit}
-use Rattle.polcert_text.specs.declared.front_tokens.FrontDecimals.{FrontDecimals}
-use Rattle.polcert_text.specs.declared.front_tokens.FrontSize.{FrontSize}
-use Rattle.polcert_text.specs.declared.front_tokens.Tail.{Tail}
+use Rattle.polcert_text.specs.declared.front_numerals.FrontDecimals.{FrontDecimals}
+use Rattle.polcert_text.specs.declared.front_numerals.FrontSize.{FrontSize}
+use Rattle.polcert_text.specs.declared.front_numerals.Tail.{Tail}
 use Rattle.polcert_text.specs.declared.tokens.TokenKind.TheVariants.{Numeral}
 
 -- each byte of these is a digit
@@ -47,7 +47,7 @@ pub record IsTail (bytes : List ℕ) (from full : ℕ) (tail : Tail) : Type 0 wh
   pub high : tail.end < length bytes
   pub stops : EndsNumeral (class_of (get_or bytes tail.end 0))
   pub none : from < full → tail.end ≡ from
-  pub short : tail.end ≤ from + 300
+  pub short : tail.end ≤ 400
   pub digits : AreDigitsFrom bytes from tail.end
   pub is_inexact : tail.is_inexact ≡ list_any is_nonzero (take (tail.end - from) (drop from bytes))
 
