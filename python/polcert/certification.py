@@ -13,10 +13,10 @@ from polcert.commands.convert import converted, summary_of_conversion
 from polcert.commands.mend import Mended, mended, summary
 from polcert.controllers import Controller
 from polcert.files import MENDABLE, Model, read_graph, read_model
+from polcert.nearby import Nearby, vectors_near
 from polcert.pomdpx import is_pomdpx
 from polcert.tokens import MILLION, FileError, Source, decimal
 from polcert.values import vectors_text
-from polcert.written import Written, vectors_for_written
 
 
 class Uncertified(Exception):
@@ -34,8 +34,8 @@ class Step(NamedTuple):
 @dataclass
 class Certificate:
     """The files by their names; the steps; and what the programs answered, exactly: the controller earns at least `low` and at most `high`,
-    every policy at most `most`. A side that has no certificate is None. If `is_mended`, all of it is about the mended model, and `written` is
-    about the model as it was written."""
+    every policy at most `most`. A side that has no certificate is None. `near` is about every model so near, if that was asked. If
+    `is_mended`, all of it is about the mended model, and `written` is about the model as it was written."""
 
     name: str
     files: Dict[str, bytes] = field(default_factory=dict)
@@ -44,7 +44,8 @@ class Certificate:
     high: Optional[Fraction] = None
     most: Optional[Fraction] = None
     is_mended: bool = False
-    written: Optional[Written] = None
+    written: Optional[Nearby] = None
+    near: Optional[Nearby] = None
 
     @property
     def gap(self) -> Optional[Fraction]:
@@ -61,6 +62,8 @@ class Certificate:
             lines.append(f"every policy at most {shown(self.most)}")
         if self.gap is not None and self.low is not None:
             lines.append(f"within {shown(self.gap)}{percent(self.gap, self.low)}")
+        if self.near is not None and self.near.low is not None:
+            lines.append(f"in every model {self.near.distances()} at least {shown(self.near.low)}")
         if self.written is not None and self.written.low is not None:
             lines.append(f"the model as it was written: at least {shown(self.written.low)}")
         return lines
@@ -78,6 +81,17 @@ def percent(gap: Fraction, low: Fraction) -> str:
     part = 100 * gap / abs(low)
     up = Context(prec=2, rounding=ROUND_CEILING).divide(Decimal(part.numerator), Decimal(part.denominator))
     return f", {up:f} %"
+
+
+class About(NamedTuple):
+    """What a certificate of every model near is about, and how its file of vectors ends."""
+
+    words: str
+    ending: str
+
+
+WRITTEN = About("the model as it was written", "written.alpha")
+NEAR = About("every model near", "near.alpha")
 
 
 class Certifier:
@@ -154,32 +168,43 @@ class Certifier:
         if points is not None:
             self.keep("bound.points", points)
 
-    # The model as it was written
+    # Models near
 
     def certify_written(self, model: Model, is_quiet: bool) -> None:
         """Certifies from below what the controller earns in the model as it was written, if that was mended."""
-        if self.made is not None:
-            near = self.made.mend.written.texts()
-            try:
-                self.found.written = Written(*near, self.least_of_written(self.made, model, is_quiet))
-            except (Uncertified, programs.ProgramError, Refusal) as fault:
-                self.found.written = Written(*near, why_not=str(fault))
-                self.done("the model as it was written", f"no certificate: {fault}")
+        if self.made is None:
+            return
+        near = Nearby(*self.made.mend.written.texts())
+        if self.made.mend.lost:
+            self.found.written = self.failed(near, WRITTEN, f"`{self.made.mend.lost}` became 0")
+        else:
+            self.found.written = self.certified_near(near, WRITTEN, model, is_quiet)
 
-    def least_of_written(self, made: Mended, model: Model, is_quiet: bool) -> Fraction:
+    def certify_near(self, within: str, model: Model, is_quiet: bool) -> None:
+        """Certifies from below what the controller earns in every model within this distance."""
+        self.found.near = self.certified_near(Nearby(within), NEAR, model, is_quiet)
+
+    def certified_near(self, near: Nearby, about: About, model: Model, is_quiet: bool) -> Nearby:
+        try:
+            return near._replace(low=self.least_near(near, about, model, is_quiet))
+        except (Uncertified, programs.ProgramError, Refusal) as fault:
+            return self.failed(near, about, str(fault))
+
+    def failed(self, near: Nearby, about: About, why: str) -> Nearby:
+        self.done(about.words, f"no certificate: {why}")
+        return near._replace(why_not=why)
+
+    def least_near(self, near: Nearby, about: About, model: Model, is_quiet: bool) -> Fraction:
         """What the controller earns at least. Raises Uncertified, ProgramError, and Refusal if vectors do not settle."""
-        if made.mend.lost:
-            raise Uncertified(f"`{made.mend.lost}` became 0")
         programs.found(self.polcert_robust)
         text = self.found.files[f"{self.found.name}.pg"]
         graph = read_graph(Source("the graph", text), model)
-        values = vectors_for_written(made, model, graph, is_quiet)
-        files = model.source.text, text, vectors_text(graph.actions, values)
-        every = programs.check_near(files, *made.mend.written.texts(), program=self.polcert_robust)
+        files = model.source.text, text, vectors_text(graph.actions, vectors_near(model, graph, near, is_quiet))
+        every = programs.check_near(files, near.within, near.rewards_within, program=self.polcert_robust)
         if not isinstance(every, EveryModel):
             raise Uncertified(every.line)
-        self.keep("written.alpha", files[2])
-        self.done("check of every model near", every.line)
+        self.keep(about.ending, files[2])
+        self.done(about.words, every.line)
         return every.amount
 
     def moved(self, name: str, answer: Union[Moved, Refused]) -> Moved:

@@ -5,6 +5,7 @@ from typing import Dict, List, Optional, Sequence
 
 from polcert.certification import Certificate, shown
 from polcert.json_output import json_text
+from polcert.nearby import Nearby
 from polcert.tokens import printable
 
 LOW = """- From below: for every number of steps, every node and every state, the expected discounted reward of these steps, plus the discounted
@@ -14,8 +15,10 @@ HIGH = """- From above, the same is at most the value of the raised vectors. So 
 MOST = """- In the long run every policy that sees the observations alone (in an MDP the start state too) earns at most the number of the line on the
   bound."""
 WRITTEN = """- The model as it was written lies {} of the mended one. In every model whose probabilities above 0 and rewards lie so near the first of
-  these holds with the vectors of `{}.written.alpha`: in the long run this controller, started in the node that the last step names, earns at
+  these holds with the vectors of `{}.written.alpha`: in the long run this controller, started in the node that the line on it names, earns at
   least {} from the start as it was written."""
+NEAR = """- In every model whose probabilities above 0, the start's too, lie {} of this one, the first of these holds with the vectors of
+  `{}.near.alpha`: in the long run this controller, started in the node that the line on it names, earns at least {} from that model's start."""
 PROVED = """A proved program's yes is a theorem about the bytes of these files; the last lines say whether a proof of these programs is recorded.
 What floating point computed beside them is not proved: it only had to pass."""
 
@@ -31,7 +34,9 @@ def markdown_of(found: Certificate, given: Dict[str, bytes], programs: Sequence[
     if found.is_mended:
         lines += ["The model was mended: all but what is said of the written one is about the mended one, which stands below among the files.", ""]
     sides = ((found.low, LOW), (found.high, HIGH), (found.most, MOST))
-    promises = [promise for value, promise in sides if value is not None] + about_written(found)
+    promises = [promise for value, promise in sides if value is not None]
+    promises += about_near("every model near", NEAR, found.name, found.near)
+    promises += about_near("the model as it was written", WRITTEN, found.name, found.written)
     lines += [*promises, *(["", PROVED] if promises else []), "", "| Step | Line | Seconds |", "|---|---|---|"]
     lines += [f"| {step.name} | {escaped(step.line)} | {step.seconds:.1f} |" for step in found.steps]
     lines += ["", "| File | | SHA-256 |", "|---|---|---|", *rows("read", given), *rows("written", found.files)]
@@ -39,13 +44,13 @@ def markdown_of(found: Certificate, given: Dict[str, bytes], programs: Sequence[
     return "\n".join(lines)
 
 
-def about_written(found: Certificate) -> List[str]:
-    """What is certified of the model as it was written, or why nothing is."""
-    if found.written is None:
+def about_near(words: str, promise: str, name: str, near: Optional[Nearby]) -> List[str]:
+    """What is certified of models near, or why nothing is."""
+    if near is None:
         return []
-    if found.written.low is None:
-        return [f"- No certificate of the model as it was written: {printable(found.written.why_not)}."]
-    return [WRITTEN.format(found.written.distances(), found.name, shown(found.written.low))]
+    if near.low is None:
+        return [f"- No certificate of {words}: {printable(near.why_not)}."]
+    return [promise.format(near.distances(), name, shown(near.low))]
 
 
 def rows(done: str, texts: Dict[str, bytes]) -> List[str]:
@@ -64,6 +69,9 @@ def json_of(found: Certificate, given: Dict[str, bytes], programs: Sequence[str]
     def decimal(value: Optional[Fraction]) -> Optional[str]:
         return None if value is None else shown(value)
 
+    def distances(near: Optional[Nearby]) -> Optional[Dict[str, Optional[str]]]:
+        return None if near is None else {"at_least": decimal(near.low), "within": near.within, "rewards_within": near.rewards_within}
+
     def sums(texts: Dict[str, bytes]) -> List[Dict[str, str]]:
         return [{"name": name, "sha256": sha256(text)} for name, text in texts.items()]
 
@@ -75,9 +83,8 @@ def json_of(found: Certificate, given: Dict[str, bytes], programs: Sequence[str]
         controller={"at_least": decimal(found.low), "at_most": decimal(found.high)},
         every_policy={"at_most": decimal(found.most)},
         gap=decimal(found.gap),
-        written=None if found.written is None else {
-            "at_least": decimal(found.written.low), "within": found.written.within, "rewards_within": found.written.rewards_within
-        },
+        near=distances(found.near),
+        written=distances(found.written),
         steps=[{"name": step.name, "line": step.line, "seconds": round(step.seconds, 3)} for step in found.steps],
         read=sums(given),
         files=sums(found.files),

@@ -61,6 +61,23 @@ def reward_distance(word: str) -> Fraction:
     return value
 
 
+def nearness(word: str) -> str:
+    """An argument that is a distance of probabilities, or with % at its end one in percent of themselves."""
+    if word.endswith("%"):
+        percent_distance(word[:-1])
+    else:
+        probability_distance(word)
+    return word
+
+
+def distances_of(within: str, rewards_within: str = "0") -> Distances:
+    """The distances that such a word and a distance of rewards say."""
+    rewards = Fraction(rewards_within)
+    if within.endswith("%"):
+        return Distances(Fraction(0), rewards, percent=Fraction(within[:-1]))
+    return Distances(Fraction(within), rewards)
+
+
 def _value(word: str) -> Optional[Fraction]:
     text = word.encode()
     try:

@@ -9,7 +9,7 @@ from typing import Any, Dict
 from support import EXAMPLES, PROGRAM, FolderTest, Said, load, needs_program, run_script
 from polcert.certification import Certificate, percent
 from polcert.certification_report import markdown_of
-from polcert.written import Written
+from polcert.nearby import Nearby
 from runner import programs_beside
 
 script = load("polcert-certify")
@@ -54,13 +54,21 @@ class Reports(FolderTest):
         self.assertIn("\n\nNothing is certified.\n", markdown_of(Certificate("m"), {}, []))
 
     def test_the_written_model(self) -> None:
-        found = Certificate("m", is_mended=True, written=Written("0.000001", "0", Fraction(3)))
+        found = Certificate("m", is_mended=True, written=Nearby("0.000001", "0", Fraction(3)))
         text = markdown_of(found, {}, [])
         self.assertTrue(text.startswith("# m\n\nThe model as it was written: at least 3.\n"), text)
         self.assertIn("\n- The model as it was written lies within 0.000001 of the mended one.", text)
-        found.written = Written("0.000001", "0.000002", why_not="`T: 0 : 0 : 1` became 0")
+        found.written = Nearby("0.000001", "0.000002", why_not="`T: 0 : 0 : 1` became 0")
         self.assertIn("\n- No certificate of the model as it was written: `T: 0 : 0 : 1` became 0.\n", markdown_of(found, {}, []))
         self.assertEqual(found.written.distances(), "within 0.000001, rewards within 0.000002")
+
+    def test_every_model_near(self) -> None:
+        found = Certificate("m", near=Nearby("5%", low=Fraction(3)))
+        text = markdown_of(found, {}, [])
+        self.assertTrue(text.startswith("# m\n\nIn every model within 5 % at least 3.\n"), text)
+        self.assertIn("lie within 5 % of this one, the first of these holds with the vectors of\n  `m.near.alpha`: ", text)
+        found.near = Nearby("0.1", why_not="no: node 0, state 0, short by 1")
+        self.assertIn("\n- No certificate of every model near: no: node 0, state 0, short by 1.\n", markdown_of(found, {}, []))
 
 
 @needs_program
@@ -136,8 +144,29 @@ class Certificates(FolderTest):
         price = 90 * Fraction(written["within"]) * Fraction("0.9") * 10
         self.assertTrue(low - price < Fraction(written["at_least"]) <= least, (low, written, least))
         self.assertIn("leaky.written.alpha", [row["name"] for row in report["files"]])
-        self.assertEqual(report["steps"][-1]["name"], "check of every model near")
+        self.assertEqual(report["steps"][-1]["name"], "the model as it was written")
         self.assertRegex(report["programs"][-1], r"\Apolcert_robust ")
+
+    def test_every_model_near(self) -> None:
+        """Of two states the first earns 1 and keeps 0.9 of its weight, and 0.1 leaves for good: by 10 % of itself that grows to 0.11, and by 0.09
+        to 0.19."""
+        text = b"discount: 0.9 values: reward states: 2 actions: 1 observations: 1 start: 0 T: 0 0.9 0.1 0 1 O: * uniform R: * : 0 : * : * 1\n"
+        for near, said_so, kept in (("10%", "within 10 %", "0.89"), ("0.09", "within 0.09", "0.81")):
+            least = 1 / (1 - Fraction("0.9") * Fraction(kept))
+            said = self.certify(self.file("leaky.POMDP", text), "--near", near)
+            report = self.report("leaky")
+            found = report["near"]
+            self.assertEqual((found["within"], found["rewards_within"], report["written"]), (near, "0", None))
+            self.assertTrue(least - Fraction("0.00001") < Fraction(found["at_least"]) <= least, (found, least))
+            self.assertTrue(said.out.endswith(f"; in every model {said_so} at least {found['at_least']}\n".encode()), said.out)
+            self.assertEqual(report["steps"][-1]["line"], f"yes: every model {said_so}, start node 0, at least {found['at_least']}")
+            self.assertIn("leaky.near.alpha", [row["name"] for row in report["files"]])
+            self.assertRegex(report["programs"][-1], r"\Apolcert_robust ")
+
+    def test_distances_that_are_refused(self) -> None:
+        for word in ("1.1", "101%", "5 %", "%", "-0.1", "1e-3"):
+            said = self.certify(self.file("rough.POMDP", ROUGH), f"--near={word}", status=2)
+            self.assertIn("argument --near: ", said.err)
 
     def test_why_the_written_model_has_no_certificate(self) -> None:
         said = self.certify(self.file("lost.POMDP", LOST))

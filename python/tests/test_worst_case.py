@@ -11,11 +11,11 @@ from support import EXAMPLES, HAS_NUMPY, NAMES, PROGRAM, TOP, Said, needs_numpy,
 from test_outputs import PG, TIGER, OutputTest
 from polcert.command import read_source
 from polcert.commands.mend import mended
-from polcert.distances import Distances
+from polcert.distances import Distances, distances_of
 from polcert.files import Graph, Model, Row, Source, read_graph, read_model
+from polcert.nearby import Nearby, vectors_near
 from polcert.tokens import MILLION, decimal
 from polcert.watch import Watch
-from polcert.written import vectors_for_written
 from runner import programs_beside
 
 if HAS_NUMPY:
@@ -218,9 +218,9 @@ class Programs(OutputTest):
                 model, count = read_model(Source("mended", made.text)), count + 1
                 actions = list(range(model.actions.count))
                 graph = Graph(actions, [[action] * model.observations.count for action in actions])
-                probabilities, rewards = map(Fraction, made.mend.written.texts())
-                near = Near(model, graph, Distances(probabilities, rewards))
-                vectors = [[round(value * MILLION) for value in row] for row in vectors_for_written(made, model, graph, is_quiet=True)]
+                written = Nearby(*made.mend.written.texts())
+                near = Near(model, graph, distances_of(written.within, written.rewards_within))
+                vectors = [[round(value * MILLION) for value in row] for row in vectors_near(model, graph, written, is_quiet=True)]
                 said = self.robust(near, *self.files(near, vectors, made.text))
                 self.assertTrue(said.out.startswith(b"yes: every model within "), (path.name, said))
         self.assertGreater(count, 6)

@@ -6,8 +6,8 @@
 A model in POMDPX is converted first, as by polcert-convert, and one whose rows sum to one only nearly is mended, as by polcert-mend; then all
 is about the model that this makes. DIR gets the model, the
 graph with its vectors, lowered and raised so that polcert says yes to them, a bound on every policy, and a report, each named for the
-model. The proved programs answer; what is computed here only has to pass. For a mended model polcert_robust, if it is there, answers for the
-model as it was written too.
+model. The proved programs answer; what is computed here only has to pass. With --near polcert_robust answers for every model whose
+probabilities lie so near, and for a mended model, if it is there, for the model as it was written too.
 
 Standard error has a line for each step, with its seconds. Standard output has what is certified, or with --json the report as JSON. The
 exit status is 0 if a lower bound is certified, and 1 if there is none. An interrupt (Ctrl-C) ends the search early.
@@ -16,13 +16,14 @@ import argparse
 import os
 from typing import Dict
 
-from polcert.certification import Certifier, Step, Uncertified
+from polcert.certification import NEAR, WRITTEN, Certifier, Step, Uncertified
 from polcert.certification_report import json_of, markdown_of
 from polcert.command import Parser, Refusal, read_source, refuse_overwriting, say, show, write_files
 from polcert.commands.mend import amount as probability
 from polcert.commands.points import amount
 from polcert.commands.report import Program
 from polcert.controllers import BoundTexts, Search, bound_for, given_controller, solved_controller
+from polcert.distances import nearness
 from polcert.needs import needs_numpy
 from polcert.points import WholeCells
 from polcert.programs import ProgramError
@@ -30,7 +31,7 @@ from polcert.signals import Interrupt
 from polcert.values import refuse_discount_of_1
 
 SECONDS, PERCENT = 30.0, 0.00001
-ENDINGS = ("POMDP", "pg", "alpha", "lowered.alpha", "raised.alpha", "bound.alpha", "bound.points", "written.alpha", "report.md",
+ENDINGS = ("POMDP", "pg", "alpha", "lowered.alpha", "raised.alpha", "bound.alpha", "bound.points", "near.alpha", "written.alpha", "report.md",
            "report.json")
 
 
@@ -59,10 +60,12 @@ class Work:
             self.certifier.certify_bound(model.source.text, bound.vectors, bound.points)
         except Uncertified as fault:
             say(f"polcert-certify: no bound on every policy: {fault}")
+        if self.words.near is not None:
+            self.certifier.certify_near(self.words.near, model, self.is_quiet)
         self.certifier.certify_written(model, self.is_quiet)
-        written = self.certifier.found.written
-        if written is not None and written.low is None:
-            say(f"polcert-certify: no certificate of the model as it was written: {written.why_not}")
+        for about, near in ((NEAR, self.certifier.found.near), (WRITTEN, self.certifier.found.written)):
+            if near is not None and near.low is None:
+                say(f"polcert-certify: no certificate of {about.words}: {near.why_not}")
         return True
 
     def certify_controller(self, cells: WholeCells) -> BoundTexts:
@@ -86,7 +89,8 @@ class Work:
         given: Dict[str, bytes] = {source.name: source.text for source in self.given}
         found = self.certifier.found
         names = [self.certifier.polcert, self.certifier.polcert_bound]
-        names += [self.certifier.polcert_robust] if found.written is not None and found.written.low is not None else []
+        if any(near is not None and near.low is not None for near in (found.near, found.written)):
+            names.append(self.certifier.polcert_robust)
         programs = [Program(program).about() for program in names]
         texts = dict(found.files)
         texts[f"{found.name}.report.md"] = markdown_of(found, given, programs).encode()
@@ -112,6 +116,7 @@ def arguments() -> argparse.Namespace:
     parser.add_argument("--gap", metavar="PERCENT", type=amount, default=PERCENT, help=near)
     most = "the most that mending may move a probability; default 0.00001"
     parser.add_argument("--within", metavar="X", type=probability, default=probability("0.00001"), help=most)
+    parser.add_argument("--near", metavar="X", type=nearness, help="certify every model whose probabilities lie so near: 0.01, or 5%% of themselves")
     parser.add_argument("--json", action="store_true", help="write the report as JSON to standard output")
     parser.add_argument("--programs", metavar="DIR", default="", help="the folder of polcert, polcert_bound and polcert_robust; default: the path")
     parser.add_argument("-q", "--quiet", action="store_true", help="no lines of progress")
