@@ -27,7 +27,7 @@ use Rattle.polcert_robust.specs.declared.distance.Spread.{Spread}
 none_or_some : (w : ℕ) → (w ≡ 0) ⊎ (0 < w)
 none_or_some w = ⊎_elim (λ (h : 0 < w). inr h) (λ (h : w ≤ 0). inl (omega (arith, h))) (cases_lt 0 w)
 
-high_none : (by : Spread) (w : ℕ) → w ≡ 0 → high_of by w ≡ 0
+pub high_none : (by : Spread) (w : ℕ) → w ≡ 0 → high_of by w ≡ 0
 high_none by w e = rw e refl
 
 as_it_is : (x y : ℤ) → y ≡ x → y ≡ x -ℤ pos 0

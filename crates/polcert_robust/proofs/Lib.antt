@@ -11,6 +11,7 @@ pub mod OneWorst
 pub mod Levels
 pub mod Holding
 pub mod Backings
+pub mod EndMeans
 pub mod Worths
 pub mod Exact
 pub mod ExactAbove

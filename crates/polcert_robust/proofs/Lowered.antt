@@ -16,7 +16,7 @@ use Rattle.polcert_robust.proofs.Found.{sum_le, found}
 
 -- ---- a row
 -- each value is lowered by d, or its weight is 0
-abbrev AreLowered : (ℕ → ℕ) → ℕ → (ℕ → ℤ) → ℤ → (ℕ → ℤ) → Type 0
+abbrev pub AreLowered : (ℕ → ℕ) → ℕ → (ℕ → ℤ) → ℤ → (ℕ → ℤ) → Type 0
 AreLowered high count x d y = (j : ℕ) → j < count → (y j ≡ x j -ℤ d) ⊎ (high j ≡ 0)
 
 pub lowered_row : (low high : ℕ → ℕ) (scale count : ℕ) (x : ℕ → ℤ) (row : ℕ → ℕ) → IsWorstRow low high scale count x row
@@ -40,7 +40,8 @@ lowered_row low high scale count x row worst d y lowered = record {
 pub no_weight : (w : ℕ) (x y : ℤ) → w ≡ 0 → pos w *ℤ x ≡ pos w *ℤ y
 no_weight w x y e = rw e (zero-*ℤ x ∙ sym (zero-*ℤ y))
 
-lowered_mean : (low high : ℕ → ℕ) (scale count : ℕ) (x : ℕ → ℤ) (row : ℕ → ℕ) → IsWorstRow low high scale count x row → (d : ℤ) (y : ℕ → ℤ)
+pub lowered_mean : (low high : ℕ → ℕ) (scale count : ℕ) (x : ℕ → ℤ) (row : ℕ → ℕ) → IsWorstRow low high scale count x row
+    → (d : ℤ) (y : ℕ → ℤ)
     → AreLowered high count x d y
     → mean row y count ≡ mean row x count -ℤ pos scale *ℤ d
 lowered_mean low high scale count x row worst d y lowered =
@@ -55,7 +56,7 @@ lowered_mean low high scale count x row worst d y lowered =
 worth_lowered : (r g v b : ℤ) → pos one *ℤ r +ℤ g *ℤ (v -ℤ b) ≡ (pos one *ℤ r +ℤ g *ℤ v) -ℤ g *ℤ b
 worth_lowered r g v b = omega (arith, linear, times_less g v b)
 
-none_or_some : (P : Option ℕ → Type 0) (at : Option ℕ) → P None → ((k : ℕ) → P (Some k)) → P at
+pub none_or_some : (P : Option ℕ → Type 0) (at : Option ℕ) → P None → ((k : ℕ) → P (Some k)) → P at
 none_or_some P None h k = h
 none_or_some P (Some n) h k = k n
 

@@ -2,6 +2,8 @@ pub mod Rows
 pub mod Holding
 pub mod Sides
 pub mod Pairs
+pub mod Rewards
+pub mod EndMeans
 pub mod Surveys
 pub mod Moves
 pub mod Starts

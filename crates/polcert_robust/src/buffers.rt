@@ -1,18 +1,17 @@
 //! Room for the rows of a pair.
 ghost use Rattle.std.specs.Prelude.{◌≡◌, length};
-ghost use Rattle.polcert_cells.specs.declared.elements.TheConstants.{MOST_OBSERVATIONS, MOST_STATES};
+ghost use Rattle.polcert_cells.specs.declared.elements.TheConstants.{MOST_OBSERVATIONS};
 
-use polcert_cells::{MOST_OBSERVATIONS, MOST_STATES};
+use crate::end_means::EndMeans;
+use polcert_cells::MOST_OBSERVATIONS;
 
-/// Room for a row of T and a row of O, and for what their places are worth.
+/// Room for a row of T or of O and for what its places are worth, and the means at end states.
+// (One row is gathered after the other, so that the program runs on a small stack.)
 #[derive(Drop)]
 pub(crate) struct PairBuffers {
-    pub end_weights: [u64; MOST_STATES],
-    pub end_values: [i128; MOST_STATES],
     pub weights: [u64; MOST_OBSERVATIONS],
     pub values: [i128; MOST_OBSERVATIONS],
-    ghost room_for_end_weights: { length end_weights ≡ MOST_STATES },
-    ghost room_for_end_values: { length end_values ≡ MOST_STATES },
+    pub ends: EndMeans,
     ghost room_for_weights: { length weights ≡ MOST_OBSERVATIONS },
     ghost room_for_values: { length values ≡ MOST_OBSERVATIONS },
 }
@@ -20,10 +19,9 @@ pub(crate) struct PairBuffers {
 impl PairBuffers {
     pub(crate) fn new() -> Self {
         PairBuffers {
-            end_weights: [0; MOST_STATES],
-            end_values: [0; MOST_STATES],
             weights: [0; MOST_OBSERVATIONS],
             values: [0; MOST_OBSERVATIONS],
+            ends: EndMeans::new(),
         }
     }
 }

@@ -3,6 +3,7 @@
 
 mod buffers;
 mod distance;
+mod end_means;
 mod findings;
 pub mod laws;
 mod level;

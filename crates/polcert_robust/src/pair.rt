@@ -1,13 +1,19 @@
 //! A node and a start state, and what backs the node's value there in the worst case.
-ghost use Rattle.std.specs.Prelude.{◌≡◌, ◌+◌, ◌*◌, ◌<◌, ◌≤◌, ℕ, ℤ, pos, ◌+ℤ◌, ◌-ℤ◌, ◌*ℤ◌, ◌<ℤ◌, ◌≤ℤ◌, length, unsigned_abs, IsFalse, IsTrue, None};
+ghost use Rattle.std.specs.Prelude.{◌≡◌, ◌+◌, ◌*◌, ◌<◌, ◌≤◌, ℕ, ℤ, pos, ◌+ℤ◌, ◌-ℤ◌, ◌*ℤ◌, ◌<ℤ◌, ◌≤ℤ◌, length, unsigned_abs, IsFalse, IsTrue, None, Some, true};
+ghost use Rattle.std.specs.Option.{ForSome};
 ghost use Rattle.polcert_text.specs.Numbers.{largest};
 ghost use Rattle.polcert_check.specs.Horizon.{one};
 ghost use Rattle.polcert_check.specs.Steps.Factored.{IsLeastOf, IsMinOption, IsMissedAt, Misses};
 ghost use Rattle.polcert_check.specs.Steps.Values.{IsMissedBefore};
 ghost use Rattle.polcert_robust.specs.Worst.{least_step_worth};
+ghost use Rattle.polcert_robust.specs.Steps.EndMeans.{AreKept, AreReady, IsChangedAt, IsReadyAt, IsReadyMean, reward_part};
 ghost use Rattle.polcert_robust.specs.Steps.Holding.{HoldsRow};
-ghost use Rattle.polcert_robust.specs.Steps.Pairs.{IsEndMean, IsRobustPair, IsWorstBacking, cells_of, most_scales, most_worth, near_controller, near_table};
+ghost use Rattle.polcert_robust.specs.Steps.Pairs.{IsEndMean, IsRobustPair, IsWorstBacking, cells_of, most_part, most_scales, most_worth, near_controller, near_table};
+ghost use Rattle.polcert_robust.specs.Steps.Rewards.{HasSameRewards, IsConstantReward, IsKnownReward};
+ghost use Rattle.polcert_robust.specs.Steps.Sides.{turned};
 
+use crate::buffers::PairBuffers;
+use crate::end_means::{EndMean, EndMeans};
 use crate::level::{WorthRow, least_mean, weigh};
 use crate::robust_input::RobustInput;
 use polcert_cells::Cells;
@@ -77,56 +83,80 @@ fn worth_of(reward: i64, by: u64, discount: u32, value: i64) -> i128
     earned + later
 }
 
-/// Returns what a step of the pair to state `e` with observation `z` is worth at least.
-fn worth_at<C: Cells>(pair: &Pair<'_, C>, e: usize, z: usize) -> LeastMean
-    requires end { e < (cells_of pair.now.input.now).states }
-    requires observation { z < (cells_of pair.now.input.now).observations }
-    ensures is { result.mean ≡ least_step_worth (near_table pair.now.input.now)
-        (near_controller pair.now.input.now) pair.now.n pair.now.s e z }
-    ensures small { unsigned_abs result.mean ≤ most_worth }
-    ensures missing { IsMissedAt (near_controller pair.now.input.now) pair.now.n z result.missing }
+/// An end state of a pair, and the reward there if it is known not to depend on the observation.
+#[derive(Drop)]
+struct PairEnd<'a, C: Cells> {
+    pair: &'a Pair<'a, C>,
+    e: usize,
+    known: Option<i64>,
+    ghost end: { e < (cells_of pair.now.input.now).states },
+    ghost reward: { ForSome known (IsKnownReward (cells_of pair.now.input.now)
+        ((near_controller pair.now.input.now).action pair.now.n) pair.now.s e) },
+}
+
+/// Returns the reward of a step of the pair to the end state with observation `z`.
+fn reward_at<C: Cells>(end: &PairEnd<'_, C>, z: usize) -> i64
+    requires observation { z < (cells_of end.now.pair.now.input.now).observations }
+    ensures is { result ≡ (cells_of end.now.pair.now.input.now).r
+        ((near_controller end.now.pair.now.input.now).action end.now.pair.now.n)
+        end.now.pair.now.s end.now.e z }
+    ensures small { unsigned_abs result ≤ largest }
 {
-    let input = pair.input;
-    let Some(next) = input.graph.next(pair.n, z) else {
+    if let Some(reward) = end.known {
+        return reward;
+    }
+    let a = end.pair.input.graph.action(end.pair.n);
+    end.pair.input.cells.r(a, end.pair.s, end.e, z)
+}
+
+/// Returns what a step of the pair to the end state with observation `z` is worth at least.
+fn worth_at<C: Cells>(end: &PairEnd<'_, C>, z: usize) -> LeastMean
+    requires observation { z < (cells_of end.now.pair.now.input.now).observations }
+    ensures is { result.mean ≡ least_step_worth (near_table end.now.pair.now.input.now)
+        (near_controller end.now.pair.now.input.now) end.now.pair.now.n end.now.pair.now.s end.now.e z }
+    ensures small { unsigned_abs result.mean ≤ most_worth }
+    ensures missing { IsMissedAt (near_controller end.now.pair.now.input.now) end.now.pair.now.n z
+        result.missing }
+{
+    let input = end.pair.input;
+    let Some(next) = input.graph.next(end.pair.n, z) else {
         return LeastMean {
             mean: 0,
             missing: Some(z),
         };
     };
-    let a = input.graph.action(pair.n);
-    let reward = input.side.turned(input.cells.r(a, pair.s, e, z));
-    let value = input.side.turned(input.vectors.at(next, e));
+    let reward = input.side.turned(reward_at(end, z));
+    let value = input.side.turned(input.vectors.at(next, end.e));
     LeastMean {
         mean: worth_of(reward, input.distance.r_by, input.cells.discount(), value),
         missing: None,
     }
 }
 
-/// Gathers the row of O at state `e`: its weights above 0, and what a step with each observation is worth at least.
+/// Gathers the row of O at the end state: its weights above 0, and what a step with each observation is worth at least.
 fn gather_observations<C: Cells>(
-    pair: &Pair<'_, C>,
-    e: usize,
+    end: &PairEnd<'_, C>,
     weights: &mut [u64],
     values: &mut [i128],
 ) -> Gathered
-    requires end { e < (cells_of pair.now.input.now).states }
-    requires weights { (cells_of pair.now.input.now).observations ≤ length weights.old }
-    requires values { (cells_of pair.now.input.now).observations ≤ length values.old }
-    ensures held { HoldsRow (λ z v. v ≡ least_step_worth (near_table pair.now.input.now)
-        (near_controller pair.now.input.now) pair.now.n pair.now.s e z)
-        ((cells_of pair.now.input.now).o ((near_controller pair.now.input.now).action pair.now.n) e)
-        (cells_of pair.now.input.now).observations most_worth weights.new values.new result.count }
-    ensures missing { IsLeastOf (Misses (near_controller pair.now.input.now) pair.now.n e
-        (cells_of pair.now.input.now).observations) result.missing }
+    requires weights { (cells_of end.now.pair.now.input.now).observations ≤ length weights.old }
+    requires values { (cells_of end.now.pair.now.input.now).observations ≤ length values.old }
+    ensures held { HoldsRow (λ z v. v ≡ least_step_worth (near_table end.now.pair.now.input.now)
+        (near_controller end.now.pair.now.input.now) end.now.pair.now.n end.now.pair.now.s end.now.e z)
+        ((cells_of end.now.pair.now.input.now).o
+        ((near_controller end.now.pair.now.input.now).action end.now.pair.now.n) end.now.e)
+        (cells_of end.now.pair.now.input.now).observations most_worth weights.new values.new result.count }
+    ensures missing { IsLeastOf (Misses (near_controller end.now.pair.now.input.now) end.now.pair.now.n
+        end.now.e (cells_of end.now.pair.now.input.now).observations) result.missing }
 {
-    let cells = pair.input.cells;
-    let a = pair.input.graph.action(pair.n);
-    let row = cells.o_row(a, e);
+    let cells = end.pair.input.cells;
+    let a = end.pair.input.graph.action(end.pair.n);
+    let row = cells.o_row(a, end.e);
     let mut count = 0;
     let mut missing: Option<usize> = None;
     let mut at = 0;
-    while let Some(observation) = next_observation(cells, a, e, row, at) {
-        let part = worth_at(pair, e, observation.column);
+    while let Some(observation) = next_observation(cells, a, end.e, row, at) {
+        let part = worth_at(end, observation.column);
         weights[count] = observation.weight;
         values[count] = part.mean;
         count += 1;
@@ -136,29 +166,25 @@ fn gather_observations<C: Cells>(
     Gathered { count, missing }
 }
 
-/// Returns the least mean of what a step to state `e` is worth, over the rows near that of O, times the scale of O.
-fn end_mean<C: Cells>(
-    pair: &Pair<'_, C>,
-    e: usize,
-    weights: &mut [u64],
-    values: &mut [i128],
-) -> LeastMean
-    requires end { e < (cells_of pair.now.input.now).states }
-    requires weights { (cells_of pair.now.input.now).observations ≤ length weights.old }
-    requires values { (cells_of pair.now.input.now).observations ≤ length values.old }
-    ensures is { IsEndMean (near_table pair.now.input.now) (near_controller pair.now.input.now)
-        pair.now.n pair.now.s e result.mean }
-    ensures small { unsigned_abs result.mean ≤ (cells_of pair.now.input.now).o_scale * most_worth }
-    ensures missing { IsLeastOf (Misses (near_controller pair.now.input.now) pair.now.n e
-        (cells_of pair.now.input.now).observations) result.missing }
+/// Returns the least mean of what a step to the end state is worth, over the rows near that of O, times the scale of O.
+fn end_mean<C: Cells>(end: &PairEnd<'_, C>, weights: &mut [u64], values: &mut [i128]) -> LeastMean
+    requires weights { (cells_of end.now.pair.now.input.now).observations ≤ length weights.old }
+    requires values { (cells_of end.now.pair.now.input.now).observations ≤ length values.old }
+    ensures is { IsEndMean (near_table end.now.pair.now.input.now)
+        (near_controller end.now.pair.now.input.now) end.now.pair.now.n end.now.pair.now.s end.now.e
+        result.mean }
+    ensures small { unsigned_abs result.mean ≤ (cells_of end.now.pair.now.input.now).o_scale * most_worth }
+    ensures missing { IsLeastOf (Misses (near_controller end.now.pair.now.input.now) end.now.pair.now.n
+        end.now.e (cells_of end.now.pair.now.input.now).observations) result.missing }
 {
-    let gathered = gather_observations(pair, e, weights, values);
+    let gathered = gather_observations(end, weights, values);
+    let input = end.pair.input;
     let row = WorthRow {
         weights,
         values,
         count: gathered.count,
-        by: pair.input.distance.o_by,
-        scale: pair.input.cells.o_scale(),
+        by: input.distance.o_by,
+        scale: input.cells.o_scale(),
         bound: MOST_WORTH,
     };
     LeastMean {
@@ -167,75 +193,256 @@ fn end_mean<C: Cells>(
     }
 }
 
-/// Gathers the row of T: its weights above 0, and the least mean of what a step to each end state is worth.
+/// Returns the reward of a step of the pair to end state `e`, if it is known at once that it does not depend on the observation.
+fn known_reward<C: Cells>(pair: &Pair<'_, C>, constant: Option<i64>, e: usize) -> Option<i64>
+    requires end { e < (cells_of pair.now.input.now).states }
+    requires constant { ForSome constant (IsConstantReward (cells_of pair.now.input.now)
+        ((near_controller pair.now.input.now).action pair.now.n) pair.now.s) }
+    ensures { ForSome result (IsKnownReward (cells_of pair.now.input.now)
+        ((near_controller pair.now.input.now).action pair.now.n) pair.now.s e) }
+{
+    if constant.is_some() {
+        return constant;
+    }
+    let a = pair.input.graph.action(pair.n);
+    pair.input.cells.r_for_all_z(a, pair.s, e)
+}
+
+/// Returns what a reward that does not depend on the observation adds to the least mean at an end state.
+fn reward_part<C: Cells>(pair: &Pair<'_, C>, reward: i64) -> i128
+    requires reward { unsigned_abs reward ≤ largest }
+    ensures is { result ≡ reward_part (near_table pair.now.input.now)
+        (turned pair.now.input.now.side reward -ℤ pos pair.now.input.now.distance.r_by) }
+    ensures small { unsigned_abs result ≤ most_part }
+{
+    let input = pair.input;
+    let least = least_reward(input.side.turned(reward), input.distance.r_by);
+    let earned = weigh(1_000_000, least);
+    weigh(input.cells.o_scale(), earned)
+}
+
+/// Returns the least mean that was found, as it is kept. `have_rewards`: whether all start states have the same rewards.
+fn kept_mean<C: Cells>(end: &PairEnd<'_, C>, have_rewards: bool, found: LeastMean) -> EndMean
+    requires same { have_rewards ≡ true → HasSameRewards (cells_of end.now.pair.now.input.now)
+        ((near_controller end.now.pair.now.input.now).action end.now.pair.now.n) }
+    requires found { IsEndMean (near_table end.now.pair.now.input.now)
+        (near_controller end.now.pair.now.input.now)
+        end.now.pair.now.n end.now.pair.now.s end.now.e found.mean }
+    requires small { unsigned_abs found.mean ≤ (cells_of end.now.pair.now.input.now).o_scale * most_worth }
+    requires missing { IsLeastOf (Misses (near_controller end.now.pair.now.input.now) end.now.pair.now.n
+        end.now.e (cells_of end.now.pair.now.input.now).observations) found.missing }
+    ensures ready { IsReadyMean (near_table end.now.pair.now.input.now)
+        (near_controller end.now.pair.now.input.now)
+        end.now.pair.now.n end.now.pair.now.s end.now.e result.mean result.is_kept have_rewards }
+    ensures missing { result.missing ≡ found.missing }
+{
+    if found.missing.is_some() {
+        return EndMean {
+            mean: found.mean,
+            is_kept: false,
+            missing: found.missing,
+        };
+    }
+    if have_rewards {
+        return EndMean {
+            mean: found.mean,
+            is_kept: true,
+            missing: found.missing,
+        };
+    }
+    if end.known.is_none() {
+        return EndMean {
+            mean: found.mean,
+            is_kept: false,
+            missing: found.missing,
+        };
+    }
+    EndMean {
+        mean: found.mean - reward_part(end.pair, reward_at(end, 0)),
+        is_kept: true,
+        missing: found.missing,
+    }
+}
+
+/// Returns whether a mean that lacks a reward can be used: if the reward is known.
+fn is_usable(lacks_reward: bool, known: Option<i64>) -> bool
+    ensures lacks { IsTrue result → lacks_reward ≡ true }
+    ensures known { IsTrue result → (h : ℤ) × (known ≡ Some h) }
+{
+    match known {
+        Some(_) => lacks_reward,
+        None => false,
+    }
+}
+
+/// Finds the least mean at end state `e`, unless it is kept. Returns the least observation there that has no successor.
+fn find_end_mean<C: Cells>(
+    pair: &Pair<'_, C>,
+    constant: Option<i64>,
+    e: usize,
+    buffers: &mut PairBuffers,
+) -> Option<usize>
+    requires end { e < (cells_of pair.now.input.now).states }
+    requires constant { ForSome constant (IsConstantReward (cells_of pair.now.input.now)
+        ((near_controller pair.now.input.now).action pair.now.n) pair.now.s) }
+    requires kept { AreKept (near_table pair.now.input.now) (near_controller pair.now.input.now)
+        pair.now.n buffers.old.ends }
+    ensures kept { AreKept (near_table pair.now.input.now) (near_controller pair.now.input.now)
+        pair.now.n buffers.new.ends }
+    ensures ready { IsReadyAt (near_table pair.now.input.now) (near_controller pair.now.input.now)
+        pair.now.n pair.now.s e buffers.new.ends }
+    ensures others { IsChangedAt e buffers.old.ends buffers.new.ends }
+    ensures missing { IsLeastOf (Misses (near_controller pair.now.input.now) pair.now.n e
+        (cells_of pair.now.input.now).observations) result }
+{
+    if buffers.ends.is_full(e) {
+        return None;
+    }
+    let known = known_reward(pair, constant, e);
+    if is_usable(buffers.ends.lacks_reward(e), known) {
+        return None;
+    }
+    let end = PairEnd { pair, e, known };
+    let found = end_mean(&end, &mut buffers.weights, &mut buffers.values);
+    let part = kept_mean(&end, buffers.ends.have_rewards, found);
+    buffers.ends.note(e, part);
+    part.missing
+}
+
+/// Finds the least means at the end states that the pair reaches. Returns the least observation there that has no successor.
+fn find_end_means<C: Cells>(
+    pair: &Pair<'_, C>,
+    constant: Option<i64>,
+    buffers: &mut PairBuffers,
+) -> Option<usize>
+    requires constant { ForSome constant (IsConstantReward (cells_of pair.now.input.now)
+        ((near_controller pair.now.input.now).action pair.now.n) pair.now.s) }
+    requires kept { AreKept (near_table pair.now.input.now) (near_controller pair.now.input.now)
+        pair.now.n buffers.old.ends }
+    ensures kept { AreKept (near_table pair.now.input.now) (near_controller pair.now.input.now)
+        pair.now.n buffers.new.ends }
+    ensures ready { AreReady (near_table pair.now.input.now) (near_controller pair.now.input.now)
+        pair.now.n pair.now.s (cells_of pair.now.input.now).states buffers.new.ends }
+    ensures missing { IsLeastOf (IsMissedBefore (near_controller pair.now.input.now) pair.now.n pair.now.s
+        (cells_of pair.now.input.now).states) result }
+{
+    let cells = pair.input.cells;
+    let a = pair.input.graph.action(pair.n);
+    let row = cells.t_row(a, pair.s);
+    let mut missing: Option<usize> = None;
+    let mut at = 0;
+    while let Some(end) = next_end(cells, a, pair.s, row, at) {
+        let lacking = find_end_mean(pair, constant, end.column, buffers);
+        missing = min_option(missing, lacking);
+        at = end.next;
+    }
+    missing
+}
+
+/// Returns the least mean of what a step to state `e` is worth.
+fn mean_at<C: Cells>(pair: &Pair<'_, C>, constant: Option<i64>, ends: &EndMeans, e: usize) -> i128
+    requires end { e < (cells_of pair.now.input.now).states }
+    requires constant { ForSome constant (IsConstantReward (cells_of pair.now.input.now)
+        ((near_controller pair.now.input.now).action pair.now.n) pair.now.s) }
+    requires ready { IsReadyAt (near_table pair.now.input.now) (near_controller pair.now.input.now)
+        pair.now.n pair.now.s e ends.now }
+    ensures is { IsEndMean (near_table pair.now.input.now) (near_controller pair.now.input.now)
+        pair.now.n pair.now.s e result }
+    ensures small { unsigned_abs result ≤ (cells_of pair.now.input.now).o_scale * most_worth }
+{
+    let mean = ends.means[e];
+    if !ends.lacks_reward(e) {
+        return mean;
+    }
+    let end = PairEnd {
+        pair,
+        e,
+        known: constant,
+    };
+    mean + reward_part(pair, reward_at(&end, 0))
+}
+
+/// Gathers the row of T: its weights above 0, and the least mean of what a step to each end state is worth. Returns how many they are.
 fn gather_ends<C: Cells>(
     pair: &Pair<'_, C>,
-    end_weights: &mut [u64],
-    end_values: &mut [i128],
+    constant: Option<i64>,
+    ends: &EndMeans,
     weights: &mut [u64],
     values: &mut [i128],
-) -> Gathered
-    requires end_weights { (cells_of pair.now.input.now).states ≤ length end_weights.old }
-    requires end_values { (cells_of pair.now.input.now).states ≤ length end_values.old }
-    requires weights { (cells_of pair.now.input.now).observations ≤ length weights.old }
-    requires values { (cells_of pair.now.input.now).observations ≤ length values.old }
+) -> usize
+    requires constant { ForSome constant (IsConstantReward (cells_of pair.now.input.now)
+        ((near_controller pair.now.input.now).action pair.now.n) pair.now.s) }
+    requires ready { AreReady (near_table pair.now.input.now) (near_controller pair.now.input.now)
+        pair.now.n pair.now.s (cells_of pair.now.input.now).states ends.now }
+    requires weights { (cells_of pair.now.input.now).states ≤ length weights.old }
+    requires values { (cells_of pair.now.input.now).states ≤ length values.old }
     ensures held { HoldsRow (IsEndMean (near_table pair.now.input.now) (near_controller pair.now.input.now)
         pair.now.n pair.now.s)
         ((cells_of pair.now.input.now).t ((near_controller pair.now.input.now).action pair.now.n) pair.now.s)
         (cells_of pair.now.input.now).states ((cells_of pair.now.input.now).o_scale * most_worth)
-        end_weights.new end_values.new result.count }
-    ensures missing { IsLeastOf (IsMissedBefore (near_controller pair.now.input.now) pair.now.n pair.now.s
-        (cells_of pair.now.input.now).states) result.missing }
+        weights.new values.new result }
 {
     let cells = pair.input.cells;
     let a = pair.input.graph.action(pair.n);
     let row = cells.t_row(a, pair.s);
     let mut count = 0;
-    let mut missing: Option<usize> = None;
     let mut at = 0;
     while let Some(end) = next_end(cells, a, pair.s, row, at) {
-        let part = end_mean(pair, end.column, weights, values);
-        end_weights[count] = end.weight;
-        end_values[count] = part.mean;
+        weights[count] = end.weight;
+        values[count] = mean_at(pair, constant, ends, end.column);
         count += 1;
-        missing = min_option(missing, part.missing);
         at = end.next;
     }
-    Gathered { count, missing }
+    count
+}
+
+/// Returns the reward of every step of the pair, if it is known at once that it is the same for every end state and observation, and not
+/// for every start state too.
+fn constant_reward<C: Cells>(pair: &Pair<'_, C>, have_rewards: bool) -> Option<i64>
+    ensures { ForSome result (IsConstantReward (cells_of pair.now.input.now)
+        ((near_controller pair.now.input.now).action pair.now.n) pair.now.s) }
+{
+    if have_rewards {
+        return None;
+    }
+    let a = pair.input.graph.action(pair.n);
+    pair.input.cells.r_constant(a, pair.s)
 }
 
 /// Returns what backs the value of the pair in the worst case: the least mean over the rows near that of T, times both scales.
-fn worst_backing<C: Cells>(
-    pair: &Pair<'_, C>,
-    end_weights: &mut [u64],
-    end_values: &mut [i128],
-    weights: &mut [u64],
-    values: &mut [i128],
-) -> LeastMean
-    requires end_weights { (cells_of pair.now.input.now).states ≤ length end_weights.old }
-    requires end_values { (cells_of pair.now.input.now).states ≤ length end_values.old }
-    requires weights { (cells_of pair.now.input.now).observations ≤ length weights.old }
-    requires values { (cells_of pair.now.input.now).observations ≤ length values.old }
+fn worst_backing<C: Cells>(pair: &Pair<'_, C>, buffers: &mut PairBuffers) -> LeastMean
+    requires kept { AreKept (near_table pair.now.input.now) (near_controller pair.now.input.now)
+        pair.now.n buffers.old.ends }
     ensures is { IsWorstBacking (near_table pair.now.input.now) (near_controller pair.now.input.now)
         pair.now.n pair.now.s result.mean }
     ensures small { unsigned_abs result.mean ≤ (cells_of pair.now.input.now).t_scale
         * ((cells_of pair.now.input.now).o_scale * most_worth) }
     ensures missing { IsLeastOf (IsMissedBefore (near_controller pair.now.input.now) pair.now.n pair.now.s
         (cells_of pair.now.input.now).states) result.missing }
+    ensures kept { AreKept (near_table pair.now.input.now) (near_controller pair.now.input.now)
+        pair.now.n buffers.new.ends }
 {
-    let gathered = gather_ends(pair, end_weights, end_values, weights, values);
+    let constant = constant_reward(pair, buffers.ends.have_rewards);
+    let missing = find_end_means(pair, constant, buffers);
+    let count = gather_ends(
+        pair,
+        constant,
+        &buffers.ends,
+        &mut buffers.weights,
+        &mut buffers.values,
+    );
     let cells = pair.input.cells;
     let row = WorthRow {
-        weights: end_weights,
-        values: end_values,
-        count: gathered.count,
+        weights: &buffers.weights,
+        values: &buffers.values,
+        count,
         by: pair.input.distance.t_by,
         scale: cells.t_scale(),
         bound: cells.o_scale() as u128 * MOST_WORTH,
     };
     LeastMean {
         mean: least_mean(&row),
-        missing: gathered.missing,
+        missing,
     }
 }
 
@@ -303,18 +510,15 @@ fn verdict_of_backing<C: Cells>(pair: &Pair<'_, C>, backing: LeastMean) -> Verdi
 /// Returns whether the pair passes in every model near the text's, or why not.
 pub(crate) fn robust_pair_verdict<C: Cells>(
     pair: &Pair<'_, C>,
-    end_weights: &mut [u64],
-    end_values: &mut [i128],
-    weights: &mut [u64],
-    values: &mut [i128],
+    buffers: &mut PairBuffers,
 ) -> Verdict
-    requires end_weights { (cells_of pair.now.input.now).states ≤ length end_weights.old }
-    requires end_values { (cells_of pair.now.input.now).states ≤ length end_values.old }
-    requires weights { (cells_of pair.now.input.now).observations ≤ length weights.old }
-    requires values { (cells_of pair.now.input.now).observations ≤ length values.old }
-    ensures { IsRobustPair (near_table pair.now.input.now) (near_controller pair.now.input.now)
+    requires kept { AreKept (near_table pair.now.input.now) (near_controller pair.now.input.now)
+        pair.now.n buffers.old.ends }
+    ensures verdict { IsRobustPair (near_table pair.now.input.now) (near_controller pair.now.input.now)
         pair.now.n pair.now.s result }
+    ensures kept { AreKept (near_table pair.now.input.now) (near_controller pair.now.input.now)
+        pair.now.n buffers.new.ends }
 {
-    let backing = worst_backing(pair, end_weights, end_values, weights, values);
+    let backing = worst_backing(pair, buffers);
     verdict_of_backing(pair, backing)
 }

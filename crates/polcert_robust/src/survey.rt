@@ -30,19 +30,14 @@ pub(crate) fn survey_robust<C: Cells, W: Progress>(
         worst: 0,
     };
     for n in 0..input.graph.nodes() {
+        buffers.ends.reset(input.cells, input.graph.action(n));
         for s in 0..input.cells.states() {
             let pair = Pair {
                 input: &*input,
                 n,
                 s,
             };
-            let verdict = robust_pair_verdict(
-                &pair,
-                &mut buffers.end_weights,
-                &mut buffers.end_values,
-                &mut buffers.weights,
-                &mut buffers.values,
-            );
+            let verdict = robust_pair_verdict(&pair, buffers);
             if let Some(fault) = lack_of(verdict) {
                 progress.end();
                 return Err(fault);

@@ -32,19 +32,14 @@ pub(crate) fn first_robust_failure<C: Cells, W: Progress>(
 {
     progress.begin(input.graph.nodes());
     for n in 0..input.graph.nodes() {
+        buffers.ends.reset(input.cells, input.graph.action(n));
         for s in 0..input.cells.states() {
             let pair = Pair {
                 input: &*input,
                 n,
                 s,
             };
-            let verdict = robust_pair_verdict(
-                &pair,
-                &mut buffers.end_weights,
-                &mut buffers.end_values,
-                &mut buffers.weights,
-                &mut buffers.values,
-            );
+            let verdict = robust_pair_verdict(&pair, buffers);
             if is_no(verdict) {
                 progress.end();
                 return verdict;

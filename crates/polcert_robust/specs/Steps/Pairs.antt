@@ -16,6 +16,10 @@ use Rattle.polcert_robust.specs.Steps.Sides.{least_end, turned}
 abbrev pub most_worth : ℕ
 most_worth = 21_000_000_000_000_000_000
 
+-- the largest of what a reward adds to the least mean at an end state
+abbrev pub most_part : ℕ
+most_part = 110_000_000_000_000_000_000_000_000_000
+
 -- the largest product of the scales of T and O
 abbrev pub most_scales : ℕ
 most_scales = 5_000_000_000_000_000_000

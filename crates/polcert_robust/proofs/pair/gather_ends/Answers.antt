@@ -4,7 +4,6 @@ use mir.Syntax.{w128}
 use Rattle.polcert_cells.specs.BorrowedRows.{reached}
 use Rattle.polcert_cells.specs.Tables.{CellTable}
 use Rattle.polcert_check.specs.Horizon.{Controller}
-use Rattle.polcert_check.proofs.Walking.Missing.{before_more, before_on}
 use Rattle.polcert_robust.specs.Steps.Pairs.{IsEndMean, cells_of, most_worth, near_controller, near_table}
 use Rattle.polcert_robust.proofs.Holding.{holds_more, holds_none, holds_on}
 use Rattle.polcert_robust.proofs.pair.gather_ends.Goals as goal
@@ -16,9 +15,7 @@ loop-end-init g c =
       held = holds_none (IsEndMean (near_table c.args.pair.now.input.now) (near_controller c.args.pair.now.input.now)
           c.args.pair.now.n c.args.pair.now.s) ((cells_of c.args.pair.now.input.now).t
           ((near_controller c.args.pair.now.input.now).action c.args.pair.now.n) c.args.pair.now.s)
-          ((cells_of c.args.pair.now.input.now).o_scale * most_worth) c.args.end_weights.now c.args.end_values.now;
-      least =
-          λ z missed. absurd (omega (arith, missed.1));
+          ((cells_of c.args.pair.now.input.now).o_scale * most_worth) c.args.weights.now c.args.values.now;
       within = omega arith;
     })
 
@@ -29,17 +26,14 @@ loop-end-preserved g c =
     let same : c.action-a.result ≡ k.action c.args.pair.now.n = c.action-a.ensures.value in
     let next = rw same at c.in-Some.ensures.0 in
     let from : ℕ = reached c.t_row-row.result c.loop-end.at in
-    rw (c.in-Some.ensures.1, to_z-of_z w128 c.end_mean-part.result.mean (search rules)) (record {
+    rw (c.in-Some.ensures.1, to_z-of_z w128 c.mean_at.result (search rules)) (record {
       held = holds_more (IsEndMean (near_table c.args.pair.now.input.now) k c.args.pair.now.n c.args.pair.now.s)
-          (t.t (k.action c.args.pair.now.n) c.args.pair.now.s) from (t.o_scale * most_worth) c.loop-end.end_weights c.loop-end.end_values
+          (t.t (k.action c.args.pair.now.n) c.args.pair.now.s) from (t.o_scale * most_worth) c.loop-end.weights c.loop-end.values
           c.loop-end.count c.loop-end.invariant.held
-          c.in-Some.end.column c.in-Some.end.weight c.end_mean-part.result.mean next.0 next.4 next.2 c.end_mean-part.ensures.is
-          c.end_mean-part.ensures.small
-          (omega (arith, c.loop-end.invariant.held.few, next.0, next.1, c.loop-end.auto.end_weights, c.requires.end_weights))
-          (omega (arith, c.loop-end.invariant.held.few, next.0, next.1, c.loop-end.auto.end_values, c.requires.end_values));
-      least = before_more k c.args.pair.now.n c.args.pair.now.s from c.in-Some.end.column c.in-Some.end.weight c.loop-end.missing
-          c.end_mean-part.result.missing c.min_option-missing.result next.0 next.4 next.2 next.3 c.loop-end.invariant.least
-          c.end_mean-part.ensures.missing c.min_option-missing.ensures;
+          c.in-Some.end.column c.in-Some.end.weight c.mean_at.result next.0 next.4 next.2 c.mean_at.ensures.is
+          c.mean_at.ensures.small
+          (omega (arith, c.loop-end.invariant.held.few, next.0, next.1, c.loop-end.auto.weights, c.requires.weights))
+          (omega (arith, c.loop-end.invariant.held.few, next.0, next.1, c.loop-end.auto.values, c.requires.values));
       within = omega (arith, next.1);
     })
 
@@ -52,9 +46,6 @@ returns g c =
     let from : ℕ = reached c.t_row-row.result c.loop-end.at in
     record {
       held = holds_on (IsEndMean (near_table c.args.pair.now.input.now) k c.args.pair.now.n c.args.pair.now.s)
-          (t.t (k.action c.args.pair.now.n) c.args.pair.now.s) from (t.o_scale * most_worth) c.loop-end.end_weights c.loop-end.end_values
-          c.loop-end.count c.loop-end.invariant.held
-          t.states c.loop-end.invariant.within none;
-      missing = before_on k c.args.pair.now.n c.args.pair.now.s from t.states c.loop-end.invariant.within none c.loop-end.missing
-          c.loop-end.invariant.least;
+          (t.t (k.action c.args.pair.now.n) c.args.pair.now.s) from (t.o_scale * most_worth) c.loop-end.weights c.loop-end.values
+          c.loop-end.count c.loop-end.invariant.held t.states c.loop-end.invariant.within none;
     }

@@ -9,12 +9,14 @@ use Rattle.polcert_robust.proofs.pair.gather_observations.Given as goal
 -- the weights so far, and the least observation so far that has no successor
 abbrev pub invariant-loop-observation : goal.invariant-loop-observation
 invariant-loop-observation g l = record {
-  held : HoldsRow (λ z v. v ≡ least_step_worth (near_table l.pair.input.now) (near_controller l.pair.input.now) l.pair.n l.pair.s l.e z)
-      ((cells_of l.pair.input.now).o ((near_controller l.pair.input.now).action l.pair.n) l.e) (reached l.row l.at) most_worth l.weights
+  held : HoldsRow (λ z v. v ≡ least_step_worth (near_table l.end.pair.now.input.now) (near_controller l.end.pair.now.input.now)
+      l.end.pair.now.n l.end.pair.now.s l.end.e z)
+      ((cells_of l.end.pair.now.input.now).o ((near_controller l.end.pair.now.input.now).action l.end.pair.now.n) l.end.e)
+      (reached l.row l.at) most_worth l.weights
       l.values l.count;
-  least : IsLeastOf (Misses (near_controller l.pair.input.now) l.pair.n l.e (reached l.row l.at)) l.missing;
-  within : reached l.row l.at ≤ (cells_of l.pair.input.now).observations;
+  least : IsLeastOf (Misses (near_controller l.end.pair.now.input.now) l.end.pair.now.n l.end.e (reached l.row l.at)) l.missing;
+  within : reached l.row l.at ≤ (cells_of l.end.pair.now.input.now).observations;
 }
 
 abbrev pub decreases-loop-observation : goal.decreases-loop-observation
-decreases-loop-observation g l = (cells_of l.pair.input.now).observations - reached l.row l.at
+decreases-loop-observation g l = (cells_of l.end.pair.now.input.now).observations - reached l.row l.at

@@ -15,15 +15,27 @@ invariant_of-row g c =
     let t : CellTable = cells_of c.args.pair.now.input.now in
     let m : IsProper t = g.met.C.Cells.is_proper c.args.pair.now.input.now.cells.now in
     let limits : IsWithinLimits t = g.met.C.Cells.is_within_limits c.args.pair.now.input.now.cells.now in
-    let held = c.gather_ends-gathered.ensures.held in
+    let held = c.gather_ends-count.ensures.held in
     record {
-      room_for_weights = omega (arith, held.few, c.requires.end_weights, c.gather_ends-gathered.auto.end_weights);
-      room_for_values = omega (arith, held.few, c.requires.end_values, c.gather_ends-gathered.auto.end_values);
+      room_for_weights = omega (
+        arith,
+        held.few,
+        limits.states.1,
+        c.find_end_means-missing.new.buffers.room_for_weights,
+        c.gather_ends-count.auto.weights,
+      );
+      room_for_values = omega (
+        arith,
+        held.few,
+        limits.states.1,
+        c.find_end_means-missing.new.buffers.room_for_values,
+        c.gather_ends-count.auto.values,
+      );
       few = omega (arith, held.few, limits.states.1);
       near = c.args.pair.now.input.now.distance.t_parts;
       near_percent = c.args.pair.now.input.now.distance.t_percent;
       sums = rw c.t_scale.ensures (held_sum _ (t.t (k.action c.args.pair.now.n) c.args.pair.now.s) t.states _
-          c.gather_ends-gathered.new.end_weights c.gather_ends-gathered.new.end_values c.gather_ends-gathered.result.count held t.t_scale
+          c.gather_ends-count.new.weights c.gather_ends-count.new.values c.gather_ends-count.result held t.t_scale
           (m.t_rows (k.action c.args.pair.now.n) c.args.pair.now.s (search rules) c.args.pair.now.start));
       small_scale = omega (arith, c.t_scale.ensures, t_scale_small t limits);
       small = rw c.o_scale.ensures held.small;
@@ -41,6 +53,6 @@ returns-clause-is g c =
     (backing_of c.args.pair.now.input.now.side k c.args.pair.now.input.now.distance.t_by c.args.pair.now.input.now.distance.o_by
     c.args.pair.now.input.now.distance.r_by c.args.pair.now.n c.args.pair.now.s m (search rules) c.args.pair.now.start c.least_mean.result
     (worst_mean_of (IsEndMean (near_table c.args.pair.now.input.now) k c.args.pair.now.n c.args.pair.now.s)
-    (t.t (k.action c.args.pair.now.n) c.args.pair.now.s) t.states (t.o_scale * most_worth) c.gather_ends-gathered.new.end_weights
-    c.gather_ends-gathered.new.end_values c.gather_ends-gathered.result.count c.gather_ends-gathered.ensures.held
+    (t.t (k.action c.args.pair.now.n) c.args.pair.now.s) t.states (t.o_scale * most_worth) c.gather_ends-count.new.weights
+    c.gather_ends-count.new.values c.gather_ends-count.result c.gather_ends-count.ensures.held
     c.args.pair.now.input.now.distance.t_by t.t_scale c.least_mean.result is))

@@ -8,7 +8,7 @@ use Rattle.polcert_robust.proofs.pair.worth_at.Goals as goal
 
 pub returns-clause-is : goal.returns-clause-is
 returns-clause-is g c =
-    let reward : to_z w64 (of_z w64 c.r.result) ≡ c.r.result = to_z-of_z w64 c.r.result (search rules) in
+    let reward : to_z w64 (of_z w64 c.reward_at.result) ≡ c.reward_at.result = to_z-of_z w64 c.reward_at.result (search rules) in
     let value : to_z w64 (of_z w64 c.at.result) ≡ c.at.result = to_z-of_z w64 c.at.result (search rules) in
     let turned_reward : to_z w64 (of_z w64 c.turned-reward.result) ≡ c.turned-reward.result =
     to_z-of_z w64 c.turned-reward.result (search rules) in
@@ -16,15 +16,15 @@ returns-clause-is g c =
     to_z-of_z w64 c.turned-value.result (search rules) in
     rw (to_z-of_z w128 c.worth_of.result (search rules))
     (step_is _ c.in-Some.next c.worth_of.result
-    (λ m. pos one *ℤ (near_table c.args.pair.now.input.now).r_low ((near_controller c.args.pair.now.input.now).action c.args.pair.now.n)
-    c.args.pair.now.s c.args.e c.args.z +ℤ pos (cells_of c.args.pair.now.input.now).discount
-    *ℤ (near_controller c.args.pair.now.input.now).value m c.args.e)
+    (λ m. pos one *ℤ (near_table c.args.end.now.pair.now.input.now).r_low
+    ((near_controller c.args.end.now.pair.now.input.now).action c.args.end.now.pair.now.n)
+    c.args.end.now.pair.now.s c.args.end.now.e c.args.z +ℤ pos (cells_of c.args.end.now.pair.now.input.now).discount
+    *ℤ (near_controller c.args.end.now.pair.now.input.now).value m c.args.end.now.e)
     (sym c.in-Some.ensures.value)
     (cc (
       c.worth_of.ensures.is,
       c.turned-reward.ensures.is,
-      c.r.ensures,
-      c.action-a.ensures.value,
+      c.reward_at.ensures.is,
       c.turned-value.ensures.is,
       c.at.ensures.value,
       c.discount.ensures,
@@ -32,7 +32,8 @@ returns-clause-is g c =
       value,
       turned_reward,
       turned_value,
-      least_turned c.args.pair.now.input.now.side ((cells_of c.args.pair.now.input.now).r
-          ((near_controller c.args.pair.now.input.now).action c.args.pair.now.n) c.args.pair.now.s c.args.e c.args.z)
-          c.args.pair.now.input.now.distance.r_by,
+      least_turned c.args.end.now.pair.now.input.now.side ((cells_of c.args.end.now.pair.now.input.now).r
+          ((near_controller c.args.end.now.pair.now.input.now).action c.args.end.now.pair.now.n) c.args.end.now.pair.now.s c.args.end.now.e
+          c.args.z)
+          c.args.end.now.pair.now.input.now.distance.r_by,
     )))

@@ -1,6 +1,7 @@
-use Rattle.std.proofs.Common.{arith}
+use Rattle.std.proofs.Common.{false, slice_index_or, arith}
 use Rattle.polcert_robust.specs.Steps.Moves.{CanMoveBy}
 use Rattle.polcert_robust.specs.Steps.Pairs.{near_controller, near_table}
+use Rattle.polcert_robust.proofs.EndMeans.{both}
 use Rattle.polcert_robust.proofs.Surveying.{lack_noted, node_surveyed, nothing_surveyed}
 use Rattle.polcert_robust.proofs.survey.survey_robust.Goals as goal
 
@@ -9,18 +10,29 @@ loop-n-init g c = nothing_surveyed (near_table c.args.input.now) (near_controlle
 
 pub loop-n-preserved : goal.loop-n-preserved
 loop-n-preserved g c = node_surveyed (near_table c.args.input.now) (near_controller c.args.input.now) c.loop-n.n c.loop-s.s
-    c.loop-s.findings (omega (arith, c.loop-s-test.false, c.states-s-end.ensures)) c.loop-s.invariant
+    c.loop-s.findings (omega (arith, c.loop-s-test.false, c.states-s-end.ensures)) c.loop-s.invariant.surveyed
 
 pub returns-in-Some-clause-refused : goal.returns-in-Some-clause-refused
 returns-in-Some-clause-refused g c =
     lack_noted (near_table c.args.input.now) (near_controller c.args.input.now) c.loop-n.n c.loop-s.s c.loop-s.findings
     (omega (arith, c.loop-n-test.true, c.nodes-n-end.ensures.count)) (omega (arith, c.loop-s-test.true, c.states-s-end.ensures))
-    c.loop-s.invariant
+    c.loop-s.invariant.surveyed
     c.robust_pair_verdict-verdict.result c.in-Some.fault (CanMoveBy c.args.input.now.side c.args.input.now.vectors.now)
-    c.robust_pair_verdict-verdict.ensures c.in-Some.ensures.some
+    c.robust_pair_verdict-verdict.ensures.verdict c.in-Some.ensures.some
+
+pub loop-s-init : goal.loop-s-init
+loop-s-init g c = record {
+  surveyed = c.loop-n.invariant;
+  kept = record {
+    same = rw c.action.ensures.value at c.reset.ensures.same;
+    each = λ e l is. absurd (both (slice_index_or c.reset.new.self.are_kept e false) is (c.reset.ensures.none e));
+  };
+}
 
 pub loop-s-preserved : goal.loop-s-preserved
-loop-s-preserved g c =
-    c.noted-findings.ensures (near_table c.args.input.now) (near_controller c.args.input.now) c.loop-n.n c.loop-s.s
-    (omega (arith, c.loop-n-test.true, c.nodes-n-end.ensures.count)) (omega (arith, c.loop-s-test.true, c.states-s-end.ensures))
-    c.robust_pair_verdict-verdict.ensures c.in_default.ensures.none c.loop-s.invariant
+loop-s-preserved g c = record {
+  surveyed = c.noted-findings.ensures (near_table c.args.input.now) (near_controller c.args.input.now) c.loop-n.n c.loop-s.s
+      (omega (arith, c.loop-n-test.true, c.nodes-n-end.ensures.count)) (omega (arith, c.loop-s-test.true, c.states-s-end.ensures))
+      c.robust_pair_verdict-verdict.ensures.verdict c.in_default.ensures.none c.loop-s.invariant.surveyed;
+  kept = c.robust_pair_verdict-verdict.ensures.kept;
+}

@@ -1,4 +1,5 @@
 use Rattle.polcert_robust.specs.RobustVerdict.{IsRobustBefore}
+use Rattle.polcert_robust.specs.Steps.EndMeans.{AreKept}
 use Rattle.polcert_robust.specs.Steps.Pairs.{near_controller, near_table}
 use Rattle.polcert_robust.proofs.walk.first_robust_failure.Given as goal
 
@@ -6,4 +7,7 @@ abbrev pub invariant-loop-n : goal.invariant-loop-n
 invariant-loop-n g l = IsRobustBefore (near_table l.input) (near_controller l.input) l.n 0
 
 abbrev pub invariant-loop-s : goal.invariant-loop-s
-invariant-loop-s g l = IsRobustBefore (near_table l.input) (near_controller l.input) l.n l.s
+invariant-loop-s g l = record {
+  before : IsRobustBefore (near_table l.input) (near_controller l.input) l.n l.s;
+  kept : AreKept (near_table l.input) (near_controller l.input) l.n l.buffers.ends;
+}
