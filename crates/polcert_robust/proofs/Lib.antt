@@ -11,6 +11,8 @@ pub mod OneWorst
 pub mod Levels
 pub mod Holding
 pub mod Backings
+pub mod OneVerdict
+pub mod SameVerdicts
 pub mod EndMeans
 pub mod Worths
 pub mod Exact

@@ -7,3 +7,4 @@ mod NearLaws
 mod NearTexts
 mod Moving
 mod MoveLaws
+mod OneNear

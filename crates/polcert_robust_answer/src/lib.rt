@@ -3,6 +3,7 @@
 #![tactic(auto)]
 
 mod inputs;
+pub mod laws;
 mod lines;
 mod millionths;
 mod move_runs;
