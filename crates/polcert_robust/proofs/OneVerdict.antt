@@ -1,7 +1,6 @@
 -- A check of every model within intervals has one verdict.
-use Rattle.std.proofs.Common.{◌≡◌, ℕ, ◌*◌, ◌<◌, ℤ, pos, ◌-ℤ◌, ◌*ℤ◌, ◌≤ℤ◌, ◌<ℤ◌, Some, None, sym, refl, subst, arith}
-use Rattle.polcert_check.specs.Horizon.{Controller, one}
-use Rattle.polcert_check.specs.Verdict.{IsBefore}
+use Rattle.std.proofs.Common.{◌≡◌, ℕ, ◌<◌, ℤ, Some, None, sym, refl, subst, arith}
+use Rattle.polcert_check.specs.Horizon.{Controller}
 use Rattle.polcert_check.specs.declared.survey.Verdict.{Verdict}
 use Rattle.polcert_check.specs.declared.survey.Verdict.TheVariants.{Yes, Short, NoSuccessor}
 use Rattle.polcert_check.proofs.Sums.Ring.{linear}

@@ -21,11 +21,11 @@ use Rattle.polcert_check.proofs.Mirrors.FromAbove.{passes_above, passes_below}
 use Rattle.polcert_check.proofs.Sums.Ring.{linear}
 use Rattle.polcert_robust.specs.Intervals.{IntervalTable, LiesWithin, around, negated}
 use Rattle.polcert_robust.specs.RobustAbove.{PassesAboveInEveryModel}
-use Rattle.polcert_robust.specs.RobustLower.{IsLeastInEveryModel, IsLeastLowering, IsLeastRobust, IsLeastRobustConstant}
+use Rattle.polcert_robust.specs.RobustLower.{IsLeastLowering, IsLeastRobust, IsLeastRobustConstant}
 use Rattle.polcert_robust.specs.RobustLower.{IsNotLoweredRobustly}
 use Rattle.polcert_robust.specs.RobustLower.{IsNotMendedRobustly, RefusesToLowerRobustly}
-use Rattle.polcert_robust.specs.RobustRaise.{IsLeastAboveInEveryModel, IsLeastRaising, IsLeastRobustAbove, IsLeastRobustRaise}
-use Rattle.polcert_robust.specs.RobustRaise.{IsNotRaisedRobustly, IsRobustAbove, RefusesToRaiseRobustly}
+use Rattle.polcert_robust.specs.RobustRaise.{IsLeastRaising, IsLeastRobustAbove, IsLeastRobustRaise}
+use Rattle.polcert_robust.specs.RobustRaise.{IsNotRaisedRobustly, RefusesToRaiseRobustly}
 use Rattle.polcert_robust.specs.RobustVerdict.{PassesInEveryModel}
 use Rattle.polcert_robust.specs.Worst.{IsRobust, negated_values, within_model}
 use Rattle.polcert_robust.specs.declared.side.Side.{Side}

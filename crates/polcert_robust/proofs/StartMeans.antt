@@ -1,5 +1,5 @@
 -- The means of a node's values over the starts near a model's, and the node at which they are greatest.
-use Rattle.std.proofs.Common.{◌≡◌, ◌∙◌, ℕ, zero, suc, ◌+◌, ◌*◌, ◌/◌, ◌<◌, ◌≤◌, ⊎_elim, ℤ, pos, neg_ℤ, ◌+ℤ◌, ◌-ℤ◌, ◌*ℤ◌, ◌≤ℤ◌, ◌<ℤ◌}
+use Rattle.std.proofs.Common.{◌≡◌, ◌∙◌, ℕ, zero, suc, ◌+◌, ◌*◌, ◌<◌, ◌≤◌, ⊎_elim, ℤ, pos, neg_ℤ, ◌+ℤ◌, ◌-ℤ◌, ◌*ℤ◌, ◌≤ℤ◌, ◌<ℤ◌}
 use Rattle.std.proofs.Common.{unsigned_abs}
 use Rattle.std.proofs.Common.{FitsSigned, to_z, of_z, w64, refl, sym, ap, subst, arith}
 use Rattle.std.proofs.lemmas.Bool.{cases_eq}
@@ -14,7 +14,7 @@ use Rattle.polcert_policy.specs.Graphs.{PolicyGraph, nodes}
 use Rattle.polcert_policy.specs.Vectors.{PolicyVectors, value_of}
 use Rattle.polcert_check.specs.Above.{MeetsEveryHorizonAbove}
 use Rattle.polcert_check.specs.Horizon.{MeetsEveryHorizon, controller_of}
-use Rattle.polcert_check.specs.StartWorth.{IsCeilQuotient, IsFirstGreatest, IsFloorQuotient}
+use Rattle.polcert_check.specs.StartWorth.{IsCeilQuotient, IsFloorQuotient}
 use Rattle.polcert_check.proofs.Horizons.StartSums.{floor_is, floor_small, start_row, value_fits}
 use Rattle.polcert_check.proofs.Sums.Bounds.{abs_neg, negated_is}
 use Rattle.polcert_check.proofs.Sums.Ring.{linear, ≤ℤ_trans, ≤ℤ_from_eq}
@@ -22,7 +22,7 @@ use Rattle.polcert_robust.specs.Intervals.{low_of, high_of}
 use Rattle.polcert_robust.specs.Start.{IsAtMostFrom, IsBestNodeNear, IsGreatestFromStart, IsLeastFromStart, IsStartMostNear, IsStartNear}
 use Rattle.polcert_robust.specs.Start.{IsStartWorthNear, IsWorthFrom, StartsWithin, scaled_start_total, scaled_start_weight, start_multiple}
 use Rattle.polcert_robust.specs.Worst.{IsWorstRow, mean, within_model}
-use Rattle.polcert_robust.specs.Steps.Holding.{HoldsRow, IsWorstMean}
+use Rattle.polcert_robust.specs.Steps.Holding.{IsWorstMean}
 use Rattle.polcert_robust.proofs.Backings.{exact_mean}
 use Rattle.polcert_robust.proofs.Holding.{updated}
 use Rattle.polcert_robust.proofs.Means.{total_pos}

@@ -1,5 +1,5 @@
 -- What a walk over all pairs has found, with one pair more.
-use Rattle.std.proofs.Common.{◌≡◌, ℕ, ◌+◌, ◌*◌, ◌<◌, ◌≤◌, ◌⊎◌, inl, inr, ⊎_elim, ℤ, pos, ◌-ℤ◌, ◌*ℤ◌, ◌≤ℤ◌, ◌<ℤ◌, None, Some, unsigned_abs}
+use Rattle.std.proofs.Common.{◌≡◌, ℕ, ◌+◌, ◌*◌, ◌<◌, ◌≤◌, ◌⊎◌, inl, inr, ⊎_elim, ℤ, pos, ◌-ℤ◌, ◌*ℤ◌, ◌≤ℤ◌, ◌<ℤ◌, unsigned_abs}
 use Rattle.std.proofs.Common.{refl, sym, subst, arith}
 use Rattle.std.proofs.lemmas.Int.{ints}
 use Rattle.polcert_check.specs.Horizon.{Controller, one}
@@ -9,8 +9,8 @@ use Rattle.polcert_check.specs.declared.survey.Verdict.{Verdict}
 use Rattle.polcert_check.specs.declared.survey.Verdict.TheVariants.{Yes, Short, NoSuccessor}
 use Rattle.polcert_check.proofs.Sums.Ring.{linear}
 use Rattle.polcert_robust.specs.Intervals.{IntervalTable}
-use Rattle.polcert_robust.specs.RobustLower.{IsFirstRobustShort, IsNotMendedRobustly}
-use Rattle.polcert_robust.specs.RobustVerdict.{IsLeastThatMayLack, IsRobustShort}
+use Rattle.polcert_robust.specs.RobustLower.{IsNotMendedRobustly}
+use Rattle.polcert_robust.specs.RobustVerdict.{IsRobustShort}
 use Rattle.polcert_robust.specs.Worst.{PairIsRobust, worst_backing}
 use Rattle.polcert_robust.specs.Steps.Pairs.{IsRobustPair}
 use Rattle.polcert_robust.specs.Steps.Surveys.{IsFirstNo, IsFirstBefore, IsLackFault, IsPairMeasured, IsSurveyedBefore}

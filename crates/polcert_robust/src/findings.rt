@@ -46,7 +46,7 @@ fn keep_first_no(so_far: Verdict, found: Verdict) -> Verdict
 }
 
 /// Returns the greater of two numbers.
-fn greater(x: u128, y: u128) -> u128
+fn max_amount(x: u128, y: u128) -> u128
     ensures left { x ≤ result }
     ensures right { y ≤ result }
     ensures is_one { (result ≡ x) ⊎ (result ≡ y) }
@@ -65,7 +65,7 @@ pub(crate) fn noted(findings: RobustFindings, verdict: Verdict) -> RobustFinding
         Verdict::NoSuccessor { .. } => findings,
         Verdict::Short { amount, .. } => RobustFindings {
             first: keep_first_no(findings.first, verdict),
-            worst: greater(findings.worst, amount.unsigned_abs()),
+            worst: max_amount(findings.worst, amount.unsigned_abs()),
         },
     }
 }

@@ -108,7 +108,7 @@ fn is_between(value: i128, low: i128, high: i128) -> bool
 }
 
 /// Returns this value if none was found or if it is wanted, else the one that was found.
-fn chosen(found: Option<i128>, value: i128, is_wanted: bool) -> Option<i128>
+fn next_found(found: Option<i128>, value: i128, is_wanted: bool) -> Option<i128>
     ensures { (result ≡ Some value) ⊎ ((result ≡ found) × (found ≡ None → ⊥)) }
 {
     match found {
@@ -130,7 +130,7 @@ fn value_between(row: &WorthRow<'_>, low: i128, high: i128) -> Option<i128>
     for i in 0..row.count {
         if is_between(row.values[i], low, high) {
             seen += 1;
-            found = chosen(found, row.values[i], seen.count_ones() == 1);
+            found = next_found(found, row.values[i], seen.count_ones() == 1);
         }
     }
     found
@@ -168,7 +168,7 @@ fn levels_of(row: &WorthRow<'_>) -> Levels
 }
 
 /// Returns a weight times a number.
-pub(crate) fn weigh(weight: u64, number: i128) -> i128
+pub(crate) fn weigh_number(weight: u64, number: i128) -> i128
     requires weight { weight < 2 ^ 63 }
     requires product { weight * unsigned_abs number < 2 ^ 127 }
     ensures { result ≡ pos weight *ℤ number }
@@ -185,7 +185,7 @@ fn term_until(row: &WorthRow<'_>, i: usize, level: i128) -> i128
         (listed_value row.now.values.now) i) *ℤ listed_value row.now.values.now i }
 {
     let end = end_until(row.weights[i], row.values[i], row.by, level);
-    weigh(end, row.values[i])
+    weigh_number(end, row.values[i])
 }
 
 /// Returns the mean of the values under the row that `sum_until` sums, times that sum.
@@ -212,5 +212,5 @@ pub(crate) fn least_mean(row: &WorthRow<'_>) -> i128
 {
     let levels = levels_of(row);
     let left = row.scale - sum_until(row, levels.low);
-    mean_until(row, levels.low) + weigh(left, levels.high)
+    mean_until(row, levels.low) + weigh_number(left, levels.high)
 }

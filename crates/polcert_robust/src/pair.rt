@@ -14,7 +14,7 @@ ghost use Rattle.polcert_robust.specs.Steps.Sides.{turned};
 
 use crate::buffers::PairBuffers;
 use crate::end_means::{EndMean, EndMeans};
-use crate::level::{WorthRow, least_mean, weigh};
+use crate::level::{WorthRow, least_mean, weigh_number};
 use crate::robust_input::RobustInput;
 use polcert_cells::Cells;
 use polcert_check::Verdict;
@@ -48,7 +48,7 @@ pub(crate) struct Gathered {
 }
 
 /// Returns the least number that is there.
-fn min_option(x: Option<usize>, y: Option<usize>) -> Option<usize>
+fn min_missing(x: Option<usize>, y: Option<usize>) -> Option<usize>
     ensures { IsMinOption x y result }
 {
     match (x, y) {
@@ -78,8 +78,8 @@ fn worth_of(reward: i64, by: u64, discount: u32, value: i64) -> i128
     ensures small { unsigned_abs result ≤ most_worth }
 {
     let least = least_reward(reward, by);
-    let earned = weigh(1_000_000, least);
-    let later = weigh(discount as u64, value as i128);
+    let earned = weigh_number(1_000_000, least);
+    let later = weigh_number(discount as u64, value as i128);
     earned + later
 }
 
@@ -95,7 +95,7 @@ struct PairEnd<'a, C: Cells> {
 }
 
 /// Returns the reward of a step of the pair to the end state with observation `z`.
-fn reward_at<C: Cells>(end: &PairEnd<'_, C>, z: usize) -> i64
+fn end_reward<C: Cells>(end: &PairEnd<'_, C>, z: usize) -> i64
     requires observation { z < (cells_of end.now.pair.now.input.now).observations }
     ensures is { result ≡ (cells_of end.now.pair.now.input.now).r
         ((near_controller end.now.pair.now.input.now).action end.now.pair.now.n)
@@ -125,7 +125,7 @@ fn worth_at<C: Cells>(end: &PairEnd<'_, C>, z: usize) -> LeastMean
             missing: Some(z),
         };
     };
-    let reward = input.side.turned(reward_at(end, z));
+    let reward = input.side.turned(end_reward(end, z));
     let value = input.side.turned(input.vectors.at(next, end.e));
     LeastMean {
         mean: worth_of(reward, input.distance.r_by, input.cells.discount(), value),
@@ -160,7 +160,7 @@ fn gather_observations<C: Cells>(
         weights[count] = observation.weight;
         values[count] = part.mean;
         count += 1;
-        missing = min_option(missing, part.missing);
+        missing = min_missing(missing, part.missing);
         at = observation.next;
     }
     Gathered { count, missing }
@@ -217,8 +217,8 @@ fn reward_part<C: Cells>(pair: &Pair<'_, C>, reward: i64) -> i128
 {
     let input = pair.input;
     let least = least_reward(input.side.turned(reward), input.distance.r_by);
-    let earned = weigh(1_000_000, least);
-    weigh(input.cells.o_scale(), earned)
+    let earned = weigh_number(1_000_000, least);
+    weigh_number(input.cells.o_scale(), earned)
 }
 
 /// Returns the least mean that was found, as it is kept. `have_rewards`: whether all start states have the same rewards.
@@ -258,7 +258,7 @@ fn kept_mean<C: Cells>(end: &PairEnd<'_, C>, have_rewards: bool, found: LeastMea
         };
     }
     EndMean {
-        mean: found.mean - reward_part(end.pair, reward_at(end, 0)),
+        mean: found.mean - reward_part(end.pair, end_reward(end, 0)),
         is_kept: true,
         missing: found.missing,
     }
@@ -333,7 +333,7 @@ fn find_end_means<C: Cells>(
     let mut at = 0;
     while let Some(end) = next_end(cells, a, pair.s, row, at) {
         let lacking = find_end_mean(pair, constant, end.column, buffers);
-        missing = min_option(missing, lacking);
+        missing = min_missing(missing, lacking);
         at = end.next;
     }
     missing
@@ -359,7 +359,7 @@ fn mean_at<C: Cells>(pair: &Pair<'_, C>, constant: Option<i64>, ends: &EndMeans,
         e,
         known: constant,
     };
-    mean + reward_part(pair, reward_at(&end, 0))
+    mean + reward_part(pair, end_reward(&end, 0))
 }
 
 /// Gathers the row of T: its weights above 0, and the least mean of what a step to each end state is worth. Returns how many they are.
@@ -453,8 +453,8 @@ fn value_at_scale(step_scale: u64, value: i64) -> i128
     ensures is { result ≡ pos (step_scale * one) *ℤ value }
     ensures small { unsigned_abs result ≤ most_scales * 1_000_000 * largest }
 {
-    let at_scale = weigh(step_scale, value as i128);
-    weigh(1_000_000, at_scale)
+    let at_scale = weigh_number(step_scale, value as i128);
+    weigh_number(1_000_000, at_scale)
 }
 
 /// Returns how far a value is above what backs it in the worst case.
@@ -468,7 +468,7 @@ fn amount_above(step_scale: u64, value: i64, backing: i128) -> i128
 }
 
 /// Returns whether an amount is above 0.
-fn is_above(amount: i128) -> bool
+fn is_shortfall(amount: i128) -> bool
     ensures above { IsTrue result → pos 0 <ℤ amount }
     ensures not_above { IsFalse result → amount ≤ℤ pos 0 }
 {
@@ -497,7 +497,7 @@ fn verdict_of_backing<C: Cells>(pair: &Pair<'_, C>, backing: LeastMean) -> Verdi
     let step_scale = input.cells.t_scale() * input.cells.o_scale();
     let value = input.side.turned(input.vectors.at(pair.n, pair.s));
     let amount = amount_above(step_scale, value, backing.mean);
-    if is_above(amount) {
+    if is_shortfall(amount) {
         return Verdict::Short {
             node: pair.n,
             state: pair.s,

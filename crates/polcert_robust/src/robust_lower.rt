@@ -24,7 +24,7 @@ use polcert_policy::{Graph, Vectors};
 use std::alloc::Global;
 
 /// Returns a quotient, rounded up.
-fn quotient_up(amount: u128, divisor: u128) -> u128
+fn quotient_rounded_up(amount: u128, divisor: u128) -> u128
     requires some { 0 < divisor }
     ensures enough { amount ≤ divisor * result }
     ensures least { (d : ℕ) → d < result → divisor * d < amount }
@@ -36,7 +36,7 @@ fn quotient_up(amount: u128, divisor: u128) -> u128
 }
 
 /// Tests whether the value less `by` is in range.
-fn is_low_enough(value: i64, by: u128) -> bool
+fn is_lowered_in_range(value: i64, by: u128) -> bool
     requires { IsInRange value }
     ensures { IsTrue result ↔ IsInRange (value +ℤ neg_ℤ (pos by)) }
 {
@@ -48,7 +48,7 @@ fn is_moved_in_range(side: Side, value: i64, by: u128) -> bool
     requires { IsInRange value }
     ensures { IsTrue result ↔ IsInRange (turned side value +ℤ neg_ℤ (pos by)) }
 {
-    is_low_enough(side.turned(value), by)
+    is_lowered_in_range(side.turned(value), by)
 }
 
 /// Tests whether every value less `by` (from above: every value plus `by`) is in range.
@@ -74,14 +74,14 @@ fn least_robust_below_one<C: Cells>(input: &RobustInput<'_, C>, findings: Robust
 {
     let cells = input.cells;
     let scale = (cells.t_scale() * cells.o_scale()) as u128;
-    quotient_up(
+    quotient_rounded_up(
         findings.worst,
         scale * (1_000_000 - cells.discount()) as u128,
     )
 }
 
 /// Returns the reason why vectors with this verdict are not lowered if the discount is 1.
-fn refused(verdict: Verdict) -> Result<(), LowerFault>
+fn refuse_undiscounted(verdict: Verdict) -> Result<(), LowerFault>
     ensures passes { IfOk result (λ _. verdict ≡ Yes) }
     ensures refused { IfErr result (IsLowerRefusal verdict) }
 {
@@ -123,7 +123,7 @@ fn least_passing_robustly<C: Cells>(
     if input.cells.discount() < 1_000_000 {
         return Ok(least_robust_below_one(input, findings));
     }
-    refused(findings.first)?;
+    refuse_undiscounted(findings.first)?;
     Ok(0)
 }
 

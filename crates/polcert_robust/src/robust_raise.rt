@@ -16,7 +16,7 @@ use polcert_policy::{Graph, Vectors};
 use std::alloc::Global;
 
 /// Returns the refusal to raise that a refusal to lower the negated values gives.
-fn raise_fault_of(fault: LowerFault) -> RaiseFault
+fn robust_raise_fault(fault: LowerFault) -> RaiseFault
     ensures { result ≡ raise_of fault }
 {
     match fault {
@@ -86,7 +86,7 @@ pub fn least_robust_raise<C: Cells, W: Progress>(
     };
     match least_robust_of(&input, progress) {
         Ok(by) => Ok(by),
-        Err(fault) => Err(raise_fault_of(fault)),
+        Err(fault) => Err(robust_raise_fault(fault)),
     }
 }
 

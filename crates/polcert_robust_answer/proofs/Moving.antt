@@ -1,5 +1,5 @@
 -- What the runs that move vectors say of the texts of three sources, from what their calls say of what these denote.
-use Rattle.std.proofs.Common.{◌≡◌, ◌∙◌, ℕ, ℤ, List, ap, refl, arith}
+use Rattle.std.proofs.Common.{◌∙◌, ℕ, ℤ, List, ap, arith}
 use Rattle.polcert_policy.specs.FullForm.{vectors_text}
 use Rattle.polcert_policy.specs.VectorText.{IsRoundedVectorsText}
 use Rattle.polcert_answer.specs.Headline.{RoundedCertificate, controller}
@@ -9,7 +9,7 @@ use Rattle.polcert_answer.proofs.OfSources.{holds_of}
 use Rattle.polcert_robust_answer.specs.Moves.{HasMovedNear, IsNotMovableNear, NearMove}
 use Rattle.polcert_robust_answer.specs.Steps.Moving.{AreMovedNear, AreWrittenNear, IsReasonNear, NearMoveLaws}
 use Rattle.polcert_robust_answer.proofs.Common.{AreDenoted, Meaning, PolicyGraph, PolicyVectors, Within, controller_of, models_near}
-use Rattle.polcert_robust_answer.proofs.Common.{states_of, table_of}
+use Rattle.polcert_robust_answer.proofs.Common.{table_of}
 
 -- what is known of moved vectors and of their full form
 pub are_written : {F : Type 0} (move : NearMove F) (w : Within) (m : Meaning) (g : PolicyGraph) (v : PolicyVectors) (by : ℤ)

@@ -1,5 +1,5 @@
 -- Three texts have one verdict in every model near the first's.
-use Rattle.std.proofs.Common.{◌≡◌, ℕ, ◌*◌, ◌<◌, pos, ◌-ℤ◌, ℤ, List, ap, subst, arith}
+use Rattle.std.proofs.Common.{◌≡◌, ℕ, ◌<◌, pos, ◌-ℤ◌, ℤ, List, ap, subst, arith}
 use Rattle.polcert_cells.specs.Meaning.{HasLimitedNumbers, o_scale, t_scale}
 use Rattle.polcert_cells.specs.Preamble.{Preamble}
 use Rattle.polcert_model.proofs.LimitLaws.{within_limits}

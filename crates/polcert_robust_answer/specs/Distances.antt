@@ -24,8 +24,8 @@ pub record IsRewardDistance (text : List ℕ) (by : ℕ) : Type 0 where
   pub small : by ≤ 1_000_000_000_000
 
 -- The distance in whole parts of the scale of a row with this many columns, rounded up. (A scale is 1,000,000 for each column.)
-abbrev pub parts_of : ℕ → ℕ → ℕ
-parts_of by columns = (by * columns + 999_999) / 1_000_000
+abbrev pub parts_of_row : ℕ → ℕ → ℕ
+parts_of_row by columns = (by * columns + 999_999) / 1_000_000
 
 -- the distance in whole parts of any scale, rounded up
 abbrev pub parts_at : ℕ → ℕ → ℕ

@@ -20,13 +20,13 @@ use Rattle.polcert_robust.specs.RobustVerdict.{IsRobustVerdict, MeetsHorizonInEv
 use Rattle.polcert_robust.specs.RobustAbove.{IsRobustAboveVerdict, MeetsHorizonAboveInEveryModel}
 use Rattle.polcert_robust.specs.Start.{IsAtMostFrom, IsStartMostNear, IsStartNear, IsStartWorthNear, IsWorthFrom}
 use Rattle.polcert_robust.specs.Worst.{within_model}
-use Rattle.polcert_robust_answer.specs.Distances.{parts_of}
+use Rattle.polcert_robust_answer.specs.Distances.{parts_of_row}
 use Rattle.polcert_robust_answer.specs.Lines.{IsNearAboveLine, IsNearLine, most_line, start_by, worth_line}
 use Rattle.polcert_robust_answer.specs.declared.within.Within.{Within}
 
 -- how far the weights of rows with this many columns may lie from their own, in whole parts of the scale and in percent
 abbrev pub spread_within : Within → ℕ → Spread
-spread_within w columns = record { parts = parts_of w.by columns; percent = w.percent }
+spread_within w columns = record { parts = parts_of_row w.by columns; percent = w.percent }
 
 -- Around a table: each probability above 0 and each reward within its distance. A probability of 0 and the discount are known.
 abbrev pub models_near : Within → CellTable → IntervalTable
@@ -35,15 +35,18 @@ models_near w t = around t (spread_within w t.states) (spread_within w t.observa
 -- Whatever controller the texts denote: in every model that lies within the distances of the text's, the promise holds for every number of
 -- steps, from every node and state, with the vectors at the end and for the rewards alone.
 abbrev pub IsCertifiedNear : Within → List ℕ → List ℕ → List ℕ → Type 0
-IsCertifiedNear w model graph vectors = (c : Certificate model graph vectors) (parts : ℕ) (m : CellTable) → LiesWithin (models_near w (table_of c.meaning)) parts m
+IsCertifiedNear w model graph vectors = (c : Certificate model graph vectors) (parts : ℕ) (m : CellTable)
+    → LiesWithin (models_near w (table_of c.meaning)) parts m
     → MeetsEveryHorizon (within_model (controller c) parts m)
 
 -- the same from above, each value rounded up
 abbrev pub IsCertifiedAboveNear : Within → List ℕ → List ℕ → List ℕ → Type 0
-IsCertifiedAboveNear w model graph vectors = (c : CertificateAbove model graph vectors) (parts : ℕ) (m : CellTable) → LiesWithin (models_near w (table_of c.meaning)) parts m
+IsCertifiedAboveNear w model graph vectors = (c : CertificateAbove model graph vectors) (parts : ℕ) (m : CellTable)
+    → LiesWithin (models_near w (table_of c.meaning)) parts m
     → MeetsEveryHorizonAbove (within_model (controller c) parts m)
 
--- What the line of a yes says of the start is promised. The line names a node and a worth; and of whatever controller the texts denote: that
+-- What the line of a yes says of the start is promised. The line names a node and a worth; and of whatever controller the texts denote:
+-- that
 -- node is worth most from its worst start near the model's, this is its worth there, rounded down; and in every model within, from every
 -- start near, for every number of steps, no less is expected of it. (That no run that is cut weighs anything, `IsCertifiedNear` says.)
 pub record HasStartNear (w : Within) (line model graph vectors : List ℕ) : Type 0 where
@@ -55,13 +58,15 @@ pub record HasStartNear (w : Within) (line model graph vectors : List ℕ) : Typ
       → (shares : ℕ → ℕ) (total : ℕ) → IsStartNear c.meaning (start_by w c.meaning) shares total
       → (k : ℕ) → IsWorthFrom (within_model (controller c) parts m) shares total k node (pos parts *ℤ worth)
 
--- The same from above: the line names what no node is worth more than from any start near, rounded up; and in every model within, from every
+-- The same from above: the line names what no node is worth more than from any start near, rounded up; and in every model within, from
+-- every
 -- start near, for every number of steps, no more is expected of any node.
 pub record HasStartAboveNear (w : Within) (line model graph vectors : List ℕ) : Type 0 where
   pub most : ℤ
   pub is_line : line ≡ most_line w most
   pub is_most : (c : CertificateAbove model graph vectors) → IsStartMostNear c.meaning (start_by w c.meaning) c.values most
-  pub promise : (c : CertificateAbove model graph vectors) (parts : ℕ) (m : CellTable) → LiesWithin (models_near w (table_of c.meaning)) parts m
+  pub promise : (c : CertificateAbove model graph vectors) (parts : ℕ) (m : CellTable)
+      → LiesWithin (models_near w (table_of c.meaning)) parts m
       → (shares : ℕ → ℕ) (total : ℕ) → IsStartNear c.meaning (start_by w c.meaning) shares total
       → (k n : ℕ) → n < nodes c.policy → IsAtMostFrom (within_model (controller c) parts m) shares total k n (pos parts *ℤ most)
 
@@ -113,4 +118,5 @@ module _ {V : Type 0} (side : NearSide V) (w : Within) where
   -- Whatever controller they denote, this is what the verdict says of the promise: a yes, that it holds for every number of steps in every
   -- model within; a no, that the promise of one step fails at the pair that it names in one of them.
   abbrev pub HasNearHorizon : V → List ℕ → List ℕ → List ℕ → Type 0
-  HasNearHorizon verdict model graph vectors = (c : RoundedCertificate side.rounding model graph vectors) → side.Meets (models_near w (table_of c.meaning)) (controller c) verdict
+  HasNearHorizon verdict model graph vectors = (c : RoundedCertificate side.rounding model graph vectors)
+      → side.Meets (models_near w (table_of c.meaning)) (controller c) verdict

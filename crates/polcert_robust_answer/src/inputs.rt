@@ -35,7 +35,11 @@ impl Drop for NearInputs {
 }
 
 /// Reads the policy graph of a source, for the model. A refusal becomes the fault of a run.
-fn graph_of_run<S: Source>(alloc: Global, model: &Model, source: &mut S) -> Result<Graph, RunFault>
+fn read_near_graph<S: Source>(
+    alloc: Global,
+    model: &Model,
+    source: &mut S,
+) -> Result<Graph, RunFault>
     ensures accepted { IfOk result (λ g. (text : List ℕ)
         × IsText S.reads source.old text source.new
         × IsGraphText (actions_of (meaning model.now)) (observations_of (meaning model.now)) text g) }
@@ -54,7 +58,7 @@ fn graph_of_run<S: Source>(alloc: Global, model: &Model, source: &mut S) -> Resu
 }
 
 /// Reads the vectors of the graph from a source, each value rounded this way. A refusal becomes the fault of a run.
-fn vectors_of_run<S: Source>(
+fn read_near_vectors<S: Source>(
     alloc: Global,
     rounding: Rounding,
     model: &Model,
@@ -105,8 +109,8 @@ pub(crate) fn read_near_inputs<M: Source, G: Source, V: Source>(
     ensures of_reading { IfErr result IsReadFault }
 {
     let model = model_of_run(alloc, model)?;
-    let graph = graph_of_run(alloc, &model, graph)?;
-    let vectors = vectors_of_run(alloc, rounding, &model, &graph, vectors)?;
+    let graph = read_near_graph(alloc, &model, graph)?;
+    let vectors = read_near_vectors(alloc, rounding, &model, &graph, vectors)?;
     Ok(NearInputs {
         model,
         graph,

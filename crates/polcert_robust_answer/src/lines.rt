@@ -41,7 +41,7 @@ pub(crate) enum NearLine {
 }
 
 /// Writes the line of a verdict, through a buffer.
-pub(crate) fn write_verdict<W: Sink>(
+pub(crate) fn write_near_verdict<W: Sink>(
     within: &Within<'_>,
     line: NearLine,
     sink: &mut W,
@@ -60,13 +60,25 @@ fn write_line<W: Sink>(within: &Within<'_>, line: NearLine, sink: &mut W) -> Res
     match line {
         NearLine::AtLeast { node, worth } => write_worth(within, node, worth, sink),
         NearLine::AtMost { most } => write_most(within, most, sink),
-        NearLine::Short { node, state, by } => write_amount(node, state, b", short by ", by, sink),
-        NearLine::Long { node, state, by } => write_amount(node, state, b", long by ", by, sink),
+        NearLine::Short { node, state, by } => write_near_amount(
+            node,
+            state,
+            b", short by ",
+            by,
+            sink,
+        ),
+        NearLine::Long { node, state, by } => write_near_amount(
+            node,
+            state,
+            b", long by ",
+            by,
+            sink,
+        ),
         NearLine::NoSuccessor {
             node,
             state,
             observation,
-        } => write_no_successor(node, state, observation, sink),
+        } => write_near_lack(node, state, observation, sink),
     }
 }
 
@@ -102,7 +114,7 @@ fn write_models<W: Sink>(within: &Within<'_>, sink: &mut W) -> Result<(), SinkFa
 {
     write_all(sink, b"yes: every model within ")?;
     write_nearness(within, sink)?;
-    write_rewards(within, sink)
+    write_rewards_within(within, sink)
 }
 
 /// Writes the distance of probabilities.
@@ -121,7 +133,7 @@ fn unit_of(is_percent: bool) -> &'static [u8]
 }
 
 /// Writes the distance of rewards, if they are not known.
-fn write_rewards<W: Sink>(within: &Within<'_>, sink: &mut W) -> Result<(), SinkFailed>
+fn write_rewards_within<W: Sink>(within: &Within<'_>, sink: &mut W) -> Result<(), SinkFailed>
     ensures { WritesText W.writes W.failures sink.old (rewards_words within.now) result sink.new }
 {
     if within.rewards_by == 0 {
@@ -132,7 +144,7 @@ fn write_rewards<W: Sink>(within: &Within<'_>, sink: &mut W) -> Result<(), SinkF
 }
 
 /// Writes a no: the pair of a node and a state, these words, and by how much it fails, in millionths.
-fn write_amount<W: Sink>(
+fn write_near_amount<W: Sink>(
     node: usize,
     state: usize,
     words: &[u8],
@@ -141,13 +153,13 @@ fn write_amount<W: Sink>(
 ) -> Result<(), SinkFailed>
     ensures { WritesText W.writes W.failures sink.old (amount_line node state words.now by) result sink.new }
 {
-    write_pair(node, state, words, sink)?;
+    write_near_pair(node, state, words, sink)?;
     write_scaled(by, sink)?;
     write_all(sink, b"\n")
 }
 
 /// Writes a no: the pair, and the observation for which the node has no successor.
-fn write_no_successor<W: Sink>(
+fn write_near_lack<W: Sink>(
     node: usize,
     state: usize,
     observation: usize,
@@ -155,12 +167,12 @@ fn write_no_successor<W: Sink>(
 ) -> Result<(), SinkFailed>
     ensures { WritesText W.writes W.failures sink.old (lack_line node state observation) result sink.new }
 {
-    write_pair(node, state, b", observation ", sink)?;
+    write_near_pair(node, state, b", observation ", sink)?;
     write_count(observation, b" has no successor\n", sink)
 }
 
 /// Writes the beginning of a no, and the words after it.
-fn write_pair<W: Sink>(
+fn write_near_pair<W: Sink>(
     node: usize,
     state: usize,
     words: &[u8],

@@ -8,7 +8,7 @@ ghost use Rattle.polcert_check.specs.StartWorth.{IsCeilQuotient};
 use polcert_cells::Cells;
 
 /// Returns a quotient, rounded up.
-fn quotient_up(amount: u128, divisor: u128) -> u128
+fn positive_quotient_up(amount: u128, divisor: u128) -> u128
     requires some { 0 < divisor }
     requires positive { 0 < amount }
     ensures enough { amount ≤ divisor * result }
@@ -18,22 +18,22 @@ fn quotient_up(amount: u128, divisor: u128) -> u128
 }
 
 /// Returns a quotient, rounded up. It is at most the sum of four values in size.
-fn small_quotient(amount: u128, scale: u128) -> i64
+fn narrow_quotient(amount: u128, scale: u128) -> i64
     requires some { 0 < amount }
     requires scale { 0 < scale }
     requires small { amount ≤ scale * (4 * largest) }
     ensures { IsCeilQuotient (pos amount) scale result }
 {
-    quotient_up(amount, scale) as i64
+    positive_quotient_up(amount, scale) as i64
 }
 
 /// Returns the amount by which a pair fails in the worst case, in millionths and rounded up, so that it is never 0.
-pub(crate) fn millionths_of<C: Cells>(cells: &C, amount: i128) -> i64
+pub(crate) fn ceil_millionths<C: Cells>(cells: &C, amount: i128) -> i64
     requires some { pos 0 <ℤ amount }
     requires small { IsWithinLimits (C.table cells.now) → unsigned_abs
         amount ≤ 4 * ((C.table cells.now).t_scale * (C.table cells.now).o_scale * one) * largest }
     ensures { IsCeilQuotient amount ((C.table cells.now).t_scale * (C.table cells.now).o_scale * one) result }
 {
     let scale = (cells.t_scale() * cells.o_scale()) as u128 * 1_000_000;
-    small_quotient(amount.unsigned_abs(), scale)
+    narrow_quotient(amount.unsigned_abs(), scale)
 }

@@ -9,7 +9,7 @@ ghost use Rattle.polcert_robust_answer.specs.Steps.Nearby.{FitNear, IsNearAmount
 
 use crate::inputs::NearInputs;
 use crate::lines::NearLine;
-use crate::millionths::millionths_of;
+use crate::millionths::ceil_millionths;
 use crate::spread::{distance_in, start_distance_in};
 use crate::within::Within;
 use polcert_check::{AboveVerdict, Progress, Verdict};
@@ -68,7 +68,7 @@ fn millionths_near(given: &NearInputs, within: &Within<'_>, amount: i128) -> i64
     let nodes = given.graph.nodes();
     let vector_count = given.vectors.nodes();
     prove!(nodes == vector_count);
-    millionths_of(&given.model, amount)
+    ceil_millionths(&given.model, amount)
 }
 
 impl NearBound for NearLower {

@@ -9,7 +9,7 @@ ghost use Rattle.polcert_robust_answer.specs.Run.{IsNearCheckRun};
 ghost use Rattle.polcert_robust_answer.specs.Steps.Nearby.{FitNear, IsNearAnswer};
 
 use crate::inputs::{NearInputs, read_near_inputs};
-use crate::lines::write_verdict;
+use crate::lines::write_near_verdict;
 use crate::near::{NearBound, NearLower, NearUpper};
 use crate::within::Within;
 use polcert_answer::RunFault;
@@ -102,11 +102,11 @@ fn near_run<B: NearBound, M: Source, G: Source, V: Source, W: Sink, O: Progress>
 {
     B::laws();
     let read = read_near_inputs(alloc, B::rounding(), model, graph, vectors)?;
-    write_answer::<B, W, O>(&read, within, sink, progress)
+    write_near_answer::<B, W, O>(&read, within, sink, progress)
 }
 
 /// Checks what three texts denote, writes the line of the verdict, and returns the verdict.
-fn write_answer<B: NearBound, W: Sink, O: Progress>(
+fn write_near_answer<B: NearBound, W: Sink, O: Progress>(
     given: &NearInputs,
     within: &Within<'_>,
     sink: &mut W,
@@ -120,7 +120,7 @@ fn write_answer<B: NearBound, W: Sink, O: Progress>(
     ensures of_write { IfErr result (λ fault. fault ≡ RunFault.Write) }
 {
     let verdict = B::check::<O>(given, within, progress);
-    match write_verdict(within, B::line(given, within, verdict), sink) {
+    match write_near_verdict(within, B::line(given, within, verdict), sink) {
         Ok(()) => Ok(verdict),
         Err(_) => Err(RunFault::Write),
     }

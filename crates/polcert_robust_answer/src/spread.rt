@@ -2,7 +2,7 @@
 ghost use Rattle.std.specs.Prelude.{◌≡◌, ◌≤◌};
 ghost use Rattle.polcert_cells.specs.Meaning.{observations_of, states_of};
 ghost use Rattle.polcert_model.specs.Contents.{meaning};
-ghost use Rattle.polcert_robust_answer.specs.Distances.{parts_at, parts_of};
+ghost use Rattle.polcert_robust_answer.specs.Distances.{parts_at, parts_of_row};
 ghost use Rattle.polcert_robust_answer.specs.Lines.{start_by};
 ghost use Rattle.polcert_robust_answer.specs.Near.{spread_within};
 
@@ -17,16 +17,16 @@ fn spread_in(within: &Within<'_>, columns: usize) -> Spread
     ensures small { result.parts ≤ 10_000_000_000 }
 {
     Spread {
-        parts: parts_of(within.by, columns),
+        parts: parts_of_row(within.by, columns),
         percent: within.percent,
     }
 }
 
 /// Returns a distance in whole parts of the scale of a row with this many columns, rounded up.
-fn parts_of(by: u64, columns: usize) -> u64
+fn parts_of_row(by: u64, columns: usize) -> u64
     requires by { by ≤ 1_000_000_000_000 }
     requires columns { columns ≤ 10_000 }
-    ensures is { result ≡ parts_of by columns }
+    ensures is { result ≡ parts_of_row by columns }
     ensures small { result ≤ 10_000_000_000 }
 {
     (by * columns as u64 + 999_999) / 1_000_000

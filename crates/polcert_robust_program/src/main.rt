@@ -7,5 +7,5 @@ use std::io::IsTerminal;
 use std::process::ExitCode;
 
 fn main(rt: HostRuntime) -> ExitCode {
-    ExitCode::from(program::run_program(&rt, rt.stderr().is_terminal()))
+    ExitCode::from(program::run_robust_program(&rt, rt.stderr().is_terminal()))
 }

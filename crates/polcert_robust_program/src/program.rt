@@ -16,7 +16,7 @@ use std::time::Clock;
 
 /// Does what the command line asks for, and returns the exit status. If standard error is a terminal, whatever takes long shows its
 /// progress there.
-pub fn run_program<R: Env + Files + Clock + AllocGlobal + Print + Eprint>(
+pub fn run_robust_program<R: Env + Files + Clock + AllocGlobal + Print + Eprint>(
     rt: &R,
     shows_progress: bool,
 ) -> u8 {
@@ -25,19 +25,19 @@ pub fn run_program<R: Env + Files + Clock + AllocGlobal + Print + Eprint>(
         Err(status) => return status,
     };
     match borrow_words(rt, &words) {
-        Ok(words) => run_words(rt, shows_progress, &words),
+        Ok(words) => run_robust_words(rt, shows_progress, &words),
         Err(status) => status,
     }
 }
 
 /// Does what the words ask for, of which the first is the program's name.
-fn run_words<'a, R: Files + Clock + AllocGlobal + Print + Eprint>(
+fn run_robust_words<'a, R: Files + Clock + AllocGlobal + Print + Eprint>(
     rt: &R,
     shows_progress: bool,
     words: &'a [&'a str],
 ) -> u8 {
     match choose_robust(rt.alloc(), words) {
-        Ok(Some(choice)) => run_choice(rt, shows_progress, choice),
+        Ok(Some(choice)) => run_robust_choice(rt, shows_progress, choice),
         Ok(None) => refuse_words(
             rt,
             "the command, just one of --within and --percent, or a file's name is missing: see polcert_robust --help",
@@ -47,7 +47,7 @@ fn run_words<'a, R: Files + Clock + AllocGlobal + Print + Eprint>(
 }
 
 /// Does what was chosen, or prints why that is not possible.
-fn run_choice<R: Files + Clock + AllocGlobal + Print + Eprint>(
+fn run_robust_choice<R: Files + Clock + AllocGlobal + Print + Eprint>(
     rt: &R,
     shows_progress: bool,
     choice: RobustChoice<'_>,
@@ -154,12 +154,12 @@ fn run_on_files<R: Files + Clock + AllocGlobal + Print + Eprint>(
     graph.clear_progress();
     vectors.clear_progress();
     let outcome = done?;
-    print_constant(rt, outcome);
+    print_robust_constant(rt, outcome);
     Ok(status_of_outcome(outcome))
 }
 
 /// Prints by how much vectors were lowered or raised.
-fn print_constant<R: Eprint>(rt: &R, outcome: Outcome) {
+fn print_robust_constant<R: Eprint>(rt: &R, outcome: Outcome) {
     match outcome {
         Outcome::Checked(_) | Outcome::CheckedAbove(_) => {}
         Outcome::Lowered(by) => {

@@ -14,6 +14,6 @@ pub returns-in-Short : goal.returns-in-Short
 returns-in-Short c = λ i k n s nl sl pair has is.
     short_noted i k n s c.args.findings nl sl is c.in-Short.node c.in-Short.state c.in-Short.amount c.keep_first_no.result
     c.unsigned_abs.result
-    c.greater.result (rw c.in-Short.is at pair) c.keep_first_no.ensures
-    (c.unsigned_abs.ensures.value ∙ ap unsigned_abs (to_z-of_z w128 c.in-Short.amount (search rules))) c.greater.ensures.left
-    c.greater.ensures.right c.greater.ensures.is_one
+    c.max_amount.result (rw c.in-Short.is at pair) c.keep_first_no.ensures
+    (c.unsigned_abs.ensures.value ∙ ap unsigned_abs (to_z-of_z w128 c.in-Short.amount (search rules))) c.max_amount.ensures.left
+    c.max_amount.ensures.right c.max_amount.ensures.is_one

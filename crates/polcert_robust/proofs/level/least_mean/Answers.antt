@@ -22,13 +22,14 @@ overflow_add-result c =
     let mean_small : unsigned_abs c.mean_until.result ≤ sum_below (row low) c.args.row.now.count * c.args.row.now.bound =
     subst (λ (l : ℤ). unsigned_abs c.mean_until.result ≤ sum_below (row l) c.args.row.now.count * c.args.row.now.bound) same_low
     c.mean_until.ensures.small in
-    let left_is : c.weigh.result ≡ pos left *ℤ high = subst (λ (h : ℤ). c.weigh.result ≡ pos left *ℤ h) same_high c.weigh.ensures in
-    let small : unsigned_abs (c.mean_until.result +ℤ c.weigh.result) ≤ c.args.row.now.scale * c.args.row.now.bound =
-    two_small c.mean_until.result c.weigh.result c.sum_until.result left c.args.row.now.scale c.args.row.now.bound
+    let left_is : c.weigh_number.result ≡ pos left *ℤ high =
+    subst (λ (h : ℤ). c.weigh_number.result ≡ pos left *ℤ h) same_high c.weigh_number.ensures in
+    let small : unsigned_abs (c.mean_until.result +ℤ c.weigh_number.result) ≤ c.args.row.now.scale * c.args.row.now.bound =
+    two_small c.mean_until.result c.weigh_number.result c.sum_until.result left c.args.row.now.scale c.args.row.now.bound
     (rw sum_is mean_small)
     (rw left_is (abs-*ℤ_le (pos left) high left c.args.row.now.bound (omega arith) c.levels_of-levels.ensures.small))
     (omega (arith, sum_is, c.levels_of-levels.ensures.levels.from)) in
-    (two_fit c.mean_until.result c.weigh.result (c.args.row.now.scale * c.args.row.now.bound) (search rules) (search rules) small
+    (two_fit c.mean_until.result c.weigh_number.result (c.args.row.now.scale * c.args.row.now.bound) (search rules) (search rules) small
     c.args.row.now.fits).0
 
 pub returns-clause-is : goal.returns-clause-is
@@ -45,16 +46,17 @@ returns-clause-is c =
     let mean_small : unsigned_abs c.mean_until.result ≤ sum_below (row low) c.args.row.now.count * c.args.row.now.bound =
     subst (λ (l : ℤ). unsigned_abs c.mean_until.result ≤ sum_below (row l) c.args.row.now.count * c.args.row.now.bound) same_low
     c.mean_until.ensures.small in
-    let left_is : c.weigh.result ≡ pos left *ℤ high = subst (λ (h : ℤ). c.weigh.result ≡ pos left *ℤ h) same_high c.weigh.ensures in
-    let small : unsigned_abs (c.mean_until.result +ℤ c.weigh.result) ≤ c.args.row.now.scale * c.args.row.now.bound =
-    two_small c.mean_until.result c.weigh.result c.sum_until.result left c.args.row.now.scale c.args.row.now.bound
+    let left_is : c.weigh_number.result ≡ pos left *ℤ high =
+    subst (λ (h : ℤ). c.weigh_number.result ≡ pos left *ℤ h) same_high c.weigh_number.ensures in
+    let small : unsigned_abs (c.mean_until.result +ℤ c.weigh_number.result) ≤ c.args.row.now.scale * c.args.row.now.bound =
+    two_small c.mean_until.result c.weigh_number.result c.sum_until.result left c.args.row.now.scale c.args.row.now.bound
     (rw sum_is mean_small)
     (rw left_is (abs-*ℤ_le (pos left) high left c.args.row.now.bound (omega arith) c.levels_of-levels.ensures.small))
     (omega (arith, sum_is, c.levels_of-levels.ensures.levels.from)) in
     let mean_is : c.mean_until.result ≡ mean (row low) (listed_value c.args.row.now.values.now) c.args.row.now.count =
     subst (λ (l : ℤ). c.mean_until.result ≡ mean (row l) (listed_value c.args.row.now.values.now) c.args.row.now.count) same_low
     c.mean_until.ensures.is in
-    rw (two_fit c.mean_until.result c.weigh.result (c.args.row.now.scale * c.args.row.now.bound) (search rules) (search rules) small
+    rw (two_fit c.mean_until.result c.weigh_number.result (c.args.row.now.scale * c.args.row.now.bound) (search rules) (search rules) small
     c.args.row.now.fits).1
     (record { low = low; high = high; levels = c.levels_of-levels.ensures.levels; is = cc (mean_is, left_is, sum_is) })
 
@@ -72,11 +74,12 @@ returns-clause-small c =
     let mean_small : unsigned_abs c.mean_until.result ≤ sum_below (row low) c.args.row.now.count * c.args.row.now.bound =
     subst (λ (l : ℤ). unsigned_abs c.mean_until.result ≤ sum_below (row l) c.args.row.now.count * c.args.row.now.bound) same_low
     c.mean_until.ensures.small in
-    let left_is : c.weigh.result ≡ pos left *ℤ high = subst (λ (h : ℤ). c.weigh.result ≡ pos left *ℤ h) same_high c.weigh.ensures in
-    let small : unsigned_abs (c.mean_until.result +ℤ c.weigh.result) ≤ c.args.row.now.scale * c.args.row.now.bound =
-    two_small c.mean_until.result c.weigh.result c.sum_until.result left c.args.row.now.scale c.args.row.now.bound
+    let left_is : c.weigh_number.result ≡ pos left *ℤ high =
+    subst (λ (h : ℤ). c.weigh_number.result ≡ pos left *ℤ h) same_high c.weigh_number.ensures in
+    let small : unsigned_abs (c.mean_until.result +ℤ c.weigh_number.result) ≤ c.args.row.now.scale * c.args.row.now.bound =
+    two_small c.mean_until.result c.weigh_number.result c.sum_until.result left c.args.row.now.scale c.args.row.now.bound
     (rw sum_is mean_small)
     (rw left_is (abs-*ℤ_le (pos left) high left c.args.row.now.bound (omega arith) c.levels_of-levels.ensures.small))
     (omega (arith, sum_is, c.levels_of-levels.ensures.levels.from)) in
-    rw (two_fit c.mean_until.result c.weigh.result (c.args.row.now.scale * c.args.row.now.bound) (search rules) (search rules) small
+    rw (two_fit c.mean_until.result c.weigh_number.result (c.args.row.now.scale * c.args.row.now.bound) (search rules) (search rules) small
     c.args.row.now.fits).1 small

@@ -16,8 +16,8 @@ end_until-end-requires-clause-weight c = omega (
   c.args.row.now.small_scale,
 )
 
-pub weigh-requires-clause-product : goal.weigh-requires-clause-product
-weigh-requires-clause-product c =
+pub weigh_number-requires-clause-product : goal.weigh_number-requires-clause-product
+weigh_number-requires-clause-product c =
     let row : ℕ → ℕ = ends_until c.args.row.now.by c.args.level (listed_weight c.args.row.now.weights.now)
     (listed_value c.args.row.now.values.now)
     in

@@ -14,9 +14,9 @@ loop-i-preserved c =
     elim c.if-is_between.branch [
       | then-is_between w ↦ record {
         few = omega (arith, w.seen-is, c.loop-i.invariant.few);
-        some = rw w.found-is (chosen_some low high _ c.loop-i.found w.chosen-found.result
-            (c.is_between.ensures.between w.if-is_between.true) c.loop-i.invariant.some w.chosen-found.ensures);
-        none = λ e. absurd (chosen_is_some _ c.loop-i.found w.chosen-found.result w.chosen-found.ensures (sym w.found-is ∙ e));
+        some = rw w.found-is (chosen_some low high _ c.loop-i.found w.next_found-found.result
+            (c.is_between.ensures.between w.if-is_between.true) c.loop-i.invariant.some w.next_found-found.ensures);
+        none = λ e. absurd (chosen_is_some _ c.loop-i.found w.next_found-found.result w.next_found-found.ensures (sym w.found-is ∙ e));
       }
       | else-is_between w ↦ record {
         few = omega (arith, w.seen-is, c.loop-i.invariant.few);

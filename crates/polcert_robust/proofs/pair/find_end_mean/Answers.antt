@@ -1,8 +1,8 @@
-use Rattle.std.proofs.Common.{◌≡◌, ◌-ℤ◌, ℤ, pos, None, false, true, slice_index_or, refl, rules, arith, subst, sym}
+use Rattle.std.proofs.Common.{◌-ℤ◌, pos, false, slice_index_or, refl}
 use Rattle.polcert_cells.specs.Tables.{CellTable}
 use Rattle.polcert_check.specs.Horizon.{Controller}
 use Rattle.polcert_robust.specs.Intervals.{IntervalTable}
-use Rattle.polcert_robust.specs.Steps.EndMeans.{IsKeptMean, IsReadyAt}
+use Rattle.polcert_robust.specs.Steps.EndMeans.{IsReadyAt}
 use Rattle.polcert_robust.specs.Steps.Pairs.{cells_of, near_controller, near_table}
 use Rattle.polcert_robust.specs.Steps.Sides.{turned}
 use Rattle.polcert_robust.proofs.EndMeans.{both, kept_still, ready_here, shared_of}

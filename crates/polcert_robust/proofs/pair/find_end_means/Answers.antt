@@ -1,4 +1,4 @@
-use Rattle.std.proofs.Common.{◌≡◌, ℕ, rules, arith}
+use Rattle.std.proofs.Common.{◌≡◌, ℕ, arith}
 use Rattle.polcert_cells.specs.BorrowedRows.{reached}
 use Rattle.polcert_check.specs.Horizon.{Controller}
 use Rattle.polcert_check.proofs.Walking.Missing.{before_more, before_on}
@@ -30,8 +30,8 @@ loop-end-preserved g c =
           c.find_end_mean-lacking.new.buffers.ends next.4 c.loop-end.invariant.ready c.find_end_mean-lacking.ensures.others
           c.find_end_mean-lacking.ensures.ready;
       least = before_more k c.args.pair.now.n c.args.pair.now.s from c.in-Some.end.column c.in-Some.end.weight c.loop-end.missing
-          c.find_end_mean-lacking.result c.min_option-missing.result next.0 next.4 next.2 next.3 c.loop-end.invariant.least
-          c.find_end_mean-lacking.ensures.missing c.min_option-missing.ensures;
+          c.find_end_mean-lacking.result c.min_missing-missing.result next.0 next.4 next.2 next.3 c.loop-end.invariant.least
+          c.find_end_mean-lacking.ensures.missing c.min_missing-missing.ensures;
       within = omega (arith, next.1);
     })
 

@@ -41,8 +41,8 @@ loop-observation-preserved g c =
           (omega (arith, c.loop-observation.invariant.held.few, next.0, next.1, c.loop-observation.auto.weights, c.requires.weights))
           (omega (arith, c.loop-observation.invariant.held.few, next.0, next.1, c.loop-observation.auto.values, c.requires.values));
       least = end_more k c.args.end.now.pair.now.n c.args.end.now.e from c.in-Some.observation.column c.in-Some.observation.weight
-          c.loop-observation.missing c.worth_at-part.result.missing c.min_option-missing.result next.0 next.4 next.2 next.3
-          c.loop-observation.invariant.least c.worth_at-part.ensures.missing c.min_option-missing.ensures;
+          c.loop-observation.missing c.worth_at-part.result.missing c.min_missing-missing.result next.0 next.4 next.2 next.3
+          c.loop-observation.invariant.least c.worth_at-part.ensures.missing c.min_missing-missing.ensures;
       within = omega (arith, next.1);
     })
 

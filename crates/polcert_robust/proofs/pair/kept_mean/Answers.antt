@@ -1,4 +1,4 @@
-use Rattle.std.proofs.Common.{◌≡◌, ◌<◌, ◌-ℤ◌, ◌∙◌, ℕ, ℤ, pos, None, true, to_z, of_z, w64, not, refl, rules, ap, arith, subst, sym}
+use Rattle.std.proofs.Common.{◌≡◌, ◌-ℤ◌, ◌∙◌, ℤ, pos, None, true, to_z, of_z, w64, not, refl, rules, ap, arith, subst, sym}
 use Rattle.std.proofs.lemmas.Int.{fits_signed_from_abs, to_z-of_z}
 use mir.Syntax.{w128}
 use Rattle.polcert_cells.specs.Tables.{CellTable, IsWithinLimits}
@@ -37,8 +37,8 @@ returns-then-have_rewards g c =
       missing = refl;
     })
 
-pub reward_at-requires : goal.reward_at-requires
-reward_at-requires g c =
+pub end_reward-requires : goal.end_reward-requires
+end_reward-requires g c =
     let t : CellTable = cells_of c.args.end.now.pair.now.input.now in
     let limits : IsWithinLimits t = g.met.C.Cells.is_within_limits c.args.end.now.pair.now.input.now.cells.now in
     omega (arith, limits.observations.0)
@@ -52,9 +52,9 @@ returns g c =
     let complete : IsLeastOf (Misses k c.args.end.now.pair.now.n c.args.end.now.e t.observations) None =
     subst (IsLeastOf (Misses k c.args.end.now.pair.now.n c.args.end.now.e t.observations)) none c.requires.missing in
     let limits : IsWithinLimits t = g.met.C.Cells.is_within_limits c.args.end.now.pair.now.input.now.cells.now in
-    let reward : to_z w64 (of_z w64 c.reward_at.result) ≡ c.reward_at.result = to_z-of_z w64 c.reward_at.result (search rules) in
+    let reward : to_z w64 (of_z w64 c.end_reward.result) ≡ c.end_reward.result = to_z-of_z w64 c.end_reward.result (search rules) in
     let part = rw reward at c.reward_part.ensures.is in
-    let least : ℤ = turned c.args.end.now.pair.now.input.now.side c.reward_at.result -ℤ pos c.args.end.now.pair.now.input.now.distance.r_by
+    let least : ℤ = turned c.args.end.now.pair.now.input.now.side c.end_reward.result -ℤ pos c.args.end.now.pair.now.input.now.distance.r_by
     in
     let fits = fits_signed_from_abs w128 (c.args.found.mean -ℤ c.reward_part.result)
     (difference_fits c.args.found.mean c.reward_part.result t.o_scale (o_scale_small t limits) c.requires.small c.reward_part.ensures.small)
@@ -63,9 +63,9 @@ returns g c =
     let each = c.args.end.now.reward h known in
     let shared : IsSharedReward i k c.args.end.now.pair.now.n c.args.end.now.pair.now.s c.args.end.now.e least = λ z zl.
     shared_of c.args.end.now.pair.now.input.now.side
-    (t.r (k.action c.args.end.now.pair.now.n) c.args.end.now.pair.now.s c.args.end.now.e z) c.reward_at.result
+    (t.r (k.action c.args.end.now.pair.now.n) c.args.end.now.pair.now.s c.args.end.now.e z) c.end_reward.result
     c.args.end.now.pair.now.input.now.distance.r_by
-    (each z zl ∙ sym (each 0 (omega (arith, limits.observations.0))) ∙ sym c.reward_at.ensures.is) in
+    (each z zl ∙ sym (each 0 (omega (arith, limits.observations.0))) ∙ sym c.end_reward.ensures.is) in
     let without = mean_without c.args.end.now.pair.now.input.now.side k c.args.end.now.pair.now.input.now.distance.t_by
     c.args.end.now.pair.now.input.now.distance.o_by c.args.end.now.pair.now.input.now.distance.r_by c.args.end.now.pair.now.n
     c.args.end.now.e complete c.args.end.now.pair.now.s least c.args.found.mean shared c.requires.found in

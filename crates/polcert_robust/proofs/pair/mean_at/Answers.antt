@@ -1,4 +1,4 @@
-use Rattle.std.proofs.Common.{◌≡◌, ◌∙◌, ◌*◌, ◌≤◌, ◌⊎◌, ⊎_elim, ℤ, pos, ◌+ℤ◌, ◌-ℤ◌, false, true, slice_index_or, unsigned_abs, to_z, of_z}
+use Rattle.std.proofs.Common.{◌≡◌, ◌∙◌, ◌*◌, ◌≤◌, ℤ, pos, ◌+ℤ◌, ◌-ℤ◌, false, true, slice_index_or, unsigned_abs, to_z, of_z}
 use Rattle.std.proofs.Common.{w64, rules}
 use Rattle.std.proofs.Common.{arith, subst, sym}
 use Rattle.std.proofs.lemmas.Int.{to_z-of_z}
@@ -36,8 +36,8 @@ returns-then-not-lacks_reward g c =
 pub invariant_of-end : goal.invariant_of-end
 invariant_of-end g c = record { end = c.requires.end; reward = λ h is. c.requires.constant h is c.args.e c.requires.end }
 
-pub reward_at-requires : goal.reward_at-requires
-reward_at-requires g c =
+pub end_reward-requires : goal.end_reward-requires
+end_reward-requires g c =
     let t : CellTable = cells_of c.args.pair.now.input.now in
     let limits : IsWithinLimits t = g.met.C.Cells.is_within_limits c.args.pair.now.input.now.cells.now in
     omega (arith, limits.observations.0)
@@ -52,13 +52,13 @@ overflow_add-result g c =
     let lacks_it : c.lacks_reward.result ≡ true = search rules in
     let lacks = c.lacks_reward.ensures.kept lacks_it in
     let no = c.lacks_reward.ensures.rewards lacks_it in
-    let reward : to_z w64 (of_z w64 c.reward_at.result) ≡ c.reward_at.result = to_z-of_z w64 c.reward_at.result (search rules) in
+    let reward : to_z w64 (of_z w64 c.end_reward.result) ≡ c.end_reward.result = to_z-of_z w64 c.end_reward.result (search rules) in
     let part = rw reward at c.reward_part.ensures.is in
     let (h, shared) = c.requires.ready.shared lacks no in
-    let least : h ≡ turned c.args.pair.now.input.now.side c.reward_at.result -ℤ pos c.args.pair.now.input.now.distance.r_by =
+    let least : h ≡ turned c.args.pair.now.input.now.side c.end_reward.result -ℤ pos c.args.pair.now.input.now.distance.r_by =
     sym (shared 0 (omega (arith, limits.observations.0))) ∙ shared_of c.args.pair.now.input.now.side
-    (t.r (k.action c.args.pair.now.n) c.args.pair.now.s c.args.e 0) c.reward_at.result c.args.pair.now.input.now.distance.r_by
-    (sym c.reward_at.ensures.is) in
+    (t.r (k.action c.args.pair.now.n) c.args.pair.now.s c.args.e 0) c.end_reward.result c.args.pair.now.input.now.distance.r_by
+    (sym c.end_reward.ensures.is) in
     let is : IsEndMean i k c.args.pair.now.n c.args.pair.now.s c.args.e (mean +ℤ c.reward_part.result) =
     rw part (subst (λ (x : ℤ). IsEndMean i k c.args.pair.now.n c.args.pair.now.s c.args.e (mean +ℤ reward_part i x)) least
     ((c.requires.ready.kept lacks).without no c.args.pair.now.s h shared)) in
@@ -82,13 +82,13 @@ returns g c =
     let lacks_it : c.lacks_reward.result ≡ true = search rules in
     let lacks = c.lacks_reward.ensures.kept lacks_it in
     let no = c.lacks_reward.ensures.rewards lacks_it in
-    let reward : to_z w64 (of_z w64 c.reward_at.result) ≡ c.reward_at.result = to_z-of_z w64 c.reward_at.result (search rules) in
+    let reward : to_z w64 (of_z w64 c.end_reward.result) ≡ c.end_reward.result = to_z-of_z w64 c.end_reward.result (search rules) in
     let part = rw reward at c.reward_part.ensures.is in
     let (h, shared) = c.requires.ready.shared lacks no in
-    let least : h ≡ turned c.args.pair.now.input.now.side c.reward_at.result -ℤ pos c.args.pair.now.input.now.distance.r_by =
+    let least : h ≡ turned c.args.pair.now.input.now.side c.end_reward.result -ℤ pos c.args.pair.now.input.now.distance.r_by =
     sym (shared 0 (omega (arith, limits.observations.0))) ∙ shared_of c.args.pair.now.input.now.side
-    (t.r (k.action c.args.pair.now.n) c.args.pair.now.s c.args.e 0) c.reward_at.result c.args.pair.now.input.now.distance.r_by
-    (sym c.reward_at.ensures.is) in
+    (t.r (k.action c.args.pair.now.n) c.args.pair.now.s c.args.e 0) c.end_reward.result c.args.pair.now.input.now.distance.r_by
+    (sym c.end_reward.ensures.is) in
     let is : IsEndMean i k c.args.pair.now.n c.args.pair.now.s c.args.e (mean +ℤ c.reward_part.result) =
     rw part (subst (λ (x : ℤ). IsEndMean i k c.args.pair.now.n c.args.pair.now.s c.args.e (mean +ℤ reward_part i x)) least
     ((c.requires.ready.kept lacks).without no c.args.pair.now.s h shared)) in

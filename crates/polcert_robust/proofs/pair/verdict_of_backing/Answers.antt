@@ -41,8 +41,8 @@ amount_above-amount-requires-clause-scale g c =
     let limits : IsWithinLimits t = g.met.C.Cells.is_within_limits c.args.pair.now.input.now.cells.now in
     rw (c.t_scale.ensures, c.o_scale.ensures) (scales_le t limits)
 
-pub returns-then-is_above : goal.returns-then-is_above
-returns-then-is_above g c =
+pub returns-then-is_shortfall : goal.returns-then-is_shortfall
+returns-then-is_shortfall g c =
     let k : Controller = near_controller c.args.pair.now.input.now in
     let t : CellTable = cells_of c.args.pair.now.input.now in
     let i : IntervalTable = near_table c.args.pair.now.input.now in
@@ -75,7 +75,7 @@ returns-then-is_above g c =
       lacks,
       short_by i k c.args.pair.now.n c.args.pair.now.s c.args.backing.mean c.amount_above-amount.result
           c.requires.is amount,
-      rw same at (c.if-is_above.ensures.above refl),
+      rw same at (c.if-is_shortfall.ensures.above refl),
     )
 
 pub returns : goal.returns
@@ -107,4 +107,4 @@ returns g c =
     let same : to_z w128 (of_z w128 c.amount_above-amount.result) ≡ c.amount_above-amount.result =
     to_z-of_z w128 c.amount_above-amount.result (search rules) in
     robust_if i k c.args.pair.now.n c.args.pair.now.s c.args.backing.mean lacks c.requires.is
-    (subst (λ (x : ℤ). x ≤ℤ pos 0) amount (rw same at (c.if-is_above.ensures.not_above refl)))
+    (subst (λ (x : ℤ). x ≤ℤ pos 0) amount (rw same at (c.if-is_shortfall.ensures.not_above refl)))

@@ -8,7 +8,7 @@ use Rattle.polcert_robust.proofs.pair.worth_at.Goals as goal
 
 pub returns-clause-is : goal.returns-clause-is
 returns-clause-is g c =
-    let reward : to_z w64 (of_z w64 c.reward_at.result) ≡ c.reward_at.result = to_z-of_z w64 c.reward_at.result (search rules) in
+    let reward : to_z w64 (of_z w64 c.end_reward.result) ≡ c.end_reward.result = to_z-of_z w64 c.end_reward.result (search rules) in
     let value : to_z w64 (of_z w64 c.at.result) ≡ c.at.result = to_z-of_z w64 c.at.result (search rules) in
     let turned_reward : to_z w64 (of_z w64 c.turned-reward.result) ≡ c.turned-reward.result =
     to_z-of_z w64 c.turned-reward.result (search rules) in
@@ -24,7 +24,7 @@ returns-clause-is g c =
     (cc (
       c.worth_of.ensures.is,
       c.turned-reward.ensures.is,
-      c.reward_at.ensures.is,
+      c.end_reward.ensures.is,
       c.turned-value.ensures.is,
       c.at.ensures.value,
       c.discount.ensures,

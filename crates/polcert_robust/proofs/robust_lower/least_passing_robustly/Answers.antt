@@ -18,22 +18,23 @@ returns-then-discount-lt1000000-clause-none g c =
     none_lacks (near_table c.args.input.now) (near_controller c.args.input.now) (discount_le (cells_of c.args.input.now) limits)
     c.args.findings c.requires.found
 
-pub returns-in_err-refused-clause-refused : goal.returns-in_err-refused-clause-refused
+pub returns-in_err-refuse_undiscounted-clause-refused : goal.returns-in_err-refuse_undiscounted-clause-refused
 unfolding one
-returns-in_err-refused-clause-refused g c =
+returns-in_err-refuse_undiscounted-clause-refused g c =
     let t : CellTable = cells_of c.args.input.now in
     let limits : IsWithinLimits t = g.met.C.Cells.is_within_limits c.args.input.now.cells.now in
     let some = scales t limits in
     let all : one ≤ t.discount = omega (arith, c.discount.ensures) in
     let p = err_from_is_err_and c.from_residual.result c.from_residual.ensures.1 in
     rw (p.1, p.2) (refused_robustly (near_table c.args.input.now) (near_controller c.args.input.now) (discount_le t limits) some.0 some.1
-    all c.args.findings c.requires.found _ c.in_err-refused.ensures.refused (CanMoveBy c.args.input.now.side c.args.input.now.vectors.now))
+    all c.args.findings c.requires.found _ c.in_err-refuse_undiscounted.ensures.refused
+    (CanMoveBy c.args.input.now.side c.args.input.now.vectors.now))
 
 pub returns-clause-least : goal.returns-clause-least
 returns-clause-least g c =
     let limits : IsWithinLimits (cells_of c.args.input.now) = g.met.C.Cells.is_within_limits c.args.input.now.cells.now in
     zero_robustly (near_table c.args.input.now) (near_controller c.args.input.now) (discount_le (cells_of c.args.input.now) limits)
-    c.args.findings c.requires.found c.in_ok-refused.ensures.passes
+    c.args.findings c.requires.found c.in_ok-refuse_undiscounted.ensures.passes
 
 pub returns-clause-none : goal.returns-clause-none
 returns-clause-none g c =

@@ -26,9 +26,9 @@ overflow_mul-scale-2 g c =
     let q : c.t_scale.result * c.o_scale.result ≤ most_scales = rw (c.t_scale.ensures, c.o_scale.ensures) (scales_le t limits) in
     omega (arith, (factor_room c.t_scale.result c.o_scale.result c.discount.result 0 q (omega arith)).1)
 
-pub quotient_up-requires : goal.quotient_up-requires
+pub quotient_rounded_up-requires : goal.quotient_rounded_up-requires
 unfolding one
-quotient_up-requires g c =
+quotient_rounded_up-requires g c =
     let t : CellTable = cells_of c.args.input.now in
     let some = scales t (g.met.C.Cells.is_within_limits c.args.input.now.cells.now) in
     record {
@@ -44,7 +44,7 @@ returns g c =
     let k : Controller = near_controller c.args.input.now in
     let limits : IsWithinLimits t = g.met.C.Cells.is_within_limits c.args.input.now.cells.now in
     let some = scales t limits in
-    let enough = rw (c.t_scale.ensures, c.o_scale.ensures, c.discount.ensures) at c.quotient_up.ensures.enough in
-    let least = rw (c.t_scale.ensures, c.o_scale.ensures, c.discount.ensures) at c.quotient_up.ensures.least in
-    least_robust i k (discount_le t limits) some.0 some.1 c.args.findings.worst c.quotient_up.result
+    let enough = rw (c.t_scale.ensures, c.o_scale.ensures, c.discount.ensures) at c.quotient_rounded_up.ensures.enough in
+    let least = rw (c.t_scale.ensures, c.o_scale.ensures, c.discount.ensures) at c.quotient_rounded_up.ensures.least in
+    least_robust i k (discount_le t limits) some.0 some.1 c.args.findings.worst c.quotient_rounded_up.result
     (λ n s nl sl. c.requires.found.measured n s nl sl (inl nl)) c.requires.found.is_reached enough least

@@ -40,5 +40,5 @@ returns-in-Err g c =
     record {
       least = tt;
       exact = tt;
-      refused = rw c.raise_fault_of.ensures (not_raised_is i k c.args.vectors.now c.in-Err.fault c.in-Err.ensures.refused);
+      refused = rw c.robust_raise_fault.ensures (not_raised_is i k c.args.vectors.now c.in-Err.fault c.in-Err.ensures.refused);
     }

@@ -7,4 +7,4 @@ pub returns-in-Short : goal.returns-in-Short
 returns-in-Short g c =
     let fits : FitsSigned w64 c.in-Short.by = search rules in
     let back : to_z w64 (of_z w64 c.in-Short.by) ≡ c.in-Short.by = to_z-of_z fits in
-    as_text (ap (λ l. line_text c.args.within.now l) (sym c.in-Short.is)) (rw back at c.write_amount.ensures)
+    as_text (ap (λ l. line_text c.args.within.now l) (sym c.in-Short.is)) (rw back at c.write_near_amount.ensures)

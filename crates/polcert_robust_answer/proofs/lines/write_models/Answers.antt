@@ -14,4 +14,4 @@ returns-in_err-write_nearness g c =
     (and_then c.in_ok-write_all.ensures c.in_err-write_nearness.ensures))
 
 pub returns : goal.returns
-returns g c = and_then (and_then c.in_ok-write_all.ensures c.in_ok-write_nearness.ensures) c.write_rewards.ensures
+returns g c = and_then (and_then c.in_ok-write_all.ensures c.in_ok-write_nearness.ensures) c.write_rewards_within.ensures

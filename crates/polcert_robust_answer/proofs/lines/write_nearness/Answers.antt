@@ -1,5 +1,5 @@
 use Rattle.std.proofs.Common.{rules, codes, [], if◌then◌else◌}
-use Rattle.polcert_text.proofs.Printing.Written.{and_then, as_text, unwritten, stopped}
+use Rattle.polcert_text.proofs.Printing.Written.{and_then, unwritten, stopped}
 use Rattle.polcert_robust_answer.proofs.lines.write_nearness.Goals as goal
 
 pub returns-in_err-write_all : goal.returns-in_err-write_all

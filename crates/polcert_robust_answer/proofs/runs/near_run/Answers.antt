@@ -8,8 +8,8 @@ use Rattle.polcert_robust_answer.proofs.Common.{meaning, IsNoReadFault}
 use Rattle.polcert_robust_answer.proofs.NearTexts.{has_verdict, has_promise, has_start_promise, has_horizon}
 use Rattle.polcert_robust_answer.proofs.runs.near_run.Goals as goal
 
-pub write_answer-requires : goal.write_answer-requires
-write_answer-requires g c = grind (arith, fits_of)
+pub write_near_answer-requires : goal.write_near_answer-requires
+write_near_answer-requires g c = grind (arith, fits_of)
 
 -- the fault of a read is handed on
 pub returns-in_err-read : goal.returns-in_err-read
@@ -24,7 +24,7 @@ returns g c =
     let d = rw c.rounding.ensures at c.in_ok-read.ensures.accepted in
     let w = c.args.within.now in
     let laws = c.laws.ensures in
-    let wrote = c.write_answer.ensures in
+    let wrote = c.write_near_answer.ensures in
     record {
       answered = wrote_mapped _ _ (has_verdict laws w m graph v d) _ wrote.answered;
       promise = λ yes. let (line, is, took) = text_of_answer _ _ _ wrote.answered yes in has_promise laws w m graph v d line is;

@@ -2,7 +2,7 @@ use Rattle.std.proofs.Common.{rules}
 use Rattle.polcert_text.proofs.Printing.Buffering.{left_after}
 use Rattle.polcert_answer.proofs.Buffered.{stopped_through, flushed_through}
 use Rattle.polcert_robust_answer.specs.Lines.{line_text}
-use Rattle.polcert_robust_answer.proofs.lines.write_verdict.Goals as goal
+use Rattle.polcert_robust_answer.proofs.lines.write_near_verdict.Goals as goal
 
 pub returns-in_err-write_line : goal.returns-in_err-write_line
 returns-in_err-write_line g c =

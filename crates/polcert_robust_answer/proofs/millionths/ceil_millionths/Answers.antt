@@ -6,7 +6,7 @@ use Rattle.polcert_text.specs.Numbers.{largest}
 use Rattle.polcert_check.specs.Horizon.{one}
 use Rattle.polcert_check.specs.StartWorth.{IsCeilQuotient}
 use Rattle.polcert_check.proofs.Sums.Scales.{scales_le}
-use Rattle.polcert_robust_answer.proofs.millionths.millionths_of.Goals as goal
+use Rattle.polcert_robust_answer.proofs.millionths.ceil_millionths.Goals as goal
 
 small_enough : (amount t o : ℕ) → amount ≤ 4 * (t * o * one) * largest → amount ≤ t * o * 1000000 * 40000000000000
 unfolding one
@@ -21,8 +21,8 @@ quotient : (amount : ℤ) (t o : ℕ) (q : ℤ) → pos 0 <ℤ amount → IsCeil
 unfolding one
 quotient amount t o q some is = subst (λ a. IsCeilQuotient a (t * o * 1000000) q) (positive amount some) is
 
-pub small_quotient-requires-clause-small : goal.small_quotient-requires-clause-small
-small_quotient-requires-clause-small g c =
+pub narrow_quotient-requires-clause-small : goal.narrow_quotient-requires-clause-small
+narrow_quotient-requires-clause-small g c =
     let small = c.requires.small (g.met.C.Cells.is_within_limits c.args.cells.now) in
     grind (arith, to_z-of_z, small_enough, small)
 
@@ -33,7 +33,7 @@ pub returns : goal.returns
 returns g c =
     let fits : FitsSigned w128 c.args.amount = search rules in
     let same = c.unsigned_abs.ensures.value ∙ ap unsigned_abs (to_z-of_z {w = w128} fits) in
-    let narrow_fits : FitsSigned w64 c.small_quotient.result = search rules in
-    let narrow : to_z w64 (of_z w64 c.small_quotient.result) ≡ c.small_quotient.result = to_z-of_z {w = w64} narrow_fits in
-    rw narrow (quotient c.args.amount _ _ c.small_quotient.result c.requires.some
-    (rw (same, c.t_scale.ensures, c.o_scale.ensures) at c.small_quotient.ensures))
+    let narrow_fits : FitsSigned w64 c.narrow_quotient.result = search rules in
+    let narrow : to_z w64 (of_z w64 c.narrow_quotient.result) ≡ c.narrow_quotient.result = to_z-of_z {w = w64} narrow_fits in
+    rw narrow (quotient c.args.amount _ _ c.narrow_quotient.result c.requires.some
+    (rw (same, c.t_scale.ensures, c.o_scale.ensures) at c.narrow_quotient.ensures))

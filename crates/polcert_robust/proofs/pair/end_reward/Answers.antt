@@ -4,7 +4,7 @@ use Rattle.polcert_text.specs.Numbers.{largest}
 use Rattle.polcert_cells.specs.Tables.{CellTable, IsWithinLimits}
 use Rattle.polcert_check.specs.Horizon.{Controller}
 use Rattle.polcert_robust.specs.Steps.Pairs.{cells_of, near_controller}
-use Rattle.polcert_robust.proofs.pair.reward_at.Goals as goal
+use Rattle.polcert_robust.proofs.pair.end_reward.Goals as goal
 
 pub returns-in-Some : goal.returns-in-Some
 returns-in-Some g c =

@@ -1,5 +1,5 @@
 use Rattle.polcert_robust.proofs.LeastRobust.{up_enough, up_least}
-use Rattle.polcert_robust_answer.proofs.millionths.quotient_up.Goals as goal
+use Rattle.polcert_robust_answer.proofs.millionths.positive_quotient_up.Goals as goal
 
 pub returns-clause-enough : goal.returns-clause-enough
 returns-clause-enough c = up_enough c.args.amount c.args.divisor c.requires.some

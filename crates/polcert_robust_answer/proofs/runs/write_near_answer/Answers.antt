@@ -1,6 +1,6 @@
 use Rattle.std.proofs.Common.{arith}
 use Rattle.polcert_robust_answer.specs.Lines.{line_text}
-use Rattle.polcert_robust_answer.proofs.runs.write_answer.Goals as goal
+use Rattle.polcert_robust_answer.proofs.runs.write_near_answer.Goals as goal
 
 pub returns-in-Ok-clause-answered : goal.returns-in-Ok-clause-answered
 returns-in-Ok-clause-answered g c =

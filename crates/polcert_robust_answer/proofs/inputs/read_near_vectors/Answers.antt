@@ -2,7 +2,7 @@ use Rattle.std.proofs.Common.{refl}
 use Rattle.polcert_robust_answer.proofs.Common.{meaning}
 use Rattle.polcert_answer.proofs.Denoted.{vectors_refused}
 use Rattle.polcert_answer.proofs.Refusing.{each_text, named_rightly}
-use Rattle.polcert_robust_answer.proofs.inputs.vectors_of_run.Goals as goal
+use Rattle.polcert_robust_answer.proofs.inputs.read_near_vectors.Goals as goal
 
 pub returns-in-Ok-clause-accepted : goal.returns-in-Ok-clause-accepted
 returns-in-Ok-clause-accepted g c = rw c.states.ensures.elements at c.in-Ok.ensures.read.accepted

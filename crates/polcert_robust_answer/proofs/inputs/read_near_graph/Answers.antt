@@ -2,7 +2,7 @@ use Rattle.std.proofs.Common.{refl, arith}
 use Rattle.polcert_robust_answer.proofs.Common.{meaning}
 use Rattle.polcert_answer.proofs.Denoted.{graph_refused}
 use Rattle.polcert_answer.proofs.Refusing.{each_text, named_rightly}
-use Rattle.polcert_robust_answer.proofs.inputs.graph_of_run.Goals as goal
+use Rattle.polcert_robust_answer.proofs.inputs.read_near_graph.Goals as goal
 
 pub read_graph_from-requires : goal.read_graph_from-requires
 read_graph_from-requires g c = grind arith

@@ -1,6 +1,6 @@
 use Rattle.std.proofs.Common.{arith}
 use Rattle.polcert_robust.proofs.LeastRobust.{up_enough, up_least}
-use Rattle.polcert_robust.proofs.robust_lower.quotient_up.Goals as goal
+use Rattle.polcert_robust.proofs.robust_lower.quotient_rounded_up.Goals as goal
 
 pub returns-clause-enough : goal.returns-clause-enough
 returns-clause-enough c = up_enough c.args.amount c.args.divisor c.requires.some

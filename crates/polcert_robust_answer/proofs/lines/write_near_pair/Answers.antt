@@ -1,7 +1,7 @@
 use Rattle.std.proofs.Common.{rules, codes}
 use Rattle.polcert_robust_answer.proofs.Common.{count_text}
 use Rattle.polcert_text.proofs.Printing.Written.{and_then, unwritten, stopped}
-use Rattle.polcert_robust_answer.proofs.lines.write_pair.Goals as goal
+use Rattle.polcert_robust_answer.proofs.lines.write_near_pair.Goals as goal
 
 pub returns-in_err-write_all : goal.returns-in_err-write_all
 returns-in_err-write_all g c = stopped (search rules)

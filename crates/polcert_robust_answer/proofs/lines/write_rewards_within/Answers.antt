@@ -2,7 +2,7 @@ use Rattle.std.proofs.Common.{◌≡◌, ◌==◌, if◌then◌else◌, rules, c
 use Rattle.polcert_text.proofs.Printing.Written.{and_then, as_text, unwritten, stopped}
 use Rattle.polcert_model.proofs.WrittenParts.{wrote_nothing}
 use Rattle.polcert_robust_answer.proofs.Common.{Within}
-use Rattle.polcert_robust_answer.proofs.lines.write_rewards.Goals as goal
+use Rattle.polcert_robust_answer.proofs.lines.write_rewards_within.Goals as goal
 
 abbrev words : Within → List ℕ
 words w = codes ", rewards within " ++ w.rewards_text.now
