@@ -178,6 +178,8 @@ class Certificates(FolderTest):
         said = self.certify(self.file("rough.POMDP", ROUGH))
         self.assertRegex(said.err, r"no certificate of the model as it was written: [^\n]*polcert_robust: there is no such program on the path\n")
         self.assertNotIn("written.alpha", str(self.report("rough")["files"]))
+        said = self.certify(self.file("rough.POMDP", ROUGH), "--near", "0.01", status=2)
+        self.assertRegex(said.err, r"\Apolcert-certify: [^\n]*polcert_robust: there is no such program on the path\n\Z")
 
     def test_what_is_refused(self) -> None:
         for text, reason in (

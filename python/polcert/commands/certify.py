@@ -16,6 +16,7 @@ import argparse
 import os
 from typing import Dict
 
+from polcert import programs
 from polcert.certification import NEAR, WRITTEN, Certifier, Step, Uncertified
 from polcert.certification_report import json_of, markdown_of
 from polcert.command import Parser, Refusal, read_source, refuse_overwriting, say, show, write_files
@@ -26,7 +27,6 @@ from polcert.controllers import BoundTexts, Search, bound_for, given_controller,
 from polcert.distances import nearness
 from polcert.needs import needs_numpy
 from polcert.points import WholeCells
-from polcert.programs import ProgramError
 from polcert.signals import Interrupt
 from polcert.values import refuse_discount_of_1
 
@@ -49,6 +49,8 @@ class Work:
 
     def run(self) -> bool:
         """Whether a lower bound is certified."""
+        if self.words.near is not None:
+            programs.found(self.certifier.polcert_robust)  # (before anything takes long)
         model = self.certifier.read_model(self.given[0])
         refuse_discount_of_1(model)
         try:
@@ -91,10 +93,10 @@ class Work:
         names = [self.certifier.polcert, self.certifier.polcert_bound]
         if any(near is not None and near.low is not None for near in (found.near, found.written)):
             names.append(self.certifier.polcert_robust)
-        programs = [Program(program).about() for program in names]
+        answered = [Program(program).about() for program in names]
         texts = dict(found.files)
-        texts[f"{found.name}.report.md"] = markdown_of(found, given, programs).encode()
-        texts[f"{found.name}.report.json"] = json_of(found, given, programs).encode()
+        texts[f"{found.name}.report.md"] = markdown_of(found, given, answered).encode()
+        texts[f"{found.name}.report.json"] = json_of(found, given, answered).encode()
         return texts
 
 
@@ -134,7 +136,7 @@ def main() -> int:
     try:
         is_certified = work.run()
         texts = work.texts()
-    except ProgramError as fault:
+    except programs.ProgramError as fault:
         raise Refusal(str(fault)) from None
     os.makedirs(words.output, exist_ok=True)
     write_files({os.path.join(words.output, name): text for name, text in texts.items()})
