@@ -1,6 +1,6 @@
 //! Tokens and rounded values that stand whole at the front of some bytes, cut without going through a stream.
 ghost use Rattle.std.specs.Prelude.{◌≡◌, ◌≤◌, ◌∷◌, [], ℕ, length, take, IfSome, ◌+◌, ◌-◌, ◌^◌, ◌<◌};
-ghost use Rattle.std.specs.Prelude.{List, drop, IsTrue, true, false};
+ghost use Rattle.std.specs.Prelude.{List, drop, true, false};
 ghost use Rattle.polcert_text.specs.Steps.Scan.{gap_through};
 ghost use Rattle.polcert_text.specs.Beginning.{BeginWith, BeginWithOne, BeginWithNumber, BeginWithDigits, at_offset};
 ghost use Rattle.polcert_text.specs.Reading.{lexeme_of};
@@ -12,7 +12,7 @@ ghost use Rattle.polcert_text.specs.Numbers.{largest};
 
 use crate::bytes::{
     is_blank, quick_ends_gap, quick_is_blank, quick_is_colon, quick_is_letter, quick_is_minus,
-    quick_is_space, quick_sign,
+    quick_sign,
 };
 use crate::front_numerals::{FrontSize, MOST_WHOLE, any_numeral, ended_digits, plain_numeral};
 use crate::number::{Rounding, signed};
@@ -48,35 +48,7 @@ pub struct FrontNumber {
 pub fn front_colon(bytes: &[u8]) -> Option<usize>
     ensures { IfSome result (λ len. (place : ℕ) → BeginWithOne place bytes.now len TokenKind.Colon) }
 {
-    match near_colon(bytes) {
-        Some(len) => Some(len),
-        None => far_colon(bytes),
-    }
-}
-
-/// Does the same as `front_colon` after one space at most.
-#[inline(always)]
-pub fn near_colon(bytes: &[u8]) -> Option<usize>
-    ensures { IfSome result (λ len. (place : ℕ) → BeginWithOne place bytes.now len TokenKind.Colon) }
-{
-    colon_at(bytes, one_space(bytes))
-}
-
-/// Does the same as `front_colon` after any gap. Most colons follow one space or none.
-#[inline(never)]
-fn far_colon(bytes: &[u8]) -> Option<usize>
-    ensures { IfSome result (λ len. (place : ℕ) → BeginWithOne place bytes.now len TokenKind.Colon) }
-{
-    colon_at(bytes, gap(bytes))
-}
-
-/// Returns the end of the colon at this index, if a byte follows it. `None`: unknown.
-#[inline(always)]
-fn colon_at(bytes: &[u8], start: usize) -> Option<usize>
-    requires within { start ≤ length bytes.now }
-    requires gap { gap_through Gap.Between (take start bytes.now) ≡ Gap.Between }
-    ensures { IfSome result (λ len. (place : ℕ) → BeginWithOne place bytes.now len TokenKind.Colon) }
-{
+    let start = near_gap(bytes);
     if start + 1 < bytes.len() && quick_is_colon(bytes[start]) {
         return Some(start + 1);
     }
@@ -136,54 +108,18 @@ pub fn front_name(bytes: &[u8]) -> Option<Token<'_>>
 pub fn front_number(bytes: &[u8]) -> Option<FrontNumber>
     ensures { IfSome result (λ found. (place : ℕ) → BeginWithNumber place bytes.now found) }
 {
-    // (Most follow one blank.)
-    match near_number(bytes) {
-        Some(number) => Some(number),
-        None => spaced_number(bytes),
-    }
-}
-
-/// Does the same as `front_number` after one blank.
-#[inline(always)]
-fn near_number(bytes: &[u8]) -> Option<FrontNumber>
-    ensures { IfSome result (λ found. (place : ℕ) → BeginWithNumber place bytes.now found) }
-{
-    if !begins_with_blank(bytes) {
-        return None;
-    }
-    number_at(Spelling::Plain, bytes, 1)
-}
-
-/// Does the same as `front_number` after any gap.
-#[inline(always)]
-fn spaced_number(bytes: &[u8]) -> Option<FrontNumber>
-    ensures { IfSome result (λ found. (place : ℕ) → BeginWithNumber place bytes.now found) }
-{
-    let start = gap(bytes);
-    if start == 1 && begins_with_blank(bytes) {
-        // (There it was tried.)
-        return any_number(bytes);
-    }
-    match number_at(Spelling::Plain, bytes, start) {
+    match number_at(Spelling::Plain, bytes, near_gap(bytes)) {
         Some(number) => Some(number),
         None => any_number(bytes),
     }
 }
 
-/// Does the same as `front_number` for a number of any spelling. (The room for the result of a call is made where the function begins that
-/// calls: here, not in front of the plain way.)
-#[inline(always)]
+/// Does the same as `front_number` for a number of any spelling.
+#[inline(never)]
 fn any_number(bytes: &[u8]) -> Option<FrontNumber>
     ensures { IfSome result (λ found. (place : ℕ) → BeginWithNumber place bytes.now found) }
 {
-    far_number(bytes)
-}
-
-#[inline(never)]
-fn far_number(bytes: &[u8]) -> Option<FrontNumber>
-    ensures { IfSome result (λ found. (place : ℕ) → BeginWithNumber place bytes.now found) }
-{
-    number_at(Spelling::Any, bytes, gap(bytes))
+    number_at(Spelling::Any, bytes, near_gap(bytes))
 }
 
 /// Returns the number of such a spelling that begins at this index, after a gap. `None`: unknown.
@@ -253,20 +189,7 @@ fn exact_number(from: usize, is_negative: bool, numeral: FrontSize) -> Option<Fr
 pub fn front_digits(bytes: &[u8]) -> Option<FrontDigits>
     ensures { IfSome result (λ number. (place : ℕ) → BeginWithDigits place bytes.now number) }
 {
-    // (Most follow one blank or none.)
-    match digits_from(bytes, one_blank(bytes)) {
-        Some(number) => Some(number),
-        None => digits_from(bytes, gap(bytes)),
-    }
-}
-
-/// Returns the digits that begin at this index, after blanks. `None`: unknown.
-#[inline(always)]
-fn digits_from(bytes: &[u8], start: usize) -> Option<FrontDigits>
-    requires within { start ≤ length bytes.now }
-    requires gap { gap_through Gap.Between (take start bytes.now) ≡ Gap.Between }
-    ensures { IfSome result (λ number. (place : ℕ) → BeginWithDigits place bytes.now number) }
-{
+    let start = near_gap(bytes);
     match ended_digits(&bytes[start..]) {
         Some(number) => Some(FrontDigits {
             len: start + number.len,
@@ -284,7 +207,7 @@ pub struct FrontIndex {
     pub digits: FrontDigits,
 }
 
-/// Returns the colon and the digits after it that the bytes begin with, each after one space or none in most texts. `None`: unknown,
+/// Returns the colon and the digits after it that the bytes begin with. `None`: unknown,
 /// take the slow path.
 #[inline(always)]
 pub fn front_index(bytes: &[u8]) -> Option<FrontIndex>
@@ -300,11 +223,7 @@ pub fn front_index(bytes: &[u8]) -> Option<FrontIndex>
     let Some(colon) = front_colon(bytes) else {
         return None;
     };
-    let rest = &bytes[colon..];
-    if let Some(digits) = digits_from(rest, one_space(rest)) {
-        return Some(FrontIndex { colon, digits });
-    }
-    match digits_from(rest, gap(rest)) {
+    match front_digits(&bytes[colon..]) {
         Some(digits) => Some(FrontIndex { colon, digits }),
         None => None,
     }
@@ -313,85 +232,34 @@ pub fn front_index(bytes: &[u8]) -> Option<FrontIndex>
 /// Two spaces, a colon, the digits, and a byte after them.
 const INDEX_ROOM: usize = 3 + MOST_WHOLE + 1;
 
-/// Returns 1 if the bytes begin with a space, and else 0.
-#[inline(always)]
-fn one_space(bytes: &[u8]) -> usize
-    ensures within { result ≤ length bytes.now }
-    ensures gap { gap_through Gap.Between (take result bytes.now) ≡ Gap.Between }
-{
-    if 0 < bytes.len() && quick_is_space(bytes[0]) {
-        return 1;
-    }
-    0
-}
-
-/// Returns `true` only if the bytes begin with a space or a line feed.
-#[inline(always)]
-fn begins_with_blank(bytes: &[u8]) -> bool
-    ensures within { IsTrue result → 1 ≤ length bytes.now }
-    ensures gap { IsTrue result → gap_through Gap.Between (take 1 bytes.now) ≡ Gap.Between }
-{
-    if bytes.is_empty() {
-        return false;
-    }
-    quick_is_blank(bytes[0])
-}
-
-/// Returns 1 if the bytes begin with a blank or a line end, and else 0.
-#[inline(always)]
-fn one_blank(bytes: &[u8]) -> usize
-    ensures within { result ≤ length bytes.now }
-    ensures gap { gap_through Gap.Between (take result bytes.now) ≡ Gap.Between }
-{
-    if 0 < bytes.len() && quick_is_blank(bytes[0]) {
-        return 1;
-    }
-    0
-}
-
 /// Returns how long the gap at the front is, or less of it. Most gaps are one blank or none.
 #[inline(always)]
 fn near_gap(bytes: &[u8]) -> usize
     ensures within { result ≤ length bytes.now }
     ensures gap { gap_through Gap.Between (take result bytes.now) ≡ Gap.Between }
 {
-    let at = one_blank(bytes);
-    if at < bytes.len() && quick_ends_gap(bytes[at]) {
-        return at;
+    if bytes.len() < 2 {
+        return 0;
+    }
+    if quick_is_blank(bytes[0]) && quick_ends_gap(bytes[1]) {
+        return 1;
+    }
+    if quick_ends_gap(bytes[0]) {
+        return 0;
     }
     far_gap(bytes)
 }
 
+/// Returns how long the gap at the front is. 0 if a comment doesn't end within the bytes.
 #[inline(never)]
 fn far_gap(bytes: &[u8]) -> usize
     ensures within { result ≤ length bytes.now }
     ensures gap { gap_through Gap.Between (take result bytes.now) ≡ Gap.Between }
 {
-    gap(bytes)
-}
-
-/// Returns how long the gap at the front is. 0 if a comment doesn't end within the bytes.
-#[inline(always)]
-fn gap(bytes: &[u8]) -> usize
-    ensures within { result ≤ length bytes.now }
-    ensures gap { gap_through Gap.Between (take result bytes.now) ≡ Gap.Between }
-{
-    let mut at: usize = 0;
-    while at < bytes.len() && is_blank(bytes[at]) {
-        at += 1;
+    // (Most are one tab.)
+    if 1 < bytes.len() && is_blank(bytes[0]) && quick_ends_gap(bytes[1]) {
+        return 1;
     }
-    if at < bytes.len() && bytes[at] == b'#' {
-        return commented_gap(bytes);
-    }
-    at
-}
-
-/// Does the same as `gap`.
-#[inline(never)]
-fn commented_gap(bytes: &[u8]) -> usize
-    ensures within { result ≤ length bytes.now }
-    ensures gap { gap_through Gap.Between (take result bytes.now) ≡ Gap.Between }
-{
     match gap_prefix(Gap::Between, bytes) {
         (len, Gap::Between) => len,
         _ => 0,
@@ -411,53 +279,18 @@ pub struct FrontValue {
 pub fn front_value(rounding: Rounding, bytes: &[u8]) -> Option<FrontValue>
     ensures { IfSome result (λ value. (place : ℕ) → BeginWithValue rounding place bytes.now value) }
 {
-    // (Most follow one blank.)
-    match near_value(rounding, bytes) {
-        Some(value) => Some(value),
-        None => spaced_value(rounding, bytes),
-    }
-}
-
-/// Does the same as `front_value` after one blank.
-#[inline(always)]
-fn near_value(rounding: Rounding, bytes: &[u8]) -> Option<FrontValue>
-    ensures { IfSome result (λ value. (place : ℕ) → BeginWithValue rounding place bytes.now value) }
-{
-    if !begins_with_blank(bytes) {
-        return None;
-    }
-    value_at(Spelling::Plain, rounding, bytes, 1)
-}
-
-/// Does the same as `front_value` after any gap.
-#[inline(always)]
-fn spaced_value(rounding: Rounding, bytes: &[u8]) -> Option<FrontValue>
-    ensures { IfSome result (λ value. (place : ℕ) → BeginWithValue rounding place bytes.now value) }
-{
-    let start = gap(bytes);
-    if start == 1 && begins_with_blank(bytes) {
-        // (There it was tried.)
-        return any_value(rounding, bytes);
-    }
-    match value_at(Spelling::Plain, rounding, bytes, start) {
+    match value_at(Spelling::Plain, rounding, bytes, near_gap(bytes)) {
         Some(value) => Some(value),
         None => any_value(rounding, bytes),
     }
 }
 
 /// Does the same as `front_value` for a value of any spelling.
-#[inline(always)]
+#[inline(never)]
 fn any_value(rounding: Rounding, bytes: &[u8]) -> Option<FrontValue>
     ensures { IfSome result (λ value. (place : ℕ) → BeginWithValue rounding place bytes.now value) }
 {
-    far_value(rounding, bytes)
-}
-
-#[inline(never)]
-fn far_value(rounding: Rounding, bytes: &[u8]) -> Option<FrontValue>
-    ensures { IfSome result (λ value. (place : ℕ) → BeginWithValue rounding place bytes.now value) }
-{
-    value_at(Spelling::Any, rounding, bytes, gap(bytes))
+    value_at(Spelling::Any, rounding, bytes, near_gap(bytes))
 }
 
 /// Returns the value of such a spelling that begins at this index, after a gap. `None`: unknown.

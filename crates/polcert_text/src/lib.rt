@@ -14,7 +14,7 @@ mod tokens;
 
 pub use front_tokens::{
     FrontDigits, FrontIndex, FrontNumber, FrontValue, front_colon, front_digits, front_index,
-    front_name, front_number, front_token, front_value, near_colon,
+    front_name, front_number, front_token, front_value,
 };
 pub use number::{
     NumberFault, Rounding, ceil_of, floor_of, rounded_of, scaled_of, whole_number, write_scaled,

@@ -1,12 +1,10 @@
 //! The value of a numeral, and a number written as text.
 ghost use Rattle.std.specs.Prelude.{◌≡◌, ◌+◌, ◌-◌, ◌*◌, ◌^◌, length, take, drop, if◌then◌else◌, ◌<◌, ◌≤◌};
-ghost use Rattle.std.specs.Prelude.{◌++◌, ◌∷◌, [], ℕ, List, MatchResult, IfOk, IfErr, IfSome, min, get_or};
+ghost use Rattle.std.specs.Prelude.{◌++◌, ◌∷◌, [], ℕ, List, MatchResult, IfOk, IfErr, min};
 ghost use Rattle.std.specs.Prelude.{true, false, MatchOption};
 ghost use Rattle.std.specs.List.{list_all, list_any, before_first, after_first};
 ghost use Rattle.std.specs.Str.Parse.{digits_value};
 ghost use Rattle.polcert_text.specs.Bytes.{is_digit};
-ghost use Rattle.polcert_text.specs.Steps.Classes.{class_of};
-ghost use Rattle.polcert_text.specs.declared.bytes.ByteClass.{ByteClass};
 ghost use Rattle.polcert_text.specs.Lexemes.{without_sign, is_numeral, are_digits};
 ghost use Rattle.polcert_text.specs.Numbers.{whole_of, fraction_of, exponent_of, is_lowering, largest};
 ghost use Rattle.polcert_text.specs.Numbers.{signed, IsExact, IsFloor, IsCeil, IsRounded, IsReadable};
@@ -16,7 +14,7 @@ ghost use Rattle.polcert_text.specs.Steps.Scaling.{rounded, is_away};
 ghost use Rattle.polcert_text.specs.Steps.NumeralEnds.{HasParts};
 ghost use Rattle.polcert_text.specs.Millionths.{decimals, fraction_text, unsigned_text, scaled_text};
 
-use crate::bytes::{class_of, quick_is_digit, quick_is_point};
+use crate::bytes::class_of;
 use crate::tokens::State;
 use crate::{Sink, SinkFailed, write_all};
 use itoa::Buffer;
@@ -63,9 +61,6 @@ impl Rounding {
 }
 
 const LONGEST: usize = 400;
-
-/// Longer numerals are rare, and measured the general way.
-const LONGEST_PLAIN: usize = 64;
 
 const LARGEST_EXPONENT: usize = 400;
 
@@ -353,103 +348,9 @@ fn leading_size(whole: &[u8], fraction: &[u8], kept: usize) -> Size
     }
 }
 
-/// Returns the number that the digits of `number` and those from `from` up to `until` spell, up to the first
-/// byte that is no digit or until it is too large, and where that is.
-#[inline(always)]
-pub fn digits_after(number: u64, bytes: &[u8], from: usize, until: usize) -> (u64, usize)
-    requires range { from ≤ until }
-    requires within { until ≤ length bytes.now }
-    ensures within { (from ≤ result.1) × (result.1 ≤ until) }
-    ensures digits { (k : ℕ) → from ≤ k → k < result.1 → class_of (get_or bytes.now k 0) ≡ ByteClass.Digit }
-    ensures value { (front : List ℕ) → number ≡ digits_value 10 front
-        → result.0 ≡ digits_value 10 (front ++ take (result.1 - from) (drop from bytes.now)) }
-{
-    let mut read = number;
-    let mut at = from;
-    while at < until && quick_is_digit(bytes[at]) && read <= LARGEST {
-        read = read * 10 + u64::from(bytes[at] - b'0');
-        at += 1;
-    }
-    (read, at)
-}
-
-/// Tests whether a digit isn't 0.
-#[inline(always)]
-fn has_nonzero(digits: &[u8]) -> bool
-    ensures { result ≡ list_any is_nonzero digits.now }
-{
-    digits.iter().any(|digit| *digit != b'0')
-}
-
-/// Returns the size of this many units, if they are less than the largest number. `None`: unknown, take the
-/// slow path.
-#[inline(always)]
-fn whole_size(number: u64) -> Option<Size>
-    ensures floor { IfSome result (λ size. size.floor ≡ number * 1000000) }
-    ensures is_inexact { IfSome result (λ size. size.is_inexact ≡ false) }
-    ensures small { IfSome result (λ size. number * 1000000 < largest) }
-{
-    if number >= LARGEST / MILLION {
-        return None;
-    }
-    Some(Size {
-        floor: number * MILLION,
-        is_inexact: false,
-    })
-}
-
-/// Returns the size of a numeral of digits, perhaps with a point and digits, if it is not too large: what
-/// most numerals are, measured in 64 bits. `None`: unknown, take the slow path.
-#[inline(always)]
-fn plain_size(numeral: &[u8]) -> Option<Size>
-    ensures { IfSome result (λ size. IsReadable numeral.now × Measures numeral.now size.floor size.is_inexact
-        × (ceiling size.floor size.is_inexact ≤ largest)) }
-{
-    if numeral.len() > LONGEST_PLAIN {
-        return None;
-    }
-    let (whole, point) = digits_after(0, numeral, 0, numeral.len());
-    if point == 0 {
-        return None;
-    }
-    if point == numeral.len() {
-        return whole_size(whole);
-    }
-    if !quick_is_point(numeral[point]) {
-        return None;
-    }
-    let kept = numeral.len().min(point + 7);
-    let (number, end) = digits_after(whole, numeral, point + 1, kept);
-    if end < kept || number > LARGEST {
-        return None;
-    }
-    let floor = with_zeros(number, point + 7 - kept);
-    if floor >= LARGEST || !all_digits(&numeral[kept..]) {
-        return None;
-    }
-    Some(Size {
-        floor,
-        is_inexact: has_nonzero(&numeral[kept..]),
-    })
-}
-
 /// Returns the size of a numeral in millionths, rounded down.
-#[inline(always)]
-pub fn size_of(numeral: &[u8]) -> Result<Size, NumberFault>
-    ensures value { MatchResult result
-        (λ size. IsReadable numeral.now × Measures numeral.now size.floor size.is_inexact)
-        (IsRefused numeral.now) }
-    ensures small { IfOk result (λ size. ceiling size.floor size.is_inexact ≤ largest) }
-{
-    match plain_size(numeral) {
-        Some(size) => Ok(size),
-        None => general_size(numeral),
-    }
-}
-
-/// Returns the size of any numeral in millionths, rounded down.
 #[inline(never)]
-fn general_size(numeral: &[u8]) -> Result<Size, NumberFault>
+pub fn size_of(numeral: &[u8]) -> Result<Size, NumberFault>
     ensures value { MatchResult result
         (λ size. IsReadable numeral.now × Measures numeral.now size.floor size.is_inexact)
         (IsRefused numeral.now) }
@@ -551,42 +452,8 @@ pub fn number_up_to(most: usize, digits: &[u8]) -> usize
     number
 }
 
-/// Longer numbers are rare, and read the general way.
-const LONGEST_SHORT: usize = 9;
-
-/// Returns the number that a few digits spell. `None`: unknown, take the slow path.
-#[inline(always)]
-fn short_number(bytes: &[u8]) -> Option<usize>
-    ensures digits { IfSome result (λ _. are_digits bytes.now ≡ true) }
-    ensures value { IfSome result (λ n. n ≡ digits_value 10 bytes.now) }
-{
-    if bytes.len() > LONGEST_SHORT {
-        return None;
-    }
-    let (number, end) = digits_after(0, bytes, 0, bytes.len());
-    if end == 0 || end < bytes.len() {
-        return None;
-    }
-    Some(number as usize)
-}
-
 /// Returns the number that the bytes spell, at most `most`, if they are digits only.
-#[inline(always)]
 pub fn whole_number(most: usize, bytes: &[u8]) -> Option<usize>
-    requires some { 0 < most }
-    requires small { most < 2 ^ 60 }
-    ensures { MatchOption result (are_digits bytes.now ≡ false)
-        (λ n. (are_digits bytes.now ≡ true) × (n ≡ min most (digits_value 10 bytes.now))) }
-{
-    match short_number(bytes) {
-        Some(number) => Some(number.min(most)),
-        None => whole_number_of_any_length(most, bytes),
-    }
-}
-
-/// Returns the same as `whole_number`, for however many digits.
-#[inline(never)]
-fn whole_number_of_any_length(most: usize, bytes: &[u8]) -> Option<usize>
     requires some { 0 < most }
     requires small { most < 2 ^ 60 }
     ensures { MatchOption result (are_digits bytes.now ≡ false)

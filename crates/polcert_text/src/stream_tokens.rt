@@ -1,6 +1,6 @@
 //! The bytes and tokens of a text that comes from a source, one after another.
-ghost use Rattle.std.specs.Prelude.{◌≡◌, ◌+◌, ◌≤◌, Option, Some, None, length, ◌<◌, ◌-◌, ◌^◌, ◌∷◌, [], ℕ};
-ghost use Rattle.std.specs.Prelude.{List, Bool, true, false, take, slice_index, IfOk, OnErr, ◌++◌, OnOk};
+ghost use Rattle.std.specs.Prelude.{◌≡◌, ◌+◌, ◌≤◌, Option, Some, None, length, ◌<◌, ◌-◌, ◌^◌, [], ℕ};
+ghost use Rattle.std.specs.Prelude.{List, true, false, take, slice_index, IfOk, OnErr, ◌++◌, OnOk};
 ghost use Rattle.std.specs.Prelude.{drop};
 ghost use Rattle.polcert_text.specs.Steps.Classes.{class_of};
 ghost use Rattle.polcert_text.specs.Steps.Scan.{gap_after, gap_through};

@@ -1,13 +1,13 @@
 //! How a text is cut into lexemes and tokens, one after another.
 ghost use Rattle.std.specs.Prelude.{◌≡◌, ◌+◌, ◌<◌, ◌≤◌, ◌^◌, ◌++◌, ℕ, List, length, Option, MatchResult, ◌∷◌};
 ghost use Rattle.std.specs.Prelude.{[], take, slice_index, true, false, ◌⊎◌, IfSome, IsTrue};
-ghost use Rattle.polcert_text.specs.Fronts.{IsLongestGap, IsLongestLexeme};
+ghost use Rattle.polcert_text.specs.Fronts.{IsLongestGap};
 ghost use Rattle.polcert_text.specs.Steps.Scan.{gap_after, gap_through, state_after, state_through, kind_at};
 ghost use Rattle.polcert_text.specs.Steps.Scan.{is_numeral_kind};
 ghost use Rattle.polcert_text.specs.Steps.Classes.{class_of};
 
 use crate::bytes::{
-    ByteClass, class_of, quick_ends_gap, quick_is_blank, quick_is_colon, quick_is_digit,
+    ByteClass, class_of, is_blank, quick_ends_gap, quick_is_blank, quick_is_colon, quick_is_digit,
     quick_is_letter,
 };
 use crate::numeral_ends::ended_numeral;
@@ -374,7 +374,7 @@ pub fn gap_prefix(gap: Gap, bytes: &[u8]) -> (usize, Gap)
             gap = next;
             continue;
         }
-        if quick_is_blank(bytes[at]) {
+        if is_blank(bytes[at]) {
             at += 1;
             continue;
         }
@@ -424,7 +424,7 @@ pub struct LexemeScan {
 }
 
 impl LexemeScan {
-    ghost use Rattle.polcert_text.specs.Steps.ScanOf.{IsScanOf, is_over, is_stuck, front_len, scan_at};
+    ghost use Rattle.polcert_text.specs.Steps.ScanOf.{IsScanOf, is_over, is_stuck, front_len};
 
     #[tactic(auto, unfolding(crate::specs::Lexemes::kind_of))]
     pub fn new() -> LexemeScan
@@ -477,50 +477,9 @@ impl LexemeScan {
             if scan.is_stuck() {
                 return scan;
             }
-            scan = scan.with_byte(bytes[scan.len]).skip_run(bytes);
+            scan = scan.with_byte(bytes[scan.len]);
         }
         scan
-    }
-
-    /// Continues over the digits, or the rest of a name, that it stands in.
-    #[inline(always)]
-    fn skip_run(self, bytes: &[u8]) -> LexemeScan
-        requires with_byte { IsScanOf (take self.len bytes.now) self }
-        ensures with_byte { IsScanOf (take result.len bytes.now) result }
-        ensures on { self.len ≤ result.len }
-    {
-        match self.state {
-            State::Name => {
-                LexemeScan::whole(State::Name, TokenKind::Name, name_end(bytes, self.len))
-            }
-            State::Whole => {
-                LexemeScan::whole(
-                    State::Whole,
-                    TokenKind::Numeral,
-                    digits_end(bytes, self.len),
-                )
-            }
-            State::Fraction => {
-                LexemeScan::whole(
-                    State::Fraction,
-                    TokenKind::Numeral,
-                    digits_end(bytes, self.len),
-                )
-            }
-            _ => self,
-        }
-    }
-
-    /// Makes a scan whose bytes so far are one whole lexeme.
-    #[inline(always)]
-    fn whole(state: State, kind: TokenKind, len: usize) -> LexemeScan
-        ensures { result ≡ scan_at state kind len }
-    {
-        LexemeScan {
-            state,
-            len,
-            longest: Some(LexemePrefix { kind, len }),
-        }
     }
 
     /// Returns the longest lexeme at the front of the scanned bytes.
@@ -546,7 +505,6 @@ impl LexemeScan {
 }
 
 ghost use Rattle.polcert_text.specs.Steps.ScanOf.{IsFrontOf, EndsWithin, IsNameOrMark};
-ghost use Rattle.polcert_text.specs.Steps.Scan.{ContinuesWithDigits};
 ghost use Rattle.polcert_text.specs.declared.tokens.State.{State};
 
 /// Returns where the name ends that the bytes before `from` begin.
@@ -596,22 +554,6 @@ fn class_continues_name(byte: u8) -> bool
             | ByteClass::Underscore
             | ByteClass::Minus
     )
-}
-
-/// Returns where the digits from `from` on end.
-#[inline(always)]
-fn digits_end(bytes: &[u8], from: usize) -> usize
-    requires { from ≤ length bytes.now }
-    ensures within { (from ≤ result) × (result ≤ length bytes.now) }
-    ensures same { (state : State) → ContinuesWithDigits state
-        → state_through State.Start (take from bytes.now) ≡ state
-        → state_through State.Start (take result bytes.now) ≡ state }
-{
-    let mut at = from;
-    while at < bytes.len() && quick_is_digit(bytes[at]) {
-        at += 1;
-    }
-    at
 }
 
 /// Returns the lexeme at the front, if a byte after it is there and ends it: a name, a mark, or a numeral of
@@ -681,19 +623,7 @@ pub fn ended_name(bytes: &[u8]) -> Option<LexemePrefix>
 }
 
 /// Returns the longest lexeme at the front of the bytes, if one begins there.
-#[inline(always)]
-pub fn longest_lexeme(bytes: &[u8]) -> Option<LexemePrefix>
-    ensures { IsFrontOf bytes.now result }
-{
-    match delimited_lexeme(bytes) {
-        Some(front) => Some(front),
-        None => scanned_lexeme(bytes),
-    }
-}
-
-/// Returns the longest lexeme at the front of the bytes, if one begins there, of any kind.
-#[inline(never)]
-fn scanned_lexeme(bytes: &[u8]) -> Option<LexemePrefix>
+fn longest_lexeme(bytes: &[u8]) -> Option<LexemePrefix>
     ensures { IsFrontOf bytes.now result }
 {
     LexemeScan::new().scan_over(bytes).longest()

@@ -1,15 +1,14 @@
 -- A numeral of digits, a point and digits, read without its exponent.
 use Rattle.std.proofs.Common.{◌≡◌, ◌∙◌, ◌⊎◌, ⊎_elim, ℕ, zero, suc, ◌+◌, ◌-◌, ◌*◌, ◌^◌, ◌<◌, ◌≤◌, min, Bool, true, false, List, [], ◌∷◌}
 use Rattle.std.proofs.Common.{◌++◌, length, take, drop, take_all, get_or, refl, sym, ap, length-append, arith}
-use Rattle.polcert_text.proofs.Common.{take-append-add, drop_all, take_more, digits_value_push, list_all, list_any, before_first}
-use Rattle.polcert_text.proofs.Common.{after_first, digits_value, is_digit, is_exponent_mark, is_point, class_of, is_numeral, without_sign}
+use Rattle.polcert_text.proofs.Common.{take-append-add, drop_all, take_more, digits_value_push, list_any, before_first}
+use Rattle.polcert_text.proofs.Common.{after_first, digits_value, is_exponent_mark, is_point, class_of, is_numeral, without_sign}
 use Rattle.polcert_text.proofs.Common.{whole_of, fraction_of, exponent_of, is_lowering, exponent_size, largest, IsReadable, size_cap}
 use Rattle.polcert_text.proofs.Common.{is_nonzero}
 use Rattle.polcert_text.proofs.Common.{ceiling, Measures, state_after, state_through, Digit, Point, State}
 use Rattle.std.proofs.Math.Seq.{drop-append-add}
 use Rattle.std.proofs.lemmas.List.{length-take-le, length-drop, append_assoc, get_or-drop, drop-drop}
-use Rattle.std.proofs.lemmas.List.Folds.{list_all_at}
-use Rattle.polcert_text.proofs.Scanning.Tests.{digit_by, mark_by, point_by, digit_class_is}
+use Rattle.polcert_text.proofs.Scanning.Tests.{digit_by, mark_by, point_by}
 use Rattle.polcert_text.specs.declared.tokens.State.TheVariants as states
 use Rattle.polcert_text.proofs.Scanning.LexemeLaws.{state_step}
 use Rattle.polcert_text.proofs.Numbers.NumberLaws.{before_at, after_at, before_all, after_all, numeral_at_state, digit_is}
@@ -97,12 +96,6 @@ plain_read bs p n some low high first point second =
     ⊎_elim (λ none. point_read bs p n none (⊎_elim (λ whole. absurd (omega (arith, none, whole))) (λ more. more) some) high point second)
     (λ whole. whole_point_read bs p n whole low high first point second) (none_or_some p)
 
-not_false : (b : Bool) → (b ≡ false → ⊥) → b ≡ true
-not_false b h1 = grind arith
-
-digit_of_all : (xs : List ℕ) (n : ℕ) → n < length xs → list_all is_digit xs ≡ true → is_digit (get_or xs n 0) ≡ true
-digit_of_all xs n h all = not_false (is_digit (get_or xs n 0)) (λ none. let none_all = list_all_at is_digit xs n 0 h none in cc)
-
 pub at_or_after : (k n : ℕ) → (k < n) ⊎ (n ≤ k)
 at_or_after k n = grind arith
 
@@ -115,15 +108,6 @@ drop_fewer xs n k e = grind (arith, ⊎_elim, drop_all, at_or_after)
 
 below_ceiling : (floor : ℕ) (is_inexact : Bool) → floor < largest → ceiling floor is_inexact ≤ largest
 below_ceiling floor is_inexact h1 = grind arith
-
--- after `from` all are digits
-pub digits_at : (bs : List ℕ) (from k : ℕ) → list_all is_digit (drop from bs) ≡ true → from ≤ k → k < length bs
-    → class_of (get_or bs k 0) ≡ Digit
-digits_at bs from k all low high =
-    let n : ℕ = k - from in
-    let place : from + n ≡ k = omega arith in
-    let here : is_digit (get_or (drop from bs) n 0) ≡ true = digit_of_all (drop from bs) n (omega (arith, length-drop from bs)) all in
-    digit_class_is (get_or bs k 0) (ap is_digit (sym (get_or-drop from bs n 0 ∙ ap (λ i. get_or bs i 0) place)) ∙ here)
 
 module _ (bs : List ℕ) (p : ℕ) (plain : IsPlain bs p) where
   no_mark : (k : ℕ) → k < length bs → is_exponent_mark (get_or bs k 0) ≡ false

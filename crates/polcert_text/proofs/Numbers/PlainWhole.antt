@@ -4,8 +4,6 @@ use Rattle.std.proofs.Common.{append-nil, get_or, refl, sym, ap, subst, arith}
 use Rattle.polcert_text.proofs.Common.{drop_all, list_any, before_first, after_first, digits_value, is_exponent_mark, is_point, class_of}
 use Rattle.polcert_text.proofs.Common.{is_numeral, without_sign, whole_of, fraction_of, exponent_of, is_lowering, exponent_size, largest}
 use Rattle.polcert_text.proofs.Common.{IsReadable, is_nonzero, ceiling, Measures, state_through, Digit}
-use Rattle.std.specs.Prelude.{Option, IfSome}
-use Rattle.polcert_text.specs.declared.number.Size.{Size}
 use Rattle.polcert_text.specs.declared.tokens.State.TheVariants as states
 use Rattle.polcert_text.proofs.Scanning.LexemeLaws.{state_step}
 use Rattle.polcert_text.proofs.Scanning.Tests.{mark_by, point_by}
@@ -65,11 +63,3 @@ module _ (bs : List ℕ) (some : 0 < length bs) (digits : (k : ℕ) → 0 ≤ k 
         exact,
         top,
       )
-
-  abbrev IsSizeOf : Size → Type 0
-  IsSizeOf size = IsReadable bs × Measures bs size.floor size.is_inexact × (ceiling size.floor size.is_inexact ≤ largest)
-
-  pub whole_is_plain : (number : ℕ) → length bs ≤ 400 → number ≡ digits_value 10 bs → (size : Option Size)
-      → IfSome size (λ s. s.floor ≡ number * 1000000) → IfSome size (λ s. s.is_inexact ≡ false)
-      → IfSome size (λ s. number * 1000000 < largest) → IfSome size IsSizeOf
-  whole_is_plain number h1 h2 size h3 h4 h5 = grind (arith, whole_measures)

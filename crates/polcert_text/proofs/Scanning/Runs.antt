@@ -1,6 +1,6 @@
 -- Runs of bytes that leave a state as it is: digits, the rest of a name, a comment; and the lexemes that end after one.
 use Rattle.std.proofs.Common.{◌≡◌, ◌∙◌, ◌⊎◌, ⊎_elim, ◌++◌, ℕ, zero, suc, ◌+◌, ◌<◌, ◌≤◌, ◌==◌, true, Some, List, [], ◌∷◌, length, take, drop}
-use Rattle.std.proofs.Common.{take_all, append-nil, append_assoc, get_or, refl, sym, ap, subst, arith}
+use Rattle.std.proofs.Common.{take_all, append_assoc, get_or, refl, sym, ap, subst, arith}
 use Rattle.std.proofs.Math.Seq.{take-add}
 use Rattle.std.proofs.lemmas.Bool.{eqb-true}
 use Rattle.polcert_text.proofs.Common.{take_more, class_of, IsLongestGap, IsLongestLexeme, is_gap, gap_after, gap_through, state_after}
@@ -88,10 +88,6 @@ ends_within bs n state kind h read is none ends =
           ∙ ap (λ xs. xs ++ tail) (sym (append_assoc (take n bs) (b ∷ []) (drop (n + 1) bs)) ∙ joined) in
           subst (λ xs. IsLongestLexeme xs kind n) all on;
     }
-
--- with nothing after the bytes
-pub ended_front : (bs : List ℕ) (front : LexemePrefix) → EndsWithin bs front → IsFrontOf bs (Some front)
-ended_front bs front ends = subst (λ xs. IsLongestLexeme xs front.kind front.len) (append-nil bs) (ends.longest [])
 
 -- a mark that a byte follows
 pub ended_mark : (bs : List ℕ) (kind : TokenKind) → 1 < length bs → state_after Start (class_of (get_or bs 0 0)) ≡ Single kind

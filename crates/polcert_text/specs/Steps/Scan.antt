@@ -104,10 +104,6 @@ abbrev pub is_numeral_kind : Option TokenKind → Bool
 is_numeral_kind (Some kinds.Numeral) = true
 is_numeral_kind _ = false
 
--- a digit changes nothing in this state
-abbrev pub ContinuesWithDigits : State → Type 0
-ContinuesWithDigits state = state_after state classes.Digit ≡ state
-
 -- a byte of this class ends a numeral that may end here, and is not glued to it
 pub record EndsNumeral (c : ByteClass) : Type 0 where
   pub whole : state_after Whole c ≡ Stuck

@@ -1,4 +1,4 @@
-use Rattle.std.proofs.Common.{◌∙◌, ◌-◌, ◌<◌, ⊎_elim, length, get_or, ap, arith}
+use Rattle.std.proofs.Common.{◌∙◌, ◌<◌, ⊎_elim, length, get_or, ap, arith}
 use Rattle.polcert_text.proofs.Common.{class_of}
 use Rattle.polcert_text.proofs.Numbers.FrontSizes.{none_yet, nonzero_more}
 use Rattle.polcert_text.proofs.Numbers.Plain.{below_or_at}

@@ -8,8 +8,8 @@ use Rattle.polcert_text.proofs.tokens.gap_prefix.Goals as goal
 pub loop-at-preserved-in-Comment : goal.loop-at-preserved-in-Comment
 loop-at-preserved-in-Comment c = grind (arith, length-drop, take_rest, gap_joined)
 
-pub loop-at-preserved-then-quick_is_blank : goal.loop-at-preserved-then-quick_is_blank
-loop-at-preserved-then-quick_is_blank c = grind (arith, ⊎_elim, in_between, skipped_step)
+pub loop-at-preserved-then-is_blank : goal.loop-at-preserved-then-is_blank
+loop-at-preserved-then-is_blank c = grind (arith, ⊎_elim, in_between, skipped_step)
 
 pub loop-at-preserved : goal.loop-at-preserved
 loop-at-preserved c =

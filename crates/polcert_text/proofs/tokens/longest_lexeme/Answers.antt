@@ -1,5 +1,5 @@
-use Rattle.polcert_text.proofs.Scanning.Runs.{ended_front}
+use Rattle.polcert_text.proofs.Scanning.LexemeEnds.{scanned}
 use Rattle.polcert_text.proofs.tokens.longest_lexeme.Goals as goal
 
-pub returns-in-Some : goal.returns-in-Some
-returns-in-Some c = ended_front c.args.bytes.now c.in-Some.front c.in-Some.ensures
+pub returns : goal.returns
+returns c = rw c.longest.ensures (scanned c.args.bytes.now c.scan_over.result c.scan_over.ensures.with_byte c.scan_over.ensures.all)
