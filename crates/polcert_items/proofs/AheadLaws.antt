@@ -4,7 +4,9 @@ use Rattle.std.proofs.Common.{ap, subst, append-nil, append_assoc, length-append
 use Rattle.std.proofs.lemmas.List.{length-drop}
 use Rattle.polcert_items.proofs.Common.{BeginWith, BeginWithNumber, Lexeme, begins_number, is_sign_kind, ModelSoFar, numbers_want, IsFed}
 use Rattle.polcert_items.proofs.Common.{IsListFed, AreTaken, none, more, StepsAhead, FedAhead, ListKind, FitsRange, IsSignAt, is_minus_sign}
-use Rattle.polcert_items.proofs.Common.{EntryReader, Numbers, Sign}
+use Rattle.polcert_items.proofs.Common.{EntryReader, Numbers, Sign, IsWithinIndices, indices_in}
+use Rattle.polcert_items.specs.Steps.Ahead.{with_state}
+use Rattle.polcert_items.specs.declared.entry_reader.EntryState.{EntryState}
 use Rattle.polcert_text.specs.Beginning.{IsNumeralOf, kind_of_sign, unsigned, signed}
 use Rattle.polcert_text.specs.declared.front_tokens.FrontNumber.{FrontNumber}
 use Rattle.polcert_text.proofs.Taken.BeginLaws.{begin_none, begin_then}
@@ -36,9 +38,25 @@ module _ {R : Type 0} (Step : R → Lexeme → R → Type 0) where
 pub fed_none : (k : ModelSoFar) (r : EntryReader) (bytes : List ℕ) → FedAhead k r bytes 0 r
 fed_none k r bytes = takes_none (IsFed k) r bytes
 
+-- nor is anything else changed
+pub fed_nothing : (k : ModelSoFar) (r : EntryReader) (bytes : List ℕ) (s : EntryState) → r.state ≡ s
+    → FedAhead k r bytes 0 (with_state r s)
+fed_nothing k r bytes s is = subst (λ t. FedAhead k r bytes 0 (with_state r t)) is (fed_none k r bytes)
+
 pub fed_then : (k : ModelSoFar) (a b c : EntryReader) (bytes : List ℕ) (m n : ℕ) → FedAhead k a bytes m b → FedAhead k b (drop m bytes) n c
     → FedAhead k a bytes (m + n) c
 fed_then k a b c bytes m n first second = takes_then (IsFed k) a b c bytes m n first second
+
+taken_within : (k : ModelSoFar) (a b : EntryReader) (ls : List Lexeme) → AreTaken (IsFed k) a ls b
+    → IsWithinIndices (indices_in k a.table) a → IsWithinIndices (indices_in k b.table) b
+taken_within k a b ls (none _) within = within
+taken_within k a b ls (more _ mid _ us l before f) within = subst (λ t. IsWithinIndices (indices_in k t) b) (sym f.table) f.within
+
+pub fed_within : (k : ModelSoFar) (a b : EntryReader) (bytes : List ℕ) (count : ℕ) → FedAhead k a bytes count b
+    → IsWithinIndices (indices_in k a.table) a → IsWithinIndices (indices_in k b.table) b
+fed_within k a b bytes count fed within =
+    let f = fed.fed 0 in
+    taken_within k a b f.0 f.1.1 within
 
 pub if_ok_map : {T E : Type 0} (r : Result T E) (P Q : T → Type 0) → ((v : T) → P v → Q v) → IfOk r P → IfOk r Q
 if_ok_map r P Q h1 h2 = grind arith

@@ -24,7 +24,7 @@ use crate::signed_number::range_fault;
 use polcert_cells::{Place, Table, Topic};
 use polcert_text::{
     FrontIndex, TokenKind, front_colon, front_digits, front_index, front_name, front_number,
-    front_token, near_colon,
+    front_token,
 };
 use std::alloc::{AllocError, Global};
 
@@ -119,11 +119,9 @@ impl EntryReader {
         requires { IsWithinIndices (indices_in known.now self.old.table) self.old }
         ensures { IfOk result (λ count. FedAhead known.now self.old bytes.now count self.new) }
     {
-        match &mut self.state {
-            EntryState::Probabilities(numbers) => numbers.feed_ahead(bytes),
-            EntryState::Rewards(numbers) => numbers.feed_ahead(bytes),
+        match self.state {
             EntryState::Colon => self.feed_line(alloc, known, bytes),
-            _ => Ok(0),
+            _ => self.feed_numbers_ahead(known, bytes),
         }
     }
 
@@ -142,12 +140,24 @@ impl EntryReader {
         let Some(at) = self.feed_places_ahead(known, bytes) else {
             return Ok(0);
         };
-        match self.begin_ahead(alloc, known, &bytes[at..])? {
-            Some(len) => Ok(at + len),
-            None => {
-                self.state = EntryState::Body;
-                Ok(at)
-            }
+        let Some(len) = self.begin_ahead(alloc, known, &bytes[at..]) else {
+            self.state = EntryState::Body;
+            return Ok(at);
+        };
+        let more = self.feed_numbers_ahead(known, &bytes[at + len..])?;
+        Ok(at + len + more)
+    }
+
+    /// Continues with numbers, if one came before.
+    #[inline(always)]
+    fn feed_numbers_ahead(&mut self, known: &ModelSoFar, bytes: &[u8]) -> Result<usize, AllocError>
+        requires { IsWithinIndices (indices_in known.now self.old.table) self.old }
+        ensures { IfOk result (λ count. FedAhead known.now self.old bytes.now count self.new) }
+    {
+        match &mut self.state {
+            EntryState::Probabilities(numbers) if !numbers.is_full() => numbers.feed_ahead(bytes),
+            EntryState::Rewards(numbers) if !numbers.is_full() => numbers.feed_ahead(bytes),
+            _ => Ok(0),
         }
     }
 
@@ -161,7 +171,7 @@ impl EntryReader {
         let Some(at) = self.feed_indices_ahead(known, bytes) else {
             return self.feed_any_places_ahead(known, bytes);
         };
-        if near_colon(&bytes[at..]).is_none() {
+        if front_colon(&bytes[at..]).is_none() {
             return Some(at);
         }
         match self.feed_any_places_ahead(known, &bytes[at..]) {
@@ -273,20 +283,8 @@ impl EntryReader {
                 len: index.len,
                 place: Place::Only(index.value as u16),
             }),
-            _ => self.other_place_ahead(known, bytes),
+            _ => self.token_place_ahead(known, bytes),
         }
-    }
-
-    /// Returns the next place, if a name or `*` that is one comes next. (The room for the result of a call is made where the function
-    /// begins that calls: here, not in each iteration.)
-    #[inline(always)]
-    fn other_place_ahead(&self, known: &ModelSoFar, bytes: &[u8]) -> Option<FrontPlace>
-        requires { length self.now.places < length (indices_in known.now self.now.table) }
-        ensures { IfSome result (λ front. (position : ℕ) →
-            BeginWithPlace (drop (length self.now.places) (named_in known.now self.now.table)) position
-            bytes.now front) }
-    {
-        self.token_place_ahead(known, bytes)
     }
 
     /// Returns the next place, if a name comes next that stands for one.
@@ -346,111 +344,53 @@ impl EntryReader {
         }
     }
 
-    /// Continues with the body's numbers after a place, and answers how many bytes they are, if the first of them comes next.
+    /// Continues with the body's first number after a place, and answers how many bytes it is, if it comes next.
     #[inline(always)]
-    fn begin_ahead(
-        &mut self,
-        alloc: Global,
-        known: &ModelSoFar,
-        bytes: &[u8],
-    ) -> Result<Option<usize>, AllocError>
+    fn begin_ahead(&mut self, alloc: Global, known: &ModelSoFar, bytes: &[u8]) -> Option<usize>
         requires { IsWithinIndices (indices_in known.now self.old.table)
             (with_state self.old EntryState.Body) }
-        ensures begun { IfOk result (λ begun. IfSome begun (λ count.
-            FedAhead known.now (with_state self.old EntryState.Body) bytes.now count self.new)) }
-        ensures none { IfOk result (λ begun. IfNone begun (self.new ≡ self.old)) }
+        ensures begun { IfSome result (λ count.
+            FedAhead known.now (with_state self.old EntryState.Body) bytes.now count self.new) }
+        ensures none { IfNone result (self.new ≡ self.old) }
     {
         let written = self.places.len();
         if !takes_numbers(known.is_mdp(), self.table, written) {
-            return Ok(None);
-        }
-        if known.cells_after(self.table, written) != 1 {
-            return self.begin_list(alloc, known, bytes);
-        }
-        match self.table {
-            Table::Reward => {
-                let Some(only) = only_ahead(alloc, bytes) else {
-                    return Ok(None);
-                };
-                self.state = EntryState::Rewards(only.numbers);
-                Ok(Some(only.len))
-            }
-            Table::Transition | Table::Observation => {
-                let Some(only) = only_ahead(alloc, bytes) else {
-                    return Ok(None);
-                };
-                self.state = EntryState::Probabilities(only.numbers);
-                Ok(Some(only.len))
-            }
-        }
-    }
-
-    /// Does the same as `begin_ahead` for any count of numbers. (Apart, since a list that may be moved costs room in the caller.)
-    #[inline(never)]
-    fn begin_list(
-        &mut self,
-        alloc: Global,
-        known: &ModelSoFar,
-        bytes: &[u8],
-    ) -> Result<Option<usize>, AllocError>
-        requires { IsWithinIndices (indices_in known.now self.old.table)
-            (with_state self.old EntryState.Body) }
-        ensures begun { IfOk result (λ begun. IfSome begun (λ count.
-            FedAhead known.now (with_state self.old EntryState.Body) bytes.now count self.new)) }
-        ensures none { IfOk result (λ begun. IfNone begun (self.new ≡ self.old)) }
-    {
-        let written = self.places.len();
-        if !takes_numbers(known.is_mdp(), self.table, written) {
-            return Ok(None);
+            return None;
         }
         let needed = known.cells_after(self.table, written);
         match self.table {
             Table::Reward => {
-                let Some(begun) = list_ahead(alloc, needed, bytes)? else {
-                    return Ok(None);
+                let Some(list) = list_ahead(alloc, needed, bytes) else {
+                    return None;
                 };
-                self.state = EntryState::Rewards(begun.numbers);
-                Ok(Some(begun.len))
+                self.state = EntryState::Rewards(list.numbers);
+                Some(list.len)
             }
             Table::Transition | Table::Observation => {
-                let Some(begun) = list_ahead(alloc, needed, bytes)? else {
-                    return Ok(None);
+                let Some(list) = list_ahead(alloc, needed, bytes) else {
+                    return None;
                 };
-                self.state = EntryState::Probabilities(begun.numbers);
-                Ok(Some(begun.len))
+                self.state = EntryState::Probabilities(list.numbers);
+                Some(list.len)
             }
         }
     }
 }
 
-/// Begins the list of so many numbers that begins with those at the front of the bytes, if there is a first. An error is out of memory.
+/// Begins the list of so many numbers with the number at the front of the bytes. `None`: unknown.
 #[inline(always)]
-fn list_ahead<T: ListNumber>(
-    alloc: Global,
-    needed: usize,
-    bytes: &[u8],
-) -> Result<Option<ListAhead<T>>, AllocError>
-    ensures { IfOk result (λ begun. IfSome begun (IsListBegun T.kind needed bytes.now)) }
+fn list_ahead<T: ListNumber>(alloc: Global, needed: usize, bytes: &[u8]) -> Option<ListAhead<T>>
+    ensures { IfSome result (IsListBegun T.kind needed bytes.now) }
 {
-    let mut numbers = Numbers::new(alloc, needed);
-    let len = numbers.feed_ahead(bytes)?;
-    if numbers.read.len() == 0 {
-        return Ok(None);
+    if needed == 0 {
+        return None;
     }
-    Ok(Some(ListAhead { numbers, len }))
-}
-
-/// Returns the list of the one number at the front of the bytes. `None`: unknown.
-#[inline(always)]
-fn only_ahead<T: ListNumber>(alloc: Global, bytes: &[u8]) -> Option<ListAhead<T>>
-    ensures { IfSome result (IsListBegun T.kind 1 bytes.now) }
-{
     let Some(number) = front_number(bytes) else {
         return None;
     };
     match range_fault(T::range(), number.value) {
         None => Some(ListAhead {
-            numbers: Numbers::with_first(alloc, 1, T::of_millionths(number.value)),
+            numbers: Numbers::with_first(alloc, needed, T::of_millionths(number.value)),
             len: number.len,
         }),
         Some(_) => None,

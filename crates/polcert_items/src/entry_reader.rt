@@ -75,7 +75,7 @@ impl<T: Copy> Numbers<T> {
 
     /// Tests whether the list has all its numbers.
     #[inline(always)]
-    fn is_full(&self) -> bool
+    pub(crate) fn is_full(&self) -> bool
         ensures { IsTrue result ↔ IsFull self.now }
     {
         self.sign.is_none() && self.read.len() == self.needed

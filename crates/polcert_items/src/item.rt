@@ -65,26 +65,7 @@ impl ItemReader {
     }
 
     /// Continues with a token that begins no item.
-    #[inline(always)]
     pub fn feed(
-        &mut self,
-        alloc: Global,
-        known: &ModelSoFar,
-        token: Token<'_>,
-    ) -> Result<(), FeedError>
-        requires within { IsItemWithin known.now self.old }
-        requires text { IsAsciiName (lexeme_of token) }
-        ensures { FeedsItem known.now self.old (lexeme_of token.entry) self.new result }
-    {
-        match self {
-            ItemReader::Entry(reader) => reader.feed(alloc, known, token),
-            _ => self.feed_any(alloc, known, token),
-        }
-    }
-
-    /// Takes a token of any item. Most tokens belong to entries, which one test finds.
-    #[inline(never)]
-    fn feed_any(
         &mut self,
         alloc: Global,
         known: &ModelSoFar,

@@ -1,9 +1,9 @@
 use Rattle.std.proofs.Common.{subst}
 use Rattle.polcert_items.proofs.Common.{indices_in, IsStateWithin, of_probabilities, of_rewards}
 use Rattle.polcert_items.specs.declared.entry_reader.EntryState.TheVariants as states
-use Rattle.polcert_items.proofs.AheadLaws.{fed_none, if_ok_map}
+use Rattle.polcert_items.proofs.AheadLaws.{fed_none, fed_nothing, if_ok_map}
 use Rattle.polcert_items.proofs.AheadLists.{list_goes, probabilities_stand, rewards_stand}
-use Rattle.polcert_items.proofs.entry_reader.EntryReader.feed_ahead.Goals as goal
+use Rattle.polcert_items.proofs.entry_reader.EntryReader.feed_numbers_ahead.Goals as goal
 
 pub returns-in-Probabilities : goal.returns-in-Probabilities
 returns-in-Probabilities c =
@@ -23,4 +23,10 @@ returns-in-Rewards c =
     c.in-Rewards.numbers c.feed_ahead-in-Rewards.new.self c.args.bytes.now count c.in-Rewards.is ahead) c.feed_ahead-in-Rewards.ensures
 
 pub returns-in_default : goal.returns-in_default
-returns-in_default c = fed_none c.args.known.now c.args.self.now c.args.bytes.now
+returns-in_default c = fed_nothing c.args.known.now c.args.self.now c.args.bytes.now _ c.in-Probabilities.is
+
+pub returns-in_default-2 : goal.returns-in_default-2
+returns-in_default-2 c = fed_nothing c.args.known.now c.args.self.now c.args.bytes.now _ c.in-Rewards.is
+
+pub returns-in_default-3 : goal.returns-in_default-3
+returns-in_default-3 c = fed_none c.args.known.now c.args.self.now c.args.bytes.now
