@@ -1,5 +1,5 @@
 //! What a check asks of a model, and the rows that a model lends it.
-ghost use Rattle.std.specs.Prelude.{◌≡◌, ℕ, ◌<◌, ◌+◌, IsTrue, length, pos, slice_index_or, ◌*◌, None};
+ghost use Rattle.std.specs.Prelude.{◌≡◌, ℕ, ◌<◌, ◌≤◌, ◌+◌, IsTrue, length, pos, slice_index_or, ◌*◌, None};
 ghost use Rattle.std.specs.Prelude.{slice_index};
 ghost use Rattle.std.specs.Option.{ForSome};
 ghost use Rattle.polcert_cells.specs.CommonRewards.{IsCommonReward, AreEndRewards, row_reward};
@@ -96,18 +96,6 @@ pub trait Cells {
         }
     }
 
-    /// Returns the reward when action `a` is taken in state `s` and ends in state `e`, if one look-up shows
-    /// that it is the same for every observation.
-    fn r_for_all_z(&self, a: usize, s: usize, e: usize) -> Option<i64>
-        requires action { a < (table self.now).actions }
-        requires start { s < (table self.now).states }
-        requires end { e < (table self.now).states }
-        ensures { ForSome result (λ h. (z : ℕ) → z < (table self.now).observations
-            → (table self.now).r a s e z ≡ h) }
-    {
-        None
-    }
-
     /// Returns the reward that all observations but a few have when action `a` is taken in state `s` and ends in state `e`, and fills in
     /// the rewards of these few, if they are known at once. `None`: unknown.
     fn find_rewards(
@@ -123,13 +111,7 @@ pub trait Cells {
         ensures { ForSome result (λ common. IsCommonReward ((table self.now).r a s e)
             (table self.now).observations common exceptions.new) }
     {
-        match self.r_for_all_z(a, s, e) {
-            Some(reward) => Some(CommonReward {
-                reward,
-                exceptions: 0,
-            }),
-            None => None,
-        }
+        None
     }
 
     /// Returns the reward that all end states and observations but a few have when action `a` is taken in state `s`, and fills in the
@@ -164,18 +146,6 @@ pub trait Cells {
         None
     }
 
-    /// Returns the reward when action `a` is taken in state `s`, if one look-up shows that it is the same for
-    /// every end state and every observation.
-    fn r_constant(&self, a: usize, s: usize) -> Option<i64>
-        requires action { a < (table self.now).actions }
-        requires start { s < (table self.now).states }
-        ensures { ForSome result (λ h. (e z : ℕ) → e < (table self.now).states →
-            z < (table self.now).observations →
-            (table self.now).r a s e z ≡ h) }
-    {
-        None
-    }
-
     /// Returns whether it is known at once that action `a` has the same rewards in state `s` as in state `other`, for every end state and
     /// every observation. `false`: unknown.
     fn has_same_rewards(&self, a: usize, s: usize, other: usize) -> bool
@@ -185,6 +155,30 @@ pub trait Cells {
         ensures { IsTrue result → (e z : ℕ) → e < (table self.now).states →
             z < (table self.now).observations →
             (table self.now).r a s e z ≡ (table self.now).r a other e z }
+    {
+        false
+    }
+
+    /// Returns an end state up to which it is known at once that all from `e` on have the same rewards when action `a` is taken in state
+    /// `s`, for every observation. `e`: unknown.
+    fn same_rewards_until(&self, a: usize, s: usize, e: usize) -> usize
+        requires action { a < (table self.now).actions }
+        requires start { s < (table self.now).states }
+        requires end { e < (table self.now).states }
+        ensures { (f z : ℕ) → e ≤ f → f < result → f < (table self.now).states →
+            z < (table self.now).observations →
+            (table self.now).r a s f z ≡ (table self.now).r a s e z }
+    {
+        e
+    }
+
+    /// Returns whether it is known at once that action `a` shows the same in end state `e` as in `other`. `false`: unknown.
+    fn has_same_observations(&self, a: usize, e: usize, other: usize) -> bool
+        requires action { a < (table self.now).actions }
+        requires end { e < (table self.now).states }
+        requires other { other < (table self.now).states }
+        ensures { IsTrue result → (z : ℕ) → z < (table self.now).observations →
+            (table self.now).o a e z ≡ (table self.now).o a other z }
     {
         false
     }

@@ -1,6 +1,6 @@
 -- The names of std and of specs that several proofs of this crate cite, passed on from one place. Declares nothing.
 pub use Rattle.polcert_cells.specs.BorrowedRows.{IsRowOf, after_cells, reached}
-pub use Rattle.polcert_cells.specs.CommonRewards.{row_reward}
+pub use Rattle.polcert_cells.specs.CommonRewards.{IsCommonReward, row_reward}
 pub use Rattle.polcert_cells.specs.Meaning.{IsSame, Meaning, start_total, start_weight, states_of}
 pub use Rattle.polcert_cells.specs.SameCells.{HasSameCells}
 pub use Rattle.polcert_cells.specs.Sparse.{IsRow}
@@ -27,7 +27,7 @@ pub use Rattle.polcert_check.specs.StartWorth.{IsBestStart, IsCeilQuotient, IsFi
 pub use Rattle.polcert_check.specs.StartWorth.{start_sum}
 pub use Rattle.polcert_check.specs.Steps.CheckInput.{checked_controller, input_controller}
 pub use Rattle.polcert_check.specs.Steps.Exceptions.{AreBefore, AreExcepted, IsWeighed, row_weight, weighed_total}
-pub use Rattle.polcert_check.specs.Steps.Factored.{AreKnown, IsLeastOf, IsPairVerdict, Misses, factored_reward, factored_value}
+pub use Rattle.polcert_check.specs.Steps.Factored.{AreKnown, IsEndRun, IsLeastOf, IsPairVerdict, Misses, factored_reward, factored_value}
 pub use Rattle.polcert_check.specs.Steps.Factored.{reward_at_end, factored_value_at_end, value_term}
 pub use Rattle.polcert_check.specs.Steps.Findings.{IsFirstOf, IsFound, IsFoundBefore, IsPair, IsVerdictFor, IsWalked, IsWorstOf}
 pub use Rattle.polcert_check.specs.Steps.FollowedCells.{followed, followed_is_proper, followed_is_within}
@@ -39,6 +39,7 @@ pub use Rattle.polcert_check.specs.Steps.Survey.{IsOfAction}
 pub use Rattle.polcert_check.specs.Steps.Values.{AreEndValues, IsMissedBefore}
 pub use Rattle.polcert_check.specs.Verdict.{IsBefore, IsLeastLacking, IsVerdict, NamesSmallAmount, PassesBefore}
 pub use Rattle.polcert_check.specs.declared.above.AboveVerdict.{AboveVerdict}
+pub use Rattle.polcert_check.specs.declared.expected_reward.EndRun.{EndRun}
 pub use Rattle.polcert_check.specs.declared.fault.LowerFault.{LowerFault}
 pub use Rattle.polcert_check.specs.declared.fault.RaiseFault.{RaiseFault}
 pub use Rattle.polcert_check.specs.declared.findings.Findings.{Findings}

@@ -10,6 +10,7 @@ pub mod Missing
 pub mod Outcomes
 pub mod Products
 pub mod RowOfBoth
+pub mod Runs
 pub mod SameRows
 pub mod Sharing
 pub mod Verdicts

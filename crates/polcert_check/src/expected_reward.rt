@@ -1,9 +1,9 @@
 //! The reward that an action expects at a state, shared by start states that no reward tells apart.
 ghost use Rattle.std.specs.Prelude.{◌≡◌, ℕ, ◌*◌, ◌^◌, ◌<◌, ◌≤◌, ℤ, pos, ◌*ℤ◌, unsigned_abs, length};
-ghost use Rattle.std.specs.Prelude.{slice_index_or};
-ghost use Rattle.polcert_check.specs.Steps.Exceptions.{AreBefore, AreExcepted, row_weight, weighed_total};
+ghost use Rattle.std.specs.Prelude.{IsTrue, slice_index_or};
+ghost use Rattle.polcert_check.specs.Steps.Exceptions.{AreExcepted, AreBefore, row_weight, weighed_total};
 ghost use Rattle.polcert_check.specs.Steps.Ranges.{most_sum};
-ghost use Rattle.polcert_check.specs.Steps.Factored.{reward_at_end, factored_reward, AreKnown, AreAtEnds};
+ghost use Rattle.polcert_check.specs.Steps.Factored.{reward_at_end, factored_reward, AreKnown, AreAtEnds, IsEndRun};
 ghost use Rattle.polcert_cells.specs.declared.elements.TheConstants.{MOST_STATES, MOST_OBSERVATIONS};
 ghost use Rattle.polcert_cells.specs.CommonRewards.{cell_at, AreEndRewards, AreOrdered, IsCommonReward};
 ghost use Rattle.std.specs.Option.{ForSome};
@@ -81,44 +81,6 @@ fn sum_rewards<C: Cells>(cells: &C, a: usize, s: usize, e: usize, buffer: &mut R
     }
 }
 
-/// Returns the reward that action `a` expects at start state `s` and end state `e`, without the weight of reaching `e`.
-pub(crate) fn reward_at_end<C: Cells>(
-    cells: &C,
-    a: usize,
-    s: usize,
-    e: usize,
-    buffer: &mut RewardBuffer,
-) -> i128
-    requires action { a < (C.table cells.now).actions }
-    requires start { s < (C.table cells.now).states }
-    requires end { e < (C.table cells.now).states }
-    ensures { result ≡ reward_at_end (C.table cells.now) a s e }
-{
-    match sum_few(cells, a, s, e, &mut buffer.exceptions) {
-        Some(sum) => sum,
-        None => sum_rewards(cells, a, s, e, buffer),
-    }
-}
-
-/// Returns the same as `reward_at_end`, if few observations have another reward than the one that most have in common.
-fn sum_few<C: Cells>(
-    cells: &C,
-    a: usize,
-    s: usize,
-    e: usize,
-    exceptions: &mut [RewardCell],
-) -> Option<i128>
-    requires action { a < (C.table cells.now).actions }
-    requires start { s < (C.table cells.now).states }
-    requires end { e < (C.table cells.now).states }
-    ensures { ForSome result (λ sum. sum ≡ reward_at_end (C.table cells.now) a s e) }
-{
-    let most = exceptions.len().min(MOST_EXCEPTIONS);
-    let few = &mut exceptions[..most];
-    let common = cells.find_rewards(a, s, e, few)?;
-    Some(sum_excepted(cells.o_scale(), common, few, |z| cells.o(a, e, z)))
-}
-
 /// Returns the sum of weighted rewards, which most have in common: `weight_of` gives the weight of a number, and all weights sum to `scale`.
 fn sum_excepted<F: Fn(usize) -> u64>(
     scale: u64,
@@ -146,6 +108,31 @@ fn sum_excepted<F: Fn(usize) -> u64>(
     sum
 }
 
+/// Returns the run that begins at end state `e`, if few observations have another reward there than the one that most have in common.
+fn run_of_few<C: Cells>(
+    cells: &C,
+    a: usize,
+    s: usize,
+    e: usize,
+    exceptions: &mut [RewardCell],
+) -> Option<EndRun>
+    requires action { a < (C.table cells.now).actions }
+    requires start { s < (C.table cells.now).states }
+    requires end { e < (C.table cells.now).states }
+    ensures here { ForSome result (λ run. run.reward ≡ reward_at_end (C.table cells.now) a s e) }
+    ensures run { ForSome result (IsEndRun (C.table cells.now) a s) }
+{
+    let most = exceptions.len().min(MOST_EXCEPTIONS);
+    let few = &mut exceptions[..most];
+    let common = cells.find_rewards(a, s, e, few)?;
+    Some(EndRun {
+        end: e,
+        until: cells.same_rewards_until(a, s, e),
+        reward: sum_excepted(cells.o_scale(), common, few, |z| cells.o(a, e, z)),
+        is_constant: common.exceptions == 0,
+    })
+}
+
 /// Returns the reward that action `a` expects at state `s`, summed over its end states.
 fn sum_over_ends<C: Cells>(cells: &C, a: usize, s: usize, buffer: &mut RewardBuffer) -> i128
     requires action { a < (C.table cells.now).actions }
@@ -153,10 +140,13 @@ fn sum_over_ends<C: Cells>(cells: &C, a: usize, s: usize, buffer: &mut RewardBuf
     ensures { result ≡ factored_reward (C.table cells.now) a s }
 {
     let mut sum: i128 = 0;
+    let mut run = None;
     let row = cells.t_row(a, s);
     let mut at = 0;
     while let Some(end) = next_end(cells, a, s, row, at) {
-        sum += weigh(end.weight, reward_at_end(cells, a, s, end.column, buffer));
+        let here = buffer.run_at(cells, a, s, end.column, run);
+        sum += weigh(end.weight, here.reward);
+        run = Some(here);
         at = end.next;
     }
     sum
@@ -195,14 +185,9 @@ fn sum_row<C: Cells>(cells: &C, a: usize, s: usize, exceptions: &mut [RewardCell
     requires start { s < (C.table cells.now).states }
     ensures { ForSome result (λ sum. sum ≡ factored_reward (C.table cells.now) a s) }
 {
-    let ends = count_ends(cells, a, s);
-    // (The rewards at one end state are asked for as fast.)
-    if ends < 2 {
-        return None;
-    }
     let most = exceptions
         .len()
-        .min(ends.saturating_mul(EXCEPTIONS_PER_END));
+        .min(count_ends(cells, a, s).saturating_mul(EXCEPTIONS_PER_END));
     let few = &mut exceptions[..most];
     let common = cells.find_row_rewards(a, s, few)?;
     // (If all differ, the common one may be any number.)
@@ -296,21 +281,6 @@ pub fn expected_reward<C: Cells>(cells: &C, a: usize, s: usize, buffer: &mut Rew
 {
     match sum_ends(cells, a, s, &mut buffer.exceptions) {
         Some(sum) => sum,
-        None => sum_by_observation(cells, a, s, buffer),
-    }
-}
-
-/// Returns the same as `expected_reward`, where a reward may depend on what is observed.
-fn sum_by_observation<C: Cells>(cells: &C, a: usize, s: usize, buffer: &mut RewardBuffer) -> i128
-    requires action { a < (C.table cells.now).actions }
-    requires start { s < (C.table cells.now).states }
-    ensures { result ≡ factored_reward (C.table cells.now) a s }
-{
-    match cells.r_constant(a, s) {
-        Some(reward) => {
-            let at_end = weigh(cells.o_scale(), reward as i128);
-            weigh(cells.t_scale(), at_end)
-        }
         None => match sum_row(cells, a, s, &mut buffer.exceptions) {
             Some(sum) => sum,
             None => sum_over_ends(cells, a, s, buffer),
@@ -403,6 +373,45 @@ const EXCEPTIONS_PER_END: usize = 8;
 /// No reward is larger, in millionths.
 const LARGEST: u64 = 10_000_000_000_000;
 
+/// The reward that an action expects at an end state, and the end states after it that have the same rewards.
+#[derive(Clone, Copy)]
+pub(crate) struct EndRun {
+    pub end: usize,
+    pub until: usize,
+    pub reward: i128,
+    /// Whether all observations have the same reward.
+    pub is_constant: bool,
+}
+
+impl EndRun {
+    /// Tests whether it is known at once that the action expects the same at end state `e`.
+    fn reaches<C: Cells>(&self, cells: &C, a: usize, e: usize) -> bool
+        requires action { a < (C.table cells.now).actions }
+        requires end { e < (C.table cells.now).states }
+        requires first { self.now.end < (C.table cells.now).states }
+        ensures { IsTrue result → (s : ℕ) → s < (C.table cells.now).states →
+            IsEndRun (C.table cells.now) a s self.now →
+            self.now.reward ≡ reward_at_end (C.table cells.now) a s e }
+    {
+        let EndRun {
+            end,
+            until,
+            is_constant,
+            ..
+        } = *self;
+        if e < end {
+            return false;
+        }
+        if e >= until {
+            return false;
+        }
+        if is_constant {
+            return true;
+        }
+        cells.has_same_observations(a, e, end)
+    }
+}
+
 /// Buffers for the rewards of all observations, given an action, a start state and an end state.
 #[derive(Drop)]
 pub struct RewardBuffer {
@@ -419,6 +428,50 @@ impl RewardBuffer {
                 observation: 0,
                 reward: 0,
             }; MOST_IN_ROW],
+        }
+    }
+
+    /// Returns the reward that action `a` expects at start state `s` and end state `e`, without the weight of reaching `e`: that of the last
+    /// run if it reaches so far, or that of a new one.
+    fn run_at<C: Cells>(
+        &mut self,
+        cells: &C,
+        a: usize,
+        s: usize,
+        e: usize,
+        last: Option<EndRun>,
+    ) -> EndRun
+        requires action { a < (C.table cells.now).actions }
+        requires start { s < (C.table cells.now).states }
+        requires end { e < (C.table cells.now).states }
+        requires last { ForSome last (IsEndRun (C.table cells.now) a s) }
+        ensures here { result.reward ≡ reward_at_end (C.table cells.now) a s e }
+        ensures run { IsEndRun (C.table cells.now) a s result }
+    {
+        if let Some(run) = last {
+            if run.reaches(cells, a, e) {
+                return run;
+            }
+        }
+        self.run_from(cells, a, s, e)
+    }
+
+    /// Returns the run that begins at end state `e`.
+    fn run_from<C: Cells>(&mut self, cells: &C, a: usize, s: usize, e: usize) -> EndRun
+        requires action { a < (C.table cells.now).actions }
+        requires start { s < (C.table cells.now).states }
+        requires end { e < (C.table cells.now).states }
+        ensures here { result.reward ≡ reward_at_end (C.table cells.now) a s e }
+        ensures run { IsEndRun (C.table cells.now) a s result }
+    {
+        match run_of_few(cells, a, s, e, &mut self.exceptions) {
+            Some(run) => run,
+            None => EndRun {
+                end: e,
+                until: cells.same_rewards_until(a, s, e),
+                reward: sum_rewards(cells, a, s, e, self),
+                is_constant: false,
+            },
         }
     }
 
@@ -454,6 +507,17 @@ pub(crate) fn clear_numbers(numbers: &mut [i128], count: usize)
     }
 }
 
+/// Tests whether it is known at once that the rewards of action `a` in state `s` are all the same.
+fn is_constant<C: Cells>(cells: &C, a: usize, s: usize) -> bool
+    requires action { a < (C.table cells.now).actions }
+    requires start { s < (C.table cells.now).states }
+{
+    if cells.find_row_rewards(a, s, &mut []).is_some() {
+        return true;
+    }
+    cells.find_end_rewards(a, s, &mut []).is_some()
+}
+
 /// Returns the first state that shares its rewards with others, unless they are all the same.
 pub(crate) fn first_shared<C: Cells>(cells: &C, a: usize) -> Option<usize>
     requires action { a < (C.table cells.now).actions }
@@ -461,10 +525,10 @@ pub(crate) fn first_shared<C: Cells>(cells: &C, a: usize) -> Option<usize>
 {
     for s in 0..cells.states() {
         if cells.has_same_rewards(a, s, s) {
-            return if cells.r_constant(a, s).is_none() {
-                Some(s)
-            } else {
+            return if is_constant(cells, a, s) {
                 None
+            } else {
+                Some(s)
             };
         }
     }
@@ -486,12 +550,15 @@ pub(crate) fn find_at_ends<C: Cells>(
     ensures known { AreKnown (reward_at_end (C.table cells.now) a s) (C.table cells.now).states at_ends.new }
     ensures found { AreAtEnds (C.table cells.now) a s at_ends.new }
 {
+    let mut run = None;
     let row = cells.t_row(a, s);
     let mut at = 0;
     while let Some(end) = next_end(cells, a, s, row, at) {
         let e = end.column;
         if at_ends[e] == UNKNOWN {
-            at_ends[e] = reward_at_end(cells, a, s, e, buffer);
+            let here = buffer.run_at(cells, a, s, e, run);
+            at_ends[e] = here.reward;
+            run = Some(here);
         }
         at = end.next;
     }

@@ -14,6 +14,7 @@ pub mod Backings
 pub mod OneVerdict
 pub mod SameVerdicts
 pub mod EndMeans
+pub mod ConstantRewards
 pub mod Worths
 pub mod Exact
 pub mod ExactAbove

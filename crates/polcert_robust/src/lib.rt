@@ -2,6 +2,7 @@
 #![tactic(auto)]
 
 mod buffers;
+mod constant_rewards;
 mod distance;
 mod end_means;
 mod findings;

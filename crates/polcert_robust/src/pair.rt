@@ -13,6 +13,7 @@ ghost use Rattle.polcert_robust.specs.Steps.Rewards.{HasSameRewards, IsConstantR
 ghost use Rattle.polcert_robust.specs.Steps.Sides.{turned};
 
 use crate::buffers::PairBuffers;
+use crate::constant_rewards::{constant_reward_of, known_reward_of};
 use crate::end_means::{EndMean, EndMeans};
 use crate::level::{WorthRow, least_mean, weigh_number};
 use crate::robust_input::RobustInput;
@@ -205,7 +206,7 @@ fn known_reward<C: Cells>(pair: &Pair<'_, C>, constant: Option<i64>, e: usize) -
         return constant;
     }
     let a = pair.input.graph.action(pair.n);
-    pair.input.cells.r_for_all_z(a, pair.s, e)
+    known_reward_of(pair.input.cells, a, pair.s, e)
 }
 
 /// Returns what a reward that does not depend on the observation adds to the least mean at an end state.
@@ -406,7 +407,7 @@ fn constant_reward<C: Cells>(pair: &Pair<'_, C>, have_rewards: bool) -> Option<i
         return None;
     }
     let a = pair.input.graph.action(pair.n);
-    pair.input.cells.r_constant(a, pair.s)
+    constant_reward_of(pair.input.cells, a, pair.s)
 }
 
 /// Returns what backs the value of the pair in the worst case: the least mean over the rows near that of T, times both scales.

@@ -27,6 +27,7 @@ pub use Rattle.polcert_rules.specs.Matching.{max_option, newest_in}
 pub use Rattle.polcert_rules.specs.RewardAt.{RewardRules, cell_in}
 pub use Rattle.polcert_rules.specs.Steps.CellRules.{AreCellRules, AreCellsOf, AreJoined, IsCellOf, NamesEnd}
 pub use Rattle.polcert_rules.specs.Steps.Distinct.{rule_at}
+pub use Rattle.polcert_rules.specs.Steps.FittingRules.{AreEndRules, AreFitting, HasFront, IsEndKey, HasTwo, IsPartOf, key_of_two}
 pub use Rattle.polcert_rules.specs.Steps.Given.{FitsShape, IsShapeWithin, entry_weight}
 pub use Rattle.polcert_rules.specs.Steps.Lists.{part_in, row_in, stored_cells}
 pub use Rattle.polcert_rules.specs.Steps.Merging.{Rises, before, following, from, given_at, merged, newer_cells, weight_by_entries}
@@ -35,7 +36,7 @@ pub use Rattle.polcert_rules.specs.Steps.Named.{noted_at}
 pub use Rattle.polcert_rules.specs.Steps.Newest.{AreKeyed, IsEntryRule, IsIndexOf, IsLastNumber, IsNewest, IsRising, entry_at, newest_from}
 pub use Rattle.polcert_rules.specs.Steps.Newest.{newest_of_each, rules_from}
 pub use Rattle.polcert_rules.specs.Steps.Noting.{IsLastPlace, IsNoted}
-pub use Rattle.polcert_rules.specs.Steps.RewardSearch.{AreWithin, KeyBegins, IsSearchAnswer, IsLastBody}
+pub use Rattle.polcert_rules.specs.Steps.RewardSearch.{AreWithin, IsSearchAnswer, IsLastBody}
 pub use Rattle.polcert_rules.specs.Steps.Rewards.{AreBodiesOf, AreRewardsOf, IsBodyOf, reward_rules, worth}
 pub use Rattle.polcert_rules.specs.Steps.Rows.{HasNoSuchColumn, HaveColumns, IsCell, IsSingleCellKey, IsSingleEntry, at_column, columns_of}
 pub use Rattle.polcert_rules.specs.Steps.Rows.{no_column, number_in}
@@ -46,6 +47,8 @@ pub use Rattle.polcert_rules.specs.Steps.Sources.{Stays, sum_of_weights}
 pub use Rattle.polcert_rules.specs.Steps.Zeros.{IsEntryRowOf, IsSplit, covering_entry, is_zero_entry, newest_zero, number_under, others_in}
 pub use Rattle.polcert_rules.specs.Steps.Zeros.{others_of}
 pub use Rattle.polcert_rules.specs.Steps.Zeros.{overrides, shown, shown_under, zero_of, zeros_of}
+pub use Rattle.polcert_rules.specs.declared.fitting_rules.FittingRules.{FittingRules}
+pub use Rattle.polcert_rules.specs.declared.fitting_rules.RulePart.{RulePart}
 pub use Rattle.polcert_rules.specs.declared.index.Rule.{Rule}
 pub use Rattle.polcert_rules.specs.declared.named_rules.NamedRule.{NamedRule}
 pub use Rattle.polcert_cells.specs.declared.entries.RewardBody.{RewardBody}

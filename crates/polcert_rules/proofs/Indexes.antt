@@ -2,11 +2,12 @@
 pub mod Building
 pub mod BuiltLaws
 pub mod CellLaws
+pub mod FittingLaws
 pub mod Greatest
 pub mod KeptLaws
 pub mod ListLaws
 pub mod Matching
+pub mod NamedLaws
 pub mod Newer
 pub mod NextPlaces
 pub mod NotedLaws
-pub mod NamedLaws

@@ -1,10 +1,9 @@
 -- Rewards.
 pub mod CellRewards
-pub mod RewardAlike
 pub mod RewardAt
 pub mod RewardCells
-pub mod RewardCommon
-pub mod RewardKeys
+pub mod RewardCovering
+pub mod RewardEnds
 pub mod RewardLists
 pub mod RewardPaid
 pub mod RewardRules

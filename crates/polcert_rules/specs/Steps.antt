@@ -1,6 +1,7 @@
 -- What nobody has to believe: only contracts of private functions, and of layers below the crates that callers use, cite these.
 pub mod CellRules
 pub mod Distinct
+pub mod FittingRules
 pub mod Given
 pub mod Lists
 pub mod Meeting

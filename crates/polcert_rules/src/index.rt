@@ -14,7 +14,6 @@ ghost use Rattle.polcert_rules.specs.Steps.Repeats.{NamesNoAction};
 ghost use Rattle.polcert_cells.specs.EntryRefs.{entry_of};
 ghost use Rattle.polcert_rules.specs.Steps.NextPlaces.{IsNextPlace};
 ghost use Rattle.polcert_rules.specs.Matching.{max_option};
-ghost use Rattle.polcert_rules.specs.Steps.RewardSearch.{KeyBegins, IsSearchAnswer};
 
 use polcert_cells::{Entries, EntryRef, Place, Table};
 use std::alloc::{AllocError, Global};
@@ -509,34 +508,5 @@ pub(crate) fn max_option(one: Option<usize>, other: Option<usize>) -> Option<usi
         (None, _) => other,
         (_, None) => one,
         (Some(m), Some(n)) => if m <= n { Some(n) } else { Some(m) },
-    }
-}
-
-/// Tests whether one of the rules, whose places follow those of the key `low`, begins with a place for each
-/// of these indices that fits it, and continues with a key of at least `least`: 0 for any, 2 for a last place
-/// that isn't `*`.
-pub(crate) fn some_begins(
-    rules: &[Rule],
-    low: u64,
-    levels: usize,
-    indices: &[usize],
-    least: u64,
-) -> bool
-    requires rising { IsRising rules.now }
-    requires few { levels ≤ most_places }
-    requires room { low + key_base ^ levels + least < 2 ^ 64 }
-    requires indices { AreIndices levels indices.now }
-    ensures { IsSearchAnswer rules.now (KeyBegins levels low indices.now least) result }
-{
-    if rules.is_empty() {
-        return false;
-    }
-    match indices.split_first() {
-        None => !rules_between(rules, low + least, low + span(levels)).is_empty(),
-        Some((index, rest)) => {
-            let next = next_place(rules, low, levels, *index);
-            some_begins(next.of_every, next.every, next.levels, rest, least)
-                || some_begins(next.of_only, next.only, next.levels, rest, least)
-        }
     }
 }

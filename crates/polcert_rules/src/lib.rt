@@ -1,6 +1,7 @@
 //! The rows of T and O, sparse, and the rewards as rules, made from an index of entries by their patterns.
 #![tactic(auto)]
 
+mod fitting_rules;
 mod index;
 mod named_noting;
 mod named_rules;

@@ -20,19 +20,13 @@ ghost use Rattle.polcert_rules.specs.Steps.Rewards.{IsRewardShapeOf, IsSmall, Ar
 ghost use Rattle.polcert_rules.specs.Steps.RewardSearch.{AreFilled, AreWithin, IsLastBody, IsSingle};
 
 use crate::Index;
-use crate::index::{KEY_BASE, MOST_PLACES, max_option, newest, some_begins};
+use crate::index::{MOST_PLACES, max_option};
 use crate::named_rules::NamedRules;
 use crate::reward_bodies::{RewardBodies, cell_in, indices_after};
-use crate::row_rules::{CellRules, REWARD_KEYS, RowRules, cell_named};
+use crate::row_rules::{CellRules, RowRules, cell_named};
 use polcert_cells::{CommonReward, Entries, RewardBody, RewardCell};
 use std::alloc::{AllocError, Global};
 use std::marker::Model;
-
-/// What a key continues with, at least, if its last place is an index.
-const FIRST_INDEX_DIGIT: u64 = 2;
-
-/// What a key continues with, at least, if one of its last two places is an index.
-const AN_END_OR_OBSERVATION: u64 = KEY_BASE + FIRST_INDEX_DIGIT;
 
 /// This many observations are few: what rules are noted in is then cleared sooner.
 const FEW_OBSERVATIONS: usize = 63;
@@ -106,7 +100,8 @@ impl Rewards {
             result ≡ reward p entries (action ∷ start ∷ end ∷ observation ∷ []) }
     {
         prove!(observation < self.shape.observations);
-        let body = self.newest_body(action, start, &[end, observation]);
+        let rules = self.rules.fitting(action, start);
+        let body = self.body_of(rules.newest(&[end, observation]));
         self.reward_of_body(body, &[action, start, end, observation])
     }
 
@@ -176,7 +171,7 @@ impl Rewards {
     {
         let StateTransition { action, start, end } = at;
         let noted = &mut noted[..count + 1];
-        self.rules.note(at, first, noted);
+        self.rules.fitting(action, start).note(end, first, noted);
         let shared = noted[count];
         let shared_body = self.body_of(shared);
         let single = self.single_number(shared_body);
@@ -209,7 +204,8 @@ impl Rewards {
     {
         let at = StateTransition { action, start, end };
         let mut list = NamedRules::new();
-        if !self.rules.note_named(at, &mut list) {
+        let rules = self.rules.fitting(action, start);
+        if !rules.note_named(end, &mut list) {
             return None;
         }
         let whole = self.body_of(list.whole);
@@ -330,53 +326,6 @@ impl Rewards {
         true
     }
 
-    /// Returns the reward if one look-up shows that it is the same for every observation: no entry names an
-    /// observation when this action is taken in the start state and ends in the end state, and the last that
-    /// covers these has a single number.
-    pub fn for_all_observations(&self, action: usize, start: usize, end: usize) -> Option<i64>
-        requires action { action < self.now.shape.actions }
-        requires start { start < self.now.shape.states }
-        requires end { end < self.now.shape.states }
-        ensures { (p : Preamble) (entries : List E) → AreRewardsOf p entries self.now →
-            ForSome result (λ h. (z : ℕ) → z < self.now.shape.observations →
-            reward p entries (action ∷ start ∷ end ∷ z ∷ []) ≡ h) }
-    {
-        if self
-            .rules
-            .some_begins(action, start, &[end], FIRST_INDEX_DIGIT)
-        {
-            return None;
-        }
-        self.single_number(self.newest_body(action, start, &[end, 0]))
-    }
-
-    /// Returns the reward if one look-up shows that it is the same for every end state and observation: no
-    /// entry names one of these when this action is taken in the start state, and the last that covers them
-    /// has a single number.
-    pub fn for_all_ends(&self, action: usize, start: usize) -> Option<i64>
-        requires action { action < self.now.shape.actions }
-        requires start { start < self.now.shape.states }
-        ensures { (p : Preamble) (entries : List E) → AreRewardsOf p entries self.now →
-            ForSome result (λ h. (end observation : ℕ) → end < self.now.shape.states →
-            observation < self.now.shape.observations →
-            reward p entries (action ∷ start ∷ end ∷ observation ∷ []) ≡ h) }
-    {
-        if self
-            .rules
-            .some_begins(action, start, &[], AN_END_OR_OBSERVATION)
-        {
-            return None;
-        }
-        match self.newest_body(action, start, &[0, 0]) {
-            None => Some(0),
-            Some(found) => if is_single(found.places, self.shape.observations) {
-                Some(self.bodies.number_at(found, 0))
-            } else {
-                None
-            },
-        }
-    }
-
     /// Returns whether it is known at once that an action has the same rewards in two start states: no entry that fits the action
     /// names one of them, or has numbers for each start state.
     pub fn has_same(&self, action: usize, start: usize, other: usize) -> bool
@@ -394,6 +343,25 @@ impl Rewards {
         !self.rules.names_start(action, other)
     }
 
+    /// Returns an end state up to which it is known at once that all from `end` on have the same rewards if this action is taken in the
+    /// start state: no entry that fits these names one of them, or has numbers for each end state.
+    pub fn same_until(&self, action: usize, start: usize, end: usize) -> usize
+        requires action { action < self.now.shape.actions }
+        requires start { start < self.now.shape.states }
+        requires end { end < self.now.shape.states }
+        ensures { (p : Preamble) (entries : List E) → AreRewardsOf p entries self.now →
+            (f observation : ℕ) → end ≤ f → f < result → f < self.now.shape.states →
+            observation < self.now.shape.observations →
+            reward p entries (action ∷ start ∷ f ∷ observation ∷ [])
+            ≡ reward p entries (action ∷ start ∷ end ∷ observation ∷ []) }
+    {
+        let rules = self.rules.fitting(action, start);
+        if rules.newest(&[]).is_some() {
+            return end;
+        }
+        rules.same_until(end)
+    }
+
     /// Tests whether any entry of R is about this action and start state. If none is, all rewards are 0.
     pub fn has_rewards(&self, action: usize, start: usize) -> bool
         requires action { action < self.now.shape.actions }
@@ -406,16 +374,7 @@ impl Rewards {
             × (meets_row RewardTable action start e ≡ true) }
     {
         prove!(action < self.shape.actions);
-        match self.newest_number(&[action]) {
-            Some(_) => true,
-            None => some_begins(
-                self.rules.rules.as_slice(),
-                REWARD_KEYS,
-                MOST_PLACES,
-                &[action, start],
-                0,
-            ),
-        }
+        self.rules.fitting(action, start).have_some()
     }
 
     /// Returns what the body of the last entry that covers the cell at these indices gives it; 0 if there is
@@ -475,30 +434,6 @@ impl Rewards {
             Some(reward) => reward,
             None => self.reward_of_body(body, indices),
         }
-    }
-
-    /// Returns the number of the last entry that covers all cells that begin with these indices, if one does.
-    fn newest_number(&self, indices: &[usize]) -> Option<usize>
-        requires { AreIndices most_places indices.now }
-        ensures { (p : Preamble) (entries : List E) → AreRewardsOf p entries self.now →
-            IsLastNumber entries RewardTable indices.now result }
-    {
-        newest(
-            self.rules.rules.as_slice(),
-            REWARD_KEYS,
-            MOST_PLACES,
-            indices,
-        )
-    }
-
-    /// Returns the body of the last entry that covers the cell at an action, a start state and the indices
-    /// after them, if one does.
-    fn newest_body(&self, action: usize, start: usize, rest: &[usize]) -> Option<RewardBody>
-        requires { AreIndices most_places (action ∷ start ∷ rest.now) }
-        ensures { (p : Preamble) (entries : List E) → AreRewardsOf p entries self.now →
-            IsLastBody p.costs entries self.now.numbers (action ∷ start ∷ rest.now) result }
-    {
-        self.body_of(self.rules.newest(action, start, rest))
     }
 
     /// Returns the body of the rule of this number.

@@ -3,24 +3,23 @@ ghost use Rattle.std.specs.Prelude.{◌≡◌, ◌+◌, ◌<◌, ◌≤◌, ◌^
 ghost use Rattle.std.specs.Prelude.{IsTrue, ℕ, Some, None, slice_index_or};
 ghost use Rattle.polcert_cells.specs.declared.entries.Table.TheVariants.{Reward};
 ghost use Rattle.polcert_rules.specs.declared.index.Rule.{Rule as R};
+ghost use Rattle.polcert_rules.specs.Steps.FittingRules.{AreFitting, IsPartOf};
 ghost use Rattle.polcert_rules.specs.Steps.Newest.{IsRising, IsNewest};
 ghost use Rattle.polcert_rules.specs.Keys.{key_base, AreIndices, FitsKey, most_places, table_key};
-ghost use Rattle.polcert_rules.specs.Steps.Named.{AreNamed};
 ghost use Rattle.polcert_rules.specs.Steps.Noting.{AreNoted, IsNoted, IsLastPlace};
-ghost use Rattle.polcert_rules.specs.Steps.RewardSearch.{KeyBegins, IsSearchAnswer, NamesStart, NamesStartAfter};
+ghost use Rattle.polcert_rules.specs.Steps.RewardSearch.{NamesStart};
 ghost use Rattle.polcert_rules.specs.Steps.Rewards.{IsSmall};
 ghost use Rattle.polcert_rules.specs.Matching.{max_option};
 ghost use Rattle.polcert_rules.specs.Steps.CellRules.{AreCellRules, AreJoined, AreProperCells, NamesEnd};
 ghost use Rattle.std.specs.Prelude.{IfSome};
 
 use crate::Rule;
+use crate::fitting_rules::{FittingRules, RulePart};
 use crate::index::{
-    KEY_BASE, RuleSpan, TABLE, first_at, has_gap, max_option, newest, next_place, none_below,
-    place_of_key, rules_between, rules_between_at, rules_from, some_begins, span, span_of,
+    ACTION, KEY_BASE, ROW, RuleSpan, TABLE, first_at, has_gap, max_option, next_place, none_below,
+    place_of_key, rules_between, rules_between_at, rules_from, span, span_of,
 };
-use crate::named_noting::note_ends;
-use crate::named_rules::NamedRules;
-use crate::rewards::{RewardShape, StateTransition};
+use crate::rewards::RewardShape;
 use std::alloc::{AllocError, Global};
 
 /// The key that those of R follow.
@@ -37,7 +36,7 @@ const INDICES: usize = 2;
 const FEW_RULES: usize = 64;
 
 /// How many places there are after the first two.
-const PLACES_LEFT: usize = 2;
+pub(crate) const PLACES_LEFT: usize = 2;
 
 /// The rules of R by their keys; and if they are not few, for each first place, by each second place, where the rules that
 /// have both may stand. No answer depends on where they may: only how soon it comes.
@@ -85,191 +84,25 @@ impl RowRules {
         })
     }
 
-    /// Returns the newest of the rules that fit an action, a start state and the indices after them.
-    pub(crate) fn newest(&self, action: usize, start: usize, rest: &[usize]) -> Option<usize>
+    /// Returns the rules that fit an action and a start state.
+    pub(crate) fn fitting(&self, action: usize, start: usize) -> FittingRules<'_>
         requires rising { IsRising self.now.rules.items }
-        requires indices { AreIndices most_places (action ∷ start ∷ rest.now) }
-        ensures { IsNewest self.now.rules.items
-            (FitsKey most_places (table_key Reward) (action ∷ start ∷ rest.now)) result }
+        requires indices { AreIndices most_places (action ∷ start ∷ []) }
+        ensures { AreFitting self.now.rules.items action start result }
     {
-        let step = span(3);
-        let only = REWARD_KEYS + (action as u64 + 2) * step;
-        let here = first_at(
-            self.rules_after(NO_PLACE, NO_PLACE, REWARD_KEYS),
-            REWARD_KEYS,
-        );
-        let of_every = self.newest_after(EVERY, REWARD_KEYS + step, start, rest);
-        let of_only = self.newest_after(action + INDICES, only, start, rest);
-        max_option(here, max_option(of_every, of_only))
-    }
-
-    /// Returns the same as `newest` after a first place, which has this digit.
-    fn newest_after(&self, digit: usize, low: u64, start: usize, rest: &[usize]) -> Option<usize>
-        requires rising { IsRising self.now.rules.items }
-        requires room { low + key_base ^ 3 < 2 ^ 64 }
-        requires indices { AreIndices 3 (start ∷ rest.now) }
-        ensures { IsNewest self.now.rules.items (FitsKey 3 low (start ∷ rest.now)) result }
-    {
-        if self.lacks_keys(digit, low, low + span(3)) {
-            return None;
+        let every = REWARD_KEYS + ACTION;
+        let only = REWARD_KEYS + (action as u64 + 2) * ACTION;
+        let state = (start as u64 + 2) * ROW;
+        let here = self.rule_at(NO_PLACE, REWARD_KEYS);
+        let of_each = self.rule_at(EVERY, every);
+        let of_this = self.rule_at(action + INDICES, only);
+        FittingRules {
+            whole: max_option(here, max_option(of_each, of_this)),
+            of_all: self.part(EVERY, EVERY, every + ROW),
+            of_state: self.part(EVERY, start + INDICES, every + state),
+            of_action: self.part(action + INDICES, EVERY, only + ROW),
+            of_row: self.part(action + INDICES, start + INDICES, only + state),
         }
-        let step = span(PLACES_LEFT);
-        let every = low + step;
-        let only = low + (start as u64 + 2) * step;
-        let of_only = newest(
-            self.rules_after(digit, start + INDICES, only),
-            only,
-            PLACES_LEFT,
-            rest,
-        );
-        if self.lacks_keys(digit, low, every + step) {
-            return of_only;
-        }
-        let here = first_at(self.rules_after(digit, NO_PLACE, low), low);
-        let of_every = newest(
-            self.rules_after(digit, EVERY, every),
-            every,
-            PLACES_LEFT,
-            rest,
-        );
-        max_option(here, max_option(of_every, of_only))
-    }
-
-    /// Notes, for each of the observations from `first` on for which there is room, the newest rule that fits
-    /// it and the outcome, if it is newer than the note.
-    pub(crate) fn note(&self, at: StateTransition, first: usize, noted: &mut [Option<usize>])
-        requires rising { IsRising self.now.rules.items }
-        requires indices { AreIndices most_places (at.action ∷ at.start ∷ at.end ∷ []) }
-        requires small { first + length noted.old + 2 ≤ key_base }
-        ensures { AreNoted self.now.rules.items most_places (table_key Reward)
-            (at.action ∷ at.start ∷ at.end ∷ []) first noted.old noted.new }
-    {
-        let step = span(3);
-        let only = REWARD_KEYS + (at.action as u64 + 2) * step;
-        note_all(
-            noted,
-            first_at(
-                self.rules_after(NO_PLACE, NO_PLACE, REWARD_KEYS),
-                REWARD_KEYS,
-            ),
-        );
-        self.note_after(EVERY, REWARD_KEYS + step, at, first, noted);
-        self.note_after(at.action + INDICES, only, at, first, noted);
-    }
-
-    /// Does the same as `note` after a first place, which has this digit.
-    fn note_after(
-        &self,
-        digit: usize,
-        low: u64,
-        at: StateTransition,
-        first: usize,
-        noted: &mut [Option<usize>],
-    )
-        requires rising { IsRising self.now.rules.items }
-        requires room { low + key_base ^ 3 < 2 ^ 64 }
-        requires indices { AreIndices 3 (at.start ∷ at.end ∷ []) }
-        requires small { first + length noted.old + 2 ≤ key_base }
-        ensures { AreNoted self.now.rules.items 3 low (at.start ∷ at.end ∷ []) first noted.old noted.new }
-    {
-        let step = span(PLACES_LEFT);
-        let every = low + step;
-        let only = low + (at.start as u64 + 2) * step;
-        let rest = [at.end];
-        note_all(noted, first_at(self.rules_after(digit, NO_PLACE, low), low));
-        let rules_of_every = self.rules_after(digit, EVERY, every);
-        note(rules_of_every, every, PLACES_LEFT, &rest, first, noted);
-        let rules_of_only = self.rules_after(digit, at.start + INDICES, only);
-        note(rules_of_only, only, PLACES_LEFT, &rest, first, noted);
-    }
-
-    /// Notes, for each observation, the newest rule that fits an outcome and the observation. Returns whether there was room.
-    pub(crate) fn note_named(&self, at: StateTransition, list: &mut NamedRules) -> bool
-        requires rising { IsRising self.now.rules.items }
-        requires indices { AreIndices most_places (at.action ∷ at.start ∷ at.end ∷ []) }
-        ensures { IsTrue result → AreNamed self.now.rules.items most_places (table_key Reward)
-            (at.action ∷ at.start ∷ at.end ∷ []) list.old list.new }
-    {
-        let step = span(3);
-        let only = REWARD_KEYS + (at.action as u64 + 2) * step;
-        list.note_all(first_at(
-            self.rules_after(NO_PLACE, NO_PLACE, REWARD_KEYS),
-            REWARD_KEYS,
-        ));
-        if !self.note_named_after(EVERY, REWARD_KEYS + step, at, list) {
-            return false;
-        }
-        self.note_named_after(at.action + INDICES, only, at, list)
-    }
-
-    /// Does the same as `note_named` after a first place, which has this digit.
-    fn note_named_after(
-        &self,
-        digit: usize,
-        low: u64,
-        at: StateTransition,
-        list: &mut NamedRules,
-    ) -> bool
-        requires rising { IsRising self.now.rules.items }
-        requires room { low + key_base ^ 3 < 2 ^ 64 }
-        requires indices { AreIndices 3 (at.start ∷ at.end ∷ []) }
-        ensures { IsTrue result → AreNamed self.now.rules.items 3 low (at.start ∷ at.end ∷ [])
-            list.old list.new }
-    {
-        let step = span(PLACES_LEFT);
-        let every = low + step;
-        let only = low + (at.start as u64 + 2) * step;
-        list.note_all(first_at(self.rules_after(digit, NO_PLACE, low), low));
-        let rules_of_every = self.rules_after(digit, EVERY, every);
-        let rules_of_only = self.rules_after(digit, at.start + INDICES, only);
-        if !note_ends(rules_of_every, every, at.end, list) {
-            return false;
-        }
-        note_ends(rules_of_only, only, at.end, list)
-    }
-
-    /// Tests whether one of the rules begins with a place for an action, one for a start state and one for
-    /// each of the indices after them that fits it, and continues with a key of at least `least`.
-    pub(crate) fn some_begins(
-        &self,
-        action: usize,
-        start: usize,
-        rest: &[usize],
-        least: u64,
-    ) -> bool
-        requires rising { IsRising self.now.rules.items }
-        requires room { table_key Reward + key_base ^ most_places + least < 2 ^ 64 }
-        requires indices { AreIndices most_places (action ∷ start ∷ rest.now) }
-        ensures { IsSearchAnswer self.now.rules.items
-            (KeyBegins most_places (table_key Reward) (action ∷ start ∷ rest.now) least) result }
-    {
-        let step = span(3);
-        let only = REWARD_KEYS + (action as u64 + 2) * step;
-        self.some_begins_after(EVERY, REWARD_KEYS + step, start, rest, least)
-            || self.some_begins_after(action + INDICES, only, start, rest, least)
-    }
-
-    /// Returns the same as `some_begins` after a first place, which has this digit.
-    fn some_begins_after(
-        &self,
-        digit: usize,
-        low: u64,
-        start: usize,
-        rest: &[usize],
-        least: u64,
-    ) -> bool
-        requires rising { IsRising self.now.rules.items }
-        requires room { low + key_base ^ 3 + least < 2 ^ 64 }
-        requires indices { AreIndices 3 (start ∷ rest.now) }
-        ensures { IsSearchAnswer self.now.rules.items (KeyBegins 3 low (start ∷ rest.now) least) result }
-    {
-        let step = span(PLACES_LEFT);
-        let every = low + step;
-        let only = low + (start as u64 + 2) * step;
-        let of_every = self.rules_after(digit, EVERY, every);
-        let of_only = self.rules_after(digit, start + INDICES, only);
-        some_begins(of_every, every, PLACES_LEFT, rest, least)
-            || some_begins(of_only, only, PLACES_LEFT, rest, least)
     }
 
     /// Returns the rules that fit an action and a start state, if those that name a cell follow one key.
@@ -317,42 +150,43 @@ impl RowRules {
         Some(of_every.join(of_only)?.with_whole(here))
     }
 
-    /// Returns whether one of the rules that fit an action has no place for a start state, or names this one.
+    /// Tests whether a rule that fits an action has no place for a start state, or names this one.
     pub(crate) fn names_start(&self, action: usize, start: usize) -> bool
         requires rising { IsRising self.now.rules.items }
         requires indices { AreIndices most_places (action ∷ start ∷ []) }
         ensures { IsFalse result → (r : R) → Contains self.now.rules.items r → NamesStart action start r.key
             → ⊥ }
     {
-        let step = span(3);
-        let only = REWARD_KEYS + (action as u64 + 2) * step;
-        // (In most texts an entry names the action.)
-        if self.names_start_after(action + INDICES, only, start) {
+        let key = REWARD_KEYS + (action as u64 + 2) * ACTION + (start as u64 + 2) * ROW;
+        // (In most texts an entry names both.)
+        if !self
+            .rules_after(action + INDICES, start + INDICES, key)
+            .is_empty()
+        {
             return true;
         }
-        if self.names_start_after(EVERY, REWARD_KEYS + step, start) {
-            return true;
-        }
-        first_at(
-            self.rules_after(NO_PLACE, NO_PLACE, REWARD_KEYS),
-            REWARD_KEYS,
-        )
-        .is_some()
+        self.fitting(action, start).name_the_start()
     }
 
-    /// Returns the same as `names_start` after a first place, which has this digit.
-    fn names_start_after(&self, digit: usize, low: u64, start: usize) -> bool
+    /// Returns the number of the rule with this key, that of one place with this digit or of none.
+    fn rule_at(&self, first: usize, key: u64) -> Option<usize>
         requires rising { IsRising self.now.rules.items }
-        requires room { low + key_base ^ 3 < 2 ^ 64 }
-        requires index { start + 2 < key_base }
-        ensures { IsFalse result → (r : R) → Contains self.now.rules.items r → NamesStartAfter low start r.key
-            → ⊥ }
+        requires room { key + key_base ^ 2 < 2 ^ 64 }
+        ensures { IsNewest self.now.rules.items (λ k. k ≡ key) result }
     {
-        let only = low + (start as u64 + 2) * span(PLACES_LEFT);
-        if !self.rules_after(digit, start + INDICES, only).is_empty() {
-            return true;
+        first_at(self.rules_after(first, NO_PLACE, key), key)
+    }
+
+    /// Returns the rules that have two places with these digits, whose key is `low`.
+    fn part(&self, first: usize, second: usize, low: u64) -> RulePart<'_>
+        requires rising { IsRising self.now.rules.items }
+        requires room { low + key_base ^ 2 < 2 ^ 64 }
+        ensures { IsPartOf self.now.rules.items low result }
+    {
+        RulePart {
+            low,
+            rules: self.rules_after(first, second, low),
         }
-        first_at(self.rules_after(digit, NO_PLACE, low), low).is_some()
     }
 
     /// Returns whether no rule has a key from `low`, that of one place with this digit, up to another. `false`: unknown. (Most texts have

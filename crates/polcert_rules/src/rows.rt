@@ -138,6 +138,17 @@ impl Rows {
         }
     }
 
+    /// Returns whether an action has one row, as it is kept, in two states. `false`: unknown.
+    pub fn has_same(&self, action: usize, state: usize, other: usize) -> bool
+        requires action { action < self.now.actions }
+        requires state { state < self.now.states }
+        requires other { other < self.now.states }
+        ensures { IsTrue result → row_at self.now action state ≡ row_at self.now action other }
+    {
+        let numbers = self.numbers.at(action);
+        numbers[state] == numbers[other]
+    }
+
     /// Returns the row of an action and a state, as it is kept.
     fn stored_row(&self, action: usize, state: usize) -> StoredRow<'_>
         requires action { action < self.now.actions }

@@ -327,9 +327,13 @@ fn alike_at(
     requires start { start < 2 }
     requires end { end < 2 }
 {
-    match rewards(alloc, false, lines) {
-        Ok(rewards) => Some(rewards.for_all_observations(action, start, end)),
-        Err(_) => None,
+    let rewards = match rewards(alloc, false, lines) {
+        Ok(rewards) => rewards,
+        Err(_) => return None,
+    };
+    match rewards.find(action, start, end, &mut []) {
+        Some(common) => Some(Some(common.reward)),
+        None => Some(None),
     }
 }
 
@@ -396,6 +400,43 @@ const SAME: &[(&[Line], [usize; 3], bool)] = &[
 fn the_same_in_two_states(rt: HostRuntime) {
     for &(lines, at, is_same) in SAME {
         assert_eq!(rt; same_at(rt.alloc(), lines, at), Some(is_same));
+    }
+}
+
+fn until_at(alloc: Global, lines: &[Line], at: [usize; 3]) -> Option<usize> {
+    let [action, start, end] = at;
+    if action > 1 || start > 1 || end > 1 {
+        return None;
+    }
+    match rewards(alloc, false, lines) {
+        Ok(rewards) => Some(rewards.same_until(action, start, end).min(2)),
+        Err(_) => None,
+    }
+}
+
+/// Lines, an action, a start state and an end state, and the end state, 2 at most, up to which rewards are known to be the same.
+const UNTIL: &[(&[Line], [usize; 3], usize)] = &[
+    (&[], [0, 0, 0], 2),
+    (&[WIDE], [1, 0, 0], 2),
+    (&[SHARED], [1, 0, 0], 1),
+    (&[SHARED], [1, 0, 1], 2),
+    (&[NAMED], [0, 1, 0], 2),
+    (&[(&[0, 1, 0, 1], &[3])], [0, 1, 0], 1),
+    (&[(&[0, 1, 0, 1], &[3])], [0, 1, 1], 2),
+    (&[(&[0, 1, 1, 1], &[3])], [0, 1, 0], 1),
+    (&[(&[0, 1, 1, 1], &[3])], [0, 0, 0], 2),
+    (&[(&[0, 1, 1, 1], &[3])], [1, 1, 0], 2),
+    (&[OF_ONE_ACTION], [0, 1, 0], 0),
+    (&[OF_ONE_ACTION], [0, 1, 1], 1),
+    (&[OF_ONE_ACTION], [1, 1, 0], 2),
+    (&[(&[ANY, 0], &[3, 4, 5, 6])], [1, 0, 0], 0),
+    (&[(&[ANY, 0], &[3, 4, 5, 6])], [1, 1, 0], 2),
+];
+
+#[test]
+fn the_same_up_to_an_end_state(rt: HostRuntime) {
+    for &(lines, at, until) in UNTIL {
+        assert_eq!(rt; until_at(rt.alloc(), lines, at), Some(until));
     }
 }
 

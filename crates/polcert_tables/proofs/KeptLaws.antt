@@ -16,7 +16,7 @@ use Rattle.polcert_cells.specs.declared.common_reward.RewardCell.{RewardCell}
 use Rattle.polcert_cells.specs.Sparse.{weight_at}
 use Rattle.polcert_rules.proofs.RewardLaws.CellRewards.{some_factor}
 use Rattle.polcert_rules.specs.RowTables.{RowTable, row_at, AreRowsOf}
-use Rattle.polcert_rules.specs.RewardAt.{reward_at, RewardRules}
+use Rattle.polcert_rules.specs.RewardAt.{RewardRules}
 use Rattle.polcert_cells.proofs.CellLaws.{sum_of_same}
 use Rattle.polcert_cells.proofs.SoundLaws.{rewarded_few}
 use Rattle.polcert_rules.proofs.RewardLaws.RewardAt.{reward_is}
@@ -52,10 +52,6 @@ kept_same d k few h = record {
   o = λ a e z i j l. grind (arith, observed_cell);
   r = λ a s e z i j l m. grind (arith, reward_is, rewarded_few, index_within);
 }
-
--- in an MDP a reward has nothing to do with what is observed, and that is the end state
-pub mdp_reward : (k : Kept) (a s e z : ℕ) → is_mdp k.preamble ≡ true → (kept_meaning k).r a s e z ≡ (kept_meaning k).r a s e 0
-mdp_reward k a s e z mdp = ap (λ b. reward_at k.rewards a s e (cond b 0 z)) mdp ∙ sym (ap (λ b. reward_at k.rewards a s e (cond b 0 0)) mdp)
 
 -- where observations are named, a reward's last index is the observation
 pub observed_index : (p : Preamble) (z : ℕ) → is_mdp p ≡ false → reward_index p z ≡ z
@@ -106,13 +102,6 @@ module _ (k : Kept) (d : IsKeptModel k) where
     is d.items.preamble d.items.entries
         d.said.rewards,
   )
-
-  pub model_for_all_observations : (a s e : ℕ) (found : Option ℤ) → a < count_of k.preamble.actions → s < count_of k.preamble.states
-      → e < count_of k.preamble.states
-      → ((p : Preamble) (entries : List Entry) → AreRewardsOf p entries k.rewards
-      → ForSome found (λ h. (z : ℕ) → z < k.rewards.shape.observations → reward p entries (a ∷ s ∷ e ∷ z ∷ []) ≡ h))
-      → ForSome found (λ h. (z : ℕ) → z < count_of (observed k.preamble) → (kept_meaning k).r a s e z ≡ h)
-  model_for_all_observations a s e found i j l alike = λ h is z m. grind (arith, kept_same d.items k (few_in k d), model_index z)
 
   -- where observations are named, a reward runs over them
   rewards_seen : is_mdp k.preamble ≡ false → k.rewards.shape.observations ≡ count_of (observed k.preamble)
@@ -210,14 +199,6 @@ module _ (k : Kept) (d : IsKeptModel k) where
         others = λ e m unnamed. there e m ∙ c.others e (rw (mul-one (count_of k.preamble.states)) m) unnamed;
       }
 
-  pub model_for_all_ends : (a s : ℕ) (found : Option ℤ) → a < count_of k.preamble.actions → s < count_of k.preamble.states
-      → ((p : Preamble) (entries : List Entry) → AreRewardsOf p entries k.rewards
-      → ForSome found (λ h. (e z : ℕ) → e < k.rewards.shape.states → z < k.rewards.shape.observations
-      → reward p entries (a ∷ s ∷ e ∷ z ∷ []) ≡ h))
-      → ForSome found (λ h. (e z : ℕ) → e < count_of k.preamble.states → z < count_of (observed k.preamble)
-      → (kept_meaning k).r a s e z ≡ h)
-  model_for_all_ends a s found i j common = λ h is e z l m. grind (arith, kept_same d.items k (few_in k d), model_index z)
-
   pub model_same : (a s other : ℕ) → a < count_of k.preamble.actions → s < count_of k.preamble.states → other < count_of k.preamble.states
       → ((p : Preamble) (entries : List Entry) → AreRewardsOf p entries k.rewards → (e z : ℕ) → e < k.rewards.shape.states
       → z < k.rewards.shape.observations
@@ -225,6 +206,20 @@ module _ (k : Kept) (d : IsKeptModel k) where
       → (e z : ℕ) → e < count_of k.preamble.states → z < count_of (observed k.preamble)
       → (kept_meaning k).r a s e z ≡ (kept_meaning k).r a other e z
   model_same a s other i j o same e z l m = grind (
+    arith,
+    kept_same d.items k (few_in k d) d.said,
+    same d.items.preamble d.items.entries
+        d.said.rewards,
+    model_index z m,
+  )
+
+  pub model_ends : (a s e until : ℕ) → a < count_of k.preamble.actions → s < count_of k.preamble.states → e < count_of k.preamble.states
+      → ((p : Preamble) (entries : List Entry) → AreRewardsOf p entries k.rewards → (f z : ℕ) → e ≤ f → f < until
+      → f < k.rewards.shape.states → z < k.rewards.shape.observations
+      → reward p entries (a ∷ s ∷ f ∷ z ∷ []) ≡ reward p entries (a ∷ s ∷ e ∷ z ∷ []))
+      → (f z : ℕ) → e ≤ f → f < until → f < count_of k.preamble.states → z < count_of (observed k.preamble)
+      → (kept_meaning k).r a s f z ≡ (kept_meaning k).r a s e z
+  model_ends a s e until i j o same f z from to l m = grind (
     arith,
     kept_same d.items k (few_in k d) d.said,
     same d.items.preamble d.items.entries

@@ -177,9 +177,9 @@ fn push_rewards(
         cells.new.items) }
 {
     let observations = model.observations();
-    match model.r_for_all_z(a, s, e) {
-        Some(reward) => for _ in 0..observations {
-            cells.push(reward)?;
+    match model.find_rewards(a, s, e, &mut []) {
+        Some(common) => for _ in 0..observations {
+            cells.push(common.reward)?;
         },
         None => for z in 0..observations {
             cells.push(model.r(a, s, e, z))?;

@@ -405,13 +405,6 @@ impl Cells for Model {
         }
     }
 
-    fn r_for_all_z(&self, a: usize, s: usize, e: usize) -> Option<i64> {
-        match &self.preamble.observations {
-            None => Some(Model::r(self, a, s, e, 0)),
-            Some(_) => self.rewards.for_all_observations(a, s, e),
-        }
-    }
-
     fn find_rewards(
         &self,
         a: usize,
@@ -452,12 +445,19 @@ impl Cells for Model {
         }
     }
 
-    fn r_constant(&self, a: usize, s: usize) -> Option<i64> {
-        self.rewards.for_all_ends(a, s)
-    }
-
     fn has_same_rewards(&self, a: usize, s: usize, other: usize) -> bool {
         self.rewards.has_same(a, s, other)
+    }
+
+    fn same_rewards_until(&self, a: usize, s: usize, e: usize) -> usize {
+        self.rewards.same_until(a, s, e)
+    }
+
+    fn has_same_observations(&self, a: usize, e: usize, other: usize) -> bool {
+        match &self.observed {
+            Some(rows) => rows.has_same(a, e, other),
+            None => false,
+        }
     }
 }
 

@@ -5,6 +5,7 @@ use Rattle.polcert_cells.specs.Tables.{CellTable}
 use Rattle.polcert_check.specs.Horizon.{Controller, total_below}
 use Rattle.polcert_check.specs.Shortfall.{at_node, short, PairPasses}
 use Rattle.polcert_check.specs.Verdict.{IsLeastLacking}
+use Rattle.polcert_check.specs.declared.expected_reward.EndRun.{EndRun}
 use Rattle.polcert_check.specs.declared.expected_reward.TheConstants.{UNKNOWN}
 use Rattle.polcert_check.specs.declared.survey.Verdict.{Verdict}
 use Rattle.polcert_check.specs.declared.survey.Verdict.TheVariants.{Yes, Short, NoSuccessor}
@@ -18,6 +19,14 @@ reward_at_end m a s e = total_below (λ z. pos (m.o a e z) *ℤ m.r a s e z) m.o
 -- the reward that action a expects at state s, on the scale of one step
 abbrev pub factored_reward : CellTable → ℕ → ℕ → ℤ
 factored_reward m a s = total_below (λ e. pos (m.t a s e) *ℤ reward_at_end m a s e) m.states
+
+-- The reward is that expected at the run's end state. The end states after it, before another, have the same rewards, and if it is said so,
+-- all observations have one.
+pub record IsEndRun (m : CellTable) (a s : ℕ) (run : EndRun) : Type 0 where
+  pub end : run.end < m.states
+  pub reward : run.reward ≡ reward_at_end m a s run.end
+  pub same : (f z : ℕ) → run.end ≤ f → f < run.until → f < m.states → z < m.observations → m.r a s f z ≡ m.r a s run.end z
+  pub constant : run.is_constant ≡ true → (h : ℤ) × ((z : ℕ) → z < m.observations → m.r a s run.end z ≡ h)
 
 -- the first numbers of the list are those of f, except those that are not computed yet
 pub record AreKnown (f : ℕ → ℤ) (count : ℕ) (numbers : List ℤ) : Type 0 where

@@ -11,6 +11,11 @@ pub newest_as : (rules : List Rule) (P Q : ℕ → Type 0) (x : Option ℕ) → 
     → IsNewest rules Q x
 newest_as rs0 P Q x h1 h2 h3 = grind arith
 
+-- the rules that pass are the same
+pub newest_among : (rules : List Rule) (P Q : ℕ → Type 0) (x : Option ℕ) → ((r : Rule) → Contains rules r → P r.key → Q r.key)
+    → ((r : Rule) → Contains rules r → Q r.key → P r.key) → IsNewest rules P x → IsNewest rules Q x
+newest_among rs0 P Q x h1 h2 h3 = grind arith
+
 -- from a part of the rules that has all that pass
 pub newest_of_part : (rules part : List Rule) (P : ℕ → Type 0) (x : Option ℕ) → ((r : Rule) → Contains part r → Contains rules r)
     → ((r : Rule) → Contains rules r → P r.key → Contains part r) → IsNewest part P x → IsNewest rules P x
@@ -129,17 +134,6 @@ newest_only rules m low i step indices x is small none only =
     newest_of_three rules m low i indices None None x (λ r c e. none r c (omega (arith, e)) (omega (arith, e, is, power_some m)))
     (newest_of_none rules m (low + key_base ^ m) indices small (λ r c l h. none r c (omega (arith, l)) (omega (arith, h, is))))
     (subst (λ (t : ℕ). IsNewest rules (FitsKey m (low + (i + 2) * t) indices) x) is only)
-
--- the same, from a part
-pub newest_of_only : (rules onlys : List Rule) (m low i : ℕ) (indices : List ℕ) (step : ℕ) (only : Option ℕ) → IsDeeper m low i indices step
-    → ((r : Rule) → Contains rules r → low ≤ r.key → r.key < low + step + step → ⊥)
-    → IsSpan rules onlys (low + (i + 2) * step) step → IsNewest onlys (FitsKey (m - 1) (low + (i + 2) * step) indices) only
-    → IsNewest rules (FitsKey m low (i ∷ indices)) only
-newest_of_only rs onlys m low i indices step only d none spanned o =
-    newest_deeper rs [] onlys m low i indices step None None only d
-    (λ r c e. none r c (omega (arith, e)) (omega (arith, e, d.some)))
-    (λ r. ((λ c. absurd (omega (arith, c.1))), (λ h. absurd (none r h.0 (omega (arith, h.1)) (omega (arith, h.2))))))
-    (λ r c f. absurd (omega (arith, c.1))) spanned o
 
 pub no_more : (indices : List ℕ) → length indices ≡ 0 → indices ≡ []
 no_more [] e = refl

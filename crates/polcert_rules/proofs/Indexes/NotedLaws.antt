@@ -6,7 +6,7 @@ use Rattle.polcert_rules.proofs.Common.{IsNewest, max_option, IsNoted, IsLastPla
 use Rattle.polcert_rules.specs.Keys.{FitsKey}
 use Rattle.polcert_rules.proofs.Keyed.Fitting.{fits_next, fits_here, fits_end, fits_every, fits_only}
 use Rattle.polcert_rules.proofs.Indexes.Greatest.{greatest_as, greatest_of, newest_of, greatest_of_two, greatest_itself}
-use Rattle.polcert_rules.proofs.Indexes.Newer.{newest_as, newest_of_part, newest_of_two, newest_of_three, newest_deeper, is_deeper, IsSpan}
+use Rattle.polcert_rules.proofs.Indexes.Newer.{newest_as, newest_of_part, newest_of_two, newest_deeper, is_deeper, IsSpan}
 
 -- ---- the later of two numbers
 pub later_none : (x : Option ℕ) → max_option x None ≡ x
@@ -110,14 +110,6 @@ noted_deeper rules evens onlys m low i rest z step here before first second afte
       is = o.is ∙ ap (λ x. max_option x o.found) (n.is ∙ ap (λ x. max_option x n.found) e)
           ∙ later_of_later (max_option before here) n.found o.found ∙ later_of_later before here (max_option n.found o.found);
     }
-
--- the same of all rules
-pub noted_of_three : (rules : List Rule) (m low i : ℕ) (indices : List ℕ) (here before first second after : Option ℕ)
-    → IsNewest rules (λ k. k ≡ low) here → first ≡ max_option before here
-    → IsNoted rules (FitsKey m (low + key_base ^ m) indices) first second
-    → IsNoted rules (FitsKey m (low + (i + 2) * key_base ^ m) indices) second after
-    → IsNoted rules (FitsKey (suc m) low (i ∷ indices)) before after
-noted_of_three rs0 m low i indices here before first second after h e n o = grind (arith, newest_of_three, later_of_later)
 
 -- where nothing was noted before, the newest is noted
 pub noted_first : (rules : List Rule) (P : ℕ → Type 0) (before after : Option ℕ) → before ≡ None → IsNoted rules P before after

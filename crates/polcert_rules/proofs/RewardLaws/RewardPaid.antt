@@ -1,52 +1,65 @@
 -- Where an entry of R is about an action and a start state.
-use Rattle.std.proofs.Common.{◌≡◌, ◌∙◌, ℕ, zero, suc, ◌+◌, ◌-◌, ◌*◌, ◌^◌, ◌<◌, ◌≤◌, true, false, ◌&&◌, ⊎_elim, Some, None, List, [], ◌∷◌}
-use Rattle.std.proofs.Common.{length, take, Contains, refl, sym, ap, subst, arith, pos, rules}
+use Rattle.std.proofs.Common.{◌≡◌, ◌∙◌, ℕ, zero, suc, ◌+◌, ◌-◌, ◌*◌, ◌^◌, ◌<◌, ◌≤◌, true, false, ◌&&◌, inl, inr, ⊎_elim, Some, List, []}
+use Rattle.std.proofs.Common.{◌∷◌, length, take, Contains, refl, sym, ap, subst, arith, pos, rules}
 use Rattle.std.specs.List.{slice_get}
+use Rattle.std.specs.Prelude.{◌==◌}
 use Rattle.std.proofs.Math.Nat.{mul-le-mul_right}
-use Rattle.polcert_rules.proofs.Common.{cases_lt, Reward, Place, Entry, Preamble, fits_place, fit_places, is_table, covers, reward, Rule}
-use Rattle.polcert_rules.proofs.Common.{key_base, digit, key_in, table_key, AreDigits, most_places, AreRewardsOf, RewardRules, IsLastNumber}
-use Rattle.polcert_rules.proofs.Common.{KeyBegins}
+use Rattle.polcert_rules.proofs.Common.{cases_lt, Reward, Place, Every, Only, Entry, Preamble, fits_place, fit_places, is_table, reward}
+use Rattle.polcert_rules.proofs.Common.{Rule, key_base, digit, key_in, table_key, AreDigits, most_places, AreRewardsOf, RewardRules}
+use Rattle.polcert_rules.proofs.Common.{IsSearchAnswer, HasFront, HasTwo, key_of_two}
+use Rattle.polcert_rules.specs.Keys.{FitsKey}
 use Rattle.polcert_rules.specs.Steps.Meeting.{fits_at, meets_row}
 use Rattle.polcert_cells.proofs.Basics.{true≢false}
-use Rattle.polcert_rules.proofs.Keyed.Fitting.{and_true, key_low, key_high, power_some, fit_digits}
+use Rattle.polcert_rules.proofs.Keyed.Covering.{fits_covered}
+use Rattle.polcert_rules.proofs.Keyed.Fitting.{and_true, equal_numbers, key_low, key_high, power_next, power_some, digit_below, fit_digits}
 use Rattle.polcert_rules.proofs.Keyed.Keying.{digit_some, same_place, next_digit}
-use Rattle.polcert_rules.proofs.RewardLaws.RewardKeys.{key_room, begins_after}
-use Rattle.polcert_rules.proofs.RewardLaws.RewardAlike.{NoneBegins, covering}
+use Rattle.polcert_rules.proofs.RowLaws.Cells.{two_digits}
+use Rattle.polcert_rules.proofs.RewardLaws.RewardCovering.{covering}
 use Rattle.polcert_rules.proofs.RewardLaws.RewardValues.{no_reward}
 
 -- ---- no entry is
--- an entry that covers a cell has two places, or covers all cells of the action
-two_places : (x : Entry) (a s e z : ℕ) → x.table ≡ Reward → fit_places x.places (a ∷ s ∷ e ∷ z ∷ []) ≡ true
-    → (covers Reward (a ∷ []) x ≡ true → ⊥) → 2 ≤ length x.places
-two_places x a s e z t fits not_all = at x.places fits (λ f. not_all (ap (λ u. is_table u Reward && fit_places x.places (a ∷ [])) t ∙ f))
+-- the key of an entry that covers a cell has a front that fits its action and start state
+front_of : (a s e z key : ℕ) (ps : List Place) → fit_places ps (a ∷ s ∷ e ∷ z ∷ []) ≡ true → AreDigits most_places ps
+    → key ≡ key_in most_places (table_key Reward) ps → HasFront a s key
+front_of a s e z key [] fits digits is = inl (record { places = []; fits = refl; is = is })
+front_of a s e z key (p ∷ []) fits digits is = inl (record { places = p ∷ []; fits = fits; is = is })
+front_of a s e z key (p ∷ q ∷ rest) fits digits is =
+    let first = and_true (fits_place p a) _ fits in
+    let second = and_true (fits_place q s) _ first.1 in
+    let two : HasTwo (digit p) (digit q) key = (
+      rw is (key_low 2 (key_of_two (digit p) (digit q)) rest),
+      rw is (key_high 2 (key_of_two (digit p) (digit q)) rest digits.1.1),
+    ) in
+    ⊎_elim
+    (λ every. ⊎_elim (λ all. inr (inl (inl (at 1 1 every all two)))) (λ one. inr (inl (inr (at 1 (s + 2) every one two))))
+    (two_digits q s second.0))
+    (λ only. ⊎_elim (λ all. inr (inr (inl (at (a + 2) 1 only all two)))) (λ one. inr (inr (inr (at (a + 2) (s + 2) only one two))))
+    (two_digits q s second.0))
+    (two_digits p a first.0)
   where
-    at : (ps : List Place) → fit_places ps (a ∷ s ∷ e ∷ z ∷ []) ≡ true → (fit_places ps (a ∷ []) ≡ true → ⊥) → 2 ≤ length ps
-    at [] f none = absurd (none refl)
-    at (p ∷ []) f none = absurd (none f)
-    at (p ∷ q ∷ ps) f none = omega arith
-
--- an entry that covers a cell begins with places that fit its action and start state
-covering_begins : (low a s e z key : ℕ) (ps : List Place) → 2 ≤ length ps → fit_places ps (a ∷ s ∷ e ∷ z ∷ []) ≡ true
-    → AreDigits most_places ps → key ≡ key_in most_places low ps
-    → KeyBegins most_places low (a ∷ s ∷ []) 0 key
-covering_begins low a s e z key [] two fits digits is = absurd (omega arith)
-covering_begins low a s e z key (p ∷ []) two fits digits is = absurd (omega arith)
-covering_begins low a s e z key (p ∷ q ∷ rest) two fits digits is =
-    let start = low + digit p * key_base ^ 3 + digit q * key_base ^ 2 in
-    let from_here = key_low 2 start rest in
-    let to_there = key_high 2 start rest digits.1.1 in
-    begins_after most_places low (p ∷ q ∷ []) rest (a ∷ s ∷ []) (e ∷ z ∷ []) 0 key refl fits (omega arith) (omega arith)
+    at : (m n : ℕ) → digit p ≡ m → digit q ≡ n → HasTwo (digit p) (digit q) key → HasTwo m n key
+    at m n d e two = subst (λ (i : ℕ). HasTwo i n key) d (subst (λ (i : ℕ). HasTwo (digit p) i key) e two)
 
 pub unpaid : (p : Preamble) (entries : List Entry) (rewards : RewardRules) (a s e z : ℕ) → AreRewardsOf p entries rewards
-    → IsLastNumber entries Reward (a ∷ []) None → NoneBegins rewards (a ∷ s ∷ []) 0
-    → reward p entries (a ∷ s ∷ e ∷ z ∷ []) ≡ pos 0
-unpaid p entries rewards a s e z are nowhere none = sym (no_reward p entries (a ∷ s ∷ e ∷ z ∷ [])
+    → IsSearchAnswer rewards.rules (HasFront a s) false → reward p entries (a ∷ s ∷ e ∷ z ∷ []) ≡ pos 0
+unpaid p entries rewards a s e z are none = sym (no_reward p entries (a ∷ s ∷ e ∷ z ∷ [])
     (λ k x is c.
     let d = covering p entries rewards (a ∷ s ∷ e ∷ z ∷ []) k x are is c in
-    none d.rule d.among (covering_begins (table_key Reward) a s e z d.rule.key x.places
-    (two_places x a s e z d.table d.fits (nowhere k x is)) d.fits d.digits d.key)))
+    none d.rule d.among (front_of a s e z d.rule.key x.places d.fits d.digits d.key)))
 
 -- ---- a rule that begins with places that fit
+-- room for what continues after the places
+key_room : (m low : ℕ) (ps : List Place) → AreDigits m ps → key_in m low ps + key_base ^ (m - length ps) ≤ low + key_base ^ m
+key_room m low [] a = grind arith
+key_room zero low (p ∷ ps) a = absurd a
+key_room (suc m) low (p ∷ ps) a =
+    let e : suc m - suc (length ps) ≡ m - length ps = omega arith in
+    let f : key_base ^ (suc m - suc (length ps)) ≡ key_base ^ (m - length ps) = ap (λ k. key_base ^ k) e in
+    let rest = key_room m (low + digit p * key_base ^ m) ps a.1 in
+    let top = digit_below (digit p) (key_base ^ m) a.0 in
+    let next = power_next m in
+    omega arith
+
 -- keys between one and where its places leave no more room come from places that begin with its own
 begins_with : (m low : ℕ) (ps qs : List Place) → AreDigits m ps → AreDigits m qs → key_in m low ps ≤ key_in m low qs
     → key_in m low qs < key_in m low ps + key_base ^ (m - length ps)
@@ -96,26 +109,33 @@ meets_all a s (p ∷ q ∷ ps) f = absurd (true≢false (and_true (fits_place p 
 abbrev pub IsPaidBy : List Entry → ℕ → ℕ → Type 0
 IsPaidBy entries a s = (n : ℕ) × (x : Entry) × (slice_get entries n ≡ Some x) × (meets_row Reward a s x ≡ true)
 
-pub paid_by_all : (entries : List Entry) (a s n : ℕ) → IsLastNumber entries Reward (a ∷ []) (Some n) → IsPaidBy entries a s
-paid_by_all entries a s n last = grind (arith, and_true, meets_all)
-
 pub paid : (p : Preamble) (entries : List Entry) (rewards : RewardRules) (a s : ℕ) (r : Rule) → AreRewardsOf p entries rewards
-    → a + 2 < key_base → s + 2 < key_base
-    → Contains rewards.rules r → KeyBegins most_places (table_key Reward) (a ∷ s ∷ []) 0 r.key → IsPaidBy entries a s
-paid p entries rewards a s r are small_a small_s among b =
+    → a + 2 < key_base → s + 2 < key_base → Contains rewards.rules r → HasFront a s r.key → IsPaidBy entries a s
+paid p entries rewards a s r are small_a small_s among front =
     let e = are.index.sound r among in
     let x = e.0 in
     let key : key_in most_places (table_key Reward) x.places ≡ r.key = ap (λ u. key_in most_places (table_key u) x.places) (sym e.3)
     ∙ e.2 in
-    let from = b.from in
-    let to = subst (λ n. r.key < key_in most_places (table_key Reward) b.places + key_base ^ (most_places - n)) (sym b.all) b.to in
-    let with = begins_with most_places (table_key Reward) b.places x.places
-    (fit_digits most_places b.places (a ∷ s ∷ []) (small_a, (small_s, tt)) b.fits) e.4 (omega arith)
-    (subst (λ n. n < key_in most_places (table_key Reward) b.places + key_base ^ (most_places - length b.places)) (sym key) to) in
-    let both = meets a s b.places x.places b.all b.fits with in (
+    let both = ⊎_elim
+    (λ f. meets_all a s x.places (and_true (is_table x.table Reward) _ (fits_covered Reward (a ∷ []) x e.4 (small_a, tt)
+    (subst (FitsKey most_places (table_key Reward) (a ∷ [])) (sym e.2) f))).1)
+    (⊎_elim
+    (⊎_elim (of_two x.places key e.4 Every Every refl)
+    (of_two x.places key e.4 Every (Only s) (ap (λ b. b && true) (equal_numbers s))))
+    (⊎_elim (of_two x.places key e.4 (Only a) Every (ap (λ b. b && true) (equal_numbers a)))
+    (of_two x.places key e.4 (Only a) (Only s) (ap (λ b. b && ((s == s) && true)) (equal_numbers a)
+    ∙ ap (λ b. b && true) (equal_numbers s)))))
+    front in (
       r.number,
       x,
       e.1,
       ap (λ u. is_table u Reward && fits_at x.places 0 a && fits_at x.places 1 s) e.3 ∙ ap (λ v. true && v && fits_at x.places 1 s) both.0
           ∙ both.1,
     )
+  where
+    of_two : (ps : List Place) → key_in most_places (table_key Reward) ps ≡ r.key → AreDigits most_places ps → (q t : Place)
+        → fit_places (q ∷ t ∷ []) (a ∷ s ∷ []) ≡ true → HasTwo (digit q) (digit t) r.key → (fits_at ps 0 a ≡ true) × (fits_at ps 1 s ≡ true)
+    of_two ps key digits q t fits two = meets a s (q ∷ t ∷ []) ps refl fits
+        (begins_with most_places (table_key Reward) (q ∷ t ∷ []) ps
+        (fit_digits most_places (q ∷ t ∷ []) (a ∷ s ∷ []) (small_a, (small_s, tt)) fits) digits
+        (omega (arith, key, two.0)) (omega (arith, key, two.1)))

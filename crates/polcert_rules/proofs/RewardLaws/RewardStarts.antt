@@ -1,62 +1,20 @@
 -- Where no entry names either of two start states.
-use Rattle.std.proofs.Common.{◌≡◌, ◌∙◌, ℕ, zero, suc, ◌+◌, ◌*◌, ◌^◌, ◌<◌, ◌≤◌, Bool, true, false, ◌&&◌, inl, inr, Option, Some, None, List}
-use Rattle.std.proofs.Common.{[], ◌∷◌, length, drop, Contains, refl, sym, ap, subst, arith, pos, rules}
-use Rattle.std.specs.Prelude.{◌==◌, not, is_some, IsTrue, IsFalse}
-use Rattle.polcert_rules.proofs.Common.{nat_tests, Reward, Place, Every, Only, Entry, Preamble, fits_place, fit_places, is_table, covers}
+use Rattle.std.proofs.Common.{◌≡◌, ◌∙◌, ℕ, zero, suc, ◌+◌, ◌*◌, ◌^◌, ◌≤◌, Bool, true, false, ◌&&◌, inl, Option, Some, None, List}
+use Rattle.std.proofs.Common.{[], ◌∷◌, length, drop, Contains, refl, sym, ap, arith, pos}
+use Rattle.std.specs.Prelude.{not, IsTrue}
+use Rattle.polcert_rules.proofs.Common.{Reward, Place, Every, Only, Entry, Preamble, fits_place, fit_places, is_table, covers}
 use Rattle.polcert_rules.proofs.Common.{reward, reward_of, value_or, Rule, key_base, digit, key_in, table_key, AreDigits, AreIndices}
-use Rattle.polcert_rules.proofs.Common.{most_places, newest_in, IsNewest, IsLastNumber, entry_at, AreRewardsOf, RewardRules}
+use Rattle.polcert_rules.proofs.Common.{most_places, newest_in, IsLastNumber, entry_at, AreRewardsOf, RewardRules}
 use Rattle.std.specs.List.{slice_get}
 use Rattle.polcert_rules.specs.Steps.RewardSearch.{NamesStart, NamesStartAfter}
 use Rattle.polcert_rules.proofs.Keyed.Fitting.{and_true, same_number, key_low, key_high}
-use Rattle.polcert_cells.proofs.Basics.{true≢false}
 use Rattle.polcert_rules.proofs.Indexes.Matching.{newest_is}
-use Rattle.polcert_rules.proofs.Indexes.Newer.{IsSpan, newest_here}
-use Rattle.polcert_rules.proofs.RewardLaws.RewardAlike.{covering}
+use Rattle.polcert_rules.proofs.RewardLaws.RewardCovering.{covering}
 use Rattle.polcert_rules.proofs.RewardLaws.RewardCells.{last_of_rules}
 use Rattle.polcert_rules.proofs.RewardLaws.RewardValues.{number_reward}
 
 pub false_of : (b : Bool) → IsTrue (not b) → b ≡ false
 false_of b h1 = grind arith
-
-pub is_false : (b : Bool) → IsFalse b → b ≡ false
-is_false b h = grind arith
-
--- ---- what the search finds
-none_here : (rules part : List Rule) (low : ℕ) (here : Option ℕ) → IsSpan rules part low (key_base ^ 2) → IsNewest part (λ k. k ≡ low) here
-    → false ≡ is_some here
-    → (r : Rule) → Contains rules r → r.key ≡ low → ⊥
-none_here rules part low None span newest none = newest_here rules part low (key_base ^ 2) None (omega arith) span newest
-none_here rules part low (Some n) span newest none = cc
-
-none_within : (rules part : List Rule) (low : ℕ) (empty : Bool) → IsSpan rules part low (key_base ^ 2) → empty ≡ (length part == 0)
-    → empty ≡ true
-    → (r : Rule) → Contains rules r → low ≤ r.key → r.key < low + key_base ^ 2 → ⊥
-none_within rules [] low empty span is some_left r among from to =
-    let inside = (span r).1 (among, from, to) in
-    let none = inside.1 in
-    omega arith
-none_within rules-0 (x ∷ xs) low empty span is some_left r among from to = grind (arith, nat_tests, true≢false)
-
-pub unnamed_after : (rules first second : List Rule) (low s : ℕ) (here : Option ℕ) (empty : Bool) → IsSpan rules first low (key_base ^ 2)
-    → IsNewest first (λ k. k ≡ low) here → false ≡ is_some here → IsSpan rules second (low + (s + 2) * key_base ^ 2) (key_base ^ 2)
-    → empty ≡ (length second == 0)
-    → empty ≡ true → (r : Rule) → Contains rules r → NamesStartAfter low s r.key → ⊥
-unnamed_after rules first second low s here empty span newest none named is some_left r among (inl at) =
-    none_here rules first low here span newest none r among at
-unnamed_after rules-0 first second low s here empty span newest none named is some_left r among (inr within) = search (rules, none_within)
-
-pub unnamed : (rules first : List Rule) (a s step : ℕ) (here : Option ℕ) → step ≡ key_base ^ 3
-    → IsSpan rules first (table_key Reward) (key_base ^ 2)
-    → IsNewest first (λ k. k ≡ table_key Reward) here → false ≡ is_some here
-    → ((r : Rule) → Contains rules r → NamesStartAfter (table_key Reward + step) s r.key → ⊥)
-    → ((r : Rule) → Contains rules r → NamesStartAfter (table_key Reward + (a + 2) * step) s r.key → ⊥)
-    → (r : Rule) → Contains rules r → NamesStart a s r.key → ⊥
-unnamed rules first a s step here full span newest none every only r among (inl at) =
-    none_here rules first (table_key Reward) here span newest none r among at
-unnamed rules first a s step here full span newest none every only r among (inr (inl names)) =
-    every r among (subst (λ k. NamesStartAfter (table_key Reward + k) s r.key) (sym full) names)
-unnamed rules first a s step here full span newest none every only r among (inr (inr names)) =
-    only r among (subst (λ k. NamesStartAfter (table_key Reward + (a + 2) * k) s r.key) (sym full) names)
 
 -- ---- what covers a cell
 -- what is known of the key after the first place is known of the key

@@ -1,26 +1,17 @@
--- Rules that begin with places that fit, and what the newest rule of R gives.
+-- Rules that name a start state, and what the newest rule of R gives.
 -- Nobody has to believe this file: only private functions cite it.
-use Rattle.std.specs.Prelude.{◌≡◌, ℕ, ◌+◌, ◌-◌, ◌*◌, ◌^◌, ◌<◌, ◌≤◌, Bool, true, false, ◌⊎◌, List, [], ◌∷◌, length, Option, Some, None, Contains, slice_get, slice_index_or, ℤ, pos}
+use Rattle.std.specs.Prelude.{◌≡◌, ℕ, ◌+◌, ◌*◌, ◌^◌, ◌<◌, ◌≤◌, Bool, true, false, ◌⊎◌, List, [], ◌∷◌, Option, Some, None, Contains, slice_get, slice_index_or, ℤ, pos}
 use Rattle.polcert_cells.specs.declared.entries.Table.TheVariants.{Reward}
-use Rattle.polcert_cells.specs.declared.entries.Place.{Place}
 use Rattle.polcert_cells.specs.declared.entries.Entry.{Entry}
-use Rattle.polcert_cells.specs.Cells.{fit_places, reward}
+use Rattle.polcert_cells.specs.Cells.{reward}
 use Rattle.polcert_cells.specs.Preamble.{Preamble}
 use Rattle.polcert_rules.specs.declared.index.Rule.{Rule}
 use Rattle.polcert_rules.specs.declared.rewards.StateTransition.{StateTransition}
 use Rattle.polcert_cells.specs.declared.entries.RewardBody.{RewardBody}
-use Rattle.polcert_rules.specs.Keys.{key_base, key_in, table_key}
+use Rattle.polcert_rules.specs.Keys.{key_base, table_key}
 use Rattle.polcert_rules.specs.Steps.Newest.{IsLastNumber}
 use Rattle.polcert_rules.specs.Steps.Rewards.{AreRewardsOf, IsBodyOf}
 use Rattle.polcert_rules.specs.RewardAt.{RewardRules}
-
--- The key begins with places, one for each of these indices, that fit them, and continues with at least so much.
-pub record KeyBegins (levels low : ℕ) (indices : List ℕ) (least key : ℕ) : Type 0 where
-  pub places : List Place
-  pub fits : fit_places places indices ≡ true
-  pub all : length places ≡ length indices
-  pub from : key_in levels low places + least ≤ key
-  pub to : key < key_in levels low places + key_base ^ (levels - length indices)
 
 -- whether a rule's key passes
 abbrev pub IsSearchAnswer : List Rule → (ℕ → Type 0) → Bool → Type 0

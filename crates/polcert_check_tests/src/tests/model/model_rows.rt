@@ -1,5 +1,5 @@
 //! Texts that are accepted, and their cells.
-use super::numbers::{Number, first_wrong, read_is_cost, refusal};
+use super::numbers::{Number, first_wrong, read_is_cost, refusal, shows_same};
 use super::texts::{GENERAL_FIRST, GENERAL_LAST, SINGLE};
 use polcert_model::{ModelFault, Table};
 use polcert_testing::FIRST;
@@ -74,6 +74,31 @@ fn newer_cells_hide_those_below(rt: HostRuntime) {
         (Number::O(0, 0, 5), 0),
     ];
     assert_eq!(rt; first_wrong(rt.alloc(), NEWER, &numbers), None);
+}
+
+/// Rows of O that one entry gives, and for one action and one of three states a row of single cells.
+const TWO_ROWS: &[u8] =
+    b"discount: 1 values: reward states: 3 actions: 2 observations: 2 T: * identity O: * uniform O: 1 : 2 : 0 0.25 O: 1 : 2 : 1 0.75";
+
+/// A model without rows of O.
+const END_STATE_OBSERVED: &[u8] = b"discount: 1 values: reward states: 3 actions: 2 T: * identity";
+
+#[test]
+fn end_states_in_which_an_action_shows_the_same(rt: HostRuntime) {
+    for (at, is_same) in [
+        ([0, 1, 2], true),
+        ([1, 0, 1], true),
+        ([1, 1, 2], false),
+        ([1, 2, 0], false),
+        ([1, 2, 2], true),
+    ] {
+        assert_eq!(rt; shows_same(rt.alloc(), TWO_ROWS, at), Some(is_same));
+    }
+    assert_eq!(rt;
+        shows_same(rt.alloc(), END_STATE_OBSERVED, [0, 1, 2]),
+        Some(false)
+    );
+    assert_eq!(rt; shows_same(rt.alloc(), END_STATE_OBSERVED, [0, 1, 3]), None);
 }
 
 /// A matrix for each action, `identity` for two of them, another matrix for one, and after them `uniform` and single cells for

@@ -125,6 +125,17 @@ pub fn read_is_mdp(alloc: Global, text: &[u8]) -> Option<bool> {
     Some(model.is_mdp())
 }
 
+/// Whether it is known at once that an action shows the same in two end states, if the text is a model's that has them.
+pub fn shows_same(alloc: Global, text: &[u8], at: [usize; 3]) -> Option<bool> {
+    let [action, end, other] = at;
+    let model = read_model(alloc, text).ok()?;
+    if action < model.actions() && end < model.states() && other < model.states() {
+        Some(model.has_same_observations(action, end, other))
+    } else {
+        None
+    }
+}
+
 /// Whether the text is a model's with such an element, and `name` is the element's name, or `None` where it has none.
 pub fn is_named(alloc: Global, text: &[u8], kind: Kind, index: usize, name: Option<&str>) -> bool {
     match read_model(alloc, text) {

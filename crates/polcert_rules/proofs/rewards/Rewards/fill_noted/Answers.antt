@@ -27,7 +27,7 @@ loop-i-preserved c = λ p entries are.
     let none : get_or (take (c.args.count + 1) c.args.noted.now) i None ≡ None =
     get_or-take (c.args.count + 1) c.args.noted.now i None before ∙ c.requires.nothing i few in
     let first = noted_first _ (FitsKey most_places (table_key Reward) (cell z)) _ (get_or c.note.new.noted i None) none
-    (c.note.ensures i among) in
+    (c.note.ensures _ _ _ c.fitting.ensures i among) in
     let newest : IsHere (get_or c.note.new.noted i None) =
     subst (λ (xs : List Rule). IsNewest xs (FitsKey most_places (table_key Reward) (cell z)) (get_or c.note.new.noted i None))
     (ap (λ (rewards : RewardRules). rewards.rules) c.self.view_is) first in

@@ -12,7 +12,8 @@ pub fill_named-requires-clause-newest : goal.fill_named-requires-clause-newest
 fill_named-requires-clause-newest c =
     subst (λ (rewards : RewardRules). AreNewestAt rewards.rules (record { action = c.args.action; start = c.args.start; end = c.args.end })
     c.note_named.new.list) c.self.view_is
-    (λ z l. noted_first _ _ _ _ (c.new-list.ensures z) (c.note_named.ensures c.if-not-note_named.false z l))
+    (λ z l. noted_first _ _ _ _ (c.new-list.ensures z)
+    (c.note_named.ensures c.if-not-note_named.false _ _ _ c.fitting-rules.ensures z l))
 
 pub returns : goal.returns
 returns c p entries are common is =
@@ -32,7 +33,7 @@ returns c p entries are common is =
           let small : AreIndices most_places (cell z) = search rules in
           let none = unnamed_in list.rules list.count z (λ k m e. unnamed k m (named.named k m ∙ e)) in
           let first = noted_first _ (FitsKey most_places (table_key Reward) (cell z)) _ _ (c.new-list.ensures z)
-          (c.note_named.ensures c.if-not-note_named.false z small.1.1.1.0) in
+          (c.note_named.ensures c.if-not-note_named.false _ _ _ c.fitting-rules.ensures z small.1.1.1.0) in
           let here : IsNewest c.args.self.now.rules (FitsKey most_places (table_key Reward) (cell z)) (noted_at list z) =
           subst (λ (rewards : RewardRules). IsNewest rewards.rules (FitsKey most_places (table_key Reward) (cell z)) (noted_at list z))
           c.self.view_is first in

@@ -1,0 +1,20 @@
+use Rattle.std.proofs.Common.{◌∙◌, [], ◌∷◌, arith, rules, subst, sym}
+use Rattle.polcert_rules.proofs.Common.{AreEndRules, AreIndices, Reward, RewardRules, most_places, table_key}
+use Rattle.polcert_rules.specs.Keys.{FitsKey}
+use Rattle.polcert_rules.proofs.Indexes.FittingLaws.{none_whole}
+use Rattle.polcert_rules.proofs.RewardLaws.RewardEnds.{NoneIsWide, same_ends}
+use Rattle.polcert_rules.proofs.rewards.Rewards.same_until.Goals as goal
+
+pub returns-then-is_some : goal.returns-then-is_some
+returns-then-is_some c p entries are f z from to fl zl = absurd (omega (arith, from, to))
+
+pub returns : goal.returns
+returns c p entries are f z from to fl zl =
+    let none = subst (λ (rewards : RewardRules). NoneIsWide rewards c.args.action c.args.start) c.self.view_is
+    (none_whole _ (FitsKey most_places (table_key Reward) (c.args.action ∷ c.args.start ∷ [])) c.newest.result
+    (c.newest.ensures _ _ _ c.fitting-rules.ensures) (sym c.if-is_some.false ∙ c.is_some.ensures)) in
+    let ends = subst (λ (rewards : RewardRules). AreEndRules rewards.rules c.args.action c.args.start c.args.end c.same_until.result)
+    c.self.view_is (c.same_until.ensures _ _ _ c.fitting-rules.ensures) in
+    let small : AreIndices most_places (c.args.action ∷ c.args.start ∷ c.args.end ∷ z ∷ []) = search rules in
+    let small_f : AreIndices most_places (c.args.action ∷ c.args.start ∷ f ∷ z ∷ []) = search rules in
+    same_ends p entries c.args.self.now are c.args.action c.args.start c.args.end c.same_until.result f z none ends from to small small_f
