@@ -299,6 +299,16 @@ pub fn is_same_row(one: Option<Row<'_>>, other: Option<Row<'_>>) -> bool
 {
     match (one, other) {
         (Some(Row::Sparse(cells)), Some(Row::Sparse(own))) => cells == own,
+        (
+            Some(Row::Scaled { numbers, scale }),
+            Some(
+                Row::Scaled {
+                    numbers: own,
+                    scale: by,
+                },
+            ),
+        ) => { scale == by && numbers == own }
+        (Some(Row::Single(cell)), Some(Row::Single(own))) => cell == own,
         _ => false,
     }
 }
