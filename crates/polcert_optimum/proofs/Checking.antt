@@ -4,3 +4,6 @@ pub mod Amounts
 pub mod Pairs
 pub mod Raising
 pub mod Excesses
+pub mod Reached
+pub mod Uninformative
+pub mod Totals

@@ -22,11 +22,11 @@ pub(crate) struct Buffers {
 }
 
 impl Buffers {
-    ghost use Rattle.std.specs.Prelude.{◌≡◌, ◌-◌, ◌<◌, ◌≤◌, unsigned_abs};
+    ghost use Rattle.std.specs.Prelude.{◌≡◌, ◌+◌, ◌≤◌, unsigned_abs};
     ghost use Rattle.polcert_policy.specs.Vectors.{value_of};
     ghost use Rattle.polcert_optimum.specs.Informed.{excess};
     ghost use Rattle.polcert_optimum.specs.InformedCheck.{most_excess};
-    ghost use Rattle.polcert_optimum.specs.Steps.Sums.{best_value};
+    ghost use Rattle.polcert_optimum.specs.Steps.Sums.{AreBestBefore};
 
     pub(crate) fn new() -> Self {
         Buffers {
@@ -35,25 +35,17 @@ impl Buffers {
         }
     }
 
-    /// Returns the sum of the greatest expected values after each observation, where `before` is that of the state before, if there is one.
-    pub(crate) fn best_after<C: Cells>(&mut self, pair: &ActionState<'_, C>, before: i128) -> i128
-        requires { 0 < pair.now.state → before ≡ best_value (C.table pair.now.cells.now)
-            (value_of pair.now.vectors.now) pair.now.action (pair.now.state - 1) }
-        ensures { result ≡ best_value (C.table pair.now.cells.now) (value_of pair.now.vectors.now)
-            pair.now.action pair.now.state }
-    {
-        self.best.sum_after(pair, before)
-    }
-
-    /// Returns by how much the informed backup of a pair, whose best vectors have this sum, is above the action's vector: 0 or less if the
-    /// informed inequality holds there.
-    pub(crate) fn excess<C: Cells>(&mut self, pair: &ActionState<'_, C>, best: i128) -> i128
-        requires { best ≡ best_value (C.table pair.now.cells.now) (value_of pair.now.vectors.now)
-            pair.now.action pair.now.state }
+    /// Returns by how much the informed backup of a pair is above the action's vector: 0 or less if the informed inequality holds there.
+    pub(crate) fn excess<C: Cells>(&mut self, pair: &ActionState<'_, C>) -> i128
+        requires { AreBestBefore (C.table pair.now.cells.now) (value_of pair.now.vectors.now)
+            pair.now.action pair.now.state self.old.best.last self.old.best.totals }
         ensures value { result ≡ excess (C.table pair.now.cells.now) (value_of pair.now.vectors.now)
             pair.now.action pair.now.state }
         ensures small { unsigned_abs result ≤ most_excess (C.table pair.now.cells.now) }
+        ensures known { AreBestBefore (C.table pair.now.cells.now) (value_of pair.now.vectors.now)
+            pair.now.action (pair.now.state + 1) self.new.best.last self.new.best.totals }
     {
+        let best = self.best.total(pair);
         let reward = expected_reward(pair.cells, pair.action, pair.state, &mut self.rewards);
         let value = pair.vectors.at(pair.action, pair.state);
         let above = shortfall(pair.cells, value, reward, best);

@@ -10,6 +10,7 @@ mod observation_sums;
 mod pair;
 mod raise;
 mod seen_start;
+mod uninformative;
 mod verdict;
 
 pub use fault::InformedRaiseFault;

@@ -1,9 +1,12 @@
 //! One sum for each observation.
 ghost use Rattle.std.specs.Prelude.{◌≡◌, length};
+ghost use Rattle.std.specs.Option.{ForSome};
+ghost use Rattle.polcert_cells.specs.BorrowedRows.{IsRowOf};
+ghost use Rattle.polcert_cells.specs.Sparse.{IsRow, scaled_cells};
 ghost use Rattle.polcert_cells.specs.declared.elements.TheConstants.{MOST_OBSERVATIONS};
 
 use crate::pair::ActionState;
-use polcert_cells::{Cells, MOST_OBSERVATIONS};
+use polcert_cells::{Cells, MOST_OBSERVATIONS, Row, Step};
 use polcert_check::one_step::{next_end, next_observation, weigh};
 
 /// A sum for each observation, after an action is taken in a state.
@@ -36,27 +39,85 @@ impl ObservationSums {
         }
     }
 
-    /// Adds what end state `end` adds to the expected value of the vector of action `next`. The weight is that of reaching `end`.
-    fn add_end<C: Cells>(&mut self, pair: &ActionState<'_, C>, next: usize, end: usize, weight: u64)
+    /// Adds what an end state adds to the expected value of the vector of action `next`.
+    fn add_end<C: Cells>(&mut self, pair: &ActionState<'_, C>, next: usize, end: Step)
         requires next { next < (C.table pair.now.cells.now).actions }
-        requires end { end < (C.table pair.now.cells.now).states }
-        requires weight { weight ≡ (C.table pair.now.cells.now).t pair.now.action pair.now.state end }
+        requires end { end.column < (C.table pair.now.cells.now).states }
+        requires weight { end.weight
+            ≡ (C.table pair.now.cells.now).t pair.now.action pair.now.state end.column }
         requires sums { AreValuesUntil (C.table pair.now.cells.now) (value_of pair.now.vectors.now next)
-            pair.now.action pair.now.state end self.old.sums }
+            pair.now.action pair.now.state end.column self.old.sums }
         ensures { AreValuesUntil (C.table pair.now.cells.now) (value_of pair.now.vectors.now next)
-            pair.now.action pair.now.state (end + 1) self.new.sums }
+            pair.now.action pair.now.state (end.column + 1) self.new.sums }
+    {
+        // A call for the form that dense rows have, so that its loop asks for no form.
+        match pair.cells.o_row(pair.action, end.column) {
+            Some(Row::Scaled { numbers, scale }) => self.add_numbers(
+                pair, next, end, numbers, scale,
+            ),
+            row => self.add_row(pair, next, end, row),
+        }
+    }
+
+    /// Does what `add_end` does, by the row of O there.
+    fn add_row<C: Cells>(
+        &mut self,
+        pair: &ActionState<'_, C>,
+        next: usize,
+        end: Step,
+        row: Option<Row<'_>>,
+    )
+        requires next { next < (C.table pair.now.cells.now).actions }
+        requires end { end.column < (C.table pair.now.cells.now).states }
+        requires weight { end.weight
+            ≡ (C.table pair.now.cells.now).t pair.now.action pair.now.state end.column }
+        requires row { ForSome row (IsRowOf ((C.table pair.now.cells.now).o pair.now.action end.column)
+            (C.table pair.now.cells.now).observations) }
+        requires sums { AreValuesUntil (C.table pair.now.cells.now) (value_of pair.now.vectors.now next)
+            pair.now.action pair.now.state end.column self.old.sums }
+        ensures { AreValuesUntil (C.table pair.now.cells.now) (value_of pair.now.vectors.now next)
+            pair.now.action pair.now.state (end.column + 1) self.new.sums }
     {
         let cells = pair.cells;
-        let value = pair.vectors.at(next, end) as i128;
-        let row = cells.o_row(pair.action, end);
+        let value = pair.vectors.at(next, end.column) as i128;
         let mut at = 0;
-        while let Some(observation) = next_observation(cells, pair.action, end, row, at) {
+        while let Some(observation) = next_observation(cells, pair.action, end.column, row, at) {
             let z = observation.column;
-            let step_weight = weight * observation.weight;
+            let step_weight = end.weight * observation.weight;
             let part = weigh(step_weight, value);
             let sum = self.sums[z] + part;
             self.sums[z] = sum;
             at = observation.next;
+        }
+    }
+
+    /// Does what `add_end` does, by a row of O whose weights are these numbers times the scale.
+    fn add_numbers<C: Cells>(
+        &mut self,
+        pair: &ActionState<'_, C>,
+        next: usize,
+        end: Step,
+        numbers: &[u32],
+        scale: u32,
+    )
+        requires next { next < (C.table pair.now.cells.now).actions }
+        requires end { end.column < (C.table pair.now.cells.now).states }
+        requires weight { end.weight
+            ≡ (C.table pair.now.cells.now).t pair.now.action pair.now.state end.column }
+        requires row { IsRow (C.table pair.now.cells.now).observations ((C.table pair.now.cells.now).o
+            pair.now.action end.column) (scaled_cells scale 0 numbers.now) }
+        requires sums { AreValuesUntil (C.table pair.now.cells.now) (value_of pair.now.vectors.now next)
+            pair.now.action pair.now.state end.column self.old.sums }
+        ensures { AreValuesUntil (C.table pair.now.cells.now) (value_of pair.now.vectors.now next)
+            pair.now.action pair.now.state (end.column + 1) self.new.sums }
+    {
+        let value = pair.vectors.at(next, end.column) as i128;
+        for z in 0..numbers.len().min(pair.cells.observations()) {
+            let weight = numbers[z] as u64 * scale as u64;
+            let step_weight = end.weight * weight;
+            let part = weigh(step_weight, value);
+            let sum = self.sums[z] + part;
+            self.sums[z] = sum;
         }
     }
 
@@ -71,7 +132,7 @@ impl ObservationSums {
         let row = cells.t_row(pair.action, pair.state);
         let mut at = 0;
         while let Some(end) = next_end(cells, pair.action, pair.state, row, at) {
-            self.add_end(pair, next, end.column, end.weight);
+            self.add_end(pair, next, end);
             at = end.next;
         }
     }

@@ -25,7 +25,6 @@ fn greatest_excess<C: Cells>(cells: &C, vectors: &Vectors) -> i128
     let mut buffers = Buffers::new();
     let mut greatest: i128 = 0;
     for action in 0..cells.actions() {
-        let mut best = 0;
         for state in 0..cells.states() {
             let pair = ActionState {
                 cells,
@@ -33,8 +32,7 @@ fn greatest_excess<C: Cells>(cells: &C, vectors: &Vectors) -> i128
                 action,
                 state,
             };
-            best = buffers.best_after(&pair, best);
-            let amount = buffers.excess(&pair, best);
+            let amount = buffers.excess(&pair);
             greatest = greatest.max(amount);
         }
     }

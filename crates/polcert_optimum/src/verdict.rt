@@ -41,8 +41,8 @@ fn is_above(amount: i128) -> bool
 
 /// Returns whether the vector of each action is at least its informed backup at every state, so that no policy that sees the
 /// observations alone earns more than the vector of its first action says; else the first action and state where it is less. It takes no
-/// memory. For each action and state, unless the state before has the same row of T, it walks the row of T, and for each end state the
-/// row of O, once for each action that can follow.
+/// memory. For each action and state, unless the state before has the same row of T, or the action before the same rows, it walks the row
+/// of T, and for each end state the row of O if they do not all show the same, once for each action that can follow.
 pub fn check_informed<C: Cells>(cells: &C, vectors: &Vectors) -> InformedVerdict
     requires { FitActions (C.table cells.now) vectors.now }
 
@@ -93,7 +93,6 @@ fn first_excess<C: Cells, W: Progress>(
     let _vectors = vectors.nodes();
     let mut buffers = Buffers::new();
     for action in 0..cells.actions() {
-        let mut best = 0;
         for state in 0..cells.states() {
             let pair = ActionState {
                 cells,
@@ -101,8 +100,7 @@ fn first_excess<C: Cells, W: Progress>(
                 action,
                 state,
             };
-            best = buffers.best_after(&pair, best);
-            let amount = buffers.excess(&pair, best);
+            let amount = buffers.excess(&pair);
             if is_above(amount) {
                 return InformedVerdict::Exceeded {
                     action,

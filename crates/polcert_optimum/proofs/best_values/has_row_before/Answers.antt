@@ -1,4 +1,4 @@
-use Rattle.std.proofs.Common.{◌≡◌, ◌-◌, rules}
+use Rattle.std.proofs.Common.{◌-◌}
 use Rattle.polcert_optimum.proofs.Common.{CellTable}
 use Rattle.polcert_optimum.proofs.best_values.has_row_before.Goals as goal
 

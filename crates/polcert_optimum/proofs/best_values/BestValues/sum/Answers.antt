@@ -13,7 +13,7 @@ total-requires-clause-small g c =
     subst (λ (n : ℕ). AreSmallSums n c.fill.new.self.greatest.sums) (sym c.observations.ensures)
     (small_sums t p limits (value_of c.args.pair.now.vectors.now)
     (vectors_small t c.args.pair.now.vectors.now c.args.pair.now.fit c.args.pair.now.proper) c.args.pair.now.action c.args.pair.now.state
-    c.args.pair.now.action_within c.args.pair.now.state_within c.fill.new.self.greatest.sums c.fill.ensures)
+    c.args.pair.now.action_within c.args.pair.now.state_within c.fill.new.self.greatest.sums c.fill.ensures.is)
 
-pub returns : goal.returns
-returns g c = grind (arith, to_z-of_z, best_is)
+pub returns-clause-is : goal.returns-clause-is
+returns-clause-is g c = grind (arith, to_z-of_z, best_is)

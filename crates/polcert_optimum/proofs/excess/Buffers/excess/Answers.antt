@@ -17,7 +17,7 @@ shortfall-above-requires-clause-expected g c =
     let t : CellTable = g.C.Cells.table c.args.pair.now.cells.now in
     let p : IsProper t = g.met.C.Cells.is_proper c.args.pair.now.cells.now in
     let limits : IsWithinLimits t = g.met.C.Cells.is_within_limits c.args.pair.now.cells.now in
-    rw (to_z-of_z w128 c.args.best (search rules) ∙ c.requires)
+    rw (to_z-of_z w128 c.total-best.result (search rules) ∙ c.total-best.ensures.is)
     (best_value_le t p limits (value_of c.args.pair.now.vectors.now)
     (vectors_small t c.args.pair.now.vectors.now c.args.pair.now.fit c.args.pair.now.proper) c.args.pair.now.action c.args.pair.now.state
     c.args.pair.now.action_within c.args.pair.now.state_within)
@@ -34,7 +34,7 @@ negated-requires g c =
     excess_is t (value_of c.args.pair.now.vectors.now) c.args.pair.now.action c.args.pair.now.state c.shortfall-above.result _ _ _
     c.shortfall-above.ensures (to_z-of_z w64 c.at-value.result (search rules) ∙ c.at-value.ensures.value)
     (to_z-of_z w128 c.expected_reward-reward.result (search rules) ∙ c.expected_reward-reward.ensures)
-    (to_z-of_z w128 c.args.best (search rules) ∙ c.requires) in
+    (to_z-of_z w128 c.total-best.result (search rules) ∙ c.total-best.ensures.is) in
     let le : unsigned_abs (excess t (value_of c.args.pair.now.vectors.now) c.args.pair.now.action c.args.pair.now.state) ≤ most_excess t =
     excess_le t p limits (value_of c.args.pair.now.vectors.now)
     (vectors_small t c.args.pair.now.vectors.now c.args.pair.now.fit c.args.pair.now.proper) c.args.pair.now.action c.args.pair.now.state
@@ -53,7 +53,7 @@ returns g c =
     excess_is t (value_of c.args.pair.now.vectors.now) c.args.pair.now.action c.args.pair.now.state c.shortfall-above.result _ _ _
     c.shortfall-above.ensures (to_z-of_z w64 c.at-value.result (search rules) ∙ c.at-value.ensures.value)
     (to_z-of_z w128 c.expected_reward-reward.result (search rules) ∙ c.expected_reward-reward.ensures)
-    (to_z-of_z w128 c.args.best (search rules) ∙ c.requires) in
+    (to_z-of_z w128 c.total-best.result (search rules) ∙ c.total-best.ensures.is) in
     let value : to_z w128 (of_z w128 c.negated.result) ≡ excess t (value_of c.args.pair.now.vectors.now) c.args.pair.now.action
     c.args.pair.now.state = to_z-of_z w128 c.negated.result (search rules) ∙ c.negated.ensures
     ∙ ap neg_ℤ (to_z-of_z w128 c.shortfall-above.result (search rules)) ∙ is in
@@ -63,4 +63,5 @@ returns g c =
           (excess_le t p limits (value_of c.args.pair.now.vectors.now)
           (vectors_small t c.args.pair.now.vectors.now c.args.pair.now.fit c.args.pair.now.proper) c.args.pair.now.action
           c.args.pair.now.state c.args.pair.now.action_within c.args.pair.now.state_within);
+      known = c.total-best.ensures.known;
     }
