@@ -14,7 +14,7 @@ pub mod Backings
 pub mod OneVerdict
 pub mod SameVerdicts
 pub mod EndMeans
-pub mod ConstantRewards
+pub mod KnownRewards
 pub mod Worths
 pub mod Exact
 pub mod ExactAbove

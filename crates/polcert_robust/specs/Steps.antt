@@ -3,6 +3,7 @@ pub mod Holding
 pub mod Sides
 pub mod Pairs
 pub mod Rewards
+pub mod KnownRewards
 pub mod EndMeans
 pub mod Surveys
 pub mod Moves

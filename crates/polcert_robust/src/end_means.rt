@@ -1,5 +1,5 @@
 //! The least means at end states, which a node's start states share.
-ghost use Rattle.std.specs.Prelude.{◌≡◌, ◌<◌, IsFalse, IsTrue, length};
+ghost use Rattle.std.specs.Prelude.{◌≡◌, ◌<◌, ◌≤◌, ℕ, IsFalse, IsTrue, false, length, slice_index_or};
 ghost use Rattle.polcert_cells.specs.declared.elements.TheConstants.{MOST_STATES};
 ghost use Rattle.polcert_robust.specs.Steps.Rewards.{HasSameRewards};
 
@@ -39,14 +39,14 @@ impl EndMeans {
         }
     }
 
-    /// Forgets the means that are kept, before those of a node with action `a`.
-    pub(crate) fn reset<C: Cells>(&mut self, cells: &C, a: usize)
-        requires { a < (C.table cells.now).actions }
-        ensures none { (e : ℕ) → slice_index_or self.new.are_kept e false ≡ false }
-        ensures same { self.new.have_rewards ≡ true → HasSameRewards (C.table cells.now) a }
+    /// Forgets the means that are kept, before those of a node. `have_rewards`: whether all start states have the same rewards.
+    pub(crate) fn reset(&mut self, states: usize, have_rewards: bool)
+        requires { states ≤ MOST_STATES }
+        ensures none { (e : ℕ) → e < states → slice_index_or self.new.are_kept e false ≡ false }
+        ensures rewards { self.new.have_rewards ≡ have_rewards }
     {
-        self.are_kept.fill(false);
-        self.have_rewards = have_same_rewards(cells, a);
+        clear_marks(&mut self.are_kept, states);
+        self.have_rewards = have_rewards;
     }
 
     /// Returns whether the mean at end state `e` is kept with the rewards.
@@ -87,8 +87,18 @@ impl EndMeans {
     }
 }
 
+/// Takes the first marks away.
+fn clear_marks(marks: &mut [bool], count: usize)
+    requires { count ≤ length marks.old }
+    ensures { (e : ℕ) → e < count → slice_index_or marks.new e false ≡ false }
+{
+    for e in 0..count {
+        marks[e] = false;
+    }
+}
+
 /// Returns whether action `a` is known to have the same rewards in all start states.
-fn have_same_rewards<C: Cells>(cells: &C, a: usize) -> bool
+pub(crate) fn have_same_rewards<C: Cells>(cells: &C, a: usize) -> bool
     requires { a < (C.table cells.now).actions }
     ensures { IsTrue result → HasSameRewards (C.table cells.now) a }
 {

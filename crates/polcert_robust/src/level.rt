@@ -29,6 +29,9 @@ pub(crate) struct WorthRow<'a> {
     ghost fits: { scale * bound < 2 ^ 127 },
 }
 
+/// This many weights are few: rounds are cheap, and any value serves.
+const FEW_WEIGHTS: usize = 8;
+
 /// Two levels with no value between them.
 #[derive(Clone, Copy)]
 pub(crate) struct Levels {
@@ -44,6 +47,9 @@ fn spread_of(weight: u64, by: Spread) -> u64
     ensures is { result ≡ spread_of by weight }
     ensures small { result ≤ 20_000_000_000 }
 {
+    if by.percent == 0 {
+        return by.parts;
+    }
     by.parts + (weight * by.percent + 99_999_999) / 100_000_000
 }
 
@@ -119,7 +125,7 @@ fn next_found(found: Option<i128>, value: i128, is_wanted: bool) -> Option<i128>
 
 /// Returns a value between two levels, if there is one.
 ///
-/// Of this many such values it is one of the second half, so that few rounds remain even if the values are in order.
+/// Of many such values it is one of the second half, so that few rounds remain even if the values are in order.
 fn value_between(row: &WorthRow<'_>, low: i128, high: i128) -> Option<i128>
     ensures some { IfSome result (λ value. (low <ℤ value) × (value <ℤ high)) }
     ensures none { IfNone result ((i : ℕ) → i < row.now.count →
@@ -129,6 +135,9 @@ fn value_between(row: &WorthRow<'_>, low: i128, high: i128) -> Option<i128>
     let mut seen: usize = 0;
     for i in 0..row.count {
         if is_between(row.values[i], low, high) {
+            if row.count <= FEW_WEIGHTS {
+                return Some(row.values[i]);
+            }
             seen += 1;
             found = next_found(found, row.values[i], seen.count_ones() == 1);
         }

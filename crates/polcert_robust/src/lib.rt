@@ -2,10 +2,10 @@
 #![tactic(auto)]
 
 mod buffers;
-mod constant_rewards;
 mod distance;
 mod end_means;
 mod findings;
+mod known_rewards;
 pub mod laws;
 mod level;
 mod pair;

@@ -13,8 +13,8 @@ ghost use Rattle.polcert_robust.specs.Steps.Rewards.{HasSameRewards, IsConstantR
 ghost use Rattle.polcert_robust.specs.Steps.Sides.{turned};
 
 use crate::buffers::PairBuffers;
-use crate::constant_rewards::{constant_reward_of, known_reward_of};
 use crate::end_means::{EndMean, EndMeans};
+use crate::known_rewards::known_reward_of;
 use crate::level::{WorthRow, least_mean, weigh_number};
 use crate::robust_input::RobustInput;
 use polcert_cells::Cells;
@@ -30,8 +30,13 @@ pub(crate) struct Pair<'a, C: Cells> {
     pub input: &'a RobustInput<'a, C>,
     pub n: usize,
     pub s: usize,
+    /// The reward of every step, if it is known at once that it is the same for every end state and observation. (It is not asked for if it
+    /// is the same for every start state too.)
+    pub constant: Option<i64>,
     ghost node: { n < (near_controller input.now).nodes },
     ghost start: { s < (near_table input.now).states },
+    ghost constant_everywhere: { ForSome constant (IsConstantReward (cells_of input.now)
+        ((near_controller input.now).action n) s) },
 }
 
 /// A least mean, and the least observation in it that has no successor.
@@ -195,15 +200,13 @@ fn end_mean<C: Cells>(end: &PairEnd<'_, C>, weights: &mut [u64], values: &mut [i
 }
 
 /// Returns the reward of a step of the pair to end state `e`, if it is known at once that it does not depend on the observation.
-fn known_reward<C: Cells>(pair: &Pair<'_, C>, constant: Option<i64>, e: usize) -> Option<i64>
+fn known_reward<C: Cells>(pair: &Pair<'_, C>, e: usize) -> Option<i64>
     requires end { e < (cells_of pair.now.input.now).states }
-    requires constant { ForSome constant (IsConstantReward (cells_of pair.now.input.now)
-        ((near_controller pair.now.input.now).action pair.now.n) pair.now.s) }
     ensures { ForSome result (IsKnownReward (cells_of pair.now.input.now)
         ((near_controller pair.now.input.now).action pair.now.n) pair.now.s e) }
 {
-    if constant.is_some() {
-        return constant;
+    if pair.constant.is_some() {
+        return pair.constant;
     }
     let a = pair.input.graph.action(pair.n);
     known_reward_of(pair.input.cells, a, pair.s, e)
@@ -277,15 +280,8 @@ fn is_usable(lacks_reward: bool, known: Option<i64>) -> bool
 }
 
 /// Finds the least mean at end state `e`, unless it is kept. Returns the least observation there that has no successor.
-fn find_end_mean<C: Cells>(
-    pair: &Pair<'_, C>,
-    constant: Option<i64>,
-    e: usize,
-    buffers: &mut PairBuffers,
-) -> Option<usize>
+fn find_end_mean<C: Cells>(pair: &Pair<'_, C>, e: usize, buffers: &mut PairBuffers) -> Option<usize>
     requires end { e < (cells_of pair.now.input.now).states }
-    requires constant { ForSome constant (IsConstantReward (cells_of pair.now.input.now)
-        ((near_controller pair.now.input.now).action pair.now.n) pair.now.s) }
     requires kept { AreKept (near_table pair.now.input.now) (near_controller pair.now.input.now)
         pair.now.n buffers.old.ends }
     ensures kept { AreKept (near_table pair.now.input.now) (near_controller pair.now.input.now)
@@ -299,7 +295,7 @@ fn find_end_mean<C: Cells>(
     if buffers.ends.is_full(e) {
         return None;
     }
-    let known = known_reward(pair, constant, e);
+    let known = known_reward(pair, e);
     if is_usable(buffers.ends.lacks_reward(e), known) {
         return None;
     }
@@ -311,13 +307,7 @@ fn find_end_mean<C: Cells>(
 }
 
 /// Finds the least means at the end states that the pair reaches. Returns the least observation there that has no successor.
-fn find_end_means<C: Cells>(
-    pair: &Pair<'_, C>,
-    constant: Option<i64>,
-    buffers: &mut PairBuffers,
-) -> Option<usize>
-    requires constant { ForSome constant (IsConstantReward (cells_of pair.now.input.now)
-        ((near_controller pair.now.input.now).action pair.now.n) pair.now.s) }
+fn find_end_means<C: Cells>(pair: &Pair<'_, C>, buffers: &mut PairBuffers) -> Option<usize>
     requires kept { AreKept (near_table pair.now.input.now) (near_controller pair.now.input.now)
         pair.now.n buffers.old.ends }
     ensures kept { AreKept (near_table pair.now.input.now) (near_controller pair.now.input.now)
@@ -333,7 +323,7 @@ fn find_end_means<C: Cells>(
     let mut missing: Option<usize> = None;
     let mut at = 0;
     while let Some(end) = next_end(cells, a, pair.s, row, at) {
-        let lacking = find_end_mean(pair, constant, end.column, buffers);
+        let lacking = find_end_mean(pair, end.column, buffers);
         missing = min_missing(missing, lacking);
         at = end.next;
     }
@@ -341,10 +331,8 @@ fn find_end_means<C: Cells>(
 }
 
 /// Returns the least mean of what a step to state `e` is worth.
-fn mean_at<C: Cells>(pair: &Pair<'_, C>, constant: Option<i64>, ends: &EndMeans, e: usize) -> i128
+fn mean_at<C: Cells>(pair: &Pair<'_, C>, ends: &EndMeans, e: usize) -> i128
     requires end { e < (cells_of pair.now.input.now).states }
-    requires constant { ForSome constant (IsConstantReward (cells_of pair.now.input.now)
-        ((near_controller pair.now.input.now).action pair.now.n) pair.now.s) }
     requires ready { IsReadyAt (near_table pair.now.input.now) (near_controller pair.now.input.now)
         pair.now.n pair.now.s e ends.now }
     ensures is { IsEndMean (near_table pair.now.input.now) (near_controller pair.now.input.now)
@@ -358,7 +346,7 @@ fn mean_at<C: Cells>(pair: &Pair<'_, C>, constant: Option<i64>, ends: &EndMeans,
     let end = PairEnd {
         pair,
         e,
-        known: constant,
+        known: pair.constant,
     };
     mean + reward_part(pair, end_reward(&end, 0))
 }
@@ -366,13 +354,10 @@ fn mean_at<C: Cells>(pair: &Pair<'_, C>, constant: Option<i64>, ends: &EndMeans,
 /// Gathers the row of T: its weights above 0, and the least mean of what a step to each end state is worth. Returns how many they are.
 fn gather_ends<C: Cells>(
     pair: &Pair<'_, C>,
-    constant: Option<i64>,
     ends: &EndMeans,
     weights: &mut [u64],
     values: &mut [i128],
 ) -> usize
-    requires constant { ForSome constant (IsConstantReward (cells_of pair.now.input.now)
-        ((near_controller pair.now.input.now).action pair.now.n) pair.now.s) }
     requires ready { AreReady (near_table pair.now.input.now) (near_controller pair.now.input.now)
         pair.now.n pair.now.s (cells_of pair.now.input.now).states ends.now }
     requires weights { (cells_of pair.now.input.now).states ≤ length weights.old }
@@ -390,24 +375,11 @@ fn gather_ends<C: Cells>(
     let mut at = 0;
     while let Some(end) = next_end(cells, a, pair.s, row, at) {
         weights[count] = end.weight;
-        values[count] = mean_at(pair, constant, ends, end.column);
+        values[count] = mean_at(pair, ends, end.column);
         count += 1;
         at = end.next;
     }
     count
-}
-
-/// Returns the reward of every step of the pair, if it is known at once that it is the same for every end state and observation, and not
-/// for every start state too.
-fn constant_reward<C: Cells>(pair: &Pair<'_, C>, have_rewards: bool) -> Option<i64>
-    ensures { ForSome result (IsConstantReward (cells_of pair.now.input.now)
-        ((near_controller pair.now.input.now).action pair.now.n) pair.now.s) }
-{
-    if have_rewards {
-        return None;
-    }
-    let a = pair.input.graph.action(pair.n);
-    constant_reward_of(pair.input.cells, a, pair.s)
 }
 
 /// Returns what backs the value of the pair in the worst case: the least mean over the rows near that of T, times both scales.
@@ -423,11 +395,9 @@ fn worst_backing<C: Cells>(pair: &Pair<'_, C>, buffers: &mut PairBuffers) -> Lea
     ensures kept { AreKept (near_table pair.now.input.now) (near_controller pair.now.input.now)
         pair.now.n buffers.new.ends }
 {
-    let constant = constant_reward(pair, buffers.ends.have_rewards);
-    let missing = find_end_means(pair, constant, buffers);
+    let missing = find_end_means(pair, buffers);
     let count = gather_ends(
         pair,
-        constant,
         &buffers.ends,
         &mut buffers.weights,
         &mut buffers.values,

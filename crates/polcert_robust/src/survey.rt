@@ -7,6 +7,7 @@ ghost use Rattle.polcert_robust.specs.Steps.Surveys.{IsSurveyedBefore};
 
 use crate::buffers::PairBuffers;
 use crate::findings::{RobustFindings, lack_of, noted};
+use crate::known_rewards::KnownRewards;
 use crate::pair::{Pair, robust_pair_verdict};
 use crate::robust_input::RobustInput;
 use polcert_cells::Cells;
@@ -29,13 +30,18 @@ pub(crate) fn survey_robust<C: Cells, W: Progress>(
         first: Verdict::Yes,
         worst: 0,
     };
+    let mut known = KnownRewards::new();
     for n in 0..input.graph.nodes() {
-        buffers.ends.reset(input.cells, input.graph.action(n));
+        let a = input.graph.action(n);
+        let have_rewards = known.have_same_rewards(input.cells, a);
+        buffers.ends.reset(input.cells.states(), have_rewards);
         for s in 0..input.cells.states() {
+            let constant = known.constant_reward(input.cells, a, s, have_rewards);
             let pair = Pair {
                 input: &*input,
                 n,
                 s,
+                constant,
             };
             let verdict = robust_pair_verdict(&pair, buffers);
             if let Some(fault) = lack_of(verdict) {

@@ -5,6 +5,7 @@ ghost use Rattle.polcert_robust.specs.RobustVerdict.{IsRobustVerdict};
 ghost use Rattle.polcert_robust.specs.Steps.Pairs.{near_controller, near_table};
 
 use crate::buffers::PairBuffers;
+use crate::known_rewards::KnownRewards;
 use crate::pair::{Pair, robust_pair_verdict};
 use crate::robust_input::RobustInput;
 use polcert_cells::Cells;
@@ -31,13 +32,18 @@ pub(crate) fn first_robust_failure<C: Cells, W: Progress>(
     ensures { IsRobustVerdict (near_table input.now) (near_controller input.now) result }
 {
     progress.begin(input.graph.nodes());
+    let mut known = KnownRewards::new();
     for n in 0..input.graph.nodes() {
-        buffers.ends.reset(input.cells, input.graph.action(n));
+        let a = input.graph.action(n);
+        let have_rewards = known.have_same_rewards(input.cells, a);
+        buffers.ends.reset(input.cells.states(), have_rewards);
         for s in 0..input.cells.states() {
+            let constant = known.constant_reward(input.cells, a, s, have_rewards);
             let pair = Pair {
                 input: &*input,
                 n,
                 s,
+                constant,
             };
             let verdict = robust_pair_verdict(&pair, buffers);
             if is_no(verdict) {

@@ -3,7 +3,7 @@ use Rattle.std.proofs.lemmas.Bool.{cases_lt}
 use Rattle.std.proofs.lemmas.Int.{to_z-of_z}
 use mir.Syntax.{w128}
 use Rattle.polcert_robust.proofs.Levels.{chosen_is_some, chosen_some}
-use Rattle.polcert_robust.proofs.level.value_between.Goals.{then-is_between, else-is_between}
+use Rattle.polcert_robust.proofs.level.value_between.Goals.{then-is_between+else-row-le-FEW_WEIGHTS, else-is_between}
 use Rattle.polcert_robust.proofs.level.value_between.Goals as goal
 
 pub loop-i-preserved : goal.loop-i-preserved
@@ -12,7 +12,7 @@ loop-i-preserved c =
     let high : ℤ = to_z w128 (of_z w128 c.args.high) in
     let value : ℤ = slice_index_or c.args.row.now.values.now c.loop-i.i (pos 0) in
     elim c.if-is_between.branch [
-      | then-is_between w ↦ record {
+      | then-is_between+else-row-le-FEW_WEIGHTS w ↦ record {
         few = omega (arith, w.seen-is, c.loop-i.invariant.few);
         some = rw w.found-is (chosen_some low high _ c.loop-i.found w.next_found-found.result
             (c.is_between.ensures.between w.if-is_between.true) c.loop-i.invariant.some w.next_found-found.ensures);

@@ -1,16 +1,22 @@
-use Rattle.std.proofs.Common.{false, slice_index_or, arith}
+use Rattle.std.proofs.Common.{◌∙◌, false, slice_index_or, arith, sym}
 use Rattle.polcert_robust.specs.Steps.Moves.{CanMoveBy}
-use Rattle.polcert_robust.specs.Steps.Pairs.{near_controller, near_table}
+use Rattle.polcert_robust.specs.Steps.Pairs.{cells_of, near_controller, near_table}
 use Rattle.polcert_robust.proofs.EndMeans.{both}
 use Rattle.polcert_robust.proofs.Surveying.{lack_noted, node_surveyed, nothing_surveyed}
 use Rattle.polcert_robust.proofs.survey.survey_robust.Goals as goal
 
 pub loop-n-init : goal.loop-n-init
-loop-n-init g c = nothing_surveyed (near_table c.args.input.now) (near_controller c.args.input.now)
+loop-n-init g c = record {
+  surveyed = nothing_surveyed (near_table c.args.input.now) (near_controller c.args.input.now);
+  known = c.new-known.ensures (cells_of c.args.input.now);
+}
 
 pub loop-n-preserved : goal.loop-n-preserved
-loop-n-preserved g c = node_surveyed (near_table c.args.input.now) (near_controller c.args.input.now) c.loop-n.n c.loop-s.s
-    c.loop-s.findings (omega (arith, c.loop-s-test.false, c.states-s-end.ensures)) c.loop-s.invariant.surveyed
+loop-n-preserved g c = record {
+  surveyed = node_surveyed (near_table c.args.input.now) (near_controller c.args.input.now) c.loop-n.n c.loop-s.s
+      c.loop-s.findings (omega (arith, c.loop-s-test.false, c.states-s-end.ensures)) c.loop-s.invariant.surveyed;
+  known = c.loop-s.invariant.known;
+}
 
 pub returns-in-Some-clause-refused : goal.returns-in-Some-clause-refused
 returns-in-Some-clause-refused g c =
@@ -22,11 +28,12 @@ returns-in-Some-clause-refused g c =
 
 pub loop-s-init : goal.loop-s-init
 loop-s-init g c = record {
-  surveyed = c.loop-n.invariant;
+  surveyed = c.loop-n.invariant.surveyed;
   kept = record {
-    same = rw c.action.ensures.value at c.reset.ensures.same;
-    each = λ e l is. absurd (both (slice_index_or c.reset.new.self.are_kept e false) is (c.reset.ensures.none e));
+    same = λ is. rw c.action-a.ensures.value at c.have_same_rewards-have_rewards.ensures.same (sym c.reset.ensures.rewards ∙ is);
+    each = λ e l is. absurd (both (slice_index_or c.reset.new.self.are_kept e false) is (c.reset.ensures.none e (rw c.states.ensures l)));
   };
+  known = c.have_same_rewards-have_rewards.ensures.kept;
 }
 
 pub loop-s-preserved : goal.loop-s-preserved
@@ -35,4 +42,5 @@ loop-s-preserved g c = record {
       (omega (arith, c.loop-n-test.true, c.nodes-n-end.ensures.count)) (omega (arith, c.loop-s-test.true, c.states-s-end.ensures))
       c.robust_pair_verdict-verdict.ensures.verdict c.in_default.ensures.none c.loop-s.invariant.surveyed;
   kept = c.robust_pair_verdict-verdict.ensures.kept;
+  known = c.constant_reward-constant.ensures.kept;
 }

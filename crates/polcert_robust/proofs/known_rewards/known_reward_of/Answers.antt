@@ -3,8 +3,8 @@ use Rattle.std.proofs.lemmas.Int.{to_z-of_z}
 use Rattle.std.proofs.lemmas.Option.{same_Some}
 use Rattle.polcert_cells.specs.Tables.{CellTable}
 use Rattle.polcert_robust.specs.Steps.Rewards.{IsKnownReward}
-use Rattle.polcert_robust.proofs.ConstantRewards.{without_exception}
-use Rattle.polcert_robust.proofs.constant_rewards.known_reward_of.Goals as goal
+use Rattle.polcert_robust.proofs.KnownRewards.{without_exception}
+use Rattle.polcert_robust.proofs.known_rewards.known_reward_of.Goals as goal
 
 pub returns-in-Some : goal.returns-in-Some
 returns-in-Some g c =
