@@ -1,15 +1,19 @@
 //! What is known at once of the rewards of an action: which are the same for several end states, observations or start states.
-ghost use Rattle.std.specs.Prelude.{◌≡◌, ◌<◌, length, true};
+ghost use Rattle.std.specs.Prelude.{◌≡◌, ◌<◌, ◌≤◌, ℕ, ℤ, length, true};
 ghost use Rattle.std.specs.Option.{ForSome};
+ghost use Rattle.polcert_cells.specs.CommonRewards.{AreEndRewards, IsCommonReward};
 ghost use Rattle.polcert_cells.specs.declared.elements.TheConstants.{MOST_ACTIONS};
 ghost use Rattle.polcert_robust.specs.declared.known_rewards.TheConstants.{ROOM};
 ghost use Rattle.polcert_robust.specs.Steps.Rewards.{IsConstantReward, IsKnownReward};
 
 use crate::end_means::have_same_rewards;
-use polcert_cells::{Cells, MOST_ACTIONS};
+use polcert_cells::{Cells, CommonReward, MOST_ACTIONS, RewardCell};
 
 /// Room for the rewards of so many pairs of an action and a start state: of the first actions.
 const ROOM: usize = 10_000;
+
+/// So many end states are listed whose rewards differ from the common one.
+pub(crate) const MOST_LISTED: usize = 64;
 
 /// What is known of the rewards of actions, whatever the node: found on first use, and kept as far as there is room.
 #[derive(Drop)]
@@ -97,6 +101,43 @@ impl KnownRewards {
         self.constants[place] = number_of(reward);
         reward
     }
+}
+
+/// Returns the reward that all end states but those listed have when action `a` is taken in state `s`, if it is known at once. None is looked
+/// for if all start states have the same rewards, or if `constant` is the reward.
+// (Six parameters: an action and a state, what is known of their rewards, and room.)
+pub(crate) fn list_end_rewards<C: Cells>(
+    cells: &C,
+    a: usize,
+    s: usize,
+    have_rewards: bool,
+    constant: Option<i64>,
+    listed: &mut [RewardCell],
+) -> Option<CommonReward>
+    requires action { a < (C.table cells.now).actions }
+    requires start { s < (C.table cells.now).states }
+    ensures { ForSome result (λ common. AreEndRewards (C.table cells.now) a s common listed.new) }
+{
+    if have_rewards {
+        return None;
+    }
+    if constant.is_some() {
+        return None;
+    }
+    cells.find_end_rewards(a, s, listed)
+}
+
+/// Returns the reward at end state `e`: that of the listed one, or the common one.
+pub(crate) fn reward_among(common: CommonReward, listed: &[RewardCell], e: usize) -> i64
+    requires room { common.exceptions ≤ length listed.now }
+    ensures { (r : ℕ → ℤ) (count : ℕ) → e < count → IsCommonReward r count common listed.now → r e ≡ result }
+{
+    for k in 0..common.exceptions {
+        if listed[k].observation == e {
+            return listed[k].reward;
+        }
+    }
+    common.reward
 }
 
 /// Returns the number if it is constant.

@@ -2,6 +2,7 @@
 ghost use Rattle.std.specs.Prelude.{◌≡◌, ◌+◌, ◌*◌, ◌<◌, ◌≤◌, ℕ, ℤ, pos, ◌+ℤ◌, ◌-ℤ◌, ◌*ℤ◌, ◌<ℤ◌, ◌≤ℤ◌, length, unsigned_abs, IsFalse, IsTrue, None, Some, true};
 ghost use Rattle.std.specs.Option.{ForSome};
 ghost use Rattle.polcert_text.specs.Numbers.{largest};
+ghost use Rattle.polcert_cells.specs.CommonRewards.{AreEndRewards};
 ghost use Rattle.polcert_check.specs.Horizon.{one};
 ghost use Rattle.polcert_check.specs.Steps.Factored.{IsLeastOf, IsMinOption, IsMissedAt, Misses};
 ghost use Rattle.polcert_check.specs.Steps.Values.{IsMissedBefore};
@@ -14,10 +15,10 @@ ghost use Rattle.polcert_robust.specs.Steps.Sides.{turned};
 
 use crate::buffers::PairBuffers;
 use crate::end_means::{EndMean, EndMeans};
-use crate::known_rewards::known_reward_of;
+use crate::known_rewards::{known_reward_of, reward_among};
 use crate::level::{WorthRow, least_mean, weigh_number};
 use crate::robust_input::RobustInput;
-use polcert_cells::Cells;
+use polcert_cells::{Cells, CommonReward, RewardCell};
 use polcert_check::Verdict;
 use polcert_check::one_step::{next_end, next_observation};
 
@@ -33,10 +34,15 @@ pub(crate) struct Pair<'a, C: Cells> {
     /// The reward of every step, if it is known at once that it is the same for every end state and observation. (It is not asked for if it
     /// is the same for every start state too.)
     pub constant: Option<i64>,
+    /// The reward of every end state that is not listed, whatever is observed, if it is known.
+    pub common: Option<CommonReward>,
+    pub listed: &'a [RewardCell],
     ghost node: { n < (near_controller input.now).nodes },
     ghost start: { s < (near_table input.now).states },
     ghost constant_everywhere: { ForSome constant (IsConstantReward (cells_of input.now)
         ((near_controller input.now).action n) s) },
+    ghost listed_ends: { ForSome common (λ found. AreEndRewards (cells_of input.now)
+        ((near_controller input.now).action n) s found listed.now) },
 }
 
 /// A least mean, and the least observation in it that has no successor.
@@ -199,14 +205,30 @@ fn end_mean<C: Cells>(end: &PairEnd<'_, C>, weights: &mut [u64], values: &mut [i
     }
 }
 
-/// Returns the reward of a step of the pair to end state `e`, if it is known at once that it does not depend on the observation.
-fn known_reward<C: Cells>(pair: &Pair<'_, C>, e: usize) -> Option<i64>
+/// Returns the reward of a step of the pair to end state `e`, if the pair tells it whatever is observed.
+fn pair_reward<C: Cells>(pair: &Pair<'_, C>, e: usize) -> Option<i64>
     requires end { e < (cells_of pair.now.input.now).states }
     ensures { ForSome result (IsKnownReward (cells_of pair.now.input.now)
         ((near_controller pair.now.input.now).action pair.now.n) pair.now.s e) }
 {
     if pair.constant.is_some() {
         return pair.constant;
+    }
+    match pair.common {
+        Some(common) => Some(reward_among(common, pair.listed, e)),
+        None => None,
+    }
+}
+
+/// Returns the reward of a step of the pair to end state `e`, if it is known at once that it does not depend on the observation.
+fn known_reward<C: Cells>(pair: &Pair<'_, C>, e: usize) -> Option<i64>
+    requires end { e < (cells_of pair.now.input.now).states }
+    ensures { ForSome result (IsKnownReward (cells_of pair.now.input.now)
+        ((near_controller pair.now.input.now).action pair.now.n) pair.now.s e) }
+{
+    let reward = pair_reward(pair, e);
+    if reward.is_some() {
+        return reward;
     }
     let a = pair.input.graph.action(pair.n);
     known_reward_of(pair.input.cells, a, pair.s, e)
@@ -343,11 +365,8 @@ fn mean_at<C: Cells>(pair: &Pair<'_, C>, ends: &EndMeans, e: usize) -> i128
     if !ends.lacks_reward(e) {
         return mean;
     }
-    let end = PairEnd {
-        pair,
-        e,
-        known: pair.constant,
-    };
+    let known = pair_reward(pair, e);
+    let end = PairEnd { pair, e, known };
     mean + reward_part(pair, end_reward(&end, 0))
 }
 

@@ -7,10 +7,10 @@ ghost use Rattle.polcert_robust.specs.Steps.Surveys.{IsSurveyedBefore};
 
 use crate::buffers::PairBuffers;
 use crate::findings::{RobustFindings, lack_of, noted};
-use crate::known_rewards::KnownRewards;
+use crate::known_rewards::{KnownRewards, MOST_LISTED, list_end_rewards};
 use crate::pair::{Pair, robust_pair_verdict};
 use crate::robust_input::RobustInput;
-use polcert_cells::Cells;
+use polcert_cells::{Cells, RewardCell};
 use polcert_check::{LowerFault, Progress, Verdict};
 
 /// Returns what is found at all pairs, or the first that may lack an observation. `progress` is notified of each node before it.
@@ -31,17 +31,24 @@ pub(crate) fn survey_robust<C: Cells, W: Progress>(
         worst: 0,
     };
     let mut known = KnownRewards::new();
+    let mut listed = [RewardCell {
+        observation: 0,
+        reward: 0,
+    }; MOST_LISTED];
     for n in 0..input.graph.nodes() {
         let a = input.graph.action(n);
         let have_rewards = known.have_same_rewards(input.cells, a);
         buffers.ends.reset(input.cells.states(), have_rewards);
         for s in 0..input.cells.states() {
             let constant = known.constant_reward(input.cells, a, s, have_rewards);
+            let common = list_end_rewards(input.cells, a, s, have_rewards, constant, &mut listed);
             let pair = Pair {
                 input: &*input,
                 n,
                 s,
                 constant,
+                common,
+                listed: &listed,
             };
             let verdict = robust_pair_verdict(&pair, buffers);
             if let Some(fault) = lack_of(verdict) {

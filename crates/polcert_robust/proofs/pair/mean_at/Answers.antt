@@ -34,7 +34,7 @@ returns-then-not-lacks_reward g c =
     })
 
 pub invariant_of-end : goal.invariant_of-end
-invariant_of-end g c = record { end = c.requires.end; reward = λ h is. c.args.pair.now.constant_everywhere h is c.args.e c.requires.end }
+invariant_of-end g c = record { end = c.requires.end; reward = c.pair_reward-known.ensures }
 
 pub end_reward-requires : goal.end_reward-requires
 end_reward-requires g c =

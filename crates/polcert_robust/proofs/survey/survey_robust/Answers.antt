@@ -44,3 +44,9 @@ loop-s-preserved g c = record {
   kept = c.robust_pair_verdict-verdict.ensures.kept;
   known = c.constant_reward-constant.ensures.kept;
 }
+
+pub invariant_of-pair-clause-constant_everywhere : goal.invariant_of-pair-clause-constant_everywhere
+invariant_of-pair-clause-constant_everywhere g c = rw c.action-a.ensures.value at c.constant_reward-constant.ensures.constant
+
+pub invariant_of-pair-clause-listed_ends : goal.invariant_of-pair-clause-listed_ends
+invariant_of-pair-clause-listed_ends g c = rw c.action-a.ensures.value at c.list_end_rewards-common.ensures

@@ -51,3 +51,9 @@ returns-then-is_no g c =
 pub returns : goal.returns
 returns g c = all_before (near_table c.args.input.now) (near_controller c.args.input.now) c.loop-n.n
     (omega (arith, c.loop-n-test.false, c.nodes-n-end.ensures.count)) c.loop-n.invariant.before
+
+pub invariant_of-pair-clause-constant_everywhere : goal.invariant_of-pair-clause-constant_everywhere
+invariant_of-pair-clause-constant_everywhere g c = rw c.action-a.ensures.value at c.constant_reward-constant.ensures.constant
+
+pub invariant_of-pair-clause-listed_ends : goal.invariant_of-pair-clause-listed_ends
+invariant_of-pair-clause-listed_ends g c = rw c.action-a.ensures.value at c.list_end_rewards-common.ensures
