@@ -3,12 +3,12 @@ ghost use Rattle.std.specs.Prelude.{◌≡◌, ◌<◌};
 ghost use Rattle.polcert_text.specs.Sink.{WritesText};
 ghost use Rattle.polcert_policy.specs.Graphs.{nodes};
 ghost use Rattle.polcert_policy.specs.VectorText.{IsVectorsText, IsRoundedVectorsText};
-ghost use Rattle.polcert_policy.specs.FullForm.{after_value, value_text, values_text, action_line, vector_text, vectors_text};
+ghost use Rattle.polcert_policy.specs.FullForm.{value_text, values_text, action_line, vector_text, vectors_text};
 
 use crate::graph::Graph;
 use crate::vectors::Vectors;
 use itoa::Buffer;
-use polcert_text::{Rounding, Sink, SinkFailed, write_all, write_scaled};
+use polcert_text::{Rounding, Sink, SinkFailed, write_all, write_scaled_then};
 
 /// Writes the vectors of a graph in full form: for each node its action on a line, its values on a line with one blank
 /// between, and an empty line. Values are written as decimal numbers without trailing zeros.
@@ -80,7 +80,7 @@ fn write_values<W: Sink>(vectors: &Vectors, node: usize, out: &mut W) -> Result<
     Ok(())
 }
 
-/// Writes a value and what separates it from the next.
+/// Writes a value and what separates it from the next: a blank, or after a vector's last value its line end and an empty line.
 fn write_value<W: Sink>(
     vectors: &Vectors,
     node: usize,
@@ -91,14 +91,11 @@ fn write_value<W: Sink>(
     requires state { state < vectors.now.states }
     ensures { WritesText W.writes W.failures out.old (value_text vectors.now node state) result out.new }
 {
-    write_scaled(vectors.at(node, state), out)?;
-    write_all(out, value_separator(vectors.states(), state))
-}
-
-/// Returns the text after a value: a blank, or after a vector's last value its line end and an empty line.
-fn value_separator(states: usize, state: usize) -> &'static [u8]
-    requires { state < states }
-    ensures { result.now ≡ after_value states state }
-{
-    if state + 1 == states { b"\n\n" } else { b" " }
+    let states = vectors.states();
+    let value = vectors.at(node, state);
+    if state + 1 == states {
+        write_scaled_then(value, b'\n', out)?;
+        return write_all(out, b"\n");
+    }
+    write_scaled_then(value, b' ', out)
 }

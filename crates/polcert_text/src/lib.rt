@@ -18,6 +18,7 @@ pub use front_tokens::{
 };
 pub use number::{
     NumberFault, Rounding, ceil_of, floor_of, rounded_of, scaled_of, whole_number, write_scaled,
+    write_scaled_then,
 };
 pub use sink::{BUFFER_SIZE, Buffer, BufferedSink, Sink, SinkFailed, write_all};
 pub use source::{

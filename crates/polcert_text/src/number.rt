@@ -1,7 +1,7 @@
 //! The value of a numeral, and a number written as text.
-ghost use Rattle.std.specs.Prelude.{◌≡◌, ◌+◌, ◌-◌, ◌*◌, ◌^◌, length, take, drop, if◌then◌else◌, ◌<◌, ◌≤◌};
+ghost use Rattle.std.specs.Prelude.{◌≡◌, ◌+◌, ◌-◌, ◌*◌, ◌^◌, ◌%◌, length, take, drop, if◌then◌else◌, ◌<◌, ◌≤◌};
 ghost use Rattle.std.specs.Prelude.{◌++◌, ◌∷◌, [], ℕ, List, MatchResult, IfOk, IfErr, min};
-ghost use Rattle.std.specs.Prelude.{true, false, MatchOption};
+ghost use Rattle.std.specs.Prelude.{true, false, MatchOption, unsigned_abs};
 ghost use Rattle.std.specs.List.{list_all, list_any, before_first, after_first};
 ghost use Rattle.std.specs.Str.Parse.{digits_value};
 ghost use Rattle.polcert_text.specs.Bytes.{is_digit};
@@ -12,13 +12,12 @@ ghost use Rattle.polcert_text.specs.Numbers.{IsRefused, IsRefusedExactly};
 ghost use Rattle.polcert_text.specs.Steps.Scaling.{separates, size_cap, is_nonzero, IsScaled, Measures, ceiling};
 ghost use Rattle.polcert_text.specs.Steps.Scaling.{rounded, is_away};
 ghost use Rattle.polcert_text.specs.Steps.NumeralEnds.{HasParts};
-ghost use Rattle.polcert_text.specs.Millionths.{decimals, fraction_text, unsigned_text, scaled_text};
+ghost use Rattle.polcert_text.specs.Millionths.{decimals, fraction_text, scaled_text};
 
 use crate::bytes::class_of;
 use crate::tokens::State;
 use crate::{Sink, SinkFailed, write_all};
-use itoa::Buffer;
-use std::marker::Model;
+use itoa::write_digits;
 use thiserror::Error;
 
 /// Why a numeral has no value here: the first of these that holds.
@@ -466,101 +465,85 @@ pub fn whole_number(most: usize, bytes: &[u8]) -> Option<usize>
     }
 }
 
-/// The text of a number of millionths.
-#[derive(Drop)]
-struct ScaledText {
-    bytes: [u8; 24],
-    len: usize,
+/// How many bytes there is room for: more than the text of a number of millionths has.
+const TEXT_ROOM: usize = 32;
+
+/// Where the whole part of a number ends in this room.
+const WHOLE_END: usize = 16;
+
+/// Puts a byte after the first `at` bytes, and returns how many these are then.
+#[inline(always)]
+fn put(text: &mut [u8], at: usize, byte: u8) -> usize
+    requires { at < length text.old }
+    ensures text { take result text.new ≡ take at text.old ++ byte ∷ [] }
+    ensures end { result ≡ at + 1 }
+{
+    text[at] = byte;
+    at + 1
 }
 
-impl Model for ScaledText {
-    ghost use Rattle.std.specs.Prelude.{List, ℕ, take, ◌≤◌};
-
-    ghost Value = { List ℕ };
-
-    ghost view = { λ t. take t.len t.bytes };
-
-    ghost invariant = { λ t. t.len ≤ 24 };
+/// Puts the text of a number of millionths into this room, and returns where it starts and where it ends.
+#[inline(always)]
+fn put_scaled(text: &mut [u8], scaled: i64) -> (usize, usize)
+    requires { length text.old ≡ 32 }
+    ensures text { drop result.0 (take result.1 text.new) ≡ scaled_text scaled }
+    ensures place { (result.0 ≤ result.1) × (result.1 ≤ 24) }
+{
+    let start = put_whole(text, scaled);
+    let end = put_fraction(text, WHOLE_END, scaled.unsigned_abs() % MILLION);
+    (start, end)
 }
 
-impl ScaledText {
-    /// Returns the shortest text of this many millionths.
-    fn of(scaled: i64) -> ScaledText
-        ensures { result ≡ scaled_text scaled }
-    {
-        let mut text = ScaledText {
-            bytes: [0; 24],
-            len: 0,
-        };
-        if scaled < 0 {
-            text.push(b'-');
-        }
-        text.push_unsigned(scaled.unsigned_abs());
-        text
+/// Puts the sign and the whole part of a number of millionths before `WHOLE_END`, and returns where they start.
+#[inline(always)]
+fn put_whole(text: &mut [u8], scaled: i64) -> usize
+    requires { length text.old ≡ 32 }
+    ensures start { result ≤ 16 }
+    ensures whole { drop result (take 16 text.new) ++ fraction_text (unsigned_abs scaled % 1_000_000)
+        ≡ scaled_text scaled }
+{
+    let start = write_digits(scaled.unsigned_abs() / MILLION, text, WHOLE_END);
+    if scaled < 0 {
+        text[start - 1] = b'-';
+        return start - 1;
     }
+    start
+}
 
-    /// Returns the bytes of the text.
-    fn as_bytes(&self) -> &[u8]
-        ensures { result.now ≡ self.now }
-    {
-        &self.bytes[..self.len]
+/// Puts a point and this many millionths below one after the first `at` bytes, or nothing if there are none.
+#[inline(always)]
+fn put_fraction(text: &mut [u8], at: usize, rest: u64) -> usize
+    requires room { at ≤ 17 }
+    requires length { length text.old ≡ 32 }
+    requires rest { rest < 1_000_000 }
+    ensures text { take result text.new ≡ take at text.old ++ fraction_text rest }
+    ensures end { (at ≤ result) × (result ≤ 24) }
+{
+    if rest > 0 {
+        let point = put(text, at, b'.');
+        return put_decimals(text, point, rest);
     }
+    at
+}
 
-    /// Appends a byte.
-    fn push(&mut self, byte: u8)
-        requires { length self.old < 24 }
-        ensures { self.new ≡ self.old ++ byte ∷ [] }
-    {
-        self.bytes[self.len] = byte;
-        self.len += 1;
+/// Puts the digits of this many millionths below one after the first `at` bytes, without zeros at the end.
+#[inline(always)]
+fn put_decimals(text: &mut [u8], at: usize, rest: u64) -> usize
+    requires room { at ≤ 18 }
+    requires length { length text.old ≡ 32 }
+    requires rest { rest < 1_000_000 }
+    ensures text { take result text.new ≡ take at text.old ++ decimals 6 rest }
+    ensures end { (at ≤ result) × (result ≤ 24) }
+{
+    let mut end = at;
+    let mut rest = rest;
+    let mut unit = MILLION;
+    while rest > 0 {
+        unit /= 10;
+        end = put(text, end, b'0' + (rest / unit) as u8);
+        rest %= unit;
     }
-
-    /// Appends bytes.
-    fn push_all(&mut self, bytes: &[u8])
-        requires { length self.old + length bytes.now ≤ 24 }
-        ensures { self.new ≡ self.old ++ bytes.now }
-    {
-        for byte in bytes {
-            self.push(*byte);
-        }
-    }
-
-    /// Appends the text of this many millionths.
-    fn push_unsigned(&mut self, size: u64)
-        requires { length self.old ≤ 1 }
-        ensures { self.new ≡ self.old ++ unsigned_text size }
-    {
-        let mut buffer = Buffer::new();
-        self.push_all(buffer.format(size / 1_000_000).as_bytes());
-        self.push_fraction(size % 1_000_000);
-    }
-
-    /// Appends a point and this many millionths below one, or nothing if there are none.
-    fn push_fraction(&mut self, rest: u64)
-        requires room { length self.old ≤ 17 }
-        requires rest { rest < 1_000_000 }
-        ensures { self.new ≡ self.old ++ fraction_text rest }
-    {
-        if rest > 0 {
-            self.push(b'.');
-            self.push_decimals(rest);
-        }
-    }
-
-    /// Appends the digits of this many millionths below one, without zeros at the end.
-    fn push_decimals(&mut self, rest: u64)
-        requires room { length self.old ≤ 18 }
-        requires rest { rest < 1_000_000 }
-        ensures { self.new ≡ self.old ++ decimals 6 rest }
-    {
-        let mut rest = rest;
-        let mut unit = MILLION;
-        while rest > 0 {
-            unit /= 10;
-            self.push(b'0' + (rest / unit) as u8);
-            rest %= unit;
-        }
-    }
+    end
 }
 
 ghost use Rattle.polcert_text.specs.Numbers.{DenotesNumber};
@@ -574,6 +557,17 @@ pub fn write_scaled<W: Sink>(scaled: i64, out: &mut W) -> Result<(), SinkFailed>
     // Read as a sign and a numeral, the text denotes just this number.
     ensures exact { DenotesNumber (scaled_text scaled) scaled }
 {
-    let text = ScaledText::of(scaled);
-    write_all(out, text.as_bytes())
+    let mut text = [0; TEXT_ROOM];
+    let (start, end) = put_scaled(&mut text, scaled);
+    write_all(out, &text[start..end])
+}
+
+/// Writes the same, and after it this byte, in one piece.
+pub fn write_scaled_then<W: Sink>(scaled: i64, after: u8, out: &mut W) -> Result<(), SinkFailed>
+    ensures { WritesText W.writes W.failures out.old (scaled_text scaled ++ after ∷ []) result out.new }
+{
+    let mut text = [0; TEXT_ROOM];
+    let (start, end) = put_scaled(&mut text, scaled);
+    let end = put(&mut text, end, after);
+    write_all(out, &text[start..end])
 }
