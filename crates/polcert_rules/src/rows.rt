@@ -86,8 +86,9 @@ impl Rows {
         let index = Index::of(alloc, entries, table)?;
         let rules = index.as_slice();
         let split = SplitRules::of(alloc, rules, entries)?;
+        let lined = if split.is_exact { &rules[..0] } else { rules };
         let mut numbers = Lists::new(alloc);
-        let mut store = RowStore::of(alloc, entries, rules, shape.states)?;
+        let mut store = RowStore::of(alloc, entries, lined, shape.states)?;
         let given = TableEntries {
             bodies: Bodies { entries, shape },
             table,
