@@ -213,9 +213,9 @@ fn add_part(cells: &mut Vec<Rule>, part: &[Rule], start: u64) -> Result<(), Allo
     Ok(())
 }
 
-/// Returns the cells of a row that are newer than the entry below them, with their weights.
+/// Returns the cells of a row that are newer than the entry below them, with their weights. Those of the row before are given up.
 pub(crate) fn newer_cells(
-    alloc: Global,
+    last: Vec<Cell>,
     entries: &Entries,
     row: &EntryRow<'_>,
     columns: usize,
@@ -226,7 +226,8 @@ pub(crate) fn newer_cells(
     ensures { IfOk result (λ newer. (s : ℕ) →
         newer.items ≡ newer_cells columns entries.now (covering_entry row.now) s row.now.cells.rules.items) }
 {
-    let mut newer = Vec::with_capacity(alloc, row.cells.rules.len())?;
+    let mut newer = last;
+    newer.clear();
     for rule in &row.cells.rules {
         let column = rule.key as usize;
         if is_newer(row.covering_entry(column), rule.number) {

@@ -23,6 +23,7 @@ use crate::{Rule, Shape};
 use polcert_cells::{BodyRef, Cell, Entries, EntryRef, ONE, Place};
 use std::alloc::{AllocError, Global};
 use std::marker::Model;
+use std::mem::replace;
 
 /// What a row is made of that one entry gives alone.
 #[derive(Clone, Copy)]
@@ -67,6 +68,8 @@ pub(crate) struct RowStore {
     pub proper: Vec<bool>,
     pub shared: Vec<SharedRow>,
     slots: RowCache,
+    /// The buffer of a row's own cells.
+    spare: Vec<Cell>,
 }
 
 impl RowStore {
@@ -85,6 +88,7 @@ impl RowStore {
             proper: Vec::new(alloc),
             shared: Vec::new(alloc),
             slots,
+            spare: Vec::new(alloc),
         })
     }
 
@@ -126,12 +130,16 @@ impl RowStore {
             self.new.rows n) }
     {
         let base = self.shared_row(alloc, bodies, row.whole, state)?;
-        let newer = newer_cells(alloc, bodies.entries, row, bodies.shape.columns)?;
+        let spare = replace(&mut self.spare, Vec::new(alloc));
+        let newer = newer_cells(spare, bodies.entries, row, bodies.shape.columns)?;
         if row.zeros.is_none() && newer.is_empty() {
+            self.spare = newer;
             return Ok(base);
         }
         let cells = cells_over(alloc, row, self.rows.at(base), newer)?;
-        Ok(self.own_row(bodies, near, cells.as_slice())?)
+        let number = self.own_row(bodies, near, cells.as_slice())?;
+        self.spare = cells;
+        Ok(number)
     }
 
     /// Returns the number of the row that the entry of this number gives alone. It is made on first use.

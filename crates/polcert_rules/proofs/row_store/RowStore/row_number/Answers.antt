@@ -53,7 +53,7 @@ own_row-requires-clause-small c i l =
     c.requires.row.2 (c.in_ok-newer.ensures c.args.state) c.in_ok-cells.cells.items row i l)
 
 pub returns-clause-stays : goal.returns-clause-stays
-returns-clause-stays c n row e = c.in_ok-own_row.ensures.stays n row (c.in_ok-base.ensures.stays n row e)
+returns-clause-stays c n row e = c.in_ok-number.ensures.stays n row (c.in_ok-base.ensures.stays n row e)
 
 pub returns-clause-row : goal.returns-clause-row
 returns-clause-row c table a h =
@@ -64,5 +64,5 @@ returns-clause-row c table a h =
     let row = finished c.args.bodies.shape entries table a c.args.state c.args.row.now c.in_ok-newer.newer.items h
     (c.in_ok-newer.ensures c.args.state)
     (stored_cells c.at.result) _ _ c.in_ok-cells.cells.items below refl refl c.in_ok-cells.ensures in
-    weighed_row n entries c.as_slice.result.now _ _ _ c.in_ok-own_row.ensures.row
+    weighed_row n entries c.as_slice.result.now _ _ _ c.in_ok-number.ensures.row
     (subst (λ (xs : List Cell). IsRow n (weight_by_entries n entries table a c.args.state) xs) (sym c.as_slice.ensures.value) row)
