@@ -8,7 +8,7 @@ ghost use Rattle.polcert_cells.specs.Cells.{IsLastCovering, weight, weight_of, v
 ghost use Rattle.polcert_cells.specs.Preamble.{Preamble};
 ghost use Rattle.polcert_rules.specs.Keys.{key_base, AreIndices, FitsKey, table_key, most_places, digit};
 ghost use Rattle.polcert_rules.specs.Keys.{table_digit, key_of, AreDigits};
-ghost use Rattle.polcert_rules.specs.Steps.Newest.{AreKeyed, IsIndexOf, IsNewest, IsRising, IsLastNumber};
+ghost use Rattle.polcert_rules.specs.Steps.Newest.{AreKeyed, IsIndexOf, IsNewest, IsRising, IsLastNumber, AreSortedNewest};
 ghost use Rattle.polcert_rules.specs.Steps.Newest.{entry_at, rules_from, newest_of_each, IsKeyPartition};
 ghost use Rattle.polcert_rules.specs.Steps.Repeats.{NamesNoAction};
 ghost use Rattle.polcert_cells.specs.EntryRefs.{entry_of};
@@ -44,8 +44,7 @@ impl Index {
         ensures { IfOk result (IsIndexOf table entries.now) }
     {
         let mut rules = rules_of_table(alloc, entries, table)?;
-        rules.sort_unstable_by_key(|rule| rule.key);
-        keep_newest_of_each(&mut rules);
+        sort_newest(&mut rules);
         Ok(Index { rules })
     }
 
@@ -129,8 +128,37 @@ fn count_of_table(entries: &Entries, table: Table) -> usize {
     count
 }
 
+/// Sorts rules by their keys, and keeps of those with the same key the one with the greatest number. (In most texts nothing is to be done.)
+pub(crate) fn sort_newest(rules: &mut Vec<Rule>)
+    ensures { AreSortedNewest rules.old.items rules.new.items }
+{
+    if are_rising(rules.as_slice()) {
+        return;
+    }
+    rules.sort_unstable_by_key(|rule| rule.key);
+    keep_newest_of_each(rules);
+}
+
+/// Tests whether each rule has a greater key than the one before it.
+#[inline(always)]
+fn are_rising(rules: &[Rule]) -> bool
+    ensures { IsTrue result → IsRising rules.now }
+{
+    let [first, rest @ ..] = rules else {
+        return true;
+    };
+    let mut last = first.key;
+    for rule in rest {
+        if rule.key <= last {
+            return false;
+        }
+        last = rule.key;
+    }
+    true
+}
+
 /// Keeps of neighbours with the same key the one with the greatest number.
-pub(crate) fn keep_newest_of_each(rules: &mut Vec<Rule>)
+fn keep_newest_of_each(rules: &mut Vec<Rule>)
     ensures { rules.new.items ≡ newest_of_each rules.old.items }
 {
     let count = move_newest_to_front(rules.as_mut_slice());

@@ -25,8 +25,8 @@ ghost use Rattle.polcert_rules.specs.Steps.Given.{IsShapeWithin, FitsShape, entr
 ghost use Rattle.polcert_cells.specs.Sparse.{IsRow};
 
 use crate::index::{
-    COLUMN, COLUMN_KEYS, MOST_PLACES, first_column, keep_newest_of_each, max_option, rules_before,
-    rules_between, rules_from_at, span, table_digit,
+    COLUMN, COLUMN_KEYS, MOST_PLACES, first_column, max_option, rules_before, rules_between,
+    rules_from_at, sort_newest, span, table_digit,
 };
 use crate::rows::{StoredRow, cells_of};
 use crate::zeros::{RowZeros, SplitRules, row_zeros};
@@ -131,8 +131,7 @@ pub(crate) fn cells(
     add_shared_columns(&mut cells, split, low, action, state)?;
     let start = first_column(low, action as u64 + 2, state as u64 + 2);
     let next = add_columns_at(&mut cells, split.nonzero_rules(), start, next)?;
-    cells.sort_unstable_by_key(|cell| cell.key);
-    keep_newest_of_each(&mut cells);
+    sort_newest(&mut cells);
     Ok(RowCells { rules: cells, next })
 }
 

@@ -2,7 +2,8 @@
 use Rattle.std.proofs.Common.{◌≡◌, ◌∙◌, ℕ, zero, suc, ◌+◌, ◌<◌, ◌≤◌, ◌⊎◌, inl, inr, ⊎_elim, Bool, true, false, cond, eqb, max, Some, List}
 use Rattle.std.proofs.Common.{[], ◌∷◌, length, get_or, Contains, All, refl, sym, ap, subst, arith}
 use Rattle.std.specs.List.{slice_get}
-use Rattle.polcert_rules.proofs.Common.{IsNonDecreasingBy, Table, nat_tests, AllPairs-cons, All-nil, All-cons, Contains-permutation}
+use Rattle.polcert_rules.proofs.Common.{IsNonDecreasingBy, cases_lt, Table, nat_tests, AllPairs-cons, All-nil, All-cons}
+use Rattle.polcert_rules.proofs.Common.{Contains-permutation}
 use Rattle.polcert_rules.proofs.Common.{IsPermutation-sym, Entry, Rule, key_of, AreDigits, most_places, AreKeyed, IsRising, IsEntryRule}
 use Rattle.polcert_rules.proofs.Common.{IsIndexOf, rules_from, newest_from, newest_of_each}
 use Rattle.std.specs.List.Sorted.{IsPermutation}
@@ -138,7 +139,7 @@ abbrev RisesFrom : ℕ → List Rule → Type 0
 RisesFrom k [] = Unit {0}
 RisesFrom k (x ∷ xs) = (k ≤ x.key) × RisesFrom x.key xs
 
-abbrev RisesAbove : ℕ → List Rule → Type 0
+abbrev pub RisesAbove : ℕ → List Rule → Type 0
 RisesAbove k [] = Unit {0}
 RisesAbove k (x ∷ xs) = (k < x.key) × RisesAbove x.key xs
 
@@ -186,6 +187,31 @@ newest_rises_at last (s ∷ rs) up = at (λ m up. newest_rises_at m rs up) (eqb 
 rising_at : (k : ℕ) (xs : List Rule) → RisesAt k xs → IsRising xs
 rising_at k [] up = λ i j d less l. absurd (omega arith)
 rising_at k (x ∷ xs) up = AllPairs-cons (λ x y. x.key < y.key) x xs (above_all x.key xs up.1) (rising_from x.key xs up.1)
+
+pub rising_after : (x : Rule) (xs : List Rule) → RisesAbove x.key xs → IsRising (x ∷ xs)
+rising_after x xs up = rising_at x.key (x ∷ xs) (refl, up)
+
+-- where keys rise each is the newest already
+newest_after : (x : Rule) (xs : List Rule) → IsRising (x ∷ xs) → newest_from x xs ≡ x ∷ xs
+newest_after x [] up = refl
+newest_after x (y ∷ ys) up = at (newest_after y ys (λ i j d less l. up (suc i) (suc j) d (omega arith) (omega arith))) (eqb y.key x.key)
+    refl
+  where
+    at : newest_from y ys ≡ y ∷ ys → (b : Bool) → eqb y.key x.key ≡ b
+        → cond b (newest_from (joined x y) ys) (x ∷ newest_from y ys) ≡ x ∷ y ∷ ys
+    at ih true e =
+        let same : y.key ≡ x.key = grind (arith, nat_tests) in
+        let less = up 0 1 x (omega arith) (omega arith) in
+        absurd (omega (arith, same, less))
+    at ih false e = ap (λ (zs : List Rule). x ∷ zs) ih
+
+pub rising_order : (xs : List Rule) → IsRising xs → IsNonDecreasingBy (λ (r : Rule). r.key) xs
+rising_order xs up i j d le l = ⊎_elim (λ less. let h = up i j d less l in omega (arith, h))
+    (λ ge. let same : i ≡ j = omega arith in subst (λ k. (get_or xs i d).key ≤ (get_or xs k d).key) same (omega arith)) (cases_lt i j)
+
+pub newest_rising : (xs : List Rule) → IsRising xs → newest_of_each xs ≡ xs
+newest_rising [] up = refl
+newest_rising (x ∷ xs) up = newest_after x xs up
 
 -- the newest of each key, in the order of their keys
 pub each_rises : (xs : List Rule) → IsNonDecreasingBy (λ r. r.key) xs → IsRising (newest_of_each xs)

@@ -1,5 +1,6 @@
 -- The index of the entries of a table, and what it finds.
 use Rattle.std.specs.Prelude.{◌≡◌, ℕ, ◌+◌, ◌<◌, ◌≤◌, ◌==◌, List, [], ◌∷◌, length, take, drop, max, Option, Some, None, All, AllPairs, Contains, slice_get, true, if◌then◌else◌}
+use Rattle.std.specs.List.Sorted.{IsNonDecreasingBy, IsPermutation}
 use Rattle.polcert_cells.specs.declared.entries.Table.{Table}
 use Rattle.polcert_cells.specs.declared.entries.Entry.{Entry}
 use Rattle.polcert_cells.specs.Cells.{covers}
@@ -43,6 +44,13 @@ newest_from last (r ∷ rs) = if r.key == last.key then newest_from (record { ke
 abbrev pub newest_of_each : List Rule → List Rule
 newest_of_each [] = []
 newest_of_each (r ∷ rs) = newest_from r rs
+
+-- rules in the order of their keys, of those with the same key the newest
+pub record AreSortedNewest (old new : List Rule) : Type 0 where
+  pub sorted : List Rule
+  pub permutation : IsPermutation old sorted
+  pub ordered : IsNonDecreasingBy (λ (r : Rule). r.key) sorted
+  pub is : new ≡ newest_of_each sorted
 
 -- a rule whose key passes
 pub record IsOneOf (rules : List Rule) (P : ℕ → Type 0) (number : ℕ) : Type 0 where

@@ -1,5 +1,5 @@
-use Rattle.std.proofs.Common.{ℕ, ◌+◌, ◌<◌, List, All, subst, sym, rules}
-use Rattle.polcert_rules.proofs.Common.{IsNonDecreasingBy-from_sort_by_key, Rule, IsRising, IsNewest, IsSingleCellKey, IsCell, at_column}
+use Rattle.std.proofs.Common.{ℕ, ◌+◌, ◌<◌, List, All, subst, sym}
+use Rattle.polcert_rules.proofs.Common.{Rule, IsRising, IsNewest, IsSingleCellKey, IsCell, at_column}
 use Rattle.polcert_rules.proofs.Common.{key_base}
 use Rattle.polcert_rules.proofs.Common.{others_in}
 use Rattle.polcert_rules.proofs.Indexes.Building.{each_rises}
@@ -7,11 +7,7 @@ use Rattle.polcert_rules.proofs.RowLaws.Cells.{gathered_are, newest_at, each_cel
 use Rattle.polcert_rules.proofs.row.cells.Goals as goal
 
 pub returns-clause-rising : goal.returns-clause-rising
-returns-clause-rising c =
-    let ordered = IsNonDecreasingBy-from_sort_by_key (λ (r : Rule). r.key) _ c.sort_unstable_by_key.ensures.sorted (λ a r q k. search rules)
-    in
-    let is = c.keep_newest_of_each.ensures in
-    subst IsRising (sym is) (each_rises _ ordered)
+returns-clause-rising c = let s = c.sort_newest.ensures in subst IsRising (sym s.is) (each_rises _ s.ordered)
 
 pub returns-clause-newest : goal.returns-clause-newest
 returns-clause-newest c =
@@ -19,13 +15,12 @@ returns-clause-newest c =
     c.add_columns_at.new.cells.items c.args.low c.args.action c.args.state
     _ c.clear.ensures.items c.first_column-start.ensures.is c.in_ok-add_shared_columns.ensures
     (rw c.nonzero_rules.ensures at c.in_ok-next.ensures) in
-    let ordered = IsNonDecreasingBy-from_sort_by_key (λ (r : Rule). r.key) _ c.sort_unstable_by_key.ensures.sorted (λ a r q k. search rules)
-    in
-    let is = c.keep_newest_of_each.ensures in
+    let s = c.sort_newest.ensures in
     let all = newest_at (others_in c.args.split.now.others) _ _ c.args.low c.args.action c.args.state gathered
-    c.sort_unstable_by_key.ensures.permutation (each_rises _ ordered) in
+    s.permutation (each_rises _ s.ordered) in
     subst (λ (xs : List Rule). (n : ℕ) → n + 2 < key_base
-    → IsNewest (others_in c.args.split.now.others) (IsSingleCellKey c.args.low c.args.action c.args.state n) (at_column xs n)) (sym is) all
+    → IsNewest (others_in c.args.split.now.others) (IsSingleCellKey c.args.low c.args.action c.args.state n) (at_column xs n)) (sym s.is)
+    all
 
 pub returns-clause-each : goal.returns-clause-each
 returns-clause-each c =
@@ -33,7 +28,6 @@ returns-clause-each c =
     c.add_columns_at.new.cells.items c.args.low c.args.action c.args.state
     _ c.clear.ensures.items c.first_column-start.ensures.is c.in_ok-add_shared_columns.ensures
     (rw c.nonzero_rules.ensures at c.in_ok-next.ensures) in
-    let is = c.keep_newest_of_each.ensures in
-    let all = each_cell (others_in c.args.split.now.others) _ _ c.args.low c.args.action c.args.state gathered
-    c.sort_unstable_by_key.ensures.permutation in
-    subst (λ (xs : List Rule). All (IsCell (others_in c.args.split.now.others) c.args.low c.args.action c.args.state) xs) (sym is) all
+    let s = c.sort_newest.ensures in
+    let all = each_cell (others_in c.args.split.now.others) _ _ c.args.low c.args.action c.args.state gathered s.permutation in
+    subst (λ (xs : List Rule). All (IsCell (others_in c.args.split.now.others) c.args.low c.args.action c.args.state) xs) (sym s.is) all
