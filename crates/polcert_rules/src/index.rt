@@ -269,7 +269,7 @@ pub struct Rule {
     pub number: usize,
 }
 
-/// How many rules are looked through before all of them are.
+/// How many rules are looked through one by one before all of them are searched.
 const LINEAR_SCAN: usize = 16;
 
 /// Where a part of a list of rules may begin, and where it may end.
@@ -349,7 +349,7 @@ pub(crate) fn rules_from_at(rules: &[Rule], low: u64, place: usize) -> &[Rule]
     rules_from(rules, low)
 }
 
-/// Returns the rules before this key.
+/// Returns the rules before this key. The first few are looked at first: in most texts the rules of a row are few.
 pub(crate) fn rules_before(rules: &[Rule], high: u64) -> &[Rule]
     requires { IsRising rules.now }
     ensures rising { IsRising result.now }
@@ -358,9 +358,8 @@ pub(crate) fn rules_before(rules: &[Rule], high: u64) -> &[Rule]
     if all_below(rules, high) {
         return rules;
     }
-    let near = rules_near(rules, high);
-    let end = near.partition_point(|rule| rule.key < high);
-    &near[..end]
+    let few = rules.len().min(LINEAR_SCAN);
+    rules_before_at(rules, high, place_of_key(&rules[..few], 0, high))
 }
 
 /// Returns the rules before this key: at once, if they are those before this place.
@@ -372,23 +371,8 @@ fn rules_before_at(rules: &[Rule], high: u64, place: usize) -> &[Rule]
     if is_cut(rules, high, place) {
         return &rules[..place];
     }
-    rules_before(rules, high)
-}
-
-/// Returns all rules before this key, and maybe more: a short list, if a look shows that they are few.
-fn rules_near(rules: &[Rule], high: u64) -> &[Rule]
-    requires { IsRising rules.now }
-    ensures rising { IsRising result.now }
-    ensures kept { (r : R) → (Contains result.now r × (r.key < high)) ↔ (Contains rules.now r
-        × (r.key < high)) }
-{
-    if rules.len() <= LINEAR_SCAN {
-        return rules;
-    }
-    if none_below(&rules[LINEAR_SCAN..], high) {
-        return &rules[..LINEAR_SCAN];
-    }
-    rules
+    let end = rules.partition_point(|rule| rule.key < high);
+    &rules[..end]
 }
 
 /// Tests whether the rules before this place are those before the key.

@@ -72,18 +72,6 @@ gap_between rules low high place front rest r among from below =
     ⊎_elim (λ c. let under = front r c in absurd (omega (arith, under, from)))
     (λ c. let over = rest r c in absurd (omega (arith, over, below))) (front_or_rest rules place r among)
 
--- where the others are not below the key, those in front are all that are
-pub near_front : (rules : List Rule) (key place : ℕ) → ((r : Rule) → Contains (drop place rules) r → key ≤ r.key) → (r : Rule)
-    → (Contains (take place rules) r × (r.key < key)) ↔ (Contains rules r × (r.key < key))
-near_front rules key place above r = (
-  (λ h. (of_front rules place r h.0, h.1)),
-  (λ h. (
-    ⊎_elim (λ c. c) (λ c. let high = above r c in let low = h.1 in absurd (omega arith))
-        (front_or_rest rules place r h.0),
-    h.1,
-  )),
-)
-
 -- ---- the first and the last of a rising list
 pub below_last : (rules : List Rule) (x : Rule) (key : ℕ) → IsRising rules → slice_get rules (length rules - 1) ≡ Some x → x.key < key
     → (r : Rule) → Contains rules r → r.key < key
