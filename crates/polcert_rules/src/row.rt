@@ -261,6 +261,7 @@ fn single_weight(entries: &Entries, number: usize, columns: usize) -> u64
 
 /// Returns newer cells over a row, both rising by column: each hides the row's cell in its column, and one of
 /// weight 0 leaves nothing there.
+#[inline(never)]
 fn merge_cells(alloc: Global, base: &[Cell], newer: &[Cell]) -> Result<Vec<Cell>, AllocError>
     ensures { IfOk result (λ cells. cells.items ≡ merged base.now newer.now) }
 {
@@ -277,6 +278,7 @@ fn merge_cells(alloc: Global, base: &[Cell], newer: &[Cell]) -> Result<Vec<Cell>
 }
 
 /// Returns the same as `merge_cells`, and makes no other list if there is no row below cells that all have a weight.
+#[inline(always)]
 fn put_over(alloc: Global, base: &[Cell], newer: Vec<Cell>) -> Result<Vec<Cell>, AllocError>
     ensures { IfOk result (λ cells. cells.items ≡ merged base.now newer.items) }
 {
@@ -324,6 +326,7 @@ fn count_nonzero(cells: &[Cell]) -> usize
 
 /// Returns the cells of a row: those of the entry of the whole row that no newer zero hides, below the newer
 /// cells.
+#[inline(always)]
 fn row_cells(
     alloc: Global,
     row: &EntryRow<'_>,
