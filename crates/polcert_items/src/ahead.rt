@@ -171,7 +171,7 @@ impl EntryReader {
         let Some(at) = self.feed_indices_ahead(known, bytes) else {
             return self.feed_any_places_ahead(known, bytes);
         };
-        if front_colon(&bytes[at..]).is_none() {
+        if self.places.len() == indices_of(self.table) || front_colon(&bytes[at..]).is_none() {
             return Some(at);
         }
         match self.feed_any_places_ahead(known, &bytes[at..]) {
