@@ -46,7 +46,7 @@ pub use Rattle.polcert_rules.specs.Steps.Sources.{IsWholeRowEntry}
 pub use Rattle.polcert_rules.specs.Steps.Sources.{Stays, sum_of_weights}
 pub use Rattle.polcert_rules.specs.Steps.Zeros.{IsEntryRowOf, IsSplit, covering_entry, is_zero_entry, newest_zero, number_under, others_in}
 pub use Rattle.polcert_rules.specs.Steps.Zeros.{others_of}
-pub use Rattle.polcert_rules.specs.Steps.Zeros.{overrides, shown, shown_under, zero_of, zeros_of}
+pub use Rattle.polcert_rules.specs.Steps.Zeros.{names_column, overrides, shown, shown_under, wholes_of, zero_of, zeros_of}
 pub use Rattle.polcert_rules.specs.declared.fitting_rules.FittingRules.{FittingRules}
 pub use Rattle.polcert_rules.specs.declared.fitting_rules.RulePart.{RulePart}
 pub use Rattle.polcert_rules.specs.declared.index.Rule.{Rule}

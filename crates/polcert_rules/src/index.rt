@@ -56,7 +56,7 @@ impl Index {
         ensures last { (entries : List E) → IsIndexOf table entries self.now →
             IsLastCovering entries table indices.now (entry_at entries result) }
     {
-        self.newest_rule(table, indices)
+        newest_of_table(self.rules.as_slice(), table, indices)
     }
 
     /// Gives up the index, and returns its rules.
@@ -84,22 +84,18 @@ impl Index {
         let start = low + (action as u64 + 2) * ACTION;
         none_below(rules_from(self.rules.as_slice(), start), start + ACTION)
     }
+}
 
-    /// Returns the number of the newest rule that fits these indices of this table.
-    pub(crate) fn newest_rule(&self, table: Table, indices: &[usize]) -> Option<usize>
-        requires { AreIndices most_places indices.now }
-        ensures { IsNewest self.now (FitsKey most_places (table_key table) indices.now) result }
-    {
-        let levels = 4;
-        let low = table_digit(table) * span(levels);
-        let high = low + span(levels);
-        newest(
-            rules_between(self.rules.as_slice(), low, high),
-            low,
-            levels,
-            indices,
-        )
-    }
+/// Returns the number of the newest of these rules that fits these indices of this table.
+pub(crate) fn newest_of_table(rules: &[Rule], table: Table, indices: &[usize]) -> Option<usize>
+    requires rising { IsRising rules.now }
+    requires indices { AreIndices most_places indices.now }
+    ensures { IsNewest rules.now (FitsKey most_places (table_key table) indices.now) result }
+{
+    let levels = 4;
+    let low = table_digit(table) * span(levels);
+    let high = low + span(levels);
+    newest(rules_between(rules, low, high), low, levels, indices)
 }
 
 /// Returns a rule for each entry of this table, in the order of the file. (In most texts their keys are then in order already.)

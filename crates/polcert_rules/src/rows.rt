@@ -16,7 +16,7 @@ ghost use Rattle.polcert_rules.specs.Steps.Sources.{AreKept, AreIndexedEntries, 
 ghost use Rattle.polcert_cells.specs.Elements.{most_elements};
 
 use crate::Index;
-use crate::index::KEY_BASE;
+use crate::index::{KEY_BASE, newest_of_table};
 use crate::row::{EntryRow, RowCells};
 use crate::row_store::{Bodies, Lists, Near, RowStore};
 use crate::zeros::SplitRules;
@@ -236,12 +236,11 @@ fn newest_whole(given: TableEntries<'_>, action: usize, state: usize) -> Option<
     requires state { state < given.bodies.shape.states }
     ensures { IsWholeNumber given.entry.index.now given.entry.table action state result }
 {
-    if given.split.is_exact {
+    let wholes = given.split.wholes.as_slice();
+    if wholes.is_empty() {
         return None;
     }
-    given
-        .index
-        .newest_rule(given.table, &[action, state, NO_COLUMN])
+    newest_of_table(wholes, given.table, &[action, state, NO_COLUMN])
 }
 
 /// Returns whether the rows of this action are known to be those of the action before it: no entry names one of the two.

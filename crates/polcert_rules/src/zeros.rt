@@ -6,7 +6,7 @@ ghost use Rattle.polcert_rules.specs.Steps.Newest.{IsRising, IsNewest};
 ghost use Rattle.polcert_rules.specs.Steps.Rows.{AreExact, IsExactKey, IsSingleCellKey};
 ghost use Rattle.polcert_rules.specs.Steps.Zeros.{IsOrdered, HasOrderedZeros, AreColumnsFrom, zero_in};
 ghost use Rattle.polcert_rules.specs.Steps.Zeros.{newest_zero, zero_of, gives_zero, is_zero_entry, zeros_of};
-ghost use Rattle.polcert_rules.specs.Steps.Zeros.{others_of, others_in};
+ghost use Rattle.polcert_rules.specs.Steps.Zeros.{others_of, others_in, names_column, wholes_of};
 ghost use Rattle.polcert_rules.specs.declared.index.Rule.{Rule as R};
 ghost use Rattle.polcert_cells.specs.EntryRefs.{entry_of};
 
@@ -123,6 +123,8 @@ const CELL_PLACES: usize = 3;
 pub(crate) struct SplitRules<'a> {
     pub zeros: Vec<Rule>,
     pub others: Others<'a>,
+    /// Those that name no column, in order: no other covers a whole row.
+    pub wholes: Vec<Rule>,
     /// Whether each rule names an action, a state and a column, so that it gives one cell of one row.
     pub is_exact: bool,
 }
@@ -146,14 +148,17 @@ impl<'a> SplitRules<'a> {
         requires { All (λ (r : R). r.number < length entries.now) rules.now }
         ensures zeros { IfOk result (λ split. split.zeros.items ≡ zeros_of entries.now rules.now) }
         ensures others { IfOk result (λ split. others_in split.others ≡ others_of entries.now rules.now) }
+        ensures wholes { IfOk result (λ split. split.wholes.items ≡ wholes_of rules.now) }
         ensures exact { IfOk result (λ split. IsTrue split.is_exact → AreExact rules.now) }
     {
         let zeros = zeros_of(alloc, rules, entries)?;
+        let wholes = wholes_of(alloc, rules)?;
         let is_exact = are_exact(rules);
         if zeros.is_empty() {
             return Ok(SplitRules {
                 zeros,
                 others: Others::Borrowed(rules),
+                wholes,
                 is_exact,
             });
         }
@@ -161,6 +166,7 @@ impl<'a> SplitRules<'a> {
         Ok(SplitRules {
             zeros,
             others,
+            wholes,
             is_exact,
         })
     }
@@ -197,6 +203,28 @@ fn is_exact(key: u64) -> bool
     let state = key / ROW % KEY_BASE;
     let action = key / ACTION % KEY_BASE;
     column >= 2 && column < KEY_BASE - 1 && state >= 2 && action >= 2
+}
+
+/// Returns the rules that name no column.
+fn wholes_of(alloc: Global, rules: &[Rule]) -> Result<Vec<Rule>, AllocError>
+    ensures { IfOk result (λ wholes. wholes.items ≡ wholes_of rules.now) }
+{
+    let mut wholes = Vec::new(alloc);
+    for rule in rules {
+        if !names_column(rule.key) {
+            wholes.push(*rule)?;
+        }
+    }
+    Ok(wholes)
+}
+
+/// Tests whether the key names a column that a row may have.
+#[inline(always)]
+fn names_column(key: u64) -> bool
+    ensures { result ≡ names_column key }
+{
+    let column = key / COLUMN % KEY_BASE;
+    column >= 2 && column < KEY_BASE - 1
 }
 
 /// Returns the zeros among these rules.

@@ -2,7 +2,7 @@
 use Rattle.std.proofs.Common.{◌≡◌, ◌∙◌, ℕ, ◌+◌, ◌-◌, ◌<◌, ⊎_elim, true, List, [], ◌∷◌, ◌++◌, length, get_or, slice_index, slice_index_or}
 use Rattle.std.proofs.Common.{All, sym, ap, subst, arith}
 use Rattle.polcert_rules.proofs.Common.{cases_lt, get_or_append_left, get_or_default, All-push, get_or_from_slice_get, Cell, Preamble}
-use Rattle.polcert_rules.proofs.Common.{weight, IsSparse, IsRow, key_base, Rule, IsRising, IsIndexOf, IsSplit, zeros_of, others_of}
+use Rattle.polcert_rules.proofs.Common.{weight, IsSparse, IsRow, key_base, Rule, IsRising, IsIndexOf, IsSplit, zeros_of, others_of, wholes_of}
 use Rattle.polcert_rules.proofs.Common.{others_in, IsWeighted, IsShapeOf, AreSound, IsKeptRow, Stays, AreLine, AreLines}
 use Rattle.std.proofs.lemmas.List.{length-append}
 use Rattle.polcert_rules.specs.Steps.Sources.{AreIndexedEntries, weights_at, HasScale, HasRows, IsFirstWrongIn}
@@ -176,16 +176,17 @@ pub given_is : (given : TableEntries) (rules : List Rule) → IsWeighted given.t
     × IsShapeOf p given.table given.bodies.shape × AreSound p given.bodies.entries.now
     → IsIndexOf given.table given.bodies.entries.now given.index.now → rules ≡ given.index.now → IsRising rules
     → given.split.now.zeros.items ≡ zeros_of given.bodies.entries.now rules
-    → others_in given.split.now.others ≡ others_of given.bodies.entries.now rules → (given.split.now.is_exact ≡ true → AreExact rules)
+    → others_in given.split.now.others ≡ others_of given.bodies.entries.now rules → given.split.now.wholes.items ≡ wholes_of rules
+    → (given.split.now.is_exact ≡ true → AreExact rules)
     → AreIndexedEntries given
-given_is given rs weighted sound index same rising zeros others exact = record {
+given_is given rs weighted sound index same rising zeros others wholes exact = record {
   weighted = weighted;
   preamble = sound.0;
   shape = sound.1;
   sound = sound.2;
   index = index;
   split = subst (λ (xs : List Rule). IsSplit given.bodies.entries.now xs given.split.now) same
-      (split_is given.bodies.entries.now rs given.split.now rising zeros others exact);
+      (split_is given.bodies.entries.now rs given.split.now rising zeros others wholes exact);
 }
 
 -- the numbers of the rows so far are those of rows

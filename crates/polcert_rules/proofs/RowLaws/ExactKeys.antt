@@ -1,33 +1,60 @@
--- Keys that name an action, a state and a column: none covers a whole row, and none is of each action or each state.
-use Rattle.std.proofs.Common.{◌≡◌, ℕ, ◌+◌, ◌*◌, ◌^◌, ◌<◌, ⊎_elim, List, [], ◌∷◌, arith}
-use Rattle.polcert_rules.proofs.Common.{Rule, key_base, most_places, no_column}
+-- Keys that name an action, a state and a column: none is of each action or each state. A key that covers a whole row names no column.
+use Rattle.std.proofs.Common.{◌≡◌, ℕ, ◌+◌, ◌*◌, ◌/◌, ◌%◌, ◌^◌, ◌<◌, ◌⊎◌, inl, inr, ⊎_elim, false, Option, List, [], ◌∷◌, Contains, subst, sym, arith}
+use Rattle.polcert_rules.proofs.Common.{nat_tests, IsNewest, Rule, key_base, most_places, names_column, no_column, wholes_of}
 use Rattle.polcert_rules.specs.Keys.{FitsKey}
-use Rattle.polcert_rules.specs.Steps.Rows.{AreExact, IsColumnRule, IsExactKey, start_of}
+use Rattle.polcert_rules.specs.Steps.Rows.{AreExact, IsColumnRule, start_of}
+use Rattle.polcert_rules.proofs.Indexes.Building.{Among, among_from, contains_from}
+use Rattle.polcert_rules.proofs.Indexes.Newer.{newest_of_part}
 use Rattle.polcert_rules.proofs.Keyed.Fitting.{fits_next, fits_end}
 
-in_no_column : (low x : ℕ) → low ≡ x * key_base ^ 2 → (key : ℕ) → IsExactKey key → FitsKey 2 low (no_column ∷ []) key → ⊥
-in_no_column low x is key exact f =
-    let column = exact.column in
-    let known = exact.known in
-    ⊎_elim (λ e. absurd (omega arith)) (λ o. ⊎_elim
-    (λ g. let e = fits_end 1 _ key g in absurd (omega arith))
-    (λ g. let e = fits_end 1 _ key g in absurd (omega arith)) o) (fits_next 1 low no_column [] key f)
+-- the digit of the third place is none, `*` or that of no column
+abbrev IsOfRow : ℕ → Type 0
+IsOfRow key = ((key / key_base) % key_base < 2) ⊎ ((key / key_base) % key_base ≡ no_column + 2)
 
-of_no_state : (low x s : ℕ) → low ≡ x * key_base ^ 3 → (key : ℕ) → IsExactKey key → FitsKey 3 low (s ∷ no_column ∷ []) key → ⊥
-of_no_state low x s is key exact f =
-    let column = exact.column in
-    ⊎_elim (λ e. absurd (omega arith)) (λ o. ⊎_elim
-    (in_no_column _ (x * key_base + 1) (omega arith) key exact)
-    (in_no_column _ (x * key_base + (s + 2)) (omega arith) key exact) o) (fits_next 2 low s (no_column ∷ []) key f)
+in_no_column : (low x : ℕ) → low ≡ x * key_base ^ 2 → (key : ℕ) → FitsKey 2 low (no_column ∷ []) key → IsOfRow key
+in_no_column low x is key f =
+    ⊎_elim (λ e. inl (omega arith)) (λ o. ⊎_elim
+    (λ g. let e = fits_end 1 _ key g in inl (omega arith))
+    (λ g. let e = fits_end 1 _ key g in inr (omega arith)) o) (fits_next 1 low no_column [] key f)
 
--- such a key covers no whole row
-pub covers_no_row : (low d a s : ℕ) → low ≡ d * key_base ^ 4 → (key : ℕ) → IsExactKey key
-    → FitsKey most_places low (a ∷ s ∷ no_column ∷ []) key → ⊥
-covers_no_row low d a s is key exact f =
-    let column = exact.column in
-    ⊎_elim (λ e. absurd (omega arith)) (λ o. ⊎_elim
-    (of_no_state _ (d * key_base + 1) s (omega arith) key exact)
-    (of_no_state _ (d * key_base + (a + 2)) s (omega arith) key exact) o) (fits_next 3 low a (s ∷ no_column ∷ []) key f)
+of_no_state : (low x s : ℕ) → low ≡ x * key_base ^ 3 → (key : ℕ) → FitsKey 3 low (s ∷ no_column ∷ []) key → IsOfRow key
+of_no_state low x s is key f =
+    ⊎_elim (λ e. inl (omega arith)) (λ o. ⊎_elim
+    (in_no_column _ (x * key_base + 1) (omega arith) key)
+    (in_no_column _ (x * key_base + (s + 2)) (omega arith) key) o) (fits_next 2 low s (no_column ∷ []) key f)
+
+of_row : (low d a s : ℕ) → low ≡ d * key_base ^ 4 → (key : ℕ) → FitsKey most_places low (a ∷ s ∷ no_column ∷ []) key → IsOfRow key
+of_row low d a s is key f =
+    ⊎_elim (λ e. inl (omega arith)) (λ o. ⊎_elim
+    (of_no_state _ (d * key_base + 1) s (omega arith) key)
+    (of_no_state _ (d * key_base + (a + 2)) s (omega arith) key) o) (fits_next 3 low a (s ∷ no_column ∷ []) key f)
+
+-- such a key names no column
+pub names_none : (low d a s : ℕ) → low ≡ d * key_base ^ 4 → (key : ℕ) → FitsKey most_places low (a ∷ s ∷ no_column ∷ []) key
+    → names_column key ≡ false
+names_none low d a s is key f = ⊎_elim (λ e. grind (arith, nat_tests, e)) (λ e. grind (arith, nat_tests, e)) (of_row low d a s is key f)
+
+-- the newest of the rules that name no column is the newest of all
+pub newest_whole : (rules wholes : List Rule) (low d a s : ℕ) (x : Option ℕ) → low ≡ d * key_base ^ 4 → wholes ≡ wholes_of rules
+    → IsNewest wholes (FitsKey most_places low (a ∷ s ∷ no_column ∷ [])) x
+    → IsNewest rules (FitsKey most_places low (a ∷ s ∷ no_column ∷ [])) x
+newest_whole rules wholes low d a s x is same = newest_of_part rules wholes (FitsKey most_places low (a ∷ s ∷ no_column ∷ [])) x
+    (λ r c. old rules r (subst (λ (xs : List Rule). Contains xs r) same c))
+    (λ r c f. subst (λ (xs : List Rule). Contains xs r) (sym same) (kept rules r (names_none low d a s is r.key f) c))
+  where
+    old : (rs : List Rule) (q : Rule) → Contains (wholes_of rs) q → Contains rs q
+    old rs q c = contains_from rs q (old_among rs q (among_from (wholes_of rs) q c))
+      where
+        old_among : (rs : List Rule) (q : Rule) → Among q (wholes_of rs) → Among q rs
+        old_among [] q a = absurd a
+        old_among (r ∷ rs) q a = grind (arith, ⊎_elim, old_among rs q)
+
+    kept : (rs : List Rule) (q : Rule) → names_column q.key ≡ false → Contains rs q → Contains (wholes_of rs) q
+    kept rs q none c = contains_from (wholes_of rs) q (kept_among rs q none (among_from rs q c))
+      where
+        kept_among : (rs : List Rule) (q : Rule) → names_column q.key ≡ false → Among q rs → Among q (wholes_of rs)
+        kept_among [] q none a = absurd a
+        kept_among (r ∷ rs) q none a = grind (arith, ⊎_elim, kept_among rs q)
 
 -- no cell of each action or of each state is among rules with such keys
 module _ (rules : List Rule) (low d : ℕ) (is : low ≡ d * key_base ^ 4) (exact : AreExact rules) where

@@ -3,7 +3,9 @@ use Rattle.std.proofs.Common.{◌≡◌, ◌∙◌, ◌==◌, suc, ◌<◌, ◌�
 use Rattle.std.proofs.Common.{refl, sym, subst, arith}
 use Rattle.polcert_rules.proofs.Common.{nat_tests, AllPairs-cons, Entry, Rule, SplitRules, IsRising, IsSplit, others_in, is_zero_entry}
 use Rattle.polcert_rules.proofs.Common.{zeros_of}
-use Rattle.polcert_rules.proofs.Common.{others_of}
+use Rattle.polcert_rules.proofs.Common.{names_column, others_of, wholes_of}
+use Rattle.std.proofs.lemmas.List.Kept.{AllPairs-filter}
+use Rattle.std.specs.Prelude.{not}
 use Rattle.polcert_rules.specs.Steps.Rows.{AreExact}
 use Rattle.polcert_rules.proofs.Indexes.Building.{Among, among_from, contains_from}
 use Rattle.polcert_rules.proofs.RowLaws.Cells.{all_of}
@@ -53,12 +55,14 @@ module _ (entries : List Entry) where
 
   pub split_is : (rules : List Rule) (split : SplitRules) → IsRising rules → split.zeros.items ≡ zeros_of entries rules
       → others_in split.others ≡ others_of entries rules
-      → (split.is_exact ≡ true → AreExact rules) → IsSplit entries rules split
-  split_is rules split up z o exact = record {
+      → split.wholes.items ≡ wholes_of rules → (split.is_exact ≡ true → AreExact rules) → IsSplit entries rules split
+  split_is rules split up z o w exact = record {
     zeros_rise = subst IsRising (sym z) (zeros_rise rules up);
     others_rise = subst IsRising (sym o) (others_rise rules up);
     each = λ r. (⊎_elim (λ c. contains_from rules r (old_zero r c).0) (λ c. contains_from rules r (old_other r c)), new r);
     zero = λ r c. (old_zero r c).1;
+    wholes = w;
+    wholes_rise = subst IsRising (sym w) (AllPairs-filter (λ x y. x.key < y.key) (λ x. not (names_column x.key)) rules up);
     exact = exact;
   }
     where

@@ -1,5 +1,6 @@
 -- Single cells of weight 0. Nobody has to believe this file: only private functions cite it.
-use Rattle.std.specs.Prelude.{◌≡◌, ℕ, ◌+◌, ◌-◌, ◌*◌, ◌^◌, ◌<◌, ◌≤◌, ◌==◌, ◌&&◌, ◌↔◌, ◌⊎◌, Bool, true, false, List, [], ◌∷◌, Option, Some, None, IfSome, All, Contains, length, slice_get, slice_index, if◌then◌else◌}
+use Rattle.std.specs.Prelude.{◌≡◌, ℕ, ◌+◌, ◌-◌, ◌*◌, ◌^◌, ◌<◌, ◌≤◌, ◌==◌, ◌&&◌, ◌↔◌, ◌⊎◌, Bool, true, false, List, [], ◌∷◌, Option, Some, None, IfSome, All, Contains, length, slice_get, slice_index, if◌then◌else◌, ◌/◌, ◌%◌, nat_le, nat_lt, not}
+use Rattle.std.specs.List.{filter}
 use Rattle.polcert_cells.specs.declared.entries.Table.{Table}
 use Rattle.polcert_cells.specs.declared.entries.Body.{Body}
 use Rattle.polcert_cells.specs.declared.entries.Body.TheVariants.{Probabilities, Rewards, Uniform, Identity}
@@ -45,6 +46,14 @@ others_of entries [] = []
 others_of entries (r ∷ rs) =
     if is_zero_entry entries r.number then others_of entries rs else (r ∷ others_of entries rs)
 
+-- the key names a column that a row may have
+abbrev pub names_column : ℕ → Bool
+names_column key = nat_le 2 ((key / key_base) % key_base) && nat_lt ((key / key_base) % key_base) (no_column + 2)
+
+-- the rules that name no column
+abbrev pub wholes_of : List Rule → List Rule
+wholes_of rules = filter (λ r. not (names_column r.key)) rules
+
 -- the rules that are no zeros, lent or listed
 abbrev pub others_in : Others → List Rule
 others_in (Borrowed rules) = rules.now
@@ -56,6 +65,8 @@ pub record IsSplit (entries : List Entry) (rules : List Rule) (split : SplitRule
   pub others_rise : IsRising (others_in split.others)
   pub each : (r : Rule) → (Contains split.zeros.items r ⊎ Contains (others_in split.others) r) ↔ Contains rules r
   pub zero : (r : Rule) → Contains split.zeros.items r → is_zero_entry entries r.number ≡ true
+  pub wholes : split.wholes.items ≡ wholes_of rules
+  pub wholes_rise : IsRising split.wholes.items
   pub exact : split.is_exact ≡ true → AreExact rules
 
 -- ---- the zeros of a row

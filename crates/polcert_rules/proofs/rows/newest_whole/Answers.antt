@@ -1,12 +1,15 @@
-use Rattle.std.proofs.Common.{refl, arith}
-use Rattle.polcert_rules.proofs.Common.{table_key}
+use Rattle.std.proofs.Common.{◌≡◌, ◌∙◌, None, length, refl, subst, sym, arith}
+use Rattle.polcert_rules.proofs.Common.{nat_tests, IsRising, table_key}
 use Rattle.polcert_rules.specs.Keys.{table_digit}
-use Rattle.polcert_rules.proofs.RowLaws.ExactKeys.{covers_no_row}
+use Rattle.polcert_rules.proofs.RowLaws.ExactKeys.{newest_whole}
 use Rattle.polcert_rules.proofs.RowLaws.SoundRows.{sound_within}
 use Rattle.polcert_rules.proofs.rows.newest_whole.Goals as goal
 
-pub newest_rule-requires : goal.newest_rule-requires
-newest_rule-requires c =
+pub newest_of_table-requires-clause-rising : goal.newest_of_table-requires-clause-rising
+newest_of_table-requires-clause-rising c = subst IsRising (sym c.as_slice-wholes.ensures.value) c.requires.given.split.wholes_rise
+
+pub newest_of_table-requires-clause-indices : goal.newest_of_table-requires-clause-indices
+newest_of_table-requires-clause-indices c =
     let g = c.requires.given in
     let within = sound_within g.preamble c.args.given.table c.args.given.bodies.shape c.args.given.bodies.entries.now g.weighted g.shape
     g.sound in
@@ -16,7 +19,14 @@ newest_rule-requires c =
     let ls = c.requires.state in
     (omega (arith, actions, la), (omega (arith, states, ls), (omega arith, tt)))
 
-pub returns-then-given : goal.returns-then-given
-returns-then-given c r among f =
-    covers_no_row (table_key c.args.given.table) (table_digit c.args.given.table) c.args.action c.args.state refl r.key
-    (c.requires.given.split.exact c.if-given.true r among) f
+pub returns-then-is_empty : goal.returns-then-is_empty
+returns-then-is_empty c =
+    let none : length c.as_slice-wholes.result.now ≡ 0 = grind (arith, nat_tests, c.is_empty.ensures, c.if-is_empty.true) in
+    newest_whole c.args.given.index.now c.as_slice-wholes.result.now (table_key c.args.given.table) (table_digit c.args.given.table)
+    c.args.action c.args.state None refl (c.as_slice-wholes.ensures.value ∙ c.requires.given.split.wholes)
+    (λ r among f. absurd (omega (arith, among.1, none)))
+
+pub returns : goal.returns
+returns c =
+    newest_whole c.args.given.index.now c.as_slice-wholes.result.now (table_key c.args.given.table) (table_digit c.args.given.table)
+    c.args.action c.args.state _ refl (c.as_slice-wholes.ensures.value ∙ c.requires.given.split.wholes) c.newest_of_table.ensures

@@ -1,11 +1,18 @@
+use Rattle.std.proofs.Common.{◌∙◌, List, subst}
+use Rattle.polcert_rules.proofs.Common.{IsNewest, Rule, most_places, table_key}
+use Rattle.polcert_rules.specs.Keys.{FitsKey}
 use Rattle.polcert_rules.proofs.Keyed.Covering.{last_number, last_is}
 use Rattle.polcert_rules.proofs.index.Index.newest.Goals as goal
 
 pub returns-clause-number : goal.returns-clause-number
 returns-clause-number c entries index =
-    last_number entries c.args.self.now c.args.table c.args.indices.now _ index c.requires c.newest_rule.ensures
+    let newest = subst (λ (rules : List Rule). IsNewest rules (FitsKey most_places (table_key c.args.table) c.args.indices.now)
+    c.newest_of_table.result) (c.as_slice.ensures.value ∙ c.self.view_is) c.newest_of_table.ensures in
+    last_number entries c.args.self.now c.args.table c.args.indices.now _ index c.requires newest
 
 pub returns-clause-last : goal.returns-clause-last
 returns-clause-last c entries index =
+    let newest = subst (λ (rules : List Rule). IsNewest rules (FitsKey most_places (table_key c.args.table) c.args.indices.now)
+    c.newest_of_table.result) (c.as_slice.ensures.value ∙ c.self.view_is) c.newest_of_table.ensures in
     last_is entries c.args.table c.args.indices.now _ (last_number entries c.args.self.now c.args.table c.args.indices.now _ index
-    c.requires c.newest_rule.ensures)
+    c.requires newest)

@@ -17,7 +17,8 @@ of-requires-2 c = subst (All (λ (r : Rule). r.number < length c.args.entries.no
 pub loop-action-init : goal.loop-action-init
 loop-action-init c = (
   given_is _ c.as_slice-rules.result.now c.requires.weighted c.requires.sound c.in_ok-index.ensures c.as_slice-rules.ensures.is
-      c.as_slice-rules.ensures.rising c.in_ok-split.ensures.zeros c.in_ok-split.ensures.others c.in_ok-split.ensures.exact,
+      c.as_slice-rules.ensures.rising c.in_ok-split.ensures.zeros c.in_ok-split.ensures.others
+      c.in_ok-split.ensures.wholes c.in_ok-split.ensures.exact,
   lines_none _ _ _ c.new-numbers.ensures,
   c.in_ok-store.ensures c.args.shape.columns,
 )
