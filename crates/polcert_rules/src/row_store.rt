@@ -55,8 +55,8 @@ pub(crate) struct Bodies<'a> {
 /// The numbers of the rows of an action so far, and of those of the action before, if there is one.
 #[derive(Clone, Copy)]
 pub(crate) struct Near<'a> {
-    pub here: &'a [usize],
-    pub before: &'a [usize],
+    pub here: &'a [u32],
+    pub before: &'a [u32],
 }
 
 /// Rows that are kept once for many actions and states. A row that one entry gives alone is made once and kept once. A row of
@@ -344,13 +344,13 @@ fn last_same(rows: &StoredRows, near: Near<'_>, cells: &[Cell]) -> Option<usize>
     ensures { IfSome result (λ n. slice_get rows.now n ≡ Some cells.now) }
 {
     if let Some(number) = near.here.last() {
-        if has_cells(rows, *number, cells) {
-            return Some(*number);
+        if has_cells(rows, *number as usize, cells) {
+            return Some(*number as usize);
         }
     }
     if let Some(number) = near.before.get(near.here.len()) {
-        if has_cells(rows, *number, cells) {
-            return Some(*number);
+        if has_cells(rows, *number as usize, cells) {
+            return Some(*number as usize);
         }
     }
     None

@@ -35,7 +35,7 @@ const NO_COLUMN: usize = KEY_BASE as usize - 3;
 pub struct Rows {
     shape: Shape,
     /// Of each action the number of the row of each state.
-    numbers: Lists<usize>,
+    numbers: Lists<u32>,
     rows: StoredRows,
 }
 
@@ -157,7 +157,7 @@ impl Rows {
         ensures row { stored_cells result ≡ row_at self.now action state }
         ensures sparse { IsSparse self.now.columns (stored_cells result) }
     {
-        self.rows.at(self.numbers.at(action)[state])
+        self.rows.at(self.numbers.at(action)[state] as usize)
     }
 }
 
@@ -177,7 +177,7 @@ fn cell_weight(cells: &[Cell], column: usize) -> u64
 }
 
 /// Returns the last list of numbers, or an empty one.
-fn last(numbers: &Lists<usize>) -> &[usize]
+fn last(numbers: &Lists<u32>) -> &[u32]
     ensures { (size : ℕ) → All (All (λ n. n < size)) numbers.now → All (λ n. n < size) result.now }
 {
     if numbers.len() == 0 {
@@ -192,9 +192,9 @@ fn action_rows(
     alloc: Global,
     store: &mut RowStore,
     given: TableEntries<'_>,
-    before: &[usize],
+    before: &[u32],
     action: usize,
-) -> Result<Result<Vec<usize>, WrongRow>, AllocError>
+) -> Result<Result<Vec<u32>, WrongRow>, AllocError>
     requires given { AreIndexedEntries given }
     requires action { action < given.bodies.shape.actions }
     requires before { All (λ n. n < length store.old.rows) before.now }
@@ -224,7 +224,8 @@ fn action_rows(
                 row: state,
             }));
         }
-        numbers.extend_from_slice(&[number])?;
+        let short = short_place(number)?;
+        numbers.extend_from_slice(&[short])?;
     }
     Ok(Ok(numbers))
 }
@@ -304,9 +305,19 @@ pub(crate) enum RowForm {
 /// Where a row begins in the list of its form, and how many items it has there.
 #[derive(Clone, Copy)]
 pub(crate) struct RowLocation {
-    pub start: usize,
-    pub count: u32,
+    pub start: u32,
+    pub count: u16,
     pub form: RowForm,
+}
+
+/// Returns a place in half the bits. A greater one is out of memory.
+pub(crate) fn short_place(place: usize) -> Result<u32, AllocError>
+    ensures { IfOk result (λ short. short ≡ place) }
+{
+    if place > u32::MAX as usize {
+        return Err(AllocError);
+    }
+    Ok(place as u32)
 }
 
 /// A row, as it is kept.
@@ -372,11 +383,11 @@ impl StoredRows {
         requires { length more.now ≤ most_elements }
         ensures { OnOk result (self.new ≡ self.old ++ more.now ∷ []) }
     {
-        let start = self.cells.len();
+        let start = short_place(self.cells.len())?;
         self.cells.extend_from_slice(more)?;
         self.parts.push(RowLocation {
             start,
-            count: more.len() as u32,
+            count: more.len() as u16,
             form: RowForm::Sparse,
         })?;
         Ok(())
@@ -387,11 +398,11 @@ impl StoredRows {
         requires { length more.now ≤ most_elements }
         ensures { OnOk result (self.new ≡ self.old ++ scaled_cells (length more.now) 0 more.now ∷ []) }
     {
-        let start = self.numbers.len();
+        let start = short_place(self.numbers.len())?;
         self.numbers.extend_from_slice(more)?;
         self.parts.push(RowLocation {
             start,
-            count: more.len() as u32,
+            count: more.len() as u16,
             form: RowForm::Full,
         })?;
         Ok(())
@@ -403,13 +414,13 @@ fn row_in<'a>(cells: &'a [Cell], numbers: &'a [u32], part: RowLocation) -> Store
     requires { IsHeld cells.now numbers.now part }
     ensures { stored_cells result ≡ row_in cells.now numbers.now part }
 {
-    let start = part.start;
+    let start = part.start as usize;
     let end = start + part.count as usize;
     match part.form {
         RowForm::Sparse => StoredRow::Sparse(&cells[start..end]),
         RowForm::Full => StoredRow::Full {
             numbers: &numbers[start..end],
-            columns: part.count,
+            columns: part.count as u32,
         },
     }
 }

@@ -8,8 +8,8 @@ returns c =
     let xs = c.self.inside.cells.items in
     let ns = c.self.inside.numbers.items in
     let more = c.args.more.now in
-    let p : RowLocation = record { start = c.len-start.result; count = length more; form = Sparse } in
-    let start : c.len-start.result ≡ length xs = search rules in
+    let p : RowLocation = record { start = c.in_ok-start.start; count = length more; form = Sparse } in
+    let start : c.in_ok-start.start ≡ length xs = search rules in
     ap (λ zs. map (row_in zs ns) c.push.new.self.items) c.in_ok-extend_from_slice.ensures.items
     ∙ ap (map (row_in (xs ++ more) ns)) c.in_ok-push.ensures.items
     ∙ push_sparse xs more ns c.self.inside.parts.items p c.self.invariant refl start refl ∙ ap (λ rs. rs ++ more ∷ []) c.self.view_is
