@@ -2,8 +2,8 @@
 use Rattle.std.proofs.Common.{◌≡◌, ◌∙◌, ℕ, ◌+◌, ◌-◌, ◌<◌, ⊎_elim, true, List, [], ◌∷◌, ◌++◌, length, get_or, slice_index, slice_index_or}
 use Rattle.std.proofs.Common.{All, sym, ap, subst, arith}
 use Rattle.polcert_rules.proofs.Common.{cases_lt, get_or_append_left, get_or_default, All-push, get_or_from_slice_get, Cell, Preamble}
-use Rattle.polcert_rules.proofs.Common.{weight, IsSparse, IsRow, key_base, Rule, IsRising, IsIndexOf, IsSplit, zeros_of, others_of, wholes_of}
-use Rattle.polcert_rules.proofs.Common.{others_in, IsWeighted, IsShapeOf, AreSound, IsKeptRow, Stays, AreLine, AreLines}
+use Rattle.polcert_rules.proofs.Common.{weight, IsSparse, IsRow, key_base, Rule, IsRising, IsIndexOf, IsSplit, zeros_of, others_of}
+use Rattle.polcert_rules.proofs.Common.{wholes_of, others_in, IsWeighted, IsShapeOf, AreSound, IsKeptRow, Stays, AreLine, AreLines}
 use Rattle.std.proofs.lemmas.List.{length-append}
 use Rattle.polcert_rules.specs.Steps.Sources.{AreIndexedEntries, weights_at, HasScale, HasRows, IsFirstWrongIn}
 use Rattle.std.proofs.Math.Seq.{get_or-append_seam}

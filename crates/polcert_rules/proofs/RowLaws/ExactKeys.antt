@@ -1,5 +1,6 @@
 -- Keys that name an action, a state and a column: none is of each action or each state. A key that covers a whole row names no column.
-use Rattle.std.proofs.Common.{◌≡◌, ℕ, ◌+◌, ◌*◌, ◌/◌, ◌%◌, ◌^◌, ◌<◌, ◌⊎◌, inl, inr, ⊎_elim, false, Option, List, [], ◌∷◌, Contains, subst, sym, arith}
+use Rattle.std.proofs.Common.{◌≡◌, ℕ, ◌+◌, ◌*◌, ◌/◌, ◌%◌, ◌^◌, ◌<◌, ◌⊎◌, inl, inr, ⊎_elim, false, Option, List, [], ◌∷◌, Contains}
+use Rattle.std.proofs.Common.{subst, sym, arith}
 use Rattle.polcert_rules.proofs.Common.{nat_tests, IsNewest, Rule, key_base, most_places, names_column, no_column, wholes_of}
 use Rattle.polcert_rules.specs.Keys.{FitsKey}
 use Rattle.polcert_rules.specs.Steps.Rows.{AreExact, IsColumnRule, start_of}

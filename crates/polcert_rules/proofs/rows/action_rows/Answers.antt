@@ -45,7 +45,8 @@ loop-state-preserved c =
     let scale = (c.is_proper.ensures c.args.given.bodies.shape.columns c.args.given.bodies.entries.now _ c.in_ok-number.ensures.kept here).0
     (search rules) in (
       line_more c.args.given c.args.action c.loop-state.state c.in_ok-number.number _ _ _ _ c.loop-state.invariant.0
-          c.in_ok-number.ensures.stays here scale (subst (λ (n : ℕ). c.extend_from_slice.new.self.items ≡ c.loop-state.numbers.items ++ n ∷ [])
+          c.in_ok-number.ensures.stays here scale
+          (subst (λ (n : ℕ). c.extend_from_slice.new.self.items ≡ c.loop-state.numbers.items ++ n ∷ [])
           c.in_ok-short.ensures c.in_ok-extend_from_slice.ensures.items),
       c.in_ok-number.ensures.kept,
       λ n r e. c.in_ok-number.ensures.stays n r (c.loop-state.invariant.2 n r e),
