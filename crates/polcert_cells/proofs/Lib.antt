@@ -11,4 +11,5 @@ pub mod SoundLaws
 pub mod EntryListLaws
 pub mod SparseLaws
 pub mod ScaledRows
+pub mod EvenRows
 pub mod RowSteps

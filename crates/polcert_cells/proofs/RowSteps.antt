@@ -4,10 +4,11 @@ use Rattle.std.proofs.Common.{get_or, refl, sym, ap, arith, add-one, subst, Bor}
 use Rattle.std.specs.List.{slice_get}
 use Rattle.polcert_cells.proofs.Common.{Cell, weight_at, scaled_cells, IsRow, cases_lt}
 use Rattle.polcert_cells.specs.declared.cells.Row.{Row}
-use Rattle.polcert_cells.specs.declared.cells.Row.TheVariants.{Sparse, Filled, Scaled, Single}
+use Rattle.polcert_cells.specs.declared.cells.Row.TheVariants.{Sparse, Filled, Scaled, Single, Even}
 use Rattle.polcert_cells.specs.declared.cells.Step.{Step}
 use Rattle.polcert_cells.specs.Cursors.{IsNext}
-use Rattle.polcert_cells.specs.BorrowedRows.{AreWeights, IsRowOf, IsStep, after_cells}
+use Rattle.polcert_cells.specs.BorrowedRows.{AreWeights, IsRowOf, IsStep, IsEvenRow, after_cells}
+use Rattle.polcert_cells.specs.Sparse.{AreRising, excepted_weight}
 use Rattle.polcert_cells.proofs.SparseLaws.{Climbs, climbs_from, weight_head, weight_tail, weight_below, weight_beyond}
 use Rattle.polcert_cells.proofs.ScaledRows.{scaled_weight}
 use Rattle.std.proofs.lemmas.List.{get_or_past}
@@ -105,6 +106,28 @@ module _ (f : ℕ → ℕ) (n : ℕ) (row : Row) (is : IsRowOf f n row) (at : �
               next.3,
               λ i m l. sym (weight_is are i (omega (arith, l, inside)))
                   ∙ next.4 i m l,
+            ),
+            h.1,
+          )
+
+  -- (so is one with the same weight in all columns but for exceptions)
+  pub step_even : (weight columns : ℕ) (exceptions : Bor (List Cell)) (s : Option Step) → row ≡ Even weight columns exceptions
+      → (AreRising exceptions.now → IsStep (excepted_weight weight exceptions.now) columns None at s) → IsStep f n (Some row) at s
+  step_even weight columns exceptions s e step =
+      subst (λ (r : Row). IsRowOf f n r → IsStep f n (Some r) at s) (sym e) (λ are. walked are s (step are.rising)) is
+    where
+      walked : IsEvenRow f n weight columns exceptions.now → (s : Option Step)
+          → IsStep (excepted_weight weight exceptions.now) columns None at s → IsStep f n (Some (Even weight columns exceptions)) at s
+      walked are None h = λ i low high. sym (are.each i high) ∙ h i low (subst (λ k. i < k) (sym are.size) high)
+      walked are (Some step) h =
+          let next = h.0 in
+          let inside = subst (λ k. step.column < k) are.size next.1 in (
+            (
+              next.0,
+              inside,
+              next.2 ∙ are.each step.column inside,
+              next.3,
+              λ i m l. sym (are.each i (omega (arith, l, inside))) ∙ next.4 i m l,
             ),
             h.1,
           )

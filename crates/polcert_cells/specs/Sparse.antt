@@ -27,3 +27,8 @@ abbrev pub scaled_cells : ℕ → ℕ → List ℕ → List Cell
 scaled_cells scale column [] = []
 scaled_cells scale column (n ∷ ns) =
     if nat_lt 0 (n * scale) then (record { column = column; weight = n * scale } ∷ scaled_cells scale (column + 1) ns) else scaled_cells scale (column + 1) ns
+
+-- the weight of a column where all have the same but for these
+abbrev pub excepted_weight : ℕ → List Cell → ℕ → ℕ
+excepted_weight weight [] column = weight
+excepted_weight weight (x ∷ xs) column = if x.column == column then x.weight else excepted_weight weight xs column

@@ -5,6 +5,7 @@ ghost use Rattle.std.specs.Option.{ForSome};
 ghost use Rattle.polcert_cells.specs.CommonRewards.{IsCommonReward, AreEndRewards, row_reward};
 ghost use Rattle.polcert_cells.specs.Tables.{CellTable, IsProper, IsWithinLimits};
 ghost use Rattle.polcert_cells.specs.BorrowedRows.{IsRowOf, IsStep};
+ghost use Rattle.polcert_cells.specs.Sparse.{AreRising, excepted_weight};
 
 use crate::{Cell, CommonReward, RewardCell};
 
@@ -198,9 +199,18 @@ pub enum Row<'a> {
     /// The weight of each column, 0 too.
     Filled(&'a [u64]),
     /// The number of each of the first columns, 0 too: its weight is the number times the scale. The others have none.
-    Scaled { numbers: &'a [u32], scale: u32 },
+    Scaled {
+        numbers: &'a [u32],
+        scale: u32,
+    },
     /// The only weight above 0.
     Single(Cell),
+    /// The same weight in each of this many columns, but for the columns of the exceptions, which are in order: each has its own, 0 too.
+    Even {
+        weight: u64,
+        columns: usize,
+        exceptions: &'a [Cell],
+    },
 }
 
 /// A weight above 0 of a row, its column, and the place where the walk continues.
@@ -230,6 +240,11 @@ impl Row<'_> {
             } else {
                 None
             },
+            Row::Even {
+                weight,
+                columns,
+                exceptions,
+            } => even_step(*weight, *columns, exceptions, at),
         }
     }
 }
@@ -266,6 +281,44 @@ fn scaled_step(numbers: &[u32], scale: u32, at: usize) -> Option<Step>
         numbers.len(),
         move |column| scaled(numbers[column], scale),
     )
+}
+
+/// Returns the first weight above 0, from a column on, of this many columns that have the same weight but for exceptions.
+fn even_step(weight: u64, columns: usize, exceptions: &[Cell], at: usize) -> Option<Step>
+    ensures { AreRising exceptions.now →
+        IsStep (excepted_weight weight exceptions.now) columns None at result }
+{
+    if exceptions.is_empty() && weight > 0 {
+        return if at < columns {
+            Some(Step {
+                column: at,
+                weight,
+                next: at + 1,
+            })
+        } else {
+            None
+        };
+    }
+    first_weight(
+        at,
+        columns,
+        move |column| excepted_weight(weight, exceptions, column),
+    )
+}
+
+/// Returns the weight of a column where all have the same but for exceptions in order.
+pub fn excepted_weight(weight: u64, exceptions: &[Cell], column: usize) -> u64
+    ensures { AreRising exceptions.now → result ≡ excepted_weight weight exceptions.now column }
+{
+    let place = exceptions.partition_point(|cell| cell.column < column);
+    match exceptions.get(place) {
+        Some(cell) => if cell.column == column {
+            cell.weight
+        } else {
+            weight
+        },
+        None => weight,
+    }
 }
 
 /// Returns the number times the scale.

@@ -1,5 +1,5 @@
 use Rattle.std.proofs.Common.{◌≡◌, ◌∙◌, ◌<◌, rules, subst, slice_index}
-use Rattle.polcert_cells.proofs.RowSteps.{step_sparse, end_sparse, step_filled, step_scaled, end_single, found_at, none_at}
+use Rattle.polcert_cells.proofs.RowSteps.{step_sparse, end_sparse, step_filled, step_scaled, step_even, end_single, found_at, none_at}
 use Rattle.polcert_cells.proofs.cells.Row.step.Goals as goal
 
 pub returns-in-Some : goal.returns-in-Some
@@ -26,3 +26,7 @@ returns-in-Filled c = λ f count is.
 pub returns-in-Scaled : goal.returns-in-Scaled
 returns-in-Scaled c = λ f count is. step_scaled f count c.args.self.now is c.args.at c.in-Scaled.numbers c.in-Scaled.scale
     c.scaled_step.result c.in-Scaled.is c.scaled_step.ensures
+
+pub returns-in-Even : goal.returns-in-Even
+returns-in-Even c = λ f count is. step_even f count c.args.self.now is c.args.at c.in-Even.weight c.in-Even.columns c.in-Even.exceptions
+    c.even_step.result c.in-Even.is c.even_step.ensures
