@@ -49,7 +49,8 @@ excepted_next w xs c k x up cut e other = sym (excepted_apart w xs c apart)
         let high = cut.1 k d (omega arith) inside in
         let least : c ≤ x.column = grind (arith, nat_tests) in
         ⊎_elim (λ less. let low = cut.0 i d (omega arith) less in grind (arith, nat_tests))
-        (λ ge. ⊎_elim (λ more. let above = up k i d more l in grind arith) (λ le. let equal : i ≡ k = omega arith in other (cc)) (cases_lt k i))
+        (λ ge. ⊎_elim (λ more. let above = up k i d more l in grind arith) (λ le. let equal : i ≡ k = omega arith in other (cc))
+        (cases_lt k i))
         (cases_lt i k)
 
 pub excepted_last : (w : ℕ) (xs : List Cell) (c k : ℕ) → Cut xs c k → length xs ≤ k → w ≡ excepted_weight w xs c

@@ -1,6 +1,7 @@
 -- Rows of T and O.
 pub mod BodyLaws
 pub mod Cells
+pub mod EvenLaws
 pub mod ExactKeys
 pub mod FilledParts
 pub mod FormLaws

@@ -18,7 +18,7 @@ ghost use Rattle.polcert_rules.specs.Steps.Merging.{given_at, is_newer, newer_ce
 ghost use Rattle.polcert_rules.specs.Steps.Merging.{following, has_weight};
 ghost use Rattle.polcert_rules.specs.Steps.Sources.{IsNumberEntry, IsColumnOf};
 ghost use Rattle.polcert_cells.specs.declared.elements.Cell.{Cell as C};
-ghost use Rattle.polcert_rules.specs.Steps.Lists.{stored_cells, IsFullLine};
+ghost use Rattle.polcert_rules.specs.Steps.Lists.{stored_cells, IsFullLine, IsStored};
 ghost use Rattle.polcert_cells.specs.Numbers.{one};
 ghost use Rattle.polcert_cells.specs.EntryRefs.{entry_of};
 ghost use Rattle.polcert_rules.specs.Steps.Given.{IsShapeWithin, FitsShape, entry_weight};
@@ -28,7 +28,7 @@ use crate::index::{
     COLUMN, COLUMN_KEYS, MOST_PLACES, first_column, max_option, rules_before, rules_between,
     rules_from_at, sort_newest, span, table_digit,
 };
-use crate::rows::{StoredRow, cells_of};
+use crate::rows::{StoredRow, cells_of, even_row_cells};
 use crate::zeros::{RowZeros, SplitRules, row_zeros};
 use crate::{Rule, Shape};
 use polcert_cells::{BodyRef, Cell, Entries, EntryRef, ONE, Table};
@@ -355,6 +355,7 @@ pub(crate) fn cells_over(
     newer: Vec<Cell>,
 ) -> Result<Vec<Cell>, AllocError>
     requires columns { All (λ (x : C). x.column + 2 < key_base) (stored_cells base) }
+    requires stored { IsStored base }
     requires ordered { IfSome row.now.zeros HasOrderedZeros }
     ensures { IfOk result (λ cells. cells.items
         ≡ merged (shown_under row.now.whole row.now.zeros (stored_cells base.entry)) newer.items) }
@@ -363,6 +364,14 @@ pub(crate) fn cells_over(
         StoredRow::Sparse(cells) => Ok(row_cells(alloc, row, cells, newer)?),
         StoredRow::Full { numbers, columns } => {
             let cells = cells_of(alloc, numbers, columns)?;
+            Ok(row_cells(alloc, row, cells.as_slice(), newer)?)
+        }
+        StoredRow::Even {
+            weight,
+            columns,
+            exceptions,
+        } => {
+            let cells = even_row_cells(alloc, weight, columns, exceptions)?;
             Ok(row_cells(alloc, row, cells.as_slice(), newer)?)
         }
     }
@@ -426,6 +435,30 @@ pub(crate) fn body_row(
         BodyRef::Identity => Ok(diagonal_row(alloc, columns, state)?),
         BodyRef::Rewards(_) => Ok(even_row(alloc, columns, 0)?),
     }
+}
+
+/// Returns the weight of each column, if an entry of T or O gives all the same above 0.
+pub(crate) fn body_weight(entry: EntryRef<'_>, shape: Shape) -> Option<u64>
+    requires within { IsShapeWithin shape }
+    requires fits { FitsShape shape (entry_of entry) }
+    ensures { IfSome result
+        (λ weight. (s c : ℕ) → entry_weight shape.columns (entry_of entry.entry) s c ≡ weight) }
+{
+    match entry.body {
+        BodyRef::Probabilities(numbers) => match entry.places.len() {
+            1 | 2 => None,
+            _ => positive_weight(numbers[0] as u64 * shape.columns as u64),
+        },
+        BodyRef::Uniform => Some(ONE),
+        BodyRef::Identity | BodyRef::Rewards(_) => None,
+    }
+}
+
+/// Returns the weight if it is above 0.
+fn positive_weight(weight: u64) -> Option<u64>
+    ensures { IfSome result (λ same. same ≡ weight) }
+{
+    if weight > 0 { Some(weight) } else { None }
 }
 
 /// Returns the number of each column of the row of this state, in millionths, if an entry of T or O gives that many numbers.

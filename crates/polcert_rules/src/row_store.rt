@@ -1,6 +1,6 @@
 //! Rows that are kept once for many actions and states.
 ghost use Rattle.std.specs.Prelude.{◌≡◌, ℕ, [], ◌*◌, ◌<◌, ◌≤◌, ◌^◌, ◌↔◌, All, IfOk, OnOk, IfSome, IsTrue};
-ghost use Rattle.std.specs.Prelude.{List, length, slice_get, sum, Some, ◌-◌, ◌++◌, ◌∷◌, slice_index_or};
+ghost use Rattle.std.specs.Prelude.{List, length, slice_get, sum, Some, None, ◌-◌, ◌++◌, ◌∷◌, slice_index_or};
 ghost use Rattle.polcert_cells.specs.Numbers.{one};
 ghost use Rattle.polcert_cells.specs.Elements.{most_elements};
 ghost use Rattle.polcert_cells.specs.EntryRefs.{entry_of};
@@ -9,15 +9,15 @@ ghost use Rattle.polcert_cells.specs.declared.entries.Table.{Table as T};
 ghost use Rattle.polcert_cells.specs.declared.entries.Entry.{Entry as E};
 ghost use Rattle.polcert_rules.specs.declared.rows.Shape.{Shape as S};
 ghost use Rattle.polcert_rules.specs.Steps.Given.{IsShapeWithin};
-ghost use Rattle.polcert_cells.specs.Sparse.{weight_at, scaled_cells, IsRow, IsSparse};
-ghost use Rattle.polcert_rules.specs.Steps.Lists.{IsFullLine, part_in};
-ghost use Rattle.polcert_rules.specs.Steps.Merging.{given_at, weight_by_entries};
+ghost use Rattle.polcert_cells.specs.Sparse.{weight_at, scaled_cells, IsRow, IsSparse, excepted_weight};
+ghost use Rattle.polcert_rules.specs.Steps.Lists.{IsFullLine, part_in, stored_cells, filled_cells, AreExceptions};
+ghost use Rattle.polcert_rules.specs.Steps.Merging.{given_at, weight_by_entries, Rises};
 ghost use Rattle.polcert_rules.specs.Steps.Sources.{source_of, source_in, IsWholeRowEntry, IsFrom, AreKept};
 ghost use Rattle.polcert_rules.specs.Steps.Sources.{AreNumbersOf, IsKeptRow, IsShared, IsAfter, IsRowAfter};
 ghost use Rattle.polcert_rules.specs.Steps.Sources.{Stays, AreNear, sum_of_weights};
 
 use crate::index::half_width;
-use crate::row::{EntryRow, body_line, body_row, cells_over, newer_cells};
+use crate::row::{EntryRow, body_line, body_row, body_weight, cells_over, newer_cells};
 use crate::rows::{StoredRow, StoredRows};
 use crate::{Rule, Shape};
 use polcert_cells::{BodyRef, Cell, Entries, EntryRef, ONE, Place};
@@ -129,9 +129,15 @@ impl RowStore {
             (weight_by_entries bodies.entry.shape.columns bodies.entry.entries.now table a state)
             self.new.rows n) }
     {
-        let base = self.shared_row(alloc, bodies, row.whole, state)?;
         let spare = replace(&mut self.spare, Vec::new(alloc));
         let newer = newer_cells(spare, bodies.entries, row, bodies.shape.columns)?;
+        let exceptions = newer.as_slice();
+        if let Some(weight) = common_weight(bodies, row, exceptions) {
+            let even = self.even_row(bodies, near, weight, exceptions)?;
+            self.spare = newer;
+            return Ok(even);
+        }
+        let base = self.shared_row(alloc, bodies, row.whole, state)?;
         if row.zeros.is_none() && newer.is_empty() {
             self.spare = newer;
             return Ok(base);
@@ -189,6 +195,9 @@ impl RowStore {
         if let Some(line) = full_line(bodies.entries, whole, state, bodies.shape) {
             return Ok(self.keep_numbers(line)?);
         }
+        if is_uniform(bodies.entries, whole, bodies.shape) {
+            return Ok(self.keep_even(ONE, bodies.shape.columns, &[])?);
+        }
         let cells = whole_row(alloc, bodies.entries, whole, state, bodies.shape)?;
         Ok(self.keep(cells.as_slice(), bodies.shape.columns)?)
     }
@@ -211,10 +220,40 @@ impl RowStore {
             (AreKept bodies.entry.shape.columns bodies.entry.entries.now self.new) }
         ensures row { IfOk result (λ n. slice_get self.new.rows n ≡ Some cells.now) }
     {
-        if let Some(number) = last_same(&self.rows, near, cells) {
+        if let Some(number) = last_same(&self.rows, near, StoredRow::Sparse(cells)) {
             return Ok(number);
         }
         Ok(self.keep(cells, bodies.shape.columns)?)
+    }
+
+    /// Returns the number of a row that has this weight in all columns but for those of the exceptions.
+    fn even_row(
+        &mut self,
+        bodies: Bodies<'_>,
+        near: Near<'_>,
+        weight: u64,
+        exceptions: &[Cell],
+    ) -> Result<usize, AllocError>
+        requires within { IsShapeWithin bodies.shape }
+        requires near { AreNear self.old.rows near }
+        requires kept { AreKept bodies.shape.columns bodies.entries.now self.old }
+        requires exceptions { AreExceptions weight bodies.shape.columns exceptions.now }
+        ensures stays { OnOk result (Stays self.old.rows self.new.rows) }
+        ensures kept { OnOk result
+            (AreKept bodies.entry.shape.columns bodies.entry.entries.now self.new) }
+        ensures row { IfOk result (λ n. slice_get self.new.rows n
+            ≡ Some (filled_cells (excepted_weight weight exceptions.now) bodies.entry.shape.columns)) }
+    {
+        let columns = bodies.shape.columns;
+        let row = StoredRow::Even {
+            weight,
+            columns,
+            exceptions,
+        };
+        if let Some(number) = last_same(&self.rows, near, row) {
+            return Ok(number);
+        }
+        Ok(self.keep_even(weight, columns, exceptions)?)
     }
 
     /// Keeps a row after the others, and gives its number.
@@ -228,6 +267,25 @@ impl RowStore {
         let number = self.rows.len();
         self.rows.push_cells(cells)?;
         self.proper.push(row_sum(cells) == ONE * columns as u64)?;
+        Ok(number)
+    }
+
+    /// Keeps a row after the others that has this weight in all columns but for those of the exceptions, and returns its number.
+    fn keep_even(
+        &mut self,
+        weight: u64,
+        columns: usize,
+        exceptions: &[Cell],
+    ) -> Result<usize, AllocError>
+        requires few { columns ≤ most_elements }
+        requires exceptions { AreExceptions weight columns exceptions.now }
+        ensures number { IfOk result (λ n. n ≡ length self.old.rows) }
+        ensures kept { OnOk result (IsAfter columns
+            (filled_cells (excepted_weight weight exceptions.now) columns) self.old self.new) }
+    {
+        let number = self.rows.len();
+        self.rows.push_even(weight, columns, exceptions)?;
+        self.proper.push(true)?;
         Ok(number)
     }
 
@@ -300,6 +358,56 @@ fn is_mostly_positive(numbers: &[u32]) -> bool {
     positive > numbers.len() / 2
 }
 
+/// Returns the weight above 0 that the entry that covers the whole row gives each column, if it gives all the same.
+fn whole_weight(entries: &Entries, whole: Option<usize>, shape: Shape) -> Option<u64>
+    requires within { IsShapeWithin shape }
+    requires whole { IsWholeRowEntry shape entries.now whole }
+    ensures { IfSome result (λ weight. (s c : ℕ) → given_at shape.columns entries.now whole s c ≡ weight) }
+{
+    match whole {
+        None => None,
+        Some(number) => body_weight(entries.at(number), shape),
+    }
+}
+
+/// Tests whether the entry that covers the whole row gives each column the same share of the scale.
+fn is_uniform(entries: &Entries, whole: Option<usize>, shape: Shape) -> bool
+    requires within { IsShapeWithin shape }
+    requires whole { IsWholeRowEntry shape entries.now whole }
+    ensures { IsTrue result → (s c : ℕ) → given_at shape.columns entries.now whole s c ≡ one }
+{
+    match whole_weight(entries, whole, shape) {
+        Some(weight) => weight == ONE,
+        None => false,
+    }
+}
+
+/// Returns the weight of all columns but for these newer cells, if they are few, and the row sums to its scale.
+fn common_weight(bodies: Bodies<'_>, row: &EntryRow<'_>, newer: &[Cell]) -> Option<u64>
+    requires within { IsShapeWithin bodies.shape }
+    requires whole { IsWholeRowEntry bodies.shape bodies.entries.now row.now.whole }
+    requires rise { Rises 0 bodies.shape.columns newer.now }
+    requires small { sum_of_weights newer.now < 2 ^ 63 }
+    ensures zeros { IfSome result (λ weight. row.now.zeros ≡ None) }
+    ensures given { IfSome result (λ weight. (s c : ℕ) →
+        given_at bodies.entry.shape.columns bodies.entry.entries.now row.now.whole s c ≡ weight) }
+    ensures exceptions { IfSome result (λ weight. AreExceptions weight bodies.entry.shape.columns newer.now) }
+{
+    let columns = bodies.shape.columns;
+    if row.zeros.is_some() || newer.is_empty() || newer.len() >= columns / 2 {
+        return None;
+    }
+    let Some(weight) = whole_weight(bodies.entries, row.whole, bodies.shape) else {
+        return None;
+    };
+    let others = columns - newer.len();
+    if weight * others as u64 + row_sum(newer) == ONE * columns as u64 {
+        Some(weight)
+    } else {
+        None
+    }
+}
+
 /// Returns the sum of the numbers.
 fn numbers_sum(numbers: &[u32]) -> u64
     requires { sum numbers.now < 2 ^ 64 }
@@ -338,32 +446,49 @@ fn source_in(entry: EntryRef<'_>, number: usize, state: usize) -> RowOrigin
     }
 }
 
-/// Returns the number of a row next to this one that has these cells: of the state before, or of the action before.
-fn last_same(rows: &StoredRows, near: Near<'_>, cells: &[Cell]) -> Option<usize>
+/// Returns the number of a row next to this one that is kept in the same way: of the state before, or of the action before.
+fn last_same(rows: &StoredRows, near: Near<'_>, row: StoredRow<'_>) -> Option<usize>
     requires near { AreNear rows.now near }
-    ensures { IfSome result (λ n. slice_get rows.now n ≡ Some cells.now) }
+    ensures { IfSome result (λ n. slice_get rows.now n ≡ Some (stored_cells row.entry)) }
 {
     if let Some(number) = near.here.last() {
-        if has_cells(rows, *number as usize, cells) {
+        if is_same_row(rows.at(*number as usize), row) {
             return Some(*number as usize);
         }
     }
     if let Some(number) = near.before.get(near.here.len()) {
-        if has_cells(rows, *number as usize, cells) {
+        if is_same_row(rows.at(*number as usize), row) {
             return Some(*number as usize);
         }
     }
     None
 }
 
-/// Tests whether the row of this number has these cells.
-fn has_cells(rows: &StoredRows, number: usize, cells: &[Cell]) -> bool
-    requires { number < length rows.now }
-    ensures { IsTrue result → slice_get rows.now number ≡ Some cells.now }
+/// Tests whether two rows are kept in the same way. `false` says nothing of rows with the number of each column.
+fn is_same_row(one: StoredRow<'_>, other: StoredRow<'_>) -> bool
+    ensures { IsTrue result → stored_cells one.entry ≡ stored_cells other.entry }
 {
-    match rows.at(number) {
-        StoredRow::Sparse(own) => own == cells,
-        StoredRow::Full { .. } => false,
+    match (one, other) {
+        (StoredRow::Sparse(cells), StoredRow::Sparse(others)) => cells == others,
+        (
+            StoredRow::Even {
+                weight,
+                columns,
+                exceptions,
+            },
+            StoredRow::Even {
+                weight: other_weight,
+                columns: other_columns,
+                exceptions: others,
+            },
+        ) => {
+            if weight == other_weight && columns == other_columns {
+                exceptions == others
+            } else {
+                false
+            }
+        }
+        _ => false,
     }
 }
 

@@ -8,11 +8,14 @@ ghost use Rattle.polcert_rules.specs.Keys.{key_base};
 ghost use Rattle.polcert_rules.specs.Steps.Shapes.{IsShapeOf, AreSound};
 ghost use Rattle.polcert_rules.specs.Steps.Repeats.{IsAsBefore, IsWholeNumber};
 ghost use Rattle.polcert_cells.specs.BorrowedRows.{IsRowOf};
-ghost use Rattle.polcert_cells.specs.Sparse.{weight_at, IsSparse, scaled_cells};
-ghost use Rattle.polcert_rules.specs.Steps.Lists.{stored_cells, row_in, IsHeld};
+ghost use Rattle.polcert_cells.specs.Sparse.{weight_at, IsSparse, scaled_cells, excepted_weight};
+ghost use Rattle.polcert_cells.specs.Numbers.{one};
+ghost use Rattle.polcert_rules.specs.Steps.Lists.{stored_cells, row_in, IsHeld, IsStored, filled_cells};
+ghost use Rattle.polcert_rules.specs.Steps.Lists.{AreExceptions, AreEvenCells, even_cells};
 ghost use Rattle.polcert_rules.specs.Steps.Merging.{from as cells_from};
 ghost use Rattle.polcert_rules.specs.RowTables.{AreRowsOf, AreProperRows, IsFirstWrongEntryRow, row_at};
 ghost use Rattle.polcert_rules.specs.Steps.Sources.{AreKept, AreIndexedEntries, AreLine, IsFirstWrongIn, Stays};
+ghost use Rattle.polcert_rules.specs.Steps.Sources.{sum_of_weights};
 ghost use Rattle.polcert_cells.specs.Elements.{most_elements};
 
 use crate::Index;
@@ -20,7 +23,7 @@ use crate::index::{KEY_BASE, newest_of_table};
 use crate::row::{EntryRow, RowCells};
 use crate::row_store::{Bodies, Lists, Near, RowStore};
 use crate::zeros::SplitRules;
-use polcert_cells::{Cell, Entries, Row as BorrowedRow, Table};
+use polcert_cells::{Cell, Entries, Row as BorrowedRow, Table, excepted_weight};
 use std::alloc::{AllocError, Global};
 use std::marker::Model;
 
@@ -29,8 +32,9 @@ const NO_COLUMN: usize = KEY_BASE as usize - 3;
 
 /// The rows of T or O: of each action and state the columns with a weight above 0, in order, with their weights. In a
 /// table of n columns the scale is 1,000,000 * n. What the body of an entry gives is kept once; a row of single cells is kept once
-/// where it is that of the state before, or of the same state under the action before. The rows of an action that no entry names are
-/// those of the action before it, if none names that one either.
+/// where it is that of the state before, or of the same state under the action before. A row to whose columns one entry gives the same
+/// weight, but for a few cells, is kept as this weight and these cells. The rows of an action that no entry names are those of the
+/// action before it, if none names that one either.
 #[derive(Drop)]
 pub struct Rows {
     shape: Shape,
@@ -42,7 +46,7 @@ pub struct Rows {
 impl Model for Rows {
     ghost use Rattle.std.specs.Prelude.{◌≡◌, ◌*◌, ◌<◌, All, length};
     ghost use Rattle.polcert_cells.specs.Sparse.{IsSparse};
-    ghost use Rattle.polcert_rules.specs.Steps.Sources.{HasRows};
+    ghost use Rattle.polcert_rules.specs.Steps.Sources.{HasRows, HaveScale};
     ghost use Rattle.polcert_rules.specs.RowTables.{RowTable};
 
     ghost Value = { RowTable };
@@ -56,7 +60,8 @@ impl Model for Rows {
     } };
 
     ghost invariant = { λ r. (length r.numbers ≡ r.shape.actions)
-        × All (HasRows r.shape.states (length r.rows)) r.numbers × All (IsSparse r.shape.columns) r.rows };
+        × All (HasRows r.shape.states (length r.rows)) r.numbers × All (IsSparse r.shape.columns) r.rows
+        × HaveScale r.shape r.rows r.numbers };
 }
 
 /// The entries of a table of weights, and what is found among them.
@@ -124,6 +129,15 @@ impl Rows {
                 numbers,
                 scale: columns,
             },
+            StoredRow::Even {
+                weight,
+                columns,
+                exceptions,
+            } => BorrowedRow::Even {
+                weight,
+                columns,
+                exceptions,
+            },
         }
     }
 
@@ -136,6 +150,15 @@ impl Rows {
         match self.stored_row(action, state) {
             StoredRow::Sparse(cells) => cell_weight(cells, column),
             StoredRow::Full { numbers, columns } => full_weight(numbers, columns, column),
+            StoredRow::Even {
+                weight,
+                columns,
+                exceptions,
+            } => if column < columns {
+                excepted_weight(weight, exceptions, column)
+            } else {
+                0
+            },
         }
     }
 
@@ -156,6 +179,8 @@ impl Rows {
         requires state { state < self.now.states }
         ensures row { stored_cells result ≡ row_at self.now action state }
         ensures sparse { IsSparse self.now.columns (stored_cells result) }
+        ensures stored { IsStored result }
+        ensures proper { sum_of_weights (stored_cells result) ≡ one * self.now.columns }
     {
         self.rows.at(self.numbers.at(action)[state] as usize)
     }
@@ -300,6 +325,8 @@ pub(crate) enum RowForm {
     Sparse,
     /// By the number of each column, in millionths.
     Full,
+    /// By a cell of the number of columns and their weight, and the exceptions after it.
+    Even,
 }
 
 /// Where a row begins in the list of its form, and how many items it has there.
@@ -324,7 +351,16 @@ pub(crate) fn short_place(place: usize) -> Result<u32, AllocError>
 #[derive(Clone, Copy)]
 pub(crate) enum StoredRow<'a> {
     Sparse(&'a [Cell]),
-    Full { numbers: &'a [u32], columns: u32 },
+    Full {
+        numbers: &'a [u32],
+        columns: u32,
+    },
+    /// This weight in each of this many columns, but for those of the exceptions.
+    Even {
+        weight: u64,
+        columns: usize,
+        exceptions: &'a [Cell],
+    },
 }
 
 /// Rows, kept in one list for each form. Contracts see the cells of each.
@@ -369,7 +405,8 @@ impl StoredRows {
     /// Returns the row of this number, counted from 0.
     pub(crate) fn at(&self, number: usize) -> StoredRow<'_>
         requires { number < length self.now }
-        ensures { slice_get self.now number ≡ Some (stored_cells result) }
+        ensures cells { slice_get self.now number ≡ Some (stored_cells result) }
+        ensures stored { IsStored result }
     {
         row_in(
             self.cells.as_slice(),
@@ -407,12 +444,39 @@ impl StoredRows {
         })?;
         Ok(())
     }
+
+    /// Puts a row after the others that has this weight in each of this many columns, but for those of the exceptions.
+    pub(crate) fn push_even(
+        &mut self,
+        weight: u64,
+        columns: usize,
+        exceptions: &[Cell],
+    ) -> Result<(), AllocError>
+        requires few { length exceptions.now ≤ most_elements }
+        requires exceptions { AreExceptions weight columns exceptions.now }
+        ensures { OnOk result
+            (self.new ≡ self.old ++ filled_cells (excepted_weight weight exceptions.now) columns ∷ []) }
+    {
+        let start = short_place(self.cells.len())?;
+        self.cells.push(Cell {
+            column: columns,
+            weight,
+        })?;
+        self.cells.extend_from_slice(exceptions)?;
+        self.parts.push(RowLocation {
+            start,
+            count: exceptions.len() as u16 + 1,
+            form: RowForm::Even,
+        })?;
+        Ok(())
+    }
 }
 
 /// Returns the row of this part.
 fn row_in<'a>(cells: &'a [Cell], numbers: &'a [u32], part: RowLocation) -> StoredRow<'a>
     requires { IsHeld cells.now numbers.now part }
-    ensures { stored_cells result ≡ row_in cells.now numbers.now part }
+    ensures cells { stored_cells result ≡ row_in cells.now numbers.now part }
+    ensures stored { IsStored result }
 {
     let start = part.start as usize;
     let end = start + part.count as usize;
@@ -422,7 +486,46 @@ fn row_in<'a>(cells: &'a [Cell], numbers: &'a [u32], part: RowLocation) -> Store
             numbers: &numbers[start..end],
             columns: part.count as u32,
         },
+        RowForm::Even => even_in(&cells[start..end]),
     }
+}
+
+/// Returns the row of one weight but for exceptions that these cells are.
+fn even_in(part: &[Cell]) -> StoredRow<'_>
+    requires { AreEvenCells part.now }
+    ensures cells { stored_cells result ≡ even_cells part.now }
+    ensures stored { IsStored result }
+{
+    let first = part[0];
+    StoredRow::Even {
+        weight: first.weight,
+        columns: first.column,
+        exceptions: &part[1..],
+    }
+}
+
+/// Returns the cells of a row that has this weight in each of this many columns, but for those of the exceptions.
+pub(crate) fn even_row_cells(
+    alloc: Global,
+    weight: u64,
+    columns: usize,
+    exceptions: &[Cell],
+) -> Result<Vec<Cell>, AllocError>
+    requires { AreExceptions weight columns exceptions.now }
+    ensures { IfOk result
+        (λ cells. cells.items ≡ filled_cells (excepted_weight weight exceptions.now) columns) }
+{
+    let mut cells = Vec::with_capacity(alloc, columns)?;
+    for column in 0..columns {
+        let here = excepted_weight(weight, exceptions, column);
+        if here > 0 {
+            cells.push(Cell {
+                column,
+                weight: here,
+            })?;
+        }
+    }
+    Ok(cells)
 }
 
 /// Returns the cells of a row whose columns have these numbers, in millionths.

@@ -1,18 +1,19 @@
 -- Rows as they are built, action by action and state by state.
-use Rattle.std.proofs.Common.{◌≡◌, ◌∙◌, ℕ, ◌+◌, ◌-◌, ◌<◌, ⊎_elim, true, List, [], ◌∷◌, ◌++◌, length, get_or, slice_index, slice_index_or}
-use Rattle.std.proofs.Common.{All, sym, ap, subst, arith}
+use Rattle.std.proofs.Common.{◌≡◌, ◌∙◌, ℕ, ◌+◌, ◌-◌, ◌*◌, ◌<◌, ⊎_elim, true, List, [], ◌∷◌, ◌++◌, length, get_or, slice_index}
+use Rattle.std.proofs.Common.{slice_index_or, All, sym, ap, subst, arith}
 use Rattle.polcert_rules.proofs.Common.{cases_lt, get_or_append_left, get_or_default, All-push, get_or_from_slice_get, Cell, Preamble}
 use Rattle.polcert_rules.proofs.Common.{weight, IsSparse, IsRow, key_base, Rule, IsRising, IsIndexOf, IsSplit, zeros_of, others_of}
-use Rattle.polcert_rules.proofs.Common.{wholes_of, others_in, IsWeighted, IsShapeOf, AreSound, IsKeptRow, Stays, AreLine, AreLines}
+use Rattle.polcert_rules.proofs.Common.{wholes_of, sum_of_weights, one, others_in, IsWeighted, IsShapeOf, AreSound, IsKeptRow, Stays}
+use Rattle.polcert_rules.proofs.Common.{AreLine, AreLines}
 use Rattle.std.proofs.lemmas.List.{length-append}
-use Rattle.polcert_rules.specs.Steps.Sources.{AreIndexedEntries, weights_at, HasScale, HasRows, IsFirstWrongIn}
+use Rattle.polcert_rules.specs.Steps.Sources.{AreIndexedEntries, weights_at, HasScale, HasRows, HaveScale, IsFirstWrongIn}
 use Rattle.std.proofs.Math.Seq.{get_or-append_seam}
 use Rattle.polcert_cells.proofs.SparseLaws.{row_same}
 use Rattle.polcert_rules.specs.declared.rows.TableEntries.{TableEntries}
 use Rattle.polcert_rules.specs.declared.rows.WrongRow.{WrongRow}
 use Rattle.polcert_rules.specs.RowTables.{GivesProperRow, AreProperRows, IsFirstWrongEntryRow}
 use Rattle.polcert_rules.specs.Steps.Repeats.{IsAsBefore}
-use Rattle.polcert_rules.proofs.RowLaws.SumLaws.{sum_same}
+use Rattle.polcert_rules.proofs.RowLaws.SumLaws.{sum_is, sum_same}
 use Rattle.polcert_rules.specs.Steps.Rows.{AreExact}
 use Rattle.polcert_rules.proofs.RowLaws.SplitLaws.{split_is}
 use Rattle.polcert_rules.proofs.RowLaws.RepeatLaws.{as_named}
@@ -71,6 +72,14 @@ module _ (given : TableEntries) where
       subst (λ (xs : List Cell). IsRow width (weights_at given a s) xs) (sym found)
       (record { sparse = at_number (IsSparse width) rows _ k.row sparse k.is; each = k.each })
 
+  -- it sums to its scale
+  pub line_scale : (a s count : ℕ) (rows : List (List Cell)) (numbers : List ℕ) → AreLine given a count rows numbers
+      → All (IsSparse width) rows → s < count
+      → sum_of_weights (slice_index_or rows (slice_index numbers s) []) ≡ one * width
+  line_scale a s count rows numbers h sparse l =
+      let row = line_row a s count rows numbers h sparse l in
+      sum_is width _ row.sparse ∙ sum_same _ _ width row.each ∙ h.proper s l
+
   -- ---- the rows of the first actions
   pub lines_none : (rows : List (List Cell)) (numbers : List (List ℕ)) → numbers ≡ [] → AreLines given 0 rows numbers
   lines_none rows numbers e = record { size = ap length e; each = λ a l. absurd (omega arith) }
@@ -96,6 +105,11 @@ module _ (given : TableEntries) where
   pub all_within : (count : ℕ) (rows : List (List Cell)) (numbers : List (List ℕ)) → AreLines given count rows numbers
       → All (HasRows given.bodies.shape.states (length rows)) numbers
   all_within count rows numbers h k d l = grind (arith, get_or_default)
+
+  pub all_scale : (count : ℕ) (rows : List (List Cell)) (numbers : List (List ℕ)) → count ≡ given.bodies.shape.actions
+      → AreLines given count rows numbers → All (IsSparse width) rows → HaveScale given.bodies.shape rows numbers
+  all_scale count rows numbers e h sparse a s l m = line_scale a s given.bodies.shape.states rows (slice_index_or numbers a [])
+      (h.each a (omega (arith, e, l))) sparse m
 
   -- ---- an action that no entry tells from the one before
   module _ (sound : AreIndexedEntries given) where

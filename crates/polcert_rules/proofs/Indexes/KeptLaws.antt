@@ -1,15 +1,15 @@
 -- Rows that are kept, and what they are made of.
 use Rattle.std.proofs.Common.{◌≡◌, ◌∙◌, ℕ, zero, suc, ◌*◌, ◌<◌, ◌≤◌, ◌==◌, ◌↔◌, ⊎_elim, Bool, cond, eqb, IsTrue, Option, Some, List, []}
-use Rattle.std.proofs.Common.{◌∷◌, ◌++◌, length, map, get_or, slice_index, All, refl, sym, ap, subst, arith, rules, tests}
+use Rattle.std.proofs.Common.{◌∷◌, ◌++◌, length, map, get_or, slice_index, slice_index_or, All, refl, sym, ap, subst, arith, rules, tests}
 use Rattle.std.specs.Option.{option_map}
 use Rattle.polcert_rules.proofs.Common.{map-append, get_or_past, cases_lt, All-push, slice_get_within, slice_get-get_or, slice_get-map}
 use Rattle.polcert_rules.proofs.Common.{get_or_from_slice_get, same_Some, Place, Body, Entry, one, Fills, Cell, Shape, RowOrigin, SharedRow}
 use Rattle.polcert_rules.proofs.Common.{IsShapeWithin, FitsShape, entry_weight, sum_below, scaled_cells, IsSparse, IsRow, given_at, IsFrom}
-use Rattle.polcert_rules.proofs.Common.{IsWholeRowEntry}
+use Rattle.polcert_rules.proofs.Common.{IsWholeRowEntry, sum_of_weights}
 use Rattle.polcert_rules.proofs.Common.{AreKept, IsKeptRow, IsShared, IsAfter, Stays}
 use Rattle.std.proofs.lemmas.List.Elements.{All-weaker}
 use Rattle.polcert_rules.specs.Steps.Given.{body_weight}
-use Rattle.polcert_rules.specs.Steps.Sources.{source_of, IsSharedRow, is_proper}
+use Rattle.polcert_rules.specs.Steps.Sources.{source_of, IsSharedRow, is_proper, HaveScale}
 use Rattle.std.specs.List.{slice_get}
 use Rattle.std.proofs.Math.Nat.{mul-le-mul_left, mul_comm}
 use Rattle.polcert_rules.specs.declared.row_store.RowOrigin.TheVariants.{Nothing, Even, Diagonal, Line}
@@ -157,6 +157,16 @@ pub whole_small : (shape : Shape) (entries : List Entry) (whole : Option ℕ) (s
     → IsWholeRowEntry shape entries whole
     → given_at shape.columns entries whole s c ≤ one * shape.columns
 whole_small shape entries whole s c h1 h2 = grind (arith, given_small)
+
+-- ---- the sum of a row that is found by its number
+pub scale_at : (shape : Shape) (rows : List (List Cell)) (numbers : List (List ℕ)) (line : List ℕ) (cells : List Cell) (a s : ℕ)
+    → HaveScale shape rows numbers → a < shape.actions → s < shape.states → slice_get numbers a ≡ Some line
+    → slice_get rows (slice_index line s) ≡ Some cells → sum_of_weights cells ≡ one * shape.columns
+scale_at shape rows numbers line cells a s h la ls line_is cells_are =
+    let on_line = get_or_from_slice_get numbers a line [] line_is in
+    let row = get_or_from_slice_get rows (slice_index line s) cells [] cells_are in
+    ap sum_of_weights (sym row)
+    ∙ ap (λ (ns : List ℕ). sum_of_weights (slice_index_or rows (slice_index ns s) [])) (sym on_line) ∙ h a s la ls
 
 -- ---- rows of numbers
 pub full_row : (n : ℕ) (f : ℕ → ℕ) (ns : List ℕ) → IsFullLine n f ns → IsRow n f (scaled_cells (length ns) 0 ns)

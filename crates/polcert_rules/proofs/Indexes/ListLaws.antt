@@ -1,12 +1,14 @@
 -- Lists that stand one after another in one list.
-use Rattle.std.proofs.Common.{◌≡◌, ◌∙◌, ℕ, ◌+◌, ◌≤◌, List, [], ◌∷◌, ◌++◌, length, map, All, refl, ap, subst, arith}
-use Rattle.polcert_rules.proofs.Common.{map-append, All-head, All-tail, Part, part_in, row_in, scaled_cells, Cell, Sparse, Full}
+use Rattle.std.proofs.Common.{◌≡◌, ◌∙◌, ℕ, ◌+◌, ◌≤◌, List, [], ◌∷◌, ◌++◌, length, map, All, refl, sym, ap, subst, arith}
+use Rattle.polcert_rules.proofs.Common.{map-append, All-head, All-tail, All-push, Part, part_in, row_in, scaled_cells, Cell, Sparse, Full}
 use Rattle.polcert_rules.proofs.Common.{RowLocation}
-use Rattle.std.proofs.lemmas.List.{append-nil, drop-append-le, take-append-le, length-drop, take_all}
-use Rattle.polcert_rules.specs.Steps.Lists.{PartLiesIn, cells_by_form, RowLiesIn, IsHeld}
+use Rattle.std.proofs.lemmas.List.{append-nil, drop-append-le, take-append-le, length-append, length-drop, take_all}
+use Rattle.std.proofs.lemmas.List.Elements.{All-weaker}
+use Rattle.polcert_rules.specs.Steps.Lists.{PartLiesIn, cells_by_form, RowLiesIn, FitForm, IsHeld, even_cells, AreEvenCells}
 use Rattle.std.specs.List.{slice_range}
 use Rattle.std.proofs.Math.Seq.{drop-append_seam}
 use Rattle.polcert_rules.specs.declared.rows.RowForm.{RowForm}
+use Rattle.polcert_rules.specs.declared.rows.RowForm.TheVariants.{Even}
 
 module _ {X : Type 0} (xs ys : List X) where
   part_stays : (p : Part) → PartLiesIn (length xs) p → part_in (xs ++ ys) p ≡ part_in xs p
@@ -57,18 +59,28 @@ module _ (cells more : List Cell) (numbers others : List ℕ) where
       ≡ map (row_in cells numbers) ps ++ row_in (cells ++ more) (numbers ++ others) p ∷ []
   one_more_row ps p a = grind (arith, map-append, rows_stay)
 
--- one more row of either form
-pub push_sparse : (cells more : List Cell) (numbers : List ℕ) (ps : List RowLocation) (p : RowLocation) → All (IsHeld cells numbers) ps
-    → p.form ≡ Sparse → p.start ≡ length cells → p.count ≡ length more
-    → map (row_in (cells ++ more) numbers) (ps ++ p ∷ []) ≡ map (row_in cells numbers) ps ++ more ∷ []
-push_sparse cells more numbers ps p a f s e =
+-- one more row of cells
+push_row : (cells more : List Cell) (numbers : List ℕ) (ps : List RowLocation) (p : RowLocation) (row : List Cell)
+    → All (IsHeld cells numbers) ps → row_in (cells ++ more) numbers p ≡ row
+    → map (row_in (cells ++ more) numbers) (ps ++ p ∷ []) ≡ map (row_in cells numbers) ps ++ row ∷ []
+push_row cells more numbers ps p row a last =
     let all : map (row_in (cells ++ more) numbers) (ps ++ p ∷ []) ≡ map (row_in cells numbers) ps ++ row_in (cells ++ more) numbers p ∷ [] =
     subst (λ (ns : List ℕ). map (row_in (cells ++ more) ns) (ps ++ p ∷ [])
     ≡ map (row_in cells numbers) ps ++ row_in (cells ++ more) ns p ∷ []) (append-nil numbers) (one_more_row cells more numbers [] ps p a)
     in
-    let last : row_in (cells ++ more) numbers p ≡ more = ap (λ g. cells_by_form (cells ++ more) numbers g p.start p.count) f
-    ∙ range_last cells more p.start p.count s e in
     all ∙ (λ i. map (row_in cells numbers) ps ++ last i ∷ [])
+
+pub push_sparse : (cells more : List Cell) (numbers : List ℕ) (ps : List RowLocation) (p : RowLocation) → All (IsHeld cells numbers) ps
+    → p.form ≡ Sparse → p.start ≡ length cells → p.count ≡ length more
+    → map (row_in (cells ++ more) numbers) (ps ++ p ∷ []) ≡ map (row_in cells numbers) ps ++ more ∷ []
+push_sparse cells more numbers ps p a f s e = push_row cells more numbers ps p more a
+    (ap (λ g. cells_by_form (cells ++ more) numbers g p.start p.count) f ∙ range_last cells more p.start p.count s e)
+
+pub push_even : (cells more : List Cell) (numbers : List ℕ) (ps : List RowLocation) (p : RowLocation) → All (IsHeld cells numbers) ps
+    → p.form ≡ Even → p.start ≡ length cells → p.count ≡ length more
+    → map (row_in (cells ++ more) numbers) (ps ++ p ∷ []) ≡ map (row_in cells numbers) ps ++ even_cells more ∷ []
+push_even cells more numbers ps p a f s e = push_row cells more numbers ps p (even_cells more) a
+    (ap (λ g. cells_by_form (cells ++ more) numbers g p.start p.count) f ∙ ap even_cells (range_last cells more p.start p.count s e))
 
 pub push_full : (cells : List Cell) (numbers more : List ℕ) (ps : List RowLocation) (p : RowLocation) → All (IsHeld cells numbers) ps
     → p.form ≡ Full → p.start ≡ length numbers → p.count ≡ length more
@@ -82,3 +94,48 @@ push_full cells numbers more ps p a f s e =
     ap (λ g. cells_by_form cells (numbers ++ more) g p.start p.count) f
     ∙ ap (scaled_cells p.count 0) (range_last numbers more p.start p.count s e) ∙ ap (λ n. scaled_cells n 0 more) e in
     all ∙ (λ i. map (row_in cells numbers) ps ++ last i ∷ [])
+
+-- ---- rows stay within longer lists
+module _ (cells more : List Cell) (numbers others : List ℕ) where
+  fit_stays : (f : RowForm) (start count : ℕ) → RowLiesIn f (length cells) (length numbers) (start + count)
+      → FitForm f (slice_range cells start (start + count)) → FitForm f (slice_range (cells ++ more) start (start + count))
+  fit_stays Sparse start count room fit = tt
+  fit_stays Full start count room fit = tt
+  fit_stays Even start count room fit = subst AreEvenCells (sym (range_stays cells more start count room)) fit
+
+  room_stays : (f : RowForm) (end : ℕ) → RowLiesIn f (length cells) (length numbers) end
+      → RowLiesIn f (length (cells ++ more)) (length (numbers ++ others)) end
+  room_stays f end h = grind (arith, length-append)
+
+  held_stays : (ps : List RowLocation) → All (IsHeld cells numbers) ps → All (IsHeld (cells ++ more) (numbers ++ others)) ps
+  held_stays ps a = All-weaker (IsHeld cells numbers) (IsHeld (cells ++ more) (numbers ++ others))
+      (λ p h. record { room = room_stays p.form _ h.room; fit = fit_stays p.form p.start p.count h.room h.fit }) ps a
+
+pub held_cells : (cells more : List Cell) (numbers : List ℕ) (ps : List RowLocation) → All (IsHeld cells numbers) ps
+    → All (IsHeld (cells ++ more) numbers) ps
+held_cells cells more numbers ps a =
+    subst (λ (ns : List ℕ). All (IsHeld (cells ++ more) ns) ps) (append-nil numbers) (held_stays cells more numbers [] ps a)
+
+-- so does one row more
+module _ (cells more : List Cell) (numbers : List ℕ) (ps : List RowLocation) (all : All (IsHeld cells numbers) ps) (start count : ℕ)
+    (s : start ≡ length cells) (e : count ≡ length more) where
+  held_more : (f : RowForm) → RowLiesIn f (length (cells ++ more)) (length numbers) (start + count)
+      → FitForm f (slice_range (cells ++ more) start (start + count))
+      → All (IsHeld (cells ++ more) numbers) (ps ++ record { start = start; count = count; form = f } ∷ [])
+  held_more f room fit = All-push (IsHeld (cells ++ more) numbers) ps (record { start = start; count = count; form = f })
+      (held_cells cells more numbers ps all) (record { room = room; fit = fit })
+
+  room : start + count ≤ length (cells ++ more)
+  room = let both = length-append cells more in omega (arith, both, s, e)
+
+  pub held_sparse : All (IsHeld (cells ++ more) numbers) (ps ++ record { start = start; count = count; form = Sparse } ∷ [])
+  held_sparse = held_more Sparse room tt
+
+  pub held_even : AreEvenCells more
+      → All (IsHeld (cells ++ more) numbers) (ps ++ record { start = start; count = count; form = Even } ∷ [])
+  held_even fit = held_more Even room (subst AreEvenCells (sym (range_last cells more start count s e)) fit)
+
+pub held_numbers : (cells : List Cell) (numbers more : List ℕ) (ps : List RowLocation) → All (IsHeld cells numbers) ps
+    → All (IsHeld cells (numbers ++ more)) ps
+held_numbers cells numbers more ps a =
+    subst (λ (cs : List Cell). All (IsHeld cs (numbers ++ more)) ps) (append-nil cells) (held_stays cells [] numbers more ps a)

@@ -1,11 +1,17 @@
 -- The weights of a row, from the numbers of its entries.
-use Rattle.std.proofs.Common.{◌≡◌, ◌∙◌, ℕ, ◌*◌, ◌<◌, ◌≤◌, ◌==◌, true, Option, None, List, [], ◌∷◌, length, refl, sym, ap, subst, arith}
+use Rattle.std.proofs.Common.{◌≡◌, ◌∙◌, ℕ, ◌*◌, ◌^◌, ◌<◌, ◌≤◌, ◌==◌, true, Option, Some, None, List, [], ◌∷◌, length, refl, sym, ap, subst}
+use Rattle.std.proofs.Common.{arith}
+use Rattle.std.proofs.Math.Nat.{mul-le-mul}
+use Rattle.std.specs.List.{slice_get}
 use Rattle.polcert_rules.proofs.Common.{nat_tests, Table, Entry, value_or, one, Cell, weight_at, IsRow, RowZeros, EntryRow, Shape}
-use Rattle.polcert_rules.proofs.Common.{entry_weight}
+use Rattle.polcert_rules.proofs.Common.{entry_weight, most_elements, sum_of_weights, IsShapeWithin}
 use Rattle.polcert_rules.proofs.Common.{given_at, weight_by_entries, newer_cells, weight_over, merged, Rises, number_under, covering_entry}
 use Rattle.polcert_rules.proofs.Common.{shown_under, AreNumbersOf, IsKeptRow}
 use Rattle.polcert_cells.proofs.SparseLaws.{row_same}
-use Rattle.polcert_rules.proofs.RowLaws.MergeLaws.{merged_row}
+use Rattle.polcert_cells.specs.Sparse.{excepted_weight}
+use Rattle.polcert_rules.specs.Steps.Lists.{filled_cells}
+use Rattle.polcert_rules.proofs.RowLaws.EvenLaws.{filled_row, excepted_over, few, over_sum}
+use Rattle.polcert_rules.proofs.RowLaws.MergeLaws.{merged_row, over_same}
 use Rattle.polcert_rules.proofs.RowLaws.NewerCells.{newer_over, newer_rise, rules_rise}
 use Rattle.polcert_rules.proofs.RowLaws.HiddenCells.{under_row}
 
@@ -27,7 +33,7 @@ module _ (shape : Shape) (entries : List Entry) (table : Table) (a s : ℕ) (row
       ∙ newer_over shape.columns entries s (covering_entry row) c row.cells.rules.items h.rising
       ∙ ap (value_or 0 (λ e. entry_weight shape.columns e s c)) (sym (h.last c l))
 
-  newer_rises : Rises 0 shape.columns newer
+  pub newer_rises : Rises 0 shape.columns newer
   newer_rises = grind (arith, newer_rise, rules_rise)
 
   -- the finished cells are the row
@@ -58,5 +64,32 @@ module _ (shape : Shape) (entries : List Entry) (table : Table) (a s : ℕ) (row
     each = λ c l.
         k.each c l ∙ ap (λ o. given_at shape.columns entries o s c) (sym (no_zeros row.whole row.zeros c zeros))
         ∙ sym (ap (λ xs. weight_over xs (λ i. given_at shape.columns entries (covering_entry row i) s i) c) (no_cells newer none))
+        ∙ newer_weights c l;
+  }
+
+  -- the newer cells as exceptions from the weight of what covers the whole row
+  pub newer_small : IsShapeWithin shape → sum_of_weights newer < 2 ^ 63
+  newer_small within =
+      let n = shape.columns in
+      let f = λ (i : ℕ). given_at n entries (covering_entry row i) s i in
+      let most : sum_of_weights newer ≤ one * n * length newer = over_sum (one * n) 0 n newer f newer_rises
+      (λ c low l. subst (λ k. k ≤ one * n) (sym (newer_weights c l)) (h.small c l)) in
+      let count = few 0 n newer newer_rises (omega arith) in
+      let columns : n ≤ most_elements = within.columns.1 in
+      let product : one * n * length newer ≤ one * most_elements * most_elements =
+      mul-le-mul {n₂ = one * most_elements} {m₂ = most_elements} (omega arith) (omega arith) in
+      omega (arith, most, product)
+
+  pub even_weights : (w : ℕ) (kept : List (List Cell)) (n : ℕ) → row.zeros ≡ None
+      → ((t c : ℕ) → given_at shape.columns entries row.whole t c ≡ w)
+      → slice_get kept n ≡ Some (filled_cells (excepted_weight w newer) shape.columns)
+      → IsKeptRow shape.columns (weight_by_entries shape.columns entries table a s) kept n
+  even_weights w kept n zeros given is = record {
+    row = filled_cells (excepted_weight w newer) shape.columns;
+    is = is;
+    each = λ c l.
+        (filled_row (excepted_weight w newer) shape.columns).each c l ∙ excepted_over w c newer
+        ∙ over_same newer (λ i. w) (λ i. given_at shape.columns entries (covering_entry row i) s i) c
+        (sym (ap (λ o. given_at shape.columns entries o s c) (no_zeros row.whole row.zeros c zeros) ∙ given s c))
         ∙ newer_weights c l;
   }

@@ -134,6 +134,11 @@ AreNear rows near = All (λ n. n < length rows) near.here.now × All (λ n. n < 
 abbrev pub HasRows : ℕ → ℕ → List ℕ → Type 0
 HasRows states size numbers = (length numbers ≡ states) × All (λ n. n < size) numbers
 
+-- the rows of these numbers sum to their scale
+abbrev pub HaveScale : Shape → List (List Cell) → List (List ℕ) → Type 0
+HaveScale shape rows numbers = (a s : ℕ) → a < shape.actions → s < shape.states →
+    sum_of_weights (slice_index_or rows (slice_index (slice_index_or numbers a []) s) []) ≡ one * shape.columns
+
 -- ---- the rows of a table
 -- sound entries, and what their index finds
 pub record AreIndexedEntries (given : TableEntries) : Type 0 where

@@ -17,11 +17,16 @@ pub returns-else-cell-column : goal.returns-else-cell-column
 returns-else-cell-column c = λ up.
     let found = c.in-Some.ensures.lookup in
     let here = found_at c.args.exceptions.now c.partition_point-place.result c.in-Some.cell.now found.3.0 found.3.1 in
-    let cut : Cut c.args.exceptions.now c.args.column c.partition_point-place.result = IsPartitionPoint-from_clause (λ (x : Cell). ltb x.column c.args.column) _ _ c.partition_point-place.ensures.partitioned (parted _ c.args.column up) (λ a r q k. search rules) in
-    excepted_next c.args.weight c.args.exceptions.now c.args.column c.partition_point-place.result c.in-Some.cell.now up cut here c.if-cell-column.false
+    let cut : Cut c.args.exceptions.now c.args.column c.partition_point-place.result =
+    IsPartitionPoint-from_clause (λ (x : Cell). ltb x.column c.args.column) _ _ c.partition_point-place.ensures.partitioned
+    (parted _ c.args.column up) (λ a r q k. search rules) in
+    excepted_next c.args.weight c.args.exceptions.now c.args.column c.partition_point-place.result c.in-Some.cell.now up cut here
+    c.if-cell-column.false
 
 pub returns-in-None : goal.returns-in-None
 returns-in-None c = λ up.
-    let cut : Cut c.args.exceptions.now c.args.column c.partition_point-place.result = IsPartitionPoint-from_clause (λ (x : Cell). ltb x.column c.args.column) _ _ c.partition_point-place.ensures.partitioned (parted _ c.args.column up) (λ a r q k. search rules) in
+    let cut : Cut c.args.exceptions.now c.args.column c.partition_point-place.result =
+    IsPartitionPoint-from_clause (λ (x : Cell). ltb x.column c.args.column) _ _ c.partition_point-place.ensures.partitioned
+    (parted _ c.args.column up) (λ a r q k. search rules) in
     let none = c.in-None.ensures.lookup in
     excepted_last c.args.weight c.args.exceptions.now c.args.column c.partition_point-place.result cut none.3

@@ -1,5 +1,10 @@
-use Rattle.std.proofs.Common.{◌∙◌, ◌≤◌, ◌*◌, ℕ, List, length, sym, ap, subst, arith}
+use Rattle.std.proofs.Common.{◌∙◌, ◌≤◌, ◌*◌, ℕ, List, [], length, sym, ap, subst, arith}
 use Rattle.polcert_rules.proofs.Common.{one, Cell, weight_at, scaled_cells, IsRow, IsSparse, given_at, IsAfter}
+use Rattle.std.proofs.Math.Nat.{mul_comm}
+use Rattle.polcert_cells.specs.Sparse.{excepted_weight}
+use Rattle.polcert_cells.proofs.SparseLaws.{row_same}
+use Rattle.polcert_rules.specs.Steps.Lists.{filled_cells}
+use Rattle.polcert_rules.proofs.RowLaws.EvenLaws.{filled_row, sum_even}
 use Rattle.polcert_rules.proofs.Indexes.KeptLaws.{whole_small, full_row}
 use Rattle.polcert_rules.proofs.row_store.RowStore.keep_whole.Goals as goal
 
@@ -18,6 +23,22 @@ returns-in-Some-clause-kept c =
       row = full_row n (given_at n c.args.bodies.entries.now c.args.whole c.args.state) ns c.in-Some.ensures;
       kept = subst (λ (m : ℕ). IsAfter m (scaled_cells (length ns) 0 ns) c.args.self.now c.keep_numbers.new.self) c.in-Some.ensures.size
           c.in_ok-keep_numbers.ensures.kept;
+    }
+
+pub keep_even-requires-clause-exceptions : goal.keep_even-requires-clause-exceptions
+keep_even-requires-clause-exceptions c =
+    let n = c.args.bodies.shape.columns in
+    let some = c.requires.within.columns.0 in
+    record { small = omega (arith, some); rise = tt; proper = sum_even one n ∙ mul_comm n one }
+
+pub returns-then-is_uniform-clause-kept : goal.returns-then-is_uniform-clause-kept
+returns-then-is_uniform-clause-kept c =
+    let n = c.args.bodies.shape.columns in
+    record {
+      cells = filled_cells (excepted_weight one []) n;
+      row = row_same n (λ i. one) (given_at n c.args.bodies.entries.now c.args.whole c.args.state) (filled_cells (excepted_weight one []) n)
+          (λ i l. sym (c.is_uniform.ensures c.if-is_uniform.true c.args.state i)) (filled_row (excepted_weight one []) n);
+      kept = c.in_ok-keep_even.ensures.kept;
     }
 
 pub keep-requires-clause-sparse : goal.keep-requires-clause-sparse

@@ -1,8 +1,28 @@
 use Rattle.std.proofs.Common.{◌≡◌, ◌∙◌, ◌≤◌, ◌*◌, ◌==◌, List, length, refl, sym, ap, subst, arith, rules}
 use Rattle.polcert_rules.proofs.Common.{one, Cell, weight_at, IsSparse, IsRow, stored_cells, weight_by_entries}
 use Rattle.polcert_rules.proofs.Indexes.KeptLaws.{at_number, cells_row, row_within, numbers_stay, weighed_row}
-use Rattle.polcert_rules.proofs.RowLaws.RowWeights.{finished, finished_small, shared_weights}
+use Rattle.polcert_rules.proofs.RowLaws.RowWeights.{finished, finished_small, shared_weights, newer_rises, newer_small, even_weights}
 use Rattle.polcert_rules.proofs.row_store.RowStore.row_number.Goals as goal
+
+pub common_weight-requires-clause-whole : goal.common_weight-requires-clause-whole
+common_weight-requires-clause-whole c = c.requires.row.2.covering
+
+pub common_weight-requires-clause-rise : goal.common_weight-requires-clause-rise
+common_weight-requires-clause-rise c =
+    newer_rises c.args.bodies.shape c.args.bodies.entries.now c.requires.row.0 c.requires.row.1 c.args.state c.args.row.now
+    c.as_slice-exceptions.result.now c.requires.row.2 (c.as_slice-exceptions.ensures.value ∙ c.in_ok-newer.ensures c.args.state)
+
+pub common_weight-requires-clause-small : goal.common_weight-requires-clause-small
+common_weight-requires-clause-small c =
+    newer_small c.args.bodies.shape c.args.bodies.entries.now c.requires.row.0 c.requires.row.1 c.args.state c.args.row.now
+    c.as_slice-exceptions.result.now c.requires.row.2 (c.as_slice-exceptions.ensures.value ∙ c.in_ok-newer.ensures c.args.state)
+    c.requires.within
+
+pub returns-in-Some-clause-row : goal.returns-in-Some-clause-row
+returns-in-Some-clause-row c table a h =
+    even_weights c.args.bodies.shape c.args.bodies.entries.now table a c.args.state c.args.row.now
+    c.as_slice-exceptions.result.now h (c.as_slice-exceptions.ensures.value ∙ c.in_ok-newer.ensures c.args.state)
+    c.in-Some.weight _ _ c.in-Some.ensures.zeros c.in-Some.ensures.given c.in_ok-even.ensures.row
 
 pub returns-then-is_empty-clause-row : goal.returns-then-is_empty-clause-row
 returns-then-is_empty-clause-row c table a h =
@@ -17,7 +37,7 @@ at-requires c = row_within c.args.bodies.shape.columns _ _ _ c.in_ok-base.ensure
 pub cells_over-requires-clause-columns : goal.cells_over-requires-clause-columns
 cells_over-requires-clause-columns c k d l =
     let sparse = at_number (IsSparse c.args.bodies.shape.columns) _ c.in_ok-base.base (stored_cells c.at.result)
-    c.in_ok-base.ensures.kept.sparse c.at.ensures in
+    c.in_ok-base.ensures.kept.sparse c.at.ensures.cells in
     let within = sparse.within k d l in
     let few = c.requires.within.columns.1 in
     omega (arith, within, few)
@@ -33,7 +53,7 @@ own_row-requires-clause-sparse c =
     let n = c.args.bodies.shape.columns in
     let entries = c.args.bodies.entries.now in
     let below = cells_row n entries (stored_cells c.at.result) _ _ c.in_ok-base.base c.in_ok-base.ensures.kept c.in_ok-base.ensures.row
-    c.at.ensures in
+    c.at.ensures.cells in
     let row = finished c.args.bodies.shape entries c.requires.row.0 c.requires.row.1 c.args.state c.args.row.now c.in_ok-newer.newer.items
     c.requires.row.2 (c.in_ok-newer.ensures c.args.state)
     (stored_cells c.at.result) _ _ c.in_ok-cells.cells.items below refl refl c.in_ok-cells.ensures in
@@ -44,7 +64,7 @@ own_row-requires-clause-small c i l =
     let n = c.args.bodies.shape.columns in
     let entries = c.args.bodies.entries.now in
     let below = cells_row n entries (stored_cells c.at.result) _ _ c.in_ok-base.base c.in_ok-base.ensures.kept c.in_ok-base.ensures.row
-    c.at.ensures in
+    c.at.ensures.cells in
     let row = finished c.args.bodies.shape entries c.requires.row.0 c.requires.row.1 c.args.state c.args.row.now c.in_ok-newer.newer.items
     c.requires.row.2 (c.in_ok-newer.ensures c.args.state)
     (stored_cells c.at.result) _ _ c.in_ok-cells.cells.items below refl refl c.in_ok-cells.ensures in
@@ -60,7 +80,7 @@ returns-clause-row c table a h =
     let n = c.args.bodies.shape.columns in
     let entries = c.args.bodies.entries.now in
     let below = cells_row n entries (stored_cells c.at.result) _ _ c.in_ok-base.base c.in_ok-base.ensures.kept c.in_ok-base.ensures.row
-    c.at.ensures in
+    c.at.ensures.cells in
     let row = finished c.args.bodies.shape entries table a c.args.state c.args.row.now c.in_ok-newer.newer.items h
     (c.in_ok-newer.ensures c.args.state)
     (stored_cells c.at.result) _ _ c.in_ok-cells.cells.items below refl refl c.in_ok-cells.ensures in

@@ -1,6 +1,8 @@
 use Rattle.std.proofs.Common.{◌∙◌, List, sym, ap}
 use Rattle.polcert_rules.proofs.Common.{Cell, weight_at, stored_cells}
 use Rattle.polcert_cells.proofs.ScaledRows.{scaled_weight}
+use Rattle.polcert_cells.specs.Sparse.{excepted_weight}
+use Rattle.polcert_rules.proofs.RowLaws.EvenLaws.{filled_row, filled_beyond, rising}
 use Rattle.polcert_rules.proofs.rows.Rows.at.Goals as goal
 
 pub cell_weight-requires : goal.cell_weight-requires
@@ -16,3 +18,16 @@ returns-in-Full c =
     c.full_weight.ensures ∙ sym (scaled_weight c.in-Full.columns c.in-Full.numbers.now c.args.column)
     ∙ ap (λ r. weight_at (stored_cells r) c.args.column) (sym c.in-Full.is)
     ∙ ap (λ (ys : List Cell). weight_at ys c.args.column) c.stored_row.ensures.row
+
+pub returns-then-column-columns : goal.returns-then-column-columns
+returns-then-column-columns c =
+    let xs = c.in-Even.exceptions.now in
+    c.excepted_weight.ensures (rising 0 c.in-Even.columns xs c.in-Even.ensures.stored.rise)
+    ∙ sym ((filled_row (excepted_weight c.in-Even.weight xs) c.in-Even.columns).each c.args.column c.if-column-columns.true)
+    ∙ ap (λ (ys : List Cell). weight_at ys c.args.column) c.in-Even.ensures.row
+
+pub returns-else-column-columns : goal.returns-else-column-columns
+returns-else-column-columns c =
+    let f = excepted_weight c.in-Even.weight c.in-Even.exceptions.now in
+    sym (filled_beyond f c.in-Even.columns c.args.column c.if-column-columns.false)
+    ∙ ap (λ (ys : List Cell). weight_at ys c.args.column) c.in-Even.ensures.row

@@ -4,7 +4,7 @@ use Rattle.polcert_rules.proofs.RowLaws.SoundRows.{sound_keyed, sound_within}
 use Rattle.polcert_rules.proofs.RowLaws.Cells.{all_of}
 use Rattle.polcert_rules.proofs.Keyed.Covering.{number_within}
 use Rattle.polcert_rules.proofs.Indexes.BuiltLaws.{given_is, lines_none, lines_more, lines_before, all_below, lines_rows, lines_proper}
-use Rattle.polcert_rules.proofs.Indexes.BuiltLaws.{wrong_row}
+use Rattle.polcert_rules.proofs.Indexes.BuiltLaws.{wrong_row, all_within, all_scale}
 use Rattle.polcert_rules.proofs.rows.Rows.of.Goals as goal
 
 pub of-requires : goal.of-requires
@@ -47,6 +47,15 @@ loop-action-preserved c =
       lines_more _ c.loop-action.action _ _ _ _ c.in-Ok.line.items c.loop-action.invariant.1 c.in_ok-line.ensures.stays line pushed,
       c.in_ok-line.ensures.kept,
     )
+
+pub invariant_of-result : goal.invariant_of-result
+invariant_of-result c =
+    let end = c.loop-action-test.false in
+    let most = c.loop-action.auto.action-end in
+    let all : c.loop-action.action ≡ c.args.shape.actions = omega arith in
+    let lines = c.loop-action.invariant.1 in
+    let sparse = c.loop-action.invariant.2.sparse in
+    (lines.size ∙ all, all_within _ c.loop-action.action _ _ lines, sparse, all_scale _ c.loop-action.action _ _ all lines sparse)
 
 pub returns-in-Err : goal.returns-in-Err
 returns-in-Err c p is =
