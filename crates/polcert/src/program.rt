@@ -1,4 +1,4 @@
-//! The program, over the runtime that it is given.
+//! What `polcert` does, from the words of the command line to the exit status, over the runtime that it is given.
 use polcert_answer::{Outcome, RunFault, Task, run_model, run_print, run_task, status_of_outcome};
 use polcert_lines::{LoweredLine, RaisedLine, end_run};
 use polcert_terminal::command_line::FileNames;

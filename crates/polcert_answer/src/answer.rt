@@ -1,4 +1,4 @@
-//! The answer to three texts.
+//! The answer to three texts in memory: a model, a policy graph and the graph's vectors.
 ghost use Rattle.std.specs.Prelude.{◌≡◌, ◌<◌, IfOk, Ok};
 ghost use Rattle.polcert_check.specs.Horizon.{MeetsHorizon};
 ghost use Rattle.polcert_check.specs.Above.{MeetsHorizonAbove};
@@ -14,7 +14,8 @@ use crate::runs::read_texts;
 use polcert_check::{AboveVerdict, NoProgress, Verdict};
 use std::alloc::Global;
 
-/// Answers the texts of a model, of a policy graph, and of the graph's vectors.
+/// Returns the verdict on vectors, from the texts of a model, of a policy graph and of the vectors: are they a lower bound on what the
+/// graph earns? For callers with texts in memory; the program calls `run_task`.
 ///
 /// # Errors
 ///
@@ -42,8 +43,8 @@ pub fn check_texts(
     text_answer::<Lower>(alloc, model, graph, vectors)
 }
 
-/// Answers the texts of a model, of a policy graph, and of the graph's vectors from above, each value rounded
-/// up: do the vectors bound what the graph earns from above?
+/// Returns the verdict from above on vectors, from the texts of a model, of a policy graph and of the vectors, each value rounded up: do
+/// they bound what the graph earns from above? For callers with texts in memory, as `check_texts` is.
 ///
 /// # Errors
 ///
@@ -76,7 +77,7 @@ pub fn check_texts_above(
     text_answer::<Upper>(alloc, model, graph, vectors)
 }
 
-/// Returns the answer to three texts, for bounds of either kind.
+/// Returns the verdict on vectors as bounds of kind `B`, from three texts in memory.
 fn text_answer<B: Bound>(
     alloc: Global,
     model: &[u8],

@@ -22,10 +22,10 @@ use std::alloc::Global;
 
 /// Checks and moves vectors that are to bound what a graph earns from one side.
 pub trait Bound {
-    /// Returns what a check finds.
+    /// What a check finds.
     type Verdict: Copy;
 
-    /// The fault that says why vectors are not moved.
+    /// Why vectors can't be moved so that they pass.
     type Fault: Copy;
 
     // What is said from this side.
@@ -34,17 +34,17 @@ pub trait Bound {
     // How large an amount a verdict names.
     ghost is_small: { Controller → Self.Verdict → Type 0 };
 
-    /// Returns how the vectors' values are rounded.
+    /// Returns how the vectors' values are rounded when they are read: down for lower bounds, up for upper ones.
     fn rounding() -> Rounding
         ensures { result ≡ side.rounding };
 
-    /// Checks the vectors.
+    /// Returns the verdict on the vectors as bounds from this side.
     fn check<O: Progress>(given: &Inputs, progress: &mut O) -> Self::Verdict
         requires { FitGiven given.now }
         ensures verdict { side.Is (controller_given given.now) result }
         ensures small { is_small (controller_given given.now) result };
 
-    /// Returns what the line of a verdict says.
+    /// Returns what the line of a verdict says: for a yes what nodes are worth from the start, for a no the pair and by how much it fails.
     fn line(given: &Inputs, verdict: Self::Verdict) -> VerdictLine
         requires fits { FitGiven given.now }
         requires verdict { side.Is (controller_given given.now) verdict }
@@ -52,7 +52,7 @@ pub trait Bound {
         ensures { side.IsLine (meaning given.now.model) (controller_given given.now)
             given.now.vectors verdict (line_text result) };
 
-    /// Moves the vectors by the least constant by which they pass, and returns both.
+    /// Returns the least constant, in millionths, by which the vectors can be moved so that they pass, and the moved vectors.
     fn moved<O: Progress>(
         alloc: Global,
         given: &Inputs,
@@ -63,19 +63,19 @@ pub trait Bound {
             (AreMoved side (meaning given.now.model) given.now.graph given.now.vectors) }
         ensures not_moved { IfErr result (side.IsReason (controller_given given.now) given.now.vectors) };
 
-    /// Returns the fault of a run for the reason why vectors are not moved.
+    /// Returns the fault with which a run ends if the vectors can't be moved.
     fn run_fault(fault: Self::Fault) -> RunFault
         ensures { result ≡ side.run_fault fault };
 
-    /// Does nothing. Its contract has the laws of the side.
+    /// Does nothing. The runs call it so that their proofs know its contract, the laws of the side.
     fn laws()
         ensures { SideLaws side };
 }
 
-/// From below.
+/// Lower bounds: checked from below, and lowered so that they pass.
 pub struct Lower;
 
-/// From above.
+/// Upper bounds: checked from above, and raised so that they pass.
 pub struct Upper;
 
 impl Bound for Lower {

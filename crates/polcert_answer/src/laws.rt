@@ -1,4 +1,5 @@
-//! Laws of the definitions, each the contract of a function with nothing to do.
+//! Laws of the definitions, each the contract of a function with nothing to do. Nothing calls them: they are for readers, and for proofs to
+//! cite.
 ghost use Rattle.std.specs.Prelude.{◌<◌, ◌≤ℤ◌, ℕ, ℤ, List, Result, Ok};
 ghost use Rattle.polcert_cells.specs.Meaning.{states_of};
 ghost use Rattle.polcert_policy.specs.Graphs.{nodes};

@@ -18,7 +18,7 @@ pub fn write_summary<W: Sink>(model: &Model, sink: &mut W) -> Result<(), SinkFai
     buffered.flush()
 }
 
-/// Writes the summary of a model.
+/// Writes the line that sums a model up, piece by piece.
 fn write_summary_line<W: Sink>(model: &Model, sink: &mut W) -> Result<(), SinkFailed>
     ensures { WritesText W.writes W.failures sink.old (summary_line (meaning model.now)) result sink.new }
 {
@@ -43,7 +43,7 @@ fn kind_word(is_mdp: bool) -> &'static [u8]
     if is_mdp { b"mdp: " } else { b"pomdp: " }
 }
 
-/// Writes the count of observations, which an MDP has none of its own of.
+/// Writes the count of observations, and nothing for an MDP.
 fn write_observation_count<W: Sink>(model: &Model, sink: &mut W) -> Result<(), SinkFailed>
     ensures { WritesText W.writes W.failures sink.old
         (observation_count_text (meaning model.now)) result sink.new }
@@ -121,7 +121,7 @@ pub fn write_verdict<W: Sink>(line: VerdictLine, sink: &mut W) -> Result<(), Sin
     buffered.flush()
 }
 
-/// Writes the line of a verdict.
+/// Writes the line of a verdict, piece by piece.
 fn write_verdict_line<W: Sink>(line: VerdictLine, sink: &mut W) -> Result<(), SinkFailed>
     ensures { WritesText W.writes W.failures sink.old (line_text line) result sink.new }
 {

@@ -134,9 +134,8 @@ pub fn run_print<S: Source, W: Sink>(
     }
 }
 
-/// Reads a model, a policy graph and the graph's vectors from three sources, checks them, writes the line
-/// of the verdict, and nothing else, and answers the verdict. Nothing is written before all three texts are
-/// accepted and the verdict is known.
+/// Reads a model, a policy graph and the graph's vectors from three sources, checks them, writes the line of the verdict, and nothing else,
+/// and answers the verdict. Nothing is written before all three texts are accepted and the verdict is known. The program calls `run_task`.
 ///
 /// # Errors
 ///
@@ -208,10 +207,9 @@ pub fn run_check_watched<M: Source, G: Source, V: Source, W: Sink, O: Progress>(
     check_run::<Lower, M, G, V, W, O>(alloc, model, graph, vectors, sink, progress)
 }
 
-/// Reads a model, a policy graph and the graph's vectors from three sources, lowers the vectors by the
-/// least constant, in millionths, by which they pass the check, writes them in full form, and nothing else,
-/// and answers the constant. Nothing is written before all three texts are accepted and the constant is
-/// known.
+/// Reads a model, a policy graph and the graph's vectors from three sources, lowers the vectors by the least constant, in millionths, by
+/// which they pass the check, writes them in full form, and nothing else, and answers the constant. Nothing is written before all three
+/// texts are accepted and the constant is known. The program calls `run_task`.
 ///
 /// # Errors
 ///
@@ -271,10 +269,9 @@ pub fn run_lower_watched<M: Source, G: Source, V: Source, W: Sink, O: Progress>(
     move_run::<Lower, M, G, V, W, O>(alloc, model, graph, vectors, sink, progress)
 }
 
-/// Reads a model, a policy graph and the graph's vectors, each value rounded up, from three sources, checks
-/// whether they bound what the graph earns from above, writes the line of the verdict, and nothing else,
-/// and answers the verdict. Nothing is written before all three texts are accepted and the verdict is
-/// known.
+/// Reads a model, a policy graph and the graph's vectors, each value rounded up, from three sources, checks whether they bound what the
+/// graph earns from above, writes the line of the verdict, and nothing else, and answers the verdict. Nothing is written before all three
+/// texts are accepted and the verdict is known. The program calls `run_task`.
 ///
 /// # Errors
 ///
@@ -346,10 +343,9 @@ pub fn run_check_above_watched<M: Source, G: Source, V: Source, W: Sink, O: Prog
     check_run::<Upper, M, G, V, W, O>(alloc, model, graph, vectors, sink, progress)
 }
 
-/// Reads a model, a policy graph and the graph's vectors, each value rounded up, from three sources, raises
-/// the vectors by the least constant, in millionths, by which they pass the check from above, writes them
-/// in full form, and nothing else, and answers the constant. Nothing is written before all three texts are
-/// accepted and the constant is known.
+/// Reads a model, a policy graph and the graph's vectors, each value rounded up, from three sources, raises the vectors by the least
+/// constant, in millionths, by which they pass the check from above, writes them in full form, and nothing else, and answers the constant.
+/// Nothing is written before all texts are accepted and the constant is known. The program calls `run_task`.
 ///
 /// # Errors
 ///

@@ -1,4 +1,4 @@
-//! Tasks over three texts.
+//! The tasks over a model, a policy graph and its vectors: to check, or to move, from either side.
 ghost use Rattle.std.specs.Prelude.{◌≡◌};
 ghost use Rattle.polcert_answer.specs.Side.{below, above, IsCheckRun, IsMoveRun};
 ghost use Rattle.polcert_answer.specs.Task.{HasRun, outcome_status};

@@ -1,4 +1,5 @@
-//! That texts have an answer: laws of the definitions, each the contract of a function with nothing to do.
+//! That texts have an answer: laws of the definitions, each the contract of a function with nothing to do. Nothing calls them: they are for
+//! readers, and for proofs to cite.
 ghost use Rattle.std.specs.Prelude.{ℕ, List};
 ghost use Rattle.polcert_answers_exist.specs.Existence.{HasAnswer, HasAnswerAbove, HasBoundAnswer};
 

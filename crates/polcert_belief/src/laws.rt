@@ -1,4 +1,5 @@
-//! Laws of the definitions, each the contract of a function with nothing to do.
+//! Laws of the definitions, each the contract of a function with nothing to do. Nothing calls them: they are for readers, and for proofs to
+//! cite.
 ghost use Rattle.std.specs.Prelude.{◌≡◌, ◌<◌, ◌*◌, ℕ, ℤ, List};
 ghost use Rattle.std.specs.List.{AllByRecursion};
 ghost use Rattle.polcert_cells.specs.Meaning.{Meaning, HasLimitedNumbers, start_weight};
@@ -76,7 +77,8 @@ pub fn picks_within_a_tolerance()
         PicksBestAt c selector tracked → PicksWithin (by * range) d c belief selector }
 {}
 
-/// A policy that looks one step ahead, and values what follows by the best vectors, earns that too.
+/// A policy that looks one step ahead, and values what follows by the best vectors, earns at least what the vector that it picks first is
+/// worth, as in `beliefs_are_followed`.
 pub fn looking_ahead()
     ensures earned { (t : CellTable) (graph : PolicyGraph) (vectors : PolicyVectors) → IsProper t →
         IsProperGraph graph → Fits t graph vectors → Passes (controller_of t graph vectors) →

@@ -1,4 +1,5 @@
-//! Laws of the definitions, each the contract of a function with nothing to do.
+//! Laws of the definitions, each the contract of a function with nothing to do. Nothing calls them: they are for readers, and for proofs to
+//! cite.
 ghost use Rattle.std.specs.Prelude.{true, ◌≡◌, ◌<◌, ℕ, ℤ, List, Ok};
 ghost use Rattle.polcert_cells.specs.Meaning.{start_weight, states_of};
 ghost use Rattle.polcert_cells.specs.Preamble.{is_mdp};
@@ -23,8 +24,8 @@ ghost use Rattle.polcert_belief_answer.specs.Written.{AreMoved, AreWritten};
 
 use polcert_optimum::InformedVerdict;
 
-/// The answer yes holds of the policy that picks a best of the vectors at each belief: it earns at least the number of the line. If each pick
-/// is within a tolerance of the best, it earns that less the tolerance for each pick, discounted.
+/// The answer yes holds of the policy that picks a best of the vectors at each belief: it earns at least the number of the line. If each
+/// pick is within a tolerance of the best, it earns that less the tolerance for each pick, discounted.
 pub fn yes_is_certified_by_belief()
     ensures exactly { (model graph vectors : List ℕ) → IsAnswer model graph vectors (Ok Yes) →
         IsCertifiedByBelief model graph vectors }

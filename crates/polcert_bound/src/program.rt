@@ -1,4 +1,4 @@
-//! The program, over the runtime that it is given.
+//! What `polcert_bound` does, from the words of the command line to the exit status, over the runtime that it is given.
 use polcert_answer::RunFault;
 use polcert_bound_answer::{run_bound_check, run_bound_raise, status_of_bound_verdict};
 use polcert_lines::{RaisedLine, end_bound_run};

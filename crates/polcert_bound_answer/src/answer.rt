@@ -1,4 +1,4 @@
-//! The answer to two texts.
+//! The answer to two texts in memory: a model, and one vector for each of its actions.
 ghost use Rattle.std.specs.Prelude.{◌≡◌, IfOk, Ok};
 ghost use Rattle.polcert_cells.specs.Tables.{table_of};
 ghost use Rattle.polcert_policy.specs.Vectors.{value_of};
@@ -12,7 +12,7 @@ use polcert_optimum::{InformedVerdict, check_informed};
 use std::alloc::Global;
 
 /// Returns the answer to the texts of a model and of vectors, one for each action of the model, each value rounded up: whether the vectors
-/// bound what every policy earns that sees the observations alone.
+/// bound what every policy earns that sees the observations alone. For callers with texts in memory; the program calls `run_bound_check`.
 ///
 /// # Errors
 ///

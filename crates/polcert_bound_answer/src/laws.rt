@@ -1,4 +1,5 @@
-//! Laws of the definitions, each the contract of a function with nothing to do.
+//! Laws of the definitions, each the contract of a function with nothing to do. Nothing calls them: they are for readers, and for proofs to
+//! cite.
 ghost use Rattle.std.specs.Prelude.{true, ◌≡◌, ◌≢◌, ◌<◌, ◌-ℤ◌, ◌≤ℤ◌, ℕ, ℤ, List, Result, Ok};
 ghost use Rattle.polcert_format.specs.declared.fault.ModelFault.{ModelFault};
 ghost use Rattle.polcert_model.specs.Refusals.{SaysOfText};
@@ -78,9 +79,9 @@ pub fn texts_enclose_the_optimum()
         IsBoundStartMost d.meaning d.values most → EncloseSeenOptimum c.meaning worth most }
 {}
 
-/// What a graph's own policy earns from the start in the long run, if the discount is below 1: at least the number on the line of a yes from
-/// below, whose node it begins at, and at most the number on the line of a yes from above. And with a yes to vectors of the actions no policy
-/// that sees the observations alone earns more than the difference of the numbers more.
+/// What a graph's own policy earns from the start in the long run, if the discount is below 1: at least the number on the line of a yes
+/// from below, whose node it begins at, and at most the number on the line of a yes from above. And with a yes to vectors of the actions no
+/// policy that sees the observations alone earns more than the difference of the numbers more.
 pub fn texts_say_what_the_graph_earns()
     ensures at_least { (model graph low : List ℕ) → IsAnswer model graph low (Ok Yes) →
         (c : Certificate model graph low) → c.meaning.preamble.discount < one → (n : ℕ) (worth : ℤ) →

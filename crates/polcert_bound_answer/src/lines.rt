@@ -1,4 +1,4 @@
-//! The line of a verdict.
+//! The line of a verdict on vectors of the actions: what it says, and how it is written.
 ghost use Rattle.polcert_text.specs.Sink.{WritesText};
 ghost use Rattle.polcert_model.specs.Contents.{meaning};
 ghost use Rattle.polcert_cells.specs.Tables.{table_of};
@@ -60,6 +60,7 @@ pub fn write_bound_verdict<W: Sink>(line: BoundLine, sink: &mut W) -> Result<(),
     buffered.flush()
 }
 
+/// Writes the line of a verdict, piece by piece.
 fn write_bound_line<W: Sink>(line: BoundLine, sink: &mut W) -> Result<(), SinkFailed>
     ensures { WritesText W.writes W.failures sink.old (bound_line_text line) result sink.new }
 {

@@ -109,7 +109,7 @@ impl Drop for RaisedVectors {
     }
 }
 
-/// Returns the vectors raised by the least constant.
+/// Returns the vectors raised by `by`, with the graph that they are written with.
 fn raised_for_writing(
     alloc: Global,
     given: &BoundInputs,

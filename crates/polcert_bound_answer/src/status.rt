@@ -1,4 +1,4 @@
-//! The exit status of the program.
+//! The exit status of `polcert_bound` after a check of vectors.
 ghost use Rattle.std.specs.Prelude.{◌≡◌};
 ghost use Rattle.polcert_bound_answer.specs.Lines.{bound_verdict_status};
 

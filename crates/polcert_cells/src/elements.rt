@@ -26,7 +26,7 @@ pub const MOST_OBSERVATIONS: usize = MOST_STATES;
 /// The most elements of a kind that a model has, whichever the kind.
 pub const MOST_ELEMENTS: usize = MOST_STATES;
 
-/// What the elements of a model are: what an index of its cells numbers.
+/// Which elements are meant: the states, the actions or the observations.
 #[derive(Clone, Copy, Debug, PartialEq, Eq)]
 pub enum Kind {
     State,
@@ -67,7 +67,7 @@ impl Elements {
         }
     }
 
-    /// Returns the name of the element of this number, if the elements have names.
+    /// Returns the name of the element of this number. `None`: the elements are a count, or there are fewer. Only tests ask for it.
     pub fn name_of(&self, number: usize) -> Option<&str>
         ensures { option_map (λ name. name.now) result ≡ name_of self.now number }
     {
@@ -171,7 +171,7 @@ impl Names {
         }
     }
 
-    /// Does the same as `number_of` without a guess.
+    /// Returns what `number_of` does, by a search of the set: called if the guess is wrong.
     #[inline(never)]
     fn searched_number(&self, name: &[u8]) -> Option<usize>
         requires { IsAscii name.now }
@@ -180,7 +180,7 @@ impl Names {
         self.set.get_index_of(text_of(name))
     }
 
-    /// Returns the number that is guessed for the name, if it is right.
+    /// Returns the number that is guessed for the name, if it is right. `None`: unknown, search the set.
     #[inline(always)]
     fn guessed_number(&self, name: &[u8]) -> Option<usize>
         ensures { IfSome result (λ number. Some number ≡ position (bytes_eq name.now) self.now) }
@@ -200,7 +200,7 @@ impl Names {
         None
     }
 
-    /// Returns the name of this number.
+    /// Returns the name of this number. `None`: there are fewer names.
     pub fn at(&self, number: usize) -> Option<&str>
         ensures { option_map (λ name. name.now) result ≡ slice_get self.now number }
     {
@@ -323,7 +323,7 @@ impl NameGuesses {
         }
     }
 
-    /// Returns the number that was noted last for a name of the same digest.
+    /// Returns the number that was noted last for a name of the same digest, which may be another name's. `None`: nothing is noted at all.
     #[inline(always)]
     pub fn guess(&self, name: &[u8]) -> Option<usize> {
         match self.slots.get(slot_of(name, self.slots.len())) {
@@ -332,7 +332,7 @@ impl NameGuesses {
         }
     }
 
-    /// Makes room for one more name than these.
+    /// Makes room for one more name. If the slots become too few, it makes more, and notes these names again.
     pub fn reserve(&mut self, alloc: Global, names: &[String]) -> Result<(), AllocError> {
         let count = self.slots.len();
         if names.len() < count / SLOTS_PER_NAME {
@@ -355,7 +355,7 @@ impl NameGuesses {
     }
 }
 
-/// Returns the slot of a name among this many, which are a power of two.
+/// Returns the slot of a name among `count`, a power of two.
 #[inline(always)]
 fn slot_of(name: &[u8], count: usize) -> usize {
     let mut digest: usize = 0;

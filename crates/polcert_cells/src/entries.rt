@@ -316,7 +316,7 @@ pub enum BodyRef<'a> {
     Identity,
 }
 
-/// The places of a borrowed entry: this many of these.
+/// The places of a borrowed entry: the first `count` of these.
 #[derive(Clone, Copy)]
 pub struct EntryPlaces {
     items: [Place; MOST_PLACES],
@@ -388,7 +388,7 @@ impl EntryStore {
         })
     }
 
-    /// Puts the numbers of a body after the others.
+    /// Puts the numbers of a body after the others, and returns its tag and where they stand.
     #[inline(always)]
     fn put_body(&mut self, body: BodyRef<'_>) -> Result<(BodyTag, Span), AllocError>
         requires { IsShortBody (body_of body) }
@@ -522,7 +522,7 @@ impl Entries {
         }
     }
 
-    /// Takes the entries apart: where the rewards of each begin, and the rewards of all entries, one after another.
+    /// Takes the entries apart once the rows are built: where the rewards of each begin, and the rewards of all entries, one after another.
     pub fn into_rewards(self) -> (EntryBodies, Vec<i64>)
         ensures bodies { AreEntryBodies self result.0 }
         ensures rewards { result.1.items ≡ all_rewards self }
@@ -619,7 +619,7 @@ fn kept_place(place: Place) -> u16
     }
 }
 
-/// Returns the places that are kept so.
+/// Returns the places that these numbers of 16 bits stand for.
 #[inline(always)]
 fn places_of(kept: [u16; MOST_PLACES]) -> [Place; MOST_PLACES]
     ensures { result ≡ map place_of kept }
@@ -633,7 +633,7 @@ fn places_of(kept: [u16; MOST_PLACES]) -> [Place; MOST_PLACES]
     ]
 }
 
-/// Returns the place that is kept so.
+/// Returns the place that this number of 16 bits stands for.
 #[inline(always)]
 fn place_of(kept: u16) -> Place
     ensures { result ≡ place_of kept }

@@ -7,7 +7,7 @@ ghost use Rattle.polcert_cells.specs.Words.{topic_of, is_reserved, inner_words, 
 use crate::Table;
 use polcert_text::{Token, TokenKind};
 
-/// What an item is about.
+/// What an item is about, as its first word says.
 #[derive(Clone, Copy, Debug, PartialEq, Eq)]
 pub enum Topic {
     Discount,
@@ -19,7 +19,7 @@ pub enum Topic {
     Cells(Table),
 }
 
-/// Returns the topic of an item that begins with this word.
+/// Returns the topic of an item that begins with this word. `None`: the word begins none.
 #[tactic(auto, unfolding(crate::specs::Words::topic_of))]
 #[inline(always)]
 fn topic_of(word: &[u8]) -> Option<Topic>
@@ -55,7 +55,7 @@ fn topic_of(word: &[u8]) -> Option<Topic>
     None
 }
 
-/// Compares two words. Most differ in their lengths, which takes no call.
+/// Tests whether two words are equal. Most differ in their lengths, which takes no call.
 #[inline(always)]
 fn is_same_word(word: &[u8], other: &[u8]) -> bool
     ensures { result ≡ bytes_eq word.now other.now }
@@ -63,7 +63,7 @@ fn is_same_word(word: &[u8], other: &[u8]) -> bool
     word.len() == other.len() && has_same_bytes(word, other)
 }
 
-/// Tests whether the words have the same bytes.
+/// Tests byte by byte whether two words are equal: called if their lengths are.
 #[inline(never)]
 fn has_same_bytes(word: &[u8], other: &[u8]) -> bool
     ensures { result ≡ bytes_eq word.now other.now }
@@ -110,7 +110,7 @@ fn ends_in_digit(word: &[u8]) -> bool
     word[len - 1].is_ascii_digit()
 }
 
-/// Tests whether the word begins an item or is reserved inside one.
+/// Tests whether the word begins an item or is reserved inside one: called unless its last byte shows that it is not.
 #[tactic(auto, unfolding(crate::specs::Words::is_reserved))]
 #[inline(never)]
 fn is_some_reserved(word: &[u8]) -> bool

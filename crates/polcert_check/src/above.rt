@@ -32,7 +32,7 @@ pub enum AboveVerdict {
     },
 }
 
-/// Returns the verdict from above that a verdict on the mirror image gives.
+/// Returns the finding as a verdict from above: the walk, which both checks share, names a value that is too low `Short`.
 fn above_of(verdict: Verdict) -> AboveVerdict
     ensures { result ≡ above_of verdict }
 {
@@ -59,8 +59,8 @@ fn above_of(verdict: Verdict) -> AboveVerdict
     }
 }
 
-/// Checks that the next step comes to at most each value, so that the graph earns no more than the values say
-/// for every number of steps. Returns the first pair of a node and a state that fails, if one does.
+/// Checks that the next step comes to at most each value, so that the graph earns no more than the values say for every number of steps.
+/// Returns the first pair of a node and a state that fails, if one does. (The programs call `check_above_watched`.)
 pub fn check_above<C: Cells>(cells: &C, graph: &Graph, vectors: &Vectors) -> AboveVerdict
     requires fits { Fits (C.table cells.now) graph.now vectors.now }
 

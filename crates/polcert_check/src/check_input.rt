@@ -16,7 +16,7 @@ pub(crate) struct CheckInput<'a, C: Cells> {
     pub graph: &'a Graph,
     pub vectors: &'a Vectors,
     pub side: Side,
-    /// Of the graph and the vectors: a loop that writes reads again whatever lies elsewhere, and not what it has a copy of.
+    /// The graph's successors and the vectors' values, each as one slice: a loop that writes elsewhere need not look these up again.
     pub successor_list: &'a [Successor],
     pub value_list: &'a [i64],
     pub observations: usize,

@@ -85,8 +85,8 @@ impl Findings {
         names_until(self.first, n)
     }
 
-    /// Takes in what is found at the next pair, which is one of node `n`. True if the other pairs of the node cannot be the first that
-    /// is sought.
+    /// Takes in what is found at the next pair, which is one of node `n`. `true`: no other pair of the node can be the first that is
+    /// sought, so the walk goes to the next node.
     pub(crate) fn note(&mut self, n: usize, found: Verdict) -> bool
         ensures mode { self.new.mode ≡ self.old.mode }
         ensures found { (c : Controller) (s : ℕ) → IsPair c n s → IsPairVerdict c n s found →
@@ -103,7 +103,7 @@ impl Findings {
         }
     }
 
-    /// Takes in what is found at the next pair, which is one of node `n`.
+    /// Takes in a finding at the next pair, one of node `n`: called by `note` if the pair doesn't pass.
     fn keep(&mut self, n: usize, found: Verdict)
         ensures mode { self.new.mode ≡ self.old.mode }
         ensures found { (c : Controller) (s : ℕ) → IsPair c n s → IsPairVerdict c n s found →
@@ -132,7 +132,8 @@ pub(crate) enum Side {
 }
 
 impl Side {
-    /// Returns how far a value is on the wrong side, if it is, where the number is how far it is above.
+    /// Returns by how much a value fails to be a bound from this side, or `None` if it is one. `above` is by how much the value is above
+    /// what backs it.
     #[inline(always)]
     pub(crate) fn excess(self, above: i128) -> Option<i128>
         requires { unsigned_abs above < 2 ^ 127 }

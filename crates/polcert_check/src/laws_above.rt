@@ -1,4 +1,5 @@
-//! Laws of the definitions from above, each the contract of a function with nothing to do.
+//! Laws of the definitions from above, each the contract of a function with nothing to do. Nothing calls them: they are for readers, and
+//! for proofs to cite.
 ghost use Rattle.std.specs.Prelude.{◌≡◌, ◌<◌, ℕ, ℤ};
 ghost use Rattle.polcert_cells.specs.Meaning.{Meaning, IsSame};
 ghost use Rattle.polcert_cells.specs.SameCells.{HasSameCells};

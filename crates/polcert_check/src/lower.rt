@@ -41,7 +41,7 @@ fn stays_in_range(side: Side, vectors: &Vectors, by: u128) -> bool
     true
 }
 
-/// Returns the least constant if the discount is below 1, whether or not it leaves the values in range.
+/// Returns the least constant for a discount below 1, which the caller has tested, whether or not it leaves the values in range.
 fn candidate<C: Cells>(input: &CheckInput<'_, C>, worst: u128) -> u128
     requires none { NoneLacks (checked_controller input.now) }
     requires worst { IsWorstOf (checked_controller input.now) (IsPair (checked_controller input.now)) worst }
@@ -53,7 +53,7 @@ fn candidate<C: Cells>(input: &CheckInput<'_, C>, worst: u128) -> u128
     ceil_quotient(worst, scale * (1_000_000 - cells.discount()) as u128)
 }
 
-/// Returns the reason why vectors with this verdict are not lowered, if no lowering changes it.
+/// Returns an error that says why no lowering mends this finding, if it is a no.
 fn refused(verdict: Verdict) -> Result<(), LowerFault>
     ensures passes { IfOk result (λ _. verdict ≡ Yes) }
     ensures refused { IfErr result (IsLowerRefusal verdict) }
@@ -101,8 +101,8 @@ fn least_passing<C: Cells>(
     Ok(0)
 }
 
-/// Returns the least constant, in millionths, by which all vectors can be lowered so that they pass the
-/// check.
+/// Returns the least constant, in millionths, by which all vectors can be lowered so that they pass the check. (The programs call
+/// `lowered_watched`.)
 ///
 /// # Errors
 ///
@@ -124,7 +124,8 @@ pub fn least_constant<C: Cells>(
     least_lowering_watched(cells, graph, vectors, &mut NoProgress)
 }
 
-/// Returns the least constant for this input, and notifies `progress` of each node once.
+/// Returns the least constant, in millionths, by which all values are to be moved so that they pass (lowered, or from above raised), and
+/// notifies `progress` of each node once.
 pub(crate) fn least_of<C: Cells, W: Progress>(
     input: &CheckInput<'_, C>,
     progress: &mut W,
@@ -144,7 +145,7 @@ pub(crate) fn least_of<C: Cells, W: Progress>(
     }
 }
 
-/// Returns the least constant for these parts, and notifies `progress` of each node once.
+/// Returns what `least_constant` does, and notifies `progress` of each node once.
 fn least_lowering_watched<C: Cells, W: Progress>(
     cells: &C,
     graph: &Graph,
@@ -160,8 +161,8 @@ fn least_lowering_watched<C: Cells, W: Progress>(
     )
 }
 
-/// Returns the least constant, in millionths, by which all vectors can be lowered so that they pass the
-/// check, and the vectors lowered by it.
+/// Returns the least constant, in millionths, by which all vectors can be lowered so that they pass the check, and the vectors lowered by
+/// it. (The programs call `lowered_watched`.)
 ///
 /// # Errors
 ///

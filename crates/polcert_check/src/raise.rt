@@ -14,7 +14,7 @@ use polcert_model::Cells;
 use polcert_policy::{Graph, Vectors};
 use std::alloc::Global;
 
-/// Returns the refusal to raise that a refusal to lower the mirror image gives.
+/// Returns the same reason as a refusal to raise: the search for the constant, which both sides share, gives refusals to lower.
 fn raise_of(fault: LowerFault) -> RaiseFault
     ensures { result ≡ raise_of fault }
 {
@@ -42,8 +42,8 @@ fn raise_of(fault: LowerFault) -> RaiseFault
     }
 }
 
-/// Returns the least constant, in millionths, by which all vectors can be raised so that they pass the check
-/// from above.
+/// Returns the least constant, in millionths, by which all vectors can be raised so that they pass the check from above. (The programs call
+/// `raised_watched`.)
 ///
 /// # Errors
 ///
@@ -61,7 +61,7 @@ pub fn least_raise<C: Cells>(cells: &C, graph: &Graph, vectors: &Vectors) -> Res
     least_raise_watched(cells, graph, vectors, &mut NoProgress)
 }
 
-/// Returns the least constant as `least_raise`, and notifies `progress` of each node once.
+/// Returns what `least_raise` does, and notifies `progress` of each node once.
 fn least_raise_watched<C: Cells, W: Progress>(
     cells: &C,
     graph: &Graph,
@@ -78,8 +78,8 @@ fn least_raise_watched<C: Cells, W: Progress>(
     }
 }
 
-/// Returns the least constant, in millionths, by which all vectors can be raised so that they pass the check
-/// from above, and the vectors raised by it.
+/// Returns the least constant, in millionths, by which all vectors can be raised so that they pass the check from above, and the vectors
+/// raised by it. (The programs call `raised_watched`.)
 ///
 /// # Errors
 ///

@@ -49,8 +49,8 @@ fn amount_at<C: Cells>(node: &Node<'_, C>, s: usize) -> i128
     shortfall(input.cells, value, reward, expected.value)
 }
 
-/// Returns how far the value of node `n` at state `s` is above the backup of one step: above 0 if it is
-/// short.
+/// Returns how far the value of node `n` at state `s` is above the backup of one step: above 0 if it is short. For callers that ask for one
+/// pair; the check, which shares work between pairs, doesn't call it.
 ///
 /// The amount is exact, on the scale of the weights of one step times 1,000,000, in millionths. In size it is at most
 /// three times the largest value on that scale, and so at most 1.5 * 10^38, which fits (`amounts_fit`).
@@ -152,7 +152,8 @@ pub fn shortfall<C: Cells>(cells: &C, value: i64, reward: i128, expected: i128) 
     shortfall_of(step_scale, cells.discount(), value, reward, expected)
 }
 
-/// Returns whether a node passes at state `s`, or why not.
+/// Returns the verdict on the pair of a node and state `s`, from the value there, the expected reward and the expected value: yes, short,
+/// or an observation without successor.
 pub(crate) fn pair_verdict<C: Cells>(
     node: &Node<'_, C>,
     s: usize,

@@ -42,8 +42,8 @@ pub enum Verdict {
     },
 }
 
-/// Checks that the backup of one step reaches each value, so that every number of steps does. Returns the
-/// first pair of a node and a state that fails, if one does.
+/// Checks that the backup of one step reaches each value, so that every number of steps does. Returns the first pair of a node and a state
+/// that fails, if one does. (The programs call `check_watched`.)
 pub fn check<C: Cells>(cells: &C, graph: &Graph, vectors: &Vectors) -> Verdict
     requires fits { Fits (C.table cells.now) graph.now vectors.now }
 
@@ -107,7 +107,8 @@ impl SurveyState {
         self.reached.find(cells, a);
     }
 
-    /// Returns the first state from `from` on whose pair with the node does not pass or has to be looked at one by one.
+    /// Returns the first state from `from` on whose pair with the node does not pass, or has no verdict yet (`None`: ask `verdict_at`); or
+    /// the number of states.
     fn first_failure<C: Cells>(&self, node: &Node<'_, C>, from: usize) -> StateVerdict
         requires from { from < (node_controller node.now).cells.states }
         requires prepared { IsPrepared (node_controller node.now).cells
@@ -137,7 +138,7 @@ impl SurveyState {
         first_failure(node, from, rewards, |s| ends.narrow_value(node, s))
     }
 
-    /// Returns the verdict on the pair of the node and a state, which is computed unless it is known.
+    /// Returns the verdict on the pair of the node and a state: `known` if it has one, else a new one.
     fn verdict_at<C: Cells, W: Progress>(
         &mut self,
         node: &Node<'_, C>,
@@ -170,7 +171,7 @@ impl SurveyState {
     }
 }
 
-/// Returns the value that a node expects at state `s` if each state has the same row of T: that at another state.
+/// Returns the value that a node expects at state `s` if each state has the same row of T: `value`, which it expects at state `other`.
 #[inline(always)]
 fn value_of_same_row<C: Cells>(
     node: &Node<'_, C>,
@@ -286,7 +287,7 @@ pub(crate) fn survey<C: Cells, W: Progress>(
     survey.findings
 }
 
-/// A state, and the verdict on its pair with a node, if it is known.
+/// A state, and the verdict on its pair with a node, or `None` if it isn't known yet.
 #[derive(Clone, Copy)]
 pub(crate) struct StateVerdict {
     pub state: usize,
@@ -294,7 +295,7 @@ pub(crate) struct StateVerdict {
 }
 
 impl StateVerdict {
-    /// Makes the finding of a state without a verdict.
+    /// Makes a state whose verdict isn't known.
     pub(crate) fn unknown(state: usize) -> Self
         ensures state { result.state ≡ state }
         ensures verdict { result.verdict ≡ None }
@@ -369,7 +370,7 @@ pub trait Progress {
     fn end(&mut self);
 }
 
-/// Nobody is notified.
+/// Notifies nobody.
 #[derive(Clone, Copy, Debug)]
 pub struct NoProgress;
 

@@ -1,4 +1,5 @@
-//! The policy that picks best vectors by the belief, at small models, computed.
+//! The policy that picks best vectors by the belief, at small models, computed: each contract is an example, and nothing calls the
+//! functions.
 ghost use Rattle.std.specs.Prelude.{◌≡◌, ◌*◌, ◌^◌, ◌∷◌, [], pos};
 ghost use Rattle.polcert_check.specs.Above.{PassesAbove};
 ghost use Rattle.polcert_check.specs.Shortfall.{Passes};
@@ -11,8 +12,8 @@ ghost use Rattle.polcert_examples.specs.Worked.TigerBound.{tiger as cells};
 ghost use Rattle.polcert_examples.specs.Worked.TigerPicks.{heard_twice, node_value, tiger_controller};
 
 /// Two doors, one with the prize. The vectors of the controller that stays at a door are exact, so they bound it from both sides, and each
-/// is worth 1 from the even belief. The policy that picks the best vector at each belief changes doors: 1/2 + 1/2 * 2 is 1.5 in one step. So
-/// it earns more than the controller, and vectors from above don't bound it.
+/// is worth 1 from the even belief. The policy that picks the best vector at each belief changes doors: 1/2 + 1/2 * 2 is 1.5 in one step.
+/// So it earns more than the controller, and vectors from above don't bound it.
 pub fn doors_are_changed()
     ensures exact_0_0 { step.short one_door 0 0 ≡ pos 0 }
     ensures exact_0_1 { step.short one_door 0 1 ≡ pos 0 }

@@ -1,4 +1,4 @@
-//! The definitions at small models, texts and controllers, computed.
+//! The definitions at small models, texts and controllers, computed: each contract is an example, and nothing calls the functions.
 ghost use Rattle.std.specs.Prelude.{codes, true, false, Some, ◌≡◌, ◌*◌, ◌^◌, ◌∷◌, [], pos, neg_ℤ};
 ghost use Rattle.polcert_cells.specs.Meaning.{t_scale, HasProperRows, sum_below, states_of, actions_of, observations_of, start_total};
 ghost use Rattle.polcert_cells.specs.declared.elements.StartWeights.{StartWeights};
@@ -34,7 +34,7 @@ pub fn decimals_of_thirds()
     ensures exact { sum_below ((decimal_thirds 333_334).t 0 0) 3 ≡ t_scale (decimal_thirds 333_334) }
 {}
 
-/// Single cells after a uniform row hold in its place.
+/// Entries of single cells after a `uniform` row take their cells out of it.
 pub fn single_cells_after_uniform()
     ensures row { first_row sixths 6 ≡ 3_000_000 ∷ 0 ∷ 0 ∷ 1_000_000 ∷ 1_000_000 ∷ 1_000_000 ∷ [] }
     ensures sum { sum_below (sixths.t 0 0) 6 ≡ t_scale sixths }

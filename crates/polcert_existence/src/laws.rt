@@ -1,4 +1,5 @@
-//! That every text has an answer: laws of the definitions, each the contract of a function with nothing to do.
+//! That every text has an answer: laws of the definitions, each the contract of a function with nothing to do. Nothing calls them: they are
+//! for readers, and for proofs to cite.
 ghost use Rattle.std.specs.Prelude.{◌≤◌, ℕ, List};
 ghost use Rattle.polcert_cells.specs.Elements.{most_actions, most_states};
 ghost use Rattle.polcert_policy.specs.Graphs.{PolicyGraph, IsProperGraph};

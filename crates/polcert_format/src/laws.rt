@@ -1,4 +1,5 @@
-//! Laws of the definitions: each function has an empty body, and its contract is the law.
+//! Laws of the definitions: each function has an empty body, and its contract is the law. Nothing calls them: they are for readers, and for
+//! proofs to cite.
 ghost use Rattle.std.specs.Prelude.{◌≡◌, ◌≢◌, ℕ, List, ℤ, pos, Option, Some, None, ◌+◌, ◌≤◌, ◌++◌, ◌∷◌, [], true, false, length};
 ghost use Rattle.std.specs.List.{list_any};
 ghost use Rattle.polcert_text.specs.Cut.{Lexeme};
@@ -116,7 +117,7 @@ pub fn within_limits()
     ensures { (lexemes : List Lexeme) (m : Meaning) → Denotes lexemes m → HasLimitedNumbers m }
 {}
 
-/// An item that is right with its lexemes so far makes them right items.
+/// If the last item is right with the lexemes so far, these are right items.
 pub fn right_item_ends()
     ensures { (seen body : List Lexeme) (k after : ModelSoFar) (t : Topic) →
         IsWithinItem seen k t body → IsRight k t body after → AreRightItems seen after }

@@ -1,4 +1,5 @@
-//! Laws of the full form: each function has an empty body, and its contract is the law.
+//! Laws of the full form: each function has an empty body, and its contract is the law. Nothing calls them: they are for readers, and for
+//! proofs to cite.
 ghost use Rattle.std.specs.Prelude.{◌≡◌, ◌<◌, ℕ, List, length};
 ghost use Rattle.polcert_text.specs.Cut.{text_limit};
 ghost use Rattle.polcert_cells.specs.Meaning.{Meaning, IsSame};

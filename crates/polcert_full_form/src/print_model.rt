@@ -1,4 +1,4 @@
-//! Writes models.
+//! Writes a model in full form: its preamble and its start, and in order the rows and rewards.
 ghost use Rattle.std.specs.Prelude.{◌≡◌, ◌==◌, ◌||◌, ◌++◌, ◌<◌, length, codes, decimal};
 ghost use Rattle.polcert_text.specs.Sink.{WritesText};
 ghost use Rattle.polcert_tables.specs.Contents.{meaning};
@@ -18,7 +18,7 @@ use polcert_cells::{Elements, Kind, Names, Table};
 use polcert_tables::Model;
 use polcert_text::{Sink, SinkFailed, write_all, write_scaled};
 
-/// How the line of a start that is not the same for all states gives them.
+/// What the line of the start lists, unless all states have the same share.
 #[derive(Clone, Copy)]
 enum StartForm {
     /// The states that have a share of 1.
@@ -245,7 +245,7 @@ fn write_start_part<W: Sink>(
     }
 }
 
-/// Writes the number of a state that has a share.
+/// Writes the number of a state if it has a share, and else nothing.
 fn write_state_if_chosen<W: Sink>(
     model: &Model,
     state: usize,

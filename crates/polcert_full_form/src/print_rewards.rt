@@ -1,4 +1,4 @@
-//! Writes the rewards.
+//! Writes the rewards of a model's full form.
 ghost use Rattle.std.specs.Prelude.{◌≡◌, ◌+◌, ◌-◌, ◌<◌, ◌≤◌, pos, get_or, length, unsigned_abs, EachIndex};
 ghost use Rattle.polcert_text.specs.Numbers.{largest};
 ghost use Rattle.polcert_text.specs.Sink.{WritesText};
@@ -31,7 +31,7 @@ pub(crate) fn write_rewards<W: Sink>(model: &Model, out: &mut W) -> Result<(), S
     Ok(())
 }
 
-/// Writes the rows of rewards of an action. The block is room for rewards, and so below.
+/// Writes the rows of rewards of an action. The block is room that each row is read into, here and in the functions below.
 fn write_rewards_at<W: Sink>(
     model: &Model,
     action: usize,
@@ -76,7 +76,7 @@ fn write_rewards_from<W: Sink>(
     }
 }
 
-/// Writes the rows of rewards of the same action in the same state, by end state.
+/// Writes the rows of rewards of an action in a state (those of `whole`), one for each end state whose rewards are not all 0.
 fn write_reward_rows<W: Sink>(
     whole: &RewardRow<'_>,
     block: &mut [i64; BLOCK],
@@ -149,7 +149,7 @@ fn write_blocks<W: Sink>(
     Ok(())
 }
 
-/// Writes rewards, the first of which stands in this place of the line, as the text gives them.
+/// Writes rewards, the first in place `first` of the line, with the sign that the text gives them.
 fn write_block<W: Sink>(
     is_cost: bool,
     first: usize,

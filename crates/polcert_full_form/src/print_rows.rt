@@ -1,4 +1,4 @@
-//! Writes the rows of T and O.
+//! Writes the rows of T and O of a model's full form.
 ghost use Rattle.std.specs.Prelude.{◌≡◌, ◌++◌, ◌*◌, ◌+◌, ◌-◌, ◌/◌, ◌<◌, ◌≤◌, pos, codes};
 ghost use Rattle.polcert_text.specs.Sink.{WritesText};
 ghost use Rattle.polcert_tables.specs.Contents.{meaning};
@@ -72,7 +72,7 @@ fn write_row<W: Sink>(
     write_body(&row, out)
 }
 
-/// Writes what stands after the line of a row's indices.
+/// Writes the body of a row in the first form that gives it exactly: `uniform`, a line of numbers, or `uniform` and single cells.
 fn write_body<W: Sink>(row: &WeightRow<'_>, out: &mut W) -> Result<(), SinkFailed>
     ensures { WritesText W.writes W.failures out.old (row_body row.now) result out.new }
 {
@@ -85,7 +85,7 @@ fn write_body<W: Sink>(row: &WeightRow<'_>, out: &mut W) -> Result<(), SinkFaile
     }
 }
 
-/// Tests whether each column has one part in as many as there are.
+/// Tests whether all columns have the same weight, so that the row's body is `uniform`.
 fn is_uniform(row: &WeightRow<'_>) -> bool
     ensures { result ≡ is_uniform row.now.columns (row_weights row.now) }
 {
@@ -105,7 +105,7 @@ fn is_uniform(row: &WeightRow<'_>) -> bool
     column == row.columns
 }
 
-/// Tests whether each weight is that of a number of millionths.
+/// Tests whether each weight is a whole number of millionths, so that the row's body is a line of numbers.
 fn is_decimal(row: &WeightRow<'_>) -> bool
     ensures { result ≡ is_decimal row.now.columns (row_weights row.now) }
 {
@@ -130,7 +130,7 @@ fn write_decimals_line<W: Sink>(row: &WeightRow<'_>, out: &mut W) -> Result<(), 
     write_all(out, b"\n")
 }
 
-/// Writes `uniform`, and then the other columns one by one.
+/// Writes `uniform`, and then a line for each column that has a different weight.
 fn write_uniform_and_cells<W: Sink>(row: &WeightRow<'_>, out: &mut W) -> Result<(), SinkFailed>
     ensures { WritesText W.writes W.failures out.old
         (codes "uniform\n" ++ for_each row.now.columns (column_text ColumnForm.Cells row.now)) result
@@ -160,7 +160,7 @@ fn write_columns<W: Sink>(
     write_zero_columns(row, form, column, row.columns - column, out)
 }
 
-/// Writes the columns from one up to that of a step, of which all but the last are 0.
+/// Writes the columns from `column` up to that of a step, of which all but the last are 0.
 fn write_columns_to<W: Sink>(
     row: &WeightRow<'_>,
     form: ColumnForm,
@@ -179,7 +179,7 @@ fn write_columns_to<W: Sink>(
     write_column(row, form, step, out)
 }
 
-/// Writes so many columns that are 0, from this one on.
+/// Writes `count` columns that are 0, from column `first` on.
 fn write_zero_columns<W: Sink>(
     row: &WeightRow<'_>,
     form: ColumnForm,
@@ -196,7 +196,7 @@ fn write_zero_columns<W: Sink>(
     }
 }
 
-/// Writes the lines of so many cells that are 0, from this column on.
+/// Writes the lines of `count` cells that are 0, from column `first` on.
 fn write_zero_cells<W: Sink>(
     row: &WeightRow<'_>,
     first: usize,
@@ -213,7 +213,7 @@ fn write_zero_cells<W: Sink>(
     Ok(())
 }
 
-/// Writes the column of a step.
+/// Writes the column of a step: its number in a line, or a line for it, unless `uniform` has given it already.
 fn write_column<W: Sink>(
     row: &WeightRow<'_>,
     form: ColumnForm,

@@ -1,4 +1,4 @@
-//! Writes the words that lines are made of.
+//! Writes the words and numbers that the lines of a model's full form are made of.
 ghost use Rattle.std.specs.Prelude.{◌≡◌, ◌==◌, ◌++◌, ◌+◌, ◌≤◌, length, decimal, codes, if◌then◌else◌};
 ghost use Rattle.polcert_text.specs.Sink.{WritesText};
 ghost use Rattle.polcert_cells.specs.Elements.{most_elements};
@@ -29,7 +29,7 @@ pub(crate) fn write_pattern<W: Sink>(
     write_indices(indices, out)
 }
 
-/// Writes the line of the indices of an entry.
+/// Writes the word of a table and the indices of an entry as a line, after which its body follows.
 pub(crate) fn write_head<W: Sink>(
     table: Table,
     indices: &[usize],
@@ -84,7 +84,7 @@ pub(crate) fn write_number_at<W: Sink>(
     write_scaled(scaled, out)
 }
 
-/// Writes this many zeros, from this place of a line on.
+/// Writes `count` zeros, from place `first` of a line on.
 pub(crate) fn write_zeros<W: Sink>(
     first: usize,
     count: usize,
@@ -99,7 +99,7 @@ pub(crate) fn write_zeros<W: Sink>(
     Ok(())
 }
 
-/// Returns the first text in place 0 of a line, and the other one after it.
+/// Returns `first` in place 0 of a line, and `other` in the places after it.
 fn in_place(place: usize, first: &'static [u8], other: &'static [u8]) -> &'static [u8]
     ensures { result.now ≡ if place == 0 then first.now else other.now }
 {

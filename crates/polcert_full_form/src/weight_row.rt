@@ -32,7 +32,7 @@ pub(crate) struct WeightRow<'a> {
 pub(crate) enum ColumnForm {
     /// Their probabilities, in one line.
     Decimals,
-    /// A line for each that has not one part in as many as there are columns.
+    /// After `uniform`: a line for each column whose weight differs from it.
     Cells,
 }
 

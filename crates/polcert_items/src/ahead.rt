@@ -1,4 +1,4 @@
-//! An entry that continues with several tokens at once: numbers that stand whole at the front of the bytes ahead.
+//! The fast way to read an entry: places and numbers that stand whole at the front of the buffer are taken together, without tokens.
 ghost use Rattle.std.specs.Prelude.{◌≡◌, ◌+◌, ◌<◌, ◌≤◌, ℕ, length, drop, get_or, IfOk, OnErr, IfSome, IfNone, IsTrue, IsFalse, []};
 ghost use Rattle.polcert_text.specs.Beginning.{BeginWithOne, BeginWithDigits};
 ghost use Rattle.polcert_cells.specs.Elements.{count_of, most_elements};
@@ -43,8 +43,8 @@ pub struct ListAhead<T: Copy> {
 }
 
 impl ItemReader {
-    /// Continues with tokens that stand whole at the front of the bytes, as far as it is known at once that it can, and answers how
-    /// many bytes they are. An error is out of memory.
+    /// Continues the item with tokens that stand whole at the front of the bytes, as far as it is known at once that it can, and returns
+    /// how many bytes they are: 0 in every item but an entry. An error is out of memory.
     #[inline(always)]
     pub fn feed_ahead(
         &mut self,
@@ -61,8 +61,8 @@ impl ItemReader {
         }
     }
 
-    /// Ends an entry and begins one of this table in its reader, so that nothing large is moved. `false`: unknown, take the slow
-    /// path. An error is out of memory. In both cases all stays.
+    /// Ends an entry and begins one of this table in its reader, so that nothing large is moved. `false`: unknown, take the slow path. An
+    /// error is out of memory. In both cases nothing changes.
     #[inline(always)]
     pub fn next_entry(&mut self, known: &mut ModelSoFar, table: Table) -> Result<bool, AllocError>
         requires { (a : EntryR) (e : E) → self.old ≡ ItemReader.Entry a
@@ -81,8 +81,8 @@ impl ItemReader {
 }
 
 impl EntryReader {
-    /// Adds the entry to what is known, and begins one of this table. `false`: unknown. An error is out of memory. In both
-    /// cases all stays.
+    /// Adds the entry to what is known, and begins one of this table in its place. `false`: unknown, as when the entry can't end here. An
+    /// error is out of memory. In both cases nothing changes.
     #[inline(always)]
     fn next_entry(&mut self, known: &mut ModelSoFar, table: Table) -> Result<bool, AllocError>
         requires { (e : E) → EntryGoes (preamble_in known.old) self.old [] e
@@ -108,7 +108,7 @@ impl EntryReader {
         Ok(true)
     }
 
-    /// Takes tokens of an entry ahead. It tries for places only if the line of the entry begins.
+    /// Continues the entry with places and numbers, as `ItemReader::feed_ahead` does. It tries for places only if the entry's line begins.
     #[inline(always)]
     fn feed_ahead(
         &mut self,
@@ -125,7 +125,8 @@ impl EntryReader {
         }
     }
 
-    /// Continues with places, each after a colon, and then with numbers. The state is large, so it is written once.
+    /// Continues with places, each after a colon, and then with numbers, and returns how many bytes they are. (Apart, since the state is
+    /// large: it is written once.)
     #[inline(never)]
     fn feed_line(
         &mut self,
@@ -148,7 +149,7 @@ impl EntryReader {
         Ok(at + len + more)
     }
 
-    /// Continues with numbers, if one came before.
+    /// Continues the list of numbers, if one was begun, and returns how many bytes they are.
     #[inline(always)]
     fn feed_numbers_ahead(&mut self, known: &ModelSoFar, bytes: &[u8]) -> Result<usize, AllocError>
         requires { IsWithinIndices (indices_in known.now self.old.table) self.old }
@@ -161,8 +162,8 @@ impl EntryReader {
         }
     }
 
-    /// Continues with the places that come next, each after a colon, and answers how many bytes they are, if there is one. The state
-    /// is left to the caller. Indices in digits are tried first, by a shorter way.
+    /// Continues with the places that come next, each after a colon, and returns how many bytes they are. `None`: unknown, and nothing
+    /// changes. The caller then sets the state. Indices in digits are tried first, by a shorter way.
     #[inline(always)]
     fn feed_places_ahead(&mut self, known: &ModelSoFar, bytes: &[u8]) -> Option<usize>
         ensures fed { IfSome result (λ count. PlacesFed known.now self.old bytes.now count self.new) }
@@ -180,7 +181,8 @@ impl EntryReader {
         }
     }
 
-    /// Does the same as `feed_places_ahead`, up to the first place that is no index in digits.
+    /// Continues as `feed_places_ahead` does, but only up to the first place that isn't an index in digits. `None`: unknown, no such place
+    /// comes first.
     #[inline(always)]
     fn feed_indices_ahead(&mut self, known: &ModelSoFar, bytes: &[u8]) -> Option<usize>
         ensures fed { IfSome result (λ count. PlacesFed known.now self.old bytes.now count self.new) }
@@ -202,8 +204,8 @@ impl EntryReader {
         Some(at)
     }
 
-    /// Puts the index that the bytes begin with after the other places, if it may be the next, and answers how many bytes it takes with
-    /// its colon. The state is left to the caller.
+    /// Puts the index at the front of the bytes after the other places, and returns how many bytes it takes with its colon. `None`: no
+    /// place is left, or no element has this number. The caller sets the state.
     #[inline(always)]
     fn put_index(
         &mut self,
@@ -230,7 +232,7 @@ impl EntryReader {
         Some(front.colon + front.digits.len)
     }
 
-    /// Continues with the places that come next, whatever they are.
+    /// Continues as `feed_places_ahead` does, with places of any form: called if a place isn't an index in digits.
     #[inline(never)]
     fn feed_any_places_ahead(&mut self, known: &ModelSoFar, bytes: &[u8]) -> Option<usize>
         ensures fed { IfSome result (λ count. PlacesFed known.now self.old bytes.now count self.new) }
@@ -245,7 +247,8 @@ impl EntryReader {
         if has_place { Some(at) } else { None }
     }
 
-    /// Continues with a colon and a place, and answers how many bytes they are, if they come next. The state is left to the caller.
+    /// Continues with one colon and one place, and returns how many bytes they are. `None`: unknown, and nothing changes. The caller sets
+    /// the state.
     #[inline(always)]
     fn feed_place_ahead(&mut self, known: &ModelSoFar, bytes: &[u8]) -> Option<usize>
         ensures fed { IfSome result (λ count. PlacesFed known.now self.old bytes.now count self.new) }
@@ -267,7 +270,7 @@ impl EntryReader {
         Some(colon + front.len)
     }
 
-    /// Returns the next place, if a token that is one comes next. Names and numbers are tried first, by shorter ways.
+    /// Returns the place at the front of the bytes. `None`: unknown. Names and numbers are tried first, by shorter ways.
     #[inline(always)]
     fn place_ahead(&self, known: &ModelSoFar, bytes: &[u8]) -> Option<FrontPlace>
         requires { length self.now.places < length (indices_in known.now self.now.table) }
@@ -287,7 +290,7 @@ impl EntryReader {
         }
     }
 
-    /// Returns the next place, if a name comes next that stands for one.
+    /// Returns the place at the front of the bytes, if it is an element's name. `None`: unknown.
     #[inline(always)]
     fn name_ahead(&self, known: &ModelSoFar, bytes: &[u8]) -> Option<FrontPlace>
         requires { length self.now.places < length (indices_in known.now self.now.table) }
@@ -310,7 +313,7 @@ impl EntryReader {
         }
     }
 
-    /// Returns the next place, if a name or `*` that is one comes next.
+    /// Returns the place at the front of the bytes, if it is `*` or a name. `None`: unknown.
     #[inline(never)]
     fn token_place_ahead(&self, known: &ModelSoFar, bytes: &[u8]) -> Option<FrontPlace>
         requires { length self.now.places < length (indices_in known.now self.now.table) }
@@ -344,7 +347,7 @@ impl EntryReader {
         }
     }
 
-    /// Continues with the body's first number after a place, and answers how many bytes it is, if it comes next.
+    /// Continues after the last place with the body's first number, and returns how many bytes it is. `None`: unknown, and nothing changes.
     #[inline(always)]
     fn begin_ahead(&mut self, alloc: Global, known: &ModelSoFar, bytes: &[u8]) -> Option<usize>
         requires { IsWithinIndices (indices_in known.now self.old.table)
@@ -377,7 +380,7 @@ impl EntryReader {
     }
 }
 
-/// Begins the list of so many numbers with the number at the front of the bytes. `None`: unknown.
+/// Begins a list of `needed` numbers with the one at the front of the bytes. `None`: unknown.
 #[inline(always)]
 fn list_ahead<T: ListNumber>(alloc: Global, needed: usize, bytes: &[u8]) -> Option<ListAhead<T>>
     ensures { IfSome result (IsListBegun T.kind needed bytes.now) }

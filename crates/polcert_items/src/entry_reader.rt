@@ -41,7 +41,7 @@ use polcert_format::ItemFault;
 use polcert_text::{Token, TokenKind};
 use std::alloc::{AllocError, Global};
 
-/// A list of this many numbers, as far as it has been read.
+/// A list of `needed` numbers, as far as it has been read.
 #[derive(Drop)]
 pub struct Numbers<T: Copy> {
     pub read: Sequence<T>,
@@ -81,7 +81,7 @@ impl<T: Copy> Numbers<T> {
         self.sign.is_none() && self.read.len() == self.needed
     }
 
-    /// Returns the fault if the list cannot end here.
+    /// Returns the fault if the list cannot end here. `None`: it has all its numbers.
     pub fn end_fault(&self) -> Option<ItemFault>
         ensures full { MatchOption result (IsFull self.now) (λ _. IsFull self.now → ⊥) }
         ensures reason { IfSome result (λ fault. (t : Topic) → IsEndReason t fault) }
@@ -202,7 +202,7 @@ impl EntryReader {
         }
     }
 
-    /// Continues after a colon.
+    /// Continues with the token after a colon: an index or `*`.
     #[inline(always)]
     fn feed_place(&mut self, known: &ModelSoFar, token: Token<'_>) -> Result<(), FeedError>
         requires state { self.old.state ≡ EntryState.Place }
@@ -243,7 +243,7 @@ impl EntryReader {
         place_of_token(token, known.elements(self.table, written))
     }
 
-    /// Continues after a place.
+    /// Continues with the token after a place: a colon, a word, or the first number.
     #[inline(always)]
     fn feed_body(
         &mut self,
@@ -320,7 +320,7 @@ impl EntryReader {
         })
     }
 
-    /// Borrows the entry, if it can end here.
+    /// Borrows the entry, so that `next_entry` can add it. `None`: it can't end here.
     #[inline(always)]
     pub(crate) fn whole_entry(&self) -> Option<EntryRef<'_>>
         ensures { (p : Preamble) → IfSome result (λ e. EntryGoes p self.now [] (entry_of e)) }
@@ -363,7 +363,7 @@ fn word_ref(word: Word) -> BodyRef<'static>
     }
 }
 
-/// Begins the body's numbers with their first token.
+/// Begins the body's numbers with their first token, and returns the entry's state after it.
 fn begin_numbers(
     alloc: Global,
     table: Table,
@@ -390,7 +390,7 @@ fn begin_numbers(
     }
 }
 
-/// Numbers of a list after their first token.
+/// Begins a list of `needed` numbers with its first token, a number or a sign.
 fn begin_list<T: ListNumber>(
     alloc: Global,
     needed: usize,
@@ -471,7 +471,7 @@ pub(crate) fn takes_numbers(is_mdp: bool, table: Table, written: usize) -> bool
     }
 }
 
-/// Returns the word that the token gives in place of numbers after this many places, if it is allowed there.
+/// Returns `uniform` or `identity`, if the token is that word and may follow this many places of the table. `None`: it is something else.
 fn word_of(table: Table, written: usize, token: Token<'_>) -> Option<Word>
     ensures name { IfSome result (λ _. (lexeme_of token.entry).kind ≡ TokenKind.Name) }
     ensures word { (mdp : Bool) → IfSome result (IsWordAfter mdp table written (lexeme_of token.entry)) }

@@ -86,8 +86,8 @@ impl ItemReader {
         }
     }
 
-    /// Returns the refusal of a number that was read without a value, if there is one, which comes before the
-    /// fault of the tokens.
+    /// Returns the refusal that is still due for digits after `start:` that have no value as a number. Called if the tokens stop in a
+    /// fault: this refusal comes first.
     pub fn pending(&self) -> Option<Refusal>
         ensures { result ≡ pending_in self.now }
     {

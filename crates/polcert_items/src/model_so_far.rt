@@ -110,7 +110,7 @@ impl ModelSoFar {
         Ok(())
     }
 
-    /// Adds a copy of an entry.
+    /// Adds a copy of an entry, unless entries then give too much of a large table. On an error nothing changes.
     #[inline(always)]
     pub(crate) fn add_entry(&mut self, entry: EntryRef<'_>) -> Result<(), AddError>
         requires { IsAllowedNext self.old (ItemContents.Entry (entry_of entry)) }
@@ -129,7 +129,7 @@ impl ModelSoFar {
         Ok(())
     }
 
-    /// Returns the budget with one more entry. `None`: the cells of a large table pass their limit.
+    /// Returns the budget after one more entry. `None`: the cells of a large table pass their limit.
     #[inline(always)]
     fn budget_with(&self, entry: EntryRef<'_>) -> Option<CellBudget>
         requires { IsAllowedNext self.now (ItemContents.Entry (entry_of entry)) }
@@ -228,7 +228,7 @@ impl ModelSoFar {
         self.states.as_ref().unwrap()
     }
 
-    /// Returns how many cells this many places leave open.
+    /// Returns how many cells of the table this many places of an entry leave open: as many numbers belong in its body.
     pub fn cells_after(&self, table: Table, written: usize) -> usize
         requires { least_written (is_mdp (preamble_in self.now)) table ≤ written }
         ensures { result ≡ cells_in (drop written (indices_in self.now table)) }
@@ -289,7 +289,7 @@ impl ModelSoFar {
         }
     }
 
-    /// Tests whether an item stands that has to come after those of this topic.
+    /// Tests whether an item came already that has to come after those of this topic.
     fn is_late(&self, topic: Topic) -> bool
         ensures { result ≡ is_late self.now topic }
     {
@@ -400,7 +400,7 @@ impl CellBudget {
         }
     }
 
-    /// Adds an entry of R where there is room for one, however large the table is.
+    /// Returns the budget after an entry of R, without a look at sizes: called while fewer entries of R came than a large table may have.
     #[inline(always)]
     fn with_reward(mut self) -> CellBudget
         requires { self.rewards < most_reward_entries }
@@ -411,7 +411,7 @@ impl CellBudget {
         self
     }
 
-    /// Adds an entry. `None`: the cells of a large table pass their limit.
+    /// Returns the budget after one more entry. `None`: the cells of a large table pass their limit.
     #[inline(always)]
     pub(crate) fn with(mut self, sizes: Sizes, entry: EntryRef<'_>) -> Option<CellBudget>
         requires { (p : P) × (es : List E) × CanComeNext p es self sizes (entry_of entry) }
@@ -436,7 +436,7 @@ impl CellBudget {
 }
 
 impl Sizes {
-    /// Adds the cells that an entry covers in a table of this many columns. `None`: they pass their limit.
+    /// Returns `count` and the cells that an entry covers in a table of this many columns. `None`: they pass their limit.
     #[inline(always)]
     fn add_cells(self, count: usize, columns: usize, entry: EntryRef<'_>) -> Option<usize>
         requires actions { self.actions ≤ most_actions }
@@ -461,7 +461,7 @@ impl Sizes {
         }
     }
 
-    /// Adds one entry of R. `None`: the entries pass their limit.
+    /// Returns `count + 1` for one more entry of R, or `count` if the table isn't large. `None`: the entries pass their limit.
     #[inline(never)]
     fn count_reward_entry(self, count: usize) -> Option<usize>
         requires actions { self.actions ≤ most_actions }
@@ -484,7 +484,7 @@ impl Sizes {
     }
 }
 
-/// Returns how many of `count` elements the place of this number stands for.
+/// Returns for how many of `count` elements a place stands: all if it is `*`, else one.
 fn count_elements(places: &[Place], number: usize, count: usize) -> usize
     ensures { result ≡ place_count (slice_get places.now number) count }
 {
@@ -494,7 +494,7 @@ fn count_elements(places: &[Place], number: usize, count: usize) -> usize
     }
 }
 
-/// Returns how many cells this many places leave open.
+/// Returns how many cells of T or O an entry with this many places leaves to its body.
 fn open_cells(states: usize, columns: usize, places: usize) -> usize
     requires states { states ≤ most_states }
     requires columns { columns ≤ most_observations }

@@ -61,7 +61,7 @@ impl DiscountReader {
         }
     }
 
-    /// Returns whether the line says costs, or the fault if it cannot end here.
+    /// Returns the discount in millionths, or the fault if the line cannot end here.
     pub fn end(self) -> Result<u32, ItemFault>
         ensures { EndsLine DiscountGoes expected_by_discount Topic.Discount self result }
     {
@@ -113,7 +113,7 @@ impl ValuesReader {
     }
 }
 
-/// Tests whether the word says that costs are written.
+/// Returns whether the word says that costs are written. An error: it is neither `reward` nor `cost`.
 fn costs_of(token: Token<'_>) -> Result<bool, Refusal>
     ensures word { IfOk result (WordRest (lexeme_of token.entry ∷ [])) }
     ensures refused { OnErr result (CannotTake ValuesGoes ValuesReader.Word (lexeme_of token.entry)) }
@@ -143,7 +143,7 @@ pub fn colon(token: Token<'_>) -> Result<(), Refusal>
     }
 }
 
-/// `states:`, `actions:` or `observations:` and a count or names. Each call gets the greatest number of them.
+/// `states:`, `actions:` or `observations:` and a count or names. Each call of `feed` is given the most that there may be.
 #[derive(Drop)]
 pub enum ElementsReader {
     /// The colon after the item's word.
@@ -250,7 +250,7 @@ fn count(most: usize, token: Token<'_>) -> Result<usize, Refusal>
     }
 }
 
-/// Puts the name that the token is after the others, of which there may be this many at most.
+/// Puts the name that the token is after the others. It is refused if there are `most` already, or if it is among them or reserved.
 fn add_name(
     names: &mut Names,
     alloc: Global,
@@ -323,7 +323,7 @@ pub fn element_of(token: Token<'_>, elements: &Elements) -> Result<usize, Refusa
     }
 }
 
-/// Returns the index that the numeral is, if there is such an element.
+/// Returns the number of an element that the numeral gives, or its refusal if there are fewer elements.
 #[inline(always)]
 fn element_by_number(token: Token<'_>, elements: &Elements) -> Result<usize, Refusal>
     requires few { count_of elements.now ≤ most_elements }
@@ -344,7 +344,7 @@ fn element_by_number(token: Token<'_>, elements: &Elements) -> Result<usize, Ref
     }
 }
 
-/// Returns the index of the element of this name.
+/// Returns the number of the element of this name, or the refusal of a name that none has.
 #[inline(always)]
 pub(crate) fn element_by_name(token: Token<'_>, elements: &Elements) -> Result<usize, Refusal>
     requires name { token.kind ≡ TokenKind.Name }

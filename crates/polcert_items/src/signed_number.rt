@@ -42,7 +42,7 @@ pub enum NumberStep {
     Value(i64),
 }
 
-/// Returns what the token gives in a number's place, after this sign.
+/// Returns what the token gives in a number's place, after `sign` if one came: the value, or a sign whose numeral is still to come.
 #[inline(always)]
 pub fn number_step(
     sign: Option<Sign>,
@@ -61,7 +61,7 @@ pub fn number_step(
     }
 }
 
-/// Takes a sign, if none came before.
+/// Returns the token as a sign, or its refusal if a sign came before.
 fn sign_step(
     sign: Option<Sign>,
     token: Token<'_>,
@@ -82,7 +82,7 @@ fn sign_step(
     }
 }
 
-/// Takes a numeral, and returns the value if it is in the range.
+/// Returns the value of the numeral, with the sign before it. It is refused without a value, or out of the range.
 #[inline(always)]
 fn numeral_step(sign: Option<Sign>, token: Token<'_>, range: Range) -> Result<NumberStep, Refusal>
     requires { token.kind ≡ TokenKind.Numeral }
@@ -125,7 +125,7 @@ pub fn number_place(sign: Option<Sign>, token: Token<'_>) -> u64
     }
 }
 
-/// Returns the fault if the number is out of this range.
+/// Returns the fault if the number is out of this range. `None`: it is in range.
 #[inline(always)]
 pub(crate) fn range_fault(range: Range, value: i64) -> Option<ItemFault>
     ensures { MatchOption result (FitsRange range value)

@@ -167,7 +167,7 @@ impl StartReader {
     }
 }
 
-/// Returns the form of the item, by its first token.
+/// Returns what the item continues with after its first token: a colon, `include` or `exclude`.
 fn form_of(token: Token<'_>) -> Result<StartReader, Refusal>
     ensures begun { (states : AnyElements) →
         IfOk result (TakesLexeme (StartGoes states) StartReader.Form (lexeme_of token.entry)) }
@@ -192,8 +192,8 @@ fn form_of(token: Token<'_>) -> Result<StartReader, Refusal>
     Ok(StartReader::Body)
 }
 
-/// Returns the form of the item, by the first token after the colon: `uniform`, a state's name, digits that
-/// may be a state's number, or the first number.
+/// Returns what the item continues with after the first token after its colon: `uniform`, a state's name, digits that may be a state's
+/// number, or the first number.
 fn begin_body(states: &Elements, token: Token<'_>) -> Result<StartReader, Refusal>
     requires count { IsCount most_states (count_of states.now) }
     requires text { IsAsciiName (lexeme_of token) }
@@ -243,7 +243,7 @@ fn digits_of(count: usize, token: Token<'_>) -> Option<StateOrNumber>
     })
 }
 
-/// Reads the first number after this sign, or its sign.
+/// Returns what the item continues with after the token, the numeral of the first number (after this sign) or its sign.
 fn first_number(sign: Option<Sign>, token: Token<'_>) -> Result<StartReader, Refusal>
     ensures begun { (states : AnyElements) → IfOk result (λ r.
         Begins (NumbersGo states [] sign) (lexeme_of token.entry) (StartGoes states r)) }
@@ -284,7 +284,7 @@ pub struct StateOrNumber {
 }
 
 impl FirstNumber {
-    /// Returns the numbers, if one more token follows the first of them.
+    /// Continues with the token after the first number, and returns the list of probabilities that both begin.
     pub(crate) fn advance(
         self,
         alloc: Global,
@@ -488,7 +488,7 @@ fn support_weight(probability: u32) -> u32
     if probability == 0 { 0 } else { 1 }
 }
 
-/// Which states share where some are chosen: these, or the others.
+/// Which states have a share if the item lists states: these, or the others.
 #[derive(Clone, Copy)]
 pub enum Selection {
     Include,

@@ -15,7 +15,7 @@ pub fn end_run<R: Eprint>(rt: &R, done: Result<u8, RunFault>) -> u8
     status_of_run(done)
 }
 
-/// Returns the exit status of a run over a model and vectors, one for each of its actions, in the same way.
+/// Returns the exit status of a run of `polcert_bound`, as `end_run` does, after its line, which names an action in place of a node.
 pub fn end_bound_run<R: Eprint>(rt: &R, done: Result<u8, RunFault>) -> u8
     ensures { result ≡ run_status done }
 {
@@ -25,6 +25,7 @@ pub fn end_bound_run<R: Eprint>(rt: &R, done: Result<u8, RunFault>) -> u8
     status_of_run(done)
 }
 
+/// Returns the exit status of a run. Called once its line, if it has one, is printed.
 fn status_of_run(done: Result<u8, RunFault>) -> u8
     ensures { result ≡ run_status done }
 {

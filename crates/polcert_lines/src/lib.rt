@@ -1,4 +1,4 @@
-//! The lines that both programs print on standard error.
+//! The lines that the programs print on standard error.
 #![tactic(auto)]
 
 mod ending;

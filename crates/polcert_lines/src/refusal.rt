@@ -227,7 +227,8 @@ impl fmt::Display for LoweredLine {
     }
 }
 
-/// By how much vectors were raised, in the same way: `raised by 0.000001`.
+/// By how much vectors or belief points were raised, as the program prints it, without a line end: `raised by 0.000001`. The constant is in
+/// millionths.
 #[derive(Clone, Copy, Debug)]
 pub struct RaisedLine(pub i64);
 

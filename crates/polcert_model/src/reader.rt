@@ -34,6 +34,7 @@ struct TextReader {
 }
 
 impl TextReader {
+    /// Makes the reader before the first token.
     fn new(alloc: Global) -> TextReader
         ensures read { IsTextRead [] result }
         ensures number { result.number ≡ 0 }
@@ -56,7 +57,7 @@ impl TextReader {
         }
     }
 
-    /// Continues with the next token.
+    /// Continues with the next token: it begins an item and ends the open one, or belongs to the open one.
     #[inline(always)]
     fn take(&mut self, alloc: Global, token: Token<'_>) -> Result<(), ModelFault>
         requires read { (seen : List Lexeme) × IsTextRead seen self.old }
@@ -118,7 +119,7 @@ impl TextReader {
         }
     }
 
-    /// Continues so with the rest of the open item.
+    /// Continues the open item with tokens that stand whole at the front of the bytes, and returns how many bytes they are.
     #[inline(always)]
     fn feed_item_ahead(&mut self, alloc: Global, bytes: &[u8]) -> Result<usize, AllocError>
         requires { (seen : List Lexeme) × IsTextRead seen self.old }
@@ -175,7 +176,7 @@ impl TextReader {
         }
     }
 
-    /// Ends the item that is open, where the next begins or the text ends.
+    /// Ends the item that is open, if one is: adds what it says, or refuses it. `place` is where the next item begins or the text ends.
     fn close(&mut self, alloc: Global, place: u64) -> Result<(), ModelFault>
         requires { (seen : List Lexeme) × IsTextRead seen self.old }
         ensures number { self.new.number ≡ self.old.number }
@@ -198,7 +199,7 @@ impl TextReader {
         }
     }
 
-    /// Begins an item at its word.
+    /// Begins an item at its word, or refuses it if it is not allowed there.
     fn open(&mut self, about: Topic, place: u64) -> Result<(), ModelFault>
         requires { self.old.number < 2 ^ 63 }
         ensures number { self.new.number ≡ self.old.number + 1 }
@@ -232,7 +233,7 @@ impl TextReader {
         self.fault(kind, fault.place())
     }
 
-    /// Ends the text.
+    /// Ends the open item and the text, or refuses an item or a preamble that is not complete.
     fn finish(&mut self, alloc: Global, end: u64) -> Result<(), ModelFault>
         requires read { (seen : List Lexeme) × IsTextRead seen self.old }
         requires few { self.old.number < 2 ^ 63 }
@@ -256,7 +257,8 @@ impl TextReader {
     }
 }
 
-/// Continues with the tokens ahead that were read whole, as far as it is known at once that it can.
+/// Continues with the tokens that stand whole in the buffer, and takes them off `tokens`, as far as it is known at once that it can. An
+/// error is out of memory.
 #[inline(always)]
 fn read_ahead(
     alloc: Global,
@@ -280,7 +282,7 @@ fn read_ahead(
     }
 }
 
-/// Reads the items of the whole text of a source.
+/// Reads the items of the whole text of a source into the reader, which has read nothing yet.
 fn read_items_from<S: Source>(
     alloc: Global,
     source: &mut S,
@@ -316,7 +318,7 @@ fn read_items_from<S: Source>(
     }
 }
 
-/// Reads the items of the whole text of a source.
+/// Reads the items of the whole text of a source, and returns what they say.
 fn read_text_from<S: Source>(
     alloc: Global,
     source: &mut S,
@@ -343,7 +345,8 @@ fn model_of(alloc: Global, known: ModelSoFar) -> Result<Model, ModelFault>
     }
 }
 
-/// Reads the text of a model, and tests that each row of its tables sums to its scale.
+/// Reads the text of a model, and tests that each row of its tables sums to its scale. For texts in memory: the programs call
+/// `read_model_from`.
 ///
 /// # Errors
 ///

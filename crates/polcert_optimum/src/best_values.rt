@@ -9,7 +9,7 @@ use crate::uninformative::{is_uninformative, uninformed_value};
 use polcert_cells::Cells;
 use polcert_check::one_step::{is_same_row, next_end};
 
-/// The sums of so many states are kept for the next action.
+/// How many states' sums are kept for the next action.
 const KEPT_STATES: usize = 4_000;
 
 /// Returns whether the row of T is known to be that of the state before, if there is one.
@@ -112,7 +112,7 @@ impl BestValues {
         total
     }
 
-    /// Returns the same as `total`, and keeps nothing.
+    /// Returns what `total` does, and keeps nothing.
     fn find_total<C: Cells>(&mut self, pair: &ActionState<'_, C>) -> i128
         requires { AreBestBefore (C.table pair.now.cells.now) (value_of pair.now.vectors.now)
             pair.now.action pair.now.state self.old.last self.old.totals }
@@ -129,7 +129,7 @@ impl BestValues {
         self.sum(pair)
     }
 
-    /// Returns the sum of the greatest expected values over the observations.
+    /// Returns the sum of the greatest expected values over the observations, computed anew: called if no kept sum is known to be the same.
     fn sum<C: Cells>(&mut self, pair: &ActionState<'_, C>) -> i128
         ensures is { result ≡ best_value (C.table pair.now.cells.now) (value_of pair.now.vectors.now)
             pair.now.action pair.now.state }

@@ -1,4 +1,5 @@
-//! Laws of the definitions, each the contract of a function with nothing to do.
+//! Laws of the definitions, each the contract of a function with nothing to do. Nothing calls them: they are for readers, and for proofs to
+//! cite.
 ghost use Rattle.std.specs.Prelude.{◌≡◌, ◌↔◌, ◌<◌, ◌-ℤ◌, ◌≤ℤ◌, pos, ℕ, ℤ};
 ghost use Rattle.polcert_cells.specs.Meaning.{Meaning, HasLimitedNumbers, IsSame, actions_of, states_of};
 ghost use Rattle.polcert_cells.specs.Tables.{CellTable, IsProper, IsWithinLimits, table_of};
@@ -63,8 +64,8 @@ pub fn bounds_from_the_start()
         BoundEveryObservationMixtureFromStart m vectors most }
 {}
 
-/// A graph whose vectors pass from below is a policy that sees the observations alone, and earns the same. So
-/// what a certificate says of the graph it says of some policy.
+/// A graph whose vectors pass from below acts as some policy that sees the observations alone, which earns what the graph earns. So what a
+/// certificate says of the graph it says of that policy.
 pub fn graphs_are_policies()
     ensures { (t : CellTable) (graph : PolicyGraph) (vectors : PolicyVectors) → IsProper t →
         IsWithinLimits t → IsProperGraph graph → Fits t graph vectors →
@@ -163,8 +164,8 @@ pub fn bounds_where_the_start_is_seen()
         IsSeenStartMost m vectors most → IsSeenAtMostFromStart m (value_of vectors) most }
 {}
 
-/// If the discount is below 1, the same in the long run; and with the worth of a graph's node at the start it encloses the optimum over
-/// the policies that see the start state.
+/// If the discount is below 1, the bound of `bounds_where_the_start_is_seen` holds in the long run. With the worth of a graph's node at the
+/// start it encloses the optimum over the policies that see the start state.
 pub fn optimum_where_the_start_is_seen()
     ensures upper { (m : Meaning) (vectors : ℕ → ℕ → ℤ) (most : ℤ) → HasLimitedNumbers m →
         IsProper (table_of m) → AreInformed (table_of m) vectors → IsSeenAtMostFromStart m vectors most →

@@ -1,4 +1,4 @@
-//! One sum for each observation.
+//! One sum for each observation: what a vector is worth over the end states where it is received.
 ghost use Rattle.std.specs.Prelude.{◌≡◌, length};
 ghost use Rattle.std.specs.Option.{ForSome};
 ghost use Rattle.polcert_cells.specs.BorrowedRows.{IsRowOf};
@@ -29,7 +29,7 @@ impl ObservationSums {
         }
     }
 
-    /// Sets the first sums, this many, to 0.
+    /// Sets the first `observations` sums to 0.
     fn clear(&mut self, observations: usize)
         requires { observations ≤ MOST_OBSERVATIONS }
         ensures { (z : ℕ) → z < observations → sum_of self.new.sums z ≡ pos 0 }
@@ -137,7 +137,7 @@ impl ObservationSums {
         }
     }
 
-    /// Sets each of the first sums, this many, to the greater of itself and the other's.
+    /// Sets each of the first `observations` sums to the greater of itself and the other's.
     pub(crate) fn take_greater(&mut self, observations: usize, other: &ObservationSums)
         requires { observations ≤ MOST_OBSERVATIONS }
         ensures { (z : ℕ) → z < observations →
@@ -148,7 +148,7 @@ impl ObservationSums {
         }
     }
 
-    /// Returns the sum of the first sums, this many.
+    /// Returns the sum of the first `observations` sums.
     pub(crate) fn total(&self, observations: usize) -> i128
         requires within { observations ≤ MOST_OBSERVATIONS }
         requires small { AreSmallSums observations self.now.sums }

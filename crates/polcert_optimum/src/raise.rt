@@ -39,7 +39,7 @@ fn greatest_excess<C: Cells>(cells: &C, vectors: &Vectors) -> i128
     greatest
 }
 
-/// Returns the least constant if the discount is below 1, whether or not it leaves the values in range.
+/// Returns the least constant for a discount below 1, which the caller has tested, whether or not it leaves the values in range.
 fn least_below_one<C: Cells>(cells: &C, vectors: &Vectors) -> u128
     requires fit { FitActions (C.table cells.now) vectors.now }
     requires discount { (C.table cells.now).discount < one }
@@ -77,7 +77,7 @@ fn least_raise_of_any_size<C: Cells>(
     }
 }
 
-/// Returns whether the value and `by` is in range.
+/// Returns whether the value plus `by` is in range.
 fn is_room_above(value: i64, by: u128) -> bool
     requires { IsInRange value }
     ensures { IsTrue result ↔ IsInRange (value +ℤ pos by) }
@@ -85,7 +85,7 @@ fn is_room_above(value: i64, by: u128) -> bool
     (10_000_000_000_000 - value as i128) as u128 >= by
 }
 
-/// Returns whether every value and `by` is in range.
+/// Returns whether every value plus `by` is in range.
 fn can_raise(vectors: &Vectors, by: u128) -> bool
     ensures { IsTrue result ↔ CanShift vectors.now (pos by) }
 {

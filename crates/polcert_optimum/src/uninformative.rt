@@ -9,7 +9,8 @@ use crate::pair::ActionState;
 use polcert_cells::Cells;
 use polcert_check::one_step::{next_end, weigh};
 
-/// Returns whether it is known at once that all end states of the pair show the same. `false`: unknown.
+/// Returns whether it is known at once that all end states of the pair have the same row of O, so that the observation tells nothing.
+/// `false`: unknown.
 pub(crate) fn is_uninformative<C: Cells>(pair: &ActionState<'_, C>) -> bool
     ensures { IsTrue result → IsUninformative (C.table pair.now.cells.now) pair.now.action pair.now.state }
 {
@@ -47,7 +48,7 @@ fn mean_value<C: Cells>(pair: &ActionState<'_, C>, next: usize) -> i128
     sum
 }
 
-/// Returns the greatest of these sums, over the vectors of all actions.
+/// Returns the greatest `mean_value`, over the vectors of all actions.
 fn greatest_mean<C: Cells>(pair: &ActionState<'_, C>) -> i128
     ensures is { result ≡ greatest_below (λ b. mean_value (C.table pair.now.cells.now)
         (value_of pair.now.vectors.now b) pair.now.action pair.now.state)

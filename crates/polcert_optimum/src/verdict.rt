@@ -24,7 +24,8 @@ pub enum InformedVerdict {
     },
 }
 
-/// Returns whether there is a vector for each action of the model, with a value for each state.
+/// Returns whether there is a vector for each action of the model, with a value for each state. The check requires this; the runs have it
+/// from reading.
 pub fn fit_actions<C: Cells>(cells: &C, vectors: &Vectors) -> bool
     ensures { IsTrue result ↔ FitActions (C.table cells.now) vectors.now }
 {

@@ -46,7 +46,8 @@ fn add_row<C: Cells>(cells: &C, a: usize, s: usize, times: u64, arrivals: &mut [
     }
 }
 
-/// Fills in the weight with which each end state is reached from point `i` by action `a`, whatever is observed.
+/// Fills in the weight with which each end state is reached from point `i` by action `a`, whatever is observed. The beliefs after the
+/// action are made from it.
 pub(crate) fn fill_arrivals<C: Cells, P: BeliefPoints>(
     input: &CheckedPoints<'_, C, P>,
     i: usize,
@@ -68,7 +69,7 @@ pub(crate) fn fill_arrivals<C: Cells, P: BeliefPoints>(
     }
 }
 
-/// Writes a state and its weight at this place of a list, if the weight is above 0. Returns the place after it.
+/// Writes a state and its weight at this place of a list, if the weight is above 0. Returns the place for the next.
 fn add_cell(cells: &mut [Cell], place: usize, state: usize, weight: u64) -> usize
     requires room { place < length cells.old }
     ensures row { (b : Belief) → weight ≡ b state → IsRow state b (take place cells.old) →
@@ -117,8 +118,8 @@ fn next_arrival<C: Cells, P: BeliefPoints>(
     ends.step(at)
 }
 
-/// Fills in the belief after action `a` at point `i` and an observation, at the end states that are reached. The belief is 0 at the
-/// others. Returns its greatest weight.
+/// Fills in the belief after action `a` at point `i` and an observation, and returns its greatest weight. `ends` is the row of arrivals,
+/// which names the end states that are reached; the caller has set `belief` to 0 at all others.
 // (Six parameters: three numbers that say which belief it is, and the buffers that it is read from and filled into.)
 pub(crate) fn fill_after<C: Cells, P: BeliefPoints>(
     input: &CheckedPoints<'_, C, P>,

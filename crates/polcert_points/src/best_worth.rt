@@ -50,7 +50,8 @@ fn taken_value<P: BeliefPoints>(points: &P, point: Option<usize>, action: usize)
     }
 }
 
-/// Returns what a belief is worth with one next action, if so much of it is taken out and this is left.
+/// Returns what a belief is worth with one next action: the part in `taken` at the value of its point, the rest in `left` at the charges.
+/// `ends` names the states where `left` has weight.
 fn worth_with<C: Cells, P: BeliefPoints>(
     input: &CheckedPoints<'_, C, P>,
     taken: Taken,
@@ -78,7 +79,7 @@ fn worth_with<C: Cells, P: BeliefPoints>(
     )
 }
 
-/// Returns the same as `worth_with` with the best next action.
+/// Returns the greatest of what `worth_with` returns, over all next actions.
 fn best_left<C: Cells, P: BeliefPoints>(
     input: &CheckedPoints<'_, C, P>,
     taken: Taken,
@@ -101,7 +102,8 @@ fn best_left<C: Cells, P: BeliefPoints>(
     best
 }
 
-/// Returns what a belief is worth with the best next action, if point `j` is taken out of it as often as it fits. Leaves what is left.
+/// Returns what a belief is worth with the best next action, if point `j` is taken out of it as often as it fits. `belief` keeps what is
+/// left.
 fn best_with_point<C: Cells, P: BeliefPoints>(
     input: &CheckedPoints<'_, C, P>,
     j: usize,
@@ -130,8 +132,8 @@ fn best_with_point<C: Cells, P: BeliefPoints>(
     best_left(input, taken, belief, ends)
 }
 
-/// Returns what a belief is worth with the best next action, covered by the named point, if one is named. The row names
-/// the states where the belief has weight. Leaves what no point covers.
+/// Returns what a belief is worth with the best next action, covered by the named point, if one is named. The row names the states where
+/// the belief has weight. `belief` keeps what the point doesn't cover.
 pub(crate) fn best_worth<C: Cells, P: BeliefPoints>(
     input: &CheckedPoints<'_, C, P>,
     named: Option<usize>,

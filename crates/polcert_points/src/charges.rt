@@ -7,7 +7,7 @@ ghost use Rattle.polcert_points.specs.Steps.PointSums.{AreLeastUntil, IsCorner};
 use crate::belief_points::{BeliefPoints, next_state};
 use polcert_policy::Vectors;
 
-/// Returns the state that point `i` is alone, if it is one state alone.
+/// Returns the only state of positive weight at point `i`. `None`: it has more.
 fn corner_of<P: BeliefPoints>(points: &P, i: usize) -> Option<usize>
     requires { i < (P.table points.now).points.count }
     ensures { IsCorner (P.table points.now).states ((P.table points.now).points.belief i) result }
@@ -20,7 +20,7 @@ fn corner_of<P: BeliefPoints>(points: &P, i: usize) -> Option<usize>
     }
 }
 
-/// Lowers the charge of each action at a state to the value of point `i`, which is the state alone.
+/// Lowers the charge of each action at state `s`, the only one of point `i`, to the point's value, if that is less.
 fn lower_at_corner<P: BeliefPoints>(points: &P, i: usize, s: usize, charges: &mut [i64])
     requires point { i < (P.table points.now).points.count }
     requires corner { IsCorner (P.table points.now).states ((P.table points.now).points.belief i) (Some s) }
@@ -35,7 +35,7 @@ fn lower_at_corner<P: BeliefPoints>(points: &P, i: usize, s: usize, charges: &mu
     }
 }
 
-/// Lowers the charges by point `i`, if it is one state alone.
+/// Lowers the charges by the values of point `i`, if it has a single state, and else leaves them.
 fn lower_by_point<P: BeliefPoints>(points: &P, i: usize, charges: &mut [i64])
     requires point { i < (P.table points.now).points.count }
     requires room { length charges.old ≡ (P.table points.now).actions * (P.table points.now).states }
@@ -48,7 +48,7 @@ fn lower_by_point<P: BeliefPoints>(points: &P, i: usize, charges: &mut [i64])
     }
 }
 
-/// Fills in the values of the vectors, action by action.
+/// Fills in the values of the vectors, action by action: the charges before any point lowers them.
 fn fill_values(vectors: &Vectors, charges: &mut [i64])
     requires { length charges.old ≡ vectors.now.nodes * vectors.now.states }
     ensures { (a s : ℕ) → a < vectors.now.nodes → s < vectors.now.states →

@@ -9,7 +9,7 @@ ghost use Rattle.polcert_points.specs.Steps.PointSums.{IsStepWithin, IsWithinRow
 use crate::belief_points::{BeliefPoints, next_state};
 use polcert_cells::{Row, Step};
 
-/// Returns this many times, or fewer if a weight does not fit so often into what a state has.
+/// Returns `times`, or how often the weight fits into what a state has, if that is less.
 fn fewer_times(times: u128, weight: u64, has: u128) -> u128
     requires times { times ≤ 5 * 10 ^ 24 }
     requires weight { weight ≤ 1000000 }
@@ -92,8 +92,8 @@ pub fn charged(belief: &[u128], ends: Row<'_>, charges: &[i64]) -> i128
     sum
 }
 
-/// Returns what a belief is worth with one next action, where a point of this mass and value is taken out so often and this is left, at
-/// the states that the row names. No belief weighs more than the bound of `whole` says.
+/// Returns what a belief is worth with one next action: a point of this mass and value, taken out `times` times, and what is left of it, at
+/// the charges and at the states that the row names. No belief weighs more than the bound of `whole` says.
 // (Six parameters: the point that is taken out, and what is left.)
 pub fn covered(
     times: u128,

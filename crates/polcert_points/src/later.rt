@@ -14,8 +14,8 @@ use crate::best_worth::best_worth;
 use crate::checked_points::CheckedPoints;
 use polcert_cells::{Cells, Row};
 
-/// Returns what the belief after action `a` at point `i` and observation `z` is worth with the best next action. The row has the weights
-/// with which end states are reached; the belief is 0 at the others before and after.
+/// Returns what the belief after action `a` at point `i` and observation `z` is worth with the best next action. `ends` is the row of
+/// arrivals. `belief` is a buffer: the caller has set it to 0 at the other end states, and it is 0 there again afterwards.
 // (Six parameters: three numbers that say which belief it is, and the buffers that it is read from and filled into.)
 fn worth_after<C: Cells, P: BeliefPoints>(
     input: &CheckedPoints<'_, C, P>,
@@ -57,7 +57,7 @@ fn worth_after<C: Cells, P: BeliefPoints>(
 }
 
 /// Returns what follows action `a` at point `i`: the sum over the observations of what the belief after it is worth with the best next
-/// action. The row has the weights with which end states are reached; the belief is 0 at the others.
+/// action. `ends` is the row of arrivals. `belief` is a buffer, which the caller has set to 0 at the other end states.
 pub(crate) fn later<C: Cells, P: BeliefPoints>(
     input: &CheckedPoints<'_, C, P>,
     i: usize,

@@ -1,4 +1,5 @@
-//! Laws of the bound by belief points, each the contract of a function with nothing to do.
+//! Laws of the bound by belief points, each the contract of a function with nothing to do. Nothing calls them: they are for readers, and
+//! for proofs to cite.
 ghost use Rattle.std.specs.Prelude.{◌≡◌, ◌<◌, ◌≤◌, ◌-ℤ◌, ◌≤ℤ◌, ℕ, ℤ, Option, pos};
 ghost use Rattle.polcert_policy.specs.Graphs.{PolicyGraph, IsProperGraph, nodes};
 ghost use Rattle.polcert_policy.specs.Vectors.{PolicyVectors};

@@ -30,7 +30,8 @@ pub enum PointVerdict {
     },
 }
 
-/// Returns whether the points are for as many states, actions and observations as the model has.
+/// Returns whether the points are for as many states, actions and observations as the model has. The check requires this; the runs have it
+/// from reading.
 pub fn fit_points<C: Cells, P: BeliefPoints>(cells: &C, points: &P) -> bool
     ensures { IsTrue result ↔ FitPoints (C.table cells.now) (P.table points.now) }
 {

@@ -49,7 +49,8 @@ fn next_start(_model: &Model, start: Row<'_>, at: usize) -> Option<Step>
     start.step(at)
 }
 
-/// Fills in a model's start at the states of its row, each weight so often that points divide it finely. The belief is 0 at the others.
+/// Fills in a model's start at the states of its row, each share times a large constant, so that points can be taken out of it finely. The
+/// caller has set `belief` to 0 at the other states.
 fn fill_scaled(model: &Model, start: Row<'_>, belief: &mut [u128])
     requires start { IsRowOf (start_weight (meaning model.now)) (states_of (meaning model.now)) start }
     requires room { length belief.old ≡ states_of (meaning model.now) }
@@ -65,8 +66,8 @@ fn fill_scaled(model: &Model, start: Row<'_>, belief: &mut [u128])
     }
 }
 
-/// Returns what a model's start, so often, is worth with the best next action, covered by the named point, if one is named. The belief is
-/// a buffer, and 0 outside of the start before and after.
+/// Returns what the start, as `fill_scaled` scales it, is worth with the best next action, covered by the named point, if one is named.
+/// `belief` is a buffer: the caller has set it to 0 outside of the start, and it is 0 there again afterwards.
 fn worth_covered<P: BeliefPoints>(
     input: &CheckedPoints<'_, Model, P>,
     named: Option<usize>,
@@ -91,8 +92,8 @@ fn worth_covered<P: BeliefPoints>(
     best_worth(input, named, start, belief)
 }
 
-/// Returns the least that a model's start, so often, is worth with the best next action, covered by one point or by none. The belief is a
-/// buffer, and 0 outside of the start.
+/// Returns the least that the start, as `fill_scaled` scales it, is worth with the best next action, covered by one point or by none.
+/// `belief` is a buffer, which the caller has set to 0 outside of the start.
 fn least_worth<P: BeliefPoints>(
     input: &CheckedPoints<'_, Model, P>,
     start: Row<'_>,

@@ -1,4 +1,4 @@
-//! The answer to three texts.
+//! The answer to three texts in memory, a model, one vector for each of its actions and belief points; and the verdict on what they denote.
 ghost use Rattle.std.specs.Prelude.{◌≡◌, ◌*◌, length, IfOk, Ok};
 ghost use Rattle.polcert_cells.specs.Tables.{table_of};
 ghost use Rattle.polcert_model.specs.Contents.{meaning};
@@ -94,7 +94,8 @@ fn verdict_on_points<O: Progress>(
 }
 
 /// Returns the answer to the texts of a model, of vectors, one for each action of the model, each value rounded up, and of belief points:
-/// whether vectors and points bound what every policy earns that sees the observations alone.
+/// whether vectors and points bound what every policy earns that sees the observations alone. For callers with texts in memory; the program
+/// calls `run_point_check`.
 ///
 /// # Errors
 ///

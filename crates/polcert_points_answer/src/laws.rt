@@ -1,4 +1,5 @@
-//! Laws of the definitions, each the contract of a function with nothing to do.
+//! Laws of the definitions, each the contract of a function with nothing to do. Nothing calls them: they are for readers, and for proofs to
+//! cite.
 ghost use Rattle.std.specs.Prelude.{◌≡◌, ◌≢◌, ◌<◌, ◌-ℤ◌, ℕ, ℤ, List, Err, Ok};
 ghost use Rattle.polcert_check.specs.declared.survey.Verdict.TheVariants.{Yes};
 ghost use Rattle.polcert_check.specs.Horizon.{one};
@@ -36,8 +37,9 @@ pub fn one_point_answer()
         IsPointBoundAnswer model vectors points (Err (Fault.Points g)) → f ≡ g }
 {}
 
-/// The interval that holds the optimum. If the discount is below 1, a yes to the vectors of any graph and a yes to vectors and points of the
-/// same model: the best policy that sees the observations alone is worth at least the number of the one line and at most that of the other.
+/// The interval that holds the optimum. If the discount is below 1, a yes to the vectors of any graph and a yes to vectors and points of
+/// the same model: the best policy that sees the observations alone is worth at least the number of the one line and at most that of the
+/// other.
 pub fn texts_with_points_enclose_the_optimum()
     ensures optimum { (model graph low high points : List ℕ) → IsAnswer model graph low (Ok Yes) →
         IsPointBoundAnswer model high points (Ok PointBoundVerdict.Yes) →

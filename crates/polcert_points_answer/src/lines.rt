@@ -1,4 +1,4 @@
-//! The line of a verdict.
+//! The line of a verdict on vectors of the actions and belief points: what it says, and how it is written.
 ghost use Rattle.std.specs.Prelude.{◌≡◌, ◌*◌, ◌<◌, ◌≤◌, pos, ◌<ℤ◌, length, unsigned_abs};
 ghost use Rattle.polcert_text.specs.Numbers.{largest};
 ghost use Rattle.polcert_text.specs.Sink.{WritesText};
@@ -137,6 +137,7 @@ pub(crate) fn write_point_verdict<W: Sink>(
     buffered.flush()
 }
 
+/// Writes the line of a verdict, piece by piece.
 fn write_point_line<W: Sink>(line: PointBoundLine, sink: &mut W) -> Result<(), SinkFailed>
     ensures { WritesText W.writes W.failures sink.old (point_line_text line) result sink.new }
 {

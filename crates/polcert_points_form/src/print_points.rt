@@ -84,7 +84,7 @@ fn write_weights<W: Sink>(points: &PointSet, i: usize, out: &mut W) -> Result<()
     Ok(())
 }
 
-/// Writes the weight of state `s` at point `i`, which is this, and what separates it from the next.
+/// Writes `weight`, that of state `s` at point `i`, and what separates it from the next.
 fn write_weight<W: Sink>(
     points: &PointSet,
     i: usize,

@@ -6,7 +6,7 @@ ghost use Rattle.polcert_points_form.specs.RaisedSet.{CanRaisePoints};
 
 use polcert_policy::PointSet;
 
-/// Returns by how much a value can be raised.
+/// Returns by how much a value can be raised and stay in range.
 fn room_above_value(value: i64) -> u64
     requires { IsInRange value }
     ensures { pos result ≡ pos 10_000_000_000_000 -ℤ value }

@@ -8,7 +8,7 @@ ghost use Rattle.polcert_points_form.specs.Steps.RowWalk.{IsStepFrom};
 use polcert_cells::{Row, Step};
 use polcert_policy::PointSet;
 
-/// Returns the first step of the row of point `i`.
+/// Returns the first weight above 0 of the row of point `i`, with its column. `None`: it has none.
 pub(crate) fn first_step(_points: &PointSet, i: usize, row: Row<'_>) -> Option<Step>
     requires point { i < point_count _points.now }
     requires row { IsRowOf (point_weight _points.now i) _points.now.states row }
@@ -17,7 +17,7 @@ pub(crate) fn first_step(_points: &PointSet, i: usize, row: Row<'_>) -> Option<S
     row.step(0)
 }
 
-/// Returns the weight at a column from which on this is the next step.
+/// Returns the weight at a column: that of `next`, the next step from there on, if it is at this column, else 0.
 pub(crate) fn weight_here(next: Option<Step>, column: usize) -> u64
     ensures { (f : ℕ → ℕ) (count : ℕ) (row : Row) → column < count → IsStepFrom f count row column next →
         result ≡ f column }
@@ -34,7 +34,7 @@ pub(crate) fn weight_here(next: Option<Step>, column: usize) -> u64
     }
 }
 
-/// Returns the next step from the column after this on, in the row of point `i`.
+/// Returns the next step after a column, in the row of point `i`: `next` itself unless it is at this column.
 pub(crate) fn next_step(
     _points: &PointSet,
     i: usize,

@@ -11,8 +11,8 @@ use polcert_text::{Rounding, Source, SourceFault};
 use std::alloc::{AllocError, Global};
 
 impl Graph {
-    /// Returns the graph whose node `a` takes action `a`: vectors of it are one for each action. It has one observation, for which
-    /// no node has a successor.
+    /// Returns the graph whose node `a` takes action `a`, so that one vector for each action can be read and written as vectors of a graph.
+    /// It has one observation, for which no node has a successor.
     ///
     /// # Errors
     ///
@@ -32,9 +32,9 @@ impl Graph {
     }
 }
 
-/// Reads one vector for each action of a model, in the order of the actions: for each the action's number and then a number for
-/// each state. Each value is rounded up to whole millionths, so that the vectors stay bounds from above. `actions` and `states` are
-/// the model's counts.
+/// Reads one vector for each action of a model, in the order of the actions: for each the action's number and then a number for each state.
+/// Each value is rounded up to whole millionths, so that the vectors stay bounds from above. `actions` and `states` are the model's counts.
+/// For texts in memory: the programs call `read_action_vectors_from`.
 ///
 /// # Errors
 ///

@@ -1,4 +1,5 @@
-//! Laws of the definitions, each the contract of a function with nothing to do.
+//! Laws of the definitions, each the contract of a function with nothing to do. Nothing calls them: they are for readers, and for proofs to
+//! cite.
 ghost use Rattle.std.specs.Prelude.{◌≡◌, ◌≢◌, ◌<◌, ◌≤◌, ◌++◌, ℕ, List};
 ghost use Rattle.polcert_policy.specs.Graphs.{PolicyGraph, AreGraphTokens, IsLooseGraph, IsProperGraph, HasNodesOnly, nodes, action_of, most_nodes};
 ghost use Rattle.polcert_cells.specs.Elements.{most_states, most_actions, most_observations};

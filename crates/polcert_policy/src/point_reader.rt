@@ -49,7 +49,7 @@ fn weight_of_numeral(numeral: &[u8]) -> Result<u64, NumberFault>
     Ok(floor as u64)
 }
 
-/// Returns the weight that the token is.
+/// Returns the weight that the token is, or its refusal.
 fn read_weight(token: Token<'_>) -> Result<u64, PointFault>
     ensures { ReadWeight (lexeme_of token.entry) result }
 {
@@ -66,6 +66,7 @@ fn read_weight(token: Token<'_>) -> Result<u64, PointFault>
 }
 
 impl PointsReading {
+    /// Makes the state before the first token.
     fn new(alloc: Global, states: usize, actions: usize, observations: usize) -> Self
         requires some_states { 1 ≤ states }
         requires few_states { states ≤ most_states }
@@ -90,7 +91,7 @@ impl PointsReading {
         }
     }
 
-    /// Checks the token in place of a point's number.
+    /// Refuses a token that isn't the number of the next point, or a point too many.
     fn check_number(&self, token: Token<'_>) -> Result<(), PointFault>
         ensures { MatchResult result (λ _. IsRightNumber (so_far self.now) (lexeme_of token.entry))
             (IsWrongNumber (so_far self.now) (lexeme_of token.entry)) }
@@ -201,7 +202,7 @@ impl PointsReading {
         }
     }
 
-    /// Takes the sign of a value.
+    /// Takes a sign before a value, whose numeral is still to come. A second sign is refused at the first.
     fn take_sign(&mut self, sign: OpenSign) -> Result<(), PointFault>
         ensures takes { (t : Lexeme) → sign_kind t.kind ≡ true → sign ≡ sign_of t →
             MatchResult result (λ _. TakesSign (so_far self.old) t (so_far self.new))
@@ -382,15 +383,15 @@ impl PointsReading {
     }
 }
 
-/// Reads belief points for a model with this many states, actions and observations: one point after another, each with its number, a weight
-/// for each state, and for each action its value and for each observation the number of the point that covers the belief after it, `-` or
-/// `X` where none does. Weights are rounded down to whole millionths and values up. A text of no points is accepted.
+/// Reads belief points for a model of these counts, from a text in memory: one point after another, each with its number, a weight for each
+/// state, and for each action its value and for each observation the number of the point that covers the belief after it, `-` or `X` where
+/// none does. Weights are rounded down to whole millionths and values up. A text of no points is accepted.
 ///
 /// # Errors
 ///
 /// The first token or number that can't stand at its place (B1 to B5, B8): a value at its sign; a `-` that names no point and has a numeral
-/// directly after it; weights that sum to nothing or to more than 1 at the last of them. A clean end of the text inside a point (B7), or else
-/// the first by point, action and observation that names no point (B6). B9 where memory ran out.
+/// directly after it; weights that sum to nothing or to more than 1 at the last of them. A clean end of the text inside a point (B7), or
+/// else the first by point, action and observation that names no point (B6). B9 where memory ran out.
 pub fn read_points(
     alloc: Global,
     text: &[u8],

@@ -1,4 +1,4 @@
-//! Writes vectors.
+//! Writes vectors in full form.
 ghost use Rattle.std.specs.Prelude.{◌≡◌, ◌<◌};
 ghost use Rattle.polcert_text.specs.Sink.{WritesText};
 ghost use Rattle.polcert_policy.specs.Graphs.{nodes};

@@ -49,7 +49,7 @@ impl EndMeans {
         self.have_rewards = have_rewards;
     }
 
-    /// Returns whether the mean at end state `e` is kept with the rewards.
+    /// Returns whether the mean at end state `e` is kept, and includes the rewards: then nothing is to be computed there.
     pub(crate) fn is_full(&self, e: usize) -> bool
         requires { e < MOST_STATES }
         ensures kept { IsTrue result → slice_index_or self.now.are_kept e false ≡ true }
@@ -62,7 +62,7 @@ impl EndMeans {
         }
     }
 
-    /// Returns whether the mean at end state `e` is kept without the rewards.
+    /// Returns whether the mean at end state `e` is kept, but without the rewards: then that of the start state is to be added.
     pub(crate) fn lacks_reward(&self, e: usize) -> bool
         requires { e < MOST_STATES }
         ensures kept { IsTrue result → slice_index_or self.now.are_kept e false ≡ true }
@@ -77,7 +77,7 @@ impl EndMeans {
         }
     }
 
-    /// Notes the mean at end state `e`.
+    /// Notes the mean at end state `e`, and whether other start states may use it.
     pub(crate) fn note(&mut self, e: usize, end: EndMean)
         requires { e < MOST_STATES }
         ensures { IsNotedAt e end self.old self.new }

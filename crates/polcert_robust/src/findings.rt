@@ -16,7 +16,8 @@ pub(crate) struct RobustFindings {
     pub worst: u128,
 }
 
-/// Returns why a pair with this verdict is not mended by any constant, if it may lack an observation.
+/// Returns why no constant mends a pair with this verdict: an observation that may be received has no successor. `None`: the verdict names
+/// none.
 pub(crate) fn lack_of(verdict: Verdict) -> Option<LowerFault>
     ensures some { IfSome result (IsLackFault verdict) }
     ensures none { IfNone result (HasSuccessors verdict) }
@@ -54,7 +55,7 @@ fn max_amount(x: u128, y: u128) -> u128
     if x < y { y } else { x }
 }
 
-/// Returns the findings with that at the next pair.
+/// Returns the findings after the next pair, which has this verdict.
 pub(crate) fn noted(findings: RobustFindings, verdict: Verdict) -> RobustFindings
     ensures { (i : IntervalTable) (c : Controller) (n s : ℕ) → n < c.nodes → s < i.states →
         IsRobustPair i c n s verdict → HasSuccessors verdict →

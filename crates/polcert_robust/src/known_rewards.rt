@@ -9,10 +9,10 @@ ghost use Rattle.polcert_robust.specs.Steps.Rewards.{IsConstantReward, IsKnownRe
 use crate::end_means::have_same_rewards;
 use polcert_cells::{Cells, CommonReward, MOST_ACTIONS, RewardCell};
 
-/// Room for the rewards of so many pairs of an action and a start state: of the first actions.
+/// How many pairs of an action and a start state have room for what is known of their rewards: those of the first actions.
 const ROOM: usize = 10_000;
 
-/// So many end states are listed whose rewards differ from the common one.
+/// The most end states that are listed because their rewards differ from the common one.
 pub(crate) const MOST_LISTED: usize = 64;
 
 /// What is known of the rewards of actions, whatever the node: found on first use, and kept as far as there is room.
@@ -103,8 +103,8 @@ impl KnownRewards {
     }
 }
 
-/// Returns the reward that all end states but those listed have when action `a` is taken in state `s`, if it is known at once. None is looked
-/// for if all start states have the same rewards, or if `constant` is the reward.
+/// Returns the reward that all end states but those listed have when action `a` is taken in state `s`, if it is known at once. None is
+/// looked for if all start states have the same rewards, or if `constant` is the reward.
 // (Six parameters: an action and a state, what is known of their rewards, and room.)
 pub(crate) fn list_end_rewards<C: Cells>(
     cells: &C,
@@ -140,14 +140,14 @@ pub(crate) fn reward_among(common: CommonReward, listed: &[RewardCell], e: usize
     common.reward
 }
 
-/// Returns the number if it is constant.
+/// Returns the number as a reward, if it is noted as constant. `None`: unknown.
 fn reward_of(is_constant: bool, number: i64) -> Option<i64>
     ensures { ForSome result (λ reward. (is_constant ≡ true) × (reward ≡ number)) }
 {
     if is_constant { Some(number) } else { None }
 }
 
-/// Returns the reward, or any number for none.
+/// Returns the reward as a number to keep: any number if there is none.
 fn number_of(reward: Option<i64>) -> i64
     ensures { ForSome reward (λ number. result ≡ number) }
 {

@@ -1,4 +1,5 @@
-//! Laws of the definitions, each the contract of a function with nothing to do.
+//! Laws of the definitions, each the contract of a function with nothing to do. Nothing calls them: they are for readers, and for proofs to
+//! cite.
 ghost use Rattle.std.specs.Prelude.{◌≡◌, ◌<◌, ◌*◌, ◌<ℤ◌, ◌≤ℤ◌, ◌*ℤ◌, ◌-ℤ◌, pos, neg_ℤ, ℕ, ℤ};
 ghost use Rattle.polcert_cells.specs.Tables.{CellTable, IsProper};
 ghost use Rattle.polcert_policy.specs.Graphs.{PolicyGraph, IsProperGraph};
@@ -12,15 +13,16 @@ ghost use Rattle.polcert_robust.specs.Intervals.{IntervalTable, LiesWithin, arou
 ghost use Rattle.polcert_robust.specs.Worst.{IsRobust, IsWorstRow, IsWorstStep, MayLack, mean, negated_values, within_model, worst_backing};
 ghost use Rattle.polcert_robust.specs.Start.{IsAtMostFrom, IsWorthFrom, StartsWithin};
 
-/// If every pair passes in the worst case, every pair passes in every model that lies within the intervals.
+/// If every pair passes in the worst case, every pair passes in every model that lies within the intervals around the text's probabilities
+/// and rewards.
 pub fn every_model_near()
     ensures { (i : IntervalTable) (c : Controller) → 0 < i.t_scale → 0 < i.o_scale → ((n : ℕ) →
         n < c.nodes → c.action n < i.actions) → IsRobust i c →
         (parts : ℕ) (m : CellTable) → LiesWithin i parts m → Passes (within_model c parts m) }
 {}
 
-/// Where a pair is short in the worst case, it is short in some model that lies within the intervals. (One such model with the scales of the
-/// intervals has to be known: the text's own.)
+/// Where a pair is short in the worst case, it is short in some model that lies within the intervals. (One such model with the scales of
+/// the intervals has to be known: the text's own.)
 pub fn a_no_is_right()
     ensures { (i : IntervalTable) (c : Controller) (m : CellTable) → LiesWithin i 1 m →
         m.t_scale ≡ i.t_scale → m.o_scale ≡ i.o_scale →
@@ -47,8 +49,8 @@ pub fn promise_for_every_model_near()
         MeetsEveryHorizonAbove (within_model (controller_of x graph vectors) parts m) }
 {}
 
-/// The test of the worst case is necessary too: if every pair passes in every model near the text's, every pair passes in the worst case. And
-/// the text's own model is one of those near it.
+/// The test of the worst case is necessary too: if every pair passes in every model near the text's, every pair passes in the worst case.
+/// And the text's own model is one of those near it.
 pub fn worst_case_is_reached()
     ensures itself { (x : CellTable) (t_by o_by : Spread) (r_by : ℕ) → IsProper x →
         LiesWithin (around x t_by o_by r_by) 1 x }
@@ -58,8 +60,8 @@ pub fn worst_case_is_reached()
         IsRobust (around x t_by o_by r_by) c }
 {}
 
-/// What a node is worth in the mean under the worst start near the text's, it is worth from every start near it, in every model in which
-/// the promise holds, for every number of steps; and from above likewise.
+/// A node is worth at least its mean under the worst start near the text's, from every start near it: in every model in which the promise
+/// holds, and for every number of steps. From above likewise.
 pub fn worth_from_every_start_near()
     ensures below { (c : Controller) (parts : ℕ) (m : CellTable) →
         MeetsEveryHorizon (within_model c parts m) →
@@ -78,7 +80,8 @@ pub fn worth_from_every_start_near()
 {}
 
 /// Where no pair may lack an observation, lowering every vector by one constant lowers what backs a value in the worst case by the scales
-/// times the discount times the constant, as it lowers what backs it in the text's own model. So the least constant is found as it is there.
+/// times the discount times the constant, as it lowers what backs it in the text's own model. So the least constant is found as it is
+/// there.
 pub fn lowering_in_the_worst_case()
     ensures { (i : IntervalTable) (c : Controller) (n s by : ℕ) → ((z : ℕ) → z < i.observations →
         MayLack i c n s z → ⊥) →

@@ -1,4 +1,5 @@
-//! The least mean of values over the rows within intervals around a row.
+//! The least mean of values over the rows within intervals around a row. The row that has it puts weights at the high ends of their
+//! intervals up to a level, which is a value, and at the low ends above it.
 ghost use Rattle.std.specs.Prelude.{◌≡◌, ◌*ℤ◌, ◌-◌, ◌+◌, ◌*◌, ◌^◌, ◌<◌, ◌≤◌, ◌⊎◌, ℕ, ℤ, pos, neg_ℤ, ◌≤ℤ◌, ◌<ℤ◌, length, unsigned_abs, ◌-ℤ◌, IfSome, IfNone, IsTrue, IsFalse, Some, None};
 ghost use Rattle.polcert_cells.specs.Meaning.{sum_below};
 ghost use Rattle.polcert_robust.specs.Intervals.{low_of, high_of, spread_of};
@@ -32,14 +33,14 @@ pub(crate) struct WorthRow<'a> {
 /// This many weights are few: rounds are cheap, and any value serves.
 const FEW_WEIGHTS: usize = 8;
 
-/// Two levels with no value between them.
+/// Two levels around the one that is sought. At the end of the search no value of the row lies between them.
 #[derive(Clone, Copy)]
 pub(crate) struct Levels {
     pub low: i128,
     pub high: i128,
 }
 
-/// Returns how far a weight may lie from its own.
+/// Returns how far the weight in a row near by may lie from this one.
 fn spread_of(weight: u64, by: Spread) -> u64
     requires weight { weight ≤ 10_000_000_000 }
     requires parts { by.parts ≤ 10_000_000_000 }
@@ -53,7 +54,7 @@ fn spread_of(weight: u64, by: Spread) -> u64
     by.parts + (weight * by.percent + 99_999_999) / 100_000_000
 }
 
-/// Returns the low end of the interval around a weight.
+/// Returns the low end of the interval around a weight: the least that a row near by may have.
 fn low_end(weight: u64, by: Spread) -> u64
     requires weight { weight ≤ 10_000_000_000 }
     requires parts { by.parts ≤ 10_000_000_000 }
@@ -63,7 +64,7 @@ fn low_end(weight: u64, by: Spread) -> u64
     weight.saturating_sub(spread_of(weight, by))
 }
 
-/// Returns the high end of the interval around a weight.
+/// Returns the high end of the interval around a weight: the most that a row near by may have.
 fn high_end(weight: u64, by: Spread) -> u64
     requires weight { weight ≤ 10_000_000_000 }
     requires parts { by.parts ≤ 10_000_000_000 }
@@ -113,7 +114,7 @@ fn is_between(value: i128, low: i128, high: i128) -> bool
     low < value && value < high
 }
 
-/// Returns this value if none was found or if it is wanted, else the one that was found.
+/// Returns the value that a search for a value should keep: this one if none was found or if it is wanted, else the one that was found.
 fn next_found(found: Option<i128>, value: i128, is_wanted: bool) -> Option<i128>
     ensures { (result ≡ Some value) ⊎ ((result ≡ found) × (found ≡ None → ⊥)) }
 {
@@ -157,7 +158,7 @@ fn outer_levels(row: &WorthRow<'_>) -> Levels
     }
 }
 
-/// Returns two levels between whose sums the scale lies.
+/// Returns two levels between whose sums the scale lies, with no value of the row between them.
 fn levels_of(row: &WorthRow<'_>) -> Levels
     ensures levels { AreLevels row.now.by row.now.scale row.now.count (listed_weight row.now.weights.now)
         (listed_value row.now.values.now) result.low result.high }

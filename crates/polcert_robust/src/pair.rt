@@ -59,7 +59,7 @@ pub(crate) struct Gathered {
     pub missing: Option<usize>,
 }
 
-/// Returns the least number that is there.
+/// Returns the lesser of two observations, the one that is there, or `None` if neither is.
 fn min_missing(x: Option<usize>, y: Option<usize>) -> Option<usize>
     ensures { IsMinOption x y result }
 {
@@ -70,7 +70,7 @@ fn min_missing(x: Option<usize>, y: Option<usize>) -> Option<usize>
     }
 }
 
-/// Returns the least reward within a distance.
+/// Returns the least reward of a model near the text's, whose reward lies within this distance.
 fn least_reward(reward: i64, by: u64) -> i128
     requires reward { unsigned_abs reward ≤ largest }
     requires by { by ≤ 1_000_000_000_000 }
@@ -205,7 +205,7 @@ fn end_mean<C: Cells>(end: &PairEnd<'_, C>, weights: &mut [u64], values: &mut [i
     }
 }
 
-/// Returns the reward of a step of the pair to end state `e`, if the pair tells it whatever is observed.
+/// Returns the reward of a step of the pair to end state `e` from what the pair has noted: the same for every observation. `None`: unknown.
 fn pair_reward<C: Cells>(pair: &Pair<'_, C>, e: usize) -> Option<i64>
     requires end { e < (cells_of pair.now.input.now).states }
     ensures { ForSome result (IsKnownReward (cells_of pair.now.input.now)
@@ -220,7 +220,8 @@ fn pair_reward<C: Cells>(pair: &Pair<'_, C>, e: usize) -> Option<i64>
     }
 }
 
-/// Returns the reward of a step of the pair to end state `e`, if it is known at once that it does not depend on the observation.
+/// Returns the reward of a step of the pair to end state `e`, from the pair or from the model, if it is known at once that it does not
+/// depend on the observation. `None`: unknown.
 fn known_reward<C: Cells>(pair: &Pair<'_, C>, e: usize) -> Option<i64>
     requires end { e < (cells_of pair.now.input.now).states }
     ensures { ForSome result (IsKnownReward (cells_of pair.now.input.now)
@@ -247,7 +248,8 @@ fn reward_part<C: Cells>(pair: &Pair<'_, C>, reward: i64) -> i128
     weigh_number(input.cells.o_scale(), earned)
 }
 
-/// Returns the least mean that was found, as it is kept. `have_rewards`: whether all start states have the same rewards.
+/// Returns the least mean that was found in the form in which the node's other start states may use it: without its reward, unless all have
+/// the same rewards (`have_rewards`). It is not kept if the reward depends on the observation.
 fn kept_mean<C: Cells>(end: &PairEnd<'_, C>, have_rewards: bool, found: LeastMean) -> EndMean
     requires same { have_rewards ≡ true → HasSameRewards (cells_of end.now.pair.now.input.now)
         ((near_controller end.now.pair.now.input.now).action end.now.pair.now.n) }
@@ -290,7 +292,7 @@ fn kept_mean<C: Cells>(end: &PairEnd<'_, C>, have_rewards: bool, found: LeastMea
     }
 }
 
-/// Returns whether a mean that lacks a reward can be used: if the reward is known.
+/// Returns whether a kept mean without reward can be used at this start state: its reward is known.
 fn is_usable(lacks_reward: bool, known: Option<i64>) -> bool
     ensures lacks { IsTrue result → lacks_reward ≡ true }
     ensures known { IsTrue result → (h : ℤ) × (known ≡ Some h) }
@@ -352,7 +354,7 @@ fn find_end_means<C: Cells>(pair: &Pair<'_, C>, buffers: &mut PairBuffers) -> Op
     missing
 }
 
-/// Returns the least mean of what a step to state `e` is worth.
+/// Returns the least mean of what a step to end state `e` is worth: the kept one, with its reward added if it lacks that.
 fn mean_at<C: Cells>(pair: &Pair<'_, C>, ends: &EndMeans, e: usize) -> i128
     requires end { e < (cells_of pair.now.input.now).states }
     requires ready { IsReadyAt (near_table pair.now.input.now) (near_controller pair.now.input.now)
@@ -465,7 +467,7 @@ fn is_shortfall(amount: i128) -> bool
     amount > 0
 }
 
-/// Returns the verdict on a pair whose value is backed so in the worst case.
+/// Returns the verdict on a pair, from what backs its value in the worst case.
 fn verdict_of_backing<C: Cells>(pair: &Pair<'_, C>, backing: LeastMean) -> Verdict
     requires is { IsWorstBacking (near_table pair.now.input.now) (near_controller pair.now.input.now)
         pair.now.n pair.now.s backing.mean }

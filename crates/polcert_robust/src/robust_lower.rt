@@ -65,7 +65,7 @@ fn stays_in_range_moved(side: Side, vectors: &Vectors, by: u128) -> bool
     true
 }
 
-/// Returns the least constant if the discount is below 1, whether or not it leaves the values in range.
+/// Returns the least constant for a discount below 1, which the caller has tested, whether or not it leaves the values in range.
 fn least_robust_below_one<C: Cells>(input: &RobustInput<'_, C>, findings: RobustFindings) -> u128
     requires found { IsSurveyedBefore (near_table input.now) (near_controller input.now)
         (near_controller input.now).nodes 0 findings }
@@ -127,7 +127,8 @@ fn least_passing_robustly<C: Cells>(
     Ok(0)
 }
 
-/// Returns the least constant for this input, and notifies `progress` of each node once.
+/// Returns the least constant, in millionths, by which all values are to be moved so that they pass (lowered, or from above raised), and
+/// notifies `progress` of each node once.
 #[inline(never)]
 pub(crate) fn least_robust_of<C: Cells, W: Progress>(
     input: &RobustInput<'_, C>,

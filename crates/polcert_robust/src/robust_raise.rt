@@ -15,7 +15,7 @@ use polcert_check::{LowerFault, Progress, RaiseFault};
 use polcert_policy::{Graph, Vectors};
 use std::alloc::Global;
 
-/// Returns the refusal to raise that a refusal to lower the negated values gives.
+/// Returns the same reason as a refusal to raise: the search for the constant, which both sides share, gives refusals to lower.
 fn robust_raise_fault(fault: LowerFault) -> RaiseFault
     ensures { result ≡ raise_of fault }
 {

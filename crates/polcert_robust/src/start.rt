@@ -24,7 +24,7 @@ use polcert_cells::MOST_STATES;
 use polcert_model::Model;
 use polcert_policy::{Graph, Vectors};
 
-/// Returns how often the total of a start's weights is in 10,000,000,000.
+/// Returns the factor that scales a model's shares up: how often their total goes into 10,000,000,000.
 fn start_multiple(model: &Model) -> u64
     ensures is { result ≡ start_multiple (meaning model.now) }
     ensures some { 0 < result }
@@ -33,7 +33,8 @@ fn start_multiple(model: &Model) -> u64
     10_000_000_000 / model.start_total()
 }
 
-/// Returns the total of the weights of a model's start, on the scale in whose parts distances of starts are told.
+/// Returns the total of a model's start after its shares are scaled up, at most 10,000,000,000: distances of starts are told in parts of
+/// it.
 pub fn scaled_start_total(model: &Model) -> u64
     ensures is { result ≡ scaled_start_total (meaning model.now) }
     ensures some { 0 < result }
@@ -130,8 +131,8 @@ fn mean_rounded_up(mean: i128, total: u64) -> i64
 
 /// Returns the node that is worth most from its worst start near the model's, and its worth there, in millionths, rounded down.
 ///
-/// A start is near if each share above 0 is within `by`, on the scale of `scaled_start_total`; a share of 0 stays 0. A node is worth the mean of its
-/// values. If nodes are worth exactly the same it is the first of them. It takes no memory.
+/// A start is near if each share above 0 is within `by`, on the scale of `scaled_start_total`; a share of 0 stays 0. A node is worth the
+/// mean of its values. If nodes are worth exactly the same it is the first of them. It takes no memory.
 pub fn start_worth_near(model: &Model, graph: &Graph, vectors: &Vectors, by: Spread) -> (usize, i64)
     requires fits { Fits (table_of (meaning model.now)) graph.now vectors.now }
     requires near { by.parts ≤ 10_000_000_000 }

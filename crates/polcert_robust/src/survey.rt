@@ -1,4 +1,4 @@
-//! The walk over all pairs that measures them.
+//! The walk over all pairs that finds their greatest shortfall: for lowering and raising.
 ghost use Rattle.std.specs.Prelude.{IfErr, IfOk};
 ghost use Rattle.polcert_robust.specs.RobustLower.{IsNotMendedRobustly};
 ghost use Rattle.polcert_robust.specs.Steps.Moves.{CanMoveBy};

@@ -15,8 +15,8 @@ use polcert_cells::Cells;
 use polcert_check::{NoProgress, Progress, Verdict};
 use polcert_policy::{Graph, Vectors};
 
-/// Checks that the backup of one step reaches each value in every model near the text's: each probability above 0 and each reward within its
-/// distance. Returns the first pair of a node and a state that fails, if one does.
+/// Checks that the backup of one step reaches each value in every model near the text's: each probability above 0 and each reward within
+/// its distance. Returns the first pair of a node and a state that fails, if one does. (The programs call `check_robust_watched`.)
 ///
 /// A probability of 0 stays 0, the discount is known, and the graph is fixed. The amount by which a pair is short is that under its worst
 /// rows, on the scale of `polcert_check::Verdict`. It takes no memory.

@@ -14,7 +14,7 @@ use polcert_cells::Cells;
 use polcert_check::{AboveVerdict, NoProgress, Progress, Verdict};
 use polcert_policy::{Graph, Vectors};
 
-/// Returns the verdict from above that a verdict on the negated rewards and values gives.
+/// Returns the finding as a verdict from above: the walk, which both checks share, names a value that is too low `Short`.
 fn above_from_below(verdict: Verdict) -> AboveVerdict
     ensures { below_of result ≡ verdict }
 {
@@ -42,7 +42,7 @@ fn above_from_below(verdict: Verdict) -> AboveVerdict
 }
 
 /// Checks that the next step comes to at most each value in every model near the text's: each probability above 0 and each reward within
-/// its distance. Returns the first pair of a node and a state that fails, if one does.
+/// its distance. Returns the first pair of a node and a state that fails, if one does. (The programs call `check_robust_above_watched`.)
 ///
 /// What `check_robust` says of these models and of amounts holds here too. It takes no memory.
 pub fn check_robust_above<C: Cells>(

@@ -1,4 +1,4 @@
-//! The walk over all pairs of a node and a state.
+//! The walk over all pairs of a node and a state that ends at the first that fails: for the checks.
 ghost use Rattle.std.specs.Prelude.{◌≡◌, IsFalse, IsTrue};
 ghost use Rattle.polcert_check.specs.declared.survey.Verdict.TheVariants.{Yes};
 ghost use Rattle.polcert_robust.specs.RobustVerdict.{IsRobustVerdict};

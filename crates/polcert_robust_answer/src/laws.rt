@@ -1,4 +1,5 @@
-//! Laws of the definitions, each the contract of a function with nothing to do.
+//! Laws of the definitions, each the contract of a function with nothing to do. Nothing calls them: they are for readers, and for proofs to
+//! cite.
 ghost use Rattle.std.specs.Prelude.{◌≡◌, ℕ, List};
 ghost use Rattle.polcert_check.specs.declared.survey.Verdict.{Verdict};
 ghost use Rattle.polcert_robust_answer.specs.Near.{HasNearVerdict, near_below};

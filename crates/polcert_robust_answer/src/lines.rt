@@ -1,4 +1,4 @@
-//! The line of a verdict.
+//! The line of a verdict in every model near the text's: what it says, and how it is written.
 ghost use Rattle.std.specs.Prelude.{◌≡◌, [], codes, if◌then◌else◌};
 ghost use Rattle.polcert_text.specs.Sink.{WritesText};
 ghost use Rattle.polcert_answer.specs.Lines.{amount_line, lack_line, pair_text};
@@ -53,7 +53,7 @@ pub(crate) fn write_near_verdict<W: Sink>(
     buffered.flush()
 }
 
-/// Writes the line of a verdict.
+/// Writes the line of a verdict, piece by piece.
 fn write_line<W: Sink>(within: &Within<'_>, line: NearLine, sink: &mut W) -> Result<(), SinkFailed>
     ensures { WritesText W.writes W.failures sink.old (line_text within.now line) result sink.new }
 {
@@ -125,14 +125,14 @@ fn write_nearness<W: Sink>(within: &Within<'_>, sink: &mut W) -> Result<(), Sink
     write_all(sink, unit_of(within.is_percent))
 }
 
-/// Returns what stands after a distance.
+/// Returns ` %` for a percentage, and else nothing.
 fn unit_of(is_percent: bool) -> &'static [u8]
     ensures { result.now ≡ (if is_percent then codes " %" else []) }
 {
     if is_percent { b" %" } else { b"" }
 }
 
-/// Writes the distance of rewards, if they are not known.
+/// Writes the distance of rewards, unless it is 0: then rewards are known.
 fn write_rewards_within<W: Sink>(within: &Within<'_>, sink: &mut W) -> Result<(), SinkFailed>
     ensures { WritesText W.writes W.failures sink.old (rewards_words within.now) result sink.new }
 {

@@ -1,4 +1,4 @@
-//! Amounts in millionths.
+//! The amount by which a pair fails, in millionths.
 ghost use Rattle.std.specs.Prelude.{◌≡◌, ◌<◌, ◌≤◌, ◌*◌, ◌<ℤ◌, ℕ, pos, unsigned_abs};
 ghost use Rattle.polcert_text.specs.Numbers.{largest};
 ghost use Rattle.polcert_cells.specs.Tables.{IsWithinLimits};

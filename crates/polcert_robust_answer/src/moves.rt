@@ -17,17 +17,17 @@ use std::alloc::Global;
 
 /// Moves vectors so that they bound from one side what a graph earns in every model near the text's.
 pub trait NearMover {
-    /// The fault that says why vectors are not moved.
+    /// Why vectors can't be moved so that they pass.
     type Fault: Copy;
 
     // What is said of the move.
     ghost move_near: { NearMove Self.Fault };
 
-    /// Returns how the vectors' values are rounded.
+    /// Returns how the vectors' values are rounded when they are read: down for lower bounds, up for upper ones.
     fn rounding() -> Rounding
         ensures { result ≡ move_near.rounding };
 
-    /// Moves the vectors by the least constant by which they pass, and returns both.
+    /// Returns the least constant, in millionths, by which the vectors can be moved so that they pass, and the moved vectors.
     fn moved<O: Progress>(
         alloc: Global,
         given: &NearInputs,
@@ -40,19 +40,19 @@ pub trait NearMover {
         ensures not_moved { IfErr result
             (IsReasonNear move_near within.now (meaning given.now.model) given.now.graph given.now.vectors) };
 
-    /// Returns the fault of a run for the reason why vectors are not moved.
+    /// Returns the fault with which a run ends if the vectors can't be moved.
     fn run_fault(fault: Self::Fault) -> RunFault
         ensures { result ≡ move_near.run_fault fault };
 
-    /// Does nothing. Its contract has the laws of the move.
+    /// Does nothing. The runs call it so that their proofs know its contract, the laws of the move.
     fn laws()
         ensures { NearMoveLaws move_near };
 }
 
-/// Lowers lower bounds.
+/// Lowers lower bounds so that they pass from below.
 pub struct NearLowering;
 
-/// Raises upper bounds.
+/// Raises upper bounds so that they pass from above.
 pub struct NearRaising;
 
 impl NearMover for NearLowering {

@@ -20,17 +20,17 @@ use polcert_text::Rounding;
 
 /// Checks vectors that are to bound from one side what a graph earns in every model near the text's.
 pub trait NearBound {
-    /// Returns what a check finds.
+    /// What a check finds.
     type Verdict: Copy;
 
     // What is said from this side.
     ghost side: { NearSide Self.Verdict };
 
-    /// Returns how the vectors' values are rounded.
+    /// Returns how the vectors' values are rounded when they are read: down for lower bounds, up for upper ones.
     fn rounding() -> Rounding
         ensures { result ≡ side.rounding };
 
-    /// Checks the vectors.
+    /// Returns the verdict on the vectors as bounds from this side, in every model near the text's.
     fn check<O: Progress>(
         given: &NearInputs,
         within: &Within<'_>,
@@ -40,22 +40,22 @@ pub trait NearBound {
         ensures verdict { side.Is (near_given within.now given.now) (controller_near given.now) result }
         ensures horizon { side.Meets (near_given within.now given.now) (controller_near given.now) result };
 
-    /// Returns what the line of a verdict says.
+    /// Returns what the line of a verdict says: for a yes what nodes are worth from the start, for a no the pair and by how much it fails.
     fn line(given: &NearInputs, within: &Within<'_>, verdict: Self::Verdict) -> NearLine
         requires fits { FitNear given.now }
         requires verdict { side.Is (near_given within.now given.now) (controller_near given.now) verdict }
         ensures { side.IsLine within.now (meaning given.now.model) (controller_near given.now)
             given.now.vectors verdict (line_text within.now result) };
 
-    /// Does nothing. Its contract has the laws of the side.
+    /// Does nothing. The runs call it so that their proofs know its contract, the laws of the side.
     fn laws()
         ensures { NearLaws side };
 }
 
-/// From below.
+/// Lower bounds, checked from below.
 pub struct NearLower;
 
-/// From above.
+/// Upper bounds, checked from above.
 pub struct NearUpper;
 
 /// Returns in millionths, rounded up, by how much a pair fails in the worst case.

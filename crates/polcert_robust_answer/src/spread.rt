@@ -1,4 +1,4 @@
-//! Distances on the scales of a model.
+//! The distances that were typed, on the scales of a model.
 ghost use Rattle.std.specs.Prelude.{◌≡◌, ◌≤◌};
 ghost use Rattle.polcert_cells.specs.Meaning.{observations_of, states_of};
 ghost use Rattle.polcert_model.specs.Contents.{meaning};
@@ -32,7 +32,7 @@ fn parts_of_row(by: u64, columns: usize) -> u64
     (by * columns as u64 + 999_999) / 1_000_000
 }
 
-/// Returns the distance in parts of the model's scales, rounded up.
+/// Returns how far models may lie from the text's, in parts of the scales of its rows, rounded up.
 pub(crate) fn distance_in(model: &Model, within: &Within<'_>) -> Distance
     ensures t_by { result.t_by ≡ spread_within within.now (states_of (meaning model.now)) }
     ensures o_by { result.o_by ≡ spread_within within.now (observations_of (meaning model.now)) }
@@ -55,7 +55,7 @@ fn parts_at(by: u64, scale: u64) -> u64
     ((by as u128 * scale as u128 + 999_999_999_999) / 1_000_000_000_000) as u64
 }
 
-/// Returns how far starts may lie from the model's.
+/// Returns how far the shares of starts may lie from the model's, in parts of its scaled total.
 pub(crate) fn start_distance_in(model: &Model, within: &Within<'_>) -> Spread
     ensures is { result ≡ start_by within.now (meaning model.now) }
     ensures small { result.parts ≤ 10_000_000_000 }

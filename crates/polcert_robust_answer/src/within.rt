@@ -28,7 +28,7 @@ pub struct Within<'a> {
     ghost are_rewards_typed: { IsRewardDistance rewards_text.now rewards_by },
 }
 
-/// Returns a distance if it is not larger than the largest.
+/// Returns a distance, or `None` if it is below 0 or larger than `MOST_DISTANCE`.
 fn small_distance(value: i64) -> Option<u64>
     ensures small { IfSome result (λ by. (value ≡ pos by) × (by ≤ 1_000_000_000_000)) }
     ensures large { IfNone result ((by : ℕ) → value ≡ pos by → by ≤ 1_000_000_000_000 → ⊥) }
@@ -67,7 +67,8 @@ pub fn reward_distance_of(text: &[u8]) -> Option<u64>
     }
 }
 
-/// Returns the percentage that a text is, in millionths of a percent, or `None` if it is no number of at most 100 with at most six decimals.
+/// Returns the percentage that a text is, in millionths of a percent, or `None` if it is no number of at most 100 with at most six
+/// decimals.
 pub fn percent_of(text: &[u8]) -> Option<u64>
     ensures found { IfSome result (IsPercent text.now) }
     ensures none { IfNone result ((percent : ℕ) → IsPercent text.now percent → ⊥) }

@@ -1,4 +1,4 @@
-//! The program, over the runtime that it is given.
+//! What `polcert_robust` does, from the words of the command line to the exit status, over the runtime that it is given.
 use polcert_answer::{Outcome, RunFault, Task, status_of_outcome};
 use polcert_lines::{LoweredLine, RaisedLine, end_run};
 use polcert_robust_answer::{Within, distance_of, percent_of, reward_distance_of, run_near_task};

@@ -40,7 +40,7 @@ impl RulePart<'_> {
     ghost use Rattle.polcert_rules.specs.Steps.FittingRules.{IsEndKey};
     ghost use Rattle.polcert_rules.specs.Steps.Newest.{IsNewest};
 
-    /// Returns the newest of the rules that fit these indices after the two places.
+    /// Returns the number of the newest of the rules that fit these indices after the two places. `None`: none fits.
     fn newest(&self, rest: &[usize]) -> Option<usize>
         requires { AreIndices 2 rest.now }
         ensures { IsNewest self.now.rules.now (FitsKey 2 self.now.low rest.now) result }
@@ -48,7 +48,8 @@ impl RulePart<'_> {
         newest(self.rules, self.low, PLACES_LEFT, rest)
     }
 
-    /// Returns the first end state after `end` that a rule names, or the one after `end` if one names that.
+    /// Returns the first end state above `end` that a rule names, or the one after `end` if a rule names `end` itself: before it no rule
+    /// tells the end states from `end` on apart.
     fn same_until(&self, end: usize) -> usize
         requires { end + 2 < key_base }
         ensures { (r : R) → Contains self.now.rules.now r → IsEndKey self.now.low end result r.key }
@@ -75,7 +76,7 @@ impl FittingRules<'_> {
     ghost use Rattle.polcert_rules.specs.Steps.RewardSearch.{IsSearchAnswer, NamesStart};
     ghost use Rattle.polcert_cells.specs.declared.entries.Table.TheVariants.{Reward};
 
-    /// Returns the newest of the rules that fit these indices after the action and the start state.
+    /// Returns the number of the newest of the rules that fit these indices after the action and the start state. `None`: none fits.
     pub(crate) fn newest(&self, rest: &[usize]) -> Option<usize>
         requires { AreIndices 2 rest.now }
         ensures { (rules : List R) (a s : ℕ) → AreFitting rules a s self.now →
@@ -86,7 +87,7 @@ impl FittingRules<'_> {
         max_option(self.whole, max_option(of_each, of_this))
     }
 
-    /// Tests whether there are any.
+    /// Tests whether any rule fits the action and the start state.
     pub(crate) fn have_some(&self) -> bool
         ensures { (rules : List R) (a s : ℕ) → AreFitting rules a s self.now →
             IsSearchAnswer rules (HasFront a s) result }
@@ -106,7 +107,7 @@ impl FittingRules<'_> {
         !self.of_row.rules.is_empty()
     }
 
-    /// Returns an end state up to which none of them tells one from `end`.
+    /// Returns an end state up to which no rule that fits tells the end states from `end` on apart: they have the same rewards.
     pub(crate) fn same_until(&self, end: usize) -> usize
         requires { end + 2 < key_base }
         ensures { (rules : List R) (a s : ℕ) → AreFitting rules a s self.now →
@@ -123,7 +124,7 @@ impl FittingRules<'_> {
         of_each.min(of_this)
     }
 
-    /// Tests whether one of them has no place for the start state, or names it.
+    /// Tests whether a rule that fits has no place for the start state, or names it. `false`: none does.
     pub(crate) fn name_the_start(&self) -> bool
         ensures { IsFalse result → (rules : List R) (a s : ℕ) → AreFitting rules a s self.now →
             (r : R) → Contains rules r → NamesStart a s r.key → ⊥ }

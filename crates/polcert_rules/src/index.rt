@@ -75,7 +75,7 @@ impl Index {
         self.rules.as_slice()
     }
 
-    /// Tests whether no rule of this table begins with this action.
+    /// Tests whether no rule of this table begins with this action's index. Rules that begin with `*` don't count.
     pub(crate) fn names_no_action(&self, table: Table, action: usize) -> bool
         requires { action + 2 < key_base }
         ensures { IsTrue result → NamesNoAction self.now table action }
@@ -305,7 +305,7 @@ pub(crate) fn span_of(start: usize, end: usize) -> RuleSpan {
     }
 }
 
-/// Returns the number in half the bits, or the greatest of these.
+/// Returns the number in 32 bits, or the greatest of 32 bits if it is larger.
 pub(crate) fn half_width(number: usize) -> u32 {
     number.min(u32::MAX as usize) as u32
 }
@@ -371,7 +371,7 @@ fn rules_before_at(rules: &[Rule], high: u64, place: usize) -> &[Rule]
     &rules[..end]
 }
 
-/// Tests whether the rules before this place are those before the key.
+/// Tests whether the rules before this place are those before the key. `false`: unknown.
 fn is_cut(rules: &[Rule], key: u64, place: usize) -> bool
     requires { IsRising rules.now }
     ensures { IsTrue result → IsKeyPartition rules.now key place }
@@ -385,7 +385,8 @@ fn is_cut(rules: &[Rule], key: u64, place: usize) -> bool
     none_below(&rules[place..], key)
 }
 
-/// Tests whether those before this place are all before one key, and no other is before another: none is between.
+/// Returns whether this place shows that no rule has a key from `low` up to `high`: all rules before it are below `low`, and none after is
+/// below `high`. `false`: unknown.
 #[inline(always)]
 pub(crate) fn has_gap(rules: &[Rule], place: usize, low: u64, high: u64) -> bool
     requires { IsRising rules.now }
@@ -419,8 +420,8 @@ pub(crate) fn none_below(rules: &[Rule], key: u64) -> bool
     }
 }
 
-/// Returns the number of the newest rule that fits the first of these indices, of the rules whose places
-/// follow those of the key `low`, at most this many.
+/// Returns the number of the newest rule that fits the first of these indices, of the rules whose places follow those of the key `low`, at
+/// most `levels` of them.
 pub(crate) fn newest(rules: &[Rule], low: u64, levels: usize, indices: &[usize]) -> Option<usize>
     requires rising { IsRising rules.now }
     requires from { (r : R) → Contains rules.now r → low ≤ r.key }
@@ -455,8 +456,8 @@ pub(crate) struct NextPlace<'a> {
     pub of_only: &'a [Rule],
 }
 
-/// Returns the rules that continue with a place for an index, of the rules whose places follow those of the
-/// key `low`, at most this many.
+/// Returns the rules that continue with a place for an index, of the rules whose places follow those of the key `low`, at most `levels` of
+/// them.
 #[inline(always)]
 pub(crate) fn next_place(rules: &[Rule], low: u64, levels: usize, index: usize) -> NextPlace<'_>
     requires rising { IsRising rules.now }
@@ -478,7 +479,8 @@ pub(crate) fn next_place(rules: &[Rule], low: u64, levels: usize, index: usize) 
     }
 }
 
-/// Returns the number of the rule with this key, if no rule has a lower one.
+/// Returns the number of the rule with this key, if there is one. The caller gives no rule with a lower key, so only the first is looked
+/// at.
 pub(crate) fn first_at(rules: &[Rule], key: u64) -> Option<usize>
     requires rising { IsRising rules.now }
     requires from { (r : R) → Contains rules.now r → key ≤ r.key }
@@ -494,7 +496,7 @@ pub(crate) fn first_at(rules: &[Rule], key: u64) -> Option<usize>
     }
 }
 
-/// Returns how many keys have this many places.
+/// Returns how many keys begin with the same places, if at most `levels` places may follow these.
 pub(crate) fn span(levels: usize) -> u64
     requires { levels ≤ most_places }
     ensures { result ≡ key_base ^ levels }
@@ -508,7 +510,7 @@ pub(crate) fn span(levels: usize) -> u64
     }
 }
 
-/// Returns the greater of two numbers, if there are any.
+/// Returns the greater of two numbers, the one that is there, or `None` if neither is.
 pub(crate) fn max_option(one: Option<usize>, other: Option<usize>) -> Option<usize>
     ensures { result ≡ max_option one other }
 {

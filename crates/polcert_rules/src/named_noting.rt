@@ -1,4 +1,4 @@
-//! Noting the newest rules of the observations of an outcome, part of the rules by part.
+//! Notes the newest rule for each observation at an end state, for one part of the rules after another.
 ghost use Rattle.std.specs.Prelude.{◌≡◌, ◌+◌, ◌<◌, ◌≤◌, ◌^◌, ◌∷◌, [], ℕ, Contains, IsTrue};
 ghost use Rattle.polcert_rules.specs.declared.index.Rule.{Rule as R};
 ghost use Rattle.polcert_rules.specs.Keys.{key_base};
@@ -13,7 +13,8 @@ use crate::named_rules::NamedRules;
 /// How many observations have a digit.
 const OBSERVATION_KEYS: u64 = KEY_BASE - 2;
 
-/// Notes, after two places, the newest of the rules that fit an end state and each observation. Returns whether there was room.
+/// Notes, of the rules that continue the key `low` of two places, the newest that fits the end state and each observation. `false`: there
+/// was no room, and the list is of no use.
 pub(crate) fn note_ends(rules: &[Rule], low: u64, end: usize, list: &mut NamedRules) -> bool
     requires rising { IsRising rules.now }
     requires from { (r : R) → Contains rules.now r → low ≤ r.key }
@@ -32,7 +33,7 @@ pub(crate) fn note_ends(rules: &[Rule], low: u64, end: usize, list: &mut NamedRu
     note_observations(next.of_only, next.only, list)
 }
 
-/// Notes, after three places, the newest of the rules that fit each observation. Returns whether there was room.
+/// Notes, of the rules that continue the key `low` of three places, the newest that fits each observation. `false`: there was no room.
 fn note_observations(rules: &[Rule], low: u64, list: &mut NamedRules) -> bool
     requires rising { IsRising rules.now }
     requires from { (r : R) → Contains rules.now r → low ≤ r.key }

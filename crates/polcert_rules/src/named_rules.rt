@@ -1,4 +1,4 @@
-//! The newest rules of the observations of an outcome, if rules name few of them.
+//! The newest rule for each observation, given an action, a start state and an end state, if rules name few observations.
 ghost use Rattle.std.specs.Prelude.{◌≡◌, ◌≤◌, length};
 ghost use Rattle.polcert_rules.specs.declared.named_rules.TheConstants.{FEW_NAMED};
 ghost use Rattle.polcert_rules.specs.Steps.Distinct.{AreDistinct};
@@ -45,14 +45,14 @@ impl NamedRules {
         }
     }
 
-    /// Notes a rule, if one, for every observation.
+    /// Notes a rule, if one, for every observation for which no newer one is noted.
     pub(crate) fn note_all(&mut self, number: Option<usize>)
         ensures { (z : ℕ) → noted_at self.new z ≡ max_option (noted_at self.old z) number }
     {
         self.whole = max_option(self.whole, number);
     }
 
-    /// Notes a rule that names this observation. Returns whether there was room.
+    /// Notes a rule that names this observation, unless a newer one is noted. `false`: there was no room.
     pub(crate) fn note_rule(&mut self, observation: usize, number: usize) -> bool
         ensures here { IsTrue result →
             noted_at self.new observation ≡ max_option (noted_at self.old observation) (Some number) }
@@ -68,7 +68,7 @@ impl NamedRules {
         }
     }
 
-    /// Returns where the observation stands, if rules name it so far.
+    /// Returns where the observation is in the list. `None`: no rule so far names it.
     fn place_of(&self, observation: usize) -> Option<usize>
         ensures { IsPlaceOf self.now observation result }
     {
@@ -80,7 +80,7 @@ impl NamedRules {
         None
     }
 
-    /// Notes a rule that names the observation at this place.
+    /// Notes a rule for the observation at this place, unless a newer one is noted.
     fn replace_newest(&mut self, place: usize, number: usize)
         requires { place < self.old.count }
         ensures here { noted_at self.new (rule_at self.old.rules place).observation
@@ -100,7 +100,7 @@ impl NamedRules {
         };
     }
 
-    /// Notes a rule that names another observation. Returns whether there was room.
+    /// Notes a rule for an observation that no rule so far names. `false`: there was no room.
     fn push(&mut self, observation: usize, number: usize) -> bool
         requires { IsUnnamed self.old observation }
         ensures here { IsTrue result →

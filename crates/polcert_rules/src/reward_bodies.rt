@@ -47,7 +47,7 @@ impl RewardBodies {
     }
 }
 
-/// Returns what these numbers are worth that are written as rewards, or as costs.
+/// Returns the rewards that these written numbers stand for: minus the numbers if they are costs.
 fn signed_rewards(alloc: Global, costs: bool, written: Vec<i64>) -> Result<Vec<i64>, AllocError>
     ensures { IfOk result (λ numbers. numbers.items ≡ map (worth costs) written.items) }
 {
@@ -59,7 +59,7 @@ fn signed_rewards(alloc: Global, costs: bool, written: Vec<i64>) -> Result<Vec<i
     Ok(numbers)
 }
 
-/// Puts these rewards after the others, each as it is worth.
+/// Puts the rewards that these written numbers stand for after the others: minus the numbers if they are costs.
 fn add_numbers(numbers: &mut Vec<i64>, costs: bool, written: &[i64]) -> Result<(), AllocError>
     ensures { OnOk result (numbers.new.items ≡ numbers.old.items ++ map (worth costs) written.now) }
 {

@@ -34,8 +34,8 @@ const FEW_OBSERVATIONS: usize = 63;
 /// The rewards of this many observations are filled in together.
 const BLOCK: usize = 1000;
 
-/// The rewards that a list of entries gives: of each pattern of R the last entry, and its numbers, each as it
-/// is worth.
+/// The rewards that a list of entries gives: of each pattern of R the last entry, and its numbers as rewards (minus what is written as
+/// costs).
 #[derive(Drop)]
 pub struct Rewards {
     shape: RewardShape,
@@ -82,7 +82,7 @@ impl Rewards {
         })
     }
 
-    /// Returns how many elements of each kind there are.
+    /// Returns how many elements of each kind the rewards are for. Nothing calls it.
     pub fn shape(&self) -> RewardShape
         ensures { result ≡ self.now.shape }
     {
@@ -150,8 +150,8 @@ impl Rewards {
         }
     }
 
-    /// Fills in the rewards if nothing is noted yet for any of these observations, nor for one more. The note
-    /// there is a guess at most of them: after the last observation stands one that no entry names.
+    /// Fills in the rewards of `count` observations from `first` on. `noted` is room for a rule at each of them and at one more, and the
+    /// caller has it empty. That one more is named by no entry, so its rule is a guess at most of them.
     fn fill_noted(
         &self,
         at: StateTransition,
@@ -249,9 +249,9 @@ impl Rewards {
         true
     }
 
-    /// Returns the reward that all end states and observations but a few have if this action is taken in the start state, and fills in those
-    /// of these few, each numbered by its end state times the number of observations plus its observation, in order. `None`: entries name
-    /// more than there is room for, or give more than one number.
+    /// Returns the reward that all end states and observations but a few have if this action is taken in the start state, and fills in
+    /// those of these few, each numbered by its end state times the number of observations plus its observation, in order. `None`: entries
+    /// name more than there is room for, or give more than one number.
     pub fn find_row(
         &self,
         action: usize,
@@ -362,7 +362,8 @@ impl Rewards {
         rules.same_until(end)
     }
 
-    /// Tests whether any entry of R is about this action and start state. If none is, all rewards are 0.
+    /// Tests whether any entry of R is about this action and start state. If none is, all rewards are 0. The full form asks, to leave rows
+    /// out; the check doesn't.
     pub fn has_rewards(&self, action: usize, start: usize) -> bool
         requires action { action < self.now.shape.actions }
         requires start { start < self.now.shape.states }
@@ -396,7 +397,7 @@ impl Rewards {
         }
     }
 
-    /// Returns what a body gives each cell, if it has a single number; 0 if there is no body.
+    /// Returns the one number that a body gives every cell that it is asked for; 0 if there is no body. `None`: it has more numbers.
     fn single_number(&self, body: Option<RewardBody>) -> Option<i64>
         ensures { (p : Preamble) (entries : List E) → AreRewardsOf p entries self.now →
             ForSome result (λ h. (cell : List ℕ) →
@@ -413,7 +414,7 @@ impl Rewards {
         }
     }
 
-    /// Returns the same as `given`, in fewer steps if the body has a single number.
+    /// Returns what `reward_of_body` does, at once if the body has a single number.
     fn single_or_given(
         &self,
         single: Option<i64>,
@@ -436,7 +437,7 @@ impl Rewards {
         }
     }
 
-    /// Returns the body of the rule of this number.
+    /// Returns the body of the entry of this number, if there is a number: that of the newest rule that fits a cell.
     fn body_of(&self, number: Option<usize>) -> Option<RewardBody>
         ensures { (indices : List ℕ) (p : Preamble) (entries : List E) → AreIndices most_places indices →
             AreRewardsOf p entries self.now →
@@ -450,8 +451,7 @@ impl Rewards {
     }
 }
 
-/// Tests whether a body of this many places has one number after an action and a start state, if there are so
-/// many observations.
+/// Tests whether the body of an entry with this many places gives an end state a single number, in a model with this many observations.
 fn is_single(places: usize, observations: usize) -> bool
     ensures { IsTrue result → IsSingle observations places }
 {

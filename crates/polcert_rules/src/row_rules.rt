@@ -48,7 +48,7 @@ pub(crate) struct RowRules {
 }
 
 impl RowRules {
-    /// Builds the rules in a model of this shape.
+    /// Builds the rules of R for a model of this shape, with marks of where those of each action and start state may be found.
     pub(crate) fn of(
         alloc: Global,
         shape: RewardShape,
@@ -105,7 +105,8 @@ impl RowRules {
         }
     }
 
-    /// Returns the rules that fit an action and a start state, if those that name a cell follow one key.
+    /// Returns the rules that fit an action and a start state, if those that name a cell follow one key. `None`: they follow several; ask
+    /// for each end state.
     pub(crate) fn cell_rules(&self, action: usize, start: usize) -> Option<CellRules<'_>>
         requires rising { IsRising self.now.rules.items }
         requires indices { AreIndices most_places (action ∷ start ∷ []) }
@@ -128,7 +129,7 @@ impl RowRules {
         Some(of_every.join(of_only)?.with_whole(here))
     }
 
-    /// Returns the same as `cell_rules` after a first place, which has this digit.
+    /// Returns what `cell_rules` does, of the rules whose first place has this digit.
     fn cell_rules_after(&self, digit: usize, low: u64, start: usize) -> Option<CellRules<'_>>
         requires rising { IsRising self.now.rules.items }
         requires room { low + key_base ^ 3 < 2 ^ 64 }
@@ -168,7 +169,7 @@ impl RowRules {
         self.fitting(action, start).name_the_start()
     }
 
-    /// Returns the number of the rule with this key, that of one place with this digit or of none.
+    /// Returns the number of the rule with this key: a pattern of the one place that has this digit, or of no place.
     fn rule_at(&self, first: usize, key: u64) -> Option<usize>
         requires rising { IsRising self.now.rules.items }
         requires room { key + key_base ^ 2 < 2 ^ 64 }
@@ -256,7 +257,7 @@ fn cell_rules_of(rules: &[Rule], low: u64) -> Option<CellRules<'_>>
 }
 
 impl<'a> CellRules<'a> {
-    /// Returns the rules of both, if one of the two names no end state.
+    /// Returns the rules of both. `None`: both have rules that name end states, after different keys.
     fn join(self, other: CellRules<'a>) -> Option<CellRules<'a>>
         ensures { IfSome result (AreJoined self.entry other.entry) }
     {
@@ -355,7 +356,7 @@ pub(crate) fn note(
     }
 }
 
-/// Notes the rules that have one place more.
+/// Notes the rules whose patterns have just one place after the key `low`: an observation or `*`.
 fn note_last(rules: &[Rule], low: u64, first: usize, noted: &mut [Option<usize>])
     requires rising { IsRising rules.now }
     requires room { low + (first + length noted.old + 2) < 2 ^ 64 }
@@ -383,7 +384,7 @@ fn note_each(rules: &[Rule], start: u64, noted: &mut [Option<usize>])
     }
 }
 
-/// Notes one rule.
+/// Notes a rule at the number by which its key is greater than `start`, unless a newer one is noted there.
 fn note_rule(rule: Rule, start: u64, noted: &mut [Option<usize>])
     requires from { start ≤ rule.key }
     requires to { rule.key < start + length noted.old }
@@ -396,7 +397,7 @@ fn note_rule(rule: Rule, start: u64, noted: &mut [Option<usize>])
     noted[place] = max_option(noted[place], Some(rule.number));
 }
 
-/// Notes a number, if one, for each.
+/// Notes a rule, if one, everywhere where no newer one is noted.
 pub(crate) fn note_all(noted: &mut [Option<usize>], number: Option<usize>)
     ensures { (z : ℕ) → z < length noted.old
         → slice_index_or noted.new z None ≡ max_option (slice_index_or noted.old z None) number }

@@ -241,7 +241,7 @@ fn zeros_of(alloc: Global, rules: &[Rule], entries: &Entries) -> Result<Vec<Rule
     Ok(zeros)
 }
 
-/// Returns the other rules.
+/// Returns those of these rules that are no zeros.
 fn others_of(alloc: Global, rules: &[Rule], entries: &Entries) -> Result<Vec<Rule>, AllocError>
     requires { All (λ (r : R). r.number < length entries.now) rules.now }
     ensures { IfOk result (λ others. others.items ≡ others_of entries.now rules.now) }

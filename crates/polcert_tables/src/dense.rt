@@ -12,7 +12,8 @@ use polcert_cells::{Cells, ONE, Row};
 use std::alloc::{AllocError, Global};
 use std::marker;
 
-/// A model that keeps every cell of its tables: a cell is read in one step, whatever text the model came from.
+/// A model that keeps every cell of its tables: a cell is read in one step, whatever text the model came from. Tests check both kinds of
+/// models; the programs check a `Model`.
 #[derive(Drop)]
 pub struct DenseModel {
     states: usize,
@@ -95,8 +96,8 @@ impl Cells for DenseModel {
     }
 }
 
-/// Returns the model with filled tables that has the counts, discount, scales and cells of this one. `printable` tells whether a
-/// model's tables may be filled. The only error is out of memory.
+/// Returns the model with filled tables that has the counts, discount, scales and cells of this one. Only tests call it, after `printable`
+/// has allowed it. The only error is out of memory.
 pub fn dense_of(alloc: Global, model: &Model) -> Result<DenseModel, AllocError>
     requires printable { IsPrintable (meaning model.now).preamble }
     ensures { IfOk result (λ dense. HasSameCells (table_of (meaning model.now)) (filled_table dense.lists)) }

@@ -163,7 +163,8 @@ impl Model {
         }
     }
 
-    /// Returns the name of the state, action or observation of this number, or `None` if the text gives a count.
+    /// Returns the name of the state, action or observation of this number. `None`: the text gives a count. For callers that show names:
+    /// the programs show numbers, so only tests call it.
     pub fn name_of(&self, kind: Kind, index: usize) -> Option<&str>
         requires { index < count_of (elements_of (meaning self.now) kind) }
         ensures { option_map (λ name. name.now) result ≡ name_of (elements_of (meaning self.now) kind) index }
@@ -171,7 +172,7 @@ impl Model {
         self.elements(kind).name_of(index)
     }
 
-    /// Returns the elements that the line of observations gives, if there is one.
+    /// Returns the elements of the line of observations, for the full form. `None`: there is no such line, in an MDP.
     pub fn observations_line(&self) -> Option<&Elements>
         ensures { option_copied result ≡ (meaning self.now).preamble.observations }
     {
@@ -290,7 +291,8 @@ impl Model {
         if self.is_mdp() { 0 } else { z }
     }
 
-    /// Returns whether an entry gives rewards when action `a` is taken in state `s`. If none does, all are 0.
+    /// Returns `false` only if all rewards are 0 when action `a` is taken in state `s`: then the full form leaves their rows out unread.
+    /// `true`: an entry gives some, perhaps 0. (The check doesn't ask.)
     pub fn has_rewards(&self, a: usize, s: usize) -> bool
         requires action { a < actions_of (meaning self.now) }
         requires start { s < states_of (meaning self.now) }
@@ -508,7 +510,7 @@ pub fn build_model(
     }))
 }
 
-/// Returns the weights of a row of T or O, by column.
+/// Returns the weights of a row of T or O, by column: for the full form, which writes both tables in one way.
 pub fn row_of(model: &Model, table: Table, action: usize, state: usize) -> Row<'_>
     requires weighted { IsWeighted table }
     requires action { action < actions_of (meaning model.now) }

@@ -96,7 +96,7 @@ fn command_with_vectors<'a>(
     command_with_file(alloc, name, texts)?.arg(file(alloc, "ALPHA"))
 }
 
-/// Returns the choice of a subcommand and its matches.
+/// Returns what the matches ask for. `None`: the command or a file's name is missing.
 fn bound_choice_of<'a>(matches: &ArgMatches<'a>) -> Option<BoundChoice<'a>>
     ensures { option_map bound_view_of result ≡ bound_chosen (subcommand_rows_of matches.now) }
 {
@@ -106,7 +106,7 @@ fn bound_choice_of<'a>(matches: &ArgMatches<'a>) -> Option<BoundChoice<'a>>
     }
 }
 
-/// Returns the choice of a subcommand's name and its matches.
+/// Returns what the subcommand of this name asks for with its matches. `None`: a file's name is missing.
 fn bound_choice_by_name<'a>(name: &str, inner: &ArgMatches<'a>) -> Option<BoundChoice<'a>>
     ensures { option_map bound_view_of result ≡ bound_chosen_of name.now (rows_of (found_of inner.now)) }
 {
@@ -139,7 +139,7 @@ fn raise_choice_of<'a>(files: BoundFiles<'a>, points: Option<&'a str>) -> BoundC
     }
 }
 
-/// Returns the names of both files, if both were given.
+/// Returns the names of both files. `None`: one is missing.
 fn bound_files_of<'a>(inner: &ArgMatches<'a>) -> Option<BoundFiles<'a>>
     ensures { option_map bound_names_view result ≡ bound_names_in (rows_of (found_of inner.now)) }
 {

@@ -66,7 +66,7 @@ pub fn command_with_files<'a>(
         .arg(file(alloc, "ALPHA"))
 }
 
-/// Returns the flag of a check from above.
+/// Returns the flag `--at-most`, which asks for a check from above.
 pub fn at_most<'a>(alloc: Global, help: &'a str) -> Arg<'a>
     ensures rule { rule_of result ≡ at_most_rule }
     ensures local { result.global ≡ false }
@@ -77,14 +77,14 @@ pub fn at_most<'a>(alloc: Global, help: &'a str) -> Arg<'a>
         .help(help)
 }
 
-/// Returns the value of an argument.
+/// Returns the value that was given for an argument. `None`: none was.
 pub fn value_of<'a>(inner: &ArgMatches<'a>, id: &str) -> Option<&'a str>
     ensures { option_map (λ text. text.now) result ≡ first_of id.now (rows_of (found_of inner.now)) }
 {
     inner.get_str(id)
 }
 
-/// Returns whether the flag of a check from above was given.
+/// Returns whether `--at-most` was given, which asks for a check from above.
 pub fn has_at_most(inner: &ArgMatches<'_>) -> bool
     ensures { result ≡ bounds_above (rows_of (found_of inner.now)) }
 {
@@ -94,7 +94,7 @@ pub fn has_at_most(inner: &ArgMatches<'_>) -> bool
     }
 }
 
-/// Returns the names of the three files, if all were given.
+/// Returns the names of the three files. `None`: one is missing.
 pub fn file_names_of<'a>(inner: &ArgMatches<'a>) -> Option<FileNames<'a>>
     ensures { option_map names_view result ≡ names_in (rows_of (found_of inner.now)) }
 {

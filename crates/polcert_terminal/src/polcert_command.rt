@@ -137,7 +137,7 @@ fn check_command<'a>(alloc: Global) -> Result<Command<'a>, AllocError>
     command_with_files(alloc, "check", help::CHECK)?.arg(at_most(alloc, help::AT_MOST))
 }
 
-/// Returns the choice of a subcommand and its matches.
+/// Returns what the matches ask for. `None`: a file's name is missing.
 fn choice_of<'a>(matches: &ArgMatches<'a>) -> Option<Choice<'a>>
     ensures { option_map view_of result ≡ chosen (subcommand_rows_of matches.now) }
 {
@@ -147,7 +147,7 @@ fn choice_of<'a>(matches: &ArgMatches<'a>) -> Option<Choice<'a>>
     }
 }
 
-/// Returns the choice of a subcommand's name and its matches.
+/// Returns what the subcommand of this name asks for with its matches. `None`: a file's name is missing.
 fn choice_by_name<'a>(name: &str, inner: &ArgMatches<'a>) -> Option<Choice<'a>>
     ensures { option_map view_of result ≡ chosen_of name.now (rows_of (found_of inner.now)) }
 {

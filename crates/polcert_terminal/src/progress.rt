@@ -117,6 +117,7 @@ impl<'a, R: Clock + Eprint> CheckProgress<'a, R> {
         Self::of("points", rt, is_terminal)
     }
 
+    /// Returns the progress of a walk that begins now, over what the noun names.
     fn of(noun: &'static str, rt: &'a R, is_terminal: bool) -> Self {
         CheckProgress {
             line: StatusLine::new(rt, is_terminal),

@@ -14,7 +14,7 @@ use crate::command_line::{
 use clap::{Arg, ArgAction, ArgMatches, Command, Error};
 use std::alloc::{AllocError, Global};
 
-/// The word of the distance of probabilities: a decimal, or so many percent of themselves.
+/// The word of the distance of probabilities: a decimal, or a percentage of each probability.
 #[derive(Clone, Copy, Debug, PartialEq, Eq)]
 pub enum Nearness<'a> {
     Within(&'a str),
@@ -53,8 +53,8 @@ pub enum RobustChoice<'a> {
     },
 }
 
-/// Returns what the words ask for, of which the first is the program's name, or `None` if the command or a file's name is missing, or not just
-/// one of `--within` and `--percent` was given.
+/// Returns what the words ask for, of which the first is the program's name, or `None` if the command or a file's name is missing, or not
+/// just one of `--within` and `--percent` was given.
 ///
 /// # Errors
 ///
@@ -112,7 +112,7 @@ fn add_command_with_distances<'a>(
     command.subcommand(added)
 }
 
-/// Returns the subcommand that checks.
+/// Returns the subcommand that checks, with the distances and the flag of a check from above.
 fn robust_check_command<'a>(alloc: Global) -> Result<Command<'a>, AllocError>
     ensures app { IfOk result (λ command. app_of command ≡ robust_check_app) }
     ensures local { IfOk result (λ command. (out-Command command).has_globals ≡ false) }
@@ -147,7 +147,7 @@ fn value<'a>(alloc: Global, id: &'a str, value: &'a str, help: &'a str) -> Arg<'
         .help(help)
 }
 
-/// Returns the choice of a subcommand and its matches.
+/// Returns what the matches ask for. `None`: the command, a file's name or a distance is missing.
 fn robust_choice_of<'a>(matches: &ArgMatches<'a>) -> Option<RobustChoice<'a>>
     ensures { option_map robust_view_of result ≡ robust_chosen (subcommand_rows_of matches.now) }
 {
@@ -157,7 +157,7 @@ fn robust_choice_of<'a>(matches: &ArgMatches<'a>) -> Option<RobustChoice<'a>>
     }
 }
 
-/// Returns the choice of a subcommand's name and its matches.
+/// Returns what the subcommand of this name asks for with its matches. `None`: a file's name or a distance is missing.
 fn robust_choice_by_name<'a>(name: &str, inner: &ArgMatches<'a>) -> Option<RobustChoice<'a>>
     ensures { option_map robust_view_of result ≡ robust_chosen_of name.now (rows_of (found_of inner.now)) }
 {
@@ -179,7 +179,7 @@ fn robust_choice_by_name<'a>(name: &str, inner: &ArgMatches<'a>) -> Option<Robus
     }
 }
 
-/// Returns the check from this side.
+/// Returns the check from below, or from above if `is_above`.
 fn robust_check_of<'a>(
     is_above: bool,
     files: FileNames<'a>,
@@ -195,7 +195,7 @@ fn robust_check_of<'a>(
     }
 }
 
-/// Returns the word of the distance of probabilities, if just one of both was given.
+/// Returns the word of the distance of probabilities. `None`: not just one of `--within` and `--percent` was given.
 fn nearness_of<'a>(within: Option<&'a str>, percent: Option<&'a str>) -> Option<Nearness<'a>>
     ensures { option_map near_view result ≡ just_one (option_map (λ text. text.now) within.entry)
         (option_map (λ text. text.now) percent.entry) }
@@ -207,7 +207,7 @@ fn nearness_of<'a>(within: Option<&'a str>, percent: Option<&'a str>) -> Option<
     }
 }
 
-/// Returns the words of the distances, if that of probabilities was given.
+/// Returns the words of the distances. `None`: not just one distance of probabilities was given.
 fn distances_of<'a>(inner: &ArgMatches<'a>) -> Option<DistanceWords<'a>>
     ensures { option_map distances_view result ≡ distances_in (rows_of (found_of inner.now)) }
 {

@@ -102,7 +102,8 @@ pub fn any_numeral(bytes: &[u8]) -> Option<FrontSize>
     }
 }
 
-/// Returns the numeral at the front, if it is a few digits, perhaps with a point and decimals, and a byte after it ends it. `None`: unknown.
+/// Returns the numeral at the front, if it is a few digits, perhaps with a point and decimals, and a byte after it ends it. `None`:
+/// unknown.
 #[inline(always)]
 pub fn plain_numeral(bytes: &[u8]) -> Option<FrontSize>
     ensures { IfSome result (EndsAsSize bytes.now) }
@@ -211,8 +212,8 @@ fn six_digits_value(digits: u64) -> u64
     (pairs & 0xFF) * 10_000 + (pairs >> 16 & 0xFF) * 100 + (pairs >> 32 & 0xFF)
 }
 
-/// Returns the decimals from `from` on, if those before are six, which end at `full`, and if a byte follows that ends the numeral.
-/// `None`: unknown.
+/// Returns where the decimals after the sixth end, and whether one isn't 0. They begin at `from`, and there are none unless `from` is
+/// `full`, where six decimals end. `None`: unknown, since no byte is seen that ends the numeral.
 #[inline(always)]
 fn tail_from(bytes: &[u8], from: usize, full: usize) -> Option<Tail>
     requires within { from < length bytes.now }
@@ -236,7 +237,7 @@ fn tail_from(bytes: &[u8], from: usize, full: usize) -> Option<Tail>
     Some(tail)
 }
 
-/// Returns no decimals, if a byte follows that ends the numeral. `None`: unknown.
+/// Returns that no further decimals stand at `from`, if the byte there ends the numeral. `None`: unknown.
 #[inline(always)]
 fn no_tail(bytes: &[u8], from: usize) -> Option<Tail>
     requires within { from < length bytes.now }
@@ -252,7 +253,7 @@ fn no_tail(bytes: &[u8], from: usize) -> Option<Tail>
     })
 }
 
-/// Returns the decimals from `from` on, however many.
+/// Returns where the digits from `from` on end, and whether one isn't 0, digit by digit.
 #[inline(always)]
 fn long_tail(bytes: &[u8], from: usize) -> Tail
     requires { from ≤ length bytes.now }

@@ -114,7 +114,7 @@ pub fn front_number(bytes: &[u8]) -> Option<FrontNumber>
     }
 }
 
-/// Does the same as `front_number` for a number of any spelling.
+/// Returns what `front_number` does, for a numeral of any spelling: called if the numeral isn't `Plain`.
 #[inline(never)]
 fn any_number(bytes: &[u8]) -> Option<FrontNumber>
     ensures { IfSome result (λ found. (place : ℕ) → BeginWithNumber place bytes.now found) }
@@ -122,7 +122,7 @@ fn any_number(bytes: &[u8]) -> Option<FrontNumber>
     number_at(Spelling::Any, bytes, near_gap(bytes))
 }
 
-/// Returns the number of such a spelling that begins at this index, after a gap. `None`: unknown.
+/// Returns the number of this spelling that begins at index `start`, where a gap ends. `None`: unknown.
 #[inline(always)]
 fn number_at(spelling: Spelling, bytes: &[u8], start: usize) -> Option<FrontNumber>
     requires within { start ≤ length bytes.now }
@@ -138,7 +138,7 @@ fn number_at(spelling: Spelling, bytes: &[u8], start: usize) -> Option<FrontNumb
     }
 }
 
-/// Returns the number whose numeral begins there, after such a sign. `None`: unknown.
+/// Returns the number whose numeral begins at index `from`, negative if a `-` stood before it. `None`: unknown.
 #[inline(always)]
 fn number_from(
     spelling: Spelling,
@@ -155,7 +155,7 @@ fn number_from(
     }
 }
 
-/// Returns the numeral at the front, of such a spelling, if a byte after it ends it. `None`: unknown.
+/// Returns the numeral at the front, if it is of this spelling and a byte after it ends it. `None`: unknown.
 #[inline(always)]
 fn numeral_in(spelling: Spelling, bytes: &[u8]) -> Option<FrontSize>
     ensures { IfSome result (EndsAsSize bytes.now) }
@@ -166,7 +166,8 @@ fn numeral_in(spelling: Spelling, bytes: &[u8]) -> Option<FrontSize>
     }
 }
 
-/// Returns the number of a numeral that begins there, after such a sign, if no decimal is cut off.
+/// Returns the number of a numeral that begins at index `from`, with its sign. `None` if a decimal after the sixth isn't 0: the slow path
+/// refuses it.
 #[inline(always)]
 fn exact_number(from: usize, is_negative: bool, numeral: FrontSize) -> Option<FrontNumber>
     requires room { from + numeral.len < 2 ^ 64 }
@@ -285,7 +286,7 @@ pub fn front_value(rounding: Rounding, bytes: &[u8]) -> Option<FrontValue>
     }
 }
 
-/// Does the same as `front_value` for a value of any spelling.
+/// Returns what `front_value` does, for a value of any spelling: called if the numeral isn't `Plain`.
 #[inline(never)]
 fn any_value(rounding: Rounding, bytes: &[u8]) -> Option<FrontValue>
     ensures { IfSome result (λ value. (place : ℕ) → BeginWithValue rounding place bytes.now value) }
@@ -293,7 +294,7 @@ fn any_value(rounding: Rounding, bytes: &[u8]) -> Option<FrontValue>
     value_at(Spelling::Any, rounding, bytes, near_gap(bytes))
 }
 
-/// Returns the value of such a spelling that begins at this index, after a gap. `None`: unknown.
+/// Returns the value of this spelling that begins at index `start`, where a gap ends. `None`: unknown.
 #[inline(always)]
 fn value_at(
     spelling: Spelling,

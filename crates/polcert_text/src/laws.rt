@@ -1,4 +1,5 @@
-//! Laws of the definitions, each the contract of a function with nothing to do.
+//! Laws of the definitions, each the contract of a function with nothing to do. Nothing calls them: they are for readers, and for proofs to
+//! cite.
 ghost use Rattle.std.specs.Prelude.{◌≡◌, ℕ, Bool, Option, Some, None, Result, Err, List, ℤ, ◌≤ℤ◌, IfSome};
 ghost use Rattle.std.specs.Io.KnownBytes.{Appends};
 ghost use Rattle.polcert_text.specs.Cut.{Lexeme, Rest, TakesToken, Ends, IsCut, HasCut, text_rest, text_limit};
@@ -39,7 +40,7 @@ pub fn one_next_token()
         TakesToken rest s x → TakesToken rest t y → (s ≡ t) × (x ≡ y) }
 {}
 
-/// What is still to be cut ends in one way where no token comes next, and does not end where one does.
+/// The rest of a text ends in one way if no token comes next, and does not end if one does.
 pub fn one_end()
     ensures end { (rest : Rest) (x y : Option TokenFault) → Ends rest x → Ends rest y → x ≡ y }
     ensures no_token { (rest : Rest) (t : Lexeme) (following : Rest) (x : Option TokenFault) →
@@ -95,13 +96,15 @@ pub fn text_of_a_reader()
         IsText ReadsKnown rest text after → IfSome rest (λ xs. text ≡ xs) }
 {}
 
-/// Every text is that of a source over a file of the system: std's contracts do not say which bytes its reads give.
+/// Shows a limit of what runs promise, and no proof cites it: every text fits a source over a file of the system, since std's contracts do
+/// not say which bytes its reads give.
 pub fn any_text_of_a_file()
     ensures { (old new : ReaderSource File) (text : List ℕ) →
         IsText ⟦<ReaderSource<File> as Source>⟧.reads old text new }
 {}
 
-/// Every text is what a sink over standard output took: std's contracts do not say which bytes are printed.
+/// Shows a limit of what runs promise, and no proof cites it: every text fits what a sink over standard output took, since std's contracts
+/// do not say which bytes are printed.
 pub fn any_text_of_standard_output<P: Print>()
     ensures { (old new : WriterSink (Printer P)) (text : List ℕ) →
         Takes ⟦<WriterSink<Printer<'static, P>> as Sink>⟧.writes old text new }

@@ -47,7 +47,7 @@ pub enum Rounding {
 }
 
 impl Rounding {
-    /// Tests whether a number is rounded away from 0, if it is negative or not.
+    /// Tests whether this rounding takes a number, negative or not, away from 0.
     #[inline(always)]
     fn is_away(self, negative: bool) -> bool
         ensures { result ≡ is_away self negative }
@@ -128,8 +128,8 @@ pub fn scaled_of(negative: bool, numeral: &[u8]) -> Result<i64, NumberFault>
     Ok(signed(negative, size.floor))
 }
 
-/// Returns the value of a numeral with the sign before it, in millionths and rounded down (a negative one
-/// away from 0).
+/// Returns the value of a numeral with the sign before it, in millionths and rounded down (a negative one away from 0). Only tests call it;
+/// readers call `rounded_of`.
 ///
 /// # Errors
 ///
@@ -142,8 +142,8 @@ pub fn floor_of(negative: bool, numeral: &[u8]) -> Result<i64, NumberFault>
     rounded_of(Rounding::Down, negative, numeral)
 }
 
-/// Returns the value of a numeral with the sign before it, in millionths and rounded up (a negative one
-/// towards 0).
+/// Returns the value of a numeral with the sign before it, in millionths and rounded up (a negative one towards 0). Only tests call it;
+/// readers call `rounded_of`.
 ///
 /// # Errors
 ///
@@ -211,7 +211,7 @@ fn separates(separator: Separator, byte: u8) -> bool
     }
 }
 
-/// Returns what stands before the first such byte, and what stands after it.
+/// Returns the bytes before the first separator and those after it. If there is none, these are all bytes and none.
 fn split_at_first(bytes: &[u8], separator: Separator) -> (&[u8], &[u8])
     ensures before { result.0.now ≡ before_first (separates separator) bytes.now }
     ensures after { result.1.now ≡ after_first (separates separator) bytes.now }
@@ -273,7 +273,7 @@ impl Scaling {
     }
 }
 
-/// Returns the number with this many zeros at its end, or one above the largest.
+/// Returns the number with this many zeros at its end, or `CAP`, one above the largest size, if that is less.
 #[inline(always)]
 pub(crate) fn with_zeros(number: u64, zeros: usize) -> u64
     requires { number ≤ size_cap }
@@ -313,7 +313,7 @@ fn parts_of(numeral: &[u8]) -> Parts<'_>
     }
 }
 
-/// Returns whether a minus stands first, and what stands after a sign.
+/// Returns whether the exponent begins with a minus, and its digits, without a sign.
 #[tactic(auto, unfolding(crate::specs::Bytes::is_sign))]
 pub fn split_sign(exponent: &[u8]) -> (bool, &[u8])
     ensures is_lowering { result.0 ≡ is_lowering exponent.now }
@@ -326,7 +326,8 @@ pub fn split_sign(exponent: &[u8]) -> (bool, &[u8])
     }
 }
 
-/// Returns the first `kept` digits as a number, with zeros if there are fewer, or one above the largest.
+/// Returns the first `kept` digits as a number (with zeros if there are fewer), or `CAP` if that is less; and whether a later digit isn't
+/// 0.
 fn leading_size(whole: &[u8], fraction: &[u8], kept: usize) -> Size
     requires whole { list_all is_digit whole.now ≡ true }
     requires fraction { list_all is_digit fraction.now ≡ true }
@@ -347,7 +348,8 @@ fn leading_size(whole: &[u8], fraction: &[u8], kept: usize) -> Size
     }
 }
 
-/// Returns the size of a numeral in millionths, rounded down.
+/// Returns the size of a numeral in millionths, and whether rounding it down left something out. An error says why it has no value (N1 to
+/// N3).
 #[inline(never)]
 pub fn size_of(numeral: &[u8]) -> Result<Size, NumberFault>
     ensures value { MatchResult result
@@ -370,8 +372,8 @@ pub fn size_of(numeral: &[u8]) -> Result<Size, NumberFault>
     )
 }
 
-/// Returns the size of a numeral with these parts in millionths, rounded down: the digits before its point and those after it, and the
-/// digits of its exponent.
+/// Returns the size of a numeral with these parts, in millionths, and whether rounding it down left something out: the digits before its
+/// point and those after it, and the digits of its exponent. An error says why it has no value.
 pub fn size_of_parts(
     whole: &[u8],
     fraction: &[u8],
@@ -417,7 +419,7 @@ fn is_digit(byte: u8) -> bool
     matches!(byte, b'0'..=b'9')
 }
 
-/// Tests whether all bytes are digits, if any.
+/// Tests whether no byte is other than a digit: `true` also for no bytes.
 #[inline(always)]
 pub fn all_digits(bytes: &[u8]) -> bool
     ensures { result ≡ list_all is_digit bytes.now }
@@ -436,7 +438,7 @@ fn are_digits(bytes: &[u8]) -> bool
     }
 }
 
-/// Returns the number that the digits spell, at most `most`.
+/// Returns the number that the digits spell, or `most` if that is less.
 #[inline(always)]
 pub fn number_up_to(most: usize, digits: &[u8]) -> usize
     requires digits { list_all is_digit digits.now ≡ true }
@@ -451,7 +453,7 @@ pub fn number_up_to(most: usize, digits: &[u8]) -> usize
     number
 }
 
-/// Returns the number that the bytes spell, at most `most`, if they are digits only.
+/// Returns the number that the bytes spell, or `most` if that is less. `None`: they are not digits only, or there are none.
 pub fn whole_number(most: usize, bytes: &[u8]) -> Option<usize>
     requires some { 0 < most }
     requires small { most < 2 ^ 60 }
@@ -471,7 +473,7 @@ const TEXT_ROOM: usize = 32;
 /// Where the whole part of a number ends in this room.
 const WHOLE_END: usize = 16;
 
-/// Puts a byte after the first `at` bytes, and returns how many these are then.
+/// Puts a byte after the first `at` bytes, and returns `at + 1`.
 #[inline(always)]
 fn put(text: &mut [u8], at: usize, byte: u8) -> usize
     requires { at < length text.old }
@@ -562,7 +564,7 @@ pub fn write_scaled<W: Sink>(scaled: i64, out: &mut W) -> Result<(), SinkFailed>
     write_all(out, &text[start..end])
 }
 
-/// Writes the same, and after it this byte, in one piece.
+/// Writes a number of millionths as `write_scaled` does, and the byte `after` after it, in one piece.
 pub fn write_scaled_then<W: Sink>(scaled: i64, after: u8, out: &mut W) -> Result<(), SinkFailed>
     ensures { WritesText W.writes W.failures out.old (scaled_text scaled ++ after ∷ []) result out.new }
 {

@@ -60,7 +60,7 @@ impl Model for Buffer {
 }
 
 impl Buffer {
-    /// Makes an empty window.
+    /// Makes an empty buffer.
     pub fn new() -> Buffer
         ensures { result ≡ [] }
     {
@@ -125,7 +125,7 @@ impl<'a, W> BufferedSink<'a, W> {
 }
 
 impl<W> BufferedSink<'_, W> {
-    /// Returns how many calls have failed, at most `u64::MAX`.
+    /// Returns how many calls have failed, at most `u64::MAX`. Tests ask for it; contracts speak of the same number.
     pub fn failures(&self) -> u64
         ensures { result ≡ self.now.failures }
     {
@@ -134,7 +134,7 @@ impl<W> BufferedSink<'_, W> {
 }
 
 impl<W: Sink> BufferedSink<'_, W> {
-    /// Writes what is held to the sink below. Nothing is held then, also where that failed.
+    /// Writes what is held to the sink below. Afterwards nothing is held, even if the write failed.
     pub fn flush(&mut self) -> Result<(), SinkFailed>
         ensures written { WritesText W.writes W.failures self.old.sink.now self.old.held result
             self.new.sink.now }

@@ -52,7 +52,8 @@ pub trait Source {
 
 const PIECE: usize = 4096;
 
-/// Reads a source whole, or one byte past the limit (a number of bytes), where it stops.
+/// Reads a source whole, or one byte past the limit (a number of bytes), where it stops. Only tests call it: readers take tokens as they
+/// come.
 ///
 /// # Errors
 ///
@@ -95,7 +96,7 @@ pub fn read_all<S: Source>(alloc: Global, source: &mut S, limit: u64) -> Result<
     Ok(bytes)
 }
 
-/// A slice to read. It never fails.
+/// A slice as a source, for texts in memory. A read never fails.
 #[derive(Drop)]
 pub struct SliceSource<'a> {
     pub rest: &'a [u8],
@@ -123,7 +124,7 @@ impl Source for SliceSource<'_> {
     }
 }
 
-/// A slice to write. A write fails where it is full.
+/// A slice as a sink. A write fails if the slice is full.
 #[derive(Drop)]
 pub struct SliceSink<'a> {
     pub buffer: &'a mut [u8],
@@ -155,7 +156,7 @@ impl SliceSink<'_> {
         &self.buffer[..self.len]
     }
 
-    /// Returns how many writes have failed, at most `u64::MAX`.
+    /// Returns how many writes have failed, at most `u64::MAX`. Tests ask for it; contracts speak of the same number.
     pub fn failures(&self) -> u64
         ensures { result ≡ self.now.failures }
     {
@@ -200,7 +201,7 @@ impl<R> ReaderSource<R> {
         }
     }
 
-    /// Returns how many reads have failed, at most `u64::MAX`.
+    /// Returns how many reads have failed, at most `u64::MAX`. Tests ask for it; contracts speak of the same number.
     pub fn failures(&self) -> u64
         ensures { result ≡ self.now.failures }
     {
@@ -242,7 +243,7 @@ impl<W> WriterSink<W> {
         }
     }
 
-    /// Returns how many writes have failed, at most `u64::MAX`.
+    /// Returns how many writes have failed, at most `u64::MAX`. Tests ask for it; contracts speak of the same number.
     pub fn failures(&self) -> u64
         ensures { result ≡ self.now.failures }
     {

@@ -130,8 +130,8 @@ impl StreamTokens {
         &self.bytes.visible()[self.taken..]
     }
 
-    /// Skips the first `count` of them. It does not look at them: after a count that ends inside a token, the next token begins
-    /// there. So a caller skips only tokens that it has cut off `lookahead` whole, as `front_colon` and `front_number` do.
+    /// Skips the first `count` bytes of `lookahead`. It does not look at them: after a count that ends inside a token, the next token
+    /// begins there. So a caller skips only tokens that it has cut off `lookahead` whole, as `front_colon` and `front_number` do.
     #[inline(always)]
     pub fn skip(&mut self, count: usize)
         requires continues { self.old.stop ≡ None }
@@ -248,7 +248,7 @@ impl StreamBytes {
         }
     }
 
-    /// Returns the offset of the first byte in the text.
+    /// Returns the offset in the text of the first byte that is not taken yet.
     #[inline(always)]
     pub fn place(&self) -> u64
         ensures { result ≡ self.now.place }
@@ -256,7 +256,7 @@ impl StreamBytes {
         self.place
     }
 
-    /// Returns the fault in place of a clean end, if no byte below the limit is left.
+    /// Returns the fault of a text that continues at the limit, or `None` if it ends cleanly. Called if no byte below the limit is left.
     pub fn ending(&self) -> Option<TokenFault>
         ensures { result ≡ end_of self.now }
     {
@@ -267,7 +267,7 @@ impl StreamBytes {
         }
     }
 
-    /// Returns the bytes below the limit.
+    /// Returns the bytes that were read and not yet taken, up to the limit.
     #[inline(always)]
     pub fn visible(&self) -> &[u8]
         ensures bytes { result.now ≡ visible self.now }
@@ -293,7 +293,7 @@ impl StreamBytes {
         self.place += count as u64;
     }
 
-    /// Reads once. False at the true end.
+    /// Reads once into the window. `false`: the source is at its true end.
     fn fill<S: Source>(&mut self, source: &mut S) -> Result<bool, SourceFailed>
         requires { length self.old.kept < 4096 }
         ensures ok { IfOk result
@@ -309,7 +309,7 @@ impl StreamBytes {
         }
     }
 
-    /// Tests whether it takes a read to know what comes next, if the bytes so far continue a gap.
+    /// Tests whether the gap may continue with a byte that is not read yet: none is left, and the true end was not seen.
     #[inline(always)]
     fn lacks_byte(&self) -> bool
         ensures lacks { result ≡ true → (length self.now.kept ≡ 0) × (self.now.is_whole ≡ false) }
@@ -321,7 +321,7 @@ impl StreamBytes {
         self.window.as_bytes().is_empty()
     }
 
-    /// Takes the bytes that continue the gap off the front, and answers where the gap then stands.
+    /// Takes the bytes that continue the gap off the front, and returns the state of the gap after them.
     #[inline(always)]
     fn skip_seen(&mut self, gap: Gap) -> Gap
         requires { gap ≡ Gap.Ended → ⊥ }
@@ -336,7 +336,7 @@ impl StreamBytes {
         next
     }
 
-    /// Takes the gap off the front. True if a byte below the limit comes after it.
+    /// Takes the gap off the front. `true`: a byte below the limit comes after it. `false`: the text ends, or is at the limit.
     #[inline(always)]
     pub fn skip_gap<S: Source>(&mut self, source: &mut S) -> Result<bool, SourceFailed>
         ensures { SkipsGapOrFails S.reads S.failures self.old source.old result self.new source.new }
@@ -352,7 +352,7 @@ impl StreamBytes {
         Ok(!self.visible().is_empty())
     }
 
-    /// Tests whether it takes a read to know the lexeme at the front.
+    /// Tests whether another read could change the lexeme at the front.
     fn lacks_lexeme(&self, scan: LexemeScan) -> bool
         ensures lacks { result ≡ true → (self.now.is_whole ≡ false)
             × (self.now.place + length self.now.kept < self.now.limit)
@@ -369,7 +369,8 @@ impl StreamBytes {
         !scan.is_known()
     }
 
-    /// Reads the lexeme at the front: the longest, or one that is too long.
+    /// Returns the lexeme at the front, the longest or one that is too long, and reads as far as that takes. `None`: no lexeme begins
+    /// there.
     #[inline(always)]
     pub fn scan_lexeme<S: Source>(
         &mut self,
@@ -383,7 +384,8 @@ impl StreamBytes {
         }
     }
 
-    /// Reads on for the lexeme at the front, of any kind, and returns where the bytes so far end.
+    /// Returns what `scan_lexeme` does, byte by byte and with further reads: called if the lexeme doesn't end in the buffer or isn't
+    /// simple.
     #[inline(never)]
     fn scan_on<S: Source>(&mut self, source: &mut S) -> Result<Option<LexemePrefix>, SourceFailed>
         ensures { ScansLexemeOrFails S.reads S.failures self.old source.old result self.new source.new }

@@ -60,7 +60,7 @@ impl TokenFault {
 /// The number of bytes that a model, a policy graph or vectors may have.
 pub const TEXT_LIMIT: u64 = 4_294_967_296;
 
-/// Reads the tokens of a text.
+/// The tokens of a text in memory, and where they continue. Tests use it; readers use `StreamTokens`.
 #[derive(Drop)]
 pub struct Tokens<'a> {
     rest: &'a [u8],
@@ -145,7 +145,7 @@ ghost use Rattle.polcert_text.specs.Reading.{IsReadAt};
 ghost use Rattle.polcert_text.specs.Steps.ScanOf.{front_len};
 ghost use Rattle.polcert_text.specs.Steps.Streaming.{IsFrontSeen};
 
-/// Returns the token at the front of the bytes, which stand at `place`.
+/// Returns the token at the front of the bytes, of which the first is at offset `place`, or why it is refused.
 #[inline(always)]
 fn token_at(bytes: &[u8], place: u64) -> Result<Token<'_>, TokenFault>
     requires { place + length bytes.now < 2 ^ 64 }
@@ -154,8 +154,8 @@ fn token_at(bytes: &[u8], place: u64) -> Result<Token<'_>, TokenFault>
     token_of(longest_lexeme(bytes), bytes, place)
 }
 
-/// Returns the token whose lexeme was seen at the front of the bytes, which stand at `place`, whatever
-/// follows the bytes.
+/// Returns the token of the lexeme that was seen at the front of the bytes, whatever follows them, or why it is refused: for one, no lexeme
+/// was seen. The first byte is at offset `place`.
 #[inline(always)]
 pub fn token_of(
     front: Option<LexemePrefix>,
@@ -196,7 +196,7 @@ fn is_glued(kind: TokenKind, rest: &[u8]) -> bool
     }
 }
 
-/// Tests whether a numeral that the byte follows directly is glued to it.
+/// Tests whether the byte may not directly follow a numeral: a letter, `_` or a point.
 #[inline(never)]
 #[tactic(auto, unfolding(crate::specs::Bytes::is_glue, crate::specs::Bytes::is_letter))]
 fn is_glue(byte: u8) -> bool
@@ -215,7 +215,7 @@ pub enum TokenKind {
     Minus,
 }
 
-/// Where the bytes so far stand between two lexemes.
+/// The state between two lexemes, after the bytes so far.
 #[derive(Clone, Copy)]
 pub enum Gap {
     Between,
@@ -244,7 +244,7 @@ impl Gap {
     }
 }
 
-/// Where the bytes so far stand in a lexeme.
+/// The state inside a lexeme, after the bytes so far.
 #[derive(Clone, Copy)]
 pub enum State {
     Start,
@@ -346,7 +346,7 @@ impl State {
     }
 }
 
-/// Returns how long the gap at the front of the bytes is.
+/// Returns how long the gap at the front of the bytes is: the blanks, line ends and comments.
 #[inline(always)]
 pub fn gap_len(bytes: &[u8]) -> usize
     ensures { IsLongestGap bytes.now result }
@@ -426,6 +426,7 @@ pub struct LexemeScan {
 impl LexemeScan {
     ghost use Rattle.polcert_text.specs.Steps.ScanOf.{IsScanOf, is_over, is_stuck, front_len};
 
+    /// Makes the scan before the first byte.
     #[tactic(auto, unfolding(crate::specs::Lexemes::kind_of))]
     pub fn new() -> LexemeScan
         ensures { IsScanOf [] result }
@@ -482,7 +483,7 @@ impl LexemeScan {
         scan
     }
 
-    /// Returns the longest lexeme at the front of the scanned bytes.
+    /// Returns the longest lexeme at the front of the scanned bytes. `None`: none begins there.
     pub fn longest(self) -> Option<LexemePrefix>
         ensures { result ≡ self.longest }
     {
@@ -540,7 +541,7 @@ fn continues_name(byte: u8) -> bool
     class_continues_name(byte)
 }
 
-/// Tests whether the byte's class continues a name.
+/// Tests whether a name continues with a byte of this byte's class: called if no quicker test decides.
 #[inline(never)]
 fn class_continues_name(byte: u8) -> bool
     ensures on { IsTrue result → state_after State.Name (class_of byte) ≡ State.Name }
@@ -595,7 +596,7 @@ pub fn ended_name_or_mark(bytes: &[u8]) -> Option<LexemePrefix>
     }
 }
 
-/// Returns the name at the front, if a byte after it shows its end.
+/// Returns the name at the front, if a byte after it shows its end. `None`: unknown.
 #[inline(always)]
 pub fn ended_name(bytes: &[u8]) -> Option<LexemePrefix>
     requires some { 0 < length bytes.now }
