@@ -64,7 +64,8 @@ pub trait Cells {
         requires observation { z < (table self.now).observations }
         ensures { result ≡ (table self.now).r a s e z };
 
-    /// Returns the weights of all end states when action `a` is taken in state `s`, if they can be borrowed.
+    /// Returns the weights of all end states when action `a` is taken in state `s`, to be walked by `Row::step`. `None`: the model lends no
+    /// rows; ask `t`.
     fn t_row(&self, a: usize, s: usize) -> Option<Row<'_>>
         requires action { a < (table self.now).actions }
         requires start { s < (table self.now).states }
@@ -73,7 +74,8 @@ pub trait Cells {
         None
     }
 
-    /// Returns the weights of all observations when action `a` ends in state `e`, if they can be borrowed.
+    /// Returns the weights of all observations when action `a` ends in state `e`, to be walked by `Row::step`. `None`: the model lends no
+    /// rows; ask `o`.
     fn o_row(&self, a: usize, e: usize) -> Option<Row<'_>>
         requires action { a < (table self.now).actions }
         requires end { e < (table self.now).states }
@@ -82,8 +84,9 @@ pub trait Cells {
         None
     }
 
-    /// Fills in the rewards of observation `first` and of those after it, in millionths, when action `a` is taken in state `s` and
-    /// ends in state `e`: as many as there is room for, or as there are. What stands after them may change.
+    /// Fills in the rewards of observation `first` and of those after it, in millionths, when action `a` is taken in state `s` and ends in
+    /// state `e`: as many as there is room for, or as there are. Room that is left may change. It takes less time than a call of `r` for
+    /// each.
     fn fill_rewards(&self, a: usize, s: usize, e: usize, first: usize, rewards: &mut [i64])
         requires action { a < (table self.now).actions }
         requires start { s < (table self.now).states }
@@ -148,7 +151,7 @@ pub trait Cells {
     }
 
     /// Returns whether it is known at once that action `a` has the same rewards in state `s` as in state `other`, for every end state and
-    /// every observation. `false`: unknown.
+    /// every observation, so that a check computes them once. `false`: unknown.
     fn has_same_rewards(&self, a: usize, s: usize, other: usize) -> bool
         requires action { a < (table self.now).actions }
         requires start { s < (table self.now).states }
@@ -173,7 +176,7 @@ pub trait Cells {
         e
     }
 
-    /// Returns whether it is known at once that action `a` shows the same in end state `e` as in `other`. `false`: unknown.
+    /// Returns whether it is known at once that the row of O of action `a` at end state `e` is that at `other`. `false`: unknown.
     fn has_same_observations(&self, a: usize, e: usize, other: usize) -> bool
         requires action { a < (table self.now).actions }
         requires end { e < (table self.now).states }
@@ -249,7 +252,7 @@ impl Row<'_> {
     }
 }
 
-/// Returns a step to this cell.
+/// Returns the step to this cell, after which a walk continues at `next`.
 fn step_of(cell: Cell, next: usize) -> Step
     ensures { result ≡ record { column = cell.column; weight = cell.weight; next = next } }
 {

@@ -24,7 +24,7 @@ pub(crate) struct PartialValue {
     pub missing: Option<usize>,
 }
 
-/// Returns the least number that is there.
+/// Returns the lesser of two numbers, the one that is there, or `None` if neither is.
 pub(crate) fn min_option(x: Option<usize>, y: Option<usize>) -> Option<usize>
     ensures { IsMinOption x y result }
 {
@@ -35,7 +35,8 @@ pub(crate) fn min_option(x: Option<usize>, y: Option<usize>) -> Option<usize>
     }
 }
 
-/// Returns what one observation adds to a node's value at end state `e`.
+/// Returns what one observation adds to a node's value at end state `e`: its weight times the value after it, or nothing if the node has no
+/// successor for it, which is then `missing`.
 fn observation_value<C: Cells>(node: &Node<'_, C>, e: usize, step: Step) -> PartialValue
     requires end { e < (node_controller node.now).cells.states }
     requires observation { step.column < (node_controller node.now).cells.observations }
@@ -59,7 +60,7 @@ fn observation_value<C: Cells>(node: &Node<'_, C>, e: usize, step: Step) -> Part
     }
 }
 
-/// Returns a node's value at end state `e` if the node has a successor for each observation there.
+/// Returns a node's value at end state `e`. `None`: the node has no successor for some observation there.
 #[inline(always)]
 pub(crate) fn complete_value<C: Cells>(node: &Node<'_, C>, e: usize) -> Option<i128>
     requires end { e < (node_controller node.now).cells.states }
@@ -78,7 +79,7 @@ pub(crate) fn complete_value<C: Cells>(node: &Node<'_, C>, e: usize) -> Option<i
 /// Numbers below this, and not below its negative, have 64 bits with their sign.
 const NARROW: i128 = 9_223_372_036_854_775_808;
 
-/// Returns the same number if 64 bits are enough for it.
+/// Returns the same number in 64 bits. `None`: it may be too large for them.
 #[inline(always)]
 fn narrow(number: i128) -> Option<i64>
     ensures { IfSome result (λ same. same ≡ number) }
@@ -89,7 +90,7 @@ fn narrow(number: i128) -> Option<i64>
     Some(number as i64)
 }
 
-/// Returns a node's value at end state `e` if 64 bits are enough for it, and the node has a successor for each observation there.
+/// Returns a node's value at end state `e` in 64 bits. `None`: it may be too large for them, or a successor is missing there.
 #[inline(always)]
 pub(crate) fn narrow_end_value<C: Cells>(node: &Node<'_, C>, e: usize) -> Option<i64>
     requires end { e < (node_controller node.now).cells.states }
@@ -160,7 +161,7 @@ fn number_value<C: Cells>(node: &Node<'_, C>, e: usize, z: usize, number: u32) -
     }
 }
 
-/// Returns the same as `complete_value_of_row`, by a row of O whose weights are these numbers times the scale: the sum is scaled, not each
+/// Returns what `complete_value_of_row` does, by a row of O whose weights are these numbers times the scale: the sum is scaled, not each
 /// weight.
 #[inline(always)]
 fn complete_value_of_numbers<C: Cells>(
@@ -187,7 +188,8 @@ fn complete_value_of_numbers<C: Cells>(
     Some(weigh(scale as u64, sum))
 }
 
-/// Returns a node's value at end state `e`: the sum over the row of O, without the weight of reaching `e`.
+/// Returns a node's value at end state `e`, the sum over the row of O (without the weight of reaching `e`), and the least observation that
+/// is missing: called where `complete_value` returns `None`.
 pub(crate) fn end_value<C: Cells>(node: &Node<'_, C>, e: usize) -> PartialValue
     requires end { e < (node_controller node.now).cells.states }
     ensures { IsEndValue (node_controller node.now) node.now.n e result }
@@ -238,7 +240,7 @@ impl ReachedStates {
         self.is_known = false;
     }
 
-    /// Marks the end states that action `a` reaches.
+    /// Marks the end states that action `a` reaches from any state, and finds out whether all states have the same row of T.
     pub(crate) fn find<C: Cells>(&mut self, cells: &C, a: usize)
         requires action { a < (C.table cells.now).actions }
         ensures marks { AreMarked (C.table cells.now) a (C.table cells.now).states self.new.marks }
@@ -261,7 +263,7 @@ impl ReachedStates {
         self.is_known = true;
     }
 
-    /// Marks the end states that it reaches from state `s`.
+    /// Marks the end states that action `a` reaches from state `s`, and keeps the other marks.
     fn mark<C: Cells>(&mut self, cells: &C, a: usize, s: usize)
         requires action { a < (C.table cells.now).actions }
         requires start { s < (C.table cells.now).states }
@@ -279,7 +281,7 @@ impl ReachedStates {
     }
 }
 
-/// Returns whether it is known that each start state has the same row of T when action `a` is taken.
+/// Returns whether it is known that each start state has the same row of T when action `a` is taken. `false`: unknown.
 fn has_same_rows<C: Cells>(cells: &C, a: usize) -> bool
     requires action { a < (C.table cells.now).actions }
     ensures { IsTrue result → HasSameRows (C.table cells.now) a }
@@ -332,7 +334,7 @@ pub(crate) fn expected_value<C: Cells, F: Fn(usize) -> PartialValue>(
     value_by_form(node, s, node.input.cells.t_row(node.action(), s), value_of)
 }
 
-/// Returns the same as `expected_value`, by the row of T there; if none is borrowed, each weight is asked for.
+/// Returns what `expected_value` does, by the row of T that is given; if none is, each weight is asked for.
 #[inline(always)]
 pub(crate) fn value_by_form<C: Cells, F: Fn(usize) -> PartialValue>(
     node: &Node<'_, C>,

@@ -14,7 +14,7 @@ use crate::node::Node;
 use polcert_cells::{MOST_STATES, Row};
 use polcert_model::Cells;
 
-/// Returns the sum of the first numbers, each times the value at its place.
+/// Returns the sum of the first `count` numbers, each times the value at its place.
 #[inline]
 fn sum_of_products(numbers: &[u32], values: &[i64], count: usize) -> i128
     requires few { count ≤ most_elements }
@@ -34,9 +34,9 @@ fn sum_of_products(numbers: &[u32], values: &[i64], count: usize) -> i128
 pub(crate) struct EndValues {
     /// The values, if 64 bits are enough for each, and the node has a successor for each observation.
     pub narrow: [i64; MOST_STATES],
-    /// Whether it is so. If not, the other fields have them.
+    /// Whether `narrow` has all values. If not, the other fields have them.
     pub are_narrow: bool,
-    /// Unless the node lacks a successor there.
+    /// The values, except where the node lacks a successor.
     pub values: [i128; MOST_STATES],
     /// Whether the node lacks a successor for an observation there. Which one is computed only at a pair that reaches such an end
     /// state: that pair settles the node.
@@ -77,7 +77,8 @@ impl EndValues {
         }
     }
 
-    /// Computes them in 64 bits. Returns whether that is enough for each, and the node has all successors.
+    /// Computes all values in 64 bits: tried first. `false`: one is larger, or the node lacks a successor somewhere; then `fill_wide` is
+    /// called.
     fn fill_narrow<C: Cells>(&mut self, node: &Node<'_, C>, reached: &ReachedStates) -> bool
         requires { AreMarked (node_controller node.now).cells ((node_controller node.now).action node.now.n)
             (node_controller node.now).cells.states reached.now.marks }
@@ -111,7 +112,7 @@ impl EndValues {
         true
     }
 
-    /// Notes a value in 64 bits at end state `e`.
+    /// Stores the value at end state `e`, which has 64 bits.
     #[inline(always)]
     fn note_narrow<C: Cells>(&mut self, node: &Node<'_, C>, e: usize, value: i64)
         requires end { e < (node_controller node.now).cells.states }
@@ -124,7 +125,7 @@ impl EndValues {
         self.narrow[e] = value;
     }
 
-    /// Computes them, however large, and notes where a successor is missing.
+    /// Computes all values, however large, and marks the end states where a successor is missing: called if `fill_narrow` fails.
     fn fill_wide<C: Cells>(&mut self, node: &Node<'_, C>, reached: &ReachedStates)
         requires { AreMarked (node_controller node.now).cells ((node_controller node.now).action node.now.n)
             (node_controller node.now).cells.states reached.now.marks }
@@ -141,7 +142,7 @@ impl EndValues {
         }
     }
 
-    /// Notes the value at end state `e`, if the node has a successor for each observation there.
+    /// Stores the value at end state `e`, or marks with `None` that the node lacks a successor there.
     #[inline(always)]
     fn note<C: Cells>(&mut self, node: &Node<'_, C>, e: usize, value: Option<i128>)
         requires end { e < (node_controller node.now).cells.states }
@@ -163,7 +164,7 @@ impl EndValues {
         }
     }
 
-    /// Returns the value that a node expects at state `s`, if its values are kept in 64 bits.
+    /// Returns the value that a node expects at state `s`. The caller has seen that its values are kept in 64 bits (`are_narrow`).
     #[inline(always)]
     pub(crate) fn narrow_value<C: Cells>(&self, node: &Node<'_, C>, s: usize) -> PartialValue
         requires start { s < (node_controller node.now).cells.states }
@@ -189,8 +190,7 @@ impl EndValues {
         }
     }
 
-    /// Returns the same as `narrow_value`, by a row of T whose weights are these numbers times the scale: the sum is scaled, not each
-    /// weight.
+    /// Returns what `narrow_value` does, by a row of T whose weights are these numbers times the scale: the sum is scaled, not each weight.
     #[inline(always)]
     fn value_of_numbers<C: Cells>(
         &self,
@@ -239,7 +239,8 @@ impl EndValues {
         )
     }
 
-    /// Returns the value at end state `e` if a state reaches it.
+    /// Returns the value at end state `e`, which some state reaches, of values that are not kept in 64 bits. Where the node lacks a
+    /// successor it is computed anew, with the observation that is missing.
     fn value_at<C: Cells>(&self, node: &Node<'_, C>, e: usize) -> PartialValue
         requires end { e < (node_controller node.now).cells.states }
         requires wide { self.now.are_narrow ≡ false }

@@ -26,8 +26,7 @@ pub fn weigh(weight: u64, number: i128) -> i128
     (signed as i128) * number
 }
 
-/// Tests whether so many observations have a weight at end state `e` that reading all rewards together is
-/// faster than asking for each.
+/// Tests whether reading the rewards of all observations together is faster than asking for each one that has a weight at end state `e`.
 fn has_many_observations<C: Cells>(cells: &C, a: usize, e: usize) -> bool
     requires action { a < (C.table cells.now).actions }
     requires end { e < (C.table cells.now).states }
@@ -67,7 +66,7 @@ pub(crate) fn sum_over_observations<C: Cells, F: Fn(usize) -> i64>(
     sum
 }
 
-/// Returns the same as `sum_over_observations`, with the rewards read all together or asked for one by one, whichever is faster.
+/// Returns what `sum_over_observations` does, with the rewards read all together or asked for one by one, whichever is faster.
 fn sum_rewards<C: Cells>(cells: &C, a: usize, s: usize, e: usize, buffer: &mut RewardBuffer) -> i128
     requires action { a < (C.table cells.now).actions }
     requires start { s < (C.table cells.now).states }
@@ -108,7 +107,8 @@ fn sum_excepted<F: Fn(usize) -> u64>(
     sum
 }
 
-/// Returns the run that begins at end state `e`, if few observations have another reward there than the one that most have in common.
+/// Returns the reward at end state `e`, and up to which end state the rewards are the same. `None`: more observations than there is room
+/// for have another reward than the common one, or they are not known at once.
 fn run_of_few<C: Cells>(
     cells: &C,
     a: usize,
@@ -133,7 +133,8 @@ fn run_of_few<C: Cells>(
     })
 }
 
-/// Returns the reward that action `a` expects at state `s`, summed over its end states.
+/// Returns the reward that action `a` expects at state `s`, summed over its end states: the general way, called if neither `sum_row` nor
+/// `sum_ends` finds it.
 fn sum_over_ends<C: Cells>(cells: &C, a: usize, s: usize, buffer: &mut RewardBuffer) -> i128
     requires action { a < (C.table cells.now).actions }
     requires start { s < (C.table cells.now).states }
@@ -164,7 +165,7 @@ fn row_weight<C: Cells>(cells: &C, a: usize, s: usize, k: usize) -> u64
     cells.t(a, s, e) * cells.o(a, e, k % observations)
 }
 
-/// Returns how many end states the row of T at action `a` and state `s` may have.
+/// Returns how long the row of T at action `a` and state `s` is as it is kept: no fewer than its end states.
 fn count_ends<C: Cells>(cells: &C, a: usize, s: usize) -> usize
     requires action { a < (C.table cells.now).actions }
     requires start { s < (C.table cells.now).states }
@@ -178,8 +179,8 @@ fn count_ends<C: Cells>(cells: &C, a: usize, s: usize) -> usize
     }
 }
 
-/// Returns the reward that action `a` expects at state `s`, if few end states and observations have another reward than the one that most
-/// have in common.
+/// Returns the reward that action `a` expects at state `s`. `None`: too many end states and observations have another reward than the
+/// common one, or it is not known at once.
 fn sum_row<C: Cells>(cells: &C, a: usize, s: usize, exceptions: &mut [RewardCell]) -> Option<i128>
     requires action { a < (C.table cells.now).actions }
     requires start { s < (C.table cells.now).states }
@@ -198,7 +199,8 @@ fn sum_row<C: Cells>(cells: &C, a: usize, s: usize, exceptions: &mut [RewardCell
     Some(sum_excepted(scale, common, few, |k| row_weight(cells, a, s, k)))
 }
 
-/// Returns the same as `sum_row`, if few end states have another reward, whatever is observed, than the one that most have in common.
+/// Returns what `sum_row` does, if the rewards of most end states are the same whatever is observed. `None`: too many differ, or they are
+/// not known at once.
 fn sum_ends<C: Cells>(cells: &C, a: usize, s: usize, exceptions: &mut [RewardCell]) -> Option<i128>
     requires action { a < (C.table cells.now).actions }
     requires start { s < (C.table cells.now).states }
@@ -304,8 +306,8 @@ impl Earnings {
         }
     }
 
-    /// Forgets the rewards of the action before, and computes those of action `a` at the states that no reward tells apart, with room for
-    /// the rewards at end states that they share.
+    /// Forgets the rewards of the action before, and computes those of action `a` at the states that are known to have the same rewards
+    /// (see `first_shared`). `at_ends` is a buffer for what these states share. Other states follow in `reward_at`.
     pub(crate) fn begin<C: Cells>(&mut self, cells: &C, a: usize, at_ends: &mut [i128])
         requires action { a < (C.table cells.now).actions }
         requires room { MOST_STATES ≤ length at_ends.old }
@@ -318,7 +320,7 @@ impl Earnings {
         }
     }
 
-    /// Computes the rewards at state `first` and at those that no reward tells from it.
+    /// Computes the reward that action `a` expects at state `first`, and at those after it that are known to have the same rewards.
     fn share<C: Cells>(&mut self, cells: &C, a: usize, first: usize, at_ends: &mut [i128])
         requires action { a < (C.table cells.now).actions }
         requires first { first < (C.table cells.now).states }
@@ -361,19 +363,19 @@ impl Earnings {
     }
 }
 
-/// So many exceptions of the reward that an end state's observations have in common are added up one by one.
+/// The most exceptions of the reward that an end state's observations have in common; with more, all rewards are read.
 const MOST_EXCEPTIONS: usize = 64;
 
-/// So many of the reward that all end states of a start state have in common.
+/// The most exceptions of the reward that all end states of a start state have in common.
 const MOST_IN_ROW: usize = 1_024;
 
-/// This many for each of its end states: adding them up takes about as long as asking for the rewards at one.
+/// And the most for each of its end states: adding them up takes about as long as asking for the rewards at one.
 const EXCEPTIONS_PER_END: usize = 8;
 
 /// No reward is larger, in millionths.
 const LARGEST: u64 = 10_000_000_000_000;
 
-/// The reward that an action expects at an end state, and the end states after it that have the same rewards.
+/// The reward that an action expects at end state `end`, and that the end states before `until` have the same rewards.
 #[derive(Clone, Copy)]
 pub(crate) struct EndRun {
     pub end: usize,
@@ -384,7 +386,7 @@ pub(crate) struct EndRun {
 }
 
 impl EndRun {
-    /// Tests whether it is known at once that the action expects the same at end state `e`.
+    /// Tests whether it is known at once that the action expects the same reward at end state `e`. `false`: unknown.
     fn reaches<C: Cells>(&self, cells: &C, a: usize, e: usize) -> bool
         requires action { a < (C.table cells.now).actions }
         requires end { e < (C.table cells.now).states }
@@ -431,8 +433,8 @@ impl RewardBuffer {
         }
     }
 
-    /// Returns the reward that action `a` expects at start state `s` and end state `e`, without the weight of reaching `e`: that of the last
-    /// run if it reaches so far, or that of a new one.
+    /// Returns the reward that action `a` expects at start state `s` and end state `e` (without the weight of reaching `e`), and for which
+    /// end states after it that holds too: `last`, the answer for the end state before, if it reaches `e`, else a new one.
     fn run_at<C: Cells>(
         &mut self,
         cells: &C,
@@ -456,7 +458,8 @@ impl RewardBuffer {
         self.run_from(cells, a, s, e)
     }
 
-    /// Returns the run that begins at end state `e`.
+    /// Returns the reward that action `a` expects at start state `s` and end state `e`, and for which end states after it that holds too,
+    /// computed anew: called by `run_at` if the last answer doesn't reach `e`.
     fn run_from<C: Cells>(&mut self, cells: &C, a: usize, s: usize, e: usize) -> EndRun
         requires action { a < (C.table cells.now).actions }
         requires start { s < (C.table cells.now).states }
@@ -497,7 +500,7 @@ impl RewardBuffer {
 /// Stands for a number that is not computed yet.
 pub(crate) const UNKNOWN: i128 = i128::MIN;
 
-/// Marks the first numbers as not computed yet.
+/// Marks the first `count` numbers as not computed yet.
 pub(crate) fn clear_numbers(numbers: &mut [i128], count: usize)
     requires { count ≤ length numbers.old }
     ensures { (i : ℕ) → i < count → slice_index_or numbers.new i (pos 0) ≡ UNKNOWN }
@@ -507,7 +510,8 @@ pub(crate) fn clear_numbers(numbers: &mut [i128], count: usize)
     }
 }
 
-/// Tests whether it is known at once that the rewards of action `a` in state `s` are all the same.
+/// Tests whether it is known at once that all rewards of action `a` in state `s` are the same, so that they are summed at once. `false`:
+/// unknown.
 fn is_constant<C: Cells>(cells: &C, a: usize, s: usize) -> bool
     requires action { a < (C.table cells.now).actions }
     requires start { s < (C.table cells.now).states }
@@ -518,7 +522,8 @@ fn is_constant<C: Cells>(cells: &C, a: usize, s: usize) -> bool
     cells.find_end_rewards(a, s, &mut []).is_some()
 }
 
-/// Returns the first state that shares its rewards with others, unless they are all the same.
+/// Returns the first state whose rewards other states may be known to share, so that `share` pays. `None`: there is none, or all its
+/// rewards are the same, which are summed at once.
 pub(crate) fn first_shared<C: Cells>(cells: &C, a: usize) -> Option<usize>
     requires action { a < (C.table cells.now).actions }
     ensures { ForSome result (λ s. s < (C.table cells.now).states) }
@@ -535,7 +540,7 @@ pub(crate) fn first_shared<C: Cells>(cells: &C, a: usize) -> Option<usize>
     None
 }
 
-/// Computes the rewards that action `a` expects at the end states that follow state `s`, unless they are known.
+/// Computes the rewards that action `a` expects at the end states that it reaches from state `s`, those that `at_ends` doesn't have yet.
 pub(crate) fn find_at_ends<C: Cells>(
     cells: &C,
     a: usize,
@@ -564,7 +569,7 @@ pub(crate) fn find_at_ends<C: Cells>(
     }
 }
 
-/// Returns the reward at an end state that follows state `s`.
+/// Returns the reward at an end state that is reached from state `s`, which `find_at_ends` has computed.
 fn at_end<C: Cells>(cells: &C, a: usize, s: usize, e: usize, at_ends: &[i128]) -> i128
     requires end { e < (C.table cells.now).states }
     requires follows { 0 < (C.table cells.now).t a s e }
@@ -575,7 +580,7 @@ fn at_end<C: Cells>(cells: &C, a: usize, s: usize, e: usize, at_ends: &[i128]) -
     at_ends[e]
 }
 
-/// Returns the reward that action `a` expects at state `s`, from those at end states.
+/// Returns the reward that action `a` expects at state `s`: the sum over its end states of their weight times their reward in `at_ends`.
 pub(crate) fn sum_at_ends<C: Cells>(cells: &C, a: usize, s: usize, at_ends: &[i128]) -> i128
     requires action { a < (C.table cells.now).actions }
     requires start { s < (C.table cells.now).states }

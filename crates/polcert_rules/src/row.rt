@@ -60,8 +60,8 @@ impl RowCells {
 }
 
 impl<'a> EntryRow<'a> {
-    /// The row of a table at this action and state, if the entry of this number covers the whole row. The cells of the row before
-    /// are given up.
+    /// Returns the row of a table at this action and state, by its entries: `whole` is the number of the one that covers the whole row. The
+    /// cells of the row before are given up, as room.
     // (Six parameters: three numbers that say which row it is, and what it is made of.)
     pub(crate) fn of(
         last: RowCells,
@@ -176,7 +176,7 @@ fn add_columns(cells: &mut Vec<Rule>, rules: &[Rule], start: u64) -> Result<(), 
     Ok(())
 }
 
-/// Puts the same after the others, at once if they begin at this place of the rules, and returns where what follows them may begin.
+/// Does what `add_columns` does, at once if the cells begin at this place of the rules, and returns where those of the next row may begin.
 fn add_columns_at(
     cells: &mut Vec<Rule>,
     rules: &[Rule],
@@ -195,7 +195,7 @@ fn add_columns_at(
     Ok(before.saturating_add(part.len()))
 }
 
-/// Adds the cells of a part that has no others.
+/// Adds the cells of single columns among these rules, which begin at the key `start`, with their columns as keys.
 fn add_part(cells: &mut Vec<Rule>, part: &[Rule], start: u64) -> Result<(), AllocError>
     requires { All (λ (r : R). start ≤ r.key) part.now }
     ensures { OnOk result (cells.new.items ≡ cells.old.items ++ columns_of start part.now) }
@@ -259,8 +259,8 @@ fn single_weight(entries: &Entries, number: usize, columns: usize) -> u64
     }
 }
 
-/// Returns newer cells over a row, both rising by column: each hides the row's cell in its column, and one of
-/// weight 0 leaves nothing there.
+/// Returns a row of cells, `newer` over `base`, both in the order of their columns: each newer cell hides the one in its column, and one of
+/// weight 0 leaves none there.
 #[inline(never)]
 fn merge_cells(alloc: Global, base: &[Cell], newer: &[Cell]) -> Result<Vec<Cell>, AllocError>
     ensures { IfOk result (λ cells. cells.items ≡ merged base.now newer.now) }
@@ -277,7 +277,7 @@ fn merge_cells(alloc: Global, base: &[Cell], newer: &[Cell]) -> Result<Vec<Cell>
     Ok(cells)
 }
 
-/// Returns the same as `merge_cells`, and makes no other list if there is no row below cells that all have a weight.
+/// Returns what `merge_cells` does, and makes no other list if `base` is empty and all newer cells have a weight.
 #[inline(always)]
 fn put_over(alloc: Global, base: &[Cell], newer: Vec<Cell>) -> Result<Vec<Cell>, AllocError>
     ensures { IfOk result (λ cells. cells.items ≡ merged base.now newer.items) }
@@ -295,7 +295,7 @@ fn are_positive(cells: &[Cell]) -> bool
     cells.iter().all(|cell| cell.weight > 0)
 }
 
-/// Puts the cells before a column after the others, and gives those after it.
+/// Puts the cells before a column after the others, and returns those after the column.
 fn add_before<'a>(
     cells: &mut Vec<Cell>,
     base: &'a [Cell],
@@ -347,7 +347,7 @@ fn row_cells(
     }
 }
 
-/// Returns the same as `row_cells`, if what covers the whole row is kept so.
+/// Returns what `row_cells` does, over the kept row of the entry that covers the whole row.
 pub(crate) fn cells_over(
     alloc: Global,
     row: &EntryRow<'_>,

@@ -105,7 +105,7 @@ impl RowStore {
         }
     }
 
-    /// Returns the number under which the row of these entries is kept, of this action and state.
+    /// Returns the number of the row of an action and a state, made of these entries: of a row that is kept already, or of a new one.
     pub(crate) fn row_number(
         &mut self,
         alloc: Global,
@@ -148,7 +148,7 @@ impl RowStore {
         Ok(number)
     }
 
-    /// Returns the number of the row that the entry of this number gives alone. It is made on first use.
+    /// Returns the number of the row that one entry (or none, for `None`) gives alone. The row is made on first use, and kept once.
     fn shared_row(
         &mut self,
         alloc: Global,
@@ -177,7 +177,7 @@ impl RowStore {
         Ok(number)
     }
 
-    /// Keeps the row that the entry of this number gives alone after the others, and returns its number.
+    /// Keeps the row that one entry (or none) gives alone as the last row, and returns its number: called by `shared_row` on first use.
     fn keep_whole(
         &mut self,
         alloc: Global,
@@ -202,7 +202,7 @@ impl RowStore {
         Ok(self.keep(cells.as_slice(), bodies.shape.columns)?)
     }
 
-    /// Returns the number of a row of these cells, which no entry gives alone.
+    /// Returns the number of a row of these cells, which no entry gives alone: that of a neighbour with the same cells, or of a new one.
     fn own_row(
         &mut self,
         bodies: Bodies<'_>,
@@ -256,7 +256,7 @@ impl RowStore {
         Ok(self.keep_even(weight, columns, exceptions)?)
     }
 
-    /// Keeps a row after the others, and gives its number.
+    /// Keeps a row of these cells as the last row, and returns its number.
     fn keep(&mut self, cells: &[Cell], columns: usize) -> Result<usize, AllocError>
         requires few { columns ≤ most_elements }
         requires sparse { IsSparse columns cells.now }
@@ -306,7 +306,7 @@ impl RowStore {
     }
 }
 
-/// Returns the row of the entry that covers the whole row, if there is one.
+/// Returns the cells of the row that one entry gives alone, or none for no entry.
 fn whole_row(
     alloc: Global,
     entries: &Entries,
@@ -326,7 +326,8 @@ fn whole_row(
     }
 }
 
-/// Returns the number of each column in millionths, if the entry that covers the whole row gives that many, and more than half are above 0.
+/// Returns the number of each column in millionths, so that the row is kept as a list of these. `None`: the entry gives no such line, or
+/// less than half is above 0; the row is then kept as cells.
 fn full_line<'a>(
     entries: &'a Entries,
     whole: Option<usize>,
@@ -420,7 +421,7 @@ fn numbers_sum(numbers: &[u32]) -> u64
     total
 }
 
-/// Returns the origin of the row of a state, by the number of the entry that covers the whole row.
+/// Returns what the row of a state is made of, by the number of the entry that covers the whole row, if one does.
 fn source_of(entries: &Entries, whole: Option<usize>, state: usize) -> RowOrigin
     requires { (shape : S) × IsWholeRowEntry shape entries.now whole }
     ensures { result ≡ source_of entries.now whole state }
@@ -431,7 +432,7 @@ fn source_of(entries: &Entries, whole: Option<usize>, state: usize) -> RowOrigin
     }
 }
 
-/// Returns the origin of the row of a state that the entry of this number gives.
+/// Returns what the row of a state is made of that this entry gives.
 fn source_in(entry: EntryRef<'_>, number: usize, state: usize) -> RowOrigin
     ensures { result ≡ source_in number (entry_of entry.entry).places (entry_of entry.entry).body state }
 {
@@ -492,7 +493,7 @@ fn is_same_row(one: StoredRow<'_>, other: StoredRow<'_>) -> bool
     }
 }
 
-/// Returns the number of the row at this place of the list, if it is made of this.
+/// Returns the number of the row at a place that the cache guesses, if the row there has this origin. `None`: it is to be made.
 fn number_at(shared: &[SharedRow], place: usize, source: RowOrigin) -> Option<usize>
     ensures { IfSome result (IsShared shared.now source) }
 {
@@ -598,7 +599,7 @@ impl RowCache {
         }
     }
 
-    /// Returns the slot of a row of this origin.
+    /// Returns the slot of a row of this origin. `None`: it has none, and is made at each use.
     fn slot_of(&self, source: RowOrigin) -> Option<usize> {
         match source {
             RowOrigin::Nothing => Some(NOTHING),

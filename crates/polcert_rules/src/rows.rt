@@ -162,7 +162,7 @@ impl Rows {
         }
     }
 
-    /// Returns whether an action has one row, as it is kept, in two states. `false`: unknown.
+    /// Returns whether the rows of an action in two states are kept as one row. `false`: unknown, they may be equal.
     pub fn has_same(&self, action: usize, state: usize, other: usize) -> bool
         requires action { action < self.now.actions }
         requires state { state < self.now.states }
@@ -201,7 +201,7 @@ fn cell_weight(cells: &[Cell], column: usize) -> u64
     }
 }
 
-/// Returns the last list of numbers, or an empty one.
+/// Returns the last list of numbers, that of the action before, or an empty one if there is none.
 fn last(numbers: &Lists<u32>) -> &[u32]
     ensures { (size : ℕ) → All (All (λ n. n < size)) numbers.now → All (λ n. n < size) result.now }
 {
@@ -211,8 +211,8 @@ fn last(numbers: &Lists<u32>) -> &[u32]
     numbers.at(numbers.len() - 1)
 }
 
-/// Returns the numbers of the rows of an action, which are kept, if each sums to its scale, or else the first that does not. `before` are
-/// those of the action before.
+/// Returns the numbers of the rows of an action, which are kept in the store, or the first row that does not sum to its scale. `before` are
+/// the numbers of the action before, whose rows are tried first.
 fn action_rows(
     alloc: Global,
     store: &mut RowStore,
@@ -269,7 +269,7 @@ fn newest_whole(given: TableEntries<'_>, action: usize, state: usize) -> Option<
     newest_of_table(wholes, given.table, &[action, state, NO_COLUMN])
 }
 
-/// Returns whether the rows of this action are known to be those of the action before it: no entry names one of the two.
+/// Returns whether the rows of this action are known to be those of the action before it: no entry names one of the two. `false`: unknown.
 fn is_as_before(index: &Index, table: Table, action: usize) -> bool
     requires { action + 2 < key_base }
     ensures { IsTrue result → IsAsBefore index.now table action }
@@ -280,7 +280,7 @@ fn is_as_before(index: &Index, table: Table, action: usize) -> bool
     false
 }
 
-/// Returns the cells of a row from a column on. In a row without zeros a column is at its own number.
+/// Returns the cells of a row from a column on, by a search unless the row has a cell for each column.
 fn cells_from(cells: &[Cell], column: usize) -> &[Cell]
     requires { (columns : ℕ) × IsSparse columns cells.now }
     ensures { result.now ≡ cells_from column cells.now }
@@ -337,7 +337,7 @@ pub(crate) struct RowLocation {
     pub form: RowForm,
 }
 
-/// Returns a place in half the bits. A greater one is out of memory.
+/// Returns a place in 32 bits. If it doesn't fit, that is answered as out of memory.
 pub(crate) fn short_place(place: usize) -> Result<u32, AllocError>
     ensures { IfOk result (λ short. short ≡ place) }
 {
