@@ -1,6 +1,7 @@
 -- The walk over all pairs, and what it finds.
 pub mod Answering
 pub mod Earning
+pub mod EvenRows
 pub mod Excepted
 pub mod Expecting
 pub mod Found

@@ -257,10 +257,24 @@ impl ReachedStates {
             return;
         }
         for s in 0..cells.states() {
+            if is_even(cells.t_row(a, s)) {
+                self.mark_all(cells.states());
+                break;
+            }
             self.mark(cells, a, s);
         }
         self.has_same_rows = false;
         self.is_known = true;
+    }
+
+    /// Marks the first `count` states.
+    fn mark_all(&mut self, count: usize)
+        requires { count ≤ length self.old.marks }
+        ensures { (e : ℕ) → e < count → slice_index_or self.new.marks e false ≡ true }
+    {
+        for e in 0..count {
+            self.marks[e] = true;
+        }
     }
 
     /// Marks the end states that action `a` reaches from state `s`, and keeps the other marks.
@@ -294,6 +308,14 @@ fn has_same_rows<C: Cells>(cells: &C, a: usize) -> bool
     true
 }
 
+/// Returns whether a row has a weight above 0 in most columns.
+fn is_even(row: Option<Row<'_>>) -> bool {
+    match row {
+        Some(Row::Even { .. }) => true,
+        _ => false,
+    }
+}
+
 /// Returns whether two rows are known to have the same weights. `false`: unknown.
 pub fn is_same_row(one: Option<Row<'_>>, other: Option<Row<'_>>) -> bool
     ensures { (f g : ℕ → ℕ) (count : ℕ) → IsTrue result → ForSome one.entry (IsRowOf f count)
@@ -311,6 +333,22 @@ pub fn is_same_row(one: Option<Row<'_>>, other: Option<Row<'_>>) -> bool
             ),
         ) => { scale == by && numbers == own }
         (Some(Row::Single(cell)), Some(Row::Single(own))) => cell == own,
+        (
+            Some(
+                Row::Even {
+                    weight,
+                    columns,
+                    exceptions,
+                },
+            ),
+            Some(
+                Row::Even {
+                    weight: same,
+                    columns: wide,
+                    exceptions: own,
+                },
+            ),
+        ) => { weight == same && columns == wide && exceptions == own }
         _ => false,
     }
 }

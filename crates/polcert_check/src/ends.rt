@@ -9,9 +9,10 @@ use crate::end_values::{
     PartialValue, ReachedStates, complete_value, end_value, expected_value, narrow_end_value,
     product, value_by_form,
 };
+use crate::even_rows::{sum_of_even, wide};
 use crate::expected_reward::weigh;
 use crate::node::Node;
-use polcert_cells::{MOST_STATES, Row};
+use polcert_cells::{Cell, MOST_STATES, Row};
 use polcert_model::Cells;
 
 /// Returns the sum of the first `count` numbers, each times the value at its place.
@@ -34,6 +35,8 @@ fn sum_of_products(numbers: &[u32], values: &[i64], count: usize) -> i128
 pub(crate) struct EndValues {
     /// The values, if 64 bits are enough for each, and the node has a successor for each observation.
     pub narrow: [i64; MOST_STATES],
+    /// The sum of these.
+    pub total: i128,
     /// Whether `narrow` has all values. If not, the other fields have them.
     pub are_narrow: bool,
     /// The values, except where the node lacks a successor.
@@ -50,6 +53,7 @@ pub(crate) struct EndValues {
 
 impl EndValues {
     ghost use Rattle.std.specs.Prelude.{◌≡◌, ◌<◌, ◌+◌, ℕ, IsTrue, IfSome, false, true};
+    ghost use Rattle.polcert_cells.specs.BorrowedRows.{IsEvenRow};
     ghost use Rattle.polcert_cells.specs.Sparse.{IsRow, scaled_cells};
     ghost use Rattle.polcert_check.specs.Steps.Node.{node_controller};
     ghost use Rattle.polcert_check.specs.Steps.Factored.{AreMarked};
@@ -58,6 +62,7 @@ impl EndValues {
     pub(crate) fn new() -> Self {
         EndValues {
             narrow: [0; MOST_STATES],
+            total: 0,
             are_narrow: false,
             values: [0; MOST_STATES],
             lacks_successor: [false; MOST_STATES],
@@ -100,8 +105,10 @@ impl EndValues {
         };
         let node = &Node { input, n: node.n };
         self.are_narrow = true;
+        self.total = 0;
         for e in 0..node.input.states {
             if !reached.marks[e] {
+                self.note_narrow(node, e, 0);
                 continue;
             }
             match narrow_end_value(node, e) {
@@ -112,17 +119,20 @@ impl EndValues {
         true
     }
 
-    /// Stores the value at end state `e`, which has 64 bits.
+    /// Stores the value at end state `e`, which has 64 bits: any, if no state reaches it.
     #[inline(always)]
     fn note_narrow<C: Cells>(&mut self, node: &Node<'_, C>, e: usize, value: i64)
         requires end { e < (node_controller node.now).cells.states }
         requires before { AreEndValues (node_controller node.now) node.now.n e self.old }
         requires narrow { self.old.are_narrow ≡ true }
-        requires value { IsCompleteValue (node_controller node.now) node.now.n e value }
+        requires value { (s : ℕ) → s < (node_controller node.now).cells.states →
+            0 < (node_controller node.now).cells.t ((node_controller node.now).action node.now.n) s e →
+            IsCompleteValue (node_controller node.now) node.now.n e value }
         ensures narrow { self.new.are_narrow ≡ true }
         ensures values { AreEndValues (node_controller node.now) node.now.n (e + 1) self.new }
     {
         self.narrow[e] = value;
+        self.total += wide(value);
     }
 
     /// Computes all values, however large, and marks the end states where a successor is missing: called if `fill_narrow` fails.
@@ -178,6 +188,13 @@ impl EndValues {
             Some(Row::Scaled { numbers, scale }) => {
                 self.value_of_numbers(node, s, numbers, scale)
             }
+            Some(
+                Row::Even {
+                    weight,
+                    exceptions,
+                    ..
+                },
+            ) => self.value_of_even(node, s, weight, exceptions),
             row => value_by_form(
                 node,
                 s,
@@ -211,6 +228,29 @@ impl EndValues {
         let sum = sum_of_products(numbers, &self.narrow, count);
         PartialValue {
             value: weigh(scale as u64, sum),
+            missing: None,
+        }
+    }
+
+    /// Returns the same as `narrow_value`, by a row of T with one weight but for exceptions.
+    fn value_of_even<C: Cells>(
+        &self,
+        node: &Node<'_, C>,
+        s: usize,
+        weight: u64,
+        exceptions: &[Cell],
+    ) -> PartialValue
+        requires start { s < (node_controller node.now).cells.states }
+        requires row { (columns : ℕ) × IsEvenRow ((node_controller node.now).cells.t
+            ((node_controller node.now).action node.now.n) s) (node_controller node.now).cells.states weight
+            columns exceptions.now }
+        requires ends { AreEndValues (node_controller node.now) node.now.n
+            (node_controller node.now).cells.states self.now }
+        requires narrow { self.now.are_narrow ≡ true }
+        ensures { IsExpectedValue (node_controller node.now) node.now.n s result }
+    {
+        PartialValue {
+            value: sum_of_even(weight, exceptions, &self.narrow, self.total),
             missing: None,
         }
     }

@@ -34,7 +34,7 @@ fn has_many_observations<C: Cells>(cells: &C, a: usize, e: usize) -> bool
     match cells.o_row(a, e) {
         Some(Row::Sparse(row)) => row.len() > cells.observations() / READ_PER_QUERY,
         Some(Row::Single(_)) => false,
-        Some(Row::Filled(_) | Row::Scaled { .. }) | None => true,
+        Some(Row::Filled(_) | Row::Scaled { .. } | Row::Even { .. }) | None => true,
     }
 }
 
@@ -175,6 +175,7 @@ fn count_ends<C: Cells>(cells: &C, a: usize, s: usize) -> usize
         Some(Row::Filled(weights)) => weights.len(),
         Some(Row::Scaled { numbers, .. }) => numbers.len(),
         Some(Row::Single(_)) => 1,
+        Some(Row::Even { columns, .. }) => columns,
         None => cells.states(),
     }
 }

@@ -5,6 +5,7 @@ mod above;
 mod check_input;
 mod end_values;
 mod ends;
+mod even_rows;
 mod expected_reward;
 mod fault;
 mod findings;

@@ -187,6 +187,22 @@ fn borrowed_rows_are_walked(rt: HostRuntime) {
     };
     assert!(rt; has_steps(scaled, both.as_slice()));
     assert!(rt; has_steps(Row::Single(cells[1]), [(4, 70)].as_slice()));
+    let exceptions = [
+        Cell {
+            column: 0,
+            weight: 0,
+        },
+        Cell {
+            column: 2,
+            weight: 9,
+        },
+    ];
+    let even = Row::Even {
+        weight: 5,
+        columns: 4,
+        exceptions: &exceptions,
+    };
+    assert!(rt; has_steps(even, [(1, 5), (2, 9), (3, 5)].as_slice()));
     assert!(rt; has_steps(Row::Sparse(&[]), [].as_slice()));
     assert!(rt; has_steps(Row::Filled(&[0, 0]), [].as_slice()));
 }

@@ -22,14 +22,14 @@ other_number a b d = grind (arith, nat_tests)
 equal_numbers : (a : ℕ) → (a == a) ≡ true
 equal_numbers a = grind (arith, nat_tests)
 
-hit : (a b : ℕ) (x y : ℤ) → a ≡ b → cond (a == b) x y ≡ x
+pub hit : (a b : ℕ) (x y : ℤ) → a ≡ b → cond (a == b) x y ≡ x
 hit a b x y e = ap (λ t. cond t x y) (ap (λ k. k == b) e ∙ equal_numbers b)
 
-miss : (a b : ℕ) (x y : ℤ) → (a ≡ b → ⊥) → cond (a == b) x y ≡ y
+pub miss : (a b : ℕ) (x y : ℤ) → (a ≡ b → ⊥) → cond (a == b) x y ≡ y
 miss a b x y d = ap (λ t. cond t x y) (other_number a b d)
 
 -- ---- a sum of which one term changes
-one_term_more : (f g : ℕ → ℤ) (i : ℕ) (x : ℤ) (n : ℕ) → i < n → ((k : ℕ) → k < n → (k ≡ i → ⊥) → g k ≡ f k) → g i ≡ f i +ℤ x
+pub one_term_more : (f g : ℕ → ℤ) (i : ℕ) (x : ℤ) (n : ℕ) → i < n → ((k : ℕ) → k < n → (k ≡ i → ⊥) → g k ≡ f k) → g i ≡ f i +ℤ x
     → total_below g n ≡ total_below f n +ℤ x
 one_term_more f g i x zero l same here = absurd (omega (arith, l))
 one_term_more f g i x (suc n) l same here = at (cases_eq n i)

@@ -19,7 +19,7 @@ scaled_term : (n scale : ℕ) (x : ℤ) → pos scale *ℤ (pos n *ℤ x) ≡ po
 scaled_term n scale x = sym (*ℤ_assoc (pos scale) (pos n) x) ∙ ap (λ (k : ℕ). pos k *ℤ x) (mul_comm scale n)
 
 -- what has no weight may be any number
-same_if_some : (w : ℕ) (x y : ℤ) → (0 < w → x ≡ y) → pos w *ℤ x ≡ pos w *ℤ y
+pub same_if_some : (w : ℕ) (x y : ℤ) → (0 < w → x ≡ y) → pos w *ℤ x ≡ pos w *ℤ y
 same_if_some zero x y h = zero-*ℤ x ∙ sym (zero-*ℤ y)
 same_if_some (suc w) x y h = ap (λ (t : ℤ). pos (suc w) *ℤ t) (h (omega arith))
 

@@ -1,6 +1,10 @@
--- Helper definitions of private functions: rows that are numbers times a scale, added up before they are scaled. Nobody has to believe
--- them.
-use Rattle.std.specs.Prelude.{ℕ, ℤ, pos, ◌*ℤ◌, List, slice_index, slice_index_or}
+-- Helper definitions of private functions: sums over rows whose weights are numbers times a scale, or one weight but for exceptions.
+-- Nobody has to believe them.
+use Rattle.std.specs.Prelude.{◌≡◌, ◌*◌, ◌^◌, ◌<◌, ◌≤◌, ℕ, ℤ, pos, ◌*ℤ◌, unsigned_abs, List, length, slice_index, slice_index_or}
+use Rattle.polcert_cells.specs.BorrowedRows.{IsEvenRow}
+use Rattle.polcert_cells.specs.Elements.{most_elements}
+use Rattle.polcert_cells.specs.Numbers.{one}
+use Rattle.polcert_cells.specs.declared.elements.Cell.{Cell}
 use Rattle.polcert_check.specs.Horizon.{Controller, total_below}
 use Rattle.polcert_check.specs.Shortfall.{at_node}
 
@@ -15,3 +19,13 @@ number_term c n e number z = at_node (λ m. pos number *ℤ c.value m e) (c.next
 -- the sum over the first observations of their numbers, each times the value of the successor at end state e
 abbrev pub successors_below : Controller → ℕ → ℕ → List ℕ → ℕ → ℤ
 successors_below c n e numbers count = total_below (λ z. number_term c n e (slice_index numbers z) z) count
+
+-- a row of one weight but for exceptions, and numbers of its columns that sum to this
+pub record IsEvenSum (f : ℕ → ℕ) (count weight : ℕ) (exceptions : List Cell) (numbers : List ℤ) (total : ℤ) : Type 0 where
+  pub columns : ℕ
+  pub row : IsEvenRow f count weight columns exceptions
+  pub few : count ≤ most_elements
+  pub limited : (c : ℕ) → c < count → f c ≤ one * count
+  pub room : count ≤ length numbers
+  pub sum : total ≡ total_below (λ c. slice_index_or numbers c (pos 0)) count
+  pub small : unsigned_abs total ≤ count * 2 ^ 63

@@ -1,7 +1,8 @@
 use Rattle.std.proofs.Common.{◌≡◌, ◌∙◌, Some, List, [], ◌∷◌, ap, sym, rules}
 use Rattle.std.proofs.lemmas.Slice.Eq.{slice_eq-Decides}
-use Rattle.polcert_cells.specs.Sparse.{scaled_cells, weight_at}
-use Rattle.polcert_cells.specs.declared.cells.Row.TheVariants.{Scaled, Single, Sparse}
+use Rattle.polcert_cells.specs.Sparse.{excepted_weight, scaled_cells, weight_at}
+use Rattle.polcert_cells.specs.BorrowedRows.{IsEvenRow}
+use Rattle.polcert_cells.specs.declared.cells.Row.TheVariants.{Even, Scaled, Single, Sparse}
 use Rattle.polcert_check.proofs.Common.{Cell, IsRow}
 use Rattle.polcert_check.proofs.end_values.is_same_row.Goals as goal
 
@@ -35,3 +36,14 @@ returns-in-Some-Single-Some-Single c f g count t rowf rowg k l =
     let left : IsRow count f (w.cell ∷ []) = rowf (Single w.cell) one in
     let right : IsRow count g (w.own ∷ []) = rowg (Single w.own) other in
     sym (left.each k l) ∙ ap (λ (x : Cell). weight_at (x ∷ []) k) same ∙ right.each k l
+
+pub returns-then-columns-wide : goal.returns-then-columns-wide
+returns-then-columns-wide c f g count t rowf rowg k l =
+    let w = c.in-Some-Even-Some-Even in
+    let one : c.args.one ≡ Some (Even w.weight w.columns w.exceptions) = search rules in
+    let other : c.args.other ≡ Some (Even w.same w.wide w.own) = search rules in
+    let common : w.weight ≡ w.same = search rules in
+    let same = (slice_eq-Decides (λ a b. search rules) _ _ _ c.eq-then-columns-wide.ensures).0 t in
+    let left : IsEvenRow f count w.weight w.columns w.exceptions.now = rowf (Even w.weight w.columns w.exceptions) one in
+    let right : IsEvenRow g count w.same w.wide w.own.now = rowg (Even w.same w.wide w.own) other in
+    sym (left.each k l) ∙ (λ i. excepted_weight (common i) (same i) k) ∙ right.each k l
