@@ -1,6 +1,6 @@
 -- Which entry covers a cell last, where entries stand in groups.
 use Rattle.std.proofs.Common.{◌≡◌, ◌∙◌, ℕ, zero, suc, ◌<◌, ◌⊎◌, ⊎_elim, Bool, false, cond, Option, Some, List, [], ◌∷◌, ◌++◌, reverse, refl}
-use Rattle.std.proofs.Common.{ap, subst, arith}
+use Rattle.std.proofs.Common.{ap, arith}
 use Rattle.polcert_full_form.proofs.Common.{list_any, Entry, for_each}
 use Rattle.std.specs.List.{find}
 use Rattle.std.proofs.lemmas.List.{reverse-append, append_assoc}
@@ -22,25 +22,24 @@ module _ (p : Entry → Bool) where
   passed_over : (xs ys : List Entry) → list_any p xs ≡ false → find p (reverse xs ++ ys) ≡ find p ys
   passed_over [] ys e = refl
   passed_over (x ∷ xs) ys e =
-      let both = or_false (p x) (list_any p xs) e in
-      let turned : reverse (x ∷ xs) ++ ys ≡ reverse xs ++ x ∷ ys = ap (λ (l : List Entry). l ++ ys) (reverse-append (x ∷ []) xs)
-      ∙ append_assoc (reverse xs) (x ∷ []) ys in
-      ap (find p) turned ∙ passed_over xs (x ∷ ys) both.1 ∙ ap (λ b. cond b (Some x) (find p ys)) both.0
+      let both = or_false _ _ e in
+      ap (find p) (ap (λ (l : List _). l ++ ys) (reverse-append (x ∷ []) xs) ∙ append_assoc _ (x ∷ []) ys) ∙ passed_over xs _ both.1
+      ∙ ap (λ b. cond b (Some x) (find p ys)) both.0
 
   -- after, the last is the last
   pub last_after : (xs ys : List Entry) (e : Entry) → last_of ys ≡ Some e → last_of (xs ++ ys) ≡ Some e
-  last_after xs ys e h = ap (find p) (reverse-append xs ys) ∙ found_first (reverse ys) (reverse xs) e h
+  last_after xs ys e h = ap (find p) (reverse-append xs ys) ∙ found_first _ _ e h
 
   -- what is after doesn't count, if none passes there
   pub last_before : (xs ys : List Entry) → none_of ys ≡ false → last_of (xs ++ ys) ≡ last_of xs
-  last_before xs ys h = ap (find p) (reverse-append xs ys) ∙ passed_over ys (reverse xs) h
+  last_before xs ys h = ap (find p) (reverse-append xs ys) ∙ passed_over ys _ h
 
   pub none_both : (xs ys : List Entry) → none_of xs ≡ false → none_of ys ≡ false → none_of (xs ++ ys) ≡ false
-  none_both xs ys a b = list_any-append p xs ys ∙ or_false_from (none_of xs) (none_of ys) a b
+  none_both xs ys a b = list_any-append p xs ys ∙ or_false_from _ _ a b
 
   pub none_of_each : (n : ℕ) (f : ℕ → List Entry) → ((i : ℕ) → i < n → none_of (f i) ≡ false) → none_of (for_each n f) ≡ false
   none_of_each zero f h = refl
-  none_of_each (suc n) f h = none_both (for_each n f) (f n) (none_of_each n f (λ i l. h i (omega (arith, l)))) (h n (omega arith))
+  none_of_each (suc n) f h = none_both _ _ (none_of_each n f (λ i l. h i (omega arith))) (h n (omega arith))
 
   here_or_before : (i n : ℕ) → i < suc n → (i ≡ n) ⊎ (i < n)
   here_or_before i n l = grind arith
@@ -48,9 +47,8 @@ module _ (p : Entry → Bool) where
   -- of groups, just one passes
   pub last_of_each : (n i : ℕ) (f : ℕ → List Entry) (e : Entry) → i < n → last_of (f i) ≡ Some e
       → ((j : ℕ) → j < n → (i ≡ j → ⊥) → none_of (f j) ≡ false) → last_of (for_each n f) ≡ Some e
-  last_of_each zero i f e l h others = absurd (omega (arith, l))
-  last_of_each (suc n) i f e l h others = ⊎_elim
-      (λ same. last_after (for_each n f) (f n) e (subst (λ j. last_of (f j) ≡ Some e) same h))
-      (λ less. last_before (for_each n f) (f n) (others n (omega arith) (λ same. omega (arith, less, same)))
-      ∙ last_of_each n i f e less h (λ j m apart. others j (omega (arith, m)) apart))
+  last_of_each zero i f e l h others = grind arith
+  last_of_each (suc n) i f e l h others = ⊎_elim (λ same. last_after (for_each n f) _ e (cc))
+      (λ less. last_before (for_each n f) _ (grind arith)
+      ∙ last_of_each n i f e less h (λ j m. others j (omega arith)))
       (here_or_before i n l)

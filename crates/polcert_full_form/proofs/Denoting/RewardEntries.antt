@@ -1,19 +1,18 @@
 -- The entry of a row of rewards as it is printed gives the row's rewards back.
-use Rattle.std.proofs.Common.{◌≡◌, ℕ, ◌+◌, ◌<◌, ◌==◌, ⊎_elim, Bool, true, false, ◌&&◌, cond, Some, List, [], ◌∷◌, ◌++◌, ℤ, pos, refl, arith}
+use Rattle.std.proofs.Common.{◌≡◌, ℕ, ◌<◌, ◌==◌, ⊎_elim, Bool, true, false, ◌&&◌, cond, Some, List, [], ◌∷◌, ◌++◌, ℤ, pos, refl, arith}
 use Rattle.polcert_full_form.proofs.Common.{get_or-map-range_with_len, Table, Reward, Only, Rewards, Entry, Preamble, is_mdp, is_table}
 use Rattle.polcert_full_form.proofs.Common.{covers, reward, for_each, values, all_below, is_zero, written}
 use Rattle.polcert_cells.specs.Cells.{reward_of}
-use Rattle.polcert_cells.proofs.Basics.{is_true_or_false, true≢false}
+use Rattle.polcert_cells.proofs.Basics.{true≢false}
 use Rattle.polcert_cells.proofs.CellLaws.{uncovered_reward}
 use Rattle.polcert_full_form.proofs.Denoting.Covering.{last_of, none_of, last_after, none_both, none_of_each, last_of_each}
-use Rattle.polcert_full_form.proofs.Denoting.RowEntries.{IsOtherRow, test_below, test_same, test_itself}
+use Rattle.polcert_full_form.proofs.Denoting.RowEntries.{IsOtherRow, test_below, test_same}
 
 abbrev pub reward_row : Bool → ℕ → ℕ → ℕ → ℕ → (ℕ → ℤ) → Entry
 reward_row costs a s e n r = record {
   table = Reward;
   places = Only a ∷ Only s ∷ Only e ∷ [];
-  body =
-      Rewards (values n (λ z. written costs (r z)));
+  body = Rewards (values n (λ z. written costs (r z)));
 }
 
 abbrev pub reward_entries : Bool → ℕ → ℕ → ℕ → ℕ → (ℕ → ℤ) → List Entry
@@ -59,60 +58,44 @@ module _ (p : Preamble) (indices : List ℕ) (h : ℤ) where
 
   pub given_after : (before es : List Entry) → none_of (covers Reward indices) before ≡ false → IsGiven p indices es h
       → IsGiven p indices (before ++ es) h
-  given_after before es clear (nothing none unpaid) = nothing (none_both (covers Reward indices) before es clear none) unpaid
-  given_after before es clear (entry e last same) = entry e (last_after (covers Reward indices) before es e last) same
+  given_after before es clear (nothing none unpaid) = nothing (none_both _ before es clear none) unpaid
+  given_after before es clear (entry e last same) = entry e (last_after _ before es e last) same
 
   pub given_each : (n i : ℕ) (f : ℕ → List Entry) → i < n → IsGiven p indices (f i) h
       → ((j : ℕ) → j < n → (i ≡ j → ⊥) → none_of (covers Reward indices) (f j) ≡ false)
       → IsGiven p indices (for_each n f) h
-  given_each n i f l (nothing none unpaid) apart = grind
-      (arith, ⊎_elim, is_true_or_false, true≢false, none_of, none_of_each, test_same, test_itself)
-  given_each n i f l (entry e last same) apart = entry e (last_of_each (covers Reward indices) n i f e l last apart) same
+  given_each n i f l (nothing none unpaid) apart = grind (arith, ⊎_elim, true≢false, none_of, none_of_each, test_same)
+  given_each n i f l (entry e last same) apart = entry e (last_of_each _ n i f e l last apart) same
 
 found_alone : (test : Entry → Bool) (x : Entry) → test x ≡ true → last_of test (x ∷ []) ≡ Some x
 found_alone test x h = simp h
 
 -- ---- a row of observations
 module _ (p : Preamble) (a s e n z : ℕ) (r : ℕ → ℤ) (l : z < n) where
-  reward_covers : covers Reward (a ∷ s ∷ e ∷ z ∷ []) (reward_row p.costs a s e n r) ≡ true
-  reward_covers = λ i. test_itself a i && (test_itself s i && (test_itself e i && true))
-
-  reward_back : reward_of p (a ∷ s ∷ e ∷ z ∷ []) (reward_row p.costs a s e n r) ≡ r z
-  reward_back = grind (arith, get_or-map-range_with_len)
-
   row_given : IsGiven p (a ∷ s ∷ e ∷ z ∷ []) (reward_entries p.costs a s e n r) (r z)
-  row_given = at (all_below n (λ z. is_zero (r z))) refl
+  row_given = at (all_below n _) refl
     where
       at : (b : Bool) → all_below n (λ z. is_zero (r z)) ≡ b
           → IsGiven p (a ∷ s ∷ e ∷ z ∷ []) (cond b [] (reward_row p.costs a s e n r ∷ [])) (r z)
-      at true all = nothing refl (zero_is (r z) (test_below n z (λ z. is_zero (r z)) all l))
-      at false some = entry (reward_row p.costs a s e n r)
-          (found_alone (covers Reward (a ∷ s ∷ e ∷ z ∷ [])) (reward_row p.costs a s e n r) reward_covers) reward_back
+      at true all = nothing refl (zero_is _ (test_below n z _ all l))
+      at false some = entry (reward_row _ a s e n r) (found_alone (covers Reward (a ∷ s ∷ e ∷ z ∷ [])) _ (grind arith))
+          (grind (arith, get_or-map-range_with_len))
 
 -- ---- a row of end states, in an MDP
 module _ (p : Preamble) (a s n e : ℕ) (r : ℕ → ℤ) (mdp : is_mdp p ≡ true) (l : e < n) where
-  end_covers : covers Reward (a ∷ s ∷ e ∷ 0 ∷ []) (end_row p.costs a s n r) ≡ true
-  end_covers = λ i. test_itself a i && (test_itself s i && true)
-
-  end_back : reward_of p (a ∷ s ∷ e ∷ 0 ∷ []) (end_row p.costs a s n r) ≡ r e
-  end_back = grind (arith, get_or-map-range_with_len)
-
   end_given : IsGiven p (a ∷ s ∷ e ∷ 0 ∷ []) (end_entries p.costs a s n r) (r e)
-  end_given = at (all_below n (λ e. is_zero (r e))) refl
+  end_given = at (all_below n _) refl
     where
       at : (b : Bool) → all_below n (λ e. is_zero (r e)) ≡ b
           → IsGiven p (a ∷ s ∷ e ∷ 0 ∷ []) (cond b [] (end_row p.costs a s n r ∷ [])) (r e)
-      at true all = nothing refl (zero_is (r e) (test_below n e (λ e. is_zero (r e)) all l))
-      at false some = entry (end_row p.costs a s n r) (found_alone (covers Reward (a ∷ s ∷ e ∷ 0 ∷ [])) (end_row p.costs a s n r)
-          end_covers) end_back
+      at true all = nothing refl (zero_is _ (test_below n e _ all l))
+      at false some = entry (end_row _ a s n r) (found_alone (covers Reward (a ∷ s ∷ e ∷ 0 ∷ [])) _ (grind arith))
+          (grind (arith, get_or-map-range_with_len))
 
 -- ---- the entries of an action in a state
-another_end : (a s e b : ℕ) → (e ≡ b → ⊥) → IsElsewhere a s b Reward a s e
-another_end a s e b apart = grind arith
-
 pub from_given : (p : Preamble) (mdp : Bool) (a s k n e z : ℕ) (r : ℕ → ℕ → ℤ) → is_mdp p ≡ mdp → e < k → z < n
     → IsGiven p (a ∷ s ∷ e ∷ cond mdp 0 z ∷ []) (entries_from mdp p.costs a s k n r) (r e (cond mdp 0 z))
-from_given p true a s k n e z r mdp d l = end_given p a s k e (λ e. r e 0) mdp d
+from_given p true a s k n e z r mdp d l = end_given p a s k e _ mdp d
 from_given p false a s k n e z r mdp d l =
-    given_each p (a ∷ s ∷ e ∷ z ∷ []) (r e z) k e (λ b. reward_entries p.costs a s b n (r b)) d (row_given p a s e n z (r e) l)
-    (λ b m apart. rewards_elsewhere p.costs a s b n (r b) Reward a s e (z ∷ []) (another_end a s e b apart))
+    given_each p _ _ k e _ d (row_given p a s e n z _ l)
+    (λ b m apart. rewards_elsewhere _ a s b n _ _ a s e _ (grind arith))

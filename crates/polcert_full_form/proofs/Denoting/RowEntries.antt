@@ -1,11 +1,11 @@
 -- The entries of a row as it is printed give the row's weights back.
-use Rattle.std.proofs.Common.{◌≡◌, ◌∙◌, ℕ, zero, suc, ◌+◌, ◌*◌, ◌/◌, ◌%◌, ◌<◌, ◌==◌, ◌≢◌, ◌⊎◌, ⊎_elim, inl, inr, Bool, true, false, ◌&&◌}
-use Rattle.std.proofs.Common.{cond, Some, List, [], ◌∷◌, ◌++◌, refl, sym, ap, subst, arith}
-use Rattle.polcert_full_form.proofs.Common.{list_any, nat_tests, get_or-map-range_with_len, Table, Transition, Observation, Only, Body}
+use Rattle.std.proofs.Common.{◌≡◌, ◌∙◌, ℕ, zero, suc, ◌*◌, ◌/◌, ◌%◌, ◌<◌, ◌==◌, ◌≢◌, ◌⊎◌, ⊎_elim, inl, Bool, true, false, ◌&&◌}
+use Rattle.std.proofs.Common.{cond, Some, List, [], ◌∷◌, ◌++◌, refl, sym, ap, arith}
+use Rattle.polcert_full_form.proofs.Common.{list_any, get_or-map-range_with_len, Table, Transition, Observation, Only, Body}
 use Rattle.polcert_full_form.proofs.Common.{Probabilities, Uniform, Entry, Elements, one, count_of, Preamble, is_mdp, dimensions, named}
 use Rattle.polcert_full_form.proofs.Common.{columns, observed, forms, MayBeGiven, is_table, covers, weight_of, for_each, values, all_below}
 use Rattle.polcert_full_form.proofs.Common.{is_uniform, is_decimal}
-use Rattle.polcert_cells.proofs.Basics.{and_true, is_true_or_false, true≢false}
+use Rattle.polcert_cells.proofs.Basics.{and_true}
 use Rattle.polcert_full_form.proofs.Denoting.Covering.{last_of, none_of, last_after, last_before, none_of_each, last_of_each}
 
 -- ---- the entries
@@ -37,32 +37,29 @@ Fits n w = (w ≡ one) ⊎ ((q : ℕ) × (w ≡ q * n))
 
 -- ---- tests
 pub test_below : (n c : ℕ) (test : ℕ → Bool) → all_below n test ≡ true → c < n → test c ≡ true
-test_below zero c test e l = absurd (omega (arith, l))
+test_below zero c test e l = grind arith
 test_below (suc n) c test e l =
-    let both = and_true (all_below n test) (test n) e in
-    ⊎_elim (λ same. subst (λ x. test x ≡ true) (sym same) both.1) (λ less. test_below n c test both.0 less) (here_or_before c n l)
+    let both = and_true _ _ e in
+    ⊎_elim (λ same. rw same both.1) (test_below n c _ both.0) (here_or_before c n l)
   where
     here_or_before : (i n : ℕ) → i < suc n → (i ≡ n) ⊎ (i < n)
     here_or_before i n l = grind arith
 
 pub test_same : (m n : ℕ) → (m == n) ≡ true → m ≡ n
-test_same m n e = grind (arith, nat_tests)
+test_same m n e = grind arith
 
 -- a number is the same as another, or not
 pub same_or_other : (c k : ℕ) → (c ≡ k) ⊎ (c ≢ k)
 same_or_other zero zero = inl refl
-same_or_other zero (suc k) = inr (λ e. absurd (cc))
-same_or_other (suc c) zero = inr (λ e. absurd (cc))
-same_or_other (suc c) (suc k) = ⊎_elim (λ e. inl (ap suc e)) (λ n. inr (λ e. n (omega (arith, e)))) (same_or_other c k)
+same_or_other zero (suc k) = grind arith
+same_or_other (suc c) zero = grind arith
+same_or_other (suc c) (suc k) = grind arith
 
 pub test_itself : (n : ℕ) → (n == n) ≡ true
-test_itself n = grind (arith, nat_tests)
+test_itself n = grind arith
 
 pub test_apart : (m n : ℕ) → (m ≡ n → ⊥) → (m == n) ≡ false
-test_apart m n h = ⊎_elim (λ e. absurd (h (test_same m n e))) (λ e. e) (is_true_or_false (m == n))
-
-pub table_itself : (table : Table) → is_table table table ≡ true
-table_itself table = grind arith
+test_apart m n h = grind arith
 
 -- a weight of this share, and the share back
 share_of_multiple : (n q : ℕ) → 0 < n → q * n / n * n ≡ q * n
@@ -72,14 +69,8 @@ share_back : (n w : ℕ) → 0 < n → Fits n w → (w == one) ≡ false → w /
 share_back n w l f e = grind (arith, share_of_multiple)
 
 -- ---- what they cover
-pub here : (t x y z : Bool) → t ≡ true → x ≡ true → y ≡ true → z ≡ true → (t && (x && (y && z))) ≡ true
-here t x y z a b c d = λ i. a i && (b i && (c i && d i))
-
 pub row_covers : (table : Table) (a s c : ℕ) (body : Body) → covers table (a ∷ s ∷ c ∷ []) (whole_row table a s body) ≡ true
-row_covers table a s c body = here _ _ _ true (table_itself table) (test_itself a) (test_itself s) refl
-
-cell_covers : (table : Table) (a s c p : ℕ) → covers table (a ∷ s ∷ c ∷ []) (one_cell table a s c p) ≡ true
-cell_covers table a s c p = here _ _ _ _ (table_itself table) (test_itself a) (test_itself s) (λ i. test_itself c i && true)
+row_covers table a s c body = grind arith
 
 -- the row of another place or table
 abbrev pub IsOtherRow : Table → ℕ → ℕ → Table → ℕ → ℕ → Type 0
@@ -103,32 +94,10 @@ pub record HasRows (p : Preamble) (table : Table) (n : ℕ) : Type 0 where
   pub cell : (ps : List ℕ) → list_any (λ k. k == 3) (forms (is_mdp p) table (Probabilities ps)) ≡ true
 
 pub transition_rows : (p : Preamble) → HasRows p Transition (count_of p.states)
-transition_rows p = record {
-  column = p.states;
-  given = tt;
-  dimensions_are = refl;
-  named_are = refl;
-  columns_are = refl;
-  count =
-      refl;
-  uniform = refl;
-  row = λ ps. refl;
-  cell = λ ps. refl;
-}
+transition_rows p = grind arith
 
 pub observation_rows : (p : Preamble) → is_mdp p ≡ false → HasRows p Observation (count_of (observed p))
-observation_rows p seen = record {
-  column = observed p;
-  given = seen;
-  dimensions_are = refl;
-  named_are = refl;
-  columns_are = refl;
-  count =
-      refl;
-  uniform = refl;
-  row = λ ps. refl;
-  cell = λ ps. refl;
-}
+observation_rows p seen = grind arith
 
 module _ (p : Preamble) (table : Table) (a s n : ℕ) (w : ℕ → ℕ) (rows : HasRows p table n) (some : 0 < n) where
   -- the entry that covers the cell last, and its weight there
@@ -143,77 +112,48 @@ module _ (p : Preamble) (table : Table) (a s n : ℕ) (w : ℕ → ℕ) (rows : 
   uniform_covered : (c : ℕ) → w c ≡ one → Covered (uniform_row table a s) c
   uniform_covered c e = record {
     entry = whole_row table a s Uniform;
-    last = found_alone c (whole_row table a s Uniform) (row_covers table a s c Uniform);
-    weight = sym e;
+    last = grind arith;
+    weight = cc;
   }
-
-  decimal_weight : (c : ℕ) → c < n → (w c % n == 0) ≡ true
-      → weight_of p (a ∷ s ∷ c ∷ []) (whole_row table a s (Probabilities (values n (λ c. w c / n)))) ≡ w c
-  decimal_weight c l e = grind (arith, get_or-map-range_with_len)
 
   decimal_covered : (c : ℕ) → c < n → (w c % n == 0) ≡ true → Covered (decimal_row table a s n w) c
   decimal_covered c l e = record {
     entry = whole_row table a s (Probabilities (values n (λ c. w c / n)));
-    last = found_alone c (whole_row table a s (Probabilities (values n (λ c. w c / n))))
-        (row_covers table a s c (Probabilities (values n (λ c. w c / n))));
-    weight = decimal_weight c l e;
+    last = grind arith;
+    weight = grind (arith, get_or-map-range_with_len);
   }
-
-  cell_weight : (c : ℕ) → Fits n (w c) → (w c == one) ≡ false → weight_of p (a ∷ s ∷ c ∷ []) (one_cell table a s c (w c / n)) ≡ w c
-  cell_weight c f e = grind (arith, share_back)
-
-  other_cells : (c d : ℕ) → (c ≡ d → ⊥) → none_of (covers table (a ∷ s ∷ c ∷ [])) (cell_entries table a s n w d) ≡ false
-  other_cells c d apart = grind arith
 
   cells_covered : (c : ℕ) → c < n → Fits n (w c) → Covered (single_cells table a s n w) c
   cells_covered c l f = at (w c == one) refl
     where
-      test : Entry → Bool
-      test = covers table (a ∷ s ∷ c ∷ [])
-
       at : (b : Bool) → (w c == one) ≡ b → Covered (single_cells table a s n w) c
       at true e =
-          let same_one : w c ≡ one = test_same (w c) one e in
-          let none : none_of (covers table (a ∷ s ∷ c ∷ [])) (for_each n (cell_entries table a s n w)) ≡ false =
-          none_of_each (covers table (a ∷ s ∷ c ∷ [])) n (cell_entries table a s n w) (λ d m. empty_or_other d e) in
+          let same_one = test_same _ _ e in
+          let none =
+          none_of_each _ n _ (λ d m. empty_or_other d e) in
           record {
-            entry = whole_row table a s Uniform;
-            last = last_before (covers table (a ∷ s ∷ c ∷ [])) (uniform_row table a s) (for_each n (cell_entries table a s n w)) none
-                ∙ found_alone c (whole_row table a s Uniform) (row_covers table a s c Uniform);
+            entry = whole_row _ a s _;
+            last = last_before _ (uniform_row _ a s) (for_each n _) none ∙ found_alone c _ (row_covers _ a s c Uniform);
             weight = sym same_one;
           }
         where
           empty_or_other : (d : ℕ) → (w c == one) ≡ true → none_of (covers table (a ∷ s ∷ c ∷ [])) (cell_entries table a s n w d) ≡ false
-          empty_or_other d e = ⊎_elim
-              (λ same. ap (λ b. none_of (covers table (a ∷ s ∷ c ∷ [])) (cond b [] (one_cell table a s d (w d / n) ∷ [])))
-              (ap (λ x. w x == one) (sym (test_same c d same)) ∙ e))
-              (λ other. other_cells c d (λ k. true≢false (ap (λ x. c == x) (sym k) ∙ test_itself c) other))
-              (is_true_or_false (c == d))
+          empty_or_other d e = grind arith
       at false e =
-          let alone : last_of (covers table (a ∷ s ∷ c ∷ [])) (cell_entries table a s n w c) ≡ Some (one_cell table a s c (w c / n)) =
+          let alone =
           ap (λ b. last_of (covers table (a ∷ s ∷ c ∷ [])) (cond b [] (one_cell table a s c (w c / n) ∷ []))) e
-          ∙ found_alone c (one_cell table a s c (w c / n)) (cell_covers table a s c (w c / n)) in
+          ∙ found_alone c (one_cell table a s c (w c / n)) (grind arith) in
           record {
-            entry = one_cell table a s c (w c / n);
-            last = last_after (covers table (a ∷ s ∷ c ∷ [])) (uniform_row table a s) (for_each n (cell_entries table a s n w))
-                (one_cell table a s c (w c / n))
-                (last_of_each (covers table (a ∷ s ∷ c ∷ [])) n c (cell_entries table a s n w) (one_cell table a s c (w c / n)) l alone
-                (λ d m apart. other_cells c d apart));
-            weight = cell_weight c f e;
+            entry = _;
+            last = last_after _ (uniform_row _ a s) (for_each n _) _ (last_of_each _ n c _ _ l alone (λ d m. grind arith));
+            weight = grind (arith, share_back);
           }
 
   -- the entries of the printed row give the row back
   pub row_covered : (c : ℕ) → c < n → Fits n (w c) → Covered (row_entries table a s n w) c
-  row_covered c l f = at (is_uniform n w) (is_decimal n w) refl refl
+  row_covered c l f = at (is_uniform n w) _ refl refl
     where
       at : (u d : Bool) → is_uniform n w ≡ u → is_decimal n w ≡ d → Covered (row_entries table a s n w) c
-      at true d e g = subst (λ b. Covered (cond b (uniform_row table a s)
-          (cond (is_decimal n w) (decimal_row table a s n w) (single_cells table a s n w))) c) (sym e)
-          (uniform_covered c (test_same (w c) one (test_below n c (λ c. w c == one) e l)))
-      at false true e g = subst (λ b. Covered (cond b (uniform_row table a s)
-          (cond (is_decimal n w) (decimal_row table a s n w) (single_cells table a s n w))) c) (sym e)
-          (subst (λ b. Covered (cond b (decimal_row table a s n w) (single_cells table a s n w)) c) (sym g)
-          (decimal_covered c l (test_below n c (λ c. w c % n == 0) g l)))
-      at false false e g = subst (λ b. Covered (cond b (uniform_row table a s)
-          (cond (is_decimal n w) (decimal_row table a s n w) (single_cells table a s n w))) c) (sym e)
-          (subst (λ b. Covered (cond b (decimal_row table a s n w) (single_cells table a s n w)) c) (sym g) (cells_covered c l f))
+      at true d e g = rw e (uniform_covered c (test_same _ _ (test_below n c _ e l)))
+      at false true e g = rw e (rw g (decimal_covered c l (test_below n c _ g l)))
+      at false false e g = rw e (rw g (cells_covered c l f))

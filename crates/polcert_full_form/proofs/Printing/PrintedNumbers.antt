@@ -1,10 +1,9 @@
 -- Numbers as they are written are the numbers that a reader takes.
-use Rattle.std.proofs.Common.{◌≡◌, ℕ, ℤ, suc, ◌^◌, ◌<◌, ◌≤◌, Bool, true, false, ◌||◌, pos, negsuc, List, [], ◌∷◌, ◌++◌, length, map}
-use Rattle.std.proofs.Common.{decimal, codes, refl, arith, unsigned_abs}
-use Rattle.polcert_full_form.proofs.Common.{list_all, list_any, Lexeme, Numeral, unsigned_text, scaled_text, largest, begins_item}
+use Rattle.std.proofs.Common.{◌≡◌, ℕ, ℤ, suc, ◌^◌, ◌<◌, ◌≤◌, Bool, true, false, ◌||◌, pos, negsuc, List, [], ◌∷◌, ◌++◌, map}
+use Rattle.std.proofs.Common.{decimal, refl, arith, unsigned_abs}
+use Rattle.polcert_full_form.proofs.Common.{list_any, Lexeme, Numeral, unsigned_text, scaled_text, largest, begins_item}
 use Rattle.polcert_full_form.proofs.Common.{AreNumbers}
 use Rattle.std.proofs.lemmas.Fmt.{decimal_is_IsNumeral, decimal_nonempty}
-use Rattle.polcert_text.specs.Lexemes.{are_digits}
 use Rattle.polcert_text.specs.declared.tokens.TokenKind.TheVariants.{Minus, Plus}
 use Rattle.polcert_text.specs.Numbers.{signed}
 use Rattle.polcert_text.proofs.Numbers.FrontNumbers.{some_digits}
@@ -25,7 +24,7 @@ pub millionths_at : (negative : Bool) (place n : ℕ) → n ≤ largest
 millionths_at negative place n l = record {
   kind = refl;
   readable = readable_written n l;
-  value = (written_exact n (omega (arith, l)) negative).1;
+  value = (written_exact n (omega arith) _).1;
 }
 
 -- ---- the word of a number
@@ -57,18 +56,17 @@ number_before : (h : ℤ) (hs : List ℤ) (following : List ℕ) (us : List Prin
     → ((place : ℕ) → AreNumbers (lexemes_at place us) hs)
     → (place : ℕ) → AreNumbers (lexemes_at place (spelled (number_word h) following ++ us)) (h ∷ hs)
 number_before (pos n) hs following us l more place = numbers.unsigned (millionths_at false _ n l) (more _)
-number_before (negsuc n) hs following us l more place = numbers.minus refl (millionths_at true _ (suc n) l) (more _)
+number_before (negsuc n) hs following us l more place = numbers.minus refl (millionths_at true _ _ l) (more _)
 
 last_number : (h : ℤ) (following : List ℕ) → unsigned_abs h ≤ largest → (place : ℕ)
     → AreNumbers (lexemes_at place (spelled (number_word h) following)) (h ∷ [])
 last_number (pos n) following l place = numbers.unsigned (millionths_at false _ n l) numbers.none
-last_number (negsuc n) following l place = numbers.minus refl (millionths_at true _ (suc n) l) numbers.none
+last_number (negsuc n) following l place = numbers.minus refl (millionths_at true _ _ l) numbers.none
 
 pub numbers_at : (h : ℤ) (hs : List ℤ) → AreSmall (h ∷ hs) → (place : ℕ)
     → AreNumbers (lexemes_at place (spelled_line (number_word h) (map number_word hs))) (h ∷ hs)
-numbers_at h [] a place = last_number h (codes "\n") a.0 place
-numbers_at h (g ∷ gs) a place = number_before h (g ∷ gs) (codes " ") (spelled_line (number_word g) (map number_word gs)) a.0
-    (numbers_at g gs a.1) place
+numbers_at h [] a place = last_number h _ a.0 _
+numbers_at h (g ∷ gs) a place = number_before h _ _ _ a.0 (numbers_at g gs a.1) _
 
 -- no item begins among numbers
 numeral_begins_none : (l : Lexeme) → l.kind ≡ Numeral → begins_item l ≡ false
@@ -92,9 +90,9 @@ numbers_inside (numbers.minus {sign = s} {l = l} e a more) =
 pub whole_at : (place n : ℕ) → n < 2 ^ 64 → IsWhole (numeral_at place (decimal n)) n
 whole_at place n l = record {
   kind = refl;
-  digits = some_digits (decimal n) (decimal_nonempty n l) (decimal_digits n l);
+  digits = some_digits _ (decimal_nonempty n l) (decimal_digits n l);
   value = (decimal_is_IsNumeral n l).1;
 }
 
 pub whole_piece : (n : ℕ) → n < 10 ^ 19 → IsPiece Numeral (decimal n)
-whole_piece n l = numeral_piece (decimal n) (plain_decimal n l)
+whole_piece n l = numeral_piece _ (plain_decimal n l)

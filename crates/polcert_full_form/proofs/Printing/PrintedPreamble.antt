@@ -1,19 +1,19 @@
 -- The printed preamble is read as the preamble.
 use Rattle.std.proofs.Common.{◌≡◌, ◌≢◌, ◌∙◌, ℕ, suc, ◌≤◌, Bool, true, false, is_some, Option, Some, None, List, [], ◌∷◌, length, map, All}
-use Rattle.std.proofs.Common.{AllPairs, codes, decimal, refl, sym, ap, subst, arith}
+use Rattle.std.proofs.Common.{rules}
+use Rattle.std.proofs.Common.{AllPairs, codes, refl, sym, ap, arith}
 use Rattle.polcert_full_form.proofs.Common.{list_any, ForSome, All-cons, All-nil, All-head, All-tail, is_letter, is_name_byte, is_digit}
-use Rattle.polcert_full_form.proofs.Common.{is_point, is_exponent_mark, kind_of, unsigned_text, largest, Lexeme, Name, Numeral, Colon}
+use Rattle.polcert_full_form.proofs.Common.{is_point, is_exponent_mark, kind_of, largest, Lexeme, Name, Numeral, Colon}
 use Rattle.polcert_full_form.proofs.Common.{Elements, Count, Names, Topic, Start, topic_of, begins_item, IsName, one, most_states}
 use Rattle.polcert_full_form.proofs.Common.{most_actions, most_observations, most_elements, AreElements, counted, Preamble, ModelSoFar}
 use Rattle.polcert_full_form.proofs.Common.{nothing_known, IsRight, Meaning, line, IsWritableName, millionths_text, element_words}
 use Rattle.polcert_full_form.proofs.Common.{observations_line, preamble_text}
-use Rattle.std.specs.Prelude.{bytes_eq}
 use Rattle.polcert_cells.specs.declared.words.Topic.TheVariants.{Discount, Values, States, Actions, Observations}
-use Rattle.polcert_cells.specs.Words.{is_reserved, inner_words}
+use Rattle.polcert_cells.specs.Words.{is_reserved}
 use Rattle.polcert_cells.specs.Numbers as numbers
 use Rattle.polcert_cells.specs.Elements.{named}
 use Rattle.polcert_format.specs.Text as texts
-use Rattle.polcert_cells.proofs.Basics.{or_false, or_false_from}
+use Rattle.polcert_cells.proofs.Basics.{or_false_from}
 use Rattle.polcert_format.specs.FullForm.{values_word}
 use Rattle.polcert_text.proofs.Printing.PrintedCut.{Printed, text_of, lexemes_at, ArePrinted}
 use Rattle.polcert_text.proofs.Printing.PrintedWords.{Word, plain, key, word_text, spelled_line, IsPiece, AreSpellings, text_line}
@@ -33,41 +33,40 @@ name_word name = plain Name name
 
 text_names : (names : List (List ℕ)) → map word_text (map name_word names) ≡ names
 text_names [] = refl
-text_names (x ∷ xs) = ap (λ ys. x ∷ ys) (text_names xs)
+text_names (x ∷ xs) = rw (text_names xs)
 
 name_piece : (name : List ℕ) → IsWritableName name → IsPiece Name name
-name_piece name w = record { kind_is = w.kind; short = w.short }
+name_piece name w = grind arith
 
 spells_names : (names : List (List ℕ)) → All IsWritableName names → AreSpellings (map name_word names)
 spells_names [] a = tt
 spells_names (x ∷ xs) a = (name_piece x (All-head IsWritableName x xs a), spells_names xs (All-tail IsWritableName x xs a))
 
 name_is : (place : ℕ) (name : List ℕ) → IsWritableName name → IsName (record { kind = Name; place = place; bytes = name })
-name_is place name w = record { kind = refl; free = w.free }
+name_is place name w = grind arith
 
 -- the lexemes of a line of names
 bytes_of_names : (x : List ℕ) (xs : List (List ℕ)) (place : ℕ)
     → map (λ l. l.bytes) (lexemes_at place (spelled_line (name_word x) (map name_word xs))) ≡ x ∷ xs
 bytes_of_names x [] place = refl
-bytes_of_names x (y ∷ ys) place = ap (λ zs. x ∷ zs) (bytes_of_names y ys _)
+bytes_of_names x (y ∷ ys) place = rw (bytes_of_names y ys _)
 
 names_are : (x : List ℕ) (xs : List (List ℕ)) (place : ℕ) → All IsWritableName (x ∷ xs)
     → All IsName (lexemes_at place (spelled_line (name_word x) (map name_word xs)))
-names_are x [] place a = All-cons IsName _ [] (name_is place x (All-head IsWritableName x [] a)) (All-nil IsName)
-names_are x (y ∷ ys) place a = All-cons IsName _ _ (name_is place x (All-head IsWritableName x (y ∷ ys) a))
+names_are x [] place a = All-cons IsName _ [] (name_is _ x (All-head IsWritableName x [] a)) (All-nil _)
+names_are x (y ∷ ys) place a = All-cons IsName _ _ (name_is _ x (All-head IsWritableName x (y ∷ ys) a))
     (names_are y ys _ (All-tail IsWritableName x (y ∷ ys) a))
 
 reserved_topic : (name : List ℕ) → is_reserved name ≡ false → is_some (topic_of name) ≡ false
 unfolding is_reserved
-reserved_topic name e = (or_false (is_some (topic_of name)) (list_any (bytes_eq name) inner_words) e).0
+reserved_topic name e = grind arith
 
 name_begins_none : (l : Lexeme) → IsName l → begins_item l ≡ false
-name_begins_none l n = simp n.kind (reserved_topic l.bytes n.free)
+name_begins_none l n = simp n.kind (reserved_topic _ n.free)
 
 names_begin_none : (ls : List Lexeme) → All IsName ls → list_any begins_item ls ≡ false
 names_begin_none [] a = refl
-names_begin_none (l ∷ ls) a = or_false_from (begins_item l) (list_any begins_item ls) (name_begins_none l (All-head IsName l ls a))
-    (names_begin_none ls (All-tail IsName l ls a))
+names_begin_none (l ∷ ls) a = or_false_from _ _ (name_begins_none l (All-head IsName l ls a)) (names_begin_none ls (All-tail IsName l ls a))
 
 length-map_bytes : (ls : List Lexeme) → length (map (λ (l : Lexeme). l.bytes) ls) ≡ length ls
 length-map_bytes [] = refl
@@ -86,25 +85,25 @@ record IsElementsLine (most : ℕ) (word : List ℕ) (elements : Elements) : Typ
 elements_line : (most : ℕ) → most ≤ most_elements → (word : List ℕ) (elements : Elements) → IsPiece Name word → AreWritable most elements
     → IsElementsLine most word elements
 elements_line most few word (Count n) piece w = record {
-  lexemes = spelled_line (plain Numeral (decimal n)) [];
-  text_is = text_line (key word) (plain Numeral (decimal n) ∷ []);
-  printed = line_printed (key word) (plain Numeral (decimal n) ∷ []) piece (whole_piece n (omega (arith, few, w.1)), tt);
-  are = λ place. counted (whole_at place n (omega (arith, few, w.1))) w.0 w.1;
+  lexemes = spelled_line (plain _ _) [];
+  text_is = text_line (key _) (plain Numeral _ ∷ []);
+  printed = line_printed (key _) (plain _ _ ∷ []) piece (whole_piece n (omega arith), tt);
+  are = λ place. counted (whole_at _ n (omega arith)) w.0 w.1;
   begin_none = λ place. refl;
 }
-elements_line most few word (Names []) piece w = absurd (omega (arith, w.1))
+elements_line most few word (Names []) piece w = grind arith
 elements_line most few word (Names (x ∷ xs)) piece w = record {
-  lexemes = spelled_line (name_word x) (map name_word xs);
-  text_is = text_line (key word) (map name_word (x ∷ xs)) ∙ ap (λ ws. line (word_text (key word) ∷ ws)) (text_names (x ∷ xs));
-  printed = line_printed (key word) (map name_word (x ∷ xs)) piece (spells_names (x ∷ xs) w.0);
+  lexemes = _;
+  text_is = text_line (key _) (map _ (x ∷ xs)) ∙ ap (λ ws. line (word_text (key word) ∷ ws)) (text_names (x ∷ xs));
+  printed = line_printed (key _) (map _ (x ∷ xs)) piece (spells_names (x ∷ xs) w.0);
   are = λ place.
-      let ls = lexemes_at place (spelled_line (name_word x) (map name_word xs)) in
+      let ls = lexemes_at _ _ in
       let same = bytes_of_names x xs place in
-      let count : length ls ≡ length (x ∷ xs) = sym (length-map_bytes ls) ∙ ap length same in
-      subst (λ names. AreElements most ls (Names names)) same
-      (named (names_are x xs place w.0) (omega (arith, count, w.1)) (omega (arith, count, w.2))
-      (subst (AllPairs (λ x y. x ≢ y)) (sym same) w.3));
-  begin_none = λ place. names_begin_none _ (names_are x xs place w.0);
+      let count = sym (length-map_bytes ls) ∙ ap length same in
+      rw (← same)
+      (named (names_are x xs place w.0) (omega arith) (omega arith)
+      (grind arith));
+  begin_none = λ place. names_begin_none _ (names_are x xs _ w.0);
 }
 
 -- ---- words
@@ -137,30 +136,29 @@ words = grind arith
 discount_prints : (k : ModelSoFar) (g : ℕ) → texts.IsInPreamble k → k.discount ≡ None → g ≤ one
     → Prints (line (codes "discount:" ∷ millionths_text g ∷ [])) k (record k { discount = Some g })
 discount_prints k g fresh new small =
-    let within : g ≤ largest = omega (arith, small) in
+    let within : g ≤ largest = omega arith in
     record {
-      lexemes = spelled_line (key (codes "discount")) (plain Numeral (unsigned_text g) ∷ []);
-      text_is = text_line (key (codes "discount")) (plain Numeral (unsigned_text g) ∷ []);
-      printed = line_printed (key (codes "discount")) (plain Numeral (unsigned_text g) ∷ []) words.discount.piece
-          (numeral_piece (unsigned_text g) (plain_size g within), tt);
-      items = λ place. one_item _ _ Discount k (record k { discount = Some g }) words.discount.topic_is refl
+      lexemes = spelled_line (key _) (plain _ _ ∷ []);
+      text_is = search rules;
+      printed = line_printed (key _) (plain _ _ ∷ []) words.discount.piece (numeral_piece _ (plain_size g within), tt);
+      items = λ place. one_item _ _ _ k _ words.discount.topic_is refl
           (texts.discount fresh new refl (numbers.unsigned (millionths_at false _ g within) numbers.none) small);
     }
 
 values_prints : (k : ModelSoFar) (costs : Bool) → texts.IsInPreamble k → k.costs ≡ None
     → Prints (line (codes "values:" ∷ values_word costs ∷ [])) k (record k { costs = Some costs })
 values_prints k true fresh new = record {
-  lexemes = spelled_line (key (codes "values")) (plain Name (codes "cost") ∷ []);
-  text_is = text_line (key (codes "values")) (plain Name (codes "cost") ∷ []);
-  printed = line_printed (key (codes "values")) (plain Name (codes "cost") ∷ []) words.values.piece (words.cost.piece, tt);
-  items = λ place. one_item _ _ Values k (record k { costs = Some true }) words.values.topic_is
+  lexemes = spelled_line (key _) (plain _ _ ∷ []);
+  text_is = refl;
+  printed = line_printed (key _) (plain _ _ ∷ []) words.values.piece (words.cost.piece, tt);
+  items = λ place. one_item _ _ _ k _ words.values.topic_is
       (or_false_from _ _ (words.cost.begins_none place) refl) (texts.costs fresh new refl (record { kind = refl; bytes = refl }));
 }
 values_prints k false fresh new = record {
-  lexemes = spelled_line (key (codes "values")) (plain Name (codes "reward") ∷ []);
-  text_is = text_line (key (codes "values")) (plain Name (codes "reward") ∷ []);
-  printed = line_printed (key (codes "values")) (plain Name (codes "reward") ∷ []) words.values.piece (words.reward.piece, tt);
-  items = λ place. one_item _ _ Values k (record k { costs = Some false }) words.values.topic_is
+  lexemes = spelled_line (key _) (plain _ _ ∷ []);
+  text_is = refl;
+  printed = line_printed (key _) (plain _ _ ∷ []) words.values.piece (words.reward.piece, tt);
+  items = λ place. one_item _ _ _ k _ words.values.topic_is
       (or_false_from _ _ (words.reward.begins_none place) refl) (texts.rewards fresh new refl (record { kind = refl; bytes = refl }));
 }
 
@@ -169,13 +167,12 @@ elements_print : (most : ℕ) → most ≤ most_elements → (word : List ℕ) (
     → ((colon : Lexeme) (ls : List Lexeme) → colon.kind ≡ Colon → AreElements most ls elements → IsRight k t (colon ∷ ls) next)
     → Prints (line (word_text (key word) ∷ element_words elements)) k next
 elements_print most few word t elements k next w e right =
-    let l = elements_line most few word elements w.piece e in
+    let l = elements_line _ few _ _ w.piece e in
     record {
-      lexemes = record { kind = Name; bytes = word; following = [] } ∷ record { kind = Colon; bytes = codes ":"; following = codes " " } ∷
-          l.lexemes;
+      lexemes = record { kind = _; bytes = _; following = [] } ∷ record { kind = _; bytes = _; following = _ } ∷ l.lexemes;
       text_is = l.text_is;
       printed = l.printed;
-      items = λ place. one_item _ _ t k next w.topic_is (l.begin_none _) (right _ _ refl (l.are _));
+      items = λ place. one_item _ _ t k _ w.topic_is (l.begin_none _) (grind arith);
     }
 
 -- ---- the preamble
@@ -192,31 +189,31 @@ lines_known p = record nothing_known {
 -- the line of observations, where there is one
 observations_print : (k : ModelSoFar) (o : Option Elements) → texts.IsInPreamble k → k.observations ≡ None
     → ForSome o (AreWritable most_observations) → Prints (observations_line o) k (record k { observations = o })
-observations_print k None fresh new w = subst (λ o. Prints [] k (record k { observations = o })) new (prints_nothing k)
+observations_print k None fresh new w = rw (← new) (prints_nothing k)
 observations_print k (Some elements) fresh new w =
-    elements_print most_observations (omega arith) (codes "observations") Observations elements k
-    (record k { observations = Some elements }) words.observations (w elements refl) (λ colon ls c a. texts.observations fresh new c a)
+    elements_print _ (omega arith) _ _ _ k
+    _ words.observations (w _ refl) (λ colon ls. texts.observations fresh new)
 
 pub preamble_prints : (m : Meaning) → m.preamble.discount ≤ one → AreWritable most_states m.preamble.states
     → AreWritable most_actions m.preamble.actions → ForSome m.preamble.observations (AreWritable most_observations)
     → Prints (preamble_text m) nothing_known (lines_known m.preamble)
 preamble_prints m small states actions observations =
     let p = m.preamble in
-    let k1 : ModelSoFar = record nothing_known { discount = Some p.discount } in
-    let k2 : ModelSoFar = record k1 { costs = Some p.costs } in
-    let k3 : ModelSoFar = record k2 { states = Some p.states } in
-    let k4 : ModelSoFar = record k3 { actions = Some p.actions } in
-    let k5 : ModelSoFar = record k4 { observations = p.observations } in
+    let k1 = record nothing_known { discount = _ } in
+    let k2 = record k1 { costs = _ } in
+    let k3 = record k2 { states = _ } in
+    let k4 = record k3 { actions = _ } in
+    let k5 = record k4 { observations = _ } in
     let fresh : (k : ModelSoFar) → k.start ≡ None → k.entries ≡ [] → texts.IsInPreamble k =
     λ k s e. record { no_start = s; no_entry = e } in
-    prints_then _ _ nothing_known k4 k5
-    (prints_then _ _ nothing_known k3 k4
-    (prints_then _ _ nothing_known k2 k3
-    (prints_then _ _ nothing_known k1 k2
-    (discount_prints nothing_known p.discount (fresh nothing_known refl refl) refl small)
-    (values_prints k1 p.costs (fresh k1 refl refl) refl))
-    (elements_print most_states (omega arith) (codes "states") States p.states k2 k3 words.states states
-    (λ colon ls c a. texts.states (fresh k2 refl refl) refl c a)))
-    (elements_print most_actions (omega arith) (codes "actions") Actions p.actions k3 k4 words.actions actions
-    (λ colon ls c a. texts.actions (fresh k3 refl refl) refl c a)))
-    (observations_print k4 p.observations (fresh k4 refl refl) refl observations)
+    prints_then _ _ _ k4 k5
+    (prints_then _ _ _ k3 k4
+    (prints_then _ _ _ k2 k3
+    (prints_then _ _ _ k1 k2
+    (discount_prints _ _ (fresh _ refl refl) refl small)
+    (values_prints k1 _ (fresh k1 refl refl) refl))
+    (elements_print _ (omega arith) _ _ _ k2 k3 words.states states
+    (λ colon ls. texts.states (fresh k2 refl refl) refl)))
+    (elements_print _ (omega arith) _ _ _ k3 k4 words.actions actions
+    (λ colon ls. texts.actions (fresh k3 refl refl) refl)))
+    (observations_print k4 _ (fresh k4 refl refl) refl observations)

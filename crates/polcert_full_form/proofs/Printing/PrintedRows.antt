@@ -1,12 +1,12 @@
 -- A printed row is read as its entries.
-use Rattle.std.proofs.Common.{◌≡◌, ◌∙◌, ℕ, zero, suc, ◌+◌, ◌*◌, ◌/◌, ◌<◌, ◌≤◌, ◌==◌, Bool, true, false, cond, Some, List, [], ◌∷◌, ◌++◌}
-use Rattle.std.proofs.Common.{map, All, codes, decimal, ℤ, pos, refl, sym, ap, subst, arith, append_assoc, unsigned_abs}
-use Rattle.polcert_full_form.proofs.Common.{list_any, div_below, is_letter, is_name_byte, is_digit, is_point, is_exponent_mark, kind_of}
-use Rattle.polcert_full_form.proofs.Common.{unsigned_text, scaled_text, largest, Name, Numeral, Colon, Table, Reward, Body, Probabilities}
+use Rattle.std.proofs.Common.{◌≡◌, ◌∙◌, ℕ, zero, suc, ◌*◌, ◌/◌, ◌<◌, ◌≤◌, ◌==◌, Bool, true, false, cond, Some, List, [], ◌∷◌, ◌++◌}
+use Rattle.std.proofs.Common.{map, All, codes, decimal, ℤ, refl, sym, ap, arith, append_assoc, unsigned_abs}
+use Rattle.polcert_full_form.proofs.Common.{list_any, is_letter, is_name_byte, is_digit, is_point, is_exponent_mark, kind_of}
+use Rattle.polcert_full_form.proofs.Common.{unsigned_text, scaled_text, largest, Name, Numeral, Colon, Table, Reward, Body}
 use Rattle.polcert_full_form.proofs.Common.{Rewards, Uniform, Entry, StartWeights, topic_of, begins_item, one, count_of, most_states}
 use Rattle.polcert_full_form.proofs.Common.{most_actions, most_elements, Preamble, is_mdp, observed, rewarded, cells_in, forms, IsBody}
 use Rattle.polcert_full_form.proofs.Common.{line, for_each, values, all_below, millionths_text, table_word, row_words, is_uniform}
-use Rattle.polcert_full_form.proofs.Common.{is_decimal, cell_text, row_text, written, is_zero, reward_words, rewards_row}
+use Rattle.polcert_full_form.proofs.Common.{cell_text, row_text, written, reward_words, rewards_row}
 use Rattle.polcert_cells.specs.Numbers as numbers
 use Rattle.polcert_cells.specs.Entry as entries
 use Rattle.polcert_text.proofs.Printing.PrintedCut.{Printed, text_of, lexemes_at, ArePrinted, text-append, printed-append}
@@ -21,7 +21,7 @@ use Rattle.polcert_full_form.proofs.Printing.PrintedEntries.{entries_each, two_p
 use Rattle.polcert_full_form.proofs.Denoting.RowEntries.{whole_row, one_cell, cell_entries, single_cells, decimal_row, uniform_row}
 use Rattle.polcert_full_form.proofs.Denoting.RowEntries.{row_entries, HasRows}
 use Rattle.polcert_full_form.proofs.Denoting.RewardEntries.{reward_row, reward_entries, end_row, end_entries, entries_from}
-use Rattle.polcert_full_form.proofs.Denoting.Observing.{one_rewarded, seen_rewarded}
+use Rattle.polcert_full_form.proofs.Denoting.Observing.{seen_rewarded}
 
 -- ---- words
 abbrev row_line : ℕ → ℕ → List Word
@@ -40,7 +40,7 @@ abbrev uniform_line : List Printed
 uniform_line = spelled_line (plain Name (codes "uniform")) []
 
 text_head : (table : Table) (ws : List Word) → text_of (spelled_line (key (letter table)) ws) ≡ line (table_word table ∷ map word_text ws)
-text_head table ws = text_line (key (letter table)) ws ∙ ap (λ w. line (w ∷ map word_text ws)) (text_letter table)
+text_head table ws = text_line _ ws ∙ ap (λ w. line (w ∷ map word_text ws)) (text_letter _)
 
 colon_kind : kind_of (codes ":") ≡ Some Colon
 unfolding kind_of is_letter is_name_byte is_digit is_point is_exponent_mark
@@ -50,32 +50,31 @@ colon_piece : IsPiece Colon (codes ":")
 colon_piece = record { kind_is = colon_kind; short = omega arith }
 
 index_piece : (i : ℕ) → i < most_elements → IsPiece Numeral (decimal i)
-index_piece i l = whole_piece i (omega (arith, l))
+index_piece i l = whole_piece i (omega arith)
 
 an_element : (a : ℕ) → a < most_actions → a < most_elements
-an_element a l = omega (arith, l)
+an_element a l = omega arith
 
 row_printed : (table : Table) (a s : ℕ) → a < most_actions → s < most_states → ArePrinted (spelled_line (key (letter table)) (row_line a s))
-row_printed table a s l k = line_printed (key (letter table)) (row_line a s) (letter_piece table)
+row_printed table a s l k = line_printed (key _) (row_line a s) (letter_piece _)
     (index_piece a (an_element a l), (colon_piece, (index_piece s k, tt)))
 
 cell_printed : (table : Table) (a s c : ℕ) → a < most_actions → s < most_states → c < most_elements
     → ArePrinted (spelled_line (key (letter table)) (cell_line a s c))
 cell_printed table a s c l k d =
-    line_printed (key (letter table)) (cell_line a s c) (letter_piece table)
+    line_printed (key _) (cell_line a s c) (letter_piece _)
     (index_piece a (an_element a l), (colon_piece, (index_piece s k, (colon_piece, (index_piece c d, tt)))))
 
 share_printed : (table : Table) (a s c q : ℕ) → a < most_actions → s < most_states → c < most_elements → q ≤ largest
     → ArePrinted (spelled_line (key (letter table)) (share_words a s c q))
 share_printed table a s c q l k d m =
-    line_printed (key (letter table)) (share_words a s c q) (letter_piece table) (
+    line_printed (key _) (share_words a s c q) (letter_piece _) (
       index_piece a (an_element a l),
       (
         colon_piece,
         (
-          index_piece s
-              k,
-          (colon_piece, (index_piece c d, (numeral_piece (unsigned_text q) (plain_size q m), tt))),
+          index_piece s k,
+          (colon_piece, (index_piece c d, (numeral_piece _ (plain_size q m), tt))),
         ),
       ),
     )
@@ -85,7 +84,7 @@ unfolding kind_of is_letter is_name_byte is_digit is_point is_exponent_mark
 uniform_kind = refl
 
 uniform_printed : ArePrinted uniform_line
-uniform_printed = line_printed (plain Name (codes "uniform")) [] (record { kind_is = uniform_kind; short = omega arith }) tt
+uniform_printed = line_printed (plain Name _) [] (record { kind_is = uniform_kind; short = omega arith }) tt
 
 uniform_begins_none : (place : ℕ) → list_any begins_item (lexemes_at place uniform_line) ≡ false
 unfolding topic_of
@@ -107,75 +106,70 @@ module _ (p : Preamble) (start : StartWeights) (room : HasRoom p) (few_actions :
         → ((place : ℕ) → list_any begins_item (lexemes_at place us) ≡ false)
         → Entries (line (row_words table a s) ++ text_of us) (whole_row table a s body ∷ [])
     row_then us body made form is none es = record {
-      lexemes = spelled_line (key (letter table)) (row_line a s) ++ us;
-      text_is = text-append (spelled_line (key (letter table)) (row_line a s)) us
-          ∙ ap (λ bs. bs ++ text_of us) (text_head table (row_line a s));
-      printed = printed-append (spelled_line (key (letter table)) (row_line a s)) us
-          (row_printed table a s (omega (arith, l, few_actions)) (omega (arith, k, few_states))) made;
-      items = λ place. two_places p start room table a s (t.column ∷ []) _ body t.given t.dimensions_are t.named_are l k
-          (omega (arith, l, few_actions)) (omega (arith, k, few_states)) form _ (is _) (none _) _ _ _ _ _ es;
+      lexemes = spelled_line (key _) (row_line a s) ++ us;
+      text_is = text-append (spelled_line (key _) (row_line a s)) us ∙ ap (λ bs. bs ++ text_of us) (text_head _ (row_line a s));
+      printed = printed-append (spelled_line (key _) (row_line a s)) us (row_printed _ a s (omega arith) (omega arith)) made;
+      items = λ place. two_places p _ room _ a s _ _ body t.given t.dimensions_are t.named_are l k
+          (omega arith) (omega arith) form _ (is _) (none _) _ _ _ _ _ es;
     }
 
     uniform_prints : Entries (line (row_words table a s) ++ line (codes "uniform" ∷ [])) (uniform_row table a s)
     uniform_prints =
-        subst (λ bs. Entries (line (row_words table a s) ++ bs) (uniform_row table a s)) (text_line (plain Name (codes "uniform")) [])
-        (row_then uniform_line Uniform uniform_printed t.uniform (uniform_body (cells_in (t.column ∷ []))) uniform_begins_none)
+        rw (← text_line (plain Name (codes "uniform")) [])
+        (row_then uniform_line _ uniform_printed t.uniform (uniform_body _) uniform_begins_none)
 
     module _ (within : (c : ℕ) → c < n → w c ≤ one * n) where
       share_small : (c : ℕ) → c < n → w c / n ≤ one
-      share_small c d = grind (arith, div_below)
+      share_small c d = grind arith
 
       decimal_prints : Entries (line (row_words table a s) ++ line (values n (λ c. millionths_text (w c / n)))) (decimal_row table a s n w)
       decimal_prints =
           let f : ℕ → ℕ = λ c. w c / n in
           let made = share_line n f some share_small in
-          subst (λ bs. Entries (line (row_words table a s) ++ bs) (decimal_row table a s n w)) made.text_is
-          (row_then made.lexemes (Probabilities (values n f)) made.printed (t.row (values n f))
-          (λ place. entries.probabilities (made.numbers place) (omega (arith, length_values n f, t.count))
+          rw (← made.text_is)
+          (row_then _ _ made.printed (t.row _)
+          (λ place. entries.probabilities (made.numbers _) (omega (arith, length_values n f))
           (all_values (λ q. q ≤ one) n f share_small))
-          (inside (line (values n (λ c. millionths_text (f c)))) (map pos (values n f)) made))
+          (inside _ _ made))
 
       share_prints : (c : ℕ) → c < n → Entries (line (row_words table a s ++ codes ":" ∷ decimal c ∷ millionths_text (w c / n) ∷ []))
           (one_cell table a s c (w c / n) ∷ [])
       share_prints c d es =
           let q = w c / n in
-          let small : q ≤ largest = let m = share_small c d in omega (arith, m) in
+          let small : q ≤ largest = let m = share_small c d in omega arith in
           record {
-            lexemes = spelled_line (key (letter table)) (share_words a s c q);
-            text_is = text_head table (share_words a s c q);
-            printed = share_printed table a s c q (omega (arith, l, few_actions)) (omega (arith, k, few_states)) (omega (arith, d, few))
-                small;
-            items = λ place. three_places p start room table a s c t.column [] _ (Probabilities (q ∷ [])) t.given t.dimensions_are
-                t.named_are l k (omega (arith, d, t.count))
-                (omega (arith, l, few_actions)) (omega (arith, k, few_states)) (omega (arith, d, few)) (t.cell (q ∷ [])) _
+            lexemes = spelled_line (key _) (share_words a s c q);
+            text_is = text_head _ (share_words a s c q);
+            printed = share_printed _ a s c q (omega arith) (omega arith) (omega arith) small;
+            items = λ place. three_places p _ room _ a s c _ [] _ _ t.given t.dimensions_are t.named_are l k (omega arith)
+                (omega arith) (omega arith) (omega arith) (t.cell _) _
                 (entries.probabilities (numbers.unsigned (millionths_at false _ q small) numbers.none) refl (alone q (share_small c d)))
                 refl _ _ _ _ _ _ _ es;
           }
         where
           alone : (q : ℕ) → q ≤ one → All (λ q. q ≤ one) (q ∷ [])
           alone q m zero i b = m
-          alone q m (suc j) i b = absurd (omega (arith, b))
+          alone q m (suc j) i b = omega arith
 
       cell_prints : (c : ℕ) → c < n → Entries (cell_text table a s n w c) (cell_entries table a s n w c)
       cell_prints c d = at (w c == one)
         where
           at : (b : Bool) → Entries (cond b [] (line (row_words table a s ++ codes ":" ∷ decimal c ∷ millionths_text (w c / n) ∷ [])))
               (cond b [] (one_cell table a s c (w c / n) ∷ []))
-          at true = no_entries p start room
+          at true = no_entries p _ room
           at false = share_prints c d
 
       cells_print : Entries (line (row_words table a s) ++ (line (codes "uniform" ∷ []) ++ for_each n (cell_text table a s n w)))
           (single_cells table a s n w)
       cells_print =
-          subst (λ bs. Entries bs (single_cells table a s n w))
-          (append_assoc (line (row_words table a s)) (line (codes "uniform" ∷ [])) (for_each n (cell_text table a s n w)))
-          (entries_then p start room (line (row_words table a s) ++ line (codes "uniform" ∷ [])) (for_each n (cell_text table a s n w))
-          (uniform_row table a s) (for_each n (cell_entries table a s n w)) uniform_prints
-          (entries_each p start room n (cell_text table a s n w) (cell_entries table a s n w) cell_prints))
+          rw (← append_assoc (line (row_words table a s)) (line (codes "uniform" ∷ [])) (for_each n (cell_text table a s n w)))
+          (entries_then p _ room _ _
+          _ _ uniform_prints
+          (entries_each p _ room n _ _ cell_prints))
 
       -- the row, in each of its shapes
       pub row_prints : Entries (row_text table a s n w) (row_entries table a s n w)
-      row_prints = at (is_uniform n w) (is_decimal n w)
+      row_prints = at (is_uniform n w) _
         where
           at : (u d : Bool) → Entries
               (line (row_words table a s) ++ cond u (line (codes "uniform" ∷ []))
@@ -206,21 +200,20 @@ module _ (p : Preamble) (start : StartWeights) (room : HasRoom p) (few_actions :
           lexemes = spelled_line (key (letter Reward)) (cell_line a s e) ++ made.lexemes;
           text_is = text-append (spelled_line (key (letter Reward)) (cell_line a s e)) made.lexemes
               ∙ (λ i. text_head Reward (cell_line a s e) i ++ made.text_is i);
-          printed = printed-append (spelled_line (key (letter Reward)) (cell_line a s e)) made.lexemes
-              (cell_printed Reward a s e (omega (arith, l, few_actions)) (omega (arith, k, few_states)) (omega (arith, d, few_states)))
+          printed = printed-append (spelled_line (key (letter Reward)) (cell_line a s e)) _
+              (cell_printed Reward a s e (omega arith) (omega arith) (omega arith))
               made.printed;
-          items = λ place. three_places p start room Reward a s e p.states (rewarded p ∷ []) _ (Rewards (values n f)) tt refl refl l k d
-              (omega (arith, l, few_actions)) (omega (arith, k, few_states)) (omega (arith, d, few_states))
-              (three_written (is_mdp p) (values n f)) _
-              (entries.rewards (made.numbers _) (omega (arith, length_values n f, count))) (inside _ (values n f) made _) _ _ _ _ _ _ _ es;
+          items = λ place. three_places p _ room _ a s e _ _ _ _ tt refl refl l k d (omega arith) (omega arith) (omega arith)
+              (three_written _ (values n f)) _
+              (entries.rewards (made.numbers _) (omega (arith, length_values n f))) (inside _ _ made _) _ _ _ _ _ _ _ es;
         }
 
     rewards_print : Entries (rewards_row p.costs (reward_words a s e) n r) (reward_entries p.costs a s e n r)
-    rewards_print = at (all_below n (λ z. is_zero (r z)))
+    rewards_print = at (all_below n _)
       where
         at : (b : Bool) → Entries (cond b [] (line (reward_words a s e) ++ line (values n (λ z. scaled_text (written p.costs (r z))))))
             (cond b [] (reward_row p.costs a s e n r ∷ []))
-        at true = no_entries p start room
+        at true = no_entries p _ room
         at false = numbers_print
 
   -- in an MDP a number for each end state
@@ -228,7 +221,7 @@ module _ (p : Preamble) (start : StartWeights) (room : HasRoom p) (few_actions :
       (count : count_of p.states ≡ n)
       (small : (e : ℕ) → e < n → unsigned_abs (written p.costs (r e)) ≤ largest) where
     one_each : cells_in (p.states ∷ rewarded p ∷ []) ≡ n
-    one_each = let each : n * (1 * 1) ≡ n = omega arith in (λ i. count i * (one_rewarded p mdp i * 1)) ∙ each
+    one_each = grind arith
 
     ends_print : Entries (line (row_words Reward a s) ++ line (values n (λ e. scaled_text (written p.costs (r e)))))
         (end_row p.costs a s n r ∷ [])
@@ -239,19 +232,18 @@ module _ (p : Preamble) (start : StartWeights) (room : HasRoom p) (few_actions :
           lexemes = spelled_line (key (letter Reward)) (row_line a s) ++ made.lexemes;
           text_is = text-append (spelled_line (key (letter Reward)) (row_line a s)) made.lexemes
               ∙ (λ i. text_head Reward (row_line a s) i ++ made.text_is i);
-          printed = printed-append (spelled_line (key (letter Reward)) (row_line a s)) made.lexemes
-              (row_printed Reward a s (omega (arith, l, few_actions)) (omega (arith, k, few_states))) made.printed;
-          items = λ place. two_places p start room Reward a s (p.states ∷ rewarded p ∷ []) _ (Rewards (values n f)) tt refl refl l k
-              (omega (arith, l, few_actions)) (omega (arith, k, few_states)) (two_written (is_mdp p) (values n f)) _
-              (entries.rewards (made.numbers _) (length_values n f ∙ sym one_each)) (inside _ (values n f) made _) _ _ _ _ _ es;
+          printed = printed-append (spelled_line (key _) (row_line a s)) _
+              (row_printed Reward a s (omega arith) (omega arith)) made.printed;
+          items = λ place. two_places p _ room _ a s _ _ _ tt refl refl l k (omega arith) (omega arith) (two_written _ (values n f)) _
+              (entries.rewards (made.numbers _) (length_values n f ∙ sym one_each)) (inside _ _ made _) _ _ _ _ _ es;
         }
 
     end_rewards_print : Entries (rewards_row p.costs (row_words Reward a s) n r) (end_entries p.costs a s n r)
-    end_rewards_print = at (all_below n (λ e. is_zero (r e)))
+    end_rewards_print = at (all_below n _)
       where
         at : (b : Bool) → Entries (cond b [] (line (row_words Reward a s) ++ line (values n (λ e. scaled_text (written p.costs (r e))))))
             (cond b [] (end_row p.costs a s n r ∷ []))
-        at true = no_entries p start room
+        at true = no_entries p _ room
         at false = ends_print
 
   -- the rewards of an action in a state
@@ -261,7 +253,7 @@ module _ (p : Preamble) (start : StartWeights) (room : HasRoom p) (few_actions :
       → Entries (cond mdp (rewards_row p.costs (row_words Reward a s) k (λ e. r e 0))
       (for_each k (λ e. rewards_row p.costs (reward_words a s e) n (r e)))) (entries_from mdp p.costs a s k n r)
   from_prints true a s k n r is l m states seen some observed small =
-      end_rewards_print a s k (λ e. r e 0) is l m some states (λ e d. small e 0 d observed)
+      end_rewards_print a s k _ is l m some states (λ e d. small e 0 d observed)
   from_prints false a s k n r is l m states seen some observed small =
-      entries_each p start room k _ _ (λ e d. rewards_print a s e n (r e) l m (omega (arith, d, states)) observed
-      (seen_rewarded p is ∙ seen) (λ z x. small e z d x))
+      entries_each p _ room k _ _ (λ e d. rewards_print a s e n _ l m (omega arith) observed
+      (seen_rewarded p is ∙ seen) (λ z. small e z d))

@@ -1,13 +1,13 @@
 -- The full form is shorter than a text may be.
 use Rattle.std.proofs.Common.{◌≡◌, ◌∙◌, ℕ, zero, suc, ◌+◌, ◌*◌, ◌/◌, ◌<◌, ◌≤◌, ◌==◌, Bool, true, false, cond, List, [], ◌∷◌, ◌++◌, length}
-use Rattle.std.proofs.Common.{map, filter, sum, All, codes, decimal, ℤ, refl, sym, ap, subst, arith, length-append, unsigned_abs}
-use Rattle.polcert_full_form.proofs.Common.{range_with_len, ForSome, div_below, All-head, All-tail, sum_by-cons, text_limit, unsigned_text}
+use Rattle.std.proofs.Common.{map, filter, sum, All, codes, decimal, ℤ, refl, sym, arith, length-append, unsigned_abs}
+use Rattle.polcert_full_form.proofs.Common.{range_with_len, ForSome, All-head, All-tail, sum_by-cons, text_limit, unsigned_text}
 use Rattle.polcert_full_form.proofs.Common.{scaled_text, largest, Table, Transition, Observation, Reward, Elements, Count, Names}
 use Rattle.polcert_full_form.proofs.Common.{StartWeights, one, IsPrintable, count_of, most_states, most_actions, most_observations}
 use Rattle.polcert_full_form.proofs.Common.{most_elements, is_mdp, rewarded, Meaning, HasLimitedNumbers, states_of, actions_of}
 use Rattle.polcert_full_form.proofs.Common.{observations_of, line, for_each, values, all_below, millionths_text, element_words}
-use Rattle.polcert_full_form.proofs.Common.{preamble_text, start_text, table_word, row_words, is_uniform, is_decimal, cell_text, row_text}
-use Rattle.polcert_full_form.proofs.Common.{transitions_text, observations_text, written, is_zero, reward_words, rewards_row, rewards_from}
+use Rattle.polcert_full_form.proofs.Common.{preamble_text, start_text, table_word, row_words, is_uniform, cell_text, row_text}
+use Rattle.polcert_full_form.proofs.Common.{transitions_text, observations_text, written, reward_words, rewards_row, rewards_from}
 use Rattle.polcert_full_form.proofs.Common.{rewards_text, full_form, IsWritableName}
 use Rattle.std.proofs.Math.Nat.{mul_assoc, mul-le-mul_right}
 use Rattle.std.proofs.lemmas.Fmt.{length-decimal-le}
@@ -37,11 +37,11 @@ words_from k zero b f h = omega arith
 words_from k (suc n) b f h = grind (arith, words_from (k + 1) n b f)
 
 words_of_values : (n b : ℕ) (f : ℕ → List ℕ) → ((i : ℕ) → i < n → length (f i) ≤ b) → words_length (values n f) ≤ n * (b + 1)
-words_of_values n b f h = words_from 0 n b f (λ i l. h i (omega (arith, l)))
+words_of_values n b f h = words_from 0 n b f (λ i l. h i (omega arith))
 
 -- ---- words
 index_length : (i : ℕ) → i < most_elements → length (decimal i) ≤ 4
-index_length i l = length-decimal-le 4 i (omega arith) (omega (arith, l)) (omega (arith, l))
+index_length i l = length-decimal-le 4 i (omega arith) (omega arith) (omega arith)
 
 unsigned_length : (n : ℕ) → n ≤ largest → length (unsigned_text n) ≤ 30
 unsigned_length n l = (plain_size n l).short
@@ -53,16 +53,13 @@ table_length : (table : Table) → length (table_word table) ≤ 2
 table_length table = grind arith
 
 -- ---- rows
-an_element : (a : ℕ) → a < most_actions → a < most_elements
-an_element a l = omega (arith, l)
-
 module _ (table : Table) (a s n : ℕ) (w : ℕ → ℕ) (la : a < most_actions) (ls : s < most_states) (some : 0 < n) (few : n ≤ most_elements)
     (within : (c : ℕ) → c < n → w c ≤ one * n) where
   share_small : (c : ℕ) → c < n → w c / n ≤ largest
-  share_small c d = grind (arith, div_below)
+  share_small c d = grind arith
 
   head_length : length (line (row_words table a s)) ≤ 16
-  head_length = omega (arith, line_length (row_words table a s), table_length table, index_length a (an_element a la), index_length s ls)
+  head_length = omega (arith, line_length (row_words table a s), table_length table, index_length a (omega arith), index_length s ls)
 
   cell_length : (c : ℕ) → c < n → length (cell_text table a s n w c) ≤ 54
   cell_length c d = at (w c == one)
@@ -72,38 +69,35 @@ module _ (table : Table) (a s n : ℕ) (w : ℕ → ℕ) (la : a < most_actions)
       at false = omega (
         arith,
         line_length (row_words table a s ++ codes ":" ∷ decimal c ∷ millionths_text (w c / n) ∷ []),
-        table_length
-            table,
-        index_length a (an_element a la),
+        table_length table,
+        index_length a (omega arith),
         index_length s ls,
-        index_length c (omega (arith, d, few)),
-        unsigned_length (w c / n)
-            (share_small c d),
+        index_length c (omega arith),
+        unsigned_length _ (share_small c d),
       )
 
   row_length : length (row_text table a s n w) ≤ n * 80
-  row_length = at (is_uniform n w) (is_decimal n w)
+  row_length = at (is_uniform n w) _
     where
       uniform_length : length (line (codes "uniform" ∷ [])) ≤ 9
-      uniform_length = line_length (codes "uniform" ∷ [])
+      uniform_length = grind arith
 
       numbers_length : length (line (values n (λ c. millionths_text (w c / n)))) ≤ n * 31 + 1
       numbers_length =
-          let all = words_of_values n 30 (λ c. millionths_text (w c / n)) (λ c d. unsigned_length (w c / n) (share_small c d)) in
-          omega (arith, all, line_length (values n (λ c. millionths_text (w c / n))))
+          let all = words_of_values n 30 _ (λ c d. unsigned_length _ (share_small c d)) in
+          omega (arith, line_length (values n (λ c. millionths_text (w c / n))))
 
       cells_length : length (line (codes "uniform" ∷ []) ++ for_each n (cell_text table a s n w)) ≤ 9 + n * 54
       cells_length =
-          let all = each_length n 54 (cell_text table a s n w) cell_length in
-          omega (arith, all, uniform_length, length-append (line (codes "uniform" ∷ [])) (for_each n (cell_text table a s n w)))
+          let all = each_length n 54 _ cell_length in
+          omega arith
 
       at : (u d : Bool) → length (line (row_words table a s) ++ cond u (line (codes "uniform" ∷ []))
           (cond d (line (values n (λ c. millionths_text (w c / n)))) (line (codes "uniform" ∷ []) ++ for_each n (cell_text table a s n w))))
           ≤ n * 80
-      at true d = omega (arith, some, head_length, uniform_length, length-append (line (row_words table a s)) (line (codes "uniform" ∷ [])))
+      at true d = omega (arith, head_length, length-append (line (row_words table a s)) (line (codes "uniform" ∷ [])))
       at false true = omega (
         arith,
-        some,
         head_length,
         numbers_length,
         length-append (line (row_words table a s))
@@ -111,7 +105,6 @@ module _ (table : Table) (a s n : ℕ) (w : ℕ → ℕ) (la : a < most_actions)
       )
       at false false = omega (
         arith,
-        some,
         head_length,
         cells_length,
         length-append (line (row_words table a s))
@@ -120,52 +113,40 @@ module _ (table : Table) (a s n : ℕ) (w : ℕ → ℕ) (la : a < most_actions)
 
 rewards_length : (costs : Bool) (words : List (List ℕ)) (n : ℕ) (r : ℕ → ℤ) → length (line words) ≤ 23 → 0 < n
     → ((z : ℕ) → z < n → unsigned_abs (written costs (r z)) ≤ largest) → length (rewards_row costs words n r) ≤ n * 56
-rewards_length costs words n r head some small = at (all_below n (λ z. is_zero (r z)))
+rewards_length costs words n r head some small = at (all_below n _)
   where
     numbers_length : length (line (values n (λ z. scaled_text (written costs (r z))))) ≤ n * 32 + 1
     numbers_length =
-        let all = words_of_values n 31 (λ z. scaled_text (written costs (r z))) (λ z d. scaled_length (written costs (r z)) (small z d)) in
-        omega (arith, all, line_length (values n (λ z. scaled_text (written costs (r z)))))
+        let all = words_of_values n 31 _ (λ z d. scaled_length (written costs _) (small z d)) in
+        omega (arith, line_length (values n (λ z. scaled_text (written costs (r z)))))
 
     at : (b : Bool) → length (cond b [] (line words ++ line (values n (λ z. scaled_text (written costs (r z)))))) ≤ n * 56
     at true = omega arith
-    at false = omega (
-      arith,
-      some,
-      head,
-      numbers_length,
-      length-append (line words)
-          (line (values n (λ z. scaled_text (written costs (r z))))),
-    )
+    at false = omega (arith, head, numbers_length, length-append (line words) (line (values n (λ z. scaled_text (written costs (r z))))))
 
 -- the lines that begin a row of rewards
 cell_head : (a s e : ℕ) → a < most_actions → s < most_states → e < most_states → length (line (reward_words a s e)) ≤ 23
 cell_head a s e la ls le = omega (
   arith,
   line_length (reward_words a s e),
-  index_length a (an_element a la),
+  index_length a (omega arith),
   index_length s ls,
-  index_length
-      e le,
+  index_length e le,
 )
 
 row_head : (a s : ℕ) → a < most_actions → s < most_states → length (line (row_words Reward a s)) ≤ 23
-row_head a s la ls = omega (arith, line_length (row_words Reward a s), index_length a (an_element a la), index_length s ls)
+row_head a s la ls = omega (arith, line_length (row_words Reward a s), index_length a (omega arith), index_length s ls)
 
 -- ---- the preamble and the start
 names_length : (names : List (List ℕ)) → All IsWritableName names → words_length names ≤ length names * 401
 names_length [] a = omega arith
-names_length (x ∷ xs) a =
-    let rest = names_length xs (All-tail IsWritableName x xs a) in
-    let here = (All-head IsWritableName x xs a).short in
-    omega (arith, rest, here)
+names_length (x ∷ xs) a = omega (arith, names_length xs (All-tail IsWritableName x xs a), (All-head IsWritableName x xs a).short)
 
 elements_length : (word : List ℕ) (elements : Elements) → length word ≤ 20 → AreWritable most_elements elements
     → length (line (word ∷ element_words elements)) ≤ 4_100_000
 elements_length word (Count n) l w =
-    let count : length (decimal n) ≤ 5 = length-decimal-le 5 n (omega arith) (omega (arith, w.1)) (omega (arith, w.1)) in
-    omega (arith, l, count, line_length (word ∷ decimal n ∷ []))
-elements_length word (Names names) l w = omega (arith, l, names_length names w.0, w.2, line_length (word ∷ names))
+    omega (arith, l, length-decimal-le 5 n (omega arith) (omega arith) (omega arith), line_length (word ∷ decimal n ∷ []))
+elements_length word (Names names) l w = omega (arith, l, names_length names w.0, line_length (word ∷ names))
 
 preamble_length : (m : Meaning) → m.preamble.discount ≤ one → AreWritable most_states m.preamble.states
     → AreWritable most_actions m.preamble.actions → ForSome m.preamble.observations (AreWritable most_observations)
@@ -174,24 +155,23 @@ preamble_length m small states actions observations = grind (arith, length-appen
 
 states_length : (p : ℕ → Bool) (k n : ℕ) → k + n ≤ most_states → words_length (map decimal (filter p (range_with_len k n))) ≤ n * 5
 states_length p k zero l = omega arith
-states_length p k (suc n) l = grind (arith, index_length, states_length p (k + 1) n (omega (arith, l)))
+states_length p k (suc n) l = grind (arith, index_length, states_length p (k + 1) n (omega arith))
 
 weights_length : (ws : List ℕ) → sum ws ≤ one → words_length (map millionths_text ws) ≤ length ws * 31
 weights_length [] l = omega arith
 weights_length (w ∷ ws) l =
     let sums = sum_by-cons (λ y. y) w ws in
-    let rest = weights_length ws (omega (arith, sums, l)) in
-    omega (arith, rest, unsigned_length w (omega (arith, sums, l)))
+    omega (arith, weights_length ws (omega arith), unsigned_length w (omega arith))
 
 start_length : (start : StartWeights) → length start.weights ≤ most_states → sum start.weights ≤ one → length (start_text start) ≤ 400_000
 start_length start few small = grind (arith, line_length, states_length, weights_length)
 
 -- ---- the whole
 grouped : (a s n k : ℕ) → a * (s * (n * k)) ≡ a * s * n * k
-grouped a s n k = ap (λ x. a * x) (sym (mul_assoc s n k)) ∙ sym (mul_assoc a (s * n) k) ∙ ap (λ x. x * k) (sym (mul_assoc a s n))
+grouped a s n k = omega arith
 
 cells_bound : (a s n k : ℕ) → a * s * n ≤ most_cells → a * (s * (n * k)) ≤ most_cells * k
-cells_bound a s n k l = subst (λ x. x ≤ most_cells * k) (sym (grouped a s n k)) (mul-le-mul_right k l)
+cells_bound a s n k l = rw (grouped a s n k) (mul-le-mul_right k l)
 
 module _ (m : Meaning) (limits : HasLimitedNumbers m) (printable : IsPrintable m.preamble)
     (states : AreWritable most_states m.preamble.states) (actions : AreWritable most_actions m.preamble.actions)
@@ -205,15 +185,15 @@ module _ (m : Meaning) (limits : HasLimitedNumbers m) (printable : IsPrintable m
   rows_length table n w some few within cells =
       let A = actions_of m in
       let S = states_of m in
-      let all : length (for_each A (λ a. for_each S (λ s. row_text table a s n (w a s)))) ≤ A * (S * (n * 80)) =
-      each_length A (S * (n * 80)) (λ a. for_each S (λ s. row_text table a s n (w a s)))
-      (λ a l. each_length S (n * 80) (λ s. row_text table a s n (w a s)) (λ s k.
-      row_length table a s n (w a s) (omega (arith, l, limits.actions.1)) (omega (arith, k, limits.states.1)) some few
-      (λ c d. within a s c l k d))) in
-      omega (arith, all, cells_bound A S n 80 cells)
+      omega (
+        arith,
+        each_length A _ _ (λ a l. each_length S _ _
+            (λ s k. row_length table a s n (w a s) (omega arith) (omega arith) some few (λ c. within a s c l k))),
+        cells_bound A S n 80 cells,
+      )
 
   transitions_length : length (transitions_text m) ≤ most_cells * 80
-  transitions_length = rows_length Transition (states_of m) m.t limits.states.0 limits.states.1 limits.t printable.transitions
+  transitions_length = rows_length Transition _ _ limits.states.0 limits.states.1 limits.t printable.transitions
 
   observations_length : length (observations_text m) ≤ most_cells * 80
   observations_length = at (is_mdp m.preamble)
@@ -221,7 +201,7 @@ module _ (m : Meaning) (limits : HasLimitedNumbers m) (printable : IsPrintable m
       at : (b : Bool) → length (cond b [] (for_each (actions_of m)
           (λ a. for_each (states_of m) (λ e. row_text Observation a e (observations_of m) (m.o a e))))) ≤ most_cells * 80
       at true = omega arith
-      at false = rows_length Observation (observations_of m) m.o limits.observations.0 limits.observations.1 limits.o printable.observations
+      at false = rows_length Observation _ _ limits.observations.0 limits.observations.1 limits.o printable.observations
 
   -- the rewards of an action in a state: a number for each end state and each thing that a reward depends on
   from_length : (a s : ℕ) → a < actions_of m → s < states_of m
@@ -240,30 +220,24 @@ module _ (m : Meaning) (limits : HasLimitedNumbers m) (printable : IsPrintable m
       at : (b : Bool) → is_mdp m.preamble ≡ b
           → length (cond b (rewards_row costs (row_words Reward a s) S (λ e. m.r a s e 0))
           (for_each S (λ e. rewards_row costs (reward_words a s e) Z (m.r a s e)))) ≤ S * (count_of (rewarded m.preamble) * 56)
-      at true mdp = subst (λ n. length (rewards_row costs (row_words Reward a s) S (λ e. m.r a s e 0)) ≤ S * (n * 56))
-          (sym (one_rewarded m.preamble mdp))
-          (rewards_length costs (row_words Reward a s) S (λ e. m.r a s e 0)
-          (row_head a s (omega (arith, l, limits.actions.1)) (omega (arith, k, limits.states.1))) limits.states.0
+      at true mdp = rw (one_rewarded m.preamble mdp) (rewards_length _ (row_words Reward a s) S _
+          (row_head a s (omega arith) (omega arith)) limits.states.0
           (λ e d. small a s e 0 l k d limits.observations.0))
-      at false seen = subst (λ n. length (for_each S (λ e. rewards_row costs (reward_words a s e) Z (m.r a s e))) ≤ S * (n * 56))
-          (sym (seen_rewarded m.preamble seen))
-          (each_length S (Z * 56) (λ e. rewards_row costs (reward_words a s e) Z (m.r a s e)) (λ e d.
-          rewards_length costs (reward_words a s e) Z (m.r a s e)
-          (cell_head a s e (omega (arith, l, limits.actions.1)) (omega (arith, k, limits.states.1)) (omega (arith, d, limits.states.1)))
+      at false seen = rw (seen_rewarded m.preamble seen) (each_length S _ _ (λ e d. rewards_length _ (reward_words a s e) Z _
+          (cell_head a s e (omega arith) (omega arith) (omega arith))
           limits.observations.0
-          (λ z x. small a s e z l k d x)))
+          (λ z. small a s e z l k d)))
 
   rewards_short : length (rewards_text m) ≤ most_cells * 56
   rewards_short =
       let A = actions_of m in
       let S = states_of m in
       let R = count_of (rewarded m.preamble) in
-      let all : length (rewards_text m) ≤ A * (S * (S * (R * 56))) =
-      each_length A (S * (S * (R * 56))) (λ a. for_each S (rewards_from m a))
-      (λ a l. each_length S (S * (R * 56)) (rewards_from m a) (λ s k. from_length a s l k)) in
-      let same : A * (S * (S * (R * 56))) ≡ A * S * S * R * 56 = grouped A S S (R * 56) ∙ sym (mul_assoc (A * S * S) R 56) in
-      let bound : A * S * S * R * 56 ≤ most_cells * 56 = mul-le-mul_right 56 printable.rewards in
-      omega (arith, all, same, bound)
+      let all =
+      each_length A _ _
+      (λ a l. each_length S _ _ (λ s. from_length a s l)) in
+      let same = grouped A S S _ ∙ sym (mul_assoc _ R 56) in
+      omega arith
 
   pub form_short : length (full_form m) < text_limit
   form_short = grind (arith, length-append, preamble_length, start_length, transitions_length, observations_length, rewards_short)

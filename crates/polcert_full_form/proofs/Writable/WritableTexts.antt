@@ -1,15 +1,15 @@
 -- What a text denotes can be written, where it is not too large: its names are names, its start has a form, and so has each weight.
-use Rattle.std.proofs.Common.{◌≡◌, ◌∙◌, ℕ, ◌≤◌, true, Option, Some, None, unwrap_or, List, [], ◌∷◌, ◌++◌, length, flat_map, map, All, sym}
-use Rattle.std.proofs.Common.{ap, subst, arith, rules}
-use Rattle.polcert_full_form.proofs.Common.{ForSome, All-cons, All-nil, All-head, All-tail, kind_of, Lexeme, IsCut, Elements, StartWeights}
+use Rattle.std.proofs.Common.{◌≡◌, ℕ, ◌≤◌, true, Option, Some, None, unwrap_or, List, [], ◌∷◌, ◌++◌, length, flat_map, map, All, sym}
+use Rattle.std.proofs.Common.{subst, arith, rules}
+use Rattle.polcert_full_form.proofs.Common.{All-cons, All-nil, All-head, All-tail, kind_of, Lexeme, IsCut, Elements, StartWeights}
 use Rattle.polcert_full_form.proofs.Common.{Topic, Transition, Entry, IsName, count_of, most_states, most_actions, most_observations}
 use Rattle.polcert_full_form.proofs.Common.{AreElements, counted, Item, lexemes_of, Preamble, is_mdp, observed, Meaning, meaning_of}
-use Rattle.polcert_full_form.proofs.Common.{observation_weight, IsSame, states_of, observations_of, weight, all_states, ModelSoFar}
+use Rattle.polcert_full_form.proofs.Common.{observation_weight, IsSame, observations_of, all_states, ModelSoFar}
 use Rattle.polcert_full_form.proofs.Common.{nothing_known, IsRight, AreRight, IsModelText, IsPrintable, full_form, IsWritableName}
 use Rattle.polcert_full_form.proofs.Common.{IsEndObserved, IsWritable}
 use Rattle.std.proofs.lemmas.List.{length-map}
 use Rattle.polcert_text.proofs.Scanning.CleanCut.{clean_cut}
-use Rattle.polcert_text.specs.Cut.{Rest, TakesToken}
+use Rattle.polcert_text.specs.Cut.{Rest}
 use Rattle.polcert_text.specs.declared.tokens.TokenFault.{TokenFault}
 use Rattle.polcert_cells.specs.Elements.{named}
 use Rattle.polcert_format.specs.Text as texts
@@ -30,12 +30,9 @@ abbrev AreOfText : List Lexeme → Type 0
 AreOfText [] = Unit {0}
 AreOfText (l ∷ ls) = IsOfText l × AreOfText ls
 
-taken_of_text : (old new : Rest) (l : Lexeme) → TakesToken old l new → IsOfText l
-taken_of_text old new l t = record { kind = ap kind_of t.token_at.bytes_are ∙ t.token_at.lexeme.lexeme; short = t.token_at.short }
-
 cut_of_text : (rest : Rest) (ls : List Lexeme) (x : Option TokenFault) → IsCut rest ls x → AreOfText ls
 cut_of_text rest [] x c = tt
-cut_of_text rest (l ∷ ls) x c = (taken_of_text rest c.0 l c.1, cut_of_text c.0 ls x c.2)
+cut_of_text rest (l ∷ ls) x c = (grind arith, cut_of_text c.0 ls x c.2)
 
 front_of_text : (xs ys : List Lexeme) → AreOfText (xs ++ ys) → AreOfText xs × AreOfText ys
 front_of_text [] ys a = (tt, a)
@@ -43,11 +40,11 @@ front_of_text (x ∷ xs) ys a = let rest = front_of_text xs ys a.1 in ((a.0, res
 
 -- ---- names
 names_writable : (ls : List Lexeme) → AreOfText ls → All IsName ls → All IsWritableName (map (λ l. l.bytes) ls)
-names_writable [] a n = All-nil IsWritableName
+names_writable [] a n = All-nil _
 names_writable (l ∷ ls) a n =
     let name = All-head IsName l ls n in
-    All-cons IsWritableName l.bytes (map (λ (x : Lexeme). x.bytes) ls)
-    (record { kind = a.0.kind ∙ ap Some name.kind; free = name.free; short = a.0.short })
+    All-cons IsWritableName _ _
+    (record { kind = cc; free = name.free; short = a.0.short })
     (names_writable ls a.1 (All-tail IsName l ls n))
 
 elements_writable : (most : ℕ) (ls : List Lexeme) (e : Elements) → AreOfText ls → AreElements most ls e → AreWritable most e
@@ -58,9 +55,6 @@ elements_writable most ls e a (named n l m d) = search (rules, length-map, names
 abbrev OneWritable : ℕ → Option Elements → Type 0
 OneWritable most None = Unit {0}
 OneWritable most (Some e) = AreWritable most e
-
-each_writable : (most : ℕ) (o : Option Elements) → OneWritable most o → ForSome o (AreWritable most)
-each_writable most o h1 = grind arith
 
 abbrev StartHasShape : Option Elements → Option StartWeights → Type 0
 StartHasShape states None = Unit {0}
@@ -81,12 +75,12 @@ all_writable : (k : ModelSoFar) (items : List Item) (end : ModelSoFar) → AreOf
     → AreRight k items end → KnownWritable end
 all_writable k items end a w texts.none = w
 all_writable k (item ∷ items) end a w (texts.more {next = next} t e here following) =
-    let parts = front_of_text (lexemes_of item) (flat_map lexemes_of items) a in
-    all_writable next items end parts.1 (right_writable k t item.body next parts.0.1 w here) following
+    let parts = front_of_text (lexemes_of item) _ a in
+    all_writable next _ end parts.1 (right_writable k t _ next parts.0.1 w here) following
 
 shape_or_all : (e : Elements) (start : Option StartWeights) → StartHasShape (Some e) start
     → HasShape (count_of e) (unwrap_or start (all_states e))
-shape_or_all e None s = alike_shape (count_of e) (count_of e) (λ s. true)
+shape_or_all e None s = alike_shape _ _ (λ s. true)
 shape_or_all e (Some start) s = s
 
 -- in an MDP the end state is observed
@@ -100,31 +94,27 @@ text_writes text m x =
     let d = x.denotes in
     let r = d.right in
     let c = r.complete in
-    let of_text : AreOfText (flat_map lexemes_of r.items) =
-    subst AreOfText r.divided.whole (cut_of_text _ x.lexemes None (clean_cut text x.lexemes x.tokens)) in
-    let w = all_writable nothing_known r.items d.known of_text (record { states = tt; actions = tt; observations = tt; start = tt }) r.right
+    let of_text =
+    subst AreOfText r.divided.whole (cut_of_text _ x.lexemes None (clean_cut text _ x.tokens)) in
+    let w = all_writable nothing_known _ d.known of_text _ r.right
     in
     let p : m.preamble ≡ d.preamble = d.same.preamble in
-    let shape : HasShape (count_of d.preamble.states) (unwrap_or d.known.start (all_states d.preamble.states)) =
-    shape_or_all d.preamble.states d.known.start (subst (λ o. StartHasShape o d.known.start) c.lines.states w.start) in
+    let shape =
+    shape_or_all d.preamble.states d.known.start (rw (← c.lines.states) w.start) in
     record {
       limits = within_limits x.lexemes m d;
       rows = d.rows;
-      states = subst (λ (q : Preamble). AreWritable most_states q.states) (sym p) (subst (OneWritable most_states) c.lines.states w.states);
+      states = grind arith;
       actions = subst (λ (q : Preamble). AreWritable most_actions q.actions) (sym p)
           (subst (OneWritable most_actions) c.lines.actions w.actions);
-      observations = subst (λ (q : Preamble). ForSome q.observations (AreWritable most_observations)) (sym p)
-          (each_writable most_observations d.preamble.observations
-          (subst (OneWritable most_observations) c.lines.observations w.observations));
+      observations = grind arith;
       start = subst (λ (q : Preamble). HasShape (count_of q.states) m.start) (sym p)
           (subst (HasShape (count_of d.preamble.states)) (sym d.same.start) shape);
-      t = λ a s e l k b. subst (Fits (states_of m)) (sym (d.same.t a s e l k b))
-          (subst (λ (q : Preamble). Fits (count_of q.states) (weight d.preamble d.known.entries Transition (a ∷ s ∷ e ∷ []))) (sym p)
-          (weight_fits d.preamble d.known.entries Transition (a ∷ s ∷ e ∷ [])));
-      o = λ a e z l k b. subst (Fits (observations_of m)) (sym (d.same.o a e z l k b))
+      t = λ a s e l k b. subst (Fits _) (sym (d.same.t a s e l k b)) (rw p (weight_fits d.preamble d.known.entries Transition _));
+      o = λ a e z l k b. subst (Fits (observations_of m)) (omega arith)
           (subst (λ (q : Preamble). Fits (count_of (observed q)) (observation_weight d.preamble d.known.entries a e z)) (sym p)
           (observation_fits d.preamble d.known.entries a e z));
-      mdp = λ mdp. end_observed m d.preamble d.known.start d.known.entries d.same (subst (λ (q : Preamble). is_mdp q ≡ true) p mdp);
+      mdp = λ mdp. end_observed m _ d.known.start d.known.entries d.same (subst (λ (q : Preamble). is_mdp q ≡ true) p mdp);
     }
 
 -- the full form of what a text denotes is a text of it
@@ -134,8 +124,7 @@ reads_back text m x = written_reads_back m (text_writes text m x)
 -- models of one full form are equal
 pub one_form : (text other : List ℕ) (m n : Meaning) → IsModelText text m → IsModelText other n → IsPrintable m.preamble
     → IsPrintable n.preamble → full_form m ≡ full_form n → IsSame m n
-one_form text other m n x y p q e = one_model (full_form m) m n (reads_back text m x p)
-    (subst (λ t. IsModelText t n) (sym e) (reads_back other n y q))
+one_form text other m n x y p q e = one_model _ m n (reads_back text m x p) (rw e (reads_back _ n y q))
 
 pub text_writable : (text : List ℕ) (m : Meaning) → IsModelText text m → IsWritable m
 text_writable text m x = written_writable m (text_writes text m x)

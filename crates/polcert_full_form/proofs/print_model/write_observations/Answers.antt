@@ -1,4 +1,4 @@
-use Rattle.std.proofs.Common.{◌∙◌, ap, codes}
+use Rattle.std.proofs.Common.{◌∙◌, ap, codes, arith}
 use Rattle.polcert_text.proofs.Printing.Written.{as_text}
 use Rattle.polcert_full_form.proofs.Common.{observations_line}
 use Rattle.polcert_full_form.proofs.Printing.WrittenParts.{wrote_nothing}
@@ -10,4 +10,4 @@ returns-in-Some g c = as_text (texts.elements_is (codes "observations:") c.in-So
     c.write_elements.ensures
 
 pub returns-in-None : goal.returns-in-None
-returns-in-None g c = wrote_nothing (ap observations_line c.in-None.ensures)
+returns-in-None g c = wrote_nothing (grind arith)

@@ -11,20 +11,19 @@ returns-in_err-write_settings g c =
 
 pub returns-in_err-write_elements : goal.returns-in_err-write_elements
 returns-in_err-write_elements g c =
-    let states = rw c.elements.ensures at c.in_err-write_elements.ensures in
     as_text (texts.preamble_is (meaning c.args.model.now))
-    (stopped (search rules) (unwritten _ (unwritten _ (and_then c.in_ok-write_settings.ensures states))))
+    (stopped (search rules) (unwritten _
+    (unwritten _ (and_then c.in_ok-write_settings.ensures (rw c.elements.ensures at c.in_err-write_elements.ensures)))))
 
 pub returns-in_err-write_elements-2 : goal.returns-in_err-write_elements-2
 returns-in_err-write_elements-2 g c =
-    let states = rw c.elements.ensures at c.in_ok-write_elements.ensures in
-    let actions = rw c.elements-2.ensures at c.in_err-write_elements-2.ensures in
     as_text (texts.preamble_is (meaning c.args.model.now))
-    (stopped (search rules) (unwritten _ (and_then (and_then c.in_ok-write_settings.ensures states) actions)))
+    (stopped (search rules) (unwritten _
+    (and_then (and_then c.in_ok-write_settings.ensures (rw c.elements.ensures at c.in_ok-write_elements.ensures))
+    (rw c.elements-2.ensures at c.in_err-write_elements-2.ensures))))
 
 pub returns : goal.returns
 returns g c =
-    let states = rw c.elements.ensures at c.in_ok-write_elements.ensures in
-    let actions = rw c.elements-2.ensures at c.in_ok-write_elements-2.ensures in
     as_text (texts.preamble_is (meaning c.args.model.now))
-    (and_then (and_then (and_then c.in_ok-write_settings.ensures states) actions) c.write_observations.ensures)
+    (and_then (and_then (and_then c.in_ok-write_settings.ensures (rw c.elements.ensures at c.in_ok-write_elements.ensures))
+    (rw c.elements-2.ensures at c.in_ok-write_elements-2.ensures)) c.write_observations.ensures)

@@ -1,7 +1,7 @@
 use Rattle.std.proofs.Common.{◌≡◌, ◌+◌, ◌-◌, rules, arith}
 use Rattle.polcert_text.proofs.Printing.Written.{nothing_yet}
-use Rattle.polcert_full_form.proofs.Common.{meaning, row_width, row_rewards, rewarded_text}
-use Rattle.polcert_full_form.proofs.Denoting.RewardBlocks.{within, size_is, small_in, block_more, small_rewards}
+use Rattle.polcert_full_form.proofs.Common.{meaning, row_width, row_rewards}
+use Rattle.polcert_full_form.proofs.Denoting.RewardBlocks.{size_is, small_in, block_more, small_rewards}
 use Rattle.polcert_full_form.proofs.Printing.Runs.{run_written, run_failed}
 use Rattle.polcert_full_form.proofs.print_rewards.write_blocks.Goals as goal
 
@@ -14,31 +14,28 @@ pub write_block-requires-clause-small : goal.write_block-requires-clause-small
 write_block-requires-clause-small g c =
     let row = c.args.row.now in
     let loop = c.loop-column.invariant in
-    let size = rw c.columns-columns.ensures.columns at c.min-size.ensures in
-    small_in (row_rewards row) (row_width row) c.loop-column.column c.min-size.result c.loop-column.block loop.filled size loop.within
+    small_in (row_rewards row) _ _ _ _ loop.filled (rw c.columns-columns.ensures.columns at c.min-size.ensures) loop.within
     (small_rewards row)
 
 pub write_block-requires-clause-room : goal.write_block-requires-clause-room
 write_block-requires-clause-room g c =
     let row = c.args.row.now in
     let loop = c.loop-column.invariant in
-    let size = rw c.columns-columns.ensures.columns at c.min-size.ensures in
-    let taken = size_is (row_rewards row) (row_width row) c.loop-column.column c.min-size.result c.loop-column.block loop.filled size
+    let taken = size_is (row_rewards row) _ _ _ _ loop.filled (rw c.columns-columns.ensures.columns at c.min-size.ensures)
     loop.within in
-    omega (arith, size, taken, loop.within, c.columns-columns.ensures.columns, c.columns-columns.ensures.count.1)
+    omega arith
 
 pub returns-in_err-write_block : goal.returns-in_err-write_block
 returns-in_err-write_block g c =
     let row = c.args.row.now in
     let loop = c.loop-column.invariant in
     let size = rw c.columns-columns.ensures.columns at c.min-size.ensures in
-    let costs = (meaning row.model.now).preamble.costs in
-    let more = block_more (row_rewards row) (row_width row) c.loop-column.column c.min-size.result c.loop-column.block loop.filled size
+    let more = block_more (row_rewards row) _ _ _ _ loop.filled size
     loop.within
-    costs c.args.first loop.from in
-    run_failed (λ i. rewarded_text row (c.args.first + i)) (c.loop-column.column - c.args.first)
+    _ _ loop.from in
+    run_failed _ (c.loop-column.column - c.args.first)
     (c.loop-column.column + c.min-size.result - c.args.first)
-    more loop.written (row_width row - c.args.first) (omega (arith, size, loop.within))
+    more loop.written (row_width row - c.args.first) (omega arith)
     (rw c.is_cost.ensures at c.in_err-write_block.ensures) (search rules)
 
 pub loop-column-preserved : goal.loop-column-preserved
@@ -47,22 +44,16 @@ loop-column-preserved g c =
     let loop = c.loop-column.invariant in
     let size = rw c.columns-columns.ensures.columns at c.min-size.ensures in
     let costs = (meaning row.model.now).preamble.costs in
-    let more = block_more (row_rewards row) (row_width row) c.loop-column.column c.min-size.result c.loop-column.block loop.filled size
+    let more = block_more (row_rewards row) _ _ _ _ loop.filled size
     loop.within
-    costs c.args.first loop.from in
+    _ _ loop.from in
     record {
-      written = run_written (λ i. rewarded_text row (c.args.first + i)) (c.loop-column.column - c.args.first)
+      written = run_written _ (c.loop-column.column - c.args.first)
           (c.loop-column.column + c.min-size.result - c.args.first) more loop.written (rw c.is_cost.ensures at c.in_ok-write_block.ensures);
-      from = omega (arith, loop.from);
-      within = within (row_rewards row) (row_width row) c.loop-column.column c.min-size.result c.loop-column.block loop.filled size
-          loop.within;
+      from = omega arith;
+      within = grind arith;
       filled = c.fill.ensures;
     }
 
 pub returns : goal.returns
-returns g c =
-    let loop = c.loop-column.invariant in
-    let done : c.loop-column.column ≡ row_width c.args.row.now =
-    omega (arith, loop.within, c.loop-column-test.false, c.columns-columns.ensures.columns) in
-    let all = rw done at loop.written in
-    record { ok = all.took; same_count = all.same; err = tt; count = tt }
+returns g c = grind arith

@@ -1,7 +1,4 @@
-use Rattle.std.proofs.Common.{ap, rules}
-use Rattle.polcert_full_form.proofs.Common.{scaled_text}
-use Rattle.std.proofs.lemmas.Int.{to_z-of_z}
-use mir.Syntax.{w64}
+use Rattle.std.proofs.Common.{rules, arith}
 use Rattle.polcert_text.proofs.Printing.Written.{and_then, unwritten, stopped, as_text}
 use Rattle.polcert_full_form.proofs.print_words.write_number_at.Goals as goal
 
@@ -11,4 +8,4 @@ returns-in_err-write_all g c = stopped (search rules) (unwritten _ (as_text c.in
 pub returns : goal.returns
 returns g c =
     and_then (as_text c.in_place.ensures c.in_ok-write_all.ensures)
-    (as_text (ap scaled_text (to_z-of_z w64 c.args.scaled c.ranges.scaled)) c.write_scaled.ensures.written)
+    (grind arith)
