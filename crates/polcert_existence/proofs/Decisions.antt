@@ -8,11 +8,8 @@ use Rattle.polcert_policy.proofs.Places.{order}
 pub below_or_not : (m n : ℕ) → (m < n) ⊎ (n ≤ m)
 below_or_not m n = grind arith
 
-not_equal : (m n : ℕ) → (m < n) ⊎ (n < m) → m ≢ n
-not_equal m n h e = grind arith
-
 pub same_or_not : (m n : ℕ) → (m ≡ n) ⊎ (m ≢ n)
-same_or_not m n = ⊎_elim (λ l. inr (not_equal m n (inl l))) (λ h. ⊎_elim inl (λ l. inr (not_equal m n (inr l))) h) (order m n)
+same_or_not m n = ⊎_elim (λ l. inr (grind arith)) (λ h. ⊎_elim inl (λ l. inr (grind arith)) h) (order m n)
 
 pub same_bytes_or_not : (xs ys : List ℕ) → (xs ≡ ys) ⊎ (xs ≢ ys)
 same_bytes_or_not xs ys = at (bytes_eq xs ys) refl

@@ -14,10 +14,10 @@ module _ {Answer : Type 0} (text : Rest) (SoFar : List Lexeme → Type 0) (start
   -- the tokens so far were taken, and these are left
   answered_from : (left seen : List Lexeme) (rest : Rest) (end : Option TokenFault) → Taken text seen rest → IsCut rest left end
       → SoFar seen → Answer
-  answered_from [] seen rest end taken ends so_far = at_end seen end (all_taken text rest seen end taken ends) so_far
+  answered_from [] seen rest end taken ends so_far = at_end _ end (all_taken _ _ _ end taken ends) so_far
   answered_from (t ∷ left) seen rest end taken cut so_far =
-      let more : Taken text (seen ++ t ∷ []) cut.0 = token text rest cut.0 seen t taken cut.1 in
-      ⊎_elim (λ next. answered_from left (seen ++ t ∷ []) cut.0 end more cut.2 next) (λ answer. answer cut.0 more) (take seen t so_far)
+      let more = token _ _ _ _ t taken cut.1 in
+      ⊎_elim (λ next. answered_from left _ _ end more cut.2 next) (λ answer. answer _ more) (take _ t so_far)
 
   pub answered : Answer
-  answered = let all = some_cut text in answered_from all.0 [] text all.1 (nothing text) all.2 start
+  answered = let all = some_cut _ in answered_from _ [] text _ (nothing _) all.2 start

@@ -10,10 +10,9 @@ pub record FirstFailure (P : ℕ → Type 0) (n : ℕ) : Type 0 where
   pub before : (j : ℕ) → j < at → P j
 
 pub all_or_first : (P : ℕ → Type 0) → ((k : ℕ) → P k ⊎ (P k → ⊥)) → (n : ℕ) → ((k : ℕ) → k < n → P k) ⊎ FirstFailure P n
-all_or_first P decide zero = inl (λ k l. absurd (omega (arith, l)))
-all_or_first P decide (suc n) = ⊎_elim
-    (λ all. ⊎_elim
-    (λ p. inl (λ k l. ⊎_elim (λ below. all k below) (λ e. subst P (sym e) p) (below_or_at k n (omega (arith, l)))))
+all_or_first P decide zero = inl (λ k l. absurd (omega arith))
+all_or_first P decide (suc n) = ⊎_elim (λ all. ⊎_elim
+    (λ p. inl (λ k l. ⊎_elim (all k) (λ e. subst P (sym e) p) (below_or_at k n (omega arith))))
     (λ none. inr (record { at = n; inside = omega arith; fails = none; before = all })) (decide n))
-    (λ f. inr (record { at = f.at; inside = omega (arith, f.inside); fails = f.fails; before = f.before }))
+    (λ f. inr (record { at = _; inside = omega arith; fails = f.fails; before = f.before }))
     (all_or_first P decide n)

@@ -1,19 +1,19 @@
 -- What an item's reader answers to one more token, and to the item's end.
-use Rattle.std.proofs.Common.{◌≡◌, ◌≢◌, ◌∙◌, ◌⊎◌, inl, inr, ⊎_elim, ℕ, ℤ, pos, length, AllPairs, ◌≤◌, true, false, Some, None, Err, List}
+use Rattle.std.proofs.Common.{◌≡◌, ◌∙◌, ◌⊎◌, inl, inr, ⊎_elim, ℕ, ℤ, pos, length, ◌≤◌, true, false, Some, None, Err, List}
 use Rattle.std.proofs.Common.{[], ◌∷◌, ◌++◌, refl, sym, ap, subst, arith, unwrap_or}
 use Rattle.polcert_text.specs.Cut.{Lexeme}
 use Rattle.polcert_cells.specs.declared.words.Topic.{Topic}
-use Rattle.polcert_cells.specs.declared.words.Topic.TheVariants.{Start, Discount, Values, States, Actions, Observations, Cells}
+use Rattle.polcert_cells.specs.declared.words.Topic.TheVariants.{Start, Discount, States, Actions, Observations, Cells}
 use Rattle.polcert_format.specs.declared.fault.ItemFault.{ItemFault}
 use Rattle.polcert_format.specs.FirstNumber.{IsLate, no_state, states_known}
-use Rattle.polcert_format.specs.Misfits.{unexpected_token}
+use Rattle.polcert_format.specs.Misfits.{IsMisfit, unexpected_token}
 use Rattle.polcert_format.specs.Text.{ModelSoFar}
 use Rattle.polcert_items.specs.Steps.Items.{IsItemFed, RefusesInItem, IsItemReason, of_token, IsTokenReason, ItemGoes, IsItemWithin, IsSeen}
 use Rattle.polcert_items.specs.Steps.Items.{IsEndReason, HasElements, topic_of_reader, pending_in}
-use Rattle.polcert_items.specs.Steps.Lines.{TakesLexeme, CannotTake, CannotEnd, DiscountGoes, DiscountReason, discount_sign, ValuesGoes}
+use Rattle.polcert_items.specs.Steps.Lines.{TakesLexeme, CannotTake, CannotEnd, DiscountReason, discount_sign}
 use Rattle.polcert_items.specs.Steps.ModelSoFar.{with_item, AreContentsOf}
-use Rattle.polcert_items.specs.Steps.Start.{IsStartReason, IsStartWithin, IsStartEndKind, IsEndDue, IsState, HasReadStart, StartGives}
-use Rattle.polcert_items.specs.Steps.Wants.{item_wants, expected_by_elements, expected_by_start}
+use Rattle.polcert_items.specs.Steps.Start.{IsStartReason, IsStartWithin, IsStartEndKind, IsState, HasReadStart, StartGives}
+use Rattle.polcert_items.specs.Steps.Wants.{ExpectsNext, IfStart, IfNotStart, item_wants, expected_by_elements}
 use Rattle.polcert_items.specs.declared.item.ItemContents.{ItemContents}
 use Rattle.polcert_items.specs.declared.item.ItemContents.TheVariants as says
 use Rattle.polcert_items.specs.declared.item.ItemReader.TheVariants as items
@@ -40,8 +40,7 @@ use Rattle.polcert_format.specs.declared.fault.ItemFault.TheVariants as faults
 use Rattle.polcert_format.specs.KnownPreamble.{preamble_in, indices_in}
 use Rattle.polcert_format.specs.Reasons.{is_sign_kind, ends_in_sign, IsOfElements}
 use Rattle.polcert_items.specs.Steps.Elements.{ElementsGo, IsElementsRead}
-use Rattle.polcert_items.specs.Steps.Entries.{EntryGoes, IsWithinIndices, IsEntryReason, entry_sign}
-use Rattle.polcert_items.specs.Steps.Numbers.{IsMisplaced}
+use Rattle.polcert_items.specs.Steps.Entries.{IsWithinIndices}
 use Rattle.polcert_items.proofs.ItemReading as reading
 use Rattle.polcert_items.proofs.StartSeen.{sign_ends, digits_end_reason, last_sign}
 use Rattle.polcert_existence.proofs.LineAnswers.{feed_discount, feed_values, feed_elements}
@@ -93,267 +92,50 @@ pub data IsEndedOrRefused (k : ModelSoFar) (i : ItemReader) : Type 0 where
 abbrev pub HasSomeStates : ModelSoFar → Type 0
 HasSomeStates k = (states : Elements) → k.states ≡ Some states → 1 ≤ count_of states
 
-module _ {S V : Type 0} (k : ModelSoFar) (item : S → ItemReader) (Goes : S → List Lexeme → V → Type 0) (say : V → ModelSoFar)
-    (into : (s : S) (ls : List Lexeme) (next : ModelSoFar) → ((v : V) × (Goes s ls v × (next ≡ say v))) → ItemGoes k (item s) ls next)
-    (out : (s : S) (ls : List Lexeme) (next : ModelSoFar) → ItemGoes k (item s) ls next → (v : V) × (Goes s ls v × (next ≡ say v))) where
-  item_takes : (old new : S) (l : Lexeme) → TakesLexeme Goes old l new → TakesLexeme (ItemGoes k) (item old) l (item new)
-  item_takes old new l t = record {
-    back = λ ls next g. let h = out new ls next g in into old (l ∷ ls) next (h.0, (t.back ls h.0 h.1.0, h.1.1));
-    on = λ ls next g. let h = out old (l ∷ ls) next g in into new ls next (h.0, (t.on ls h.0 h.1.0, h.1.1));
-  }
+unless_start : (t : Topic) (P : Type 0) → (t ≡ Start → ⊥) → IfStart t P
+unless_start Start P other = absurd (other refl)
+unless_start _ P other = tt
 
-  item_stuck : (old : S) (l : Lexeme) → CannotTake Goes old l → CannotTake (ItemGoes k) (item old) l
-  item_stuck old l stuck = λ ls next g. let h = out old (l ∷ ls) next g in stuck ls h.0 h.1.0
-
-  item_unended : (s : S) → CannotEnd Goes s → CannotEnd (ItemGoes k) (item s)
-  item_unended s stuck = λ next g. let h = out s [] next g in stuck h.0 h.1.0
-
-discount_reason : (r : DiscountReader) (body : List Lexeme) (l : Lexeme) (kind : ItemFault) (place : ℕ) → DiscountReason r l kind place
-    → IsItemReason (items.Discount r) body l kind place
-discount_reason r body l kind place h = of_token (λ e. cc) (at r h)
-  where
-    at : (r : DiscountReader) → DiscountReason r l kind place → IsTokenReason Discount (discount_sign r) body l kind place
-    at discount.Colon h = grind arith
-    at (discount.Number sign) h = grind arith
-    at (discount.Done d) h = grind arith
-
-feed_discount_item : (k : ModelSoFar) (r : DiscountReader) (l : Lexeme) → IsFedOrRefused k (items.Discount r) l
-feed_discount_item k r l = ⊎_elim
-    (λ s. inl (
-      items.Discount s.0,
-      refl,
-      record {
-        within = tt;
-        takes = item_takes k items.Discount DiscountGoes (λ g. with_item k (says.Discount g)) (λ s ls next g. g) (λ s ls next g. g) r s.0 l
-            s.1.takes;
-        formed = tt;
-        seen = λ body b. sign_ends (discount_sign s.0) body l s.2;
-        leads = record { same = s.1.leads.same };
-      },
-    ))
-    (λ stop. inr (
-      record { kind = stop.kind; place = stop.place },
-      record {
-        stuck = item_stuck k items.Discount DiscountGoes (λ g. with_item k (says.Discount g)) (λ s ls next g. g) (λ s ls next g. g) r l
-            stop.stuck;
-        formless = tt;
-        reason = λ body b. discount_reason r body l stop.kind stop.place stop.reason;
-        kind = stop.misfit;
-        start = λ body b. tt;
-        late = λ body more ends late b e. absurd (cc);
-      },
-    ))
-    (feed_discount r l)
-
-misplaced_reason : (body : List Lexeme) (l : Lexeme) (kind : ItemFault) (place : ℕ) → IsMisplaced l kind place
-    → IsTokenReason Values None body l kind place
-misplaced_reason body l kind place h = grind arith
-
-feed_values_item : (k : ModelSoFar) (r : ValuesReader) (l : Lexeme) → IsFedOrRefused k (items.Values r) l
-feed_values_item k r l = ⊎_elim
-    (λ s. inl (
-      items.Values s.0,
-      refl,
-      record {
-        within = tt;
-        takes = item_takes k items.Values ValuesGoes (λ b. with_item k (says.Costs b)) (λ s ls next g. g) (λ s ls next g. g) r s.0 l
-            s.1.takes;
-        formed = tt;
-        seen = λ body b. sign_ends None body l s.2;
-        leads = record { same = s.1.leads.same };
-      },
-    ))
-    (λ stop. inr (
-      record { kind = stop.kind; place = stop.place },
-      record {
-        stuck = item_stuck k items.Values ValuesGoes (λ b. with_item k (says.Costs b)) (λ s ls next g. g) (λ s ls next g. g) r l stop.stuck;
-        formless = tt;
-        reason = λ body b. of_token (λ e. cc) (misplaced_reason body l stop.kind stop.place stop.reason);
-        kind = stop.misfit;
-        start = λ body b. tt;
-        late = λ body more ends late b e. absurd (cc);
-      },
-    ))
-    (feed_values r l)
-
-seen_more : (body : List Lexeme) (l : Lexeme) → is_sign_kind l.kind ≡ false → ends_in_sign (body ++ l ∷ []) ≡ false
-seen_more body l free = last_sign body l ∙ free
-
-feed_states_item : (k : ModelSoFar) (r : ElementsReader) (l : Lexeme) → IsElementsRead most_states r → IsFedOrRefused k (items.States r) l
-feed_states_item k r l within = ⊎_elim
-    (λ s. inl (
-      items.States s.0,
-      refl,
-      record {
-        within = s.1.within;
-        takes = item_takes k items.States (ElementsGo most_states) (λ e. with_item k (says.States e)) (λ s ls next g. g) (λ s ls next g. g)
-            r s.0 l s.1.step.takes;
-        formed = tt;
-        seen = λ body b. (seen_more body l s.1.sign, s.1.seen body b.1);
-        leads = record { same = s.1.step.leads.same };
-      },
-    ))
-    (λ stop. inr (
-      record { kind = stop.kind; place = stop.place },
-      record {
-        stuck = item_stuck k items.States (ElementsGo most_states) (λ e. with_item k (says.States e)) (λ s ls next g. g) (λ s ls next g. g)
-            r l stop.stuck;
-        formless = tt;
-        reason = λ body b. reading.states_reason (items.States r) r body l stop.kind stop.place (states_known k) b stop.reason refl;
-        kind = stop.misfit;
-        start = λ body b. tt;
-        late = λ body more ends late b e. absurd (cc);
-      },
-    ))
-    (feed_elements most_states (omega arith) r l within)
-
-feed_actions_item : (k : ModelSoFar) (r : ElementsReader) (l : Lexeme) → IsElementsRead most_actions r
-    → IsFedOrRefused k (items.Actions r) l
-feed_actions_item k r l within = ⊎_elim
-    (λ s. inl (
-      items.Actions s.0,
-      refl,
-      record {
-        within = s.1.within;
-        takes = item_takes k items.Actions (ElementsGo most_actions) (λ e. with_item k (says.Actions e)) (λ s ls next g. g)
-            (λ s ls next g. g) r s.0 l s.1.step.takes;
-        formed = tt;
-        seen = λ body b. (seen_more body l s.1.sign, s.1.seen body b.1);
-        leads = record { same = s.1.step.leads.same };
-      },
-    ))
-    (λ stop. inr (
-      record { kind = stop.kind; place = stop.place },
-      record {
-        stuck = item_stuck k items.Actions (ElementsGo most_actions) (λ e. with_item k (says.Actions e)) (λ s ls next g. g)
-            (λ s ls next g. g) r l stop.stuck;
-        formless = tt;
-        reason = λ body b. reading.actions_reason (items.Actions r) r body l stop.kind stop.place (states_known k) b stop.reason refl;
-        kind = stop.misfit;
-        start = λ body b. tt;
-        late = λ body more ends late b e. absurd (cc);
-      },
-    ))
-    (feed_elements most_actions (omega arith) r l within)
-
-feed_observations_item : (k : ModelSoFar) (r : ElementsReader) (l : Lexeme) → IsElementsRead most_observations r
-    → IsFedOrRefused k (items.Observations r) l
-feed_observations_item k r l within = ⊎_elim
-    (λ s. inl (
-      items.Observations s.0,
-      refl,
-      record {
-        within = s.1.within;
-        takes = item_takes k items.Observations (ElementsGo most_observations) (λ e. with_item k (says.Observations e)) (λ s ls next g. g)
-            (λ s ls next g. g) r s.0 l s.1.step.takes;
-        formed = tt;
-        seen = λ body b. (seen_more body l s.1.sign, s.1.seen body b.1);
-        leads = record { same = s.1.step.leads.same };
-      },
-    ))
-    (λ stop. inr (
-      record { kind = stop.kind; place = stop.place },
-      record {
-        stuck = item_stuck k items.Observations (ElementsGo most_observations) (λ e. with_item k (says.Observations e)) (λ s ls next g. g)
-            (λ s ls next g. g) r l stop.stuck;
-        formless = tt;
-        reason = λ body b. reading.observations_reason (items.Observations r) r body l stop.kind stop.place (states_known k) b stop.reason
-            refl;
-        kind = stop.misfit;
-        start = λ body b. tt;
-        late = λ body more ends late b e. absurd (cc);
-      },
-    ))
-    (feed_elements most_observations (omega arith) r l within)
-
-entry_reason : (r : EntryReader) (body : List Lexeme) (l : Lexeme) (kind : ItemFault) (place : ℕ) → IsEntryReason r l kind place
-    → IsTokenReason (Cells r.table) (entry_sign r.state) body l kind place
-entry_reason r body l kind place h = grind arith
-
-feed_entry_item : (k : ModelSoFar) (r : EntryReader) (l : Lexeme) → IsWithinIndices (indices_in k r.table) r
-    → IsFedOrRefused k (items.Entry r) l
-feed_entry_item k r l within = ⊎_elim
-    (λ s. inl (
-      items.Entry s.0,
-      ap Cells s.1.table,
-      record {
-        within = subst (λ t. IsWithinIndices (indices_in k t) s.0) (sym s.1.table) s.1.within;
-        takes = item_takes k items.Entry (EntryGoes (preamble_in k)) (λ e. with_item k (says.Entry e)) (λ s ls next g. g) (λ s ls next g. g)
-            r s.0 l s.1.step.takes;
-        formed = tt;
-        seen = λ body b. sign_ends (entry_sign s.0.state) body l s.1.sign;
-        leads = record { same = s.1.step.leads.same };
-      },
-    ))
-    (λ stop. inr (
-      record { kind = stop.kind; place = stop.place },
-      record {
-        stuck = item_stuck k items.Entry (EntryGoes (preamble_in k)) (λ e. with_item k (says.Entry e)) (λ s ls next g. g) (λ s ls next g. g)
-            r l stop.stuck;
-        formless = tt;
-        reason = λ body b. of_token (λ e. cc) (entry_reason r body l stop.kind stop.place stop.reason);
-        kind = stop.misfit;
-        start = λ body b. tt;
-        late = λ body more ends late b e. absurd (cc);
-      },
-    ))
-    (feed_entry k r l within)
-
-feed_start_item : (k : ModelSoFar) (r : StartReader) (l : Lexeme) (states : Elements) → k.states ≡ Some states → 1 ≤ count_of states
-    → IsStartWithin states r → IsFedOrRefused k (items.Start r) l
-feed_start_item k r l states known some within = ⊎_elim
-    (λ s. inl (items.Start s.0, refl, reading.start_fed k states (items.Start r) r s.0 l known refl s.1))
-    (λ stop. inr (
-      stop.refusal,
-      reading.start_refused k states (items.Start r) r l (Err (stops.Refused stop.refusal)) known refl
-          (λ x d. ap (λ y. Err (stops.Refused y)) (stop.late x d)) (λ h. absurd (stop.held h)) stop.refuses,
-    ))
-    (feed_start states some r l within)
-
--- a token of an item
-pub feed_item : (k : ModelSoFar) → HasSomeStates k → (old : ItemReader) (l : Lexeme) → IsItemWithin k old → IsFedOrRefused k old l
-feed_item k some (items.Discount r) l within = feed_discount_item k r l
-feed_item k some (items.Values r) l within = feed_values_item k r l
-feed_item k some (items.States r) l within = feed_states_item k r l within
-feed_item k some (items.Actions r) l within = feed_actions_item k r l within
-feed_item k some (items.Observations r) l within = feed_observations_item k r l within
-feed_item k some (items.Start r) l within = feed_start_item k r l within.0 within.1.0 (some within.0 within.1.0) within.1.1
-feed_item k some (items.Entry r) l within = feed_entry_item k r l within
-
--- ---- an item's end
-
--- an item that is no start item
-plain_unended : (k : ModelSoFar) (i : ItemReader) (kind : ItemFault) → (topic_of_reader i ≡ Start → ⊥)
-    → (HasElements k (topic_of_reader i) → CannotEnd (ItemGoes k) i) → IsEndReason (topic_of_reader i) kind
-    → (HasElements k (topic_of_reader i) → kind ≡ unexpected_token (item_wants k i []) None) → pending_in i ≡ None → IsEndedOrRefused k i
-plain_unended k i kind other stuck reason kinds unheld =
-    not_ended (record {
-      kind = kind;
-      stuck = stuck;
-      reason = reason;
-      kinds = kinds;
-      unheld = unheld;
-      undue =
-          λ body late s start l. other start;
-    })
-
-no_numbers_left : (xs : List Lexeme) (hs : List ℤ) → xs ≡ [] → AreNumbers xs hs → hs ≡ []
-no_numbers_left xs hs e a = grind arith
-
-end_discount : (k : ModelSoFar) (r : DiscountReader) → IsEndedOrRefused k (items.Discount r)
-end_discount k discount.Colon = plain_unended k (items.Discount discount.Colon) faults.BadShape (λ e. cc) (λ h next g. g.1.0) tt (λ h. refl)
-    refl
-end_discount k (discount.Number None) =
-    plain_unended k (items.Discount (discount.Number None)) faults.WrongNumberCount (λ e. cc)
-    (λ h next g. cons≢nil (no_numbers_left [] (pos g.0 ∷ []) refl g.1.0.0)) tt (λ h. refl) refl
-end_discount k (discount.Number (Some s)) = plain_unended k (items.Discount (discount.Number (Some s))) faults.BadShape (λ e. cc)
-    (λ h next g. g.1.0.0) tt (λ h. refl) refl
-end_discount k (discount.Done d) = ended (record { said = says.Discount d; goes = (d, ((refl, refl), refl)); topic = tt })
-
-end_values : (k : ModelSoFar) (r : ValuesReader) → IsEndedOrRefused k (items.Values r)
-end_values k values.Colon = plain_unended k (items.Values values.Colon) faults.BadShape (λ e. cc) (λ h next g. g.1.0) tt (λ h. refl) refl
-end_values k values.Word = plain_unended k (items.Values values.Word) faults.BadShape (λ e. cc) (λ h next g. g.1.0) tt (λ h. refl) refl
-end_values k (values.Done b) = ended (record { said = says.Costs b; goes = (b, ((refl, refl), refl)); topic = tt })
+module _ {S V : Type 0} (k : ModelSoFar) (item : S → ItemReader) (Goes : S → List Lexeme → V → Type 0) (say : V → ItemContents)
+    (into : (s : S) (ls : List Lexeme) (next : ModelSoFar) → ((v : V) × (Goes s ls v × (next ≡ with_item k (say v))))
+    → ItemGoes k (item s) ls next)
+    (out : (s : S) (ls : List Lexeme) (next : ModelSoFar) → ItemGoes k (item s) ls next
+    → (v : V) × (Goes s ls v × (next ≡ with_item k (say v))))
+    (other : (s : S) → topic_of_reader (item s) ≡ Start → ⊥) where
+  -- an item that is no start item
+  feeds : {A B : Type 0} (old : S) (l : Lexeme)
+      → (A → (new : S) × TakesLexeme Goes old l new × (topic_of_reader (item new) ≡ topic_of_reader (item old)) × IsItemWithin k (item new)
+      × ((body : List Lexeme) → IsSeen (states_known k) body (item old) → IsSeen (states_known k) (body ++ l ∷ []) (item new))
+      × ExpectsNext (item_wants k (item old)) l (item_wants k (item new)))
+      → (B → (kind : ItemFault) × (place : ℕ) × CannotTake Goes old l
+      × ((body : List Lexeme) → IsSeen (states_known k) body (item old) → IsItemReason (item old) body l kind place)
+      × IfNotStart (topic_of_reader (item old)) (IsMisfit (item_wants k (item old) []) l kind))
+      → A ⊎ B → IsFedOrRefused k (item old) l
+  feeds old l taken refused = ⊎_elim (λ a. let t = taken a in inl (
+    _,
+    t.2,
+    record {
+      within = t.3;
+      takes = record {
+        back = λ ls next g. let h = out t.0 ls _ g in into old _ _ (h.0, (t.1.back ls h.0 h.1.0, h.1.1));
+        on = λ ls next g. let h = out old _ _ g in into t.0 ls _ (h.0, (t.1.on ls h.0 h.1.0, h.1.1));
+      };
+      formed = unless_start _ _ (other old);
+      seen = t.4;
+      leads = t.5;
+    },
+  ))
+      (λ b. let t = refused b in inr (
+        record { kind = t.0; place = t.1 },
+        record {
+          stuck = λ ls next g. let h = out old _ _ g in t.2 ls h.0 h.1.0;
+          formless = unless_start _ _ (other old);
+          reason = t.3;
+          kind = t.4;
+          start = λ body seen. unless_start _ _ (other old);
+          late = λ body more ends late seen e. absurd (other old e);
+        },
+      ))
 
 -- what a line of elements says at its end, or why it cannot end
 data ElementsEnded (most : ℕ) (r : ElementsReader) : Type 0 where
@@ -361,114 +143,254 @@ data ElementsEnded (most : ℕ) (r : ElementsReader) : Type 0 where
   open_line : (kind : ItemFault) → (kind ≡ faults.BadShape) ⊎ (kind ≡ faults.BadCount) → CannotEnd (ElementsGo most) r
       → kind ≡ unexpected_token (expected_by_elements most r []) None → ElementsEnded most r
 
-no_elements : (most : ℕ) (xs : List Lexeme) (e : Elements) → xs ≡ [] → AreElements most xs e → ⊥
-no_elements most xs e same (counted is some few) = cons≢nil same
-no_elements most xs e same (named {ls} all some few apart) = omega (arith, some, ap length same)
-
-end_elements : (most : ℕ) (r : ElementsReader) → IsElementsRead most r → ElementsEnded most r
-end_elements most elements.Colon read = open_line faults.BadShape (inl refl) (λ e g. g) refl
-end_elements most elements.First read = open_line faults.BadCount (inr refl) (λ e g. no_elements most [] e refl g) refl
-end_elements most (elements.Counted n) read = whole (Count n) (refl, refl)
-end_elements most (elements.Named names) read = whole (Names names) (record {
-  all = λ k d h. absurd (omega (arith, h));
-  few = subst (λ ns. length ns ≤ most) (sym (append-nil names)) read.1.few;
-  apart = subst (λ ns. AllPairs (λ x y. x ≢ y) ns) (sym (append-nil names)) read.1.apart;
-  elements_are = ap Names (sym (append-nil names));
-})
-
-elements_kind : (t : Topic) (kind : ItemFault) → IsOfElements t → (kind ≡ faults.BadShape) ⊎ (kind ≡ faults.BadCount) → IsEndReason t kind
-elements_kind t kind is (inl e) = subst (IsEndReason t) (sym e) tt
-elements_kind t kind is (inr e) = subst (IsEndReason t) (sym e) is
-
-end_states : (k : ModelSoFar) (r : ElementsReader) → ElementsEnded most_states r → IsEndedOrRefused k (items.States r)
-end_states k r (whole e goes) = ended (record { said = says.States e; goes = (e, (goes, refl)); topic = tt })
-end_states k r (open_line kind shape stuck kinds) =
-    plain_unended k (items.States r) kind (λ e. cc) (λ h next g. stuck g.0 g.1.0) (elements_kind States kind tt shape) (λ h. kinds) refl
-
-end_actions : (k : ModelSoFar) (r : ElementsReader) → ElementsEnded most_actions r → IsEndedOrRefused k (items.Actions r)
-end_actions k r (whole e goes) = ended (record { said = says.Actions e; goes = (e, (goes, refl)); topic = tt })
-end_actions k r (open_line kind shape stuck kinds) =
-    plain_unended k (items.Actions r) kind (λ e. cc) (λ h next g. stuck g.0 g.1.0) (elements_kind Actions kind tt shape) (λ h. kinds) refl
-
-end_observations : (k : ModelSoFar) (r : ElementsReader) → ElementsEnded most_observations r → IsEndedOrRefused k (items.Observations r)
-end_observations k r (whole e goes) = ended (record { said = says.Observations e; goes = (e, (goes, refl)); topic = tt })
-end_observations k r (open_line kind shape stuck kinds) =
-    plain_unended k (items.Observations r) kind (λ e. cc) (λ h next g. stuck g.0 g.1.0) (elements_kind Observations kind tt shape)
-    (λ h. kinds) refl
-
-entry_kind : (t : Table) (kind : ItemFault) → (kind ≡ faults.BadShape) ⊎ (kind ≡ faults.WrongNumberCount) → IsEndReason (Cells t) kind
-entry_kind t kind (inl e) = subst (IsEndReason (Cells t)) (sym e) tt
-entry_kind t kind (inr e) = subst (IsEndReason (Cells t)) (sym e) tt
-
-end_entry_item : (k : ModelSoFar) (r : EntryReader) → IsWithinIndices (indices_in k r.table) r → IsEndedOrRefused k (items.Entry r)
-end_entry_item k r within = ⊎_elim
-    (λ e. ended (record { said = says.Entry e.entry; goes = (e.entry, (e.goes, refl)); topic = tt }))
-    (λ u. plain_unended k (items.Entry r) u.kind (λ e. cc) (λ h next g. u.stuck h g.0 g.1.0) (entry_kind r.table u.kind u.shape) u.kinds
-    refl)
-    (end_entry k r within)
-
-start_kind : (kind : ItemFault) → IsStartEndKind kind → IsEndReason Start kind
-start_kind kind h = grind arith
-
-module _ (k : ModelSoFar) (states : Elements) (known : k.states ≡ Some states) where
-  these_states : (preamble_in k).states ≡ states
-  these_states = ap (λ o. unwrap_or o (Count 0)) known
-
-  digits_late : (body : List Lexeme) (d : StateOrNumber) → d.state ≡ None → HasReadStart (states_known k) body (reader.StateOrNumber d)
-      → IsLate (states_known k) body true faults.IndexOutOfRange d.place
-  digits_late body d none s =
-      let b = s.body_is in
-      no_state (record {
-        colon = b.colon;
-        digits = b.digits;
-        whole = b.whole;
-        is_colon = b.is_colon;
-        are_digits = b.are_digits;
-        place_is =
-            b.place_is;
-        holds = subst (λ o. IsState (states_known k) o b.digits) none b.holds.state;
-      }) refl refl
-
-  end_start_item : (r : StartReader) → IsStartWithin states r → StartEnded states r → IsEndedOrRefused k (items.Start r)
-  end_start_item r within (start_ended e) = ended (record {
-    said = says.Start e.shares;
-    goes = (e.shares, (subst (λ s. StartGives s r [] e.shares) (sym these_states) e.gives, refl));
-    topic =
-        tt;
-  })
-  end_start_item r within (start_unended u) = not_ended (record {
-    kind = u.kind;
-    stuck = λ h. reading.start_stuck_end k states (items.Start r) r (ends.AtEnd u.kind) known refl u.stuck;
-    reason = start_kind u.kind u.reason;
-    kinds = λ h. subst (λ s. u.kind ≡ unexpected_token (expected_by_start (count_of s) r []) None) (sym these_states) u.kinds;
-    unheld = u.unheld;
-    undue = λ body late s start l. reading.start_late_end k states (items.Start r) r body (ends.AtEnd u.kind) late known refl s l u.due;
-  })
-  end_start_item r within (digits_unended u) = not_before (record {
-    kind = faults.IndexOutOfRange;
-    place = u.digits.place;
-    stuck = λ h. reading.start_stuck_end k states (items.Start r) r (ends.At x) known refl
-        (digits_stuck u.digits u.none (subst (IsStartWithin states) u.is within) u.is);
-    reason = λ body s. let read = subst (HasReadStart (states_known k) body) u.is s in
-        (refl, digits_end_reason (states_known k) body u.digits read, digits_late body u.digits u.none read);
-    due = λ body late s start l. reading.start_late_end k states (items.Start r) r body (ends.At x) late known refl s l
-        (subst (λ q. IsEndDue q (ends.At x)) (sym u.is) (u.none, refl, refl));
-  })
+module _ (k : ModelSoFar) where
+  discount_reason : (r : DiscountReader) (body : List Lexeme) (l : Lexeme) (kind : ItemFault) (place : ℕ) → DiscountReason r l kind place
+      → IsItemReason (items.Discount r) body l kind place
+  discount_reason r body l kind place h = of_token (λ e. cc) (at r h)
     where
-      x : Refusal
-      x = record { kind = faults.IndexOutOfRange; place = u.digits.place }
+      at : (r : DiscountReader) → DiscountReason r l kind place → IsTokenReason Discount (discount_sign r) body l kind place
+      at _ h = grind arith
 
-      digits_stuck : (d : StateOrNumber) → d.state ≡ None → IsStartWithin states (reader.StateOrNumber d) → r ≡ reader.StateOrNumber d
-          → CannotEnd (StartGives states) r
-      digits_stuck d none within is = subst (λ q. CannotEnd (StartGives states) q) (sym is) (digits_give_none states d within.0 none)
+  feed_discount_item : (r : DiscountReader) (l : Lexeme) → IsFedOrRefused k (items.Discount r) l
+  feed_discount_item r l = feeds k items.Discount _ says.Discount (λ s ls next g. g) (λ s ls next g. g) (λ s e. cc) r l
+      (λ s. (s.0, s.1.takes, refl, tt, (λ body b. sign_ends _ _ l s.2), record { same = s.1.leads.same }))
+      (λ no. (_, _, no.stuck, (λ body b. discount_reason r _ l _ _ no.reason), no.misfit))
+      (feed_discount r l)
 
--- an item's end
-pub end_item : (k : ModelSoFar) → HasSomeStates k → (i : ItemReader) → IsItemWithin k i → IsEndedOrRefused k i
-end_item k some (items.Discount r) within = end_discount k r
-end_item k some (items.Values r) within = end_values k r
-end_item k some (items.States r) within = end_states k r (end_elements most_states r within)
-end_item k some (items.Actions r) within = end_actions k r (end_elements most_actions r within)
-end_item k some (items.Observations r) within = end_observations k r (end_elements most_observations r within)
-end_item k some (items.Start r) within = end_start_item k within.0 within.1.0 r within.1.1
-    (end_start within.0 (some within.0 within.1.0) r within.1.1)
-end_item k some (items.Entry r) within = end_entry_item k r within
+  feed_values_item : (r : ValuesReader) (l : Lexeme) → IsFedOrRefused k (items.Values r) l
+  feed_values_item r l = feeds k items.Values _ says.Costs (λ s ls next g. g) (λ s ls next g. g) (λ s e. cc) r l
+      (λ s. (s.0, s.1.takes, refl, tt, (λ body b. sign_ends None body l s.2), record { same = s.1.leads.same }))
+      (λ no. (_, no.place, no.stuck, (λ body b. of_token (λ e. cc) (grind arith)), no.misfit))
+      (feed_values r l)
+
+  seen_more : (body : List Lexeme) (l : Lexeme) → is_sign_kind l.kind ≡ false → ends_in_sign (body ++ l ∷ []) ≡ false
+  seen_more body l free = last_sign body l ∙ free
+
+  feed_states_item : (r : ElementsReader) (l : Lexeme) → IsElementsRead most_states r → IsFedOrRefused k (items.States r) l
+  feed_states_item r l within = feeds k items.States _ says.States (λ s ls next g. g) (λ s ls next g. g) (λ s e. cc) r l
+      (λ s. (
+        s.0,
+        s.1.step.takes,
+        refl,
+        s.1.within,
+        (λ body b. (seen_more body l s.1.sign, s.1.seen _ b.1)),
+        record { same = s.1.step.leads.same },
+      ))
+      (λ no. (
+        _,
+        _,
+        no.stuck,
+        (λ body b. reading.states_reason _ r _ l _ _ (states_known k) b no.reason refl),
+        no.misfit,
+      ))
+      (feed_elements _ (omega arith) r l within)
+
+  feed_actions_item : (r : ElementsReader) (l : Lexeme) → IsElementsRead most_actions r
+      → IsFedOrRefused k (items.Actions r) l
+  feed_actions_item r l within = feeds k items.Actions _ says.Actions (λ s ls next g. g) (λ s ls next g. g) (λ s e. cc) r l
+      (λ s. (
+        s.0,
+        s.1.step.takes,
+        refl,
+        s.1.within,
+        (λ body b. (seen_more body l s.1.sign, s.1.seen _ b.1)),
+        record { same = s.1.step.leads.same },
+      ))
+      (λ no. (
+        _,
+        _,
+        no.stuck,
+        (λ body b. reading.actions_reason _ r _ l _ _ (states_known k) b no.reason refl),
+        no.misfit,
+      ))
+      (feed_elements _ (omega arith) r l within)
+
+  feed_observations_item : (r : ElementsReader) (l : Lexeme) → IsElementsRead most_observations r
+      → IsFedOrRefused k (items.Observations r) l
+  feed_observations_item r l within = feeds k items.Observations _ says.Observations (λ s ls next g. g) (λ s ls next g. g) (λ s e. cc) r l
+      (λ s. (
+        s.0,
+        s.1.step.takes,
+        refl,
+        s.1.within,
+        (λ body b. (seen_more body l s.1.sign, s.1.seen _ b.1)),
+        record { same = s.1.step.leads.same },
+      ))
+      (λ no. (
+        _,
+        _,
+        no.stuck,
+        (λ body b. reading.observations_reason _ r _ l _ _ (states_known k) b no.reason refl),
+        no.misfit,
+      ))
+      (feed_elements _ (omega arith) r l within)
+
+  feed_entry_item : (r : EntryReader) (l : Lexeme) → IsWithinIndices (indices_in k r.table) r
+      → IsFedOrRefused k (items.Entry r) l
+  feed_entry_item r l within = feeds k items.Entry _ says.Entry (λ s ls next g. g) (λ s ls next g. g) (λ s e. cc) r l
+      (λ s. (
+        s.0,
+        s.1.step.takes,
+        cc,
+        subst (λ t. IsWithinIndices (indices_in k t) s.0) (sym s.1.table) s.1.within,
+        (λ body b. sign_ends _ _ l s.1.sign),
+        record { same = s.1.step.leads.same },
+      ))
+      (λ no. (_, no.place, no.stuck, (λ body b. of_token (λ e. cc) (grind arith)), no.misfit))
+      (feed_entry k r l within)
+
+  feed_start_item : (r : StartReader) (l : Lexeme) (states : Elements) → k.states ≡ Some states → 1 ≤ count_of states
+      → IsStartWithin states r → IsFedOrRefused k (items.Start r) l
+  feed_start_item r l states known some within = ⊎_elim (λ s. inl (_, refl, reading.start_fed k _ _ r s.0 l known refl s.1)) (λ stop. inr (
+    _,
+    reading.start_refused k _ _ r l _ known refl
+        (λ x d. ap (λ y. Err (stops.Refused y)) (stop.late x d)) (λ h. absurd (stop.held h)) stop.refuses,
+  ))
+      (feed_start _ some r l within)
+
+  -- a token of an item
+  pub feed_item : HasSomeStates k → (old : ItemReader) (l : Lexeme) → IsItemWithin k old → IsFedOrRefused k old l
+  feed_item some (items.Discount r) l within = feed_discount_item r l
+  feed_item some (items.Values r) l within = feed_values_item r l
+  feed_item some (items.States r) l within = feed_states_item r l within
+  feed_item some (items.Actions r) l within = feed_actions_item r l within
+  feed_item some (items.Observations r) l within = feed_observations_item r l within
+  feed_item some (items.Start r) l within = feed_start_item r l _ within.1.0 (some _ within.1.0) within.1.1
+  feed_item some (items.Entry r) l within = feed_entry_item r l within
+
+  -- ---- an item's end
+
+  -- an item that is no start item
+  plain_unended : (i : ItemReader) (kind : ItemFault) → (topic_of_reader i ≡ Start → ⊥)
+      → (HasElements k (topic_of_reader i) → CannotEnd (ItemGoes k) i) → IsEndReason (topic_of_reader i) kind
+      → (HasElements k (topic_of_reader i) → kind ≡ unexpected_token (item_wants k i []) None) → pending_in i ≡ None → IsEndedOrRefused k i
+  plain_unended i kind other stuck reason kinds unheld =
+      not_ended (record {
+        kind = _;
+        stuck = stuck;
+        reason = reason;
+        kinds = kinds;
+        unheld = unheld;
+        undue = λ body late s start l. other start;
+      })
+
+  no_numbers_left : (xs : List Lexeme) (hs : List ℤ) → xs ≡ [] → AreNumbers xs hs → hs ≡ []
+  no_numbers_left xs hs e a = grind arith
+
+  end_discount : (r : DiscountReader) → IsEndedOrRefused k (items.Discount r)
+  end_discount discount.Colon = plain_unended _ _ (λ e. cc) (λ h next g. g.1.0) tt (λ h. refl) refl
+  end_discount (discount.Number None) =
+      plain_unended _ _ (λ e. cc)
+      (λ h next g. cons≢nil (no_numbers_left [] (pos g.0 ∷ []) refl g.1.0.0)) tt (λ h. refl) refl
+  end_discount (discount.Number (Some s)) = plain_unended _ _ (λ e. cc) (λ h next g. g.1.0.0) tt (λ h. refl) refl
+  end_discount (discount.Done d) = ended (record { said = says.Discount d; goes = (d, ((refl, refl), refl)); topic = tt })
+
+  end_values : (r : ValuesReader) → IsEndedOrRefused k (items.Values r)
+  end_values values.Colon = plain_unended _ _ (λ e. cc) (λ h next g. g.1.0) tt (λ h. refl) refl
+  end_values values.Word = plain_unended _ _ (λ e. cc) (λ h next g. g.1.0) tt (λ h. refl) refl
+  end_values (values.Done b) = ended (record { said = says.Costs b; goes = (b, ((refl, refl), refl)); topic = tt })
+
+  no_elements : (most : ℕ) (xs : List Lexeme) (e : Elements) → xs ≡ [] → AreElements most xs e → ⊥
+  no_elements most xs e same (counted is some few) = cons≢nil same
+  no_elements most xs e same (named {ls} all some few apart) = omega (arith, ap length same)
+
+  end_elements : (most : ℕ) (r : ElementsReader) → IsElementsRead most r → ElementsEnded most r
+  end_elements most elements.Colon read = open_line _ (inl refl) (λ e g. g) refl
+  end_elements most elements.First read = open_line _ (inr refl) (λ e. no_elements most [] e refl) refl
+  end_elements most (elements.Counted n) read = whole _ (refl, refl)
+  end_elements most (elements.Named names) read = whole _ (record {
+    all = λ k d h. absurd (omega arith);
+    few = rw (append-nil names) read.1.few;
+    apart = rw (append-nil names) read.1.apart;
+    elements_are = ap Names (sym (append-nil _));
+  })
+
+  elements_kind : (t : Topic) (kind : ItemFault) → IsOfElements t → (kind ≡ faults.BadShape) ⊎ (kind ≡ faults.BadCount) → IsEndReason t kind
+  elements_kind t kind is (inl e) = subst (IsEndReason t) (sym e) tt
+  elements_kind t kind is (inr e) = subst (IsEndReason t) (sym e) is
+
+  end_states : (r : ElementsReader) → ElementsEnded most_states r → IsEndedOrRefused k (items.States r)
+  end_states r (whole e goes) = ended (record { said = says.States e; goes = (e, (goes, refl)); topic = tt })
+  end_states r (open_line kind shape stuck kinds) =
+      plain_unended _ _ (λ e. cc) (λ h next g. stuck g.0 g.1.0) (elements_kind States _ tt shape) (λ h. kinds) refl
+
+  end_actions : (r : ElementsReader) → ElementsEnded most_actions r → IsEndedOrRefused k (items.Actions r)
+  end_actions r (whole e goes) = ended (record { said = says.Actions e; goes = (e, (goes, refl)); topic = tt })
+  end_actions r (open_line kind shape stuck kinds) =
+      plain_unended _ _ (λ e. cc) (λ h next g. stuck g.0 g.1.0) (elements_kind Actions _ tt shape) (λ h. kinds) refl
+
+  end_observations : (r : ElementsReader) → ElementsEnded most_observations r → IsEndedOrRefused k (items.Observations r)
+  end_observations r (whole e goes) = ended (record { said = says.Observations e; goes = (e, (goes, refl)); topic = tt })
+  end_observations r (open_line kind shape stuck kinds) =
+      plain_unended _ _ (λ e. cc) (λ h next g. stuck g.0 g.1.0) (elements_kind Observations _ tt shape)
+      (λ h. kinds) refl
+
+  entry_kind : (t : Table) (kind : ItemFault) → (kind ≡ faults.BadShape) ⊎ (kind ≡ faults.WrongNumberCount) → IsEndReason (Cells t) kind
+  entry_kind t kind (inl e) = subst (IsEndReason (Cells t)) (sym e) tt
+  entry_kind t kind (inr e) = subst (IsEndReason (Cells t)) (sym e) tt
+
+  start_kind : (kind : ItemFault) → IsStartEndKind kind → IsEndReason Start kind
+  start_kind kind h = grind arith
+
+  module _ (states : Elements) (known : k.states ≡ Some states) where
+    these_states : (preamble_in k).states ≡ states
+    these_states = ap (λ o. unwrap_or o (Count 0)) known
+
+    end_start_item : (r : StartReader) → IsStartWithin states r → StartEnded states r → IsEndedOrRefused k (items.Start r)
+    end_start_item r within (start_ended e) = ended (record {
+      said = says.Start e.shares;
+      goes = (_, (rw these_states e.gives, refl));
+      topic = tt;
+    })
+    end_start_item r within (start_unended u) = not_ended (record {
+      kind = u.kind;
+      stuck = λ h. reading.start_stuck_end k _ _ r (ends.AtEnd u.kind) known refl u.stuck;
+      reason = start_kind u.kind u.reason;
+      kinds = λ h. rw these_states u.kinds;
+      unheld = u.unheld;
+      undue = λ body late s start l. reading.start_late_end k _ (items.Start r) r _ _ late known refl s l u.due;
+    })
+    end_start_item r within (digits_unended u) = not_before (record {
+      kind = _;
+      place = _;
+      stuck = λ h. reading.start_stuck_end k states _ r (ends.At x) known refl
+          (digits_stuck _ u.none (subst (IsStartWithin states) u.is within) u.is);
+      reason = λ body s. let read = subst (HasReadStart (states_known k) _) u.is s in (
+        refl,
+        digits_end_reason _ body _ read,
+        let b = read.body_is in
+            no_state (record {
+              colon = b.colon;
+              digits = b.digits;
+              whole = b.whole;
+              is_colon = b.is_colon;
+              are_digits =
+                  b.are_digits;
+              place_is = b.place_is;
+              holds = subst (λ o. IsState (states_known k) o b.digits) u.none b.holds.state;
+            }) refl
+            refl,
+      );
+      due = λ body late s start l. reading.start_late_end k states _ r _ (ends.At x) _ known refl s l (rw u.is (u.none, refl, refl));
+    })
+      where
+        x : Refusal
+        x = record { kind = faults.IndexOutOfRange; place = u.digits.place }
+
+        digits_stuck : (d : StateOrNumber) → d.state ≡ None → IsStartWithin states (reader.StateOrNumber d) → r ≡ reader.StateOrNumber d
+            → CannotEnd (StartGives states) r
+        digits_stuck d none within is = subst (λ q. CannotEnd (StartGives states) q) (sym is) (digits_give_none _ d within.0 none)
+
+  -- an item's end
+  pub end_item : HasSomeStates k → (i : ItemReader) → IsItemWithin k i → IsEndedOrRefused k i
+  end_item some (items.Discount r) within = end_discount r
+  end_item some (items.Values r) within = end_values r
+  end_item some (items.States r) within = end_states r (end_elements _ r within)
+  end_item some (items.Actions r) within = end_actions r (end_elements _ r within)
+  end_item some (items.Observations r) within = end_observations r (end_elements _ r within)
+  end_item some (items.Start r) within = end_start_item _ within.1.0 r within.1.1 (end_start _ (some _ within.1.0) r within.1.1)
+  end_item some (items.Entry r) within = ⊎_elim (λ e. ended
+      (record { said = says.Entry e.entry; goes = (e.entry, (e.goes, refl)); topic = tt }))
+      (λ u. plain_unended (items.Entry r) u.kind (λ e. cc) (λ h next g. u.stuck h g.0 g.1.0) (entry_kind r.table u.kind u.shape) u.kinds
+      refl)
+      (end_entry k r within)

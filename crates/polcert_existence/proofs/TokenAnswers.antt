@@ -1,6 +1,7 @@
 -- What single tokens are, decided.
+use Rattle.std.proofs.Math.Logic.{⊎_map}
 use Rattle.std.proofs.Common.{◌≡◌, ◌≢◌, ◌∙◌, ◌⊎◌, inl, inr, ⊎_elim, ℕ, ℤ, pos, negsuc, ◌*◌, ◌≤◌, Bool, true, false, Option, Some, None}
-use Rattle.std.proofs.Common.{List, [], codes, if◌then◌else◌, refl, sym, ap, arith}
+use Rattle.std.proofs.Common.{List, [], codes, refl, sym, ap, arith}
 use Rattle.std.proofs.lemmas.Bool.{cases_Bool}
 use Rattle.std.proofs.lemmas.Slice.Eq.{bytes_eq-Decides}
 use Rattle.polcert_text.specs.Cut.{Lexeme}
@@ -21,7 +22,7 @@ use Rattle.polcert_format.specs.declared.fault.ItemFault.{ItemFault}
 use Rattle.polcert_format.specs.declared.fault.ItemFault.TheVariants as faults
 use Rattle.polcert_format.specs.Misfits.{Expected, Mark, EndOfNumbers, IsMisfit, of_place, of_value, IsOfValue, unexpected_token, misfit_at}
 use Rattle.polcert_format.specs.Misfits.{is_reset, tests_value, begins_number}
-use Rattle.polcert_items.specs.Steps.Numbers.{IsNumberStep, IsSignAt, plus, minus, RefusesNumber, IsNoNumber, IsNumberReason, IsMisplaced}
+use Rattle.polcert_items.specs.Steps.Numbers.{IsNumberStep, IsSignAt, plus, minus, RefusesNumber, IsNoNumber, IsMisplaced}
 use Rattle.polcert_items.specs.Steps.Numbers.{IsAfterNumbers, FitsRange, IsRangeFault, is_minus_sign, signed_place}
 use Rattle.polcert_items.specs.Steps.Wants.{ExpectsNext, number_wants}
 use Rattle.polcert_items.specs.Steps.Lines.{TakesLexeme, CannotTake}
@@ -37,16 +38,15 @@ use Rattle.polcert_existence.proofs.VectorAnswers.{readable_or_refused}
 -- ---- words
 
 pub word_or_not : (word : List ℕ) (l : Lexeme) → IsWord word l ⊎ (IsWord word l → ⊥)
-word_or_not word l = ⊎_elim
-    (λ kind. ⊎_elim (λ same. inl (record { kind = kind; bytes = same })) (λ other. inr (λ is. other is.bytes))
-    (same_bytes_or_not l.bytes word))
-    (λ other. inr (λ is. other is.kind)) (name_kind_or_not l.kind)
+word_or_not word l = ⊎_elim (λ kind. ⊎_map (λ same. record { kind = kind; bytes = same }) (λ other. λ is. other is.bytes)
+    (same_bytes_or_not _ _))
+    (λ other. inr (λ is. other is.kind)) (name_kind_or_not _)
 
 pub name_or_not : (l : Lexeme) → IsName l ⊎ (IsName l → ⊥)
 name_or_not l = ⊎_elim
     (λ kind. ⊎_elim (λ reserved. inr (λ is. let free = is.free in cc)) (λ free. inl (record { kind = kind; free = free }))
-    (cases_Bool (is_reserved l.bytes)))
-    (λ other. inr (λ is. other is.kind)) (name_kind_or_not l.kind)
+    (cases_Bool _))
+    (λ other. inr (λ is. other is.kind)) (name_kind_or_not _)
 
 -- ---- tokens that cannot stand
 
@@ -64,7 +64,7 @@ reset_word l e = at l.kind refl e
     at _ is e = cc
 
 pub misplaced : (w : Expected) (l : Lexeme) → misfit_at w l ≡ faults.BadShape → Misplaced w l
-misplaced w l shape = at (is_reset l.kind l.bytes) refl
+misplaced w l shape = at (is_reset l.kind _) refl
   where
     at : (b : Bool) → is_reset l.kind l.bytes ≡ b → Misplaced w l
     at true e = record { kind = faults.Reset; reason = (refl, reset_word l e); kind_is = grind arith }
@@ -72,34 +72,30 @@ misplaced w l shape = at (is_reset l.kind l.bytes) refl
 
 -- ---- numbers
 
-exact_when : (negative : Bool) (bs : List ℕ) (floor : ℕ) (is_inexact : Bool) → is_inexact ≡ false → Measures bs floor is_inexact
-    → IsExact negative bs (signed negative floor)
-exact_when negative bs floor is_inexact e m =
-    let size : size_of bs ≡ floor * millionth = omega (arith, m.size, m.exact e) in
-    signed-mul negative floor millionth ∙ ap (signed negative) (sym size)
-
 refused_exactly : (negative : Bool) (bs : List ℕ) (fault : NumberFault) → IsRefused bs fault → IsRefusedExactly negative bs fault
-refused_exactly negative bs number_faults.NotANumeral h = h
-refused_exactly negative bs number_faults.TooLong h = h
-refused_exactly negative bs number_faults.TooLarge h = h
 refused_exactly negative bs number_faults.TooFine h = absurd h
+refused_exactly negative bs _ h = h
 
 -- bytes are so many millionths, or refused
 pub exact_or_refused : (negative : Bool) (bs : List ℕ) → ((h : ℤ) × IsReadable bs × IsExact negative bs h)
     ⊎ ((fault : NumberFault) × IsRefusedExactly negative bs fault)
 exact_or_refused negative bs = ⊎_elim
     (λ readable. by_part readable _ _ (numeral_measure bs readable.numeral readable.short readable.exponent))
-    (λ f. inr (f.0, refused_exactly negative bs f.0 f.1))
+    (λ f. inr (f.0, refused_exactly _ bs f.0 f.1))
     (readable_or_refused bs)
   where
     by_part : IsReadable bs → (floor : ℕ) (is_inexact : Bool) → Measures bs floor is_inexact
         → ((h : ℤ) × IsReadable bs × IsExact negative bs h) ⊎ ((fault : NumberFault) × IsRefusedExactly negative bs fault)
-    by_part readable floor true m = inr (number_faults.TooFine, (readable, no_exact bs floor negative m))
-    by_part readable floor false m = inl (signed negative floor, readable, exact_when negative bs floor false refl m)
+    by_part readable floor true m = inr (number_faults.TooFine, (readable, no_exact bs _ _ m))
+    by_part readable floor false m = inl (
+      _,
+      readable,
+      let size : size_of bs ≡ floor * millionth = omega (arith, m.size, m.exact refl) in
+          signed-mul negative floor millionth ∙ ap (signed negative) (sym size),
+    )
 
 pub fraction_or_not : (h : ℤ) → ((p : ℕ) × ((h ≡ pos p) × (p ≤ one))) ⊎ (((p : ℕ) × ((h ≡ pos p) × (p ≤ one))) → ⊥)
-fraction_or_not (pos n) = ⊎_elim (λ l. inr (λ f. let same : n ≡ f.0 = cc in omega (arith, l, f.1.1, same))) (λ few. inl (n, (refl, few)))
-    (below_or_not one n)
+fraction_or_not (pos n) = ⊎_elim (λ l. inr (λ f. let same : n ≡ f.0 = cc in omega arith)) (λ few. inl (n, (refl, few))) (below_or_not one n)
 fraction_or_not (negsuc n) = inr (λ f. cc)
 
 -- the kind of a number out of its range
@@ -111,10 +107,10 @@ record OutOfRange (range : Range) (h : ℤ) : Type 0 where
 
 in_range_or_not : (range : Range) (h : ℤ) → FitsRange range h ⊎ OutOfRange range h
 in_range_or_not ranges.Reward h = inl tt
-in_range_or_not ranges.Discount h = ⊎_elim inl (λ out. inr (record { kind = faults.DiscountRange; out = out; fault = refl; of_value = tt }))
+in_range_or_not ranges.Discount h = ⊎_elim inl (λ out. inr (record { kind = _; out = out; fault = refl; of_value = tt }))
     (fraction_or_not h)
 in_range_or_not ranges.Probability h = ⊎_elim inl (λ out. inr
-    (record { kind = faults.ProbabilityRange; out = out; fault = refl; of_value = tt })) (fraction_or_not h)
+    (record { kind = _; out = out; fault = refl; of_value = tt })) (fraction_or_not h)
 
 -- a token in a number's place that is refused
 pub record NumberRefused (range : Range) (sign : Option Sign) (l : Lexeme) : Type 0 where
@@ -125,96 +121,83 @@ pub record NumberRefused (range : Range) (sign : Option Sign) (l : Lexeme) : Typ
   pub number : l.kind ≡ kinds.Numeral → IsOfValue kind
 
 tests : (sign : Option Sign) (l : Lexeme) → l.kind ≡ kinds.Numeral → tests_value (number_wants sign) l.kind ≡ true
-tests None l e = ap (λ k. tests_value (number_wants None) k) e
-tests (Some s) l e = ap (λ k. tests_value (number_wants (Some s)) k) e
+tests None l e = ap (tests_value (number_wants None)) e
+tests (Some s) l e = ap (tests_value (number_wants (Some s))) e
 
-no_value : (range : Range) (sign : Option Sign) (l : Lexeme) (fault : NumberFault) → l.kind ≡ kinds.Numeral
-    → IsRefusedExactly (is_minus_sign sign) l.bytes fault
-    → RefusesNumber range sign l (faults.Number fault) (signed_place sign l)
-no_value range sign l fault numeral refused = record {
-  none = λ ls hs a all. let f = first_number sign l ls hs numeral a in
-      exact_not_refused (is_minus_sign sign) l.bytes fault f.first f.value.readable f.value.value refused;
-  reason = (refl, (numeral, refused));
-}
+module _ (range : Range) where
+  no_value : (sign : Option Sign) (l : Lexeme) (fault : NumberFault) → l.kind ≡ kinds.Numeral
+      → IsRefusedExactly (is_minus_sign sign) l.bytes fault
+      → RefusesNumber range sign l (faults.Number fault) (signed_place sign l)
+  no_value sign l fault numeral refused = record {
+    none = λ ls hs a all. let f = first_number _ l ls hs numeral a in
+        exact_not_refused _ _ _ _ f.value.readable f.value.value refused;
+    reason = (refl, (numeral, refused));
+  }
 
-numeral_step : (range : Range) (sign : Option Sign) (l : Lexeme) → l.kind ≡ kinds.Numeral
-    → ((step : NumberStep) × IsNumberStep range sign l step)
-    ⊎ NumberRefused range sign l
-numeral_step range sign l numeral = ⊎_elim
-    (λ v.
-    let is : IsMillionths (is_minus_sign sign) l v.0 = record { kind = numeral; readable = v.1; value = v.2 } in
-    ⊎_elim
-    (λ inside. inl (steps.Value v.0, (is, inside)))
-    (λ out. inr (record {
-      kind = out.kind;
-      place = signed_place sign l;
-      refuses =
-          refuses_range range sign l v.0 out.kind (signed_place sign l) is out.out out.fault refl;
-      misfit =
-          of_value (tests sign l numeral) out.of_value;
-      number = λ e. out.of_value;
-    }))
-    (in_range_or_not range v.0))
-    (λ f. inr (record {
-      kind = faults.Number f.0;
-      place = signed_place sign l;
-      refuses = no_value range sign l f.0 numeral f.1;
-      misfit =
-          of_value (tests sign l numeral) tt;
-      number = λ e. tt;
-    }))
-    (exact_or_refused (is_minus_sign sign) l.bytes)
+  numeral_step : (sign : Option Sign) (l : Lexeme) → l.kind ≡ kinds.Numeral
+      → ((step : NumberStep) × IsNumberStep range sign l step)
+      ⊎ NumberRefused range sign l
+  numeral_step sign l numeral = ⊎_elim (λ v.
+      let is : IsMillionths _ l v.0 = record { kind = numeral; readable = v.1; value = v.2 } in
+      ⊎_elim
+      (λ inside. inl (steps.Value v.0, (is, inside)))
+      (λ out. inr (record {
+        kind = _;
+        place = _;
+        refuses = refuses_range _ _ l v.0 _ _ is out.out out.fault refl;
+        misfit = of_value (tests _ l numeral) out.of_value;
+        number = λ e. out.of_value;
+      }))
+      (in_range_or_not _ v.0))
+      (λ f. inr (record {
+        kind = _;
+        place = _;
+        refuses = no_value _ l f.0 numeral f.1;
+        misfit = of_value (tests _ l numeral) tt;
+        number = λ e. tt;
+      }))
+      (exact_or_refused _ _)
 
-shape_of_number : (sign : Option Sign) (l : Lexeme) → misfit_at (number_wants sign) l ≡ faults.BadShape
-shape_of_number None l = refl
-shape_of_number (Some s) l = refl
+  shape_of_number : (sign : Option Sign) (l : Lexeme) → misfit_at (number_wants sign) l ≡ faults.BadShape
+  shape_of_number None l = refl
+  shape_of_number (Some s) l = refl
 
-no_test : (sign : Option Sign) (k : TokenKind) → (k ≡ kinds.Numeral → ⊥) → tests_value (number_wants sign) k ≡ false
-no_test sign k h = grind arith
+  not_here : (sign : Option Sign) (l : Lexeme) → (l.kind ≡ kinds.Numeral → ⊥) → IsNoNumber range sign l
+      → NumberRefused range sign l
+  not_here sign l other none =
+      let m = misplaced _ l (shape_of_number _ l) in
+      record {
+        kind = _;
+        place = l.place;
+        refuses = record { none = none; reason = grind arith };
+        misfit = of_place (grind arith) m.kind_is;
+        number = λ e. absurd (other e);
+      }
 
-as_misplaced : (range : Range) (sign : Option Sign) (l : Lexeme) (kind : ItemFault) (place : ℕ) → IsMisplaced l kind place
-    → IsNumberReason range sign l kind place
-as_misplaced range sign l kind place h = grind arith
+  no_number_begins : (l : Lexeme) → (l.kind ≡ kinds.Numeral → ⊥) → (l.kind ≡ kinds.Plus → ⊥) → (l.kind ≡ kinds.Minus → ⊥)
+      → IsNoNumber range None l
+  no_number_begins l h1 h2 h3 = λ ls hs a all. grind arith
 
-not_here : (range : Range) (sign : Option Sign) (l : Lexeme) → (l.kind ≡ kinds.Numeral → ⊥) → IsNoNumber range sign l
-    → NumberRefused range sign l
-not_here range sign l other none =
-    let m = misplaced (number_wants sign) l (shape_of_number sign l) in
-    record {
-      kind = m.kind;
-      place = l.place;
-      refuses = record { none = none; reason = as_misplaced range sign l m.kind l.place m.reason };
-      misfit = of_place (no_test sign l.kind other) m.kind_is;
-      number = λ e. absurd (other e);
-    }
+  sign_step : (sign : Option Sign) (l : Lexeme) (s : Sign) → IsSignAt s l → (l.kind ≡ kinds.Numeral → ⊥)
+      → ((step : NumberStep) × IsNumberStep range sign l step) ⊎ NumberRefused range sign l
+  sign_step None l s at other = inl (steps.Sign s, (refl, at))
+  sign_step (Some before) l s at other = inr (not_here _ l other (grind arith))
 
-after_sign : (range : Range) (s : Sign) (l : Lexeme) → (l.kind ≡ kinds.Numeral → ⊥) → IsNoNumber range (Some s) l
-after_sign range s l other = λ ls hs a all. grind arith
+  other_step : (sign : Option Sign) (l : Lexeme) → (l.kind ≡ kinds.Numeral → ⊥) → (l.kind ≡ kinds.Plus → ⊥)
+      → (l.kind ≡ kinds.Minus → ⊥) → NumberRefused range sign l
+  other_step None l h1 h2 h3 = not_here _ l h1 (no_number_begins l h1 h2 h3)
+  other_step (Some s) l h1 h2 h3 = not_here _ l h1 (grind arith)
 
-no_number_begins : (range : Range) (l : Lexeme) → (l.kind ≡ kinds.Numeral → ⊥) → (l.kind ≡ kinds.Plus → ⊥) → (l.kind ≡ kinds.Minus → ⊥)
-    → IsNoNumber range None l
-no_number_begins range l h1 h2 h3 = λ ls hs a all. grind arith
-
-sign_step : (range : Range) (sign : Option Sign) (l : Lexeme) (s : Sign) → IsSignAt s l → (l.kind ≡ kinds.Numeral → ⊥)
-    → ((step : NumberStep) × IsNumberStep range sign l step) ⊎ NumberRefused range sign l
-sign_step range None l s at other = inl (steps.Sign s, (refl, at))
-sign_step range (Some before) l s at other = inr (not_here range (Some before) l other (after_sign range before l other))
-
-other_step : (range : Range) (sign : Option Sign) (l : Lexeme) → (l.kind ≡ kinds.Numeral → ⊥) → (l.kind ≡ kinds.Plus → ⊥)
-    → (l.kind ≡ kinds.Minus → ⊥) → NumberRefused range sign l
-other_step range None l h1 h2 h3 = not_here range None l h1 (no_number_begins range l h1 h2 h3)
-other_step range (Some s) l h1 h2 h3 = not_here range (Some s) l h1 (after_sign range s l h1)
-
--- what a token gives in a number's place
-pub number_step : (range : Range) (sign : Option Sign) (l : Lexeme) → ((step : NumberStep) × IsNumberStep range sign l step)
-    ⊎ NumberRefused range sign l
-number_step range sign l = at l.kind refl
-  where
-    at : (k : TokenKind) → l.kind ≡ k → ((step : NumberStep) × IsNumberStep range sign l step) ⊎ NumberRefused range sign l
-    at kinds.Numeral e = numeral_step range sign l e
-    at kinds.Plus e = sign_step range sign l (record { negative = false; place = l.place }) (plus e refl refl) (λ f. cc)
-    at kinds.Minus e = sign_step range sign l (record { negative = true; place = l.place }) (minus e refl refl) (λ f. cc)
-    at _ e = inr (other_step range sign l (λ f. cc) (λ f. cc) (λ f. cc))
+  -- what a token gives in a number's place
+  pub number_step : (sign : Option Sign) (l : Lexeme) → ((step : NumberStep) × IsNumberStep range sign l step)
+      ⊎ NumberRefused range sign l
+  number_step sign l = at l.kind refl
+    where
+      at : (k : TokenKind) → l.kind ≡ k → ((step : NumberStep) × IsNumberStep range sign l step) ⊎ NumberRefused range sign l
+      at kinds.Numeral e = numeral_step _ l e
+      at kinds.Plus e = sign_step _ l _ (plus e refl refl) (λ f. cc)
+      at kinds.Minus e = sign_step _ l _ (minus e refl refl) (λ f. cc)
+      at _ e = inr (other_step _ l (λ f. cc) (λ f. cc) (λ f. cc))
 
 -- ---- the same of whole readers
 
@@ -239,19 +222,13 @@ pub record AfterNumbers (l : Lexeme) : Type 0 where
   pub reason : IsAfterNumbers l kind l.place
   pub kind_is : kind ≡ unexpected_token EndOfNumbers (Some l)
 
-as_after : (l : Lexeme) (kind : ItemFault) (place : ℕ) → IsMisplaced l kind place → IsAfterNumbers l kind place
-as_after l kind place h = grind arith
-
-too_many : (l : Lexeme) → begins_number l.kind ≡ true → faults.WrongNumberCount ≡ unexpected_token EndOfNumbers (Some l)
-too_many l e = grind arith
-
 pub after_numbers : (l : Lexeme) → AfterNumbers l
-after_numbers l = at (begins_number l.kind) refl
+after_numbers l = at (begins_number _) refl
   where
     at : (b : Bool) → begins_number l.kind ≡ b → AfterNumbers l
-    at true e = record { kind = faults.WrongNumberCount; reason = refl; kind_is = too_many l e }
-    at false e = let m = misplaced EndOfNumbers l (ap (λ b. if b then faults.WrongNumberCount else faults.BadShape) e) in
-        record { kind = m.kind; reason = as_after l m.kind l.place m.reason; kind_is = m.kind_is }
+    at true e = record { kind = faults.WrongNumberCount; reason = refl; kind_is = grind arith }
+    at false e = let m = misplaced EndOfNumbers l (cc) in
+        record { kind = _; reason = grind arith; kind_is = m.kind_is }
 
 -- a token in a colon's place
 pub record NoColon (l : Lexeme) : Type 0 where
@@ -262,4 +239,4 @@ pub record NoColon (l : Lexeme) : Type 0 where
 
 pub colon_or_not : (l : Lexeme) → (l.kind ≡ kinds.Colon) ⊎ NoColon l
 colon_or_not l = ⊎_elim inl (λ other. let m = misplaced Mark l refl in
-    inr (record { other = other; kind = m.kind; reason = m.reason; misfit = of_place refl m.kind_is })) (colon_kind_or_not l.kind)
+    inr (record { other = other; kind = _; reason = m.reason; misfit = of_place refl m.kind_is })) (colon_kind_or_not _)
