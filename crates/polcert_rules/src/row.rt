@@ -35,7 +35,7 @@ use polcert_cells::{BodyRef, Cell, Entries, EntryRef, ONE, Table};
 use std::alloc::{AllocError, Global};
 
 /// A row of T or O by the numbers of its entries: that of what covers the whole row, if anything does, those
-/// of single cells above 0, by column, and its zeros, if there are any.
+/// of its single cells, by column, and the zeros that it shares with other rows, if there are any.
 #[derive(Drop)]
 pub(crate) struct EntryRow<'a> {
     pub whole: Option<usize>,
@@ -130,7 +130,7 @@ pub(crate) fn cells(
     cells.clear();
     add_shared_columns(&mut cells, split, low, action, state)?;
     let start = first_column(low, action as u64 + 2, state as u64 + 2);
-    let next = add_columns_at(&mut cells, split.nonzero_rules(), start, next)?;
+    let next = add_columns_at(&mut cells, split.other_rules(), start, next)?;
     sort_newest(&mut cells);
     Ok(RowCells { rules: cells, next })
 }
@@ -154,7 +154,7 @@ fn add_shared_columns(
     if split.is_exact {
         return Ok(());
     }
-    let rules = split.nonzero_rules();
+    let rules = split.other_rules();
     add_columns(cells, rules, first_column(low, 1, 1))?;
     add_columns(cells, rules, first_column(low, 1, state as u64 + 2))?;
     add_columns(cells, rules, first_column(low, action as u64 + 2, 1))?;

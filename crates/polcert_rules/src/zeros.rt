@@ -1,12 +1,13 @@
-//! The zeros of a row of T or O: single cells of weight 0, which are searched by column and never gathered.
+//! The zeros of a row of T or O: single cells of weight 0 in each row of an action or of a state, which are searched by column and never
+//! gathered.
 ghost use Rattle.std.specs.Prelude.{◌≡◌, ◌+◌, ◌*◌, ◌-◌, ◌<◌, ◌≤◌, ◌^◌, ℕ, None, IfSome, IsTrue, ◌==◌, All};
 ghost use Rattle.std.specs.Prelude.{IfOk, length, slice_index};
 ghost use Rattle.polcert_rules.specs.Keys.{key_base};
 ghost use Rattle.polcert_rules.specs.Steps.Newest.{IsRising, IsNewest};
 ghost use Rattle.polcert_rules.specs.Steps.Rows.{AreExact, IsExactKey, IsSingleCellKey};
 ghost use Rattle.polcert_rules.specs.Steps.Zeros.{IsOrdered, HasOrderedZeros, AreColumnsFrom, zero_in};
-ghost use Rattle.polcert_rules.specs.Steps.Zeros.{newest_zero, zero_of, gives_zero, is_zero_entry, zeros_of};
-ghost use Rattle.polcert_rules.specs.Steps.Zeros.{others_of, others_in, names_column, wholes_of};
+ghost use Rattle.polcert_rules.specs.Steps.Zeros.{newest_zero, zero_of, gives_zero, is_shared_zero, zeros_of};
+ghost use Rattle.polcert_rules.specs.Steps.Zeros.{others_of, others_in, names_column, names_row, wholes_of};
 ghost use Rattle.polcert_rules.specs.declared.index.Rule.{Rule as R};
 ghost use Rattle.polcert_cells.specs.EntryRefs.{entry_of};
 
@@ -117,8 +118,8 @@ pub(crate) fn row_zeros(
 /// How many places the pattern of a single cell of T or O has.
 const CELL_PLACES: usize = 3;
 
-/// The rules of a table of weights, in the order of their keys: those whose entries give single cells the weight 0,
-/// and the others.
+/// The rules of a table of weights, in the order of their keys: those that give the weight 0 to single cells of each row of an action or of
+/// a state, and the others. (A zero of one row is gathered with that row's cells.)
 #[derive(Drop)]
 pub(crate) struct SplitRules<'a> {
     pub zeros: Vec<Rule>,
@@ -129,7 +130,7 @@ pub(crate) struct SplitRules<'a> {
     pub is_exact: bool,
 }
 
-/// The rules that are no zeros.
+/// The rules but for those zeros.
 #[derive(Drop)]
 pub(crate) enum Others<'a> {
     /// All rules, if there are no zeros.
@@ -171,8 +172,8 @@ impl<'a> SplitRules<'a> {
         })
     }
 
-    /// Returns the rules that are no zeros.
-    pub(crate) fn nonzero_rules(&self) -> &[Rule]
+    /// Returns the rules that are not among `zeros`.
+    pub(crate) fn other_rules(&self) -> &[Rule]
         ensures { result.now ≡ others_in self.now.others }
     {
         match &self.others {
@@ -227,7 +228,7 @@ fn names_column(key: u64) -> bool
     column >= 2 && column < KEY_BASE - 1
 }
 
-/// Returns the zeros among these rules.
+/// Returns those of these rules that give the weight 0 to single cells of each row of an action or of a state.
 fn zeros_of(alloc: Global, rules: &[Rule], entries: &Entries) -> Result<Vec<Rule>, AllocError>
     requires { All (λ (r : R). r.number < length entries.now) rules.now }
     ensures { IfOk result (λ zeros. zeros.items ≡ zeros_of entries.now rules.now) }
@@ -241,7 +242,7 @@ fn zeros_of(alloc: Global, rules: &[Rule], entries: &Entries) -> Result<Vec<Rule
     Ok(zeros)
 }
 
-/// Returns those of these rules that are no zeros.
+/// Returns the rules that `zeros_of` leaves.
 fn others_of(alloc: Global, rules: &[Rule], entries: &Entries) -> Result<Vec<Rule>, AllocError>
     requires { All (λ (r : R). r.number < length entries.now) rules.now }
     ensures { IfOk result (λ others. others.items ≡ others_of entries.now rules.now) }
@@ -255,12 +256,22 @@ fn others_of(alloc: Global, rules: &[Rule], entries: &Entries) -> Result<Vec<Rul
     Ok(others)
 }
 
-/// Tests whether the rule's entry gives single cells the weight 0.
+/// Tests whether the rule's entry gives the weight 0 to single cells of each row of an action or of a state.
 fn is_zero(entries: &Entries, rule: Rule) -> bool
     requires { rule.number < length entries.now }
-    ensures { result ≡ is_zero_entry entries.now rule.number }
+    ensures { result ≡ is_shared_zero entries.now rule }
 {
-    gives_zero(entries.at(rule.number))
+    !names_row(rule.key) && gives_zero(entries.at(rule.number))
+}
+
+/// Tests whether the key names an action and a state.
+#[inline(always)]
+fn names_row(key: u64) -> bool
+    ensures { result ≡ names_row key }
+{
+    let state = key / ROW % KEY_BASE;
+    let action = key / ACTION % KEY_BASE;
+    state >= 2 && action >= 2
 }
 
 /// Tests whether the entry gives single cells the weight 0.

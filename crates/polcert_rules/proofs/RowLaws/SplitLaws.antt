@@ -7,6 +7,7 @@ use Rattle.polcert_rules.proofs.Common.{names_column, others_of, wholes_of}
 use Rattle.std.proofs.lemmas.List.Kept.{AllPairs-filter}
 use Rattle.std.specs.Prelude.{not}
 use Rattle.polcert_rules.specs.Steps.Rows.{AreExact}
+use Rattle.polcert_rules.specs.Steps.Zeros.{is_shared_zero, names_row}
 use Rattle.polcert_rules.proofs.Indexes.Building.{Among, among_from, contains_from}
 use Rattle.polcert_rules.proofs.RowLaws.Cells.{all_of}
 
@@ -35,7 +36,7 @@ module _ (entries : List Entry) where
 
   pub zeros_rise : (rs : List Rule) → IsRising rs → IsRising (zeros_of entries rs)
   zeros_rise [] up = up
-  zeros_rise (r ∷ rs) up = at (is_zero_entry entries r.number) (zeros_rise rs (rest_rises r rs up))
+  zeros_rise (r ∷ rs) up = at (is_shared_zero entries r) (zeros_rise rs (rest_rises r rs up))
     where
       at : (b : Bool) → IsRising (zeros_of entries rs) → IsRising (cond b (r ∷ zeros_of entries rs) (zeros_of entries rs))
       at true ih = AllPairs-cons (λ x y. x.key < y.key) r (zeros_of entries rs)
@@ -45,7 +46,7 @@ module _ (entries : List Entry) where
 
   pub others_rise : (rs : List Rule) → IsRising rs → IsRising (others_of entries rs)
   others_rise [] up = up
-  others_rise (r ∷ rs) up = at (is_zero_entry entries r.number) (others_rise rs (rest_rises r rs up))
+  others_rise (r ∷ rs) up = at (is_shared_zero entries r) (others_rise rs (rest_rises r rs up))
     where
       at : (b : Bool) → IsRising (others_of entries rs) → IsRising (cond b (others_of entries rs) (r ∷ others_of entries rs))
       at true ih = ih

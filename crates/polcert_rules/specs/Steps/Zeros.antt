@@ -35,16 +35,24 @@ gives_zero entry = gives_zero_in (length entry.places) entry.body
 abbrev pub is_zero_entry : List Entry → ℕ → Bool
 is_zero_entry entries number = value_or false gives_zero (slice_get entries number)
 
--- the zeros among these rules, and the others
+-- the key names an action and a state
+abbrev pub names_row : ℕ → Bool
+names_row key = nat_le 2 ((key / key_base ^ 2) % key_base) && nat_le 2 ((key / key_base ^ 3) % key_base)
+
+-- the rule is a zero of each row of an action or of a state
+abbrev pub is_shared_zero : List Entry → Rule → Bool
+is_shared_zero entries r = not (names_row r.key) && is_zero_entry entries r.number
+
+-- these zeros among the rules, and the others
 abbrev pub zeros_of : List Entry → List Rule → List Rule
 zeros_of entries [] = []
 zeros_of entries (r ∷ rs) =
-    if is_zero_entry entries r.number then (r ∷ zeros_of entries rs) else zeros_of entries rs
+    if is_shared_zero entries r then (r ∷ zeros_of entries rs) else zeros_of entries rs
 
 abbrev pub others_of : List Entry → List Rule → List Rule
 others_of entries [] = []
 others_of entries (r ∷ rs) =
-    if is_zero_entry entries r.number then others_of entries rs else (r ∷ others_of entries rs)
+    if is_shared_zero entries r then others_of entries rs else (r ∷ others_of entries rs)
 
 -- the key names a column that a row may have
 abbrev pub names_column : ℕ → Bool
@@ -54,7 +62,7 @@ names_column key = nat_le 2 ((key / key_base) % key_base) && nat_lt ((key / key_
 abbrev pub wholes_of : List Rule → List Rule
 wholes_of rules = filter (λ r. not (names_column r.key)) rules
 
--- the rules that are no zeros, lent or listed
+-- the others, lent or listed
 abbrev pub others_in : Others → List Rule
 others_in (Borrowed rules) = rules.now
 others_in (Listed rules) = rules.items

@@ -26,7 +26,7 @@ returns-then-split c x =
 
 pub returns : goal.returns
 returns c =
-    let rules = c.nonzero_rules-rules.ensures in
+    let rules = c.other_rules-rules.ensures in
     three (others_in c.args.split.now.others) c.args.cells.now.items c.add_columns.new.cells.items c.add_columns-2.new.cells.items
     c.add_columns-3.new.cells.items c.args.low c.args.action c.args.state
     (rw (rules, c.first_column.ensures.is) at c.in_ok-add_columns.ensures)

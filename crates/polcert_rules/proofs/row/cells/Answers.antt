@@ -14,7 +14,7 @@ returns-clause-newest c =
     let gathered = gathered_are (others_in c.args.split.now.others) c.clear.new.self.items c.add_shared_columns.new.cells.items
     c.add_columns_at.new.cells.items c.args.low c.args.action c.args.state
     _ c.clear.ensures.items c.first_column-start.ensures.is c.in_ok-add_shared_columns.ensures
-    (rw c.nonzero_rules.ensures at c.in_ok-next.ensures) in
+    (rw c.other_rules.ensures at c.in_ok-next.ensures) in
     let s = c.sort_newest.ensures in
     let all = newest_at (others_in c.args.split.now.others) _ _ c.args.low c.args.action c.args.state gathered
     s.permutation (each_rises _ s.ordered) in
@@ -27,7 +27,7 @@ returns-clause-each c =
     let gathered = gathered_are (others_in c.args.split.now.others) c.clear.new.self.items c.add_shared_columns.new.cells.items
     c.add_columns_at.new.cells.items c.args.low c.args.action c.args.state
     _ c.clear.ensures.items c.first_column-start.ensures.is c.in_ok-add_shared_columns.ensures
-    (rw c.nonzero_rules.ensures at c.in_ok-next.ensures) in
+    (rw c.other_rules.ensures at c.in_ok-next.ensures) in
     let s = c.sort_newest.ensures in
     let all = each_cell (others_in c.args.split.now.others) _ _ c.args.low c.args.action c.args.state gathered s.permutation in
     subst (λ (xs : List Rule). All (IsCell (others_in c.args.split.now.others) c.args.low c.args.action c.args.state) xs) (sym s.is) all
