@@ -287,6 +287,7 @@ fn scaled_step(numbers: &[u32], scale: u32, at: usize) -> Option<Step>
 }
 
 /// Returns the first weight above 0, from a column on, of this many columns that have the same weight but for exceptions.
+#[inline(never)]
 fn even_step(weight: u64, columns: usize, exceptions: &[Cell], at: usize) -> Option<Step>
     ensures { AreRising exceptions.now →
         IsStep (excepted_weight weight exceptions.now) columns None at result }

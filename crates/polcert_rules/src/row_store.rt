@@ -25,6 +25,9 @@ use std::alloc::{AllocError, Global};
 use std::marker::Model;
 use std::mem::replace;
 
+/// Rows with fewer columns are kept cell by cell: they are walked sooner so.
+const MANY_COLUMNS: usize = 64;
+
 /// What a row is made of that one entry gives alone.
 #[derive(Clone, Copy)]
 pub(crate) enum RowOrigin {
@@ -359,12 +362,15 @@ fn is_mostly_positive(numbers: &[u32]) -> bool {
     positive > numbers.len() / 2
 }
 
-/// Returns the weight above 0 that the entry that covers the whole row gives each column, if it gives all the same.
+/// Returns the weight above 0 that the entry that covers the whole row gives each column, if it gives all the same and they are many.
 fn whole_weight(entries: &Entries, whole: Option<usize>, shape: Shape) -> Option<u64>
     requires within { IsShapeWithin shape }
     requires whole { IsWholeRowEntry shape entries.now whole }
     ensures { IfSome result (λ weight. (s c : ℕ) → given_at shape.columns entries.now whole s c ≡ weight) }
 {
+    if shape.columns < MANY_COLUMNS {
+        return None;
+    }
     match whole {
         None => None,
         Some(number) => body_weight(entries.at(number), shape),
