@@ -1,6 +1,6 @@
 -- What backs a value in the worst case, from the least means that are found, and the verdicts that follow.
 use Rattle.std.proofs.Common.{◌≡◌, ℕ, ◌+◌, ◌*◌, ◌<◌, ◌≤◌, ◌⊎◌, inl, inr, ⊎_elim, ℤ, pos, ◌-ℤ◌, ◌*ℤ◌, ◌≤ℤ◌, Option, Some, None, refl, sym}
-use Rattle.std.proofs.Common.{ap, subst, ◌∙◌, arith}
+use Rattle.std.proofs.Common.{◌∙◌, arith}
 use Rattle.std.proofs.lemmas.Bool.{cases_lt}
 use Rattle.polcert_cells.specs.Tables.{IsProper}
 use Rattle.polcert_check.specs.Horizon.{Controller, one}
@@ -25,28 +25,25 @@ use Rattle.polcert_robust.specs.declared.distance.Spread.{Spread}
 
 -- ---- values where the weight is 0 do not matter
 none_or_some : (w : ℕ) → (w ≡ 0) ⊎ (0 < w)
-none_or_some w = ⊎_elim (λ (h : 0 < w). inr h) (λ (h : w ≤ 0). inl (omega (arith, h))) (cases_lt 0 w)
+none_or_some w = ⊎_elim (λ (h : 0 < w). inr h) (λ (h : w ≤ 0). inl (omega arith)) (cases_lt 0 w)
 
 pub high_none : (by : Spread) (w : ℕ) → w ≡ 0 → high_of by w ≡ 0
 high_none by w e = rw e refl
-
-as_it_is : (x y : ℤ) → y ≡ x → y ≡ x -ℤ pos 0
-as_it_is x y e = omega (arith, linear, e)
 
 module _ (f : ℕ → ℕ) (by : Spread) (scale n : ℕ) (x y : ℕ → ℤ) (row : ℕ → ℕ)
     (worst : IsWorstRow (λ j. low_of by (f j)) (λ j. high_of by (f j)) scale n x row) (same : (j : ℕ) → j < n → 0 < f j → y j ≡ x j) where
   pub worst_for : IsWorstRow (λ j. low_of by (f j)) (λ j. high_of by (f j)) scale n y row
   worst_for =
-      lowered_row (λ j. low_of by (f j)) (λ j. high_of by (f j)) scale n x row worst (pos 0) y
-      (λ j l. ⊎_elim (λ (none : f j ≡ 0). inr (high_none by (f j) none)) (λ (some : 0 < f j). inl (as_it_is (x j) (y j) (same j l some)))
+      lowered_row _ _ scale n x row worst (pos 0) y
+      (λ j l. ⊎_elim (λ (none : f j ≡ 0). inr (high_none by (f j) none)) (λ (some : 0 < f j). inl (omega (arith, linear, same j l some)))
       (none_or_some (f j)))
 
   pub mean_for : mean row x n ≡ mean row y n
   mean_for =
-      sum_below_same (λ j. pos (row j) *ℤ x j) (λ j. pos (row j) *ℤ y j) n
+      sum_below_same _ _ n
       (λ j l. ⊎_elim
-      (λ (none : f j ≡ 0). no_weight (row j) (x j) (y j) (omega (arith, worst.to j l, high_none by (f j) none)))
-      (λ (some : 0 < f j). ap (λ (v : ℤ). pos (row j) *ℤ v) (sym (same j l some)))
+      (λ (none : f j ≡ 0). no_weight _ (x j) (y j) (omega (arith, high_none by (f j) none)))
+      (λ (some : 0 < f j). cc (same j l some))
       (none_or_some (f j)))
 
 -- the mean of known values
@@ -55,8 +52,7 @@ pub exact_mean : (f : ℕ → ℕ) (by : Spread) (scale n : ℕ) (y : ℕ → �
 exact_mean f by scale n y value w = (
   w.row,
   worst_for f by scale n w.x y w.row w.worst (λ j l some. sym (w.each j l some)),
-  w.is
-      ∙ mean_for f by scale n w.x y w.row w.worst (λ j l some. sym (w.each j l some)),
+  w.is ∙ mean_for f by scale n w.x y w.row w.worst (λ j l some. sym (w.each j l some)),
 )
 
 -- ---- a pair
@@ -69,18 +65,6 @@ module _ (side : Side) (c : Controller) (t_by o_by : Spread) (r_by n s : ℕ) (p
   EndRow e v = (row : ℕ → ℕ) × IsWorstRow (λ z. low_of o_by (c.cells.o (c.action n) e z)) (λ z. high_of o_by (c.cells.o (c.action n) e z))
       c.cells.o_scale c.cells.observations (least_step_worth table c n s e) row
       × (0 < c.cells.t (c.action n) s e → v ≡ mean row (least_step_worth table c n s e) c.cells.observations)
-
-  -- a worst row at each end state, also at those that are not reached
-  end_row : (v : ℕ → ℤ) → ((e : ℕ) → e < c.cells.states → 0 < c.cells.t (c.action n) s e → IsEndMean table c n s e (v e)) → (e : ℕ)
-      → e < c.cells.states → EndRow e (v e)
-  end_row v each e el =
-      ⊎_elim
-      (λ (none : c.cells.t (c.action n) s e ≡ 0). let (row, worst) =
-      around_row (c.cells.o (c.action n) e) o_by c.cells.o_scale c.cells.observations (least_step_worth table c n s e)
-      (proper.o_rows (c.action n) e al el) in
-      (row, worst, λ some. absurd (omega (arith, none, some))))
-      (λ (some : 0 < c.cells.t (c.action n) s e). let (row, worst, is) = each e el some in (row, worst, λ _. is))
-      (none_or_some (c.cells.t (c.action n) s e))
 
   row_or : (v : ℕ → ℤ) → ((e : ℕ) → e < c.cells.states → EndRow e (v e)) → (e : ℕ) → (e < c.cells.states) ⊎ (c.cells.states ≤ e) → ℕ → ℕ
   row_or v rows e (inl el) = (rows e el).0
@@ -101,27 +85,29 @@ module _ (side : Side) (c : Controller) (t_by o_by : Spread) (r_by n s : ℕ) (p
     seen = seen;
     ends = w.row;
     worst = record {
-      seen_worst = λ e el. (row_or_is w.x rows e el (cases_lt e c.cells.states)).0;
-      ends_worst = worst_for (c.cells.t (c.action n) s) t_by c.cells.t_scale c.cells.states w.x y w.row w.worst same;
+      seen_worst = λ e el. (row_or_is w.x rows e el _).0;
+      ends_worst = worst_for _ t_by _ _ w.x y w.row w.worst same;
     };
-    is = w.is ∙ mean_for (c.cells.t (c.action n) s) t_by c.cells.t_scale c.cells.states w.x y w.row w.worst same;
+    is = w.is ∙ mean_for _ t_by _ _ w.x y w.row w.worst same;
   }
     where
       rows : (e : ℕ) → e < c.cells.states → EndRow e (w.x e)
-      rows = end_row w.x w.each
+      rows = (λ e el. ⊎_elim (λ (none : c.cells.t _ s e ≡ 0). let (row, worst) = around_row _ o_by _ _ _ (proper.o_rows _ e al el) in
+          (row, worst, λ some. absurd (omega arith))) (λ (some : 0 < c.cells.t _ s e). let (row, worst, is) = w.each e el some in
+          (row, worst, λ _. is)) (none_or_some _))
 
       seen : ℕ → ℕ → ℕ
-      seen e = row_or w.x rows e (cases_lt e c.cells.states)
+      seen e = row_or w.x rows e (cases_lt e _)
 
       y : ℕ → ℤ
       y e = mean (seen e) (least_step_worth table c n s e) c.cells.observations
 
       same : (e : ℕ) → e < c.cells.states → 0 < c.cells.t (c.action n) s e → y e ≡ w.x e
-      same e el some = sym ((row_or_is w.x rows e el (cases_lt e c.cells.states)).1 some)
+      same e el some = sym ((row_or_is w.x rows e el _).1 some)
 
   -- ---- what the pair may lack
   some_high : (by : Spread) (w : ℕ) → 0 < w → 0 < high_of by w
-  some_high by w some = omega (arith, some, high_ge by w)
+  some_high by w some = omega (arith, high_ge by w)
 
   may_lack_if : (z : ℕ) → IsMissedBefore c n s c.cells.states z → (z < c.cells.observations) × MayLack table c n s z
   may_lack_if z (e, el, some, (zl, none, seen)) = (
@@ -131,8 +117,7 @@ module _ (side : Side) (c : Controller) (t_by o_by : Spread) (r_by n s : ℕ) (p
       (
         e,
         el,
-        some_product (high_of t_by (c.cells.t (c.action n) s e)) (high_of o_by (c.cells.o (c.action n) e z))
-            (some_high t_by (c.cells.t (c.action n) s e) some) (some_high o_by (c.cells.o (c.action n) e z) seen),
+        some_product _ _ (some_high t_by _ some) (some_high o_by _ seen),
       ),
     ),
   )
@@ -141,13 +126,11 @@ module _ (side : Side) (c : Controller) (t_by o_by : Spread) (r_by n s : ℕ) (p
   missed_if z zl (none, (e, el, some)) = (
     e,
     el,
-    high_some t_by (c.cells.t (c.action n) s e) (left_some (high_of t_by (c.cells.t (c.action n) s e))
-        (high_of o_by (c.cells.o (c.action n) e z)) some),
+    high_some t_by _ (left_some _ _ some),
     (
       zl,
       none,
-      high_some o_by (c.cells.o (c.action n) e z)
-          (right_some (high_of t_by (c.cells.t (c.action n) s e)) (high_of o_by (c.cells.o (c.action n) e z)) some),
+      high_some o_by _ (right_some _ _ some),
     ),
   )
 
@@ -156,7 +139,7 @@ module _ (side : Side) (c : Controller) (t_by o_by : Spread) (r_by n s : ℕ) (p
   least_may_lack None least = λ z zl lack. least z (missed_if z zl lack)
   least_may_lack (Some z) least =
       let here = may_lack_if z least.0 in
-      (here.0, here.1, λ y l lack. let zl : z < c.cells.observations = here.0 in least.1 y l (missed_if y (omega (arith, l, zl)) lack))
+      (here.0, here.1, λ y l lack. least.1 y l (missed_if y (omega arith) lack))
 
 -- ---- the verdict on a pair
 module _ (i : IntervalTable) (c : Controller) where
@@ -164,16 +147,15 @@ module _ (i : IntervalTable) (c : Controller) where
       → (pos (i.t_scale * i.o_scale * one) *ℤ c.value n s -ℤ value) ≤ℤ pos 0 → PairIsRobust i c n s
   robust_if n s value none b h = record {
     lacks_none = none;
-    seen = b.seen;
-    ends = b.ends;
+    seen = _;
+    ends = _;
     worst = b.worst;
-    not_short =
-        omega (arith, linear, h, b.is);
+    not_short = omega (arith, linear, h);
   }
 
   pub short_by : (n s : ℕ) (value amount : ℤ) → IsWorstBacking i c n s value
       → amount ≡ pos (i.t_scale * i.o_scale * one) *ℤ c.value n s -ℤ value → IsRobustShort i c n s amount
-  short_by n s value amount b is = record { seen = b.seen; ends = b.ends; worst = b.worst; is = omega (arith, linear, is, b.is) }
+  short_by n s value amount b is = record { seen = _; ends = _; worst = b.worst; is = omega (arith, linear, is) }
 
   -- ---- the walk
   pub none_before : IsRobustBefore i c 0 0
@@ -183,8 +165,8 @@ module _ (i : IntervalTable) (c : Controller) where
   one_more n s before here m t ml tl is =
       ⊎_elim
       (λ (h : IsBefore m t n s). before m t ml tl h)
-      (λ (h : (m ≡ n) × (t ≡ s)). subst (λ (k : ℕ). PairIsRobust i c k t) (sym h.0)
-      (subst (λ (k : ℕ). PairIsRobust i c n k) (sym h.1) here))
+      (λ (h : _ × (t ≡ s)). rw h.0
+      (rw h.1 here))
       (split is)
     where
       split : IsBefore m t n (s + 1) → IsBefore m t n s ⊎ ((m ≡ n) × (t ≡ s))
@@ -197,7 +179,7 @@ module _ (i : IntervalTable) (c : Controller) where
       earlier is = grind arith
 
   pub all_before : (n : ℕ) → c.nodes ≤ n → IsRobustBefore i c n 0 → IsRobust i c
-  all_before n all before m t ml tl = before m t ml tl (inl (omega (arith, all, ml)))
+  all_before n all before m t ml tl = before m t ml tl (inl (omega arith))
 
   pub first_no : (n s : ℕ) (v : Verdict) → n < c.nodes → s < i.states → IsRobustBefore i c n s → IsRobustPair i c n s v → (v ≡ Yes → ⊥)
       → IsRobustVerdict i c v
@@ -209,14 +191,13 @@ module _ (i : IntervalTable) (c : Controller) where
   pub not_robust : (v : Verdict) → 0 < i.t_scale → 0 < i.o_scale → IsRobustVerdict i c v → IsRobust i c → v ≡ Yes
   not_robust Yes t_some o_some is robust = refl
   not_robust (Short n s amount) t_some o_some (nl, sl, before, lacks, short, some) robust =
-      let pair : PairIsRobust i c n s = robust n s nl sl in
+      let pair = robust n s nl sl in
       absurd (omega (
         arith,
         linear,
         some,
         short.is,
         pair.not_short,
-        one_worst i c n s t_some o_some short.seen short.ends short.worst
-            pair.seen pair.ends pair.worst,
+        one_worst i c n s t_some o_some _ _ short.worst _ _ pair.worst,
       ))
   not_robust (NoSuccessor n s z) t_some o_some (nl, sl, before, (zl, lack, least)) robust = absurd ((robust n s nl sl).lacks_none z zl lack)

@@ -1,18 +1,18 @@
 -- A verdict says yes exactly if the vectors pass in every model within, and a no is refuted by one of them.
-use Rattle.std.proofs.Common.{◌≡◌, ℕ, ◌*◌, ◌<◌, ◌↔◌, ℤ, pos, ◌-ℤ◌, ◌*ℤ◌, ◌<ℤ◌, refl, subst, arith}
+use Rattle.std.proofs.Common.{◌≡◌, ℕ, ◌<◌, ◌↔◌, ℤ, pos, ◌-ℤ◌, ◌<ℤ◌, refl, subst, arith}
 use Rattle.polcert_cells.specs.Tables.{CellTable, IsProper}
 use Rattle.polcert_policy.specs.Graphs.{PolicyGraph, IsProperGraph, nodes}
 use Rattle.polcert_policy.specs.Vectors.{PolicyVectors}
-use Rattle.polcert_check.specs.Horizon.{Controller, Fits, controller_of, one}
+use Rattle.polcert_check.specs.Horizon.{Controller, Fits, controller_of}
 use Rattle.polcert_check.specs.Shortfall.{Lacks}
 use Rattle.polcert_check.specs.declared.survey.Verdict.{Verdict}
 use Rattle.polcert_check.specs.declared.survey.Verdict.TheVariants.{Yes, Short, NoSuccessor}
 use Rattle.polcert_check.proofs.Certificates.{closed_is}
 use Rattle.polcert_check.proofs.Horizons.EveryHorizon.{passes_if_promised}
 use Rattle.polcert_check.proofs.Sums.Ring.{linear}
-use Rattle.polcert_robust.specs.Intervals.{IntervalTable, around, high_of}
+use Rattle.polcert_robust.specs.Intervals.{IntervalTable, around}
 use Rattle.polcert_robust.specs.RobustVerdict.{IsRobustVerdict, MeetsHorizonInEveryModel, PassesInEveryModel}
-use Rattle.polcert_robust.specs.Worst.{IsRobust, MayLack, within_model, worst_backing}
+use Rattle.polcert_robust.specs.Worst.{MayLack, within_model}
 use Rattle.polcert_robust.proofs.Backings.{not_robust}
 use Rattle.polcert_robust.proofs.Exactly.{high_some, lies_around, only_then}
 use Rattle.polcert_robust.proofs.Horizons.{near}
@@ -30,18 +30,12 @@ module _ (x : CellTable) (graph : PolicyGraph) (vectors : PolicyVectors) (t_by o
   c = controller_of x graph vectors
 
   pub known : (n : ℕ) → n < nodes graph → c.action n < x.actions
-  known n nl = (closed_is x graph vectors fits is_graph).actions_in_range n nl
-
-  passes_if_robust : IsRobust intervals c → PassesInEveryModel intervals c
-  passes_if_robust robust = passes_within intervals c t_some o_some known robust
-
-  robust_if_passes : PassesInEveryModel intervals c → IsRobust intervals c
-  robust_if_passes passes = only_then x c t_by o_by r_by proper known (λ m lies. passes 1 m lies)
+  known n nl = (closed_is x graph _ fits is_graph).actions_in_range n nl
 
   pub exact : (v : Verdict) → IsRobustVerdict intervals c v → (v ≡ Yes) ↔ PassesInEveryModel intervals c
   exact v is = (
-    (λ yes. passes_if_robust (subst (IsRobustVerdict intervals c) yes is)),
-    (λ passes. not_robust intervals c v t_some o_some is (robust_if_passes passes)),
+    (λ yes. passes_within intervals c t_some o_some known (subst (IsRobustVerdict intervals c) yes is)),
+    (λ passes. not_robust _ c v t_some o_some is (only_then x c t_by o_by r_by proper known (passes 1))),
   )
 
   pub short_fails : (value backing amount : ℤ) → amount ≡ value -ℤ backing → pos 0 <ℤ amount → backing <ℤ value
@@ -54,25 +48,20 @@ module _ (x : CellTable) (graph : PolicyGraph) (vectors : PolicyVectors) (t_by o
     (
       e,
       el,
-      some_product (x.t (c.action n) s e) (x.o (c.action n) e z)
-          (high_some t_by (x.t (c.action n) s e) (left_some (high_of t_by (x.t (c.action n) s e)) (high_of o_by (x.o (c.action n) e z))
-          some))
-          (high_some o_by (x.o (c.action n) e z) (right_some (high_of t_by (x.t (c.action n) s e)) (high_of o_by (x.o (c.action n) e z))
-          some)),
+      some_product _ _ (high_some t_by _ (left_some _ _ some)) (high_some o_by _ (right_some _ _ some)),
     ),
   )
 
   pub horizon : (v : Verdict) → IsRobustVerdict intervals c v → MeetsHorizonInEveryModel intervals c v
-  horizon Yes robust = near x graph vectors t_by o_by r_by t_some o_some is_graph fits robust
+  horizon Yes robust = near x graph _ t_by o_by r_by t_some o_some is_graph fits robust
   horizon (Short n s amount) (nl, sl, before, lacks, short, some) =
-      let (m, lies, fails) = refutes intervals c x (lies_around x t_by o_by r_by proper) refl refl n s (known n nl) sl short.seen short.ends
+      let (m, lies, fails) = refutes _ c x (lies_around x t_by o_by r_by proper) refl refl n s (known n nl) sl _ _
       short.worst
-      (short_fails (pos (x.t_scale * x.o_scale * one) *ℤ c.value n s) (worst_backing intervals c n s short.seen short.ends) amount short.is
+      (short_fails _ _ _ short.is
       some) in
-      (m, lies, λ promise. fails (passes_if_promised (within_model c 1 m) n s promise))
+      (m, lies, λ promise. fails (passes_if_promised _ n s promise))
   horizon (NoSuccessor n s z) (nl, sl, before, (zl, lack, least)) = (
     x,
     lies_around x t_by o_by r_by proper,
-    λ promise. (passes_if_promised (within_model c 1 x) n s promise).lacks_none z zl
-        (lacks_itself n s z lack),
+    λ promise. (passes_if_promised _ n s promise).lacks_none z zl (lacks_itself n s z lack),
   )

@@ -1,7 +1,6 @@
 -- If every model near a model passes, every pair passes in the worst case.
-use Rattle.std.specs.Prelude.{◌-◌, ◌==◌, if◌then◌else◌}
 use Rattle.std.proofs.lemmas.Bool.{cases_lt}
-use Rattle.std.proofs.Common.{◌≡◌, ℕ, zero, suc, ◌+◌, ◌*◌, ◌<◌, ◌≤◌, ◌⊎◌, inl, inr, ℤ, pos, ◌-ℤ◌, ◌+ℤ◌, ◌*ℤ◌, ◌≤ℤ◌, refl, sym, subst, arith}
+use Rattle.std.proofs.Common.{◌≡◌, ℕ, zero, suc, ◌+◌, ◌*◌, ◌<◌, ◌≤◌, ◌⊎◌, inl, inr, ℤ, pos, ◌-ℤ◌, ◌+ℤ◌, ◌*ℤ◌, ◌≤ℤ◌, refl, arith}
 use Rattle.std.proofs.lemmas.Int.{by_lt_z}
 use Rattle.std.proofs.Math.Nat.{mul-le-mul_left}
 use Rattle.polcert_cells.specs.Meaning.{sum_below}
@@ -17,33 +16,24 @@ use Rattle.polcert_robust.proofs.Step.{some_product, left_some, right_some}
 use Rattle.polcert_robust.specs.declared.distance.Spread.{Spread}
 
 -- ---- a weight lies in its own interval
-less_at_most : (w by : ℕ) → w - by ≤ w
-less_at_most w by = omega arith
-
-more_at_least : (w by : ℕ) → w ≤ (if w == 0 then 0 else w + by)
-more_at_least w by = pick (λ (k : ℕ). w ≤ k) w 0 0 (w + by) (λ e. omega arith) (omega arith)
-
 pub low_le : (by : Spread) (w : ℕ) → low_of by w ≤ w
-low_le by w = less_at_most w (spread_of by w)
+low_le by w = omega arith
 
 pub high_ge : (by : Spread) (w : ℕ) → w ≤ high_of by w
-high_ge by w = more_at_least w (spread_of by w)
+high_ge by w = pick (λ (k : ℕ). w ≤ k) w 0 0 (w + (spread_of by w)) (λ e. omega arith) (omega arith)
 
 pub high_some : (by : Spread) (w : ℕ) → 0 < high_of by w → 0 < w
 high_some by zero h = absurd (omega arith)
 high_some by (suc w) h = omega arith
 
 pub ends_ordered : (by : Spread) (w : ℕ) → low_of by w ≤ high_of by w
-ends_ordered by w = omega (arith, low_le by w, high_ge by w)
+ends_ordered by w = omega (arith, high_ge by w)
 
 times_le : (a b k : ℕ) → a ≤ b → a * k ≤ b * k
 times_le a b k l = omega (arith, mul-le-mul_left k l)
 
 between : (by : Spread) (w scale : ℕ) → IsBetween (low_of by w) (high_of by w) scale w scale
-between by w scale = record { from = times_le (low_of by w) w scale (low_le by w); to = times_le w (high_of by w) scale (high_ge by w) }
-
-near_itself : (r : ℤ) (d : ℕ) → ((pos 1 *ℤ (r -ℤ pos d)) ≤ℤ r) × (r ≤ℤ (pos 1 *ℤ (r +ℤ pos d)))
-near_itself r d = (omega (arith, linear, one-*ℤ (r -ℤ pos d)), omega (arith, linear, one-*ℤ (r +ℤ pos d)))
+between by w scale = record { from = times_le _ w scale (low_le by w); to = times_le w _ scale (high_ge by w) }
 
 pub lies_around : (x : CellTable) (t_by o_by : Spread) (r_by : ℕ) → IsProper x → LiesWithin (around x t_by o_by r_by) 1 x
 lies_around x t_by o_by r_by proper = record {
@@ -52,25 +42,28 @@ lies_around x t_by o_by r_by proper = record {
   observations = refl;
   discount = refl;
   rows = proper;
-  t = λ a s e al sl el. between t_by (x.t a s e) x.t_scale;
-  o = λ a e z al el zl. between o_by (x.o a e z) x.o_scale;
-  r = λ a s e z al sl el zl. near_itself (x.r a s e z) r_by;
+  t = λ a s e al sl el. between t_by _ _;
+  o = λ a e z al el zl. between o_by _ _;
+  r = λ a s e z al sl el zl. (
+    omega (arith, linear, one-*ℤ ((x.r a s e z) -ℤ pos r_by)),
+    omega (arith, linear, one-*ℤ ((x.r a s e z) +ℤ pos r_by)),
+  );
 }
 
 -- ---- a worst row around a row
 pub around_row : (w : ℕ → ℕ) (by : Spread) (scale count : ℕ) (x : ℕ → ℤ) → sum_below w count ≡ scale
     → (row : ℕ → ℕ) × IsWorstRow (λ j. low_of by (w j)) (λ j. high_of by (w j)) scale count x row
 around_row w by scale count x sums =
-    found (λ j. low_of by (w j)) (λ j. high_of by (w j)) scale count x (λ j l. ends_ordered by (w j))
-    (subst (λ (k : ℕ). sum_below (λ j. low_of by (w j)) count ≤ k) sums (sum_le (λ j. low_of by (w j)) w count (λ j l. low_le by (w j))))
-    (subst (λ (k : ℕ). k ≤ sum_below (λ j. high_of by (w j)) count) sums (sum_le w (λ j. high_of by (w j)) count (λ j l. high_ge by (w j))))
+    found _ _ scale count x (λ j l. ends_ordered by (w j))
+    (rw (← sums) (sum_le _ w count (λ j l. low_le by (w j))))
+    (rw (← sums) (sum_le w _ count (λ j l. high_ge by (w j))))
 
 -- ---- every pair
 pub only_then : (x : CellTable) (c : Controller) (t_by o_by : Spread) (r_by : ℕ) → IsProper x
     → ((n : ℕ) → n < c.nodes → c.action n < x.actions)
     → ((m : CellTable) → LiesWithin (around x t_by o_by r_by) 1 m → Passes (within_model c 1 m)) → IsRobust (around x t_by o_by r_by) c
 only_then x c t_by o_by r_by proper known passes n s nl sl =
-    record { lacks_none = lacks_none; seen = seen; ends = ends_found.0; worst = worst; not_short = not_short }
+    record { lacks_none = lacks_none; seen = seen; ends = _; worst = worst; not_short = not_short }
   where
     i : IntervalTable
     i = around x t_by o_by r_by
@@ -92,9 +85,7 @@ only_then x c t_by o_by r_by proper known passes n s nl sl =
           (
             e,
             el,
-            some_product (x.t a s e) (x.o a e z)
-                (high_some t_by (x.t a s e) (left_some (high_of t_by (x.t a s e)) (high_of o_by (x.o a e z)) some))
-                (high_some o_by (x.o a e z) (right_some (high_of t_by (x.t a s e)) (high_of o_by (x.o a e z)) some)),
+            some_product _ _ (high_some t_by _ (left_some _ _ some)) (high_some o_by _ (right_some _ _ some)),
           ),
         )
 
@@ -102,14 +93,14 @@ only_then x c t_by o_by r_by proper known passes n s nl sl =
     seen_found : (e : ℕ) → e < x.states → (row : ℕ → ℕ)
         × IsWorstRow (λ z. low_of o_by (x.o a e z)) (λ z. high_of o_by (x.o a e z)) x.o_scale x.observations (least_step_worth i c n s e)
         row
-    seen_found e el = around_row (x.o a e) o_by x.o_scale x.observations (least_step_worth i c n s e) (proper.o_rows a e al el)
+    seen_found e el = around_row _ o_by _ _ _ (proper.o_rows a e al el)
 
     seen_or : (e : ℕ) → (e < x.states) ⊎ (x.states ≤ e) → ℕ → ℕ
     seen_or e (inl el) = (seen_found e el).0
     seen_or e (inr beyond) = λ z. 0
 
     seen : ℕ → ℕ → ℕ
-    seen e = seen_or e (cases_lt e x.states)
+    seen e = seen_or e (cases_lt e _)
 
     seen_or_worst : (e : ℕ) → e < x.states → (k : (e < x.states) ⊎ (x.states ≤ e))
         → IsWorstRow (λ z. low_of o_by (x.o a e z)) (λ z. high_of o_by (x.o a e z)) x.o_scale x.observations (least_step_worth i c n s e)
@@ -119,15 +110,14 @@ only_then x c t_by o_by r_by proper known passes n s nl sl =
 
     ends_found : (row : ℕ → ℕ) × IsWorstRow (λ e. low_of t_by (x.t a s e)) (λ e. high_of t_by (x.t a s e)) x.t_scale x.states
         (λ e. mean (seen e) (least_step_worth i c n s e) x.observations) row
-    ends_found = around_row (x.t a s) t_by x.t_scale x.states (λ e. mean (seen e) (least_step_worth i c n s e) x.observations)
-        (proper.t_rows a s al sl)
+    ends_found = around_row _ t_by _ _ _ (proper.t_rows a s al sl)
 
     worst : IsWorstStep (around x t_by o_by r_by) c n s seen ends_found.0
-    worst = record { seen_worst = λ e el. seen_or_worst e el (cases_lt e x.states); ends_worst = ends_found.1 }
+    worst = record { seen_worst = λ e el. seen_or_worst e el _; ends_worst = ends_found.1 }
 
     not_short : (pos (x.t_scale * x.o_scale * one) *ℤ c.value n s) ≤ℤ worst_backing (around x t_by o_by r_by) c n s seen ends_found.0
     not_short =
-        by_lt_z (worst_backing (around x t_by o_by r_by) c n s seen ends_found.0) (pos (x.t_scale * x.o_scale * one) *ℤ c.value n s)
-        (λ less. let (worse, lies, fails) = refutes (around x t_by o_by r_by) c x itself refl refl n s al sl seen ends_found.0 worst less in
-        absurd (fails (passes worse lies n s nl (subst (λ (k : ℕ). s < k) (sym lies.states) sl))))
+        by_lt_z _ _
+        (λ less. let (worse, lies, fails) = refutes _ c x itself refl refl n s al sl seen _ worst less in
+        absurd (fails (passes worse lies n s nl (omega arith))))
         (λ le. le)

@@ -1,7 +1,7 @@
 -- Levels, the rows of their ends, and the worst row that lies between two of them.
 use Rattle.std.proofs.Common.{◌≡◌, ℕ, ◌+◌, ◌-◌, ◌*◌, ◌<◌, ◌≤◌, ◌⊎◌, ⊎_elim, ℤ, pos, ◌+ℤ◌, ◌-ℤ◌, ◌*ℤ◌, ◌≤ℤ◌, ◌<ℤ◌, ◌^◌, FitsSigned, to_z}
 use Rattle.std.proofs.Common.{of_z, int_le, Option, Some, None, IfSome, true, false, unsigned_abs, refl, sym, ap, ◌∙◌, arith}
-use Rattle.std.proofs.lemmas.Int.{by_lt_z, ints, to_z-of_z}
+use Rattle.std.proofs.lemmas.Int.{by_lt_z, to_z-of_z}
 use Rattle.std.proofs.Math.Nat.{mul-le-mul_left}
 use mir.Syntax.{w128}
 use Rattle.polcert_check.proofs.Sums.Bounds.{abs-+ℤ, fits_128}
@@ -12,17 +12,17 @@ use Rattle.polcert_check.proofs.Sums.SumLaws.{sum_below_same}
 use Rattle.polcert_robust.specs.Intervals.{low_of, high_of}
 use Rattle.polcert_robust.specs.Worst.{IsWorstRow, mean}
 use Rattle.polcert_robust.specs.Steps.Rows.{AreLevels, end_until, ends_until, level_mean}
-use Rattle.polcert_robust.proofs.Exactly.{low_le, high_ge, ends_ordered}
+use Rattle.polcert_robust.proofs.Exactly.{high_ge, ends_ordered}
 use Rattle.polcert_robust.proofs.Found.{found, sum_le}
 use Rattle.polcert_robust.proofs.Rows.{centered, pos_sum}
 use Rattle.polcert_robust.specs.declared.distance.Spread.{Spread}
 
 -- ---- one end
 pub end_at_most : (by : Spread) (level : ℤ) (w : ℕ) (v : ℤ) → v ≤ℤ level → end_until by level w v ≡ high_of by w
-end_at_most by level w v h = let e : int_le v level ≡ true = grind (arith, ints) in rw e refl
+end_at_most by level w v h = let e : int_le v level ≡ true = grind arith in rw e refl
 
 pub end_above : (by : Spread) (level : ℤ) (w : ℕ) (v : ℤ) → level <ℤ v → end_until by level w v ≡ low_of by w
-end_above by level w v h = let e : int_le v level ≡ false = grind (arith, ints) in rw e refl
+end_above by level w v h = let e : int_le v level ≡ false = grind arith in rw e refl
 
 end_from : (by : Spread) (level : ℤ) (w : ℕ) (v : ℤ) → low_of by w ≤ end_until by level w v
 end_from by level w v =
@@ -36,22 +36,14 @@ end_to by level w v =
     (λ l. omega (arith, end_above by level w v l, ends_ordered by w))
     (λ l. omega (arith, end_at_most by level w v l))
 
-end_rises : (by : Spread) (low high : ℤ) (w : ℕ) (v : ℤ) → low <ℤ high → end_until by low w v ≤ end_until by high w v
-end_rises by low high w v order =
-    by_lt_z low v
-    (λ l. omega (arith, end_above by low w v l, end_from by high w v))
-    (λ l. omega (arith, end_at_most by low w v l, end_at_most by high w v (omega (arith, linear))))
-
 -- ---- below all values, and at least at all
 pub sum_below_all : (by : Spread) (count : ℕ) (level : ℤ) (f : ℕ → ℕ) (x : ℕ → ℤ) → ((i : ℕ) → i < count → level <ℤ x i)
     → sum_below (ends_until by level f x) count ≤ sum_below f count
-sum_below_all by count level f x h =
-    sum_le (ends_until by level f x) f count (λ i l. omega (arith, end_above by level (f i) (x i) (h i l), low_le by (f i)))
+sum_below_all by count level f x h = sum_le _ f count (λ i l. omega (arith, end_above by level (f i) (x i) (h i l)))
 
 pub sum_above_all : (by : Spread) (count : ℕ) (level : ℤ) (f : ℕ → ℕ) (x : ℕ → ℤ) → ((i : ℕ) → i < count → x i ≤ℤ level)
     → sum_below f count ≤ sum_below (ends_until by level f x) count
-sum_above_all by count level f x h =
-    sum_le f (ends_until by level f x) count (λ i l. omega (arith, end_at_most by level (f i) (x i) (h i l), high_ge by (f i)))
+sum_above_all by count level f x h = sum_le f _ count (λ i l. omega (arith, end_at_most by level (f i) (x i) (h i l), high_ge by (f i)))
 
 -- ---- the worst row
 module _ (by : Spread) (scale count : ℕ) (f : ℕ → ℕ) (x : ℕ → ℤ) (low high : ℤ) (are : AreLevels by scale count f x low high) where
@@ -62,26 +54,24 @@ module _ (by : Spread) (scale count : ℕ) (f : ℕ → ℕ) (x : ℕ → ℤ) (
   upper = ends_until by high f x
 
   pub filled : (row : ℕ → ℕ) × IsWorstRow lower upper scale count (λ i. pos 0) row
-  filled = found lower upper scale count (λ i. pos 0) (λ i l. end_rises by low high (f i) (x i) are.order) are.from are.to
+  filled = found lower upper scale count _ (λ i l. by_lt_z low (x i)
+      (λ l. omega (arith, end_above by low (f i) (x i) l, end_from by high (f i) (x i)))
+      (λ l. omega (arith, end_at_most by low (f i) (x i) l, end_at_most by high (f i) (x i) (omega (arith, linear))))) are.from are.to
 
   abbrev pub level_row : ℕ → ℕ
   level_row = filled.0
 
-  -- a value below the higher level is not above the lower one
-  not_above : (i : ℕ) → i < count → x i <ℤ high → x i ≤ℤ low
-  not_above i l less = ⊎_elim (λ (h : x i ≤ℤ low). h) (λ (h : high ≤ℤ x i). absurd (omega (arith, linear))) (are.between i l)
-
   -- where the value is not that of the higher level, both rows have the same end
   at_high_end : (i : ℕ) → i < count → x i <ℤ high → (level_row i ≡ high_of by (f i)) × (lower i ≡ high_of by (f i))
   at_high_end i l less =
-      let e : lower i ≡ high_of by (f i) = end_at_most by low (f i) (x i) (not_above i l less) in
+      let e = end_at_most by low (f i) (x i) (⊎_elim (λ (h : x i ≤ℤ low). h) (λ (h : high ≤ℤ x i). absurd (omega (arith, linear)))
+      (are.between i l)) in
       (omega (arith, e, filled.1.from i l, filled.1.to i l, end_to by high (f i) (x i)), e)
 
   at_low_end : (i : ℕ) → i < count → high <ℤ x i → (level_row i ≡ low_of by (f i)) × (lower i ≡ low_of by (f i))
   at_low_end i l less =
-      let e : upper i ≡ low_of by (f i) = end_above by high (f i) (x i) less in
-      let d : lower i ≡ low_of by (f i) = end_above by low (f i) (x i) (omega (arith, linear, are.order)) in
-      (omega (arith, d, e, filled.1.from i l, filled.1.to i l), d)
+      let d : lower i ≡ low_of by (f i) = grind arith in
+      (omega (arith, d, end_above by high (f i) (x i) less, filled.1.from i l, filled.1.to i l), d)
 
   pub level_row_is_worst : IsWorstRow (λ j. low_of by (f j)) (λ j. high_of by (f j)) scale count x level_row
   level_row_is_worst = record {
@@ -99,26 +89,21 @@ module _ (by : Spread) (scale count : ℕ) (f : ℕ → ℕ) (x : ℕ → ℤ) (
   nothing : (a b : ℕ) (y : ℤ) → y ≡ pos 0 → pos a *ℤ y ≡ pos b *ℤ y
   nothing a b y e = rw e (*ℤ-zero (pos a) ∙ sym (*ℤ-zero (pos b)))
 
-  same_term : (i : ℕ) → i < count → pos (level_row i) *ℤ (x i -ℤ high) ≡ pos (lower i) *ℤ (x i -ℤ high)
-  same_term i l =
-      by_lt_z (x i) high
-      (λ less. let both = at_high_end i l less in same_weight (level_row i) (lower i) (x i -ℤ high) (both.0 ∙ sym both.1))
-      (λ at_least. by_lt_z high (x i)
-      (λ less. let both = at_low_end i l less in same_weight (level_row i) (lower i) (x i -ℤ high) (both.0 ∙ sym both.1))
-      (λ at_most. nothing (level_row i) (lower i) (x i -ℤ high) (omega (arith, linear))))
-
   left_over : (total sum : ℕ) (m m' h : ℤ) → sum ≤ total → m -ℤ pos total *ℤ h ≡ m' -ℤ pos sum *ℤ h → m' +ℤ pos (total - sum) *ℤ h ≡ m
   left_over total sum m m' h le e = omega (arith, linear, e, times_sum total sum h le)
     where
       times_sum : (a b : ℕ) (y : ℤ) → b ≤ a → pos a *ℤ y ≡ pos b *ℤ y +ℤ pos (a - b) *ℤ y
-      times_sum a b y l = let e : a ≡ b + (a - b) = omega arith in ap (λ (k : ℕ). pos k *ℤ y) e ∙ pos_sum b (a - b) y
+      times_sum a b y l = ap (λ (k : ℕ). pos k *ℤ y) (omega arith) ∙ pos_sum b (a - b) y
 
   pub level_mean_is : level_mean by scale count f x low high ≡ mean level_row x count
   level_mean_is =
-      left_over scale (sum_below lower count) (mean level_row x count) (mean lower x count) high are.from
+      left_over scale _ _ _ high are.from
       (ap (λ (k : ℕ). mean level_row x count -ℤ pos k *ℤ high) (sym filled.1.sums)
-      ∙ sym (centered level_row x high count)
-      ∙ sum_below_same (λ i. pos (level_row i) *ℤ (x i -ℤ high)) (λ i. pos (lower i) *ℤ (x i -ℤ high)) count same_term
+      ∙ sym (centered _ x high count)
+      ∙ sum_below_same _ _ count (λ i l. by_lt_z (x i) high
+      (λ less. let both = at_high_end i l less in same_weight _ _ _ (both.0 ∙ sym both.1))
+      (λ at_least. by_lt_z high (x i) (λ less. let both = at_low_end i l less in same_weight _ _ _ (both.0 ∙ sym both.1))
+      (λ at_most. nothing _ _ (x i -ℤ high) (omega (arith, linear)))))
       ∙ centered lower x high count)
 
 -- ---- a value between two levels
@@ -128,7 +113,7 @@ pub chosen_some : (low high v : ℤ) (found r : Option ℤ) → (low <ℤ v) × 
 chosen_some low high v found r here before is =
     ⊎_elim
     (λ (e : r ≡ Some v). rw e here)
-    (λ (e : (r ≡ found) × (found ≡ None → ⊥)). rw e.0 before)
+    (λ (e : _ × (found ≡ None → ⊥)). rw e.0 before)
     is
 
 pub chosen_is_some : (v : ℤ) (found r : Option ℤ) → (r ≡ Some v) ⊎ ((r ≡ found) × (found ≡ None → ⊥)) → r ≡ None → ⊥
@@ -140,8 +125,7 @@ less_times a b k l = omega (arith, mul-le-mul_left k l)
 
 pub two_small : (a b : ℤ) (sum left scale bound : ℕ) → unsigned_abs a ≤ sum * bound → unsigned_abs b ≤ left * bound → sum + left ≡ scale
     → unsigned_abs (a +ℤ b) ≤ scale * bound
-two_small a b sum left scale bound h k is =
-    omega (arith, abs-+ℤ a b, h, k, parts sum left bound, ap (λ (j : ℕ). j * bound) is)
+two_small a b sum left scale bound h k is = omega (arith, abs-+ℤ a b, h, k, ap (λ (j : ℕ). j * bound) is)
   where
     parts : (u v w : ℕ) → (u + v) * w ≡ u * w + v * w
     parts u v w = omega arith
@@ -150,4 +134,4 @@ pub two_fit : (a b : ℤ) (m : ℕ) → FitsSigned w128 a → FitsSigned w128 b 
     → FitsSigned w128 (to_z w128 (of_z w128 a) +ℤ to_z w128 (of_z w128 b))
     × (to_z w128 (of_z w128 (to_z w128 (of_z w128 a) +ℤ to_z w128 (of_z w128 b))) ≡ a +ℤ b)
 two_fit a b m fa fb small fits =
-    rw (to_z-of_z w128 a fa, to_z-of_z w128 b fb) (fits_128 (a +ℤ b) m small fits, to_z-of_z w128 (a +ℤ b) (fits_128 (a +ℤ b) m small fits))
+    rw (to_z-of_z w128 a fa, to_z-of_z w128 b fb) (fits_128 _ m small fits, to_z-of_z w128 _ (fits_128 _ m small fits))

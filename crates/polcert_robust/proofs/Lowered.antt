@@ -27,13 +27,9 @@ lowered_row low high scale count x row worst d y lowered = record {
   from = worst.from;
   to = worst.to;
   level = worst.level -ℤ d;
-  below = λ j l less. ⊎_elim
-      (λ (e : y j ≡ x j -ℤ d). worst.below j l (omega (arith, linear)))
-      (λ (e : high j ≡ 0). omega (arith, worst.to j l))
+  below = λ j l less. ⊎_elim (λ (e : y j ≡ x j -ℤ d). worst.below j l (omega (arith, linear))) (λ (e : high j ≡ 0). omega arith)
       (lowered j l);
-  above = λ j l less. ⊎_elim
-      (λ (e : y j ≡ x j -ℤ d). worst.above j l (omega (arith, linear)))
-      (λ (e : high j ≡ 0). omega (arith, worst.to j l, worst.from j l))
+  above = λ j l less. ⊎_elim (λ (e : y j ≡ x j -ℤ d). worst.above j l (omega (arith, linear))) (λ (e : high j ≡ 0). omega arith)
       (lowered j l);
 }
 
@@ -45,23 +41,20 @@ pub lowered_mean : (low high : ℕ → ℕ) (scale count : ℕ) (x : ℕ → ℤ
     → AreLowered high count x d y
     → mean row y count ≡ mean row x count -ℤ pos scale *ℤ d
 lowered_mean low high scale count x row worst d y lowered =
-    sum_below_same _ (λ j. pos (row j) *ℤ (x j -ℤ d)) count (λ j l. ⊎_elim
-    (λ (e : y j ≡ x j -ℤ d). ap (λ (z : ℤ). pos (row j) *ℤ z) e)
-    (λ (e : high j ≡ 0). no_weight (row j) (y j) (x j -ℤ d) (omega (arith, worst.to j l)))
-    (lowered j l))
-    ∙ centered row x d count
-    ∙ ap (λ (k : ℕ). mean row x count -ℤ pos k *ℤ d) worst.sums
+    cc (
+      sum_below_same _ _ count (λ j l. ⊎_elim (λ (e : y j ≡ x j -ℤ d). ap (λ (z : ℤ). pos (row j) *ℤ z) e)
+          (λ (e : high j ≡ 0). no_weight _ (y j) _ (omega arith)) (lowered j l)),
+      centered row x d count,
+      worst.sums,
+    )
 
 -- ---- what a step is worth
-worth_lowered : (r g v b : ℤ) → pos one *ℤ r +ℤ g *ℤ (v -ℤ b) ≡ (pos one *ℤ r +ℤ g *ℤ v) -ℤ g *ℤ b
-worth_lowered r g v b = omega (arith, linear, times_less g v b)
-
 pub none_or_some : (P : Option ℕ → Type 0) (at : Option ℕ) → P None → ((k : ℕ) → P (Some k)) → P at
 none_or_some P None h k = h
 none_or_some P (Some n) h k = k n
 
 no_high : (t o : ℕ) → 0 < t → (0 < t * o → ⊥) → o ≡ 0
-no_high t o some none = ⊎_elim (λ (l : 0 < o). absurd (none (some_product t o some l))) (λ (l : o ≤ 0). omega arith) (cases_lt 0 o)
+no_high t o some none = ⊎_elim (λ (l : 0 < o). absurd (none (some_product t o some l))) (omega arith) (cases_lt 0 o)
 
 pub lowered_step : (i : IntervalTable) (c : Controller) (n s by : ℕ) → ((z : ℕ) → z < i.observations → MayLack i c n s z → ⊥)
     → (seen : ℕ → ℕ → ℕ) (ends : ℕ → ℕ) → IsWorstStep i c n s seen ends
@@ -69,12 +62,12 @@ pub lowered_step : (i : IntervalTable) (c : Controller) (n s by : ℕ) → ((z :
     × (worst_backing i (lowered_by c by) n s lowered_seen ends ≡ worst_backing i c n s seen ends -ℤ pos i.t_scale
     *ℤ (pos i.o_scale *ℤ (pos i.discount *ℤ pos by)))
 lowered_step i c n s by lacks_none seen ends worst = (
-  lowered_seen,
+  _,
   record {
-    seen_worst = λ e el. (seen_is e el (cases_lt e i.states)).0;
-    ends_worst = lowered_row (i.t_low a s) (i.t_high a s) i.t_scale i.states x ends worst.ends_worst (pos i.o_scale *ℤ d) y end_lowered;
+    seen_worst = λ e el. (seen_is e el _).0;
+    ends_worst = lowered_row _ _ _ _ x ends worst.ends_worst (pos _ *ℤ d) y end_lowered;
   },
-  lowered_mean (i.t_low a s) (i.t_high a s) i.t_scale i.states x ends worst.ends_worst (pos i.o_scale *ℤ d) y end_lowered,
+  lowered_mean _ _ _ _ x ends worst.ends_worst (pos _ *ℤ d) y end_lowered,
 )
   where
     a : ℕ
@@ -99,38 +92,36 @@ lowered_step i c n s by lacks_none seen ends worst = (
         none_or_some
         (λ at. c.next n z ≡ at → (at_node (λ k. pos one *ℤ i.r_low a s e z +ℤ pos i.discount *ℤ (c.value k e -ℤ pos by)) at
         ≡ at_node (λ k. pos one *ℤ i.r_low a s e z +ℤ pos i.discount *ℤ c.value k e) at -ℤ d) ⊎ (i.o_high a e z ≡ 0))
-        (c.next n z)
-        (λ none. inr (no_high (i.t_high a s e) (i.o_high a e z) some (λ both. lacks_none z zl (none, (e, el, both)))))
-        (λ k is. inl (worth_lowered (i.r_low a s e z) (pos i.discount) (c.value k e) (pos by)))
+        _
+        (λ none. inr (no_high _ _ some (λ both. lacks_none z zl (none, (e, el, both)))))
+        (λ k is. inl (omega (arith, linear, times_less (pos i.discount) (c.value k e) (pos by))))
         refl
 
     of_end : (e : ℕ) → e < i.states → (0 < i.t_high a s e) ⊎ (i.t_high a s e ≤ 0) → (row : ℕ → ℕ) × Of e row
     of_end e el (inl some) = (
-      seen e,
+      _,
       (
-        lowered_row (i.o_low a e) (i.o_high a e) i.o_scale i.observations (w e) (seen e) (worst.seen_worst e el) d (u e)
-            (seen_lowered e el some),
-        inl (lowered_mean (i.o_low a e) (i.o_high a e) i.o_scale i.observations (w e) (seen e) (worst.seen_worst e el) d (u e)
-            (seen_lowered e el some)),
+        lowered_row _ _ _ _ (w e) _ (worst.seen_worst e el) d (u e) (seen_lowered e el some),
+        inl (lowered_mean _ _ _ _ (w e) _ (worst.seen_worst e el) d (u e) (seen_lowered e el some)),
       ),
     )
     of_end e el (inr none) =
         let old = worst.seen_worst e el in
-        let (row, new) = found (i.o_low a e) (i.o_high a e) i.o_scale i.observations (u e)
-        (λ z zl. omega (arith, old.from z zl, old.to z zl))
-        (omega (arith, old.sums, sum_le (i.o_low a e) (seen e) i.observations old.from))
-        (omega (arith, old.sums, sum_le (seen e) (i.o_high a e) i.observations old.to)) in
+        let (row, new) = found _ _ _ _ (u e)
+        (λ z zl. omega arith)
+        (omega (arith, old.sums, sum_le _ _ _ old.from))
+        (omega (arith, old.sums, sum_le _ _ _ old.to)) in
         (row, (new, inr (omega arith)))
 
     seen_at : (e : ℕ) → (e < i.states) ⊎ (i.states ≤ e) → ℕ → ℕ
-    seen_at e (inl el) = (of_end e el (cases_lt 0 (i.t_high a s e))).0
+    seen_at e (inl el) = (of_end e el (cases_lt 0 _)).0
     seen_at e (inr beyond) = λ z. 0
 
     lowered_seen : ℕ → ℕ → ℕ
-    lowered_seen e = seen_at e (cases_lt e i.states)
+    lowered_seen e = seen_at e (cases_lt e _)
 
     seen_is : (e : ℕ) → e < i.states → (k : (e < i.states) ⊎ (i.states ≤ e)) → Of e (seen_at e k)
-    seen_is e el (inl k) = (of_end e k (cases_lt 0 (i.t_high a s e))).1
+    seen_is e el (inl k) = (of_end e k _).1
     seen_is e el (inr beyond) = absurd (omega arith)
 
     x : ℕ → ℤ
@@ -140,4 +131,4 @@ lowered_step i c n s by lacks_none seen ends worst = (
     y e = mean (lowered_seen e) (least_step_worth i (lowered_by c by) n s e) i.observations
 
     end_lowered : AreLowered (i.t_high a s) i.states x (pos i.o_scale *ℤ d) y
-    end_lowered e el = (seen_is e el (cases_lt e i.states)).1
+    end_lowered e el = (seen_is e el _).1

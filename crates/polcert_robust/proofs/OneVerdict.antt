@@ -19,8 +19,7 @@ module _ (i : IntervalTable) (c : Controller) (t_some : 0 < i.t_scale) (o_some :
   one_first n s m t h g = grind arith
 
   one_amount : (n s : ℕ) (a b : ℤ) → IsRobustShort i c n s a → IsRobustShort i c n s b → a ≡ b
-  one_amount n s a b h g =
-      omega (arith, linear, h.is, g.is, one_worst i c n s t_some o_some h.seen h.ends h.worst g.seen g.ends g.worst)
+  one_amount n s a b h g = omega (arith, linear, g.is, one_worst i c n s t_some o_some h.seen h.ends h.worst g.seen g.ends g.worst)
 
   one_lack : (n s z y : ℕ) → IsLeastThatMayLack i c n s (Some z) → IsLeastThatMayLack i c n s (Some y) → z ≡ y
   one_lack n s z y h g = grind arith
@@ -36,8 +35,7 @@ module _ (i : IntervalTable) (c : Controller) (t_some : 0 < i.t_scale) (o_some :
       h.5,
       h.4.is,
       p.not_short,
-      one_worst i c n s t_some o_some h.4.seen h.4.ends
-          h.4.worst p.seen p.ends p.worst,
+      one_worst i c n s t_some o_some _ _ h.4.worst _ _ p.worst,
     ),
   )
 
@@ -47,20 +45,22 @@ module _ (i : IntervalTable) (c : Controller) (t_some : 0 < i.t_scale) (o_some :
   not_both : (n s m t z : ℕ) (a : ℤ) → IsRobustVerdict i c (Short n s a) → IsRobustVerdict i c (NoSuccessor m t z) → ⊥
   not_both n s m t z a h g =
       let same = one_first n s m t (short_first n s a h) (lack_first m t z g) in
-      subst (λ k. IsLeastThatMayLack i c m k None) same.1 (subst (λ k. IsLeastThatMayLack i c k s None) same.0 h.3) z g.3.0 g.3.1
+      subst (λ k. IsLeastThatMayLack i c m k None) same.1 (rw (← same.0) h.3) z g.3.0 g.3.1
 
   pub one_verdict : (u v : Verdict) → IsRobustVerdict i c u → IsRobustVerdict i c v → u ≡ v
   one_verdict Yes v h g = sym (not_robust i c v t_some o_some g h)
-  one_verdict (Short n s a) Yes h g = not_robust i c (Short n s a) t_some o_some h g
-  one_verdict (NoSuccessor n s z) Yes h g = not_robust i c (NoSuccessor n s z) t_some o_some h g
+  one_verdict (Short n s a) Yes h g = not_robust i c _ t_some o_some h g
+  one_verdict (NoSuccessor n s z) Yes h g = not_robust i c _ t_some o_some h g
   one_verdict (Short n s a) (NoSuccessor m t z) h g = absurd (not_both n s m t z a h g)
   one_verdict (NoSuccessor m t z) (Short n s a) h g = absurd (not_both n s m t z a g h)
   one_verdict (Short n s a) (Short m t b) h g =
       let same = one_first n s m t (short_first n s a h) (short_first m t b g) in
-      let also = subst (λ k. IsRobustShort i c k s b) (sym same.0) (subst (λ k. IsRobustShort i c m k b) (sym same.1) g.4) in
+      let also = subst (λ k. IsRobustShort i c k s b) (sym same.0) (rw same.1 g.4) in
       rw (same.0, same.1, one_amount n s a b h.4 also) refl
   one_verdict (NoSuccessor n s z) (NoSuccessor m t y) h g =
       let same = one_first n s m t (lack_first n s z h) (lack_first m t y g) in
-      let also = subst (λ k. IsLeastThatMayLack i c k s (Some y)) (sym same.0)
-      (subst (λ k. IsLeastThatMayLack i c m k (Some y)) (sym same.1) g.3) in
-      rw (same.0, same.1, one_lack n s z y h.3 also) refl
+      rw (
+        same.0,
+        same.1,
+        one_lack n s z y h.3 (rw same.0 (rw same.1 g.3)),
+      ) refl

@@ -14,7 +14,7 @@ mean_at_most : (low high : ℕ → ℕ) (scale count : ℕ) (x : ℕ → ℤ) (r
     → mean row x count ≤ℤ mean other x count
 mean_at_most low high scale count x row other some worst worst_too =
     let within = worst_within low high scale count x other worst_too in
-    le_cancel scale (mean row x count) (mean other x count) some
+    le_cancel scale _ _ some
     (worst_row_is_least low high scale count x row worst other scale within.1 within.0)
 
 pub one_mean : (low high : ℕ → ℕ) (scale count : ℕ) (x : ℕ → ℤ) (row other : ℕ → ℕ) → 0 < scale → IsWorstRow low high scale count x row
@@ -25,8 +25,7 @@ one_mean low high scale count x row other some worst worst_too =
       arith,
       linear,
       mean_at_most low high scale count x row other some worst worst_too,
-      mean_at_most low high scale count x other row
-          some worst_too worst,
+      mean_at_most low high scale count x other row some worst_too worst,
     )
 
 no_less : (x y : ℤ) → x ≡ y → x ≡ y -ℤ pos 0
@@ -37,10 +36,10 @@ pub one_worst : (i : IntervalTable) (c : Controller) (n s : ℕ) → 0 < i.t_sca
     → (seen_too : ℕ → ℕ → ℕ) (ends_too : ℕ → ℕ) → IsWorstStep i c n s seen_too ends_too
     → worst_backing i c n s seen ends ≡ worst_backing i c n s seen_too ends_too
 one_worst i c n s t_some o_some seen ends worst seen_too ends_too worst_too =
-    one_mean (i.t_low (c.action n) s) (i.t_high (c.action n) s) i.t_scale i.states x ends ends_too t_some worst.ends_worst
-    (lowered_row (i.t_low (c.action n) s) (i.t_high (c.action n) s) i.t_scale i.states y ends_too worst_too.ends_worst (pos 0) x
+    one_mean _ _ _ _ x ends _ t_some worst.ends_worst
+    (lowered_row _ _ _ _ y _ worst_too.ends_worst (pos 0) x
     (λ e el. inl (no_less (x e) (y e) (same e el))))
-    ∙ sum_below_same (λ e. pos (ends_too e) *ℤ x e) (λ e. pos (ends_too e) *ℤ y e) i.states
+    ∙ sum_below_same _ _ _
     (λ e el. ap (λ (v : ℤ). pos (ends_too e) *ℤ v) (same e el))
   where
     x : ℕ → ℤ
@@ -50,5 +49,4 @@ one_worst i c n s t_some o_some seen ends worst seen_too ends_too worst_too =
     y e = mean (seen_too e) (least_step_worth i c n s e) i.observations
 
     same : (e : ℕ) → e < i.states → x e ≡ y e
-    same e el = one_mean (i.o_low (c.action n) e) (i.o_high (c.action n) e) i.o_scale i.observations (least_step_worth i c n s e) (seen e)
-        (seen_too e) o_some (worst.seen_worst e el) (worst_too.seen_worst e el)
+    same e el = one_mean _ _ _ _ _ _ _ o_some (worst.seen_worst e el) (worst_too.seen_worst e el)

@@ -1,8 +1,7 @@
 -- A verdict for some cells is one for all cells that are the same in range.
-use Rattle.std.proofs.Common.{◌≡◌, ◌∙◌, ℕ, ◌*◌, ◌<◌, ◌≤◌, ℤ, pos, ◌+ℤ◌, ◌-ℤ◌, ◌*ℤ◌, ◌≤ℤ◌, ◌<ℤ◌, Option, Some, None, sym, ap, subst, arith}
+use Rattle.std.proofs.Common.{◌≡◌, ◌∙◌, ℕ, ◌<◌, ◌≤◌, ℤ, Option, Some, None, sym, subst, arith, refl}
 use Rattle.polcert_cells.specs.Tables.{CellTable}
-use Rattle.polcert_check.specs.Horizon.{Controller, one}
-use Rattle.polcert_check.specs.Shortfall.{at_node}
+use Rattle.polcert_check.specs.Horizon.{Controller}
 use Rattle.polcert_check.specs.declared.survey.Verdict.{Verdict}
 use Rattle.polcert_check.specs.declared.survey.Verdict.TheVariants.{Yes, Short, NoSuccessor}
 use Rattle.polcert_check.proofs.Sums.SumLaws.{sum_below_same}
@@ -17,9 +16,9 @@ row_same low high low' high' scale count x y row ends values worst = record {
   sums = worst.sums;
   from = λ k l. subst (λ v. v ≤ row k) (ends k l).0 (worst.from k l);
   to = λ k l. subst (λ v. row k ≤ v) (ends k l).1 (worst.to k l);
-  level = worst.level;
-  below = λ k l less. worst.below k l (subst (λ v. v <ℤ worst.level) (sym (values k l)) less) ∙ (ends k l).1;
-  above = λ k l more. worst.above k l (subst (λ v. worst.level <ℤ v) (sym (values k l)) more) ∙ (ends k l).0;
+  level = _;
+  below = λ k l less. worst.below k l (rw (values k l) less) ∙ (ends k l).1;
+  above = λ k l more. worst.above k l (rw (values k l) more) ∙ (ends k l).0;
 }
 
 -- `cells` are any, and the intervals of j have those of i in range
@@ -37,61 +36,62 @@ module _ (i : IntervalTable) (c : Controller) (cells : CellTable) (t_low t_high 
 
   module _ (n s : ℕ) (nl : n < c.nodes) (sl : s < i.states) where
     worth_same : (e z : ℕ) → e < i.states → z < i.observations → least_step_worth i c n s e z ≡ least_step_worth j d n s e z
-    worth_same e z el zl = ap (λ (r : ℤ). at_node (λ m. pos one *ℤ r +ℤ pos i.discount *ℤ c.value m e) (c.next n z))
-        (r_same (c.action n) s e z (actions n nl) sl el zl)
+    worth_same e z el zl = simp (r_same _ s e z (actions n nl) sl el zl)
 
     mean_same : (row : ℕ → ℕ) (e : ℕ) → e < i.states
         → mean row (least_step_worth i c n s e) i.observations ≡ mean row (least_step_worth j d n s e) i.observations
-    mean_same row e el = sum_below_same (λ z. pos (row z) *ℤ least_step_worth i c n s e z)
-        (λ z. pos (row z) *ℤ least_step_worth j d n s e z) i.observations
-        (λ z zl. ap (λ (v : ℤ). pos (row z) *ℤ v) (worth_same e z el zl))
+    mean_same row e el = sum_below_same _ _ _ (λ z zl. simp (worth_same e z el zl))
 
     backing_same : (seen : ℕ → ℕ → ℕ) (ends : ℕ → ℕ) → worst_backing i c n s seen ends ≡ worst_backing j d n s seen ends
-    backing_same seen ends = sum_below_same (λ e. pos (ends e) *ℤ mean (seen e) (least_step_worth i c n s e) i.observations)
-        (λ e. pos (ends e) *ℤ mean (seen e) (least_step_worth j d n s e) i.observations) i.states
-        (λ e el. ap (λ (v : ℤ). pos (ends e) *ℤ v) (mean_same (seen e) e el))
+    backing_same seen ends = sum_below_same _ _ _ (λ e el. rw (mean_same _ e el) refl)
 
     step_same : (seen : ℕ → ℕ → ℕ) (ends : ℕ → ℕ) → IsWorstStep i c n s seen ends → IsWorstStep j d n s seen ends
     step_same seen ends worst = record {
-      seen_worst = λ e el. row_same (i.o_low (c.action n) e) (i.o_high (c.action n) e) (o_low (c.action n) e) (o_high (c.action n) e)
-          i.o_scale i.observations (least_step_worth i c n s e) (least_step_worth j d n s e) (seen e)
-          (λ z zl. o_same (c.action n) e z (actions n nl) el zl) (λ z zl. worth_same e z el zl) (worst.seen_worst e el);
-      ends_worst = row_same (i.t_low (c.action n) s) (i.t_high (c.action n) s) (t_low (c.action n) s) (t_high (c.action n) s) i.t_scale
-          i.states (λ e. mean (seen e) (least_step_worth i c n s e) i.observations)
-          (λ e. mean (seen e) (least_step_worth j d n s e) i.observations) ends (λ e el. t_same (c.action n) s e (actions n nl) sl el)
-          (λ e el. mean_same (seen e) e el) worst.ends_worst;
+      seen_worst = λ e el. row_same _ _ _ _ _ _ _ _ _
+          (λ z. o_same _ e z (actions n nl) el) (λ z. worth_same e z el) (worst.seen_worst e el);
+      ends_worst = row_same _ _ _ _ _ _ _ _ ends (λ e. t_same _ s e (actions n nl) sl) (λ e el. mean_same _ e el) worst.ends_worst;
     }
 
-    both_same : (z e : ℕ) → z < i.observations → e < i.states
-        → i.t_high (c.action n) s e * i.o_high (c.action n) e z ≡ t_high (c.action n) s e * o_high (c.action n) e z
-    both_same z e zl el = cc ((t_same (c.action n) s e (actions n nl) sl el).1, (o_same (c.action n) e z (actions n nl) el zl).1)
-
     lack_there : (z : ℕ) → z < i.observations → MayLack i c n s z → MayLack j d n s z
-    lack_there z zl (none, (e, el, some)) = (none, (e, el, subst (λ k. 0 < k) (both_same z e zl el) some))
+    lack_there z zl (none, (e, el, some)) = (
+      none,
+      (
+        e,
+        el,
+        subst (λ k. 0 < k) (cc ((t_same (c.action n) s e (actions n nl) sl el).1, (o_same (c.action n) e z (actions n nl) el zl).1)) some,
+      ),
+    )
 
     lack_here : (z : ℕ) → z < i.observations → MayLack j d n s z → MayLack i c n s z
-    lack_here z zl (none, (e, el, some)) = (none, (e, el, subst (λ k. 0 < k) (sym (both_same z e zl el)) some))
+    lack_here z zl (none, (e, el, some)) = (
+      none,
+      (
+        e,
+        el,
+        subst (λ k. 0 < k)
+            (sym (cc ((t_same (c.action n) s e (actions n nl) sl el).1, (o_same (c.action n) e z (actions n nl) el zl).1))) some,
+      ),
+    )
 
     least_same : (z : Option ℕ) → IsLeastThatMayLack i c n s z → IsLeastThatMayLack j d n s z
     least_same None none = λ z zl lack. none z zl (lack_here z zl lack)
-    least_same (Some z) (zl, lack, least) =
-        (zl, lack_there z zl lack, λ y l too. least y l (lack_here y (omega (arith, l, zl)) too))
+    least_same (Some z) (zl, lack, least) = (zl, lack_there z zl lack, λ y l too. least y l (lack_here y (omega arith) too))
 
     short_same : (amount : ℤ) → IsRobustShort i c n s amount → IsRobustShort j d n s amount
     short_same amount h = record {
-      seen = h.seen;
-      ends = h.ends;
-      worst = step_same h.seen h.ends h.worst;
-      is = h.is ∙ ap (λ (v : ℤ). pos (i.t_scale * i.o_scale * one) *ℤ c.value n s -ℤ v) (backing_same h.seen h.ends);
+      seen = _;
+      ends = _;
+      worst = step_same _ _ h.worst;
+      is = cc (h.is, backing_same _ _);
     }
 
     pair_same : PairIsRobust i c n s → PairIsRobust j d n s
     pair_same p = record {
       lacks_none = λ z zl lack. p.lacks_none z zl (lack_here z zl lack);
-      seen = p.seen;
-      ends = p.ends;
-      worst = step_same p.seen p.ends p.worst;
-      not_short = subst (λ v. (pos (i.t_scale * i.o_scale * one) *ℤ c.value n s) ≤ℤ v) (backing_same p.seen p.ends) p.not_short;
+      seen = _;
+      ends = _;
+      worst = step_same _ _ p.worst;
+      not_short = rw (← backing_same _ _) p.not_short;
     }
 
   before_same : (n s : ℕ) → IsRobustBefore i c n s → IsRobustBefore j d n s
@@ -100,5 +100,5 @@ module _ (i : IntervalTable) (c : Controller) (cells : CellTable) (t_low t_high 
   pub verdict_same : (u : Verdict) → IsRobustVerdict i c u → IsRobustVerdict j d u
   verdict_same Yes all = λ n s nl sl. pair_same n s nl sl (all n s nl sl)
   verdict_same (Short n s amount) (nl, sl, before, lacks, short, some) =
-      (nl, sl, before_same n s before, least_same n s nl sl None lacks, short_same n s nl sl amount short, some)
+      (nl, sl, before_same n s before, least_same n s nl sl None lacks, short_same n s nl sl _ short, some)
   verdict_same (NoSuccessor n s z) (nl, sl, before, lack) = (nl, sl, before_same n s before, least_same n s nl sl (Some z) lack)

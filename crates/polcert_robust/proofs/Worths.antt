@@ -1,6 +1,5 @@
 -- What a step is worth at least, and how large means of it can get.
-use Rattle.std.proofs.Common.{◌≡◌, ◌∙◌, ℕ, ◌*◌, ◌^◌, ◌<◌, ◌≤◌, ℤ, pos, ◌+ℤ◌, ◌-ℤ◌, ◌*ℤ◌, Option, Some, unsigned_abs, refl, sym, ap, arith}
-use Rattle.std.proofs.Math.Nat.{mul_assoc}
+use Rattle.std.proofs.Common.{◌≡◌, ℕ, ◌*◌, ◌^◌, ◌<◌, ◌≤◌, ℤ, pos, ◌+ℤ◌, ◌-ℤ◌, ◌*ℤ◌, Option, Some, unsigned_abs, refl, arith}
 use Rattle.polcert_text.specs.Numbers.{largest}
 use Rattle.polcert_cells.specs.Tables.{CellTable, IsWithinLimits}
 use Rattle.polcert_check.specs.Horizon.{one}
@@ -24,10 +23,12 @@ worth_is reward least value a b by d e h k = rw (h, k, e) refl
 pub worth_small : (least value a b : ℤ) (d : ℕ) → unsigned_abs least ≤ 11000000000000 → d ≤ 1000000 → unsigned_abs value ≤ largest
     → a ≡ pos 1000000 *ℤ least → b ≡ pos d *ℤ value → unsigned_abs (a +ℤ b) ≤ most_worth
 worth_small least value a b d small few low h k =
-    let left : unsigned_abs (pos 1000000 *ℤ least) ≤ 1000000 * 11000000000000 =
-    abs-*ℤ_le (pos 1000000) least 1000000 11000000000000 (omega arith) small in
-    let right : unsigned_abs (pos d *ℤ value) ≤ 1000000 * largest = abs-*ℤ_le (pos d) value 1000000 largest few low in
-    rw (h, k) (omega (arith, abs-+ℤ (pos 1000000 *ℤ least) (pos d *ℤ value), left, right))
+    rw (h, k) (omega (
+      arith,
+      abs-+ℤ (pos 1000000 *ℤ least) (pos d *ℤ value),
+      abs-*ℤ_le (pos 1000000) least 1000000 11000000000000 (omega arith) small,
+      abs-*ℤ_le (pos d) value 1000000 largest few low,
+    ))
 
 -- the least reward from one side
 pub least_turned : (side : Side) (r : ℤ) (by : ℕ) → turned side r -ℤ pos by ≡ least_end side (r -ℤ pos by) (r +ℤ pos by)
@@ -40,30 +41,27 @@ step_is at m worth f e is = rw e is
 -- ---- scales
 pub t_scale_small : (m : CellTable) → IsWithinLimits m → m.t_scale ≤ 10000000000
 unfolding one
-t_scale_small m limits = omega (arith, limits.t_scale, limits.states.1)
+t_scale_small m limits = omega arith
 
 pub o_scale_small : (m : CellTable) → IsWithinLimits m → m.o_scale ≤ 10000000000
 unfolding one
-o_scale_small m limits = omega (arith, limits.o_scale, limits.observations.1)
+o_scale_small m limits = omega arith
 
 pub backing_small : (m : CellTable) → IsWithinLimits m → m.t_scale * (m.o_scale * most_worth) ≤ most_scales * most_worth
-backing_small m limits = omega (
-  arith,
-  sym (mul_assoc m.t_scale m.o_scale most_worth),
-  less_times (m.t_scale * m.o_scale) most_scales
-      most_worth (scales_le m limits),
-)
+backing_small m limits = omega (arith, less_times (m.t_scale * m.o_scale) most_scales most_worth (scales_le m limits))
 
 -- ---- the value's side
 pub scaled_value : (q : ℕ) (v a b : ℤ) → a ≡ pos q *ℤ v → b ≡ pos 1000000 *ℤ a → b ≡ pos (q * one) *ℤ v
 unfolding one
-scaled_value q v a b h k = k ∙ ap (λ (y : ℤ). pos 1000000 *ℤ y) h ∙ *ℤ_left_comm (pos 1000000) (pos q) v ∙ sym (pos_product q 1000000 v)
+scaled_value q v a b h k = cc (k, h, *ℤ_left_comm (pos 1000000) (pos q) v, pos_product q 1000000 v)
 
 pub scaled_small : (q : ℕ) (v a b : ℤ) → q ≤ most_scales → unsigned_abs v ≤ largest → a ≡ pos q *ℤ v → b ≡ pos 1000000 *ℤ a
     → unsigned_abs b ≤ most_scales * 1000000 * largest
 scaled_small q v a b few small h k =
-    let inner : unsigned_abs a ≤ most_scales * largest = rw h (abs-*ℤ_le (pos q) v most_scales largest few small) in
-    rw k (omega (arith, abs-*ℤ_le (pos 1000000) a 1000000 (most_scales * largest) (omega arith) inner))
+    rw k (omega (
+      arith,
+      abs-*ℤ_le (pos 1000000) a 1000000 (most_scales * largest) (omega arith) (rw h (abs-*ℤ_le (pos q) v most_scales largest few small)),
+    ))
 
 pub difference_small : (b w : ℤ) → unsigned_abs b ≤ most_scales * 1000000 * largest → unsigned_abs w ≤ most_scales * most_worth
     → unsigned_abs (b -ℤ w) < 2 ^ 127

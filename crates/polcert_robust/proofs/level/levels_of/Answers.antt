@@ -17,22 +17,21 @@ loop-value-init c =
     let n : ℕ = c.args.row.now.count in
     rw (
       to_z-of_z w128 c.outer_levels-outer.result.low (search rules),
-      to_z-of_z w128 c.outer_levels-outer.result.high
-          (search rules),
+      to_z-of_z w128 c.outer_levels-outer.result.high (search rules),
       c.outer_levels-outer.ensures.low,
       c.outer_levels-outer.ensures.high,
     ) (record {
       order = omega (arith, ints);
       from = omega (
         arith,
-        sum_below_all c.args.row.now.by n (neg_ℤ (pos b) -ℤ pos 1) (listed_weight c.args.row.now.weights.now)
-            (listed_value c.args.row.now.values.now) (λ i l. below_bound _ b (c.args.row.now.small i l)),
+        sum_below_all c.args.row.now.by n _ (listed_weight c.args.row.now.weights.now)
+            (listed_value _) (λ i l. below_bound _ b (c.args.row.now.small i l)),
         c.args.row.now.sums,
       );
       to = omega (
         arith,
-        sum_above_all c.args.row.now.by n (pos b) (listed_weight c.args.row.now.weights.now)
-            (listed_value c.args.row.now.values.now) (λ i l. at_most_bound _ b (c.args.row.now.small i l)),
+        sum_above_all c.args.row.now.by n _ (listed_weight c.args.row.now.weights.now)
+            (listed_value _) (λ i l. at_most_bound _ b (c.args.row.now.small i l)),
         c.args.row.now.sums,
       );
       least = omega (arith, ints);

@@ -1,4 +1,4 @@
-use Rattle.std.proofs.Common.{◌≡◌, pos, ◌*ℤ◌, to_z, of_z, w64, rules, refl}
+use Rattle.std.proofs.Common.{w64, rules, refl}
 use Rattle.std.proofs.lemmas.Int.{to_z-of_z}
 use mir.Syntax.{w128}
 use Rattle.polcert_check.proofs.Sums.Gaps.{weighed_is}
@@ -7,16 +7,14 @@ use Rattle.polcert_robust.proofs.pair.value_at_scale.Goals as goal
 
 pub returns : goal.returns
 returns c =
-    let at_scale : c.weigh_number-at_scale.result ≡ pos c.args.step_scale *ℤ c.args.value =
-    weighed_is c.args.step_scale c.args.step_scale c.weigh_number-at_scale.result (to_z w64 (of_z w64 c.args.value)) c.args.value
+    let at_scale =
+    weighed_is _ _ _ _ _
     (search rules)
-    c.weigh_number-at_scale.ensures refl (to_z-of_z w64 c.args.value c.ranges.value) in
-    let scaled : c.weigh_number.result ≡ pos 1000000 *ℤ c.weigh_number-at_scale.result =
+    c.weigh_number-at_scale.ensures refl (to_z-of_z w64 _ c.ranges.value) in
+    let scaled =
     weighed_is 1000000 1000000 c.weigh_number.result c.weigh_number-at_scale.result c.weigh_number-at_scale.result (search rules)
     c.weigh_number.ensures refl refl in
     rw (to_z-of_z w128 c.weigh_number.result (search rules)) (record {
-      is = scaled_value c.args.step_scale c.args.value c.weigh_number-at_scale.result c.weigh_number.result at_scale scaled;
-      small = scaled_small c.args.step_scale c.args.value c.weigh_number-at_scale.result c.weigh_number.result c.requires.scale
-          c.requires.value at_scale
-          scaled;
+      is = scaled_value c.args.step_scale _ _ _ at_scale scaled;
+      small = scaled_small _ _ _ _ c.requires.scale c.requires.value at_scale scaled;
     })

@@ -1,34 +1,32 @@
-use Rattle.std.proofs.Common.{◌∙◌, false, slice_index_or, refl, arith, subst, sym}
-use Rattle.polcert_check.specs.Horizon.{Controller}
+use Rattle.std.proofs.Common.{refl, arith, subst}
 use Rattle.polcert_check.specs.declared.survey.Verdict.{Verdict}
-use Rattle.polcert_robust.specs.Intervals.{IntervalTable}
-use Rattle.polcert_robust.specs.Steps.Pairs.{IsRobustPair, cells_of, near_controller, near_table}
+use Rattle.polcert_robust.specs.Steps.Pairs.{IsRobustPair, near_controller, near_table}
 use Rattle.polcert_robust.proofs.EndMeans.{both}
 use Rattle.polcert_robust.proofs.Backings.{all_before, first_no, next_node, none_before, one_more}
 use Rattle.polcert_robust.proofs.walk.first_robust_failure.Goals as goal
 
 pub loop-n-init : goal.loop-n-init
 loop-n-init g c = record {
-  before = none_before (near_table c.args.input.now) (near_controller c.args.input.now);
-  known = c.new-known.ensures (cells_of c.args.input.now);
+  before = none_before _ _;
+  known = c.new-known.ensures _;
 }
 
 pub loop-s-init : goal.loop-s-init
 loop-s-init g c = record {
   before = c.loop-n.invariant.before;
   kept = record {
-    same = λ is. rw c.action-a.ensures.value at c.have_same_rewards-have_rewards.ensures.same (sym c.reset.ensures.rewards ∙ is);
-    each = λ e l is. absurd (both (slice_index_or c.reset.new.self.are_kept e false) is (c.reset.ensures.none e (rw c.states.ensures l)));
+    same = λ is. rw c.action-a.ensures.value at c.have_same_rewards-have_rewards.ensures.same (cc);
+    each = λ e l is. absurd (both _ is (c.reset.ensures.none e (rw c.states.ensures l)));
   };
   known = c.have_same_rewards-have_rewards.ensures.kept;
 }
 
 pub loop-s-preserved : goal.loop-s-preserved
 loop-s-preserved g c =
-    let i : IntervalTable = near_table c.args.input.now in
-    let k : Controller = near_controller c.args.input.now in
+    let i = near_table c.args.input.now in
+    let k = near_controller c.args.input.now in
     record {
-      before = one_more i k c.loop-n.n c.loop-s.s c.loop-s.invariant.before
+      before = one_more i k _ _ c.loop-s.invariant.before
           (subst (λ (v : Verdict). IsRobustPair i k c.loop-n.n c.loop-s.s v) (c.if-is_no.ensures.yes refl)
           c.robust_pair_verdict-verdict.ensures.verdict);
       kept = c.robust_pair_verdict-verdict.ensures.kept;
@@ -37,20 +35,18 @@ loop-s-preserved g c =
 
 pub loop-n-preserved : goal.loop-n-preserved
 loop-n-preserved g c = record {
-  before = next_node (near_table c.args.input.now) (near_controller c.args.input.now) c.loop-n.n c.loop-s.s
-      (omega (arith, c.loop-s-test.false, c.states-s-end.ensures)) c.loop-s.invariant.before;
+  before = next_node _ _ _ _ (omega arith) c.loop-s.invariant.before;
   known = c.loop-s.invariant.known;
 }
 
 pub returns-then-is_no : goal.returns-then-is_no
 returns-then-is_no g c =
-    first_no (near_table c.args.input.now) (near_controller c.args.input.now) c.loop-n.n c.loop-s.s c.robust_pair_verdict-verdict.result
-    (omega (arith, c.loop-n-test.true, c.nodes-n-end.ensures.count)) (omega (arith, c.loop-s-test.true, c.states-s-end.ensures))
+    first_no _ _ _ _ _
+    (omega arith) (omega arith)
     c.loop-s.invariant.before c.robust_pair_verdict-verdict.ensures.verdict (c.if-is_no.ensures.no refl)
 
 pub returns : goal.returns
-returns g c = all_before (near_table c.args.input.now) (near_controller c.args.input.now) c.loop-n.n
-    (omega (arith, c.loop-n-test.false, c.nodes-n-end.ensures.count)) c.loop-n.invariant.before
+returns g c = all_before _ _ _ (omega arith) c.loop-n.invariant.before
 
 pub invariant_of-pair-clause-constant_everywhere : goal.invariant_of-pair-clause-constant_everywhere
 invariant_of-pair-clause-constant_everywhere g c = rw c.action-a.ensures.value at c.constant_reward-constant.ensures.constant
