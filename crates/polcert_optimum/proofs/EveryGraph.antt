@@ -1,9 +1,8 @@
 -- No values of a graph that pass from below are above informed vectors, where the discount is below 1.
 use Rattle.std.proofs.Common.{◌≡◌, ℕ, ◌<◌, ℤ, pos, ◌-ℤ◌, ◌≤ℤ◌, Option, refl, arith}
-use Rattle.polcert_optimum.proofs.Common.{CellTable, IsProper, IsWithinLimits, action_of, value_of, Controller, controller_of, one, backup}
+use Rattle.polcert_optimum.proofs.Common.{CellTable, IsProper, IsWithinLimits, Controller, controller_of, one}
 use Rattle.polcert_optimum.proofs.Common.{AreInformed}
-use Rattle.polcert_check.specs.Shortfall.{Lacks, backing}
-use Rattle.polcert_check.specs.Steps.Ranges.{IsClosed}
+use Rattle.polcert_check.specs.Shortfall.{Lacks}
 use Rattle.polcert_check.proofs.Certificates.{controller_is}
 use Rattle.polcert_check.proofs.Sums.Ring.{linear, ≤ℤ_trans, ≤ℤ_from_eq}
 use Rattle.polcert_check.proofs.Sums.SumLaws.{sum_below_same}
@@ -23,36 +22,25 @@ term_is : (c : Controller) (vectors : ℕ → ℕ → ℤ) (n s e z : ℕ) → (
     ≡ backup_term c.cells (vectors (action_at c at) e) (c.action n) s e z
 term_is c vectors n s e z h1 h2 at h3 = grind arith
 
-backing_is : (c : Controller) (vectors : ℕ → ℕ → ℤ) (n s : ℕ) → ((z : ℕ) → z < c.cells.observations → Lacks c n s z → ⊥)
-    → backing (with_values c (λ m u. vectors (c.action m) u)) n s
-    ≡ backup c.cells (λ e z. vectors (action_at c (c.next n z)) e) (c.action n) s
-backing_is c vectors n s fine =
-    sum_below_same _ _ c.cells.states (λ e el. sum_below_same _ _ c.cells.observations (λ z zl.
-    term_is c vectors n s e z (fine z zl) el (c.next n z) refl))
-
-action_known : (c : Controller) → IsClosed c → 0 < c.cells.actions → (n z : ℕ) → n < c.nodes → z < c.cells.observations → (at : Option ℕ)
-    → c.next n z ≡ at → action_at c at < c.cells.actions
-action_known c h1 h2 n z h3 h4 at h5 = grind arith
-
 long_is : (a b : ℤ) → b ≤ℤ a → pos 0 ≤ℤ (a -ℤ b)
 long_is a b h = omega (arith, linear)
 
 pub every_graph : (t : CellTable) (vectors : ℕ → ℕ → ℤ) → IsProper t → IsWithinLimits t → t.discount < one → AreInformed t vectors
     → BoundEveryGraph t vectors
 every_graph t vectors proper limits less informed g low known fits passes n s nl sl =
-    let old : Controller = controller_of t g low in
-    let some : 0 < t.actions = omega (arith, limits.actions.0) in
-    let closed : IsClosed old = (controller_is t g low fits proper known).closed in
-    let c : Controller = with_values old (λ m u. vectors (action_of g m) u) in
+    let old = controller_of t g low in
+    let some : 0 < t.actions = omega arith in
+    let closed = (controller_is t g low fits proper known).closed in
+    let c = with_values old _ in
     never_above c (record {
       cells = proper;
-      closed = (record
-          { actions_in_range = closed.actions_in_range; next_in_range = closed.next_in_range });
+      closed = (record { actions_in_range = closed.actions_in_range; next_in_range = closed.next_in_range });
     })
     (λ m u ml ul. record {
       lacks_none = (passes m u ml ul).lacks_none;
-      not_long = long_is _ _ (≤ℤ_trans _ _ _ (≤ℤ_from_eq _ _ (backing_is old vectors m u (passes m u ml ul).lacks_none))
-          (choice_le t vectors (action_of g m) u (informed (action_of g m) u (closed.actions_in_range m ml) ul)
-          (λ z. action_at old (old.next m z)) (λ z zl. action_known old closed some m z ml zl (old.next m z) refl)));
+      not_long = long_is _ _ (≤ℤ_trans _ _ _ (≤ℤ_from_eq _ _ (sum_below_same _ _ _ (λ e el. sum_below_same _ _ _
+          (λ z zl. term_is old vectors m u e z ((passes m u ml ul).lacks_none z zl) el _ refl))))
+          (choice_le t vectors _ u (informed _ u (closed.actions_in_range m ml) ul)
+          _ (λ z zl. grind arith)));
     })
-    (value_of low) passes less (positive_product t.t_scale t.o_scale (scales t limits).0 (scales t limits).1) n s nl sl
+    _ passes less (positive_product _ _ (scales t limits).0 (scales t limits).1) n s nl sl

@@ -1,6 +1,6 @@
 -- A value for each state that dominates its backup bounds every policy and every mixture, and only such a value does.
 use Rattle.std.proofs.Common.{ℕ, zero, suc, ◌*◌, ◌^◌, ◌<◌, ℤ, pos, ◌*ℤ◌, ◌≤ℤ◌, List, [], ◌∷◌, sym, arith}
-use Rattle.polcert_optimum.proofs.Common.{zero-*ℤ, CellTable, IsProper, one, end_state, Policy, IsPolicyOf, after, step_scale}
+use Rattle.polcert_optimum.proofs.Common.{zero-*ℤ, CellTable, IsProper, one, end_state, Policy, IsPolicyOf, step_scale}
 use Rattle.polcert_optimum.proofs.Common.{expected_total, DominatesBackup}
 use Rattle.std.specs.List.{AllByRecursion}
 use Rattle.polcert_check.proofs.Sums.Ring.{linear, mul_le, ≤ℤ_from_eq, +ℤ-*ℤ}
@@ -12,13 +12,12 @@ total_le : (t : CellTable) (value : ℕ → ℤ) → IsProper t → DominatesBac
     (pos (step_scale t ^ k * one ^ k) *ℤ value s)
 total_le t value p above zero policy of s sl = no_step t (λ history. value (end_state s history)) policy s
 total_le t value p above (suc k) policy of s sl =
-    one_step_more t p (λ history. value (end_state s history)) policy of k s sl (λ e z. value e) (value s)
-    (λ e z el zl. total_le t value p above k (after policy (e, z)) (policy_after t policy of e z el zl) e el)
-    (above (policy []) s (of [] tt) sl)
+    one_step_more t p _ _ of k s sl _ _
+    (λ e z el zl. total_le t value p above k _ (policy_after t _ of e z el zl) e el)
+    (above _ s (of [] tt) sl)
 
 pub every_policy : (t : CellTable) (value : ℕ → ℤ) → IsProper t → DominatesBackup t value → BoundsEveryPolicy t value
-every_policy t value p above policy of k s sl = bounded t p (λ history. value (end_state s history)) (value s) policy of k s sl
-    (total_le t value p above k policy of s sl)
+every_policy t value p above policy of k s sl = bounded t p _ _ _ of k s sl (total_le t value p above k _ of s sl)
 
 -- ---- mixtures
 -- what is at most x for each policy is at most x times the weight for a mixture
@@ -30,11 +29,10 @@ mixture_le Is f x each (m ∷ mixture) of =
 
 pub every_mixture : (t : CellTable) (value : ℕ → ℤ) → BoundsEveryPolicy t value → BoundsEveryMixture t value
 every_mixture t value bounds mixture of k s sl =
-    mixture_le (IsPolicyOf t) (λ policy. expected_total t (λ history. value (end_state s history)) policy k s)
-    (pos (step_scale t ^ k * one ^ k) *ℤ value s)
-    (λ policy is. (bounds policy is k s sl).total) mixture of
+    mixture_le _ _
+    _
+    (λ policy is. (bounds _ is k s sl).total) _ of
 
 -- ---- only then: the policy that always takes the action, for one step
 pub only_then : (t : CellTable) (value : ℕ → ℤ) → BoundsEveryPolicy t value → DominatesBackup t value
-only_then t value bounds a s al sl = backup_from_one_step t (λ history. value (end_state s history)) (value s) (λ history. a) s
-    (bounds (λ history. a) (λ history f. al) 1 s sl)
+only_then t value bounds a s al sl = backup_from_one_step t _ _ _ s (bounds _ (λ history f. al) 1 s sl)

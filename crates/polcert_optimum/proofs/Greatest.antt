@@ -2,7 +2,6 @@
 use Rattle.std.proofs.Common.{◌≡◌, ℕ, zero, suc, ◌+◌, ◌<◌, ◌≤◌, ℤ, ◌≤ℤ◌, unsigned_abs, ⊎_elim, refl, sym, ◌∙◌, arith}
 use Rattle.std.proofs.Math.Numerals.{add-one}
 use Rattle.polcert_optimum.proofs.Common.{int_max, cases_lt, ints, clamps, greatest_below}
-use Rattle.std.specs.Prelude.{int_lt}
 use Rattle.std.proofs.lemmas.Bool.{cases_cond}
 use Rattle.polcert_check.proofs.Sums.Ring.{≤ℤ_trans, ≤ℤ_from_eq}
 
@@ -17,19 +16,19 @@ greatest_le f zero i l = absurd (omega arith)
 greatest_le f (suc zero) i l = let e : i ≡ 0 = omega arith in ≤ℤ_from_eq _ _ (rw e refl)
 greatest_le f (suc (suc n)) i l =
     ⊎_elim
-    (λ (k : i < suc n). ≤ℤ_trans _ _ _ (greatest_le f (suc n) i k) (max_left (greatest_below f (suc n)) (f (suc n))))
-    (λ (k : suc n ≤ i). let e : i ≡ suc n = omega arith in rw e (max_right (greatest_below f (suc n)) (f (suc n))))
-    (cases_lt i (suc n))
+    (λ (k : i < suc n). ≤ℤ_trans _ _ _ (greatest_le f _ i k) (max_left _ _))
+    (λ (k : suc n ≤ i). let e : i ≡ suc n = omega arith in rw e (max_right _ _))
+    (cases_lt i _)
 
 pub greatest_reached : (f : ℕ → ℤ) (n : ℕ) → 0 < n → (i : ℕ) × (i < n) × (f i ≡ greatest_below f n)
 greatest_reached f zero some = absurd (omega arith)
 greatest_reached f (suc zero) some = (0, omega arith, refl)
 greatest_reached f (suc (suc n)) some =
     ⊎_elim
-    (λ (e : int_max (greatest_below f (suc n)) (f (suc n)) ≡ greatest_below f (suc n)). let (i, l, is) =
+    (λ (e : int_max _ (f (suc n)) ≡ greatest_below f (suc n)). let (i, l, is) =
     greatest_reached f (suc n) (omega arith) in (i, omega arith, is ∙ sym e))
-    (λ (e : int_max (greatest_below f (suc n)) (f (suc n)) ≡ f (suc n)). (suc n, omega arith, sym e))
-    (cases_cond (int_lt (f (suc n)) (greatest_below f (suc n))) (greatest_below f (suc n)) (f (suc n)) _ refl)
+    (λ (e : int_max (greatest_below f (suc n)) _ ≡ f _). (suc n, omega arith, sym e))
+    (cases_cond _ _ _ _ refl)
 
 -- one number more
 pub greatest_more : (f : ℕ → ℤ) (n : ℕ) → 0 < n → greatest_below f (n + 1) ≡ int_max (greatest_below f n) (f n)

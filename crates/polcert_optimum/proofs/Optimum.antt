@@ -1,25 +1,24 @@
 -- What policies earn from a model's start in the long run, where the discount is below 1.
-use Rattle.std.proofs.Common.{◌≡◌, ℕ, ◌*◌, ◌^◌, ◌<◌, ◌≤◌, suc, ℤ, pos, neg_ℤ, ◌+ℤ◌, ◌*ℤ◌, ◌≤ℤ◌, Some, sym, ap, subst, arith}
+use Rattle.std.proofs.Common.{◌≡◌, ℕ, ◌*◌, ◌^◌, ◌<◌, ◌≤◌, ℤ, pos, neg_ℤ, ◌+ℤ◌, ◌*ℤ◌, ◌≤ℤ◌, Some, sym, subst, arith}
 use Rattle.std.proofs.Math.Nat.{mul-le-mul_left}
-use Rattle.polcert_optimum.proofs.Common.{Meaning, HasLimitedNumbers, states_of, start_weight, start_total, CellTable, IsProper}
+use Rattle.polcert_optimum.proofs.Common.{Meaning, HasLimitedNumbers, states_of, start_total, IsProper}
 use Rattle.polcert_optimum.proofs.Common.{IsWithinLimits, table_of, action_of, PolicyVectors, value_of, Controller, controller_of, one}
-use Rattle.polcert_optimum.proofs.Common.{IsRunInRange, History, end_state, Policy, ObservationPolicy, as_policy, IsPolicyOf, step_scale}
-use Rattle.polcert_optimum.proofs.Common.{expected_rewards, AreInformed, graph_policy, EarnsAsItsPolicy, sum_over_start, start_scale}
+use Rattle.polcert_optimum.proofs.Common.{IsRunInRange, History, Policy, ObservationPolicy, as_policy, IsPolicyOf, step_scale}
+use Rattle.polcert_optimum.proofs.Common.{AreInformed, graph_policy, EarnsAsItsPolicy, sum_over_start}
 use Rattle.polcert_optimum.proofs.Common.{AreAtMostFromStart, IsBoundedFromStart, BoundsEveryPolicyFromStart}
 use Rattle.polcert_optimum.proofs.Common.{BoundEveryObservationPolicyFromStart}
-use Rattle.polcert_cells.specs.Meaning.{actions_of}
 use Rattle.polcert_policy.specs.Graphs.{PolicyGraph, IsProperGraph, nodes}
 use Rattle.polcert_check.specs.Horizon.{Fits}
 use Rattle.polcert_check.specs.Shortfall.{Passes}
 use Rattle.polcert_check.specs.StartWorth.{IsStartWorth}
 use Rattle.polcert_check.proofs.Certificates.{controller_is}
-use Rattle.polcert_check.proofs.Sums.Ring.{linear, below_cancel, *ℤ-+ℤ, *ℤ_assoc, mul_le, ≤ℤ_trans, ≤ℤ_from_eq, neg_product}
+use Rattle.polcert_check.proofs.Sums.Ring.{linear, below_cancel, *ℤ-+ℤ, *ℤ_assoc, mul_le, ≤ℤ_trans, ≤ℤ_from_eq}
 use Rattle.polcert_check.proofs.Sums.SumLaws.{sum_below_le}
 use Rattle.polcert_check.proofs.Horizons.EveryHorizon.{promised}
 use Rattle.polcert_check.proofs.Horizons.StartSums.{mean_le}
 use Rattle.polcert_check.proofs.Mirrors.Interval.{some_row, some_bound}
 use Rattle.polcert_check.proofs.Horizons.Kept.{LacksNone-from_Passes}
-use Rattle.polcert_optimum.specs.Optimum.{start_rewards, EarnsAtLeast, EarnsAtMost, EncloseOptimum}
+use Rattle.polcert_optimum.specs.Optimum.{EarnsAtLeast, EarnsAtMost, EncloseOptimum}
 use Rattle.polcert_optimum.proofs.Bounded.{end_state_in_range}
 use Rattle.polcert_optimum.proofs.EveryGraph.{every_graph}
 use Rattle.polcert_optimum.proofs.GraphPolicies.{earns_as_policy}
@@ -37,14 +36,12 @@ remainder total d b g q h less = omega (arith, mul-le-mul_left (total * q) less)
 pub upper_algebra : (d a b scale : ℕ) (rewards bound : ℤ) → (rewards +ℤ pos a *ℤ neg_ℤ (pos b)) ≤ℤ bound → d * (a * b) ≤ scale
     → (pos d *ℤ rewards) ≤ℤ (pos d *ℤ bound +ℤ pos scale)
 upper_algebra d a b scale rewards bound h less =
-    let negated : pos a *ℤ neg_ℤ (pos b) ≡ neg_ℤ (pos (a * b)) = neg_product (pos a) (pos b) in
-    let below : rewards ≤ℤ (bound +ℤ pos (a * b)) = omega (arith, linear, h, negated) in
+    let below : rewards ≤ℤ (bound +ℤ pos (a * b)) = grind arith in
     omega (arith, linear, *ℤ-+ℤ (pos d) bound (pos (a * b)), mul_le d _ _ below)
 
 lower_algebra : (d a b scale : ℕ) (rewards bound : ℤ) → bound ≤ℤ (rewards +ℤ pos (a * b)) → d * (a * b) ≤ scale
     → (pos d *ℤ bound) ≤ℤ (pos d *ℤ rewards +ℤ pos scale)
-lower_algebra d a b scale rewards bound h less =
-    omega (arith, linear, *ℤ-+ℤ (pos d) rewards (pos (a * b)), mul_le d _ _ h)
+lower_algebra d a b scale rewards bound h less = omega (arith, linear, *ℤ-+ℤ (pos d) rewards (pos (a * b)), mul_le d _ _ h)
 
 -- ---- at most what the bound is worth
 pub at_most_if_bounded : (m : Meaning) (policy : Policy) (end : ℕ → History → ℤ) (b : ℕ) (most : ℤ) → m.preamble.discount < one
@@ -52,25 +49,25 @@ pub at_most_if_bounded : (m : Meaning) (policy : Policy) (end : ℕ → History 
     → ((k : ℕ) → IsBoundedFromStart m end (λ s. policy) k most) → EarnsAtMost m policy most
 at_most_if_bounded m policy end b most less least bounds d some =
     let g : ℕ = m.preamble.discount in (
-      suc (g * (d * b)),
+      _,
       (λ k late.
           let q : ℕ = step_scale (table_of m) ^ k in
           let a : ℕ = start_total m * (g ^ k * q) in
-          let small : d * (a * b) ≤ start_scale m k = remainder (start_total m) d b (g ^ k) q (one ^ k) (vanishes g one (d * b) k less late)
+          let small = remainder _ d b _ q _ (vanishes g one _ k less late)
           in
           ≤ℤ_trans _ _ _
-          (upper_algebra d a b (start_scale m k) (start_rewards m policy k) (pos (start_scale m k) *ℤ most)
-          ((bounds k).rewards (neg_ℤ (pos b)) least) small)
-          (≤ℤ_from_eq _ _ (ap (λ (x : ℤ). x +ℤ pos (start_scale m k)) (sym (*ℤ_assoc (pos d) (pos (start_scale m k)) most))))),
+          (upper_algebra d a b _ _ _
+          ((bounds k).rewards _ least) small)
+          (≤ℤ_from_eq _ _ (cc (*ℤ_assoc (pos d) _ most)))),
     )
 
 pub earns_at_most : (m : Meaning) (vectors : ℕ → ℕ → ℤ) (most : ℤ) → m.preamble.discount < one
     → BoundEveryObservationPolicyFromStart m vectors most
     → (policy : ObservationPolicy) → IsPolicyOf (table_of m) (as_policy policy) → EarnsAtMost m (as_policy policy) most
 earns_at_most m vectors most less bound policy of =
-    let (b, within) = some_bound vectors (actions_of m) (states_of m) in
-    at_most_if_bounded m (as_policy policy) (λ s history. vectors (as_policy policy history) (end_state s history)) b most less
-    (λ s history sl f. at_least _ b (within _ _ (of history f) (end_state_in_range (table_of m) history s sl f)))
+    let (b, within) = some_bound vectors _ _ in
+    at_most_if_bounded m _ _ b most less
+    (λ s history sl f. at_least _ b (within _ _ (of _ f) (end_state_in_range (table_of m) _ s sl f)))
     (bound policy of)
 
 -- a policy that sees the states too
@@ -78,10 +75,10 @@ pub every_policy_earns_at_most : (m : Meaning) (value : ℕ → ℤ) (most : ℤ
     → BoundsEveryPolicyFromStart m value most
     → (policy : Policy) → IsPolicyOf (table_of m) policy → EarnsAtMost m policy most
 every_policy_earns_at_most m value most less bound policy of =
-    let (b, within) = some_row value (states_of m) in
-    at_most_if_bounded m policy (λ s history. value (end_state s history)) b most less
-    (λ s history sl f. at_least _ b (within _ (end_state_in_range (table_of m) history s sl f)))
-    (bound (λ s. policy) (λ s. of))
+    let (b, within) = some_row value _ in
+    at_most_if_bounded m _ _ b most less
+    (λ s history sl f. at_least _ b (within _ (end_state_in_range (table_of m) _ s sl f)))
+    (bound _ (λ s. of))
 
 -- ---- at least what a node is worth
 -- what is at least x times the value at each state, less y times b, is so in the mean
@@ -90,10 +87,9 @@ mean_ge : (m : Meaning) → HasLimitedNumbers m → (x y b : ℕ) (value rewards
     → ((s : ℕ) → s < states_of m → (pos x *ℤ value s) ≤ℤ (rewards s +ℤ pos y *ℤ pos b))
     → (pos (start_total m * x) *ℤ worth) ≤ℤ (sum_over_start m rewards +ℤ pos (start_total m * y * b))
 mean_ge m limits x y b value rewards worth mean each =
-    let apart : sum_over_start m (λ s. rewards s +ℤ pos (y * b)) ≡ sum_over_start m rewards +ℤ pos (start_total m * (y * b)) =
-    sum_more m limits rewards (pos (y * b)) in
     let same : start_total m * (y * b) ≡ start_total m * y * b = omega arith in
-    rw (sym same, sym apart) (mean_le (start_weight m) (start_total m) x (states_of m) worth value (λ s. rewards s +ℤ pos (y * b)) mean
+    rw (sym same, sym (sum_more m limits rewards (pos (y * b))))
+    (mean_le _ _ x _ worth value _ mean
     each)
 
 module _ (m : Meaning) (limits : HasLimitedNumbers m) (g : PolicyGraph) (v : PolicyVectors) (proper : IsProper (table_of m))
@@ -108,31 +104,31 @@ module _ (m : Meaning) (limits : HasLimitedNumbers m) (g : PolicyGraph) (v : Pol
 
   pub earns : EarnsAsItsPolicy c n
   earns =
-      earns_as_policy c (controller_is (table_of m) g v fits proper known) (omega (arith, limits.actions.0))
+      earns_as_policy c (controller_is _ g v fits proper known) (omega arith)
       (LacksNone-from_Passes c passes) n nl
 
   pub earns_at_least : EarnsAtLeast m (as_policy node_policy) worth
   earns_at_least d some =
-      let t : CellTable = table_of m in
+      let t = table_of m in
       let discount : ℕ = m.preamble.discount in
-      let (b, within) = some_bound (value_of v) (nodes g) (states_of m) in (
-        suc (discount * (d * b)),
+      let (b, within) = some_bound (value_of v) _ _ in (
+        _,
         (λ k late.
             let q : ℕ = step_scale t ^ k in
             let x : ℕ = q * one ^ k in
             let y : ℕ = discount ^ k * q in
             let a : ℕ = start_total m * y in
             let each : (s : ℕ) → s < states_of m → (pos x *ℤ value_of v n s) ≤ℤ
-            (expected_rewards t (as_policy node_policy) k s +ℤ pos y *ℤ pos b) =
+            _ =
             λ s sl. subst (λ (r : ℤ). (pos x *ℤ value_of v n s) ≤ℤ (r +ℤ pos y *ℤ pos b)) (earns.earns k s sl)
-            ((promised t g v proper known fits passes k n s nl sl).1.rewarded (pos b) (λ i u il ul. at_most _ b (within i u il ul))) in
-            let mean : (pos (start_scale m k) *ℤ worth) ≤ℤ (start_rewards m (as_policy node_policy) k +ℤ pos (a * b)) =
-            mean_ge m limits x y b (value_of v n) (λ s. expected_rewards t (as_policy node_policy) k s) worth is_worth.0 each in
-            let small : d * (a * b) ≤ start_scale m k = remainder (start_total m) d b (discount ^ k) q (one ^ k)
-            (vanishes discount one (d * b) k less late) in
+            ((promised t g v proper known fits passes k n s nl sl).1.rewarded _ (λ i u il ul. at_most _ b (within i u il ul))) in
+            let mean =
+            mean_ge m limits x y b _ _ worth is_worth.0 each in
+            let small = remainder _ d b _ q _
+            (vanishes _ one _ k less late) in
             ≤ℤ_trans _ _ _
-            (≤ℤ_from_eq _ _ (*ℤ_assoc (pos d) (pos (start_scale m k)) worth))
-            (lower_algebra d a b (start_scale m k) (start_rewards m (as_policy node_policy) k) (pos (start_scale m k) *ℤ worth) mean
+            (≤ℤ_from_eq _ _ (*ℤ_assoc (pos d) (pos _) worth))
+            (lower_algebra d a b _ _ _ mean
             small)),
       )
 
@@ -144,14 +140,14 @@ module _ (m : Meaning) (limits : HasLimitedNumbers m) (g : PolicyGraph) (v : Pol
       → EncloseOptimum m worth most
   encloses vectors informed most mean =
       let a : ℕ = action_of g n in
-      let al : a < actions_of m = (controller_is (table_of m) g v fits proper known).closed.actions_in_range n nl in
-      let values : sum_over_start m (value_of v n) ≤ℤ sum_over_start m (vectors a) =
-      sum_below_le _ _ (states_of m) (λ s sl. mul_le (start_weight m s) _ _
-      (every_graph (table_of m) vectors proper (table_within m limits) less informed g v known fits passes n s nl sl)) in
+      let al = (controller_is _ g v fits proper known).closed.actions_in_range n nl in
+      let values =
+      sum_below_le _ _ _ (λ s sl. mul_le _ _ _
+      (every_graph _ vectors proper (table_within m limits) less informed g v known fits passes n s nl sl)) in
       record {
         policy = node_policy;
         is_policy = earns.is_policy;
         at_least = earns_at_least;
-        at_most = earns_at_most m vectors most less (informed_from_start m limits vectors proper informed most mean);
-        ordered = cancel (start_total m) worth most limits.start_some (≤ℤ_trans _ _ _ is_worth.0 (≤ℤ_trans _ _ _ values (mean a al)));
+        at_most = earns_at_most m vectors most less (informed_from_start m limits _ proper informed most mean);
+        ordered = cancel _ worth most limits.start_some (≤ℤ_trans _ _ _ is_worth.0 (≤ℤ_trans _ _ _ values (mean a al)));
       }

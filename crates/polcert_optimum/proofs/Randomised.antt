@@ -1,12 +1,11 @@
 -- A policy that chooses by chance earns no more than the bound either.
-use Rattle.std.proofs.Common.{◌≡◌, ℕ, zero, suc, ◌*◌, ◌^◌, ◌<◌, ◌≤◌, ℤ, pos, neg_ℤ, ◌+ℤ◌, ◌*ℤ◌, ◌≤ℤ◌, Bool, true, false, [], ◌∷◌, sym, ap}
+use Rattle.std.proofs.Common.{◌≡◌, ℕ, zero, suc, ◌*◌, ◌^◌, ◌<◌, ◌≤◌, ℤ, pos, ◌+ℤ◌, ◌*ℤ◌, ◌≤ℤ◌, Bool, true, false, [], ◌∷◌, sym, ap}
 use Rattle.std.proofs.Common.{◌∙◌, subst, arith}
 use Rattle.std.proofs.Math.Nat.{pow-suc}
-use Rattle.polcert_optimum.proofs.Common.{pow-zero, *ℤ_comm, Meaning, HasLimitedNumbers, states_of, start_weight, start_total, CellTable}
+use Rattle.polcert_optimum.proofs.Common.{pow-zero, *ℤ_comm, Meaning, HasLimitedNumbers, states_of, start_total, CellTable}
 use Rattle.polcert_optimum.proofs.Common.{IsProper, table_of, PolicyVectors, value_of, one, total_below, step_weight, step_scale}
-use Rattle.polcert_optimum.proofs.Common.{AreInformed, greatest_below, expected_reward, expected_value, sum_over_start, AreAtMostFromStart}
+use Rattle.polcert_optimum.proofs.Common.{AreInformed, greatest_below, expected_reward, expected_value, AreAtMostFromStart}
 use Rattle.polcert_cells.specs.Meaning.{actions_of, sum_below}
-use Rattle.polcert_cells.specs.Preamble.{is_mdp}
 use Rattle.polcert_check.proofs.Sums.Ring.{linear, products, sums, mul_le, ≤ℤ_trans, ≤ℤ_from_eq, *ℤ_assoc, *ℤ_left_comm, *ℤ-+ℤ}
 use Rattle.polcert_check.proofs.Sums.RowTotals.{sum_of_pos}
 use Rattle.polcert_check.proofs.Sums.SumLaws.{sum_below_same, sum_below_le, sum_below_scale, sum_below_add}
@@ -14,7 +13,7 @@ use Rattle.polcert_check.proofs.Horizons.Kept.{sum_twice_scale, step_weights_tot
 use Rattle.polcert_check.proofs.Lowerings.Lowering.{sum_twice_add}
 use Rattle.polcert_check.proofs.Mirrors.Interval.{some_bound}
 use Rattle.polcert_optimum.specs.Informed.{informed_backup}
-use Rattle.polcert_optimum.specs.Seen.{IsMostOf, IsBoundStartMost, IsSeenAtMostFromStart, best_at}
+use Rattle.polcert_optimum.specs.Seen.{IsMostOf, IsBoundStartMost, IsSeenAtMostFromStart}
 use Rattle.polcert_optimum.specs.Start.{IsAtMostFromStart}
 use Rattle.polcert_optimum.specs.Randomised.{RandomisedPolicy, IsRandomisedPolicyOf, after_step, mean_of_next, drawn_scale, drawn_total}
 use Rattle.polcert_optimum.specs.Randomised.{drawn_rewards, drawn_with_vectors, BoundEveryRandomisedPolicy, drawn_start_scale}
@@ -31,34 +30,33 @@ use Rattle.polcert_optimum.proofs.Vanishing.{vanishes, at_least}
 -- ---- a mean over the next action
 mean_scale : (t : CellTable) (policy : RandomisedPolicy) (x : ℤ) (f : ℕ → ℤ)
     → mean_of_next t policy (λ a. x *ℤ f a) ≡ x *ℤ mean_of_next t policy f
-mean_scale t policy x f = sum_below_same _ _ t.actions (λ a _. *ℤ_left_comm (pos (policy [] a)) x (f a))
-    ∙ sum_below_scale x (λ a. pos (policy [] a) *ℤ f a) t.actions
+mean_scale t policy x f = sum_below_same _ _ t.actions (λ a _. *ℤ_left_comm (pos _) x (f a)) ∙ sum_below_scale x _ t.actions
 
 mean_mono : (t : CellTable) (policy : RandomisedPolicy) (f g : ℕ → ℤ) → ((a : ℕ) → a < t.actions → f a ≤ℤ g a)
     → mean_of_next t policy f ≤ℤ mean_of_next t policy g
-mean_mono t policy f g each = sum_below_le _ _ t.actions (λ a al. mul_le (policy [] a) _ _ (each a al))
+mean_mono t policy f g each = sum_below_le _ _ _ (λ a al. mul_le _ _ _ (each a al))
 
 mean_of_one : (t : CellTable) (draws : ℕ) (policy : RandomisedPolicy) → sum_below (policy []) t.actions ≡ draws → (x : ℤ)
     → mean_of_next t policy (λ a. x) ≡ pos draws *ℤ x
 mean_of_one t draws policy sums x =
-    sum_below_same _ (λ a. x *ℤ pos (policy [] a)) t.actions (λ a _. *ℤ_comm (pos (policy [] a)) x)
-    ∙ sum_below_scale x (λ a. pos (policy [] a)) t.actions ∙ ap (λ (y : ℤ). x *ℤ y) (sum_of_pos (policy []) t.actions ∙ ap pos sums)
-    ∙ *ℤ_comm x (pos draws)
+    sum_below_same _ _ t.actions (λ a _. *ℤ_comm _ x)
+    ∙ sum_below_scale x _ t.actions ∙ ap (λ (y : ℤ). x *ℤ y) (sum_of_pos _ _ ∙ ap pos sums)
+    ∙ *ℤ_comm x _
 
 mean_at_most : (t : CellTable) (draws : ℕ) (policy : RandomisedPolicy) → sum_below (policy []) t.actions ≡ draws → (f : ℕ → ℤ)
     → mean_of_next t policy f ≤ℤ (pos draws *ℤ greatest_below f t.actions)
 mean_at_most t draws policy sums f =
-    ≤ℤ_trans _ _ _ (mean_mono t policy f (λ a. greatest_below f t.actions) (λ a al. greatest_le f t.actions a al))
-    (≤ℤ_from_eq _ _ (mean_of_one t draws policy sums (greatest_below f t.actions)))
+    ≤ℤ_trans _ _ _ (mean_mono t policy f _ (greatest_le f _))
+    (≤ℤ_from_eq _ _ (mean_of_one t draws policy sums _))
 
 -- a sum of means is a mean of sums
 sum_of_means : (t : CellTable) (policy : RandomisedPolicy) (w : ℕ → ℕ) (f : ℕ → ℕ → ℤ) (n : ℕ)
     → total_below (λ s. pos (w s) *ℤ mean_of_next t policy (λ a. f a s)) n
     ≡ mean_of_next t policy (λ a. total_below (λ s. pos (w s) *ℤ f a s) n)
 sum_of_means t policy w f n =
-    sum_below_same _ _ n (λ s _. sym (mean_scale t policy (pos (w s)) (λ a. f a s)))
-    ∙ swapped (λ s a. pos (policy [] a) *ℤ (pos (w s) *ℤ f a s)) t.actions n
-    ∙ sum_below_same _ _ t.actions (λ a _. sum_below_scale (pos (policy [] a)) (λ s. pos (w s) *ℤ f a s) n)
+    sum_below_same _ _ n (λ s _. sym (mean_scale t policy (pos (w s)) _))
+    ∙ swapped _ t.actions n
+    ∙ sum_below_same _ _ t.actions (λ a _. sum_below_scale (pos _) _ n)
 
 -- ---- one step, after which each observation leads to a mean of vectors
 module _ (t : CellTable) (draws : ℕ) (vectors : ℕ → ℕ → ℤ) (policy : RandomisedPolicy) (a s : ℕ)
@@ -71,19 +69,11 @@ module _ (t : CellTable) (draws : ℕ) (vectors : ℕ → ℕ → ℤ) (policy :
 
   later_le : total_below (λ z. total_below (λ e. pos (step_weight t a s e z) *ℤ next e z) t.states) t.observations ≤ℤ
       (pos draws *ℤ total_below (λ z. greatest_below (λ b. expected_value t a s z (vectors b)) t.actions) t.observations)
-  later_le = ≤ℤ_trans _ _ _
-      (sum_below_le _ (λ z. pos draws *ℤ greatest_below (λ b. expected_value t a s z (vectors b)) t.actions) t.observations
-      (λ z zl. ≤ℤ_trans _ _ _
-      (≤ℤ_from_eq _ _ (sum_of_means t (after_step policy a z) (λ e. step_weight t a s e z) vectors t.states))
-      (mean_at_most t draws (after_step policy a z) (sums z zl) (λ b. expected_value t a s z (vectors b)))))
-      (≤ℤ_from_eq _ _ (sum_below_scale (pos draws) (λ z. greatest_below (λ b. expected_value t a s z (vectors b)) t.actions)
+  later_le = ≤ℤ_trans _ _ _ (sum_below_le _ _ _ (λ z zl. ≤ℤ_trans _ _ _
+      (≤ℤ_from_eq _ _ (sum_of_means t (after_step policy a z) _ _ t.states))
+      (mean_at_most t draws (after_step policy a z) (sums z zl) _)))
+      (≤ℤ_from_eq _ _ (sum_below_scale (pos draws) _
       t.observations))
-
-  reward_is : expected_reward scaled a s ≡ pos draws *ℤ expected_reward t a s
-  reward_is =
-      sum_below_same _ _ t.states (λ e _. sum_below_same _ _ t.observations
-      (λ z _. *ℤ_left_comm (pos (step_weight t a s e z)) (pos draws) (t.r a s e z)))
-      ∙ sum_twice_scale (pos draws) (λ e z. pos (step_weight t a s e z) *ℤ t.r a s e z) t.observations t.states
 
   drawn_backup : total_below (λ e. total_below (λ z. pos (step_weight t a s e z)
       *ℤ (pos one *ℤ (pos draws *ℤ t.r a s e z) +ℤ pos t.discount *ℤ next e z)) t.observations) t.states ≤ℤ
@@ -94,7 +84,14 @@ module _ (t : CellTable) (draws : ℕ) (vectors : ℕ → ℕ → ℤ) (policy :
       let y : ℤ = total_below (λ z. greatest_below (λ b. expected_value t a s z (vectors b)) t.actions) t.observations in
       let same : pos draws *ℤ (u *ℤ x +ℤ pos t.discount *ℤ y) ≡ u *ℤ (pos draws *ℤ x) +ℤ pos t.discount *ℤ (pos draws *ℤ y) =
       simp products in
-      rw (backup_parts scaled next a s, reward_is, same) (omega (arith, linear, mul_le t.discount _ _ later_le))
+      rw (
+        backup_parts scaled next a s,
+        sum_below_same _ _ t.states
+            (λ e _. sum_below_same _ _ t.observations (λ z _. *ℤ_left_comm (pos (step_weight t a s e z)) (pos draws) (t.r a s e z)))
+            ∙ sum_twice_scale (pos draws) _ t.observations t.states,
+        same,
+      )
+      (omega (arith, linear, mul_le t.discount _ _ later_le))
 
 -- ---- k steps
 keeps_algebra : (x w u d g r v : ℤ) → x *ℤ (w *ℤ (u *ℤ (d *ℤ r) +ℤ g *ℤ v)) ≡ w *ℤ ((u *ℤ (d *ℤ x)) *ℤ r +ℤ g *ℤ (x *ℤ v))
@@ -111,13 +108,12 @@ start_algebra t x d m = simp products
 
 keeps : (x w draws g : ℕ) (r later v : ℤ) → later ≤ℤ (pos x *ℤ v)
     → (pos w *ℤ (pos (one * (draws * x)) *ℤ r +ℤ pos g *ℤ later)) ≤ℤ (pos x *ℤ (pos w *ℤ (pos one *ℤ (pos draws *ℤ r) +ℤ pos g *ℤ v)))
-keeps x w draws g r later v h =
-    ≤ℤ_trans _ _ _ (mul_le w _ _ (omega (arith, linear, mul_le g _ _ h)))
-    (≤ℤ_from_eq _ _ (sym (keeps_algebra (pos x) (pos w) (pos one) (pos draws) (pos g) r v)))
+keeps x w draws g r later v h = rw (keeps_algebra (pos x) (pos w) (pos one) (pos draws) (pos g) r v)
+    (mul_le w _ _ (omega (arith, linear, mul_le g _ _ h)))
 
 policy_left : (t : CellTable) (draws : ℕ) (policy : RandomisedPolicy) → IsRandomisedPolicyOf t draws policy → (a z : ℕ) → a < t.actions
     → z < t.observations → IsRandomisedPolicyOf t draws (after_step policy a z)
-policy_left t draws policy of a z al zl history steps = of ((a, z) ∷ history) (al, zl, steps)
+policy_left t draws policy of a z al zl history steps = of _ (al, zl, steps)
 
 module _ (t : CellTable) (p : IsProper t) (draws : ℕ) where
   abbrev scale : ℕ → ℕ
@@ -131,33 +127,25 @@ module _ (t : CellTable) (p : IsProper t) (draws : ℕ) where
         let x : ℕ = scale k in
         let g : ℕ = t.discount in
         let q : ℕ = step_scale t * one in
-        let each : (a : ℕ) → a < t.actions
-        → total_below (λ e. total_below (λ z. pos (step_weight t a s e z)
-        *ℤ (pos (one * (draws * x)) *ℤ t.r a s e z +ℤ pos g *ℤ drawn_with_vectors t draws vectors (after_step policy a z) k e))
-        t.observations) t.states
-        ≤ℤ (pos (x * (draws * q)) *ℤ vectors a s) =
-        λ a al. ≤ℤ_trans _ _ _
-        (sum_below_le _ (λ e. total_below (λ z. pos x *ℤ (pos (step_weight t a s e z)
-        *ℤ (pos one *ℤ (pos draws *ℤ t.r a s e z) +ℤ pos g *ℤ mean_of_next t (after_step policy a z) (λ b. vectors b e)))) t.observations)
-        t.states (λ e el.
-        sum_below_le _ _ t.observations (λ z zl.
-        keeps x (step_weight t a s e z) draws g (t.r a s e z) _ _
-        (drawn_le k (after_step policy a z) (policy_left t draws policy of a z al zl) e el))))
-        (≤ℤ_trans _ _ _
-        (≤ℤ_from_eq _ _ (sum_twice_scale (pos x) (λ e z. pos (step_weight t a s e z)
-        *ℤ (pos one *ℤ (pos draws *ℤ t.r a s e z) +ℤ pos g *ℤ mean_of_next t (after_step policy a z) (λ b. vectors b e))) t.observations
-        t.states))
-        (≤ℤ_trans _ _ _
-        (mul_le x _ _ (≤ℤ_trans _ _ _
-        (drawn_backup t draws vectors policy a s (λ z zl. of ((a, z) ∷ []) (al, zl, tt)))
-        (mul_le draws _ _ (informed_le t vectors a s (informed a s al sl)))))
-        (≤ℤ_from_eq _ _ (sym (*ℤ_assoc (pos x) (pos (draws * q)) (vectors a s)
-        ∙ ap (λ (y : ℤ). pos x *ℤ y) (*ℤ_assoc (pos draws) (pos q) (vectors a s))))))) in
         let more : (draws * step_scale t) ^ suc k * one ^ suc k ≡ x * (draws * q) =
-        rw (pow-suc (draws * step_scale t) k, pow-suc one k) (omega arith) in
-        ≤ℤ_trans _ _ _ (mean_mono t policy _ (λ a. pos (x * (draws * q)) *ℤ vectors a s) each)
-        (≤ℤ_from_eq _ _ (mean_scale t policy (pos (x * (draws * q))) (λ a. vectors a s)
-        ∙ ap (λ (y : ℕ). pos y *ℤ mean_of_next t policy (λ a. vectors a s)) (sym more)))
+        rw (pow-suc _ k, pow-suc one k) (omega arith) in
+        ≤ℤ_trans _ _ _ (mean_mono t policy _ (λ a. pos (x * (draws * q)) *ℤ vectors a s)
+        (λ a al. ≤ℤ_trans _ _ _ (sum_below_le _ _ _
+        (λ e el. sum_below_le _ _ _ (λ z zl. keeps x _ draws g _ _ _
+        (drawn_le k _ (policy_left t draws _ of a z al zl) e el))))
+        (grind (
+          arith,
+          linear,
+          sum_twice_scale (pos x) (λ e z. pos (step_weight t a s e z)
+              *ℤ (pos one *ℤ (pos draws *ℤ t.r a s e z) +ℤ pos g *ℤ mean_of_next t (after_step policy a z) (λ b. vectors b e)))
+              t.observations
+              t.states,
+          mul_le x _ _ (≤ℤ_trans _ _ _ (drawn_backup t draws vectors policy a s (λ z zl. of _ (al, zl, tt)))
+              (mul_le draws _ _ (informed_le t vectors a s (informed a s al sl)))),
+          *ℤ_assoc (pos x) (pos (draws * q)) (vectors a s),
+          *ℤ_assoc (pos draws) (pos q) (vectors a s),
+        ))))
+        (≤ℤ_from_eq _ _ (cc (mean_scale t _ (pos (x * (draws * q))) (λ a. vectors a s), more)))
 
   -- ---- the rewards alone
   abbrev left : ℕ → ℕ
@@ -165,59 +153,52 @@ module _ (t : CellTable) (p : IsProper t) (draws : ℕ) where
 
   low_term : (w c g : ℕ) (r later rewards x : ℤ) → (rewards +ℤ x) ≤ℤ later
       → (pos w *ℤ (pos c *ℤ r +ℤ pos g *ℤ rewards) +ℤ (pos g *ℤ x) *ℤ pos w) ≤ℤ (pos w *ℤ (pos c *ℤ r +ℤ pos g *ℤ later))
-  low_term w c g r later rewards x h =
-      ≤ℤ_trans _ _ _ (≤ℤ_from_eq _ _ (low_algebra (pos w) (pos c) (pos g) r rewards x))
-      (mul_le w _ _ (omega (arith, linear, *ℤ-+ℤ (pos g) rewards x, mul_le g _ _ h)))
+  low_term w c g r later rewards x h = rw (low_algebra (pos w) (pos c) (pos g) r _ x) (mul_le w _ _ (omega (arith, linear, mul_le g _ _ h)))
 
   module _ (end : RandomisedPolicy → ℕ → ℤ) (low : ℤ)
       (least : (policy : RandomisedPolicy) → IsRandomisedPolicyOf t draws policy → (e : ℕ) → e < t.states
       → (pos draws *ℤ low) ≤ℤ end policy e) where
     low_le : (k : ℕ) (policy : RandomisedPolicy) → IsRandomisedPolicyOf t draws policy → (s : ℕ) → s < t.states
         → (drawn_rewards t draws policy k s +ℤ pos (left k) *ℤ low) ≤ℤ drawn_total t draws end policy k s
-    low_le zero policy of s sl = let h = least policy of s sl in grind (arith, linear, pow-zero)
+    low_le zero policy of s sl = let h = least _ of s sl in grind (arith, pow-zero)
     low_le (suc k) policy of s sl =
         let c : ℕ = one * (draws * scale k) in
         let g : ℕ = t.discount in
-        let x : ℤ = pos (left k) *ℤ low in
+        let x : ℤ = pos _ *ℤ low in
         let w = λ (a e z : ℕ). step_weight t a s e z in
-        let rewards = λ (a e z : ℕ). pos (w a e z) *ℤ (pos c *ℤ t.r a s e z +ℤ pos g *ℤ drawn_rewards t draws (after_step policy a z) k e)
+        let rewards = λ (a e z : ℕ). pos (w a e z) *ℤ _
         in
-        let earned = λ (a : ℕ). total_below (λ e. total_below (rewards a e) t.observations) t.states in
-        let each : (a : ℕ) → a < t.actions → (earned a +ℤ (pos g *ℤ x) *ℤ pos (step_scale t))
-        ≤ℤ total_below (λ e. total_below (λ z. pos (w a e z)
-        *ℤ (pos c *ℤ t.r a s e z +ℤ pos g *ℤ drawn_total t draws end (after_step policy a z) k e)) t.observations) t.states =
+        let earned = λ (a : ℕ). total_below _ t.states in
+        let each : (a : ℕ) → a < t.actions → (earned a +ℤ (pos g *ℤ x) *ℤ pos _)
+        ≤ℤ total_below _ t.states =
         λ a al. ≤ℤ_trans _ _ _
-        (≤ℤ_from_eq _ _ (sym (sum_twice_add (rewards a) (λ e z. (pos g *ℤ x) *ℤ pos (w a e z)) t.observations t.states
-        ∙ ap (λ (y : ℤ). earned a +ℤ y) (sum_twice_scale (pos g *ℤ x) (λ e z. pos (w a e z)) t.observations t.states
+        (≤ℤ_from_eq _ _ (sym (sum_twice_add (rewards a) _ t.observations t.states
+        ∙ ap (λ (y : ℤ). earned a +ℤ y) (sum_twice_scale _ _ t.observations t.states
         ∙ ap (λ (y : ℤ). (pos g *ℤ x) *ℤ y) (step_weights_total t p a s al sl)))))
-        (sum_below_le _ _ t.states (λ e el. sum_below_le _ _ t.observations (λ z zl.
-        low_term (w a e z) c g (t.r a s e z) _ _ x (low_le k (after_step policy a z) (policy_left t draws policy of a z al zl) e el)))) in
-        let all : mean_of_next t policy (λ a. earned a +ℤ (pos g *ℤ x) *ℤ pos (step_scale t)) ≡ drawn_rewards t draws policy (suc k) s
-        +ℤ pos draws *ℤ ((pos g *ℤ x) *ℤ pos (step_scale t)) =
-        sum_below_same _ _ t.actions (λ a _. *ℤ-+ℤ (pos (policy [] a)) (earned a) ((pos g *ℤ x) *ℤ pos (step_scale t)))
-        ∙ sum_below_add (λ a. pos (policy [] a) *ℤ earned a) (λ a. pos (policy [] a) *ℤ ((pos g *ℤ x) *ℤ pos (step_scale t))) t.actions
+        (sum_below_le _ _ _ (λ e el. sum_below_le _ _ _ (λ z zl.
+        low_term _ c g _ _ _ x (low_le k _ (policy_left t draws _ of a z al zl) e el)))) in
+        let all =
+        sum_below_same _ _ t.actions (λ a _. *ℤ-+ℤ (pos _) (earned a) _)
+        ∙ sum_below_add _ _ t.actions
         ∙ ap (λ (y : ℤ). drawn_rewards t draws policy (suc k) s +ℤ y)
-        (mean_of_one t draws policy (of [] tt) ((pos g *ℤ x) *ℤ pos (step_scale t))) in
-        let factor : left (suc k) ≡ draws * step_scale t * (g * left k) =
-        rw (pow-suc g k, pow-suc (draws * step_scale t) k) (omega arith) in
-        let same : pos draws *ℤ ((pos g *ℤ (pos (left k) *ℤ low)) *ℤ pos (step_scale t))
-        ≡ (pos draws *ℤ pos (step_scale t) *ℤ (pos g *ℤ pos (left k))) *ℤ low =
-        left_algebra (pos draws) (pos g) (pos (left k)) low (pos (step_scale t)) in
+        (mean_of_one t draws policy (of [] tt) _) in
+        let same =
+        left_algebra (pos draws) (pos g) (pos _) low _ in
         ≤ℤ_trans _ _ _
-        (≤ℤ_from_eq _ _ (ap (λ (y : ℤ). drawn_rewards t draws policy (suc k) s +ℤ y) (ap (λ (y : ℕ). pos y *ℤ low) factor ∙ sym same)
+        (≤ℤ_from_eq _ _ (ap (λ (y : ℤ). drawn_rewards t draws policy (suc k) s +ℤ y)
+        (ap (λ (y : ℕ). pos y *ℤ low) (rw (pow-suc g k, pow-suc _ k) (omega arith)) ∙ sym same)
         ∙ sym all))
         (mean_mono t policy _ _ each)
 
 pub every_randomised_policy : (t : CellTable) → IsProper t → (vectors : ℕ → ℕ → ℤ) → AreInformed t vectors
     → BoundEveryRandomisedPolicy t vectors
 every_randomised_policy t p vectors informed draws policy of k s sl = (
-  drawn_le t p draws vectors informed k policy of s sl,
-  (λ low least. ≤ℤ_trans _ _ _
-      (low_le t p draws (λ left e. mean_of_next t left (λ b. vectors b e)) low
+  drawn_le t p draws _ informed k _ of s sl,
+  (λ low least. ≤ℤ_trans _ _ _ (low_le t p draws _ low
       (λ left is e el. ≤ℤ_trans _ _ _ (≤ℤ_from_eq _ _ (sym (mean_of_one t draws left (is [] tt) low)))
-      (mean_mono t left (λ b. low) (λ b. vectors b e) (λ b bl. least b e bl el)))
-      k policy of s sl)
-      (drawn_le t p draws vectors informed k policy of s sl)),
+      (mean_mono t left _ _ (λ b bl. least b e bl el)))
+      k _ of s sl)
+      (drawn_le t p draws _ informed k _ of s sl)),
 )
 
 -- ---- from a model's start
@@ -232,37 +213,33 @@ module _ (m : Meaning) (limits : HasLimitedNumbers m) (p : IsProper (table_of m)
   from_first_mean policy of mean k =
       let x : ℕ = drawn_scale (table_of m) draws k in
       let total : ℕ = start_total m in
-      let same : pos (total * x) *ℤ (pos draws *ℤ most) ≡ pos (drawn_start_scale m draws k) *ℤ most =
+      let same =
       start_algebra (pos total) (pos x) (pos draws) most in
-      let bounds = λ (s : ℕ) (sl : s < states_of m). every_randomised_policy (table_of m) p vectors informed draws (policy s) (of s sl) k s
+      let bounds = λ (s : ℕ) (sl : s < states_of m). every_randomised_policy _ p _ informed draws _ (of s sl) k s
       sl in
       record {
-        total = ≤ℤ_trans _ _ _ (sum_le m x (λ s. drawn_with_vectors (table_of m) draws vectors (policy s) k s) (first_mean policy)
-            (pos draws *ℤ most) (λ s sl. (bounds s sl).0) mean) (≤ℤ_from_eq _ _ same);
-        rewards = λ low least. ≤ℤ_trans _ _ _
-            (rewards_le m limits x (left (table_of m) p draws k) low (λ s. drawn_rewards (table_of m) draws (policy s) k s)
-            (first_mean policy) (pos draws *ℤ most) (λ s sl. (bounds s sl).1 low least) mean)
-            (≤ℤ_from_eq _ _ same);
+        total = ≤ℤ_trans _ _ _ (sum_le m x _ _ _ (λ s sl. (bounds s sl).0) mean) (≤ℤ_from_eq _ _ same);
+        rewards = λ low least. omega (arith, linear, rewards_le m limits x _ low _ _ _ (λ s sl. (bounds s sl).1 low least) mean);
       }
 
   mean_of_each : AreAtMostFromStart m vectors most → (policy : RandomisedPolicy) → IsRandomisedPolicyOf (table_of m) draws policy
       → IsAtMostFromStart m (first_mean (λ s. policy)) (pos draws *ℤ most)
   mean_of_each mean policy of =
-      ≤ℤ_trans _ _ _ (≤ℤ_from_eq _ _ (sum_of_means (table_of m) policy (start_weight m) vectors (states_of m)))
-      (≤ℤ_trans _ _ _ (mean_mono (table_of m) policy _ (λ a. pos (start_total m) *ℤ most) mean)
-      (≤ℤ_from_eq _ _ (mean_of_one (table_of m) draws policy (of [] tt) (pos (start_total m) *ℤ most)
-      ∙ *ℤ_left_comm (pos draws) (pos (start_total m)) most)))
+      ≤ℤ_trans _ _ _ (≤ℤ_from_eq _ _ (sum_of_means (table_of m) policy _ _ (states_of m)))
+      (≤ℤ_trans _ _ _ (mean_mono (table_of m) policy _ _ mean)
+      (≤ℤ_from_eq _ _ (mean_of_one (table_of m) draws policy (of [] tt) _
+      ∙ *ℤ_left_comm (pos draws) (pos _) most)))
 
   mean_of_best : IsSeenAtMostFromStart m vectors most → (policy : ℕ → RandomisedPolicy)
       → ((s : ℕ) → s < states_of m → IsRandomisedPolicyOf (table_of m) draws (policy s))
       → IsAtMostFromStart m (first_mean policy) (pos draws *ℤ most)
   mean_of_best mean policy of =
       ≤ℤ_trans _ _ _
-      (sum_below_le _ (λ s. pos draws *ℤ (pos (start_weight m s) *ℤ best_at m vectors s)) (states_of m) (λ s sl. ≤ℤ_trans _ _ _
-      (mul_le (start_weight m s) _ _ (mean_at_most (table_of m) draws (policy s) (of s sl [] tt) (λ a. vectors a s)))
-      (≤ℤ_from_eq _ _ (*ℤ_left_comm (pos (start_weight m s)) (pos draws) (best_at m vectors s)))))
-      (≤ℤ_trans _ _ _ (≤ℤ_from_eq _ _ (sum_below_scale (pos draws) (λ s. pos (start_weight m s) *ℤ best_at m vectors s) (states_of m)))
-      (≤ℤ_trans _ _ _ (mul_le draws _ _ mean) (≤ℤ_from_eq _ _ (*ℤ_left_comm (pos draws) (pos (start_total m)) most))))
+      (sum_below_le _ _ _ (λ s sl. ≤ℤ_trans _ _ _
+      (mul_le _ _ _ (mean_at_most (table_of m) draws (policy s) (of s sl [] tt) _))
+      (≤ℤ_from_eq _ _ (*ℤ_left_comm (pos _) (pos draws) _))))
+      (≤ℤ_trans _ _ _ (≤ℤ_from_eq _ _ (sum_below_scale (pos draws) _ (states_of m)))
+      (≤ℤ_trans _ _ _ (mul_le draws _ _ mean) (≤ℤ_from_eq _ _ (*ℤ_left_comm (pos draws) (pos _) most))))
 
 -- ---- in the long run
 long_run : (m : Meaning) → IsProper (table_of m) → (vectors : ℕ → ℕ → ℤ) (most : ℤ) (draws : ℕ) (policy : ℕ → RandomisedPolicy)
@@ -270,36 +247,36 @@ long_run : (m : Meaning) → IsProper (table_of m) → (vectors : ℕ → ℕ �
     → DrawnEarnsAtMost m draws policy most
 long_run m p vectors most draws policy less bounds d some =
     let g : ℕ = m.preamble.discount in
-    let (b, within) = some_bound vectors (actions_of m) (states_of m) in (
-      suc (g * (d * b)),
+    let (b, within) = some_bound vectors _ _ in (
+      _,
       (λ k late.
           let q : ℕ = (draws * step_scale (table_of m)) ^ k in
           let scale : ℕ = drawn_start_scale m draws k in
           let a : ℕ = start_total m * (g ^ k * (draws * q)) in
           let same : start_total m * (draws * q * one ^ k) ≡ scale = omega arith in
-          let small : d * (a * b) ≤ scale = subst (λ (n : ℕ). d * (a * b) ≤ n) same
-          (remainder (start_total m) d b (g ^ k) (draws * q) (one ^ k) (vanishes g one (d * b) k less late)) in
+          let small = subst (λ (n : ℕ). d * (a * b) ≤ n) same
+          (remainder _ d b _ _ _ (vanishes g one _ k less late)) in
           ≤ℤ_trans _ _ _
-          (upper_algebra d a b scale (sum_over_start m (λ s. drawn_rewards (table_of m) draws (policy s) k s)) (pos scale *ℤ most)
-          ((bounds k).rewards (neg_ℤ (pos b)) (λ i s il sl. at_least _ b (within i s il sl))) small)
-          (≤ℤ_from_eq _ _ (ap (λ (x : ℤ). x +ℤ pos scale) (sym (*ℤ_assoc (pos d) (pos scale) most))))),
+          (upper_algebra d a b scale _ _
+          ((bounds k).rewards _ (λ i s il sl. at_least _ b (within i s il sl))) small)
+          (≤ℤ_from_eq _ _ (cc (*ℤ_assoc (pos d) (pos scale) most)))),
     )
 
 -- ---- by whether the model is an MDP
 module _ (m : Meaning) (limits : HasLimitedNumbers m) (p : IsProper (table_of m)) (v : PolicyVectors) (same : v.nodes ≡ actions_of m)
     (informed : AreInformed (table_of m) (value_of v)) (most : ℤ) where
   bound_of_kind : (mdp : Bool) → IsMostOf mdp m v most → BoundRandomisedOf mdp m (value_of v) most
-  bound_of_kind true is = λ draws policy of. from_first_mean m limits p (value_of v) informed most draws policy of
-      (mean_of_best m limits p (value_of v) informed most draws (number_is m v most same is) policy of)
-  bound_of_kind false is = λ draws policy of. from_first_mean m limits p (value_of v) informed most draws (λ s. policy) (λ s sl. of)
-      (mean_of_each m limits p (value_of v) informed most draws (mean_of_kind m v same most false is) policy of)
+  bound_of_kind true is = λ draws policy of. from_first_mean m limits p _ informed most draws _ of
+      (mean_of_best m limits p _ informed most draws (number_is m v most same is) _ of)
+  bound_of_kind false is = λ draws policy of. from_first_mean m limits p _ informed most draws _ (λ s sl. of)
+      (mean_of_each m limits p _ informed most draws (mean_of_kind m v same most false is) _ of)
 
   pub model_randomised : IsBoundStartMost m v most → BoundRandomisedPoliciesOfModel m (value_of v) most
-  model_randomised = bound_of_kind (is_mdp m.preamble)
+  model_randomised = bound_of_kind _
 
   earned_of_kind : m.preamble.discount < one → (mdp : Bool) → BoundRandomisedOf mdp m (value_of v) most → RandomisedEarnAtMost mdp m most
-  earned_of_kind less true bound = λ draws policy of. long_run m p (value_of v) most draws policy less (bound draws policy of)
-  earned_of_kind less false bound = λ draws policy of. long_run m p (value_of v) most draws (λ s. policy) less (bound draws policy of)
+  earned_of_kind less true bound = λ draws policy of. long_run m p _ most draws _ less (bound draws _ of)
+  earned_of_kind less false bound = λ draws policy of. long_run m p _ most draws _ less (bound draws _ of)
 
   pub model_randomised_earn : m.preamble.discount < one → IsBoundStartMost m v most → RandomisedPoliciesOfModelEarnAtMost m most
-  model_randomised_earn less is = earned_of_kind less (is_mdp m.preamble) (model_randomised is)
+  model_randomised_earn less is = earned_of_kind less _ (model_randomised is)

@@ -1,8 +1,8 @@
 -- Policies that see the start state too: the bounds from the start, and that no smaller number bounds them.
-use Rattle.std.proofs.Common.{◌≡◌, ℕ, ◌*◌, ◌^◌, ◌<◌, ℤ, pos, neg_ℤ, ◌*ℤ◌, ◌≤ℤ◌, [], sym, ap, ◌∙◌, subst, arith}
-use Rattle.polcert_optimum.proofs.Common.{pow-zero, Meaning, HasLimitedNumbers, states_of, start_weight, start_total, IsProper, table_of}
+use Rattle.std.proofs.Common.{◌≡◌, ℕ, ◌<◌, ℤ, pos, ◌*ℤ◌, ◌≤ℤ◌, [], ap, arith}
+use Rattle.polcert_optimum.proofs.Common.{pow-zero, Meaning, HasLimitedNumbers, states_of, IsProper, table_of}
 use Rattle.polcert_optimum.proofs.Common.{CellTable, PolicyVectors, value_of, controller_of, one, History, end_state, Policy, as_policy}
-use Rattle.polcert_optimum.proofs.Common.{step_scale, expected_total, AreInformed, IsBounded, greatest_below, sum_over_start, start_scale}
+use Rattle.polcert_optimum.proofs.Common.{AreInformed, IsBounded}
 use Rattle.polcert_optimum.proofs.Common.{AreAtMostFromStart}
 use Rattle.polcert_cells.specs.Meaning.{actions_of}
 use Rattle.polcert_policy.specs.Graphs.{PolicyGraph, IsProperGraph, nodes}
@@ -12,7 +12,7 @@ use Rattle.polcert_check.specs.StartWorth.{IsStartWorth}
 use Rattle.polcert_check.proofs.Sums.Ring.{mul_le, ≤ℤ_trans, ≤ℤ_from_eq}
 use Rattle.polcert_check.proofs.Sums.SumLaws.{sum_below_le, sum_below_same}
 use Rattle.polcert_check.proofs.Mirrors.Interval.{some_bound}
-use Rattle.polcert_optimum.specs.Seen.{SeenPolicy, IsSeenPolicyOf, best_at, IsSeenAtMostFromStart, BoundEverySeenPolicyFromStart}
+use Rattle.polcert_optimum.specs.Seen.{SeenPolicy, IsSeenPolicyOf, IsSeenAtMostFromStart, BoundEverySeenPolicyFromStart}
 use Rattle.polcert_optimum.specs.Seen.{BoundEverySeenMixtureFromStart, SeenEarnsAtMost, EncloseSeenOptimum, IsSeenStartMost}
 use Rattle.polcert_optimum.proofs.Bounded.{end_state_in_range}
 use Rattle.polcert_optimum.proofs.Steps.{expected_total_zero}
@@ -32,8 +32,8 @@ bounded_more : (t : CellTable) (end : History → ℤ) (v w : ℤ) (policy : Pol
     → IsBounded t end w policy k s
 bounded_more t end v w policy k s le h = record {
   weights = h.weights;
-  total = more_le (step_scale t ^ k * one ^ k) v w _ le h.total;
-  rewards = λ m least. more_le (step_scale t ^ k * one ^ k) v w _ le (h.rewards m least);
+  total = more_le _ v w _ le h.total;
+  rewards = λ m least. more_le _ v w _ le (h.rewards m least);
 }
 
 -- ---- the bound from the start
@@ -41,73 +41,67 @@ module _ (m : Meaning) (limits : HasLimitedNumbers m) (vectors : ℕ → ℕ →
     (informed : AreInformed (table_of m) vectors) (most : ℤ) (mean : IsSeenAtMostFromStart m vectors most) where
   pub seen_from_start : BoundEverySeenPolicyFromStart m vectors most
   seen_from_start policy of k =
-      from_each m limits (λ s history. vectors (as_policy (policy s) history) (end_state s history)) (best_at m vectors)
-      (λ s. as_policy (policy s)) k most
-      (λ s sl. bounded_more (table_of m) (λ history. vectors (as_policy (policy s) history) (end_state s history)) (vectors (policy s []) s)
-      (best_at m vectors s) (as_policy (policy s)) k s
-      (greatest_le (λ a. vectors a s) (actions_of m) (policy s []) (of s sl [] tt))
-      (every_observation_policy (table_of m) vectors p informed (policy s) (of s sl) k s sl))
+      from_each m limits _ _
+      _ k most
+      (λ s sl. bounded_more _ _ _
+      _ _ k s
+      (greatest_le (λ a. vectors a s) _ _ (of s sl [] tt))
+      (every_observation_policy _ vectors p informed (policy s) (of s sl) k s sl))
       mean
 
   pub seen_mixtures : BoundEverySeenMixtureFromStart m vectors most
   seen_mixtures mixture of k =
-      mixture_le (IsSeenPolicyOf m) (λ policy. sum_over_start m
-      (λ s. expected_total (table_of m) (λ history. vectors (as_policy (policy s) history) (end_state s history)) (as_policy (policy s)) k
-      s)) (pos (start_scale m k) *ℤ most)
-      (λ policy is. (seen_from_start policy is k).total) mixture of
+      mixture_le _ _ _
+      (λ policy is. (seen_from_start policy is k).total) _ of
 
   pub seen_earns_at_most : m.preamble.discount < one → (policy : SeenPolicy) → IsSeenPolicyOf m policy
       → SeenEarnsAtMost m (λ s. as_policy (policy s)) most
   seen_earns_at_most less policy of =
-      let (b, within) = some_bound vectors (actions_of m) (states_of m) in
-      at_most_if_less m (λ s. as_policy (policy s)) b most less
-      (λ k. (seen_from_start policy of k).rewards (neg_ℤ (pos b))
-      (λ s history sl f. at_least _ b (within _ _ (of s sl history f) (end_state_in_range (table_of m) history s sl f))))
+      let (b, within) = some_bound vectors _ _ in
+      at_most_if_less m _ b most less
+      (λ k. (seen_from_start policy of k).rewards _
+      (λ s history sl f. at_least _ b (within _ _ (of s sl _ f) (end_state_in_range (table_of m) _ s sl f))))
 
--- ---- it bounds what the means of the vectors bound
-pub each_at_most : (m : Meaning) (vectors : ℕ → ℕ → ℤ) (most : ℤ) → IsSeenAtMostFromStart m vectors most → AreAtMostFromStart m vectors most
-each_at_most m vectors most mean a al =
-    ≤ℤ_trans _ _ _ (sum_below_le _ _ (states_of m) (λ s sl. mul_le (start_weight m s) _ _
-    (greatest_le (λ b. vectors b s) (actions_of m) a al))) mean
+module _ (m : Meaning) where
+  -- ---- it bounds what the means of the vectors bound
+  pub each_at_most : (vectors : ℕ → ℕ → ℤ) (most : ℤ) → IsSeenAtMostFromStart m vectors most → AreAtMostFromStart m vectors most
+  each_at_most vectors most mean a al =
+      ≤ℤ_trans _ _ _ (sum_below_le _ _ (states_of m) (λ s sl. mul_le _ _ _
+      (greatest_le (λ b. vectors b s) _ a al))) mean
 
--- ---- only then: the policy that takes the best action of each start state, for no step
-no_scale : (total : ℕ) (q : ℕ) → total * (q ^ 0 * one ^ 0) ≡ total
-no_scale total q = grind (arith, pow-zero)
+  -- ---- only then: the policy that takes the best action of each start state, for no step
+  pub seen_only_then : HasLimitedNumbers m → (vectors : ℕ → ℕ → ℤ) (most : ℤ) → BoundEverySeenPolicyFromStart m vectors most
+      → IsSeenAtMostFromStart m vectors most
+  seen_only_then limits vectors most bound =
+      let best = λ (s : ℕ). greatest_reached (λ a. vectors a s) _ (omega arith) in
+      let policy : SeenPolicy = λ s observations. (best s).0 in
+      let none = (bound policy (λ s sl history f. (best s).1) 0).total in
+      ≤ℤ_trans _ _ _ (≤ℤ_from_eq _ _ (sum_below_same _ _ (states_of m)
+      (λ s sl. cc (
+        (best s).2,
+        expected_total_zero (table_of m) (λ history. vectors (as_policy (policy s) history) (end_state s history))
+            (as_policy (policy s)) s,
+      )))) (≤ℤ_trans _ _ _ none
+      (≤ℤ_from_eq _ _ (ap (λ (x : ℕ). pos x *ℤ most) (grind (arith, pow-zero)))))
 
-pub seen_only_then : (m : Meaning) → HasLimitedNumbers m → (vectors : ℕ → ℕ → ℤ) (most : ℤ) → BoundEverySeenPolicyFromStart m vectors most
-    → IsSeenAtMostFromStart m vectors most
-seen_only_then m limits vectors most bound =
-    let best = λ (s : ℕ). greatest_reached (λ a. vectors a s) (actions_of m) (omega (arith, limits.actions.0)) in
-    let policy : SeenPolicy = λ s observations. (best s).0 in
-    let none : sum_over_start m (λ s. expected_total (table_of m) (λ history. vectors (as_policy (policy s) history) (end_state s history))
-    (as_policy (policy s)) 0 s) ≤ℤ (pos (start_scale m 0) *ℤ most) = (bound policy (λ s sl history f. (best s).1) 0).total in
-    let same : sum_over_start m (best_at m vectors) ≡ sum_over_start m
-    (λ s. expected_total (table_of m) (λ history. vectors (as_policy (policy s) history) (end_state s history)) (as_policy (policy s)) 0
-    s) =
-    sum_below_same _ _ (states_of m) (λ s sl. ap (λ (x : ℤ). pos (start_weight m s) *ℤ x)
-    (sym (best s).2 ∙ sym (expected_total_zero (table_of m) (λ history. vectors (as_policy (policy s) history) (end_state s history))
-    (as_policy (policy s)) s))) in
-    ≤ℤ_trans _ _ _ (≤ℤ_from_eq _ _ same) (≤ℤ_trans _ _ _ none
-    (≤ℤ_from_eq _ _ (ap (λ (x : ℕ). pos x *ℤ most) (no_scale (start_total m) (step_scale (table_of m))))))
+  -- ---- the optimum between both
+  pub encloses_seen : HasLimitedNumbers m → (g : PolicyGraph) (v : PolicyVectors) → IsProper (table_of m) → IsProperGraph g
+      → Fits (table_of m) g v → Passes (controller_of (table_of m) g v) → m.preamble.discount < one
+      → (n : ℕ) → n < nodes g → (worth : ℤ) → IsStartWorth m v n worth → (vectors : ℕ → ℕ → ℤ) → AreInformed (table_of m) vectors
+      → (most : ℤ)
+      → IsSeenAtMostFromStart m vectors most → EncloseSeenOptimum m worth most
+  encloses_seen limits g v proper known fits passes less n nl worth is vectors informed most mean =
+      let enclosed = encloses m limits g v proper known fits passes less n nl worth is vectors informed most
+      (each_at_most _ most mean) in
+      record {
+        policy = λ s. enclosed.policy;
+        is_policy = λ s sl. enclosed.is_policy;
+        at_least = enclosed.at_least;
+        at_most = seen_earns_at_most m limits vectors proper informed most mean less;
+        ordered = enclosed.ordered;
+      }
 
--- ---- the optimum between both
-pub encloses_seen : (m : Meaning) → HasLimitedNumbers m → (g : PolicyGraph) (v : PolicyVectors) → IsProper (table_of m) → IsProperGraph g
-    → Fits (table_of m) g v → Passes (controller_of (table_of m) g v) → m.preamble.discount < one
-    → (n : ℕ) → n < nodes g → (worth : ℤ) → IsStartWorth m v n worth → (vectors : ℕ → ℕ → ℤ) → AreInformed (table_of m) vectors → (most : ℤ)
-    → IsSeenAtMostFromStart m vectors most → EncloseSeenOptimum m worth most
-encloses_seen m limits g v proper known fits passes less n nl worth is vectors informed most mean =
-    let enclosed = encloses m limits g v proper known fits passes less n nl worth is vectors informed most
-    (each_at_most m vectors most mean) in
-    record {
-      policy = λ s. enclosed.policy;
-      is_policy = λ s sl. enclosed.is_policy;
-      at_least = enclosed.at_least;
-      at_most = seen_earns_at_most m limits vectors proper informed most mean less;
-      ordered = enclosed.ordered;
-    }
-
--- ---- the number
-pub number_is : (m : Meaning) (v : PolicyVectors) (most : ℤ) → v.nodes ≡ actions_of m → IsSeenStartMost m v most
-    → IsSeenAtMostFromStart m (value_of v) most
-number_is m v most same is =
-    subst (λ (n : ℕ). sum_over_start m (λ s. greatest_below (λ a. value_of v a s) n) ≤ℤ (pos (start_total m) *ℤ most)) same is.0
+  -- ---- the number
+  pub number_is : (v : PolicyVectors) (most : ℤ) → v.nodes ≡ actions_of m → IsSeenStartMost m v most
+      → IsSeenAtMostFromStart m (value_of v) most
+  number_is v most same is = rw (← same) is.0

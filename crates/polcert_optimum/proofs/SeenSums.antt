@@ -16,24 +16,19 @@ pub one_value_more : (f : ℕ → ℤ) (n most : ℕ) (g x y : ℤ) → 0 < n �
     → unsigned_abs (f n) ≤ most → x ≡ int_max g y
     → (x ≡ greatest_below f (n + 1)) × (unsigned_abs x ≤ most)
 one_value_more f n most g x y some before small is within max =
-    let whole : x ≡ int_max (greatest_below f n) (f n) = rw (sym before, sym is) max in
-    (whole ∙ sym (greatest_more f n some), rw max (max_small g y most small (rw is within)))
+    ((rw (sym before, sym is) max) ∙ sym (greatest_more f n some), rw max (max_small g y most small (rw is within)))
 
 module _ (m : Meaning) (v : PolicyVectors) (limits : HasLimitedNumbers m) (proper : AreProperVectors v) (same : v.states ≡ states_of m)
   where
     abbrev pub best : ℕ → ℤ
     best s = greatest_below (λ n. value_of v n s) v.nodes
 
-    best_within : (s : ℕ) → s < states_of m → unsigned_abs (best s) ≤ largest
-    best_within s sl =
-        let (n, nl, is) = greatest_reached (λ n. value_of v n s) v.nodes proper.some_nodes in
-        rw (sym is) (value_is_within v proper n s nl (omega (arith, sl, same)))
-
     pub best_part_le : (i : ℕ) → i ≤ states_of m → unsigned_abs (total_below (λ s. pos (start_weight m s) *ℤ best s) i) ≤ start_total m
         * largest
     best_part_le i il =
-        abs_part_le (λ s. pos (start_weight m s) *ℤ best s) (start_weight m) largest i (states_of m) (start_total m) (start_row m limits) il
-        (λ s sl. term_small (start_weight m s) (best s) (best_within s sl))
+        abs_part_le _ _ _ i _ _ (start_row m limits) il
+        (λ s sl. term_small _ _ (let (n, nl, is) = greatest_reached (λ n. value_of v n s) _ proper.some_nodes in
+        rw (sym is) (value_is_within v proper n s nl (omega arith))))
 
     -- the code's sum takes one more term
     pub best_step : (s share : ℕ) (value x total : ℤ) → s < states_of m → share ≡ start_weight m s → value ≡ best s → FitsSigned w64 value
@@ -41,10 +36,10 @@ module _ (m : Meaning) (v : PolicyVectors) (limits : HasLimitedNumbers m) (prope
         → FitsSigned w128 (total +ℤ to_z w128 (of_z w128 x))
         × (to_z w128 (of_z w128 (total +ℤ to_z w128 (of_z w128 x))) ≡ total_below (λ i. pos (start_weight m i) *ℤ best i) (s + 1))
     best_step s share value x total sl share_is value_is fv fx x_is before =
-        let here : to_z w128 (of_z w128 x) ≡ pos (start_weight m s) *ℤ best s = to_z-of_z w128 x fx ∙ x_is
+        let here : to_z w128 _ ≡ pos (start_weight m s) *ℤ best s = to_z-of_z w128 x fx ∙ x_is
         ∙ rw (to_z-of_z w64 value fv, share_is, value_is) refl in
-        let next : total +ℤ to_z w128 (of_z w128 x) ≡ total_below (λ i. pos (start_weight m i) *ℤ best i) (s + 1) =
-        rw add-one (rw (before, here) refl) in
-        let fits : FitsSigned w128 (total +ℤ to_z w128 (of_z w128 x)) =
-        rw next (start_fits (start_total m) _ limits.start_most (best_part_le (s + 1) (omega (arith, sl)))) in
+        let next : total +ℤ to_z w128 _ ≡ total_below (λ i. pos (start_weight m i) *ℤ best i) (s + 1) =
+        rw add-one (cc) in
+        let fits : FitsSigned w128 _ =
+        rw next (start_fits _ _ limits.start_most (best_part_le (s + 1) (omega arith))) in
         (fits, to_z-of_z w128 _ fits ∙ next)

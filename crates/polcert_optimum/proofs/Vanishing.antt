@@ -13,14 +13,14 @@ growth g (suc k) = grind (arith, pow-suc, pow-le-pow_left, growth_step, growth g
 
 -- so g ^ k * x is at most u ^ k from some k on, for every u above g
 grown : (g x k p q r : ℕ) → k * p ≤ suc g * q → q ≤ r → suc g * x ≤ k → suc g * (p * x) ≤ suc g * r
-grown g x k p q r first wider few = omega (arith, first, mul-le-mul_left (suc g) wider, mul-le-mul_right p few)
+grown g x k p q r first wider few = omega (arith, mul-le-mul_left (suc g) wider, mul-le-mul_right p few)
 
 pub vanishes : (g u x k : ℕ) → g < u → suc (g * x) ≤ k → g ^ k * x ≤ u ^ k
 vanishes zero u x zero l h = absurd (omega arith)
 vanishes zero u x (suc k) l h = rw (pow-suc 0 k) (omega arith)
 vanishes (suc g) u x k l h =
-    le_of_mul-le-mul_left {k = suc g} (grown g x k (suc g ^ k) (suc (suc g) ^ k) (u ^ k) (growth (suc g) k) (pow-le-pow_left l k)
-    (omega (arith, h))) (omega arith)
+    le_of_mul-le-mul_left {k = suc g} (grown g x k _ _ _ (growth _ k) (pow-le-pow_left l k)
+    (omega arith)) (omega arith)
 
 -- ---- values within a bound
 pub at_least : (x : ℤ) (b : ℕ) → unsigned_abs x ≤ b → neg_ℤ (pos b) ≤ℤ x

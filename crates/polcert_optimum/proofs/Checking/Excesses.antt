@@ -1,5 +1,5 @@
 -- The greatest excess of the actions and states so far: one more at a time.
-use Rattle.std.proofs.Common.{◌≡◌, ℕ, ◌+◌, ◌<◌, ◌≤◌, inl, inr, ⊎_elim, ℤ, pos, ◌≤ℤ◌, unsigned_abs, sym, subst, arith}
+use Rattle.std.proofs.Common.{◌≡◌, ℕ, ◌+◌, ◌<◌, ◌≤◌, inl, inr, ⊎_elim, ℤ, pos, ◌≤ℤ◌, unsigned_abs, subst, arith}
 use Rattle.polcert_optimum.proofs.Common.{int_max, cases_lt, ints, CellTable, IsProper, IsWithinLimits, largest, excess, most_excess}
 use Rattle.polcert_optimum.proofs.Common.{IsGreatestExcess}
 use Rattle.polcert_check.specs.Verdict.{IsBefore}
@@ -13,12 +13,12 @@ module _ (t : CellTable) (vectors : ℕ → ℕ → ℤ) where
         → excess t vectors b u ≤ℤ int_max x y
     above y is b u bl ul earlier =
         ⊎_elim (λ (l : b < a). ≤ℤ_trans _ _ _ (before.bounds b u bl ul (inl l)) (max_left x y))
-        (λ (h : (b ≡ a) × (u < s + 1)). ⊎_elim
+        (λ (h : _ × (u < s + 1)). ⊎_elim
         (λ (k : u < s). ≤ℤ_trans _ _ _ (before.bounds b u bl ul (inr (h.0, k))) (max_left x y))
         (λ (k : s ≤ u).
-        let e : s ≡ u = omega (arith, k, h.1) in
-        let here : excess t vectors a s ≤ℤ int_max x y = subst (λ (v : ℤ). v ≤ℤ int_max x y) is (max_right x y) in
-        subst (λ (c : ℕ). excess t vectors c u ≤ℤ int_max x y) (sym h.0) (subst (λ (v : ℕ). excess t vectors a v ≤ℤ int_max x y) e here))
+        let e : s ≡ u = omega arith in
+        let here = subst (λ (v : ℤ). v ≤ℤ int_max x y) is (max_right x y) in
+        rw h.0 (rw (← e) here))
         (cases_lt u s))
         earlier
 

@@ -6,10 +6,8 @@ module _ (w : ℕ → ℕ) (P : ℕ → Type 0) (from to : ℕ) (none : (k : ℕ
     (before : (k : ℕ) → k < from → 0 < w k → P k) where
   -- no weight up to a place further on
   pub reached_on : (k : ℕ) → k < to → 0 < w k → P k
-  reached_on k kl some = ⊎_elim (λ (l : k < from). before k l some)
-      (λ (h : from ≤ k). absurd (omega (arith, none k h kl, some))) (cases_lt k from)
+  reached_on k kl some = ⊎_elim (λ (l : k < from). before k l some) (λ (h : from ≤ k). absurd (omega arith)) (cases_lt k from)
 
   -- and one more there
   pub reached_more : P to → (k : ℕ) → k < to + 1 → 0 < w k → P k
-  reached_more here k kl some = ⊎_elim (λ (l : k < to). reached_on k l some)
-      (λ (h : to ≤ k). let e : to ≡ k = omega (arith, h, kl) in subst P e here) (cases_lt k to)
+  reached_more here k kl some = ⊎_elim (λ (l : k < to). reached_on k l some) (λ (h : to ≤ k). subst P (omega arith) here) (cases_lt k to)

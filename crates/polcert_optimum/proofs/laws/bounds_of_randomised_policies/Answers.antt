@@ -3,7 +3,7 @@ use Rattle.polcert_optimum.proofs.laws.bounds_of_randomised_policies.Goals as go
 
 pub returns : goal.returns
 returns c = record {
-  each = λ t vectors p informed. every_randomised_policy t p vectors informed;
-  start = λ m v most limits p same informed is. model_randomised m limits p v same informed most is;
-  long_run = λ m v most limits p same informed less is. model_randomised_earn m limits p v same informed most less is;
+  each = λ t vectors p. every_randomised_policy t p _;
+  start = λ m v most limits p same informed. model_randomised m limits p v same informed most;
+  long_run = λ m v most limits p same informed. model_randomised_earn m limits p v same informed most;
 }

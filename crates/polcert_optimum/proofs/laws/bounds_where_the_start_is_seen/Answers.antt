@@ -3,9 +3,9 @@ use Rattle.polcert_optimum.proofs.laws.bounds_where_the_start_is_seen.Goals as g
 
 pub returns : goal.returns
 returns c = record {
-  policies = λ m vectors most limits proper informed mean. seen_from_start m limits vectors proper informed most mean;
-  mixtures = λ m vectors most limits proper informed mean. seen_mixtures m limits vectors proper informed most mean;
-  only_then = λ m vectors most limits bound. seen_only_then m limits vectors most bound;
+  policies = λ m vectors most limits proper informed. seen_from_start m limits vectors proper informed most;
+  mixtures = λ m vectors most limits proper informed. seen_mixtures m limits vectors proper informed most;
+  only_then = λ m vectors most limits. seen_only_then m limits vectors most;
   each = each_at_most;
   number = number_is;
 }

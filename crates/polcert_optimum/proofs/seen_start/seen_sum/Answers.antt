@@ -1,24 +1,23 @@
-use Rattle.std.proofs.Common.{rules, arith, to_z}
-use Rattle.polcert_optimum.proofs.Common.{w128, Meaning}
+use Rattle.std.proofs.Common.{rules, arith}
 use Rattle.polcert_model.specs.Contents.{meaning}
 use Rattle.polcert_optimum.proofs.SeenSums.{best_step, best_part_le}
 use Rattle.polcert_optimum.proofs.seen_start.seen_sum.Goals as goal
 
 pub overflow_add-sum : goal.overflow_add-sum
 overflow_add-sum c =
-    let m : Meaning = meaning c.args.model.now in
-    (best_step m c.args.vectors.now c.args.model.now.limits c.nodes-vectors.ensures.proper c.requires c.loop-s.s c.start_weight.result
-    c.greatest_at.result c.start_term-sum.result (to_z w128 c.loop-s.sum-bits) (omega arith) c.start_weight.ensures
+    let m = meaning c.args.model.now in
+    (best_step m _ c.args.model.now.limits c.nodes-vectors.ensures.proper c.requires _ _
+    _ _ _ (omega arith) c.start_weight.ensures
     c.greatest_at.ensures.is (search rules) (search rules) c.start_term-sum.ensures.is c.loop-s.invariant).0
 
 pub loop-s-preserved : goal.loop-s-preserved
 loop-s-preserved c =
-    let m : Meaning = meaning c.args.model.now in
-    (best_step m c.args.vectors.now c.args.model.now.limits c.nodes-vectors.ensures.proper c.requires c.loop-s.s c.start_weight.result
-    c.greatest_at.result c.start_term-sum.result (to_z w128 c.loop-s.sum-bits) (omega arith) c.start_weight.ensures
+    let m = meaning c.args.model.now in
+    (best_step m _ c.args.model.now.limits c.nodes-vectors.ensures.proper c.requires _ _
+    _ _ _ (omega arith) c.start_weight.ensures
     c.greatest_at.ensures.is (search rules) (search rules) c.start_term-sum.ensures.is c.loop-s.invariant).1
 
 pub returns-clause-small : goal.returns-clause-small
 returns-clause-small c =
-    rw c.loop-s.invariant (best_part_le (meaning c.args.model.now) c.args.vectors.now c.args.model.now.limits c.nodes-vectors.ensures.proper
+    rw c.loop-s.invariant (best_part_le _ _ c.args.model.now.limits c.nodes-vectors.ensures.proper
     c.requires c.loop-s.s (omega arith))

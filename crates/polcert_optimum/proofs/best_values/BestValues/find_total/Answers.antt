@@ -1,5 +1,5 @@
-use Rattle.std.proofs.Common.{rules, arith, ◌∙◌, ◌-◌}
-use Rattle.polcert_optimum.proofs.Common.{w128, CellTable, value_of, sum_of}
+use Rattle.std.proofs.Common.{rules, arith, ◌∙◌}
+use Rattle.polcert_optimum.proofs.Common.{w128, value_of}
 use Rattle.std.proofs.lemmas.Int.{to_z-of_z}
 use Rattle.polcert_optimum.proofs.Checking.Best.{best_same}
 use Rattle.polcert_optimum.proofs.Checking.Totals.{same_step_best}
@@ -7,19 +7,19 @@ use Rattle.polcert_optimum.proofs.best_values.BestValues.find_total.Goals as goa
 
 pub returns-then-has_row_before-clause-is : goal.returns-then-has_row_before-clause-is
 returns-then-has_row_before-clause-is g c =
-    let t : CellTable = g.C.Cells.table c.args.pair.now.cells.now in
+    let t = g.C.Cells.table _ in
     let pair = c.args.pair.now in
     let same = c.has_row_before.ensures in
-    to_z-of_z w128 c.args.self.now.last (search rules)
+    to_z-of_z w128 _ (search rules)
     ∙ c.requires.last_is (same.some c.if-has_row_before.true)
-    ∙ best_same t (value_of pair.vectors.now) pair.action (pair.state - 1) pair.state (same.same c.if-has_row_before.true)
+    ∙ best_same t (value_of pair.vectors.now) _ _ _ (same.same c.if-has_row_before.true)
 
 pub returns-then-has_rows_of_action_before-clause-is : goal.returns-then-has_rows_of_action_before-clause-is
 returns-then-has_rows_of_action_before-clause-is g c =
-    let t : CellTable = g.C.Cells.table c.args.pair.now.cells.now in
+    let t = g.C.Cells.table _ in
     let pair = c.args.pair.now in
     let same = c.has_rows_of_action_before.ensures in
     let yes = c.if-has_rows_of_action_before.true in
-    to_z-of_z w128 (sum_of c.args.self.now.totals pair.state) (search rules)
-    ∙ c.requires.before pair.state (same.some yes) (omega arith) pair.state_within c.if-pair-lt-KEPT_STATES.true
-    ∙ same_step_best t (value_of pair.vectors.now) (pair.action - 1) pair.action pair.state (same.same yes)
+    to_z-of_z w128 _ (search rules)
+    ∙ c.requires.before _ (same.some yes) (omega arith) pair.state_within c.if-pair-lt-KEPT_STATES.true
+    ∙ same_step_best t (value_of pair.vectors.now) _ _ _ (same.same yes)

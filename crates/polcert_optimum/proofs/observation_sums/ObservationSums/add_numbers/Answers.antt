@@ -1,5 +1,5 @@
-use Rattle.std.proofs.Common.{rules, arith, ◌∙◌, ℕ, ◌*◌, ◌<◌, ◌≤◌, ℤ, to_z, of_z, w64, length, slice_index}
-use Rattle.polcert_optimum.proofs.Common.{w128, CellTable, IsProper, IsWithinLimits, value_of, sum_of, most_scales}
+use Rattle.std.proofs.Common.{rules, arith, ◌∙◌, ◌*◌, ◌<◌, w64, length, slice_index}
+use Rattle.polcert_optimum.proofs.Common.{w128, value_of}
 use Rattle.std.proofs.lemmas.Int.{to_z-of_z}
 use Rattle.polcert_check.proofs.Walking.Products.{weight_of_number, none_after}
 use Rattle.polcert_optimum.proofs.Checking.Adding.{weight_le, term_room, add_value, done_more, rest_more, all_done}
@@ -8,96 +8,89 @@ use Rattle.polcert_optimum.proofs.observation_sums.ObservationSums.add_numbers.G
 
 pub overflow_mul-step_weight : goal.overflow_mul-step_weight
 overflow_mul-step_weight g c =
-    let t : CellTable = g.C.Cells.table c.args.pair.now.cells.now in
     let pair = c.args.pair.now in
-    let e = c.args.end.column in
-    let z = c.loop-z.z in
-    let inside : z < t.observations = omega (arith, c.loop-z-test.true, c.min-z-end.ensures, c.observations.ensures) in
-    let weight = c.args.end.weight * (slice_index c.args.numbers.now z * c.args.scale) in
-    let small : weight ≤ most_scales = weight_le t (g.met.C.Cells.is_proper pair.cells.now) (g.met.C.Cells.is_within_limits pair.cells.now)
-    pair.action pair.state pair.action_within pair.state_within e z c.args.end.weight (slice_index c.args.numbers.now z * c.args.scale)
-    c.requires.end inside c.requires.weight
-    (weight_of_number (t.o pair.action e) t.observations c.args.scale c.args.numbers.now c.requires.row z inside) in
-    grind (arith, small)
+    let inside : c.loop-z.z < (g.C.Cells.table _).observations = omega arith in
+    grind (
+      arith,
+      weight_le _ (g.met.C.Cells.is_proper _) (g.met.C.Cells.is_within_limits _) _ _ pair.action_within pair.state_within _ _ _ _
+          c.requires.end
+          inside c.requires.weight
+          (weight_of_number _ _ c.args.scale _ c.requires.row _ inside),
+    )
 
 pub weigh-part-requires-clause-weight : goal.weigh-part-requires-clause-weight
 weigh-part-requires-clause-weight g c =
-    let t : CellTable = g.C.Cells.table c.args.pair.now.cells.now in
     let pair = c.args.pair.now in
-    let e = c.args.end.column in
-    let z = c.loop-z.z in
-    let inside : z < t.observations = omega (arith, c.loop-z-test.true, c.min-z-end.ensures, c.observations.ensures) in
-    let weight = c.args.end.weight * (slice_index c.args.numbers.now z * c.args.scale) in
-    let small : weight ≤ most_scales = weight_le t (g.met.C.Cells.is_proper pair.cells.now) (g.met.C.Cells.is_within_limits pair.cells.now)
-    pair.action pair.state pair.action_within pair.state_within e z c.args.end.weight (slice_index c.args.numbers.now z * c.args.scale)
-    c.requires.end inside c.requires.weight
-    (weight_of_number (t.o pair.action e) t.observations c.args.scale c.args.numbers.now c.requires.row z inside) in
-    grind (arith, small)
+    let inside : c.loop-z.z < (g.C.Cells.table _).observations = omega arith in
+    grind (
+      arith,
+      weight_le _ (g.met.C.Cells.is_proper _) (g.met.C.Cells.is_within_limits _) _ _ pair.action_within pair.state_within _ _ _ _
+          c.requires.end
+          inside c.requires.weight
+          (weight_of_number _ _ c.args.scale _ c.requires.row _ inside),
+    )
 
 pub weigh-part-requires-clause-product : goal.weigh-part-requires-clause-product
 weigh-part-requires-clause-product g c =
-    let t : CellTable = g.C.Cells.table c.args.pair.now.cells.now in
+    let t = g.C.Cells.table _ in
     let pair = c.args.pair.now in
     let e = c.args.end.column in
     let z = c.loop-z.z in
-    let inside : z < t.observations = omega (arith, c.loop-z-test.true, c.min-z-end.ensures, c.observations.ensures) in
-    let weight = c.args.end.weight * (slice_index c.args.numbers.now z * c.args.scale) in
-    let small : weight ≤ most_scales = weight_le t (g.met.C.Cells.is_proper pair.cells.now) (g.met.C.Cells.is_within_limits pair.cells.now)
-    pair.action pair.state pair.action_within pair.state_within e z c.args.end.weight (slice_index c.args.numbers.now z * c.args.scale)
+    let inside : z < t.observations = omega arith in
+    let weight = c.args.end.weight * (slice_index _ z * c.args.scale) in
+    let small = weight_le t (g.met.C.Cells.is_proper _) (g.met.C.Cells.is_within_limits _)
+    _ _ pair.action_within pair.state_within e z _ _
     c.requires.end inside c.requires.weight
-    (weight_of_number (t.o pair.action e) t.observations c.args.scale c.args.numbers.now c.requires.row z inside) in
-    let is = to_z-of_z w128 (to_z w64 (of_z w64 c.at-value.result)) (search rules) ∙ to_z-of_z w64 c.at-value.result (search rules)
-    ∙ c.at-value.ensures.value in
-    rw is (term_room weight (value_of pair.vectors.now c.args.next e) small
-    (vectors_small t pair.vectors.now pair.fit pair.proper c.args.next e c.requires.next c.requires.end))
+    (weight_of_number _ _ _ _ c.requires.row z inside) in
+    rw (to_z-of_z w128 _ (search rules) ∙ to_z-of_z w64 _ (search rules)
+    ∙ c.at-value.ensures.value) (term_room weight (value_of pair.vectors.now _ e) small
+    (vectors_small t _ pair.fit pair.proper _ e c.requires.next c.requires.end))
 
 pub overflow_add-sum : goal.overflow_add-sum
 overflow_add-sum g c =
-    let t : CellTable = g.C.Cells.table c.args.pair.now.cells.now in
+    let t = g.C.Cells.table _ in
     let pair = c.args.pair.now in
     let e = c.args.end.column in
     let z = c.loop-z.z in
-    let inside : z < t.observations = omega (arith, c.loop-z-test.true, c.min-z-end.ensures, c.observations.ensures) in
-    let weight = weight_of_number (t.o pair.action e) t.observations c.args.scale c.args.numbers.now c.requires.row z inside in
-    (add_value t (g.met.C.Cells.is_proper pair.cells.now) (g.met.C.Cells.is_within_limits pair.cells.now)
-    (value_of pair.vectors.now c.args.next)
-    (λ e el. vectors_small t pair.vectors.now pair.fit pair.proper c.args.next e c.requires.next el) pair.action pair.state
-    pair.action_within pair.state_within e z (c.args.end.weight * (slice_index c.args.numbers.now z * c.args.scale))
-    (to_z w128 (of_z w128 (sum_of c.loop-z.self.sums z))) c.weigh-part.result (to_z w64 (of_z w64 c.at-value.result)) c.requires.end inside
+    let inside : z < t.observations = omega arith in
+    let weight = weight_of_number _ _ _ _ c.requires.row z inside in
+    (add_value t (g.met.C.Cells.is_proper _) (g.met.C.Cells.is_within_limits _)
+    _
+    (λ e. vectors_small t _ pair.fit pair.proper _ e c.requires.next) _ _
+    pair.action_within pair.state_within e z _
+    _ _ _ c.requires.end inside
     (λ i. c.requires.weight i * weight i)
-    (to_z-of_z w128 (sum_of c.loop-z.self.sums z) (search rules) ∙ c.loop-z.invariant.rest z (omega arith) inside) (search rules)
-    (search rules) c.weigh-part.ensures (to_z-of_z w64 c.at-value.result (search rules) ∙ c.at-value.ensures.value)).0
+    (to_z-of_z w128 _ (search rules) ∙ c.loop-z.invariant.rest z (omega arith) inside) (search rules)
+    (search rules) c.weigh-part.ensures (to_z-of_z w64 _ (search rules) ∙ c.at-value.ensures.value)).0
 
 pub loop-z-preserved : goal.loop-z-preserved
 loop-z-preserved g c =
-    let t : CellTable = g.C.Cells.table c.args.pair.now.cells.now in
+    let t = g.C.Cells.table _ in
     let pair = c.args.pair.now in
-    let limits : IsWithinLimits t = g.met.C.Cells.is_within_limits pair.cells.now in
-    let vector : ℕ → ℤ = value_of pair.vectors.now c.args.next in
+    let limits = g.met.C.Cells.is_within_limits _ in
+    let vector = value_of pair.vectors.now _ in
     let e = c.args.end.column in
     let z = c.loop-z.z in
-    let inside : z < t.observations = omega (arith, c.loop-z-test.true, c.min-z-end.ensures, c.observations.ensures) in
-    let weight = weight_of_number (t.o pair.action e) t.observations c.args.scale c.args.numbers.now c.requires.row z inside in
-    let step = add_value t (g.met.C.Cells.is_proper pair.cells.now) limits (value_of pair.vectors.now c.args.next)
-    (λ e el. vectors_small t pair.vectors.now pair.fit pair.proper c.args.next e c.requires.next el) pair.action pair.state
-    pair.action_within pair.state_within e z (c.args.end.weight * (slice_index c.args.numbers.now z * c.args.scale))
-    (to_z w128 (of_z w128 (sum_of c.loop-z.self.sums z))) c.weigh-part.result (to_z w64 (of_z w64 c.at-value.result)) c.requires.end inside
+    let inside : z < t.observations = omega arith in
+    let weight = weight_of_number _ _ _ _ c.requires.row z inside in
+    let step = add_value t (g.met.C.Cells.is_proper _) limits _
+    (λ e. vectors_small t _ pair.fit pair.proper _ e c.requires.next) _ _
+    pair.action_within pair.state_within e z _
+    _ _ _ c.requires.end inside
     (λ i. c.requires.weight i * weight i)
-    (to_z-of_z w128 (sum_of c.loop-z.self.sums z) (search rules) ∙ c.loop-z.invariant.rest z (omega arith) inside) (search rules)
-    (search rules) c.weigh-part.ensures (to_z-of_z w64 c.at-value.result (search rules) ∙ c.at-value.ensures.value) in
-    let room : z < length c.loop-z.self.sums = omega (arith, c.loop-z.self.room, inside, limits.observations.1) in
+    (to_z-of_z w128 _ (search rules) ∙ c.loop-z.invariant.rest z (omega arith) inside) (search rules)
+    (search rules) c.weigh-part.ensures (to_z-of_z w64 _ (search rules) ∙ c.at-value.ensures.value) in
+    let room : z < length c.loop-z.self.sums = omega arith in
     record {
-      done = done_more t vector pair.action pair.state c.loop-z.self.sums e z z _ room (λ k h l. absurd (omega (arith, h, l))) step.1
+      done = done_more t vector _ _ _ e z z _ room (λ k h l. absurd (omega arith)) step.1
           c.loop-z.invariant.done c.loop-z.invariant.rest inside;
-      rest = rest_more t vector pair.action pair.state c.loop-z.self.sums e z z _ room (λ k h l. absurd (omega (arith, h, l)))
-          (omega arith) c.loop-z.invariant.rest;
+      rest = rest_more t _ _ _ _ e z z _ room (λ k h l. absurd (omega arith)) (omega arith) c.loop-z.invariant.rest;
     }
 
 pub returns : goal.returns
 returns g c =
-    let t : CellTable = g.C.Cells.table c.args.pair.now.cells.now in
-    let pair = c.args.pair.now in
-    all_done t (value_of pair.vectors.now c.args.next) pair.action pair.state c.loop-z.self.sums c.args.end.column c.loop-z.z
-    (λ k. none_after (t.o pair.action c.args.end.column) t.observations c.args.scale c.args.numbers.now c.requires.row c.loop-z.z k
-    (λ less. omega (arith, less, c.loop-z-test.false, c.min-z-end.ensures, c.observations.ensures)))
+    let t = g.C.Cells.table _ in
+    all_done t _ _ _ _ _ _
+    (λ k. none_after _ _ c.args.scale _ c.requires.row _ k
+    (λ less. omega arith))
     c.loop-z.invariant.done c.loop-z.invariant.rest
