@@ -11,7 +11,7 @@ use Rattle.polcert_policy.proofs.Places.{within_get}
 use Rattle.polcert_policy.proofs.LimitLaws.{vectors_proper}
 
 longer : (a n : ℕ) → range_with_len a (suc n) ≡ range_with_len a n ++ (a + n) ∷ []
-longer a zero = let e : a ≡ a + 0 = omega arith in ap (λ x. x ∷ []) e
+longer a zero = ap (λ x. x ∷ []) (omega arith)
 longer a (suc n) = grind (arith, longer (a + 1) n)
 
 -- one action more
@@ -24,28 +24,29 @@ pub node_count : (actions : ℕ) → nodes (action_graph actions) ≡ actions
 node_count actions = length-range_with_len 0 actions
 
 pub takes_its_action : (actions a : ℕ) → a < actions → action_of (action_graph actions) a ≡ a
-takes_its_action actions a l = let z : 0 + a ≡ a = omega arith in get_or-range_with_len 0 actions a 0 l ∙ z
+takes_its_action actions a l = get_or-range_with_len 0 actions a 0 l ∙ (omega arith)
 
 abbrev none_of : ℕ → List (Option ℕ)
 none_of actions = replicate actions None
 
 no_successor : (actions k m : ℕ) → slice_get (none_of actions) k ≡ Some (Some m) → m < nodes (action_graph actions)
 no_successor actions k m e =
-    let within : k < length (none_of actions) = within_get (none_of actions) k (Some m) e in
+    let within = within_get _ k (Some m) e in
     let size : length (none_of actions) ≡ actions = length-replicate actions None in
-    grind (arith, get_or-replicate, get_or_from_slice_get (none_of actions) k (Some m) None e)
+    grind (arith, get_or-replicate, get_or_from_slice_get _ k (Some m) None e)
 
 pub action_graph_proper : (actions : ℕ) → 1 ≤ actions → actions ≤ most_actions → IsProperGraph (action_graph actions)
 action_graph_proper actions some few = grind (arith, length-replicate, node_count, takes_its_action, no_successor)
 
--- ---- the vectors that a text denotes
-pub action_counts : (actions states : ℕ) (text : List ℕ) (v : PolicyVectors) → IsActionVectorsText actions states text v
-    → (v.nodes ≡ actions) × (v.states ≡ states)
-action_counts actions states text v is = (is.2.nodes_are ∙ node_count actions, is.2.states_are)
+module _ (actions : ℕ) (states : ℕ) (text : List ℕ) (v : PolicyVectors) where
+  -- ---- the vectors that a text denotes
+  pub action_counts : IsActionVectorsText actions states text v
+      → (v.nodes ≡ actions) × (v.states ≡ states)
+  action_counts is = (is.2.nodes_are ∙ node_count actions, is.2.states_are)
 
-pub action_vectors_proper : (actions states : ℕ) (text : List ℕ) (v : PolicyVectors) → 1 ≤ actions → actions ≤ most_actions → 1 ≤ states
-    → states ≤ most_states → IsActionVectorsText actions states text v → AreProperVectors v
-action_vectors_proper actions states text v some few some_states few_states is =
-    let proper = action_graph_proper actions some few in
-    vectors_proper (action_graph actions) states is.0 v proper.some_nodes proper.few_nodes some_states few_states
-    (parts_from Up (action_graph actions) states is.0 v is.2)
+  pub action_vectors_proper : 1 ≤ actions → actions ≤ most_actions → 1 ≤ states
+      → states ≤ most_states → IsActionVectorsText actions states text v → AreProperVectors v
+  action_vectors_proper some few some_states few_states is =
+      let proper = action_graph_proper actions some few in
+      vectors_proper _ states is.0 v proper.some_nodes proper.few_nodes some_states few_states
+      (parts_from Up _ states is.0 v is.2)

@@ -31,7 +31,7 @@ none_of n = omega arith
 
 size_zero : size_of zero_bytes ≡ 0
 unfolding size_of
-size_zero = ap (λ n. n * 10 ^ power_of zero_bytes) number_zero ∙ none_of (10 ^ power_of zero_bytes)
+size_zero = ap (λ n. n * 10 ^ power_of zero_bytes) number_zero ∙ none_of _
 
 abbrev pub part_of : List ℕ → Part
 part_of bs = let t : Lexeme = record { kind = Numeral; place = 0; bytes = bs } in record { sign = None; token = t }

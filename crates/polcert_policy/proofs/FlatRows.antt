@@ -33,7 +33,7 @@ module _ {Y : Type 0} (F : ℕ → List Y) (w : ℕ) (wide : (n : ℕ) → lengt
 
   length_rows : (m n : ℕ) → length (rows_from m n) ≡ n * w
   length_rows m zero = omega arith
-  length_rows m (suc n) = length-append (F m) (rows_from (m + 1) n) ∙ omega (arith, wide m, length_rows (m + 1) n)
+  length_rows m (suc n) = length-append (F m) _ ∙ omega (arith, wide m, length_rows (m + 1) n)
 
   get_row : (m n i j : ℕ) → i < n → j < w → slice_get (rows_from m n) (i * w + j) ≡ slice_get (F (m + i)) j
   get_row m zero i j l k = absurd (omega (arith, l))
@@ -41,12 +41,12 @@ module _ {Y : Type 0} (F : ℕ → List Y) (w : ℕ) (wide : (n : ℕ) → lengt
   get_row m (suc n) (suc i) j l k = grind (arith, get_after, get_row (m + 1) n i j (omega (arith, l)) k)
 
   get_first : (n i j : ℕ) → i < n → j < w → slice_get (rows_from 0 n) (i * w + j) ≡ slice_get (F i) j
-  get_first n i j l k = let same : 0 + i ≡ i = omega arith in get_row 0 n i j l k ∙ ap (λ x. slice_get (F x) j) same
+  get_first n i j l k = get_row 0 n i j l k ∙ ap (λ x. slice_get (F x) j) (omega arith)
 
   module _ {X : Type 0} (R : X → Y → Type 0) (xs : List X) (n : ℕ) where
     -- what is so of each item of the rows, by row and column
     pub row_long : AllZip R xs (rows_from 0 n) → length xs ≡ n * w
-    row_long are = sym (AllZip-long R xs (rows_from 0 n) are) ∙ length_rows 0 n
+    row_long are = sym (AllZip-long R xs _ are) ∙ length_rows 0 n
 
     pub row_at : AllZip R xs (rows_from 0 n) → (i j : ℕ) (x : X) (y : Y) → j < w → slice_get xs (i * w + j) ≡ Some x
         → slice_get (F i) j ≡ Some y → R x y
@@ -55,12 +55,11 @@ module _ {Y : Type 0} (F : ℕ → List Y) (w : ℕ) (wide : (n : ℕ) → lengt
     pub rows_zip : 1 ≤ w → length xs ≡ n * w → ((i j : ℕ) (x : X) (y : Y) → i < n → j < w → slice_get xs (i * w + j) ≡ Some x
         → slice_get (F i) j ≡ Some y → R x y)
         → AllZip R xs (rows_from 0 n)
-    rows_zip some long each = zip_from R xs (rows_from 0 n) (long ∙ sym (length_rows 0 n)) at
+    rows_zip some long each = zip_from R xs _ (long ∙ sym (length_rows 0 n)) at
       where
         at : (k : ℕ) (x : X) (y : Y) → slice_get xs k ≡ Some x → slice_get (rows_from 0 n) k ≡ Some y → R x y
         at k x y here also =
             let row = row_of w k some in
-            let inside : row.0 * w + row.1.0 < n * w = omega (arith, within_get xs k x here, long, row.1.1) in
-            let i_below = row_below w row.0 row.1.0 n inside in
+            let i_below = row_below w row.0 row.1.0 n (omega (arith, within_get xs k x here, long, row.1.1)) in
             each row.0 row.1.0 x y i_below row.1.2 (subst (λ p. slice_get xs p ≡ Some x) row.1.1 here)
             (sym (get_first n row.0 row.1.0 i_below row.1.2) ∙ subst (λ p. slice_get (rows_from 0 n) p ≡ Some y) row.1.1 also)

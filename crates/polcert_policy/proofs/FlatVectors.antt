@@ -1,9 +1,9 @@
 -- The tokens of vectors, field after field, and the same by the index of each number.
 use Rattle.std.proofs.Common.{◌≡◌, ◌∙◌, ℕ, ℤ, suc, zero, ◌+◌, ◌*◌, ◌<◌, ◌⊎◌, inl, inr, true, false, Option, Some, None, List, [], ◌∷◌, ◌++◌}
-use Rattle.std.proofs.Common.{length, map, flat_map, pos, slice_get, get_or, refl, sym, ap, subst, arith}
+use Rattle.std.proofs.Common.{length, flat_map, pos, slice_get, get_or, refl, sym, ap, subst, arith}
 use Rattle.polcert_policy.proofs.Common.{range_with_len, AllZip, length-map-range_with_len, get_or-map-range_with_len}
 use Rattle.polcert_policy.proofs.Common.{get_or_from_slice_get, slice_get-get_or, Lexeme, IsCut, text_rest, text_limit, TokenKind, Numeral}
-use Rattle.polcert_policy.proofs.Common.{Plus, Minus, Rounding, IsRounded, numeral_kind, PolicyGraph, nodes, action_of, PolicyVectors}
+use Rattle.polcert_policy.proofs.Common.{Plus, Minus, Rounding, IsRounded, numeral_kind, PolicyGraph, nodes, PolicyVectors}
 use Rattle.polcert_policy.proofs.Common.{value_of, sign_kind, Part, with_sign, tokens_of, IsActionPart, IsValuePart, IsRoundedVectors}
 use Rattle.polcert_policy.proofs.Common.{IsRoundedVectorsText}
 use Rattle.polcert_text.proofs.Scanning.CleanCut.{clean_cut, clean_tokens}
@@ -36,7 +36,7 @@ module _ (way : Rounding) where
       → IsActionPart a (record { sign = sign; token = t }) → AreFields way ts fs
       → AreFields way (with_sign sign t ++ ts) (inl a ∷ fs)
   action_first None t a ts fs is rest = vectors.action (whole_is t a is.whole is.value) rest
-  action_first (Some s) t a ts fs is rest = let wrong = is.unsigned in cc
+  action_first (Some s) t a ts fs is rest = cc
 
   value_first : (sign : Option Lexeme) (t : Lexeme) (h : ℤ) (ts : List Lexeme) (fs : List (ℕ ⊎ ℤ))
       → IsValuePart way (record { sign = sign; token = t }) h → AreFields way ts fs
@@ -49,14 +49,12 @@ module _ (way : Rounding) where
       at (inl e) = vectors.plus e (record {
         kind = is_numeral t.kind is.part.numeral;
         readable = is.readable;
-        value =
-            simp e at is.rounded;
+        value = simp e at is.rounded;
       }) rest
       at (inr e) = vectors.minus e (record {
         kind = is_numeral t.kind is.part.numeral;
         readable = is.readable;
-        value =
-            simp e at is.rounded;
+        value = simp e at is.rounded;
       }) rest
 
   spelled_fields : (ps : List Part) (fs : List (ℕ ⊎ ℤ)) → AllZip PartIs ps fs → AreFields way (tokens_of ps) fs
@@ -69,8 +67,7 @@ module _ (way : Rounding) where
   plain_value t h is = record {
     part = record { numeral = ap numeral_kind is.kind; signed = λ s e. cc };
     readable = is.readable;
-    rounded =
-        is.value;
+    rounded = is.value;
   }
 
   plus_value : (s t : Lexeme) (h : ℤ) → s.kind ≡ Plus → IsNumeral (IsRounded way) false t h → IsValuePart way (part (Some s) t) h
@@ -101,7 +98,7 @@ module _ (way : Rounding) where
   value_field : (g : PolicyGraph) (v : PolicyVectors) (n s : ℕ) → s < v.states
       → slice_get (vector_fields g v n) (suc s) ≡ Some (inr (value_of v n s))
   value_field g v n s l =
-      slice_get-get_or (map (value_at v n) (range_with_len 0 v.states)) s (inl 0)
+      slice_get-get_or _ s (inl 0)
       (omega (arith, l, length-map-range_with_len (value_at v n) 0 v.states))
       ∙ ap Some (get_or-map-range_with_len (value_at v n) 0 v.states s s (inl 0) l (omega arith))
 
@@ -110,7 +107,7 @@ module _ (way : Rounding) where
   module _ (g : PolicyGraph) (states : ℕ) (ts : List Lexeme) (v : PolicyVectors) where
     pub parts_from : AreVectorTokens way g states ts v → IsRoundedVectors way g states ts v
     parts_from are =
-        let found = parts_of ts (flat_map (vector_fields g v) (range_with_len 0 (nodes g))) are.fields in
+        let found = parts_of ts _ are.fields in
         let wide_all : (n : ℕ) → length (vector_fields g v n) ≡ 1 + states = λ n. wide g v n ∙ ap (λ w. 1 + w) are.states_are in
         let long = row_long (vector_fields g v) (1 + states) wide_all PartIs found.0 (nodes g) found.2 in
         let node_below : (n j : ℕ) (p : Part) → slice_get found.0 (n * (1 + states) + j) ≡ Some p → n < nodes g =
@@ -123,16 +120,15 @@ module _ (way : Rounding) where
           count = long;
           filled = are.filled;
           records = record {
-            action = λ n p at.
-                row_at (vector_fields g v) (1 + states) wide_all PartIs found.0 (nodes g) found.2 n 0 p (inl (action_of g n)) (omega arith)
+            action = λ n p at. row_at (vector_fields g v) (1 + states) wide_all PartIs found.0 (nodes g) found.2 n 0 p _ (omega arith)
                 (subst (λ k. slice_get found.0 k ≡ Some p) (omega arith) at) refl;
             value = λ n s p l at.
                 let here = row_at (vector_fields g v) (1 + states) wide_all PartIs found.0 (nodes g) found.2 n (suc s) p
-                (inr (value_of v n s)) (omega (arith, l)) (subst (λ k. slice_get found.0 k ≡ Some p) (omega arith) at)
-                (value_field g v n s (omega (arith, l, are.states_are))) in
+                _ (omega (arith, l)) (subst (λ k. slice_get found.0 k ≡ Some p) (omega arith) at)
+                (value_field g v n s (omega arith)) in
                 let inside = place_inside states n s (nodes g) (node_below n (1 + s) p at) l in (
                   value_of v n s,
-                  slice_get-get_or v.values (n * states + s) (pos 0) (omega (arith, inside, are.filled))
+                  slice_get-get_or v.values _ (pos 0) (omega arith)
                       ∙ ap (λ w. Some (get_or v.values (n * w + s) (pos 0))) (sym are.states_are),
                   here,
                 );
@@ -145,21 +141,21 @@ module _ (way : Rounding) where
       states_are = is.states_are;
       filled = is.filled;
       fields = subst (λ xs. AreFields way xs (flat_map (vector_fields g v) (range_with_len 0 (nodes g)))) (sym is.spelled)
-          (spelled_fields is.parts (flat_map (vector_fields g v) (range_with_len 0 (nodes g)))
+          (spelled_fields is.parts _
           (rows_zip (vector_fields g v) (1 + states) (λ n. wide g v n ∙ ap (λ w. 1 + w) is.states_are) PartIs is.parts (nodes g)
           (omega arith) is.count at));
     }
       where
         at : (n j : ℕ) (p : Part) (f : ℕ ⊎ ℤ) → n < nodes g → j < 1 + states → slice_get is.parts (n * (1 + states) + j) ≡ Some p
             → slice_get (vector_fields g v n) j ≡ Some f → PartIs p f
-        at n zero p f l k here also = grind (arith, slice_get, same_some)
+        at n zero p f l k here also = grind arith
         at n (suc s) p f l k here also =
             let below : s < states = omega (arith, k) in
             let was = is.records.value n s p below (subst (λ i. slice_get is.parts i ≡ Some p) (omega arith) here) in
-            let value : value_of v n s ≡ was.0 = ap (λ w. get_or v.values (n * w + s) (pos 0)) is.states_are
-            ∙ get_or_from_slice_get v.values (n * states + s) was.0 (pos 0) was.1 in
-            let same : inr (value_of v n s) ≡ f = same_some _ f (sym (value_field g v n s (omega (arith, below, is.states_are))) ∙ also) in
-            subst (PartIs p) same (subst (IsValuePart way p) (sym value) was.2)
+            let value = ap (λ w. get_or v.values (n * w + s) (pos 0)) is.states_are
+            ∙ get_or_from_slice_get v.values _ was.0 (pos 0) was.1 in
+            subst (PartIs p) (same_some _ f (sym (value_field g v n s (omega (arith, below, is.states_are))) ∙ also))
+            (subst (IsValuePart way p) (sym value) was.2)
 
   -- ---- texts
 

@@ -1,5 +1,5 @@
 -- The full form of vectors, read with their graph, gives the vectors back.
-use Rattle.polcert_policy.proofs.Common.{common_steps, list_all, ints, take_more, slice_get-get_or, is_blank, IsCut, text_rest, text_limit}
+use Rattle.polcert_policy.proofs.Common.{common_steps, list_all, ints, take_more, slice_get-get_or, is_blank, IsCut, text_limit}
 use Rattle.polcert_policy.proofs.Common.{scaled_text, largest, Measures, Rounding, PolicyGraph, nodes, action_of, IsProperGraph}
 use Rattle.polcert_policy.proofs.Common.{PolicyVectors, Part, sign_kind, tokens_of, value_of, IsActionPart, IsValuePart, IsRoundedVectors}
 use Rattle.polcert_policy.proofs.Common.{IsInRange, AreProperVectors, IsRoundedVectorsText, AreVectorsUpTo, after_value, values_text}
@@ -20,7 +20,6 @@ use Rattle.polcert_policy.proofs.Fillers.{action_spelled}
 use Rattle.polcert_policy.proofs.GraphLaws.{IsAfter}
 use Rattle.polcert_policy.proofs.VectorSteps.{step_vector_action, step_value}
 use Rattle.polcert_text.proofs.Printing.Numerals.{IsPlain, plain_decimal}
-use Rattle.polcert_text.proofs.Printing.PrintedCut.{rest_at}
 use Rattle.polcert_text.proofs.Printing.WrittenNumbers.{size_written, plain_size, readable_written}
 use Rattle.polcert_policy.proofs.PrintedCut.{Printed, printed_text, IsPrinted, texts_of, AllPrinted, part_with, parts_from, cut_printed}
 
@@ -39,14 +38,15 @@ number_printed h following = record { negative = is_below_zero h; numeral = size
 text-number : (h : ℤ) (following : List ℕ) → printed_text (number_printed h following) ≡ scaled_text h ++ following
 text-number h following = grind arith
 
-measures_written : (n : ℕ) → n ≤ largest → Measures (unsigned_text n) n false
-measures_written n l = grind (arith, millionth_pos, size_written)
+module _ (n : ℕ) where
+  measures_written : n ≤ largest → Measures (unsigned_text n) n false
+  measures_written l = grind (arith, millionth_pos, size_written)
 
-positive_size : (n : ℕ) → IsInRange (pos n) → n ≤ largest
-positive_size n r = omega (arith, ints, r.1)
+  positive_size : IsInRange (pos n) → n ≤ largest
+  positive_size r = omega (arith, ints, r.1)
 
-negative_size : (n : ℕ) → IsInRange (negsuc n) → suc n ≤ largest
-negative_size n r = omega (arith, ints, r.0)
+  negative_size : IsInRange (negsuc n) → suc n ≤ largest
+  negative_size r = omega (arith, ints, r.0)
 
 -- the part that is written of a value has that value
 value_part : (way : Rounding) (place : ℕ) (h : ℤ) → IsInRange h → IsValuePart way (part_with place (is_below_zero h) (size_text h)) h
@@ -121,20 +121,18 @@ all_printed g v (suc n) = all_printed g v n ++ vector_printed g v n
 
 texts-append : (us ws : List Printed) → texts_of (us ++ ws) ≡ texts_of us ++ texts_of ws
 texts-append [] ws = refl
-texts-append (u ∷ us) ws = ap (λ bs. printed_text u ++ bs) (texts-append us ws)
-    ∙ sym (append_assoc (printed_text u) (texts_of us) (texts_of ws))
+texts-append (u ∷ us) ws = ap (λ bs. printed_text u ++ bs) (texts-append us ws) ∙ sym (append_assoc _ (texts_of us) (texts_of ws))
 
 text-values : (v : PolicyVectors) (n s : ℕ) → texts_of (values_printed v n s) ≡ values_text v n s
 text-values v n zero = refl
 text-values v n (suc s) =
-    texts-append (values_printed v n s) (value_printed v n s ∷ [])
+    texts-append (values_printed v n s) _
     ∙ (λ i. text-values v n s i ++ append-nil (printed_text (value_printed v n s)) i)
-    ∙ ap (λ bs. values_text v n s ++ bs) (text-number (value_of v n s) (after_value v.states s))
+    ∙ ap (λ bs. values_text v n s ++ bs) (text-number _ _)
 
 text-all : (g : PolicyGraph) (v : PolicyVectors) (n : ℕ) → texts_of (all_printed g v n) ≡ vectors_text_up_to g v n
 text-all g v zero = refl
-text-all g v (suc n) =
-    texts-append (all_printed g v n) (vector_printed g v n) ∙ (λ i. text-all g v n i ++ (action_line g n ++ text-values v n v.states i))
+text-all g v (suc n) = texts-append (all_printed g v n) _ ∙ (λ i. text-all g v n i ++ (action_line g n ++ text-values v n v.states i))
 
 parts-append : (place : ℕ) (us ws : List Printed) → parts_from place (us ++ ws)
     ≡ parts_from place us ++ parts_from (place + length (texts_of us)) ws
@@ -155,15 +153,11 @@ module _ (g : PolicyGraph) (v : PolicyVectors) (proper_g : IsProperGraph g) (pro
     in_place n s l k = grind arith
 
     value_fits : (n s : ℕ) → n < nodes g → s < v.states → IsInRange (value_of v n s)
-    value_fits n s l k = proper_v.in_range (n * v.states + s) (value_of v n s)
-        (slice_get-get_or v.values (n * v.states + s) (pos 0) (in_place n s l k))
+    value_fits n s l k = proper_v.in_range _ _ (slice_get-get_or v.values _ (pos 0) (in_place n s l k))
 
     values_are_printed : (n s : ℕ) → n < nodes g → s ≤ v.states → AllPrinted (values_printed v n s)
     values_are_printed n zero l k = tt
     values_are_printed n (suc s) l k = grind (arith, value_is_printed, all-append, value_fits, values_are_printed n s l (omega (arith, k)))
-
-    known_action : (n : ℕ) → n < nodes g → action_of g n < 1_001
-    known_action n l = omega (arith, proper_g.known n l, proper_g.few_actions)
 
     all_are_printed : (n : ℕ) → n ≤ nodes g → AllPrinted (all_printed g v n)
     all_are_printed zero l = tt
@@ -171,15 +165,15 @@ module _ (g : PolicyGraph) (v : PolicyVectors) (proper_g : IsProperGraph g) (pro
 
     length-values : (n s : ℕ) → length (values_printed v n s) ≡ s
     length-values n zero = refl
-    length-values n (suc s) = length-append (values_printed v n s) (value_printed v n s ∷ []) ∙ omega (arith, length-values n s)
+    length-values n (suc s) = length-append (values_printed v n s) _ ∙ omega (arith, length-values n s)
 
     length-all : (n : ℕ) → length (all_printed g v n) ≡ n * (1 + v.states)
     length-all zero = omega arith
-    length-all (suc n) = length-append (all_printed g v n) (vector_printed g v n) ∙ omega (arith, length-all n, length-values n v.states)
+    length-all (suc n) = length-append (all_printed g v n) _ ∙ omega (arith, length-all n, length-values n v.states)
 
     values_more : (n s : ℕ) → n < nodes g → s < v.states
         → take (n * v.states + s) v.values ++ value_of v n s ∷ [] ≡ take (n * v.states + suc s) v.values
-    values_more n s l k = sym (take_more v.values (n * v.states + s) (pos 0) (in_place n s l k)) ∙ ap (λ m. take m v.values) (omega arith)
+    values_more n s l k = sym (take_more v.values _ (pos 0) (in_place n s l k)) ∙ ap (λ m. take m v.values) (omega arith)
 
     parts_more : (ps : List Part) (n place s : ℕ) → (ps ++ parts_from place (action_printed g n ∷ values_printed v n s)) ++ part_with
         (place + length (texts_of (action_printed g n ∷ values_printed v n s))) (is_below_zero (value_of v n s))
@@ -200,18 +194,18 @@ module _ (g : PolicyGraph) (v : PolicyVectors) (proper_g : IsProperGraph g) (pro
           → UpTo way (ps ++ parts_from place (action_printed g n ∷ values_printed v n s)) n (1 + s) (take (n * v.states + s) v.values)
           → UpTo way (ps ++ parts_from place (action_printed g n ∷ values_printed v n (suc s))) m c (take (n * v.states + suc s) v.values)
       one_value ps n place s m c l k following old =
-          let right = value_part way _ (value_of v n s) (value_fits n s l k) in
+          let right = value_part way _ _ (value_fits n s l k) in
           subst₂ (λ qs vs. UpTo way qs m c vs) (parts_more ps n place s) (values_more n s l k)
-          (step_value g v.states (ps ++ parts_from place (action_printed g n ∷ values_printed v n s)) _ (value_of v n s) n s m c
-          (take (n * v.states + s) v.values) old right following)
+          (step_value g v.states _ _ _ n s m c
+          _ old right following)
 
       row : (ps : List Part) (n place : ℕ) → n < nodes g → UpTo way ps n 0 (take (n * v.states) v.values) → (s : ℕ) → s < v.states
           → UpTo way (ps ++ parts_from place (action_printed g n ∷ values_printed v n s)) n (1 + s) (take (n * v.states + s) v.values)
       row ps n place l old zero k =
-          let part = part_with place false (decimal (action_of g n)) in
+          let part = part_with place false (decimal _) in
           subst (λ m. UpTo way (ps ++ part ∷ []) n 1 (take m v.values)) (omega arith)
-          (step_vector_action g v.states ps part n (take (n * v.states) v.values) proper_v.some_states old l
-          (action_part place (action_of g n) (omega (arith, known_action n l))))
+          (step_vector_action g v.states ps part n _ proper_v.some_states old l
+          (action_part place _ (omega arith)))
       row ps n place l old (suc s) k =
           let inside : s < v.states = omega (arith, k) in
           one_value ps n place s n (1 + suc s) l inside (record { inside = λ k. (refl, refl); last = λ e. absurd (omega (arith, e, k)) })
@@ -221,7 +215,7 @@ module _ (g : PolicyGraph) (v : PolicyVectors) (proper_g : IsProperGraph g) (pro
           → UpTo way (ps ++ parts_from place (vector_printed g v n)) (suc n) 0 (take (suc n * v.states) v.values)
       whole_row ps n place l old =
           let s = v.states - 1 in
-          let last : suc s ≡ v.states = omega (arith, proper_v.some_states) in
+          let last : suc s ≡ v.states = omega arith in
           let inside : s < v.states = omega (arith, last) in
           let read = one_value ps n place s (suc n) 0 l inside
           (record { inside = λ k. absurd (omega (arith, k, last)); last = λ e. (refl, refl) }) (row ps n place l old s inside) in
@@ -232,21 +226,19 @@ module _ (g : PolicyGraph) (v : PolicyVectors) (proper_g : IsProperGraph g) (pro
       all_rows zero l = grind arith
       all_rows (suc n) l =
           subst (λ qs. UpTo way qs (suc n) 0 (take (suc n * v.states) v.values))
-          (sym (parts-append 0 (all_printed g v n) (vector_printed g v n)))
-          (whole_row (parts_from 0 (all_printed g v n)) n (0 + length (texts_of (all_printed g v n))) (omega (arith, l))
+          (sym (parts-append 0 _ _))
+          (whole_row _ n _ (omega (arith, l))
           (all_rows n (omega (arith, l))))
 
       tokens_read_back : IsRoundedVectors way g v.states (tokens_of (parts_from 0 (all_printed g v (nodes g)))) v
-      tokens_read_back =
-          grind (arith, take_all, parts_from, all_rows (nodes g) (omega arith))
+      tokens_read_back = grind (arith, take_all, parts_from, all_rows (nodes g) (omega arith))
 
       -- the full form reads back
       pub reads_back : IsRoundedVectorsText way g v.states (vectors_text g v) v
       reads_back =
           let us = all_printed g v (nodes g) in
           let cut = cut_printed us 0 [] (all_are_printed (nodes g) (omega arith)) refl in
-          let whole : text_rest (texts_of us) text_limit ≡ rest_at 0 (texts_of us) =
-          simp (le-ltb text_limit (length (texts_of us)) short_text) in
           subst (λ text. IsRoundedVectorsText way g v.states text v) (text-all g v (nodes g))
           (flat_vectors.vectors_text way g v.states (texts_of us) v (tokens_of (parts_from 0 us))
-          (subst (λ r. IsCut r (tokens_of (parts_from 0 us)) None) (sym whole) cut) tokens_read_back)
+          (subst (λ r. IsCut r (tokens_of (parts_from 0 us)) None) (sym (simp (le-ltb text_limit (length (texts_of us)) short_text))) cut)
+          tokens_read_back)

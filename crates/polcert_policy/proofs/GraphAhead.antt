@@ -22,5 +22,5 @@ successor_reads old mid new t value successor l none none_after ea eo en ec ecs 
     record {
       nodes = read_successor old mid new seen t successor l ea eo en ec ecs es next h.nodes
           (apart_none seen t (subst (IsLastMinus seen) none h.last)) right same;
-      last = subst (IsLastMinus (seen ++ t ∷ [])) (sym none_after) (last_minus seen t _ None refl (ap minus_kind numeral));
+      last = subst (IsLastMinus _) (sym none_after) (last_minus seen t _ None refl (ap minus_kind numeral));
     }

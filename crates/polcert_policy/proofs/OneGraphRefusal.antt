@@ -12,21 +12,21 @@ use Rattle.polcert_policy.proofs.GraphLaws.{possible_before, possible_loose, one
 use Rattle.polcert_policy.proofs.TextLaws.{one_first}
 use Rattle.polcert_policy.proofs.OneStop as stops
 
-columns : (o : ℕ) (ts : List Lexeme) (n c m d : ℕ) → IsColumn o ts n c → IsColumn o ts m d → (n ≡ m) × (c ≡ d)
-columns o ts n c m d x y =
-    let e : n * width o + c ≡ m * width o + d = omega (arith, x.count, y.count) in
-    (same_row (width o) n m c d x.within y.within e, same_column (width o) n m c d x.within y.within e)
+module _ (o : ℕ) (ts : List Lexeme) where
+  columns : (n c m d : ℕ) → IsColumn o ts n c → IsColumn o ts m d → (n ≡ m) × (c ≡ d)
+  columns n c m d x y =
+      let e : n * width o + c ≡ m * width o + d = omega arith in
+      (same_row (width o) n m c d x.within y.within e, same_column (width o) n m c d x.within y.within e)
 
-wrong_shape : (o : ℕ) (ts : List Lexeme) (t : Lexeme) (n c m d : ℕ) → IsColumn o ts n c → is_shaped c t ≡ false → IsColumn o ts m d
-    → is_shaped d t ≡ true → ⊥
-wrong_shape o ts t n c m d x wrong y right =
-    true_false right (subst (λ e. is_shaped e t ≡ false) (columns o ts n c m d x y).1 wrong)
+  wrong_shape : (t : Lexeme) (n c m d : ℕ) → IsColumn o ts n c → is_shaped c t ≡ false → IsColumn o ts m d
+      → is_shaped d t ≡ true → ⊥
+  wrong_shape t n c m d x wrong y right = true_false right (subst (λ e. is_shaped e t ≡ false) (columns n c m d x y).1 wrong)
 
-not_after : (o : ℕ) (ts : List Lexeme) (n c : ℕ) → IsColumn o ts n c → n < most_nodes → IsColumn o ts most_nodes 0 → ⊥
-not_after o ts n c x few y = let e = (columns o ts n c most_nodes 0 x y).0 in omega (arith, e, few)
+  not_after : (n c : ℕ) → IsColumn o ts n c → n < most_nodes → IsColumn o ts most_nodes 0 → ⊥
+  not_after n c x few y = let e = (columns n c most_nodes 0 x y).0 in omega (arith, e, few)
 
-other_column : (o : ℕ) (ts : List Lexeme) (n m : ℕ) → IsColumn o ts n 0 → IsColumn o ts m 1 → ⊥
-other_column o ts n m x y = let e = (columns o ts n 0 m 1 x y).1 in omega (arith, e)
+  other_column : (n m : ℕ) → IsColumn o ts n 0 → IsColumn o ts m 1 → ⊥
+  other_column n m x y = let e = (columns n 0 m 1 x y).1 in omega (arith, e)
 
 one_misfit : (a o : ℕ) (ts : List Lexeme) (t : Lexeme) (f g : GraphFault) → IsGraphMisfit a o ts t f → IsGraphMisfit a o ts t g → f ≡ g
 one_misfit a o ts t (faults.BadShape p) (faults.BadShape q) x y = ap faults.BadShape (x.0 ∙ sym y.0)
@@ -50,13 +50,13 @@ EndsFor a o text ts None (faults.SuccessorOutOfRange n z) = (g : PolicyGraph) ×
 EndsFor a o text ts None _ = ⊥
 
 whole_nodes : (a o : ℕ) (ts : List Lexeme) (g : PolicyGraph) → IsLooseGraph a o ts g → IsColumn o ts (nodes g) 0
-whole_nodes a o ts g loose = record { count = omega (arith, loose.tokens); within = omega arith }
+whole_nodes a o ts g loose = record { count = omega arith; within = omega arith }
 
 part_or_whole : (o : ℕ) (ts : List Lexeme) (n c m : ℕ) → IsColumn o ts n c → 0 < c → IsColumn o ts m 0 → ⊥
 part_or_whole o ts n c m x begun y = let e = (columns o ts n c m 0 x y).1 in omega (arith, e, begun)
 
 none_or_some : (a o : ℕ) (ts : List Lexeme) (g : PolicyGraph) → IsColumn o ts 0 0 → IsLooseGraph a o ts g → ⊥
-none_or_some a o ts g x loose = let e = (columns o ts 0 0 (nodes g) 0 x (whole_nodes a o ts g loose)).0 in omega (arith, e, loose.some)
+none_or_some a o ts g x loose = let e = (columns o ts 0 0 (nodes g) 0 x (whole_nodes a o ts g loose)).0 in omega arith
 
 one_end : (a o : ℕ) (text : List ℕ) (ts : List Lexeme) (end : Option TokenFault) (f g : GraphFault) → EndsFor a o text ts end f
     → EndsFor a o text ts end g → f ≡ g
@@ -87,7 +87,7 @@ module _ (a o : ℕ) (text : List ℕ) where
   pub one_refusal : (f g : GraphFault) → (f ≡ faults.Memory → ⊥) → (g ≡ faults.Memory → ⊥) → IsGraphRefusal a o text f
       → IsGraphRefusal a o text g → f ≡ g
   one_refusal f g f_says g_says x y =
-      stops.one_reason (λ ts. IsPossibleGraph a o ts) (possible_before a o) (λ ts t. IsWrongGraphToken (joined_minus ts t) a o ts t)
-      (EndsFor a o text)
-      (text_rest text text_limit)
-      (λ ts t. one_wrong (joined_minus ts t) a o ts t) (one_end a o text) f g (reason f f_says x) (reason g g_says y)
+      stops.one_reason _ (possible_before a o) _
+      _
+      _
+      (λ ts t. one_wrong _ a o ts t) (one_end a o text) f g (reason f f_says x) (reason g g_says y)

@@ -24,40 +24,41 @@ use Rattle.polcert_policy.proofs.PointSound.{proper_read}
 use Rattle.polcert_policy.proofs.PointFieldsTaken.{from_fields}
 use Rattle.polcert_policy.proofs.OneStop as stops
 
--- a text is at most one list of points
-pub one_points : (S A Z : ℕ) (text : List ℕ) (p q : PointValues) → 1 ≤ S → 1 ≤ A → 1 ≤ Z → IsPointsText S A Z text p
-    → IsPointsText S A Z text q → p ≡ q
-one_points S A Z text p q some_s some_a some_z x y =
-    let a = read_of S A Z text some_s some_a some_z p x in
-    let b = read_of S A Z text some_s some_a some_z q y in
-    let same = (cuts.one_cut _ a.0 b.0 None None a.1 b.1).0 in
-    one_loose S A Z b.0 p q (subst (λ ts. AreLoosePoints S A Z ts p) same a.2.loose) b.2.loose
+module _ (S : ℕ) (A : ℕ) (Z : ℕ) where
+  -- a text is at most one list of points
+  pub one_points : (text : List ℕ) (p q : PointValues) → 1 ≤ S → 1 ≤ A → 1 ≤ Z → IsPointsText S A Z text p
+      → IsPointsText S A Z text q → p ≡ q
+  one_points text p q some_s some_a some_z x y =
+      let a = read_of S A Z text some_s some_a some_z p x in
+      let b = read_of S A Z text some_s some_a some_z q y in
+      one_loose S A Z b.0 p q (subst (λ ts. AreLoosePoints S A Z ts p) ((cuts.one_cut _ a.0 b.0 None None a.1 b.1).0) a.2.loose) b.2.loose
 
--- what begins fields of points begins points
-pub fronts_begin : (S A Z : ℕ) (front more : List Lexeme) (p : PointValues) → 1 ≤ S → 1 ≤ A → 1 ≤ Z → AreFieldTokens S A Z (front ++ more) p
-    → BeginPoints S A Z front
-fronts_begin S A Z front more p some_s some_a some_z are =
-    let read = (from_fields S A Z (front ++ more) p some_s some_a some_z are).loose in begin_front S A Z front more (read.last, read.read)
+  -- what begins fields of points begins points
+  pub fronts_begin : (front more : List Lexeme) (p : PointValues) → 1 ≤ S → 1 ≤ A → 1 ≤ Z → AreFieldTokens S A Z (front ++ more) p
+      → BeginPoints S A Z front
+  fronts_begin front more p some_s some_a some_z are =
+      let read = (from_fields S A Z _ p some_s some_a some_z are).loose in begin_front S A Z front more (read.last, read.read)
 
--- the points of a text are within their limits
-pub points_proper : (S A Z : ℕ) (text : List ℕ) (p : PointValues) → 1 ≤ S → S ≤ most_states → 1 ≤ A → A ≤ most_actions → 1 ≤ Z
-    → Z ≤ most_observations → IsPointsText S A Z text p → AreProperPoints p
-points_proper S A Z text p some_s few_s some_a few_a some_z few_z x =
-    let found = read_of S A Z text some_s some_a some_z p x in
-    let is = found.2 in
-    let last = is.loose.last in
-    let known = subst NamesPointsOnly is.loose.points_are is.bound in
-    subst AreProperPoints (sym is.loose.points_are)
-    (lists_proper S A Z last.rows last.values last.names
-    (proper_read S A Z some_s some_a some_z found.0 last few_s few_a few_z is.loose.read is.loose.whole known))
+  -- the points of a text are within their limits
+  pub points_proper : (text : List ℕ) (p : PointValues) → 1 ≤ S → S ≤ most_states → 1 ≤ A → A ≤ most_actions → 1 ≤ Z
+      → Z ≤ most_observations → IsPointsText S A Z text p → AreProperPoints p
+  points_proper text p some_s few_s some_a few_a some_z few_z x =
+      let found = read_of S A Z text some_s some_a some_z p x in
+      let is = found.2 in
+      let last = is.loose.last in
+      let known = subst NamesPointsOnly is.loose.points_are is.bound in
+      subst AreProperPoints (sym is.loose.points_are)
+      (lists_proper S A Z last.rows last.values last.names
+      (proper_read S A Z some_s some_a some_z found.0 last few_s few_a few_z is.loose.read is.loose.whole known))
 
 -- ---- one reason for a token
 
-one_number_fault : (bs : List ℕ) (f g : NumberFault) → IsRefused bs f → IsRefused bs g → f ≡ g
-one_number_fault bs f g x y = grind arith
+module _ (bs : List ℕ) (f : NumberFault) (g : NumberFault) where
+  one_number_fault : IsRefused bs f → IsRefused bs g → f ≡ g
+  one_number_fault x y = grind arith
 
-one_weight_fault : (bs : List ℕ) (f g : NumberFault) → IsRefusedWeight bs f → IsRefusedWeight bs g → f ≡ g
-one_weight_fault bs f g x y = grind arith
+  one_weight_fault : IsRefusedWeight bs f → IsRefusedWeight bs g → f ≡ g
+  one_weight_fault x y = grind arith
 
 one_wrong_number : (old : PointsSoFar) (t : Lexeme) (f g : PointFault) → IsWrongNumber old t f → IsWrongNumber old t g → f ≡ g
 one_wrong_number old t f g x y = grind arith
@@ -102,17 +103,17 @@ one_wrong_point S old t f g (inl x) (inl y) = x.fault_is
     ∙ ap (λ s. faults.BadShape s.place) (same_some x.sign y.sign (sym x.sign_is ∙ y.sign_is)) ∙ sym y.fault_is
 one_wrong_point S old t f g (inl x) (inr y) = absurd (true_false x.joined (y.apart x.sign x.sign_is))
 one_wrong_point S old t f g (inr x) (inl y) = absurd (true_false y.joined (x.apart y.sign y.sign_is))
-one_wrong_point S old t f g (inr x) (inr y) = one_wrong_field S old.field (record old { minus = None }) t f g x.wrong y.wrong
+one_wrong_point S old t f g (inr x) (inr y) = one_wrong_field S old.field _ t f g x.wrong y.wrong
 
 -- ---- the end
 
 -- only one name is the first that names no point
 one_first : (p : PointValues) (i a z j b y : ℕ) → IsFirstUnknown p i a z → IsFirstUnknown p j b y → (i ≡ j) × (a ≡ b) × (z ≡ y)
-one_first p i a z j b y m n = at (order ((i * p.actions + a) * p.observations + z) ((j * p.actions + b) * p.observations + y))
+one_first p i a z j b y m n = at (order _ _)
   where
     not_before : (i a z j b y : ℕ) → IsFirstUnknown p i a z → IsFirstUnknown p j b y
         → (i * p.actions + a) * p.observations + z < (j * p.actions + b) * p.observations + y → ⊥
-    not_before i a z j b y m n l = let small = n.first _ m.number l m.named in omega (arith, small, m.unknown)
+    not_before i a z j b y m n l = let small = n.first _ m.number l m.named in omega arith
 
     at : ((i * p.actions + a) * p.observations + z < (j * p.actions + b) * p.observations + y)
         ⊎ (((i * p.actions + a) * p.observations + z ≡ (j * p.actions + b) * p.observations + y)
@@ -120,11 +121,10 @@ one_first p i a z j b y m n = at (order ((i * p.actions + a) * p.observations + 
         → (i ≡ j) × (a ≡ b) × (z ≡ y)
     at (inl l) = absurd (not_before i a z j b y m n l)
     at (inr (inl e)) =
-        let row = same_row p.observations (i * p.actions + a) (j * p.actions + b) z y m.observation_is n.observation_is e in (
+        let row = same_row p.observations _ _ z y m.observation_is n.observation_is e in (
           same_row p.actions i j a b m.action_is n.action_is row,
           same_column p.actions i j a b m.action_is n.action_is row,
-          same_column
-              p.observations (i * p.actions + a) (j * p.actions + b) z y m.observation_is n.observation_is e,
+          same_column p.observations _ _ z y m.observation_is n.observation_is e,
         )
     at (inr (inr l)) = absurd (not_before j b y i a z n m l)
 
@@ -175,5 +175,5 @@ module _ (S A Z : ℕ) (text : List ℕ) where
   pub one_refusal : (f g : PointFault) → (f ≡ faults.Memory → ⊥) → (g ≡ faults.Memory → ⊥) → IsPointsRefusal S A Z text f
       → IsPointsRefusal S A Z text g → f ≡ g
   one_refusal f g f_says g_says x y =
-      stops.one_reason (λ ts. BeginPoints S A Z ts) (begin_front S A Z) IsWrongHere EndsFor (text_rest text text_limit) one_wrong one_end f
+      stops.one_reason _ (begin_front S A Z) IsWrongHere EndsFor _ one_wrong one_end f
       g (reason f f_says x) (reason g g_says y)

@@ -8,15 +8,15 @@ use Rattle.polcert_policy.specs.declared.fault.VectorFault.TheVariants as faults
 use Rattle.polcert_policy.proofs.Places.{true_false, same_row, same_column}
 use Rattle.polcert_policy.proofs.OneStop as stops
 
-columns : (o : ℕ) (ts : List Lexeme) (n c m d : ℕ) → IsPartColumn o ts n c → IsPartColumn o ts m d → (n ≡ m) × (c ≡ d)
-columns o ts n c m d x y =
-    let e : n * (1 + o) + c ≡ m * (1 + o) + d = omega (arith, x.count, y.count) in
-    (same_row (1 + o) n m c d x.within y.within e, same_column (1 + o) n m c d x.within y.within e)
+module _ (o : ℕ) (ts : List Lexeme) where
+  columns : (n c m d : ℕ) → IsPartColumn o ts n c → IsPartColumn o ts m d → (n ≡ m) × (c ≡ d)
+  columns n c m d x y =
+      let e : n * (1 + o) + c ≡ m * (1 + o) + d = omega arith in
+      (same_row (1 + o) n m c d x.within y.within e, same_column (1 + o) n m c d x.within y.within e)
 
-wrong_shape : (o : ℕ) (ts : List Lexeme) (s : Option Lexeme) (t : Lexeme) (n c m d : ℕ) → IsPartColumn o ts n c
-    → is_part_shaped c s t ≡ false → IsPartColumn o ts m d → is_part_shaped d s t ≡ true → ⊥
-wrong_shape o ts s t n c m d x wrong y right =
-    true_false right (subst (λ e. is_part_shaped e s t ≡ false) (columns o ts n c m d x y).1 wrong)
+  wrong_shape : (s : Option Lexeme) (t : Lexeme) (n c m d : ℕ) → IsPartColumn o ts n c
+      → is_part_shaped c s t ≡ false → IsPartColumn o ts m d → is_part_shaped d s t ≡ true → ⊥
+  wrong_shape s t n c m d x wrong y right = true_false right (subst (λ e. is_part_shaped e s t ≡ false) (columns n c m d x y).1 wrong)
 
 -- a numeral has the shape of a value
 value_shape : (s : Option Lexeme) (t : Lexeme) (c : ℕ) → numeral_kind t.kind ≡ true → is_part_shaped (suc c) s t ≡ true
@@ -31,11 +31,12 @@ wrong_value o ts t n c m d x numeral y wrong = wrong_shape o ts (last_sign ts) t
 not_after : (g : PolicyGraph) (o : ℕ) (ts : List Lexeme) (n c : ℕ) → IsPartColumn o ts n c → n < nodes g → IsPartColumn o ts (nodes g) 0 → ⊥
 not_after g o ts n c x few y = let e = (columns o ts n c (nodes g) 0 x y).0 in omega (arith, e, few)
 
-other_column : (o : ℕ) (ts : List Lexeme) (n c m : ℕ) → IsPartColumn o ts n c → 0 < c → IsPartColumn o ts m 0 → ⊥
-other_column o ts n c m x begun y = let e = (columns o ts n c m 0 x y).1 in omega (arith, e, begun)
+module _ (o : ℕ) (ts : List Lexeme) (n : ℕ) where
+  other_column : (c m : ℕ) → IsPartColumn o ts n c → 0 < c → IsPartColumn o ts m 0 → ⊥
+  other_column c m x begun y = let e = (columns o ts n c m 0 x y).1 in omega (arith, e, begun)
 
-value_or_action : (o : ℕ) (ts : List Lexeme) (n c m : ℕ) → IsPartColumn o ts n (suc c) → IsPartColumn o ts m 0 → ⊥
-value_or_action o ts n c m x y = other_column o ts n (suc c) m x (omega arith) y
+  value_or_action : (c m : ℕ) → IsPartColumn o ts n (suc c) → IsPartColumn o ts m 0 → ⊥
+  value_or_action c m x y = other_column (suc c) m x (omega arith) y
 
 one_misfit : (g : PolicyGraph) (o : ℕ) (ts : List Lexeme) (t : Lexeme) (f h : VectorFault) → IsPartMisfit g o ts t f
     → IsPartMisfit g o ts t h → f ≡ h
@@ -80,6 +81,6 @@ module _ (way : Rounding) (g : PolicyGraph) (o : ℕ) (text : List ℕ) where
   pub one_refusal : (f h : VectorFault) → (f ≡ faults.Memory → ⊥) → (h ≡ faults.Memory → ⊥)
       → IsRoundedVectorsRefusal way g o text f → IsRoundedVectorsRefusal way g o text h → f ≡ h
   one_refusal f h f_says h_says x y =
-      stops.one_reason (λ ts. ArePossible way g o ts) possible_before (λ ts t. IsPartMisfit g o ts t) (EndsFor o text)
-      (text_rest text text_limit)
+      stops.one_reason _ possible_before _ _
+      _
       (one_misfit g o) (one_end o text) f h (reason f f_says x) (reason h h_says y)

@@ -1,12 +1,12 @@
 -- What is said of points where their tokens end.
-use Rattle.std.proofs.Common.{◌≡◌, ◌∙◌, ℕ, ◌+◌, ◌*◌, ◌/◌, ◌%◌, ◌<◌, ◌≤◌, inl, ◌⊎◌, Some, Result, Ok, Err, List, [], length, slice_get, refl}
-use Rattle.std.proofs.Common.{sym, ap, subst, arith, MatchResult}
+use Rattle.std.proofs.Common.{◌≡◌, ◌∙◌, ℕ, ◌+◌, ◌*◌, ◌/◌, ◌%◌, ◌<◌, ◌≤◌, inl, ◌⊎◌, Result, Ok, Err, List, [], length, slice_get, refl}
+use Rattle.std.proofs.Common.{ap, subst, arith, MatchResult}
 use Rattle.std.proofs.lemmas.Nat.{div-add-mod', mod_below}
-use Rattle.polcert_policy.proofs.Common.{Lexeme, Minus, is_joined, AllBelow}
+use Rattle.polcert_policy.proofs.Common.{Lexeme, Minus, is_joined}
 use Rattle.polcert_policy.specs.Steps.GraphRead.{IsFirstBeyondAt}
 use Rattle.polcert_policy.specs.Points.{PointValues}
 use Rattle.polcert_policy.specs.PointTokens.{PointsSoFar, nothing_read, TakesSign, TakesValue, TakesAll, IsWrongValue, is_joined_to}
-use Rattle.polcert_policy.specs.PointText.{AreLoosePoints, ArePointTokens, IsFirstUnknown}
+use Rattle.polcert_policy.specs.PointText.{AreLoosePoints, IsFirstUnknown}
 use Rattle.polcert_policy.specs.Steps.PointsRead.{IsMemoryOr}
 use Rattle.polcert_policy.specs.declared.graph.MinusSign.{MinusSign}
 use Rattle.polcert_policy.specs.declared.points_reading.PointField.TheVariants as fields
@@ -38,18 +38,11 @@ module _ (S A Z : ℕ) (ts : List Lexeme) (st : PointsSoFar) (read : TakesAll S 
     pub loose_read : (p : PointValues) → p ≡ read_points → AreLoosePoints S A Z ts p
     loose_read p e = record { last = st; read = read; whole = whole; points_are = e }
 
-    pub points_read : (p : PointValues) → p ≡ read_points → AllBelow (length st.rows) st.names → ArePointTokens S A Z ts p
-    points_read p e below = record {
-      loose = loose_read p e;
-      bound =
-          λ k m named. subst (λ q. m < length q.rows) (sym e) (below k m (subst (λ q. slice_get q.names k ≡ Some (Some m)) e named));
-    }
-
     pub unknown_read : (place : ℕ) → 1 ≤ A → 1 ≤ Z → IsFirstBeyondAt (length st.rows) st.names place
         → (p : PointValues) × AreLoosePoints S A Z ts p × IsFirstUnknown p (place / Z / A) (place / Z % A) (place % Z)
     unknown_read place some_a some_z first =
-        let of_action : place / Z / A * A + place / Z % A ≡ place / Z = div-add-mod' (place / Z) A in
-        let at : (place / Z / A * A + place / Z % A) * Z + place % Z ≡ place = ap (λ n. n * Z + place % Z) of_action
+        let of_action = div-add-mod' (place / Z) A in
+        let at = ap (λ n. n * Z + place % Z) of_action
         ∙ div-add-mod' place Z in (
           read_points,
           loose_read read_points refl,

@@ -5,7 +5,7 @@ use Rattle.std.proofs.Common.{append_assoc}
 use Rattle.std.specs.Prelude.{◌==◌, codes}
 use Rattle.std.proofs.lemmas.Bool.{eqb-true}
 use Rattle.polcert_policy.proofs.Common.{Lexeme, Numeral, Plus, Minus, Name, TokenKind, range_with_len, get_or_from_slice_get, numeral_kind}
-use Rattle.polcert_policy.proofs.Common.{minus_kind, sign_kind, is_whole, whole_number_of, is_successor, successor_of}
+use Rattle.polcert_policy.proofs.Common.{minus_kind, sign_kind, is_whole, is_successor, successor_of}
 use Rattle.polcert_cells.specs.declared.elements.Cell.{Cell}
 use Rattle.polcert_cells.specs.Sparse.{weight_at}
 use Rattle.polcert_text.specs.Numbers.{IsCeil}
@@ -39,8 +39,7 @@ grows_through : (a b c : PointsSoFar) → Grows a b → Grows b c → Grows a c
 grows_through a b c x y = record {
   rows = λ k v e. y.rows k v (x.rows k v e);
   values = λ k v e. y.values k v (x.values k v e);
-  names =
-      λ k v e. y.names k v (x.names k v e);
+  names = λ k v e. y.names k v (x.names k v e);
 }
 
 module _ (S A Z : ℕ) where
@@ -51,11 +50,9 @@ module _ (S A Z : ℕ) where
         field = fields.Value 0;
         mass = old.mass + w;
         row = [];
-        rows =
-            old.rows ++ with_weight s w old.row ∷ [];
-      } else record old
-          { field = fields.Weight (suc s); mass = old.mass + w; row = with_weight s w old.row })
-      at true = record { rows = λ k x e. get_more old.rows (with_weight s w old.row ∷ []) x k e; values = λ k x e. e; names = λ k x e. e }
+        rows = old.rows ++ with_weight s w old.row ∷ [];
+      } else record old { field = fields.Weight (suc s); mass = old.mass + w; row = with_weight s w old.row })
+      at true = record { rows = λ k x e. get_more old.rows _ x k e; values = λ k x e. e; names = λ k x e. e }
       at false = record { rows = λ k x e. e; values = λ k x e. e; names = λ k x e. e }
 
   field_grows : (f : PointField) (old new : PointsSoFar) (t : Lexeme) → TakesField S A Z f old t new → Grows old new
@@ -67,10 +64,10 @@ module _ (S A Z : ℕ) where
   field_grows (fields.Value a) old new t (inr x) = subst (Grows old) (sym x.new_is)
       (record { rows = λ k v e. e; values = λ k v e. get_more old.values (x.value ∷ []) v k e; names = λ k v e. e })
   field_grows (fields.Name a z) old new t x = subst (Grows old) (sym x.new_is)
-      (record { rows = λ k v e. e; values = λ k v e. e; names = λ k v e. get_more old.names (kept_name (successor_of t) ∷ []) v k e })
+      (record { rows = λ k v e. e; values = λ k v e. e; names = λ k v e. get_more old.names _ v k e })
 
   taken_grows : (old new : PointsSoFar) (t : Lexeme) → TakesPointToken S A Z old t new → Grows old new
-  taken_grows old new t x = let g = field_grows old.field (record old { minus = None }) new t x.field in
+  taken_grows old new t x = let g = field_grows old.field _ new t x.field in
       record { rows = g.rows; values = g.values; names = g.names }
 
   all_grows : (old new : PointsSoFar) (ts : List Lexeme) → TakesAll S A Z old ts new → Grows old new
@@ -123,14 +120,12 @@ module _ (S A Z : ℕ) (some_s : 1 ≤ S) (some_a : 1 ≤ A) (some_z : 1 ≤ Z) 
         field = fields.Value 0;
         mass = old.mass + w;
         row = [];
-        rows =
-            old.rows ++ with_weight s w old.row ∷ [];
-      } else record old
-          { field = fields.Weight (suc s); mass = old.mass + w; row = with_weight s w old.row })
+        rows = old.rows ++ with_weight s w old.row ∷ [];
+      } else record old { field = fields.Weight (suc s); mass = old.mass + w; row = with_weight s w old.row })
           → FoundRow (length old.rows) (suc s) (with_weight s w old.row)
       at true is = record {
         final = with_weight s w old.row;
-        found = (all_grows S A Z between last ts rest).rows (length old.rows) (with_weight s w old.row)
+        found = (all_grows S A Z between last ts rest).rows _ _
             (ap (λ st. slice_get st.rows (length old.rows)) is ∙ get_here old.rows [] (with_weight s w old.row));
         same = λ c l. refl;
       }
@@ -146,15 +141,14 @@ module _ (S A Z : ℕ) (some_s : 1 ≤ S) (some_a : 1 ≤ A) (some_z : 1 ≤ Z) 
       → FoundRow (length old.rows) s old.row
   find_row [] s old e h x = absurd (weight_no_number s (sym e ∙ ap (λ st. st.field) x ∙ whole))
   find_row (t ∷ ts) s old e h x =
-      let y = field_at S A Z (fields.Weight s) old x.0 t e x.1 in
-      let at : IsSoundField S A Z (fields.Weight s) old = subst (λ f. IsSoundField S A Z f old) e h.at in
+      let y = field_at S A Z _ old x.0 t e x.1 in
+      let at = subst (λ f. IsSoundField S A Z f old) e h.at in
       let sound = taken_sound S A Z some_s some_a some_z old x.0 t h x.1 in
       let after = row_after s y.weight (record old { minus = None }) x.0 ts y.new_is x.2 (λ f. find_row ts (suc s) x.0 f sound x.2) in
       record {
         final = after.final;
         found = after.found;
-        same = λ c l. after.same c (omega (arith, l))
-            ∙ weight_kept s y.weight old.mass c old.row at.weights l;
+        same = λ c l. after.same c (omega (arith, l)) ∙ weight_kept s y.weight old.mass c old.row at.weights l;
       }
 
   -- ---- the fields that are still to come
@@ -195,13 +189,13 @@ module _ (S A Z : ℕ) (some_s : 1 ≤ S) (some_a : 1 ≤ A) (some_z : 1 ≤ Z) 
       → (length between.rows < length last.rows) → FieldsAt (fields.Weight 0) between ts → FieldsAt fields.Number old (t ∷ ts)
   number_fields old between t ts y few next zero l = let same = ap (λ st. length st.rows) y.new_is in absurd (omega (arith, l, few, same))
   number_fields old between t ts y few next (suc k) l =
-      let same : length between.rows ≡ length old.rows = ap (λ st. length st.rows) y.new_is in
+      let same = ap (λ st. length st.rows) y.new_is in
       let rest = next S k (omega arith) (omega (arith, l, same)) in
       let moved = subst (λ n. ArePointFields ts (rest_weights n 0 S k)) same rest in
       let n = length old.rows in
       flat.number (whole_is t n y.whole y.number)
       (subst (ArePointFields ts) (sym (append_assoc (weight_fields points n (range_with_len 0 S))
-      (flat_map (action_fields points n) (range_with_len 0 A)) (rest_points (n + 1) k))) moved)
+      _ (rest_points (n + 1) k))) moved)
 
   weight_of_read : (n s w sum : ℕ) (row : List Cell) → HasWeights s row sum → FoundRow n (suc s) (with_weight s w row)
       → point_weight points n s ≡ w
@@ -218,7 +212,7 @@ module _ (S A Z : ℕ) (some_s : 1 ≤ S) (some_a : 1 ≤ A) (some_z : 1 ≤ Z) 
       more : between.field ≡ fields.Weight (suc s) → length between.rows ≡ length old.rows
           → ArePointFields ts (rest_weights (length old.rows) (s + 1) j r)
       more f same =
-          let at_next : FieldsAt (fields.Weight (suc s)) between ts = subst (λ g. FieldsAt g between ts) f next in
+          let at_next = subst (λ g. FieldsAt g between ts) f next in
           let one : suc s ≡ s + 1 = omega arith in
           subst (λ n. ArePointFields ts (rest_weights n (s + 1) j r)) same
           (subst (λ c. ArePointFields ts (rest_weights (length between.rows) c j r)) one (at_next j r lj (omega (arith, lr, same))))
@@ -226,44 +220,41 @@ module _ (S A Z : ℕ) (some_s : 1 ≤ S) (some_a : 1 ≤ A) (some_z : 1 ≤ Z) 
       ended : suc s ≡ S → between.field ≡ fields.Value 0 → length between.rows ≡ length old.rows + 1
           → ArePointFields ts (rest_weights (length old.rows) (s + 1) j r)
       ended is f same =
-          let at_next : FieldsAt (fields.Value 0) between ts = subst (λ g. FieldsAt g between ts) f next in
+          let at_next = subst (λ g. FieldsAt g between ts) f next in
           let none : 0 ≡ j = omega arith in
           subst (λ k. ArePointFields ts (rest_weights (length old.rows) (s + 1) k r)) none
-          ((at_next (length old.rows) A r same (omega arith) lr).0 closed)
+          ((at_next _ A r same (omega arith) lr).0 closed)
 
       at : (b : Bool) → (suc s == S) ≡ b → between ≡ (if b then record old
           { field = fields.Value 0; mass = old.mass + w; row = []; rows = old.rows ++ with_weight s w old.row ∷ [] } else record old
           { field = fields.Weight (suc s); mass = old.mass + w; row = with_weight s w old.row })
           → ArePointFields ts (rest_weights (length old.rows) (s + 1) j r)
-      at true b is = ended (eqb-true (suc s) S b) (ap (λ st. st.field) is)
-          (ap (λ st. length st.rows) is ∙ length-append old.rows (with_weight s w old.row ∷ []))
+      at true b is = ended (eqb-true (suc s) S b) (ap (λ st. st.field) is) (ap (λ st. length st.rows) is ∙ length-append old.rows _)
       at false b is = more (ap (λ st. st.field) is) (ap (λ st. length st.rows) is)
 
   weight_fields_read : (s : ℕ) (old between : PointsSoFar) (t : Lexeme) (ts : List Lexeme) → IsSoundField S A Z (fields.Weight s) old
       → (y : TakesWeight S s (record old { minus = None }) t between) → between.sign ≡ None
       → FoundRow (length old.rows) (suc s) (with_weight s y.weight old.row) → FieldsAt between.field between ts
       → FieldsAt (fields.Weight s) old (t ∷ ts)
-  weight_fields_read s old between t ts at y closed found next zero r lj lr = absurd (omega (arith, at.state, lj))
+  weight_fields_read s old between t ts at y closed found next zero r lj lr = absurd (omega arith)
   weight_fields_read s old between t ts at y closed found next (suc j) r lj lr =
-      let value : point_weight points (length old.rows) s ≡ y.weight =
-      weight_of_read (length old.rows) s y.weight old.mass old.row at.weights found in
-      flat.weight (is_numeral t.kind y.numeral) (subst (IsWeight t.bytes) (sym value) y.is_weight)
+      flat.weight (is_numeral t.kind y.numeral) (subst (IsWeight t.bytes)
+      (sym (weight_of_read (length old.rows) s y.weight old.mass old.row at.weights found)) y.is_weight)
       (weights_left s y.weight (record old { minus = None }) between ts y.new_is closed next j r (omega (arith, lj)) lr)
 
   -- a sign before a value
   sign_fields : (a : ℕ) (old between : PointsSoFar) (t : Lexeme) (ts : List Lexeme) → TakesSign (record old { minus = None }) t between
       → FieldsAt (fields.Value a) between ts → FieldsAt (fields.Value a) old (t ∷ ts)
   sign_fields a old between t ts y next i k r li lk lr =
-      let rows : length between.rows ≡ i + 1 = ap (λ st. length st.rows) y.new_is ∙ li in (
+      let rows = ap (λ st. length st.rows) y.new_is ∙ li in (
         (λ none. (next i k r rows lk lr).1 t y.sign (ap (λ st. st.sign) y.new_is)),
-        λ u kind is. absurd
-            (some_none (sign_of u) (sym y.first ∙ is)),
+        λ u kind is. absurd (some_none (sign_of u) (sym y.first ∙ is)),
       )
 
   value_read : (i a : ℕ) (values : List ℤ) (h : ℤ) → length values ≡ i * A + a
       → ((k : ℕ) (x : ℤ) → slice_get (values ++ h ∷ []) k ≡ Some x → slice_get last.values k ≡ Some x) → value_at points i a ≡ h
   value_read i a values h l stays = get_or_from_slice_get last.values (i * A + a) h (pos 0)
-      (ap (slice_get last.values) (sym l) ∙ stays (length values) h (get_here values [] h))
+      (ap (slice_get last.values) (sym l) ∙ stays _ h (get_here values [] h))
 
   module _ (a : ℕ) (old between : PointsSoFar) (t : Lexeme) (ts : List Lexeme) (y : TakesValue a (record old { minus = None }) t between)
       (h : ℤ) (is : h ≡ y.value) (fs : List Field) (tail : ArePointFields ts fs) where
@@ -272,8 +263,7 @@ module _ (S A Z : ℕ) (some_s : 1 ≤ S) (some_a : 1 ≤ A) (some_z : 1 ≤ Z) 
         flat.unsigned (record {
           kind = is_numeral t.kind y.numeral;
           readable = y.readable;
-          value =
-              subst (IsCeil false t.bytes) (sym is) (subst (λ s. IsCeil (is_negated s) t.bytes y.value) e y.rounded);
+          value = subst (IsCeil false t.bytes) (sym is) (subst (λ s. IsCeil (is_negated s) t.bytes y.value) e y.rounded);
         }) tail
 
     signed_field : (u : Lexeme) → sign_kind u.kind ≡ true → old.sign ≡ Some (sign_of u)
@@ -281,32 +271,30 @@ module _ (S A Z : ℕ) (some_s : 1 ≤ S) (some_a : 1 ≤ A) (some_z : 1 ≤ Z) 
     signed_field u kind e = by (is_sign u.kind kind)
       where
         rounded : IsCeil (minus_kind u.kind) t.bytes h
-        rounded = subst (IsCeil (minus_kind u.kind) t.bytes) (sym is) (subst (λ s. IsCeil (is_negated s) t.bytes y.value) e y.rounded)
+        rounded = subst (IsCeil _ t.bytes) (sym is) (subst (λ s. IsCeil (is_negated s) t.bytes y.value) e y.rounded)
 
         by : (u.kind ≡ Plus) ⊎ (u.kind ≡ Minus) → ArePointFields (u ∷ t ∷ ts) (flat.value_field h ∷ fs)
         by (inl k) = flat.plus k (record {
           kind = is_numeral t.kind y.numeral;
           readable = y.readable;
-          value =
-              subst (λ b. IsCeil b t.bytes h) (ap minus_kind k) rounded;
+          value = subst (λ b. IsCeil b t.bytes h) (ap minus_kind k) rounded;
         }) tail
         by (inr k) = flat.minus k (record {
           kind = is_numeral t.kind y.numeral;
           readable = y.readable;
-          value =
-              subst (λ b. IsCeil b t.bytes h) (ap minus_kind k) rounded;
+          value = subst (λ b. IsCeil b t.bytes h) (ap minus_kind k) rounded;
         }) tail
 
   value_fields : (a : ℕ) (old between : PointsSoFar) (t : Lexeme) (ts : List Lexeme) → IsSoundField S A Z (fields.Value a) old
       → (y : TakesValue a (record old { minus = None }) t between) → TakesAll S A Z between ts last
       → FieldsAt (fields.Name a 0) between ts → FieldsAt (fields.Value a) old (t ∷ ts)
-  value_fields a old between t ts at y rest next i zero r li lk lr = absurd (omega (arith, at.action, lk))
+  value_fields a old between t ts at y rest next i zero r li lk lr = absurd (omega arith)
   value_fields a old between t ts at y rest next i (suc k) r li lk lr =
-      let rows : length between.rows ≡ i + 1 = ap (λ st. length st.rows) y.new_is ∙ li in
+      let rows = ap (λ st. length st.rows) y.new_is ∙ li in
       let tail = next i Z k r rows (omega arith) (omega (arith, lk)) lr in
-      let names = name_fields points i a (range_with_len 0 Z) in
-      let joined : ArePointFields ts ((names ++ flat_map (action_fields points i) (range_with_len (a + 1) k)) ++ rest_points (i + 1) r) =
-      subst (ArePointFields ts) (sym (append_assoc names (flat_map (action_fields points i) (range_with_len (a + 1) k))
+      let names = name_fields points i a _ in
+      let joined =
+      subst (ArePointFields ts) (sym (append_assoc names _
       (rest_points (i + 1) r)))
       tail in
       let point : at.point ≡ i = omega (arith, at.point_is, li) in
@@ -314,8 +302,7 @@ module _ (S A Z : ℕ) (some_s : 1 ≤ S) (some_a : 1 ≤ A) (some_z : 1 ≤ Z) 
       let grown = (all_grows S A Z between last ts rest).values in
       let value = value_read i a old.values y.value here (λ n x e. grown n x (ap (λ st. slice_get st.values n) y.new_is ∙ e)) in (
         plain_field a old between t ts y (value_at points i a) value _ joined,
-        signed_field a old between t ts y (value_at points i a) value
-            _ joined,
+        signed_field a old between t ts y (value_at points i a) value _ joined,
       )
 
   -- ---- the names of points
@@ -330,8 +317,7 @@ module _ (S A Z : ℕ) (some_s : 1 ≤ S) (some_a : 1 ≤ A) (some_z : 1 ≤ Z) 
       → slice_get last.names k ≡ Some x) → named_at points i a z ≡ v
   name_read i a z names v few bound l stays =
       let found = stays (length names) (kept_name v) (get_here names [] (kept_name v)) in
-      let here : slice_get last.names ((i * A + a) * Z + z) ≡ Some (kept_name v) = ap (slice_get last.names) (sym l) ∙ found in
-      get_or_from_slice_get last.names ((i * A + a) * Z + z) (kept_name v) None here
+      get_or_from_slice_get last.names ((i * A + a) * Z + z) (kept_name v) None (ap (slice_get last.names) (sym l) ∙ found)
       ∙ kept_as_it_is v (length last.rows) few (λ m e. bound (length names) m (found ∙ ap Some e))
 
   -- a token that names a point or none
@@ -342,25 +328,23 @@ module _ (S A Z : ℕ) (some_s : 1 ≤ S) (some_a : 1 ≤ A) (some_z : 1 ≤ Z) 
       by : (k : TokenKind) → t.kind ≡ k → ArePointFields (t ∷ ts) (flat.name_field (successor_of t) ∷ fs)
       by Numeral k =
           let whole : is_whole t ≡ true = grind arith in
-          let same : Some (whole_number_of t) ≡ successor_of t = grind arith in
-          subst (λ w. ArePointFields (t ∷ ts) (flat.name_field w ∷ fs)) same (flat.named (whole_is t (whole_number_of t) whole refl) tail)
+          let same : Some _ ≡ successor_of t = grind arith in
+          subst (λ w. ArePointFields (t ∷ ts) (flat.name_field w ∷ fs)) same (flat.named (whole_is t _ whole refl) tail)
       by Name k =
           let same : None ≡ successor_of t = grind arith in
           let bytes : t.bytes ≡ codes "X" = grind arith in
           subst (λ w. ArePointFields (t ∷ ts) (flat.name_field w ∷ fs)) same (flat.x (record { kind = k; bytes = bytes }) tail)
-      by Minus k =
-          let same : None ≡ successor_of t = grind arith in
-          subst (λ w. ArePointFields (t ∷ ts) (flat.name_field w ∷ fs)) same (flat.dash k (apart k) tail)
+      by Minus k = subst (λ w. ArePointFields (t ∷ ts) (flat.name_field w ∷ fs)) (grind arith) (flat.dash k (apart k) tail)
       by k e = grind arith
 
   not_joined : (t : Lexeme) (ts : List Lexeme) (between : PointsSoFar) → between.minus ≡ minus_of t → TakesAll S A Z between ts last
       → t.kind ≡ Minus → IsNotJoined t ts
   not_joined t [] between e rest k = tt
   not_joined t (u ∷ us) between e rest k = λ numeral place.
-      let at : between.minus ≡ Some (record { place = t.place; stop = t.place + length t.bytes }) = e
+      let at = e
       ∙ ap (λ b. if b then Some (record { place = t.place; stop = t.place + length t.bytes }) else None) (ap minus_kind k) in
-      let apart = rest.1.apart (record { place = t.place; stop = t.place + length t.bytes }) at in
-      true_false (joined u (t.place + length t.bytes) numeral place) apart
+      let apart = rest.1.apart _ at in
+      true_false (joined u _ numeral place) apart
     where
       joined : (u : Lexeme) (stop : ℕ) → u.kind ≡ Numeral → u.place ≡ stop → is_joined_to (record { place = t.place; stop = stop }) u ≡ true
       joined u stop numeral place = grind arith
@@ -381,47 +365,44 @@ module _ (S A Z : ℕ) (some_s : 1 ≤ S) (some_a : 1 ≤ A) (some_z : 1 ≤ Z) 
       at true true iz ia f =
           let last_z = eqb-true (suc z) Z iz in
           let last_a = eqb-true (suc a) A ia in
-          let at_next : FieldsAt fields.Number between ts = subst (λ g. FieldsAt g between ts) f next in
-          let no_name : 0 ≡ j = omega (arith, lj, last_z) in
-          let no_action : 0 ≡ k = omega (arith, lk, last_a) in
+          let at_next = subst (λ g. FieldsAt g between ts) f next in
+          let no_name : 0 ≡ j = omega arith in
+          let no_action : 0 ≡ k = omega arith in
           let tail = subst (λ n. ArePointFields ts (rest_points n r)) rows (at_next r (omega (arith, rows, lr))) in
           subst (λ x. ArePointFields ts (rest_names i a (z + 1) x k r)) no_name
           (subst (λ y. ArePointFields ts (rest_actions i (a + 1) y r)) no_action tail)
       at true false iz ia f =
           let last_z = eqb-true (suc z) Z iz in
-          let at_next : FieldsAt (fields.Value (suc a)) between ts = subst (λ g. FieldsAt g between ts) f next in
-          let no_name : 0 ≡ j = omega (arith, lj, last_z) in
+          let at_next = subst (λ g. FieldsAt g between ts) f next in
+          let no_name : 0 ≡ j = omega arith in
           let one : suc a ≡ a + 1 = omega arith in
           let tail = (at_next i k r rows (omega (arith, lk)) lr).0 closed in
           subst (λ x. ArePointFields ts (rest_names i a (z + 1) x k r)) no_name
           (subst (λ b. ArePointFields ts (rest_actions i b k r)) one tail)
       at false c iz ia f =
-          let at_next : FieldsAt (fields.Name a (suc z)) between ts = subst (λ g. FieldsAt g between ts) f next in
           let one : suc z ≡ z + 1 = omega arith in
-          subst (λ x. ArePointFields ts (rest_names i a x j k r)) one (at_next i j k r rows lj lk lr)
+          subst (λ x. ArePointFields ts (rest_names i a x j k r)) one ((subst (λ g. FieldsAt g between ts) f next) i j k r rows lj lk lr)
 
   module _ (few : length last.rows ≤ most_points) (bound : (k m : ℕ) → slice_get last.names k ≡ Some (Some m) → m < length last.rows) where
     name_fields_read : (a z : ℕ) (old between : PointsSoFar) (t : Lexeme) (ts : List Lexeme) → IsSoundField S A Z (fields.Name a z) old
         → old.sign ≡ None → TakesName A Z a z (record old { minus = None }) t between → TakesAll S A Z between ts last
         → FieldsAt between.field between ts → FieldsAt (fields.Name a z) old (t ∷ ts)
-    name_fields_read a z old between t ts at closed y rest next i zero k r li lj lk lr = absurd (omega (arith, at.observation, lj))
+    name_fields_read a z old between t ts at closed y rest next i zero k r li lj lk lr = absurd (omega arith)
     name_fields_read a z old between t ts at closed y rest next i (suc j) k r li lj lk lr =
-        let point : at.point ≡ i = omega (arith, at.point_is, li) in
-        let here : length old.names ≡ (i * A + a) * Z + z = at.lists.names_are ∙ ap (λ n. (n * A + a) * Z + z) point in
+        let point : at.point ≡ i = omega arith in
+        let here = at.lists.names_are ∙ ap (λ n. (n * A + a) * Z + z) point in
         let grown = (all_grows S A Z between last ts rest).names in
-        let value = name_read i a z old.names (successor_of t) few bound here
+        let value = name_read i a z old.names _ few bound here
         (λ n x e. grown n x (ap (λ st. slice_get st.names n) y.new_is ∙ e)) in
         let tail = names_left a z i old between ts (ap (λ st. st.field) y.new_is) (ap (λ st. st.rows) y.new_is)
         (ap (λ st. st.sign) y.new_is ∙ closed) next j k r li (omega (arith, lj)) lk lr in
-        named_field t ts _ (named_at points i a z) y.names value (not_joined t ts between (ap (λ st. st.minus) y.new_is) rest) tail
+        named_field t ts _ _ y.names value (not_joined t ts between (ap (λ st. st.minus) y.new_is) rest) tail
 
     -- ---- all tokens
 
     closed_of : (f : PointField) (sign : Option OpenSign) → sign ≡ None → IsClosed f sign
     closed_of (fields.Value a) sign e = tt
-    closed_of fields.Number sign e = e
-    closed_of (fields.Weight s) sign e = e
-    closed_of (fields.Name a z) sign e = e
+    closed_of _ sign e = e
 
     weight_sign : (s w : ℕ) (old : PointsSoFar) → (after_weight S s w old).sign ≡ old.sign
     weight_sign s w old = at (suc s == S)
@@ -430,10 +411,8 @@ module _ (S A Z : ℕ) (some_s : 1 ≤ S) (some_a : 1 ≤ A) (some_z : 1 ≤ Z) 
           field = fields.Value 0;
           mass = old.mass + w;
           row = [];
-          rows =
-              old.rows ++ with_weight s w old.row ∷ [];
-        } else record old
-            { field = fields.Weight (suc s); mass = old.mass + w; row = with_weight s w old.row }).sign ≡ old.sign
+          rows = old.rows ++ with_weight s w old.row ∷ [];
+        } else record old { field = fields.Weight (suc s); mass = old.mass + w; row = with_weight s w old.row }).sign ≡ old.sign
         at true = refl
         at false = refl
 
@@ -448,24 +427,24 @@ module _ (S A Z : ℕ) (some_s : 1 ≤ S) (some_a : 1 ≤ A) (some_z : 1 ≤ Z) 
     fields_read [] old h c x (fields.Name a z) e = absurd (name_no_number a z (sym e ∙ ap (λ st. st.field) x ∙ whole))
     fields_read (t ∷ ts) old h c x fields.Number e =
         let y = field_at S A Z fields.Number old x.0 t e x.1 in
-        let closed : old.sign ≡ None = subst (λ g. IsClosed g old.sign) e c in
+        let closed = subst (λ g. IsClosed g old.sign) e c in
         let sound = taken_sound S A Z some_s some_a some_z old x.0 t h x.1 in
-        let here : x.0.field ≡ fields.Weight 0 = ap (λ st. st.field) y.new_is in
+        let here = ap (λ st. st.field) y.new_is in
         let found = find_row ts 0 x.0 here sound x.2 in
-        let few = within_get last.rows (length x.0.rows) found.final found.found in
-        number_fields (record old { minus = None }) x.0 t ts y few
-        (fields_read ts x.0 sound (closed_of x.0.field x.0.sign (ap (λ st. st.sign) y.new_is ∙ closed)) x.2 (fields.Weight 0) here)
+        let few = within_get last.rows _ found.final found.found in
+        number_fields _ x.0 t ts y few
+        (fields_read ts x.0 sound (closed_of x.0.field x.0.sign (ap (λ st. st.sign) y.new_is ∙ closed)) x.2 _ here)
     fields_read (t ∷ ts) old h c x (fields.Weight s) e =
-        let y = field_at S A Z (fields.Weight s) old x.0 t e x.1 in
-        let at : IsSoundField S A Z (fields.Weight s) old = subst (λ f. IsSoundField S A Z f old) e h.at in
-        let closed : old.sign ≡ None = subst (λ g. IsClosed g old.sign) e c in
+        let y = field_at S A Z _ old x.0 t e x.1 in
+        let at = subst (λ f. IsSoundField S A Z f old) e h.at in
+        let closed = subst (λ g. IsClosed g old.sign) e c in
         let sound = taken_sound S A Z some_s some_a some_z old x.0 t h x.1 in
-        let sign : x.0.sign ≡ None = ap (λ st. st.sign) y.new_is ∙ weight_sign s y.weight (record old { minus = None }) ∙ closed in
+        let sign = ap (λ st. st.sign) y.new_is ∙ weight_sign s y.weight (record old { minus = None }) ∙ closed in
         let found = row_after s y.weight (record old { minus = None }) x.0 ts y.new_is x.2 (λ g. find_row ts (suc s) x.0 g sound x.2) in
         weight_fields_read s old x.0 t ts at y sign found (fields_read ts x.0 sound (closed_of x.0.field x.0.sign sign) x.2 x.0.field refl)
     fields_read (t ∷ ts) old h c x (fields.Value a) e =
         by (λ closed. fields_read ts x.0 (taken_sound S A Z some_s some_a some_z old x.0 t h x.1) closed x.2)
-        (field_at S A Z (fields.Value a) old x.0 t e x.1)
+        (field_at S A Z _ old x.0 t e x.1)
       where
         at : IsSoundField S A Z (fields.Value a) old
         at = subst (λ f. IsSoundField S A Z f old) e h.at
@@ -474,18 +453,18 @@ module _ (S A Z : ℕ) (some_s : 1 ≤ S) (some_a : 1 ≤ A) (some_z : 1 ≤ Z) 
             → TakesSign (record old { minus = None }) t x.0 ⊎ TakesValue a (record old { minus = None }) t x.0
             → FieldsAt (fields.Value a) old (t ∷ ts)
         by next (inl y) =
-            let here : x.0.field ≡ fields.Value a = ap (λ st. st.field) y.new_is ∙ e in
-            sign_fields a old x.0 t ts y (next (subst (λ g. IsClosed g x.0.sign) (sym here) tt) (fields.Value a) here)
+            let here = ap (λ st. st.field) y.new_is ∙ e in
+            sign_fields a old x.0 t ts y (next (subst (λ g. IsClosed g x.0.sign) (sym here) tt) _ here)
         by next (inr y) =
-            let here : x.0.field ≡ fields.Name a 0 = ap (λ st. st.field) y.new_is in
-            value_fields a old x.0 t ts at y x.2 (next (closed_of x.0.field x.0.sign (ap (λ st. st.sign) y.new_is)) (fields.Name a 0) here)
+            let here = ap (λ st. st.field) y.new_is in
+            value_fields a old x.0 t ts at y x.2 (next (closed_of x.0.field x.0.sign (ap (λ st. st.sign) y.new_is)) _ here)
     fields_read (t ∷ ts) old h c x (fields.Name a z) e =
-        let y = field_at S A Z (fields.Name a z) old x.0 t e x.1 in
-        let at : IsSoundField S A Z (fields.Name a z) old = subst (λ f. IsSoundField S A Z f old) e h.at in
-        let closed : old.sign ≡ None = subst (λ g. IsClosed g old.sign) e c in
+        let y = field_at S A Z _ old x.0 t e x.1 in
+        let at = subst (λ f. IsSoundField S A Z f old) e h.at in
+        let closed = subst (λ g. IsClosed g old.sign) e c in
         let sound = taken_sound S A Z some_s some_a some_z old x.0 t h x.1 in
-        let sign : x.0.sign ≡ None = ap (λ st. st.sign) y.new_is ∙ closed in
-        name_fields_read a z old x.0 t ts at closed y x.2 (fields_read ts x.0 sound (closed_of x.0.field x.0.sign sign) x.2 x.0.field refl)
+        name_fields_read a z old x.0 t ts at closed y x.2 (fields_read ts x.0 sound
+        (closed_of x.0.field x.0.sign (ap (λ st. st.sign) y.new_is ∙ closed)) x.2 x.0.field refl)
 
 -- the tokens that are read as points are their fields
 pub by_fields : (S A Z : ℕ) (ts : List Lexeme) (p : PointValues) → 1 ≤ S → 1 ≤ A → 1 ≤ Z → ArePointTokens S A Z ts p
@@ -495,7 +474,7 @@ by_fields S A Z ts p some_s some_a some_z are =
     let q = points S A Z some_s some_a some_z last are.loose.whole in
     let known = subst NamesPointsOnly are.loose.points_are are.bound in
     let sound = all_sound S A Z some_s some_a some_z nothing_read last ts (nothing_sound S A Z some_s some_a some_z) are.loose.read in
-    let at : IsSoundField S A Z fields.Number last = subst (λ f. IsSoundField S A Z f last) are.loose.whole sound.at in
+    let at = subst (λ f. IsSoundField S A Z f last) are.loose.whole sound.at in
     subst (AreFieldTokens S A Z ts) (sym are.loose.points_are) (record {
       states_are = refl;
       actions_are = refl;

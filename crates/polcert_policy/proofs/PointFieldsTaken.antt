@@ -34,24 +34,24 @@ one_climb : (low n : ℕ) (xs ys : List Cell) → Climbs low n xs → Climbs low
     → ((c : ℕ) → low ≤ c → c < n → weight_at xs c ≡ weight_at ys c) → xs ≡ ys
 one_climb low n [] [] a b same = refl
 one_climb low n [] (y ∷ ys) a b same =
-    let e : 0 ≡ y.weight = same y.column b.0 b.1 ∙ weight_head y ys y.column refl in
+    let e = same y.column b.0 b.1 ∙ weight_head y ys y.column refl in
     absurd (omega (arith, e, b.2))
 one_climb low n (x ∷ xs) [] a b same =
-    let e : x.weight ≡ 0 = sym (weight_head x xs x.column refl) ∙ same x.column a.0 a.1 in
+    let e = sym (weight_head x xs x.column refl) ∙ same x.column a.0 a.1 in
     absurd (omega (arith, e, a.2))
 one_climb low n (x ∷ xs) (y ∷ ys) a b same = at (λ k. one_climb (x.column + 1) n xs ys a.3 k) (order x.column y.column)
   where
     before : (x y : Cell) (xs ys : List Cell) → Climbs low n (x ∷ xs) → Climbs low n (y ∷ ys)
         → ((c : ℕ) → low ≤ c → c < n → weight_at (x ∷ xs) c ≡ weight_at (y ∷ ys) c) → x.column < y.column → ⊥
     before x y xs ys a b same l =
-        let e : x.weight ≡ 0 = sym (weight_head x xs x.column refl) ∙ same x.column a.0 a.1
+        let e = sym (weight_head x xs x.column refl) ∙ same x.column a.0 a.1
         ∙ weight_tail y ys x.column (λ f. omega (arith, f, l)) ∙ weight_below (y.column + 1) n x.column ys b.3 (omega (arith, l)) in
         omega (arith, e, a.2)
 
     here : (Climbs (x.column + 1) n ys → ((c : ℕ) → x.column + 1 ≤ c → c < n → weight_at xs c ≡ weight_at ys c) → xs ≡ ys)
         → x.column ≡ y.column → x ∷ xs ≡ y ∷ ys
     here next e =
-        let weights : x.weight ≡ y.weight = sym (weight_head x xs x.column refl) ∙ same x.column a.0 a.1
+        let weights = sym (weight_head x xs x.column refl) ∙ same x.column a.0 a.1
         ∙ weight_head y ys x.column (sym e) in
         let rest = next (subst (λ c. Climbs (c + 1) n ys) (sym e) b.3)
         (λ c l k. sym (weight_tail x xs c (λ f. omega (arith, f, l))) ∙ same c (omega (arith, l, a.0)) k
@@ -65,8 +65,7 @@ one_climb low n (x ∷ xs) (y ∷ ys) a b same = at (λ k. one_climb (x.column +
     at next (inr (inr l)) = absurd (before y x ys xs b a (λ c k m. sym (same c k m)) l)
 
 one_row : (n : ℕ) (f : ℕ → ℕ) (xs ys : List Cell) → IsRow n f xs → IsRow n f ys → xs ≡ ys
-one_row n f xs ys a b = one_climb 0 n xs ys (climbs_from n xs a.sparse) (climbs_from n ys b.sparse)
-    (λ c l k. a.each c k ∙ sym (b.each c k))
+one_row n f xs ys a b = one_climb 0 n xs ys (climbs_from n xs a.sparse) (climbs_from n ys b.sparse) (λ c l k. a.each c k ∙ sym (b.each c k))
 
 below_or_same : (c s : ℕ) → c ≤ s → (c < s) ⊎ (c ≡ s)
 below_or_same c s l = grind arith
@@ -87,12 +86,11 @@ next_begins : {X : Type 0} (xs ys : List X) (k : ℕ) (d : X) → Begins xs ys �
 next_begins xs ys k d b l inside = at b.0 b.1
   where
     at : (more : List _) → ys ≡ xs ++ more → Begins (xs ++ get_or ys k d ∷ []) ys
-    at [] e = let same = ap length (e ∙ append-nil xs) in absurd (omega (arith, same, l, inside))
+    at [] e = let same = ap length (e ∙ append-nil xs) in absurd (omega arith)
     at (y ∷ more) e =
-        let here : slice_get ys k ≡ Some y = ap (λ n. slice_get ys n) (sym l) ∙ ap (λ zs. slice_get zs (length xs)) e
+        let here = ap (λ n. slice_get ys n) (sym l) ∙ ap (λ zs. slice_get zs (length xs)) e
         ∙ get_here xs more y in
-        let value : get_or ys k d ≡ y = get_or_from_slice_get ys k y d here in
-        (more, e ∙ sym (append_assoc xs (y ∷ []) more) ∙ ap (λ z. (xs ++ z ∷ []) ++ more) (sym value))
+        (more, e ∙ sym (append_assoc xs (y ∷ []) more) ∙ ap (λ z. (xs ++ z ∷ []) ++ more) (sym (get_or_from_slice_get ys k y d here)))
 
 whole_begins : {X : Type 0} (xs ys : List X) → Begins xs ys → length xs ≡ length ys → xs ≡ ys
 whole_begins xs ys b l = sym (b.1 ∙ same_count xs b.0 (sym (ap length b.1) ∙ sym l))
@@ -159,8 +157,7 @@ name_is t ts None (inl is) =
 name_is t ts None (inr is) =
     let kind = is.0 in
     let right : is_successor t ≡ true = grind arith in
-    let same : successor_of t ≡ None = grind arith in
-    (right, same)
+    (right, grind arith)
 
 name_apart : (t : Lexeme) (ts : List Lexeme) (v : Option ℕ) → IsNameOf t ts v → NextApart (minus_of t) ts
 name_apart t [] v is = tt
@@ -174,11 +171,11 @@ name_apart t (u ∷ us) v is = λ m e. by v is m e
     by (Some n) h m e = none (ap minus_kind h.kind) m e
     by None (inl h) m e = none (ap minus_kind h.kind) m e
     by None (inr h) m e =
-        let at : m ≡ record { place = t.place; stop = t.place + length t.bytes } =
-        sym (same_some (record { place = t.place; stop = t.place + length t.bytes }) m
+        let at =
+        sym (same_some _ m
         (ap (λ b. if b then Some (record { place = t.place; stop = t.place + length t.bytes }) else None) (sym (ap minus_kind h.0)) ∙ e))
         in
-        subst (λ k. is_joined_to k u ≡ false) (sym at) (apart u (t.place + length t.bytes) h.1)
+        subst (λ k. is_joined_to k u ≡ false) (sym at) (apart u _ h.1)
       where
         apart : (u : Lexeme) (stop : ℕ) → (u.kind ≡ Numeral → u.place ≡ stop → ⊥)
             → is_joined_to (record { place = t.place; stop = stop }) u ≡ false
@@ -204,13 +201,23 @@ module _ (S A Z : ℕ) (some_s : 1 ≤ S) (some_a : 1 ≤ A) (some_z : 1 ≤ Z) 
   abbrev rest_weights : ℕ → ℕ → ℕ → ℕ → List Field
   rest_weights i s j r = weight_fields p i (range_with_len s j) ++ rest_actions i 0 A r
 
+  abbrev rest_here : ℕ → ℕ → ℕ → ℕ → List Field
+  rest_here i a k r = (name_fields p i a (range_with_len 0 Z) ++ flat_map (action_fields p i) (range_with_len (a + 1) k)) ++ rest_points
+      (i + 1) r
+
+  abbrev named : PointsSoFar → Lexeme → PointField → PointsSoFar
+  named old t f = record old { minus = minus_of t; field = f; names = old.names ++ kept_name (successor_of t) ∷ [] }
+
   -- what was read begins the points
-  pub record Front (value_count name_count : ℕ) (old : PointsSoFar) : Type 0 where
-    pub rows_begin : Begins old.rows rows
-    pub values_begin : Begins old.values values
-    pub names_begin : Begins old.names names
-    pub values_are : length old.values ≡ value_count
-    pub names_are : length old.names ≡ name_count
+  pub record Fronts (value_count name_count : ℕ) (rs : List (List Cell)) (vs : List ℤ) (ns : List (Option ℕ)) : Type 0 where
+    pub rows_begin : Begins rs rows
+    pub values_begin : Begins vs values
+    pub names_begin : Begins ns names
+    pub values_are : length vs ≡ value_count
+    pub names_are : length ns ≡ name_count
+
+  abbrev pub Front : ℕ → ℕ → PointsSoFar → Type 0
+  Front value_count name_count old = Fronts value_count name_count old.rows old.values old.names
 
   pub record AtNumber (old : PointsSoFar) (ts : List Lexeme) : Type 0 where
     pub closed : old.sign ≡ None
@@ -307,20 +314,12 @@ module _ (S A Z : ℕ) (some_s : 1 ≤ S) (some_a : 1 ≤ A) (some_z : 1 ≤ Z) 
           state = some_s;
           states_count = omega arith;
           count = omega (arith, l);
-          front = record {
-            rows_begin = front.rows_begin;
-            values_begin = front.values_begin;
-            names_begin = front.names_begin;
-            values_are =
-                front.values_are;
-            names_are = front.names_are;
-          };
+          front = front;
           row = subst (IsRow 0 (point_weight p n)) (sym row) (record {
             sparse = record {
               rising = grind (arith, common_steps);
               within = grind (arith, common_steps);
-              some =
-                  grind (arith, common_steps);
+              some = grind (arith, common_steps);
             };
             each = λ c l. absurd (omega (arith, l));
           });
@@ -333,20 +332,25 @@ module _ (S A Z : ℕ) (some_s : 1 ≤ S) (some_a : 1 ≤ A) (some_z : 1 ≤ Z) 
   -- ---- a weight
 
   row_is : (n : ℕ) → n < length rows → IsPointRow S (get_or rows n [])
-  row_is n l = rows_are n (get_or rows n []) (slice_get-get_or rows n [] l)
+  row_is n l = rows_are n _ (slice_get-get_or rows n [] l)
 
   row_next : (n s : ℕ) (row : List Cell) → IsRow s (point_weight p n) row
       → IsRow (suc s) (point_weight p n) (with_weight s (point_weight p n s) row)
   row_next n s row r =
-      row_same (suc s) (with_value (point_weight p n) s (point_weight p n s)) (point_weight p n) (with_weight s (point_weight p n s) row)
+      row_same (suc s) _ _ _
       same
-      (row_with (point_weight p n) s (point_weight p n s) row r)
+      (row_with _ s _ row r)
     where
       same : (c : ℕ) → c < suc s → with_value (point_weight p n) s (point_weight p n s) c ≡ point_weight p n c
-      same c l = ⊎_elim (λ (k : c < s). value_before (point_weight p n) s (point_weight p n s) c k)
-          (λ (e : c ≡ s). ap (with_value (point_weight p n) s (point_weight p n s)) e
-          ∙ value_there (point_weight p n) s (point_weight p n s)
+      same c l = ⊎_elim (λ (k : c < s). value_before (point_weight p n) s _ c k) (λ (e : c ≡ s). ap (with_value (point_weight p n) s _) e
+          ∙ value_there (point_weight p n) s _
           ∙ ap (point_weight p n) (sym e)) (below_or_same c s (omega (arith, l)))
+
+  abbrev weight_of : PointsSoFar → ℕ → ℕ
+  weight_of old s = point_weight p (length old.rows) s
+
+  abbrev row_of : PointsSoFar → ℕ → List Cell
+  row_of old s = with_weight s (weight_of old s) old.row
 
   weight_next : (j : ℕ) (s : ℕ) (old : PointsSoFar) (t : Lexeme) (ts : List Lexeme) → old.field ≡ fields.Weight s
       → (at : AtWeight s old (t ∷ ts)) → at.states_left ≡ j → ArePointFields (t ∷ ts) (rest_weights (length old.rows) s j at.left)
@@ -354,75 +358,57 @@ module _ (S A Z : ℕ) (some_s : 1 ≤ S) (some_a : 1 ≤ A) (some_z : 1 ≤ Z) 
   weight_next zero s old t ts e at is h = absurd (omega (arith, at.state, at.states_count, is))
   weight_next (suc j) s old t ts e at is h = by (suc s == S) refl
     where
-      parts : (t.kind ≡ Numeral) × IsWeight t.bytes (point_weight p (length old.rows) s)
+      parts : (t.kind ≡ Numeral) × IsWeight t.bytes (weight_of old s)
           × ArePointFields ts (rest_weights (length old.rows) (s + 1) j at.left)
-      parts = inv_weight t ts (point_weight p (length old.rows) s) (rest_weights (length old.rows) (s + 1) j at.left) h
+      parts = inv_weight t ts (weight_of old s) (rest_weights (length old.rows) (s + 1) j at.left) h
 
-      row : IsRow (suc s) (point_weight p (length old.rows)) (with_weight s (point_weight p (length old.rows) s) old.row)
+      row : IsRow (suc s) (point_weight p (length old.rows)) (row_of old s)
       row = row_next (length old.rows) s old.row at.row
 
-      mass : old.mass + point_weight p (length old.rows) s ≡ sum_below (point_weight p (length old.rows)) (suc s)
-      mass = ap (λ m. m + point_weight p (length old.rows) s) at.mass
+      mass : old.mass + weight_of old s ≡ sum_below (point_weight p (length old.rows)) (suc s)
+      mass = ap (λ m. m + weight_of old s) at.mass
 
       inside : length old.rows < length rows
       inside = omega (arith, at.count)
 
-      is_mass : suc s ≡ S → IsMass (old.mass + point_weight p (length old.rows) s)
+      is_mass : suc s ≡ S → IsMass (old.mass + weight_of old s)
       is_mass last = subst IsMass (sym (mass ∙ ap (sum_below (point_weight p (length old.rows))) last))
           (row_is (length old.rows) inside).mass
 
-      takes : (new : PointsSoFar) → new ≡ after_weight S s (point_weight p (length old.rows) s) (record old { minus = None })
+      takes : (new : PointsSoFar) → new ≡ after_weight S s (weight_of old s) (record old { minus = None })
           → TakesField S A Z old.field (record old { minus = None }) t new
-      takes new same = field_taken (fields.Weight s) old new t e
-          (record {
-            weight = point_weight p (length old.rows) s;
-            numeral = ap numeral_kind parts.0;
-            is_weight = parts.1;
-            is_mass =
-                is_mass;
-            new_is = same;
-          })
+      takes new same = field_taken (fields.Weight s) old new t e (record {
+        weight = weight_of old s;
+        numeral = ap numeral_kind parts.0;
+        is_weight = parts.1;
+        is_mass = is_mass;
+        new_is = same;
+      })
 
       by : (b : Bool) → (suc s == S) ≡ b → Next old t ts
       by true is_last =
           let last = eqb-true (suc s) S is_last in
-          let final : with_weight s (point_weight p (length old.rows) s) old.row ≡ get_or rows (length old.rows) [] =
+          let final : row_of old s ≡ get_or rows (length old.rows) [] =
           one_row S (point_weight p (length old.rows)) _ _ (subst
-          (λ m. IsRow m (point_weight p (length old.rows)) (with_weight s (point_weight p (length old.rows) s) old.row)) last row)
+          (λ m. IsRow m (point_weight p (length old.rows)) (row_of old s)) last row)
           (record { sparse = (row_is (length old.rows) inside).sparse; each = λ c l. refl }) in
           let new : PointsSoFar = record old {
             minus = None;
             field = fields.Value 0;
-            mass =
-                old.mass + point_weight p (length old.rows) s;
+            mass = old.mass + weight_of old s;
             row = [];
-            rows =
-                old.rows ++ with_weight s (point_weight p (length old.rows) s) old.row ∷ [];
+            rows = old.rows ++ row_of old s ∷ [];
           } in
           let none : j ≡ 0 = omega (arith, at.states_count, is, last) in
           record {
             between = new;
-            takes = takes new (ap (λ b. if b then record old {
-              minus = None;
-              field = fields.Value 0;
-              mass =
-                  old.mass + point_weight p (length old.rows) s;
-              row = [];
-              rows =
-                  old.rows ++ with_weight s (point_weight p (length old.rows) s) old.row ∷ [];
-            } else record old {
-              minus = None;
-              field = fields.Weight (suc s);
-              mass = old.mass + point_weight p (length old.rows) s;
-              row =
-                  with_weight s (point_weight p (length old.rows) s) old.row;
-            }) (sym is_last));
+            takes = takes new (rw is_last refl);
             apart = no_minus ts;
             at = record {
               point = length old.rows;
               actions_left = A;
               left = at.left;
-              point_is = length-append old.rows (with_weight s (point_weight p (length old.rows) s) old.row ∷ []);
+              point_is = length-append old.rows (row_of old s ∷ []);
               action = some_a;
               actions_count = omega arith;
               count = at.count;
@@ -443,28 +429,13 @@ module _ (S A Z : ℕ) (some_s : 1 ≤ S) (some_a : 1 ≤ A) (some_z : 1 ≤ Z) 
           let new : PointsSoFar = record old {
             minus = None;
             field = fields.Weight (suc s);
-            mass =
-                old.mass + point_weight p (length old.rows) s;
-            row = with_weight s (point_weight p (length old.rows) s) old.row;
+            mass = old.mass + weight_of old s;
+            row = row_of old s;
           } in
           let one : s + 1 ≡ suc s = omega arith in
           record {
             between = new;
-            takes = takes new (ap (λ b. if b then record old {
-              minus = None;
-              field = fields.Value 0;
-              mass =
-                  old.mass + point_weight p (length old.rows) s;
-              row = [];
-              rows =
-                  old.rows ++ with_weight s (point_weight p (length old.rows) s) old.row ∷ [];
-            } else record old {
-              minus = None;
-              field = fields.Weight (suc s);
-              mass = old.mass + point_weight p (length old.rows) s;
-              row =
-                  with_weight s (point_weight p (length old.rows) s) old.row;
-            }) (sym is_last));
+            takes = takes new (rw is_last refl);
             apart = no_minus ts;
             at = record {
               closed = at.closed;
@@ -473,14 +444,7 @@ module _ (S A Z : ℕ) (some_s : 1 ≤ S) (some_a : 1 ≤ A) (some_z : 1 ≤ Z) 
               state = omega (arith, at.state, inner);
               states_count = omega (arith, at.states_count, is);
               count = at.count;
-              front = record {
-                rows_begin = at.front.rows_begin;
-                values_begin = at.front.values_begin;
-                names_begin =
-                    at.front.names_begin;
-                values_are = at.front.values_are;
-                names_are = at.front.names_are;
-              };
+              front = at.front;
               row = row;
               mass = mass;
               tokens = subst (λ c. ArePointFields ts (rest_weights (length old.rows) c j at.left)) one parts.2;
@@ -495,8 +459,7 @@ module _ (S A Z : ℕ) (some_s : 1 ≤ S) (some_a : 1 ≤ A) (some_z : 1 ≤ Z) 
   name_inside : (i a z : ℕ) → i < length rows → a < A → z < Z → (i * A + a) * Z + z < length names
   name_inside i a z l k m = omega (
     arith,
-    place_inside Z (i * A + a) z (length rows * A) (place_inside A i a (length rows) l k)
-        m,
+    place_inside Z (i * A + a) z (length rows * A) (place_inside A i a (length rows) l k) m,
     all_names,
   )
 
@@ -511,20 +474,17 @@ module _ (S A Z : ℕ) (some_s : 1 ≤ S) (some_a : 1 ≤ A) (some_z : 1 ≤ Z) 
         minus = None;
         field = fields.Name a 0;
         sign = None;
-        values =
-            old.values ++ value_at p at.point a ∷ [];
+        values = old.values ++ value_at p at.point a ∷ [];
       } in
       record {
         between = new;
-        takes = field_taken (fields.Value a) old new t e (inr
-            (record {
-              value = h;
-              numeral = ap numeral_kind numeral.kind;
-              readable = numeral.readable;
-              rounded = numeral.value;
-              new_is =
-                  refl;
-            }));
+        takes = field_taken (fields.Value a) old new t e (inr (record {
+          value = h;
+          numeral = ap numeral_kind numeral.kind;
+          readable = numeral.readable;
+          rounded = numeral.value;
+          new_is = refl;
+        }));
         apart = no_minus ts;
         at = record {
           closed = refl;
@@ -555,38 +515,23 @@ module _ (S A Z : ℕ) (some_s : 1 ≤ S) (some_a : 1 ≤ A) (some_z : 1 ≤ Z) 
       → (at : AtValue a old (t ∷ ts)) → at.actions_left ≡ j → old.sign ≡ None → ArePointFields (t ∷ ts) (rest_actions at.point a j at.left)
       → Next old t ts
   unsigned_next zero a old t ts e at is closed h = absurd (omega (arith, at.action, at.actions_count, is))
-  unsigned_next (suc k) a old t ts e at is closed h =
-      by (inv_value t ts (value_at p at.point a) ((names_here ++ more) ++ rest_points (at.point + 1) at.left) h)
+  unsigned_next (suc k) a old t ts e at is closed h = by (inv_value t ts (value_at p at.point a) (rest_here at.point a k at.left) h)
     where
-      names_here : List Field
-      names_here = name_fields p at.point a (range_with_len 0 Z)
-
-      more : List Field
-      more = flat_map (action_fields p at.point) (range_with_len (a + 1) k)
-
-      regroup : (ts : List Lexeme) → ArePointFields ts ((name_fields p at.point a (range_with_len 0 Z) ++ flat_map
-          (action_fields p at.point)
-          (range_with_len (a + 1) k)) ++ rest_points (at.point + 1) at.left) → ArePointFields ts (rest_names at.point a 0 Z k at.left)
-      regroup ts x = subst (ArePointFields ts) (append_assoc (name_fields p at.point a (range_with_len 0 Z))
-          (flat_map (action_fields p at.point) (range_with_len (a + 1) k)) (rest_points (at.point + 1) at.left)) x
+      regroup : (ts : List Lexeme) → ArePointFields ts (rest_here at.point a k at.left)
+          → ArePointFields ts (rest_names at.point a 0 Z k at.left)
+      regroup ts x = subst (ArePointFields ts) (append_assoc (name_fields p at.point a (range_with_len 0 Z)) _ _) x
 
       signed : (us : List Lexeme) (b : Bool) → IsSigned b (value_at p at.point a) us
-          ((name_fields p at.point a (range_with_len 0 Z) ++ flat_map (action_fields p at.point) (range_with_len (a + 1) k)) ++
-          rest_points
-          (at.point + 1) at.left)
+          (rest_here at.point a k at.left)
           → IsSigned b (value_at p at.point a) us (rest_names at.point a 0 Z k at.left)
       signed [] b x = x
       signed (u ∷ us) b x = (x.0, regroup us x.1)
 
       by : (IsNumeral IsCeil false t (value_at p at.point a)
-          × ArePointFields ts ((name_fields p at.point a (range_with_len 0 Z) ++ flat_map (action_fields p at.point)
-          (range_with_len (a + 1) k)) ++
-          rest_points (at.point + 1) at.left))
+          × ArePointFields ts (rest_here at.point a k at.left))
           ⊎ ((sign_kind t.kind ≡ true) × IsSigned (minus_kind t.kind) (value_at p at.point a) ts
-          ((name_fields p at.point a (range_with_len 0 Z) ++ flat_map (action_fields p at.point) (range_with_len (a + 1) k)) ++
-          rest_points (at.point + 1) at.left)) → Next old t ts
-      by (inl x) = value_next a old t ts e at k is (subst (λ s. IsNumeral IsCeil (is_negated s) t (value_at p at.point a)) (sym closed)
-          x.0)
+          (rest_here at.point a k at.left)) → Next old t ts
+      by (inl x) = value_next a old t ts e at k is (subst (λ s. IsNumeral IsCeil (is_negated s) t (value_at p at.point a)) (sym closed) x.0)
           (regroup ts x.1)
       by (inr x) =
           let new : PointsSoFar = record old { minus = None; sign = Some (sign_of t) } in
@@ -602,14 +547,7 @@ module _ (S A Z : ℕ) (some_s : 1 ≤ S) (some_a : 1 ≤ A) (some_z : 1 ≤ Z) 
               action = at.action;
               actions_count = at.actions_count;
               count = at.count;
-              front = record {
-                rows_begin = at.front.rows_begin;
-                values_begin = at.front.values_begin;
-                names_begin =
-                    at.front.names_begin;
-                values_are = at.front.values_are;
-                names_are = at.front.names_are;
-              };
+              front = at.front;
               row = at.row;
               tokens = inr (k, is, signed ts (minus_kind t.kind) x.1);
             });
@@ -640,8 +578,7 @@ module _ (S A Z : ℕ) (some_s : 1 ≤ S) (some_a : 1 ≤ A) (some_z : 1 ≤ Z) 
       inside = name_inside at.point a z (omega (arith, at.count)) at.action at.observation
 
       below : (m : ℕ) → named_at p at.point a z ≡ Some m → m < length rows
-      below m named = bound ((at.point * A + a) * Z + z) m
-          (slice_get-get_or names ((at.point * A + a) * Z + z) None inside ∙ ap Some named)
+      below m named = bound ((at.point * A + a) * Z + z) m (slice_get-get_or names ((at.point * A + a) * Z + z) None inside ∙ ap Some named)
 
       kept : kept_name (successor_of t) ≡ named_at p at.point a z
       kept = ap kept_name (name_is t ts (named_at p at.point a z) parts.0).1 ∙ kept_here (named_at p at.point a z) below
@@ -653,33 +590,27 @@ module _ (S A Z : ℕ) (some_s : 1 ≤ S) (some_a : 1 ≤ A) (some_z : 1 ≤ Z) 
       names_count : length (old.names ++ kept_name (successor_of t) ∷ []) ≡ (at.point * A + a) * Z + suc z
       names_count = omega (arith, length-append old.names (kept_name (successor_of t) ∷ []), at.front.names_are)
 
-      takes : (new : PointsSoFar) → new ≡ record old {
-        minus = minus_of t;
-        field = field_after_name A Z a z;
-        names =
-            old.names ++ kept_name (successor_of t) ∷ [];
-      } → TakesField S A Z old.field (record old { minus = None }) t new
+      takes : (new : PointsSoFar) → new ≡ named old t (field_after_name A Z a z)
+          → TakesField S A Z old.field (record old { minus = None }) t new
       takes new same = field_taken (fields.Name a z) old new t e
           (record { names = (name_is t ts (named_at p at.point a z) parts.0).0; new_is = same })
 
       front : (values_count count : ℕ) (f : PointField) → length old.values ≡ values_count
           → length (old.names ++ kept_name (successor_of t) ∷ []) ≡ count
-          → Front values_count count (record old { minus = minus_of t; field = f; names = old.names ++ kept_name (successor_of t) ∷ [] })
+          → Front values_count count (named old t f)
       front values_count count f l m = record {
         rows_begin = at.front.rows_begin;
         values_begin = at.front.values_begin;
-        names_begin =
-            names_then;
+        names_begin = names_then;
         values_are = l;
         names_are = m;
       }
 
       next : (f : PointField) → f ≡ field_after_name A Z a z
-          → At f (record old { minus = minus_of t; field = f; names = old.names ++ kept_name (successor_of t) ∷ [] }) ts → Next old t ts
+          → At f (named old t f) ts → Next old t ts
       next f same there = record {
-        between = record old { minus = minus_of t; field = f; names = old.names ++ kept_name (successor_of t) ∷ [] };
-        takes = takes (record old { minus = minus_of t; field = f; names = old.names ++ kept_name (successor_of t) ∷ [] })
-            (ap (λ g. record old { minus = minus_of t; field = g; names = old.names ++ kept_name (successor_of t) ∷ [] }) same);
+        between = named old t f;
+        takes = takes (named old t f) (ap (named old t) same);
         apart = name_apart t ts (named_at p at.point a z) parts.0;
         at = there;
       }
@@ -692,8 +623,7 @@ module _ (S A Z : ℕ) (some_s : 1 ≤ S) (some_a : 1 ≤ A) (some_z : 1 ≤ Z) 
           let no_action : at.actions_left ≡ 0 = omega (arith, at.actions_count, last_a) in
           let whole : suc (at.point * A + a) ≡ length old.rows * A = omega (arith, row_end at.point a A last_a)
           ∙ ap (λ n. n * A) (next_point ∙ sym at.point_is) in
-          next fields.Number (sym (ap (λ b. if b then (if suc a == A then fields.Number else fields.Value (suc a)) else fields.Name a
-          (suc z)) iz ∙ ap (λ c. if c then fields.Number else fields.Value (suc a)) ia)) (record {
+          next fields.Number (rw (iz, ia) refl) (record {
             closed = at.closed;
             left = at.left;
             count = omega (arith, at.count, at.point_is);
@@ -713,9 +643,7 @@ module _ (S A Z : ℕ) (some_s : 1 ≤ S) (some_a : 1 ≤ A) (some_z : 1 ≤ Z) 
           let no_name : j ≡ 0 = omega (arith, at.names_count, is, last_z) in
           let one : a + 1 ≡ suc a = omega arith in
           let more : suc (at.point * A + a) ≡ at.point * A + suc a = omega arith in
-          next (fields.Value (suc a)) (sym
-          (ap (λ b. if b then (if suc a == A then fields.Number else fields.Value (suc a)) else fields.Name a (suc z)) iz
-          ∙ ap (λ c. if c then fields.Number else fields.Value (suc a)) ia)) (record {
+          next (fields.Value (suc a)) (rw (iz, ia) refl) (record {
             point = at.point;
             actions_left = at.actions_left;
             left = at.left;
@@ -735,8 +663,7 @@ module _ (S A Z : ℕ) (some_s : 1 ≤ S) (some_a : 1 ≤ A) (some_z : 1 ≤ Z) 
       by false c iz ia =
           let inner_z = eqb-false (suc z) Z iz in
           let one : z + 1 ≡ suc z = omega arith in
-          next (fields.Name a (suc z)) (sym
-          (ap (λ b. if b then (if suc a == A then fields.Number else fields.Value (suc a)) else fields.Name a (suc z)) iz)) (record {
+          next (fields.Name a (suc z)) (rw iz refl) (record {
             closed = at.closed;
             point = at.point;
             names_left = j;
@@ -763,7 +690,7 @@ module _ (S A Z : ℕ) (some_s : 1 ≤ S) (some_a : 1 ≤ A) (some_z : 1 ≤ Z) 
       by : ((old.sign ≡ None) × ArePointFields (t ∷ ts) (rest_actions at.point a at.actions_left at.left))
           ⊎ ((k : ℕ) × (at.actions_left ≡ suc k) × IsSigned (is_negated old.sign) (value_at p at.point a) (t ∷ ts)
           (rest_names at.point a 0 Z k at.left)) → Next old t ts
-      by (inl x) = unsigned_next at.actions_left a old t ts e at refl x.0 x.1
+      by (inl x) = unsigned_next _ a old t ts e at refl x.0 x.1
       by (inr x) = value_next a old t ts e at x.0 x.1 x.2.0 x.2.1
   next_of (fields.Name a z) old t ts e at = name_next at.names_left a z old t ts e at refl at.tokens
 
@@ -774,7 +701,7 @@ module _ (S A Z : ℕ) (some_s : 1 ≤ S) (some_a : 1 ≤ A) (some_z : 1 ≤ Z) 
       → Front (length old.rows * A) (length old.rows * A * Z) old → ArePointFields [] (rest_points (length old.rows) k) → Done old []
   number_end zero old e l front h =
       let whole : length old.rows ≡ length rows = omega (arith, l) in
-      let of_actions : length old.rows * A ≡ length rows * A = ap (λ n. n * A) whole in
+      let of_actions = ap (λ n. n * A) whole in
       record {
         last = old;
         read = refl;
@@ -805,10 +732,9 @@ module _ (S A Z : ℕ) (some_s : 1 ≤ S) (some_a : 1 ≤ A) (some_z : 1 ≤ Z) 
       by : ((old.sign ≡ None) × ArePointFields [] (rest_actions at.point a at.actions_left at.left))
           ⊎ ((k : ℕ) × (at.actions_left ≡ suc k) × IsSigned (is_negated old.sign) (value_at p at.point a) []
           (rest_names at.point a 0 Z k at.left)) → ⊥
-      by (inl x) = value_end at.actions_left a at.point at.left at.action at.actions_count x.1
+      by (inl x) = value_end _ a at.point at.left at.action at.actions_count x.1
       by (inr x) = x.2
-  ended (fields.Name a z) old e at = absurd (name_end at.names_left a z at.point at.actions_left at.left at.observation at.names_count
-      at.tokens)
+  ended (fields.Name a z) old e at = absurd (name_end at.names_left a z at.point _ at.left at.observation at.names_count at.tokens)
 
   taken : (ts : List Lexeme) (old : PointsSoFar) → NextApart old.minus ts → At old.field old ts → Done old ts
   taken [] old apart at = ended old.field old refl at
@@ -835,8 +761,7 @@ module _ (S A Z : ℕ) (some_s : 1 ≤ S) (some_a : 1 ≤ A) (some_z : 1 ≤ Z) 
           rows_begin = (rows, refl);
           values_begin = (values, refl);
           names_begin = (names, refl);
-          values_are =
-              omega arith;
+          values_are = omega arith;
           names_are = omega arith;
         };
         row = refl;
@@ -852,8 +777,7 @@ module _ (S A Z : ℕ) (some_s : 1 ≤ S) (some_a : 1 ≤ A) (some_z : 1 ≤ Z) 
             actions = A;
             observations = Z;
             rows = sym done.same_rows i;
-            values =
-                sym done.same_values i;
+            values = sym done.same_values i;
             names = sym done.same_names i;
           };
         };
@@ -870,8 +794,7 @@ from_fields S A Z ts p some_s some_a some_z are =
       actions = are.actions_are i;
       observations = are.observations_are i;
       rows = p.rows;
-      values =
-          p.values;
+      values = p.values;
       names = p.names;
     } in
     let fields_are = subst (λ q. ArePointFields ts (flat_map (point_fields q) (range_with_len 0 (length q.rows)))) same are.fields in

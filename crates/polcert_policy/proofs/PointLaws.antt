@@ -23,7 +23,7 @@ pub one_weight : (bs : List ℕ) (v w : ℕ) → IsWeight bs v → IsWeight bs w
 one_weight bs v w a b = pos_same v w (one_floor false bs (pos v) (pos w) a.rounded b.rounded)
 
 pub weight_not_refused : (bs : List ℕ) (w : ℕ) (fault : NumberFault) → IsWeight bs w → IsRefusedWeight bs fault → ⊥
-weight_not_refused bs w fault a b = grind (arith, readable_not_refused)
+weight_not_refused bs w fault a b = grind arith
 
 module _ (S A Z : ℕ) where
   same_weight : (s : ℕ) (old a b : PointsSoFar) (t : Lexeme) → TakesWeight S s old t a → TakesWeight S s old t b → a ≡ b
@@ -40,14 +40,13 @@ module _ (S A Z : ℕ) where
       (one_ceil _ t.bytes p.value q.value p.rounded q.rounded) ∙ sym q.new_is
 
   same_field : (f : PointField) (old a b : PointsSoFar) (t : Lexeme) → TakesField S A Z f old t a → TakesField S A Z f old t b → a ≡ b
-  same_field fields.Number old a b t x y = x.new_is ∙ sym y.new_is
   same_field (fields.Weight s) old a b t x y = same_weight s old a b t x y
   same_field (fields.Value v) old a b t x y = same_value v old a b t x y
-  same_field (fields.Name v z) old a b t x y = x.new_is ∙ sym y.new_is
+  same_field _ old a b t x y = x.new_is ∙ sym y.new_is
 
   -- a token is taken in one way
   pub one_taken : (old a b : PointsSoFar) (t : Lexeme) → TakesPointToken S A Z old t a → TakesPointToken S A Z old t b → a ≡ b
-  one_taken old a b t x y = same_field old.field (record old { minus = None }) a b t x.field y.field
+  one_taken old a b t x y = same_field old.field _ a b t x.field y.field
 
   pub all_taken : (old a b : PointsSoFar) (ts : List Lexeme) → TakesAll S A Z old ts a → TakesAll S A Z old ts b → a ≡ b
   all_taken old a b [] x y = sym x ∙ y
@@ -78,7 +77,7 @@ module _ (S A Z : ℕ) where
   weight_right s old new t _ x y = absurd y
 
   sign_right : (old new : PointsSoFar) (t : Lexeme) (fault : PointFault) → TakesSign old t new → IsWrongValue old t fault → ⊥
-  sign_right old new t fault x y = grind (arith, no_sign_numeral)
+  sign_right old new t fault x y = grind arith
 
   value_right : (a : ℕ) (old new : PointsSoFar) (t : Lexeme) (fault : PointFault) → TakesValue a old t new → IsWrongValue old t fault → ⊥
   value_right a old new t (faults.BadShape place) x y = true_false (shaped old.sign) y.1
@@ -99,4 +98,4 @@ module _ (S A Z : ℕ) where
   pub taken_right : (old new : PointsSoFar) (t : Lexeme) (fault : PointFault) → TakesPointToken S A Z old t new → IsWrongPoint S old t fault
       → ⊥
   taken_right old new t fault x (inl y) = true_false y.joined (x.apart y.sign y.sign_is)
-  taken_right old new t fault x (inr y) = field_right old.field (record old { minus = None }) new t fault x.field y.wrong
+  taken_right old new t fault x (inr y) = field_right old.field _ new t fault x.field y.wrong

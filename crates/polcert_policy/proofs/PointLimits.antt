@@ -23,8 +23,7 @@ module _ (S A Z : ℕ) (rows : List (List Cell)) (values : List ℤ) (names : Li
     pub name_inside : (i a z : ℕ) → i < length rows → a < A → z < Z → (i * A + a) * Z + z < length names
     name_inside i a z l k m = omega (
       arith,
-      place_inside Z (i * A + a) z (length rows * A) (place_inside A i a (length rows) l k)
-          m,
+      place_inside Z (i * A + a) z _ (place_inside A i a (length rows) l k) m,
       h.all_names,
     )
 
@@ -32,11 +31,10 @@ module _ (S A Z : ℕ) (rows : List (List Cell)) (values : List ℤ) (names : Li
     value_in_range i a l k = h.in_range (i * A + a) _ (slice_get-get_or values (i * A + a) (pos 0) (value_inside i a l k))
 
     pub name_below : (i a z j : ℕ) → i < length rows → a < A → z < Z → get_or names ((i * A + a) * Z + z) None ≡ Some j → j < length rows
-    name_below i a z j l k m e = h.bound ((i * A + a) * Z + z) j
-        (slice_get-get_or names ((i * A + a) * Z + z) None (name_inside i a z l k m) ∙ ap Some e)
+    name_below i a z j l k m e = h.bound _ j (slice_get-get_or names _ None (name_inside i a z l k m) ∙ ap Some e)
 
     row_is : (i : ℕ) → i < length rows → IsPointRow S (get_or rows i [])
-    row_is i l = h.rows_are i (get_or rows i []) (slice_get-get_or rows i [] l)
+    row_is i l = h.rows_are i _ (slice_get-get_or rows i [] l)
 
     abbrev pub listed : PointValues
     listed = record { states = S; actions = A; observations = Z; rows = rows; values = values; names = names }
@@ -60,20 +58,18 @@ module _ (S A Z : ℕ) (rows : List (List Cell)) (values : List ℤ) (names : Li
 module _ (S A Z : ℕ) (rows : List (List Cell)) (values : List ℤ) (names : List (Option ℕ)) (h : AreProperLists S A Z rows values names)
     (p : PointValues) (e : listed S A Z rows values names h ≡ p) where
   pub seen_row : (i : ℕ) (cells : List Cell) → slice_get rows i ≡ Some cells → IsRow p.states (point_weight p i) cells
-  seen_row i cells found = subst (λ q. IsRow q.states (point_weight q i) cells) e
-      (record {
-        sparse = (h.rows_are i cells found).sparse;
-        each =
-            λ c l. ap (λ row. weight_at row c) (sym (get_or_from_slice_get rows i cells [] found));
-      })
+  seen_row i cells found = subst (λ q. IsRow q.states (point_weight q i) cells) e (record {
+    sparse = (h.rows_are i cells found).sparse;
+    each = λ c l. ap (λ row. weight_at row c) (sym (get_or_from_slice_get rows i cells [] found));
+  })
 
   -- the value that is kept at a place, read with its sign
   pub seen_value : (i a : ℕ) (x d : ℤ) → i < point_count p → a < p.actions → x ≡ get_or values (i * A + a) d
       → IsInRange (to_z w64 (of_z w64 x))
   seen_value i a x d l k is =
-      let inside = value_inside S A Z rows values names h i a (subst (λ q. i < point_count q) (sym e) l)
-      (subst (λ q. a < q.actions) (sym e) k) in
-      kept_in_range x (h.in_range (i * A + a) x (slice_get-get_or values (i * A + a) d inside ∙ ap Some (sym is)))
+      kept_in_range x (h.in_range (i * A + a) x (slice_get-get_or values (i * A + a) d
+      (value_inside S A Z rows values names h i a (subst (λ q. i < point_count q) (sym e) l) (subst (λ q. a < q.actions) (sym e) k))
+      ∙ ap Some (sym is)))
 
   module _ (i a z : ℕ) (x : Option ℕ) (l : i < point_count p) (k : a < p.actions) (m : z < p.observations)
       (is : x ≡ get_or names ((i * A + a) * Z + z) x) where
@@ -81,15 +77,14 @@ module _ (S A Z : ℕ) (rows : List (List Cell)) (values : List ℤ) (names : Li
     kept =
         let inside = name_inside S A Z rows values names h i a z (subst (λ q. i < point_count q) (sym e) l)
         (subst (λ q. a < q.actions) (sym e) k) (subst (λ q. z < q.observations) (sym e) m) in
-        sym (get_or_from_slice_get names ((i * A + a) * Z + z) x None
-        (slice_get-get_or names ((i * A + a) * Z + z) x inside ∙ ap Some (sym is)))
+        sym (get_or_from_slice_get names _ x None
+        (slice_get-get_or names _ x inside ∙ ap Some (sym is)))
 
     pub seen_name : x ≡ named_at p i a z
     seen_name = kept ∙ ap (λ q. named_at q i a z) e
 
     pub seen_below : IsBelow (point_count p) x
-    seen_below j named =
-        (lists_proper_at p e).named i a z j l k m (sym seen_name ∙ named)
+    seen_below j named = (lists_proper_at p e).named i a z j l k m (sym seen_name ∙ named)
       where
         lists_proper_at : (q : PointValues) → listed S A Z rows values names h ≡ q → AreProperPoints q
         lists_proper_at q same = subst AreProperPoints same (lists_proper S A Z rows values names h)

@@ -31,38 +31,37 @@ through a b c x y = omega (arith, ints)
 module _ (bs : List ℕ) (h : ℤ) where
   -- a floor of so many whole millionths, at least, is at most the value
   floor_from : (n : ℕ) → IsFloor false bs h → n * millionth ≤ size_of bs → pos n ≤ℤ h
-  floor_from n is l = is.greatest (pos n) (subst (λ x. x ≤ℤ pos (size_of bs)) (sym (times_pos n))
-      (le_pos_from (n * millionth) (size_of bs) l))
+  floor_from n is l = is.greatest (pos n) (subst (λ x. x ≤ℤ pos (size_of bs)) (sym (times_pos n)) (le_pos_from _ (size_of bs) l))
 
   pub floor_positive : IsFloor false bs h → pos 0 ≤ℤ h
   floor_positive is = floor_from 0 is (omega arith)
 
   pub below_one : IsFloor false bs h → h <ℤ pos one → size_of bs ≤ one * millionth
   below_one is l = ⊎_elim (λ (above : one * millionth ≤ size_of bs). absurd (apart (floor_from one is above)))
-      (λ (below : size_of bs < one * millionth). omega (arith, below)) (at_least (one * millionth) (size_of bs))
+      (λ (below : size_of bs < one * millionth). omega (arith, below)) (at_least _ (size_of bs))
     where
       apart : pos one ≤ℤ h → ⊥
       apart k = omega (arith, ints)
 
   pub ceiling_at_most : IsCeil false bs h → h ≤ℤ pos one → size_of bs ≤ one * millionth
   ceiling_at_most is l = ⊎_elim (λ (few : size_of bs ≤ one * millionth). few) (λ (many : one * millionth < size_of bs). absurd (wrong many))
-      (at_least (size_of bs) (one * millionth))
+      (at_least (size_of bs) _)
     where
       wrong : one * millionth < size_of bs → ⊥
       wrong many =
-          let below : pos (one * millionth) ≤ℤ pos (size_of bs) = le_pos_from (one * millionth) (size_of bs) (omega (arith, many)) in
-          let above : pos one ≤ℤ h = le_times_back millionth millionth_pos (pos one) h
+          let below = le_pos_from _ (size_of bs) (omega (arith, many)) in
+          let above = le_times_back millionth millionth_pos (pos one) h
           (through _ _ _ (subst (λ x. x ≤ℤ pos (size_of bs)) (sym (times_pos one)) below) is.not_below) in
           let same : h ≡ pos one = omega (arith, ints) in
-          let most = le_pos (size_of bs) (one * millionth) (subst (λ x. pos (size_of bs) ≤ℤ x) (times_pos one)
+          let most = le_pos (size_of bs) _ (subst (λ x. pos (size_of bs) ≤ℤ x) (times_pos one)
           (subst (λ x. pos (size_of bs) ≤ℤ (x *ℤ pos millionth)) same is.not_below)) in
-          omega (arith, many, most)
+          omega arith
 
   pub ceiling_above : IsCeil false bs h → pos one <ℤ h → one * millionth < size_of bs
   ceiling_above is l = ⊎_elim (λ (few : size_of bs ≤ one * millionth). absurd
       (apart (is.least (pos one) (subst (λ x. pos (size_of bs) ≤ℤ x) (sym (times_pos one))
-      (le_pos_from (size_of bs) (one * millionth) few))))) (λ (many : one * millionth < size_of bs). many)
-      (at_least (size_of bs) (one * millionth))
+      (le_pos_from (size_of bs) _ few))))) (λ (many : one * millionth < size_of bs). many)
+      (at_least (size_of bs) _)
     where
       apart : h ≤ℤ pos one → ⊥
       apart k = omega (arith, ints)
@@ -71,7 +70,7 @@ pub weight_small : (bs : List ℕ) (w : ℕ) → IsWeight bs w → w ≤ one
 weight_small bs w is =
     le_pos w one (le_times_back millionth millionth_pos (pos w) (pos one)
     (through _ _ _ is.rounded.not_above (subst (λ x. pos (size_of bs) ≤ℤ x) (sym (times_pos one))
-    (le_pos_from (size_of bs) (one * millionth) is.at_most_one))))
+    (le_pos_from (size_of bs) _ is.at_most_one))))
 
 -- ---- as they are computed
 
@@ -82,9 +81,12 @@ pub floor_weight : (bs : List ℕ) (h : ℤ) → IsReadable bs → size_of bs �
     → IsWeight bs (unsigned_abs (to_z w64 (of_z w64 h)))
 floor_weight bs h readable small is =
     let fits = in_range_fits h (rounded_in_range Down false bs h readable is) in
-    let same : pos (unsigned_abs (to_z w64 (of_z w64 h))) ≡ h = ap (λ x. pos (unsigned_abs x)) (to_z-of_z w64 h fits)
-    ∙ pos_abs h (floor_positive bs h is) in
-    record { readable = readable; at_most_one = small; rounded = subst (IsFloor false bs) (sym same) is }
+    record {
+      readable = readable;
+      at_most_one = small;
+      rounded =
+          subst (IsFloor false bs) (sym (ap (λ x. pos (unsigned_abs x)) (to_z-of_z w64 h fits) ∙ pos_abs h (floor_positive bs h is))) is;
+    }
 
 not_above : (x : ℤ) → lt_z (pos 1000000) x ≡ false → x ≤ℤ pos one
 not_above x h = grind (arith, ints)
@@ -92,5 +94,5 @@ not_above x h = grind (arith, ints)
 pub small_ceiling : (bs : List ℕ) (h : ℤ) → IsReadable bs → IsCeil false bs h → lt_z (pos 1000000) (to_z w64 (of_z w64 h)) ≡ false
     → size_of bs ≤ one * millionth
 small_ceiling bs h readable is test =
-    let fits = in_range_fits h (rounded_in_range Up false bs h readable is) in
-    ceiling_at_most bs h is (not_above h (subst (λ x. lt_z (pos 1000000) x ≡ false) (to_z-of_z w64 h fits) test))
+    ceiling_at_most bs h is (not_above h (subst (λ x. lt_z (pos 1000000) x ≡ false)
+    (to_z-of_z w64 h (in_range_fits h (rounded_in_range Up false bs h readable is))) test))

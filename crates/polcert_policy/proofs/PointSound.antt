@@ -1,13 +1,13 @@
 -- What is read of points is within its limits.
 use Rattle.std.proofs.Common.{◌≡◌, ◌∙◌, ℕ, ℤ, zero, suc, ◌+◌, ◌*◌, ◌<◌, ◌≤◌, inl, inr, ⊎_elim, Bool, true, false, if◌then◌else◌, Option}
-use Rattle.std.proofs.Common.{Some, None, List, [], ◌∷◌, ◌++◌, length, slice_get, refl, sym, ap, subst, arith, length-append}
+use Rattle.std.proofs.Common.{Some, List, [], ◌∷◌, ◌++◌, length, slice_get, refl, sym, ap, subst, arith, length-append}
 use Rattle.std.proofs.lemmas.Bool.{eqb-true, eqb-false}
 use Rattle.std.specs.Prelude.{◌==◌}
-use Rattle.polcert_policy.proofs.Common.{common_steps, Lexeme, IsInRange, Up, successor_of, most_states, most_actions}
+use Rattle.polcert_policy.proofs.Common.{Lexeme, IsInRange, Up, successor_of, most_states, most_actions}
 use Rattle.polcert_cells.specs.Elements.{most_observations}
 use Rattle.polcert_cells.specs.declared.elements.Cell.{Cell}
 use Rattle.polcert_cells.specs.Meaning.{sum_below}
-use Rattle.polcert_cells.specs.Sparse.{weight_at, IsRow}
+use Rattle.polcert_cells.specs.Sparse.{IsRow}
 use Rattle.polcert_cells.proofs.SparseLaws.{row_push, row_skip, row_same}
 use Rattle.polcert_policy.specs.Points.{IsMass, IsPointRow, most_points, AreProperLists}
 use Rattle.polcert_policy.specs.PointTokens.{PointsSoFar, nothing_read, with_weight, kept_name, minus_of, TakesNumber, TakesWeight}
@@ -27,27 +27,27 @@ sum_same f g (suc n) same = let before = sum_same f g n (λ i l. same i (omega (
 abbrev pub with_value : (ℕ → ℕ) → ℕ → ℕ → ℕ → ℕ
 with_value f s w c = if c == s then w else f c
 
-pub value_there : (f : ℕ → ℕ) (s w : ℕ) → with_value f s w s ≡ w
-value_there f s w = grind arith
+module _ (f : ℕ → ℕ) (s : ℕ) where
+  pub value_there : (w : ℕ) → with_value f s w s ≡ w
+  value_there w = grind arith
 
-pub value_before : (f : ℕ → ℕ) (s w c : ℕ) → c < s → with_value f s w c ≡ f c
-value_before f s w c l = grind arith
+  pub value_before : (w c : ℕ) → c < s → with_value f s w c ≡ f c
+  value_before w c l = grind arith
 
-pub row_with : (f : ℕ → ℕ) (s w : ℕ) (row : List Cell) → IsRow s f row → IsRow (suc s) (with_value f s w) (with_weight s w row)
-row_with f s zero row r =
-    let before = row_same s f (with_value f s zero) row (λ c l. sym (value_before f s zero c l)) r in
-    row_skip (with_value f s zero) s (suc s) row before (omega arith)
-    (λ c l k. let same : c ≡ s = omega arith in ap (with_value f s zero) same ∙ value_there f s zero)
-row_with f s (suc v) row r =
-    let kept : row ++ record { column = s; weight = suc v } ∷ [] ≡ with_weight s (suc v) row = grind arith in
-    let before = row_same s f (with_value f s (suc v)) row (λ c l. sym (value_before f s (suc v) c l)) r in
-    let pushed = row_push (with_value f s (suc v)) s row (suc v) before (sym (value_there f s (suc v))) (omega arith) in
-    let next : s + 1 ≡ suc s = omega arith in
-    subst (IsRow (suc s) (with_value f s (suc v))) kept
-    (subst (λ n. IsRow n (with_value f s (suc v)) (row ++ record { column = s; weight = suc v } ∷ [])) next pushed)
+  pub row_with : (w : ℕ) (row : List Cell) → IsRow s f row → IsRow (suc s) (with_value f s w) (with_weight s w row)
+  row_with zero row r =
+      let before = row_same s f _ row (λ c l. sym (value_before zero c l)) r in
+      row_skip _ s (suc s) row before (omega arith)
+      (λ c l k. let same : c ≡ s = omega arith in ap (with_value f s zero) same ∙ value_there zero)
+  row_with (suc v) row r =
+      let before = row_same s f (with_value f s (suc v)) row (λ c l. sym (value_before (suc v) c l)) r in
+      let pushed = row_push (with_value f s (suc v)) s row (suc v) before (sym (value_there (suc v))) (omega arith) in
+      let next : s + 1 ≡ suc s = omega arith in
+      subst (IsRow (suc s) (with_value f s (suc v))) (grind arith)
+      (subst (λ n. IsRow n (with_value f s (suc v)) (row ++ record { column = s; weight = suc v } ∷ [])) next pushed)
 
-sum_with : (f : ℕ → ℕ) (s w : ℕ) → sum_below (with_value f s w) (suc s) ≡ sum_below f s + w
-sum_with f s w = let before = sum_same (with_value f s w) f s (value_before f s w) in let there = value_there f s w in cc
+  sum_with : (w : ℕ) → sum_below (with_value f s w) (suc s) ≡ sum_below f s + w
+  sum_with w = let before = sum_same _ f s (value_before w) in let there = value_there w in cc
 
 -- so many weights of a point
 pub record HasWeights (s : ℕ) (cells : List Cell) (sum : ℕ) : Type 0 where
@@ -59,10 +59,8 @@ no_weights : (cells : List Cell) → cells ≡ [] → HasWeights 0 cells 0
 no_weights cells row = record {
   weights = λ c. 0;
   row = subst (IsRow 0 (λ c. 0)) (sym row) (record {
-    sparse =
-        record { rising = grind (arith, common_steps); within = grind (arith, common_steps); some = grind (arith, common_steps) };
-    each =
-        λ c l. refl;
+    sparse = record { rising = grind arith; within = grind arith; some = grind arith };
+    each = λ c l. refl;
   });
   mass = refl;
 }
@@ -70,7 +68,7 @@ no_weights cells row = record {
 point_row : (states mass : ℕ) (f : ℕ → ℕ) (row : List Cell) → IsRow states f row → mass ≡ sum_below f states → IsMass mass
     → IsPointRow states row
 point_row states mass f row r e is =
-    record { sparse = r.sparse; mass = subst IsMass (e ∙ sum_same f (weight_at row) states (λ c l. sym (r.each c l))) is }
+    record { sparse = r.sparse; mass = subst IsMass (e ∙ sum_same f _ states (λ c l. sym (r.each c l))) is }
 
 -- ---- counts
 
@@ -116,18 +114,18 @@ row_more : (S : ℕ) (rows : List (List Cell)) (row : List Cell) → ((i : ℕ) 
     → IsPointRow S row
     → (i : ℕ) (r : List Cell) → slice_get (rows ++ row ∷ []) i ≡ Some r → IsPointRow S r
 row_more S rows row old new i r e = ⊎_elim (λ (l : slice_get rows i ≡ Some r). old i r l)
-    (λ (m : (i ≡ length rows) × (row ≡ r)). subst (IsPointRow S) m.1 new) (get_snoc rows row r i e)
+    (λ (m : _ × (row ≡ r)). subst (IsPointRow S) m.1 new) (get_snoc rows row r i e)
 
 value_more : (values : List ℤ) (value : ℤ) → ((k : ℕ) (h : ℤ) → slice_get values k ≡ Some h → IsInRange h) → IsInRange value
     → (k : ℕ) (h : ℤ) → slice_get (values ++ value ∷ []) k ≡ Some h → IsInRange h
 value_more values value old new k h e = ⊎_elim (λ (l : slice_get values k ≡ Some h). old k h l)
-    (λ (m : (k ≡ length values) × (value ≡ h)). subst IsInRange m.1 new) (get_snoc values value h k e)
+    (λ (m : _ × (value ≡ h)). subst IsInRange m.1 new) (get_snoc values value h k e)
 
 module _ (S A Z : ℕ) (some_s : 1 ≤ S) (some_a : 1 ≤ A) (some_z : 1 ≤ Z) where
   number_sound : (old new : PointsSoFar) (t : Lexeme) → old.field ≡ fields.Number → IsSound S A Z old → TakesNumber old t new
       → IsSound S A Z new
   number_sound old new t e h x =
-      let at : IsSoundField S A Z fields.Number old = subst (λ f. IsSoundField S A Z f old) e h.at in
+      let at = subst (λ f. IsSoundField S A Z f old) e h.at in
       subst (IsSound S A Z) (sym x.new_is) (record {
         few = h.few;
         rows_are = h.rows_are;
@@ -137,8 +135,7 @@ module _ (S A Z : ℕ) (some_s : 1 ≤ S) (some_a : 1 ≤ A) (some_z : 1 ≤ Z) 
           few = x.few;
           values_are = at.values_are;
           names_are = at.names_are;
-          weights =
-              no_weights old.row at.no_row;
+          weights = no_weights old.row at.no_row;
         };
       })
 
@@ -155,23 +152,21 @@ module _ (S A Z : ℕ) (some_s : 1 ≤ S) (some_a : 1 ≤ A) (some_z : 1 ≤ Z) 
       f = with_value at.weights.weights s x.weight
 
       row_is : IsRow (suc s) f (with_weight s x.weight old.row)
-      row_is = row_with at.weights.weights s x.weight old.row at.weights.row
+      row_is = row_with _ s x.weight old.row at.weights.row
 
       mass_is : old.mass + x.weight ≡ sum_below f (suc s)
-      mass_is = ap (λ m. m + x.weight) at.weights.mass ∙ sym (sum_with at.weights.weights s x.weight)
+      mass_is = ap (λ m. m + x.weight) at.weights.mass ∙ sym (sum_with _ s x.weight)
 
       last : suc s ≡ S → IsSound S A Z (record old {
         field = fields.Value 0;
         mass = old.mass + x.weight;
         row = [];
-        rows =
-            old.rows ++ with_weight s x.weight old.row ∷ [];
+        rows = old.rows ++ with_weight s x.weight old.row ∷ [];
       })
       last is = record {
         few = omega (arith, at.few, length-append old.rows (with_weight s x.weight old.row ∷ []));
-        rows_are = row_more S old.rows (with_weight s x.weight old.row) h.rows_are
-            (subst (λ n. IsPointRow n (with_weight s x.weight old.row)) is
-            (point_row (suc s) (old.mass + x.weight) f (with_weight s x.weight old.row) row_is mass_is (x.is_mass is)));
+        rows_are = row_more S old.rows _ h.rows_are (subst (λ n. IsPointRow n (with_weight s x.weight old.row)) is
+            (point_row (suc s) _ f _ row_is mass_is (x.is_mass is)));
         in_range = h.in_range;
         at = record {
           action = some_a;
@@ -180,8 +175,7 @@ module _ (S A Z : ℕ) (some_s : 1 ≤ S) (some_a : 1 ≤ A) (some_z : 1 ≤ Z) 
           point_is = omega (arith, length-append old.rows (with_weight s x.weight old.row ∷ []));
           lists = record {
             values_are = omega (arith, at.values_are);
-            names_are = at.names_are
-                ∙ ap (λ n. n * Z) (plus_zero (length old.rows * A)) ∙ plus_zero ((length old.rows * A + 0) * Z);
+            names_are = at.names_are ∙ ap (λ n. n * Z) (plus_zero _) ∙ plus_zero _;
             no_row = refl;
           };
         };
@@ -201,8 +195,7 @@ module _ (S A Z : ℕ) (some_s : 1 ≤ S) (some_a : 1 ≤ A) (some_z : 1 ≤ Z) 
           few = at.few;
           values_are = at.values_are;
           names_are = at.names_are;
-          weights =
-              record { weights = f; row = row_is; mass = mass_is };
+          weights = record { weights = f; row = row_is; mass = mass_is };
         };
       }
 
@@ -221,7 +214,7 @@ module _ (S A Z : ℕ) (some_s : 1 ≤ S) (some_a : 1 ≤ A) (some_z : 1 ≤ Z) 
   value_sound : (a : ℕ) (old new : PointsSoFar) (t : Lexeme) → old.field ≡ fields.Value a → IsSound S A Z old → TakesValue a old t new
       → IsSound S A Z new
   value_sound a old new t e h x =
-      let at : IsSoundField S A Z (fields.Value a) old = subst (λ f. IsSoundField S A Z f old) e h.at in
+      let at = subst (λ f. IsSoundField S A Z f old) e h.at in
       subst (IsSound S A Z) (sym x.new_is) (record {
         few = h.few;
         rows_are = h.rows_are;
@@ -233,8 +226,7 @@ module _ (S A Z : ℕ) (some_s : 1 ≤ S) (some_a : 1 ≤ A) (some_z : 1 ≤ Z) 
           point_is = at.point_is;
           lists = record {
             values_are = omega (arith, length-append old.values (x.value ∷ []), at.lists.values_are);
-            names_are =
-                at.lists.names_are;
+            names_are = at.lists.names_are;
             no_row = at.lists.no_row;
           };
         };
@@ -273,24 +265,24 @@ module _ (S A Z : ℕ) (some_s : 1 ≤ S) (some_a : 1 ≤ A) (some_z : 1 ≤ Z) 
       by true true iz ia =
           let last_z = eqb-true (suc z) Z iz in
           let last_a = eqb-true (suc a) A ia in
-          let rows : suc (at.point * A + a) ≡ length old.rows * A = omega (arith, row_end at.point a A last_a)
+          let rows = omega arith
           ∙ ap (λ n. n * A) (sym at.point_is) in
           sound fields.Number (lists _ _ (omega (arith, at.lists.values_are, rows))
-          (named ∙ row_end (at.point * A + a) z Z last_z ∙ ap (λ n. n * Z) rows))
+          (named ∙ row_end _ z Z last_z ∙ ap (λ n. n * Z) rows))
       by true false iz ia =
           let last_z = eqb-true (suc z) Z iz in
           let inner_a = eqb-false (suc a) A ia in
-          let next : suc (at.point * A + a) ≡ at.point * A + suc a = omega arith in
-          sound (fields.Value (suc a)) (record {
+          let next : suc _ ≡ at.point * A + suc a = omega arith in
+          sound _ (record {
             action = omega (arith, at.action, inner_a);
             observation = some_z;
             point = at.point;
             point_is = at.point_is;
-            lists = lists _ _ at.lists.values_are (named ∙ row_end (at.point * A + a) z Z last_z ∙ ap (λ n. n * Z) next ∙ omega arith);
+            lists = lists _ _ at.lists.values_are (named ∙ row_end _ z Z last_z ∙ ap (λ n. n * Z) next ∙ omega arith);
           })
       by false c iz ia =
           let inner_z = eqb-false (suc z) Z iz in
-          sound (fields.Name a (suc z)) (record {
+          sound _ (record {
             action = at.action;
             observation = omega (arith, at.observation, inner_z);
             point = at.point;
@@ -307,7 +299,7 @@ module _ (S A Z : ℕ) (some_s : 1 ≤ S) (some_a : 1 ≤ A) (some_z : 1 ≤ Z) 
   field_sound (fields.Name a z) old new t e h x = name_sound a z old new t e h x
 
   pub taken_sound : (old new : PointsSoFar) (t : Lexeme) → IsSound S A Z old → TakesPointToken S A Z old t new → IsSound S A Z new
-  taken_sound old new t h x = field_sound old.field (record old { minus = None }) new t refl
+  taken_sound old new t h x = field_sound old.field _ new t refl
       (record { few = h.few; rows_are = h.rows_are; in_range = h.in_range; at = h.at }) x.field
 
   pub all_sound : (old new : PointsSoFar) (ts : List Lexeme) → IsSound S A Z old → TakesAll S A Z old ts new → IsSound S A Z new
@@ -328,7 +320,7 @@ module _ (S A Z : ℕ) (some_s : 1 ≤ S) (some_a : 1 ≤ A) (some_z : 1 ≤ Z) 
       → ((k m : ℕ) → slice_get st.names k ≡ Some (Some m) → m < length st.rows) → AreProperLists S A Z st.rows st.values st.names
   proper_read ts st few_s few_a few_z read whole bound =
       let h = all_sound nothing_read st ts nothing_sound read in
-      let at : IsSoundField S A Z fields.Number st = subst (λ f. IsSoundField S A Z f st) whole h.at in
+      let at = subst (λ f. IsSoundField S A Z f st) whole h.at in
       record {
         some_states = some_s;
         few_states = few_s;

@@ -29,7 +29,7 @@ field_at_token S f old t fault h = grind arith
 
 at_token : (S : ℕ) (old : PointsSoFar) (t : Lexeme) (fault : PointFault) → IsWrongPoint S old t fault → IsAtToken fault
 at_token S old t fault (inl h) = subst IsAtToken (sym h.fault_is) tt
-at_token S old t fault (inr h) = field_at_token S old.field (record old { minus = None }) t fault h.wrong
+at_token S old t fault (inr h) = field_at_token S old.field _ t fault h.wrong
 
 module _ (S A Z : ℕ) where
   -- the tokens are at most one list of points
@@ -40,8 +40,7 @@ module _ (S A Z : ℕ) where
         actions = A;
         observations = Z;
         rows = st.rows;
-        values =
-            st.values;
+        values = st.values;
         names = st.names;
       }) (all_taken S A Z nothing_read x.last y.last ts x.read y.read) ∙ sym y.points_are
 
@@ -76,9 +75,9 @@ module _ (S A Z : ℕ) where
 
       -- a token is refused
       pub token_refusal : (fault : PointFault) → IsMemoryOr (IsWrongPoint S st t) fault → IsPointsRefusal S A Z text fault
-      token_refusal (faults.Token fault) h = absurd (at_token S st t (faults.Token fault) h)
-      token_refusal (faults.NextOutOfRange i a z) h = absurd (at_token S st t (faults.NextOutOfRange i a z) h)
-      token_refusal (faults.Truncated place) h = absurd (at_token S st t (faults.Truncated place) h)
+      token_refusal (faults.Token fault) h = absurd (at_token S st t _ h)
+      token_refusal (faults.NextOutOfRange i a z) h = absurd (at_token S st t _ h)
+      token_refusal (faults.Truncated place) h = absurd (at_token S st t _ h)
       token_refusal faults.Memory h = tt
       token_refusal fault h = first_bad fault h
 
@@ -105,8 +104,8 @@ module _ (S A Z : ℕ) where
         all_known : NamesPointsOnly p → (i a z : ℕ) → HasFirstUnknown S A Z text i a z → ⊥
         all_known bound i a z h =
             let same = one_loose h.tokens p h.points (same_tokens (AreLoosePoints S A Z) text p ts cut loose h.tokens h.cut) h.loose in
-            let known = subst NamesPointsOnly same bound _ h.unknown.number h.unknown.named in
-            omega (arith, known, h.unknown.unknown)
+            let known = subst NamesPointsOnly same bound _ _ h.unknown.named in
+            omega arith
 
     module _ (some_s : 1 ≤ S) (some_a : 1 ≤ A) (some_z : 1 ≤ Z) where
       pub read_of : (p : PointValues) → IsPointsText S A Z text p → (ts : List Lexeme) × IsCut (text_rest text text_limit) ts None

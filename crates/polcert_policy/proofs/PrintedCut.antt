@@ -59,7 +59,7 @@ pieces (u ∷ us) = spelled (word_of u.negative u.numeral) u.following ++ pieces
 text_pieces : (us : List Printed) → cuts.text_of (pieces us) ≡ texts_of us
 text_pieces [] = refl
 text_pieces (u ∷ us) =
-    cuts.text-append (spelled (word_of u.negative u.numeral) u.following) (pieces us)
+    cuts.text-append (spelled _ u.following) (pieces us)
     ∙ (λ i. (text_word (word_of u.negative u.numeral) u.following ∙ ap (λ w. w ++ u.following) (same u.negative)) i ++ text_pieces us i)
   where
     same : (b : Bool) → word_text (word_of b u.numeral) ≡ signed_text b u.numeral
@@ -68,8 +68,8 @@ text_pieces (u ∷ us) =
 pieces_printed : (us : List Printed) → AllPrinted us → cuts.ArePrinted (pieces us)
 pieces_printed [] a = tt
 pieces_printed (u ∷ us) a =
-    cuts.printed-append (spelled (word_of u.negative u.numeral) u.following) (pieces us)
-    (word_printed (word_of u.negative u.numeral) u.following (spelling u.negative)
+    cuts.printed-append _ (pieces us)
+    (word_printed _ u.following (spelling u.negative)
     (record { all = a.0.blank; first = a.0.first; more = a.0.more; is = a.0.after_is }))
     (pieces_printed us a.1)
   where
@@ -90,6 +90,6 @@ lexemes_are (u ∷ us) place = at u.negative (λ n. lexemes_are us n)
 pub cut_printed : (us : List Printed) (place : ℕ) (gap : List ℕ) → AllPrinted us → list_all is_blank gap ≡ true
     → IsCut (rest_at place (gap ++ texts_of us)) (tokens_of (parts_from (place + length gap) us)) None
 cut_printed us place gap all h =
-    subst (λ ls. IsCut (rest_at place (gap ++ texts_of us)) ls None) (lexemes_are us (place + length gap))
+    subst (λ ls. IsCut (rest_at place (gap ++ texts_of us)) ls None) (lexemes_are us _)
     (subst (λ bs. IsCut (rest_at place (gap ++ bs)) (cuts.lexemes_at (place + length gap) (pieces us)) None) (text_pieces us)
     (cuts.cut_printed (pieces us) place gap (pieces_printed us all) h))

@@ -17,14 +17,14 @@ module _ {S V F : Type 0} {reads : S → ℕ → Option (List ℕ) → S → Typ
       → ReadsText reads failures first u Denotes Refuses (Err (Refused fault))
   refused_at_token fault t new gives goes_on refuses =
       let more = token_taken reads failures text_limit first ts old s t new u taken gives goes_on in
-      text_refused fault (each_taken reads failures text_limit first (ts ++ t ∷ []) new u (Refuses fault) more refuses) more.same_count
+      text_refused fault (each_taken reads failures text_limit first (ts ++ t ∷ []) new u _ more refuses) more.same_count
 
   -- the text is cut at no token
   pub refused_at_fault : (fault : F) (answer : Option TokenFault) (new : Ahead) → GivesEnd reads failures old.ahead s answer new u
       → ((text : List ℕ) → IsCut (text_rest text text_limit) ts answer → Refuses fault text)
       → ReadsText reads failures first u Denotes Refuses (Err (Refused fault))
   refused_at_fault fault answer new ended refuses = text_refused fault
-      (each_cut reads failures text_limit first ts old s answer new u (Refuses fault) taken ended refuses)
+      (each_cut reads failures text_limit first ts old s answer new u _ taken ended refuses)
       (ended.same_count ∙ taken.same_count)
 
   -- the text ends
@@ -39,7 +39,7 @@ module _ {S V F : Type 0} {reads : S → ℕ → Option (List ℕ) → S → Typ
         → Refuses fault text) → ReadsText reads failures first u Denotes Refuses (Err (Refused fault))
     refused_at_end fault holds =
         let text = text_taken reads failures text_limit first ts old s new u taken ended in
-        text_refused fault (each_whole reads first text.0 u (Refuses fault) text.1 (holds text.0 text.2 text.3))
+        text_refused fault (each_whole reads first text.0 u _ text.1 (holds text.0 text.2 text.3))
         (ended.same_count ∙ taken.same_count)
 
 -- after a token, and those that were passed with it, less of the text is left
@@ -49,15 +49,14 @@ pub less_left : {S : Type 0} (reads : S → ℕ → Option (List ℕ) → S → 
     → GivesToken reads failures old.ahead s t new.ahead u → new.stop ≡ None → ArePassed Reads new after
     → text_limit - after.ahead.place < text_limit - old.ahead.place
 less_left reads failures first ts old s t new u {Reads} {after} was gives goes_on ahead =
-    let grows : old.ahead.place < new.ahead.place = place_grows old.ahead new.ahead gives.given t gives.next in
+    let grows = place_grows old.ahead new.ahead gives.given t gives.next in
     let taken = token_taken reads failures text_limit first ts old s t new u was gives goes_on in
     let place = ap (λ s. s.ahead.place) ahead.tokens_are in
     omega (
       arith,
       grows,
       place,
-      place_within reads failures text_limit first _ after u
-          (all_passed reads failures text_limit first _ new after u taken ahead),
+      place_within reads failures text_limit first _ after u (all_passed reads failures text_limit first _ new after u taken ahead),
     )
 
 -- after a token less of the text is left
@@ -66,6 +65,5 @@ pub less_left_token : {S : Type 0} (reads : S → ℕ → Option (List ℕ) → 
     → TakenFrom reads failures text_limit first ts old s → GivesToken reads failures old.ahead s t new.ahead u → new.stop ≡ None
     → text_limit - new.ahead.place < text_limit - old.ahead.place
 less_left_token reads failures first ts old s t new u was gives goes_on =
-    let grows : old.ahead.place < new.ahead.place = place_grows old.ahead new.ahead gives.given t gives.next in
     let taken = token_taken reads failures text_limit first ts old s t new u was gives goes_on in
-    omega (arith, grows, place_within reads failures text_limit first _ new u taken)
+    omega (arith, place_grows old.ahead new.ahead gives.given t gives.next, place_within reads failures text_limit first _ new u taken)

@@ -15,24 +15,24 @@ pub token_refusal : (a o b p : ℕ) (text : List ℕ) (ts : List Lexeme) (rest :
     → a ≡ b → o ≡ p → Taken (text_rest text text_limit) ts rest → IsTokenRefusal a o ts fault → IsGraphRefusal b p text fault
 token_refusal a o b p text ts rest fault ea eo taken h = grind arith
 
-early : (a o : ℕ) (text : List ℕ) (ts : List Lexeme) (place n column : ℕ) → IsCut (text_rest text text_limit) ts None → place ≡ length text
-    → IsUnfinished a o ts n column → EndsEarly a o text place n column
-early a o text ts place n column cut e h = record {
-  tokens = ts;
-  cut = cut;
-  place_is = e;
-  possible = h.possible;
-  unfinished =
-      h.unfinished;
-  column_is = h.column_is;
-}
+module _ (a : ℕ) (o : ℕ) (text : List ℕ) (ts : List Lexeme) where
+  early : (place n column : ℕ) → IsCut (text_rest text text_limit) ts None → place ≡ length text
+      → IsUnfinished a o ts n column → EndsEarly a o text place n column
+  early place n column cut e h = record {
+    tokens = ts;
+    cut = cut;
+    place_is = e;
+    possible = h.possible;
+    unfinished = h.unfinished;
+    column_is = h.column_is;
+  }
 
-end_refusal : (a o : ℕ) (text : List ℕ) (ts : List Lexeme) (fault : GraphFault)
-    → IsCut (text_rest text text_limit) ts None → IsEndRefusal a o ts (length text) fault → IsGraphRefusal a o text fault
-end_refusal a o text ts (faults.Truncated place) cut h = (h.1.0, (h.1.1.0, early a o text ts place h.1.0 h.1.1.0 cut h.0 h.1.1.1, h.1.1.2))
-end_refusal a o text ts (faults.NoNodes place) cut h = early a o text ts place 0 0 cut h.0 h.1
-end_refusal a o text ts (faults.SuccessorOutOfRange n z) cut h = (ts, (h.0, cut, h.1, h.2))
-end_refusal a o text ts _ cut h = absurd h
+  end_refusal : (fault : GraphFault)
+      → IsCut (text_rest text text_limit) ts None → IsEndRefusal a o ts (length text) fault → IsGraphRefusal a o text fault
+  end_refusal (faults.Truncated place) cut h = (h.1.0, (h.1.1.0, early place h.1.0 h.1.1.0 cut h.0 h.1.1.1, h.1.1.2))
+  end_refusal (faults.NoNodes place) cut h = early place 0 0 cut h.0 h.1
+  end_refusal (faults.SuccessorOutOfRange n z) cut h = (ts, (h.0, cut, h.1, h.2))
+  end_refusal _ cut h = absurd h
 
 not_beyond : (g : PolicyGraph) (n z : ℕ) → IsFirstBeyond g n z → HasNodesOnly g → ⊥
 not_beyond g n z first bound = grind arith
@@ -53,16 +53,13 @@ module _ (a o : ℕ) (text : List ℕ) (ts : List Lexeme) (g : PolicyGraph) (cut
 
   names_beyond : (fault : GraphFault) → IsGraphRefusal a o text fault → NamesBeyond g fault
   names_beyond (faults.Token fault) h = no_token_fault (IsLooseGraph a o) text g ts cut loose h.0 fault h.1
-  names_beyond (faults.BadShape place) h = no_wrong _ h
-  names_beyond (faults.NodeOutOfOrder place) h = no_wrong _ h
-  names_beyond (faults.ActionOutOfRange place) h = no_wrong _ h
-  names_beyond (faults.TooManyNodes place) h = no_wrong _ h
   names_beyond (faults.Truncated place) h = not_early place h.0 h.1.0 h.1.1
   names_beyond (faults.NoNodes place) h = not_early place 0 0 h
   names_beyond (faults.SuccessorOutOfRange n z) h =
       subst (λ x. IsFirstBeyond x n z) (one_loose a o h.0 h.1.0 g h.1.2 (same_tokens (IsLooseGraph a o) text g ts cut loose h.0 h.1.1))
       h.1.3
   names_beyond faults.Memory h = tt
+  names_beyond _ h = no_wrong _ h
 
 pub no_graph : (a o : ℕ) (text : List ℕ) (fault : GraphFault) → IsGraphRefusal a o text fault → IsNoGraphText a o text fault
 no_graph a o text faults.Memory h = tt
@@ -76,18 +73,17 @@ possible_at a b o p ts ea eo h = subst₂ (λ x y. IsPossibleGraph x y ts) ea eo
 
 -- only one successor is the first that isn't a node
 pub one_first : (g : PolicyGraph) (n z m y : ℕ) → IsFirstBeyond g n z → IsFirstBeyond g m y → (n ≡ m) × (z ≡ y)
-one_first g n z m y a b = at (order (n * g.observations + z) (m * g.observations + y))
+one_first g n z m y a b = at (order _ _)
   where
     not_before : (n z m y : ℕ) → IsFirstBeyond g n z → IsFirstBeyond g m y → n * g.observations + z < m * g.observations + y → ⊥
-    not_before n z m y a b l = let small = b.first n z a.observation l a.beyond.0 a.beyond.1 in omega (arith, small, a.beyond.2)
+    not_before n z m y a b l = let small = b.first n z a.observation l a.beyond.0 a.beyond.1 in omega arith
 
     at : (n * g.observations + z < m * g.observations + y)
         ⊎ ((n * g.observations + z ≡ m * g.observations + y) ⊎ (m * g.observations + y < n * g.observations + z)) → (n ≡ m) × (z ≡ y)
     at (inl l) = absurd (not_before n z m y a b l)
     at (inr (inl e)) = (
       same_row g.observations n m z y a.observation b.observation e,
-      same_column g.observations n m z y a.observation
-          b.observation e,
+      same_column g.observations n m z y a.observation b.observation e,
     )
     at (inr (inr l)) = absurd (not_before m y n z b a l)
 

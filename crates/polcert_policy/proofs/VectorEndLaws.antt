@@ -13,7 +13,7 @@ use Rattle.polcert_text.specs.Numbers.{millionth, signed}
 use Rattle.polcert_text.proofs.Numbers.SignedLaws.{signed-mul, le_times_back}
 use Rattle.polcert_text.proofs.Numbers.SizeLaws.{millionth_pos}
 use Rattle.polcert_policy.proofs.Places.{row_above, same_column}
-use Rattle.polcert_policy.proofs.VectorLaws.{part_of_value, head_of, tail_of, cons_not_nil, not_sign, front_parts, vector_parts}
+use Rattle.polcert_policy.proofs.VectorLaws.{part_of_value, front_parts, vector_parts}
 use Rattle.polcert_policy.proofs.VectorSteps.{tokens-append}
 use Rattle.polcert_policy.proofs.VectorReadLaws.{NextPart, drop_same, next_part, possible_seen, column_read, closed_lexeme}
 
@@ -21,11 +21,12 @@ no_tokens : (ps : List Part) → [] ≡ tokens_of ps → length ps ≡ 0
 no_tokens [] e = refl
 no_tokens (p ∷ ps) e = grind arith
 
-low_end : (b : Bool) (size most : ℕ) → size ≤ most → neg_ℤ (pos most) ≤ℤ signed b size
-low_end b size most h1 = grind arith
+module _ (b : Bool) (size : ℕ) (most : ℕ) where
+  low_end : size ≤ most → neg_ℤ (pos most) ≤ℤ signed b size
+  low_end h1 = grind arith
 
-high_end : (b : Bool) (size most : ℕ) → size ≤ most → signed b size ≤ℤ pos most
-high_end b size most h1 = grind arith
+  high_end : size ≤ most → signed b size ≤ℤ pos most
+  high_end h1 = grind arith
 
 le_through : (x y z : ℤ) → x ≤ℤ y → y ≤ℤ z → x ≤ℤ z
 le_through x y z a b = omega (arith, ints)
@@ -35,24 +36,19 @@ pub rounded_in_range : (rounding : Rounding) (b : Bool) (bs : List ℕ) (h : ℤ
 rounded_in_range rounding b bs h readable rounded = at rounding rounded
   where
     low : (neg_ℤ (pos largest) *ℤ pos millionth) ≤ℤ signed b (size_of bs)
-    low = subst (λ z. z ≤ℤ signed b (size_of bs)) (sym (signed-mul true largest millionth))
-        (low_end b (size_of bs) (largest * millionth) readable.size)
+    low = subst (λ z. z ≤ℤ signed b (size_of bs)) (sym (signed-mul true largest millionth)) (low_end b (size_of bs) _ readable.size)
 
     high : signed b (size_of bs) ≤ℤ (pos largest *ℤ pos millionth)
-    high = subst (λ z. signed b (size_of bs) ≤ℤ z) (sym (signed-mul false largest millionth))
-        (high_end b (size_of bs) (largest * millionth) readable.size)
+    high = subst (λ z. signed b (size_of bs) ≤ℤ z) (sym (signed-mul false largest millionth)) (high_end b (size_of bs) _ readable.size)
 
     at : (r : Rounding) → IsRounded r b bs h → IsInRange h
     at Down is = (
-      is.greatest (neg_ℤ (pos largest)) low,
-      le_times_back millionth millionth_pos h (pos largest)
-          (le_through (h *ℤ pos millionth) (signed b (size_of bs)) (pos largest *ℤ pos millionth) is.not_above high),
+      is.greatest _ low,
+      le_times_back millionth millionth_pos h (pos largest) (le_through _ _ _ is.not_above high),
     )
     at Up is = (
-      le_times_back millionth millionth_pos (neg_ℤ (pos largest)) h
-          (le_through (neg_ℤ (pos largest) *ℤ pos millionth) (signed b (size_of bs)) (h *ℤ pos millionth) low is.not_below),
-      is.least
-          (pos largest) high,
+      le_times_back millionth millionth_pos _ h (le_through _ _ _ low is.not_below),
+      is.least (pos largest) high,
     )
 
 abbrev pub vectors_of : ℕ → ℕ → List ℤ → PolicyVectors
@@ -89,7 +85,7 @@ module _ {way : Rounding} where
       n = next_part g o ps node column vs s [] v old all
 
       at : (u : Option Lexeme) → s ∷ [] ≡ with_sign u n.part.token ++ tokens_of n.rest → ⊥
-      at u h1 = grind (arith, head_of, tail_of, cons_not_nil, not_sign, n)
+      at u h1 = grind arith
 
   pub unfinished_vector : (g : PolicyGraph) (seen : List Lexeme) (r : VectorsReading) → 1 ≤ r.states → 0 < r.column
       → HasReadVectors way g seen r → AreUnfinished way g r.states seen r.node r.column
@@ -104,8 +100,8 @@ module _ {way : Rounding} where
       at None signed v all =
           let count = whole_count g r.states h.parts r.values.items v h.vectors.records all in
           let zero_is = same_column (1 + r.states) r.node (nodes g) r.column 0 h.vectors.within (omega arith)
-          (omega (arith, count, h.vectors.count)) in
-          omega (arith, zero_is, begun)
+          (omega arith) in
+          omega arith
       at (Some s) signed v all = open_ended g r.states h.parts r.node r.column r.values.items s v (signed s refl).0 h.vectors all
 
   pub at_column : (g : PolicyGraph) (seen : List Lexeme) (r : VectorsReading) → r.column ≤ 0 → (h : HasReadVectors way g seen r)
@@ -124,9 +120,14 @@ module _ {way : Rounding} where
         subst (λ c. IsPartColumn r.states seen r.node c) zero_is (column_read g seen r h));
     possible = possible_seen g seen r some h;
     unfinished = λ v all.
-        let count = whole_count g r.states h.parts r.values.items v h.vectors.records
-        (subst (λ ts. IsRoundedVectors way g r.states ts v) (spelled_whole g seen r e h) all) in
-        omega (arith, count, (at_column g seen r e h).count, row_above (1 + r.states) r.node (nodes g) fewer);
+        omega (
+          arith,
+          whole_count g r.states h.parts r.values.items v h.vectors.records
+              (subst (λ ts. IsRoundedVectors way g r.states ts v) (spelled_whole g seen r e h) all),
+          (at_column g seen r e h).count,
+          row_above
+              (1 + r.states) r.node (nodes g) fewer,
+        );
   }
 
   pub values_in_range : (g : PolicyGraph) (o : ℕ) (ps : List Part) (node : ℕ) (vs : List ℤ) → AreVectors way g o ps vs
@@ -140,12 +141,12 @@ module _ {way : Rounding} where
       → IsRoundedVectors way g r.states seen (vectors_of r.node r.states r.values.items)
   vectors_read g seen r e enough h =
       let at = at_column g seen r e h in
-      let all : r.node ≡ nodes g = omega (arith, enough, at.few) in
+      let all : r.node ≡ nodes g = omega arith in
       record {
         nodes_are = all;
         states_are = refl;
         parts = h.parts;
-        spelled = spelled_whole g seen r e h ∙ append-nil (tokens_of h.parts);
+        spelled = spelled_whole g seen r e h ∙ append-nil _;
         count = at.count ∙ omega (arith, ap (λ n. n * (1 + r.states)) all);
         filled = at.filled ∙ omega (arith, ap (λ n. n * r.states) all);
         records = at.records;

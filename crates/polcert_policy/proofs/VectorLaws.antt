@@ -36,12 +36,11 @@ front_parts (p ∷ ps) (q ∷ qs) more a b e = at (λ f. front_parts ps qs more 
     at : (tokens_of ps ++ more ≡ tokens_of qs → (rest : List Part) × (qs ≡ ps ++ rest)) → (x y : Option Lexeme) → p.sign ≡ x → q.sign ≡ y
         → (with_sign x p.token ++ tokens_of ps) ++ more ≡ with_sign y q.token ++ tokens_of qs → (rest : List Part)
         × (q ∷ qs ≡ (p ∷ ps) ++ rest)
-    at onward None None sx sy e = grind (arith, head_of, tail_of, next)
+    at onward None None sx sy e = grind arith
     at onward None (Some t) sx sy e =
         absurd (not_sign t p.token (sym (head_of p.token t _ _ e)) ((b 0 q refl).signed t sy) (a 0 p refl).numeral)
-    at onward (Some s) None sx sy e =
-        absurd (not_sign s q.token (head_of s q.token _ _ e) ((a 0 p refl).signed s sx) (b 0 q refl).numeral)
-    at onward (Some s) (Some t) sx sy e = grind (arith, head_of, tail_of, next)
+    at onward (Some s) None sx sy e = absurd (not_sign s q.token (head_of s q.token _ _ e) ((a 0 p refl).signed s sx) (b 0 q refl).numeral)
+    at onward (Some s) (Some t) sx sy e = grind arith
 
 action_part : (a : ℕ) (p : Part) → IsActionPart a p → IsPart p
 action_part a p h = grind arith
@@ -57,9 +56,9 @@ pub part_of_value : (o : ℕ) (ps : List Part) (node : ℕ) (vs : List ℤ) (x :
     → (n : ℕ) × (s : ℕ) × (part : Part) × (k ≡ n * o + s) × (s < o) × (slice_get ps (n * (1 + o) + (1 + s)) ≡ Some part)
 part_of_value o ps node vs x count filled k e =
     let inside = within_get vs k x e in
-    let (n, (s, place, l)) = row_of o k (some_columns node o k (omega (arith, inside, filled))) in
-    let part = get_within ps (n * (1 + o) + (1 + s)) (omega
-    (arith, row_above (1 + o) n node (row_below o n s node (omega (arith, inside, filled, place))), count, l)) in
+    let (n, (s, place, l)) = row_of o k (some_columns node o k (omega arith)) in
+    let part = get_within ps _ (omega
+    (arith, row_above (1 + o) n node (row_below o n s node (omega arith)), count, l)) in
     (n, s, part.0, place, l, part.1)
 
 module _ {way : Rounding} where
@@ -76,7 +75,7 @@ module _ {way : Rounding} where
       (q : IsRoundedVectors way g states ts w) → p.parts ≡ q.parts
   same_parts g states ts v w p q =
       let found = front_parts p.parts q.parts [] (vector_parts g states p.parts v.values p.records)
-      (vector_parts g states q.parts w.values q.records) (append-nil (tokens_of p.parts) ∙ sym p.spelled ∙ q.spelled) in
+      (vector_parts g states q.parts w.values q.records) (append-nil _ ∙ sym p.spelled ∙ q.spelled) in
       sym (found.1 ∙ same_count p.parts found.0 (sym (ap length found.1) ∙ q.count ∙ sym p.count))
 
   same_value : (g : PolicyGraph) (states : ℕ) (ps : List Part) (vs ws : List ℤ) → length ps ≡ nodes g * (1 + states)

@@ -29,7 +29,7 @@ drop_same [] ys zs e = e
 drop_same (x ∷ xs) ys zs e = drop_same xs ys zs (tail_of x x _ _ e)
 
 small_actions : (g : PolicyGraph) → IsProperGraph g → (n : ℕ) → n < nodes g → action_of g n < 2 ^ 64
-small_actions g proper n l = omega (arith, proper.known n l, proper.few_actions)
+small_actions g proper n l = omega arith
 
 sign_no_numeral : (k : TokenKind) → sign_kind k ≡ true → numeral_kind k ≡ false
 sign_no_numeral k h1 = grind arith
@@ -56,11 +56,12 @@ last_open (p ∷ ps) sign parts is = at p.sign sign (last_open ps sign (λ k. pa
         → last_sign ((with_sign u p.token ++ tokens_of ps) ++ open_of v) ≡ v
     at u v h1 = grind (arith, first)
 
-one_number : (t : Lexeme) (ts : List Lexeme) → numeral_kind t.kind ≡ true → numbers (t ∷ ts) ≡ suc (numbers ts)
-one_number t ts e = ap (λ b. if b then suc (numbers ts) else numbers ts) e
+module _ (t : Lexeme) (ts : List Lexeme) where
+  one_number : numeral_kind t.kind ≡ true → numbers (t ∷ ts) ≡ suc (numbers ts)
+  one_number e = ap (λ b. if b then suc (numbers ts) else numbers ts) e
 
-no_number : (t : Lexeme) (ts : List Lexeme) → numeral_kind t.kind ≡ false → numbers (t ∷ ts) ≡ numbers ts
-no_number t ts e = ap (λ b. if b then suc (numbers ts) else numbers ts) e
+  no_number : numeral_kind t.kind ≡ false → numbers (t ∷ ts) ≡ numbers ts
+  no_number e = ap (λ b. if b then suc (numbers ts) else numbers ts) e
 
 -- each part has one numeral
 numbers_of : (ps : List Part) (sign : Option Lexeme) → AreParts ps → ((s : Lexeme) → sign ≡ Some s → sign_kind s.kind ≡ true)
@@ -75,21 +76,21 @@ numbers_of (p ∷ ps) sign parts is = at p.sign refl (numbers_of ps sign (λ k. 
     at : (u : Option Lexeme) → p.sign ≡ u → numbers (tokens_of ps ++ open_of sign) ≡ length ps
         → numbers ((with_sign u p.token ++ tokens_of ps) ++ open_of sign) ≡ suc (length ps)
     at None e was = one ∙ ap suc was
-    at (Some s) e was = no_number s (p.token ∷ (tokens_of ps ++ open_of sign)) (sign_no_numeral s.kind ((parts 0 p refl).signed s e))
-        ∙ one
+    at (Some s) e was = no_number s (p.token ∷ (tokens_of ps ++ open_of sign)) (sign_no_numeral s.kind ((parts 0 p refl).signed s e)) ∙ one
         ∙ ap suc was
 
-open_place : (sign : Option Lexeme) (t : Lexeme) → place_after (option_map kept_sign sign) t.place ≡ number_place sign t
-open_place sign t = grind arith
+module _ (sign : Option Lexeme) where
+  open_place : (t : Lexeme) → place_after (option_map kept_sign sign) t.place ≡ number_place sign t
+  open_place t = grind arith
 
-open_minus : (sign : Option Lexeme) → is_minus (option_map kept_sign sign) ≡ is_negative sign
-open_minus sign = grind arith
+  open_minus : is_minus (option_map kept_sign sign) ≡ is_negative sign
+  open_minus = grind arith
 
-none_kept : (sign : Option Lexeme) → option_map kept_sign sign ≡ None → sign ≡ None
-none_kept sign h1 = grind arith
+  none_kept : option_map kept_sign sign ≡ None → sign ≡ None
+  none_kept h1 = grind arith
 
-open_tokens : (sign : Option Lexeme) (t : Lexeme) → open_of sign ++ t ∷ [] ≡ with_sign sign t
-open_tokens sign t = grind arith
+  open_tokens : (t : Lexeme) → open_of sign ++ t ∷ [] ≡ with_sign sign t
+  open_tokens t = grind arith
 
 abbrev plain_part : Option Lexeme → Lexeme → Part
 plain_part s t = record { sign = s; token = t }
@@ -128,18 +129,18 @@ module _ {way : Rounding} where
       let found = front_parts ps all.parts (x ∷ more) (vector_parts g o ps vs old.records)
       (vector_parts g o all.parts v.values all.records)
       all.spelled in
-      at found.0 found.1 (drop_same (tokens_of ps) (x ∷ more) (tokens_of found.0)
+      at found.0 found.1 (drop_same (tokens_of ps) (x ∷ more) _
       (all.spelled ∙ ap tokens_of found.1 ∙ tokens-append ps found.0))
     where
       at : (rest : List Part) → all.parts ≡ ps ++ rest → x ∷ more ≡ tokens_of rest → NextPart way g o ps node column v.values x more
       at [] e tokens = absurd (cons_not_nil x more tokens)
       at (p ∷ rest) e tokens =
-          let records : AreVectors way g o (ps ++ p ∷ rest) v.values = subst (λ qs. AreVectors way g o qs v.values) e all.records in
+          let records = subst (λ qs. AreVectors way g o qs v.values) e all.records in
           record {
             part = p;
             rest = rest;
             tokens = tokens;
-            is_part = vector_parts g o (ps ++ p ∷ rest) v.values records (length ps) p (here ps rest p);
+            is_part = vector_parts g o _ v.values records (length ps) p (here ps rest p);
             fits = needed_part g o ps rest p node column vs v.values old records;
             count = sym (length-append ps (p ∷ rest)) ∙ sym (ap length e) ∙ all.count;
           }
@@ -179,27 +180,31 @@ module _ {way : Rounding} where
       → ArePossible way g r.states seen
   possible_seen g seen r some h = subst⁻¹ (λ ts. ArePossible way g r.states ts) h.spelled
       (by_sign g seen r h (λ sign. ArePossible way g r.states (tokens_of h.parts ++ open_of sign))
-      (subst⁻¹ (λ ts. ArePossible way g r.states ts) (append-nil (tokens_of h.parts))
+      (subst⁻¹ (λ ts. ArePossible way g r.states ts) (append-nil _)
       (filled h.parts r.node r.column r.values.items h.vectors)) signed)
     where
       filled : (ps : List Part) (node column : ℕ) (vs : List ℤ) → AreVectorsUpTo way g r.states ps node column vs
           → ArePossible way g r.states (tokens_of ps)
-      filled ps node column vs old = possible_parts g r.states ps
-          (can_end g r.states some (small_actions g h.proper) ps node column vs old)
+      filled ps node column vs old = possible_parts g r.states ps (can_end g r.states some (small_actions g h.proper) ps node column vs old)
 
       signed : (s : Lexeme) → h.sign ≡ Some s → sign_kind s.kind ≡ true → 0 < r.column
           → ArePossible way g r.states (tokens_of h.parts ++ s ∷ [])
       signed s is kind begun =
           let zero = signed_zero s in
-          let old : AreVectorsUpTo way g r.states h.parts r.node (1 + (r.column - 1)) r.values.items =
+          let old =
           value_read g r.states h.parts r.node r.column r.values.items begun h.vectors in
-          let next = some_after r.states r.node (r.column - 1) (omega (arith, old.within)) in
+          let next = some_after r.states r.node (r.column - 1) (omega arith) in
           let more = filled _ _ _ _ (step_value g r.states h.parts zero (pos 0) r.node (r.column - 1) next.0 next.1.0 r.values.items old
-          (signed_zero_value s kind) next.1.1) in
-          let tokens : tokens_of (h.parts ++ zero ∷ []) ++ more.0 ≡ (tokens_of h.parts ++ s ∷ []) ++ (zero.token ∷ more.0) =
-          ap (λ ts. ts ++ more.0) (tokens-append h.parts (zero ∷ [])) ∙ append_assoc (tokens_of h.parts) (s ∷ zero.token ∷ []) more.0
-          ∙ sym (append_assoc (tokens_of h.parts) (s ∷ []) (zero.token ∷ more.0)) in
-          (zero.token ∷ more.0, (more.1.0, subst (λ ts. IsRoundedVectors way g r.states ts more.1.0) tokens more.1.1))
+          (signed_zero_value s kind) next.1.1) in (
+            zero.token ∷ more.0,
+            (
+              more.1.0,
+              subst (λ ts. IsRoundedVectors way g r.states ts more.1.0)
+                  (ap (λ ts. ts ++ more.0) (tokens-append h.parts (zero ∷ []))
+                  ∙ append_assoc (tokens_of h.parts) (s ∷ zero.token ∷ []) more.0
+                  ∙ sym (append_assoc (tokens_of h.parts) (s ∷ []) (zero.token ∷ more.0))) more.1.1,
+            ),
+          )
 
   -- at a vector's action no sign is open
   pub closed_lexeme : (g : PolicyGraph) (seen : List Lexeme) (r : VectorsReading) (h : HasReadVectors way g seen r) → r.column ≡ 0
@@ -231,7 +236,7 @@ module _ {way : Rounding} where
       column_at c e = subst (λ x. IsPartColumn r.states seen r.node x) e (column_read g seen r h)
 
       value_column : 0 < r.column → IsPartColumn r.states seen r.node (suc (r.column - 1))
-      value_column begun = column_at (suc (r.column - 1)) (omega (arith, begun))
+      value_column begun = column_at _ (omega (arith, begun))
 
       stop_seen : (fault : VectorFault) → IsPartMisfit g r.states seen t fault → Continues way g r.states h.parts h.sign t
           → StopVectorsFor way g r.states (seen ++ t ∷ []) fault
@@ -268,7 +273,7 @@ module _ {way : Rounding} where
       pub refuse_vector_action : (fault : VectorFault) → r.column ≡ 0 → CheckedAction g r.node t (Err fault)
           → IsPartRefusal way g r.states (seen ++ t ∷ []) fault
       refuse_vector_action (faults.WrongVectorCount place) e c =
-          let all : r.node ≡ nodes g = omega (arith, c.1, h.vectors.few) in
+          let all : r.node ≡ nodes g = omega arith in
           stop_action (faults.WrongVectorCount place) e (c.0, subst (λ n. IsPartColumn r.states seen n 0) all (column_at 0 e))
           (λ more v n. omega (arith, n.count, h.vectors.count, above (nodes g) r.node c.1))
         where
@@ -276,8 +281,7 @@ module _ {way : Rounding} where
           above m n l = grind (arith, l)
       refuse_vector_action (faults.BadShape place) e c =
           stop_action (faults.BadShape place) e (
-            place_seen place (c.0 ∙ ap (λ u. place_after u t.place)
-                (sym (closed_sign g seen r h e))),
+            place_seen place (c.0 ∙ ap (λ u. place_after u t.place) (sym (closed_sign g seen r h e))),
             (r.node, (0, column_at 0 e, c.1, c.2)),
           )
           (λ more v n. true_false (action_next v.values more e n).0 c.2)
@@ -291,9 +295,8 @@ module _ {way : Rounding} where
           → sign_kind t.kind ≡ false → StopVectorsFor way g r.states (seen ++ t ∷ []) (faults.BadShape place)
       refuse_other place begun e no_numeral no_sign =
           stop_seen (faults.BadShape place) (
-            place_seen place
-                e,
-            (r.node, (suc (r.column - 1), value_column begun, h.vectors.few_begun begun, shape (last_sign seen))),
+            place_seen place e,
+            (r.node, (suc (r.column - 1), value_column begun, h.vectors.few_begun begun, shape _)),
           )
           (by_sign g seen r h (λ sign. Continues way g r.states h.parts sign t)
           (λ more v all. number_begins g r.states h.parts r.node r.column v.values t more no_numeral no_sign (next t more v all))
@@ -311,23 +314,21 @@ module _ {way : Rounding} where
       refuse_second_sign u begun e sign =
           let open_one = sym e ∙ h.kept in
           stop_seen (faults.BadShape u.place) (
-            place_seen u.place (ap (λ x. place_after x t.place)
-                (sym e)),
+            place_seen u.place (ap (λ x. place_after x t.place) (sym e)),
             (
               r.node,
               (
                 suc (r.column - 1),
                 value_column begun,
                 h.vectors.few_begun begun,
-                subst⁻¹
-                    (λ s. is_part_shaped (suc (r.column - 1)) s t ≡ false) last_seen (shape h.sign open_one),
+                subst⁻¹ (λ s. is_part_shaped (suc (r.column - 1)) s t ≡ false) last_seen (shape h.sign open_one),
               ),
             ),
           )
           (at h.sign h.signed open_one)
         where
           shape : (s : Option Lexeme) → Some u ≡ option_map kept_sign s → is_part_shaped (suc (r.column - 1)) s t ≡ false
-          shape s h1 = grind (arith, some_none, sign_no_numeral)
+          shape s h1 = grind arith
 
           at : (sign : Option Lexeme) → ((s : Lexeme) → sign ≡ Some s → (sign_kind s.kind ≡ true) × (0 < r.column))
               → Some u ≡ option_map kept_sign sign → Continues way g r.states h.parts sign t
@@ -363,7 +364,7 @@ module _ {way : Rounding} where
       → HasReadVectors way g (seen ++ t ∷ []) new
   read_vector_action g old new seen t some e states node column values sign h few whole value =
       let at = subst (λ c. AreVectorsUpTo way g old.states h.parts old.node c old.values.items) e h.vectors in
-      let stepped = step_vector_action g old.states h.parts (plain_part None t) old.node old.values.items some at few
+      let stepped = step_vector_action g old.states h.parts _ old.node _ some at few
       (record { unsigned = refl; whole = whole; value = value }) in
       record {
         proper = h.proper;
@@ -390,9 +391,9 @@ module _ {way : Rounding} where
         sign = Some t;
         vectors = transport⁻¹ (λ i. AreVectorsUpTo way g (states i) h.parts (node i) (column i) (values i).items) h.vectors;
         spelled = ap (λ ts. ts ++ t ∷ []) (h.spelled ∙ ap (λ s. tokens_of h.parts ++ open_of s) (none_kept h.sign (sym h.kept ∙ none))
-            ∙ append-nil (tokens_of h.parts));
+            ∙ append-nil _);
         kept = sign ∙ (λ i. Some (record { place = place i; is_negative = minus i }));
-        signed = λ s same. (subst (λ x. sign_kind x.kind ≡ true) (same_some t s same) kind, omega (arith, begun, column));
+        signed = λ s same. (subst (λ x. sign_kind x.kind ≡ true) (same_some t s same) kind, omega arith);
       }
 
   -- a number is read
@@ -409,12 +410,12 @@ module _ {way : Rounding} where
         rounded = subst (λ b. IsRounded way b t.bytes value) (ap is_minus h.kept ∙ open_minus h.sign) rounded;
       } in
       let following : IsAfter 1 old.states old.node (old.column - 1) new.node new.column = record {
-        inside = λ l. let is = next.inside (omega (arith, l, states, column, begun)) in
+        inside = λ l. let is = next.inside (omega arith) in
             (is.0 ∙ node, omega (arith, is.1, column, begun));
-        last = λ f. let is = next.last (omega (arith, f, states, column, begun)) in (omega (arith, is.0, node), is.1);
+        last = λ f. let is = next.last (omega arith) in (omega (arith, is.0, node), is.1);
       } in
-      let at = value_read g old.states h.parts old.node old.column old.values.items begun h.vectors in
-      let stepped = step_value g old.states h.parts p value old.node (old.column - 1) new.node new.column old.values.items at part
+      let at = value_read g old.states h.parts old.node old.column _ begun h.vectors in
+      let stepped = step_value g old.states h.parts p value old.node (old.column - 1) new.node new.column _ at part
       following
       in
       record {

@@ -16,13 +16,12 @@ module _ {way : Rounding} (old mid new : VectorsReading) (t : Lexeme) (value : �
 
   signed_read : (s : Lexeme) → s.kind ≡ Minus → IsRounded way true t.bytes value → ReadsOn (HasReadVectors way) old new (s ∷ t ∷ [])
   signed_read s kind rounded = λ g seen h.
-      let signed : VectorsReading = record old { sign = Some (kept_sign s) } in
-      let minus : is_minus signed.sign ≡ true = ap minus_kind kind in
-      let first : HasReadVectors way g (seen ++ s ∷ []) signed =
-      read_sign g old signed seen s (kept_sign s) begun none refl refl refl refl refl (ap sign_kind kind) refl refl h in
+      let signed = record old { sign = Some (kept_sign s) } in
+      let minus = ap minus_kind kind in
       subst (λ ts. HasReadVectors way g ts new) (append_assoc seen (s ∷ []) (t ∷ []))
       (read_value g signed mid new (seen ++ s ∷ []) t value begun (ap numeral_kind numeral) readable
-      (subst (λ b. IsRounded way b t.bytes value) (sym minus) rounded) states node column sign values next first)
+      (subst (λ b. IsRounded way b t.bytes value) (sym minus) rounded) states node column sign values next
+      (read_sign g old signed seen s (kept_sign s) begun none refl refl refl refl refl (ap sign_kind kind) refl refl h))
 
   pub value_reads : (minus : Option Lexeme) → ((s : Lexeme) → minus ≡ Some s → s.kind ≡ Minus)
       → IsRounded way (has_minus minus) t.bytes value → ReadsOn (HasReadVectors way) old new (with_minus minus t)

@@ -1,4 +1,4 @@
-use Rattle.std.proofs.Common.{[], arith}
+use Rattle.std.proofs.Common.{arith}
 use Rattle.std.proofs.lemmas.List.{replicate_more}
 use Rattle.polcert_policy.proofs.ActionGraphs.{one_more, action_graph_proper}
 use Rattle.polcert_policy.proofs.graph.Graph.of_actions.Goals as goal
