@@ -30,7 +30,7 @@ row_sum_refused seen k read text table a s cut wrong = search (rules, row_refuse
 -- a text whose tokens end cleanly ends where they do
 clean_end : (text : List ℕ) (ls : List Lexeme) → IsCut (text_rest text text_limit) ls None
     → end_place (text_rest text text_limit) ≡ length text
-clean_end text ls cut = at (nat_lt text_limit (length text)) (ends_cleanly (text_rest text text_limit) ls cut)
+clean_end text ls cut = at (nat_lt _ _) (ends_cleanly _ ls cut)
   where
     at : (long : Bool) → (cond long (too_long text) (whole_text text)).ending ≡ None
         → end_place (cond long (too_long text) (whole_text text)) ≡ length text
@@ -43,9 +43,9 @@ module _ {S : Type 0} (reads : S → ℕ → Option (List ℕ) → S → Type 0)
       → TakenFrom reads failures text_limit first ts stream s → IsRefusedAfter ts fault
       → EachTextThatFits reads first s (IsRefusedModelText fault)
   refused_at_token ts stream s fault taken h =
-      each_taken reads failures text_limit first ts stream s (IsRefusedModelText fault) taken
-      (λ text rest t. refused_text fault text (λ tokens are. let front = tokens_begin text rest ts tokens t are in
-      h text tokens front.0 are front.1))
+      each_taken _ _ _ _ ts _ s _ taken
+      (λ text rest t. refused_text _ text (λ tokens are. let front = tokens_begin text rest ts _ t are in
+      h text _ _ are front.1))
 
   -- the tokens stop
   pub refused_tokens : (ts : List Lexeme) (r : TextReader) (old : Stream) (s : S) (fault : TokenFault) (new : Ahead) (u : S)
@@ -53,17 +53,17 @@ module _ {S : Type 0} (reads : S → ℕ → Option (List ℕ) → S → Type 0)
       → TakenFrom reads failures text_limit first ts old s → GivesEnd reads failures old.ahead s (Some fault) new u
       → EachTextThatFits reads first u (IsRefusedModelText (tokens_end r.number (pending_at r.item) fault))
   refused_tokens ts r old s fault new u read taken g =
-      let named = tokens_end r.number (pending_at r.item) fault in
-      each_cut reads failures text_limit first ts old s (Some fault) new u (IsRefusedModelText named) taken g
+      let named = tokens_end _ _ _ in
+      each_cut _ _ _ _ ts old s _ new u _ taken g
       (λ text cut. refused_text named text (λ tokens are. let these = these_tokens text ts (Some fault) tokens cut are in
-      fault_refused ts r fault read text tokens are these.0 these.1))
+      fault_refused ts r _ read text _ are these.0 these.1))
 
   -- the text ends cleanly
   pub read_at_end : (ts : List Lexeme) (old : Stream) (s : S) (new : Ahead) (u : S) (k : ModelSoFar)
       → TakenFrom reads failures text_limit first ts old s
       → GivesEnd reads failures old.ahead s None new u → IsWholeRead ts k → (text : List ℕ) × IsText reads first text u × IsTextOf text k
   read_at_end ts old s new u k taken g read =
-      let t = text_taken reads failures text_limit first ts old s new u taken g in
+      let t = text_taken _ _ _ _ ts old s new u taken g in
       (t.0, t.1, (ts, t.2, read))
 
   pub refused_at_end : (ts : List Lexeme) (old : Stream) (s : S) (new : Ahead) (u : S) (fault : ModelFault) (end : ℕ)
@@ -71,8 +71,8 @@ module _ {S : Type 0} (reads : S → ℕ → Option (List ℕ) → S → Type 0)
       → GivesEnd reads failures old.ahead s None new u → end ≡ new.place → IsRefusedWhole ts end fault
       → EachTextThatFits reads first u (IsRefusedModelText fault)
   refused_at_end ts old s new u fault end taken g place h =
-      let t = text_taken reads failures text_limit first ts old s new u taken g in
-      each_whole reads first t.0 u (IsRefusedModelText fault) t.1
-      (refused_text fault t.0 (λ tokens are.
-      let these = these_tokens t.0 ts None tokens t.2 are in
-      h t.0 tokens are these.0 these.1 (are.end_is ∙ clean_end t.0 ts t.2 ∙ sym t.3 ∙ sym place)))
+      let t = text_taken _ _ _ _ ts old s new u taken g in
+      each_whole _ _ t.0 u _ t.1
+      (refused_text _ t.0 (λ tokens are.
+      let these = these_tokens t.0 ts None _ t.2 are in
+      h t.0 _ are these.0 these.1 (are.end_is ∙ clean_end t.0 ts t.2 ∙ sym t.3 ∙ sym place)))

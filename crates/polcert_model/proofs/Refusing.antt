@@ -4,7 +4,7 @@ use Rattle.std.proofs.Common.{◌≡◌, ◌∙◌, ℕ, ◌+◌, inr, true, fal
 use Rattle.std.proofs.Common.{subst, arith, rules}
 use Rattle.std.proofs.lemmas.List.{append_assoc, append-nil}
 use Rattle.polcert_model.proofs.Common.{Lexeme, TokenFault, ItemFault, BadShape, TooManyCells, ItemReader, Refusal, Sign, TextReader, Topic}
-use Rattle.polcert_model.proofs.Common.{Start, topic, begins_item, Item, IsDivided, ModelSoFar, nothing_known, IsRight, AreRight}
+use Rattle.polcert_model.proofs.Common.{Start, topic, begins_item, Item, IsDivided, ModelSoFar, nothing_known, AreRight}
 use Rattle.polcert_model.proofs.Common.{word_fault, HasForm, IsPossible, PassesCellLimit, TextTokens, AreTokensOf, LiesInItem, IsDecided}
 use Rattle.polcert_model.proofs.Common.{wrong_last, IsReason, CannotEnd, IsStartReason, IsLate, IsLateIn, states_known, ItemGoes, ItemForms}
 use Rattle.polcert_model.proofs.Common.{topic_of_reader, pending_in, IsSeen, IsEndReason, unexpected_token, expected, item_wants, IfStart}
@@ -17,14 +17,14 @@ use Rattle.polcert_items.specs.declared.item.ItemReader.TheVariants as items
 use Rattle.polcert_format.specs.Forms.{HasNoForm}
 use Rattle.polcert_format.specs.Reading.{IsWithinItem, IsWrong, CannotGoOn}
 use Rattle.polcert_format.specs.FirstWrong.{IsFirstWrong, word_place, wrong_item}
-use Rattle.polcert_format.specs.Reasons.{PassesLimit, InItem, StandsIn, NumberStandsIn, IsRepeated, is_sign_kind}
+use Rattle.polcert_format.specs.Reasons.{PassesLimit, InItem, StandsIn, NumberStandsIn}
 use Rattle.polcert_format.specs.Reasons as reasons
 use Rattle.polcert_format.specs.Refusals.{place_or, Stops, StopsInBody, in_body, after_body, of_first_number}
 use Rattle.polcert_format.specs.Refusals as refusals
 use Rattle.polcert_items.specs.Steps.Numbers.{is_minus_sign, signed_place, IsSignAt, SignEnds}
 use Rattle.polcert_items.specs.Steps.Numbers as steps
 use Rattle.polcert_items.specs.Steps.Lines.{CannotTake}
-use Rattle.polcert_items.specs.Steps.Start.{IsReasonAt, IsReasonIn, StopsStart, first_number, token}
+use Rattle.polcert_items.specs.Steps.Start.{IsReasonIn, StopsStart, first_number, token}
 use Rattle.polcert_format.specs.FirstNumber.{ends_cleanly}
 use Rattle.polcert_format.proofs.FirstNumbers.{late_here}
 use Rattle.polcert_items.proofs.FirstNumberLaws.{late_at_fault, pending_is_late}
@@ -60,9 +60,6 @@ pub record Here (ts : TextTokens) (n : ℕ) (k : ModelSoFar) (t : Topic) (body :
   pub topic_is : topic word ≡ Some t
   pub number_is : n ≡ length before + 1
 
-abbrev pub item_here : {ts : TextTokens} {n : ℕ} {k : ModelSoFar} {t : Topic} {body : List Lexeme} → Here ts n k t body → Item
-item_here {body = body} h = record { word = h.word; body = body }
-
 -- the item that was begun, with what follows of its body and what follows it
 abbrev pub here : (ts : TextTokens) (n : ℕ) (seen body tail f : List Lexeme) (k : ModelSoFar) (t : Topic) (ys : List Item)
     (w : IsWithinItem seen k t body)
@@ -81,8 +78,7 @@ here ts n seen body tail f k t ys w e number d = record {
 module _ {ts : TextTokens} {n : ℕ} {k : ModelSoFar} {t : Topic} {body : List Lexeme} (h : Here ts n k t body) where
   -- it is the first wrong item
   pub first_here : IsWrong k t body → IsFirstWrong ts n
-  first_here wrong = wrong_item h.before (item_here h) h.after k h.divided h.taken
-      (λ u e. subst (λ x. IsWrong k x body) (one_some h.topic_is e) wrong) h.number_is
+  first_here wrong = wrong_item _ _ _ k h.divided h.taken (λ u e. rw (← one_some h.topic_is e) wrong) h.number_is
 
   -- a place in its body lies in it
   lies_here : (place : ℕ) (taken rest : List Lexeme) → Rises 0 ts.lexemes ts.end → body ≡ taken ++ rest
@@ -96,8 +92,8 @@ module _ {ts : TextTokens} {n : ℕ} {k : ModelSoFar} {t : Topic} {body : List L
   -- nothing is decided where its word may stand
   pub free_here : word_fault k t ≡ None → (fault : ItemFault) (at : ℕ) → IsDecided ts n fault at → ⊥
   free_here free fault at d =
-      nothing_decided ts h.before (item_here h) h.after k t fault at h.divided h.taken h.topic_is free
-      (subst (λ m. IsDecided ts m fault at) h.number_is d)
+      nothing_decided ts _ _ _ k t fault at h.divided h.taken h.topic_is free
+      (rw (← h.number_is) d)
 
   -- a part of the body was taken, and there it stops
   stops_here : (kind : ItemFault) (place : ℕ) (taken rest : List Lexeme) → body ≡ taken ++ rest → IsPossible k t taken
@@ -105,27 +101,18 @@ module _ {ts : TextTokens} {n : ℕ} {k : ModelSoFar} {t : Topic} {body : List L
       → place ≡ place_or rest (word_place h.after ts.end 0) → (rest ≡ [] → h.after ≡ [] → ts.ending ≡ None) → StopsInBody ts kind n place
   stops_here kind place taken rest whole possible stops at clean = grind arith
 
-  -- the refusal of a start item's first number that is due here
-  late_in : (kind : ItemFault) (place : ℕ) → t ≡ Start → word_fault k t ≡ None
-      → IsLate (states_known k) body (ends_cleanly h.after ts.ending) kind place → IsLateIn ts n kind place
-  late_in kind place start free late = grind arith
-
   late_of : (kind : ItemFault) (place : ℕ) → IsLateIn ts n kind place → (t ≡ Start)
       × IsLate (states_known k) body (ends_cleanly h.after ts.ending) kind place
-  late_of kind place w = late_here ts n kind place h.before (item_here h) h.after k t h.divided h.taken h.topic_is h.number_is w
+  late_of kind place w = late_here ts n kind _ _ _ _ k t h.divided h.taken h.topic_is h.number_is w
 
   -- a refusal in a start item, at some lexeme of its body
   start_lies : (place : ℕ) → Rises 0 ts.lexemes ts.end → StandsIn body place (λ l. Unit {0}) → LiesInItem ts n place
-  start_lies place rises s = lies_here place s.before (s.lexeme ∷ s.after) rises s.whole s.place_is
-
-  end_reason : (place : ℕ) (kind : ItemFault) → IsEndReason t kind → IsReason ts n place kind
-  end_reason place kind h1 = grind (arith, so_here)
+  start_lies place rises s = lies_here _ s.before _ rises s.whole s.place_is
 
 -- ---- where a number stands in the body
 
 signed_whole : (body before more : List Lexeme) (s l : Lexeme) → body ≡ before ++ s ∷ [] → (body ++ l ∷ []) ++ more ≡ before ++ s ∷ l ∷ more
-signed_whole body before more s l e = append_assoc body (l ∷ []) more ∙ ap (λ (b : List Lexeme). b ++ l ∷ more) e
-    ∙ append_assoc before (s ∷ []) (l ∷ more)
+signed_whole body before more s l e = append_assoc body _ more ∙ ap (λ (b : List _). b ++ l ∷ more) e ∙ append_assoc before _ _
 
 sign_place : (sign : Sign) (s : Lexeme) → IsSignAt sign s → sign.place ≡ s.place
 sign_place sign s h1 = grind arith
@@ -134,16 +121,15 @@ signed_stands : (sign : Sign) (body before more : List Lexeme) (s l : Lexeme) (p
     → body ≡ before ++ s ∷ [] → IsSignAt sign s
     → place ≡ sign.place → Is sign.negative l → NumberStandsIn ((body ++ l ∷ []) ++ more) place Is
 signed_stands sign body before more s l place Is e (steps.plus kind negative at) p so =
-    reasons.plus before s l more (signed_whole body before more s l e) kind (p ∙ at) (subst (λ b. Is b l) negative so)
+    reasons.plus _ s l more (signed_whole body _ more s l e) kind (p ∙ at) (rw (← negative) so)
 signed_stands sign body before more s l place Is e (steps.minus kind negative at) p so =
-    reasons.minus before s l more (signed_whole body before more s l e) kind (p ∙ at) (subst (λ b. Is b l) negative so)
+    reasons.minus _ s l more (signed_whole body _ more s l e) kind (p ∙ at) (rw (← negative) so)
 
 number_stands : (sign : Option Sign) (body more : List Lexeme) (l : Lexeme) (place : ℕ) (Is : Bool → Lexeme → Type 0) → SignEnds sign body
     → place ≡ signed_place sign l
     → Is (is_minus_sign sign) l → NumberStandsIn ((body ++ l ∷ []) ++ more) place Is
-number_stands None body more l place Is ends p so = reasons.unsigned body l more (append_assoc body (l ∷ []) more) ends p so
-number_stands (Some sign) body more l place Is ends p so =
-    signed_stands sign body ends.0 more ends.1.0 l place Is ends.1.1.0 ends.1.1.1 p so
+number_stands None body more l place Is ends p so = reasons.unsigned body l more (append_assoc body _ more) ends p so
+number_stands (Some sign) body more l place Is ends p so = signed_stands sign body _ more _ l _ Is ends.1.1.0 ends.1.1.1 p so
 
 -- ---- a token that is refused
 
@@ -153,18 +139,14 @@ record Refused (ts : TextTokens) (n place : ℕ) (kind : ItemFault) : Type 0 whe
   reason : IsReason ts n place kind
   stops : StopsInBody ts kind n place
 
-sign_kind : (sign : Sign) (s : Lexeme) → IsSignAt sign s → is_sign_kind s.kind ≡ true
-sign_kind sign s h1 = grind arith
-
 stands : (body more : List Lexeme) (l : Lexeme) (place : ℕ) (Is : Lexeme → Type 0) → place ≡ l.place → Is l
     → reasons.StandsIn ((body ++ l ∷ []) ++ more) place Is
 stands body more l place Is p so = record {
   before = body;
   lexeme = l;
   after = more;
-  whole = append_assoc body (l ∷ []) more;
-  place_is =
-      p;
+  whole = append_assoc body _ more;
+  place_is = p;
   holds = so;
 }
 
@@ -174,28 +156,28 @@ module _ {ts : TextTokens} {n : ℕ} (place : ℕ) {k : ModelSoFar} {t : Topic} 
     (taken : IsPossible k t body)
     (stuck : HasNoForm k t (body ++ l ∷ [])) where
   number_lies : (s : Option Sign) → SignEnds s body → place ≡ signed_place s l → LiesInItem ts n place
-  number_lies None ends p = lies_here h place body (l ∷ more) rises (append_assoc body (l ∷ []) more) p
+  number_lies None ends p = lies_here h _ body (l ∷ more) rises (append_assoc body _ more) p
   number_lies (Some s) ends p =
-      lies_here h place ends.0 (ends.1.0 ∷ l ∷ more) rises (signed_whole body ends.0 more ends.1.0 l ends.1.1.0)
-      (p ∙ sign_place s ends.1.0 ends.1.1.1)
+      lies_here h _ ends.0 _ rises (signed_whole body _ more ends.1.0 l ends.1.1.0)
+      (p ∙ sign_place s _ ends.1.1.1)
 
   number_stops : (kind : ItemFault) (s : Option Sign) → SignEnds s body → place ≡ signed_place s l → l.kind ≡ Numeral → IsOfValue kind
       → IsMisfit (expected k t body) l kind
       → StopsInBody ts kind n place
   number_stops kind None ends p numeral value unfit =
-      stops_here h kind place body (l ∷ more) (append_assoc body (l ∷ []) more) taken (refusals.at_lexeme stuck unfit) p
+      stops_here h kind _ body (l ∷ more) (append_assoc body _ more) taken (refusals.at_lexeme stuck unfit) p
       (λ none. absurd (cons≢nil none))
   number_stops kind (Some g) ends p numeral value unfit =
       let before = ends.0 in
       let s = ends.1.0 in
       let whole = ends.1.1.0 in
-      let signed : IsPossible k t (before ++ s ∷ []) = subst (IsPossible k t) whole taken in
-      let front : IsPossible k t before = possible_front k t before (s ∷ []) signed in
+      let signed = subst (IsPossible k t) whole taken in
+      let front : IsPossible k t before = possible_front k t _ _ signed in
       let pair : HasNoForm k t (before ++ s ∷ l ∷ []) = subst (HasNoForm k t)
-      (ap (λ (b : List Lexeme). b ++ l ∷ []) whole ∙ append_assoc before (s ∷ []) (l ∷ [])) stuck in
-      let following : IsMisfit (expected k t (before ++ s ∷ [])) l kind = subst (λ b. IsMisfit (expected k t b) l kind) whole unfit in
-      stops_here h kind place before (s ∷ l ∷ more) (signed_whole body before more s l whole) front
-      (refusals.at_number (sign_kind g s ends.1.1.1) numeral signed pair value following) (p ∙ sign_place g s ends.1.1.1)
+      (ap (λ (b : List _). b ++ l ∷ []) whole ∙ append_assoc _ (s ∷ []) _) stuck in
+      let following = subst (λ b. IsMisfit (expected k t b) l kind) whole unfit in
+      stops_here h kind _ _ (s ∷ l ∷ more) (signed_whole body _ more s l whole) front
+      (refusals.at_number (grind arith) numeral signed pair value following) (p ∙ sign_place g s ends.1.1.1)
       (λ none. absurd (cons≢nil none))
 
   at_number : (kind : ItemFault) → IsOfValue kind → IsMisfit (expected k t body) l kind → l.kind ≡ Numeral → place ≡ signed_place sign l
@@ -205,66 +187,60 @@ module _ {ts : TextTokens} {n : ℕ} (place : ℕ) {k : ModelSoFar} {t : Topic} 
   at_lexeme : (kind : ItemFault) → IsMisfit (expected k t body) l kind → place ≡ l.place → IsReason ts n place kind
       → Refused ts n place kind
   at_lexeme kind unfit p reason = record {
-    lies = lies_here h place body (l ∷ more) rises (append_assoc body (l ∷ []) more) p;
+    lies = lies_here h _ body _ rises (append_assoc body _ more) p;
     reason = reason;
-    stops = stops_here h kind place body (l ∷ more) (append_assoc body (l ∷ []) more) taken (refusals.at_lexeme stuck unfit) p
-        (λ none. absurd (cons≢nil none));
+    stops = stops_here h kind _ body _ (append_assoc body _ more) taken (refusals.at_lexeme stuck unfit) p (λ none. absurd (cons≢nil none));
   }
 
   refused_here : (kind : ItemFault) → IsMisfit (expected k t body) l kind → IsTokenReason t sign body l kind place → Refused ts n place kind
-  refused_here (Number fault) unfit m = search (rules, so_here, number_stands, at_number)
-  refused_here DiscountRange unfit m = search (rules, so_here, number_stands, at_number)
-  refused_here ProbabilityRange unfit m = search (rules, so_here, number_stands, at_number)
-  refused_here Reset unfit m = at_lexeme Reset unfit m.0 (so_here h (stands body more l place _ m.0 m.1))
+  refused_here (Number fault) unfit m = search (rules, number_stands, at_number)
+  refused_here DiscountRange unfit m = search (rules, number_stands, at_number)
+  refused_here ProbabilityRange unfit m = search (rules, number_stands, at_number)
+  refused_here Reset unfit m = at_lexeme _ unfit m.0 (so_here h (stands body more l _ _ m.0 m.1))
   refused_here DuplicateName unfit m =
-      at_lexeme DuplicateName unfit m.0 (so_here h (
+      at_lexeme _ unfit m.0 (so_here h (
         m.1,
-        subst (λ b. IsRepeated b place) (sym (append_assoc body (l ∷ []) more))
-            (m.2 more),
+        rw ((append_assoc body (l ∷ []) more)) (m.2 more),
       ))
-  refused_here UnknownName unfit m = at_lexeme UnknownName unfit m.0 (so_here h (stands body more l place _ m.0 m.1))
-  refused_here IndexOutOfRange unfit m = at_lexeme IndexOutOfRange unfit m.0 (so_here h (stands body more l place _ m.0 m.1))
-  refused_here BadCount unfit m = at_lexeme BadCount unfit m.0 (so_here h m.1)
-  refused_here BadShape unfit m = at_lexeme BadShape unfit m tt
-  refused_here WrongNumberCount unfit m = at_lexeme WrongNumberCount unfit m tt
+  refused_here UnknownName unfit m = at_lexeme _ unfit m.0 (so_here h (stands body more l _ _ m.0 m.1))
+  refused_here IndexOutOfRange unfit m = at_lexeme _ unfit m.0 (so_here h (stands body more l _ _ m.0 m.1))
+  refused_here BadCount unfit m = at_lexeme _ unfit m.0 (grind arith)
+  refused_here BadShape unfit m = at_lexeme _ unfit m tt
+  refused_here WrongNumberCount unfit m = at_lexeme _ unfit m tt
   refused_here _ unfit m = absurd m
 
 -- the item doesn't continue with the lexeme
 stuck : (seen : List Lexeme) (r : TextReader) (w : IsItemRead seen r) (l : Lexeme) → CannotTake (ItemGoes r.known) w.item l
     → CannotGoOn r.known w.t (w.body ++ l ∷ [])
 stuck seen r w l none more after taken =
-    none more after (w.read.on (l ∷ more) after (right_shaped r.known w.t _ after
-    (subst (λ b. IsRight r.known w.t b after) (append_assoc w.body (l ∷ []) more) taken)))
+    none more after (w.read.on _ _ (right_shaped _ w.t _ _
+    (rw (← append_assoc w.body (l ∷ []) more) taken)))
 
 -- and hasn't even the form of one with it
 without_form : (seen : List Lexeme) (r : TextReader) (w : IsItemRead seen r) (l : Lexeme) → CannotTake (ItemGoes r.known) w.item l
     → IfStart (topic_of_reader w.item) (CannotTake (ItemForms r.known) w.item l) → HasNoForm r.known w.t (w.body ++ l ∷ [])
 without_form seen r w l none formless more f =
-    forms_stuck r.known w.item l none formless more tt (w.read.forms (l ∷ more)
-    (subst (HasForm r.known w.t) (append_assoc w.body (l ∷ []) more) f))
-
--- what stands in a body stands in it with more after
-stands_further : (body more : List Lexeme) (place : ℕ) (Is : Lexeme → Type 0) → StandsIn body place Is → StandsIn (body ++ more) place Is
-stands_further body more place Is s = grind (arith, append_assoc)
+    forms_stuck _ _ l none formless more tt (w.read.forms _
+    (subst (HasForm _ w.t) (append_assoc _ _ more) f))
 
 number_further : (body more : List Lexeme) (place : ℕ) (Is : Bool → Lexeme → Type 0) → NumberStandsIn body place Is
     → NumberStandsIn (body ++ more) place Is
 number_further body more place Is (reasons.unsigned before l after e free p so) =
-    reasons.unsigned before l (after ++ more) (ap (λ (b : List Lexeme). b ++ more) e ∙ append_assoc before (l ∷ after) more) free p so
+    reasons.unsigned _ l (after ++ more) (ap (λ (b : List _). b ++ more) e ∙ append_assoc before _ more) free p so
 number_further body more place Is (reasons.plus before s l after e kind p so) =
-    reasons.plus before s l (after ++ more) (ap (λ (b : List Lexeme). b ++ more) e ∙ append_assoc before (s ∷ l ∷ after) more) kind p so
+    reasons.plus before s l _ (ap (λ (b : List Lexeme). b ++ more) e ∙ append_assoc _ (s ∷ l ∷ after) more) kind p so
 number_further body more place Is (reasons.minus before s l after e kind p so) =
-    reasons.minus before s l (after ++ more) (ap (λ (b : List Lexeme). b ++ more) e ∙ append_assoc before (s ∷ l ∷ after) more) kind p so
+    reasons.minus _ s l (after ++ more) (ap (λ (b : List _). b ++ more) e ∙ append_assoc before _ more) kind p so
 
 -- why a start item is refused at some lexeme of its body
 module _ {ts : TextTokens} {n : ℕ} (place : ℕ) {k : ModelSoFar} {t : Topic} (body more : List Lexeme) (h : Here ts n k t (body ++ more))
     (e : t ≡ Start) where
   start_reason : (kind : ItemFault) → IsReasonIn body kind place → IsReason ts n place kind
-  start_reason (Number fault) m = so_here h (number_further body more place _ m)
-  start_reason ProbabilityRange m = so_here h (subst reasons.IsOfProbabilities (sym e) tt, number_further body more place _ m)
-  start_reason Reset m = so_here h (stands_further body more place _ m)
-  start_reason UnknownName m = so_here h (stands_further body more place _ m)
-  start_reason IndexOutOfRange m = so_here h (stands_further body more place _ m)
+  start_reason (Number fault) m = so_here h (number_further body more _ _ m)
+  start_reason ProbabilityRange m = so_here h (cc, number_further body more _ _ m)
+  start_reason Reset m = so_here h (grind (arith, append_assoc))
+  start_reason UnknownName m = so_here h (grind (arith, append_assoc))
+  start_reason IndexOutOfRange m = so_here h (grind (arith, append_assoc))
   start_reason WrongNumberCount m = tt
   start_reason BadShape m = tt
   start_reason _ m = absurd m
@@ -283,11 +259,11 @@ start_refused : {text : List ℕ} {ts : TextTokens} {n : ℕ} (place : ℕ) {k :
 start_refused {text} {ts} place body more kind tokens h free wrong e r late due = record {
   refusal = record {
     first_wrong = wrong;
-    lies = start_lies h place (tokens_rise text ts tokens) (stands_further body more place _ r.stands);
-    reason = start_reason place body more h e kind r.reason;
-    decided = λ fault at x. absurd (free_here h free fault at x);
+    lies = start_lies h _ (tokens_rise text ts tokens) (grind (arith, append_assoc));
+    reason = start_reason _ body more h e kind r.reason;
+    decided = λ fault at x. absurd (free_here h free _ at x);
   };
-  placed = record { stands = of_first_number (late_in h kind place e free late); late = due };
+  placed = record { stands = of_first_number (grind arith); late = due };
 }
 
 -- an item that ends in a fault of the tokens doesn't end cleanly
@@ -300,16 +276,16 @@ pub due_at_fault : (ts : TextTokens) (n : ℕ) (k : ModelSoFar) (t : Topic) (bod
     → topic_of_reader item ≡ t → IsSeen (states_known k) body item → IsLateIn ts n kind place
     → pending_in item ≡ Some (record { kind = kind; place = place })
 due_at_fault ts n k t body item f kind place h last ending topics seen w =
-    let found = late_of h kind place w in
-    let clean : ends_cleanly h.after ts.ending ≡ false = ap (λ items. ends_cleanly items ts.ending) last ∙ fault_ends ts.ending f ending in
+    let found = late_of h kind _ w in
+    let clean = ap (λ items. ends_cleanly items ts.ending) last ∙ fault_ends ts.ending f ending in
     let late : IsLate (states_known k) body false kind place =
-    subst (λ b. IsLate (states_known k) body b kind place) clean
-    (subst (λ (b : List Lexeme). IsLate (states_known k) b (ends_cleanly h.after ts.ending) kind place) (append-nil body) found.1) in
-    of item (topics ∙ found.0) seen late
+    rw (← clean)
+    (rw (← append-nil body) found.1) in
+    of item (cc) seen late
   where
     of : (i : ItemReader) → topic_of_reader i ≡ Start → IsSeen (states_known k) body i → IsLate (states_known k) body false kind place
         → pending_in i ≡ Some (record { kind = kind; place = place })
-    of (items.Start r) e s late = late_at_fault (states_known k) body r kind place s late
+    of (items.Start r) e s late = late_at_fault _ body r kind _ s late
     of _ e s late = absurd (cc)
 
 -- a start item in which the tokens end in a fault after a number without a value
@@ -318,34 +294,30 @@ pub pending_refused : (seen : List Lexeme) (r : TextReader) (f : TokenFault) (x 
     → (text : List ℕ) (ts : TextTokens) → AreTokensOf text ts → ts.lexemes ≡ seen → ts.ending ≡ Some f
     → Refuses ts (model_faults.Item x.kind r.number x.place)
 pending_refused seen r f x w e text ts tokens same ending =
-    let why = pending_why (states_known r.known) w.body w.item x w.read.seen e in
-    let h : Here ts r.number r.known w.t (w.body ++ []) =
-    here ts r.number seen w.body [] [] r.known w.t [] w.within (same ∙ sym (append-nil seen)) w.number_is empty_division in
-    let late : IsLate (states_known r.known) (w.body ++ []) (ends_cleanly [] ts.ending) x.kind x.place =
+    let why = pending_why _ w.body _ x w.read.seen e in
+    let h =
+    here ts r.number seen _ [] [] r.known w.t [] w.within (same ∙ sym (append-nil seen)) w.number_is empty_division in
+    let late =
     subst (λ b. IsLate (states_known r.known) (w.body ++ []) b x.kind x.place) (sym (fault_ends ts.ending f ending))
-    (subst (λ (b : List Lexeme). IsLate (states_known r.known) b false x.kind x.place) (sym (append-nil w.body)) why.2) in
-    start_refused x.place w.body [] x.kind tokens h w.read.may_stand
-    (wrong_last h.before (item_here h) r.known f h.divided h.taken ending h.number_is) (sym w.read.topic_is ∙ why.0) why.1 late
-    (λ fault at is. same_refusal x fault at (sym e ∙ due_at_fault ts r.number r.known w.t w.body w.item f fault at h refl ending
+    (rw (append-nil w.body) why.2) in
+    start_refused _ w.body [] x.kind tokens h w.read.may_stand
+    (wrong_last _ _ r.known f h.divided h.taken ending h.number_is) (cc) why.1 late
+    (λ fault at is. same_refusal x _ at (sym e ∙ due_at_fault ts r.number _ w.t _ w.item f _ at h refl ending
     w.read.topic_is w.read.seen is))
   where
     same_refusal : (x : Refusal) (fault : ItemFault) (at : ℕ) → Some x ≡ Some (record { kind = fault; place = at }) → (x.kind ≡ fault)
         × (x.place ≡ at)
-    same_refusal x fault at q = (ap (λ (y : Refusal). y.kind) (one_some refl q), ap (λ (y : Refusal). y.place) (one_some refl q))
+    same_refusal x fault at q = (cc, ap (λ (y : Refusal). y.place) (one_some refl q))
 
     pending_why : (count : ℕ) (body : List Lexeme) (item : ItemReader) (x : Refusal) → IsSeen count body item → pending_in item ≡ Some x
         → (topic_of_reader item ≡ Start) × IsStartReason body x.kind x.place × IsLate count body false x.kind x.place
-    pending_why count body (items.Start s) x seen e = (refl, pending_reason count body s x seen e, pending_is_late count body s x seen e)
+    pending_why count body (items.Start s) x seen e = (refl, pending_reason _ body s x seen e, pending_is_late _ body s x seen e)
     pending_why count body _ x seen e = absurd (none≢some e)
 
 -- the sign that waits for its numeral ends the body
 pub seen_sign : (count : ℕ) (body : List Lexeme) (item : ItemReader) → (topic_of_reader item ≡ Start → ⊥) → IsSeen count body item
     → SignEnds (sign_in item) body
 seen_sign count body item h1 h2 = grind arith
-
--- what is said of items that are no start item
-not_start : (t : Topic) (P : Type 0) → (t ≡ Start → ⊥) → IfNotStart t P → P
-not_start t P h1 h2 = grind arith
 
 wants_here : (k : ModelSoFar) (t : Topic) (body : List Lexeme) (item : ItemReader)
     → ((ls : List Lexeme) → expected k t (body ++ ls) ≡ item_wants k item ls) → item_wants k item [] ≡ expected k t body
@@ -354,13 +326,7 @@ wants_here k t body item wants = sym (ap (expected k t) (sym (append-nil body)) 
 here_unfit : (k : ModelSoFar) (t : Topic) (body : List Lexeme) (item : ItemReader) → (t ≡ Start → ⊥)
     → ((ls : List Lexeme) → expected k t (body ++ ls) ≡ item_wants k item ls)
     → (l : Lexeme) (kind : ItemFault) → IfNotStart t (IsMisfit (item_wants k item []) l kind) → IsMisfit (expected k t body) l kind
-here_unfit k t body item other wants l kind unfit =
-    subst (λ x. IsMisfit x l kind) (wants_here k t body item wants) (not_start t _ other unfit)
-
--- why a token is refused in a start item, as of any item
-start_token : (sign : Option Sign) (body : List Lexeme) (l : Lexeme) (kind : ItemFault) (place : ℕ) → IsReasonAt sign l kind place
-    → IsTokenReason Start sign body l kind place
-start_token sign body l kind place h1 = grind arith
+here_unfit k t body item other wants l kind unfit = rw (← wants_here k t body item wants) (grind arith)
 
 pub feed_refused : (seen : List Lexeme) (r : TextReader) (l : Lexeme) (kind : ItemFault) (place : ℕ) (w : IsItemRead seen r)
     → begins_item l ≡ false
@@ -373,11 +339,11 @@ pub feed_refused : (seen : List Lexeme) (r : TextReader) (l : Lexeme) (kind : It
     → IsLate (states_known r.known) (w.body ++ l ∷ more) ends late.kind late.place → (kind ≡ late.kind) × (place ≡ late.place))
     → IsRefusedAfter (seen ++ l ∷ []) (model_faults.Item kind r.number place)
 feed_refused seen r l kind place w inner none reason unfit stops formless due text ts further tokens e =
-    let d = has_division further in
-    let more : List Lexeme = d.0 in
-    let following = within_continues seen l r.known w.t w.body w.within inner in
-    let h : Here ts r.number r.known w.t ((w.body ++ l ∷ []) ++ more) =
-    here ts r.number (seen ++ l ∷ []) (w.body ++ l ∷ []) further more r.known w.t d.1 following e w.number_is d.2 in
+    let d = has_division _ in
+    let more = d.0 in
+    let following = within_continues seen l _ w.t _ w.within inner in
+    let h =
+    here ts _ _ _ _ more r.known w.t d.1 following e w.number_is d.2 in
     at reason more h
   where
     -- what is due of a start item's first number is this
@@ -405,39 +371,37 @@ feed_refused seen r l kind place w inner none reason unfit stops formless due te
         → Refuses ts (model_faults.Item kind r.number place)
     of_one more h other m =
         refused_so more h
-        (refused_here place (sign_in w.item) w.body more l h (tokens_rise text ts tokens)
-        (seen_sign (states_known r.known) w.body w.item other w.read.seen)
-        (w.read.possible (nothing_pending w.item other)) (without_form seen r w l none formless) kind
-        (here_unfit r.known w.t w.body w.item (λ s. other (w.read.topic_is ∙ s)) w.read.wants l kind
-        (subst (λ u. IfNotStart u (IsMisfit (item_wants r.known w.item []) l kind)) w.read.topic_is unfit))
-        (subst (λ t. IsTokenReason t (sign_in w.item) w.body l kind place) w.read.topic_is m))
+        (refused_here place (sign_in w.item) _ more l h (tokens_rise text ts tokens)
+        (seen_sign _ _ _ other w.read.seen)
+        (w.read.possible (nothing_pending _ other)) (without_form seen r w l none formless) kind
+        (here_unfit r.known w.t _ _ (λ s. other (cc)) w.read.wants l kind
+        (rw (← w.read.topic_is) unfit))
+        (rw (← w.read.topic_is) m))
 
     of_start : (more : List Lexeme) (h : Here ts r.number r.known w.t ((w.body ++ l ∷ []) ++ more)) → w.t ≡ Start
         → IsStartReason (w.body ++ l ∷ []) kind place
         → StopsStart (pending_in w.item) (states_known r.known) w.body (expected r.known w.t w.body) l kind place
         → Refuses ts (model_faults.Item kind r.number place)
     of_start more h start m (first_number late) =
-        start_refused place (w.body ++ l ∷ []) more kind tokens h w.read.may_stand
+        start_refused _ _ more kind tokens h w.read.may_stand
         (first_here h (stuck seen r w l none more)) start m
-        (subst (λ (b : List Lexeme). IsLate (states_known r.known) b (ends_cleanly h.after ts.ending) kind place)
-        (sym (append_assoc w.body (l ∷ []) more)) (late more (ends_cleanly h.after ts.ending)))
+        (rw ((append_assoc w.body (l ∷ []) more)) (late more _))
         (is_due more h)
     of_start more h start m (token sign unheld ends misfits why) =
         refused_so more h
-        (refused_here place sign w.body more l h (tokens_rise text ts tokens) ends (w.read.possible unheld)
+        (refused_here _ sign _ more l h (tokens_rise text ts tokens) ends (w.read.possible unheld)
         (without_form seen r w l none formless) kind misfits
-        (subst (λ t. IsTokenReason t sign w.body l kind place) (sym start) (start_token sign w.body l kind place why)))
+        (rw start (grind arith)))
 
     at : IsItemReason w.item w.body l kind place → (more : List Lexeme) → Here ts r.number r.known w.t ((w.body ++ l ∷ []) ++ more)
         → Refuses ts (model_faults.Item kind r.number place)
     at (steps_of.of_token other m) more h = of_one more h other m
     at (steps_of.of_start start m) more h =
-        let here_stops : StopsStart (pending_in w.item) (states_known r.known) w.body (expected r.known w.t w.body) l kind place =
-        subst (λ x. StopsStart (pending_in w.item) (states_known r.known) w.body x l kind place)
+        of_start more h (sym w.read.topic_is ∙ start) m (subst
+        (λ x. StopsStart (pending_in w.item) (states_known r.known) w.body x l kind place)
         (wants_here r.known w.t w.body w.item w.read.wants)
         (subst (λ u. IfStart u (StopsStart (pending_in w.item) (states_known r.known) w.body (item_wants r.known w.item []) l kind place))
-        start stops) in
-        of_start more h (sym w.read.topic_is ∙ start) m here_stops
+        start stops))
 
 -- ---- an item that cannot end
 
@@ -451,11 +415,10 @@ ends_here : (ts : TextTokens) (n place : ℕ) (seen body : List Lexeme) (k : Mod
     → n ≡ length w.items.items + 1
     → EndsItem ts seen place → EndsHere ts n place k t body
 ends_here ts n place seen body k t w number (texts.at_word next further e begins p) =
-    let d = has_division further in
+    let d = has_division _ in
     let item : Item = record { word = next; body = d.0 } in
     record {
-      here_is = here ts n seen body (next ∷ further) [] k t (item ∷ d.1) w e number
-          (next_division [] further d.0 next [] d.1 begins empty_division d.2);
+      here_is = here ts n seen body _ [] k t _ w e number (next_division [] further d.0 next [] d.1 begins empty_division d.2);
       place_is = p;
       clean = λ none. absurd (cons≢nil none);
     }
@@ -463,22 +426,17 @@ ends_here ts n place seen body k t w number (texts.at_end e clean p) =
     record {
       here_is = here ts n seen body [] [] k t [] w (e ∙ sym (append-nil seen)) number empty_division;
       place_is = p;
-      clean =
-          λ none. clean;
+      clean = λ none. clean;
     }
-
--- an item that ends
-clean_ends : (items : List Item) (ending : Option TokenFault) → (items ≡ [] → ending ≡ None) → ends_cleanly items ending ≡ true
-clean_ends items ending h1 = grind (arith, none≢some)
 
 -- what is due of its first number there
 due_at_end : (ts : TextTokens) (n place : ℕ) (k : ModelSoFar) (t : Topic) (body : List Lexeme) (fault : ItemFault) (at : ℕ)
     (x : EndsHere ts n place k t body) → IsLateIn ts n fault at
     → (t ≡ Start) × IsLate (states_known k) body true fault at
 due_at_end ts n place k t body fault at x w =
-    let found = late_of x.here_is fault at w in (
+    let found = late_of x.here_is _ at w in (
       found.0,
-      subst (λ b. IsLate (states_known k) body b fault at) (clean_ends x.here_is.after ts.ending x.clean)
+      subst (λ b. IsLate (states_known k) body b fault at) (grind (arith, none≢some))
           (subst (λ (b : List Lexeme). IsLate (states_known k) b (ends_cleanly x.here_is.after ts.ending) fault at) (append-nil body)
           found.1),
     )
@@ -489,29 +447,29 @@ pub end_refused : (seen : List Lexeme) (r : TextReader) (kind : ItemFault) (plac
     → ((late : Refusal) → topic_of_reader w.item ≡ Start → IsLate (states_known r.known) w.body true late.kind late.place → ⊥)
     → IsRefusedAt seen place (model_faults.Item kind r.number place)
 end_refused seen r kind place w none reason kinds unheld undue text ts tokens ends =
-    let x = ends_here ts r.number place seen w.body r.known w.t w.within w.number_is ends in
+    let x = ends_here ts _ _ seen _ _ w.t w.within w.number_is ends in
     record {
       refusal = record {
-        first_wrong = first_here x.here_is (λ after taken. none after (w.read.on [] after (right_shaped r.known w.t _ after taken)));
-        lies = lies_here x.here_is place w.body [] (tokens_rise text ts tokens) refl x.place_is;
-        reason = end_reason x.here_is place kind (subst (λ t. IsEndReason t kind) w.read.topic_is reason);
-        decided = λ fault at y. absurd (free_here x.here_is w.read.may_stand fault at y);
+        first_wrong = first_here x.here_is (λ after taken. none _ (w.read.on [] after (right_shaped _ w.t _ _ taken)));
+        lies = lies_here x.here_is _ _ [] (tokens_rise text ts tokens) refl x.place_is;
+        reason = grind (arith, so_here);
+        decided = λ fault at y. absurd (free_here x.here_is w.read.may_stand _ at y);
       };
       placed = record {
-        stands = in_body (stops_here x.here_is kind place w.body [] refl (w.read.possible unheld) stops x.place_is (λ nothing. x.clean));
+        stands = in_body (stops_here x.here_is kind _ _ [] refl (w.read.possible unheld) stops x.place_is (λ nothing. x.clean));
         late = λ fault at y.
-            let found = due_at_end ts r.number place r.known w.t w.body fault at x y in
-            absurd (undue (record { kind = fault; place = at }) (w.read.topic_is ∙ found.0) found.1);
+            let found = due_at_end ts _ _ _ w.t _ _ at x y in
+            absurd (undue _ (cc) found.1);
       };
     }
   where
     stops : Stops r.known w.t kind w.body []
     stops =
-        refusals.at_end (λ after right. none after (w.read.on [] after
-        (right_shaped r.known w.t _ after (subst (λ b. IsRight r.known w.t b after) (sym (append-nil w.body)) right))))
-        (λ much. let s = too_much_shaped r.known w.t (w.body ++ []) (subst (PassesCellLimit r.known w.t) (sym (append-nil w.body)) much) in
+        refusals.at_end (λ after right. none _ (w.read.on [] after
+        (right_shaped _ w.t _ _ (rw (append-nil w.body) right))))
+        (λ much. let s = too_much_shaped _ w.t _ (subst (PassesCellLimit _ w.t) (sym (append-nil _)) much) in
         none s.0 (w.read.on [] s.0 s.1))
-        (kinds ∙ ap (λ v. unexpected_token v None) (wants_here r.known w.t w.body w.item w.read.wants))
+        (kinds ∙ ap (λ v. unexpected_token v None) (wants_here r.known w.t _ _ w.read.wants))
 
 -- a start item that cannot end, for the number before its end
 pub end_refused_before : (seen : List Lexeme) (r : TextReader) (kind : ItemFault) (at place : ℕ) (w : IsItemRead seen r)
@@ -522,31 +480,31 @@ pub end_refused_before : (seen : List Lexeme) (r : TextReader) (kind : ItemFault
     × (at ≡ late.place))
     → IsRefusedAt seen place (model_faults.Item kind r.number at)
 end_refused_before seen r kind at place w none start reason late due text ts tokens ends =
-    let x = ends_here ts r.number place seen w.body r.known w.t w.within w.number_is ends in
-    let here_late : IsLate (states_known r.known) (w.body ++ []) (ends_cleanly x.here_is.after ts.ending) kind at =
-    subst (λ b. IsLate (states_known r.known) (w.body ++ []) b kind at) (sym (clean_ends x.here_is.after ts.ending x.clean))
+    let x = ends_here ts r.number _ seen _ r.known w.t w.within w.number_is ends in
+    let here_late =
+    subst (λ b. IsLate (states_known r.known) (w.body ++ []) b kind at) (sym (grind (arith, none≢some)))
     (subst (λ (b : List Lexeme). IsLate (states_known r.known) b true kind at) (sym (append-nil w.body)) late) in
     start_refused at w.body [] kind tokens x.here_is w.read.may_stand
-    (first_here x.here_is (λ after taken. none after (w.read.on [] after (right_shaped r.known w.t _ after taken))))
-    (sym w.read.topic_is ∙ start) reason here_late
+    (first_here x.here_is (λ after taken. none _ (w.read.on [] after (right_shaped _ w.t _ after taken))))
+    (cc) reason here_late
     (λ fault p y.
-    let found = due_at_end ts r.number place r.known w.t w.body fault p x y in
-    due (record { kind = fault; place = p }) (w.read.topic_is ∙ found.0) found.1)
+    let found = due_at_end ts _ place _ w.t _ fault p x y in
+    due _ (cc) found.1)
 
 -- ---- an entry that gives too much
 
 pub too_much_refused : (seen : List Lexeme) (r : TextReader) (place : ℕ) (w : IsItemRead seen r) → PassesCellLimit r.known w.t w.body
     → IsRefusedAt seen place (model_faults.Item TooManyCells r.number place)
 too_much_refused seen r place w much text ts tokens ends =
-    let x = ends_here ts r.number place seen w.body r.known w.t w.within w.number_is ends in
-    let here_much : PassesCellLimit r.known w.t (w.body ++ []) = subst (PassesCellLimit r.known w.t) (sym (append-nil w.body)) much in
-    let passes : PassesLimit ts r.number place = record {
-      before = x.here_is.before;
-      item = item_here x.here_is;
-      after = x.here_is.after;
+    let x = ends_here ts _ _ seen _ _ w.t w.within w.number_is ends in
+    let here_much = subst (PassesCellLimit _ w.t) (sym (append-nil _)) much in
+    let passes : PassesLimit ts _ place = record {
+      before = _;
+      item = _;
+      after = _;
       divided = x.here_is.divided;
       number_is = x.here_is.number_is;
-      k = r.known;
+      k = _;
       t = w.t;
       known = x.here_is.taken;
       topic_is = x.here_is.topic_is;
@@ -556,15 +514,15 @@ too_much_refused seen r place w much text ts tokens ends =
     } in
     record {
       refusal = record {
-        first_wrong = first_here x.here_is (too_much_wrong r.known w.t (w.body ++ []) here_much);
-        lies = lies_here x.here_is place w.body [] (tokens_rise text ts tokens) refl x.place_is;
+        first_wrong = first_here x.here_is (too_much_wrong _ w.t _ here_much);
+        lies = lies_here x.here_is _ _ [] (tokens_rise text ts tokens) refl x.place_is;
         reason = inr passes;
-        decided = λ fault at y. absurd (free_here x.here_is w.read.may_stand fault at y);
+        decided = λ fault at y. absurd (free_here x.here_is w.read.may_stand _ at y);
       };
       placed = record {
         stands = after_body refl passes;
         late = λ fault at y.
-            let found = due_at_end ts r.number place r.known w.t w.body fault at x y in
-            (let e = sym much.topic_is ∙ found.0 in absurd (cc));
+            let found = due_at_end ts _ _ _ w.t _ _ at x y in
+            (absurd (cc));
       };
     }

@@ -1,13 +1,13 @@
 -- A text's reader, step by step: what it holds after one more lexeme, and after an item.
-use Rattle.std.proofs.Common.{◌≡◌, ◌∙◌, ℕ, ◌+◌, true, false, Option, Some, None, List, [], ◌∷◌, ◌++◌, refl, sym, ap, subst, append_assoc}
+use Rattle.std.proofs.Common.{◌≡◌, ◌∙◌, ℕ, ◌+◌, true, false, Option, Some, None, List, [], ◌∷◌, ◌++◌, refl, sym, subst, append_assoc}
 use Rattle.std.proofs.Common.{length-append, arith}
 use Rattle.std.proofs.lemmas.List.{append-nil}
 use Rattle.polcert_model.proofs.Common.{Lexeme, ItemFault, BeforeFirstItem, TooManyCells, ModelFault, ItemReader, ItemContents, TextReader}
-use Rattle.polcert_model.proofs.Common.{Topic, Start, topic, begins_item, IsDivided, ModelSoFar, nothing_known, IsRight, AreRight}
+use Rattle.polcert_model.proofs.Common.{Topic, Start, topic, begins_item, ModelSoFar, IsRight, AreRight}
 use Rattle.polcert_model.proofs.Common.{preamble_in, HasFewCells, word_fault, preamble_fault, CannotEnd, IsStartReason, ItemGoes}
 use Rattle.polcert_model.proofs.Common.{IsItemWithin, IsEndReason, IsSeen, topic_of_reader, pending_in, new_item, HasElements, with_item}
-use Rattle.polcert_model.proofs.Common.{AreContentsOf, IsAllowedNext, unexpected_token, item_wants, Refusal, IsLate, states_known, Refuses}
-use Rattle.polcert_model.proofs.Common.{IsShaped, IsTextRead, IsItemRead, IsBodyRead, AreItemsRead, IsRefusedAfter, IsRefusedAt}
+use Rattle.polcert_model.proofs.Common.{AreContentsOf, IsAllowedNext, unexpected_token, item_wants, Refusal, IsLate, states_known}
+use Rattle.polcert_model.proofs.Common.{IsTextRead, IsItemRead, IsBodyRead, AreItemsRead, IsRefusedAfter, IsRefusedAt}
 use Rattle.polcert_model.proofs.Common.{IsRefusedWhole}
 use Rattle.polcert_format.specs.declared.fault.ModelFault.TheVariants as model_faults
 use Rattle.polcert_format.specs.Text as texts
@@ -27,172 +27,158 @@ reader_of known held number = record { known = known; item = held; number = numb
 
 -- ---- an item's end
 
--- no item is open
-pub none_open : (seen : List Lexeme) (r : TextReader) (held : Option ItemReader) → IsTextRead seen r → r.item ≡ None → held ≡ None
-    → AreItemsRead seen (reader_of r.known held r.number)
-none_open seen r held (nothing n) e f = record {
-  items = record {
-    items = [];
-    divided = subst (λ s. IsDivided s [] []) (sym n.nothing) empty_division;
-    right =
-        subst (AreRight nothing_known []) (sym n.known_is) texts.none;
-  };
-  item_is = f;
-  number_is = n.number_is;
-}
-none_open seen r held (item w) e f = absurd (some≢none w.item_is e)
+module _ (seen : List Lexeme) (r : TextReader) where
+  -- no item is open
+  pub none_open : (held : Option ItemReader) → IsTextRead seen r → r.item ≡ None → held ≡ None
+      → AreItemsRead seen (reader_of r.known held r.number)
+  none_open held (nothing n) e f = record {
+    items = record {
+      items = [];
+      divided = rw n.nothing empty_division;
+      right = subst (AreRight _ []) (sym n.known_is) texts.none;
+    };
+    item_is = f;
+    number_is = n.number_is;
+  }
+  none_open held (item w) e f = absurd (some≢none w.item_is e)
 
-same_item : (seen : List Lexeme) (r : TextReader) (i : ItemReader) → r.item ≡ Some i → (w : IsItemRead seen r) → w.item ≡ i
-same_item seen r i e w = one_some w.item_is e
+  same_item : (i : ItemReader) → r.item ≡ Some i → (w : IsItemRead seen r) → w.item ≡ i
+  same_item i e w = one_some w.item_is e
 
--- the open item's reader is within its bounds
-pub open_within : (seen : List Lexeme) (r : TextReader) (i : ItemReader) → IsTextRead seen r → r.item ≡ Some i → IsItemWithin r.known i
-open_within seen r i h1 h2 = grind (arith, some≢none, same_item)
+  -- the open item's reader is within its bounds
+  pub open_within : (i : ItemReader) → IsTextRead seen r → r.item ≡ Some i → IsItemWithin r.known i
+  open_within i h1 h2 = grind arith
 
--- what the open item says, as it ends
-shaped_end : (seen : List Lexeme) (r : TextReader) (i : ItemReader) (next : ModelSoFar) (w : IsItemRead seen r) → r.item ≡ Some i
-    → ItemGoes r.known i [] next → IsShaped r.known w.t w.body next
-shaped_end seen r i next w e goes = grind (arith, append-nil, same_item)
+  pub said_may_be_learned : (i : ItemReader) (said : ItemContents) → IsTextRead seen r → r.item ≡ Some i
+      → ItemGoes r.known i [] (with_item r.known said) → AreContentsOf (topic_of_reader i) said
+      → IsAllowedNext r.known said
+  said_may_be_learned i said h1 h2 h3 h4 = grind (arith, some≢none, may_be_learned, same_item)
 
-pub said_may_be_learned : (seen : List Lexeme) (r : TextReader) (i : ItemReader) (said : ItemContents) → IsTextRead seen r → r.item ≡ Some i
-    → ItemGoes r.known i [] (with_item r.known said) → AreContentsOf (topic_of_reader i) said
-    → IsAllowedNext r.known said
-said_may_be_learned seen r i said h1 h2 h3 h4 = grind (arith, some≢none, may_be_learned, same_item, shaped_end)
+  -- the open item ends
+  pub item_ended : (held : Option ItemReader) (i : ItemReader) (known : ModelSoFar)
+      (said : ItemContents) → IsTextRead seen r → r.item ≡ Some i → held ≡ None
+      → ItemGoes r.known i [] (with_item r.known said) → known ≡ with_item r.known said
+      → HasFewCells (preamble_in r.known) (with_item r.known said).entries → AreItemsRead seen (reader_of known held r.number)
+  item_ended held i known said (nothing n) e none goes same few = absurd (some≢none e n.item_is)
+  item_ended held i known said (item w) e none goes same few =
+      let after = with_item r.known said in
+      let taken : IsRight r.known w.t w.body after = shaped_right r.known w.t _ _ (grind (arith, append-nil, same_item)) few in
+      rw same (record {
+        items = item_ends seen _ _ _ w.t w.within taken;
+        item_is = none;
+        number_is = w.number_is ∙ sym (length-append _ _);
+      })
 
--- the open item ends
-pub item_ended : (seen : List Lexeme) (r : TextReader) (held : Option ItemReader) (i : ItemReader) (known : ModelSoFar)
-    (said : ItemContents) → IsTextRead seen r → r.item ≡ Some i → held ≡ None
-    → ItemGoes r.known i [] (with_item r.known said) → known ≡ with_item r.known said
-    → HasFewCells (preamble_in r.known) (with_item r.known said).entries → AreItemsRead seen (reader_of known held r.number)
-item_ended seen r held i known said (nothing n) e none goes same few = absurd (some≢none e n.item_is)
-item_ended seen r held i known said (item w) e none goes same few =
-    let after = with_item r.known said in
-    let taken : IsRight r.known w.t w.body after = shaped_right r.known w.t w.body after (shaped_end seen r i after w e goes) few in
-    subst (λ k. AreItemsRead seen (reader_of k held r.number)) (sym same) (record {
-      items = item_ends seen w.body r.known after w.t w.within taken;
-      item_is = none;
-      number_is = w.number_is ∙ sym (length-append w.within.items.items (record { word = w.within.word; body = w.body } ∷ []));
-    })
+  -- it is an entry that gives too much
+  pub item_too_much : (i : ItemReader) (said : ItemContents) (place : ℕ) → IsTextRead seen r
+      → r.item ≡ Some i → ItemGoes r.known i [] (with_item r.known said)
+      → (HasFewCells (preamble_in r.known) (with_item r.known said).entries → ⊥)
+      → IsRefusedAt seen place (model_faults.Item TooManyCells r.number place)
+  item_too_much i said place (nothing n) e goes many = absurd (some≢none e n.item_is)
+  item_too_much i said place (item w) e goes many =
+      too_much_refused seen r _ w (shaped_too_much _ w.t _ (with_item r.known said)
+      (grind (arith, append-nil, same_item)) many)
 
--- it is an entry that gives too much
-pub item_too_much : (seen : List Lexeme) (r : TextReader) (i : ItemReader) (said : ItemContents) (place : ℕ) → IsTextRead seen r
-    → r.item ≡ Some i → ItemGoes r.known i [] (with_item r.known said)
-    → (HasFewCells (preamble_in r.known) (with_item r.known said).entries → ⊥)
-    → IsRefusedAt seen place (model_faults.Item TooManyCells r.number place)
-item_too_much seen r i said place (nothing n) e goes many = absurd (some≢none e n.item_is)
-item_too_much seen r i said place (item w) e goes many =
-    too_much_refused seen r place w (shaped_too_much r.known w.t w.body (with_item r.known said)
-    (shaped_end seen r i (with_item r.known said) w e goes) many)
+  -- the open item cannot end
+  pub item_not_ended : (i : ItemReader) (kind : ItemFault) (place : ℕ) → IsTextRead seen r
+      → r.item ≡ Some i
+      → (HasElements r.known (topic_of_reader i) → CannotEnd (ItemGoes r.known) i)
+      → ((body : List Lexeme) → IsSeen (states_known r.known) body i → IsEndReason (topic_of_reader i) kind)
+      → (HasElements r.known (topic_of_reader i) → kind ≡ unexpected_token (item_wants r.known i []) None) → pending_in i ≡ None
+      → ((body : List Lexeme) (late : Refusal) → IsSeen (states_known r.known) body i → topic_of_reader i ≡ Start
+      → IsLate (states_known r.known) body true late.kind late.place → ⊥) → IsRefusedAt seen place (model_faults.Item kind r.number place)
+  item_not_ended i kind place (nothing n) e stuck reason kinds unheld undue = absurd (some≢none e n.item_is)
+  item_not_ended i kind place (item w) e stuck reason kinds unheld undue =
+      let same = same_item i e w in
+      end_refused seen r kind _ w (grind (arith, has_elements, same_item))
+      (rw same
+      (reason _ (subst (IsSeen _ _) same w.read.seen)))
+      (rw same (kinds (grind (arith, has_elements, same_item))))
+      (cc)
+      (λ late start. undue _ late (subst (IsSeen _ _) same w.read.seen)
+      (cc))
 
-some_elements : (seen : List Lexeme) (r : TextReader) (i : ItemReader) (w : IsItemRead seen r) → r.item ≡ Some i
-    → HasElements r.known (topic_of_reader i)
-some_elements seen r i w e = grind (arith, has_elements, same_item)
+  -- nor for the number before its end
+  pub item_not_ended_before : (i : ItemReader) (kind : ItemFault) (at place : ℕ) → IsTextRead seen r
+      → r.item ≡ Some i
+      → (HasElements r.known (topic_of_reader i) → CannotEnd (ItemGoes r.known) i)
+      → ((body : List Lexeme) → IsSeen (states_known r.known) body i → (topic_of_reader i ≡ Start) × IsStartReason body kind at
+      × IsLate (states_known r.known) body true kind at)
+      → ((body : List Lexeme) (late : Refusal) → IsSeen (states_known r.known) body i → topic_of_reader i ≡ Start
+      → IsLate (states_known r.known) body true late.kind late.place → (kind ≡ late.kind) × (at ≡ late.place))
+      → IsRefusedAt seen place (model_faults.Item kind r.number at)
+  item_not_ended_before i kind at place (nothing n) e stuck reason due = absurd (some≢none e n.item_is)
+  item_not_ended_before i kind at place (item w) e stuck reason due =
+      let same = same_item i e w in
+      let read = subst (IsSeen _ _) same w.read.seen in
+      let why = reason _ read in
+      end_refused_before seen r kind at place w (grind (arith, has_elements, same_item)) (cc) why.1 why.2
+      (λ late start. due _ late read (cc))
 
-cannot_end : (seen : List Lexeme) (r : TextReader) (i : ItemReader) (w : IsItemRead seen r) → r.item ≡ Some i
-    → (HasElements r.known (topic_of_reader i) → CannotEnd (ItemGoes r.known) i) → CannotEnd (ItemGoes r.known) w.item
-cannot_end seen r i w e stuck = grind (arith, has_elements, same_item)
+  -- ---- one lexeme more
 
--- the open item cannot end
-pub item_not_ended : (seen : List Lexeme) (r : TextReader) (i : ItemReader) (kind : ItemFault) (place : ℕ) → IsTextRead seen r
-    → r.item ≡ Some i
-    → (HasElements r.known (topic_of_reader i) → CannotEnd (ItemGoes r.known) i)
-    → ((body : List Lexeme) → IsSeen (states_known r.known) body i → IsEndReason (topic_of_reader i) kind)
-    → (HasElements r.known (topic_of_reader i) → kind ≡ unexpected_token (item_wants r.known i []) None) → pending_in i ≡ None
-    → ((body : List Lexeme) (late : Refusal) → IsSeen (states_known r.known) body i → topic_of_reader i ≡ Start
-    → IsLate (states_known r.known) body true late.kind late.place → ⊥) → IsRefusedAt seen place (model_faults.Item kind r.number place)
-item_not_ended seen r i kind place (nothing n) e stuck reason kinds unheld undue = absurd (some≢none e n.item_is)
-item_not_ended seen r i kind place (item w) e stuck reason kinds unheld undue =
-    let same = same_item seen r i e w in
-    end_refused seen r kind place w (cannot_end seen r i w e stuck)
-    (subst (λ j. IsEndReason (topic_of_reader j) kind) (sym same)
-    (reason w.body (subst (IsSeen (states_known r.known) w.body) same w.read.seen)))
-    (subst (λ j. kind ≡ unexpected_token (item_wants r.known j []) None) (sym same) (kinds (some_elements seen r i w e)))
-    (ap pending_in same ∙ unheld)
-    (λ late start. undue w.body late (subst (IsSeen (states_known r.known) w.body) same w.read.seen)
-    (sym (ap topic_of_reader same) ∙ start))
+  -- before the first item
+  pub not_begun : (l : Lexeme) → IsTextRead seen r → r.item ≡ None → begins_item l ≡ false
+      → IsRefusedAfter (seen ++ l ∷ []) (model_faults.Item BeforeFirstItem r.number l.place)
+  not_begun l (nothing n) e inside = before_refused seen r l n inside
+  not_begun l (item w) e inside = absurd (some≢none w.item_is e)
 
--- nor for the number before its end
-pub item_not_ended_before : (seen : List Lexeme) (r : TextReader) (i : ItemReader) (kind : ItemFault) (at place : ℕ) → IsTextRead seen r
-    → r.item ≡ Some i
-    → (HasElements r.known (topic_of_reader i) → CannotEnd (ItemGoes r.known) i)
-    → ((body : List Lexeme) → IsSeen (states_known r.known) body i → (topic_of_reader i ≡ Start) × IsStartReason body kind at
-    × IsLate (states_known r.known) body true kind at)
-    → ((body : List Lexeme) (late : Refusal) → IsSeen (states_known r.known) body i → topic_of_reader i ≡ Start
-    → IsLate (states_known r.known) body true late.kind late.place → (kind ≡ late.kind) × (at ≡ late.place))
-    → IsRefusedAt seen place (model_faults.Item kind r.number at)
-item_not_ended_before seen r i kind at place (nothing n) e stuck reason due = absurd (some≢none e n.item_is)
-item_not_ended_before seen r i kind at place (item w) e stuck reason due =
-    let same = same_item seen r i e w in
-    let read = subst (IsSeen (states_known r.known) w.body) same w.read.seen in
-    let why = reason w.body read in
-    end_refused_before seen r kind at place w (cannot_end seen r i w e stuck) (ap topic_of_reader same ∙ why.0) why.1 why.2
-    (λ late start. due w.body late read (sym (ap topic_of_reader same) ∙ start))
+  -- the open item takes it
+  pub item_takes : (l : Lexeme) (old new : ItemReader) → IsTextRead seen r → r.item ≡ Some old
+      → begins_item l ≡ false
+      → topic_of_reader new ≡ topic_of_reader old → IsItemFed r.known old l new
+      → IsTextRead (seen ++ l ∷ []) (reader_of r.known (Some new) r.number)
+  item_takes l old new (nothing n) e inside same fed = absurd (some≢none e n.item_is)
+  item_takes l old new (item w) e inside same fed =
+      let read = subst (IsBodyRead _ w.t _) (same_item old e w) w.read in
+      item (record {
+        t = w.t;
+        body = _;
+        item = new;
+        within = within_continues seen l _ w.t _ w.within inside;
+        item_is = refl;
+        number_is = w.number_is;
+        read = item_continues _ w.t _ old new l read same fed.within fed.takes fed.formed (fed.seen _ read.seen) fed.leads;
+      })
 
--- ---- one lexeme more
+  -- it cannot
+  pub item_refuses : (l : Lexeme) (i : ItemReader) (x : Refusal) → IsTextRead seen r → r.item ≡ Some i
+      → begins_item l ≡ false → RefusesInItem r.known i l x
+      → IsRefusedAfter (seen ++ l ∷ []) (model_faults.Item x.kind r.number x.place)
+  item_refuses l i x (nothing n) e inside refuses = absurd (some≢none e n.item_is)
+  item_refuses l i x (item w) e inside refuses =
+      let here : RefusesInItem r.known w.item l x = rw (same_item i e w) refuses in
+      feed_refused seen r l _ _ w inside here.stuck (here.reason _ w.read.seen) here.kind (here.start _ w.read.seen)
+      here.formless
+      (λ more ends late. here.late w.body more ends late w.read.seen)
 
--- before the first item
-pub not_begun : (seen : List Lexeme) (r : TextReader) (l : Lexeme) → IsTextRead seen r → r.item ≡ None → begins_item l ≡ false
-    → IsRefusedAfter (seen ++ l ∷ []) (model_faults.Item BeforeFirstItem r.number l.place)
-not_begun seen r l (nothing n) e inside = before_refused seen r l n inside
-not_begun seen r l (item w) e inside = absurd (some≢none w.item_is e)
+  -- ---- an item's word
 
--- the open item takes it
-pub item_takes : (seen : List Lexeme) (r : TextReader) (l : Lexeme) (old new : ItemReader) → IsTextRead seen r → r.item ≡ Some old
-    → begins_item l ≡ false
-    → topic_of_reader new ≡ topic_of_reader old → IsItemFed r.known old l new
-    → IsTextRead (seen ++ l ∷ []) (reader_of r.known (Some new) r.number)
-item_takes seen r l old new (nothing n) e inside same fed = absurd (some≢none e n.item_is)
-item_takes seen r l old new (item w) e inside same fed =
-    let read : IsBodyRead r.known w.t w.body old = subst (IsBodyRead r.known w.t w.body) (same_item seen r old e w) w.read in
-    item (record {
-      t = w.t;
-      body = w.body ++ l ∷ [];
-      item = new;
-      within = within_continues seen l r.known w.t w.body w.within inside;
-      item_is = refl;
-      number_is = w.number_is;
-      read = item_continues r.known w.t w.body old new l read same fed.within fed.takes fed.formed (fed.seen w.body read.seen) fed.leads;
-    })
+  pub item_opened : (word : Lexeme) (t : Topic) (new : ItemReader) → AreItemsRead seen r
+      → topic word ≡ Some t → word_fault r.known t ≡ None
+      → new ≡ new_item t → IsTextRead (seen ++ word ∷ []) (reader_of r.known (Some new) (r.number + 1))
+  item_opened word t new a e free same =
+      item (record {
+        t = t;
+        body = [];
+        item = _;
+        within = item_begins seen word _ t a.items e;
+        item_is = cc;
+        number_is = cc;
+        read = item_begun _ t free;
+      })
 
--- it cannot
-pub item_refuses : (seen : List Lexeme) (r : TextReader) (l : Lexeme) (i : ItemReader) (x : Refusal) → IsTextRead seen r → r.item ≡ Some i
-    → begins_item l ≡ false → RefusesInItem r.known i l x
-    → IsRefusedAfter (seen ++ l ∷ []) (model_faults.Item x.kind r.number x.place)
-item_refuses seen r l i x (nothing n) e inside refuses = absurd (some≢none e n.item_is)
-item_refuses seen r l i x (item w) e inside refuses =
-    let here : RefusesInItem r.known w.item l x = subst (λ j. RefusesInItem r.known j l x) (sym (same_item seen r i e w)) refuses in
-    feed_refused seen r l x.kind x.place w inside here.stuck (here.reason w.body w.read.seen) here.kind (here.start w.body w.read.seen)
-    here.formless
-    (λ more ends late start. here.late w.body more ends late w.read.seen start)
-
--- ---- an item's word
-
-pub item_opened : (seen : List Lexeme) (r : TextReader) (word : Lexeme) (t : Topic) (new : ItemReader) → AreItemsRead seen r
-    → topic word ≡ Some t → word_fault r.known t ≡ None
-    → new ≡ new_item t → IsTextRead (seen ++ word ∷ []) (reader_of r.known (Some new) (r.number + 1))
-item_opened seen r word t new a e free same =
-    item (record {
-      t = t;
-      body = [];
-      item = new_item t;
-      within = item_begins seen word r.known t a.items e;
-      item_is = ap Some same;
-      number_is = ap (λ n. n + 1) a.number_is;
-      read = item_begun r.known t free;
-    })
-
-pub item_not_opened : (seen : List Lexeme) (r : TextReader) (word : Lexeme) (t : Topic) (kind : ItemFault) (place : ℕ) → AreItemsRead seen r
-    → topic word ≡ Some t
-    → word_fault r.known t ≡ Some kind → word.place ≡ place
-    → IsRefusedAfter (seen ++ word ∷ []) (model_faults.Item kind (r.number + 1) place)
-item_not_opened seen r word t kind place a e fault at =
-    subst (λ p. IsRefusedAfter (seen ++ word ∷ []) (model_faults.Item kind (r.number + 1) p)) at (word_refused seen r word t kind a e fault)
+  pub item_not_opened : (word : Lexeme) (t : Topic) (kind : ItemFault) (place : ℕ) → AreItemsRead seen r
+      → topic word ≡ Some t
+      → word_fault r.known t ≡ Some kind → word.place ≡ place
+      → IsRefusedAfter (seen ++ word ∷ []) (model_faults.Item kind (r.number + 1) place)
+  item_not_opened word t kind place a e fault at = rw (← at) (word_refused seen r word t kind a e fault)
 
 -- a refusal where an item ends, at the next item's word
 pub refused_at_word : (seen : List Lexeme) (word : Lexeme) (t : Topic) (fault : ModelFault) → topic word ≡ Some t
     → IsRefusedAt seen word.place fault → IsRefusedAfter (seen ++ word ∷ []) fault
 refused_at_word seen word t fault e refused text ts further tokens same =
-    refused text ts tokens (at_word word further (same ∙ append_assoc seen (word ∷ []) further) (begins word t e) refl)
+    refused text ts tokens (at_word word _ (same ∙ append_assoc seen _ _) (begins word t e) refl)
 
 -- and at the end
 pub refused_at_end : (seen : List Lexeme) (place : ℕ) (fault : ModelFault) → IsRefusedAt seen place fault → IsRefusedWhole seen place fault
@@ -202,4 +188,4 @@ pub whole_refused : (seen : List Lexeme) (r : TextReader) (kind : ItemFault) (pl
     → preamble_fault r.known ≡ Some kind
     → IsRefusedWhole seen place (model_faults.Item kind (r.number + 1) place)
 whole_refused seen r kind place a fault text ts tokens same clean stop =
-    subst (λ p. Refuses ts (model_faults.Item kind (r.number + 1) p)) stop (text_end_refused seen r kind a fault text ts tokens same clean)
+    rw (← stop) (text_end_refused seen r kind a fault text ts tokens same clean)

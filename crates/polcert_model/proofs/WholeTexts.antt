@@ -1,12 +1,12 @@
 -- A text that was read to its end, and the model that is made of it.
-use Rattle.std.proofs.Common.{ℕ, None, List, sym, subst}
+use Rattle.std.proofs.Common.{ℕ, None, List}
 use Rattle.polcert_model.proofs.Common.{Lexeme, IsCut, text_rest, text_limit, Table, IsFirstWrongRow, ModelSoFar, TextTokens, AreTokensOf}
-use Rattle.polcert_model.proofs.Common.{preamble_in, IsWholeRead, said}
+use Rattle.polcert_model.proofs.Common.{IsWholeRead, said}
 use Rattle.polcert_text.proofs.Scanning.CleanCut.{clean_tokens}
 use Rattle.polcert_format.specs.declared.fault.ModelFault.TheVariants as model_faults
 use Rattle.polcert_cells.specs.Meaning.{Meaning, IsSame, HasProperRows}
 use Rattle.polcert_cells.specs.Steps.Drafts as drafts
-use Rattle.polcert_format.specs.Text.{IsRightText, Denotes, IsModelText}
+use Rattle.polcert_format.specs.Text.{Denotes, IsModelText}
 use Rattle.polcert_format.specs.Refusals.{IsRefusal}
 use Rattle.polcert_tables.specs.Contents.{Contents, meaning}
 use Rattle.polcert_tables.specs.Steps.KeptOf.{IsKeptOf, DenotesWithinLimits}
@@ -20,7 +20,7 @@ module _ (seen : List Lexeme) (k : ModelSoFar) (w : IsWholeRead seen k) where
   -- what has the meaning of its items and proper rows is what it denotes
   whole_denotes : (m : Meaning) → IsSame m (drafts.draft_meaning (said k)) → HasProperRows m → Denotes seen m
   whole_denotes m same rows = record {
-    preamble = preamble_in k;
+    preamble = _;
     known = k;
     right = whole_right seen k w;
     same = same;
@@ -37,8 +37,7 @@ module _ (seen : List Lexeme) (k : ModelSoFar) (w : IsWholeRead seen k) where
 
     -- and the text is the text of the model that is kept
     pub whole_accepted : (c : Contents) → IsKeptOf (said k) c.kept → IsModelText text (meaning c)
-    whole_accepted c kept = accepted (meaning c) (kept_same (said k) c.kept (c.limits.actions.1, c.limits.states.1, c.limits.observations.1)
-        kept) c.rows
+    whole_accepted c kept = accepted _ (kept_same _ _ (c.limits.actions.1, c.limits.states.1, c.limits.observations.1) kept) c.rows
 
 -- where a row isn't, the first such row is refused
 pub row_refused : (seen : List Lexeme) (k : ModelSoFar) → IsWholeRead seen k → (text : List ℕ) (table : Table) (a s : ℕ)
@@ -47,4 +46,4 @@ pub row_refused : (seen : List Lexeme) (k : ModelSoFar) → IsWholeRead seen k �
     → IsRefusal ts (model_faults.RowSum table a s)
 row_refused seen k w text table a s cut wrong ts tokens =
     let these = these_tokens text seen None ts cut tokens in
-    (these.1, (preamble_in k, k, subst (λ ls. IsRightText ls (preamble_in k) k) (sym these.0) (whole_right seen k w), wrong))
+    (these.1, (_, k, rw these.0 (whole_right seen k w), wrong))

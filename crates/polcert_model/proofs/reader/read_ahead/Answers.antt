@@ -4,11 +4,10 @@ use Rattle.polcert_model.proofs.reader.read_ahead.Goals as goal
 
 pub returns-in-Ok-clause-read : goal.returns-in-Ok-clause-read
 returns-in-Ok-clause-read c =
-    ahead_passed c.args.tokens.now c.skip.new.self c.lookahead.result.now c.in-Ok.count c.lookahead.ensures c.skip.ensures
+    ahead_passed _ _ _ _ c.lookahead.ensures c.skip.ensures
     c.in-Ok.ensures.read
 
 pub returns-in-Ok-clause-number : goal.returns-in-Ok-clause-number
 returns-in-Ok-clause-number c =
     let place = ap (λ s. s.ahead.place) c.skip.ensures in
-    let few = c.in-Ok.ensures.number in
-    omega (arith, place, few)
+    omega (arith, place, c.in-Ok.ensures.number)

@@ -3,13 +3,13 @@ use Rattle.polcert_model.proofs.reader.read_model.Goals as goal
 
 pub returns-in-Ok : goal.returns-in-Ok
 returns-in-Ok c =
-    let is = slice_denotes (λ s. s.rest.now) c.new-source.ensures c.in-Ok.ensures.read in
+    let is = slice_denotes _ c.new-source.ensures c.in-Ok.ensures.read in
     record { exactly = is; accepted = is; refused = tt; placed = tt }
 
 pub returns-in-Err-Refused : goal.returns-in-Err-Refused
 returns-in-Err-Refused c =
-    let refused = slice_refused (λ s. s.rest.now) c.new-source.ensures (rw c.in-Err-Refused.field-0-is at c.in-Err-Refused.ensures.read) in
+    let refused = slice_refused _ c.new-source.ensures (rw c.in-Err-Refused.field-0-is at c.in-Err-Refused.ensures.read) in
     record { exactly = refused.no_model; accepted = tt; refused = refused.refusal; placed = refused.placed }
 
 pub unreachable-requires : goal.unreachable-requires
-unreachable-requires c = slice_failed (λ s. s.rest.now) c.new-source.ensures (rw c.in-Err-Device.field-0-is at c.in-Err-Device.ensures.read)
+unreachable-requires c = slice_failed _ c.new-source.ensures (rw c.in-Err-Device.field-0-is at c.in-Err-Device.ensures.read)

@@ -8,7 +8,7 @@ returns-in_err-known g c =
     rw (p.1, p.2) (record { read = fault_passed_on c.in_err-known.ensures.read })
 
 pub returns-in-Ok : goal.returns-in-Ok
-returns-in-Ok g c = record { read = value_turned c.in-Ok.model c.in_ok-known.ensures.read (λ text is. c.in-Ok.ensures text is) }
+returns-in-Ok g c = record { read = value_turned _ c.in_ok-known.ensures.read (λ text is. c.in-Ok.ensures text is) }
 
 pub returns-in-Err : goal.returns-in-Err
-returns-in-Err g c = record { read = value_refused c.in-Err.fault c.in_ok-known.ensures.read (λ text is. c.in-Err.ensures text is) }
+returns-in-Err g c = record { read = value_refused _ c.in_ok-known.ensures.read (λ text is. c.in-Err.ensures text is) }
