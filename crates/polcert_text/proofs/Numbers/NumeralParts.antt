@@ -26,27 +26,25 @@ module _ (q : ℕ → Bool) (bs : List ℕ) (i n : ℕ) (low : i ≤ n) (high : 
   len = length-take-le n bs high
 
   none_in : (k : ℕ) → k < i → q (get_or (take n bs) k 0) ≡ false
-  none_in k l = ap q (get_or-take n bs k 0 (omega (arith, l, low))) ∙ none k l
+  none_in k l = ap q (get_or-take n bs k 0 (omega arith)) ∙ none k l
 
   there_in : i < n → q (get_or (take n bs) i 0) ≡ true
   there_in l = ap q (get_or-take n bs i 0 l) ∙ there l
 
   pub before_cut : before_first q (take n bs) ≡ take i bs
-  before_cut = ⊎_elim
-      (λ l. before_at q (take n bs) i (omega (arith, len, l)) none_in (there_in l) ∙ take-take i n bs low)
-      (λ l. let all : n ≡ i = omega (arith, low, l) in
-      before_all q (take n bs) (λ k below. none_in k (omega (arith, below, len, all))) ∙ ap (λ m. take m bs) all)
+  before_cut = ⊎_elim (λ l. before_at q _ i (omega (arith, len)) none_in (there_in l) ∙ take-take i n bs low)
+      (λ l. let all : n ≡ i = omega arith in
+      before_all q _ (λ k below. none_in k (omega (arith, len))) ∙ ap (λ m. take m bs) all)
       (at_or_after i n)
 
   pub after_cut : after_first q (take n bs) ≡ between (min n (i + 1)) n bs
-  after_cut = ⊎_elim
-      (λ l. let next : n ≡ i + 1 + (n - (i + 1)) = omega (arith, l) in
+  after_cut = ⊎_elim (λ l. let next : n ≡ i + 1 + (n - (i + 1)) = omega (arith, l) in
       let from : i + 1 ≡ min n (i + 1) = omega (arith, l) in
-      after_at q (take n bs) i (omega (arith, len, l)) none_in (there_in l) ∙ ap (λ m. drop (i + 1) (take m bs)) next
-      ∙ drop-take (i + 1) (n - (i + 1)) bs ∙ ap (λ m. take (n - m) (drop m bs)) from)
-      (λ l. let all : n ≡ i = omega (arith, low, l) in
-      let nothing : 0 ≡ n - min n (i + 1) = omega (arith, all) in
-      after_all q (take n bs) (λ k below. none_in k (omega (arith, below, len, all)))
+      after_at q _ i (omega (arith, len)) none_in (there_in l) ∙ ap (λ m. drop (i + 1) (take m bs)) next
+      ∙ drop-take (i + 1) _ bs ∙ ap (λ m. take (n - m) (drop m bs)) from)
+      (λ l. let all : n ≡ i = omega arith in
+      let nothing : 0 ≡ n - min n (i + 1) = omega arith in
+      after_all q _ (λ k below. none_in k (omega (arith, len)))
       ∙ ap (λ m. take m (drop (min n (i + 1)) bs)) nothing)
       (at_or_after i n)
 
@@ -67,67 +65,58 @@ pub record EndsInState (state : State) : Type 0 where
   pub none : pending state ≡ 0
   pub stops : (c : ByteClass) → EndsNumeral c → state_after state c ≡ Stuck
 
-exponent_stops : (c : ByteClass) → EndsNumeral c → state_after Exponent c ≡ Stuck
-exponent_stops c h1 = grind arith
-
-whole_ends : EndsInState Whole
-whole_ends = record { kind = refl; none = refl; stops = λ c e. e.whole }
-
-fraction_ends : EndsInState Fraction
-fraction_ends = record { kind = refl; none = refl; stops = λ c e. e.fraction }
-
 pub exponent_ends : EndsInState Exponent
-exponent_ends = record { kind = refl; none = refl; stops = exponent_stops }
+exponent_ends = record { kind = refl; none = refl; stops = grind arith }
 
 -- a numeral that such a byte ends
 pub ends_in_state : (bs : List ℕ) (n : ℕ) (state : State) → EndsInState state → n < length bs → state_through Start (take n bs) ≡ state
     → EndsNumeral (class_of (get_or bs n 0)) → EndsWithin bs (record { kind = Numeral; len = n }) × (is_numeral (take n bs) ≡ true)
-ends_in_state bs n state s inside read stops =
-    let within = ends_within bs n state Numeral inside read s.kind s.none (s.stops _ stops) in
-    (within, sym (numeral_at_state (take n bs) state read) ∙ ap is_numeral_kind s.kind)
+ends_in_state bs n state s inside read stops = (
+  (ends_within bs n state Numeral inside read s.kind s.none (s.stops _ stops)),
+  sym (numeral_at_state (take n bs) state read)
+      ∙ ap is_numeral_kind s.kind,
+)
 
 module _ (bs : List ℕ) (p m n : ℕ) (cut : IsCutAt bs p m n) where
   no_mark : (k : ℕ) → k < m → is_exponent_mark (get_or bs k 0) ≡ false
-  no_mark k l = ⊎_elim (λ before. mark_by (get_or bs k 0) (cut.first k (omega arith) before))
+  no_mark k l = ⊎_elim (λ before. mark_by _ (cut.first k (omega arith) before))
       (λ later. ⊎_elim (λ here. ap (λ i. is_exponent_mark (get_or bs i 0)) here
-      ∙ mark_by (get_or bs p 0) (cut.point (omega (arith, here, l))))
-      (λ after. mark_by (get_or bs k 0) (cut.second k after l)) later) (side k p)
+      ∙ mark_by _ (cut.point (omega arith)))
+      (λ after. mark_by _ (cut.second k after l)) later) (side k p)
 
   mantissa : before_first is_exponent_mark (take n bs) ≡ take m bs
-  mantissa = before_cut is_exponent_mark bs m n cut.high (omega (arith, cut.inside)) no_mark (λ l. mark_by (get_or bs m 0) (cut.mark l))
+  mantissa = before_cut _ bs m n cut.high (omega arith) no_mark (λ l. mark_by _ (cut.mark l))
 
   no_point : (k : ℕ) → k < p → is_point (get_or bs k 0) ≡ false
-  no_point k l = point_by (get_or bs k 0) (cut.first k (omega arith) l)
+  no_point k l = point_by _ (cut.first k (omega arith) l)
 
   at_point : p < m → is_point (get_or bs p 0) ≡ true
-  at_point l = point_by (get_or bs p 0) (cut.point l)
+  at_point l = point_by _ (cut.point l)
 
   short : m ≤ length bs
-  short = omega (arith, cut.high, cut.inside)
+  short = omega arith
 
   pub whole_part : whole_of (take n bs) ≡ take p bs
-  whole_part = ap (before_first is_point) mantissa ∙ before_cut is_point bs p m cut.low short no_point at_point
+  whole_part = ap (before_first _) mantissa ∙ before_cut _ bs p m cut.low short no_point at_point
 
   pub fraction_part : fraction_of (take n bs) ≡ between (min m (p + 1)) m bs
-  fraction_part = ap (after_first is_point) mantissa ∙ after_cut is_point bs p m cut.low short no_point at_point
+  fraction_part = ap (after_first _) mantissa ∙ after_cut _ bs p m cut.low short no_point at_point
 
   pub exponent_part : exponent_of (take n bs) ≡ between (min n (m + 1)) n bs
-  exponent_part = after_cut is_exponent_mark bs m n cut.high (omega (arith, cut.inside)) no_mark (λ l. mark_by (get_or bs m 0) (cut.mark l))
+  exponent_part = after_cut _ bs m n cut.high (omega arith) no_mark (λ l. mark_by _ (cut.mark l))
 
   -- the state after the digits
   pub mantissa_state : (state_through Start (take m bs) ≡ Whole) ⊎ (state_through Start (take m bs) ≡ Fraction)
-  mantissa_state = ⊎_elim
-      (λ l. inr (plain_read bs p m cut.some (omega (arith, l)) short cut.first (cut.point l) cut.second))
-      (λ l. let all : m ≡ p = omega (arith, cut.low, l) in
-      inl (whole_read bs m (⊎_elim (λ some. omega (arith, all, some)) (λ more. omega (arith, more)) cut.some) short
-      (λ k from below. cut.first k from (omega (arith, below, all)))))
+  mantissa_state = ⊎_elim (λ l. inr (plain_read bs p m cut.some (omega (arith, l)) short cut.first (cut.point l) cut.second))
+      (λ l. let all : m ≡ p = omega arith in
+      inl (whole_read bs m (⊎_elim (λ some. omega arith) (λ more. omega arith) cut.some) short
+      (λ k from below. cut.first k from (omega arith))))
       (at_or_after p m)
 
   -- no gap continues with its first byte
   pub begins : gap_after Between (class_of (get_or bs 0 0)) ≡ Ended
-  begins = ⊎_elim
-      (λ none. ap (λ k. gap_after Between (class_of (get_or bs k 0))) (sym none)
-      ∙ ap (gap_after Between) (cut.point (⊎_elim (λ some. absurd (omega (arith, none, some))) (λ more. omega (arith, none, more))
+  begins = ⊎_elim (λ none. ap (λ k. gap_after Between (class_of (get_or bs k 0))) (sym none)
+      ∙ ap (gap_after Between) (cut.point (⊎_elim (λ some. absurd (omega arith)) (λ more. omega arith)
       cut.some)))
       (λ some. ap (gap_after Between) (cut.first 0 (omega arith) some)) (none_or_some p)
 
@@ -137,10 +126,10 @@ module _ (bs : List ℕ) (p m n : ℕ) (cut : IsCutAt bs p m n) where
       → EndsNumeral (class_of (get_or bs n 0)) → EndsWithin bs (record { kind = Numeral; len = n }) × (is_numeral (take n bs) ≡ true)
   numeral_ends read stops = ⊎_elim
       (λ l. let to_mark = ⊎_elim (ap (λ s. state_after s ExponentMark)) (ap (λ s. state_after s ExponentMark)) mantissa_state in
-      ends_in_state bs n Exponent exponent_ends cut.inside (read l to_mark) stops)
-      (λ l. let all : n ≡ m = omega (arith, cut.high, l) in
-      ⊎_elim (λ whole. ends_in_state bs n Whole whole_ends cut.inside (ap (λ k. state_through Start (take k bs)) all ∙ whole) stops)
-      (λ fraction. ends_in_state bs n Fraction fraction_ends cut.inside (ap (λ k. state_through Start (take k bs)) all ∙ fraction) stops)
+      ends_in_state bs n _ exponent_ends cut.inside (read l to_mark) stops)
+      (λ l. let all : n ≡ m = omega arith in
+      ⊎_elim (λ whole. ends_in_state bs n Whole (record { kind = refl; none = refl; stops = λ c e. e.whole }) cut.inside (cc) stops)
+      (λ fraction. ends_in_state bs n Fraction (record { kind = refl; none = refl; stops = λ c e. e.fraction }) cut.inside (cc) stops)
       mantissa_state)
       (at_or_after m n)
 
@@ -151,15 +140,15 @@ pub exponent_read : (bs : List ℕ) (d e : ℕ) → d < e → e ≤ length bs
 exponent_read bs d e some high read digits =
     let digit = digits d (omega arith) some in
     let inside : d < length bs = omega arith in
-    let begun : state_through Start (take (d + 1) bs) ≡ Exponent =
-    ⊎_elim (λ mark. state_step bs d Mark Digit Exponent inside mark (sym digit) refl)
-    (λ sign. state_step bs d Sign Digit Exponent inside sign (sym digit) refl) read in
     let all : d + 1 + (e - (d + 1)) ≡ e = omega arith in
     ap (λ k. state_through Start (take k bs)) (sym all)
-    ∙ run bs (d + 1) (e - (d + 1)) Exponent (omega arith) refl begun (λ k l. digits (d + 1 + k) (omega arith) (omega arith))
+    ∙ run bs (d + 1) (e - (d + 1)) Exponent (omega arith) refl
+    (⊎_elim (λ mark. state_step bs d Mark Digit Exponent inside mark (sym digit) refl)
+    (λ sign. state_step bs d Sign Digit Exponent inside sign (sym digit) refl) read)
+    (λ k l. digits (d + 1 + k) (omega arith) (omega arith))
 
 pub some_digit : (p m : ℕ) → 2 ≤ p + m → p ≤ m → (0 < p) ⊎ (1 < m)
-some_digit p m some low = ⊎_elim (λ none. inr (omega (arith, none))) (λ whole. inl whole) (none_or_some p)
+some_digit p m some low = ⊎_elim (λ none. inr (omega arith)) inl (none_or_some p)
 
 pub sign_after_mark : (is_negative : Bool) → state_after Mark (class_of_sign is_negative) ≡ Sign
-sign_after_mark is_negative = grind arith
+sign_after_mark = grind arith

@@ -1,10 +1,10 @@
 -- Decimals that are read at once, as one number of which each byte is one of them.
 use Rattle.std.proofs.Common.{◌≡◌, ◌∙◌, ◌≢◌, ℕ, zero, suc, ◌+◌, ◌-◌, ◌*◌, ◌/◌, ◌%◌, ◌^◌, ◌<◌, ◌≤◌, ⊎_elim, nat_lt, cond, min, max, List}
-use Rattle.std.proofs.Common.{◌++◌, length, take, drop, get_or, refl, sym, ap, subst, append-nil, bit_and, bit_or, arith}
+use Rattle.std.proofs.Common.{◌++◌, length, take, drop, get_or, refl, sym, ap, append-nil, bit_and, bit_or, arith}
 use Rattle.std.specs.Int.{bit_at, w64, trailing_zeros}
 use Rattle.std.proofs.lemmas.Nat.{and_mask, and_le_r}
 use Rattle.std.proofs.lemmas.Bool.{lt-ltb, le-ltb}
-use Rattle.std.proofs.lemmas.Nat.Bits.{bit_at_and, bit_at_or, bit_at-zero, bit_at_above, bit_at-trailing_zeros}
+use Rattle.std.proofs.lemmas.Nat.Bits.{bit_at_and, bit_at_or, bit_at_above, bit_at-trailing_zeros}
 use Rattle.polcert_text.proofs.Common.{digits_value, class_of, Digit}
 use Rattle.polcert_text.specs.Steps.FrontSizes.{AreDecimals, AreSixDigits, packed}
 use Rattle.polcert_text.proofs.Numbers.Plain.{after_more, at_or_after}
@@ -45,10 +45,10 @@ record IsLowest (n m w b z a c d : ℕ) : Type 0 where
 lowest : (n m w b z a c d : ℕ) → n + (z * 256 + 48) ≡ w * 256 + b + c * 256 → m + d * 256 ≡ n + (a * 256 + 118) → b < 256 → n / 128 % 2 ≡ 0
     → m / 128 % 2 ≡ 0 → IsLowest n m w b z a c d
 lowest n m w b z a c d sum more fits first second = record {
-  digit = omega (arith, sum, fits, first);
-  few = omega (arith, more, first, second);
-  rest = omega (arith, sum, fits, first);
-  above = omega (arith, more, first);
+  digit = omega arith;
+  few = omega arith;
+  rest = omega arith;
+  above = omega arith;
 }
 
 -- as six digits do
@@ -78,19 +78,18 @@ module _ (bs : List ℕ) (from : ℕ) (room : from + 6 ≤ length bs) (bytes : (
   digit_there : (q k j n m c d : ℕ) → q < k → n + repeated 48 k ≡ word j k + raised c k → m + raised d k ≡ n + repeated 118 k
       → ((i : ℕ) → i ≤ q → (high_bit n i ≡ 0) × (high_bit m i ≡ 0)) → (byte n q + 48 ≡ at (j + q)) × (byte n q ≤ 9)
   unfolding repeated word raised high_bit byte
-  digit_there q zero j n m c d inside sum more clear = absurd (omega (arith, inside))
+  digit_there q zero j n m c d inside sum more clear = absurd (omega arith)
   digit_there zero (suc k) j n m c d inside sum more clear =
-      let here = lowest n m (word (suc j) k) (at j) (repeated 48 k) (repeated 118 k) (raised c k) (raised d k) sum more (bytes (from + j))
+      let here = lowest n m _ (at j) _ _ _ _ sum more (bytes _)
       (clear 0 (omega arith)).0 (clear 0 (omega arith)).1 in
       let place : j ≡ j + 0 = omega arith in
-      (here.digit ∙ ap at place, here.few)
+      (cc, here.few)
   digit_there (suc q) (suc k) j n m c d inside sum more clear =
-      let here = lowest n m (word (suc j) k) (at j) (repeated 48 k) (repeated 118 k) (raised c k) (raised d k) sum more (bytes (from + j))
+      let here = lowest n m _ (at j) _ _ _ _ sum more (bytes _)
       (clear 0 (omega arith)).0 (clear 0 (omega arith)).1 in
-      let there = digit_there q k (suc j) (n / 256) (m / 256) c d (omega (arith, inside)) here.rest here.above
+      let there = digit_there q k (suc j) _ _ c d (omega arith) here.rest here.above
       (λ i l. clear (suc i) (omega (arith, l))) in
-      let place : suc j + q ≡ j + suc q = omega arith in
-      (there.0 ∙ ap at place, there.1)
+      (there.0 ∙ ap at (omega arith), there.1)
 
   -- ---- a word less its zeros, and that with more added
   module _ (w : ℕ) (is : w ≡ word 0 6) (fits : w < 2 ^ 64) where
@@ -104,7 +103,7 @@ module _ (bs : List ℕ) (from : ℕ) (room : from + 6 ≤ length bs) (bytes : (
     others = bit_and (bit_or n m) 141289400074368
 
     both_clear : (x y h : ℕ) → min (max x y) h ≡ 0 → h ≡ 1 → (x ≡ 0) × (y ≡ 0)
-    both_clear x y h none one = (omega (arith, none, one), omega (arith, none, one))
+    both_clear x y h none one = (omega arith, omega arith)
 
     one_there : (q : ℕ) → q < 6 → bit_at 141289400074368 (8 * q + 7) ≡ 1
     one_there q l = up_to_six (λ q. q < 6 → bit_at 141289400074368 (8 * q + 7) ≡ 1) (λ l. refl) (λ l. refl) (λ l. refl) (λ l. refl)
@@ -112,20 +111,17 @@ module _ (bs : List ℕ) (from : ℕ) (room : from + 6 ≤ length bs) (bytes : (
 
     clear_at : (q : ℕ) → q < 6 → bit_at others (8 * q + 7) ≡ 0 → (high_bit n q ≡ 0) × (high_bit m q ≡ 0)
     clear_at q l none =
-        let parts : min (max (bit_at n (8 * q + 7)) (bit_at m (8 * q + 7))) (bit_at 141289400074368 (8 * q + 7)) ≡ 0 =
-        (λ i. min (sym (bit_at_or n m (8 * q + 7)) i) (bit_at 141289400074368 (8 * q + 7)))
-        ∙ sym (bit_at_and (bit_or n m) 141289400074368 (8 * q + 7)) ∙ none in
-        let clear = both_clear _ _ _ parts (one_there q l) in
+        let clear = both_clear _ _ _ ((λ i. min (sym (bit_at_or n m (8 * q + 7)) i) (bit_at 141289400074368 (8 * q + 7)))
+        ∙ sym (bit_at_and (bit_or n m) 141289400074368 (8 * q + 7)) ∙ none) (one_there q l) in
         (high_bit_is n q (omega (arith, l)) ∙ clear.0, high_bit_is m q (omega (arith, l)) ∙ clear.1)
 
     lowered : (c : ℕ) × (n + repeated 48 6 ≡ word 0 6 + raised c 6)
     unfolding repeated raised
-    lowered = ⊎_elim (λ below. (65536, omega (arith, is, fits, below))) (λ above. (0, omega (arith, is, fits, above)))
-        (at_or_after w 52983525027888)
+    lowered = ⊎_elim (λ below. (65536, omega arith)) (λ above. (0, omega arith)) (at_or_after w 52983525027888)
 
     added : (d : ℕ) × (m + raised d 6 ≡ n + repeated 118 6)
     unfolding repeated raised
-    added = ⊎_elim (λ below. (0, omega (arith, below))) (λ above. (65536, omega (arith, above))) (at_or_after n 18446613822543858058)
+    added = ⊎_elim (λ below. (0, omega arith)) (λ above. (65536, omega arith)) (at_or_after n 18446613822543858058)
 
     -- so many digits, and zeros after them
     some : ℕ → ℕ → ℕ
@@ -135,12 +131,12 @@ module _ (bs : List ℕ) (from : ℕ) (room : from + 6 ≤ length bs) (bytes : (
         ≡ packed (some k 0) (some k 1) (some k 2) (some k 3) (some k 4) (some k 5)
     unfolding some byte
     first_bytes k few =
-        let mask : bit_and n (2 ^ (8 * k) - 1) ≡ n % 2 ^ (8 * k) = and_mask n (8 * k) in
+        let mask = and_mask n (8 * k) in
         up_to_six (λ k. bit_and n (2 ^ (8 * k) - 1) ≡ n % 2 ^ (8 * k)
         → bit_and n (1 * 2 ^ (8 * k) % 18446744073709551616 - 1)
         ≡ packed (some k 0) (some k 1) (some k 2) (some k 3) (some k 4) (some k 5))
-        (λ mask. omega (arith, mask)) (λ mask. omega (arith, mask)) (λ mask. omega (arith, mask)) (λ mask. omega (arith, mask))
-        (λ mask. omega (arith, mask)) (λ mask. omega (arith, mask)) (λ mask. omega (arith, mask)) k few mask
+        (λ mask. omega arith) (λ mask. omega arith) (λ mask. omega arith) (λ mask. omega arith)
+        (λ mask. omega arith) (λ mask. omega arith) (λ mask. omega arith) k few mask
 
     -- what they spell after others
     read : ℕ → ℕ → ℕ
@@ -159,15 +155,14 @@ module _ (bs : List ℕ) (from : ℕ) (room : from + 6 ≤ length bs) (bytes : (
     module _ (k : ℕ) (few : k ≤ 6) (clear : (q : ℕ) → q < k → bit_at others (8 * q + 7) ≡ 0) where
       digit : (q : ℕ) → q < k → (byte n q + 48 ≡ at q) × (byte n q ≤ 9)
       digit q l =
-          let there = digit_there q 6 0 n m lowered.0 added.0 (omega (arith, l, few)) lowered.1 added.1
-          (λ i le. clear_at i (omega (arith, le, l, few)) (clear i (omega (arith, le, l)))) in
-          let place : 0 + q ≡ q = omega arith in
-          (there.0 ∙ ap at place, there.1)
+          let there = digit_there q 6 0 n m _ added.0 (omega arith) lowered.1 added.1
+          (λ i le. clear_at i (omega arith) (clear i (omega arith))) in
+          (there.0 ∙ ap at (omega arith), there.1)
 
       each : (q : ℕ) → some k q ≤ 9
       unfolding some
-      each q = ⊎_elim (λ below. let here = ap (λ b. cond b (byte n q) 0) (lt-ltb q k below) in omega (arith, here, (digit q below).1))
-          (λ above. let none = ap (λ b. cond b (byte n q) 0) (le-ltb q k above) in omega (arith, none)) (at_or_after q k)
+      each q = ⊎_elim (λ below. let here = ap (λ b. cond b (byte n q) 0) (lt-ltb q k below) in omega (arith, (digit q below).1))
+          (λ above. omega (arith, ap (λ b. cond b (byte n q) 0) (le-ltb q k above))) (at_or_after q k)
 
       are_digits : AreSixDigits (some k 0) (some k 1) (some k 2) (some k 3) (some k 4) (some k 5)
       are_digits = record { a_is = each 0; b_is = each 1; c_is = each 2; d_is = each 3; e_is = each 4; f_is = each 5 }
@@ -175,8 +170,7 @@ module _ (bs : List ℕ) (from : ℕ) (room : from + 6 ≤ length bs) (bytes : (
       in_six_bytes : bit_and n (1 * 2 ^ (8 * k) % 18446744073709551616 - 1) < 2 ^ 48
       in_six_bytes = omega (
         arith,
-        first_bytes k
-            few,
+        first_bytes k few,
         are_digits.a_is,
         are_digits.b_is,
         are_digits.c_is,
@@ -186,7 +180,7 @@ module _ (bs : List ℕ) (from : ℕ) (room : from + 6 ≤ length bs) (bytes : (
       )
 
       class_at : (q : ℕ) → q < k → class_of (at q) ≡ Digit
-      class_at q l = let here = digit q l in digit_between (at q) (omega (arith, here.0)) (omega (arith, here.0, here.1))
+      class_at q l = let here = digit q l in digit_between (at q) (omega arith) (omega arith)
 
       spell : (front : List ℕ) (number q : ℕ) → number ≡ digits_value 10 front → q ≤ k
           → read number q ≡ digits_value 10 (front ++ take (from + q - from) (drop from bs))
@@ -196,8 +190,7 @@ module _ (bs : List ℕ) (from : ℕ) (room : from + 6 ≤ length bs) (bytes : (
           was ∙ ap (digits_value 10) (sym (append-nil front) ∙ ap (λ n. front ++ take n (drop from bs)) (sym none))
       spell front number (suc q) was l =
           let next : from + q + 1 - from ≡ from + suc q - from = omega arith in
-          let difference : byte n q ≡ at q - 48 = omega (arith, (digit q (omega (arith, l))).0) in
-          ap (λ b. read number q * 10 + b) difference
+          ap (λ b. read number q * 10 + b) (omega (arith, (digit q (omega (arith, l))).0))
           ∙ after_more front bs from (from + q) (read number q) (omega arith) (omega (arith, l, few, room)) (class_at q (omega (arith, l)))
           (spell front number q was (omega (arith, l)))
           ∙ ap (λ n. digits_value 10 (front ++ take n (drop from bs))) next
@@ -207,33 +200,23 @@ module _ (bs : List ℕ) (from : ℕ) (room : from + 6 ≤ length bs) (bytes : (
           → AreDecimals bs from (record { millionths = millionths; end = from + k })
       unfolding spelled
       are_decimals millionths spells =
-          let is_spelled : millionths ≡ spelled k = spells (some k 0) (some k 1) (some k 2) (some k 3) (some k 4) (some k 5) are_digits
+          let is_spelled = spells _ _ _ _ _ _ are_digits
           (first_bytes k few) in
-          let left : 6 - k ≡ from + 6 - (from + k) = omega arith in
+          let left : 6 - k ≡ from + 6 - _ = omega arith in
           record {
             low = omega arith;
-            high = omega (arith, few);
-            digits = λ i low high. let sum : from + (i - from) ≡ i = omega (arith, low) in
-                subst (λ i. class_of (get_or bs i 0) ≡ Digit) sum (class_at (i - from) (omega (arith, low, high)));
+            high = omega arith;
+            digits = λ i low high. let sum : from + (i - from) ≡ i = omega arith in
+                rw (← sum) (class_at _ (omega arith));
             value = λ front number was. ap (λ m. number * 1_000_000 + m) is_spelled ∙ scaled number k few
                 ∙ (λ i. spell front number k was (omega arith) i * 10 ^ left i);
-            few = omega (
-              arith,
-              is_spelled,
-              are_digits.a_is,
-              are_digits.b_is,
-              are_digits.c_is,
-              are_digits.d_is,
-              are_digits.e_is,
-              are_digits.f_is,
-            );
+            few = omega (arith, are_digits.a_is, are_digits.b_is, are_digits.c_is, are_digits.d_is, are_digits.e_is, are_digits.f_is);
           }
 
     -- ---- none of the six is another byte
     pub six : others ≡ 0 → (millionths : ℕ) → Spells (bit_and n 281474976710655) millionths
         → AreDecimals bs from (record { millionths = millionths; end = from + 6 })
-    six none millionths spells = are_decimals 6 (omega arith) (λ q l. ap (λ n. bit_at n (8 * q + 7)) none ∙ bit_at-zero (8 * q + 7))
-        millionths spells
+    six none millionths spells = are_decimals 6 (omega arith) (omega arith) _ spells
 
     -- ---- one is
     module _ (any : others ≢ 0) where
@@ -244,22 +227,22 @@ module _ (bs : List ℕ) (from : ℕ) (room : from + 6 ≤ length bs) (bytes : (
       small = omega (arith, and_le_r (bit_or n m) 141289400074368)
 
       first : (place < 64) × (bit_at others place ≡ 1) × ((i : ℕ) → i < place → bit_at others i ≡ 0)
-      first = bit_at-trailing_zeros w64 others (omega (arith, any)) (omega (arith, small))
+      first = bit_at-trailing_zeros w64 others (omega arith) (omega (arith, small))
 
       few : place / 8 ≤ 6
-      few = ⊎_elim (λ below. omega (arith, below)) (λ above. let zero_there = bit_at_above others 48 place small above in
-          absurd (omega (arith, zero_there, first.1))) (at_or_after place 48)
+      few = ⊎_elim (λ below. omega arith) (λ above. absurd (omega (arith, bit_at_above others 48 place small above, first.1)))
+          (at_or_after place 48)
 
       clear : (q : ℕ) → q < place / 8 → bit_at others (8 * q + 7) ≡ 0
-      clear q l = first.2 (8 * q + 7) (omega (arith, l))
+      clear q l = first.2 _ (omega (arith, l))
 
       pub fewer_bytes : bit_and n (1 * 2 ^ (8 * (place / 8)) % 18446744073709551616 - 1) < 2 ^ 48
-      fewer_bytes = in_six_bytes (place / 8) few clear
+      fewer_bytes = in_six_bytes _ few clear
 
       pub fewer : (millionths : ℕ) → Spells (bit_and n (1 * 2 ^ (8 * (place / 8)) % 18446744073709551616 - 1)) millionths
           → AreDecimals bs from (record { millionths = millionths; end = from + place / 8 })
-      fewer = are_decimals (place / 8) few clear
+      fewer = are_decimals _ few clear
 
   pub word_is : (w : ℕ) → w ≡ packed (get_or bs from 0) (at 1) (at 2) (at 3) (at 4) (at 5) → w ≡ word 0 6
   unfolding word
-  word_is w e = let first : get_or bs from 0 ≡ at 0 = ap (λ i. get_or bs i 0) (omega arith) in omega (arith, e, first)
+  word_is w e = let first : get_or bs from 0 ≡ at 0 = grind arith in omega arith

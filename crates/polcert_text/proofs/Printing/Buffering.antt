@@ -14,7 +14,7 @@ module _ {S : Type 0} {writes : S → Option (List ℕ) → S → Type 0} {failu
   pub holds_alone : {to : S} (held bytes empty held' : List ℕ) → Takes writes from held to → failures to ≡ failures from → empty ≡ []
       → held' ≡ empty ++ bytes
       → PassesOn writes failures from held bytes to held'
-  holds_alone held bytes empty held' took same none e = grind arith
+  holds_alone = grind arith
 
 -- where nothing was held before, what was passed on and what is held make up the text
 made_up : (old text passed rest : List ℕ) → old ≡ [] → old ++ text ≡ passed ++ rest → passed ++ rest ≡ text
@@ -30,17 +30,17 @@ module _ {S B N : Type 0} (writes : B → Option (List ℕ) → B → Type 0) (f
     -- many writes pass on what one write of all their bytes would
     pub passes_on : {s t : S} {bytes : List ℕ} → Takes through s bytes t
         → PassesOn writes failures (below s) (held s) bytes (below t) (held t) × (name t ≡ name s)
-    passes_on {s = s} nothing = (record { passed = []; took = nothing; same_count = refl; whole = append-nil (held s) }, refl)
+    passes_on {s = s} nothing = (record { passed = []; took = nothing; same_count = refl; whole = append-nil _ }, refl)
     passes_on {s} {t} (more {bytes} {front} {s = mid} took call) =
         let first = passes_on took in (
           record {
-            passed = first.0.passed ++ call.0.passed;
+            passed = _;
             took = took_then first.0.took call.0.took;
-            same_count = call.0.same_count ∙ first.0.same_count;
+            same_count = cc;
             whole =
-                sym (append_assoc (held s) bytes front) ∙ ap (λ bs. bs ++ front) first.0.whole
-                ∙ append_assoc first.0.passed (held mid) front
-                ∙ ap (λ bs. first.0.passed ++ bs) call.0.whole ∙ sym (append_assoc first.0.passed call.0.passed (held t));
+                sym (append_assoc _ bytes front) ∙ ap (λ bs. bs ++ front) first.0.whole
+                ∙ append_assoc _ _ front
+                ∙ ap (λ bs. first.0.passed ++ bs) call.0.whole ∙ sym (append_assoc _ _ (held t));
           },
           call.1 ∙ first.1,
         )
@@ -51,8 +51,8 @@ module _ {S B N : Type 0} (writes : B → Option (List ℕ) → B → Type 0) (f
           → WritesText writes failures (below s) text r u
       flushed {u = u} r took w =
           let p = (passes_on took).0 in
-          subst (λ bs. WritesText writes failures (below s) bs r u) (made_up (held s) text p.passed (held t) empty p.whole)
-          (wrote_next p.passed (held t) r p.took p.same_count w)
+          rw (← made_up (held s) text p.passed (held t) empty p.whole)
+          (wrote_next _ _ r p.took p.same_count w)
 
       pub same_name : Takes through s text t → name t ≡ name s
       same_name took = (passes_on took).1
@@ -62,10 +62,9 @@ module _ {S B N : Type 0} (writes : B → Option (List ℕ) → B → Type 0) (f
       pub stopped : TakesFront writes (below s) text (below t)
       stopped =
           let p = (passes_on f.took).0 in
-          let all = front_then f.rest (front_after p.passed p.took f.failed.0.took) in
-          let same : p.passed ++ held f.before ++ f.rest ≡ text =
-          ap (λ bs. bs ++ f.rest) (made_up (held s) f.front p.passed (held f.before) empty p.whole) ∙ sym f.whole in
-          subst (λ bs. TakesFront writes (below s) bs (below t)) same all
+          let all = front_then f.rest (front_after _ p.took f.failed.0.took) in
+          subst (λ bs. TakesFront writes (below s) bs (below t))
+          (ap (λ bs. bs ++ f.rest) (made_up (held s) f.front p.passed (held f.before) empty p.whole) ∙ sym f.whole) all
 
       pub stopped_count : HasFailed (failures (below s)) (failures (below t))
       stopped_count = subst (λ n. HasFailed n (failures (below t))) (passes_on f.took).0.same_count f.failed.0.count
@@ -77,5 +76,4 @@ module _ {S B N : Type 0} (writes : B → Option (List ℕ) → B → Type 0) (f
 pub left_after : {S T E : Type 0} {writes : S → Option (List ℕ) → S → Type 0} {failures : S → ℕ} {from to final : S} {text : List ℕ}
     {r : Result T E}
     → WritesText writes failures from text r to → final ≡ to → WritesText writes failures from text r final
-left_after {writes = writes} {failures = failures} {from = from} {text = text} {r = r} w e =
-    subst (λ s. WritesText writes failures from text r s) (sym e) w
+left_after {writes = writes} {failures = failures} {from = from} {text = text} {r = r} w e = rw e w

@@ -1,5 +1,5 @@
 -- The lexemes of a text that is written lexeme by lexeme, each with blanks, line ends or nothing after it.
-use Rattle.std.proofs.Common.{◌≡◌, ◌∙◌, ℕ, ◌+◌, ◌<◌, ◌≤◌, true, false, Some, None, List, [], ◌∷◌, ◌++◌, length, take, refl, sym, ap, subst}
+use Rattle.std.proofs.Common.{◌≡◌, ◌∙◌, ℕ, ◌+◌, ◌<◌, ◌≤◌, true, false, Some, None, List, [], ◌∷◌, ◌++◌, length, refl, sym, ap, subst}
 use Rattle.std.proofs.Common.{arith, append_assoc, append-nil, length-append, take_all, rules}
 use Rattle.polcert_text.proofs.Common.{list_all, drop-append_seam, drop_all, is_blank, class_of, blank_class, glue_class, is_gap, kind_of}
 use Rattle.polcert_text.proofs.Common.{IsLongestGap, IsLongestLexeme, Lexeme, Rest, is_glued, TakesToken, Ends, IsCut, gap_after}
@@ -17,54 +17,55 @@ abbrev pub rest_at : ℕ → List ℕ → Rest
 rest_at place bs = record { place = place; bytes = bs; ending = None }
 
 blank_between : (c : ByteClass) → blank_class c ≡ true → gap_after Between c ≡ Between
-blank_between c h1 = grind arith
+blank_between = grind arith
 
 blanks_between : (gap : List ℕ) → list_all is_blank gap ≡ true → gap_through Between gap ≡ Between
 blanks_between [] h = refl
 blanks_between (b ∷ bs) h =
-    ap (λ g. gap_through g bs) (blank_between (class_of b) (sym (blank_by b refl) ∙ and-true_left (is_blank b) (list_all is_blank bs) h))
-    ∙ blanks_between bs (and-true_right (is_blank b) (list_all is_blank bs) h)
+    ap (λ g. gap_through g bs) (blank_between _ (sym (blank_by b refl) ∙ and-true_left _ _ h))
+    ∙ blanks_between bs (and-true_right _ _ h)
 
 between_not_ended : (g : Gap) → g ≡ Between → g ≡ Ended → ⊥
 between_not_ended g e f = cc
 
-blanks_gap : (gap : List ℕ) → list_all is_blank gap ≡ true → is_gap gap ≡ true
-blanks_gap gap h = gap_until_open gap (between_not_ended _ (blanks_between gap h))
+module _ (gap : List ℕ) where
+  blanks_gap : list_all is_blank gap ≡ true → is_gap gap ≡ true
+  blanks_gap h = gap_until_open gap (between_not_ended _ (blanks_between gap h))
 
--- blanks, and then a byte that ends them
-longest_blanks : (gap : List ℕ) (b : ℕ) (more : List ℕ) → list_all is_blank gap ≡ true → gap_after Between (class_of b) ≡ Ended
-    → IsLongestGap (gap ++ b ∷ more) (length gap)
-longest_blanks gap b more h stop =
-    let inside : length gap < length (gap ++ b ∷ more) = omega (arith, length-append gap (b ∷ more)) in
-    let front : take (length gap) (gap ++ b ∷ more) ≡ gap = take_at gap (b ∷ more) (length gap) refl in
-    longest_gap_at (gap ++ b ∷ more) (length gap) inside (ap is_gap front ∙ blanks_gap gap h)
-    (gap_through_more (gap ++ b ∷ more) (length gap) inside
-    ∙ (λ i. gap_after ((ap (gap_through Between) front ∙ blanks_between gap h) i) (class_of (get_or-append_seam gap b more 0 i))) ∙ stop)
+  -- blanks, and then a byte that ends them
+  longest_blanks : (b : ℕ) (more : List ℕ) → list_all is_blank gap ≡ true → gap_after Between (class_of b) ≡ Ended
+      → IsLongestGap (gap ++ b ∷ more) (length gap)
+  longest_blanks b more h stop =
+      let inside : length gap < length _ = omega (arith, length-append gap (b ∷ more)) in
+      let front = take_at gap _ _ refl in
+      longest_gap_at _ _ inside (ap is_gap front ∙ blanks_gap h)
+      (gap_through_more _ _ inside
+      ∙ (λ i. gap_after ((ap (gap_through Between) front ∙ blanks_between gap h) i) (class_of (get_or-append_seam gap b more 0 i))) ∙ stop)
 
 ends_blank : (place : ℕ) (gap : List ℕ) → list_all is_blank gap ≡ true → Ends (rest_at place gap) None
-ends_blank place gap h = grind (arith, take_all, drop_all, blanks_gap)
+ends_blank = grind (arith, take_all, drop_all, blanks_gap)
 
 -- a lexeme with which no longer one continues
 longest_before : (w : List ℕ) (kind : TokenKind) (b : ℕ) (more : List ℕ) → kind_of w ≡ Some kind
     → state_after (state_through states.Start w) (class_of b) ≡ states.Stuck → IsLongestLexeme (w ++ b ∷ more) kind (length w)
 longest_before w kind b more is stuck =
-    let state : state_through states.Start (w ++ b ∷ []) ≡ states.Stuck = state_through-append states.Start w (b ∷ []) ∙ stuck in
+    let state = state_through-append _ w (b ∷ []) ∙ stuck in
     let front : LexemePrefix = record { kind = kind; len = length w } in
     let alone : IsFrontOf w (Some front) = record {
       within = omega arith;
-      lexeme = ap kind_of (take_all (length w) w (omega arith)) ∙ is;
-      longest = λ k l m. absurd (omega (arith, l, m));
+      lexeme = ap kind_of (take_all _ w (omega arith)) ∙ is;
+      longest = λ k l m. absurd (omega arith);
     } in
-    let more_read : IsFrontOf (w ++ b ∷ []) (Some front) =
-    front_keeps w b (Some front) alone (kind_of-through (w ++ b ∷ []) ∙ ap kind_at state) in
-    let whole : IsFrontOf ((w ++ b ∷ []) ++ more) (Some front) = front_whatever_follows (w ++ b ∷ []) more (Some front) more_read state in
-    subst (λ bs. IsLongestLexeme bs kind (length w)) (append_assoc w (b ∷ []) more) whole
+    let more_read =
+    front_keeps w b (Some front) alone (kind_of-through _ ∙ ap kind_at state) in
+    subst (λ bs. IsLongestLexeme bs kind (length w)) (append_assoc w (b ∷ []) more)
+    (front_whatever_follows (w ++ b ∷ []) more (Some front) more_read state)
 
 pub blank_stops : (state : State) (c : ByteClass) → blank_class c ≡ true → state_after state c ≡ states.Stuck
-blank_stops state c h1 = grind arith
+blank_stops = grind arith
 
 pub blank_no_glue : (c : ByteClass) → blank_class c ≡ true → glue_class c ≡ false
-blank_no_glue c h1 = grind arith
+blank_no_glue = grind arith
 
 -- the next token after blanks
 takes_next : (place : ℕ) (gap w : List ℕ) (kind : TokenKind) (x : ℕ) (xs : List ℕ) (b : ℕ) (more after : List ℕ)
@@ -121,7 +122,7 @@ none_some e = cc
 
 class_begins : (c : ByteClass) (bs : List ℕ) (kind : TokenKind) → kind_at (state_through (state_after states.Start c) bs) ≡ Some kind
     → gap_after Between c ≡ Ended
-class_begins c bs kind h1 = grind (arith, stays_stuck, none_some)
+class_begins = grind (arith, stays_stuck, none_some)
 
 record Begins (w : List ℕ) : Type 0 where
   first : ℕ
@@ -135,43 +136,38 @@ begins (b ∷ bs) kind e = record {
   first = b;
   more = bs;
   is = refl;
-  ends =
-      class_begins (class_of b) bs kind (sym (kind_of-through (b ∷ bs)) ∙ e);
+  ends = class_begins _ bs kind (sym (kind_of-through _) ∙ e);
 }
 
 -- the text of lexemes is cut into just these
 pub cut_printed : (us : List Printed) (place : ℕ) (gap : List ℕ) → ArePrinted us → list_all is_blank gap ≡ true
     → IsCut (rest_at place (gap ++ text_of us)) (lexemes_at (place + length gap) us) None
-cut_printed [] place gap all h = subst (λ bs. Ends (rest_at place bs) None) (sym (append-nil gap)) (ends_blank place gap h)
+cut_printed [] place gap all h = rw (append-nil gap) (ends_blank place gap h)
 cut_printed (u ∷ us) place gap all h =
     let p = all.0 in
     let b = begins u.bytes u.kind p.kind in
-    let next = takes_next place gap u.bytes u.kind b.first b.more p.stops.first p.stops.more (u.following ++ text_of us) h b.is b.ends
+    let next = takes_next place gap u.bytes u.kind b.first b.more _ _ _ h b.is b.ends
     p.stops.is p.kind p.stops.stuck p.stops.apart p.short in
-    let go = cut_printed us (place + length gap + length u.bytes) u.following all.1 p.blank in
-    let whole : IsCut (rest_at place (gap ++ (u.bytes ++ (u.following ++ text_of us)))) (lexemes_at (place + length gap) (u ∷ us)) None =
-    (_, next, go) in
+    let go = cut_printed us _ _ all.1 p.blank in
     subst (λ bs. IsCut (rest_at place (gap ++ bs)) (lexemes_at (place + length gap) (u ∷ us)) None)
-    (sym (append_assoc u.bytes u.following (text_of us))) whole
+    (sym (append_assoc u.bytes u.following (text_of us))) ((_, next, go))
 
 -- ---- one list after another
 pub text-append : (us vs : List Printed) → text_of (us ++ vs) ≡ text_of us ++ text_of vs
 text-append [] vs = refl
-text-append (u ∷ us) vs = ap (λ bs. u.bytes ++ u.following ++ bs) (text-append us vs)
-    ∙ sym (append_assoc (u.bytes ++ u.following) (text_of us) (text_of vs))
+text-append (u ∷ us) vs = ap (λ bs. u.bytes ++ u.following ++ bs) (text-append us vs) ∙ sym (append_assoc _ (text_of us) _)
 
 pub lexemes-append : (place : ℕ) (us vs : List Printed)
     → lexemes_at place (us ++ vs) ≡ lexemes_at place us ++ lexemes_at (place + length (text_of us)) vs
 lexemes-append place [] vs = ap (λ p. lexemes_at p vs) (omega arith)
 lexemes-append place (u ∷ us) vs =
     let l : Lexeme = record { kind = u.kind; place = place; bytes = u.bytes } in
-    let next = place + length u.bytes + length u.following in
-    let same : next + length (text_of us) ≡ place + length (text_of (u ∷ us)) =
-    omega (arith, length-append (u.bytes ++ u.following) (text_of us), length-append u.bytes u.following) in
-    ap (λ ls. l ∷ ls) (lexemes-append next us vs ∙ ap (λ p. lexemes_at next us ++ lexemes_at p vs) same)
+    let next = place + length u.bytes + length _ in
+    ap (λ ls. l ∷ ls) (lexemes-append next us vs ∙ ap (λ p. lexemes_at next us ++ lexemes_at p vs)
+    (omega (arith, length-append (u.bytes ++ u.following) (text_of us), length-append u.bytes u.following)))
 
 stops_further : (kind : TokenKind) (bytes after more : List ℕ) → Stops kind bytes after → Stops kind bytes (after ++ more)
-stops_further kind bytes after more s = grind arith
+stops_further = grind arith
 
 pub printed-append : (us vs : List Printed) → ArePrinted us → ArePrinted vs → ArePrinted (us ++ vs)
 printed-append [] vs a b = b

@@ -1,5 +1,5 @@
 -- The lexemes of lines of words.
-use Rattle.std.proofs.Common.{◌≡◌, ◌∙◌, ℕ, ◌≤◌, true, false, Some, List, [], ◌∷◌, ◌++◌, length, map, codes, refl, sym, ap, arith}
+use Rattle.std.proofs.Common.{◌≡◌, ◌∙◌, ℕ, ◌≤◌, true, false, Some, List, [], ◌∷◌, ◌++◌, length, map, codes, refl, sym, arith}
 use Rattle.std.proofs.Common.{append_assoc, append-nil, rules}
 use Rattle.polcert_text.proofs.Common.{list_all, is_blank, is_letter, is_digit, is_point, is_exponent_mark, class_of, blank_class, kind_of}
 use Rattle.polcert_text.proofs.Common.{is_glued, state_after, state_through, kind_at, State, TokenKind, Numeral, Colon, Minus}
@@ -52,11 +52,11 @@ spelled_line w (v ∷ ws) = spelled w (codes " ") ++ spelled_line v ws
 
 -- ---- texts
 pub text_word : (w : Word) (following : List ℕ) → text_of (spelled w following) ≡ word_text w ++ following
-text_word w following = grind (arith, append_assoc, append-nil, text_of)
+text_word = grind (arith, append_assoc, append-nil, text_of)
 
 pub text_line : (w : Word) (ws : List Word) → text_of (spelled_line w ws) ≡ line (word_text w ∷ map word_text ws)
-text_line w [] = text_word w (codes "\n")
-text_line w (v ∷ ws) = text-append (spelled w (codes " ")) (spelled_line v ws) ∙ (λ i. text_word w (codes " ") i ++ text_line v ws i)
+text_line w [] = text_word w _
+text_line w (v ∷ ws) = text-append (spelled w _) _ ∙ (λ i. text_word w (codes " ") i ++ text_line v ws i)
 
 -- ---- each lexeme stops
 pub record Blank (following : List ℕ) : Type 0 where
@@ -74,11 +74,10 @@ unfolding is_blank
 line_end = record { all = refl; first = 10; more = []; is = refl }
 
 first_blank : (following : List ℕ) (b : Blank following) → blank_class (class_of b.first) ≡ true
-first_blank following b = sym (blank_by b.first refl)
-    ∙ and-true_left (is_blank b.first) (list_all is_blank b.more) (ap (list_all is_blank) (sym b.is) ∙ b.all)
+first_blank following b = sym (blank_by b.first refl) ∙ and-true_left _ (list_all is_blank b.more) (cc)
 
 not_glued : (kind : TokenKind) (b : ℕ) (more : List ℕ) → blank_class (class_of b) ≡ true → is_glued kind (b ∷ more) ≡ false
-not_glued kind b more h1 = grind (arith, glue_by, blank_no_glue)
+not_glued = grind (arith, glue_by, blank_no_glue)
 
 piece_printed : (kind : TokenKind) (bytes following : List ℕ) → IsPiece kind bytes → Blank following
     → IsPrinted (record { kind = kind; bytes = bytes; following = following }) []
@@ -94,25 +93,24 @@ minus_piece = record { kind_is = refl; short = omega arith }
 
 -- no name continues with a colon
 name_state : (s : State) → kind_at s ≡ Some Name → state_after s classes.Colon ≡ states.Stuck
-name_state s h1 = grind arith
+name_state = grind arith
 
 name_stops : (name more : List ℕ) → IsPiece Name name → Stops Name name (codes ":" ++ more)
-name_stops name more p = grind (arith, kind_of-through, colon_class, name_state)
+name_stops = grind (arith, kind_of-through, colon_class, name_state)
 
 minus_state : state_through states.Start (45 ∷ []) ≡ states.Single Minus
 unfolding class_of
 minus_state = refl
 
 minus_stops : (numeral more : List ℕ) → IsPlain numeral → Stops Minus (45 ∷ []) (numeral ++ more)
-minus_stops numeral more p = grind (arith, minus_state)
+minus_stops = grind (arith, minus_state)
 
 pub numeral_piece : (numeral : List ℕ) → IsPlain numeral → IsPiece Numeral numeral
-numeral_piece numeral p = record { kind_is = p.kind; short = omega (arith, p.short) }
+numeral_piece numeral p = record { kind_is = p.kind; short = omega arith }
 
 pub word_printed : (w : Word) (following : List ℕ) → IsSpelling w → Blank following → ArePrinted (spelled w following)
-word_printed w following h1 h2 = grind (arith, append-nil, piece_printed, colon_piece, minus_piece, name_stops, minus_stops, numeral_piece)
+word_printed = grind (arith, append-nil, piece_printed, colon_piece, minus_piece, name_stops, minus_stops, numeral_piece)
 
 pub line_printed : (w : Word) (ws : List Word) → IsSpelling w → AreSpellings ws → ArePrinted (spelled_line w ws)
-line_printed w [] a b = word_printed w (codes "\n") a line_end
-line_printed w (v ∷ ws) a b = printed-append (spelled w (codes " ")) (spelled_line v ws) (word_printed w (codes " ") a space)
-    (line_printed v ws b.0 b.1)
+line_printed w [] a b = word_printed w _ a line_end
+line_printed w (v ∷ ws) a b = printed-append _ _ (word_printed w _ a space) (line_printed v ws b.0 b.1)

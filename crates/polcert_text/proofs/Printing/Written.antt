@@ -1,6 +1,6 @@
 -- A text that is written part by part.
 use Rattle.std.proofs.Common.{◌≡◌, ◌∙◌, ◌<◌, ◌⊎◌, ⊎_elim, ◌++◌, ℕ, zero, suc, List, [], Option, Result, Ok, Err, IsErr, refl, sym, ap}
-use Rattle.std.proofs.Common.{subst, arith, append_assoc, append-nil}
+use Rattle.std.proofs.Common.{arith, append_assoc, append-nil}
 use Rattle.polcert_text.proofs.Common.{HasFailed, Takes, TakesFront, WritesText}
 use Rattle.polcert_text.specs.Sink.{nothing}
 use Rattle.polcert_text.proofs.Printing.Taking.{took_then, front_then, front_after, wrote_front, wrote_next}
@@ -15,12 +15,12 @@ module _ {S : Type 0} {writes : S → Option (List ℕ) → S → Type 0} {failu
   -- the next part fails
   pub fails_at : {T E : Type 0} {s t : S} (first second : List ℕ) (r : Result T E) → IsErr r → HasWritten writes failures from first s
       → TakesFront writes s second t → HasFailed (failures s) (failures t) → WritesText writes failures from (first ++ second) r t
-  fails_at first second r h1 h2 h3 h4 = grind (arith, front_after, wrote_front)
+  fails_at = grind (arith, front_after, wrote_front)
 
   -- and what would come after it isn't written
   pub fails_before : {T E : Type 0} {t : S} (first second : List ℕ) (r : Result T E) → IsErr r → WritesText writes failures from first r t
       → WritesText writes failures from (first ++ second) r t
-  fails_before first second r h1 h2 = grind (arith, front_then)
+  fails_before = grind (arith, front_then)
 
   -- the last part
   pub ends_with : {T E : Type 0} {s t : S} (first second : List ℕ) (r : Result T E) → HasWritten writes failures from first s
@@ -53,19 +53,15 @@ module _ {S : Type 0} {writes : S → Option (List ℕ) → S → Type 0} {failu
 
   pub next_written : {T E : Type 0} {s t : S} {first second : List ℕ} {v : T} → HasWritten writes failures from first s
       → WritesText {E = E} writes failures s second (Ok v) t → HasWritten writes failures from (first ++ second) t
-  next_written h w = record { took = took_then h.took w.ok; same = w.same_count ∙ h.same }
+  next_written h w = record { took = took_then h.took w.ok; same = cc }
 
 -- the same text, however its parts are put together
 pub as_text : {S T E : Type 0} {writes : S → Option (List ℕ) → S → Type 0} {failures : S → ℕ} {from to : S} {first second : List ℕ}
     {r : Result T E} → first ≡ second
     → WritesText writes failures from first r to → WritesText writes failures from second r to
-as_text {writes = writes} {failures = failures} {from = from} {to = to} {r = r} e w =
-    subst (λ text. WritesText writes failures from text r to) e w
+as_text {writes = writes} {failures = failures} {from = from} {to = to} {r = r} e w = rw (← e) w
 
 -- ---- a text of many parts
-below_or_at : (k m : ℕ) → k < suc m → (k < m) ⊎ (k ≡ m)
-below_or_at k m h = grind arith
-
 -- the whole is what stands before a part, the part, and the rest
 pub parts_at : (whole part : ℕ → List ℕ) → ((n : ℕ) → whole (suc n) ≡ whole n ++ part n) → (k m : ℕ) → k < m → (rest : List ℕ)
     × (whole m ≡ whole k ++ (part k ++ rest))
@@ -73,11 +69,10 @@ parts_at whole part step k zero h = absurd (omega arith)
 parts_at whole part step k (suc m) h =
     ⊎_elim (λ l. let was = parts_at whole part step k m l in (
       was.0 ++ part m,
-      step m ∙ ap (λ xs. xs ++ part m) was.1 ∙ append_assoc (whole k) (part k ++ was.0) (part m)
-          ∙ ap (λ xs. whole k ++ xs) (append_assoc (part k) was.0 (part m)),
+      step m ∙ ap (λ xs. xs ++ part m) was.1 ∙ append_assoc (whole k) _ _ ∙ ap (λ xs. whole k ++ xs) (append_assoc _ was.0 _),
     ))
-    (λ e. ([], step m ∙ ap (λ n. whole n ++ part n) (sym e) ∙ ap (λ xs. whole k ++ xs) (sym (append-nil (part k)))))
-    (below_or_at k m h)
+    (λ e. ([], step m ∙ ap (λ n. whole n ++ part n) (sym e) ∙ ap (λ xs. whole k ++ xs) (sym (append-nil _))))
+    (grind arith)
 
 module _ {S : Type 0} {writes : S → Option (List ℕ) → S → Type 0} {failures : S → ℕ} {from s t : S} where
   -- the writing of a part failed
@@ -87,6 +82,6 @@ module _ {S : Type 0} {writes : S → Option (List ℕ) → S → Type 0} {failu
       → WritesText writes failures from (whole m) r t
   wrote_part whole part step k m l r is_err took same front count =
       let split = parts_at whole part step k m l in
-      subst (λ text. WritesText writes failures from text r t) (sym split.1)
-      (wrote_front (whole k ++ (part k ++ split.0)) r is_err (front_after (whole k) took (front_then split.0 front))
-      (subst (λ n. HasFailed n (failures t)) same count))
+      rw split.1
+      (wrote_front _ r is_err (front_after _ took (front_then split.0 front))
+      (rw (← same) count))

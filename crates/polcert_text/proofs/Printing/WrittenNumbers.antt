@@ -1,23 +1,20 @@
 -- What is written of a number is a numeral that a reader takes.
-use Rattle.std.proofs.Common.{◌≡◌, ◌∙◌, ℕ, ◌*◌, ◌≤◌, false, pos, List, sym, ap, arith}
-use Rattle.polcert_text.proofs.Common.{list_any, digits_value, pos-*ℤ-pos, is_exponent_mark, unsigned_text, exponent_size, size_of}
+use Rattle.std.proofs.Common.{◌≡◌, ℕ, ◌*◌, ◌≤◌, false, List, sym, ap, arith}
+use Rattle.polcert_text.proofs.Common.{list_any, digits_value, is_exponent_mark, unsigned_text, exponent_size, size_of}
 use Rattle.polcert_text.proofs.Common.{millionth, largest, IsReadable, without_sign}
 use Rattle.std.proofs.Math.Nat.{mul-le-mul_right}
 use Rattle.polcert_text.proofs.Printing.PrintLaws.{written_exact}
 use Rattle.polcert_text.proofs.Numbers.SizeLaws.{after-none}
 use Rattle.polcert_text.proofs.Printing.Numerals.{IsPlain, plain_unsigned}
 
-same_pos : (m n : ℕ) → pos m ≡ pos n → m ≡ n
-same_pos m n e = cc
-
 pub size_written : (n : ℕ) → n ≤ largest → size_of (unsigned_text n) ≡ n * millionth
 size_written n l =
     let exact = (written_exact n (omega (arith, l)) false).1 in
-    sym (same_pos (n * millionth) (size_of (unsigned_text n)) (sym (pos-*ℤ-pos n millionth) ∙ exact))
+    sym (cc)
 
 exponent_none : (bs : List ℕ) → list_any is_exponent_mark bs ≡ false → exponent_size bs ≡ 0
 unfolding exponent_size
-exponent_none bs e = ap (λ xs. digits_value 10 (without_sign xs)) (after-none is_exponent_mark bs e)
+exponent_none bs e = ap (λ xs. digits_value 10 (without_sign xs)) (after-none _ bs e)
 
 pub plain_size : (n : ℕ) → n ≤ largest → IsPlain (unsigned_text n)
 plain_size n l = plain_unsigned n (omega (arith, l))
@@ -25,10 +22,10 @@ plain_size n l = plain_unsigned n (omega (arith, l))
 pub readable_written : (n : ℕ) → n ≤ largest → IsReadable (unsigned_text n)
 readable_written n l =
     let was = plain_size n l in
-    let size : n * millionth ≤ largest * millionth = mul-le-mul_right millionth l in
+    let size = mul-le-mul_right millionth l in
     record {
       numeral = (written_exact n (omega (arith, l)) false).0;
-      short = omega (arith, was.short);
-      exponent = omega (arith, exponent_none (unsigned_text n) was.unmarked);
+      short = omega arith;
+      exponent = omega (arith, exponent_none _ was.unmarked);
       size = omega (arith, size, size_written n l);
     }

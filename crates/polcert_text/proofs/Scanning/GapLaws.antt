@@ -2,7 +2,7 @@
 use Rattle.std.proofs.Common.{◌≡◌, ◌∙◌, ℕ, ◌+◌, Bool, true, false, List, [], ◌∷◌, ◌++◌, take, drop, refl, ap, arith, ◌<◌, ◌≤◌, length}
 use Rattle.std.proofs.Common.{get_or, sym, append-nil}
 use Rattle.polcert_text.proofs.Common.{take_more, IsLongestGap, list_all, is_blank, is_hash, is_line_end, class_of, is_gap, gap_after}
-use Rattle.polcert_text.proofs.Common.{gap_through, ByteClass, Gap, Between, Comment, Ended}
+use Rattle.polcert_text.proofs.Common.{gap_through, Gap, Between, Comment, Ended}
 use Rattle.std.proofs.lemmas.List.{take-take, take-append-drop}
 use Rattle.std.specs.List.{slice_split, onto_first}
 use Rattle.polcert_text.specs.Gaps.{is_gap_line}
@@ -21,59 +21,48 @@ continues Comment bs = others_right (slice_split is_line_end bs)
 continues Ended bs = false
 
 others-onto_first : (b : ℕ) (lines : List (List ℕ)) → others_right (onto_first b lines) ≡ others_right lines
-others-onto_first b lines = grind arith
+others-onto_first = grind arith
 
 is_gap_line-blank : (b : ℕ) (line : List ℕ) → is_hash b ≡ false → is_blank b ≡ true → is_gap_line (b ∷ line) ≡ is_gap_line line
 is_gap_line-blank b line e f = simp (before_first-pass is_hash b line e, f)
 
 all-onto_blank : (b : ℕ) (lines : List (List ℕ)) → is_hash b ≡ false → is_blank b ≡ true
     → list_all is_gap_line (onto_first b lines) ≡ list_all is_gap_line lines
-all-onto_blank b lines h1 h2 = grind (arith, is_gap_line-blank)
+all-onto_blank = grind (arith, is_gap_line-blank)
 
 all-onto_hash : (b : ℕ) (lines : List (List ℕ)) → is_hash b ≡ true → list_all is_gap_line (onto_first b lines) ≡ others_right lines
-all-onto_hash b lines h1 = grind arith
+all-onto_hash = grind arith
 
 all-onto_other : (b : ℕ) (lines : List (List ℕ)) → is_hash b ≡ false → is_blank b ≡ false
     → list_all is_gap_line (onto_first b lines) ≡ false
-all-onto_other b lines h1 h2 = grind (arith, before_first-pass)
-
--- one more byte: what continues from before it is what continues from after it
-continues_at : (gap : Gap) (b : ℕ) (bs : List ℕ) (c : ByteClass) → class_of b ≡ c → continues gap (b ∷ bs) ≡ continues (gap_after gap c) bs
-continues_at gap b bs c h1 = grind (arith, blank_by, hash_by, line_end_by, others-onto_first, all-onto_blank, all-onto_hash, all-onto_other)
+all-onto_other = grind (arith, before_first-pass)
 
 -- the same for several bytes
 pub continues_through : (gap : Gap) (front rest : List ℕ) → continues gap (front ++ rest) ≡ continues (gap_through gap front) rest
 continues_through gap [] rest = refl
-continues_through gap (b ∷ bs) rest = continues_at gap b (bs ++ rest) (class_of b) refl
-    ∙ continues_through (gap_after gap (class_of b)) bs rest
+continues_through gap (b ∷ bs) rest = grind
+    (arith, blank_by, hash_by, line_end_by, others-onto_first, all-onto_blank, all-onto_hash, all-onto_other)
+    ∙ continues_through (gap_after gap _) bs rest
 
 pub gap_through-append : (gap : Gap) (front rest : List ℕ) → gap_through gap (front ++ rest) ≡ gap_through (gap_through gap front) rest
 gap_through-append gap [] rest = refl
-gap_through-append gap (b ∷ bs) rest = gap_through-append (gap_after gap (class_of b)) bs rest
-
--- whether bytes are a gap can be read off what they leave
-is_gap-through : (bs : List ℕ) → is_gap bs ≡ continues (gap_through Between bs) []
-is_gap-through bs = ap is_gap (sym (append-nil bs)) ∙ continues_through Between bs []
-
-open_continues : (gap : Gap) → (gap ≡ Ended → ⊥) → continues gap [] ≡ true
-open_continues gap h1 = grind arith
+gap_through-append gap (b ∷ bs) rest = gap_through-append (gap_after gap _) bs rest
 
 pub gap_until_open : (bs : List ℕ) → (gap_through Between bs ≡ Ended → ⊥) → is_gap bs ≡ true
-gap_until_open bs h = is_gap-through bs ∙ open_continues (gap_through Between bs) h
+gap_until_open bs h = ap is_gap (sym (append-nil bs)) ∙ continues_through Between bs [] ∙ grind arith
 
 pub gap_through_more : (bs : List ℕ) (i : ℕ) → i < length bs
     → gap_through Between (take (i + 1) bs) ≡ gap_after (gap_through Between (take i bs)) (class_of (get_or bs i 0))
-gap_through_more bs i h = ap (gap_through Between) (take_more bs i 0 h) ∙ gap_through-append Between (take i bs) (get_or bs i 0 ∷ [])
+gap_through_more bs i h = ap (gap_through Between) (take_more bs i 0 h) ∙ gap_through-append Between (take i bs) _
 
 -- after the end of a gap nothing is one
 no_gap_past : (bs : List ℕ) (n k : ℕ) → n ≤ k → gap_through Between (take n bs) ≡ Ended → is_gap (take k bs) ≡ false
 no_gap_past bs n k h ended =
-    let front : take n (take k bs) ≡ take n bs = take-take n k bs h in
-    let joined : take n bs ++ drop n (take k bs) ≡ take k bs = ap (λ xs. xs ++ drop n (take k bs)) (sym front)
-    ∙ take-append-drop n (take k bs) in
+    let front = take-take n k bs h in
     let rest = drop n (take k bs) in
-    ap is_gap (sym joined) ∙ continues_through Between (take n bs) rest ∙ ap (λ gap. continues gap rest) ended
+    ap is_gap (sym (ap (λ xs. xs ++ drop n (take k bs)) (sym front) ∙ take-append-drop n (take k bs)))
+    ∙ continues_through Between (take n bs) rest ∙ ap (λ gap. continues gap rest) ended
 
 pub longest_gap_at : (bs : List ℕ) (i : ℕ) → i < length bs → is_gap (take i bs) ≡ true → gap_through Between (take (i + 1) bs) ≡ Ended
     → IsLongestGap bs i
-longest_gap_at bs i h gap ended = grind (arith, no_gap_past)
+longest_gap_at = grind (arith, no_gap_past)

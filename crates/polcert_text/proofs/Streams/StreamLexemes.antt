@@ -1,5 +1,5 @@
 -- The lexeme that a stream scans, in pieces.
-use Rattle.std.proofs.Common.{◌≡◌, ◌<◌, ◌≤◌, ◌⊎◌, inl, inr, ℕ, true, false, Option, Some, List, [], ◌++◌, length, take, append-nil, Bool}
+use Rattle.std.proofs.Common.{◌≡◌, ◌<◌, ◌≤◌, ◌⊎◌, inl, inr, ℕ, true, false, Option, Some, List, [], length, take, append-nil, Bool}
 use Rattle.std.proofs.Common.{arith}
 use Rattle.polcert_text.proofs.Common.{take-append-le, IsScanOf, is_over, is_stuck, front_len, EndsWithin, Ahead, visible, IsReadToLimit}
 use Rattle.polcert_text.proofs.Common.{IsFrontSeen, Fills, ReadsOn, ScansLexeme, LexemePrefix, LexemeScan}
@@ -10,10 +10,10 @@ use Rattle.polcert_text.proofs.Streams.StreamLaws.{visible_len, reads_nothing, r
 
 -- a front of the bytes below the limit stays so
 front_stays : (a : Ahead) (given : List ℕ) (n : ℕ) → n ≤ length (visible a) → take n (visible (with_read a given)) ≡ take n (visible a)
-front_stays a given n few = grind (arith, take-append-le, take-take, visible_len)
+front_stays = grind (arith, take-append-le, take-take, visible_len)
 
 scanned_few : (bs : List ℕ) (scan : LexemeScan) → IsScanOf (take scan.len bs) scan → scan.len ≤ length bs
-scanned_few bs scan was = omega (arith, was.len, length-take scan.len bs)
+scanned_few bs scan was = omega (arith, length-take scan.len bs)
 
 -- a scan of a front continues over more bytes
 pub scan_stays : (now new : Ahead) (given : List ℕ) (scan : LexemeScan) → new ≡ with_read now given
@@ -26,8 +26,8 @@ module _ {S : Type 0} (reads : S → ℕ → Option (List ℕ) → S → Type 0)
       → ScansLexeme reads failures old s (Some front) old s
   lexeme_ended old s front below ends = record {
     given = [];
-    reads_on = reads_nothing reads failures old s below;
-    within = omega (arith, ends.within);
+    reads_on = reads_nothing reads _ old s below;
+    within = omega arith;
     seen = λ tail none. record { front_is = inl (ends.longest tail); apart = λ _ _. inr ends.within };
   }
 
@@ -40,8 +40,7 @@ module _ {S : Type 0} (reads : S → ℕ → Option (List ℕ) → S → Type 0)
 
   pub lexeme_begins : (old : Ahead) (s : S) (scan : LexemeScan) → old.place ≤ old.limit → IsScanOf (take scan.len (visible old)) scan
       → (is_stuck scan.state ≡ false → scan.len ≡ length (visible old)) → InLexeme old s scan old s
-  lexeme_begins old s scan below scan_is all = record
-      { given = []; on = reads_nothing reads failures old s below; scan_is = scan_is; all = all }
+  lexeme_begins old s scan below scan_is all = record { given = []; on = reads_nothing reads _ old s below; scan_is = scan_is; all = all }
 
   pub lexeme_continues : (old : Ahead) (s : S) (scan : LexemeScan) (now : Ahead) (t : S) (is_more : Bool) (new : Ahead) (u : S)
       (next : LexemeScan)
@@ -49,8 +48,8 @@ module _ {S : Type 0} (reads : S → ℕ → Option (List ℕ) → S → Type 0)
       → IsScanOf (take next.len (visible new)) next → (is_stuck next.state ≡ false → next.len ≡ length (visible new))
       → InLexeme old s next new u
   lexeme_continues old s scan now t is_more new u next was unended f scan_is all = record {
-    given = was.given ++ f.given;
-    on = reads_fill reads failures old s [] was.given now t is_more new u was.on unended f;
+    given = _;
+    on = reads_fill reads _ old s [] was.given now t is_more new u was.on unended f;
     scan_is = scan_is;
     all = all;
   }
@@ -60,20 +59,20 @@ module _ {S : Type 0} (reads : S → ℕ → Option (List ℕ) → S → Type 0)
       → IsReadToLimit now ⊎ ((is_over scan.state ≡ true) ⊎ (400 < front_len scan.longest))
       → ScansLexeme reads failures old s scan.longest now t
   lexeme_ends old s scan now t was known = record {
-    given = was.given;
+    given = _;
     reads_on = was.on;
-    within = seen_within (visible now) scan was.scan_is;
-    seen = λ tail none. at known tail none;
+    within = seen_within _ scan was.scan_is;
+    seen = at known;
   }
     where
       at : IsReadToLimit now ⊎ ((is_over scan.state ≡ true) ⊎ (400 < front_len scan.longest)) → (tail : List ℕ)
           → (IsReadToLimit now → tail ≡ [])
           → IsFrontSeen (visible now) tail scan.longest
-      at (inl complete) tail none = seen_all (visible now) tail scan was.scan_is was.all (none complete)
-      at (inr (inl over)) tail none = seen_over (visible now) tail scan was.scan_is over
-      at (inr (inr long)) tail none = seen_long (visible now) tail scan.longest scan.len was.scan_is.longest long
+      at (inl complete) tail none = seen_all _ tail scan was.scan_is was.all (none complete)
+      at (inr (inl over)) tail none = seen_over _ tail scan was.scan_is over
+      at (inr (inr long)) tail none = seen_long _ tail _ _ was.scan_is.longest long
 
   -- the true end comes next
   pub lexeme_at_end : (old : Ahead) (s : S) (scan : LexemeScan) (now : Ahead) (t : S) (new : Ahead) (u : S) → InLexeme old s scan now t
       → now.is_whole ≡ false → Fills reads failures now t false new u → ScansLexeme reads failures old s scan.longest new u
-  lexeme_at_end old s scan now t new u was unended f = grind (arith, append-nil, scan_stays, lexeme_continues, lexeme_ends)
+  lexeme_at_end = grind (arith, append-nil, scan_stays, lexeme_continues, lexeme_ends)

@@ -16,7 +16,7 @@ module _ {S : Type 0} (reads : S → ℕ → Option (List ℕ) → S → Type 0)
   ends_again : (a : Ahead) (s : S) (answer : Option TokenFault) → IsAtEnd a answer → GivesEnd reads failures a s answer a s
   ends_again a s answer at = record {
     given = [];
-    was_read = from_nothing reads failures a.is_whole s;
+    was_read = from_nothing reads failures _ s;
     same_count = refl;
     size = omega arith;
     ends = at.ends;
@@ -26,37 +26,25 @@ module _ {S : Type 0} (reads : S → ℕ → Option (List ℕ) → S → Type 0)
   module _ {T : Type 0} (lexeme : T → Lexeme) (old : Stream) (s : S) where
     answered_again : (stop : LastAnswer) → old.stop ≡ Some stop → EndsAsAnswered old.ahead (Some stop)
         → Answers reads failures lexeme old s (answer_of stop) old s
-    answered_again stop h1 h2 = grind (arith, some≢none, ends_again)
+    answered_again = grind (arith, some≢none, ends_again)
 
     -- the same answer once more
     pub stopped_answers : (stop : LastAnswer) (result : Result (Option T) StreamFault) → result ≡ answer_of stop → old.stop ≡ Some stop
         → EndsAsAnswered old.ahead old.stop
         → AnswersNext reads failures lexeme old s result old s
-    stopped_answers stop result same is at = grind (arith, one_stop, answered_again)
+    stopped_answers = grind (arith, one_stop, answered_again)
 
   module _ {T U : Type 0} (lexeme : T → Lexeme) (other : U → Lexeme) (old : Stream) (s : S) (new : Stream) (u : S) where
-    same_end : (stop : LastAnswer) → (let r : Result (Option T) StreamFault = Ok None in r) ≡ answer_of stop
-        → (let r : Result (Option U) StreamFault = Ok None in r) ≡ answer_of stop
-    same_end stop h1 = grind arith
-
-    same_fault : (fault : StreamFault) (stop : LastAnswer) → (let r : Result (Option T) StreamFault = Err fault in r) ≡ answer_of stop
-        → (let r : Result (Option U) StreamFault = Err fault in r) ≡ answer_of stop
-    same_fault fault stop h1 = grind arith
-
     -- the end, and a fault, show no lexeme
     pub end_as : AnswersNext reads failures lexeme old s (Ok None) new u → AnswersNext reads failures other old s (Ok None) new u
     end_as a = record {
       answers = a.answers;
-      again = λ stop is. let was = a.again stop is in (same_end stop was.0, was.1, was.2);
+      again = λ stop is. let was = a.again stop is in (grind arith, was.1, was.2);
     }
-
-    fault_answers : (fault : StreamFault) → Answers reads failures lexeme old s (Err fault) new u
-        → Answers reads failures other old s (Err fault) new u
-    fault_answers fault h1 = grind arith
 
     pub fault_as : (fault : StreamFault) → AnswersNext reads failures lexeme old s (Err fault) new u
         → AnswersNext reads failures other old s (Err fault) new u
     fault_as fault a = record {
-      answers = fault_answers fault a.answers;
-      again = λ stop is. let was = a.again stop is in (same_fault fault stop was.0, was.1, was.2);
+      answers = grind arith;
+      again = λ stop is. let was = a.again stop is in (grind arith, was.1, was.2);
     }

@@ -1,6 +1,6 @@
 -- The tokens that were taken from a source, and the cut of each text that fits.
 use Rattle.std.proofs.Common.{◌≡◌, ◌∙◌, ◌++◌, ◌∷◌, ℕ, Bool, true, false, List, [], Option, Some, None, length, refl, sym, ap, subst}
-use Rattle.std.proofs.Common.{append-nil, append_assoc, length-append, take, drop, ◌<◌, ◌≤◌, arith}
+use Rattle.std.proofs.Common.{append-nil, append_assoc, length-append, take, ◌<◌, ◌≤◌, arith}
 use Rattle.std.proofs.lemmas.List.{length-drop, length-take}
 use Rattle.polcert_text.proofs.Common.{nat_tests, IsLongestLexeme, kind_of, TokenKind, Lexeme, Rest, IsCut, TakesToken, text_rest, IsText}
 use Rattle.polcert_text.proofs.Common.{EachTextThatFits, nothing, Ahead, Stream, rest_with, CanFollow, GivesToken, GivesEnd, TakenFrom}
@@ -17,14 +17,13 @@ module _ {S : Type 0} (reads : S → ℕ → Option (List ℕ) → S → Type 0)
   -- no token yet
   pub none_taken : (stream : Stream) → stream ≡ fresh limit → ((text : List ℕ) → rest_with stream.ahead text ≡ text_rest text limit)
       → TakenFrom reads failures limit first [] stream first
-  none_taken stream is text = subst (λ s. TakenFrom reads failures limit first [] s first) (sym is) (record {
+  none_taken stream is text = rw is (record {
     given = [];
     was_read = nothing;
     same_count = refl;
     size = refl;
     continues = refl;
-    taken = λ more can. subst (λ r. Taken (text_rest more limit) [] r) (sym (ap (λ s. rest_with s.ahead more) (sym is) ∙ text more))
-        (none (text_rest more limit));
+    taken = λ more can. rw ((ap (λ s. rest_with s.ahead more) (sym is) ∙ text more)) (none _);
   })
 
   -- one token more
@@ -33,41 +32,34 @@ module _ {S : Type 0} (reads : S → ℕ → Option (List ℕ) → S → Type 0)
       → GivesToken reads failures old.ahead s t new.ahead u → new.stop ≡ None
       → TakenFrom reads failures limit first (tokens ++ t ∷ []) new u
   token_taken tokens old s t new u was g continues = record {
-    given = was.given ++ g.given;
-    was_read = from_both reads failures false old.ahead.is_whole new.ahead.is_whole first s u was.given g.given was.was_read g.was_read;
-    same_count = g.same_count ∙ was.same_count;
-    size = omega (arith, g.size, was.size, length-append was.given g.given);
+    given = _;
+    was_read = from_both reads failures false old.ahead.is_whole _ first s u _ g.given was.was_read g.was_read;
+    same_count = cc;
+    size = omega (arith, length-append was.given g.given);
     continues = continues;
     taken = λ more can.
-        let before = was.taken (g.given ++ more) (could_follow reads failures old.ahead s g.given more new.ahead u g.was_read can) in
-        subst (λ text. Taken (text_rest text limit) (tokens ++ t ∷ []) (rest_with new.ahead more))
-        (sym (append_assoc was.given g.given more))
+        let before = was.taken _ (could_follow reads failures old.ahead s g.given more new.ahead u g.was_read can) in
+        rw (append_assoc was.given g.given more)
         (one_more _ _ _ tokens t before (g.next more can));
   }
 
   fits_of : (is_whole : Bool) (ahead : Ahead) → ahead.is_whole ≡ is_whole → (given text : List ℕ) → FitsRead given is_whole text
       → (more : List ℕ) × (text ≡ given ++ more) × CanFollow ahead more
-  fits_of is_whole ahead h1 given text h2 = grind (arith, append-nil)
+  fits_of = grind (arith, append-nil)
 
   -- each text that fits begins with the tokens taken
   pub each_taken : (tokens : List Lexeme) (stream : Stream) (s : S) (P : List ℕ → Type 0)
       → TakenFrom reads failures limit first tokens stream s
       → ((text : List ℕ) (rest : Rest) → Taken (text_rest text limit) tokens rest → P text) → EachTextThatFits reads first s P
   each_taken tokens stream s P was holds = record {
-    bytes = was.given;
-    is_whole = stream.ahead.is_whole;
+    bytes = _;
+    is_whole = _;
     was_read = was.was_read;
     each = λ text fits.
-        let f = fits_of stream.ahead.is_whole stream.ahead refl was.given text fits in
-        holds text (rest_with stream.ahead f.0) (subst (λ x. Taken (text_rest x limit) tokens (rest_with stream.ahead f.0)) (sym f.1)
+        let f = fits_of _ stream.ahead refl was.given text fits in
+        holds text (rest_with stream.ahead f.0) (simp f.1
         (was.taken f.0 f.2));
   }
-
-  ended_cut : (tokens : List Lexeme) (old : Stream) (s : S) (answer : Option TokenFault) (new : Ahead) (u : S)
-      → (was : TakenFrom reads failures limit first tokens old s)
-      → (g : GivesEnd reads failures old.ahead s answer new u) → (more : List ℕ) → CanFollow new more
-      → IsCut (text_rest ((was.given ++ g.given) ++ more) limit) tokens answer
-  ended_cut tokens old s answer new u was g more can = grind (arith, append_assoc, could_follow, all_taken)
 
   -- each text that fits has these tokens, and ends so
   pub each_cut : (tokens : List Lexeme) (old : Stream) (s : S) (answer : Option TokenFault) (new : Ahead) (u : S) (P : List ℕ → Type 0)
@@ -75,12 +67,12 @@ module _ {S : Type 0} (reads : S → ℕ → Option (List ℕ) → S → Type 0)
       → GivesEnd reads failures old.ahead s answer new u → ((text : List ℕ) → IsCut (text_rest text limit) tokens answer → P text)
       → EachTextThatFits reads first u P
   each_cut tokens old s answer new u P was g holds = record {
-    bytes = was.given ++ g.given;
-    is_whole = new.is_whole;
-    was_read = from_both reads failures false old.ahead.is_whole new.is_whole first s u was.given g.given was.was_read g.was_read;
+    bytes = _;
+    is_whole = _;
+    was_read = from_both reads failures false old.ahead.is_whole _ first s u _ g.given was.was_read g.was_read;
     each = λ text fits.
-        let f = fits_of new.is_whole new refl (was.given ++ g.given) text fits in
-        holds text (subst (λ x. IsCut (text_rest x limit) tokens answer) (sym f.1) (ended_cut tokens old s answer new u was g f.0 f.2));
+        let f = fits_of _ new refl (was.given ++ g.given) text fits in
+        holds text (rw f.1 (grind (arith, append_assoc, could_follow, all_taken)));
   }
 
   -- the text of the source, where it ended cleanly
@@ -90,11 +82,11 @@ module _ {S : Type 0} (reads : S → ℕ → Option (List ℕ) → S → Type 0)
   text_taken tokens old s new u was g =
       let at = g.at_end.whole refl in
       let text = was.given ++ g.given in
-      let read = from_both reads failures false old.ahead.is_whole new.is_whole first s u was.given g.given was.was_read g.was_read in (
+      let read = from_both reads failures false old.ahead.is_whole _ first s u _ g.given was.was_read g.was_read in (
         text,
         rw at.0 at read,
-        subst (λ x. IsCut (text_rest x limit) tokens None) (append-nil text) (ended_cut tokens old s None new u was g [] (λ _. refl)),
-        omega (arith, g.size, was.size, length-append was.given g.given, ap length at.1),
+        rw (← append-nil text) (grind (arith, append_assoc, could_follow, all_taken)),
+        omega (arith, length-append was.given g.given, ap length at.1),
       )
 
 -- what holds of the text of a source holds of each text that fits
@@ -113,7 +105,7 @@ pub place_grows : (old new : Ahead) (given : List ℕ) (t : Lexeme)
 place_grows old new given t next =
     let takes = next [] (λ _. refl) in
     let place = ap (λ r. r.place) takes.rest in
-    let some = some_byte t.bytes (drop takes.gap (rest_with old (given ++ [])).bytes) t.kind takes.token_at.lexeme in
+    let some = some_byte t.bytes _ t.kind takes.token_at.lexeme in
     omega arith
   where
     some_byte : (bs all : List ℕ) (kind : TokenKind) → IsLongestLexeme all kind (length bs) → 0 < length bs
@@ -129,12 +121,11 @@ taken_end old new ts (none _) = refl
 taken_end old new ts (one_more _ between _ us t before takes) = grind (arith, length-drop, taken_end old between us before)
 
 text_end : (text : List ℕ) (limit : ℕ) → end_place (text_rest text limit) ≤ limit
-text_end text limit = grind (arith, length-take, nat_tests)
+text_end = grind (arith, length-take, nat_tests)
 
 -- what is ahead stands below the limit
 pub place_within : {S : Type 0} (reads : S → ℕ → Option (List ℕ) → S → Type 0) (failures : S → ℕ) (limit : ℕ) (first : S) (ts : List Lexeme)
     (stream : Stream) (s : S)
     → TakenFrom reads failures limit first ts stream s → stream.ahead.place ≤ limit
 place_within reads failures limit first ts stream s was =
-    let taken = was.taken [] (λ _. refl) in
-    omega (arith, taken_end _ _ ts taken, text_end (was.given ++ []) limit)
+    omega (arith, taken_end _ _ ts (was.taken [] (λ _. refl)), text_end (was.given ++ []) limit)

@@ -1,13 +1,13 @@
 -- Tokens at the front of some bytes: one, and several, one after another.
 use Rattle.std.proofs.Common.{◌≡◌, ◌∙◌, ℕ, ◌+◌, ◌<◌, ◌≤◌, Bool, false, Option, IfSome, List, [], ◌∷◌, ◌++◌, length, take, drop, get_or}
-use Rattle.std.proofs.Common.{refl, sym, ap, subst, append_assoc, append-nil, length-append, pos, arith}
+use Rattle.std.proofs.Common.{refl, sym, ap, subst, append_assoc, append-nil, length-append, arith}
 use Rattle.std.proofs.Math.ListN.{get_or-append}
 use Rattle.polcert_text.proofs.Common.{take-append-le, drop-append-le, BeginWith, EndsAsDigits, EndsWithin, IsNameOrMark, class_of, Lexeme}
-use Rattle.polcert_text.proofs.Common.{Rest, TakesToken, is_glued, IsLongestLexeme, gap_after, gap_through, state_after, signed, IsReadable}
-use Rattle.polcert_text.proofs.Common.{IsExact, Taken, token, LexemePrefix, Between, Ended, Start, Single, TokenKind, Numeral, Colon}
+use Rattle.polcert_text.proofs.Common.{Rest, TakesToken, is_glued, IsLongestLexeme, gap_after, gap_through, state_after, signed}
+use Rattle.polcert_text.proofs.Common.{Taken, token, LexemePrefix, Between, Ended, Start, Single, TokenKind, Numeral, Colon}
 use Rattle.polcert_text.proofs.Common.{TokenFault}
 use Rattle.std.proofs.lemmas.List.{length-take-le, length-drop, get_or-drop, drop-drop}
-use Rattle.polcert_text.specs.Beginning.{rest_at, BeginWithOne, BeginWithNumber, BeginWithDigits, IsNumeralOf, kind_of_sign, unsigned}
+use Rattle.polcert_text.specs.Beginning.{rest_at, BeginWithOne, BeginWithNumber, BeginWithDigits, kind_of_sign, unsigned}
 use Rattle.polcert_text.specs.Steps.ScanOf.{IsNumberFrom}
 use Rattle.polcert_text.specs.Steps.Classes.{class_of_sign}
 use Rattle.polcert_text.specs.TakenTokens.{nothing}
@@ -20,39 +20,38 @@ use Rattle.polcert_text.proofs.Scanning.Runs.{longest_seen, ended_mark, is_mark}
 -- ---- several
 
 pub taken_both : (a b c : Rest) (us vs : List Lexeme) → Taken a us b → Taken b vs c → Taken a (us ++ vs) c
-taken_both a b c us vs first (nothing _) = subst (λ xs. Taken a xs b) (sym (append-nil us)) first
+taken_both a b c us vs first (nothing _) = rw (append-nil us) first
 taken_both a b c us vs first (token _ between _ ws t before takes) =
-    subst (λ xs. Taken a xs c) (append_assoc us ws (t ∷ []))
-    (token a between c (us ++ ws) t (taken_both a b between us ws first before) takes)
+    rw (← append_assoc us ws (t ∷ []))
+    (token a between c _ t (taken_both a b between us ws first before) takes)
 
--- none
-pub begin_none : (place : ℕ) (bytes : List ℕ) → BeginWith place bytes 0 []
-begin_none place bytes = record {
-  within = omega arith;
-  taken = λ tail ending.
-      let same : place ≡ place + 0 = omega arith in
-      subst (λ p. Taken (rest_at place (bytes ++ tail) ending) [] (rest_at p (bytes ++ tail) ending)) same
-      (nothing (rest_at place (bytes ++ tail) ending));
-}
+module _ (place : ℕ) (bytes : List ℕ) where
+  -- none
+  pub begin_none : BeginWith place bytes 0 []
+  begin_none = record {
+    within = omega arith;
+    taken = λ tail ending.
+        let same : place ≡ place + 0 = omega arith in
+        rw (← same)
+        (nothing _);
+  }
 
--- some, and others after them
-pub begin_then : (place : ℕ) (bytes : List ℕ) (m n : ℕ) (us vs : List Lexeme) → BeginWith place bytes m us
-    → BeginWith (place + m) (drop m bytes) n vs → BeginWith place bytes (m + n) (us ++ vs)
-begin_then place bytes m n us vs first second = record {
-  within = omega (arith, first.within, second.within, length-drop m bytes);
-  taken = λ tail ending.
-      let all : place + m + n ≡ place + (m + n) = omega arith in
-      let bytes_are : drop n (drop m bytes) ++ tail ≡ drop (m + n) bytes ++ tail = ap (λ xs. xs ++ tail) (drop-drop n m bytes) in
-      let end : rest_at (place + m + n) (drop n (drop m bytes) ++ tail) ending
-      ≡ rest_at (place + (m + n)) (drop (m + n) bytes ++ tail) ending = λ i. rest_at (all i) (bytes_are i) ending in
-      subst (Taken (rest_at place (bytes ++ tail) ending) (us ++ vs)) end
-      (taken_both _ _ _ us vs (first.taken tail ending) (second.taken tail ending));
-}
+  -- some, and others after them
+  pub begin_then : (m n : ℕ) (us vs : List Lexeme) → BeginWith place bytes m us
+      → BeginWith (place + m) (drop m bytes) n vs → BeginWith place bytes (m + n) (us ++ vs)
+  begin_then m n us vs first second = record {
+    within = omega (arith, length-drop m bytes);
+    taken = λ tail ending.
+        let all : place + m + n ≡ place + (m + n) = omega arith in
+        let bytes_are = ap (λ xs. xs ++ tail) (drop-drop n m bytes) in
+        subst (Taken (rest_at place (bytes ++ tail) ending) (us ++ vs)) (λ i. rest_at (all i) (bytes_are i) ending)
+        (taken_both _ _ _ us vs (first.taken tail ending) (second.taken tail ending));
+  }
 
 -- ---- one
 
 glue_stays : (kind : TokenKind) (bs tail : List ℕ) → 0 < length bs → is_glued kind (bs ++ tail) ≡ is_glued kind bs
-glue_stays kind bs tail h1 = grind arith
+glue_stays = grind arith
 
 -- the lexeme at the front of the bytes after a gap
 abbrev pub front_lexeme : ℕ → List ℕ → ℕ → TokenKind → ℕ → Lexeme
@@ -63,84 +62,73 @@ module _ (place : ℕ) (bytes : List ℕ) (gap n : ℕ) (kind : TokenKind) (open
     (ends : EndsWithin (drop gap bytes) (record { kind = kind; len = n }))
     (short : n ≤ 400) (apart : is_glued kind (drop n (drop gap bytes)) ≡ false) where
   inside : gap < length bytes
-  inside = omega (arith, ends.within, length-drop gap bytes)
+  inside = omega (arith, length-drop gap bytes)
 
   len : length (take n (drop gap bytes)) ≡ n
-  len = length-take-le n (drop gap bytes) (omega (arith, ends.within))
+  len = length-take-le n _ (omega arith)
 
   takes : (tail : List ℕ) (ending : Option TokenFault)
       → TakesToken (rest_at place (bytes ++ tail) ending) (front_lexeme place bytes gap kind n)
       (rest_at (place + (gap + n)) (drop (gap + n) bytes ++ tail) ending)
   takes tail ending =
       let low : gap ≤ length bytes = omega (arith, inside) in
-      let few : n ≤ length (drop gap bytes) = omega (arith, ends.within) in
-      let all : drop gap (bytes ++ tail) ≡ drop gap bytes ++ tail = drop-append-le gap bytes tail low in
+      let few : n ≤ length _ = omega arith in
+      let all = drop-append-le gap bytes tail low in
       let here : gap + 0 ≡ gap = omega arith in
-      let byte : get_or (bytes ++ tail) gap 0 ≡ get_or (drop gap bytes) 0 0 = get_or-append bytes tail 0 gap inside
+      let byte = get_or-append bytes tail 0 gap inside
       ∙ ap (λ k. get_or bytes k 0) (sym here) ∙ sym (get_or-drop gap bytes 0 0) in
-      let following : drop (length (take n (drop gap bytes))) (drop gap (bytes ++ tail)) ≡ drop n (drop gap bytes) ++ tail =
-      ap (λ m. drop m (drop gap (bytes ++ tail))) len ∙ ap (drop n) all ∙ drop-append-le n (drop gap bytes) tail few in
-      let end : place + (gap + n) ≡ place + gap + length (take n (drop gap bytes)) = omega (arith, len) in
+      let following =
+      ap (λ m. drop m (drop gap (bytes ++ tail))) len ∙ ap (drop n) all ∙ drop-append-le n _ tail few in
+      let end : place + (gap + n) ≡ place + gap + length _ = omega (arith, len) in
       record {
         gap = gap;
-        longest = longest_seen (bytes ++ tail) gap Between (omega (arith, inside, length-append bytes tail))
+        longest = longest_seen _ gap Between (omega (arith, inside, length-append bytes tail))
             (ap (gap_through Between) (take-append-le gap bytes tail low) ∙ open_gap) (λ e. absurd (cc))
             (λ below. ap (λ b. gap_after Between (class_of b)) byte ∙ stops);
         token_at = record {
-          lexeme = subst (λ xs. IsLongestLexeme xs kind (length (take n (drop gap bytes)))) (sym all)
-              (subst (IsLongestLexeme (drop gap bytes ++ tail) kind) (sym len) (ends.longest tail));
+          lexeme = rw all (subst (IsLongestLexeme _ kind) (sym len) (ends.longest tail));
           place_is = refl;
-          bytes_are = sym (ap (λ m. take m (drop gap (bytes ++ tail))) len ∙ ap (take n) all ∙ take-append-le n (drop gap bytes) tail few);
-          short = omega (arith, len, short);
-          apart = ap (is_glued kind) following ∙ glue_stays kind (drop n (drop gap bytes)) tail
-              (omega (arith, ends.within, length-drop n (drop gap bytes))) ∙ apart;
+          bytes_are = sym (ap (λ m. take m (drop gap (bytes ++ tail))) len ∙ ap (take n) all ∙ take-append-le n _ tail few);
+          short = omega arith;
+          apart = ap (is_glued kind) following ∙ glue_stays kind _ tail (omega (arith, length-drop n (drop gap bytes))) ∙ apart;
         };
         rest = λ i. record {
           place = end i;
           bytes = (ap (λ xs. xs ++ tail) (sym (drop-drop n gap bytes)) ∙ sym following) i;
-          ending =
-              ending;
+          ending = ending;
         };
       }
 
   pub begin_one : BeginWith place bytes (gap + n) (front_lexeme place bytes gap kind n ∷ [])
   begin_one = record {
-    within = omega (arith, inside, ends.within, length-drop gap bytes);
+    within = omega (arith, inside, length-drop gap bytes);
     taken = λ tail ending. token _ _ _ [] (front_lexeme place bytes gap kind n) (nothing _) (takes tail ending);
   }
 
 -- ---- numbers
 
 pub if_some_map : {T : Type 0} (o : Option T) (P Q : T → Type 0) → ((v : T) → P v → Q v) → IfSome o P → IfSome o Q
-if_some_map o P Q h1 h2 = grind arith
+if_some_map = grind arith
 
 pub digits_begin : (place : ℕ) (bytes : List ℕ) (gap : ℕ) (number : FrontDigits) → gap_through Between (take gap bytes) ≡ Between
     → EndsAsDigits (drop gap bytes) number
     → BeginWithDigits place bytes (record { len = gap + number.len; value = number.value })
 digits_begin place bytes gap number open_gap e = record {
-  token = front_lexeme place bytes gap Numeral number.len;
+  token = _;
   kind_is = refl;
-  front = begin_one place bytes gap number.len Numeral open_gap (ap (gap_after Between) e.digit) e.ends e.short e.apart;
+  front = begin_one place bytes gap _ Numeral open_gap (cc) e.ends e.short e.apart;
   digits = e.digits;
   value = e.value;
 }
 
-single_sign : (is_negative : Bool) → state_after Start (class_of_sign is_negative) ≡ Single (kind_of_sign is_negative)
-single_sign is_negative = grind arith
-
 module _ (place : ℕ) (bytes : List ℕ) (gap : ℕ) (found : FrontNumber) (open_gap : gap_through Between (take gap bytes) ≡ Between) where
-  numeral_of : (is_negative : Bool) (l : Lexeme) (number : FrontDigits) → l.kind ≡ Numeral → IsReadable l.bytes
-      → IsExact false l.bytes (pos number.value) → found.value ≡ signed is_negative number.value
-      → IsNumeralOf is_negative l found.value
-  numeral_of is_negative l number kind readable exact is = grind arith
-
   pub numeral_begins : IsNumberFrom bytes gap false found → BeginWithNumber place bytes found
   numeral_begins v =
       let e = v.ends in
       let n = v.number.len in
       let l = front_lexeme place bytes gap Numeral n in
-      unsigned l (numeral_of false l v.number refl e.readable e.exact v.value_is)
-      (subst (λ m. BeginWith place bytes m (l ∷ [])) (sym v.len_is)
+      unsigned l (grind arith)
+      (rw v.len_is
       (begin_one place bytes gap n Numeral open_gap e.begins e.ends e.short e.apart))
 
   pub sign_begins : (is_negative : Bool) → class_of (get_or bytes gap 0) ≡ class_of_sign is_negative
@@ -148,23 +136,23 @@ module _ (place : ℕ) (bytes : List ℕ) (gap : ℕ) (found : FrontNumber) (ope
   sign_begins is_negative is v =
       let e = v.ends in
       let n = v.number.len in
-      let kind = kind_of_sign is_negative in
-      let rest : List ℕ = drop (gap + 1) bytes in
+      let kind = kind_of_sign _ in
+      let rest : List ℕ = drop _ bytes in
       let here : gap + 0 ≡ gap = omega arith in
-      let first : class_of (get_or (drop gap bytes) 0 0) ≡ class_of_sign is_negative =
+      let first =
       ap class_of (get_or-drop gap bytes 0 0 ∙ ap (λ k. get_or bytes k 0) here) ∙ is in
       let mark : state_after Start (class_of (get_or (drop gap bytes) 0 0)) ≡ Single kind = ap (state_after Start) first
-      ∙ single_sign is_negative in
+      ∙ grind arith in
       let word = is_mark (drop gap bytes) kind mark in
-      let ends = ended_mark (drop gap bytes) kind (omega (arith, e.ends.within, length-drop gap bytes, length-drop (gap + 1) bytes)) mark in
+      let ends = ended_mark _ kind (omega (arith, e.ends.within, length-drop gap bytes, length-drop (gap + 1) bytes)) mark in
       let sign = begin_one place bytes gap 1 kind open_gap word.begins ends (omega arith) (word.apart _) in
       let s = front_lexeme place bytes gap kind 1 in
       let l = front_lexeme (place + (gap + 1)) rest 0 Numeral n in
       let all : 0 + n ≡ n = omega arith in
-      let numeral = subst (λ m. BeginWith (place + (gap + 1)) rest m (l ∷ [])) all
-      (begin_one (place + (gap + 1)) rest 0 n Numeral refl e.begins e.ends e.short e.apart) in
-      begin.signed is_negative s l refl (numeral_of is_negative l v.number refl e.readable e.exact v.value_is)
-      (subst (λ m. BeginWith place bytes m (s ∷ l ∷ [])) (sym v.len_is) (begin_then place bytes (gap + 1) n (s ∷ []) (l ∷ []) sign numeral))
+      let numeral = subst (λ m. BeginWith _ rest m (l ∷ [])) all
+      (begin_one _ rest 0 n Numeral refl e.begins e.ends e.short e.apart) in
+      begin.signed is_negative s l refl (grind arith)
+      (rw v.len_is (begin_then place bytes (gap + 1) n _ _ sign numeral))
 
 -- ---- a name or a mark
 
@@ -175,7 +163,7 @@ word_begins place bytes gap front rest is open_gap ends word short =
     subst (λ xs. EndsWithin xs front → IsNameOrMark xs front
     → BeginWith place bytes (gap + front.len) (record { kind = front.kind; place = place + gap; bytes = take front.len xs } ∷ []))
     (sym is)
-    (λ e w. begin_one place bytes gap front.len front.kind open_gap w.begins e short (w.apart _)) ends word
+    (λ e w. begin_one place bytes gap _ _ open_gap w.begins e short (w.apart _)) ends word
 
 -- ---- a colon
 
@@ -184,11 +172,11 @@ pub colon_begins : (place : ℕ) (bytes : List ℕ) (gap : ℕ) → gap_through 
     → BeginWithOne place bytes (gap + 1) Colon
 colon_begins place bytes gap open_gap inside colon =
     let here : gap + 0 ≡ gap = omega arith in
-    let first : class_of (get_or (drop gap bytes) 0 0) ≡ classes.Colon =
+    let first =
     ap class_of (get_or-drop gap bytes 0 0 ∙ ap (λ k. get_or bytes k 0) here) ∙ colon in
-    let ends = ended_mark (drop gap bytes) Colon (omega (arith, inside, length-drop gap bytes)) (ap (state_after Start) first) in
+    let ends = ended_mark _ Colon (omega (arith, inside, length-drop gap bytes)) (cc) in
     record {
-      token = front_lexeme place bytes gap Colon 1;
+      token = _;
       kind_is = refl;
-      front = begin_one place bytes gap 1 Colon open_gap (ap (gap_after Between) first) ends (omega arith) refl;
+      front = begin_one place bytes gap 1 Colon open_gap (cc) ends (omega arith) refl;
     }

@@ -10,5 +10,4 @@ pub passed_taken : {S : Type 0} (reads : S → ℕ → Option (List ℕ) → S �
     (tokens : List Lexeme) (old : Stream) (s : S) (n : ℕ) (ts : List Lexeme)
     → TakenFrom reads failures limit first tokens old s → BeginWith old.ahead.place (visible old.ahead) n ts
     → TakenFrom reads failures limit first (tokens ++ ts) (passed n old) s
-passed_taken reads failures limit first tokens old s n ts was begin =
-    grind (arith, length-drop, drop-append-le, taken_both, tail_of, rest_bytes, visible_len, rest_skipped)
+passed_taken = grind (arith, length-drop, drop-append-le, taken_both, tail_of, rest_bytes, visible_len, rest_skipped)

@@ -1,4 +1,4 @@
-use Rattle.std.proofs.Common.{◌≡◌, ◌∙◌, ◌++◌, take, sym, ap, arith, append-nil, refl}
+use Rattle.std.proofs.Common.{◌≡◌, ◌∙◌, ◌++◌, take, sym, ap, arith, append-nil}
 use Rattle.polcert_text.proofs.Common.{decimals}
 use Rattle.polcert_text.proofs.Numbers.DecimalLaws.{decimals-zero, next_digit}
 use Rattle.polcert_text.proofs.number.put_decimals.Goals as goal

@@ -1,4 +1,4 @@
-use Rattle.std.proofs.Common.{◌≡◌, ◌∙◌, ◌%◌, ◌++◌, length, take, drop, ap, arith, rules}
+use Rattle.std.proofs.Common.{◌≡◌, ◌∙◌, ◌%◌, length, take, drop, ap, arith, rules}
 use Rattle.std.proofs.lemmas.List.{drop-append-le}
 use Rattle.polcert_text.proofs.Common.{fraction_text}
 use Rattle.polcert_text.proofs.number.put_scaled.Goals as goal

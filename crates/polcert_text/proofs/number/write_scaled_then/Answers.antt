@@ -1,4 +1,4 @@
-use Rattle.std.proofs.Common.{◌≡◌, ◌∙◌, ◌+◌, ◌-◌, ◌≤◌, ◌++◌, ◌∷◌, [], ℕ, List, length, take, drop, sym, ap, arith, rules}
+use Rattle.std.proofs.Common.{◌≡◌, ◌∙◌, ◌+◌, ◌-◌, ◌++◌, ◌∷◌, [], length, take, drop, sym, ap, arith, rules}
 use Rattle.std.proofs.lemmas.List.{drop-take, drop-append-le}
 use Rattle.polcert_text.proofs.Printing.Written.{as_text}
 use Rattle.polcert_text.proofs.number.write_scaled_then.Goals as goal
