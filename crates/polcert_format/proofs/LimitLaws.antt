@@ -9,7 +9,7 @@ use Rattle.polcert_format.proofs.Common.{AreRight, Denotes, StartWeights}
 use Rattle.polcert_cells.specs.Numbers as numbers
 use Rattle.polcert_cells.specs.declared.entries.Body.TheVariants.{Rewards}
 use Rattle.polcert_cells.specs.Entry as entries
-use Rattle.polcert_cells.specs.Cells.{last_covering, reward, reward_of, reward_in, value_or, IsLastCovering, none}
+use Rattle.polcert_cells.specs.Cells.{reward, reward_of, reward_in, value_or, IsLastCovering, none}
 use Rattle.polcert_cells.specs.Meaning.{reward_index, IsCount, HasLimitedNumbers}
 use Rattle.polcert_format.specs.Text as texts
 use Rattle.polcert_cells.proofs.NumberLaws.{millionth_pos}
@@ -34,11 +34,8 @@ numbers_within (numbers.unsigned a more) = (number_within _ _ _ a, numbers_withi
 numbers_within (numbers.plus sign a more) = (number_within _ _ _ a, numbers_within more)
 numbers_within (numbers.minus sign a more) = (number_within _ _ _ a, numbers_within more)
 
-zero_within : 0 ≤ largest
-zero_within = omega arith
-
 one_within : (hs : List ℤ) (k : ℕ) → AreWithin hs → unsigned_abs (get_or hs k (pos 0)) ≤ largest
-one_within [] k a = zero_within
+one_within [] k a = omega arith
 one_within (h ∷ hs) zero a = a.0
 one_within (h ∷ hs) (suc k) a = one_within hs k a.1
 
@@ -60,18 +57,19 @@ one_more_within (x ∷ xs) e a b = (a.0, one_more_within xs e a.1 b)
 
 one_of_within : (before : List Entry) (e : Entry) (after : List Entry) → EntriesWithin (before ++ e ∷ after) → BodyWithin e.body
 one_of_within [] e after a = a.0
-one_of_within (x ∷ xs) e after a = one_of_within xs e after a.1
+one_of_within (x ∷ xs) e after a = one_of_within xs e _ a.1
 
 reward_in_within : (costs : Bool) (b : Body) (ds : List Elements) (indices : List ℕ) → BodyWithin b
     → unsigned_abs (reward_in costs b ds indices) ≤ largest
 reward_in_within costs b ds indices h1 = grind (arith, abs-neg, one_within)
 
-found_within : (p : Preamble) (es : List Entry) (indices : List ℕ) (found : Option Entry) → EntriesWithin es
-    → IsLastCovering es Reward indices found → unsigned_abs (value_or (pos 0) (reward_of p indices) found) ≤ largest
-found_within p es indices found h1 h2 = grind (arith, one_of_within, reward_in_within)
+module _ (p : Preamble) (es : List Entry) (indices : List ℕ) where
+  found_within : (found : Option Entry) → EntriesWithin es
+      → IsLastCovering es Reward indices found → unsigned_abs (value_or (pos 0) (reward_of p indices) found) ≤ largest
+  found_within found h1 h2 = grind (arith, one_of_within, reward_in_within)
 
-reward_within : (p : Preamble) (es : List Entry) (indices : List ℕ) → EntriesWithin es → unsigned_abs (reward p es indices) ≤ largest
-reward_within p es indices a = found_within p es indices (last_covering es Reward indices) a (last_is es Reward indices)
+  reward_within : EntriesWithin es → unsigned_abs (reward p es indices) ≤ largest
+  reward_within a = found_within _ a (last_is es Reward indices)
 
 -- ---- what the items so far say
 abbrev pub CountWithin : ℕ → Option Elements → Type 0
@@ -86,11 +84,6 @@ abbrev pub StartWithin : Option Elements → Option StartWeights → Type 0
 StartWithin o None = Unit {0}
 StartWithin None (Some weights) = ⊥
 StartWithin (Some e) (Some weights) = IsFair (count_of e) weights
-
--- as many as the line says, or as these
-pub line_within : (most : ℕ) (o : Option Elements) (e : Elements) → CountWithin most o → IsCount most (count_of e)
-    → IsCount most (count_of (unwrap_or o e))
-line_within most o e h1 h2 = grind arith
 
 pub record KnownWithin (k : ModelSoFar) : Type 0 where
   pub start : StartWithin k.states k.start
@@ -117,21 +110,21 @@ nothing_within = record { start = tt; discount = tt; states = tt; actions = tt; 
 -- the counts that right items give
 pub counts_within : (items : List Item) (k : ModelSoFar) → AreRight nothing_known items k → CountWithin most_states k.states
     × (CountWithin most_actions k.actions × CountWithin most_observations k.observations)
-counts_within items k right = let w = all_within nothing_known items k nothing_within right in (w.states, (w.actions, w.observations))
+counts_within items k right = let w = all_within _ _ k nothing_within right in (w.states, (w.actions, w.observations))
 
 -- ---- what is denoted
 one_of_sum : (f : ℕ → ℕ) (n i : ℕ) → i < n → f i ≤ sum_below f n
 one_of_sum f zero i l = absurd (omega (arith, l))
 one_of_sum f (suc n) i l =
-    ⊎_elim (λ before. let k = one_of_sum f n i before in omega (arith, k))
-    (λ (here : i ≡ n). let k : f i ≡ f n = ap f here in omega (arith, k)) (before_or_last i n l)
+    ⊎_elim (λ before. omega (arith, one_of_sum f n i before))
+    (λ here. omega (arith, ap f here)) (before_or_last i n l)
   where
     before_or_last : (i n : ℕ) → i < suc n → (i < n) ⊎ (i ≡ n)
     before_or_last i n l = grind arith
 
 start_within : (e : Elements) (start : Option StartWeights) → IsCount most_states (count_of e) → StartWithin (Some e) start
     → IsFair (count_of e) (unwrap_or start (equal_weights (count_of e) (λ s. true)))
-start_within e None count w = no_start_fair (count_of e) count.0 count.1
+start_within e None count w = no_start_fair _ count.0 count.1
 start_within e (Some weights) count w = w
 
 pub within_limits : (ls : List Lexeme) (m : Meaning) → Denotes ls m → HasLimitedNumbers m
@@ -153,10 +146,7 @@ within_limits ls m d =
           (subst (CountWithin most_states) c.lines.states w.states);
       actions = subst (λ (q : Preamble). IsCount most_actions (count_of q.actions)) (sym p)
           (subst (CountWithin most_actions) c.lines.actions w.actions);
-      observations = subst (λ (q : Preamble). IsCount most_observations (count_of (observed q))) (sym p)
-          (line_within most_observations d.preamble.observations d.preamble.states
-          (subst (CountWithin most_observations) c.lines.observations w.observations)
-          (subst (CountWithin most_states) c.lines.states w.states));
+      observations = grind arith;
       pairs = subst (λ (q : Preamble). count_of q.states * count_of (observed q) ≤ most_pairs) (sym p) c.pairs;
       discount = subst (λ (q : Preamble). q.discount ≤ 1_000_000) (sym p) (subst DiscountWithin c.lines.discount w.discount);
       t = λ a s e x y z. subst (λ n. m.t a s e ≤ n) (d.rows.transitions a s x y) (one_of_sum (m.t a s) (states_of m) e z);

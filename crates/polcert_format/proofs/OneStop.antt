@@ -21,8 +21,8 @@ data Cuts (xs ys : List Lexeme) (l m : Lexeme) : Type 0 where
 
 cuts : (xs ys us vs : List Lexeme) (l m : Lexeme) → xs ++ l ∷ us ≡ ys ++ m ∷ vs → Cuts xs ys l m
 cuts [] [] us vs l m e = same refl (same_head e)
-cuts [] (y ∷ ys) us vs l m e = let head : l ≡ y = same_head e in before ys (λ i. sym head i ∷ ys)
-cuts (x ∷ xs) [] us vs l m e = let head : x ≡ m = same_head e in after xs (λ i. head i ∷ xs)
+cuts [] (y ∷ ys) us vs l m e = before ys (λ i. sym (same_head e) i ∷ ys)
+cuts (x ∷ xs) [] us vs l m e = after xs (λ i. (same_head e) i ∷ xs)
 cuts (x ∷ xs) (y ∷ ys) us vs l m e = further (same_head e) (cuts xs ys us vs l m (same_tail e))
   where
     further : x ≡ y → Cuts xs ys l m → Cuts (x ∷ xs) (y ∷ ys) l m
@@ -45,29 +45,26 @@ record Breaks (k : ModelSoFar) (t : Topic) (body taken : List Lexeme) (l : Lexem
   possible : IsPossible k t taken
   formless : HasNoForm k t (taken ++ l ∷ [])
 
-formless_on : (k : ModelSoFar) (t : Topic) (xs w : List Lexeme) (l : Lexeme) → HasNoForm k t (xs ++ l ∷ [])
-    → IsPossible k t (xs ++ l ∷ w)
-    → ⊥
-formless_on k t xs w l none p =
-    none (w ++ p.more) (subst (HasForm k t) (append_assoc xs (l ∷ w) p.more ∙ sym (append_assoc xs (l ∷ []) (w ++ p.more))) p.form)
+module _ (k : ModelSoFar) (t : Topic) where
+  formless_on : (xs w : List Lexeme) (l : Lexeme) → HasNoForm k t (xs ++ l ∷ [])
+      → IsPossible k t (xs ++ l ∷ w)
+      → ⊥
+  formless_on xs w l none p = none _ (subst (HasForm k t) (append_assoc xs _ _ ∙ sym (append_assoc xs _ _)) p.form)
 
-one_break : (k : ModelSoFar) (t : Topic) (body xs ys : List Lexeme) (l m : Lexeme) → Breaks k t body xs l → Breaks k t body ys m
-    → (xs ≡ ys)
-    × (l ≡ m)
-one_break k t body xs ys l m a b = of (cuts xs ys a.rest b.rest l m (sym a.whole ∙ b.whole))
-  where
-    of : Cuts xs ys l m → (xs ≡ ys) × (l ≡ m)
-    of (same e f) = (e, f)
-    of (before w e) = absurd (formless_on k t xs w l a.formless (subst (IsPossible k t) e b.possible))
-    of (after w e) = absurd (formless_on k t ys w m b.formless (subst (IsPossible k t) e a.possible))
+  one_break : (body xs ys : List Lexeme) (l m : Lexeme) → Breaks k t body xs l → Breaks k t body ys m
+      → (xs ≡ ys)
+      × (l ≡ m)
+  one_break body xs ys l m a b = of (cuts xs ys _ _ l m (sym a.whole ∙ b.whole))
+    where
+      of : Cuts xs ys l m → (xs ≡ ys) × (l ≡ m)
+      of (same e f) = (e, f)
+      of (before w e) = absurd (formless_on xs w l a.formless (subst (IsPossible k t) e b.possible))
+      of (after w e) = absurd (formless_on ys w m b.formless (subst (IsPossible k t) e a.possible))
 
-no_break : (k : ModelSoFar) (t : Topic) (body xs : List Lexeme) (l : Lexeme) → IsPossible k t body → Breaks k t body xs l → ⊥
-no_break k t body xs l p b = formless_on k t xs b.rest l b.formless (subst (IsPossible k t) b.whole p)
+  no_break : (body xs : List Lexeme) (l : Lexeme) → IsPossible k t body → Breaks k t body xs l → ⊥
+  no_break body xs l p b = formless_on xs _ l b.formless (subst (IsPossible k t) b.whole p)
 
 -- ---- one kind
-
-value_is_tested : (w : Expected) (l : Lexeme) (kind : ItemFault) → IsOfValue kind → IsMisfit w l kind → tests_value w l.kind ≡ true
-value_is_tested w l kind h1 h2 = grind arith
 
 one_misfit : (w : Expected) (l : Lexeme) (f g : ItemFault) → (IsOfValue f → IsOfValue g → f ≡ g) → IsMisfit w l f → IsMisfit w l g
     → f ≡ g
@@ -81,7 +78,7 @@ module _ (k : ModelSoFar) (t : Topic) (body : List Lexeme) (a end : ℕ) (climbs
   HasReason kind place = IsOfValue kind → ValueReason t body place kind
 
   at_place : (p q : ℕ) (kind : ItemFault) → p ≡ q → HasReason kind p → HasReason kind q
-  at_place p q kind e reason v = subst (λ n. ValueReason t body n kind) e (reason v)
+  at_place p q kind e reason v = rw (← e) (reason v)
 
   one_value : (p q : ℕ) (f g : ItemFault) → p ≡ q → HasReason f p → HasReason g q → IsOfValue f → IsOfValue g → f ≡ g
   one_value p q f g e x y v w = one_value_reason t body a climbs q f g (at_place p q f e x v) (y w)
@@ -97,7 +94,7 @@ module _ (k : ModelSoFar) (t : Topic) (body : List Lexeme) (a end : ℕ) (climbs
       (at_place l.place m.place f (ap (λ (n : Lexeme). n.place) same.1) reason v)
   sign_or_numeral f g xs ys l sign m x y is numeral (of_place untested e) reason w unfit =
       let same = one_break k t body xs (ys ++ sign ∷ []) l m x y in
-      true≢false (value_is_tested (expected k t (ys ++ sign ∷ [])) m g w unfit)
+      true≢false (grind arith)
       (subst₂ (λ ls (n : Lexeme). tests_value (expected k t ls) n.kind ≡ false) same.0 same.1 untested)
 
   lexeme_breaks : (xs rest : List Lexeme) (l : Lexeme) → body ≡ xs ++ l ∷ rest → IsPossible k t xs → HasNoForm k t (xs ++ l ∷ [])
@@ -108,14 +105,10 @@ module _ (k : ModelSoFar) (t : Topic) (body : List Lexeme) (a end : ℕ) (climbs
       → HasNoForm k t (xs ++ sign ∷ l ∷ []) → Breaks k t body (xs ++ sign ∷ []) l
   number_breaks xs rest sign l whole possible formless = record {
     rest = rest;
-    whole = whole ∙ sym (append_assoc xs (sign ∷ []) (l ∷ rest));
+    whole = whole ∙ sym (append_assoc xs _ _);
     possible = possible;
-    formless = subst (HasNoForm k t) (sym (append_assoc xs (sign ∷ []) (l ∷ []))) formless;
+    formless = subst (HasNoForm k t) (sym (append_assoc xs _ _)) formless;
   }
-
-  -- what is possible to its end stops nowhere before
-  whole_possible : (xs : List Lexeme) → body ≡ xs ++ [] → IsPossible k t xs → IsPossible k t body
-  whole_possible xs whole possible = subst (IsPossible k t) (sym (whole ∙ append-nil xs)) possible
 
   pub no_stop : (kind : ItemFault) (xs us : List Lexeme) → body ≡ xs ++ us → IsPossible k t xs → Stops k t kind xs us
       → IsPossible k t body
@@ -123,14 +116,14 @@ module _ (k : ModelSoFar) (t : Topic) (body : List Lexeme) (a end : ℕ) (climbs
   no_stop kind xs us whole p (at_lexeme {l} {following} none unfit) all =
       absurd (no_break k t body xs l all (lexeme_breaks xs following l whole p none))
   no_stop kind xs us whole p (at_number {sign} {l} {following} is numeral q none v unfit) all =
-      absurd (no_break k t body (xs ++ sign ∷ []) l all (number_breaks xs following sign l whole q none))
+      absurd (no_break k t body _ l all (number_breaks xs _ sign l whole q none))
   no_stop kind xs us whole p (at_end wrong fits e) all = refl
 
   -- both at the end, or neither
   end_or_stop : {A : Type 0} (kind : ItemFault) (xs us ys : List Lexeme) (l : Lexeme) (vs : List Lexeme) → us ≡ l ∷ vs → body ≡ xs ++ us
       → IsPossible k t xs → Stops k t kind xs us → body ≡ ys ++ [] → IsPossible k t ys → A
   end_or_stop kind xs us ys l vs some whole p stops other q =
-      absurd (cons≢nil (sym some ∙ no_stop kind xs us whole p stops (whole_possible ys other q)))
+      absurd (cons≢nil (sym some ∙ no_stop kind xs us whole p stops (subst (IsPossible k t) (sym (other ∙ append-nil ys)) q)))
 
   pub one_stop : (f g : ItemFault) (xs ys us vs : List Lexeme) → body ≡ xs ++ us → body ≡ ys ++ vs → IsPossible k t xs
       → IsPossible k t ys
@@ -138,7 +131,7 @@ module _ (k : ModelSoFar) (t : Topic) (body : List Lexeme) (a end : ℕ) (climbs
       → HasReason f (place_or us end) → HasReason g (place_or vs end) → (f ≡ g) × (place_or us end ≡ place_or vs end)
   one_stop f g xs ys us vs xw yw xp yp (at_lexeme {l} {following = ls} xn xm) (at_lexeme {l = m} {following = ms} yn ym) xr yr =
       let same = one_break k t body xs ys l m (lexeme_breaks xs ls l xw xp xn) (lexeme_breaks ys ms m yw yp yn) in
-      let place : l.place ≡ m.place = ap (λ (n : Lexeme). n.place) same.1 in (
+      let place = ap (λ (n : Lexeme). n.place) same.1 in (
         one_misfit (expected k t ys) m f g (one_value l.place m.place f g place xr yr)
             (subst₂ (λ ls n. IsMisfit (expected k t ls) n f) same.0 same.1 xm) ym,
         place,
@@ -150,9 +143,9 @@ module _ (k : ModelSoFar) (t : Topic) (body : List Lexeme) (a end : ℕ) (climbs
       (at_lexeme {l = m} {following = ms} yn ym) xr yr = search (rules, sign_or_numeral, lexeme_breaks, number_breaks)
   one_stop f g xs ys us vs xw yw xp yp (at_number {sign} {l} {following = ls} is numeral xq xn v xm)
       (at_number {sign = other} {l = m} {following = ms} it digits yq yn w ym) xr yr =
-      let same = one_break k t body (xs ++ sign ∷ []) (ys ++ other ∷ []) l m (number_breaks xs ls sign l xw xq xn)
-      (number_breaks ys ms other m yw yq yn) in
-      let place : sign.place ≡ other.place = ap (λ (n : Lexeme). n.place) (same_last xs ys sign other same.0) in
+      let place = ap (λ (n : Lexeme). n.place) (same_last xs ys sign other
+      (one_break k t body (xs ++ sign ∷ []) (ys ++ other ∷ []) l m (number_breaks xs ls sign l xw xq xn)
+      (number_breaks ys ms other m yw yq yn)).0) in
       (one_value sign.place other.place f g place xr yr v w, place)
   one_stop f g xs ys us vs xw yw xp yp (at_lexeme {l} {following = ls} xn xm) (at_end wrong fits e) xr yr =
       end_or_stop f xs (l ∷ ls) ys l ls refl xw xp (at_lexeme xn xm) yw yp

@@ -33,18 +33,15 @@ not_both : (t : Topic) → t ≡ Discount → IsOfProbabilities t → ⊥
 not_both t e h = subst IsOfProbabilities e h
 
 module _ (t : Topic) (body : List Lexeme) (a : ℕ) (climbs : Climbs a body) where
-  one_fault : (p : ℕ) (r s : NumberFault) → NumberStandsIn body p (IsRefusedNumber r) → NumberStandsIn body p (IsRefusedNumber s) → r ≡ s
-  one_fault p r s x y =
-      let n = one_number_at a p body (IsRefusedNumber r) (IsRefusedNumber s) climbs (refused_numeral r) (refused_numeral s) x y in
-      one_exact_fault n.0 n.1.bytes r s n.2.1 n.3.1
-
   fault_or_range : (p : ℕ) (r : NumberFault) → NumberStandsIn body p (IsRefusedNumber r) → NumberStandsIn body p IsNoFraction → ⊥
   fault_or_range p r x y =
-      let n = one_number_at a p body (IsRefusedNumber r) IsNoFraction climbs (refused_numeral r) no_fraction_numeral x y in
+      let n = one_number_at a p body _ _ climbs (refused_numeral r) no_fraction_numeral x y in
       fraction_not_refused n.0 n.1 r n.3 n.2
 
   pub one_value_reason : (p : ℕ) (f g : ItemFault) → ValueReason t body p f → ValueReason t body p g → f ≡ g
-  one_value_reason p f g (no_value r e x) (no_value s d y) = e ∙ ap Number (one_fault p r s x y) ∙ sym d
+  one_value_reason p f g (no_value r e x) (no_value s d y) = e
+      ∙ ap Number (let n = one_number_at a p body (IsRefusedNumber r) (IsRefusedNumber s) climbs (refused_numeral r) (refused_numeral s) x y
+      in one_exact_fault n.0 n.1.bytes r s n.2.1 n.3.1) ∙ sym d
   one_value_reason p f g (no_value r e x) (no_probability d is y) = absurd (fault_or_range p r x y)
   one_value_reason p f g (no_value r e x) (no_discount d is y) = absurd (fault_or_range p r x y)
   one_value_reason p f g (no_probability e is x) (no_value s d y) = absurd (fault_or_range p s y x)
@@ -57,21 +54,12 @@ module _ (t : Topic) (body : List Lexeme) (a : ℕ) (climbs : Climbs a body) whe
   -- ---- the place of a number with a sign is that of its sign
 
   last_is : (ls : List Lexeme) (sign : Lexeme) → ends_in_sign (ls ++ sign ∷ []) ≡ is_sign_kind sign.kind
-  last_is [] sign = refl
-  last_is (x ∷ []) sign = refl
   last_is (x ∷ y ∷ ls) sign = last_is (y ∷ ls) sign
-
-  not_after_sign : (taken rest : List Lexeme) (sign l : Lexeme) (Is : Bool → Lexeme → Type 0) → body ≡ (taken ++ sign ∷ []) ++ l ∷ rest
-      → is_sign_kind sign.kind ≡ true → l.kind ≡ Numeral
-      → OfNumerals Is → NumberStandsIn body l.place Is → ⊥
-  not_after_sign taken rest sign l Is whole is numeral of x = grind (arith, one_lexeme, last_is)
+  last_is _ sign = refl
 
   pub no_reason_after_sign : (taken rest : List Lexeme) (sign l : Lexeme) (kind : ItemFault) → body ≡ (taken ++ sign ∷ []) ++ l ∷ rest
       → is_sign_kind sign.kind ≡ true → l.kind ≡ Numeral
       → ValueReason t body l.place kind → ⊥
-  no_reason_after_sign taken rest sign l kind whole is numeral (no_value r e x) =
-      not_after_sign taken rest sign l (IsRefusedNumber r) whole is numeral (refused_numeral r) x
-  no_reason_after_sign taken rest sign l kind whole is numeral (no_probability e so x) =
-      not_after_sign taken rest sign l IsNoFraction whole is numeral no_fraction_numeral x
-  no_reason_after_sign taken rest sign l kind whole is numeral (no_discount e so x) =
-      not_after_sign taken rest sign l IsNoFraction whole is numeral no_fraction_numeral x
+  no_reason_after_sign taken rest sign l kind whole is numeral (no_value r e x) = grind (arith, one_lexeme, last_is)
+  no_reason_after_sign taken rest sign l kind whole is numeral (no_probability e so x) = grind (arith, one_lexeme, last_is)
+  no_reason_after_sign taken rest sign l kind whole is numeral (no_discount e so x) = grind (arith, one_lexeme, last_is)

@@ -1,8 +1,8 @@
 -- What is decided at an item's word is so: the items of such a topic aren't right there, or the preamble is complete.
 use Rattle.std.proofs.Common.{◌≡◌, ◌∙◌, ℕ, ◌≤◌, Bool, true, false, cond, ◌||◌, ◌&&◌, Option, Some, None, is_some, unwrap_or, List, []}
-use Rattle.std.proofs.Common.{nat_lt, refl, sym, arith}
-use Rattle.polcert_format.proofs.Common.{nat_tests, Lexeme, ItemFault, TooManyCells, Entry, Table, Topic, Discount, Start, Cells, Elements}
-use Rattle.polcert_format.proofs.Common.{count_of, most_pairs, Preamble, observed, ModelSoFar, HasLines, IsComplete, IsRight}
+use Rattle.std.proofs.Common.{nat_lt, refl, arith}
+use Rattle.polcert_format.proofs.Common.{nat_tests, Lexeme, ItemFault, TooManyCells, Table, Topic, Discount, Start, Cells, Elements}
+use Rattle.polcert_format.proofs.Common.{count_of, most_pairs, Preamble, observed, ModelSoFar, HasLines, IsComplete}
 use Rattle.polcert_format.proofs.Common.{preamble_fault, word_fault, IsWrong}
 use Rattle.polcert_format.specs.declared.fault.ItemFault.TheVariants.{DuplicateLine, LateLine, MissingLine}
 use Rattle.polcert_cells.specs.Entry.{MayBeGiven}
@@ -68,22 +68,18 @@ given (Some d) (Some c) (Some s) (Some a) o e = record {
 }
 given _ _ _ _ o e = absurd cc
 
-few : (n : ℕ) → nat_lt most_pairs n ≡ false → n ≤ most_pairs
-few n e = grind (arith, nat_tests)
-
 pub is_complete : (k : ModelSoFar) → preamble_fault k ≡ None → (p : Preamble) × IsComplete k p
 is_complete k e =
-    let both = no_fault (has_all_lines k) (are_too_many k) e in
-    let g = given k.discount k.costs k.states k.actions k.observations both.0 in
+    let both = no_fault _ _ e in
+    let g = given _ _ _ _ _ both.0 in
     let lines : HasLines k g.preamble = record {
       discount = g.discount;
       costs = g.costs;
       states = g.states;
-      actions =
-          g.actions;
+      actions = g.actions;
       observations = g.observations;
     } in
-    (g.preamble, record { lines = lines; pairs = few _ (sym (same_counts k g.preamble lines) ∙ both.1) })
+    (g.preamble, record { lines = lines; pairs = grind (arith, nat_tests) })
 
 -- ---- a right item has no fault at its word
 
@@ -94,11 +90,8 @@ fault_at late came ends fault = cond late (Some LateLine) (cond came (Some Dupli
 pub cells_stand : (k : ModelSoFar) (p : Preamble) (table : Table) → IsComplete k p → MayBeGiven p table → word_fault k (Cells table) ≡ None
 cells_stand k p table c g = grind arith
 
-no_word_fault : (k next : ModelSoFar) (t : Topic) (body : List Lexeme) → IsRight k t body next → word_fault k t ≡ None
-no_word_fault k next t body h1 = grind arith
-
 pub wrong_at_word : (k : ModelSoFar) (t : Topic) (fault : ItemFault) (body : List Lexeme) → word_fault k t ≡ Some fault → IsWrong k t body
-wrong_at_word k t fault body e after taken = some≢none e (no_word_fault k after t body taken)
+wrong_at_word k t fault body e after taken = some≢none e (grind arith)
 
 -- ---- a topic without a fault at its word may stand
 
@@ -106,55 +99,46 @@ no_fault_at : (late came ends : Bool) (fault : Option ItemFault) → fault_at la
     × (ends ≡ true → fault ≡ None)
 no_fault_at late came ends fault h1 = grind arith
 
-no_some : {A : Type 0} (o : Option A) → is_some o ≡ false → o ≡ None
-no_some o h1 = grind arith
+module _ (k : ModelSoFar) where
+  pub in_preamble : (is_some k.start || has_entries k.entries) ≡ false → IsInPreamble k
+  in_preamble e = grind arith
 
-no_entries : (es : List Entry) → has_entries es ≡ false → es ≡ []
-no_entries es h1 = grind arith
+  -- a line of the preamble: it comes first, and early
+  pub line_may_stand : (came : Bool)
+      → fault_at (is_some k.start || has_entries k.entries) came false (preamble_fault k) ≡ None → IsInPreamble k × (came ≡ false)
+  line_may_stand came e = let all = no_fault_at _ came false (preamble_fault k) e in (in_preamble all.0, all.1)
 
-pub in_preamble : (k : ModelSoFar) → (is_some k.start || has_entries k.entries) ≡ false → IsInPreamble k
-in_preamble k e = grind arith
+  pub discount_may_stand : word_fault k Discount ≡ None → IsInPreamble k × (k.discount ≡ None)
+  discount_may_stand e = let both = line_may_stand _ e in (both.0, grind arith)
 
--- a line of the preamble: it comes first, and early
-pub line_may_stand : (k : ModelSoFar) (came : Bool)
-    → fault_at (is_some k.start || has_entries k.entries) came false (preamble_fault k) ≡ None → IsInPreamble k × (came ≡ false)
-line_may_stand k came e = let all = no_fault_at _ came false (preamble_fault k) e in (in_preamble k all.0, all.1)
+  pub values_may_stand : word_fault k Values ≡ None → IsInPreamble k × (k.costs ≡ None)
+  values_may_stand e = let both = line_may_stand _ e in (both.0, grind arith)
 
-pub discount_may_stand : (k : ModelSoFar) → word_fault k Discount ≡ None → IsInPreamble k × (k.discount ≡ None)
-discount_may_stand k e = let both = line_may_stand k (is_some k.discount) e in (both.0, no_some k.discount both.1)
+  pub states_may_stand : word_fault k States ≡ None → IsInPreamble k × (k.states ≡ None)
+  states_may_stand e = let both = line_may_stand _ e in (both.0, grind arith)
 
-pub values_may_stand : (k : ModelSoFar) → word_fault k Values ≡ None → IsInPreamble k × (k.costs ≡ None)
-values_may_stand k e = let both = line_may_stand k (is_some k.costs) e in (both.0, no_some k.costs both.1)
+  pub actions_may_stand : word_fault k Actions ≡ None → IsInPreamble k × (k.actions ≡ None)
+  actions_may_stand e = let both = line_may_stand _ e in (both.0, grind arith)
 
-pub states_may_stand : (k : ModelSoFar) → word_fault k States ≡ None → IsInPreamble k × (k.states ≡ None)
-states_may_stand k e = let both = line_may_stand k (is_some k.states) e in (both.0, no_some k.states both.1)
-
-pub actions_may_stand : (k : ModelSoFar) → word_fault k Actions ≡ None → IsInPreamble k × (k.actions ≡ None)
-actions_may_stand k e = let both = line_may_stand k (is_some k.actions) e in (both.0, no_some k.actions both.1)
-
-pub observations_may_stand : (k : ModelSoFar) → word_fault k Observations ≡ None → IsInPreamble k × (k.observations ≡ None)
-observations_may_stand k e = let both = line_may_stand k (is_some k.observations) e in (both.0, no_some k.observations both.1)
+  pub observations_may_stand : word_fault k Observations ≡ None → IsInPreamble k × (k.observations ≡ None)
+  observations_may_stand e = let both = line_may_stand _ e in (both.0, grind arith)
 
 after_none : (fault : Option ItemFault) (k : ModelSoFar) (t : Topic) → fault_after fault k t ≡ None → (fault ≡ None)
     × (is_unobserved k t ≡ false)
 after_none fault k t h1 = grind arith
 
-may_be_given : (k : ModelSoFar) (p : Preamble) (table : Table) → HasLines k p → is_unobserved k (Cells table) ≡ false → MayBeGiven p table
-may_be_given k p table h1 h2 = grind arith
-
 -- an entry: the preamble is complete, and there may be entries of the table
 pub entry_may_stand : (k : ModelSoFar) (table : Table) → word_fault k (Cells table) ≡ None → (p : Preamble) × IsComplete k p
     × MayBeGiven p table
 entry_may_stand k table e =
-    let both = after_none (preamble_fault k) k (Cells table) e in
+    let both = after_none _ k _ e in
     let complete = is_complete k both.0 in
-    (complete.0, complete.1, may_be_given k complete.0 table complete.1.lines both.1)
+    (complete.0, complete.1, grind arith)
 
 -- a start item: nothing but a complete preamble came before
 pub start_may_stand : (k : ModelSoFar) → word_fault k Start ≡ None → IsInPreamble k × ((p : Preamble) × IsComplete k p)
 start_may_stand k e =
-    let all = no_fault_at (has_entries k.entries) (is_some k.start) true (fault_after (preamble_fault k) k Start) e in (
-      record { no_start = no_some k.start all.1; no_entry = no_entries k.entries all.0 },
-      is_complete k
-          (after_none (preamble_fault k) k Start (all.2 refl)).0,
+    let all = no_fault_at _ _ true (fault_after (preamble_fault k) k Start) e in (
+      record { no_start = grind arith; no_entry = grind arith },
+      is_complete k (after_none _ k _ (all.2 refl)).0,
     )

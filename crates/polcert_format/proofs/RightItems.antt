@@ -16,11 +16,10 @@ rest_right k m n (item ∷ items) ys (more {next = u} t e a following) (more {ne
 -- an item that isn't taken isn't the next of taken items
 pub no_wrong_next : (k last : ModelSoFar) (item : Item) (items : List Item)
     → ((t : Topic) → topic item.word ≡ Some t → IsWrong k t item.body) → AreRight k (item ∷ items) last → ⊥
-no_wrong_next k last item items wrong (more {next = next} t e a following) = wrong t e next a
+no_wrong_next k last item items wrong (more {next = next} t e a _) = wrong t e next a
 
 -- nor does it stand after items that are
 pub no_wrong_item : (k m last : ModelSoFar) (before after : List Item) (item : Item)
     → ((t : Topic) → topic item.word ≡ Some t → IsWrong m t item.body) → AreRight k before m
     → AreRight k (before ++ item ∷ after) last → ⊥
-no_wrong_item k m last before after item wrong right all =
-    no_wrong_next m last item after wrong (rest_right k m last before (item ∷ after) right all)
+no_wrong_item k m last before after item wrong right all = no_wrong_next m last item _ wrong (rest_right k m last _ _ right all)

@@ -7,7 +7,7 @@ use Rattle.polcert_format.specs.FirstWrong.{HasTokens}
 
 pub has_tokens : (text : List ℕ) → HasTokens text
 has_tokens text =
-    let cut = some_cut (text_rest text text_limit) in
+    let cut = some_cut _ in
     (text_tokens cut.0 cut.1 (end_place (text_rest text text_limit)), record { cut = cut.2; end_is = refl })
 
 pub one_list_of_tokens : (text : List ℕ) (ts us : TextTokens) → AreTokensOf text ts → AreTokensOf text us → ts ≡ us

@@ -1,24 +1,19 @@
 -- What a right text says is sound, so that a model may keep it.
-use Rattle.std.proofs.Common.{◌≡◌, ℕ, ◌≤◌, List, [], ◌∷◌, length, All, Some, Option, unwrap_or, ℤ, unsigned_abs, refl, sym, subst, arith}
-use Rattle.std.specs.Option.{ForSome}
+use Rattle.std.proofs.Common.{◌≡◌, ℕ, ◌≤◌, List, [], ◌∷◌, All, unwrap_or, ℤ, unsigned_abs, refl, sym, subst, arith}
 use Rattle.polcert_format.proofs.Common.{All-append, Lexeme, largest, Table, Reward, Place, Body, Entry, Topic, AreNumbers, Elements}
-use Rattle.polcert_format.proofs.Common.{count_of, most_states, most_actions, most_observations, Item, Preamble, dimensions, ArePlaces}
-use Rattle.polcert_format.proofs.Common.{IsBody, IsEntry, ModelSoFar, nothing_known, HasLines, IsRight, AreRight, IsRightText, StartWeights}
+use Rattle.polcert_format.proofs.Common.{Item, Preamble, dimensions, ArePlaces}
+use Rattle.polcert_format.proofs.Common.{IsBody, IsEntry, ModelSoFar, nothing_known, HasLines, IsRight, AreRight, IsRightText}
 use Rattle.polcert_cells.specs.Numbers as numbers
 use Rattle.polcert_cells.specs.Preamble.{named}
-use Rattle.polcert_cells.specs.Entry.{IsPlace}
 use Rattle.polcert_cells.specs.Entry as entries
 use Rattle.polcert_format.specs.Text as texts
-use Rattle.polcert_cells.specs.Steps.Sound.{IsPlaceIn, ArePlacesIn, Fills, IsSoundEntry, IsSound}
-use Rattle.polcert_format.proofs.LimitLaws.{line_within, number_within, CountWithin, DiscountWithin, StartWithin, all_within}
+use Rattle.polcert_cells.specs.Steps.Sound.{ArePlacesIn, Fills, IsSoundEntry, IsSound}
+use Rattle.polcert_format.proofs.LimitLaws.{number_within, all_within}
 
 -- ---- one entry
-place_in : (d : Elements) (l : Lexeme) (place : Place) → IsPlace d l place → IsPlaceIn d place
-place_in d l place h1 = grind arith
-
 places_in : {ds : List Elements} {ls : List Lexeme} {ps : List Place} → ArePlaces ds ls ps → ArePlacesIn ds ps
 places_in entries.none = tt
-places_in (entries.more {d = d} {l = l} {p = p} colon here following) = (place_in d l p here, places_in following)
+places_in (entries.more {d = d} {l = l} {p = p} colon here following) = (grind arith, places_in following)
 
 -- one more number
 more_small : (h : ℤ) (hs : List ℤ) → unsigned_abs h ≤ largest → All (λ (z : ℤ). unsigned_abs z ≤ largest) hs
@@ -51,12 +46,6 @@ HasSoundEntries k = (p : Preamble) → HasLines k p → All (IsSoundEntry p) k.e
 no_entries : (k : ModelSoFar) (p : Preamble) → k.entries ≡ [] → All (IsSoundEntry p) k.entries
 no_entries k p e = subst (All (IsSoundEntry p)) (sym e) (λ i d l. absurd (omega (arith, l)))
 
-one_preamble : (k : ModelSoFar) (p q : Preamble) → HasLines k p → HasLines k q → p ≡ q
-one_preamble k p q a b = grind arith
-
-just_one : (P : Entry → Type 0) (entry : Entry) → P entry → All P (entry ∷ [])
-just_one P entry h1 = grind arith
-
 next_sound : (k : ModelSoFar) (t : Topic) (ls : List Lexeme) (next : ModelSoFar) → HasSoundEntries k → IsRight k t ls next
     → HasSoundEntries next
 next_sound k t ls next h (texts.discount i e c n l) = λ p a. no_entries k p i.no_entry
@@ -72,42 +61,27 @@ next_sound k t ls next h (texts.entry {p = q} {table = table} {e = entry} c g a 
       costs = b.costs;
       states = b.states;
       actions = b.actions;
-      observations =
-          b.observations;
+      observations = b.observations;
     } in
-    let here : IsSoundEntry p entry = subst (λ (r : Preamble). IsSoundEntry r entry) (one_preamble k q p c.lines lines)
-    (right_entry_sound q table ls entry a) in
-    All-append (IsSoundEntry p) k.entries (entry ∷ []) (h p lines) (just_one (IsSoundEntry p) entry here)
+    let here : IsSoundEntry p entry = subst (λ (r : Preamble). IsSoundEntry r entry) (grind arith)
+    (right_entry_sound q _ ls _ a) in
+    All-append (IsSoundEntry p) _ _ (h p lines) (grind arith)
 
 all_sound : (k : ModelSoFar) (items : List Item) (end : ModelSoFar) → HasSoundEntries k → AreRight k items end → HasSoundEntries end
 all_sound k items end h texts.none = h
 all_sound k (item ∷ items) end h (texts.more {next = next} t e here following) =
     all_sound next items end (next_sound k t item.body next h here) following
 
-a_share_each : (states : Elements) (start : Option StartWeights) → StartWithin (Some states) start
-    → ForSome start (λ found. length found.weights ≡ count_of states)
-a_share_each states start h1 = grind arith
-
 -- what a right text says is sound
 pub right_text_sound : (ls : List Lexeme) (p : Preamble) (k : ModelSoFar) → IsRightText ls p k
     → IsSound (record { preamble = p; start = k.start; entries = k.entries })
 right_text_sound ls p k r =
-    let w = all_within nothing_known r.items k (record {
-      start = tt;
-      discount = tt;
-      states = tt;
-      actions = tt;
-      observations = tt;
-      entries =
-          tt;
-    }) r.right in
+    let w = all_within _ _ k _ r.right in
     record {
-      states = subst (CountWithin most_states) r.complete.lines.states w.states;
-      actions = subst (CountWithin most_actions) r.complete.lines.actions w.actions;
-      observations = line_within most_observations p.observations p.states
-          (subst (CountWithin most_observations) r.complete.lines.observations w.observations)
-          (subst (CountWithin most_states) r.complete.lines.states w.states);
-      discount = subst DiscountWithin r.complete.lines.discount w.discount;
-      start = a_share_each p.states k.start (subst (λ o. StartWithin o k.start) r.complete.lines.states w.start);
-      entries = all_sound nothing_known r.items k (λ q a. no_entries nothing_known q refl) r.right p r.complete.lines;
+      states = grind arith;
+      actions = grind arith;
+      observations = grind arith;
+      discount = grind arith;
+      start = grind arith;
+      entries = all_sound _ _ k (λ q a. no_entries nothing_known q refl) r.right p r.complete.lines;
     }

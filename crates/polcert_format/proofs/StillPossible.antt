@@ -39,11 +39,11 @@ zeros_are (suc n) = unsigned (zero_is false) (zeros_are n)
 
 pub nothings_count : (n : ℕ) → length (nothings n) ≡ n
 nothings_count zero = refl
-nothings_count (suc n) = let e = nothings_count n in omega (arith, e)
+nothings_count (suc n) = omega (arith, nothings_count n)
 
 pub nothings_in_range : (n : ℕ) → All (λ q. q ≤ one) (nothings n)
 nothings_in_range zero = All-nil (λ q. q ≤ one)
-nothings_in_range (suc n) = All-cons (λ q. q ≤ one) 0 (nothings n) (omega arith) (nothings_in_range n)
+nothings_in_range (suc n) = All-cons (λ q. q ≤ one) 0 _ (omega arith) (nothings_in_range n)
 
 pub length-pos : (qs : List ℕ) → length (map pos qs) ≡ length qs
 length-pos [] = refl
@@ -55,8 +55,7 @@ length-pos (q ∷ qs) = ap suc (length-pos qs)
 pub possible_front : (k : ModelSoFar) (t : Topic) (taken further : List Lexeme) → IsPossible k t (taken ++ further) → IsPossible k t taken
 possible_front k t taken further p = record {
   more = further ++ p.more;
-  form =
-      subst (HasForm k t) (append_assoc taken further p.more) p.form;
+  form = subst (HasForm k t) (append_assoc taken further p.more) p.form;
 }
 
 -- the forms of numbers don't depend on the numbers
