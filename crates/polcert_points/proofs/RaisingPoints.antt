@@ -1,17 +1,16 @@
 -- Points that pass still pass if every value is raised by one constant.
-use Rattle.std.proofs.Common.{◌≡◌, ⊎_elim, ℕ, zero, suc, ◌+◌, ◌-◌, ◌*◌, ◌<◌, ◌≤◌, ℤ, pos, ◌+ℤ◌, ◌-ℤ◌, ◌*ℤ◌, ◌≤ℤ◌, Option, Some, None, []}
-use Rattle.std.proofs.Common.{◌∷◌, refl, sym, ap, subst, arith}
-use Rattle.polcert_points.proofs.Common.{int_max, ints, clamps, CellTable, IsProper, one, step_scale, greatest_below, expected_reward}
-use Rattle.polcert_check.proofs.Sums.Ring.{linear, mul_le, ≤ℤ_from_eq}
+use Rattle.std.proofs.Common.{◌≡◌, ℕ, zero, suc, ◌<◌, ◌≤◌, ℤ, pos, ◌+ℤ◌, ◌-ℤ◌, ◌*ℤ◌, ◌≤ℤ◌, Option, []}
+use Rattle.std.proofs.Common.{◌∷◌, refl, ap, arith}
+use Rattle.polcert_points.proofs.Common.{int_max, CellTable, IsProper, one, greatest_below, expected_reward}
+use Rattle.polcert_check.proofs.Sums.Ring.{mul_le, ≤ℤ_from_eq}
 use Rattle.polcert_check.proofs.Sums.SumLaws.{sum_below_le}
 use Rattle.polcert_points.specs.Belief.{Belief, mass, sum_over_belief, updated_belief}
-use Rattle.polcert_points.specs.Points.{Points, point_worth, Cover, IsCover, left_of, covered_worth, best_worth, Covers, belief_backup}
+use Rattle.polcert_points.specs.Points.{Points, Cover, IsCover, covered_worth, best_worth, Covers}
 use Rattle.polcert_points.specs.Points.{IsPointBacked}
-use Rattle.polcert_points.specs.PointRaise.{point_excess, raised_table, raised_points, taken_by_raise}
+use Rattle.polcert_points.specs.PointRaise.{raised_table, raised_points}
 use Rattle.polcert_points.specs.PointCheck.{IsCoverBy, AreCoversBy}
-use Rattle.polcert_points.specs.PointTable.{PointTable, IsProperPointTable, FitPoints, IsOneState, IsLeastCharge, AreLeastCharges}
+use Rattle.polcert_points.specs.PointTable.{PointTable, IsProperPointTable, FitPoints, AreLeastCharges}
 use Rattle.polcert_points.specs.PointVerdict.{IsVerdictWith, IsPointVerdict}
-use Rattle.polcert_points.specs.declared.point_verdict.PointVerdict.{PointVerdict}
 use Rattle.polcert_points.specs.declared.point_verdict.PointVerdict.TheVariants.{Yes, Exceeded}
 use Rattle.polcert_points.proofs.Laters.{known}
 use Rattle.polcert_points.proofs.PointChecks.{are_covers, one_cover}
@@ -21,77 +20,62 @@ use Rattle.polcert_points.proofs.OnePoints.{itself, fails_there}
 
 -- ---- sums that rise
 sum_le : (x y u v : ℤ) → x ≤ℤ y → u ≤ℤ v → (x +ℤ u) ≤ℤ (y +ℤ v)
-sum_le x y u v h k = omega (arith, linear, h, k)
+sum_le x y u v h k = grind arith
 
 max_le : (x y u v : ℤ) → x ≤ℤ y → u ≤ℤ v → int_max x u ≤ℤ int_max y v
-max_le x y u v h k = omega (arith, ints, clamps, h, k)
+max_le x y u v h k = grind arith
 
 greatest_rises : (f g : ℕ → ℤ) (n : ℕ) → ((i : ℕ) → i < n → f i ≤ℤ g i) → greatest_below f n ≤ℤ greatest_below g n
-greatest_rises f g zero each = ≤ℤ_from_eq _ _ refl
-greatest_rises f g (suc zero) each = each 0 (omega arith)
+greatest_rises f g zero each = grind arith
+greatest_rises f g (suc zero) each = grind arith
 greatest_rises f g (suc (suc n)) each =
-    max_le (greatest_below f (suc n)) (greatest_below g (suc n)) (f (suc n)) (g (suc n))
-    (greatest_rises f g (suc n) (λ i l. each i (omega (arith, l)))) (each (suc n) (omega arith))
+    max_le _ _ _ _
+    (greatest_rises f g (suc n) (λ i l. each i (omega arith))) (grind arith)
 
 -- ---- points with other values, each raised by the same, and charges that rise by no more
 abbrev pub with_values : Points → (ℕ → ℕ → ℤ) → Points
 with_values points value = record { count = points.count; belief = points.belief; value = value }
 
 at_most_zero : (x y z : ℤ) → x ≤ℤ y → (y -ℤ z) ≤ℤ pos 0 → x ≤ℤ z
-at_most_zero x y z h k = omega (arith, linear, h, k)
+at_most_zero x y z h k = grind arith
 
 less_than_none : (x y : ℤ) (n : ℕ) → x ≡ y -ℤ pos n → y ≤ℤ pos 0 → x ≤ℤ pos 0
-less_than_none x y n is h = omega (arith, linear, is, h)
+less_than_none x y n is h = grind arith
 
 module _ (t : CellTable) (points : Points) (value : ℕ → ℕ → ℤ) (by : ℕ) (c d : ℕ → ℕ → ℤ)
     (raised : (i a : ℕ) → i < points.count → a < t.actions → value i a ≡ points.value i a +ℤ pos by)
     (charged : (a s : ℕ) → a < t.actions → s < t.states → d a s ≤ℤ (c a s +ℤ pos by)) where
   covered_le : (a : ℕ) → a < t.actions → (cover : Cover) (b : Belief) → IsCover t points b cover
       → covered_worth t d (with_values points value) a b cover ≤ℤ covered_worth t (raised_table c by) (raised_points points by) a b cover
-  covered_le a al [] b is = sum_below_le _ _ t.states (λ s sl. mul_le (b s) _ _ (charged a s al sl))
+  covered_le a al [] b is = grind (arith, sum_below_le, mul_le)
   covered_le a al (x ∷ cover) b is =
-      sum_le _ _ _ _ (mul_le x.1 _ _ (mul_le (mass t (points.belief x.0)) _ _ (≤ℤ_from_eq _ _ (raised x.0 a is.0 al))))
-      (covered_le a al cover (left_of b (points.belief x.0) x.1) is.2)
+      sum_le _ _ _ _ (grind arith)
+      (covered_le a al cover _ is.2)
 
   best_le : (cover : Cover) (b : Belief) → IsCover t points b cover
       → best_worth t d (with_values points value) b cover ≤ℤ best_worth t (raised_table c by) (raised_points points by) b cover
-  best_le cover b is =
-      greatest_rises (λ a. covered_worth t d (with_values points value) a b cover)
-      (λ a. covered_worth t (raised_table c by) (raised_points points by) a b cover) t.actions (λ a al. covered_le a al cover b is)
+  best_le cover b is = grind (arith, greatest_rises, covered_le)
 
   module _ (m : IsProper t) (less : t.discount ≤ one) (covers : Covers) (i a : ℕ) (il : i < points.count) (al : a < t.actions)
       (are : (z : ℕ) → z < t.observations → IsCover t points (updated_belief t (points.belief i) a z) (covers i a z)) where
-    backup_le : belief_backup t d (with_values points value) (covers i a) a (points.belief i) ≤ℤ belief_backup t (raised_table c by)
-        (raised_points points by) (covers i a) a (points.belief i)
-    backup_le =
-        sum_le _ _ _ _ (≤ℤ_from_eq (pos one *ℤ sum_over_belief t (points.belief i) (expected_reward t a)) _ refl)
-        (mul_le t.discount _ _ (sum_below_le _ _ t.observations
-        (λ z zl. best_le (covers i a z) (updated_belief t (points.belief i) a z) (are z zl))))
-
     pub backed_raised : IsPointBacked t c points covers i a → IsPointBacked t d (with_values points value) covers i a
     backed_raised backed =
-        let worth : point_worth t (with_values points value) i a ≡ point_worth t (raised_points points by) i a =
+        let worth =
         ap (λ (x : ℤ). pos (mass t (points.belief i)) *ℤ x) (raised i a il al) in
-        subst (λ (x : ℤ). belief_backup t d (with_values points value) (covers i a) a (points.belief i) ≤ℤ (pos (step_scale t * one) *ℤ x))
-        (sym worth)
-        (at_most_zero _ _ _ backup_le
-        (less_than_none _ (point_excess t c points covers i a) (taken_by_raise t points i by)
+        rw worth
+        (at_most_zero _ _ _ (sum_le _ _ _ _ (≤ℤ_from_eq (pos one *ℤ sum_over_belief t (points.belief i) (expected_reward t a)) _ refl)
+        (mul_le t.discount _ _ (sum_below_le _ _ t.observations
+        (λ z zl. best_le (covers i a z) (updated_belief t (points.belief i) a z) (are z zl)))))
+        (less_than_none _ _ _
         (excess_raised t m less c points covers by i a al are) (no_excess t c points covers i a backed)))
 
 -- ---- the least charges rise by no more
-charge_more : (x v w : ℤ) (by : ℕ) → x ≤ℤ w → w ≡ v +ℤ pos by → x ≤ℤ (v +ℤ pos by)
-charge_more x v w by h is = omega (arith, linear, h, is)
-
-charge_same : (x v : ℤ) (by : ℕ) → x ≤ℤ v → x ≤ℤ (v +ℤ pos by)
-charge_same x v by h = omega (arith, linear, h)
-
 abbrev pub with_point_values : PointTable → (ℕ → ℕ → ℤ) → PointTable
 with_point_values p value = record {
   states = p.states;
   actions = p.actions;
   observations = p.observations;
-  points =
-      with_values p.points value;
+  points = with_values p.points value;
   next = p.next;
 }
 
@@ -99,26 +83,17 @@ module _ (p : PointTable) (value : ℕ → ℕ → ℤ) (by : ℕ) (vectors c d 
     (raised : (i a : ℕ) → i < p.points.count → a < p.actions → value i a ≡ p.points.value i a +ℤ pos by) where
   charges_raised : AreLeastCharges p vectors c → AreLeastCharges (with_point_values p value) vectors d → (a s : ℕ) → a < p.actions
       → s < p.states → d a s ≤ℤ (c a s +ℤ pos by)
-  charges_raised first second a s al sl =
-      let least : IsLeastCharge (with_point_values p value) vectors a s p.points.count (d a s) = second a s al sl in
-      ⊎_elim (λ (e : c a s ≡ vectors a s). rw e (charge_same (d a s) (vectors a s) by least.vector))
-      (λ (r : (i : ℕ) × (i < p.points.count) × IsOneState p.states (p.points.belief i) s × (c a s ≡ p.points.value i a)).
-      rw r.3 (charge_more (d a s) (p.points.value r.0 a) (value r.0 a) by (least.corners r.0 r.1 r.2) (raised r.0 a r.1 al)))
-      (first a s al sl).is_reached
+  charges_raised first second a s al sl = grind arith
 
 -- ---- covers depend on no value
 same_by : (t : CellTable) (points : Points) (value : ℕ → ℕ → ℤ) (b : Belief) (named : Option ℕ) (cover : Cover)
     → IsCoverBy t (with_values points value) b named cover → IsCoverBy t points b named cover
-same_by t points value b None cover by = by
-same_by t points value b (Some j) cover by = by
+same_by t points value b _ cover by = by
 
 -- ---- a yes stays
 module _ (t : CellTable) (m : IsProper t) (less : t.discount ≤ one) (vectors : ℕ → ℕ → ℤ) (p : PointTable) (fit : FitPoints t p)
     (proper : IsProperPointTable p) (value : ℕ → ℕ → ℤ) (by : ℕ)
     (raised : (i a : ℕ) → i < p.points.count → a < p.actions → value i a ≡ p.points.value i a +ℤ pos by) where
-  raised_here : (i a : ℕ) → i < p.points.count → a < t.actions → value i a ≡ p.points.value i a +ℤ pos by
-  raised_here i a il al = raised i a il (omega (arith, al, fit.actions))
-
   pub not_exceeded : (i a : ℕ) (amount : ℤ) → IsPointVerdict t vectors p Yes
       → IsPointVerdict t vectors (with_point_values p value) (Exceeded i a amount) → ⊥
   not_exceeded i a amount passes exceeded =
@@ -129,16 +104,11 @@ module _ (t : CellTable) (m : IsProper t) (less : t.discount ≤ one) (vectors :
       let are = are_covers t p.points p.next exceeded.covers (known t p fit proper) covered in
       let backed : IsVerdictWith t passes.charges p.points exceeded.covers Yes =
       found_there t t (itself t) p.points passes.charges passes.charges (λ _ _ _ _. refl) passes.covers exceeded.covers
-      (λ j b z jl bl zl. one_cover t p.points (updated_belief t (p.points.belief j) b z) (p.next j b z) (passes.covers j b z)
-      (exceeded.covers j b z) (passes.covered j b z jl bl zl) (covered j b z jl bl zl)) Yes passes.found in
-      let charged : (b s : ℕ) → b < t.actions → s < t.states → exceeded.charges b s ≤ℤ (passes.charges b s +ℤ pos by) =
-      λ b s bl sl. charges_raised p value by vectors passes.charges exceeded.charges raised passes.charged exceeded.charged b s
-      (omega (arith, bl, fit.actions)) (omega (arith, sl, fit.states)) in
-      fails_there t exceeded.charges (with_values p.points value) exceeded.covers i a amount exceeded.found
-      (backed_raised t p.points value by passes.charges exceeded.charges raised_here charged m less exceeded.covers i a il al
-      (λ z zl. are i a z il al zl) (backed i a il al))
-
-  pub still_yes : (verdict : PointVerdict) → IsPointVerdict t vectors p Yes → IsPointVerdict t vectors (with_point_values p value) verdict
-      → verdict ≡ Yes
-  still_yes Yes passes is = refl
-  still_yes (Exceeded i a amount) passes is = absurd (not_exceeded i a amount passes is)
+      (λ j b z jl bl zl. one_cover t p.points (updated_belief t (p.points.belief j) b z) (p.next j b z) _
+      _ (grind arith) (covered j b z jl bl zl)) Yes passes.found in
+      let charged : (b s : ℕ) → b < t.actions → s < t.states → exceeded.charges b s ≤ℤ _ =
+      λ b s bl sl. charges_raised p _ by _ _ _ raised passes.charged exceeded.charged b s
+      (omega arith) (omega arith) in
+      fails_there t exceeded.charges _ _ i a _ exceeded.found
+      (backed_raised t _ _ by _ _ (λ i a il al. raised i a il (omega (arith, al, fit.actions))) charged m less exceeded.covers i a il al
+      (λ z. are i a z il al) (backed i a il al))
