@@ -36,7 +36,7 @@ no_successor actions k m e =
     grind (arith, get_or-replicate, get_or_from_slice_get _ k (Some m) None e)
 
 pub action_graph_proper : (actions : ℕ) → 1 ≤ actions → actions ≤ most_actions → IsProperGraph (action_graph actions)
-action_graph_proper actions some few = grind (arith, length-replicate, node_count, takes_its_action, no_successor)
+action_graph_proper = grind (arith, length-replicate, node_count, takes_its_action, no_successor)
 
 module _ (actions : ℕ) (states : ℕ) (text : List ℕ) (v : PolicyVectors) where
   -- ---- the vectors that a text denotes

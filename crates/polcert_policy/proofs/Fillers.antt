@@ -1,5 +1,5 @@
 -- Tokens that spell an action, and the value 0.
-use Rattle.std.proofs.Common.{◌≡◌, ◌∙◌, ℕ, ◌*◌, ◌^◌, ◌<◌, ◌<◌, Bool, true, false, Some, None, List, [], ◌∷◌, decimal, pos, refl, ap, arith}
+use Rattle.std.proofs.Common.{◌≡◌, ◌∙◌, ℕ, ◌*◌, ◌^◌, ◌<◌, Bool, true, false, Some, None, List, [], ◌∷◌, decimal, pos, refl, ap, arith}
 use Rattle.std.proofs.lemmas.Fmt.{decimal_is_IsNumeral, decimal_nonempty}
 use Rattle.polcert_policy.proofs.Common.{is_digit, size_of, IsRounded, Measures, Lexeme, Numeral, Part, sign_kind, IsActionPart}
 use Rattle.polcert_policy.proofs.Common.{IsValuePart, Rounding}

@@ -1,8 +1,8 @@
 -- The tokens of a graph, field after field, and the same by the index of each token.
-use Rattle.std.proofs.Common.{◌≡◌, ◌∙◌, ℕ, suc, zero, ◌+◌, ◌*◌, ◌<◌, Bool, true, false, ◌&&◌, Option, Some, None, IfSome, List, [], length}
+use Rattle.std.proofs.Common.{◌≡◌, ◌∙◌, ℕ, suc, zero, ◌+◌, ◌*◌, ◌<◌, Bool, true, false, ◌&&◌, Some, None, IfSome, List, [], length, Option}
 use Rattle.std.proofs.Common.{codes, slice_get, get_or, refl, sym, ap, subst, arith}
-use Rattle.polcert_policy.proofs.Common.{length-map-range_with_len, get_or-map-range_with_len, get_or_from_slice_get}
-use Rattle.polcert_policy.proofs.Common.{slice_get-get_or, Lexeme, IsCut, text_rest, text_limit, TokenKind, Name, Numeral}
+use Rattle.polcert_policy.proofs.Common.{length-map-range_with_len, get_or-map-range_with_len, get_or_from_slice_get, TokenKind}
+use Rattle.polcert_policy.proofs.Common.{slice_get-get_or, Lexeme, IsCut, text_rest, text_limit, Name, Numeral}
 use Rattle.polcert_policy.proofs.Common.{Minus, numeral_kind, minus_kind, is_whole, whole_number_of, is_successor, is_successor_of}
 use Rattle.polcert_policy.proofs.Common.{successor_of}
 use Rattle.polcert_policy.proofs.Common.{number_at, is_joined, PolicyGraph, nodes, next_of, width, IsLooseGraph, HasNodesOnly}
@@ -36,7 +36,7 @@ module _ (t : Lexeme) where
   successor_field : is_successor t ≡ true → IsField t (successor_of t)
   successor_field right = at t.kind refl right
     where
-      at : (k : TokenKind) → t.kind ≡ k → is_successor_of k t.bytes ≡ true → IsField t (number_at k (whole_number_of t))
+      at : (k : _) → t.kind ≡ k → is_successor_of k t.bytes ≡ true → IsField t (number_at k (whole_number_of t))
       at Numeral e digits = graphs.number (record { kind = e; digits = digits; value = refl })
       at Name e is = graphs.x (record { kind = e; bytes = x_bytes t.bytes is })
       at Minus e is = graphs.dash e
@@ -137,7 +137,7 @@ module _ (a o : ℕ) (ts : List Lexeme) (g : PolicyGraph) where
         let free = loose.records.apart k s t first second in joined k s t e f same free;
   }
     where
-      at : (n j : ℕ) (t : Lexeme) (f : Option ℕ) → n < nodes g → j < width o → slice_get ts (n * width o + j) ≡ Some t
+      at : (n j : ℕ) (t : _) (f : _) → n < nodes g → j < width o → slice_get ts (n * width o + j) ≡ Some t
           → slice_get (fields_of g n) j ≡ Some f → IsField t f
       at n zero t f l k here is =
           let was = loose.records.number n t (subst (λ p. slice_get ts p ≡ Some t) (omega arith) here) in
@@ -162,7 +162,7 @@ module _ (a o : ℕ) (ts : List Lexeme) (g : PolicyGraph) where
           let was = loose.records.action n _ token in
           subst (λ x. x < a) (sym (get_or_from_slice_get g.chosen n _ d was.value)) was.known
 
-      successors_below : (k : ℕ) (d : Option ℕ) → k < length g.successors → IfSome (get_or g.successors k d) (λ m. m < nodes g)
+      successors_below : (k : ℕ) (d : _) → k < length g.successors → IfSome (get_or g.successors k d) (λ m. m < nodes g)
       successors_below k d l =
           let filled : k < nodes g * o = omega arith in
           let row = row_of o k (some_columns (nodes g) o k filled) in
@@ -173,7 +173,7 @@ module _ (a o : ℕ) (ts : List Lexeme) (g : PolicyGraph) where
           ∙ ap (λ p. get_or g.successors p None) (row.1.1 ∙ ap (λ w. row.0 * w + row.1.0) (sym loose.observations_are)) in
           subst (λ f. IfSome f (λ m. m < nodes g)) (sym here) (if_some _ below)
 
-      joined : (k : ℕ) (s t : Lexeme) → s.kind ≡ Minus → t.kind ≡ Numeral → t.place ≡ s.place + length s.bytes → is_joined s t ≡ false → ⊥
+      joined : ℕ → (s t : Lexeme) → s.kind ≡ Minus → t.kind ≡ Numeral → t.place ≡ s.place + length s.bytes → is_joined s t ≡ false → ⊥
       joined k s t e f same free = grind arith
 
 -- ---- texts

@@ -50,16 +50,13 @@ module _ {Y : Type 0} (F : ℕ → List Y) (w : ℕ) (wide : (n : ℕ) → lengt
 
     pub row_at : AllZip R xs (rows_from 0 n) → (i j : ℕ) (x : X) (y : Y) → j < w → slice_get xs (i * w + j) ≡ Some x
         → slice_get (F i) j ≡ Some y → R x y
-    row_at are i j x y k at also = grind (arith, common_steps, slice_get, row_below, within_get, zip_at, get_first, row_long)
+    row_at = grind (arith, common_steps, slice_get, row_below, within_get, zip_at, get_first, row_long)
 
     pub rows_zip : 1 ≤ w → length xs ≡ n * w → ((i j : ℕ) (x : X) (y : Y) → i < n → j < w → slice_get xs (i * w + j) ≡ Some x
         → slice_get (F i) j ≡ Some y → R x y)
         → AllZip R xs (rows_from 0 n)
-    rows_zip some long each = zip_from R xs _ (long ∙ sym (length_rows 0 n)) at
-      where
-        at : (k : ℕ) (x : X) (y : Y) → slice_get xs k ≡ Some x → slice_get (rows_from 0 n) k ≡ Some y → R x y
-        at k x y here also =
-            let row = row_of w k some in
-            let i_below = row_below w row.0 row.1.0 n (omega (arith, within_get xs k x here, long, row.1.1)) in
-            each row.0 row.1.0 x y i_below row.1.2 (subst (λ p. slice_get xs p ≡ Some x) row.1.1 here)
-            (sym (get_first n row.0 row.1.0 i_below row.1.2) ∙ subst (λ p. slice_get (rows_from 0 n) p ≡ Some y) row.1.1 also)
+    rows_zip some long each = zip_from R xs _ (long ∙ sym (length_rows 0 n))
+        (λ k x y here also. let row = row_of w k some in let i_below =
+        row_below w row.0 row.1.0 n (omega (arith, within_get xs k x here, long, row.1.1)) in
+        each row.0 row.1.0 x y i_below row.1.2 (subst (λ p. slice_get xs p ≡ Some x) row.1.1 here)
+        (sym (get_first n row.0 row.1.0 i_below row.1.2) ∙ subst (λ p. slice_get (rows_from 0 n) p ≡ Some y) row.1.1 also))

@@ -1,8 +1,8 @@
 -- The tokens of vectors, field after field, and the same by the index of each number.
 use Rattle.std.proofs.Common.{◌≡◌, ◌∙◌, ℕ, ℤ, suc, zero, ◌+◌, ◌*◌, ◌<◌, ◌⊎◌, inl, inr, true, false, Option, Some, None, List, [], ◌∷◌, ◌++◌}
 use Rattle.std.proofs.Common.{length, flat_map, pos, slice_get, get_or, refl, sym, ap, subst, arith}
-use Rattle.polcert_policy.proofs.Common.{range_with_len, AllZip, length-map-range_with_len, get_or-map-range_with_len}
-use Rattle.polcert_policy.proofs.Common.{get_or_from_slice_get, slice_get-get_or, Lexeme, IsCut, text_rest, text_limit, TokenKind, Numeral}
+use Rattle.polcert_policy.proofs.Common.{range_with_len, AllZip, length-map-range_with_len, get_or-map-range_with_len, TokenKind}
+use Rattle.polcert_policy.proofs.Common.{get_or_from_slice_get, slice_get-get_or, Lexeme, IsCut, text_rest, text_limit, Numeral}
 use Rattle.polcert_policy.proofs.Common.{Plus, Minus, Rounding, IsRounded, numeral_kind, PolicyGraph, nodes, PolicyVectors}
 use Rattle.polcert_policy.proofs.Common.{value_of, sign_kind, Part, with_sign, tokens_of, IsActionPart, IsValuePart, IsRoundedVectors}
 use Rattle.polcert_policy.proofs.Common.{IsRoundedVectorsText}
@@ -146,7 +146,7 @@ module _ (way : Rounding) where
           (omega arith) is.count at));
     }
       where
-        at : (n j : ℕ) (p : Part) (f : ℕ ⊎ ℤ) → n < nodes g → j < 1 + states → slice_get is.parts (n * (1 + states) + j) ≡ Some p
+        at : (n j : ℕ) (p : Part) (f : _) → n < nodes g → j < 1 + states → slice_get is.parts (n * (1 + states) + j) ≡ Some p
             → slice_get (vector_fields g v n) j ≡ Some f → PartIs p f
         at n zero p f l k here also = grind arith
         at n (suc s) p f l k here also =

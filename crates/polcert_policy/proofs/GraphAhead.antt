@@ -1,5 +1,5 @@
 -- A successor that stands whole at the front of some bytes.
-use Rattle.std.proofs.Common.{◌≡◌, ◌∙◌, ℕ, ◌+◌, ◌≤◌, ◌==◌, min, true, ◌&&◌, Option, Some, None, List, [], ◌∷◌, ◌++◌, length, refl, sym, ap}
+use Rattle.std.proofs.Common.{◌≡◌, ◌∙◌, ℕ, ◌+◌, ◌≤◌, ◌==◌, min, true, ◌&&◌, Option, Some, None, [], ◌∷◌, ◌++◌, length, refl, sym, ap, List}
 use Rattle.std.proofs.Common.{subst}
 use Rattle.polcert_policy.proofs.Common.{Lexeme, are_digits, ReadsOn, Numeral, numeral_kind, minus_kind, whole_number_of, is_successor_of}
 use Rattle.polcert_policy.proofs.Common.{number_at, cap, kept_of, IsRead, IsLastMinus, IsApartFrom, Advanced, GraphReading}

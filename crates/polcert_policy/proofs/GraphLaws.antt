@@ -2,7 +2,7 @@
 use Rattle.std.proofs.Common.{◌≡◌, ◌∙◌, ℕ, suc, zero, ◌+◌, ◌-◌, ◌*◌, ◌<◌, ◌≤◌, ◌==◌, Bool, true, false, ◌&&◌, ⊎_elim, Option, Some, List}
 use Rattle.std.proofs.Common.{[], ◌∷◌, ◌++◌, length, slice_get, refl, sym, ap, subst, arith, length-append, append_assoc, append-nil, lit<}
 use Rattle.std.proofs.Math.Path.{subst₂}
-use Rattle.polcert_policy.proofs.Common.{is_digit, Lexeme, TokenKind, Name, Numeral, numeral_kind, minus_kind, is_whole, whole_number_of}
+use Rattle.polcert_policy.proofs.Common.{is_digit, Lexeme, Name, Numeral, numeral_kind, minus_kind, is_whole, whole_number_of, TokenKind}
 use Rattle.polcert_policy.proofs.Common.{is_successor, successor_of, is_joined, PolicyGraph, nodes, IsLooseGraph, IsPossibleGraph, width}
 use Rattle.polcert_policy.proofs.Common.{most_nodes, AreNodesUpTo, IsApartFrom}
 use Rattle.polcert_policy.specs.Graphs.{IsAction, IsSuccessor, AreNodes}
@@ -266,7 +266,7 @@ module _ (a : ℕ) (o : ℕ) (ts : List Lexeme) (g : PolicyGraph) (h : PolicyGra
       let row = row_of o k (some_columns (nodes g) o k (omega (arith, within_get g.successors k x ex, p.successors))) in
       at row.0 row.1.0 row.1.1 row.1.2
     where
-      named : (n z : ℕ) (t : Lexeme) → z < o → slice_get ts (n * width o + (2 + z)) ≡ Some t
+      named : (n z : ℕ) (t : _) → z < o → slice_get ts (n * width o + (2 + z)) ≡ Some t
           → slice_get g.successors (n * o + z) ≡ Some x → slice_get h.successors (n * o + z) ≡ Some y → x ≡ y
       named n z t l e ex ey = grind arith
 

@@ -25,7 +25,7 @@ module _ (a : ℕ) (o : ℕ) (ts : List Lexeme) (g : PolicyGraph) where
         few_observations = omega arith;
         some_nodes = h.some;
         few_nodes = h.few;
-        filled = h.successors ∙ ap (λ z. nodes g * z) (sym h.observations_are);
+        filled = cc (h.successors, h.observations_are);
         known = λ n l. subst (λ x. action_of g n < x) (sym h.actions_are) (loose_actions h n l);
         bound = λ k m e.
             let row = row_of o k some_o in

@@ -1,5 +1,5 @@
 -- A text is refused as a graph for one reason.
-use Rattle.std.proofs.Common.{◌≡◌, ◌∙◌, ℕ, ◌+◌, ◌*◌, ◌<◌, inl, inr, true, false, Option, Some, None, List, length, refl, sym, ap, subst}
+use Rattle.std.proofs.Common.{◌≡◌, ℕ, ◌<◌, inl, inr, true, false, Option, Some, None, List, length, refl, subst}
 use Rattle.std.proofs.Common.{arith}
 use Rattle.polcert_policy.proofs.Common.{Lexeme, text_rest, text_limit, TokenFault, PolicyGraph, nodes, IsLooseGraph, IsFirstBeyond}
 use Rattle.polcert_policy.proofs.Common.{IsPossibleGraph, width, most_nodes, IsColumn, joined_minus, IsGraphMisfit, IsWrongGraphToken}
@@ -15,8 +15,7 @@ use Rattle.polcert_policy.proofs.OneStop as stops
 module _ (o : ℕ) (ts : List Lexeme) where
   columns : (n c m d : ℕ) → IsColumn o ts n c → IsColumn o ts m d → (n ≡ m) × (c ≡ d)
   columns n c m d x y =
-      let e : n * width o + c ≡ m * width o + d = omega arith in
-      (same_row (width o) n m c d x.within y.within e, same_column (width o) n m c d x.within y.within e)
+      (same_row (width o) n m c d x.within y.within (omega arith), same_column (width o) n m c d x.within y.within (omega arith))
 
   wrong_shape : (t : Lexeme) (n c m d : ℕ) → IsColumn o ts n c → is_shaped c t ≡ false → IsColumn o ts m d
       → is_shaped d t ≡ true → ⊥
@@ -29,16 +28,16 @@ module _ (o : ℕ) (ts : List Lexeme) where
   other_column n m x y = let e = (columns n 0 m 1 x y).1 in omega (arith, e)
 
 one_misfit : (a o : ℕ) (ts : List Lexeme) (t : Lexeme) (f g : GraphFault) → IsGraphMisfit a o ts t f → IsGraphMisfit a o ts t g → f ≡ g
-one_misfit a o ts t (faults.BadShape p) (faults.BadShape q) x y = ap faults.BadShape (x.0 ∙ sym y.0)
-one_misfit a o ts t (faults.NodeOutOfOrder p) (faults.NodeOutOfOrder q) x y = ap faults.NodeOutOfOrder (x.0 ∙ sym y.0)
-one_misfit a o ts t (faults.ActionOutOfRange p) (faults.ActionOutOfRange q) x y = ap faults.ActionOutOfRange (x.0 ∙ sym y.0)
-one_misfit a o ts t (faults.TooManyNodes p) (faults.TooManyNodes q) x y = ap faults.TooManyNodes (x.0 ∙ sym y.0)
+one_misfit a o ts t (faults.BadShape p) (faults.BadShape q) x y = cc (x.0, y.0)
+one_misfit a o ts t (faults.NodeOutOfOrder p) (faults.NodeOutOfOrder q) x y = cc (x.0, y.0)
+one_misfit a o ts t (faults.ActionOutOfRange p) (faults.ActionOutOfRange q) x y = cc (x.0, y.0)
+one_misfit a o ts t (faults.TooManyNodes p) (faults.TooManyNodes q) x y = cc (x.0, y.0)
 one_misfit a o ts t _ _ x y = absurd (search (wrong_shape, not_after, other_column, x, y))
 
 one_wrong : (m : Option Lexeme) (a o : ℕ) (ts : List Lexeme) (t : Lexeme) (f g : GraphFault) → IsWrongGraphToken m a o ts t f
     → IsWrongGraphToken m a o ts t g
     → f ≡ g
-one_wrong m a o ts t f g h1 h2 = grind (arith, one_misfit)
+one_wrong = grind (arith, one_misfit)
 
 -- what a refusal at the end of a text says
 abbrev EndsFor : ℕ → ℕ → List ℕ → List Lexeme → Option TokenFault → GraphFault → Type 0
@@ -60,9 +59,9 @@ none_or_some a o ts g x loose = let e = (columns o ts 0 0 (nodes g) 0 x (whole_n
 
 one_end : (a o : ℕ) (text : List ℕ) (ts : List Lexeme) (end : Option TokenFault) (f g : GraphFault) → EndsFor a o text ts end f
     → EndsFor a o text ts end g → f ≡ g
-one_end a o text ts (Some e) (faults.Token p) (faults.Token q) x y = ap faults.Token (x ∙ sym y)
-one_end a o text ts None (faults.Truncated p) (faults.Truncated q) x y = ap faults.Truncated (x.0 ∙ sym y.0)
-one_end a o text ts None (faults.NoNodes p) (faults.NoNodes q) x y = ap faults.NoNodes (x.0 ∙ sym y.0)
+one_end a o text ts (Some e) (faults.Token p) (faults.Token q) x y = cc (x, y)
+one_end a o text ts None (faults.Truncated p) (faults.Truncated q) x y = cc (x.0, y.0)
+one_end a o text ts None (faults.NoNodes p) (faults.NoNodes q) x y = cc (x.0, y.0)
 one_end a o text ts None (faults.SuccessorOutOfRange n z) (faults.SuccessorOutOfRange m w) x y =
     let e = one_first x.0 n z m w x.2 (subst (λ g. IsFirstBeyond g m w) (one_loose a o ts y.0 x.0 y.1 x.1) y.2) in
     λ i. faults.SuccessorOutOfRange (e.0 i) (e.1 i)

@@ -1,4 +1,5 @@
 -- A text is at most one list of points, and is refused as points for one reason.
+use Rattle.polcert_policy.specs.declared.points_reading.PointField.{PointField}
 use Rattle.std.proofs.Common.{◌≡◌, ◌≢◌, ◌∙◌, ℕ, ◌+◌, ◌*◌, ◌<◌, ◌≤◌, ◌⊎◌, inl, inr, true, Option, Some, None, List, ◌++◌, length, refl, sym}
 use Rattle.std.proofs.Common.{ap, subst, arith}
 use Rattle.polcert_policy.proofs.Common.{most_states, most_actions, Lexeme, text_rest, text_limit, TokenFault, numeral_kind}
@@ -10,7 +11,6 @@ use Rattle.polcert_policy.specs.PointTokens.{PointsSoFar, nothing_read, TakesAll
 use Rattle.polcert_policy.specs.PointTokens.{IsWrongValue, IsWrongName, IsWrongField, IsWrongPoint, is_value_shaped}
 use Rattle.polcert_policy.specs.PointText.{AreLoosePoints, NamesPointsOnly, IsPointsText, BeginPoints, IsWrongAfter, IsFirstUnknown}
 use Rattle.polcert_policy.specs.PointText.{IsPointsRefusal}
-use Rattle.polcert_policy.specs.declared.points_reading.PointField.{PointField}
 use Rattle.polcert_policy.specs.declared.points_reading.PointField.TheVariants as fields
 use Rattle.polcert_policy.specs.declared.fault.PointFault.{PointFault}
 use Rattle.polcert_policy.specs.declared.fault.PointFault.TheVariants as faults

@@ -56,11 +56,11 @@ module _ (P : List Lexeme → Type 0) (front : (ts us : List Lexeme) → P (ts +
   -- the tokens of a text stop being possible at one token
   one_stop : (rest x y : Rest) (us vs : List Lexeme) (s t : Lexeme) → Taken rest (us ++ s ∷ []) x → Taken rest (vs ++ t ∷ []) y
       → P us → P vs → (P (us ++ s ∷ []) → ⊥) → (P (vs ++ t ∷ []) → ⊥) → (us ≡ vs) × (s ≡ t)
-  one_stop rest x y us vs s t a b p q none_p none_q = grind (arith, taken_from, fronts, not_longer)
+  one_stop = grind (arith, taken_from, fronts, not_longer)
 
   -- where all of them are possible they stop nowhere
   no_stop : (rest x : Rest) (ts us : List Lexeme) (end : Option TokenFault) → IsCut rest ts end → P ts → Taken rest us x → (P us → ⊥) → ⊥
-  no_stop rest x ts us end cut possible taken none = grind (arith, cut_taken)
+  no_stop = grind (arith, cut_taken)
 
   -- Why a text is refused, where this says why a token can't stand after others, and that how the text ends: one of its tokens can't
   -- stand after those before it, or the text ends so.
@@ -75,4 +75,4 @@ module _ (P : List Lexeme → Type 0) (front : (ts us : List Lexeme) → P (ts +
       pub one_reason : ((ts : List Lexeme) (t : Lexeme) (f g : F) → IsWrong ts t f → IsWrong ts t g → f ≡ g)
           → ((ts : List Lexeme) (end : Option TokenFault) (f g : F) → EndsFor ts end f → EndsFor ts end g → f ≡ g)
           → (f g : F) → HasReason f → HasReason g → f ≡ g
-      one_reason h1 h2 f g h3 h4 = grind (arith, one_cut, one_stop, no_stop)
+      one_reason = grind (arith, one_cut, one_stop, no_stop)

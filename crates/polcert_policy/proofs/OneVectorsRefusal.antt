@@ -1,5 +1,5 @@
 -- A text is refused as vectors for one reason.
-use Rattle.std.proofs.Common.{◌≡◌, ◌∙◌, ℕ, suc, ◌+◌, ◌*◌, ◌<◌, inl, inr, true, false, Option, Some, None, List, ◌++◌, length, refl, sym, ap}
+use Rattle.std.proofs.Common.{◌≡◌, ℕ, suc, ◌+◌, ◌<◌, inl, inr, true, false, Option, Some, None, List, ◌++◌, length, refl}
 use Rattle.std.proofs.Common.{subst, arith, append_assoc}
 use Rattle.polcert_policy.proofs.Common.{Lexeme, text_rest, text_limit, TokenFault, numeral_kind, PolicyGraph, nodes, ArePossible}
 use Rattle.polcert_policy.proofs.Common.{IsPartColumn, last_sign, is_part_shaped, IsPartMisfit, IsRoundedVectorsRefusal, VectorFault}
@@ -11,8 +11,7 @@ use Rattle.polcert_policy.proofs.OneStop as stops
 module _ (o : ℕ) (ts : List Lexeme) where
   columns : (n c m d : ℕ) → IsPartColumn o ts n c → IsPartColumn o ts m d → (n ≡ m) × (c ≡ d)
   columns n c m d x y =
-      let e : n * (1 + o) + c ≡ m * (1 + o) + d = omega arith in
-      (same_row (1 + o) n m c d x.within y.within e, same_column (1 + o) n m c d x.within y.within e)
+      (same_row (1 + o) n m c d x.within y.within (omega arith), same_column (1 + o) n m c d x.within y.within (omega arith))
 
   wrong_shape : (s : Option Lexeme) (t : Lexeme) (n c m d : ℕ) → IsPartColumn o ts n c
       → is_part_shaped c s t ≡ false → IsPartColumn o ts m d → is_part_shaped d s t ≡ true → ⊥
@@ -20,7 +19,7 @@ module _ (o : ℕ) (ts : List Lexeme) where
 
 -- a numeral has the shape of a value
 value_shape : (s : Option Lexeme) (t : Lexeme) (c : ℕ) → numeral_kind t.kind ≡ true → is_part_shaped (suc c) s t ≡ true
-value_shape s t c h1 = grind arith
+value_shape = grind arith
 
 -- a numeral hasn't the wrong shape in a value's column
 wrong_value : (o : ℕ) (ts : List Lexeme) (t : Lexeme) (n c m d : ℕ) → IsPartColumn o ts n (suc c) → numeral_kind t.kind ≡ true
@@ -41,9 +40,9 @@ module _ (o : ℕ) (ts : List Lexeme) (n : ℕ) where
 one_misfit : (g : PolicyGraph) (o : ℕ) (ts : List Lexeme) (t : Lexeme) (f h : VectorFault) → IsPartMisfit g o ts t f
     → IsPartMisfit g o ts t h → f ≡ h
 one_misfit g o ts t (faults.Number a p) (faults.Number b q) x y = grind arith
-one_misfit g o ts t (faults.BadShape p) (faults.BadShape q) x y = ap faults.BadShape (x.0 ∙ sym y.0)
-one_misfit g o ts t (faults.ActionMismatch p) (faults.ActionMismatch q) x y = ap faults.ActionMismatch (x.0 ∙ sym y.0)
-one_misfit g o ts t (faults.WrongVectorCount p) (faults.WrongVectorCount q) x y = ap faults.WrongVectorCount (x.0 ∙ sym y.0)
+one_misfit g o ts t (faults.BadShape p) (faults.BadShape q) x y = cc (x.0, y.0)
+one_misfit g o ts t (faults.ActionMismatch p) (faults.ActionMismatch q) x y = cc (x.0, y.0)
+one_misfit g o ts t (faults.WrongVectorCount p) (faults.WrongVectorCount q) x y = cc (x.0, y.0)
 one_misfit g o ts t _ _ x y = absurd (search (wrong_value, wrong_shape, not_after, value_or_action, x, y))
 
 -- what a refusal at the end of a text says
@@ -56,14 +55,14 @@ EndsFor o text ts None _ = ⊥
 
 one_end : (o : ℕ) (text : List ℕ) (ts : List Lexeme) (end : Option TokenFault) (f h : VectorFault) → EndsFor o text ts end f
     → EndsFor o text ts end h → f ≡ h
-one_end o text ts (Some e) (faults.Token p) (faults.Token q) x y = ap faults.Token (x ∙ sym y)
-one_end o text ts None (faults.Truncated p) (faults.Truncated q) x y = ap faults.Truncated (x.0 ∙ sym y.0)
-one_end o text ts None (faults.WrongVectorCount p) (faults.WrongVectorCount q) x y = ap faults.WrongVectorCount (x.0 ∙ sym y.0)
+one_end o text ts (Some e) (faults.Token p) (faults.Token q) x y = cc (x, y)
+one_end o text ts None (faults.Truncated p) (faults.Truncated q) x y = cc (x.0, y.0)
+one_end o text ts None (faults.WrongVectorCount p) (faults.WrongVectorCount q) x y = cc (x.0, y.0)
 one_end o text ts _ _ _ x y = absurd (search (other_column, x, y))
 
 module _ (way : Rounding) (g : PolicyGraph) (o : ℕ) (text : List ℕ) where
   possible_before : (ts us : List Lexeme) → ArePossible way g o (ts ++ us) → ArePossible way g o ts
-  possible_before ts us h = grind (arith, append_assoc)
+  possible_before = grind (arith, append_assoc)
 
   abbrev HasReason : VectorFault → Type 0
   HasReason f = stops.HasReason (λ ts. ArePossible way g o ts) possible_before (λ ts t. IsPartMisfit g o ts t) (EndsFor o text)

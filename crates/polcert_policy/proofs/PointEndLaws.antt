@@ -1,5 +1,5 @@
 -- What is said of points where their tokens end.
-use Rattle.std.proofs.Common.{◌≡◌, ◌∙◌, ℕ, ◌+◌, ◌*◌, ◌/◌, ◌%◌, ◌<◌, ◌≤◌, inl, ◌⊎◌, Result, Ok, Err, List, [], length, slice_get, refl}
+use Rattle.std.proofs.Common.{◌≡◌, ◌∙◌, ℕ, ◌+◌, ◌*◌, ◌/◌, ◌%◌, ◌<◌, ◌≤◌, inl, ◌⊎◌, Result, Ok, Err, List, [], length, refl}
 use Rattle.std.proofs.Common.{ap, subst, arith, MatchResult}
 use Rattle.std.proofs.lemmas.Nat.{div-add-mod', mod_below}
 use Rattle.polcert_policy.proofs.Common.{Lexeme, Minus, is_joined}
@@ -50,7 +50,7 @@ module _ (S A Z : ℕ) (ts : List Lexeme) (st : PointsSoFar) (read : TakesAll S 
             number = first.node;
             action_is = mod_below (place / Z) A some_a;
             observation_is = mod_below place Z some_z;
-            named = ap (slice_get st.names) at ∙ first.beyond;
+            named = cc (at, first.beyond);
             unknown = first.above;
             first = λ k m before named. first.first k m (subst (λ n. k < n) at before) named;
           },

@@ -4,7 +4,7 @@ use Rattle.std.proofs.Common.{Some, None, List, [], ◌∷◌, ◌++◌, length,
 use Rattle.std.proofs.Common.{append_assoc}
 use Rattle.std.specs.Prelude.{◌==◌, codes}
 use Rattle.std.proofs.lemmas.Bool.{eqb-true}
-use Rattle.polcert_policy.proofs.Common.{Lexeme, Numeral, Plus, Minus, Name, TokenKind, range_with_len, get_or_from_slice_get, numeral_kind}
+use Rattle.polcert_policy.proofs.Common.{Lexeme, Numeral, Plus, Minus, Name, range_with_len, get_or_from_slice_get, numeral_kind, TokenKind}
 use Rattle.polcert_policy.proofs.Common.{minus_kind, sign_kind, is_whole, is_successor, successor_of}
 use Rattle.polcert_cells.specs.declared.elements.Cell.{Cell}
 use Rattle.polcert_cells.specs.Sparse.{weight_at}
@@ -285,8 +285,8 @@ module _ (S A Z : ℕ) (some_s : 1 ≤ S) (some_a : 1 ≤ A) (some_z : 1 ≤ Z) 
           value = subst (λ b. IsCeil b t.bytes h) (ap minus_kind k) rounded;
         }) tail
 
-  value_fields : (a : ℕ) (old between : PointsSoFar) (t : Lexeme) (ts : List Lexeme) → IsSoundField S A Z (fields.Value a) old
-      → (y : TakesValue a (record old { minus = None }) t between) → TakesAll S A Z between ts last
+  value_fields : (a : ℕ) (old between : _) (t : _) (ts : _) → IsSoundField S A Z (fields.Value a) old
+      → TakesValue a (record old { minus = None }) t between → TakesAll S A Z between ts last
       → FieldsAt (fields.Name a 0) between ts → FieldsAt (fields.Value a) old (t ∷ ts)
   value_fields a old between t ts at y rest next i zero r li lk lr = absurd (omega arith)
   value_fields a old between t ts at y rest next i (suc k) r li lk lr =
@@ -325,7 +325,7 @@ module _ (S A Z : ℕ) (some_s : 1 ≤ S) (some_a : 1 ≤ A) (some_z : 1 ≤ Z) 
       → (t.kind ≡ Minus → IsNotJoined t ts) → ArePointFields ts fs → ArePointFields (t ∷ ts) (flat.name_field v ∷ fs)
   named_field t ts fs v names e apart tail = subst (λ w. ArePointFields (t ∷ ts) (flat.name_field w ∷ fs)) (sym e) (by t.kind refl)
     where
-      by : (k : TokenKind) → t.kind ≡ k → ArePointFields (t ∷ ts) (flat.name_field (successor_of t) ∷ fs)
+      by : (k : _) → t.kind ≡ k → ArePointFields (t ∷ ts) (flat.name_field (successor_of t) ∷ fs)
       by Numeral k =
           let whole : is_whole t ≡ true = grind arith in
           let same : Some _ ≡ successor_of t = grind arith in

@@ -41,7 +41,7 @@ one_climb low n (x ∷ xs) [] a b same =
     absurd (omega (arith, e, a.2))
 one_climb low n (x ∷ xs) (y ∷ ys) a b same = at (λ k. one_climb (x.column + 1) n xs ys a.3 k) (order x.column y.column)
   where
-    before : (x y : Cell) (xs ys : List Cell) → Climbs low n (x ∷ xs) → Climbs low n (y ∷ ys)
+    before : (x y : Cell) (xs ys : _) → Climbs low n (x ∷ xs) → Climbs low n (y ∷ ys)
         → ((c : ℕ) → low ≤ c → c < n → weight_at (x ∷ xs) c ≡ weight_at (y ∷ ys) c) → x.column < y.column → ⊥
     before x y xs ys a b same l =
         let e = sym (weight_head x xs x.column refl) ∙ same x.column a.0 a.1
@@ -85,7 +85,7 @@ next_begins : {X : Type 0} (xs ys : List X) (k : ℕ) (d : X) → Begins xs ys �
     → Begins (xs ++ get_or ys k d ∷ []) ys
 next_begins xs ys k d b l inside = at b.0 b.1
   where
-    at : (more : List _) → ys ≡ xs ++ more → Begins (xs ++ get_or ys k d ∷ []) ys
+    at : (more : _) → ys ≡ xs ++ more → Begins (xs ++ get_or ys k d ∷ []) ys
     at [] e = let same = ap length (e ∙ append-nil xs) in absurd (omega arith)
     at (y ∷ more) e =
         let here = ap (λ n. slice_get ys n) (sym l) ∙ ap (λ zs. slice_get zs (length xs)) e
@@ -163,11 +163,11 @@ name_apart : (t : Lexeme) (ts : List Lexeme) (v : Option ℕ) → IsNameOf t ts 
 name_apart t [] v is = tt
 name_apart t (u ∷ us) v is = λ m e. by v is m e
   where
-    none : (minus_kind t.kind ≡ false) → (m : MinusSign) → minus_of t ≡ Some m → is_joined_to m u ≡ false
+    none : (minus_kind t.kind ≡ false) → (m : _) → minus_of t ≡ Some m → is_joined_to m u ≡ false
     none k m e = absurd (some_none m (ap (λ b. if b then Some (record { place = t.place; stop = t.place + length t.bytes }) else None)
         (sym k) ∙ e))
 
-    by : (w : Option ℕ) → IsNameOf t (u ∷ us) w → (m : MinusSign) → minus_of t ≡ Some m → is_joined_to m u ≡ false
+    by : (w : _) → IsNameOf t (u ∷ us) w → (m : _) → minus_of t ≡ Some m → is_joined_to m u ≡ false
     by (Some n) h m e = none (ap minus_kind h.kind) m e
     by None (inl h) m e = none (ap minus_kind h.kind) m e
     by None (inr h) m e =
@@ -375,7 +375,7 @@ module _ (S A Z : ℕ) (some_s : 1 ≤ S) (some_a : 1 ≤ A) (some_z : 1 ≤ Z) 
       is_mass last = subst IsMass (sym (mass ∙ ap (sum_below (point_weight p (length old.rows))) last))
           (row_is (length old.rows) inside).mass
 
-      takes : (new : PointsSoFar) → new ≡ after_weight S s (weight_of old s) (record old { minus = None })
+      takes : (new : _) → new ≡ after_weight S s (weight_of old s) (record old { minus = None })
           → TakesField S A Z old.field (record old { minus = None }) t new
       takes new same = field_taken (fields.Weight s) old new t e (record {
         weight = weight_of old s;
@@ -517,11 +517,11 @@ module _ (S A Z : ℕ) (some_s : 1 ≤ S) (some_a : 1 ≤ A) (some_z : 1 ≤ Z) 
   unsigned_next zero a old t ts e at is closed h = absurd (omega (arith, at.action, at.actions_count, is))
   unsigned_next (suc k) a old t ts e at is closed h = by (inv_value t ts (value_at p at.point a) (rest_here at.point a k at.left) h)
     where
-      regroup : (ts : List Lexeme) → ArePointFields ts (rest_here at.point a k at.left)
+      regroup : (ts : _) → ArePointFields ts (rest_here at.point a k at.left)
           → ArePointFields ts (rest_names at.point a 0 Z k at.left)
       regroup ts x = subst (ArePointFields ts) (append_assoc (name_fields p at.point a (range_with_len 0 Z)) _ _) x
 
-      signed : (us : List Lexeme) (b : Bool) → IsSigned b (value_at p at.point a) us
+      signed : (us : _) (b : Bool) → IsSigned b (value_at p at.point a) us
           (rest_here at.point a k at.left)
           → IsSigned b (value_at p at.point a) us (rest_names at.point a 0 Z k at.left)
       signed [] b x = x
@@ -561,7 +561,7 @@ module _ (S A Z : ℕ) (some_s : 1 ≤ S) (some_a : 1 ≤ A) (some_z : 1 ≤ Z) 
       small : (m : ℕ) → m < length rows → min 1_000_000 m ≡ m
       small m l = let most : m < most_points = omega (arith, l, few) in grind (arith, most)
 
-      at : (w : Option ℕ) → ((m : ℕ) → w ≡ Some m → m < length rows) → kept_name w ≡ w
+      at : (w : _) → ((m : ℕ) → w ≡ Some m → m < length rows) → kept_name w ≡ w
       at None h = refl
       at (Some m) h = ap Some (small m (h m refl))
 
@@ -590,12 +590,12 @@ module _ (S A Z : ℕ) (some_s : 1 ≤ S) (some_a : 1 ≤ A) (some_z : 1 ≤ Z) 
       names_count : length (old.names ++ kept_name (successor_of t) ∷ []) ≡ (at.point * A + a) * Z + suc z
       names_count = omega (arith, length-append old.names (kept_name (successor_of t) ∷ []), at.front.names_are)
 
-      takes : (new : PointsSoFar) → new ≡ named old t (field_after_name A Z a z)
+      takes : (new : _) → new ≡ named old t (field_after_name A Z a z)
           → TakesField S A Z old.field (record old { minus = None }) t new
       takes new same = field_taken (fields.Name a z) old new t e
           (record { names = (name_is t ts (named_at p at.point a z) parts.0).0; new_is = same })
 
-      front : (values_count count : ℕ) (f : PointField) → length old.values ≡ values_count
+      front : (values_count count : ℕ) (f : _) → length old.values ≡ values_count
           → length (old.names ++ kept_name (successor_of t) ∷ []) ≡ count
           → Front values_count count (named old t f)
       front values_count count f l m = record {
@@ -606,7 +606,7 @@ module _ (S A Z : ℕ) (some_s : 1 ≤ S) (some_a : 1 ≤ A) (some_z : 1 ≤ Z) 
         names_are = m;
       }
 
-      next : (f : PointField) → f ≡ field_after_name A Z a z
+      next : (f : _) → f ≡ field_after_name A Z a z
           → At f (named old t f) ts → Next old t ts
       next f same there = record {
         between = named old t f;

@@ -1,16 +1,16 @@
 -- Tokens of points are taken in one way, and a token that is taken is not wrong.
+use Rattle.polcert_policy.specs.declared.fault.PointFault.{PointFault}
+use Rattle.polcert_policy.specs.declared.points_reading.PointField.{PointField}
+use Rattle.polcert_text.specs.declared.number.NumberFault.{NumberFault}
 use Rattle.std.proofs.Common.{◌≡◌, ◌∙◌, ℕ, pos, ◌+◌, ◌⊎◌, inl, inr, true, false, None, List, [], ◌∷◌, ◌++◌, refl, sym, ap, subst, arith}
 use Rattle.polcert_policy.proofs.Common.{Lexeme}
 use Rattle.polcert_text.proofs.TextLaws.{readable_not_refused, one_floor, one_ceil}
-use Rattle.polcert_text.specs.declared.number.NumberFault.{NumberFault}
 use Rattle.polcert_policy.specs.Points.{IsMass}
 use Rattle.polcert_policy.specs.PointTokens.{PointsSoFar, IsWeight, IsRefusedWeight, TakesNumber, TakesWeight, TakesSign, TakesValue}
 use Rattle.polcert_policy.specs.PointTokens.{TakesField, TakesPointToken, TakesAll, IsWrongNumber, IsWrongWeight, IsWrongValue}
 use Rattle.polcert_policy.specs.PointTokens.{IsWrongField}
 use Rattle.polcert_policy.specs.PointTokens.{IsWrongPoint, after_weight, is_value_shaped}
-use Rattle.polcert_policy.specs.declared.points_reading.PointField.{PointField}
 use Rattle.polcert_policy.specs.declared.points_reading.PointField.TheVariants as fields
-use Rattle.polcert_policy.specs.declared.fault.PointFault.{PointFault}
 use Rattle.polcert_policy.specs.declared.fault.PointFault.TheVariants as faults
 use Rattle.polcert_policy.proofs.Places.{true_false}
 use Rattle.polcert_policy.proofs.VectorLaws.{no_sign_numeral}

@@ -86,5 +86,5 @@ module _ (S A Z : ℕ) (rows : List (List Cell)) (values : List ℤ) (names : Li
     pub seen_below : IsBelow (point_count p) x
     seen_below j named = (lists_proper_at p e).named i a z j l k m (sym seen_name ∙ named)
       where
-        lists_proper_at : (q : PointValues) → listed S A Z rows values names h ≡ q → AreProperPoints q
+        lists_proper_at : (q : _) → listed S A Z rows values names h ≡ q → AreProperPoints q
         lists_proper_at q same = subst AreProperPoints same (lists_proper S A Z rows values names h)

@@ -32,7 +32,7 @@ module _ (f : ℕ → ℕ) (s : ℕ) where
   value_there w = grind arith
 
   pub value_before : (w c : ℕ) → c < s → with_value f s w c ≡ f c
-  value_before w c l = grind arith
+  value_before = grind arith
 
   pub row_with : (w : ℕ) (row : List Cell) → IsRow s f row → IsRow (suc s) (with_value f s w) (with_weight s w row)
   row_with zero row r =
@@ -113,13 +113,11 @@ pub record IsSound (S A Z : ℕ) (st : PointsSoFar) : Type 0 where
 row_more : (S : ℕ) (rows : List (List Cell)) (row : List Cell) → ((i : ℕ) (r : List Cell) → slice_get rows i ≡ Some r → IsPointRow S r)
     → IsPointRow S row
     → (i : ℕ) (r : List Cell) → slice_get (rows ++ row ∷ []) i ≡ Some r → IsPointRow S r
-row_more S rows row old new i r e = ⊎_elim (λ (l : slice_get rows i ≡ Some r). old i r l)
-    (λ (m : _ × (row ≡ r)). subst (IsPointRow S) m.1 new) (get_snoc rows row r i e)
+row_more S rows row old new i r e = ⊎_elim (λ l. old i r l) (λ m. subst (IsPointRow S) m.1 new) (get_snoc rows row r i e)
 
 value_more : (values : List ℤ) (value : ℤ) → ((k : ℕ) (h : ℤ) → slice_get values k ≡ Some h → IsInRange h) → IsInRange value
     → (k : ℕ) (h : ℤ) → slice_get (values ++ value ∷ []) k ≡ Some h → IsInRange h
-value_more values value old new k h e = ⊎_elim (λ (l : slice_get values k ≡ Some h). old k h l)
-    (λ (m : _ × (value ≡ h)). subst IsInRange m.1 new) (get_snoc values value h k e)
+value_more values value old new k h e = ⊎_elim (λ l. old k h l) (λ m. subst IsInRange m.1 new) (get_snoc values value h k e)
 
 module _ (S A Z : ℕ) (some_s : 1 ≤ S) (some_a : 1 ≤ A) (some_z : 1 ≤ Z) where
   number_sound : (old new : PointsSoFar) (t : Lexeme) → old.field ≡ fields.Number → IsSound S A Z old → TakesNumber old t new
@@ -155,7 +153,7 @@ module _ (S A Z : ℕ) (some_s : 1 ≤ S) (some_a : 1 ≤ A) (some_z : 1 ≤ Z) 
       row_is = row_with _ s x.weight old.row at.weights.row
 
       mass_is : old.mass + x.weight ≡ sum_below f (suc s)
-      mass_is = ap (λ m. m + x.weight) at.weights.mass ∙ sym (sum_with _ s x.weight)
+      mass_is = cc (at.weights.mass, sum_with _ s x.weight)
 
       last : suc s ≡ S → IsSound S A Z (record old {
         field = fields.Value 0;
@@ -175,7 +173,7 @@ module _ (S A Z : ℕ) (some_s : 1 ≤ S) (some_a : 1 ≤ A) (some_z : 1 ≤ Z) 
           point_is = omega (arith, length-append old.rows (with_weight s x.weight old.row ∷ []));
           lists = record {
             values_are = omega (arith, at.values_are);
-            names_are = at.names_are ∙ ap (λ n. n * Z) (plus_zero _) ∙ plus_zero _;
+            names_are = cc (at.names_are, plus_zero _);
             no_row = refl;
           };
         };
@@ -184,27 +182,25 @@ module _ (S A Z : ℕ) (some_s : 1 ≤ S) (some_a : 1 ≤ A) (some_z : 1 ≤ Z) 
           plus_zero : (n : ℕ) → n ≡ n + 0
           plus_zero n = omega arith
 
-      inner : (suc s ≡ S → ⊥) → IsSound S A Z (record old
-          { field = fields.Weight (suc s); mass = old.mass + x.weight; row = with_weight s x.weight old.row })
-      inner is = record {
-        few = h.few;
-        rows_are = h.rows_are;
-        in_range = h.in_range;
-        at = record {
-          state = omega (arith, at.state, is);
-          few = at.few;
-          values_are = at.values_are;
-          names_are = at.names_are;
-          weights = record { weights = f; row = row_is; mass = mass_is };
-        };
-      }
-
       by : (b : Bool) → (suc s == S) ≡ b → IsSound S A Z (if b then record old
           { field = fields.Value 0; mass = old.mass + x.weight; row = []; rows = old.rows ++ with_weight s x.weight old.row ∷ [] } else
           record
           old { field = fields.Weight (suc s); mass = old.mass + x.weight; row = with_weight s x.weight old.row })
       by true is = last (eqb-true (suc s) S is)
-      by false is = inner (eqb-false (suc s) S is)
+      by false is = record {
+        few = h.few;
+        rows_are = h.rows_are;
+        in_range = h.in_range;
+        at =
+            record {
+              state = omega (arith, at.state, eqb-false (suc s) S is);
+              few = at.few;
+              values_are = at.values_are;
+              names_are =
+                  at.names_are;
+              weights = record { weights = f; row = row_is; mass = mass_is };
+            };
+      }
 
   sign_sound : (a : ℕ) (old new : PointsSoFar) (t : Lexeme) → old.field ≡ fields.Value a → IsSound S A Z old → TakesSign old t new
       → IsSound S A Z new
@@ -247,7 +243,7 @@ module _ (S A Z : ℕ) (some_s : 1 ≤ S) (some_a : 1 ≤ A) (some_z : 1 ≤ Z) 
       named : length (old.names ++ kept_name (successor_of t) ∷ []) ≡ (at.point * A + a) * Z + suc z
       named = omega (arith, length-append old.names (kept_name (successor_of t) ∷ []), at.lists.names_are)
 
-      sound : (f : PointField) → IsSoundAt S A Z f old.rows old.row old.mass old.values (old.names ++ kept_name (successor_of t) ∷ [])
+      sound : (f : _) → IsSoundAt S A Z f old.rows old.row old.mass old.values (old.names ++ kept_name (successor_of t) ∷ [])
           → IsSound S A Z (record old { field = f; minus = minus_of t; names = old.names ++ kept_name (successor_of t) ∷ [] })
       sound f is = record { few = h.few; rows_are = h.rows_are; in_range = h.in_range; at = is }
 

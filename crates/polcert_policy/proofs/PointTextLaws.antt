@@ -1,4 +1,5 @@
 -- What refused or accepted tokens of points say of the whole text.
+use Rattle.polcert_policy.specs.declared.points_reading.PointField.{PointField}
 use Rattle.std.proofs.Common.{◌≡◌, ◌∙◌, ℕ, ◌≤◌, inl, inr, None, List, [], ◌∷◌, ◌++◌, length, refl, sym, ap, subst, arith}
 use Rattle.polcert_policy.proofs.Common.{Lexeme, Rest, IsCut, text_rest, text_limit, Taken}
 use Rattle.polcert_text.proofs.Scanning.CleanCut.{clean_cut, clean_tokens}
@@ -7,7 +8,6 @@ use Rattle.polcert_policy.specs.PointTokens.{PointsSoFar, nothing_read, TakesPoi
 use Rattle.polcert_policy.specs.PointText.{AreLoosePoints, ArePointTokens, IsPointsText, NamesPointsOnly, BeginPoints, HasWrongPoint}
 use Rattle.polcert_policy.specs.PointText.{EndsInsidePoint, HasFirstUnknown, IsPointsRefusal, IsNoPointsText, IsRefusedPointsText}
 use Rattle.polcert_policy.specs.Steps.PointsRead.{IsMemoryOr, IsPointsEnd}
-use Rattle.polcert_policy.specs.declared.points_reading.PointField.{PointField}
 use Rattle.polcert_policy.specs.declared.fault.PointFault.{PointFault}
 use Rattle.polcert_policy.specs.declared.fault.PointFault.TheVariants as faults
 use Rattle.polcert_policy.proofs.WholeTexts.{not_stopped, same_tokens, no_token_fault}

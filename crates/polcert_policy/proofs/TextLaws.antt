@@ -13,7 +13,7 @@ use Rattle.polcert_policy.proofs.WholeTexts.{not_stopped, same_tokens, no_token_
 
 pub token_refusal : (a o b p : ℕ) (text : List ℕ) (ts : List Lexeme) (rest : Rest) (fault : GraphFault)
     → a ≡ b → o ≡ p → Taken (text_rest text text_limit) ts rest → IsTokenRefusal a o ts fault → IsGraphRefusal b p text fault
-token_refusal a o b p text ts rest fault ea eo taken h = grind arith
+token_refusal = grind arith
 
 module _ (a : ℕ) (o : ℕ) (text : List ℕ) (ts : List Lexeme) where
   early : (place n column : ℕ) → IsCut (text_rest text text_limit) ts None → place ≡ length text
@@ -35,7 +35,7 @@ module _ (a : ℕ) (o : ℕ) (text : List ℕ) (ts : List Lexeme) where
   end_refusal _ cut h = absurd h
 
 not_beyond : (g : PolicyGraph) (n z : ℕ) → IsFirstBeyond g n z → HasNodesOnly g → ⊥
-not_beyond g n z first bound = grind arith
+not_beyond = grind arith
 
 -- what a refusal says of a text whose tokens are a graph but for the bound on its successors
 abbrev NamesBeyond : PolicyGraph → GraphFault → Type 0
@@ -92,7 +92,7 @@ pub beyond_named : (a o : ℕ) (text : List ℕ) (fault : GraphFault) → IsGrap
     → (n z : ℕ) → HasFirstBeyond a o text n z → NamesSuccessor n z fault
 beyond_named a o text fault r n z h = at fault (names_beyond a o text h.0 h.1.0 h.1.1 h.1.2 fault r)
   where
-    at : (f : GraphFault) → NamesBeyond h.1.0 f → NamesSuccessor n z f
+    at : (f : _) → NamesBeyond h.1.0 f → NamesSuccessor n z f
     at (faults.SuccessorOutOfRange m y) named = one_first h.1.0 m y n z named h.1.3
     at faults.Memory named = tt
     at _ named = absurd named
@@ -105,9 +105,9 @@ none_beyond a o text g is n z h =
 
 -- all that is promised of a refusal
 pub refused_text : (a o : ℕ) (text : List ℕ) (fault : GraphFault) → IsGraphRefusal a o text fault → IsRefusedGraphText a o fault text
-refused_text a o text fault r = grind (arith, no_graph, beyond_named)
+refused_text = grind (arith, no_graph, beyond_named)
 
 pub end_refused : (a o b p : ℕ) (text : List ℕ) (ts : List Lexeme) (end : ℕ) (fault : GraphFault)
     → a ≡ b → o ≡ p → IsCut (text_rest text text_limit) ts None → end ≡ length text → IsEndRefusal a o ts end fault
     → IsRefusedGraphText b p fault text
-end_refused a o b p text ts end fault ea eo cut place h = grind (arith, end_refusal, refused_text)
+end_refused = grind (arith, end_refusal, refused_text)

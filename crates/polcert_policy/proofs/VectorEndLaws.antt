@@ -1,8 +1,8 @@
 -- What is read of vectors where the text ends.
-use Rattle.std.proofs.Common.{◌≡◌, ◌∙◌, ℕ, ℤ, ◌+◌, ◌*◌, ◌<◌, ◌≤◌, ◌≤ℤ◌, ◌*ℤ◌, Bool, true, false, pos, neg_ℤ, Option, Some, None, List, []}
+use Rattle.std.proofs.Common.{◌≡◌, ◌∙◌, ℕ, ℤ, ◌+◌, ◌*◌, ◌<◌, ◌≤◌, ◌≤ℤ◌, ◌*ℤ◌, Bool, true, false, pos, neg_ℤ, Some, None, List, []}
 use Rattle.std.proofs.Common.{◌∷◌, ◌++◌, length, slice_get, get_or, refl, sym, ap, subst, arith, append-nil, length-append}
-use Rattle.polcert_policy.proofs.Common.{ints, slice_get-get_or, Lexeme, size_of, largest, IsReadable, IsRounded, PolicyGraph, nodes}
-use Rattle.polcert_policy.proofs.Common.{PolicyVectors, Part, sign_kind, with_sign, tokens_of, AreVectors, IsRoundedVectors, IsInRange}
+use Rattle.polcert_policy.proofs.Common.{ints, slice_get-get_or, Lexeme, size_of, largest, IsReadable, IsRounded, PolicyGraph, nodes, Part}
+use Rattle.polcert_policy.proofs.Common.{PolicyVectors, sign_kind, with_sign, tokens_of, AreVectors, IsRoundedVectors, IsInRange}
 use Rattle.polcert_policy.proofs.Common.{AreProper, IsPartColumn, AreVectorsUpTo, open_of, HasReadVectors, AreUnfinished, VectorsReading}
 use Rattle.polcert_policy.proofs.Common.{Rounding, Down, Up}
 use Rattle.std.proofs.lemmas.Int.{to_z-of_z, fits_signed_from_abs}
@@ -41,7 +41,7 @@ rounded_in_range rounding b bs h readable rounded = at rounding rounded
     high : signed b (size_of bs) ≤ℤ (pos largest *ℤ pos millionth)
     high = subst (λ z. signed b (size_of bs) ≤ℤ z) (sym (signed-mul false largest millionth)) (high_end b (size_of bs) _ readable.size)
 
-    at : (r : Rounding) → IsRounded r b bs h → IsInRange h
+    at : (r : _) → IsRounded r b bs h → IsInRange h
     at Down is = (
       is.greatest _ low,
       le_times_back millionth millionth_pos h (pos largest) (le_through _ _ _ is.not_above high),
@@ -84,7 +84,7 @@ module _ {way : Rounding} where
       n : NextPart way g o ps node column v.values s []
       n = next_part g o ps node column vs s [] v old all
 
-      at : (u : Option Lexeme) → s ∷ [] ≡ with_sign u n.part.token ++ tokens_of n.rest → ⊥
+      at : (u : _) → s ∷ [] ≡ with_sign u n.part.token ++ tokens_of n.rest → ⊥
       at u h1 = grind arith
 
   pub unfinished_vector : (g : PolicyGraph) (seen : List Lexeme) (r : VectorsReading) → 1 ≤ r.states → 0 < r.column
@@ -95,7 +95,7 @@ module _ {way : Rounding} where
     unfinished = λ v all. at h.sign h.signed v (subst (λ ts. IsRoundedVectors way g r.states ts v) h.spelled all);
   }
     where
-      at : (sign : Option Lexeme) → ((s : Lexeme) → sign ≡ Some s → (sign_kind s.kind ≡ true) × (0 < r.column)) → (v : PolicyVectors)
+      at : (sign : _) → ((s : Lexeme) → sign ≡ Some s → (sign_kind s.kind ≡ true) × (0 < r.column)) → (v : _)
           → IsRoundedVectors way g r.states (tokens_of h.parts ++ open_of sign) v → ⊥
       at None signed v all =
           let count = whole_count g r.states h.parts r.values.items v h.vectors.records all in
@@ -119,15 +119,13 @@ module _ {way : Rounding} where
     column_is = (let zero_is : r.column ≡ 0 = omega (arith, e) in
         subst (λ c. IsPartColumn r.states seen r.node c) zero_is (column_read g seen r h));
     possible = possible_seen g seen r some h;
-    unfinished = λ v all.
-        omega (
-          arith,
-          whole_count g r.states h.parts r.values.items v h.vectors.records
-              (subst (λ ts. IsRoundedVectors way g r.states ts v) (spelled_whole g seen r e h) all),
-          (at_column g seen r e h).count,
-          row_above
-              (1 + r.states) r.node (nodes g) fewer,
-        );
+    unfinished = λ v all. omega (
+      arith,
+      whole_count g r.states h.parts r.values.items v h.vectors.records
+          (subst (λ ts. IsRoundedVectors way g r.states ts v) (spelled_whole g seen r e h) all),
+      (at_column g seen r e h).count,
+      row_above (1 + r.states) r.node (nodes g) fewer,
+    );
   }
 
   pub values_in_range : (g : PolicyGraph) (o : ℕ) (ps : List Part) (node : ℕ) (vs : List ℤ) → AreVectors way g o ps vs

@@ -1,7 +1,7 @@
 -- Tokens are at most one list of vectors.
-use Rattle.std.proofs.Common.{◌≡◌, ◌∙◌, ℕ, ℤ, suc, zero, ◌+◌, ◌*◌, ◌<◌, true, Option, Some, None, List, [], ◌∷◌, ◌++◌, length, slice_get}
-use Rattle.std.proofs.Common.{refl, sym, ap, subst, arith, append-nil}
-use Rattle.polcert_policy.proofs.Common.{Lexeme, TokenKind, numeral_kind, PolicyGraph, nodes, PolicyVectors, Part, sign_kind, with_sign}
+use Rattle.std.proofs.Common.{◌≡◌, ◌∙◌, ℕ, ℤ, suc, zero, ◌+◌, ◌*◌, ◌<◌, true, Some, None, List, [], ◌∷◌, ◌++◌, length, slice_get}
+use Rattle.std.proofs.Common.{refl, sym, subst, arith, append-nil}
+use Rattle.polcert_policy.proofs.Common.{Lexeme, numeral_kind, PolicyGraph, nodes, PolicyVectors, Part, sign_kind, with_sign, TokenKind}
 use Rattle.polcert_policy.proofs.Common.{tokens_of, IsPart, IsActionPart, AreVectors, IsRoundedVectors, Rounding}
 use Rattle.polcert_policy.proofs.Places.{some_columns, row_above, row_below, row_of, get_within, within_get, same_list}
 
@@ -15,7 +15,7 @@ pub cons_not_nil : {X : Type 0} (x : X) (xs : List X) → x ∷ xs ≡ [] → �
 cons_not_nil x xs e = cc
 
 pub no_sign_numeral : (k : TokenKind) → numeral_kind k ≡ true → sign_kind k ≡ true → ⊥
-no_sign_numeral k h1 h2 = grind arith
+no_sign_numeral = grind arith
 
 abbrev pub AreParts : List Part → Type 0
 AreParts ps = (k : ℕ) (p : Part) → slice_get ps k ≡ Some p → IsPart p
@@ -33,7 +33,7 @@ front_parts (p ∷ ps) (q ∷ qs) more a b e = at (λ f. front_parts ps qs more 
     next : p ≡ q → (rest : List Part) × (qs ≡ ps ++ rest) → (rest : List Part) × (q ∷ qs ≡ (p ∷ ps) ++ rest)
     next same was = (was.0, λ i. sym same i ∷ was.1 i)
 
-    at : (tokens_of ps ++ more ≡ tokens_of qs → (rest : List Part) × (qs ≡ ps ++ rest)) → (x y : Option Lexeme) → p.sign ≡ x → q.sign ≡ y
+    at : (tokens_of ps ++ more ≡ tokens_of qs → (rest : List Part) × (qs ≡ ps ++ rest)) → (x y : _) → p.sign ≡ x → q.sign ≡ y
         → (with_sign x p.token ++ tokens_of ps) ++ more ≡ with_sign y q.token ++ tokens_of qs → (rest : List Part)
         × (q ∷ qs ≡ (p ∷ ps) ++ rest)
     at onward None None sx sy e = grind arith
@@ -43,12 +43,12 @@ front_parts (p ∷ ps) (q ∷ qs) more a b e = at (λ f. front_parts ps qs more 
     at onward (Some s) (Some t) sx sy e = grind arith
 
 action_part : (a : ℕ) (p : Part) → IsActionPart a p → IsPart p
-action_part a p h = grind arith
+action_part = grind arith
 
 pub same_count : {X : Type 0} (xs ys : List X) → length (xs ++ ys) ≡ length xs → xs ++ ys ≡ xs
 same_count [] [] l = refl
 same_count [] (y ∷ ys) l = absurd (omega (arith, l))
-same_count (x ∷ xs) ys l = ap (λ zs. x ∷ zs) (same_count xs ys (omega (arith, l)))
+same_count (x ∷ xs) ys l = cc (same_count xs ys (omega (arith, l)))
 
 -- the part of each value
 pub part_of_value : (o : ℕ) (ps : List Part) (node : ℕ) (vs : List ℤ) (x : ℤ) → length ps ≡ node * (1 + o) → length vs ≡ node * o → (k : ℕ)
@@ -76,12 +76,12 @@ module _ {way : Rounding} where
   same_parts g states ts v w p q =
       let found = front_parts p.parts q.parts [] (vector_parts g states p.parts v.values p.records)
       (vector_parts g states q.parts w.values q.records) (append-nil _ ∙ sym p.spelled ∙ q.spelled) in
-      sym (found.1 ∙ same_count p.parts found.0 (sym (ap length found.1) ∙ q.count ∙ sym p.count))
+      sym (found.1 ∙ same_count p.parts found.0 (cc (found.1, q.count, p.count)))
 
   same_value : (g : PolicyGraph) (states : ℕ) (ps : List Part) (vs ws : List ℤ) → length ps ≡ nodes g * (1 + states)
       → length vs ≡ nodes g * states → AreVectors way g states ps vs → AreVectors way g states ps ws
       → (k : ℕ) (x y : ℤ) → slice_get vs k ≡ Some x → slice_get ws k ≡ Some y → x ≡ y
-  same_value g states ps vs ws count filled p q k x y ex ey = grind (arith, part_of_value)
+  same_value = grind (arith, part_of_value)
 
   -- tokens are at most one list of vectors
   pub one_list : (g : PolicyGraph) (states : ℕ) (ts : List Lexeme) (v w : PolicyVectors) → IsRoundedVectors way g states ts v

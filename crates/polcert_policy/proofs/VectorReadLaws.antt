@@ -48,11 +48,11 @@ last_open [] None parts is = refl
 last_open [] (Some s) parts is = ap (λ b. if b then Some s else None) (is s refl)
 last_open (p ∷ ps) sign parts is = at p.sign sign (last_open ps sign (λ k. parts (suc k)) is)
   where
-    first : (u : Option Lexeme) → last_sign (tokens_of ps ++ open_of u) ≡ u → last_sign (p.token ∷ (tokens_of ps ++ open_of u)) ≡ u
+    first : (u : _) → last_sign (tokens_of ps ++ open_of u) ≡ u → last_sign (p.token ∷ (tokens_of ps ++ open_of u)) ≡ u
     first None was = after_numeral p.token (tokens_of ps ++ []) (parts 0 p refl).numeral was
     first (Some s) was = after_open p.token s (tokens_of ps) was
 
-    at : (u v : Option Lexeme) → last_sign (tokens_of ps ++ open_of v) ≡ v
+    at : (u v : _) → last_sign (tokens_of ps ++ open_of v) ≡ v
         → last_sign ((with_sign u p.token ++ tokens_of ps) ++ open_of v) ≡ v
     at u v h1 = grind (arith, first)
 
@@ -73,7 +73,7 @@ numbers_of (p ∷ ps) sign parts is = at p.sign refl (numbers_of ps sign (λ k. 
     one : numbers (p.token ∷ (tokens_of ps ++ open_of sign)) ≡ suc (numbers (tokens_of ps ++ open_of sign))
     one = one_number p.token (tokens_of ps ++ open_of sign) (parts 0 p refl).numeral
 
-    at : (u : Option Lexeme) → p.sign ≡ u → numbers (tokens_of ps ++ open_of sign) ≡ length ps
+    at : (u : _) → p.sign ≡ u → numbers (tokens_of ps ++ open_of sign) ≡ length ps
         → numbers ((with_sign u p.token ++ tokens_of ps) ++ open_of sign) ≡ suc (length ps)
     at None e was = one ∙ ap suc was
     at (Some s) e was = no_number s (p.token ∷ (tokens_of ps ++ open_of sign)) (sign_no_numeral s.kind ((parts 0 p refl).signed s e)) ∙ one
@@ -132,7 +132,7 @@ module _ {way : Rounding} where
       at found.0 found.1 (drop_same (tokens_of ps) (x ∷ more) _
       (all.spelled ∙ ap tokens_of found.1 ∙ tokens-append ps found.0))
     where
-      at : (rest : List Part) → all.parts ≡ ps ++ rest → x ∷ more ≡ tokens_of rest → NextPart way g o ps node column v.values x more
+      at : (rest : _) → all.parts ≡ ps ++ rest → x ∷ more ≡ tokens_of rest → NextPart way g o ps node column v.values x more
       at [] e tokens = absurd (cons_not_nil x more tokens)
       at (p ∷ rest) e tokens =
           let records = subst (λ qs. AreVectors way g o qs v.values) e all.records in
@@ -145,7 +145,7 @@ module _ {way : Rounding} where
             count = sym (length-append ps (p ∷ rest)) ∙ sym (ap length e) ∙ all.count;
           }
         where
-          here : (ps rest : List Part) (p : Part) → slice_get (ps ++ p ∷ rest) (length ps) ≡ Some p
+          here : (ps rest : _) (p : Part) → slice_get (ps ++ p ∷ rest) (length ps) ≡ Some p
           here [] rest p = refl
           here (q ∷ ps) rest p = here ps rest p
 
@@ -154,7 +154,7 @@ module _ {way : Rounding} where
       → numeral_kind t.kind ≡ true → (n : NextPart way g o ps node column ws t more) → (n.part.sign ≡ None) × (t ≡ n.part.token)
   unsigned_part g o ps node column ws t more numeral n = at n.part.sign refl n.tokens
     where
-      at : (s : Option Lexeme) → n.part.sign ≡ s → t ∷ more ≡ with_sign s n.part.token ++ tokens_of n.rest → (n.part.sign ≡ None)
+      at : (s : _) → n.part.sign ≡ s → t ∷ more ≡ with_sign s n.part.token ++ tokens_of n.rest → (n.part.sign ≡ None)
           × (t ≡ n.part.token)
       at None e tokens = (e, head_of t n.part.token _ _ tokens)
       at (Some s) e tokens = absurd (not_sign s t (sym (head_of t s _ _ tokens)) (n.is_part.signed s e) numeral)
@@ -183,11 +183,11 @@ module _ {way : Rounding} where
       (subst⁻¹ (λ ts. ArePossible way g r.states ts) (append-nil _)
       (filled h.parts r.node r.column r.values.items h.vectors)) signed)
     where
-      filled : (ps : List Part) (node column : ℕ) (vs : List ℤ) → AreVectorsUpTo way g r.states ps node column vs
+      filled : (ps : _) (node column : ℕ) (vs : _) → AreVectorsUpTo way g r.states ps node column vs
           → ArePossible way g r.states (tokens_of ps)
       filled ps node column vs old = possible_parts g r.states ps (can_end g r.states some (small_actions g h.proper) ps node column vs old)
 
-      signed : (s : Lexeme) → h.sign ≡ Some s → sign_kind s.kind ≡ true → 0 < r.column
+      signed : (s : _) → h.sign ≡ Some s → sign_kind s.kind ≡ true → 0 < r.column
           → ArePossible way g r.states (tokens_of h.parts ++ s ∷ [])
       signed s is kind begun =
           let zero = signed_zero s in
@@ -199,8 +199,7 @@ module _ {way : Rounding} where
             zero.token ∷ more.0,
             (
               more.1.0,
-              subst (λ ts. IsRoundedVectors way g r.states ts more.1.0)
-                  (ap (λ ts. ts ++ more.0) (tokens-append h.parts (zero ∷ []))
+              subst (λ ts. IsRoundedVectors way g r.states ts more.1.0) (ap (λ ts. ts ++ more.0) (tokens-append h.parts (zero ∷ []))
                   ∙ append_assoc (tokens_of h.parts) (s ∷ zero.token ∷ []) more.0
                   ∙ sym (append_assoc (tokens_of h.parts) (s ∷ []) (zero.token ∷ more.0))) more.1.1,
             ),
@@ -249,7 +248,7 @@ module _ {way : Rounding} where
         wrong = misfit;
       }
         where
-          tokens : (more : List Lexeme) → (seen ++ t ∷ []) ++ more ≡ tokens_of h.parts ++ (with_sign h.sign t ++ more)
+          tokens : (more : _) → (seen ++ t ∷ []) ++ more ≡ tokens_of h.parts ++ (with_sign h.sign t ++ more)
           tokens more = grind (arith, append_assoc, open_tokens)
 
       next : (x : Lexeme) (more : List Lexeme) (v : PolicyVectors) → IsRoundedVectors way g r.states (tokens_of h.parts ++ x ∷ more) v
@@ -305,7 +304,7 @@ module _ {way : Rounding} where
           let p = signed_part g r.states h.parts r.node r.column v.values s t more kind n in
           true_false (subst (λ x. numeral_kind x.kind ≡ true) (sym p.1) n.is_part.numeral) no_numeral))
         where
-          shape : (s : Option Lexeme) → is_part_shaped (suc (r.column - 1)) s t ≡ false
+          shape : (s : _) → is_part_shaped (suc (r.column - 1)) s t ≡ false
           shape s = grind arith
 
       -- a sign after a sign
@@ -327,10 +326,10 @@ module _ {way : Rounding} where
           )
           (at h.sign h.signed open_one)
         where
-          shape : (s : Option Lexeme) → Some u ≡ option_map kept_sign s → is_part_shaped (suc (r.column - 1)) s t ≡ false
+          shape : (s : _) → Some u ≡ option_map kept_sign s → is_part_shaped (suc (r.column - 1)) s t ≡ false
           shape s h1 = grind arith
 
-          at : (sign : Option Lexeme) → ((s : Lexeme) → sign ≡ Some s → (sign_kind s.kind ≡ true) × (0 < r.column))
+          at : (sign : _) → ((s : Lexeme) → sign ≡ Some s → (sign_kind s.kind ≡ true) × (0 < r.column))
               → Some u ≡ option_map kept_sign sign → Continues way g r.states h.parts sign t
           at None signed is = absurd (some_none u (sym is))
           at (Some s) signed is = λ more v all.
@@ -351,7 +350,7 @@ module _ {way : Rounding} where
           let n = next s (t ∷ more) v all in
           unreadable n.part v.values n.fits (signed_part g r.states h.parts r.node r.column v.values s t more kind n).1))
         where
-          unreadable : (p : Part) (ws : List ℤ) → FitsVectors way g r.states r.node r.column p ws → t ≡ p.token → ⊥
+          unreadable : (p : Part) (ws : _) → FitsVectors way g r.states r.node r.column p ws → t ≡ p.token → ⊥
           unreadable p ws fits same =
               let value = fits.value (r.column - 1) (omega (arith, begun)) in
               readable_not_refused t.bytes fault (subst (λ x. IsReadable x.bytes) (sym same) value.2.readable) refused

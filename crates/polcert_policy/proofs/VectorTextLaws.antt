@@ -12,7 +12,7 @@ use Rattle.polcert_policy.proofs.WholeTexts.{not_stopped, same_tokens, no_token_
 module _ (way : Rounding) where
   pub part_refusal : (g : PolicyGraph) (o p : ℕ) (text : List ℕ) (ts : List Lexeme) (rest : Rest) (fault : VectorFault)
       → o ≡ p → Taken (text_rest text text_limit) ts rest → IsPartRefusal way g o ts fault → IsRoundedVectorsRefusal way g p text fault
-  part_refusal g o p text ts rest fault e taken h = grind arith
+  part_refusal = grind arith
 
   module _ (g : PolicyGraph) (o : ℕ) (text : List ℕ) where
     module _ (ts : List Lexeme) (cut : IsCut (text_rest text text_limit) ts None) where
@@ -23,8 +23,7 @@ module _ (way : Rounding) where
         cut = cut;
         place_is = e;
         possible = h.possible;
-        unfinished =
-            h.unfinished;
+        unfinished = h.unfinished;
         column_is = h.column_is;
       }
 
@@ -59,4 +58,4 @@ module _ (way : Rounding) where
   pub end_refused : (g : PolicyGraph) (o p : ℕ) (text : List ℕ) (ts : List Lexeme) (end : ℕ) (fault : VectorFault)
       → o ≡ p → IsCut (text_rest text text_limit) ts None → end ≡ length text → AreEndRefusal way g o ts end fault
       → IsRefusedRoundedVectorsText way g p fault text
-  end_refused g o p text ts end fault e cut place h = grind (arith, end_refusal, refused_text)
+  end_refused = grind (arith, end_refusal, refused_text)

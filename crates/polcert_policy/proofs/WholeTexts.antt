@@ -10,7 +10,7 @@ module _ {V : Type 0} (IsRight : List Lexeme → V → Type 0) (text : List ℕ)
   -- whatever tokens were taken of it, right ones begin with them
   pub not_stopped : (ts : List Lexeme) (rest : Rest) → Taken (text_rest text text_limit) ts rest
       → ((more : List Lexeme) × ((w : V) × IsRight (ts ++ more) w) → ⊥) → ⊥
-  not_stopped ts rest taken none = grind (arith, cut_taken)
+  not_stopped = grind (arith, cut_taken)
 
   -- its tokens are right, whatever cut of it they are
   pub same_tokens : (ts : List Lexeme) → IsCut (text_rest text text_limit) ts None → IsRight ts v

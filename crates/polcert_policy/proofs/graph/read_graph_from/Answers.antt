@@ -28,8 +28,7 @@ loop-token-preserved g c =
       seen = (
         (was.0 ++ lexeme_of c.in-Ok-Some.token ∷ []) ++ ahead.ts,
         all_passed _ _ _ _ _ _ _ _ taken ahead,
-        ahead.reads_on tt _
-            (c.in_default.ensures.read was.0 was.2),
+        ahead.reads_on tt _ (c.in_default.ensures.read was.0 was.2),
       );
       counts = (after.0 ∙ counts.0 ∙ c.loop-token.invariant.counts.0, after.1 ∙ counts.1 ∙ c.loop-token.invariant.counts.1);
     }
@@ -49,13 +48,12 @@ returns-in-Err-read_successors_ahead g c =
     }
 
 pub returns-in-Err : goal.returns-in-Err
-returns-in-Err g c =
-    let gives = rw (c.in-Ok-Some.is ∙ ap Ok c.in-Ok-Some.field-0-is) at c.next_token.follows.holds-at-none.answers in
+returns-in-Err g c = let seen = c.loop-token.invariant.seen in let gives =
+    rw (c.in-Ok-Some.is ∙ ap Ok c.in-Ok-Some.field-0-is) at c.next_token.follows.holds-at-none.answers in
     record {
-      read = refused_at_token c.loop-token.invariant.seen.0 c.loop-token.invariant.seen.1 _ _ _ c.next_token.follows.lender-at-none gives.0
-          gives.2 (λ text rest t.
+      read = refused_at_token seen.0 seen.1 _ _ _ c.next_token.follows.lender-at-none gives.0 gives.2 (λ text rest t.
           refused_text _ _ text _ (token_refusal _ _ _ _ text _ rest _ c.loop-token.invariant.counts.0 c.loop-token.invariant.counts.1 t
-          (c.in-Err.ensures.read c.loop-token.invariant.seen.0 c.loop-token.invariant.seen.2)));
+          (c.in-Err.ensures.read seen.0 seen.2)));
     }
 
 pub returns-in-Ok : goal.returns-in-Ok
@@ -91,8 +89,7 @@ returns-in-Err-Token g c =
           refused_text _ _ text _ (
             was.0,
             cut,
-            possible_at _ _ _ _ was.0 counts.0 counts.1
-                (possible_read was.0 r r.some_actions r.some_observations was.2.nodes),
+            possible_at _ _ _ _ was.0 counts.0 counts.1 (possible_read was.0 r r.some_actions r.some_observations was.2.nodes),
           ));
     }
 

@@ -10,13 +10,12 @@ pub loop-node-init : goal.loop-node-init
 loop-node-init g c = record { took = nothing; same_count = refl }
 
 pub returns-in_err-write_vector : goal.returns-in_err-write_vector
-returns-in_err-write_vector g c =
-    let below : c.loop-node.node < nodes c.args.graph.now = search rules in
-    let back = reads_back c.args.graph.now c.args.vectors.now c.nodes-nodes.ensures.proper c.nodes-vector_count.ensures.proper
+returns-in_err-write_vector g c = let graph = c.args.graph.now in let below : c.loop-node.node < nodes graph = search rules in
+    let back = reads_back graph c.args.vectors.now c.nodes-nodes.ensures.proper c.nodes-vector_count.ensures.proper
     (sym c.requires) in
     record {
-      written = wrote_part (vectors_text_up_to c.args.graph.now c.args.vectors.now) (vector_text c.args.graph.now c.args.vectors.now)
-          (λ n. refl) c.loop-node.node (nodes c.args.graph.now) below _ (search rules)
+      written = wrote_part (vectors_text_up_to graph c.args.vectors.now) (vector_text graph c.args.vectors.now)
+          (λ n. refl) c.loop-node.node (nodes graph) below _ (search rules)
           c.loop-node.invariant.took c.loop-node.invariant.same_count c.in_err-write_vector.ensures.err c.in_err-write_vector.ensures.count;
       reads_back = back Down;
       either_way = back;

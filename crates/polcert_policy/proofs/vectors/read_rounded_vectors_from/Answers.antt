@@ -15,8 +15,7 @@ loop-token-init g c = record {
   seen = (
     [],
     none_taken _ _ _ _ c.new-tokens.result c.new-tokens.ensures.fresh c.new-tokens.ensures.text,
-    c.new-reading.ensures.read
-        c.args.rounding c.args.graph.now c.nodes-nodes.ensures.proper,
+    c.new-reading.ensures.read c.args.rounding c.args.graph.now c.nodes-nodes.ensures.proper,
   );
   states = c.new-reading.ensures.states;
 }
@@ -33,8 +32,7 @@ loop-token-preserved g c =
       seen = (
         (was.0 ++ lexeme_of c.in-Ok-Some.token ∷ []) ++ ahead.ts,
         all_passed _ _ _ _ _ _ _ _ taken ahead,
-        ahead.reads_on _ _
-            (c.in_default.ensures.takes was.0 was.2),
+        ahead.reads_on _ _ (c.in_default.ensures.takes was.0 was.2),
       );
       states = c.in_default-read_values_ahead.ensures.states ∙ c.in_default.ensures.states ∙ c.loop-token.invariant.states;
     }
@@ -54,13 +52,12 @@ returns-in-Err-read_values_ahead g c =
     }
 
 pub returns-in-Err : goal.returns-in-Err
-returns-in-Err g c =
-    let gives = rw (c.in-Ok-Some.is ∙ ap Ok c.in-Ok-Some.field-0-is) at c.next_token.follows.holds-at-none.answers in
+returns-in-Err g c = let seen = c.loop-token.invariant.seen in let gives =
+    rw (c.in-Ok-Some.is ∙ ap Ok c.in-Ok-Some.field-0-is) at c.next_token.follows.holds-at-none.answers in
     record {
-      read = refused_at_token c.loop-token.invariant.seen.0 c.loop-token.invariant.seen.1 _ _ _ c.next_token.follows.lender-at-none gives.0
-          gives.2 (λ text rest t.
+      read = refused_at_token seen.0 seen.1 _ _ _ c.next_token.follows.lender-at-none gives.0 gives.2 (λ text rest t.
           refused_text _ _ _ text _ (part_refusal _ _ _ _ text _ rest _ c.loop-token.invariant.states t
-          (c.in-Err.ensures.takes c.loop-token.invariant.seen.0 c.loop-token.invariant.seen.2)));
+          (c.in-Err.ensures.takes seen.0 seen.2)));
     }
 
 pub returns-in-Ok : goal.returns-in-Ok
@@ -75,12 +72,12 @@ returns-in-Ok g c =
     }
 
 pub returns-in-Err-finish : goal.returns-in-Err-finish
-returns-in-Err-finish g c =
-    let gives = rw (c.in-Ok-None.is ∙ ap Ok c.in-Ok-None.field-0-is) at c.next_token.follows.holds-at-none.answers in
+returns-in-Err-finish g c = let seen = c.loop-token.invariant.seen in let gives =
+    rw (c.in-Ok-None.is ∙ ap Ok c.in-Ok-None.field-0-is) at c.next_token.follows.holds-at-none.answers in
     record {
-      read = refused_at_end c.loop-token.invariant.seen.0 c.loop-token.invariant.seen.1 _ _ gives.0 _ (λ text cut place.
-          end_refused _ _ _ _ text c.loop-token.invariant.seen.0 _ _ c.loop-token.invariant.states cut (c.place.ensures ∙ place)
-          (c.in-Err-finish.ensures _ c.loop-token.invariant.seen.0 c.loop-token.invariant.seen.2));
+      read = refused_at_end seen.0 seen.1 _ _ gives.0 _ (λ text cut place.
+          end_refused _ _ _ _ text seen.0 _ _ c.loop-token.invariant.states cut (c.place.ensures ∙ place)
+          (c.in-Err-finish.ensures _ seen.0 seen.2));
     }
 
 pub returns-in-Err-Token : goal.returns-in-Err-Token

@@ -7,13 +7,13 @@ use Rattle.polcert_policy.proofs.Places.{fewer_left}
 use Rattle.polcert_policy.proofs.graph_reading.GraphReading.take_ahead.Goals as goal
 
 pub returns-then-is_some-clause-takes : goal.returns-then-is_some-clause-takes
-returns-then-is_some-clause-takes c = takes_none (λ (_ : Unit {0}). IsRead) c.args.self.now c.args.bytes.now
+returns-then-is_some-clause-takes c = takes_none (λ _. IsRead) c.args.self.now c.args.bytes.now
 
 pub loop-self-init : goal.loop-self-init
 loop-self-init c = record {
   minus = search rules;
   counts = (refl, refl);
-  takes = takes_none (λ (_ : Unit {0}). IsRead) c.args.self.now c.args.bytes.now;
+  takes = takes_none (λ _. IsRead) c.args.self.now c.args.bytes.now;
 }
 
 pub overflow_add-at : goal.overflow_add-at
@@ -37,7 +37,7 @@ loop-self-preserved c =
     record {
       minus = next.minus_same ∙ was.minus;
       counts = (next.actions_same ∙ was.counts.0, next.observations_same ∙ was.counts.1);
-      takes = takes_more (λ (_ : Unit {0}). IsRead) c.args.self.now r c.advance.new.self bs at front.len was.takes (λ place.
+      takes = takes_more (λ _. IsRead) c.args.self.now r c.advance.new.self bs at front.len was.takes (λ place.
           let digits = begins place in (
             digits.token ∷ [],
             (

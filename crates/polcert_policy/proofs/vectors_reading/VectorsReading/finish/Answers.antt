@@ -1,4 +1,4 @@
-use Rattle.std.proofs.Common.{◌<◌, refl, arith}
+use Rattle.std.proofs.Common.{◌<◌, refl, arith, rules}
 use Rattle.polcert_policy.proofs.Common.{nodes}
 use Rattle.polcert_policy.proofs.VectorEndLaws.{unfinished_vector, too_few, vectors_read}
 use Rattle.polcert_policy.proofs.LimitLaws.{vectors_proper}
@@ -11,8 +11,7 @@ returns-then-self-gt0 c = λ way seen h. (
     c.args.self.node,
     (
       c.args.self.column,
-      unfinished_vector _ seen c.args.self c.args.self.some_states c.if-self-gt0.true
-          h,
+      unfinished_vector _ seen c.args.self c.args.self.some_states c.if-self-gt0.true h,
       c.if-self-gt0.true,
     ),
   ),
@@ -20,7 +19,7 @@ returns-then-self-gt0 c = λ way seen h. (
 
 pub returns-then-self-nodes : goal.returns-then-self-nodes
 returns-then-self-nodes c = λ way seen h.
-    let fewer : c.args.self.node < nodes c.args.graph.now = omega (arith, c.if-self-nodes.true, c.nodes.ensures.count) in
+    let fewer : c.args.self.node < nodes c.args.graph.now = search rules in
     (refl, (c.args.self.node, too_few _ seen c.args.self c.args.self.some_states c.if-self-gt0.false fewer h, fewer))
 
 pub new-requires : goal.new-requires
