@@ -16,7 +16,7 @@ use Rattle.polcert_items.proofs.ListLaws.{takes_number, takes_sign}
 
 module _ {R : Type 0} (Step : R → Lexeme → R → Type 0) where
   taken_both : (a b c : R) (us vs : List Lexeme) → AreTaken Step a us b → AreTaken Step b vs c → AreTaken Step a (us ++ vs) c
-  taken_both a b c us vs first (none _) = subst (λ xs. AreTaken Step a xs b) (sym (append-nil us)) first
+  taken_both a b c us vs first (none _) = rw (append-nil us) first
   taken_both a b c us vs first (more _ between _ ws l before step) =
       grind (arith, append_assoc, more, taken_both a b between us ws first before)
 
@@ -31,54 +31,56 @@ module _ {R : Type 0} (Step : R → Lexeme → R → Type 0) where
     within = omega (arith, first.within, second.within, length-drop m bytes);
     fed = λ place.
         let u = first.fed place in
-        let v = second.fed (place + m) in
+        let v = second.fed _ in
         (u.0 ++ v.0, (begin_then place bytes m n u.0 v.0 u.1.0 v.1.0, taken_both a b c u.0 v.0 u.1.1 v.1.1));
   }
 
-pub fed_none : (k : ModelSoFar) (r : EntryReader) (bytes : List ℕ) → FedAhead k r bytes 0 r
-fed_none k r bytes = takes_none (IsFed k) r bytes
+module _ (k : ModelSoFar) where
+  pub fed_none : (r : EntryReader) (bytes : List ℕ) → FedAhead k r bytes 0 r
+  fed_none r bytes = takes_none _ r bytes
 
--- nor is anything else changed
-pub fed_nothing : (k : ModelSoFar) (r : EntryReader) (bytes : List ℕ) (s : EntryState) → r.state ≡ s
-    → FedAhead k r bytes 0 (with_state r s)
-fed_nothing k r bytes s is = subst (λ t. FedAhead k r bytes 0 (with_state r t)) is (fed_none k r bytes)
+  -- nor is anything else changed
+  pub fed_nothing : (r : EntryReader) (bytes : List ℕ) (s : EntryState) → r.state ≡ s
+      → FedAhead k r bytes 0 (with_state r s)
+  fed_nothing r bytes s is = rw (← is) (fed_none r bytes)
 
-pub fed_then : (k : ModelSoFar) (a b c : EntryReader) (bytes : List ℕ) (m n : ℕ) → FedAhead k a bytes m b → FedAhead k b (drop m bytes) n c
-    → FedAhead k a bytes (m + n) c
-fed_then k a b c bytes m n first second = takes_then (IsFed k) a b c bytes m n first second
+  pub fed_then : (a b c : EntryReader) (bytes : List ℕ) (m n : ℕ) → FedAhead k a bytes m b → FedAhead k b (drop m bytes) n c
+      → FedAhead k a bytes (m + n) c
+  fed_then a b c bytes m n first second = takes_then _ a b c bytes m n first second
 
-taken_within : (k : ModelSoFar) (a b : EntryReader) (ls : List Lexeme) → AreTaken (IsFed k) a ls b
-    → IsWithinIndices (indices_in k a.table) a → IsWithinIndices (indices_in k b.table) b
-taken_within k a b ls (none _) within = within
-taken_within k a b ls (more _ mid _ us l before f) within = subst (λ t. IsWithinIndices (indices_in k t) b) (sym f.table) f.within
+  taken_within : (a b : EntryReader) (ls : List Lexeme) → AreTaken (IsFed k) a ls b
+      → IsWithinIndices (indices_in k a.table) a → IsWithinIndices (indices_in k b.table) b
+  taken_within a b ls (none _) within = within
+  taken_within a b ls (more _ mid _ us l before f) within = subst (λ t. IsWithinIndices (indices_in k t) b) (sym f.table) f.within
 
-pub fed_within : (k : ModelSoFar) (a b : EntryReader) (bytes : List ℕ) (count : ℕ) → FedAhead k a bytes count b
-    → IsWithinIndices (indices_in k a.table) a → IsWithinIndices (indices_in k b.table) b
-fed_within k a b bytes count fed within =
-    let f = fed.fed 0 in
-    taken_within k a b f.0 f.1.1 within
+  pub fed_within : (a b : EntryReader) (bytes : List ℕ) (count : ℕ) → FedAhead k a bytes count b
+      → IsWithinIndices (indices_in k a.table) a → IsWithinIndices (indices_in k b.table) b
+  fed_within a b bytes count fed within =
+      let f = fed.fed 0 in
+      taken_within a b f.0 f.1.1 within
 
 pub if_ok_map : {T E : Type 0} (r : Result T E) (P Q : T → Type 0) → ((v : T) → P v → Q v) → IfOk r P → IfOk r Q
-if_ok_map r P Q h1 h2 = grind arith
+if_ok_map = grind arith
 
 -- ---- a number of a list
 
-sign_is : (is_minus_sign : Bool) (s : Lexeme) → s.kind ≡ kind_of_sign is_minus_sign
-    → IsSignAt (record { negative = is_minus_sign; place = s.place }) s
-sign_is is_minus_sign s h1 = grind arith
+module _ (is_minus_sign : Bool) where
+  sign_is : (s : Lexeme) → s.kind ≡ kind_of_sign is_minus_sign
+      → IsSignAt (record { negative = is_minus_sign; place = s.place }) s
+  sign_is = grind arith
 
-is_a_sign : (is_minus_sign : Bool) → (is_sign_kind (kind_of_sign is_minus_sign) ≡ true)
-    × (begins_number (kind_of_sign is_minus_sign) ≡ true)
-is_a_sign is_minus_sign = grind arith
+  is_a_sign : (is_sign_kind (kind_of_sign is_minus_sign) ≡ true)
+      × (begins_number (kind_of_sign is_minus_sign) ≡ true)
+  is_a_sign = grind arith
 
 -- a number at the front of some bytes ends within them
 pub number_within : (place : ℕ) (bytes : List ℕ) (found : FrontNumber) → BeginWithNumber place bytes found → found.len ≤ length bytes
-number_within place bytes found h1 = grind arith
+number_within = grind arith
 
 -- and within all of the bytes
 pub ends_within : (bytes : List ℕ) (at : ℕ) (found : FrontNumber) → at ≤ length bytes
     → ((place : ℕ) → BeginWithNumber place (drop at bytes) found) → at + found.len ≤ length bytes
-ends_within bytes at found high front = omega (arith, number_within 0 (drop at bytes) found (front 0), length-drop at bytes)
+ends_within bytes at found high front = omega (arith, number_within 0 _ found (front 0), length-drop at bytes)
 
 -- the list with this sign at its end, or with this number
 abbrev with_sign : {T : Type 0} → Numbers T → Sign → Numbers T
@@ -92,14 +94,14 @@ module _ {T : Type 0} (kind : ListKind T) (old : Numbers T) where
       → IsListFed kind old s (with_sign old (record { negative = is_minus_sign; place = s.place }))
   sign_fed is_minus_sign s is no_sign room =
       let sign : Sign = record { negative = is_minus_sign; place = s.place } in
-      let at = sign_is is_minus_sign s is in
-      let a = is_a_sign is_minus_sign in
-      let mark : is_sign_kind s.kind ≡ true = ap is_sign_kind is ∙ a.0 in
+      let at = sign_is _ s is in
+      let a = is_a_sign _ in
+      let mark = ap is_sign_kind is ∙ a.0 in
       let left = old.needed - length old.read in
       record {
         begins = ap begins_number is ∙ a.1;
-        room = omega (arith, room);
-        takes = takes_sign kind old (with_sign old sign) s refl sign at no_sign refl refl;
+        room = omega arith;
+        takes = takes_sign kind old _ s refl sign at no_sign refl refl;
         sign = at;
         leads = record { same = λ ls i. numbers_want (mark i) (if mark i then left else left - 1) ls };
       }
@@ -107,14 +109,14 @@ module _ {T : Type 0} (kind : ListKind T) (old : Numbers T) where
   numeral_fed : (x : T) (l : Lexeme) → ((y z : T) → kind.worth y ≡ kind.worth z → y ≡ z)
       → IsNumeralOf (is_minus_sign old.sign) l (kind.worth x) → FitsRange kind.range (kind.worth x) → length old.read < old.needed
       → IsListFed kind old l (with_number old x)
-  numeral_fed x l distinct v fits room = grind (arith, length-append, takes_number)
+  numeral_fed = grind (arith, length-append, takes_number)
 
 -- the number at the front of some bytes
 module _ {T : Type 0} (kind : ListKind T) (old : Numbers T) (x : T) (bytes : List ℕ) (found : FrontNumber)
     (distinct : (y z : T) → kind.worth y ≡ kind.worth z → y ≡ z) (worth : kind.worth x ≡ found.value)
     (fits : FitsRange kind.range found.value) (no_sign : old.sign ≡ None) (room : length old.read < old.needed) where
   numeral_of : (is_minus_sign : Bool) (l : Lexeme) → IsNumeralOf is_minus_sign l found.value → IsNumeralOf is_minus_sign l (kind.worth x)
-  numeral_of is_minus_sign l v = subst (IsNumeralOf is_minus_sign l) (sym worth) v
+  numeral_of is_minus_sign l v = subst (IsNumeralOf _ l) (sym worth) v
 
   taken_at : (place : ℕ) → BeginWithNumber place bytes found → (ls : List Lexeme)
       × (BeginWith place bytes found.len ls × AreTaken (IsListFed kind) old ls (with_number old x))
@@ -123,22 +125,20 @@ module _ {T : Type 0} (kind : ListKind T) (old : Numbers T) (x : T) (bytes : Lis
         n ∷ [],
         (
           front,
-          more old old (with_number old x) [] n (none old)
-              (numeral_fed kind old x n distinct is (subst (FitsRange kind.range) (sym worth) fits) room),
+          more old old _ [] n (none old) (grind (arith, length-append, takes_number)),
         ),
       )
   taken_at place (signed is_minus_sign s n sign v front) =
-      let mid = with_sign old (record { negative = is_minus_sign; place = s.place }) in
-      let fed = numeral_fed kind mid x n distinct (numeral_of is_minus_sign n v) (subst (FitsRange kind.range) (sym worth) fits) room in (
+      let mid = with_sign old _ in
+      let fed = numeral_fed kind mid x n distinct (numeral_of _ n v) (subst (FitsRange kind.range) (sym worth) fits) room in (
         s ∷ n ∷ [],
         (
           front,
-          more old mid (with_number old x) (s ∷ []) n
-              (more old old mid [] s (none old) (sign_fed kind old is_minus_sign s sign no_sign room)) fed,
+          more old mid _ (s ∷ []) n (more old old mid [] s (none old) (sign_fed kind old is_minus_sign s sign no_sign room)) fed,
         ),
       )
 
   pub number_ahead : ((place : ℕ) → BeginWithNumber place bytes found) → (new : Numbers T) → new ≡ with_number old x
       → StepsAhead (IsListFed kind) old bytes found.len new
-  number_ahead front new is = subst (StepsAhead (IsListFed kind) old bytes found.len) (sym is)
+  number_ahead front new is = subst (StepsAhead _ old bytes _) (sym is)
       (record { within = number_within 0 bytes found (front 0); fed = λ place. taken_at place (front place) })

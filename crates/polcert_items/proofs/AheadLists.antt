@@ -12,11 +12,11 @@ use Rattle.polcert_items.proofs.PatternLaws.{number_not_name, BeginsNumber}
 use Rattle.polcert_items.proofs.WantLaws.{body_leads, numbers_lead, no_numbers_lead}
 
 begins : (kind : TokenKind) → begins_number kind ≡ true → BeginsNumber kind
-begins kind h1 = grind arith
+begins = grind arith
 
 -- what begins a number begins no item
 number_inside : (l : Lexeme) → begins_number l.kind ≡ true → begins_item l ≡ false
-number_inside l e = grind arith
+number_inside = grind arith
 
 -- a list of such numbers stands in an entry of this table
 pub record StandsIn {T : Type 0} (kind : ListKind T) (state : Numbers T → EntryState) (table : Table) : Type 0 where
@@ -28,14 +28,15 @@ pub record StandsIn {T : Type 0} (kind : ListKind T) (state : Numbers T → Entr
   wants : (p : Preamble) (places : List Place) (n : Numbers T) (ls : List Lexeme)
       → state_wants p table places (state n) ls ≡ expected_by_numbers n ls
 
-pub probabilities_stand : (table : Table) → (table ≢ Reward) → StandsIn of_probabilities states.Probabilities table
-probabilities_stand table other = grind (arith, probability_state)
+module _ (table : Table) where
+  pub probabilities_stand : (table ≢ Reward) → StandsIn of_probabilities states.Probabilities table
+  probabilities_stand = grind (arith, probability_state)
 
-pub no_reward : (table : Table) → (table ≡ Transition) ⊎ (table ≡ Observation) → (table ≢ Reward)
-no_reward table is = ⊎_elim (λ e r. absurd (cc)) (λ e r. absurd (cc)) is
+  pub no_reward : (table ≡ Transition) ⊎ (table ≡ Observation) → (table ≢ Reward)
+  no_reward is = ⊎_elim (λ e r. absurd (cc)) (λ e r. absurd (cc)) is
 
-pub rewards_stand : (table : Table) → table ≡ Reward → StandsIn of_rewards states.Rewards table
-rewards_stand table is = grind (arith, reward_state)
+  pub rewards_stand : table ≡ Reward → StandsIn of_rewards states.Rewards table
+  rewards_stand = grind (arith, reward_state)
 
 module _ {T : Type 0} (kind : ListKind T) (state : Numbers T → EntryState) (k : ModelSoFar) (r : EntryReader)
     (stands : StandsIn kind state r.table) where

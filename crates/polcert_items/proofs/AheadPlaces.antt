@@ -1,8 +1,8 @@
 -- The places of an entry and the first number after them, taken at once.
-use Rattle.std.proofs.Common.{◌≡◌, ◌∙◌, inl, inr, ⊎_elim, ℕ, zero, suc, ◌+◌, ◌<◌, true, false, List, [], ◌∷◌, ◌++◌, length, drop, get_or}
-use Rattle.std.proofs.Common.{refl, sym, ap, subst, length-append, arith, Bool, ◌||◌}
+use Rattle.std.proofs.Common.{◌≡◌, ◌∙◌, inl, inr, ⊎_elim, ℕ, ◌+◌, ◌<◌, true, false, List, [], ◌∷◌, ◌++◌, length, drop, get_or}
+use Rattle.std.proofs.Common.{refl, sym, ap, subst, length-append, arith, Bool}
 use Rattle.std.proofs.lemmas.List.{length-drop}
-use Rattle.polcert_items.proofs.Common.{at_offset, Lexeme, TokenKind, Colon, count_of, StandsFor, IsPlace, Preamble, begins_item}
+use Rattle.polcert_items.proofs.Common.{at_offset, Lexeme, TokenKind, Colon, count_of, StandsFor, Preamble, begins_item}
 use Rattle.polcert_items.proofs.Common.{is_reserved}
 use Rattle.polcert_items.proofs.Common.{IsName, Elements, Count, Place, Only, Table, preamble_in, indices_in, named_in, is_sign_kind}
 use Rattle.polcert_items.proofs.Common.{ModelSoFar}
@@ -19,25 +19,18 @@ use Rattle.polcert_items.proofs.AheadLaws.{fed_then}
 use Rattle.polcert_items.proofs.PatternLaws.{in_state, colon_takes}
 use Rattle.polcert_items.proofs.WantLaws.{body_leads, colon_leads}
 
-or_false : (a b : Bool) → (a || b) ≡ false → a ≡ false
-or_false a b h1 = grind arith
-
 -- ---- a colon
-
-colon_inside : (l : Lexeme) → l.kind ≡ Colon → begins_item l ≡ false
-colon_inside l is = subst (λ (kind : TokenKind). begins_item (record l { kind = kind }) ≡ false) (sym is) refl
 
 colon_fed : (k : ModelSoFar) (r : EntryReader) (l : Lexeme) → AwaitsColon r.state → IsWithinIndices (indices_in k r.table) r
     → length r.places < length (indices_in k r.table) → l.kind ≡ Colon → IsFed k r l (record r { state = states.Place })
 colon_fed k r l awaits within room kind = record {
-  inside = colon_inside l kind;
+  inside = subst (λ (kind : TokenKind). begins_item (record l { kind = kind }) ≡ false) (sym kind) refl;
   table = refl;
   within = room;
-  takes = ⊎_elim (λ is. in_state p r states.Colon states.Place l is (record { back = λ ls e g. (kind, g); on = λ ls e g. g.1 }))
-      (λ is. in_state p r states.Body states.Place l is (colon_takes p r.table r.places l kind)) awaits;
+  takes = ⊎_elim (λ is. in_state p r _ _ l is (record { back = λ ls e g. (kind, g); on = λ ls e g. g.1 }))
+      (λ is. in_state p r _ _ l is (colon_takes p r.table r.places l kind)) awaits;
   sign = ap is_sign_kind kind;
-  leads = ⊎_elim at_colon (λ is. record { same = λ ls. (body_leads p r l _ is (colon_leads p r.table (length r.places) l kind)).same ls })
-      awaits;
+  leads = ⊎_elim at_colon (λ is. record { same = λ ls. (body_leads p r l _ is (colon_leads p r.table _ l kind)).same ls }) awaits;
 }
   where
     p : Preamble
@@ -49,16 +42,6 @@ colon_fed k r l awaits within room kind = record {
 
 -- ---- a place
 
-first_place : (ds : List Elements) (n : ℕ) (l : Lexeme) (p : Place) → n < length ds → IsPlace (get_or ds n (Count 0)) l p
-    → IsFirstPlace (drop n ds) l p
-first_place [] n l p inside is = absurd (omega arith)
-first_place (d ∷ ds) zero l p inside is = is
-first_place (d ∷ ds) (suc n) l p inside is = first_place ds n l p (omega arith) is
-
--- as many places may be named as there are
-same_count : (k : ModelSoFar) (table : Table) → length (named_in k table) ≡ length (indices_in k table)
-same_count k table = grind arith
-
 -- a place begins no item, and is no sign
 record IsInside (l : Lexeme) : Type 0 where
   item : begins_item l ≡ false
@@ -66,103 +49,98 @@ record IsInside (l : Lexeme) : Type 0 where
 
 name_inside : (l : Lexeme) → IsName l → IsInside l
 unfolding is_reserved
-name_inside l n = subst (λ (kind : TokenKind). IsInside (record l { kind = kind })) (sym n.kind)
-    (record { item = or_false _ _ n.free; sign = refl })
+name_inside l n = rw n.kind (record { item = grind arith; sign = refl })
 
-place_inside : (ds : List Elements) (l : Lexeme) (p : Place) → IsFirstPlace ds l p → IsInside l
-place_inside ds l p h1 = grind (arith, name_inside)
+module _ (ds : List Elements) (l : Lexeme) (p : Place) where
+  place_inside : IsFirstPlace ds l p → IsInside l
+  place_inside = grind (arith, name_inside)
 
--- wherever its token stands
-pub place_moved : (ds : List Elements) (l : Lexeme) (p : Place) (position : ℕ) → IsFirstPlace ds l p
-    → IsFirstPlace ds (at_offset position l) p
-place_moved ds l p position h1 = grind arith
+  -- wherever its token stands
+  pub place_moved : (position : ℕ) → IsFirstPlace ds l p
+      → IsFirstPlace ds (at_offset position l) p
+  place_moved = grind arith
 
-place_fed : (k : ModelSoFar) (r : EntryReader) (l : Lexeme) (p : Place) → r.state ≡ states.Place
-    → length r.places < length (indices_in k r.table) → IsFirstPlace (drop (length r.places) (named_in k r.table)) l p
-    → IsFed k r l (record { table = r.table; places = r.places ++ p ∷ []; state = states.Body })
-place_fed k r l p is room first = grind (arith, length-append, place_inside)
+module _ (k : ModelSoFar) where
+  -- a colon and a place
+  colon_place_fed : (r : EntryReader) (bytes : List ℕ) (colon : ℕ) (front : FrontPlace) → AwaitsColon r.state
+      → IsWithinIndices (indices_in k r.table) r → length r.places < length (indices_in k r.table)
+      → ((position : ℕ) → BeginWithOne position bytes colon Colon)
+      → ((position : ℕ) → BeginWithPlace (drop (length r.places) (named_in k r.table)) position (drop colon bytes) front)
+      → FedAhead k r bytes (colon + front.len) (record { table = r.table; places = r.places ++ front.place ∷ []; state = states.Body })
+  colon_place_fed r bytes colon front awaits within room first second = record {
+    within = omega (arith, (first 0).front.within, (second 0).front.within, length-drop colon bytes);
+    fed = λ position.
+        let c = first position in
+        let p = second _ in
+        let mid = record r { state = states.Place } in
+        let next : EntryReader = record { table = r.table; places = r.places ++ front.place ∷ []; state = states.Body } in (
+          c.token ∷ p.token ∷ [],
+          (
+            begin_then position bytes colon front.len _ _ c.front p.front,
+            more r mid next (c.token ∷ []) p.token (more r r mid [] c.token (none r) (colon_fed k r c.token awaits within room c.kind_is))
+                (grind (arith, length-append, place_inside)),
+          ),
+        );
+  }
 
--- a colon and a place
-colon_place_fed : (k : ModelSoFar) (r : EntryReader) (bytes : List ℕ) (colon : ℕ) (front : FrontPlace) → AwaitsColon r.state
-    → IsWithinIndices (indices_in k r.table) r → length r.places < length (indices_in k r.table)
-    → ((position : ℕ) → BeginWithOne position bytes colon Colon)
-    → ((position : ℕ) → BeginWithPlace (drop (length r.places) (named_in k r.table)) position (drop colon bytes) front)
-    → FedAhead k r bytes (colon + front.len) (record { table = r.table; places = r.places ++ front.place ∷ []; state = states.Body })
-colon_place_fed k r bytes colon front awaits within room first second = record {
-  within = omega (arith, (first 0).front.within, (second 0).front.within, length-drop colon bytes);
-  fed = λ position.
-      let c = first position in
-      let p = second (position + colon) in
-      let mid : EntryReader = record r { state = states.Place } in
-      let next : EntryReader = record { table = r.table; places = r.places ++ front.place ∷ []; state = states.Body } in (
-        c.token ∷ p.token ∷ [],
-        (
-          begin_then position bytes colon front.len (c.token ∷ []) (p.token ∷ []) c.front p.front,
-          more r mid next (c.token ∷ []) p.token (more r r mid [] c.token (none r) (colon_fed k r c.token awaits within room c.kind_is))
-              (place_fed k mid p.token front.place refl room p.place_is),
-        ),
-      );
-}
+  -- whatever the state says of what came before
+  pub place_is_fed : (r : EntryReader) (bytes : List ℕ) (colon : ℕ) (front : FrontPlace) (places : List Place)
+      → length r.places < length (indices_in k r.table)
+      → ((position : ℕ) → BeginWithOne position bytes colon Colon)
+      → ((position : ℕ) → BeginWithPlace (drop (length r.places) (named_in k r.table)) position (drop colon bytes) front)
+      → places ≡ r.places ++ front.place ∷ [] → PlacesFed k r bytes (colon + front.len) (record r { places = places })
+  place_is_fed r bytes colon front places room first second are =
+      rw are (record {
+        high = omega (arith, (first 0).front.within, (second 0).front.within, length-drop colon bytes);
+        fed = λ s awaits within. colon_place_fed _ bytes colon front awaits within room first second;
+        within = let len = length-append r.places (front.place ∷ []) in (omega arith, omega arith);
+        state = refl;
+        table = refl;
+      })
 
--- whatever the state says of what came before
-pub place_is_fed : (k : ModelSoFar) (r : EntryReader) (bytes : List ℕ) (colon : ℕ) (front : FrontPlace) (places : List Place)
-    → length r.places < length (indices_in k r.table)
-    → ((position : ℕ) → BeginWithOne position bytes colon Colon)
-    → ((position : ℕ) → BeginWithPlace (drop (length r.places) (named_in k r.table)) position (drop colon bytes) front)
-    → places ≡ r.places ++ front.place ∷ [] → PlacesFed k r bytes (colon + front.len) (record r { places = places })
-place_is_fed k r bytes colon front places room first second are =
-    subst (λ ps. PlacesFed k r bytes (colon + front.len) (record r { places = ps })) (sym are) (record {
-      high = omega (arith, (first 0).front.within, (second 0).front.within, length-drop colon bytes);
-      fed = λ s awaits within. colon_place_fed k (with_state r s) bytes colon front awaits within room first second;
-      within = let len = length-append r.places (front.place ∷ []) in (omega (arith, len), omega (arith, len, room));
-      state = refl;
-      table = refl;
-    })
+  -- some places, and others after them
+  pub places_then : (a b c : EntryReader) (bytes : List ℕ) (m n : ℕ) → PlacesFed k a bytes m b
+      → PlacesFed k b (drop m bytes) n c → PlacesFed k a bytes (m + n) c
+  places_then a b c bytes m n first second = record {
+    high = omega (arith, first.high, second.high, length-drop m bytes);
+    fed = λ s awaits within. fed_then k _ _ _ bytes m n (first.fed s awaits within) (second.fed _ (inr refl) first.within);
+    within = second.within;
+    state = second.state ∙ first.state;
+    table = second.table ∙ first.table;
+  }
 
--- some places, and others after them
-pub places_then : (k : ModelSoFar) (a b c : EntryReader) (bytes : List ℕ) (m n : ℕ) → PlacesFed k a bytes m b
-    → PlacesFed k b (drop m bytes) n c → PlacesFed k a bytes (m + n) c
-places_then k a b c bytes m n first second = record {
-  high = omega (arith, first.high, second.high, length-drop m bytes);
-  fed = λ s awaits within. fed_then k (with_state a s) (with_state b states.Body) (with_state c states.Body) bytes m n
-      (first.fed s awaits within) (second.fed states.Body (inr refl) first.within);
-  within = second.within;
-  state = second.state ∙ first.state;
-  table = second.table ∙ first.table;
-}
+  pub places_more : (a b c : EntryReader) (bytes : List ℕ) (m n : ℕ) (has_place : Bool)
+      → (has_place ≡ true → PlacesFed k a bytes m b) → (has_place ≡ false → (m ≡ 0) × (b ≡ a))
+      → PlacesFed k b (drop m bytes) n c → PlacesFed k a bytes (m + n) c
+  places_more a b c bytes m n true some same next = places_then a b c bytes m n (some refl) next
+  places_more a b c bytes m n false some same next =
+      let first = (same refl).0 in
+      let here = subst (λ j. PlacesFed k b (drop j bytes) n c) first next in
+      let count : n ≡ m + n = omega arith in
+      subst (λ r. PlacesFed k r bytes (m + n) c) (same refl).1 (rw (← count) here)
 
-pub places_more : (k : ModelSoFar) (a b c : EntryReader) (bytes : List ℕ) (m n : ℕ) (has_place : Bool)
-    → (has_place ≡ true → PlacesFed k a bytes m b) → (has_place ≡ false → (m ≡ 0) × (b ≡ a))
-    → PlacesFed k b (drop m bytes) n c → PlacesFed k a bytes (m + n) c
-places_more k a b c bytes m n true some same next = places_then k a b c bytes m n (some refl) next
-places_more k a b c bytes m n false some same next =
-    let first : m ≡ 0 = (same refl).0 in
-    let here = subst (λ j. PlacesFed k b (drop j bytes) n c) first next in
-    let count : n ≡ m + n = omega (arith, first) in
-    subst (λ r. PlacesFed k r bytes (m + n) c) (same refl).1 (subst (λ j. PlacesFed k b bytes j c) count here)
+  -- places after the word of the table
+  pub places_taken : (r new : EntryReader) (bytes : List ℕ) (count : ℕ) → r.state ≡ states.Colon
+      → IsWithinIndices (indices_in k r.table) r → PlacesFed k r bytes count new
+      → FedAhead k r bytes count (with_state new states.Body)
+  places_taken r new bytes count is within fed =
+      let at_colon = subst (λ s. IsWithinIndices (indices_in k r.table) (with_state r s)) is within in
+      rw is (fed.fed _ (inl refl) at_colon)
 
--- places after the word of the table
-pub places_taken : (k : ModelSoFar) (r new : EntryReader) (bytes : List ℕ) (count : ℕ) → r.state ≡ states.Colon
-    → IsWithinIndices (indices_in k r.table) r → PlacesFed k r bytes count new
-    → FedAhead k r bytes count (with_state new states.Body)
-places_taken k r new bytes count is within fed =
-    let at_colon = subst (λ s. IsWithinIndices (indices_in k r.table) (with_state r s)) is within in
-    subst (λ s. FedAhead k (with_state r s) bytes count (with_state new states.Body)) (sym is) (fed.fed states.Colon (inl refl) at_colon)
+  -- what stands for one of the elements that may be named is a place
+  pub element_place : (table : Table) (written : ℕ) (l : Lexeme) (elements : Elements) (index : ℕ)
+      → written < length (indices_in k table)
+      → get_or (named_in k table) written (Count 0) ≡ elements → StandsFor elements l index
+      → IsFirstPlace (drop written (named_in k table)) l (Only index)
+  element_place = grind arith
 
--- what stands for one of the elements that may be named is a place
-pub element_place : (k : ModelSoFar) (table : Table) (written : ℕ) (l : Lexeme) (elements : Elements) (index : ℕ)
-    → written < length (indices_in k table)
-    → get_or (named_in k table) written (Count 0) ≡ elements → StandsFor elements l index
-    → IsFirstPlace (drop written (named_in k table)) l (Only index)
-element_place k table written l elements index inside are stands = grind arith
-
--- the digits at the front of some bytes are the number of an element
-pub digits_place : (k : ModelSoFar) (table : Table) (written : ℕ) (bytes : List ℕ) (count : ℕ) (index : FrontDigits)
-    → written < length (indices_in k table)
-    → ((place : ℕ) → BeginWithDigits place bytes index) → count ≡ count_of (get_or (named_in k table) written (Count 0))
-    → index.value < count
-    → (position : ℕ) → BeginWithPlace (drop written (named_in k table)) position bytes
-    (record { len = index.len; place = Only index.value })
-digits_place k table written bytes count index inside front are below position =
-    let d = front position in
-    grind (arith, first_place, same_count)
+  -- the digits at the front of some bytes are the number of an element
+  pub digits_place : (table : Table) (written : ℕ) (bytes : List ℕ) (count : ℕ) (index : FrontDigits)
+      → written < length (indices_in k table)
+      → ((place : ℕ) → BeginWithDigits place bytes index) → count ≡ count_of (get_or (named_in k table) written (Count 0))
+      → index.value < count
+      → (position : ℕ) → BeginWithPlace (drop written (named_in k table)) position bytes
+      (record { len = index.len; place = Only index.value })
+  digits_place table written bytes count index inside front are below position =
+      let d = front position in
+      grind arith

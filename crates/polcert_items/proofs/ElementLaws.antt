@@ -1,5 +1,5 @@
 -- Elements, token by token.
-use Rattle.std.proofs.Common.{◌≡◌, ◌≢◌, ℕ, ◌≤◌, true, false, List, [], ◌∷◌, ◌++◌, length, get_or, map, AllPairs, bytes_eq, codes, Result}
+use Rattle.std.proofs.Common.{◌≡◌, ◌≢◌, ℕ, ◌≤◌, true, false, List, [], ◌∷◌, ◌++◌, length, get_or, map, bytes_eq, codes, Result}
 use Rattle.std.proofs.Common.{OnOk, refl, sym, ap, subst, arith, lit≤, append_assoc, length-append}
 use Rattle.polcert_items.proofs.Common.{common_steps, list_any, All-cons, All-nil, All-tail, is_digit, Lexeme, Numeral, ItemFault}
 use Rattle.polcert_items.proofs.Common.{DuplicateName, ElementsReader, IsName, IsWhole, Elements, Count, TakesLexeme, CannotTake, NamesGo}
@@ -18,20 +18,21 @@ use Rattle.polcert_format.proofs.StillPossible.{a_colon}
 
 -- ---- a count
 
--- after a count nothing comes
-pub count_takes : (most : ℕ) (l : Lexeme) (n : ℕ) → IsCountOf most l n → TakesLexeme (ElementsGo most) readers.First l (readers.Counted n)
-count_takes most l n c = grind (arith, counted)
+module _ (most : ℕ) (l : Lexeme) where
+  -- after a count nothing comes
+  pub count_takes : (n : ℕ) → IsCountOf most l n → TakesLexeme (ElementsGo most) readers.First l (readers.Counted n)
+  count_takes = grind (arith, counted)
 
--- a numeral that is no count from 1 to the most
-pub count_stuck : (most : ℕ) (l : Lexeme) → l.kind ≡ Numeral → ((n : ℕ) → IsCountOf most l n → ⊥)
-    → CannotTake (ElementsGo most) readers.First l
-count_stuck most l k none = grind arith
+  -- a numeral that is no count from 1 to the most
+  pub count_stuck : l.kind ≡ Numeral → ((n : ℕ) → IsCountOf most l n → ⊥)
+      → CannotTake (ElementsGo most) readers.First l
+  count_stuck = grind arith
 
 -- ---- names
 
 module _ (most : ℕ) (names : List (List ℕ)) (l : Lexeme) where
   one_more : (ls : List Lexeme) → names_with (names ++ l.bytes ∷ []) ls ≡ names_with names (l ∷ ls)
-  one_more ls = append_assoc names (l.bytes ∷ []) (map (λ l. l.bytes) ls)
+  one_more ls = append_assoc names _ _
 
   pub name_takes : IsName l → TakesLexeme (NamesGo most) names l (names ++ l.bytes ∷ [])
   name_takes name = record {
@@ -40,53 +41,48 @@ module _ (most : ℕ) (names : List (List ℕ)) (l : Lexeme) where
   }
 
   pub no_name_stuck : (IsName l → ⊥) → CannotTake (NamesGo most) names l
-  no_name_stuck none = grind arith
+  no_name_stuck = grind arith
 
 at_seam : (xs : List (List ℕ)) (x : List ℕ) (ys : List (List ℕ)) (d : List ℕ) → get_or (xs ++ x ∷ ys) (length xs) d ≡ x
 at_seam [] x ys d = refl
 at_seam (y ∷ xs) x ys d = at_seam xs x ys d
 
--- a name that is among the others cannot stand after them once more
-among_apart : (names : List (List ℕ)) (name : List ℕ) (further : List (List ℕ)) → list_any (bytes_eq name) names ≡ true
-    → AllPairs (λ x y. x ≢ y) (names ++ name ∷ further) → ⊥
-among_apart names name further e apart =
-    let found = Any-from_list_any (bytes_eq name) names e in
-    grind (arith, apart found.0 (length names) found.1, length-append, get_or_append_left, at_seam, bytes_eq-Decides name found.1)
+module _ (most : ℕ) (names : List (List ℕ)) where
+  pub known_stuck : (l : Lexeme) → list_any (bytes_eq l.bytes) names ≡ true
+      → CannotTake (NamesGo most) names l
+  known_stuck l e = λ ls elements g. (let found = Any-from_list_any (bytes_eq l.bytes) names e in
+      grind (arith, g.apart found.0 (length names) found.1, length-append, get_or_append_left, at_seam, bytes_eq-Decides l.bytes found.1))
 
-pub known_stuck : (most : ℕ) (names : List (List ℕ)) (l : Lexeme) → list_any (bytes_eq l.bytes) names ≡ true
-    → CannotTake (NamesGo most) names l
-known_stuck most names l e = λ ls elements g. among_apart names l.bytes (map (λ l. l.bytes) ls) e g.apart
-
-pub more_read : (most : ℕ) (names : List (List ℕ)) (name : List ℕ) → AreNamesRead most names → length names ≢ most
-    → list_any (bytes_eq name) names ≡ false → AreNamesRead most (names ++ name ∷ [])
-more_read most names name read room new = grind
-    (arith, bytes_eq, length-append, common_steps, list_any_at, all_pairs_push, bytes_eq-Decides)
+  pub more_read : (name : List ℕ) → AreNamesRead most names → length names ≢ most
+      → list_any (bytes_eq name) names ≡ false → AreNamesRead most (names ++ name ∷ [])
+  more_read = grind (arith, bytes_eq, length-append, common_steps, list_any_at, all_pairs_push, bytes_eq-Decides)
 
 -- ---- the first name
 
-names_only : (most : ℕ) (l : Lexeme) → (l.kind ≡ Numeral → ⊥) → (xs ls : List Lexeme) (e : Elements) → xs ≡ l ∷ ls → AreElements most xs e
-    → NamesGo most [] xs e
-names_only most l h1 xs ls e h2 h3 = grind (arith, length-map)
+module _ (most : ℕ) (l : Lexeme) where
+  names_only : (l.kind ≡ Numeral → ⊥) → (xs ls : List Lexeme) (e : Elements) → xs ≡ l ∷ ls → AreElements most xs e
+      → NamesGo most [] xs e
+  names_only = grind (arith, length-map)
 
-some_names : (most : ℕ) (l : Lexeme) (ls : List Lexeme) (e : Elements) → NamesGo most [] (l ∷ ls) e → AreElements most (l ∷ ls) e
-some_names most l ls e g =
-    subst (AreElements most (l ∷ ls)) (sym g.elements_are)
-    (named g.all (omega arith) (subst (λ n. n ≤ most) (length-map (l ∷ ls) (λ l. l.bytes)) g.few) g.apart)
+  some_names : (ls : List Lexeme) (e : Elements) → NamesGo most [] (l ∷ ls) e → AreElements most (l ∷ ls) e
+  some_names ls e g =
+      subst (AreElements most (l ∷ ls)) (sym g.elements_are)
+      (named g.all (omega arith) (rw (← length-map (l ∷ ls) (λ l. l.bytes)) g.few) g.apart)
 
-pub first_takes : (most : ℕ) (l : Lexeme) (names : List (List ℕ)) → IsName l → names ≡ l.bytes ∷ []
-    → TakesLexeme (ElementsGo most) readers.First l (readers.Named names)
-first_takes most l names name is = subst (λ ns. TakesLexeme (ElementsGo most) readers.First l (readers.Named ns)) (sym is) (record {
-  back = λ ls e g. some_names most l ls e ((name_takes most [] l name).back ls e g);
-  on = λ ls e a. (name_takes most [] l name).on ls e (names_only most l (λ k. let f = name.kind in cc) (l ∷ ls) ls e refl a);
-})
+  pub first_takes : (names : List (List ℕ)) → IsName l → names ≡ l.bytes ∷ []
+      → TakesLexeme (ElementsGo most) readers.First l (readers.Named names)
+  first_takes names name is = rw is (record {
+    back = λ ls e g. some_names ls e ((name_takes most [] l name).back ls e g);
+    on = λ ls e a. (name_takes most [] l name).on ls e (names_only (λ k. cc) (l ∷ ls) ls e refl a);
+  })
 
-pub first_stuck : (most : ℕ) (l : Lexeme) → (l.kind ≡ Numeral → ⊥) → CannotTake (NamesGo most) [] l
-    → CannotTake (ElementsGo most) readers.First l
-first_stuck most l k stuck = λ ls e a. stuck ls e (names_only most l k (l ∷ ls) ls e refl a)
+  pub first_stuck : (l.kind ≡ Numeral → ⊥) → CannotTake (NamesGo most) [] l
+      → CannotTake (ElementsGo most) readers.First l
+  first_stuck k stuck = λ ls e a. stuck ls e (names_only k (l ∷ ls) ls e refl a)
 
 pub first_reason : (l : Lexeme) (kind : ItemFault) (place : ℕ) → ElementsReason (readers.Named []) l kind place
     → ElementsReason readers.First l kind place
-first_reason l kind place h1 = grind arith
+first_reason = grind arith
 
 -- ---- a further name
 
@@ -97,16 +93,17 @@ named_takes most old names new l was name is =
     grind arith
 
 pub on_ok_both : {T E : Type 0} (r : Result T E) {P Q R : Type 0} → (P → Q → R) → OnOk r P → OnOk r Q → OnOk r R
-on_ok_both r h1 h2 h3 = grind arith
+on_ok_both = grind arith
 
 -- ---- what was seen
 
-pub seen_colon : (body : List Lexeme) (l : Lexeme) → body ≡ [] → (colon : Lexeme) × (body ++ l ∷ [] ≡ colon ∷ [])
-seen_colon body l e = (l, ap (λ ls. ls ++ l ∷ []) e)
+module _ (body : List Lexeme) (l : Lexeme) where
+  pub seen_colon : body ≡ [] → (colon : Lexeme) × (body ++ l ∷ [] ≡ colon ∷ [])
+  seen_colon e = (l, ap (λ ls. ls ++ l ∷ []) e)
 
-pub seen_first : (body : List Lexeme) (l : Lexeme) (r : ElementsReader) → (colon : Lexeme) × (body ≡ colon ∷ [])
-    → ((colon : Lexeme) → AreElementsSeen (colon ∷ l ∷ []) r) → AreElementsSeen (body ++ l ∷ []) r
-seen_first body l r first seen = subst (λ ls. AreElementsSeen (ls ++ l ∷ []) r) (sym first.1) (seen first.0)
+  pub seen_first : (r : ElementsReader) → (colon : Lexeme) × (body ≡ colon ∷ [])
+      → ((colon : Lexeme) → AreElementsSeen (colon ∷ l ∷ []) r) → AreElementsSeen (body ++ l ∷ []) r
+  seen_first r first seen = rw first.1 (seen first.0)
 
 earlier : (name : List ℕ) (ls : List Lexeme) → list_any (bytes_eq name) (map (λ l. l.bytes) ls)
     ≡ list_any (λ (l : Lexeme). bytes_eq l.bytes name) ls
@@ -124,8 +121,7 @@ repeated_name body (readers.Named names) l more place seen reason =
       whole = refl;
       place_is = reason.0;
       name = reason.1;
-      earlier =
-          grind (arith, earlier l.bytes);
+      earlier = grind (arith, earlier l.bytes);
     }
 repeated_name body r l more place seen reason = absurd reason.2
 
@@ -152,8 +148,7 @@ elements_can_end most some (readers.Named names) read = (
       all = All-nil IsName;
       few = grind (arith, append-nil);
       apart = grind (arith, append-nil);
-      elements_are =
-          grind (arith, append-nil);
+      elements_are = grind (arith, append-nil);
     },
   ),
 )

@@ -9,16 +9,15 @@ use Rattle.polcert_items.specs.declared.item.ItemReader.TheVariants as items
 use Rattle.polcert_items.proofs.StartNumbers.{small_ones}
 
 pub is_start : (t : Topic) → (t ≡ Start) ⊎ (t ≡ Start → ⊥)
-is_start t = grind arith
+is_start = grind arith
 
 -- ---- what is right has the form
 
 body_form : (states : Elements) (ls : List Lexeme) (v : StartWeights) → IsStartBody states ls v → IsStartBodyForm states ls
-body_form states ls v h1 = grind
-    (arith, small_ones, shapes.uniform, shapes.name, shapes.state_number, shapes.one_number, shapes.probabilities)
+body_form = grind (arith, small_ones, shapes.uniform, shapes.name, shapes.state_number, shapes.one_number, shapes.probabilities)
 
 pub start_form : (states : Elements) (ls : List Lexeme) (v : StartWeights) → IsStart states ls v → IsStartForm states ls
-start_form states ls v h1 = grind (arith, body_form, shapes.plain, shapes.listed)
+start_form = grind (arith, body_form, shapes.plain, shapes.listed)
 
 -- ---- of an item that is no start item
 
@@ -34,34 +33,35 @@ forms_right k _ ls other g = g
 
 -- no refusal is held back
 pub nothing_pending : (item : ItemReader) → (topic_of_reader item ≡ Start → ⊥) → pending_in item ≡ None
-nothing_pending item h1 = grind arith
+nothing_pending = grind arith
 
 if_start : (t : Topic) (P : Type 0) → t ≡ Start → IfStart t P → P
 if_start t P e h = subst (λ u. IfStart u P) e h
 
 -- ---- one lexeme more of any item
 
-pub forms_take : (k : ModelSoFar) (old new : ItemReader) (l : Lexeme) → topic_of_reader new ≡ topic_of_reader old
-    → TakesLexeme (ItemGoes k) old l new
-    → IfStart (topic_of_reader old) (TakesLexeme (ItemForms k) old l new)
-    → TakesLexeme (ItemForms k) old l new
-forms_take k old new l same goes formed = of (is_start (topic_of_reader old))
-  where
-    of : (topic_of_reader old ≡ Start) ⊎ (topic_of_reader old ≡ Start → ⊥) → TakesLexeme (ItemForms k) old l new
-    of (inl start) = if_start (topic_of_reader old) _ start formed
-    of (inr other) = record {
-      back = λ ls any g.
-          let r = forms_right k new ls (λ e. other (sym same ∙ e)) g in
-          right_forms k old (l ∷ ls) r.0 other (goes.back ls r.0 r.1);
-      on = λ ls any g.
-          let r = forms_right k old (l ∷ ls) other g in
-          right_forms k new ls r.0 (λ e. other (sym same ∙ e)) (goes.on ls r.0 r.1);
-    }
+module _ (k : ModelSoFar) (old : ItemReader) where
+  pub forms_take : (new : ItemReader) (l : Lexeme) → topic_of_reader new ≡ topic_of_reader old
+      → TakesLexeme (ItemGoes k) old l new
+      → IfStart (topic_of_reader old) (TakesLexeme (ItemForms k) old l new)
+      → TakesLexeme (ItemForms k) old l new
+  forms_take new l same goes formed = of (is_start _)
+    where
+      of : (topic_of_reader old ≡ Start) ⊎ (topic_of_reader old ≡ Start → ⊥) → TakesLexeme (ItemForms k) old l new
+      of (inl start) = if_start _ _ start formed
+      of (inr other) = record {
+        back = λ ls any g.
+            let r = forms_right k new ls (λ e. other (sym same ∙ e)) g in
+            right_forms k old (l ∷ ls) r.0 other (goes.back ls r.0 r.1);
+        on = λ ls any g.
+            let r = forms_right k old (l ∷ ls) other g in
+            right_forms k new ls r.0 (λ e. other (sym same ∙ e)) (goes.on ls r.0 r.1);
+      }
 
-pub forms_stuck : (k : ModelSoFar) (old : ItemReader) (l : Lexeme) → CannotTake (ItemGoes k) old l
-    → IfStart (topic_of_reader old) (CannotTake (ItemForms k) old l) → CannotTake (ItemForms k) old l
-forms_stuck k old l stuck formless = of (is_start (topic_of_reader old))
-  where
-    of : (topic_of_reader old ≡ Start) ⊎ (topic_of_reader old ≡ Start → ⊥) → CannotTake (ItemForms k) old l
-    of (inl start) = if_start (topic_of_reader old) _ start formless
-    of (inr other) = λ ls any g. let r = forms_right k old (l ∷ ls) other g in stuck ls r.0 r.1
+  pub forms_stuck : (l : Lexeme) → CannotTake (ItemGoes k) old l
+      → IfStart (topic_of_reader old) (CannotTake (ItemForms k) old l) → CannotTake (ItemForms k) old l
+  forms_stuck l stuck formless = of (is_start _)
+    where
+      of : (topic_of_reader old ≡ Start) ⊎ (topic_of_reader old ≡ Start → ⊥) → CannotTake (ItemForms k) old l
+      of (inl start) = if_start _ _ start formless
+      of (inr other) = λ ls any g. let r = forms_right k old (l ∷ ls) other g in stuck ls r.0 r.1

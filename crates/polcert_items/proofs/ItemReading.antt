@@ -1,6 +1,6 @@
 -- An item's reader, token by token: what it keeps of the body, and why a token is refused.
-use Rattle.std.proofs.Common.{◌≡◌, ℕ, ◌⊎◌, Bool, true, false, Some, List, [], ◌∷◌, ◌++◌, Result, Err, OnOk, IfErr, unwrap_or, refl, sym, ap}
-use Rattle.std.proofs.Common.{subst, arith}
+use Rattle.std.proofs.Common.{◌≡◌, ℕ, ◌⊎◌, Bool, true, false, Some, List, [], ◌∷◌, ◌++◌, Result, Err, OnOk, IfErr, unwrap_or, refl, ap}
+use Rattle.std.proofs.Common.{arith}
 use Rattle.polcert_items.proofs.Common.{Lexeme, ElementsReader, ItemFault, ItemReader, EndError, StartReader, Start, Elements, Count}
 use Rattle.polcert_items.proofs.Common.{count_of, IsMisfit, ExpectsNext, expected_by_start, IfStart, FeedError, Refusal, IsLate}
 use Rattle.polcert_items.proofs.Common.{states_known}
@@ -9,13 +9,11 @@ use Rattle.polcert_items.proofs.Common.{ElementsReason, AreElementsSeen, StartGo
 use Rattle.polcert_items.proofs.Common.{IsStartReason, IsStop, IsDue, CanStillBeRight, IsEndDue, IsLateEnd, StopsStart, ItemGoes, ItemForms}
 use Rattle.polcert_items.proofs.Common.{IsItemWithin, IsSeen, topic_of_reader, pending_in, IsStartFed, RefusesInStart}
 use Rattle.polcert_items.specs.Steps.Wants.{item_wants, IfNotStart}
-use Rattle.polcert_format.specs.Reasons.{IsOfElements}
 use Rattle.polcert_items.specs.Steps.Start.{IfNotMemory}
 use Rattle.polcert_items.specs.Steps.Items.{IsItemFed, RefusesInItem, IsItemReason, of_start}
 use Rattle.polcert_items.specs.declared.item.ItemReader.TheVariants as items
 use Rattle.polcert_items.specs.declared.item.FeedError.TheVariants as stops
 use Rattle.polcert_items.proofs.FirstNumberLaws as laws
-use Rattle.polcert_items.proofs.PatternLaws.{each_refused_map}
 use Rattle.polcert_items.proofs.ElementLaws.{repeated_name}
 use Rattle.polcert_items.proofs.StartSeen.{last_sign}
 pub use Rattle.polcert_items.proofs.StartSeen.{sign_ends}
@@ -26,129 +24,120 @@ pub elements_seen : {T E : Type 0} (result : Result T E) (body : List Lexeme) (l
     → OnOk result (is_sign_kind l.kind ≡ false)
     → OnOk result (AreElementsSeen (body ++ l ∷ []) new)
     → OnOk result ((ends_in_sign (body ++ l ∷ []) ≡ false) × AreElementsSeen (body ++ l ∷ []) new)
-elements_seen result body l new h1 h2 = grind (arith, last_sign)
+elements_seen = grind (arith, last_sign)
 
 -- ---- why a token is refused
-
-elements_reason : (item : ItemReader) (r : ElementsReader) (body : List Lexeme) (l : Lexeme) (kind : ItemFault) (place : ℕ)
-    → (topic_of_reader item ≡ Start → ⊥) → IsOfElements (topic_of_reader item)
-    → AreElementsSeen body r → ElementsReason r l kind place → IsItemReason item body l kind place
-elements_reason item r body l kind place h1 h2 h3 h4 = grind (arith, repeated_name)
 
 module _ (item : ItemReader) (r : ElementsReader) (body : List Lexeme) (l : Lexeme) (kind : ItemFault) (place : ℕ) (count : ℕ)
     (s : IsSeen count body item) (m : ElementsReason r l kind place) where
   pub states_reason : item ≡ items.States r → IsItemReason item body l kind place
-  states_reason e = subst (λ i. IsItemReason i body l kind place) (sym e)
-      (elements_reason (items.States r) r body l kind place (λ x. cc) tt (subst (IsSeen count body) e s).1 m)
+  states_reason e = rw e (grind (arith, repeated_name))
 
   pub actions_reason : item ≡ items.Actions r → IsItemReason item body l kind place
-  actions_reason e = subst (λ i. IsItemReason i body l kind place) (sym e)
-      (elements_reason (items.Actions r) r body l kind place (λ x. cc) tt (subst (IsSeen count body) e s).1 m)
+  actions_reason e = rw e (grind (arith, repeated_name))
 
   pub observations_reason : item ≡ items.Observations r → IsItemReason item body l kind place
-  observations_reason e = subst (λ i. IsItemReason i body l kind place) (sym e)
-      (elements_reason (items.Observations r) r body l kind place (λ x. cc) tt (subst (IsSeen count body) e s).1 m)
+  observations_reason e = rw e (grind (arith, repeated_name))
 
 pub start_reason : (item : ItemReader) (r : StartReader) (body : List Lexeme) (l : Lexeme) (kind : ItemFault) (place : ℕ)
     → item ≡ items.Start r → IsStartReason (body ++ l ∷ []) kind place
     → IsItemReason item body l kind place
-start_reason item r body l kind place e m = subst (λ i. IsItemReason i body l kind place) (sym e) (of_start refl m)
+start_reason item r body l kind place e m = rw e (of_start refl m)
 
 -- ---- a start item, of the states that are known
 
 known_states : (k : ModelSoFar) (states : Elements) → k.states ≡ Some states → (preamble_in k).states ≡ states
 known_states k states e = ap (λ o. unwrap_or o (Count 0)) e
 
-pub start_fed : (k : ModelSoFar) (states : Elements) (item : ItemReader) (old new : StartReader) (l : Lexeme) → k.states ≡ Some states
-    → item ≡ items.Start old → IsStartFed states old l new
-    → IsItemFed k item l (items.Start new)
-start_fed k states item old new l known is fed =
-    let f : IsStartFed (preamble_in k).states old l new = subst (λ s. IsStartFed s old l new) (sym (known_states k states known)) fed in
-    grind arith
+module _ (k : ModelSoFar) (states : Elements) (item : ItemReader) (old : StartReader) where
+  pub start_fed : (new : StartReader) (l : Lexeme) → k.states ≡ Some states
+      → item ≡ items.Start old → IsStartFed states old l new
+      → IsItemFed k item l (items.Start new)
+  start_fed new l known is fed =
+      let f : IsStartFed (preamble_in k).states old l new = grind arith in
+      grind arith
 
-pub start_formless : (k : ModelSoFar) (states : Elements) (item : ItemReader) (old : StartReader) (l : Lexeme) → k.states ≡ Some states
-    → item ≡ items.Start old → CannotTake (StartGoes states) old l
-    → IfStart (topic_of_reader item) (CannotTake (ItemForms k) item l)
-start_formless k states item old l known is stuck = grind arith
+  pub start_formless : (l : Lexeme) → k.states ≡ Some states
+      → item ≡ items.Start old → CannotTake (StartGoes states) old l
+      → IfStart (topic_of_reader item) (CannotTake (ItemForms k) item l)
+  start_formless = grind arith
 
-pub start_stuck : (k : ModelSoFar) (states : Elements) (item : ItemReader) (old : StartReader) (l : Lexeme) → k.states ≡ Some states
-    → item ≡ items.Start old → CannotTake (StartGoes states) old l
-    → CannotTake (ItemGoes k) item l
-start_stuck k states item old l known is stuck = grind arith
+  pub start_stuck : (l : Lexeme) → k.states ≡ Some states
+      → item ≡ items.Start old → CannotTake (StartGoes states) old l
+      → CannotTake (ItemGoes k) item l
+  start_stuck = grind arith
 
-pub start_seen : (k : ModelSoFar) (states : Elements) (item : ItemReader) (old : StartReader) (body : List Lexeme) → k.states ≡ Some states
-    → item ≡ items.Start old → IsSeen (states_known k) body item
-    → HasReadStart (count_of states) body old
-start_seen k states item old body known is s = grind arith
+  pub start_seen : (body : List Lexeme) → k.states ≡ Some states
+      → item ≡ items.Start old → IsSeen (states_known k) body item
+      → HasReadStart (count_of states) body old
+  start_seen = grind arith
 
--- why it cannot continue
-start_stops : (k : ModelSoFar) (states : Elements) (item : ItemReader) (old : StartReader) (body : List Lexeme) (l : Lexeme) (r : Refusal)
-    → k.states ≡ Some states → item ≡ items.Start old
-    → IsSeen (states_known k) body item → ((x : Refusal) → IsDue old l x.kind x.place → r ≡ x)
-    → IsStop (IsDue old l) (start_sign old) (expected_by_start (count_of states) old []) l r.kind r.place
-    → IfStart (topic_of_reader item) (StopsStart (pending_in item) (states_known k) body (item_wants k item []) l r.kind r.place)
-start_stops k states item old body l r known is s late named =
-    let go : StopsStart (pending_refusal old) (count_of states) body (expected_by_start (count_of states) old []) l r.kind r.place =
-    laws.stops_start (count_of states) body old (expected_by_start (count_of states) old []) l r
-    (start_seen k states item old body known is s)
-    late named in
-    let here : StopsStart (pending_refusal old) (states_known k) body (item_wants k (items.Start old) []) l r.kind r.place =
-    subst (λ e. StopsStart (pending_refusal old) (count_of e) body (expected_by_start (count_of e) old []) l r.kind r.place)
-    (sym (known_states k states known)) go in
-    subst (λ i. IfStart (topic_of_reader i) (StopsStart (pending_in i) (states_known k) body (item_wants k i []) l r.kind r.place)) (sym is)
-    here
+  -- why it cannot continue
+  start_stops : (body : List Lexeme) (l : Lexeme) (r : Refusal)
+      → k.states ≡ Some states → item ≡ items.Start old
+      → IsSeen (states_known k) body item → ((x : Refusal) → IsDue old l x.kind x.place → r ≡ x)
+      → IsStop (IsDue old l) (start_sign old) (expected_by_start (count_of states) old []) l r.kind r.place
+      → IfStart (topic_of_reader item) (StopsStart (pending_in item) (states_known k) body (item_wants k item []) l r.kind r.place)
+  start_stops body l r known is s late named =
+      let go =
+      laws.stops_start _ body old _ l r
+      (start_seen body known is s)
+      late named in
+      let here : StopsStart (pending_refusal old) (states_known k) body (item_wants k (items.Start old) []) l r.kind r.place =
+      rw (known_states k states known) go in
+      rw is here
 
--- what is due of its first number is what is answered
-pub start_late : (k : ModelSoFar) (states : Elements) (item : ItemReader) (old : StartReader) (body more : List Lexeme) (l : Lexeme)
-    (ends : Bool) (late : Refusal) (result : Result Unit FeedError)
-    → k.states ≡ Some states → item ≡ items.Start old → IsSeen (states_known k) body item
-    → IsLate (states_known k) (body ++ l ∷ more) ends late.kind late.place
-    → ((r : Refusal) → IsDue old l r.kind r.place → result ≡ Err (stops.Refused r))
-    → (CanStillBeRight (count_of states) old l → IfErr result (λ stop. IfRefused stop (λ r. ⊥)))
-    → IfErr result (λ stop. IfRefused stop (λ r. (r.kind ≡ late.kind) × (r.place ≡ late.place)))
-start_late k states item old body more l ends late result known is s due answered held =
-    let here : IsLate (count_of states) (body ++ l ∷ more) ends late.kind late.place =
-    subst (λ e. IsLate (count_of e) (body ++ l ∷ more) ends late.kind late.place) (known_states k states known) due in
-    of (laws.late_at_lexeme (count_of states) body more l ends old late.kind late.place (start_seen k states item old body known is s) here)
-  where
-    of : IsDue old l late.kind late.place ⊎ CanStillBeRight (count_of states) old l
-        → IfErr result (λ stop. IfRefused stop (λ r. (r.kind ≡ late.kind) × (r.place ≡ late.place)))
-    of h1 = grind (arith, each_refused_map)
+  -- what is due of its first number is what is answered
+  pub start_late : (body more : List Lexeme) (l : Lexeme)
+      (ends : Bool) (late : Refusal) (result : Result Unit FeedError)
+      → k.states ≡ Some states → item ≡ items.Start old → IsSeen (states_known k) body item
+      → IsLate (states_known k) (body ++ l ∷ more) ends late.kind late.place
+      → ((r : Refusal) → IsDue old l r.kind r.place → result ≡ Err (stops.Refused r))
+      → (CanStillBeRight (count_of states) old l → IfErr result (λ stop. IfRefused stop (λ r. ⊥)))
+      → IfErr result (λ stop. IfRefused stop (λ r. (r.kind ≡ late.kind) × (r.place ≡ late.place)))
+  start_late body more l ends late result known is s due answered held =
+      let here : IsLate (count_of states) (body ++ l ∷ more) ends late.kind late.place =
+      rw (← known_states k states known) due in
+      of (laws.late_at_lexeme _ body more l ends old _ _ (start_seen body known is s) here)
+    where
+      of : IsDue old l late.kind late.place ⊎ CanStillBeRight (count_of states) old l
+          → IfErr result (λ stop. IfRefused stop (λ r. (r.kind ≡ late.kind) × (r.place ≡ late.place)))
+      of h1 = grind arith
 
 same_refusal : (a b : Refusal) → ◌≡◌ {A = Result Unit FeedError} (Err (stops.Refused a)) (Err (stops.Refused b)) → a ≡ b
 same_refusal a b e = cc
 
--- all that is said of its refusal
-pub start_refused : (k : ModelSoFar) (states : Elements) (item : ItemReader) (old : StartReader) (l : Lexeme)
-    (result : Result Unit FeedError) → k.states ≡ Some states → item ≡ items.Start old
-    → ((r : Refusal) → IsDue old l r.kind r.place → result ≡ Err (stops.Refused r))
-    → (CanStillBeRight (count_of states) old l → IfErr result (λ stop. IfRefused stop (λ r. ⊥)))
-    → IfErr result (λ stop. IfRefused stop (RefusesInStart states old l)) → IfErr result (λ stop. IfRefused stop (RefusesInItem k item l))
-start_refused k states item old l (Err (stops.Refused x)) known is due held r = record {
-  stuck = start_stuck k states item old l known is r.stuck;
-  formless = start_formless k states item old l known is r.stuck;
-  reason = λ body s. start_reason item old body l x.kind x.place is (r.reason body (start_seen k states item old body known is s));
-  kind = subst (λ i. IfNotStart (topic_of_reader i) (IsMisfit (item_wants k i []) l x.kind)) (sym is) tt;
-  start = λ body s. start_stops k states item old body l x known is s (λ y d. same_refusal x y (due y d)) r.stops;
-  late = λ body more ends late s start late_is. start_late k states item old body more l ends late (Err (stops.Refused x)) known is s
-      late_is due held;
-}
-start_refused k states item old l c known is due held r = tt
+module _ (k : ModelSoFar) (states : Elements) (item : ItemReader) where
+  -- all that is said of its refusal
+  pub start_refused : (old : StartReader) (l : Lexeme)
+      (result : Result Unit FeedError) → k.states ≡ Some states → item ≡ items.Start old
+      → ((r : Refusal) → IsDue old l r.kind r.place → result ≡ Err (stops.Refused r))
+      → (CanStillBeRight (count_of states) old l → IfErr result (λ stop. IfRefused stop (λ r. ⊥)))
+      → IfErr result (λ stop. IfRefused stop (RefusesInStart states old l)) → IfErr result (λ stop. IfRefused stop (RefusesInItem k item l))
+  start_refused old l (Err (stops.Refused x)) known is due held r = record {
+    stuck = start_stuck k states item old l known is r.stuck;
+    formless = start_formless k states item old l known is r.stuck;
+    reason = λ body s. start_reason item old body l x.kind x.place is (r.reason body (start_seen k states item old body known is s));
+    kind = rw is tt;
+    start = λ body s. start_stops k states item old body l x known is s (λ y d. same_refusal x y (due y d)) r.stops;
+    late = λ body more ends late s start late_is. start_late k states item old body more l ends late _ known is s late_is due held;
+  }
+  start_refused old l c known is due held r = tt
 
--- ---- why an item cannot end
+  -- ---- why an item cannot end
 
-pub start_late_end : (k : ModelSoFar) (states : Elements) (item : ItemReader) (r : StartReader) (body : List Lexeme) (end : EndError)
-    (late : Refusal) → k.states ≡ Some states → item ≡ items.Start r
-    → IsSeen (states_known k) body item → IsLate (states_known k) body true late.kind late.place → IsEndDue r end → IsLateEnd end late
-start_late_end k states item r body end late known is s l due =
-    laws.late_at_end (count_of states) body r end late (start_seen k states item r body known is s)
-    (subst (λ e. IsLate (count_of e) body true late.kind late.place) (known_states k states known) l) due
+  pub start_late_end : (r : StartReader) (body : List Lexeme) (end : EndError)
+      (late : Refusal) → k.states ≡ Some states → item ≡ items.Start r
+      → IsSeen (states_known k) body item → IsLate (states_known k) body true late.kind late.place → IsEndDue r end → IsLateEnd end late
+  start_late_end r body end late known is s l due =
+      laws.late_at_end _ body r end late (start_seen k states item r body known is s)
+      (rw (← known_states k states known) l) due
 
--- it cannot end as it is
-pub start_stuck_end : (k : ModelSoFar) (states : Elements) (item : ItemReader) (r : StartReader) (e : EndError) → k.states ≡ Some states
-    → item ≡ items.Start r → IfNotMemory e (CannotEnd (StartGives states) r)
-    → IfNotMemory e (CannotEnd (ItemGoes k) item)
-start_stuck_end k states item r e known is none = grind arith
+  -- it cannot end as it is
+  pub start_stuck_end : (r : StartReader) (e : EndError) → k.states ≡ Some states
+      → item ≡ items.Start r → IfNotMemory e (CannotEnd (StartGives states) r)
+      → IfNotMemory e (CannotEnd (ItemGoes k) item)
+  start_stuck_end = grind arith
 
 -- ---- all that is said where a token is taken, and where it is refused
 
@@ -156,7 +145,7 @@ pub all_fed : {T E : Type 0} (r : Result T E) (k : ModelSoFar) (old new : ItemRe
     → OnOk r (TakesLexeme (ItemGoes k) old l new) → OnOk r (IfStart (topic_of_reader old) (TakesLexeme (ItemForms k) old l new))
     → ((body : List Lexeme) → IsSeen (states_known k) body old → OnOk r (IsSeen (states_known k) (body ++ l ∷ []) new))
     → OnOk r (ExpectsNext (item_wants k old) l (item_wants k new)) → OnOk r (IsItemFed k old l new)
-all_fed r k old new l h1 h2 h3 h4 h5 = grind arith
+all_fed = grind arith
 
 -- a refusal of which this holds
 abbrev On : {T : Type 0} → Result T FeedError → (Refusal → Type 0) → Type 0

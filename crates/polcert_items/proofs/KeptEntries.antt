@@ -1,6 +1,6 @@
 -- An entry that may come next fits into a list of entries: the numbers of its elements are small, and it has few numbers.
 use Rattle.std.proofs.Common.{◌≡◌, ℕ, zero, suc, ◌*◌, ◌≤◌, ◌==◌, true, Option, Some, None, is_none, unwrap_or, All, List, [], ◌∷◌, length}
-use Rattle.std.proofs.Common.{drop, refl, arith}
+use Rattle.std.proofs.Common.{drop, arith}
 use Rattle.std.proofs.Math.Nat.{mul-le-mul}
 use Rattle.polcert_items.proofs.Common.{list_any, All-nil, All-cons, Elements, Count, Body, Entry, Place, Every, Only, Table, Transition}
 use Rattle.polcert_items.proofs.Common.{Observation, Reward, count_of, most_states, most_actions, most_observations, cells_in, Preamble}
@@ -10,7 +10,7 @@ use Rattle.polcert_cells.specs.Entry.{forms}
 use Rattle.polcert_cells.specs.EntryRefs.{IsSmallPlace, IsShortBody, CanBeKept, most_numbers}
 use Rattle.polcert_cells.specs.Preamble.{observed}
 use Rattle.polcert_cells.specs.Steps.Sound.{ArePlacesIn, Fills, IsSoundEntry}
-use Rattle.polcert_cells.specs.declared.entries.Body.TheVariants.{Probabilities, Rewards, Uniform, Identity}
+use Rattle.polcert_cells.specs.declared.entries.Body.TheVariants.{Uniform, Identity}
 use Rattle.polcert_items.proofs.CoveringLaws.{nothing_written}
 use Rattle.polcert_items.specs.Steps.ModelSoFar.{IsCountIn}
 
@@ -22,18 +22,17 @@ AreFew [] = Unit {0}
 AreFew (d ∷ ds) = IsFew d × AreFew ds
 
 small_places : (ds : List Elements) (ps : List Place) → AreFew ds → ArePlacesIn ds ps → All IsSmallPlace ps
-small_places ds [] few a = All-nil IsSmallPlace
+small_places ds [] few a = All-nil _
 small_places [] (p ∷ ps) few a = absurd a
 small_places (d ∷ ds) (Every ∷ ps) few a = All-cons IsSmallPlace Every ps tt (small_places ds ps few.1 a.1)
-small_places (d ∷ ds) (Only n ∷ ps) few a = All-cons IsSmallPlace (Only n) ps (omega (arith, a.0, few.0)) (small_places ds ps few.1 a.1)
+small_places (d ∷ ds) (Only n ∷ ps) few a = All-cons IsSmallPlace (Only n) ps (omega arith) (small_places ds ps few.1 a.1)
 
 -- ---- the cells that places leave open
 
 after_two : (n : ℕ) (s c : Elements) → IsFew s → IsFew c → cells_in (drop n (s ∷ c ∷ [])) ≤ most_numbers
 after_two zero s c ls lc =
-    let last : count_of c * 1 ≤ most_elements = omega (arith, lc) in
-    let pairs : count_of s * (count_of c * 1) ≤ most_elements * most_elements = mul-le-mul ls last in
-    pairs
+    let last : count_of c * 1 ≤ most_elements = omega arith in
+    (mul-le-mul ls last)
 after_two (suc zero) s c ls lc = omega (arith, lc)
 after_two (suc (suc zero)) s c ls lc = omega arith
 after_two (suc (suc (suc n))) s c ls lc = omega arith
@@ -43,10 +42,7 @@ after_one : (observations : Option Elements) (s : Elements) (body : Body) → Is
     → list_any (λ n. n == 1) (forms (is_none observations) Reward body) ≡ true
     → cells_in (s ∷ s ∷ unwrap_or observations (Count 1) ∷ []) ≤ most_numbers
 after_one None s body ls form = after_two 0 s s ls ls
-after_one (Some o) s (Rewards hs) ls form = absurd (grind arith)
-after_one (Some o) s (Probabilities ps) ls form = absurd (grind arith)
-after_one (Some o) s Uniform ls form = absurd (grind arith)
-after_one (Some o) s Identity ls form = absurd (grind arith)
+after_one (Some o) s _ ls form = absurd (grind arith)
 
 module _ (p : Preamble) (states : IsFew p.states) (actions : IsFew p.actions) (observations : IsFew (observed p))
     (rewarded : IsFew (unwrap_or p.observations (Count 1))) where
@@ -58,40 +54,24 @@ module _ (p : Preamble) (states : IsFew p.states) (actions : IsFew p.actions) (o
   few_cells : (table : Table) (places : List Place) (body : Body) → list_any (λ n. n == length places) (forms (is_mdp p) table body) ≡ true
       → cells_in (drop (length places) (dimensions p table)) ≤ most_numbers
   few_cells table [] body form = absurd (nothing_written (is_mdp p) table body form)
-  few_cells Transition (x ∷ places) body form = after_two (length places) p.states p.states states states
-  few_cells Observation (x ∷ places) body form = after_two (length places) p.states (observed p) states observations
-  few_cells Reward (x ∷ []) body form = after_one p.observations p.states body states form
-  few_cells Reward (x ∷ y ∷ places) body form = after_two (length places) p.states (unwrap_or p.observations (Count 1)) states rewarded
+  few_cells Transition (x ∷ places) body form = after_two _ p.states p.states states states
+  few_cells Observation (x ∷ places) body form = after_two _ p.states (observed p) states observations
+  few_cells Reward (x ∷ []) body form = after_one _ p.states body states form
+  few_cells Reward (x ∷ y ∷ places) body form = after_two _ p.states (unwrap_or p.observations (Count 1)) states rewarded
 
 short_body : (cells : ℕ) (body : Body) → cells ≤ most_numbers → Fills cells body → IsShortBody body
-short_body cells (Probabilities ps) few fills = omega (arith, few, fills.0)
-short_body cells (Rewards hs) few fills = omega (arith, few, fills.0)
 short_body cells Uniform few fills = tt
 short_body cells Identity few fills = tt
-
-few_rewarded : (states : Elements) (observations : Option Elements) → IsFew (unwrap_or observations states)
-    → IsFew (unwrap_or observations (Count 1))
-few_rewarded states None few = omega arith
-few_rewarded states (Some o) few = few
-
-few_if_known : (most : ℕ) (elements : Option Elements) → most ≤ most_elements → IsCountIn most elements
-    → IsFew (unwrap_or elements (Count 0))
-few_if_known most None small count = omega arith
-few_if_known most (Some d) small count = omega (arith, small, (count d refl).1)
-
-few_observed : (states observations : Option Elements) → IsFew (unwrap_or states (Count 0)) → IsCountIn most_observations observations
-    → IsFew (unwrap_or observations (unwrap_or states (Count 0)))
-few_observed states None few count = few
-few_observed states (Some o) few count = (count o refl).1
+short_body cells _ few fills = omega (arith, few, fills.0)
 
 pub can_be_kept : (k : ModelSoFar) (e : Entry) → IsCountIn most_states k.states → IsCountIn most_actions k.actions
     → IsCountIn most_observations k.observations → IsSoundEntry (preamble_in k) e → CanBeKept e
 can_be_kept k e states actions observations sound =
     let p : Preamble = preamble_in k in
-    let few_states : IsFew p.states = few_if_known most_states k.states (omega arith) states in
-    let few_actions : IsFew p.actions = few_if_known most_actions k.actions (omega arith) actions in
-    let observed : IsFew (observed p) = few_observed k.states k.observations few_states observations in
-    let rewarded : IsFew (unwrap_or p.observations (Count 1)) = few_rewarded p.states p.observations observed in
+    let few_states : IsFew p.states = grind arith in
+    let few_actions : IsFew p.actions = grind arith in
+    let observed : IsFew (observed p) = grind arith in
+    let rewarded : IsFew (unwrap_or p.observations (Count 1)) = grind arith in
     record {
       places = small_places (dimensions p e.table) e.places (few_dimensions p few_states few_actions observed rewarded e.table)
           sound.places;

@@ -31,7 +31,7 @@ module _ (preamble : Preamble) (table : Table) (before : List Place) where
   -- after a colon
   one_more : (d : Elements) (es : List Elements) (p : Place) → drop (length before) (named preamble table) ≡ d ∷ es
       → drop (length (before ++ p ∷ [])) (named preamble table) ≡ es
-  one_more d es p e = grind (arith, length-append, drop-drop 1 (length before) (named preamble table))
+  one_more = grind (arith, length-append, drop-drop 1 (length before) (named preamble table))
 
   module _ (l : Lexeme) (colon : l.kind ≡ Colon) where
     place_then : (ls : List Lexeme) (e : Entry) (further : List Place) (pattern rest : List Lexeme) (es : List Elements)
@@ -126,8 +126,7 @@ rewards_of mdp cells n l ls b (entries.rewards {hs} a count) form =
       numbers = subst (AreNumbers (l ∷ ls)) (sym (map-id hs)) a;
       in_range = λ k d h. tt;
       enough = count;
-      body_is =
-          refl;
+      body_is = refl;
     }
 rewards_of mdp cells n l ls b c form = cc
 
@@ -182,59 +181,59 @@ module _ (preamble : Preamble) (table : Table) (before : List Place) (l : Lexeme
             e.body,
             (
               t.on ls e.body go,
-              entry_eta preamble table before e h.places_are h.table_is
-                  e.body refl,
+              entry_eta preamble table before e h.places_are h.table_is e.body refl,
             ),
           );
     }
 
 pub one_to_three : (n : ℕ) → 1 ≤ n → n ≤ 3 → list_any (λ k. k == n) (1 ∷ 2 ∷ 3 ∷ []) ≡ true
-one_to_three n low high = grind (arith, nat_tests)
+one_to_three = grind (arith, nat_tests)
 
 -- rewards may stand after enough places
 pub rewards_may_stand : (mdp : Bool) (n : ℕ) (hs : List ℤ) → least_written mdp Reward ≤ n → n ≤ 4
     → MayStand mdp Reward (bodies.Rewards hs) n
-rewards_may_stand mdp n hs h1 h2 = grind arith
+rewards_may_stand = grind arith
 
--- the body's numbers were begun
-pub numbers_begin : (k : ModelSoFar) (table : Table) (before : List Place) (l : Lexeme) (new : EntryState) (needed : ℕ)
-    → (l.kind ≡ Colon → ⊥) → (l.kind ≡ Name → ⊥)
-    → needed ≡ cells_in (drop (length before) (indices_in k table)) → least_written (is_mdp (preamble_in k)) table ≤ length before
-    → length before ≤ length (indices_in k table)
-    → AreBegun table needed l new → TakesLexeme (StateGoes (preamble_in k) table before) states.Body l new
-numbers_begin k Transition before l (states.Probabilities n) needed no_colon no_name cells low high t =
-    list_begins (preamble_in k) Transition before l no_colon needed cells of_probabilities states.Probabilities probability_state
-    probability_body (λ ps. one_to_three (length before) low high)
-    (λ ls b is form. probabilities_of (is_mdp (preamble_in k)) needed (length before) l ls Transition b is form no_name
-    (λ hs form. both_ways _ refl form)) n t
-numbers_begin k Observation before l (states.Probabilities n) needed no_colon no_name cells low high t =
-    list_begins (preamble_in k) Observation before l no_colon needed cells of_probabilities states.Probabilities probability_state
-    probability_body (λ ps. one_to_three (length before) low high)
-    (λ ls b is form. probabilities_of (is_mdp (preamble_in k)) needed (length before) l ls Observation b is form no_name
-    (λ hs form. both_ways _ refl form)) n t
-numbers_begin k Reward before l (states.Rewards n) needed no_colon no_name cells low high t =
-    list_begins (preamble_in k) Reward before l no_colon needed cells of_rewards states.Rewards reward_state reward_body
-    (λ hs. rewards_may_stand (is_mdp (preamble_in k)) (length before) hs low high)
-    (λ ls b is form. rewards_of (is_mdp (preamble_in k)) needed (length before) l ls b is form) n t
-numbers_begin k _ before l _ needed no_colon no_name cells low high t = absurd t
+module _ (k : ModelSoFar) where
+  -- the body's numbers were begun
+  pub numbers_begin : (table : Table) (before : List Place) (l : Lexeme) (new : EntryState) (needed : ℕ)
+      → (l.kind ≡ Colon → ⊥) → (l.kind ≡ Name → ⊥)
+      → needed ≡ cells_in (drop (length before) (indices_in k table)) → least_written (is_mdp (preamble_in k)) table ≤ length before
+      → length before ≤ length (indices_in k table)
+      → AreBegun table needed l new → TakesLexeme (StateGoes (preamble_in k) table before) states.Body l new
+  numbers_begin Transition before l (states.Probabilities n) needed no_colon no_name cells low high t =
+      list_begins (preamble_in k) Transition before l no_colon needed cells of_probabilities states.Probabilities probability_state
+      probability_body (λ ps. one_to_three (length before) low high)
+      (λ ls b is form. probabilities_of (is_mdp (preamble_in k)) needed (length before) l ls Transition b is form no_name
+      (λ hs form. both_ways _ refl form)) n t
+  numbers_begin Observation before l (states.Probabilities n) needed no_colon no_name cells low high t =
+      list_begins (preamble_in k) Observation before l no_colon needed cells of_probabilities states.Probabilities probability_state
+      probability_body (λ ps. one_to_three (length before) low high)
+      (λ ls b is form. probabilities_of (is_mdp (preamble_in k)) needed (length before) l ls Observation b is form no_name
+      (λ hs form. both_ways _ refl form)) n t
+  numbers_begin Reward before l (states.Rewards n) needed no_colon no_name cells low high t =
+      list_begins (preamble_in k) Reward before l no_colon needed cells of_rewards states.Rewards reward_state reward_body
+      (λ hs. rewards_may_stand (is_mdp (preamble_in k)) (length before) hs low high)
+      (λ ls b is form. rewards_of (is_mdp (preamble_in k)) needed (length before) l ls b is form) n t
+  numbers_begin _ before l _ needed no_colon no_name cells low high t = absurd t
 
--- numbers that cannot begin with a lexeme
-pub numbers_stuck : (k : ModelSoFar) (table : Table) (before : List Place) (l : Lexeme) (needed : ℕ) → (l.kind ≡ Colon → ⊥)
-    → (l.kind ≡ Name → ⊥)
-    → needed ≡ cells_in (drop (length before) (indices_in k table)) → CannotBegin table needed l
-    → CannotTake (StateGoes (preamble_in k) table before) states.Body l
-numbers_stuck k Transition before l needed no_colon no_name cells stuck = λ ls e b.
-    let h = here (preamble_in k) Transition before l ls e no_colon b in
-    stuck ls e.body (probabilities_of (is_mdp (preamble_in k)) needed (length before) l ls Transition e.body
-    (subst (λ c. IsBody c (l ∷ ls) e.body) (sym cells) h.body) h.form no_name (λ hs form. both_ways _ refl form))
-numbers_stuck k Observation before l needed no_colon no_name cells stuck = λ ls e b.
-    let h = here (preamble_in k) Observation before l ls e no_colon b in
-    stuck ls e.body (probabilities_of (is_mdp (preamble_in k)) needed (length before) l ls Observation e.body
-    (subst (λ c. IsBody c (l ∷ ls) e.body) (sym cells) h.body) h.form no_name (λ hs form. both_ways _ refl form))
-numbers_stuck k Reward before l needed no_colon no_name cells stuck = λ ls e b.
-    let h = here (preamble_in k) Reward before l ls e no_colon b in
-    stuck ls e.body (rewards_of (is_mdp (preamble_in k)) needed (length before) l ls e.body
-    (subst (λ c. IsBody c (l ∷ ls) e.body) (sym cells) h.body) h.form)
+  -- numbers that cannot begin with a lexeme
+  pub numbers_stuck : (table : Table) (before : List Place) (l : Lexeme) (needed : ℕ) → (l.kind ≡ Colon → ⊥)
+      → (l.kind ≡ Name → ⊥)
+      → needed ≡ cells_in (drop (length before) (indices_in k table)) → CannotBegin table needed l
+      → CannotTake (StateGoes (preamble_in k) table before) states.Body l
+  numbers_stuck Transition before l needed no_colon no_name cells stuck = λ ls e b.
+      let h = here (preamble_in k) Transition before l ls e no_colon b in
+      stuck ls e.body (probabilities_of (is_mdp (preamble_in k)) needed (length before) l ls Transition e.body
+      (subst (λ c. IsBody c (l ∷ ls) e.body) (sym cells) h.body) h.form no_name (λ hs form. both_ways _ refl form))
+  numbers_stuck Observation before l needed no_colon no_name cells stuck = λ ls e b.
+      let h = here (preamble_in k) Observation before l ls e no_colon b in
+      stuck ls e.body (probabilities_of (is_mdp (preamble_in k)) needed (length before) l ls Observation e.body
+      (subst (λ c. IsBody c (l ∷ ls) e.body) (sym cells) h.body) h.form no_name (λ hs form. both_ways _ refl form))
+  numbers_stuck Reward before l needed no_colon no_name cells stuck = λ ls e b.
+      let h = here (preamble_in k) Reward before l ls e no_colon b in
+      stuck ls e.body (rewards_of (is_mdp (preamble_in k)) needed (length before) l ls e.body
+      (subst (λ c. IsBody c (l ∷ ls) e.body) (sym cells) h.body) h.form)
 
 -- what a name begins as a body: a word
 record WordHere (l : Lexeme) (ls : List Lexeme) (b : Body) : Type 0 where
@@ -244,80 +243,85 @@ record WordHere (l : Lexeme) (ls : List Lexeme) (b : Body) : Type 0 where
   none_left : ls ≡ []
 
 no_numbers_at : (l : Lexeme) (ls : List Lexeme) (hs : List ℤ) → l.kind ≡ Name → AreNumbers (l ∷ ls) hs → ⊥
-no_numbers_at l ls hs name a = grind arith
+no_numbers_at = grind arith
 
-word_here : (cells : ℕ) (l : Lexeme) (ls : List Lexeme) (b : Body) → ((hs : List ℤ) → AreNumbers (l ∷ ls) hs → ⊥)
-    → IsBody cells (l ∷ ls) b
-    → WordHere l ls b
-word_here cells l ls b h1 h2 = grind arith
+module _ (cells : ℕ) (l : Lexeme) where
+  word_here : (ls : List Lexeme) (b : Body) → ((hs : List ℤ) → AreNumbers (l ∷ ls) hs → ⊥)
+      → IsBody cells (l ∷ ls) b
+      → WordHere l ls b
+  word_here = grind arith
 
-word_body : (cells : ℕ) (l : Lexeme) (w : Word) → IsWord (word_text w) l → IsBody cells (l ∷ []) (body_of_word w)
-word_body cells l w h1 = grind (arith, entries.uniform, entries.identity)
+  word_body : (w : Word) → IsWord (word_text w) l → IsBody cells (l ∷ []) (body_of_word w)
+  word_body = grind (arith, entries.uniform, entries.identity)
 
-pub word_takes : (preamble : Preamble) (table : Table) (before : List Place) (l : Lexeme) (w : Word)
-    → IsWordAfter (is_mdp preamble) table (length before) l w → TakesLexeme (StateGoes preamble table before) states.Body l (states.Word w)
-word_takes preamble table before l w is = grind (arith, here, there, no_numbers_at, word_body)
+module _ (preamble : Preamble) (table : Table) (before : List Place) (l : Lexeme) where
+  pub word_takes : (w : Word)
+      → IsWordAfter (is_mdp preamble) table (length before) l w
+      → TakesLexeme (StateGoes preamble table before) states.Body l (states.Word w)
+  word_takes = grind (arith, here, there, no_numbers_at, word_body)
 
--- a lexeme that is no colon, no word that may stand here and begins no numbers
-pub nothing_takes : (preamble : Preamble) (table : Table) (before : List Place) (l : Lexeme) → (l.kind ≡ Colon → ⊥)
-    → ((ls : List Lexeme) (hs : List ℤ) → AreNumbers (l ∷ ls) hs → ⊥)
-    → ((w : Word) → IsWordAfter (is_mdp preamble) table (length before) l w → ⊥)
-    → CannotTake (StateGoes preamble table before) states.Body l
-nothing_takes preamble table before l no_colon none no_word = search (rules, here, word_here)
+  -- a lexeme that is no colon, no word that may stand here and begins no numbers
+  pub nothing_takes : (l.kind ≡ Colon → ⊥)
+      → ((ls : List Lexeme) (hs : List ℤ) → AreNumbers (l ∷ ls) hs → ⊥)
+      → ((w : Word) → IsWordAfter (is_mdp preamble) table (length before) l w → ⊥)
+      → CannotTake (StateGoes preamble table before) states.Body l
+  nothing_takes = search (rules, here, word_here)
 
 -- the kind of a token that begins a number
 abbrev pub BeginsNumber : TokenKind → Type 0
 BeginsNumber kind = (kind ≡ Numeral) ⊎ ((kind ≡ Plus) ⊎ (kind ≡ Minus))
 
-pub number_not_colon : (kind : TokenKind) → BeginsNumber kind → kind ≡ Colon → ⊥
-number_not_colon kind h1 h2 = grind arith
+module _ (kind : TokenKind) where
+  pub number_not_colon : BeginsNumber kind → kind ≡ Colon → ⊥
+  number_not_colon = grind arith
 
-pub number_not_name : (kind : TokenKind) → BeginsNumber kind → kind ≡ Name → ⊥
-number_not_name kind h1 h2 = grind arith
+  pub number_not_name : BeginsNumber kind → kind ≡ Name → ⊥
+  number_not_name = grind arith
 
 -- as many places as indices
 pub same_length : (preamble : Preamble) (table : Table) → length (named preamble table) ≡ length (dimensions preamble table)
-same_length preamble table = grind arith
+same_length = grind arith
 
--- no colon is taken where all indices have their place
-pub colon_stuck : (preamble : Preamble) (table : Table) (before : List Place) (l : Lexeme) → l.kind ≡ Colon
-    → length (dimensions preamble table) ≤ length before → CannotTake (StateGoes preamble table before) states.Body l
-colon_stuck preamble table before l colon full = λ ls e b. grind
-    (arith, drop_all (length before) (named preamble table), same_length, colon_on preamble table before l colon ls e b)
+module _ (preamble : Preamble) (table : Table) (before : List Place) (l : Lexeme) where
+  -- no colon is taken where all indices have their place
+  pub colon_stuck : l.kind ≡ Colon
+      → length (dimensions preamble table) ≤ length before → CannotTake (StateGoes preamble table before) states.Body l
+  colon_stuck colon full = λ ls e b. grind
+      (arith, drop_all (length before) (named preamble table), same_length, colon_on preamble table before l colon ls e b)
 
--- no number is taken after too few places
-pub few_stuck : (preamble : Preamble) (table : Table) (before : List Place) (l : Lexeme) → BeginsNumber l.kind
-    → (least_written (is_mdp preamble) table ≤ length before → ⊥) → CannotTake (StateGoes preamble table before) states.Body l
-few_stuck preamble table before l begins few = search rules
+  -- no number is taken after too few places
+  pub few_stuck : BeginsNumber l.kind
+      → (least_written (is_mdp preamble) table ≤ length before → ⊥) → CannotTake (StateGoes preamble table before) states.Body l
+  few_stuck = search rules
 
--- a reader whose state is known
-pub in_state : (preamble : Preamble) (r : EntryReader) (old new : EntryState) (l : Lexeme) → r.state ≡ old
-    → TakesLexeme (StateGoes preamble r.table r.places) old l new → TakesLexeme (EntryGoes preamble) r l (record r { state = new })
-in_state preamble r old new l is t = grind arith
+module _ (preamble : Preamble) (r : EntryReader) (old : EntryState) where
+  -- a reader whose state is known
+  pub in_state : (new : EntryState) (l : Lexeme) → r.state ≡ old
+      → TakesLexeme (StateGoes preamble r.table r.places) old l new → TakesLexeme (EntryGoes preamble) r l (record r { state = new })
+  in_state = grind arith
 
-pub stuck_in_state : (preamble : Preamble) (r : EntryReader) (old : EntryState) (l : Lexeme) → r.state ≡ old
-    → CannotTake (StateGoes preamble r.table r.places) old l → CannotTake (EntryGoes preamble) r l
-stuck_in_state preamble r old l is stuck = λ ls e goes. stuck ls e
-    (subst (λ s. StateGoes preamble r.table r.places s (l ∷ ls) e) is goes)
+  pub stuck_in_state : (l : Lexeme) → r.state ≡ old
+      → CannotTake (StateGoes preamble r.table r.places) old l → CannotTake (EntryGoes preamble) r l
+  stuck_in_state l is stuck = λ ls e goes. stuck ls e (subst (λ s. StateGoes preamble r.table r.places s (l ∷ ls) e) is goes)
 
 pub if_err_map : {T E : Type 0} (r : Result T E) (P Q : E → Type 0) → ((e : E) → P e → Q e) → IfErr r P → IfErr r Q
-if_err_map r P Q h1 h2 = grind arith
+if_err_map = grind arith
 
 pub on_ok_map : {T E : Type 0} (r : Result T E) {P Q : Type 0} → (P → Q) → OnOk r P → OnOk r Q
-on_ok_map r h1 h2 = grind arith
+on_ok_map = grind arith
 
 pub if_err_both : {T E : Type 0} (r : Result T E) (P Q R : E → Type 0) → ((e : E) → P e → Q e → R e) → IfErr r P → IfErr r Q → IfErr r R
-if_err_both r P Q R h1 h2 h3 = grind arith
+if_err_both = grind arith
 
 pub refused_map : {P Q : Type 0} (stop : FeedError) → (P → Q) → IfRefused stop (λ r. P) → IfRefused stop (λ r. Q)
-refused_map stop h1 h2 = grind arith
+refused_map = grind arith
 
 pub each_refused_map : {P Q : Refusal → Type 0} (stop : FeedError) → ((r : Refusal) → P r → Q r) → IfRefused stop P → IfRefused stop Q
-each_refused_map stop h1 h2 = grind arith
+each_refused_map = grind arith
 
 pub each_refused_both : {P Q R : Refusal → Type 0} (stop : FeedError) → ((r : Refusal) → P r → Q r → R r) → IfRefused stop P
     → IfRefused stop Q → IfRefused stop R
-each_refused_both stop h1 h2 h3 = grind arith
+each_refused_both = grind arith
 
 pub probability_reason : (r : EntryReader) (n : Numbers ℕ) (l : Lexeme) (kind : ItemFault) (place : ℕ) → r.state ≡ states.Probabilities n
     → (r.table ≡ Reward → ⊥) → IsListReason Probability n.sign l kind place → IsEntryReason r l kind place
@@ -326,7 +330,7 @@ probability_reason r n l kind place is not_reward reason =
 
 -- a list that is full continues with nothing
 pub full_list : {T : Type 0} (kind : ListKind T) (n : Numbers T) → IsFull n → NumberListGoes kind n [] (kind.body n.read)
-full_list kind n full = grind (arith, append-nil, All-nil, numbers.none)
+full_list = grind (arith, append-nil, All-nil, numbers.none)
 
 none_mapped : {X Y : Type 0} (f : X → Y) (xs : List X) → map f xs ≡ [] → xs ≡ []
 none_mapped f [] e = refl
@@ -334,7 +338,7 @@ none_mapped f (x ∷ xs) e = absurd (cons≢nil e)
 
 -- a list that continues with nothing is full
 pub list_full : {T : Type 0} (kind : ListKind T) (n : Numbers T) (body : Body) → NumberListGoes kind n [] body → IsFull n
-list_full kind n body g = grind (arith, append-nil, none_mapped)
+list_full = grind (arith, append-nil, none_mapped)
 
 pub cells_some : (ds : List Elements) → AreSome ds → 1 ≤ cells_in ds
 cells_some [] some = omega arith
@@ -346,27 +350,28 @@ some_dropped (suc n) [] some = some
 some_dropped (suc n) (d ∷ ds) some = some_dropped n ds (All-tail (λ d. 1 ≤ count_of d) d ds some)
 
 no_body : (cells : ℕ) (b : Body) → 1 ≤ cells → IsBody cells [] b → ⊥
-no_body cells b h1 h2 = grind (arith, none_mapped)
+no_body = grind (arith, none_mapped)
 
 -- an entry doesn't end after a place
 pub no_end : (preamble : Preamble) (table : Table) (before : List Place) (e : Entry) → AreSome (dimensions preamble table)
     → IsEntryAfter preamble table before [] e → ⊥
-no_end preamble table before e some b = grind (arith, cells_some, no_body)
+no_end = grind (arith, cells_some, no_body)
 
-pub cannot_end_in : (preamble : Preamble) (r : EntryReader) (old : EntryState) → r.state ≡ old
-    → ((e : Entry) → StateGoes preamble r.table r.places old [] e → ⊥) → CannotEnd (EntryGoes preamble) r
-cannot_end_in preamble r old is none = λ e goes. none e (subst (λ s. StateGoes preamble r.table r.places s [] e) is goes)
+module _ (preamble : Preamble) (r : EntryReader) (old : EntryState) where
+  pub cannot_end_in : r.state ≡ old
+      → ((e : Entry) → StateGoes preamble r.table r.places old [] e → ⊥) → CannotEnd (EntryGoes preamble) r
+  cannot_end_in is none = λ e goes. none e (subst (λ s. StateGoes preamble r.table r.places s [] e) is goes)
 
-pub ends_in : (preamble : Preamble) (r : EntryReader) (old : EntryState) (e : Entry) → r.state ≡ old
-    → StateGoes preamble r.table r.places old [] e → EntryGoes preamble r [] e
-ends_in preamble r old e is goes = subst (λ s. StateGoes preamble r.table r.places s [] e) (sym is) goes
+  pub ends_in : (e : Entry) → r.state ≡ old
+      → StateGoes preamble r.table r.places old [] e → EntryGoes preamble r [] e
+  ends_in e is goes = subst (λ s. StateGoes preamble r.table r.places s [] e) (sym is) goes
 
 -- the numbers of an entry continue
 module _ {T : Type 0} (kind : ListKind T) (state : Numbers T → EntryState) (is_state : IsStateOf kind state) (p : Preamble)
     (r : EntryReader) (old : Numbers T) (l : Lexeme) (is : r.state ≡ state old) where
   pub list_in : (new : Numbers T) → TakesLexeme (NumberListGoes kind) old l new
       → TakesLexeme (EntryGoes p) r l (record r { state = state new })
-  list_in new t = grind arith
+  list_in = grind arith
 
   pub list_stuck : CannotTake (NumberListGoes kind) old l → CannotTake (EntryGoes p) r l
   list_stuck stuck = stuck_in_state p r (state old) l is

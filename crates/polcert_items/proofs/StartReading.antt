@@ -1,22 +1,20 @@
 -- A start item as its reader continues with it.
 use Rattle.std.proofs.Common.{◌≡◌, ℕ, List, [], Result, Ok, Err, OnOk, refl, rules}
 use Rattle.polcert_items.proofs.Common.{Lexeme, Elements, StartWeights, IsStart, Numbers, ProbabilitiesGo, HasRoom, IsStartFed, TakesLexeme}
-use Rattle.polcert_items.proofs.Common.{SignIs, StartGives, IsStartWithin, HasReadStart, ExpectsNext, expected_by_numbers}
+use Rattle.polcert_items.proofs.Common.{SignIs, StartGives, HasReadStart, ExpectsNext, expected_by_numbers}
 use Rattle.polcert_items.specs.Steps.Start.{new_start, HasProbabilityRoom}
 use Rattle.polcert_items.specs.declared.start_reader.StartReader.TheVariants as reader
 use Rattle.polcert_items.proofs.StartNumbers.{shares_take}
 use Rattle.polcert_items.proofs.StartSeen.{further_seen}
 
-pub new_start_on : (states : Elements) (ls : List Lexeme) (found : StartWeights) → IsStart states ls found
-    → StartGives states new_start ls found
-new_start_on states ls found a = a
+module _ (states : Elements) (ls : List Lexeme) (found : StartWeights) where
+  pub new_start_on : IsStart states ls found
+      → StartGives states new_start ls found
+  new_start_on a = a
 
-pub new_start_back : (states : Elements) (ls : List Lexeme) (found : StartWeights) → StartGives states new_start ls found
-    → IsStart states ls found
-new_start_back states ls found a = a
-
-pub new_start_within : (states : Elements) → IsStartWithin states new_start
-new_start_within states = tt
+  pub new_start_back : StartGives states new_start ls found
+      → IsStart states ls found
+  new_start_back a = a
 
 pub new_start_seen : (count : ℕ) → HasReadStart count [] new_start
 new_start_seen count = record { sign = refl; body_is = refl }

@@ -1,5 +1,5 @@
 -- The shares of a start item, state by state.
-use Rattle.std.proofs.Common.{◌≡◌, ℕ, suc, zero, ◌+◌, ◌<◌, ◌≤◌, Bool, true, cond, Result, Ok, Err, IfOk, List, [], ◌∷◌, ◌++◌, length, map}
+use Rattle.std.proofs.Common.{◌≡◌, ℕ, suc, zero, ◌+◌, ◌<◌, ◌≤◌, Bool, true, Result, Ok, Err, IfOk, List, [], ◌∷◌, ◌++◌, length, map}
 use Rattle.std.proofs.Common.{get_or, slice_set, refl, sym, ap, arith, if◌then◌else◌, rules}
 use Rattle.std.specs.List.{range_with_len, count_by}
 use Rattle.std.proofs.lemmas.List.FromFn.{map-range_with_len_more}
@@ -22,28 +22,26 @@ pub record AreSharesTo (picked : ℕ → Bool) (state : ℕ) (weights : List ℕ
   pub small : total ≤ state
 
 count_cons : {X : Type 0} (p : X → Bool) (x : X) (xs : List X) → count_by p (x ∷ xs) ≡ one_if (p x) + count_by p xs
-count_cons p x xs = sum_by-cons (λ y. cond (p y) 1 0) x xs
+count_cons p x xs = sum_by-cons _ x xs
 
 count_more : (p : ℕ → Bool) (a n : ℕ) → count_by p (range_with_len a (n + 1)) ≡ count_by p (range_with_len a n) + one_if (p (a + n))
-count_more p a zero = grind (arith, count_cons)
+count_more p a zero = grind arith
 count_more p a (suc n) =
     let count : suc n + 1 ≡ suc (n + 1) = omega arith in
-    let whole : count_by p (range_with_len a (suc n + 1)) ≡ count_by p (a ∷ range_with_len (a + 1) (n + 1)) =
+    let whole =
     ap (count_by p) (ap (range_with_len a) count) in
-    let first : count_by p (a ∷ range_with_len (a + 1) (n + 1)) ≡ one_if (p a) + count_by p (range_with_len (a + 1) (n + 1)) =
-    count_cons p a (range_with_len (a + 1) (n + 1)) in
     let rest = count_more p (a + 1) n in
     grind (arith, count_cons)
 
 at_most_one : (b : Bool) → one_if b ≤ 1
-at_most_one b = grind arith
+at_most_one = grind arith
 
 pub shares_more : (picked : ℕ → Bool) (state : ℕ) (old new : List ℕ) (total weight : ℕ) → new ≡ old ++ weight ∷ []
     → weight ≡ one_if (picked state)
     → AreSharesTo picked state old total → AreSharesTo picked (state + 1) new (total + weight)
 shares_more picked state old new total weight e w are =
     let share : ℕ → ℕ = λ s. one_if (picked s) in
-    let longer : map share (range_with_len 0 (state + 1)) ≡ map share (range_with_len 0 state) ++ share state ∷ [] =
+    let longer =
     map-range_with_len_more share 0 state state (omega arith) in
     grind (arith, count_more, at_most_one)
 
@@ -57,9 +55,6 @@ pub record AreLevelTo (taken : List ℕ) (state : ℕ) (weights : List ℕ) (tot
 
 -- ---- whether probabilities are level
 
-first_here : (p : ℕ) (ps : List ℕ) → (p ≡ 0 → ⊥) → first_above_0 (p ∷ ps) ≡ p
-first_here p ps e = grind arith
-
 -- this is the first above 0, and among them, or else all are 0
 data First (first : ℕ) (ps : List ℕ) : Type 0 where
   found : (k : ℕ) → k < length ps → get_or ps k 0 ≡ first → (first ≡ 0 → ⊥) → First first ps
@@ -68,9 +63,9 @@ data First (first : ℕ) (ps : List ℕ) : Type 0 where
 first_in : (ps : List ℕ) → First (first_above_0 ps) ps
 first_in [] = all_0 (λ k. refl)
 first_in (suc p ∷ ps) =
-    let here : first_above_0 (suc p ∷ ps) ≡ suc p = first_here (suc p) ps (λ e. omega (arith, e)) in
-    found 0 (omega arith) (sym here) (λ e. omega (arith, e, here))
-first_in (zero ∷ ps) = following (first_above_0 ps) (first_in ps)
+    let here : first_above_0 (suc p ∷ ps) ≡ suc p = grind arith in
+    found 0 (omega arith) (sym here) (λ e. omega arith)
+first_in (zero ∷ ps) = following _ (first_in ps)
   where
     all : ((k : ℕ) → get_or ps k 0 ≡ 0) → (k : ℕ) → get_or (zero ∷ ps) k 0 ≡ 0
     all h1 k = grind arith
@@ -80,25 +75,22 @@ first_in (zero ∷ ps) = following (first_above_0 ps) (first_in ps)
     following first (all_0 none) = all_0 (all none)
 
 same_tests : (b c : Bool) → (b ≡ true → c ≡ true) → (c ≡ true → b ≡ true) → b ≡ c
-same_tests b c h1 h2 = grind arith
+same_tests = grind arith
 
-level_on : (m : ℕ) (ps : List ℕ) → is_level_at m ps ≡ true → is_level ps ≡ true
-level_on m ps e = grind (arith, list_all-from_AllPass, common_steps)
-
-level_back : (m : ℕ) (ps : List ℕ) → First m ps → is_level ps ≡ true → is_level_at m ps ≡ true
-level_back m ps h1 h2 = grind (arith, list_all-from_AllPass, get_or_default_zero, common_steps)
+module _ (m : ℕ) (ps : List ℕ) where
+  level_back : First m ps → is_level ps ≡ true → is_level_at m ps ≡ true
+  level_back = grind (arith, list_all-from_AllPass, get_or_default_zero, common_steps)
 
 -- each is 0 or the first above 0 exactly where all above 0 are the same
 pub level_is : (ps : List ℕ) → is_level_at (first_above_0 ps) ps ≡ is_level ps
-level_is ps = same_tests (is_level_at (first_above_0 ps) ps) (is_level ps) (λ e. level_on (first_above_0 ps) ps e)
-    (λ e. level_back (first_above_0 ps) ps (first_in ps) e)
+level_is ps = same_tests _ _ (λ e. grind (arith, list_all-from_AllPass, common_steps)) (λ e. level_back _ ps (first_in ps) e)
 
 -- ---- shares of all states, or of one
 
 pub one_shares : (states : Elements) (choice : Selection) (count s : ℕ) (old new : List Bool) → choice ≡ Include → count ≡ count_of states
     → s < count → AreUnmarked count old → new ≡ slice_set old s true
     → equal_weights (length new) (picks choice (marked new)) ≡ single states s
-one_shares states choice count s old new is same low are set = search rules
+one_shares = search rules
 
 -- probabilities of which all above 0 are the same
 pub level_shares_are : {E : Type 0} (r : Result StartWeights E) (ps qs : List ℕ) → qs ≡ ps → is_level ps ≡ true

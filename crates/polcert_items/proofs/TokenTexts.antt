@@ -1,42 +1,40 @@
 -- A name among the tokens of a text is ASCII text.
-use Rattle.std.proofs.Common.{◌≡◌, ◌∙◌, ℕ, zero, suc, ◌<◌, Bool, true, cond, Some, None, List, [], ◌∷◌, codes, IsAscii, ap, arith, lit<}
+use Rattle.std.proofs.Common.{◌≡◌, ◌∙◌, ℕ, zero, suc, ◌<◌, Bool, true, cond, Some, None, List, [], ◌∷◌, IsAscii, ap, arith, lit<}
 use Rattle.std.proofs.Common.{◌++◌, refl, sym, subst, length-append, length}
-use Rattle.std.specs.Prelude.{bytes_eq}
 use Rattle.std.specs.List.{list_all}
-use Rattle.polcert_items.proofs.Common.{nat_tests, BeginWith, is_digit, Lexeme, Name, Numeral, Colon, Star, Plus, Minus}
+use Rattle.polcert_items.proofs.Common.{BeginWith, is_digit, Lexeme, Name, Numeral, Colon, Star, Plus, Minus}
 use Rattle.polcert_text.specs.Bytes.{is_letter, is_name_byte}
 use Rattle.polcert_text.specs.Cut.{Rest, IsTokenAt, TakesToken}
 use Rattle.polcert_text.specs.TakenTokens.{Taken, nothing, token}
-use Rattle.polcert_text.specs.Lexemes.{is_name, is_numeral, kind_of}
+use Rattle.polcert_text.specs.Lexemes.{is_name, kind_of}
 use Rattle.polcert_items.specs.Steps.Elements.{IsAsciiName}
 use Rattle.polcert_cells.proofs.Basics.{and_true, cons≢nil, same_head, same_tail}
 
 name_byte_below : (b : ℕ) → is_name_byte b ≡ true → b < 128
 unfolding is_name_byte is_letter is_digit
-name_byte_below b h = grind (arith, nat_tests)
+name_byte_below b h = grind arith
 
 letter_below : (b : ℕ) → is_letter b ≡ true → b < 128
 unfolding is_letter
-letter_below b h = grind (arith, nat_tests)
+letter_below b h = grind arith
 
 bytes_below : (bs : List ℕ) → list_all is_name_byte bs ≡ true → IsAscii bs
 bytes_below [] h i = lit< tt
-bytes_below (b ∷ bs) h zero = name_byte_below b (and_true (is_name_byte b) (list_all is_name_byte bs) h).0
-bytes_below (b ∷ bs) h (suc i) = bytes_below bs (and_true (is_name_byte b) (list_all is_name_byte bs) h).1 i
+bytes_below (b ∷ bs) h zero = name_byte_below b (and_true _ _ h).0
+bytes_below (b ∷ bs) h (suc i) = bytes_below bs (and_true _ _ h).1 i
 
 name_below : (bs : List ℕ) → is_name bs ≡ true → IsAscii bs
-name_below bs h1 = grind (arith, letter_below, bytes_below)
+name_below = grind (arith, letter_below, bytes_below)
 
 -- among the tests of `kind_of`, the one for a name passed
 kind_is_name : (name numeral colon star plus minus : Bool)
     → cond name (Some Name) (cond numeral (Some Numeral)
     (cond colon (Some Colon) (cond star (Some Star) (cond plus (Some Plus) (cond minus (Some Minus) None))))) ≡ Some Name → name ≡ true
-kind_is_name name numeral colon star plus minus h1 = grind arith
+kind_is_name = grind arith
 
 name_of_kind : (bs : List ℕ) → kind_of bs ≡ Some Name → is_name bs ≡ true
 unfolding kind_of
-name_of_kind bs e = kind_is_name (is_name bs) (is_numeral bs) (bytes_eq bs (codes ":")) (bytes_eq bs (codes "*")) (bytes_eq bs (codes "+"))
-    (bytes_eq bs (codes "-")) e
+name_of_kind bs e = kind_is_name _ _ _ _ _ _ e
 
 pub name_is_text : (place : ℕ) (bytes : List ℕ) (l : Lexeme) → IsTokenAt place bytes l → IsAsciiName l
 name_is_text place bytes l at = λ name. name_below l.bytes

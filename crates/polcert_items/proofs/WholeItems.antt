@@ -6,12 +6,13 @@ use Rattle.polcert_format.specs.Text.{IsRightText}
 use Rattle.polcert_format.proofs.SoundTexts.{right_text_sound}
 use Rattle.polcert_items.specs.Steps.ModelSoFar.{known_of, IsWholeRead, said}
 
--- its items are right, with the preamble that is known
-pub whole_right : (seen : List Lexeme) (k : ModelSoFar) → IsWholeRead seen k → IsRightText seen (preamble_in k) k
-whole_right seen k w = grind arith
+module _ (seen : List Lexeme) (k : ModelSoFar) where
+  -- its items are right, with the preamble that is known
+  pub whole_right : IsWholeRead seen k → IsRightText seen (preamble_in k) k
+  whole_right = grind arith
 
-pub whole_sound : (seen : List Lexeme) (k : ModelSoFar) → IsWholeRead seen k → IsSound (said k)
-whole_sound seen k w = right_text_sound seen (preamble_in k) k (whole_right seen k w)
+  pub whole_sound : IsWholeRead seen k → IsSound (said k)
+  whole_sound w = right_text_sound seen _ k (whole_right w)
 
 -- what the items say, of the lines as they are held
 pub said_is : (k : ModelSoFar) (discount : Option ℕ) (costs : Option Bool) (states actions observations : Option Elements)
